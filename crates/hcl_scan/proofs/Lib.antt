@@ -1,0 +1,4 @@
+pub mod Runs
+pub mod Words
+pub mod Steps
+pub mod Loads

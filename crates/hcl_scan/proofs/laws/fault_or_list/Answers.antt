@@ -1,0 +1,6 @@
+use Rattle.hcl_scan.proofs.Runs.{no_fault}
+use Rattle.hcl_scan.proofs.Words.{one_kind, nonempty}
+use Rattle.hcl_scan.proofs.laws.fault_or_list.Goals as goal
+
+pub returns : goal.returns
+returns c = λ text kind at ts fault scans. no_fault one_kind nonempty text ts kind at scans fault

@@ -1,0 +1,14 @@
+-- Answers of devices.
+use Rattle.std.specs.Prelude.{ℕ, ◌<◌, Bool, true, false, Result, Ok, Err}
+use Rattle.hcl_scan.specs.declared.device.ReadError.{ReadError}
+use Rattle.hcl_scan.specs.declared.device.ReadError.TheVariants.{Failed}
+
+-- a write took a byte or more
+abbrev pub TookSome : {E : Type 0} → Result ℕ E → Type 0
+TookSome (Ok n) = 0 < n
+TookSome (Err e) = ⊥
+
+-- a reading ended because a read failed
+abbrev pub is_read_failed : {X : Type 0} → Result X ReadError → Bool
+is_read_failed (Err Failed) = true
+is_read_failed _ = false

@@ -1,0 +1,47 @@
+-- Why a text has no tokens: the one thing that is lacking where its longest reading ends. The kinds of faults
+-- and their places are our own choice.
+use Rattle.std.specs.Prelude.{◌≡◌, ℕ, ◌+◌, ◌<◌, List, [], ◌∷◌, length, if◌then◌else◌, Option, Some, None}
+use Rattle.hcl_scan.specs.Lexemes.{Lexeme, Opener, Quote, Sequence, marker_of, moved}
+use Rattle.hcl_scan.specs.Spelling.{context, Context}
+use Rattle.hcl_scan.specs.Scans.{State, begin, ahead, gap_len, owes, owed, IsLongest, HasNone, IsMarkerLine, Next, Run}
+use Rattle.hcl_scan.specs.declared.fault.FaultKind.{FaultKind}
+use Rattle.hcl_scan.specs.declared.fault.FaultKind.TheVariants.{InvalidCharacter, UnterminatedQuote, UnterminatedHeredoc, UnterminatedTemplate, TooDeep}
+use Rattle.hcl_scan.specs.declared.token.Kind.{Kind}
+use Rattle.hcl_scan.specs.declared.token.Kind.TheVariants.{HeredocOpen}
+
+-- where all that is seen was read: what is owed
+abbrev pub end_fault : Option Opener → Option FaultKind
+end_fault (Some Quote) = Some UnterminatedQuote
+end_fault (Some Sequence) = Some UnterminatedTemplate
+end_fault _ = None
+
+-- where something is seen that begins no token
+abbrev pub no_token_fault : Context → List ℕ → FaultKind
+no_token_fault _ seen = InvalidCharacter
+
+-- why the reading ends here
+pub data Lacks (s : State) (kind : FaultKind) : Type 0 where
+  at_end : ahead s ≡ [] → end_fault (owed s.opens) ≡ Some kind → Lacks s kind
+  no_token : 0 < length (ahead s) → HasNone s.opens s.after_dot (ahead s) → kind ≡ no_token_fault (context s.opens) (ahead s) → Lacks s kind
+  too_deep : (k : Kind) (text rest : List ℕ) → IsLongest s.opens s.after_dot (ahead s) k text rest → 256 < length (moved k s.opens) → kind ≡ TooDeep → Lacks s kind
+  no_marker_line : (text rest : List ℕ) → IsLongest s.opens s.after_dot (ahead s) HeredocOpen text rest → length s.opens < 256 → ((n : ℕ) → ¬ IsMarkerLine (marker_of text) rest n) → kind ≡ UnterminatedHeredoc → Lacks s kind
+
+-- where the innermost Quote, Heredoc or Sequence was opened
+abbrev pub owed_offset : List Opener → List ℕ → ℕ
+owed_offset (o ∷ opens) (at ∷ offsets) = if owes o then at else owed_offset opens offsets
+owed_offset _ _ = 0
+
+-- an unterminated quote or template stands at its opener, all else where the reading ends
+abbrev pub fault_offset : State → FaultKind → ℕ
+fault_offset s UnterminatedQuote = owed_offset s.opens s.offsets
+fault_offset s UnterminatedTemplate = owed_offset s.opens s.offsets
+fault_offset s _ = s.at + gap_len s
+
+-- THE FAULT of a text without tokens: what is lacking at the end of its longest reading
+pub record IsScanFault (text : List ℕ) (kind : FaultKind) (at : ℕ) : Type 0 where
+  pub tokens : List Lexeme
+  pub end : State
+  pub read : Run (begin text) tokens end
+  pub longest : (t : Lexeme) (next : State) → ¬ Next end t next
+  pub lacks : Lacks end kind
+  pub at_is : at ≡ fault_offset end kind

@@ -1,0 +1,11 @@
+pub mod Devices
+pub mod Texts
+pub mod Places
+pub mod Load
+pub mod Lexemes
+pub mod Spelling
+pub mod Scans
+pub mod Found
+pub mod Faults
+pub mod Scanned
+pub mod Entries

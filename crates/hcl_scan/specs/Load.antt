@@ -1,0 +1,56 @@
+-- Which bytes are a source, and what others are refused for: our own choice, since the HCL Native Syntax
+-- Specification asks for UTF-8 alone. The faults exclude each other, so bytes have one at most.
+use Rattle.std.specs.Prelude.{◌≡◌, ℕ, ◌<◌, ◌≤◌, Bool, true, false, IsTrue, IsFalse, List, [], ◌∷◌, length, nat_eq, IsUtf8, Option, Result, Ok, Err}
+use Rattle.std.specs.List.{starts_with}
+use Rattle.std.specs.Str.{IsValidUpTo}
+use Rattle.std.specs.Io.KnownBytes.{IsAtEnd}
+use Rattle.hcl_scan.specs.Places.{place}
+use Rattle.hcl_scan.specs.declared.fault.Fault.{Fault}
+use Rattle.hcl_scan.specs.declared.fault.LoadError.{LoadError}
+use Rattle.hcl_scan.specs.declared.fault.LoadError.TheVariants as error
+use Rattle.hcl_scan.specs.declared.fault.FaultKind.{FaultKind}
+use Rattle.hcl_scan.specs.declared.fault.FaultKind.TheVariants.{TooLarge, InvalidUtf8, ByteOrderMark}
+
+-- the most bytes that a source has
+abbrev pub max_source : ℕ
+max_source = 1_048_576
+
+-- the bytes begin with a byte order mark, U+FEFF in UTF-8
+abbrev pub has_mark : List ℕ → Bool
+has_mark bytes = starts_with nat_eq bytes (0xEF ∷ 0xBB ∷ 0xBF ∷ [])
+
+-- what a source is
+pub record IsText (bytes : List ℕ) : Type 0 where
+  pub small : length bytes ≤ max_source
+  pub utf8 : IsUtf8 bytes
+  pub unmarked : IsFalse (has_mark bytes)
+
+-- a fault of this kind stands at this offset of bytes that are no source
+abbrev pub IsLoadFaultAt : List ℕ → FaultKind → ℕ → Type 0
+IsLoadFaultAt bytes TooLarge at = (max_source < length bytes) × (at ≡ 0)
+IsLoadFaultAt bytes InvalidUtf8 at = (length bytes ≤ max_source) × IsValidUpTo bytes at
+IsLoadFaultAt bytes ByteOrderMark at = (length bytes ≤ max_source) × IsUtf8 bytes × IsTrue (has_mark bytes) × (at ≡ 0)
+IsLoadFaultAt bytes _ at = ⊥
+
+-- THE FAULT that bytes are refused for
+abbrev pub IsLoadFault : List ℕ → Fault → Type 0
+IsLoadFault bytes fault = (at : ℕ) × IsLoadFaultAt bytes fault.kind at × (fault.at ≡ place bytes at)
+
+-- an error of loading bytes that are there
+abbrev pub IsLoadError : List ℕ → LoadError → Type 0
+IsLoadError bytes (error.Fault fault) = IsLoadFault bytes fault
+IsLoadError bytes error.ReadFailed = ⊥
+IsLoadError bytes error.OutOfMemory = Unit {0}
+
+-- What loading answers, where `bytes` were taken from a device that has `left` now: the bytes themselves,
+-- with nothing left; or their fault, with nothing left unless they are too many.
+abbrev pub Loads : List ℕ → Option (List ℕ) → Result (List ℕ) LoadError → Type 0
+Loads bytes left (Ok source) = (source ≡ bytes) × IsText bytes × IsAtEnd left
+Loads bytes left (Err (error.Fault fault)) = IsLoadFault bytes fault × (length bytes ≤ max_source → IsAtEnd left)
+Loads bytes left (Err error.ReadFailed) = Unit {0}
+Loads bytes left (Err error.OutOfMemory) = Unit {0}
+
+-- loading ended because a read failed
+abbrev pub is_failed_load : Result (List ℕ) LoadError → Bool
+is_failed_load (Err error.ReadFailed) = true
+is_failed_load _ = false

@@ -1,0 +1,23 @@
+//! The first layer of the front end for HCL native syntax: the bytes of a file, the places in it,
+//! and its tokens.
+//!
+//! Data flows one way: bytes from a [`ByteSource`] become a [`Source`], and [`scan`] makes its
+//! [`Tokens`]. What goes out again goes to a [`ByteSink`] by [`write_fully`]. The module [`laws`]
+//! holds what is proved of the definitions alone.
+#![tactic(auto)]
+
+mod device;
+mod fault;
+pub mod laws;
+mod next;
+mod source;
+#[cfg(test)]
+mod tests;
+mod token;
+mod tokens;
+
+pub use device::{ByteSink, ByteSource, Failed, FromRead, ToWrite, WriteFault, write_fully};
+pub use fault::{Fault, FaultKind, LoadError, Position, ScanError};
+pub use source::{MAX_SOURCE, Source};
+pub use token::{Kind, Token};
+pub use tokens::{Tokens, scan};

@@ -1,0 +1,3 @@
+pub mod Writes
+pub mod Printing
+pub mod Answers

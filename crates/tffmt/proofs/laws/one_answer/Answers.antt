@@ -1,0 +1,5 @@
+use Rattle.tffmt.proofs.Answers.{one_answer}
+use Rattle.tffmt.proofs.laws.one_answer.Goals as goal
+
+pub returns : goal.returns
+returns c = one_answer
