@@ -1,14 +1,14 @@
 -- Readings: a text has one at most, one fault at most, and not both; and its stack is small throughout.
-use Rattle.std.proofs.Common.{◌≡◌, ℕ, ◌+◌, ◌<◌, ◌≤◌, Bool, false, List, [], ◌∷◌, ◌++◌, length, take, drop, inl, inr, ⊎_elim, refl, sym, ap, subst, ◌∙◌, arith, length-append, length-drop, Some}
+use Rattle.std.proofs.Common.{◌≡◌, ◌≢◌, ℕ, suc, ◌+◌, ◌-◌, ◌<◌, ◌≤◌, ◌&&◌, ◌||◌, ◌==◌, not, Bool, true, false, cond, IsTrue, List, [], ◌∷◌, ◌++◌, length, take, drop, get_or, ◌⊎◌, inl, inr, ⊎_elim, refl, sym, ap, subst, ◌∙◌, arith, length-append, length-drop, Option, Some, None}
 use Rattle.std.proofs.lemmas.Bool.{cases_order}
 use Rattle.std.proofs.Math.Seq.{take-append_seam, drop-append_seam}
-use Rattle.hcl_scan.specs.Lexemes.{Lexeme, Opener, marker_of, moved, opened}
-use Rattle.hcl_scan.specs.Spelling.{IsSpelling}
-use Rattle.hcl_scan.specs.Scans.{State, Hidden, hides, is_dot, gap_len, offsets_of, owed, begin, ahead, IsLongest, IsFirstMarkerLine, Shows, Reads, Closes, Next, Run, Scans, IsComplete}
-use Rattle.hcl_scan.specs.Faults.{Lacks, at_end, no_token, too_deep, no_marker_line, end_fault, fault_offset, IsScanFault}
+use Rattle.hcl_scan.specs.Lexemes.{Lexeme, Opener, Heredoc, marker_of, moved, opened}
+use Rattle.hcl_scan.specs.Spelling.{IsSpelling, context}
+use Rattle.hcl_scan.specs.Scans.{State, Hidden, hides, is_dot, gap_len, offsets_of, owed, begin, ahead, IsLongest, IsMarkerLine, IsFirstMarkerLine, Shows, Reads, Closes, Next, Run, Scans, IsComplete}
+use Rattle.hcl_scan.specs.Faults.{Lacks, at_end, no_token, too_deep, no_marker_line, end_fault, no_token_fault, fault_offset, IsScanFault}
 use Rattle.hcl_scan.specs.declared.fault.FaultKind.{FaultKind}
 use Rattle.hcl_scan.specs.declared.token.Kind.{Kind}
-use Rattle.hcl_scan.specs.declared.token.Kind.TheVariants.{HeredocOpen}
+use Rattle.hcl_scan.specs.declared.token.Kind.TheVariants.{HeredocOpen, HeredocClose}
 
 -- two laws of the spellings: one kind for each text, and no empty text
 unfoldable pub OneKind : Type 0
@@ -91,11 +91,11 @@ one_closes s t u a b x y =
     )
 
 -- what is read isn't empty
-some_ahead : Nonempty → (s : State) (k : Kind) (text rest : List ℕ) → IsLongest s.opens s.after_dot (ahead s) k text rest → 0 < length (ahead s)
+pub some_ahead : Nonempty → (s : State) (k : Kind) (text rest : List ℕ) → IsLongest s.opens s.after_dot (ahead s) k text rest → 0 < length (ahead s)
 unfolding Nonempty
 some_ahead nonempty s k text rest x = let some = nonempty s.opens s.after_dot k text rest x.spelled in omega (arith, some, ap length x.whole, length-append text rest)
 
-nothing_ahead : Nonempty → (s : State) (t : Lexeme) (a : State) → length (ahead s) ≡ 0 → Reads s t a → ⊥
+pub nothing_ahead : Nonempty → (s : State) (t : Lexeme) (a : State) → length (ahead s) ≡ 0 → Reads s t a → ⊥
 nothing_ahead nonempty s t a empty x = omega (arith, some_ahead nonempty s t.kind t.text x.rest x.longest, empty)
 
 not_both : Nonempty → (s : State) (t u : Lexeme) (a b : State) → Reads s t a → Closes s u b → ⊥

@@ -1,193 +1,280 @@
--- The four kinds of token, by their first byte.
-use Rattle.std.proofs.Common.{◌≡◌, ◌≢◌, ℕ, suc, ◌+◌, ◌<◌, ◌≤◌, ◌&&◌, ◌||◌, ◌==◌, Bool, true, false, cond, List, [], ◌∷◌, ◌++◌, length, take, drop, get_or, inl, inr, refl, sym, ap, subst, ◌∙◌, arith, length-append, length-take-le}
-use Rattle.std.specs.Prelude.{if◌then◌else◌, nat_eq}
-use Rattle.std.proofs.Math.Numerals.{one-add}
-use Rattle.std.proofs.Math.Seq.{take-append_seam}
-use Rattle.std.proofs.lemmas.List.{take-append-drop}
-use Rattle.std.proofs.lemmas.List.Sums.{prefix_len-le-length}
-use Rattle.std.proofs.lemmas.Slice.Eq.{starts_is}
-use Rattle.std.proofs.lemmas.Bool.Decides.{nat_tests, Decides-eqb}
-use Rattle.std.specs.List.{list_all, prefix_len, starts_with}
-use Rattle.std.specs.Char.{is_ascii_digit}
-use Rattle.hcl_scan.specs.Lexemes.{Opener}
-use Rattle.hcl_scan.specs.Spelling.{IsNewline, IsIdent, IsNumber, IsSpelling, IsTextIn, IsExpressionText, Context, Template, Expression, context, is_word, starts_ident, continues_ident}
-use Rattle.hcl_scan.specs.Scans.{HasNone}
-use Rattle.hcl_scan.specs.Found.{Finds}
-use Rattle.hcl_scan.specs.declared.token.Kind.{Kind}
-use Rattle.hcl_scan.specs.declared.token.Kind.TheVariants.{Newline, Ident, Number, Assign}
-use Rattle.hcl_scan.proofs.Runs.{OneKind, Nonempty}
+-- Identifiers and numbers, byte by byte.
+use Rattle.std.proofs.Common.{◌≡◌, ℕ, ◌+◌, ◌/◌, ◌%◌, ◌<◌, ◌≤◌, ◌&&◌, ◌||◌, ◌==◌, not, Bool, true, false, cond, List, [], ◌∷◌, ◌++◌, length, if◌then◌else◌, get_or, ◌⊎◌, inl, inr, ⊎_elim, refl, sym, ap, ◌∙◌, arith, append_assoc}
+use Rattle.std.specs.Prelude.{nat_le, nat_lt, encode_utf8_all, encode_utf8}
+use Rattle.std.specs.List.{list_all}
+use Rattle.std.specs.Char.{is_ascii_digit, is_ascii_alphanumeric, is_ascii_alphabetic}
+use Rattle.std.proofs.lemmas.Bool.Decides.{nat_tests}
+use lib.Utf8.{next, encode}
+use Rattle.unicode_ident.specs.Ident.{is_xid_start}
+use Rattle.unicode_ident.proofs.IdentLemmas.{is_xid_start-ascii, is_xid_continue-ascii, is_xid_start-is_xid_continue}
+use Rattle.hcl_scan.specs.Spelling.{IsIdent, are_ident, starts_ident, continues_ident, IsDigits, IsExponent, IsSign, IsNumber}
+use Rattle.hcl_scan.proofs.Booleans.{and_true}
 
--- the ways to be a token
-pub data Spells (kind : Kind) (text : List ℕ) : Type 0 where
-  newline : kind ≡ Newline → IsNewline text → Spells kind text
-  ident : kind ≡ Ident → IsIdent text → Spells kind text
-  number : kind ≡ Number → IsNumber text → Spells kind text
-  assign : kind ≡ Assign → text ≡ 61 ∷ [] → Spells kind text
+-- a byte of an identifier
+abbrev pub is_word : ℕ → Bool
+is_word b = is_ascii_alphanumeric b || (b == 95) || (b == 45) || nat_le 128 b
 
-ways_here : (opens : List Opener) (dot : Bool) (kind : Kind) (text rest : List ℕ) → IsExpressionText opens dot kind text rest → Spells kind text
-ways_here opens dot Newline text rest h = newline refl h
-ways_here opens dot Ident text rest h = ident refl h
-ways_here opens dot Number text rest h = number refl h
-ways_here opens dot Assign text rest h = assign refl h
-ways_here opens dot _ text rest h = absurd h
+-- a byte that begins one
+abbrev pub begins_word : ℕ → Bool
+begins_word b = is_ascii_alphabetic b || (b == 95) || nat_le 128 b
 
-ways_in : (c : Context) (opens : List Opener) (dot : Bool) (kind : Kind) (text rest : List ℕ) → IsTextIn c opens dot kind text rest → Spells kind text
-ways_in (Template quoted) opens dot kind text rest h = absurd h
-ways_in Expression opens dot kind text rest h = ways_here opens dot kind text rest h
+high_word : (b : ℕ) → 128 ≤ b → is_word b ≡ true
+high_word b h = grind (arith, nat_tests)
 
-pub ways : (opens : List Opener) (dot : Bool) (kind : Kind) (text rest : List ℕ) → IsSpelling opens dot kind text rest → Spells kind text
-ways opens = ways_in (context opens) opens
+high_begins : (b : ℕ) → 128 ≤ b → begins_word b ≡ true
+high_begins b h = grind (arith, nat_tests)
 
-abbrev pub first : List ℕ → ℕ
-first text = get_or text 0 0
+abbrev Bytes : ℕ → List ℕ → Type 0
+Bytes c text = (first : ℕ) × (more : List ℕ) × (text ≡ first ∷ more) × (c < 128 → (first ≡ c) × (more ≡ [])) × (128 ≤ c → 128 ≤ first) × (list_all (λ b. nat_le 128 b) more ≡ true)
 
--- the kind of the tokens that begin so
-abbrev pub kind_at : ℕ → Kind
-kind_at b = if (b == 10) || (b == 13) then Newline else (if starts_ident b then Ident else (if is_ascii_digit b then Number else Assign))
+le_true : (a b : ℕ) → a ≤ b → nat_le a b ≡ true
+le_true a b h = grind (arith, nat_tests)
 
-letter_begins : (b : ℕ) → starts_ident b ≡ true → kind_at b ≡ Ident
-letter_begins b h = grind (arith, nat_tests)
+lt_true : (a b : ℕ) → nat_lt a b ≡ true → a < b
+lt_true a b h = grind (arith, nat_tests)
 
-digit_begins : (b : ℕ) → is_ascii_digit b ≡ true → kind_at b ≡ Number
-digit_begins b h = grind (arith, nat_tests)
+lt_false : (a b : ℕ) → nat_lt a b ≡ false → b ≤ a
+lt_false a b h = grind (arith, nat_tests)
 
-pub and_true : (a b : Bool) → (a && b) ≡ true → (a ≡ true) × (b ≡ true)
-and_true true b h = (refl, h)
-and_true false b h = cc
+encoded : (c : ℕ) → Bytes c (encode_utf8 c)
+unfolding encode
+encoded c = by (nat_lt c 128) refl
+  where
+    tail1 : (a : ℕ) → list_all (λ b. nat_le 128 b) ((128 + a) ∷ []) ≡ true
+    tail1 a = λ i. le_true 128 (128 + a) (omega arith) i && true
 
-word_first : (p q : ℕ → Bool) (text : List ℕ) → is_word p q text ≡ true → (0 < length text) × (p (first text) ≡ true)
-word_first p q [] h = cc
-word_first p q (c ∷ cs) h = (omega arith, (and_true (p c) (list_all q cs) h).0)
+    tail2 : (a a' : ℕ) → list_all (λ b. nat_le 128 b) ((128 + a) ∷ (128 + a') ∷ []) ≡ true
+    tail2 a a' = λ i. le_true 128 (128 + a) (omega arith) i && tail1 a' i
 
-newline_first : (text : List ℕ) → IsNewline text → (0 < length text) × (kind_at (first text) ≡ Newline)
-newline_first text (inl is) = (omega (arith, ap length is), ap (λ l. kind_at (first l)) is)
-newline_first text (inr is) = (omega (arith, ap length is), ap (λ l. kind_at (first l)) is)
+    tail3 : (a a' a'' : ℕ) → list_all (λ b. nat_le 128 b) ((128 + a) ∷ (128 + a') ∷ (128 + a'') ∷ []) ≡ true
+    tail3 a a' a'' = λ i. le_true 128 (128 + a) (omega arith) i && tail2 a' a'' i
 
--- a token isn't empty, and its first byte tells its kind
-begins : (kind : Kind) (text : List ℕ) → Spells kind text → (0 < length text) × (kind ≡ kind_at (first text))
-begins kind text (newline k is) = let n = newline_first text is in (n.0, k ∙ sym n.1)
-begins kind text (ident k is) = let w = word_first starts_ident continues_ident text is in (w.0, k ∙ sym (letter_begins (first text) w.1))
-begins kind text (number k is) = let w = word_first is_ascii_digit is_ascii_digit text is in (w.0, k ∙ sym (digit_begins (first text) w.1))
-begins kind text (assign k is) = (omega (arith, ap length is), k ∙ sym (ap (λ l. kind_at (first l)) is))
+    two : 128 ≤ c → Bytes c ((192 + c / 64) ∷ next c ∷ [])
+    two h = (192 + c / 64, next c ∷ [], refl, (λ lt. absurd (omega (arith, lt, h))), (λ _. omega arith), tail1 (c % 64))
 
-pub one_kind : OneKind
-unfolding OneKind
-one_kind opens dot kind other text rest h k = (begins kind text (ways opens dot kind text rest h)).1 ∙ sym (begins other text (ways opens dot other text rest k)).1
+    three : 128 ≤ c → Bytes c ((224 + c / 4096) ∷ next (c / 64) ∷ next c ∷ [])
+    three h = (224 + c / 4096, next (c / 64) ∷ next c ∷ [], refl, (λ lt. absurd (omega (arith, lt, h))), (λ _. omega arith), tail2 (c / 64 % 64) (c % 64))
 
-pub nonempty : Nonempty
-unfolding Nonempty
-nonempty opens dot kind text rest h = (begins kind text (ways opens dot kind text rest h)).0
+    four : 128 ≤ c → Bytes c ((240 + c / 262144) ∷ next (c / 4096) ∷ next (c / 64) ∷ next c ∷ [])
+    four h = (240 + c / 262144, next (c / 4096) ∷ next (c / 64) ∷ next c ∷ [], refl, (λ lt. absurd (omega (arith, lt, h))), (λ _. omega arith), tail3 (c / 4096 % 64) (c / 64 % 64) (c % 64))
 
-first_of : (bytes longer left : List ℕ) → longer ++ left ≡ bytes → 0 < length longer → first longer ≡ first bytes
-first_of bytes [] left e h = absurd (omega arith)
-first_of bytes (c ∷ cs) left e h = ap first e
+    third : (v w : Bool) → 128 ≤ c → Bytes c (cond v ((192 + c / 64) ∷ next c ∷ []) (cond w ((224 + c / 4096) ∷ next (c / 64) ∷ next c ∷ []) ((240 + c / 262144) ∷ next (c / 4096) ∷ next (c / 64) ∷ next c ∷ [])))
+    third true w h = two h
+    third false true h = three h
+    third false false h = four h
 
--- the run at the front passes, and a longer front doesn't
-pub run_passes : (q : ℕ → Bool) (bs : List ℕ) → list_all q (take (prefix_len q bs) bs) ≡ true
-run_passes q [] = refl
-run_passes q (b ∷ bs) =
-    elim (q b) as (λ v. q b ≡ v → list_all q (take (cond v (1 + prefix_len q bs) 0) (b ∷ bs)) ≡ true) [
-      | true ↦ λ h. rw one-add ((λ i. h i && run_passes q bs i))
-      | false ↦ λ h. refl
-    ] refl
+    by : (v : Bool) → nat_lt c 128 ≡ v → Bytes c (cond v (c ∷ []) (cond (nat_lt c 2048) ((192 + c / 64) ∷ next c ∷ []) (cond (nat_lt c 65536) ((224 + c / 4096) ∷ next (c / 64) ∷ next c ∷ []) ((240 + c / 262144) ∷ next (c / 4096) ∷ next (c / 64) ∷ next c ∷ []))))
+    by true e = (c, [], refl, (λ _. (refl, refl)), (λ h. h), refl)
+    by false e = third (nat_lt c 2048) (nat_lt c 65536) (lt_false c 128 e)
 
-run_longest : (q : ℕ → Bool) (cs left : List ℕ) → list_all q cs ≡ true → length cs ≤ prefix_len q (cs ++ left)
-run_longest q [] left h = omega arith
-run_longest q (c ∷ cs) left h =
-    let parts = and_true (q c) (list_all q cs) h in
-    let rec = run_longest q cs left parts.1 in
-    let e : prefix_len q (c ∷ (cs ++ left)) ≡ 1 + prefix_len q (cs ++ left) = ap (λ v. cond v (1 + prefix_len q (cs ++ left)) 0) parts.0 in
-    omega arith
+all_append : (q : ℕ → Bool) (xs ys : List ℕ) → list_all q xs ≡ true → list_all q ys ≡ true → list_all q (xs ++ ys) ≡ true
+all_append q [] ys h k = k
+all_append q (x ∷ xs) ys h k = let p = and_true (q x) (list_all q xs) h in let rec = all_append q xs ys p.1 k in λ i. p.0 i && rec i
 
-module _ (p q : ℕ → Bool) where
-  word_cut : (bytes : List ℕ) (n : ℕ) → 0 < length bytes → p (first bytes) ≡ true → n ≡ suc (prefix_len q (drop 1 bytes)) → (n ≤ length bytes) × (is_word p q (take n bytes) ≡ true)
-  word_cut [] n some h e = absurd (omega arith)
-  word_cut (b ∷ bs) n some h e = rw e (omega (arith, prefix_len-le-length q bs), (λ i. h i && run_passes q bs i))
+pub all_to : (p q : ℕ → Bool) → ((b : ℕ) → p b ≡ true → q b ≡ true) → (xs : List ℕ) → list_all p xs ≡ true → list_all q xs ≡ true
+all_to p q to [] h = refl
+all_to p q to (x ∷ xs) h = let r = and_true (p x) (list_all p xs) h in let rec = all_to p q to xs r.1 in λ i. to x r.0 i && rec i
 
-  word_longest : (bytes : List ℕ) (n : ℕ) (longer left : List ℕ) → n ≡ suc (prefix_len q (drop 1 bytes)) → longer ++ left ≡ bytes → is_word p q longer ≡ true → length longer ≤ n
-  word_longest bytes n [] left e whole h = omega arith
-  word_longest bytes n (c ∷ cs) left e whole h =
-      let tail : cs ++ left ≡ drop 1 bytes = ap (λ l. drop 1 l) whole in
-      let parts = and_true (p c) (list_all q cs) h in
-      let len = run_longest q cs left parts.1 in
-      omega (arith, e, len, ap (λ l. prefix_len q l) tail)
+le_of : (a b : ℕ) → nat_le a b ≡ true → a ≤ b
+le_of a b h = grind (arith, nat_tests)
 
-module _ (dot : Bool) (bytes : List ℕ) where
-  -- only the kind that the first byte tells is to be looked at
-  found : (kind : Kind) (n : ℕ) → n ≤ length bytes → 0 < n → kind_at (first bytes) ≡ kind → IsSpelling [] dot kind (take n bytes) (drop n bytes)
-      → ((longer left : List ℕ) → longer ++ left ≡ bytes → IsSpelling [] dot kind longer left → length longer ≤ n) → Finds [] dot bytes kind n
-  found kind n within some at spelled none = record {
-    within = within;
-    some = some;
-    longest = record {
-      whole = take-append-drop n bytes;
-      spelled = spelled;
-      longest = λ other longer left whole lt is.
-          let len = length-take-le n bytes within in
-          let b = begins other longer (ways [] dot other longer left is) in
-          let kind_is : other ≡ kind = b.1 ∙ ap kind_at (first_of bytes longer left whole b.0) ∙ at in
-          let le = none longer left whole (subst (λ (k : Kind). IsSpelling [] dot k longer left) kind_is is) in
-          omega arith;
-    };
-  }
+ascii_word : (c : ℕ) → c < 128 → continues_ident c ≡ true → is_word c ≡ true
+ascii_word c lt h = let e = is_xid_continue-ascii c lt in let k : ((is_ascii_alphanumeric c || (c == 95)) || (c == 45)) ≡ true = ap (λ b. b || (c == 45)) (sym e) ∙ h in grind (arith, nat_tests, k)
 
-  pub ident_found : (n : ℕ) → 0 < length bytes → starts_ident (first bytes) ≡ true → n ≡ suc (prefix_len continues_ident (drop 1 bytes)) → Finds [] dot bytes Ident n
-  ident_found n some start e =
-      let cut = word_cut starts_ident continues_ident bytes n some start e in
-      found Ident n cut.0 (omega (arith, e)) (letter_begins (first bytes) start) cut.1 (λ longer left whole is. word_longest starts_ident continues_ident bytes n longer left e whole is)
+word_bytes : (c : ℕ) → continues_ident c ≡ true → list_all is_word (encode_utf8 c) ≡ true
+word_bytes c h =
+    let e = encoded c in
+    let more = all_to (λ b. nat_le 128 b) is_word (λ b k. high_word b (le_of 128 b k)) e.1 e.5 in
+    let first : is_word e.0 ≡ true = ⊎_elim (λ lt. ap is_word (e.3 lt).0 ∙ ascii_word c lt h) (λ ge. high_word e.0 (e.4 ge)) (below c 128) in
+    ap (list_all is_word) e.2 ∙ (λ i. first i && more i)
+  where
+    below : (a b : ℕ) → (a < b) ⊎ (b ≤ a)
+    below a b = grind arith
 
-  pub number_found : (n : ℕ) → 0 < length bytes → is_ascii_digit (first bytes) ≡ true → n ≡ suc (prefix_len is_ascii_digit (drop 1 bytes)) → Finds [] dot bytes Number n
-  number_found n some start e =
-      let cut = word_cut is_ascii_digit is_ascii_digit bytes n some start e in
-      found Number n cut.0 (omega (arith, e)) (digit_begins (first bytes) start) cut.1 (λ longer left whole is. word_longest is_ascii_digit is_ascii_digit bytes n longer left e whole is)
+continue_bytes : (cs : List ℕ) → list_all continues_ident cs ≡ true → list_all is_word (encode_utf8_all cs) ≡ true
+continue_bytes [] h = refl
+continue_bytes (c ∷ cs) h = let p = and_true (continues_ident c) (list_all continues_ident cs) h in all_append is_word (encode_utf8 c) (encode_utf8_all cs) (word_bytes c p.0) (continue_bytes cs p.1)
 
-  front : (text rest : List ℕ) → bytes ≡ text ++ rest → (length text ≤ length bytes) × (take (length text) bytes ≡ text)
-  front text rest e = (omega (arith, ap length e, length-append text rest), ap (take (length text)) e ∙ take-append_seam text rest)
+-- the bytes of an identifier
+pub record IsWord (text : List ℕ) : Type 0 where
+  pub first : ℕ
+  pub more : List ℕ
+  pub whole : text ≡ first ∷ more
+  pub begins : begins_word first ≡ true
+  pub words : list_all is_word text ≡ true
 
-  pub lf_found : (rest : List ℕ) → bytes ≡ (10 ∷ []) ++ rest → Finds [] dot bytes Newline 1
-  lf_found rest e =
-      let f = front (10 ∷ []) rest e in
-      found Newline 1 f.0 (omega arith) (ap (λ l. kind_at (first l)) e) (inl f.1) (λ longer left whole is. by longer left whole is)
-    where
-      by : (longer left : List ℕ) → longer ++ left ≡ bytes → IsNewline longer → length longer ≤ 1
-      by longer left whole (inl is) = omega (arith, ap length is)
-      by longer left whole (inr is) = let c = ap first (sym (ap (λ l. l ++ left) is) ∙ whole ∙ e) in absurd (omega (arith, c))
+start_begins : (c : ℕ) → starts_ident c ≡ true → (c < 128 → begins_word c ≡ true) × (continues_ident c ≡ true)
+start_begins c h = ((λ lt. let e = is_xid_start-ascii c lt in let k : (is_ascii_alphabetic c || (c == 95)) ≡ true = ap (λ b. b || (c == 95)) (sym e) ∙ h in grind (arith, nat_tests, k)), by (is_xid_start c) refl h)
+  where
+    by : (v : Bool) → is_xid_start c ≡ v → (v || (c == 95)) ≡ true → continues_ident c ≡ true
+    by true e k = ap (λ b. b || (c == 45)) (is_xid_start-is_xid_continue c e)
+    by false e k = let c_is : c ≡ 95 = grind (arith, nat_tests) in ap continues_ident c_is ∙ ap (λ b. b || (95 == 45)) (is_xid_continue-ascii 95 (omega arith))
 
-  pub crlf_found : (rest : List ℕ) → bytes ≡ (13 ∷ 10 ∷ []) ++ rest → Finds [] dot bytes Newline 2
-  crlf_found rest e =
-      let f = front (13 ∷ 10 ∷ []) rest e in
-      found Newline 2 f.0 (omega arith) (ap (λ l. kind_at (first l)) e) (inr f.1) (λ longer left whole is. by longer is)
-    where
-      by : (longer : List ℕ) → IsNewline longer → length longer ≤ 2
-      by longer (inl is) = omega (arith, ap length is)
-      by longer (inr is) = omega (arith, ap length is)
+pub ident_word : (text : List ℕ) → IsIdent text → IsWord text
+ident_word text is = by is.0 is.2 is.3
+  where
+    by : (cs : List ℕ) → are_ident cs ≡ true → text ≡ encode_utf8_all cs → IsWord text
+    by [] h e = absurd (cc)
+    by (c ∷ cs) h e =
+        let p = and_true (starts_ident c) (list_all continues_ident cs) h in
+        let s = start_begins c p.0 in
+        let b = encoded c in
+        record {
+          first = b.0;
+          more = b.1 ++ encode_utf8_all cs;
+          whole = e ∙ ap (λ l. l ++ encode_utf8_all cs) b.2;
+          begins = ⊎_elim (λ lt. ap begins_word (b.3 lt).0 ∙ s.0 lt) (λ ge. high_begins b.0 (b.4 ge)) (below c 128);
+          words = ap (list_all is_word) e ∙ all_append is_word (encode_utf8 c) (encode_utf8_all cs) (word_bytes c s.1) (continue_bytes cs p.1);
+        }
+      where
+        below : (a b : ℕ) → (a < b) ⊎ (b ≤ a)
+        below a b = grind arith
 
-  pub assign_found : (rest : List ℕ) → bytes ≡ (61 ∷ []) ++ rest → Finds [] dot bytes Assign 1
-  assign_found rest e =
-      let f = front (61 ∷ []) rest e in
-      found Assign 1 f.0 (omega arith) (ap (λ l. kind_at (first l)) e) f.1 (λ longer left whole is. omega (arith, ap length is))
+-- a number, by states
+pub data Stage : Type 0 where
+  Whole : Stage
+  Point : Stage
+  Fraction : Stage
+  Mark : Stage
+  Sign : Stage
+  Power : Stage
 
-  pub nothing_found : length bytes ≡ 0 → HasNone [] dot bytes
-  nothing_found empty kind text rest whole h = omega (arith, (begins kind text (ways [] dot kind text rest h)).0, ap length whole, length-append text rest, empty)
+abbrev is_e : ℕ → Bool
+is_e b = (b == 101) || (b == 69)
 
-  pub none_found : starts_ident (first bytes) ≡ false → is_ascii_digit (first bytes) ≡ false → first bytes ≢ 10 → ((rest : List ℕ) → bytes ≡ (13 ∷ 10 ∷ []) ++ rest → ⊥) → first bytes ≢ 61 → HasNone [] dot bytes
-  none_found no_letter no_digit no_lf no_crlf no_sign kind text rest whole h = none (ways [] dot kind text rest h)
-    where
-      none : Spells kind text → ⊥
-      none (newline k (inl is)) = no_lf (sym (ap first (sym (ap (λ l. l ++ rest) is) ∙ whole)))
-      none (newline k (inr is)) = no_crlf rest (sym whole ∙ ap (λ l. l ++ rest) is)
-      none (ident k is) = let w = word_first starts_ident continues_ident text is in let c = ap starts_ident (first_of bytes text rest whole w.0) in let b = w.1 in cc
-      none (number k is) = let w = word_first is_ascii_digit is_ascii_digit text is in let c = ap is_ascii_digit (first_of bytes text rest whole w.0) in let b = w.1 in cc
-      none (assign k is) = no_sign (sym (ap first (sym (ap (λ l. l ++ rest) is) ∙ whole)))
+abbrev is_pm : ℕ → Bool
+is_pm b = (b == 43) || (b == 45)
 
--- the bytes behind their first
-pub head_is : (bytes : List ℕ) → 0 < length bytes → bytes ≡ (first bytes ∷ []) ++ drop 1 bytes
-head_is [] h = absurd (omega arith)
-head_is (b ∷ bs) h = refl
+-- whether the bytes end a number that stands here
+abbrev pub ends_number : Stage → List ℕ → Bool
+ends_number Whole [] = true
+ends_number Fraction [] = true
+ends_number Power [] = true
+ends_number _ [] = false
+ends_number Whole (b ∷ bs) = if is_ascii_digit b then ends_number Whole bs else (if b == 46 then ends_number Point bs else (is_e b && ends_number Mark bs))
+ends_number Point (b ∷ bs) = is_ascii_digit b && ends_number Fraction bs
+ends_number Fraction (b ∷ bs) = if is_ascii_digit b then ends_number Fraction bs else (is_e b && ends_number Mark bs)
+ends_number Mark (b ∷ bs) = if is_ascii_digit b then ends_number Power bs else (is_pm b && ends_number Sign bs)
+ends_number Sign (b ∷ bs) = is_ascii_digit b && ends_number Power bs
+ends_number Power (b ∷ bs) = is_ascii_digit b && ends_number Power bs
 
--- what std's test of a front says
-pub starts_true : (text front : List ℕ) → starts_with nat_eq text front ≡ true → text ≡ front ++ drop (length front) text
-starts_true text front h = (starts_is Decides-eqb text front _ refl).0 h
+-- behind a number neither a digit nor `e` nor `E` nor a point with a digit
+abbrev pub stops_number : List ℕ → Bool
+stops_number [] = true
+stops_number (b ∷ bs) = not (is_ascii_digit b) && not (is_e b) && (not (b == 46) || not (is_ascii_digit (get_or bs 0 0)))
 
-pub starts_false : (text front : List ℕ) → starts_with nat_eq text front ≡ false → (rest : List ℕ) → text ≡ front ++ rest → ⊥
-starts_false text front h rest e = let k = (starts_is Decides-eqb text front _ refl).1 rest e in cc
+whole_stuck : (d e p x a b c : Bool) → (not d && not e && (not p || not x)) ≡ true → cond d a (cond p (x && b) (e && c)) ≡ true → ⊥
+whole_stuck true e p x a b c h k = cc
+whole_stuck false true p x a b c h k = cc
+whole_stuck false false true true a b c h k = cc
+whole_stuck false false true false a b c h k = cc
+whole_stuck false false false x a b c h k = cc
+
+whole_end : (d e p x a c : Bool) → (not d && not e && (not p || not x)) ≡ true → cond d a (cond p false (e && c)) ≡ true → ⊥
+whole_end true e p x a c h k = cc
+whole_end false true p x a c h k = cc
+whole_end false false true x a c h k = cc
+whole_end false false false x a c h k = cc
+
+fraction_stuck : (d e x a c : Bool) → (not d && not e && x) ≡ true → cond d a (e && c) ≡ true → ⊥
+fraction_stuck true e x a c h k = cc
+fraction_stuck false true x a c h k = cc
+fraction_stuck false false x a c h k = cc
+
+power_stuck : (d e x a : Bool) → (not d && e && x) ≡ true → (d && a) ≡ true → ⊥
+power_stuck true e x a h k = cc
+power_stuck false e x a h k = cc
+
+stuck_number : (st : Stage) → ends_number st [] ≡ true → (bs left : List ℕ) → stops_number (bs ++ left) ≡ true → 0 < length bs → ends_number st bs ≡ true → ⊥
+stuck_number Whole a [] left h some k = omega arith
+stuck_number Whole a (b ∷ []) left h some k = whole_end (is_ascii_digit b) (is_e b) (b == 46) (is_ascii_digit (get_or left 0 0)) (ends_number Whole []) (ends_number Mark []) h k
+stuck_number Whole a (b ∷ c ∷ bs) left h some k = whole_stuck (is_ascii_digit b) (is_e b) (b == 46) (is_ascii_digit c) (ends_number Whole (c ∷ bs)) (ends_number Fraction bs) (ends_number Mark (c ∷ bs)) h k
+stuck_number Fraction a [] left h some k = omega arith
+stuck_number Fraction a (b ∷ bs) left h some k = fraction_stuck (is_ascii_digit b) (is_e b) (not (b == 46) || not (is_ascii_digit (get_or (bs ++ left) 0 0))) (ends_number Fraction bs) (ends_number Mark bs) h k
+stuck_number Power a [] left h some k = omega arith
+stuck_number Power a (b ∷ bs) left h some k = power_stuck (is_ascii_digit b) (not (is_e b)) (not (b == 46) || not (is_ascii_digit (get_or (bs ++ left) 0 0))) (ends_number Power bs) h k
+stuck_number Point a bs left h some k = absurd (cc)
+stuck_number Mark a bs left h some k = absurd (cc)
+stuck_number Sign a bs left h some k = absurd (cc)
+
+cond_both : (v a b a' b' : Bool) → (a ≡ true → a' ≡ true → ⊥) → (b ≡ true → b' ≡ true → ⊥) → cond v a b ≡ true → cond v a' b' ≡ true → ⊥
+cond_both true a b a' b' f g h k = f h k
+cond_both false a b a' b' f g h k = g h k
+
+and_both : (v a a' : Bool) → (a ≡ true → a' ≡ true → ⊥) → (v && a) ≡ true → (v && a') ≡ true → ⊥
+and_both true a a' f h k = f h k
+and_both false a a' f h k = cc
+
+-- a number can't go on behind its end
+pub no_longer_number : (st : Stage) (text bs left : List ℕ) → stops_number (bs ++ left) ≡ true → 0 < length bs → ends_number st text ≡ true → ends_number st (text ++ bs) ≡ true → ⊥
+no_longer_number st [] bs left h some x y = stuck_number st x bs left h some y
+no_longer_number Whole (b ∷ text) bs left h some x y = cond_both (is_ascii_digit b) _ _ _ _ (no_longer_number Whole text bs left h some)
+    (cond_both (b == 46) _ _ _ _ (no_longer_number Point text bs left h some) (and_both (is_e b) _ _ (no_longer_number Mark text bs left h some))) x y
+no_longer_number Point (b ∷ text) bs left h some x y = and_both (is_ascii_digit b) _ _ (no_longer_number Fraction text bs left h some) x y
+no_longer_number Fraction (b ∷ text) bs left h some x y = cond_both (is_ascii_digit b) _ _ _ _ (no_longer_number Fraction text bs left h some) (and_both (is_e b) _ _ (no_longer_number Mark text bs left h some)) x y
+no_longer_number Mark (b ∷ text) bs left h some x y = cond_both (is_ascii_digit b) _ _ _ _ (no_longer_number Power text bs left h some) (and_both (is_pm b) _ _ (no_longer_number Sign text bs left h some)) x y
+no_longer_number Sign (b ∷ text) bs left h some x y = and_both (is_ascii_digit b) _ _ (no_longer_number Power text bs left h some) x y
+no_longer_number Power (b ∷ text) bs left h some x y = and_both (is_ascii_digit b) _ _ (no_longer_number Power text bs left h some) x y
+
+-- digits change nothing
+over_digits : (st : Stage) → ((b : ℕ) (bs : List ℕ) → is_ascii_digit b ≡ true → ends_number st (b ∷ bs) ≡ ends_number st bs) → (digits more : List ℕ) → list_all is_ascii_digit digits ≡ true → ends_number st (digits ++ more) ≡ ends_number st more
+over_digits st one [] more h = refl
+over_digits st one (b ∷ digits) more h = let p = and_true (is_ascii_digit b) (list_all is_ascii_digit digits) h in one b (digits ++ more) p.0 ∙ over_digits st one digits more p.1
+
+abbrev goes : Stage → ℕ → List ℕ → Stage → Type 0
+goes st b bs st' = is_ascii_digit b ≡ true → ends_number st (b ∷ bs) ≡ ends_number st' bs
+
+whole_goes : (b : ℕ) (bs : List ℕ) → goes Whole b bs Whole
+whole_goes b bs h = ap (λ v. cond v (ends_number Whole bs) (cond (b == 46) (ends_number Point bs) (is_e b && ends_number Mark bs))) h
+
+fraction_goes : (b : ℕ) (bs : List ℕ) → goes Fraction b bs Fraction
+fraction_goes b bs h = ap (λ v. cond v (ends_number Fraction bs) (is_e b && ends_number Mark bs)) h
+
+mark_goes : (b : ℕ) (bs : List ℕ) → goes Mark b bs Power
+mark_goes b bs h = ap (λ v. cond v (ends_number Power bs) (is_pm b && ends_number Sign bs)) h
+
+point_goes : (b : ℕ) (bs : List ℕ) → goes Point b bs Fraction
+point_goes b bs h = ap (λ v. v && ends_number Fraction bs) h
+
+sign_goes : (b : ℕ) (bs : List ℕ) → goes Sign b bs Power
+sign_goes b bs h = ap (λ v. v && ends_number Power bs) h
+
+power_goes : (b : ℕ) (bs : List ℕ) → goes Power b bs Power
+power_goes b bs h = ap (λ v. v && ends_number Power bs) h
+
+-- one digit or more, then as the second stage goes on
+some_digits : (st st' : Stage) → ((b : ℕ) (bs : List ℕ) → goes st b bs st') → ((b : ℕ) (bs : List ℕ) → goes st' b bs st') → (digits more : List ℕ) → 0 < length digits → list_all is_ascii_digit digits ≡ true → ends_number st (digits ++ more) ≡ ends_number st' more
+some_digits st st' first one [] more some h = absurd (omega arith)
+some_digits st st' first one (b ∷ digits) more some h = let p = and_true (is_ascii_digit b) (list_all is_ascii_digit digits) h in first b (digits ++ more) p.0 ∙ over_digits st' one digits more p.1
+
+no_more : (l : List ℕ) → l ++ [] ≡ l
+no_more [] = refl
+no_more (b ∷ l) = ap (λ r. b ∷ r) (no_more l)
+
+exponent_ends : (sign digits : List ℕ) → IsSign sign → IsDigits digits → ends_number Mark (sign ++ digits) ≡ true
+exponent_ends sign digits s d = ⊎_elim
+    (λ e. ap (λ l. ends_number Mark (l ++ digits)) e ∙ ap (ends_number Mark) (sym (no_more digits)) ∙ some_digits Mark Power mark_goes power_goes digits [] d.0 d.1)
+    (λ o. ⊎_elim (λ e. ap (λ l. ends_number Mark (l ++ digits)) e ∙ signed) (λ e. ap (λ l. ends_number Mark (l ++ digits)) e ∙ signed) o) s
+  where
+    signed : ends_number Sign digits ≡ true
+    signed = ap (ends_number Sign) (sym (no_more digits)) ∙ some_digits Sign Power sign_goes power_goes digits [] d.0 d.1
+
+tail_ends : (st : Stage) → ((b : ℕ) (bs : List ℕ) → is_e b ≡ true → (b ≡ 101) ⊎ (b ≡ 69) → ends_number st (b ∷ bs) ≡ ends_number Mark bs) → ends_number st [] ≡ true → (exponent : List ℕ) → IsExponent exponent → ends_number st exponent ≡ true
+tail_ends st marks done exponent (inl e) = ap (ends_number st) e ∙ done
+tail_ends st marks done exponent (inr x) =
+    let ends = exponent_ends x.1 x.2 x.4 x.5 in
+    ap (ends_number st) (x.6 ∙ append_assoc x.0 x.1 x.2) ∙ ⊎_elim (λ e. ap (λ l. ends_number st (l ++ (x.1 ++ x.2))) e ∙ marks 101 (x.1 ++ x.2) refl (inl refl) ∙ ends) (λ e. ap (λ l. ends_number st (l ++ (x.1 ++ x.2))) e ∙ marks 69 (x.1 ++ x.2) refl (inr refl) ∙ ends) x.3
+
+pub number_ends : (text : List ℕ) → IsNumber text → ends_number Whole text ≡ true
+number_ends text is =
+    ap (ends_number Whole) (is.6 ∙ append_assoc is.0 is.1 is.2) ∙ some_digits Whole Whole whole_goes whole_goes is.0 (is.1 ++ is.2) is.3.0 is.3.1 ∙ ⊎_elim
+    (λ e. ap (λ l. ends_number Whole (l ++ is.2)) e ∙ tail_ends Whole marks_whole refl is.2 is.5)
+    (λ f. ap (λ l. ends_number Whole (l ++ is.2)) f.2 ∙ some_digits Point Fraction point_goes fraction_goes f.0 is.2 f.1.0 f.1.1 ∙ tail_ends Fraction marks_fraction refl is.2 is.5) is.4
+  where
+    marks_whole : (b : ℕ) (bs : List ℕ) → is_e b ≡ true → (b ≡ 101) ⊎ (b ≡ 69) → ends_number Whole (b ∷ bs) ≡ ends_number Mark bs
+    marks_whole b bs h (inl e) = ap (λ c. ends_number Whole (c ∷ bs)) e
+    marks_whole b bs h (inr e) = ap (λ c. ends_number Whole (c ∷ bs)) e
+
+    marks_fraction : (b : ℕ) (bs : List ℕ) → is_e b ≡ true → (b ≡ 101) ⊎ (b ≡ 69) → ends_number Fraction (b ∷ bs) ≡ ends_number Mark bs
+    marks_fraction b bs h (inl e) = ap (λ c. ends_number Fraction (c ∷ bs)) e
+    marks_fraction b bs h (inr e) = ap (λ c. ends_number Fraction (c ∷ bs)) e

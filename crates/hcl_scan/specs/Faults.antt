@@ -1,11 +1,11 @@
 -- Why a text has no tokens: the one thing that is lacking where its longest reading ends. The kinds of faults
 -- and their places are our own choice.
-use Rattle.std.specs.Prelude.{◌≡◌, ℕ, ◌+◌, ◌<◌, List, [], ◌∷◌, length, if◌then◌else◌, Option, Some, None}
+use Rattle.std.specs.Prelude.{◌≡◌, ℕ, ◌+◌, ◌<◌, ◌++◌, List, [], ◌∷◌, length, if◌then◌else◌, codes, Option, Some, None}
 use Rattle.hcl_scan.specs.Lexemes.{Lexeme, Opener, Quote, Sequence, marker_of, moved}
-use Rattle.hcl_scan.specs.Spelling.{context, Context}
+use Rattle.hcl_scan.specs.Spelling.{starts, context, Context, Template, Expression}
 use Rattle.hcl_scan.specs.Scans.{State, begin, ahead, gap_len, owes, owed, IsLongest, HasNone, IsMarkerLine, Next, Run}
 use Rattle.hcl_scan.specs.declared.fault.FaultKind.{FaultKind}
-use Rattle.hcl_scan.specs.declared.fault.FaultKind.TheVariants.{InvalidCharacter, UnterminatedQuote, UnterminatedHeredoc, UnterminatedTemplate, TooDeep}
+use Rattle.hcl_scan.specs.declared.fault.FaultKind.TheVariants.{InvalidCharacter, UnterminatedQuote, UnterminatedComment, UnterminatedHeredoc, UnterminatedTemplate, InvalidEscape, TooDeep}
 use Rattle.hcl_scan.specs.declared.token.Kind.{Kind}
 use Rattle.hcl_scan.specs.declared.token.Kind.TheVariants.{HeredocOpen}
 
@@ -17,7 +17,8 @@ end_fault _ = None
 
 -- where something is seen that begins no token
 abbrev pub no_token_fault : Context → List ℕ → FaultKind
-no_token_fault _ seen = InvalidCharacter
+no_token_fault Expression seen = if starts seen (codes "/*") then UnterminatedComment else InvalidCharacter
+no_token_fault (Template _) seen = if starts seen (codes "\\") then InvalidEscape else UnterminatedQuote
 
 -- why the reading ends here
 pub data Lacks (s : State) (kind : FaultKind) : Type 0 where

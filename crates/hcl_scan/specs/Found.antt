@@ -1,11 +1,94 @@
--- What the parts of the scanner find at the front of what is seen.
-use Rattle.std.specs.Prelude.{ℕ, ◌<◌, ◌≤◌, Bool, List, length, take, drop}
-use Rattle.hcl_scan.specs.Lexemes.{Opener}
-use Rattle.hcl_scan.specs.Scans.{IsLongest}
+-- What the parts of the scanner find at the front of what is seen: the longest token of any kind, as the HCL Native
+-- Syntax Specification reads a text, or the longest front of one form.
+use Rattle.std.specs.Prelude.{◌≡◌, ℕ, ◌+◌, ◌<◌, ◌≤◌, Bool, true, false, List, [], ◌++◌, length, take, drop, if◌then◌else◌, get_or, codes, encode_utf8, encode_utf8_all, ◌⊎◌}
+use Rattle.std.specs.List.{list_all}
+use Rattle.hcl_scan.specs.Lexemes.{Opener, in_heredoc, closes_sequence}
+use Rattle.hcl_scan.specs.Spelling.{IsMark, IsBlanks, IsDigits, IsNumber, IsIdent, IsNewline, starts, continues_ident, context, Expression}
+use Rattle.hcl_scan.specs.Scans.{IsLongest, HasNone}
 use Rattle.hcl_scan.specs.declared.token.Kind.{Kind}
+use Rattle.hcl_scan.specs.declared.token.Kind.TheVariants.{SeqClose, BraceClose}
 
--- the first n bytes are the longest spelling, and it is of this kind
+-- the first n bytes are the longest spelling, of this kind
 pub record Finds (opens : List Opener) (after_dot : Bool) (seen : List ℕ) (kind : Kind) (n : ℕ) : Type 0 where
   pub within : n ≤ length seen
   pub some : 0 < n
   pub longest : IsLongest opens after_dot seen kind (take n seen) (drop n seen)
+
+-- what is open leaves an expression, in a heredoc or not, in which a `}` closes a sequence or not
+pub record IsPlace (opens : List Opener) (inside closes : Bool) : Type 0 where
+  pub expression : context opens ≡ Expression
+  pub heredoc : in_heredoc opens ≡ inside
+  pub sequence : closes_sequence opens ≡ closes
+
+abbrev pub FindsAt : Bool → Bool → Bool → List ℕ → Kind → ℕ → Type 0
+FindsAt after_dot inside closes seen kind n = (opens : List Opener) → IsPlace opens inside closes → Finds opens after_dot seen kind n
+
+abbrev pub HasNoneAt : Bool → Bool → Bool → List ℕ → Type 0
+HasNoneAt after_dot inside closes seen = (opens : List Opener) → IsPlace opens inside closes → HasNone opens after_dot seen
+
+-- the first n bytes have this form, and no more do
+pub record IsLongestFront (form : List ℕ → Type 0) (seen : List ℕ) (n : ℕ) : Type 0 where
+  pub within : n ≤ length seen
+  pub formed : form (take n seen)
+  pub longest : (longer left : List ℕ) → longer ++ left ≡ seen → form longer → length longer ≤ n
+
+abbrev pub HasNoFront : (List ℕ → Type 0) → List ℕ → Type 0
+HasNoFront form seen = (text rest : List ℕ) → text ++ rest ≡ seen → ¬ form text
+
+-- forms that depend on the place
+abbrev pub BlankText : Bool → List ℕ → Type 0
+BlankText true text = IsBlanks text
+BlankText false text = ⊥
+
+abbrev pub NumberText : Bool → List ℕ → Type 0
+NumberText true text = IsDigits text
+NumberText false text = IsNumber text
+
+abbrev pub CloserText : Bool → List ℕ → Type 0
+CloserText true text = (text ≡ codes "}") ⊎ (text ≡ codes "~}")
+CloserText false text = text ≡ codes "}"
+
+abbrev pub closer_kind : Bool → Kind
+closer_kind true = SeqClose
+closer_kind false = BraceClose
+
+-- the text of a mark of this kind is at the front, and no longer one
+pub record IsLongestMark (table : List (List ℕ × Kind)) (seen : List ℕ) (kind : Kind) (n : ℕ) : Type 0 where
+  pub within : n ≤ length seen
+  pub formed : IsMark table (take n seen) kind
+  pub longest : (other : Kind) (longer left : List ℕ) → longer ++ left ≡ seen → IsMark table longer other → length longer ≤ n
+
+abbrev pub HasNoMark : List (List ℕ × Kind) → List ℕ → Type 0
+HasNoMark table seen = (kind : Kind) (text rest : List ℕ) → text ++ rest ≡ seen → ¬ IsMark table text kind
+
+-- the first character passes the test
+pub record BeginsWith (test : ℕ → Bool) (text : List ℕ) : Type 0 where
+  pub first : ℕ
+  pub rest : List ℕ
+  pub passes : test first ≡ true
+  pub whole : text ≡ encode_utf8 first ++ rest
+
+-- and takes n bytes
+pub record FirstChar (test : ℕ → Bool) (text : List ℕ) (n : ℕ) : Type 0 where
+  pub begins : BeginsWith test text
+  pub takes : n ≡ length (encode_utf8 begins.first)
+
+-- no first character passes
+abbrev pub BeginsWithout : (ℕ → Bool) → List ℕ → Type 0
+BeginsWithout test text = (text ≡ []) ⊎ ((first : ℕ) × (rest : List ℕ) × (test first ≡ false) × (text ≡ encode_utf8 first ++ rest))
+
+-- characters that may continue an identifier
+abbrev pub AreContinuing : List ℕ → Type 0
+AreContinuing text = (cs : List ℕ) × (list_all continues_ident cs ≡ true) × (text ≡ encode_utf8_all cs)
+
+-- the marker of a heredoc's opener, and the newline behind it
+abbrev pub IsMarker : List ℕ → Type 0
+IsMarker text = (marker end : List ℕ) × IsIdent marker × IsNewline end × (text ≡ marker ++ end)
+
+-- how many bytes stand before the marker of a heredoc's opener
+abbrev pub heredoc_mark_len : List ℕ → ℕ
+heredoc_mark_len seen = if starts seen (codes "<<-") then 3 else (if starts seen (codes "<<") then 2 else 0)
+
+-- a `*/` stands after n bytes
+abbrev pub EndsComment : List ℕ → ℕ → Type 0
+EndsComment text n = (get_or text n 0 ≡ 42) × (get_or text (n + 1) 0 ≡ 47)

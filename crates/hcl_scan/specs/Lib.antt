@@ -5,7 +5,12 @@ pub mod Load
 pub mod Lexemes
 pub mod Spelling
 pub mod Scans
-pub mod Found
 pub mod Faults
+pub mod Found
+pub mod Leads
+pub mod Marks
+pub mod Openings
+pub mod Scanners
+pub mod Stops
 pub mod Scanned
 pub mod Entries

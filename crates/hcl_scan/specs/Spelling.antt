@@ -1,13 +1,14 @@
--- The texts of each kind of token, by the HCL Native Syntax Specification. So far these are newlines,
--- identifiers in ASCII, whole numbers and `=`.
-use Rattle.std.specs.Prelude.{◌≡◌, ℕ, ◌==◌, ◌||◌, ◌&&◌, Bool, true, false, IsTrue, List, [], ◌∷◌, codes, ◌⊎◌}
-use Rattle.std.specs.Char.{is_ascii_digit, is_ascii_alphabetic, is_ascii_alphanumeric}
-use Rattle.std.specs.List.{list_all}
-use Rattle.hcl_scan.specs.Lexemes.{Opener, Quote, Heredoc}
+-- The texts of each kind.
+use Rattle.std.specs.Prelude.{◌≡◌, ℕ, zero, suc, ◌+◌, ◌-◌, ◌<◌, ◌==◌, ◌||◌, ◌&&◌, not, Bool, true, false, IsTrue, IsFalse, List, [], ◌∷◌, ◌++◌, length, drop, take, if◌then◌else◌, nat_eq, nat_le, codes, encode_utf8_all, Option, Some, None, ◌⊎◌}
+use Rattle.std.specs.Option.{option_map_or}
+use Rattle.std.specs.Char.{is_ascii_digit, is_ascii_hexdigit}
+use Rattle.std.specs.List.{starts_with, list_all, list_any}
+use Rattle.std.specs.Str.{all_scalars}
+use Rattle.unicode_ident.specs.Ident.{is_xid_start, is_xid_continue}
+use Rattle.hcl_scan.specs.Lexemes.{Opener, in_heredoc, closes_sequence, Quote, Heredoc}
 use Rattle.hcl_scan.specs.declared.token.Kind.{Kind}
-use Rattle.hcl_scan.specs.declared.token.Kind.TheVariants.{Newline, Ident, Number, Assign}
+use Rattle.hcl_scan.specs.declared.token.Kind.TheVariants.{Newline, LineComment, InlineComment, Blank, Ident, Number, HeredocOpen, QuoteOpen, ParenOpen, BracketOpen, BraceOpen, ParenClose, BracketClose, SeqClose, BraceClose, Dot, Comma, Ellipsis, Question, Colon, Assign, Arrow, Not, Minus, Plus, Star, Slash, Percent, And, Or, Equal, NotEqual, Less, Greater, LessEqual, GreaterEqual, Lit, InterpOpen, ControlOpen, QuoteClose, HeredocClose}
 
--- the text begins with this front
 abbrev pub starts : List ℕ → List ℕ → Bool
 starts text [] = true
 starts [] (c ∷ front) = false
@@ -16,36 +17,132 @@ starts (b ∷ text) (c ∷ front) = (b == c) && starts text front
 abbrev pub is_blank : ℕ → Bool
 is_blank b = (b == 32) || (b == 9)
 
+-- the marks of expressions, each with its one kind; `/` and `}` are below
+unfoldable pub marks : List (List ℕ × Kind)
+marks =
+    (codes "\"", QuoteOpen) ∷ (codes "(", ParenOpen) ∷ (codes "[", BracketOpen) ∷ (codes "{", BraceOpen) ∷ (codes ")", ParenClose) ∷ (codes "]", BracketClose)
+    ∷ (codes ".", Dot) ∷ (codes ",", Comma) ∷ (codes "...", Ellipsis) ∷ (codes "?", Question) ∷ (codes ":", Colon) ∷ (codes "=", Assign) ∷ (codes "=>", Arrow)
+    ∷ (codes "!", Not) ∷ (codes "-", Minus) ∷ (codes "+", Plus) ∷ (codes "*", Star) ∷ (codes "%", Percent)
+    ∷ (codes "&&", And) ∷ (codes "||", Or) ∷ (codes "==", Equal) ∷ (codes "!=", NotEqual)
+    ∷ (codes "<", Less) ∷ (codes ">", Greater) ∷ (codes "<=", LessEqual) ∷ (codes ">=", GreaterEqual) ∷ []
+
+-- the text is a mark of this kind
+abbrev pub IsMark : List (List ℕ × Kind) → List ℕ → Kind → Type 0
+IsMark [] text kind = ⊥
+IsMark (m ∷ ms) text kind = ((m.0 ≡ text) × (m.1 ≡ kind)) ⊎ IsMark ms text kind
+
 abbrev pub IsNewline : List ℕ → Type 0
 IsNewline text = (text ≡ 10 ∷ []) ⊎ (text ≡ 13 ∷ 10 ∷ [])
 
-abbrev pub starts_ident : ℕ → Bool
-starts_ident b = is_ascii_alphabetic b || (b == 95)
+abbrev pub IsBlanks : List ℕ → Type 0
+IsBlanks text = (0 < length text) × IsTrue (list_all is_blank text)
+
+abbrev pub IsDigits : List ℕ → Type 0
+IsDigits text = (0 < length text) × IsTrue (list_all is_ascii_digit text)
 
 abbrev pub continues_ident : ℕ → Bool
-continues_ident b = is_ascii_alphanumeric b || (b == 95) || (b == 45)
+continues_ident c = is_xid_continue c || (c == 45)
 
--- the first byte passes one test, and all others pass another
-abbrev pub is_word : (ℕ → Bool) → (ℕ → Bool) → List ℕ → Bool
-is_word begins continues [] = false
-is_word begins continues (b ∷ bs) = begins b && list_all continues bs
+abbrev pub starts_ident : ℕ → Bool
+starts_ident c = is_xid_start c || (c == 95)
+
+-- characters that are an identifier
+abbrev pub are_ident : List ℕ → Bool
+are_ident [] = false
+are_ident (c ∷ cs) = starts_ident c && list_all continues_ident cs
 
 abbrev pub IsIdent : List ℕ → Type 0
-IsIdent text = IsTrue (is_word starts_ident continues_ident text)
+IsIdent text = (cs : List ℕ) × IsTrue (all_scalars cs) × IsTrue (are_ident cs) × (text ≡ encode_utf8_all cs)
+
+abbrev pub IsFraction : List ℕ → Type 0
+IsFraction text = (text ≡ []) ⊎ ((digits : List ℕ) × IsDigits digits × (text ≡ codes "." ++ digits))
+
+abbrev pub IsSign : List ℕ → Type 0
+IsSign text = (text ≡ []) ⊎ (text ≡ codes "+") ⊎ (text ≡ codes "-")
+
+abbrev pub IsExponent : List ℕ → Type 0
+IsExponent text = (text ≡ [])
+    ⊎ ((mark sign digits : List ℕ) × ((mark ≡ codes "e") ⊎ (mark ≡ codes "E")) × IsSign sign × IsDigits digits × (text ≡ mark ++ sign ++ digits))
 
 abbrev pub IsNumber : List ℕ → Type 0
-IsNumber text = IsTrue (is_word is_ascii_digit is_ascii_digit text)
+IsNumber text = (whole fraction exponent : List ℕ) × IsDigits whole × IsFraction fraction × IsExponent exponent × (text ≡ whole ++ fraction ++ exponent)
+
+-- `part` stands somewhere in the text
+abbrev pub Holds : List ℕ → List ℕ → Type 0
+Holds text part = (before after : List ℕ) × (text ≡ before ++ part ++ after)
+
+abbrev pub IsLineComment : List ℕ → Type 0
+IsLineComment text = IsTrue (starts text (codes "#") || starts text (codes "//")) × IsFalse (list_any (λ b. b == 10) text)
+
+-- after the `/*`, the `*/` comes at the end and nowhere before
+abbrev pub IsInlineComment : List ℕ → Type 0
+IsInlineComment text = (inner : List ℕ) × (text ≡ codes "/*" ++ inner ++ codes "*/") × ¬ Holds (inner ++ codes "*") (codes "*/")
+
+abbrev pub IsHeredocOpen : List ℕ → Type 0
+IsHeredocOpen text = (dash marker end : List ℕ) × ((dash ≡ []) ⊎ (dash ≡ codes "-")) × IsIdent marker × IsNewline end × (text ≡ codes "<<" ++ dash ++ marker ++ end)
 
 -- a text of this kind in an expression, before `rest`
 abbrev pub IsExpressionText : List Opener → Bool → Kind → List ℕ → List ℕ → Type 0
 IsExpressionText opens after_dot Newline text rest = IsNewline text
+IsExpressionText opens after_dot LineComment text rest = IsLineComment text
+IsExpressionText opens after_dot InlineComment text rest = IsInlineComment text
+IsExpressionText opens after_dot Blank text rest = IsTrue (in_heredoc opens) × IsBlanks text
 IsExpressionText opens after_dot Ident text rest = IsIdent text
-IsExpressionText opens after_dot Number text rest = IsNumber text
-IsExpressionText opens after_dot Assign text rest = text ≡ codes "="
-IsExpressionText opens after_dot kind text rest = ⊥
+IsExpressionText opens true Number text rest = IsDigits text
+IsExpressionText opens false Number text rest = IsNumber text
+IsExpressionText opens after_dot HeredocOpen text rest = IsHeredocOpen text
+IsExpressionText opens after_dot SeqClose text rest = IsTrue (closes_sequence opens) × ((text ≡ codes "}") ⊎ (text ≡ codes "~}"))
+IsExpressionText opens after_dot BraceClose text rest = IsFalse (closes_sequence opens) × (text ≡ codes "}")
+-- a `/*` that never ends is no two marks
+IsExpressionText opens after_dot Slash text rest = (text ≡ codes "/") × IsFalse (starts rest (codes "*"))
+IsExpressionText opens after_dot kind text rest = IsMark marks text kind
+
+abbrev pub hex_digits_after : ℕ → List ℕ → Bool
+hex_digits_after zero text = true
+hex_digits_after (suc n) [] = false
+hex_digits_after (suc n) (b ∷ text) = is_ascii_hexdigit b && hex_digits_after n text
+
+-- how many bytes the escape at the front of the text has, if one is there
+abbrev pub escape_len : List ℕ → Option ℕ
+escape_len text =
+    if starts text (codes "\\n") || starts text (codes "\\r") || starts text (codes "\\t") || starts text (codes "\\\"") || starts text (codes "\\\\") then Some 2
+    else (if starts text (codes "\\u") && hex_digits_after 4 (drop 2 text) then Some 6
+    else (if starts text (codes "\\U") && hex_digits_after 8 (drop 2 text) then Some 10
+    else None))
+
+-- a `$` or a `%`
+abbrev pub is_sign : ℕ → Bool
+is_sign b = (b == 36) || (b == 37)
+
+-- what ends literal text in quotes, where `after` is what follows the byte
+abbrev pub ends_quoted : ℕ → List ℕ → Bool
+ends_quoted b after = (b == 34) || (b == 92) || (b == 10) || ((b == 13) && starts after (codes "\n"))
+
+-- how many bytes the element of literal text at the front of what is seen has, if one is there
+abbrev pub element_len : Bool → List ℕ → Option ℕ
+element_len quoted [] = None
+element_len quoted (b ∷ after) =
+    if starts (b ∷ after) (codes "$${") || starts (b ∷ after) (codes "%%{") then Some 3
+    else (if is_sign b then (if starts after (codes "{") then None else Some 1)
+    else (if quoted && ends_quoted b after then escape_len (b ∷ after)
+    else Some 1))
+
+-- whole elements, where `left` more bytes belong to one that has begun
+abbrev pub are_elements : Bool → ℕ → List ℕ → List ℕ → Bool
+are_elements quoted zero [] rest = true
+are_elements quoted (suc left) [] rest = false
+are_elements quoted zero (b ∷ text) rest = option_map_or (λ n. are_elements quoted (n - 1) text rest) (element_len quoted (b ∷ text ++ rest)) false
+are_elements quoted (suc left) (b ∷ text) rest = are_elements quoted left text rest
+
+abbrev pub IsLit : Bool → List ℕ → List ℕ → Type 0
+IsLit quoted text rest = (0 < length text) × IsTrue (are_elements quoted 0 text rest)
 
 -- a text of this kind in a template, before `rest`
 abbrev pub IsTemplateText : Bool → Kind → List ℕ → List ℕ → Type 0
+IsTemplateText quoted Lit text rest = IsLit quoted text rest
+IsTemplateText quoted InterpOpen text rest = (text ≡ codes "${") ⊎ (text ≡ codes "${~")
+IsTemplateText quoted ControlOpen text rest = (text ≡ codes "%{") ⊎ (text ≡ codes "%{~")
+IsTemplateText true QuoteClose text rest = text ≡ codes "\""
 IsTemplateText quoted kind text rest = ⊥
 
 -- what the top of what is open says of the place

@@ -6,15 +6,39 @@
 //! holds what is proved of the definitions alone.
 #![tactic(auto)]
 
+mod blanks;
+mod bytes;
+mod comment;
 mod device;
+mod entry;
+mod expression;
+#[cfg(test)]
+mod expression_tests;
 mod fault;
+mod found;
+mod heredoc;
+mod ident;
 pub mod laws;
-mod next;
+mod lit;
+mod mark;
+mod number;
+mod opened;
+#[cfg(test)]
+mod pair_tests;
+mod scanner;
 mod source;
+mod space;
+mod stack;
+mod stop;
+mod stopped;
+mod template;
 #[cfg(test)]
 mod tests;
 mod token;
+#[cfg(test)]
+mod token_tests;
 mod tokens;
+mod turn;
 
 pub use device::{ByteSink, ByteSource, Failed, FromRead, ToWrite, WriteFault, write_fully};
 pub use fault::{Fault, FaultKind, LoadError, Position, ScanError};

@@ -106,7 +106,7 @@ fn scans_an_attribute(rt: HostRuntime) -> Result<(), Fail> {
 
 #[test]
 fn refuses_a_character(rt: HostRuntime) -> Result<(), Fail> {
-    let source = Source::from_bytes(rt.alloc(), b"a=1\nb=-1\n")?;
+    let source = Source::from_bytes(rt.alloc(), b"a=1\nb=^1\n")?;
     match scan(rt.alloc(), &source) {
         Err(ScanError::Fault(fault)) => {
             assert_eq!(rt; fault.kind, FaultKind::InvalidCharacter);

@@ -1,78 +1,43 @@
 //! The tokens of a source.
 
-ghost use Rattle.std.specs.Prelude.{◌≡◌, ℕ, List, ◌≤◌, ◌<◌, ◌+◌, ◌==◌, length, slice_get, IsUtf8, All, IfOk, IfErr};
+ghost use Rattle.std.specs.Prelude.{◌≡◌, ◌≤◌, ◌<◌, ◌==◌, length, slice_get, All, IfOk, IfErr};
 ghost use Rattle.std.specs.Str.{IsCharBoundary};
 ghost use Rattle.std.specs.Vec.{vec_len};
-ghost use Rattle.hcl_scan.specs.Scans.{Scans, is_dot};
-ghost use Rattle.hcl_scan.specs.Entries.{lexemes_of, IsEntry, IsStop};
+ghost use Rattle.hcl_scan.specs.Scans.{Scans};
+ghost use Rattle.hcl_scan.specs.Scanners.{lexemes_of, IsEntry};
+ghost use Rattle.hcl_scan.specs.Stops.{IsStop};
 ghost use Rattle.hcl_scan.specs.Scanned.{lexeme, IsScanError};
 
-use crate::fault::{Fault, FaultKind, ScanError};
-use crate::next::{blanks, next_token};
+use crate::entry::Entry;
+use crate::fault::{Fault, ScanError};
+use crate::scanner::Scanner;
 use crate::source::Source;
-use crate::token::{Kind, Token};
+use crate::stop::Stop;
+use crate::token::Token;
+use crate::turn::Turn;
 use std::alloc::Global;
 use std::marker::Model;
 
-/// What is kept of a token: where it begins and ends, in bytes, and what it is.
-#[derive(Clone, Copy, Debug, PartialEq, Eq)]
-pub(crate) struct Entry {
-    pub start: u32,
-    pub end: u32,
-    pub kind: Kind,
-    pub inside_heredoc: bool,
-}
-
-const _: () = prove!(size_of::<Entry>() <= 16);
-
-/// Why a scan stopped before the end: a fault at a byte offset, or want of memory.
-#[derive(Clone, Copy, Debug, PartialEq, Eq)]
-pub(crate) enum Stop {
-    At(FaultKind, usize),
-    Memory,
-}
-
-fn is_dot(kind: Kind) -> bool
-    ensures { result ≡ is_dot kind }
-{
-    matches!(kind, Kind::Dot)
-}
-
-/// The tokens of a text, or why it has none.
-fn entries(alloc: Global, bytes: &[u8]) -> Result<Vec<Entry>, Stop>
-    requires small { length bytes.now ≤ 1_048_576 }
-    requires utf8 { IsUtf8 bytes.now }
-    ensures parts { IfOk result (λ es. All (IsEntry bytes.now) es.items) }
-    ensures within { IfOk result (λ es. vec_len es ≤ length bytes.now) }
-    ensures ok { IfOk result (λ es. Scans bytes.now (lexemes_of bytes.now es.items)) }
-    ensures err { IfErr result (IsStop bytes.now) }
+/// The tokens of a text, or the one fault of a text that has none, with its byte offset.
+pub(crate) fn entries(alloc: Global, text: &str) -> Result<Vec<Entry>, Stop>
+    requires { length text.now ≤ 1_048_576 }
+    ensures parts { IfOk result (λ es. All (IsEntry text.now) es.items) }
+    ensures within { IfOk result (λ es. vec_len es ≤ length text.now) }
+    ensures ok { IfOk result (λ es. Scans text.now (lexemes_of text.now es.items)) }
+    ensures err { IfErr result (λ stop. IsStop text.now stop) }
 {
     let mut entries = Vec::new(alloc);
-    let mut at = 0;
-    let mut after_dot = false;
-    while at < bytes.len() {
-        let (_, seen) = bytes.split_at(at);
-        let start = at + blanks(seen);
-        if start == bytes.len() {
-            return Ok(entries);
+    let mut scanner = Scanner::new(text);
+    loop {
+        match scanner.turn() {
+            Turn::Token(entry) => match entries.push(entry) {
+                Ok(()) => {}
+                Err(_) => return Err(Stop::OutOfMemory),
+            },
+            Turn::Complete => return Ok(entries),
+            Turn::Fault(fault) => return Err(Stop::Fault(fault)),
         }
-        let (_, ahead) = bytes.split_at(start);
-        let Some((kind, len)) = next_token(ahead, after_dot) else {
-            return Err(Stop::At(FaultKind::InvalidCharacter, start));
-        };
-        let entry = Entry {
-            start: start as u32,
-            end: (start + len) as u32,
-            kind,
-            inside_heredoc: false,
-        };
-        if entries.push(entry).is_err() {
-            return Err(Stop::Memory);
-        }
-        at = start + len;
-        after_dot = is_dot(kind);
     }
-    Ok(entries)
 }
 
 /// The tokens of a source. Only [`scan`] makes one, so they are always the tokens of that source.
@@ -87,7 +52,8 @@ impl<'s> Model for Tokens<'s> {
 
     ghost Value = { Scanned };
 
-    ghost use Rattle.hcl_scan.specs.Entries.{lexemes_of, AreTokens};
+    ghost use Rattle.hcl_scan.specs.Scanners.{lexemes_of};
+    ghost use Rattle.hcl_scan.specs.Entries.{AreTokens};
 
     ghost view = { λ t. record { text = t.origin.now; tokens = lexemes_of t.origin.now t.entries.items } };
 
@@ -142,16 +108,15 @@ pub fn scan<'s>(alloc: Global, source: &'s Source) -> Result<Tokens<'s>, ScanErr
     ensures tokens { IfOk result (λ t. Scans source.now t.tokens) }
     ensures err { IfErr result (IsScanError source.now) }
 {
-    let text = source.text();
-    match entries(alloc, text.as_bytes()) {
+    match entries(alloc, source.text()) {
         Ok(entries) => Ok(Tokens {
             origin: source,
             entries,
         }),
-        Err(Stop::At(kind, at)) => Err(ScanError::Fault(Fault {
-            kind,
-            at: source.position(at),
+        Err(Stop::Fault(stopped)) => Err(ScanError::Fault(Fault {
+            kind: stopped.kind,
+            at: source.position(stopped.at),
         })),
-        Err(Stop::Memory) => Err(ScanError::OutOfMemory),
+        Err(Stop::OutOfMemory) => Err(ScanError::OutOfMemory),
     }
 }

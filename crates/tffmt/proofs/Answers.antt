@@ -1,7 +1,12 @@
 -- An input has one answer at most, and a run in which nothing failed gives it.
-use Rattle.std.proofs.Common.{◌≡◌, ◌∙◌, ℕ, ◌≤◌, ◌<◌, ◌++◌, Bool, false, List, Option, Some, None, refl, sym, ap, subst, inl, inr, ◌⊎◌, ⊎_elim, length, arith, append-nil}
+use Rattle.std.proofs.Common.{cond, ◌≡◌, ◌∙◌, ℕ, ◌≤◌, ◌<◌, ◌++◌, Bool, true, false, List, [], Option, Some, None, refl, sym, ap, subst, inl, inr, ◌⊎◌, ⊎_elim, length, arith, append-nil}
 use Rattle.std.specs.Io.KnownBytes.{Consumes, IsAtEnd}
-use Rattle.std.specs.Prelude.{Err}
+use Rattle.std.specs.Prelude.{Result, Ok, Err, nat_lt}
+use Rattle.std.specs.Str.{bytes_eq}
+use Rattle.std.proofs.lemmas.Slice.Eq.{bytes_eq-Decides}
+use Rattle.std.proofs.lemmas.Bool.Decides.{nat_tests}
+use Rattle.hcl_layout.specs.Print.{print}
+use Rattle.hcl_scan.specs.Scanned.{Scanned}
 use Rattle.hcl_scan.specs.Places.{place}
 use Rattle.hcl_scan.specs.Lexemes.{Lexeme}
 use Rattle.hcl_scan.specs.Load.{max_source, IsText, IsLoadFault, Loads, is_failed_load}
@@ -10,26 +15,40 @@ use Rattle.hcl_scan.specs.declared.fault.LoadError.TheVariants as error
 use Rattle.hcl_scan.specs.declared.fault.Fault.{Fault}
 use Rattle.hcl_scan.proofs.Loads.{one_load_fault, text_or_fault, too_large_too}
 use Rattle.hcl_scan.proofs.Runs.{one_scan, one_fault, no_fault}
-use Rattle.hcl_scan.proofs.Words.{one_kind, nonempty}
+use Rattle.hcl_scan.proofs.SpellingLaws.{one_kind, nonempty}
 use Rattle.tffmt.specs.Rows.{Row, Shows, Gives, IsRow, OfInput, OrOutOfMemory}
-use Rattle.tffmt.specs.Interim.{fault_of}
-use Rattle.tffmt.specs.Answer.{refused, row_by, IsTextAnswer, IsAnswer}
+use Rattle.tffmt.specs.Answer.{refused, too_large, row_of_file, row_by, IsTextAnswer, IsFileAnswer, IsAnswerBy, IsAnswer}
+use Rattle.tffmt.specs.Line.{options_of}
+use Rattle.tffmt.specs.declared.options.FmtOptions.{FmtOptions}
+use Rattle.tffmt.specs.declared.options.Usage.{Usage}
+use Rattle.tffmt.specs.declared.options.Usage.TheVariants as usage
+use Rattle.hcl_syntax.specs.Verdict.{verdict}
 
-one_text_answer : (text : List ℕ) (row other : Row) → IsTextAnswer text row → IsTextAnswer text other → row ≡ other
-one_text_answer text row other (inl x) (inl y) =
-    let same = one_fault one_kind nonempty text x.0 y.0 x.1 y.1 x.2 y.2 in
-    x.3 ∙ (λ i. refused (record { kind = same.0 i; at = place text (same.1 i) })) ∙ sym y.3
-one_text_answer text row other (inl x) (inr y) = absurd (no_fault one_kind nonempty text y.0 x.0 x.1 y.1 x.2)
-one_text_answer text row other (inr x) (inl y) = absurd (no_fault one_kind nonempty text x.0 y.0 y.1 x.1 y.2)
-one_text_answer text row other (inr x) (inr y) =
-    let same = one_scan one_kind nonempty text x.0 y.0 x.1 y.1 in
-    x.2 ∙ ap (λ (ts : List Lexeme). row_by ts (fault_of text ts)) same ∙ sym y.2
+module _ (options : FmtOptions) where
+  one_text_answer : (text : List ℕ) (row other : Row) → IsTextAnswer options text row → IsTextAnswer options text other → row ≡ other
+  one_text_answer text row other (inl x) (inl y) =
+      let same = one_fault one_kind nonempty text x.0 y.0 x.1 y.1 x.2 y.2 in
+      x.3 ∙ (λ i. refused (record { kind = same.0 i; at = place text (same.1 i) })) ∙ sym y.3
+  one_text_answer text row other (inl x) (inr y) = absurd (no_fault one_kind nonempty text y.0 x.0 x.1 y.1 x.2)
+  one_text_answer text row other (inr x) (inl y) = absurd (no_fault one_kind nonempty text x.0 y.0 y.1 x.1 y.2)
+  one_text_answer text row other (inr x) (inr y) =
+      let same = one_scan one_kind nonempty text x.0 y.0 x.1 y.1 in
+      x.2 ∙ ap (λ (ts : List Lexeme). row_by options (verdict (record { text = text; tokens = ts }))) same ∙ sym y.2
 
-pub one_answer : (input : List ℕ) (row other : Row) → IsAnswer input row → IsAnswer input other → row ≡ other
-one_answer input row other (inl x) (inl y) = x.2 ∙ ap refused (one_load_fault input x.0 y.0 x.1 y.1) ∙ sym y.2
-one_answer input row other (inl x) (inr y) = absurd (text_or_fault input x.0 y.0 x.1)
-one_answer input row other (inr x) (inl y) = absurd (text_or_fault input y.0 x.0 y.1)
-one_answer input row other (inr x) (inr y) = one_text_answer input row other x.1 y.1
+  one_file_answer : (input : List ℕ) (row other : Row) → IsFileAnswer options input row → IsFileAnswer options input other → row ≡ other
+  one_file_answer input row other (inl x) (inl y) = x.2 ∙ ap refused (one_load_fault input x.0 y.0 x.1 y.1) ∙ sym y.2
+  one_file_answer input row other (inl x) (inr y) = absurd (text_or_fault input x.0 y.0 x.1)
+  one_file_answer input row other (inr x) (inl y) = absurd (text_or_fault input y.0 x.0 y.1)
+  one_file_answer input row other (inr x) (inr y) = one_text_answer input row other x.1 y.1
+
+one_answer_by : (r : Result FmtOptions Usage) (input : List ℕ) (row other : Row) → IsAnswerBy r input row → IsAnswerBy r input other → row ≡ other
+one_answer_by (Ok options) input row other x y = one_file_answer options input row other x y
+one_answer_by (Err usage.Help) input row other x y = x ∙ sym y
+one_answer_by (Err usage.BadLine) input row other x y = x ∙ sym y
+one_answer_by (Err usage.OutOfMemory) input row other x y = x ∙ sym y
+
+pub one_answer : (words : List (List ℕ)) (input : List ℕ) (row other : Row) → IsAnswer words input row → IsAnswer words input other → row ≡ other
+one_answer words = one_answer_by (options_of words)
 
 -- ---- from the bytes that were taken to the input
 
@@ -40,11 +59,11 @@ whole_input (Some xs) None bytes P taken done p = absurd taken
 whole_input (Some xs) (Some ys) bytes P taken done p = subst P (sym (taken ∙ ap (λ l. bytes ++ l) done ∙ append-nil bytes)) p
 
 -- a fault of what was taken is that of the input
-pub fault_of_input : (left left' : Option (List ℕ)) (bytes : List ℕ) (fault : Fault) → Consumes left left' bytes → (length bytes ≤ max_source → IsAtEnd left') → IsLoadFault bytes fault
-    → OfInput left (λ input. IsAnswer input (refused fault))
-fault_of_input None left' bytes fault taken done x = (bytes, inl (fault, x, refl))
-fault_of_input (Some xs) None bytes fault taken done x = absurd taken
-fault_of_input (Some xs) (Some ys) bytes fault taken done x =
+pub fault_of_input : (options : FmtOptions) (left left' : Option (List ℕ)) (bytes : List ℕ) (fault : Fault) → Consumes left left' bytes → (length bytes ≤ max_source → IsAtEnd left') → IsLoadFault bytes fault
+    → OfInput left (λ input. IsFileAnswer options input (refused fault))
+fault_of_input options None left' bytes fault taken done x = (bytes, inl (fault, x, refl))
+fault_of_input options (Some xs) None bytes fault taken done x = absurd taken
+fault_of_input options (Some xs) (Some ys) bytes fault taken done x =
     ⊎_elim (λ le. inl (fault, subst (λ l. IsLoadFault l fault) (sym (taken ∙ ap (λ l. bytes ++ l) (done le) ∙ append-nil bytes)) x, refl))
     (λ gt. inl (fault, subst (λ l. IsLoadFault l fault) (sym taken) (too_large_too bytes ys fault gt x), refl))
     (below (length bytes) max_source)
@@ -54,47 +73,79 @@ fault_of_input (Some xs) (Some ys) bytes fault taken done x =
 
 -- ---- a run in which nothing failed and memory was there
 
-abbrev Answered : Option (List ℕ) → Bool → Option (List ℕ) → Option (List ℕ) → Option (List ℕ) → Option (List ℕ) → ℕ → Type 0
-Answered left flushed out out' err err' status = OfInput left (λ input. (row : Row) × IsAnswer input row × Gives row flushed out out' err err' status)
+module _ (answer : List ℕ → Row → Type 0) where
+  abbrev Answered : Option (List ℕ) → Bool → Option (List ℕ) → Option (List ℕ) → Option (List ℕ) → Option (List ℕ) → ℕ → Type 0
+  Answered left flushed out out' err err' status = OfInput left (λ input. (row : Row) × answer input row × Gives row flushed out out' err err' status)
 
-given : (row : Row) (flushed : Bool) (out out' err err' : Option (List ℕ)) (status : ℕ) → Shows row false false flushed out out' err err' status → Gives row flushed out out' err err' status
-given row flushed out out' err err' status s = record { output = s.output; message = s.message; exit = s.exit; flush = s.flush refl }
+  given : (row : Row) (flushed : Bool) (out out' err err' : Option (List ℕ)) (status : ℕ) → Shows row false false flushed out out' err err' status → Gives row flushed out out' err err' status
+  given row flushed out out' err err' status s = record { output = s.output; message = s.message; exit = s.exit; flush = s.flush refl }
 
-by_row : (left : Option (List ℕ)) (row : Row) (flushed : Bool) (out out' err err' : Option (List ℕ)) (status : ℕ) → OfInput left (λ input. IsAnswer input row) → Gives row flushed out out' err err' status → Answered left flushed out out' err err' status
-by_row None row flushed out out' err err' status a g = (a.0, (row, a.1, g))
-by_row (Some input) row flushed out out' err err' status a g = (row, a, g)
+  by_row : (left : Option (List ℕ)) (row : Row) (flushed : Bool) (out out' err err' : Option (List ℕ)) (status : ℕ) → OfInput left (λ input. answer input row) → Gives row flushed out out' err err' status → Answered left flushed out out' err err' status
+  by_row None row flushed out out' err err' status a g = (a.0, (row, a.1, g))
+  by_row (Some input) row flushed out out' err err' status a g = (row, a, g)
 
-or_memory : (left : Option (List ℕ)) (row : Row) (flushed : Bool) (out out' err err' : Option (List ℕ)) (status : ℕ)
-    → OrOutOfMemory (λ r. OfInput left (λ input. IsAnswer input r)) row → Shows row false false flushed out out' err err' status → (status ≡ 4 → ⊥) → Answered left flushed out out' err err' status
-or_memory left row flushed out out' err err' status (inl e) s four = absurd (four (s.exit ∙ ap (λ (r : Row). r.status) e))
-or_memory left row flushed out out' err err' status (inr a) s four = by_row left row flushed out out' err err' status a (given row flushed out out' err err' status s)
+  or_memory : (left : Option (List ℕ)) (row : Row) (flushed : Bool) (out out' err err' : Option (List ℕ)) (status : ℕ)
+      → OrOutOfMemory (λ r. OfInput left (λ input. answer input r)) row → Shows row false false flushed out out' err err' status → (status ≡ 4 → ⊥) → Answered left flushed out out' err err' status
+  or_memory left row flushed out out' err err' status (inl e) s four = absurd (four (s.exit ∙ ap (λ (r : Row). r.status) e))
+  or_memory left row flushed out out' err err' status (inr a) s four = by_row left row flushed out out' err err' status a (given row flushed out out' err err' status s)
 
-pub answered : (left : Option (List ℕ)) (r o e flushed : Bool) (out out' err err' : Option (List ℕ)) (status : ℕ)
-    → (row : Row) × IsRow IsAnswer r left row × Shows row o e flushed out out' err err' status
-    → r ≡ false → o ≡ false → e ≡ false → (status ≡ 4 → ⊥) → Answered left flushed out out' err err' status
-answered left r o e flushed out out' err err' status w p q s four =
-    or_memory left w.0 flushed out out' err err' status (subst (λ b. IsRow IsAnswer b left w.0) p w.1)
-    (subst (λ b. Shows w.0 false b flushed out out' err err' status) s (subst (λ b. Shows w.0 b e flushed out out' err err' status) q w.2)) four
+  pub answered : (left : Option (List ℕ)) (r o e flushed : Bool) (out out' err err' : Option (List ℕ)) (status : ℕ)
+      → (row : Row) × IsRow answer r left row × Shows row o e flushed out out' err err' status
+      → r ≡ false → o ≡ false → e ≡ false → (status ≡ 4 → ⊥) → Answered left flushed out out' err err' status
+  answered left r o e flushed out out' err err' status w p q s four =
+      or_memory left w.0 flushed out out' err err' status (subst (λ b. IsRow answer b left w.0) p w.1)
+      (subst (λ b. Shows w.0 false b flushed out out' err err' status) s (subst (λ b. Shows w.0 b e flushed out out' err err' status) q w.2)) four
 
 -- ---- the row of what was read
 
-row_at : (failed : Bool) (left : Option (List ℕ)) (row : Row) → failed ≡ false → OrOutOfMemory (λ r. OfInput left (λ input. IsAnswer input r)) row → IsRow IsAnswer failed left row
-row_at failed left row e h = subst (λ b. IsRow IsAnswer b left row) (sym e) h
+module _ (options : FmtOptions) where
+  row_at : (failed : Bool) (left : Option (List ℕ)) (row : Row) → failed ≡ false → OrOutOfMemory (λ r. OfInput left (λ input. IsFileAnswer options input r)) row → IsRow (IsFileAnswer options) failed left row
+  row_at failed left row e h = subst (λ b. IsRow (IsFileAnswer options) b left row) (sym e) h
 
-pub row_of_text : (failed : Bool) (left left' : Option (List ℕ)) (source bytes : List ℕ) (row : Row) → failed ≡ false → Consumes left left' bytes → source ≡ bytes → IsText bytes → IsAtEnd left'
-    → OrOutOfMemory (IsTextAnswer source) row → IsRow IsAnswer failed left row
-row_of_text failed left left' source bytes row e taken is text done (inl m) = row_at failed left row e (inl m)
-row_of_text failed left left' source bytes row e taken is text done (inr a) =
-    row_at failed left row e (inr (whole_input left left' bytes (λ input. IsAnswer input row) taken done (inr (text, subst (λ l. IsTextAnswer l row) is a))))
+  pub row_of_text : (failed : Bool) (left left' : Option (List ℕ)) (source bytes : List ℕ) (row : Row) → failed ≡ false → Consumes left left' bytes → source ≡ bytes → IsText bytes → IsAtEnd left'
+      → OrOutOfMemory (IsTextAnswer options source) row → IsRow (IsFileAnswer options) failed left row
+  row_of_text failed left left' source bytes row e taken is text done (inl m) = row_at failed left row e (inl m)
+  row_of_text failed left left' source bytes row e taken is text done (inr a) =
+      row_at failed left row e (inr (whole_input left left' bytes (λ input. IsFileAnswer options input row) taken done (inr (text, subst (λ l. IsTextAnswer options l row) is a))))
 
-pub row_of_fault : (failed : Bool) (left left' : Option (List ℕ)) (bytes : List ℕ) (fault : Fault) (row : Row) → failed ≡ false → Consumes left left' bytes → IsLoadFault bytes fault → (length bytes ≤ max_source → IsAtEnd left')
-    → OrOutOfMemory (λ r. r ≡ refused fault) row → IsRow IsAnswer failed left row
-row_of_fault failed left left' bytes fault row e taken x done (inl m) = row_at failed left row e (inl m)
-row_of_fault failed left left' bytes fault row e taken x done (inr is) =
-    row_at failed left row e (inr (subst (λ (r : Row). OfInput left (λ input. IsAnswer input r)) (sym is) (fault_of_input left left' bytes fault taken done x)))
+  pub row_of_fault : (failed : Bool) (left left' : Option (List ℕ)) (bytes : List ℕ) (fault : Fault) (row : Row) → failed ≡ false → Consumes left left' bytes → IsLoadFault bytes fault → (length bytes ≤ max_source → IsAtEnd left')
+      → OrOutOfMemory (λ r. r ≡ refused fault) row → IsRow (IsFileAnswer options) failed left row
+  row_of_fault failed left left' bytes fault row e taken x done (inl m) = row_at failed left row e (inl m)
+  row_of_fault failed left left' bytes fault row e taken x done (inr is) =
+      row_at failed left row e (inr (subst (λ (r : Row). OfInput left (λ input. IsFileAnswer options input r)) (sym is) (fault_of_input options left left' bytes fault taken done x)))
 
 pub fault_loads : (bytes : List ℕ) (left : Option (List ℕ)) (e : LoadError) (fault : Fault) → e ≡ error.Fault fault → Loads bytes left (Err e) → IsLoadFault bytes fault × (length bytes ≤ max_source → IsAtEnd left)
 fault_loads bytes left e fault is l = subst (λ (x : LoadError). Loads bytes left (Err x)) is l
 
 pub no_read_fault : (e : LoadError) (fault : Fault) → e ≡ error.Fault fault → is_failed_load (Err e) ≡ false
 no_read_fault e fault is = ap (λ (x : LoadError). is_failed_load (Err x)) is
+
+-- ---- from the options to the words
+
+pub row_of_options : (r : Result FmtOptions Usage) (options : FmtOptions) (failed : Bool) (left : Option (List ℕ)) (row : Row) → (Ok options ≡ Err usage.OutOfMemory) ⊎ (Ok options ≡ r)
+    → IsRow (IsFileAnswer options) failed left row → IsRow (IsAnswerBy r) failed left row
+row_of_options r options failed left row (inl e) w = absurd (cc)
+row_of_options r options failed left row (inr e) w = subst (λ (x : Result FmtOptions Usage). IsRow (IsAnswerBy x) failed left row) e w
+
+-- ---- a print that is too large
+
+lt_true : (a b : ℕ) → a < b → nat_lt a b ≡ true
+lt_true a b h = grind (arith, nat_tests)
+
+pub row_too_large : (options : FmtOptions) (s : Scanned) (row : Row) → max_source < length (print s.tokens) → OrOutOfMemory (λ r. r ≡ refused too_large) row → OrOutOfMemory (λ r. r ≡ row_of_file options s) row
+row_too_large options s row more (inl m) = inl m
+row_too_large options s row more (inr is) = inr (is ∙ sym (too_large_row (lt_true max_source (length (print s.tokens)) more)))
+  where
+    too_large_row : nat_lt max_source (length (print s.tokens)) ≡ true → row_of_file options s ≡ refused too_large
+    too_large_row e = ap (λ b. cond b (refused too_large) (cond options.check (record { out = []; err = []; status = cond (bytes_eq (print s.tokens) s.text) 0 3 }) (record { out = print s.tokens; err = []; status = 0 }))) e
+
+-- ---- two tests of one fact
+
+same_test : (q r : Bool) (P : Type 0) → (q ≡ true → P) × (P → q ≡ true) → (r ≡ true → P) × (P → r ≡ true) → q ≡ r
+same_test true true P a b = refl
+same_test true false P a b = sym (b.1 (a.0 refl))
+same_test false true P a b = a.1 (b.0 refl)
+same_test false false P a b = refl
+
+pub is_formatted_is : (r : Bool) (print text : List ℕ) → (r ≡ true → print ≡ text) × (print ≡ text → r ≡ true) → bytes_eq print text ≡ r
+is_formatted_is r print text both = same_test (bytes_eq print text) r (print ≡ text) (bytes_eq-Decides print text) both

@@ -1,3 +1,2 @@
-pub mod Writes
-pub mod Printing
+pub mod Failed
 pub mod Answers

@@ -1,15 +1,23 @@
--- What `tffmt` answers to an input.
-use Rattle.std.specs.Prelude.{◌≡◌, ◌⊎◌, ℕ, List, [], ◌++◌, Option, Some, None, codes, decimal}
+-- What `tffmt` answers to a line of words and an input.
+use Rattle.std.specs.Prelude.{◌≡◌, ◌⊎◌, ℕ, List, [], ◌++◌, Result, Ok, Err, codes, decimal, length, nat_lt, if◌then◌else◌}
+use Rattle.std.specs.Str.{bytes_eq}
 use Rattle.hcl_scan.specs.Texts.{fault_text}
 use Rattle.hcl_scan.specs.Places.{place}
-use Rattle.hcl_scan.specs.Load.{IsText, IsLoadFault}
+use Rattle.hcl_scan.specs.Load.{max_source, IsText, IsLoadFault}
 use Rattle.hcl_scan.specs.Lexemes.{Lexeme}
+use Rattle.hcl_scan.specs.Scanned.{Scanned}
 use Rattle.hcl_scan.specs.Scans.{Scans}
 use Rattle.hcl_scan.specs.Faults.{IsScanFault}
 use Rattle.hcl_scan.specs.declared.fault.Fault.{Fault}
 use Rattle.hcl_scan.specs.declared.fault.FaultKind.{FaultKind}
-use Rattle.tffmt.specs.Rows.{Row, line}
-use Rattle.tffmt.specs.Interim.{fault_of, printed}
+use Rattle.hcl_scan.specs.declared.fault.FaultKind.TheVariants.{ResultTooLarge}
+use Rattle.hcl_syntax.specs.Verdict.{verdict}
+use Rattle.hcl_layout.specs.Print.{print}
+use Rattle.tffmt.specs.Rows.{Row, line, out_of_memory}
+use Rattle.tffmt.specs.Line.{options_of}
+use Rattle.tffmt.specs.declared.options.FmtOptions.{FmtOptions}
+use Rattle.tffmt.specs.declared.options.Usage.{Usage}
+use Rattle.tffmt.specs.declared.options.Usage.TheVariants as usage
 
 -- `tffmt: error: LINE:COLUMN: TEXT`
 abbrev pub fault_line : Fault → List ℕ
@@ -19,17 +27,40 @@ fault_line fault = codes "tffmt: error: " ++ (decimal fault.at.line ++ (codes ":
 abbrev pub refused : Fault → Row
 refused fault = record { out = []; err = fault_line fault; status = 2 }
 
--- the row of tokens that have this fault, or none
-abbrev pub row_by : List Lexeme → Option Fault → Row
-row_by ts None = record { out = printed ts; err = []; status = 0 }
-row_by ts (Some fault) = refused fault
+-- a print of more than the bytes of a source is none: its fault stands at the front
+abbrev pub too_large : Fault
+too_large = record { kind = ResultTooLarge; at = record { line = 1; column = 1 } }
+
+-- the row of an accepted file
+abbrev pub row_of_file : FmtOptions → Scanned → Row
+row_of_file options s =
+    if nat_lt max_source (length (print s.tokens)) then refused too_large
+    else (if options.check then record { out = []; err = []; status = if bytes_eq (print s.tokens) s.text then 0 else 3 }
+    else record { out = print s.tokens; err = []; status = 0 })
+
+abbrev pub row_by : FmtOptions → Result Scanned Fault → Row
+row_by options (Ok s) = row_of_file options s
+row_by options (Err fault) = refused fault
 
 -- the row of a source: that of its one scan fault, or that of its one list of tokens
-abbrev pub IsTextAnswer : List ℕ → Row → Type 0
-IsTextAnswer text row =
+abbrev pub IsTextAnswer : FmtOptions → List ℕ → Row → Type 0
+IsTextAnswer options text row =
     ((kind : FaultKind) × (at : ℕ) × IsScanFault text kind at × (row ≡ refused (record { kind = kind; at = place text at })))
-    ⊎ ((ts : List Lexeme) × Scans text ts × (row ≡ row_by ts (fault_of text ts)))
+    ⊎ ((ts : List Lexeme) × Scans text ts × (row ≡ row_by options (verdict (record { text = text; tokens = ts }))))
 
--- THE ANSWER to an input: the row of its one load fault, or that of its text
-abbrev pub IsAnswer : List ℕ → Row → Type 0
-IsAnswer input row = ((fault : Fault) × IsLoadFault input fault × (row ≡ refused fault)) ⊎ (IsText input × IsTextAnswer input row)
+-- the row of an input: that of its one load fault, or that of its text
+abbrev pub IsFileAnswer : FmtOptions → List ℕ → Row → Type 0
+IsFileAnswer options input row = ((fault : Fault) × IsLoadFault input fault × (row ≡ refused fault)) ⊎ (IsText input × IsTextAnswer options input row)
+
+abbrev pub usage_line : List ℕ
+usage_line = line (codes "usage: tffmt [--check] [--help]")
+
+abbrev pub IsAnswerBy : Result FmtOptions Usage → List ℕ → Row → Type 0
+IsAnswerBy (Ok options) input row = IsFileAnswer options input row
+IsAnswerBy (Err usage.Help) input row = row ≡ record { out = usage_line; err = []; status = 0 }
+IsAnswerBy (Err usage.BadLine) input row = row ≡ record { out = []; err = usage_line; status = 2 }
+IsAnswerBy (Err usage.OutOfMemory) input row = row ≡ out_of_memory
+
+-- THE ANSWER to a line of words and an input
+abbrev pub IsAnswer : List (List ℕ) → List ℕ → Row → Type 0
+IsAnswer words = IsAnswerBy (options_of words)

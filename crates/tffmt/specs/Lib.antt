@@ -1,3 +1,3 @@
 pub mod Rows
-pub mod Interim
+pub mod Line
 pub mod Answer

@@ -5,7 +5,7 @@ ghost use Rattle.std.specs.Prelude.{◌≡◌, ℕ, List};
 ghost use Rattle.tffmt.specs.Rows.{Row};
 ghost use Rattle.tffmt.specs.Answer.{IsAnswer};
 
-/// An input has one answer at most.
+/// A line of words and an input have one answer at most.
 pub fn one_answer()
-    ensures { (input : List ℕ) (row other : Row) → IsAnswer input row → IsAnswer input other → row ≡ other }
+    ensures { (words : List (List ℕ)) (input : List ℕ) (row other : Row) → IsAnswer words input row → IsAnswer words input other → row ≡ other }
 {}

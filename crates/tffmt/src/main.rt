@@ -1,25 +1,36 @@
 //! `tffmt` formats the HCL file that it reads from standard input.
 #![tactic(auto)]
 
-mod interim;
 mod laws;
+mod options;
 mod run;
 #[cfg(test)]
 mod tests;
 
 use hcl_scan::{FromRead, ToWrite};
-use run::FmtOptions;
-use std::io::BufWriter;
+use std::env;
 use std::process::ExitCode;
 
+/// The status of a run that got no words: nothing is printed.
+const NO_WORDS: u8 = 4;
+
 fn main(rt: HostRuntime) -> ExitCode {
-    let options = FmtOptions { check: false };
-    let mut input = FromRead::new(rt.stdin());
-    let Ok(buffered) = BufWriter::new(rt.alloc(), rt.stdout()) else {
-        return ExitCode::from(4);
+    let alloc = rt.alloc();
+    let Ok(arguments) = env::args(&rt) else {
+        return ExitCode::from(NO_WORDS);
     };
-    let mut out = ToWrite::new(buffered);
+    let Ok(owned) = arguments.collect::<Vec<String>>(alloc) else {
+        return ExitCode::from(NO_WORDS);
+    };
+    let mut words = Vec::new(alloc);
+    for word in &owned {
+        if words.push(word.as_str()).is_err() {
+            return ExitCode::from(NO_WORDS);
+        }
+    }
+    let mut input = FromRead::new(rt.stdin());
+    let mut out = ToWrite::new(rt.stdout());
     let mut err = ToWrite::new(rt.stderr());
-    let status = run::run(rt.alloc(), &options, &mut input, &mut out, &mut err);
+    let status = run::program(alloc, words.as_slice(), &mut input, &mut out, &mut err);
     ExitCode::from(status)
 }

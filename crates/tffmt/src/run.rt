@@ -1,22 +1,21 @@
 //! A run over any devices.
 
-ghost use Rattle.std.specs.Prelude.{◌≡◌, ◌≢◌, ◌||◌, ◌<◌, ℕ, List, [], false, length, if◌then◌else◌, string_bytes, IfOk};
+ghost use Rattle.std.specs.Prelude.{◌≡◌, ◌≢◌, ◌||◌, ◌<◌, ℕ, List, [], false, true, length, map, if◌then◌else◌, string_bytes, IfOk};
 ghost use Rattle.tffmt.specs.Rows.{Row, Took, Shows, ShowsOne, Gives, IsRow, OrOutOfMemory, OfInput};
-ghost use Rattle.tffmt.specs.Answer.{fault_line, refused, IsTextAnswer, IsAnswer};
-ghost use Rattle.tffmt.specs.Interim.{printed};
+ghost use Rattle.std.specs.Str.{bytes_eq};
+ghost use Rattle.hcl_layout.specs.Print.{print};
+ghost use Rattle.tffmt.specs.Answer.{fault_line, refused, row_of_file, IsTextAnswer, IsFileAnswer, IsAnswer, usage_line};
 
-use crate::interim::{print, refusal};
+use crate::options::{FmtOptions, Usage, options};
+use hcl_layout::{emit, is_formatted, printed_len};
 use hcl_scan::{
-    ByteSink, ByteSource, Fault, LoadError, ScanError, Source, Tokens, scan, write_fully,
+    ByteSink, ByteSource, Fault, FaultKind, LoadError, MAX_SOURCE, Position, ScanError, Source,
+    scan, write_fully,
 };
+use hcl_syntax::{Accepted, accepts};
 use std::alloc::{AllocError, Global};
 
-/// What a run is to do.
-#[derive(Clone, Copy, Debug, PartialEq, Eq)]
-pub struct FmtOptions {
-    /// Whether to say that the input is formatted, in place of its print.
-    pub check: bool,
-}
+static USAGE: &str = "usage: tffmt [--check] [--help]\n";
 
 static READ_FAILED: &str = "tffmt: error: read failed\n";
 
@@ -72,63 +71,139 @@ fn refuse<O: ByteSink, E: ByteSink>(alloc: Global, out: &mut O, err: &mut E, fau
     }
 }
 
-/// Prints the tokens of a file.
-fn show<O: ByteSink, E: ByteSink>(tokens: &Tokens<'_>, out: &mut O, err: &mut E) -> u8
+/// Writes and flushes a text.
+fn say<O: ByteSink>(out: &mut O, text: &str)
+    requires { O.failed out.old ≡ false }
+    ensures took { Took (O.failed out.new) (O.taken out.old) (O.taken out.new) text.now }
+    ensures flushed { O.failed out.new ≡ false → O.flushed out.new ≡ true }
+{
+    if write_fully(out, text.as_bytes()).is_ok() {
+        let _ = out.flush();
+    }
+}
+
+/// Writes the print of a file, which has so many bytes.
+fn print<O: ByteSink>(accepted: &Accepted<'_, '_>, len: u64, out: &mut O)
+    requires out { O.failed out.old ≡ false }
+    requires len { len ≡ length (print accepted.now.tokens) }
+    ensures took { Took (O.failed out.new) (O.taken out.old) (O.taken out.new) (print accepted.now.tokens) }
+    ensures flushed { O.failed out.new ≡ false → 0 < length (print accepted.now.tokens) → O.flushed out.new ≡ true }
+{
+    if emit(accepted, out).is_ok() && len > 0 {
+        let _ = out.flush();
+    }
+}
+
+/// Prints a file.
+fn show<O: ByteSink, E: ByteSink>(
+    accepted: &Accepted<'_, '_>,
+    len: u64,
+    out: &mut O,
+    err: &mut E,
+) -> u8
     requires out { O.failed out.old ≡ false }
     requires err { E.failed err.old ≡ false }
-    ensures { let row : Row = record { out = printed tokens.now.tokens; err = []; status = 0 } in
+    requires len { len ≡ length (print accepted.now.tokens) }
+    ensures { let row : Row = record { out = print accepted.now.tokens; err = []; status = 0 } in
         Shows row (O.failed out.new) (E.failed err.new) (O.flushed out.new)
         (O.taken out.old) (O.taken out.new) (E.taken err.old) (E.taken err.new) result }
 {
-    print(tokens, out);
+    print(accepted, len, out);
     if out.has_failed() {
         return complain(err, WRITE_FAILED, 4);
     }
     0
 }
 
-/// Shows what a source gives.
-fn answer<O: ByteSink, E: ByteSink>(alloc: Global, source: &Source, out: &mut O, err: &mut E) -> u8
+/// Writes the usage line to standard output.
+fn help<O: ByteSink, E: ByteSink>(out: &mut O, err: &mut E) -> u8
     requires out { O.failed out.old ≡ false }
     requires err { E.failed err.old ≡ false }
-    ensures { ShowsOne (OrOutOfMemory (IsTextAnswer source.now))
+    ensures { let row : Row = record { out = usage_line; err = []; status = 0 } in
+        Shows row (O.failed out.new) (E.failed err.new) (O.flushed out.new)
+        (O.taken out.old) (O.taken out.new) (E.taken err.old) (E.taken err.new) result }
+{
+    say(out, USAGE);
+    if out.has_failed() {
+        return complain(err, WRITE_FAILED, 4);
+    }
+    0
+}
+
+/// The status that says whether a file is formatted.
+fn check_status(accepted: &Accepted<'_, '_>) -> u8
+    ensures { result ≡ (if bytes_eq (print accepted.now.tokens) accepted.now.text then 0 else 3) }
+{
+    if is_formatted(accepted) { 0 } else { 3 }
+}
+
+/// Says by the status whether a file is formatted.
+fn check<O: ByteSink, E: ByteSink>(accepted: &Accepted<'_, '_>, out: &mut O, err: &mut E) -> u8
+    requires out { O.failed out.old ≡ false }
+    requires err { E.failed err.old ≡ false }
+    ensures { let row : Row = record { out = []; err = []; status = if bytes_eq (print accepted.now.tokens) accepted.now.text then 0 else 3 } in
+        Shows row (O.failed out.new) (E.failed err.new) (O.flushed out.new)
+        (O.taken out.old) (O.taken out.new) (E.taken err.old) (E.taken err.new) result }
+{
+    tell(out, err, "", check_status(accepted))
+}
+
+/// Shows what an accepted file gives.
+fn format<O: ByteSink, E: ByteSink>(
+    alloc: Global,
+    options: &FmtOptions,
+    accepted: &Accepted<'_, '_>,
+    out: &mut O,
+    err: &mut E,
+) -> u8
+    requires out { O.failed out.old ≡ false }
+    requires err { E.failed err.old ≡ false }
+    ensures { ShowsOne (OrOutOfMemory (λ row. row ≡ row_of_file options.now accepted.now))
+        (O.failed out.new) (E.failed err.new) (O.flushed out.new)
+        (O.taken out.old) (O.taken out.new) (E.taken err.old) (E.taken err.new) result }
+{
+    let len = printed_len(accepted);
+    if len > MAX_SOURCE as u64 {
+        let fault = Fault {
+            kind: FaultKind::ResultTooLarge,
+            at: Position { line: 1, column: 1 },
+        };
+        return refuse(alloc, out, err, &fault);
+    }
+    if options.check {
+        check(accepted, out, err)
+    } else {
+        show(accepted, len, out, err)
+    }
+}
+
+/// Shows what a source gives.
+fn answer<O: ByteSink, E: ByteSink>(
+    alloc: Global,
+    options: &FmtOptions,
+    source: &Source,
+    out: &mut O,
+    err: &mut E,
+) -> u8
+    requires out { O.failed out.old ≡ false }
+    requires err { E.failed err.old ≡ false }
+    ensures { ShowsOne (OrOutOfMemory (IsTextAnswer options.now source.now))
         (O.failed out.new) (E.failed err.new) (O.flushed out.new)
         (O.taken out.old) (O.taken out.new) (E.taken err.old) (E.taken err.new) result }
 {
     match scan(alloc, source) {
-        Ok(tokens) => match refusal(&tokens) {
-            None => show(&tokens, out, err),
-            Some(fault) => refuse(alloc, out, err, &fault),
+        Ok(tokens) => match accepts(&tokens) {
+            Ok(accepted) => format(alloc, options, &accepted, out, err),
+            Err(fault) => refuse(alloc, out, err, &fault),
         },
         Err(ScanError::Fault(fault)) => refuse(alloc, out, err, &fault),
         Err(ScanError::OutOfMemory) => tell(out, err, OUT_OF_MEMORY, 4),
     }
 }
 
-/// Reads the input to its end and shows what it gives.
-fn start<R: ByteSource, O: ByteSink, E: ByteSink>(
-    alloc: Global,
-    input: &mut R,
-    out: &mut O,
-    err: &mut E,
-) -> u8
-    requires input { R.failed input.old ≡ false }
-    requires out { O.failed out.old ≡ false }
-    requires err { E.failed err.old ≡ false }
-    ensures { ShowsOne (IsRow IsAnswer (R.failed input.new) (R.left input.old))
-        (O.failed out.new) (E.failed err.new) (O.flushed out.new)
-        (O.taken out.old) (O.taken out.new) (E.taken err.old) (E.taken err.new) result }
-{
-    match Source::read_from(alloc, input) {
-        Ok(source) => answer(alloc, &source, out, err),
-        Err(LoadError::Fault(fault)) => refuse(alloc, out, err, &fault),
-        Err(LoadError::ReadFailed) => tell(out, err, READ_FAILED, 4),
-        Err(LoadError::OutOfMemory) => tell(out, err, OUT_OF_MEMORY, 4),
-    }
-}
-
-/// Formats the input: writes its print to standard output, or why it is refused to standard error,
-/// and gives the exit status.
+/// Reads the input to its end and formats it: writes its print to standard output, or why it is
+/// refused to standard error, and gives the exit status. With `check` it prints nothing and says
+/// by the status whether the input is formatted.
 pub fn run<R: ByteSource, O: ByteSink, E: ByteSink>(
     alloc: Global,
     options: &FmtOptions,
@@ -136,19 +211,65 @@ pub fn run<R: ByteSource, O: ByteSink, E: ByteSink>(
     out: &mut O,
     err: &mut E,
 ) -> u8
-    requires options { options.now.check ≡ false }
     requires input { R.failed input.old ≡ false }
     requires out { O.failed out.old ≡ false }
     requires err { E.failed err.old ≡ false }
     // However the run goes, it shows a row.
-    ensures row { ShowsOne (IsRow IsAnswer (R.failed input.new) (R.left input.old))
+    ensures { ShowsOne (IsRow (IsFileAnswer options.now) (R.failed input.new) (R.left input.old))
         (O.failed out.new) (E.failed err.new) (O.flushed out.new)
         (O.taken out.old) (O.taken out.new) (E.taken err.old) (E.taken err.new) result }
-    // Where nothing failed and memory was there, it shows the row of its input.
-    ensures answer { R.failed input.new ≡ false → O.failed out.new ≡ false → E.failed err.new ≡ false → result ≢ 4
-        → OfInput (R.left input.old) (λ bytes. (row : Row) × IsAnswer bytes row × Gives row (O.flushed out.new)
-        (O.taken out.old) (O.taken out.new) (E.taken err.old) (E.taken err.new) result) }
 {
-    let _ = options;
-    start(alloc, input, out, err)
+    match Source::read_from(alloc, input) {
+        Ok(source) => answer(alloc, options, &source, out, err),
+        Err(LoadError::Fault(fault)) => refuse(alloc, out, err, &fault),
+        Err(LoadError::ReadFailed) => tell(out, err, READ_FAILED, 4),
+        Err(LoadError::OutOfMemory) => tell(out, err, OUT_OF_MEMORY, 4),
+    }
+}
+
+/// Reads the words, and then runs.
+fn start<R: ByteSource, O: ByteSink, E: ByteSink>(
+    alloc: Global,
+    words: &[&str],
+    input: &mut R,
+    out: &mut O,
+    err: &mut E,
+) -> u8
+    requires input { R.failed input.old ≡ false }
+    requires out { O.failed out.old ≡ false }
+    requires err { E.failed err.old ≡ false }
+    ensures { ShowsOne (IsRow (IsAnswer (map (λ word. word.now) words.now)) (R.failed input.new) (R.left input.old))
+        (O.failed out.new) (E.failed err.new) (O.flushed out.new)
+        (O.taken out.old) (O.taken out.new) (E.taken err.old) (E.taken err.new) result }
+{
+    match options(alloc, words) {
+        Ok(options) => run(alloc, &options, input, out, err),
+        Err(Usage::Help) => help(out, err),
+        Err(Usage::BadLine) => tell(out, err, USAGE, 2),
+        Err(Usage::OutOfMemory) => tell(out, err, OUT_OF_MEMORY, 4),
+    }
+}
+
+/// The whole program over any devices: reads the words, the program's name first, and then the
+/// input, shows what they give, and answers the exit status.
+pub fn program<R: ByteSource, O: ByteSink, E: ByteSink>(
+    alloc: Global,
+    words: &[&str],
+    input: &mut R,
+    out: &mut O,
+    err: &mut E,
+) -> u8
+    requires input { R.failed input.old ≡ false }
+    requires out { O.failed out.old ≡ false }
+    requires err { E.failed err.old ≡ false }
+    // However the run goes, it shows a row.
+    ensures row { ShowsOne (IsRow (IsAnswer (map (λ word. word.now) words.now)) (R.failed input.new) (R.left input.old))
+        (O.failed out.new) (E.failed err.new) (O.flushed out.new)
+        (O.taken out.old) (O.taken out.new) (E.taken err.old) (E.taken err.new) result }
+    // Where nothing failed and memory was there, it shows the row of its words and its input.
+    ensures answer { R.failed input.new ≡ false → O.failed out.new ≡ false → E.failed err.new ≡ false → result ≢ 4
+        → OfInput (R.left input.old) (λ bytes. (row : Row) × IsAnswer (map (λ word. word.now) words.now) bytes row
+        × Gives row (O.flushed out.new) (O.taken out.old) (O.taken out.new) (E.taken err.old) (E.taken err.new) result) }
+{
+    start(alloc, words, input, out, err)
 }

@@ -1,27 +1,106 @@
-//! Runs with ample memory, on inputs whose answers were worked out by hand.
+//! Whole runs over memory, with ample memory, on inputs whose answers were worked out by hand.
 
-use crate::run::{FmtOptions, run};
+use crate::options::{FmtOptions, Usage, options};
+use crate::run::program;
 use hcl_scan::{FromRead, ToWrite};
 use std::alloc::Global;
+use std::process::Abort;
 use std::test::Fail;
 
-/// The status of a run over memory.
-fn status_of(alloc: Global, input: &[u8]) -> u8 {
-    let options = FmtOptions { check: false };
-    let mut input = FromRead::new(input);
-    let mut out = ToWrite::new(Vec::new(alloc));
-    let mut err = ToWrite::new(Vec::new(alloc));
-    run(alloc, &options, &mut input, &mut out, &mut err)
+/// Runs the program, and compares what it wrote and its status.
+fn check(rt: &impl Abort, alloc: Global, words: &[&str], input: &[u8], wanted: (&[u8], &[u8], u8)) {
+    let mut written = Vec::new(alloc);
+    let mut told = Vec::new(alloc);
+    let mut source = FromRead::new(input);
+    let status = {
+        let mut out = ToWrite::new(&mut written);
+        let mut err = ToWrite::new(&mut told);
+        program(alloc, words, &mut source, &mut out, &mut err)
+    };
+    assert_eq!(rt; written.as_slice(), wanted.0);
+    assert_eq!(rt; told.as_slice(), wanted.1);
+    assert_eq!(rt; status, wanted.2);
 }
 
 #[test]
-fn statuses(rt: HostRuntime) -> Result<(), Fail> {
+fn prints(rt: HostRuntime) {
+    for (input, print) in [
+        (b"".as_slice(), b"".as_slice()),
+        (b"a=1\n", b"a = 1\n"),
+        (b"a=1", b"a = 1"),
+        (
+            b"a=1 # x\nlong_name=2 # yy\n",
+            b"a         = 1 # x\nlong_name = 2 # yy\n",
+        ),
+        (b"w=1 .5\n", b"w = 1 .5\n"),
+    ] {
+        check(
+            &rt,
+            rt.alloc(),
+            ["tffmt"].as_slice(),
+            input,
+            (print, b"", 0),
+        );
+    }
+}
+
+#[test]
+fn refuses(rt: HostRuntime) {
+    for (input, line) in [
+        (
+            b"a=\xff".as_slice(),
+            b"tffmt: error: 1:3: invalid UTF-8\n".as_slice(),
+        ),
+        (b"a=\n", b"tffmt: error: 1:3: unexpected token\n"),
+        (b"a {", b"tffmt: error: 1:4: unexpected end\n"),
+        (
+            b"a = 1 2\nb = \"c\n",
+            b"tffmt: error: 2:5: unterminated quote\n",
+        ),
+    ] {
+        check(&rt, rt.alloc(), ["tffmt"].as_slice(), input, (b"", line, 2));
+        check(
+            &rt,
+            rt.alloc(),
+            ["tffmt", "--check"].as_slice(),
+            input,
+            (b"", line, 2),
+        );
+    }
+}
+
+#[test]
+fn checks(rt: HostRuntime) {
+    let words = ["tffmt", "--check"].as_slice();
+    check(&rt, rt.alloc(), words, b"a = 1\n", (b"", b"", 0));
+    check(&rt, rt.alloc(), words, b"a  = 1\n", (b"", b"", 3));
+}
+
+#[test]
+fn shows_usage(rt: HostRuntime) {
+    let usage = b"usage: tffmt [--check] [--help]\n".as_slice();
+    check(
+        &rt,
+        rt.alloc(),
+        ["tffmt", "--help"].as_slice(),
+        b"",
+        (usage, b"", 0),
+    );
+    check(
+        &rt,
+        rt.alloc(),
+        ["tffmt", "--bogus"].as_slice(),
+        b"",
+        (b"", usage, 2),
+    );
+}
+
+#[test]
+fn reads_words(rt: HostRuntime) {
     let alloc = rt.alloc();
-    assert_eq!(rt; status_of(alloc, b""), 0);
-    assert_eq!(rt; status_of(alloc, b"a=1\n"), 0);
-    assert_eq!(rt; status_of(alloc, b"a=1"), 0);
-    assert_eq!(rt; status_of(alloc, b"a=\xff"), 2);
-    assert_eq!(rt; status_of(alloc, b"a=\n"), 2);
-    assert_eq!(rt; status_of(alloc, b"a"), 2);
-    Ok(())
+    assert!(rt; options(alloc, ["tffmt"].as_slice()) == Ok(FmtOptions { check: false }));
+    assert!(rt; options(alloc, ["tffmt", "--check"].as_slice()) == Ok(FmtOptions { check: true }));
+    assert!(rt; options(alloc, ["tffmt", "-h"].as_slice()) == Err(Usage::Help));
+    assert!(rt; options(alloc, ["tffmt", "x"].as_slice()) == Err(Usage::BadLine));
+    assert!(rt; options(alloc, ["tffmt", "--check", "--check"].as_slice()) == Err(Usage::BadLine));
 }

@@ -1,17 +1,16 @@
-use Rattle.std.proofs.Common.{◌≡◌, ℕ, List, ◌∙◌, subst}
-use Rattle.hcl_scan.specs.Entries.{StopsAt, IsStop}
+use Rattle.std.proofs.Common.{◌≡◌, ℕ, List, subst}
 use Rattle.hcl_scan.specs.Places.{place}
+use Rattle.hcl_scan.specs.Stops.{IsFaultOf, IsStop}
 use Rattle.hcl_scan.specs.Scanned.{IsScanError}
-use Rattle.hcl_scan.specs.declared.fault.FaultKind.{FaultKind}
+use Rattle.hcl_scan.specs.declared.stopped.Stopped.{Stopped}
 use Rattle.hcl_scan.specs.declared.fault.Position.{Position}
 use Rattle.hcl_scan.specs.declared.fault.ScanError.TheVariants as error
 use Rattle.hcl_scan.proofs.tokens.scan.Goals as goal
 
-error_of : (text : List ℕ) (kind : FaultKind) (at : ℕ) (p : Position) → StopsAt text kind at → p ≡ place text at → IsScanError text (error.Fault (record { kind = kind; at = p }))
-error_of text kind at p stop is = (at, stop.fault, is, stop.none)
+error_of : (text : List ℕ) (stopped : Stopped) (p : Position) → IsFaultOf text stopped → p ≡ place text stopped.at → IsScanError text (error.Fault (record { kind = stopped.kind; at = p }))
+error_of text stopped p stop is = (stopped.at, stop.scan_fault, is, stop.none)
 
-pub returns-in-Err-At-clause-err : goal.returns-in-Err-At-clause-err
-returns-in-Err-At-clause-err c =
-    let text_is = c.as_bytes.ensures.value ∙ c.text-text.ensures.value in
-    error_of c.args.source.now c.in-Err-At.kind c.in-Err-At.at c.position.result
-    (subst (λ l. StopsAt l c.in-Err-At.kind c.in-Err-At.at) text_is (subst (IsStop c.as_bytes.result.now) c.in-Err-At.field-0-is c.in-Err-At.ensures.err)) c.position.ensures
+pub returns-in-Err-Fault-clause-err : goal.returns-in-Err-Fault-clause-err
+returns-in-Err-Fault-clause-err c =
+    error_of c.args.source.now c.in-Err-Fault.stopped c.position.result
+    (subst (λ l. IsFaultOf l c.in-Err-Fault.stopped) c.text.ensures.value (subst (IsStop c.text.result.now) c.in-Err-Fault.field-0-is c.in-Err-Fault.ensures.err)) c.position.ensures

@@ -1,14 +1,8 @@
-use Rattle.std.proofs.Common.{◌≡◌, ◌∙◌, Bool, true, false, cond, ℕ, List, [], Option, sym}
-use Rattle.tffmt.specs.Rows.{Row, Shows, Took, write_failed}
-use Rattle.tffmt.specs.Interim.{printed}
+use Rattle.std.proofs.Common.{◌∙◌, [], sym}
+use Rattle.hcl_layout.specs.Print.{print}
+use Rattle.tffmt.proofs.Failed.{shows_failed}
 use Rattle.tffmt.proofs.run.show.Goals as goal
-
--- a run whose standard output failed
-shows_failed : (row : Row) (o e flushed : Bool) (out out' err err' : Option (List ℕ)) (status : ℕ) → o ≡ true → Took o out out' row.out → Took e err err' write_failed → status ≡ cond e 4 4 → Shows row o e flushed out out' err err' status
-shows_failed row false e flushed out out' err err' status h p q s = absurd (cc)
-shows_failed row true false flushed out out' err err' status h p q s = record { output = p; message = q; exit = s; flush = λ f. absurd (cc) }
-shows_failed row true true flushed out out' err err' status h p q s = record { output = p; message = q; exit = s; flush = λ f. absurd (cc) }
 
 pub returns-then-has_failed : goal.returns-then-has_failed
 returns-then-has_failed g c =
-    shows_failed (record { out = printed c.args.tokens.now.tokens; err = []; status = 0 }) _ _ _ _ _ _ _ _ (sym c.has_failed.ensures ∙ c.if-has_failed.true) c.print.ensures.took c.complain.ensures.took c.complain.ensures.exit
+    shows_failed (record { out = print c.args.accepted.now.tokens; err = []; status = 0 }) _ _ _ _ _ _ _ _ (sym c.has_failed.ensures ∙ c.if-has_failed.true) c.print.ensures.took c.complain.ensures.took c.complain.ensures.exit

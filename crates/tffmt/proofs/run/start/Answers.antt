@@ -1,17 +1,9 @@
-use Rattle.std.proofs.Common.{◌∙◌}
-use Rattle.tffmt.proofs.Answers.{row_of_text, row_of_fault, fault_loads, no_read_fault}
+use Rattle.std.proofs.Common.{map}
+use Rattle.tffmt.specs.Line.{options_of}
+use Rattle.tffmt.proofs.Answers.{row_of_options}
 use Rattle.tffmt.proofs.run.start.Goals as goal
 
 pub returns-in-Ok : goal.returns-in-Ok
 returns-in-Ok g c =
-    let w = c.answer.ensures in
-    let l = c.in-Ok.ensures.loaded in
-    (w.0, row_of_text _ _ _ _ l.0 w.0 c.in-Ok.ensures.failed l.1 l.3.0 l.3.1 l.3.2 w.1, w.2)
-
-pub returns-in-Err-Fault : goal.returns-in-Err-Fault
-returns-in-Err-Fault g c =
-    let w = c.refuse.ensures in
-    let l = c.in-Err-Fault.ensures.loaded in
-    let x = fault_loads l.0 _ _ _ c.in-Err-Fault.field-0-is l.3 in
-    let fine = c.in-Err-Fault.ensures.failed ∙ no_read_fault _ _ c.in-Err-Fault.field-0-is in
-    (w.0, row_of_fault _ _ _ l.0 c.in-Err-Fault.fault w.0 fine l.1 x.0 x.1 w.1, w.2)
+    let w = c.run.ensures in
+    (w.0, row_of_options (options_of (map (λ word. word.now) c.args.words.now)) c.in-Ok.options _ _ w.0 c.in-Ok.ensures w.1, w.2)

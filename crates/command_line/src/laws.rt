@@ -1,0 +1,14 @@
+//! What is proved of clap's reading of words. No program calls these functions: their contracts
+//! are the laws.
+
+ghost use Rattle.std.specs.Prelude.{◌≡◌, [], true, List};
+ghost use Rattle.clap.specs.Walk.{Text};
+ghost use Rattle.clap.specs.Simple.{App, built};
+ghost use Rattle.clap.specs.Faults.{fault_of};
+ghost use Rattle.command_line.specs.Faults.{One};
+
+/// A line of words for a command without subcommands has one fault at most, so which fault a
+/// program answers is a function of the words.
+pub fn one_fault()
+    ensures { (app : App) (words : List Text) → (built app).subs ≡ [] → (built app).top.is_leaf ≡ true → One (fault_of app words) }
+{}

@@ -1,0 +1,182 @@
+-- No more grapheme clusters than bytes, and as many in a text that is ASCII without CR LF.
+use Rattle.std.proofs.Common.{get_or, ◌≡◌, ◌∙◌, ◌+◌, ◌-◌, ◌*◌, ◌≤◌, ◌<◌, ◌==◌, ◌&&◌, ap, ap₂, sym, refl, true≢false, ℕ, suc, zero, Bool, true, false, List, [], ◌∷◌, length, arith}
+use Rattle.std.specs.Prelude.{encode_utf8_all, ◌++◌, nat_le, unwrap_or}
+use Rattle.hcl_layout.specs.Simple.{is_simple, simple_from}
+use Rattle.std.proofs.lemmas.List.{length-map}
+use Rattle.std.proofs.lemmas.Str.{chars-IsAscii}
+use Rattle.std.specs.Str.{chars, chars_after, continuation_len, lead_bits}
+use Rattle.ucd_breaks.specs.GraphemeClusterBreak.{grapheme_cluster_break}
+use Rattle.ucd_breaks.specs.declared.GraphemeClusterBreak.{GraphemeClusterBreak}
+use Rattle.ucd_breaks.specs.declared.GraphemeClusterBreak.TheVariants.{Control, Cr, Extend, L, Lf, Lv, Lvt, Prepend, RegionalIndicator, SpacingMark, T, V, Other, Zwj}
+use Rattle.ucd_breaks.proofs.Computing.{ucd_breaks}
+use Rattle.ucd_breaks.proofs.GraphemeClusterBreakLemmas.{grapheme_cluster_break_stepped}
+use Rattle.ucd_table.proofs.Facts.{Stepped-below}
+use Rattle.unicode_segmentation.specs.Grapheme.{break_by_pair, graphemes, is_grapheme_break}
+use Rattle.unicode_segmentation.proofs.GraphemeLemmas.{is_grapheme_break-inside, is_grapheme_break-others}
+use Rattle.unicode_segmentation.specs.Segments.{Rule, cut, prepend, segments}
+
+chars_after_few : (bs : List ℕ) (n c : ℕ) → length (chars_after n c bs) ≤ 1 + length bs
+chars_after_few [] zero c = omega arith
+chars_after_few [] (suc n) c = omega arith
+chars_after_few (b ∷ bs) zero c = omega (arith, chars_after_few bs (continuation_len b) (lead_bits b))
+chars_after_few (b ∷ bs) (suc n) c = omega (arith, chars_after_few bs n (c * 64 + (b - 128)))
+
+chars_few : (bs : List ℕ) → length (chars bs) ≤ length bs
+unfolding chars
+chars_few [] = omega arith
+chars_few (b ∷ bs) = omega (arith, chars_after_few bs (continuation_len b) (lead_bits b))
+
+prepend_few : (part : List ℕ) (pieces : List (List ℕ)) → length (prepend part pieces) ≤ 1 + length pieces
+prepend_few part [] = omega arith
+prepend_few part (p ∷ ps) = omega arith
+
+cut_few : (rule : Rule) (before cs after : List ℕ) → length (cut rule before cs after) ≤ length cs
+unfolding cut
+cut_few rule before [] after = omega arith
+cut_few rule before (c ∷ cs) after = go (cut_few rule (c ∷ before) cs after) (rule (c ∷ before) (cs ++ after)) refl
+  where
+    go : length (cut rule (c ∷ before) cs after) ≤ length cs → (v : Bool) → rule (c ∷ before) (cs ++ after) ≡ v → length (cut rule before (c ∷ cs) after) ≤ length (c ∷ cs)
+    go r true e = rw e (omega arith)
+    go r false e = rw e (omega (arith, prepend_few (c ∷ []) (cut rule (c ∷ before) cs after)))
+
+pub clusters_few : (text : List ℕ) → length (graphemes true text) ≤ length text
+unfolding segments
+clusters_few text =
+    omega (arith, length-map (cut (is_grapheme_break true) [] (chars text) []) encode_utf8_all, cut_few (is_grapheme_break true) [] (chars text) [], chars_few text)
+
+-- ---- ASCII
+
+-- what the table gives on ASCII: the ends of lines apart, only what breaks on both sides
+abbrev ascii_class : ℕ → GraphemeClusterBreak → Bool
+ascii_class c Other = true
+ascii_class c Control = true
+ascii_class c Cr = c == 13
+ascii_class c Lf = c == 10
+ascii_class c _ = false
+
+class_of_ascii : (c : ℕ) → c < 128 → ascii_class c (grapheme_cluster_break c) ≡ true
+unfolding ucd_breaks
+class_of_ascii c below = Stepped-below grapheme_cluster_break grapheme_cluster_break_stepped ascii_class 128 refl c below
+
+-- whether two characters of these classes break, where the tables' further rules say so of two others
+pair_breaks : (l r : GraphemeClusterBreak) (c n : ℕ) (more : Bool) → ascii_class c l ≡ true → ascii_class n r ≡ true → ((c == 13) && (n == 10)) ≡ false
+    → (Other ≡ l → Other ≡ r → unwrap_or (break_by_pair true l r) more ≡ true) → unwrap_or (break_by_pair true l r) more ≡ true
+pair_breaks Control Control c n more p q e f = refl
+pair_breaks Control Cr c n more p q e f = refl
+pair_breaks Control Extend c n more p q e f = absurd (true≢false (sym q))
+pair_breaks Control L c n more p q e f = absurd (true≢false (sym q))
+pair_breaks Control Lf c n more p q e f = refl
+pair_breaks Control Lv c n more p q e f = absurd (true≢false (sym q))
+pair_breaks Control Lvt c n more p q e f = absurd (true≢false (sym q))
+pair_breaks Control Prepend c n more p q e f = absurd (true≢false (sym q))
+pair_breaks Control RegionalIndicator c n more p q e f = absurd (true≢false (sym q))
+pair_breaks Control SpacingMark c n more p q e f = absurd (true≢false (sym q))
+pair_breaks Control T c n more p q e f = absurd (true≢false (sym q))
+pair_breaks Control V c n more p q e f = absurd (true≢false (sym q))
+pair_breaks Control Other c n more p q e f = refl
+pair_breaks Control Zwj c n more p q e f = absurd (true≢false (sym q))
+pair_breaks Cr Control c n more p q e f = refl
+pair_breaks Cr Cr c n more p q e f = refl
+pair_breaks Cr Extend c n more p q e f = absurd (true≢false (sym q))
+pair_breaks Cr L c n more p q e f = absurd (true≢false (sym q))
+pair_breaks Cr Lf c n more p q e f = absurd (true≢false (sym (ap₂ ◌&&◌ p q) ∙ e))
+pair_breaks Cr Lv c n more p q e f = absurd (true≢false (sym q))
+pair_breaks Cr Lvt c n more p q e f = absurd (true≢false (sym q))
+pair_breaks Cr Prepend c n more p q e f = absurd (true≢false (sym q))
+pair_breaks Cr RegionalIndicator c n more p q e f = absurd (true≢false (sym q))
+pair_breaks Cr SpacingMark c n more p q e f = absurd (true≢false (sym q))
+pair_breaks Cr T c n more p q e f = absurd (true≢false (sym q))
+pair_breaks Cr V c n more p q e f = absurd (true≢false (sym q))
+pair_breaks Cr Other c n more p q e f = refl
+pair_breaks Cr Zwj c n more p q e f = absurd (true≢false (sym q))
+pair_breaks Extend r c n more p q e f = absurd (true≢false (sym p))
+pair_breaks L r c n more p q e f = absurd (true≢false (sym p))
+pair_breaks Lf Control c n more p q e f = refl
+pair_breaks Lf Cr c n more p q e f = refl
+pair_breaks Lf Extend c n more p q e f = absurd (true≢false (sym q))
+pair_breaks Lf L c n more p q e f = absurd (true≢false (sym q))
+pair_breaks Lf Lf c n more p q e f = refl
+pair_breaks Lf Lv c n more p q e f = absurd (true≢false (sym q))
+pair_breaks Lf Lvt c n more p q e f = absurd (true≢false (sym q))
+pair_breaks Lf Prepend c n more p q e f = absurd (true≢false (sym q))
+pair_breaks Lf RegionalIndicator c n more p q e f = absurd (true≢false (sym q))
+pair_breaks Lf SpacingMark c n more p q e f = absurd (true≢false (sym q))
+pair_breaks Lf T c n more p q e f = absurd (true≢false (sym q))
+pair_breaks Lf V c n more p q e f = absurd (true≢false (sym q))
+pair_breaks Lf Other c n more p q e f = refl
+pair_breaks Lf Zwj c n more p q e f = absurd (true≢false (sym q))
+pair_breaks Lv r c n more p q e f = absurd (true≢false (sym p))
+pair_breaks Lvt r c n more p q e f = absurd (true≢false (sym p))
+pair_breaks Prepend r c n more p q e f = absurd (true≢false (sym p))
+pair_breaks RegionalIndicator r c n more p q e f = absurd (true≢false (sym p))
+pair_breaks SpacingMark r c n more p q e f = absurd (true≢false (sym p))
+pair_breaks T r c n more p q e f = absurd (true≢false (sym p))
+pair_breaks V r c n more p q e f = absurd (true≢false (sym p))
+pair_breaks Other Control c n more p q e f = refl
+pair_breaks Other Cr c n more p q e f = refl
+pair_breaks Other Extend c n more p q e f = absurd (true≢false (sym q))
+pair_breaks Other L c n more p q e f = absurd (true≢false (sym q))
+pair_breaks Other Lf c n more p q e f = refl
+pair_breaks Other Lv c n more p q e f = absurd (true≢false (sym q))
+pair_breaks Other Lvt c n more p q e f = absurd (true≢false (sym q))
+pair_breaks Other Prepend c n more p q e f = absurd (true≢false (sym q))
+pair_breaks Other RegionalIndicator c n more p q e f = absurd (true≢false (sym q))
+pair_breaks Other SpacingMark c n more p q e f = absurd (true≢false (sym q))
+pair_breaks Other T c n more p q e f = absurd (true≢false (sym q))
+pair_breaks Other V c n more p q e f = absurd (true≢false (sym q))
+pair_breaks Other Other c n more p q e f = f refl refl
+pair_breaks Other Zwj c n more p q e f = absurd (true≢false (sym q))
+pair_breaks Zwj r c n more p q e f = absurd (true≢false (sym p))
+
+ascii_breaks : (c n : ℕ) (before after : List ℕ) → c < 128 → n < 128 → ((c == 13) && (n == 10)) ≡ false → is_grapheme_break true (c ∷ before) (n ∷ after) ≡ true
+ascii_breaks c n before after p q e =
+    let inside = is_grapheme_break-inside true (c ∷ before) n after (omega arith) in
+    inside ∙ pair_breaks (grapheme_cluster_break c) (grapheme_cluster_break n) c n _ (class_of_ascii c p) (class_of_ascii n q) e
+    (λ l r. sym inside ∙ sym (is_grapheme_break-others true (c ∷ before) n after (omega arith) (omega arith) l r))
+
+-- a byte more that is simple
+simple_parts : (c n : ℕ) (cs : List ℕ) → simple_from c (n ∷ cs) ≡ true → (n < 128) × (((c == 13) && (n == 10)) ≡ false) × (simple_from n cs ≡ true)
+simple_parts c n cs e = go (nat_le 128 n) refl ((c == 13) && (n == 10)) refl
+  where
+    go : (v : Bool) → nat_le 128 n ≡ v → (w : Bool) → ((c == 13) && (n == 10)) ≡ w → (n < 128) × (((c == 13) && (n == 10)) ≡ false) × (simple_from n cs ≡ true)
+    go true v w q = absurd (true≢false (sym (rw v at e)))
+    go false v true q = absurd (true≢false (sym (rw (v, q) at e)))
+    go false v false q = (grind arith, q, rw (v, q) at e)
+
+simple_ascii : (cs : List ℕ) (c i : ℕ) → simple_from c cs ≡ true → get_or cs i 0 < 128
+simple_ascii [] c i e = omega arith
+simple_ascii (n ∷ cs) c zero e = (simple_parts c n cs e).0
+simple_ascii (n ∷ cs) c (suc i) e = simple_ascii cs n i (simple_parts c n cs e).2
+
+cut_step : (rule : Rule) (before : List ℕ) (c : ℕ) (cs after : List ℕ) → rule (c ∷ before) (cs ++ after) ≡ true → length (cut rule before (c ∷ cs) after) ≡ suc (length (cut rule (c ∷ before) cs after))
+unfolding cut
+cut_step rule before c cs after e = rw e refl
+
+cut_end : (rule : Rule) (before after : List ℕ) → length (cut rule before [] after) ≡ 0
+unfolding cut
+cut_end rule before after = refl
+
+last_breaks : (c : ℕ) (before : List ℕ) → is_grapheme_break true (c ∷ before) [] ≡ true
+unfolding is_grapheme_break
+last_breaks c before = refl
+
+-- a cluster for each byte, behind the byte before
+simple_cut : (cs : List ℕ) (c : ℕ) (before : List ℕ) → c < 128 → simple_from c cs ≡ true → length (cut (is_grapheme_break true) before (c ∷ cs) []) ≡ suc (length cs)
+simple_cut [] c before p e = cut_step (is_grapheme_break true) before c [] [] (last_breaks c before) ∙ ap suc (cut_end (is_grapheme_break true) (c ∷ before) [])
+simple_cut (n ∷ cs) c before p e =
+    let parts = simple_parts c n cs e in
+    cut_step (is_grapheme_break true) before c (n ∷ cs) [] (ascii_breaks c n before (cs ++ []) p parts.0 parts.1) ∙ ap suc (simple_cut cs n (c ∷ before) parts.0 parts.2)
+
+clusters_none : length (graphemes true []) ≡ 0
+unfolding segments chars cut
+clusters_none = refl
+
+clusters_cut : (text : List ℕ) → chars text ≡ text → length (graphemes true text) ≡ length (cut (is_grapheme_break true) [] text [])
+unfolding segments
+clusters_cut text e = length-map (cut (is_grapheme_break true) [] (chars text) []) encode_utf8_all ∙ ap (λ cs. length (cut (is_grapheme_break true) [] cs [])) e
+
+pub clusters_simple : (text : List ℕ) → is_simple text ≡ true → length (graphemes true text) ≡ length text
+clusters_simple [] e = clusters_none
+clusters_simple (b ∷ text) e =
+    let parts = simple_parts 0 b text e in
+    clusters_cut (b ∷ text) (chars-IsAscii (b ∷ text) (λ i. simple_ascii (b ∷ text) 0 i e)) ∙ simple_cut text b [] parts.0 parts.2

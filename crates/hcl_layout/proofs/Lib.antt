@@ -1,0 +1,13 @@
+pub mod KindLemmas
+pub mod LevelLemmas
+pub mod ColumnLemmas
+pub mod StreamLemmas
+pub mod SurveyLemmas
+pub mod ClusterLemmas
+pub mod LineLemmas
+pub mod WalkLemmas
+pub mod LeftLemmas
+pub mod SizeLemmas
+pub mod BalanceLemmas
+pub mod OutLemmas
+pub mod FormatLemmas

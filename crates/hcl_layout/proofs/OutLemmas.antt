@@ -1,0 +1,114 @@
+-- Bytes that go out one after another, through a buffer.
+use Rattle.std.proofs.Common.{◌≡◌, ◌∙◌, ◌++◌, ◌+◌, ◌-◌, ◌<◌, ◌≤◌, ℕ, suc, zero, List, [], ◌∷◌, Option, Some, None, ap, arith, sym, subst, length, take, append_assoc, replicate, length-append}
+use Rattle.std.proofs.Math.Seq.{take-append-add}
+use Rattle.std.proofs.lemmas.List.{append-nil, length-take-le, take-append-le}
+use Rattle.std.specs.Prelude.{IfErr, OnOk, Result, Ok, Err}
+use Rattle.std.specs.Io.KnownBytes.{Appends}
+use Rattle.hcl_scan.specs.declared.device.WriteFault.{WriteFault}
+use Rattle.hcl_layout.specs.Out.{Out, Stopped, held}
+use Rattle.hcl_layout.specs.declared.buffer.Buffer.{Buffer}
+
+pub Appends-then : (a b c : Option (List ℕ)) (xs ys : List ℕ) → Appends a b xs → Appends b c ys → Appends a c (xs ++ ys)
+Appends-then None b c xs ys p q = tt
+Appends-then (Some a) None c xs ys p q = absurd p
+Appends-then (Some a) (Some b) None xs ys p q = absurd q
+Appends-then (Some a) (Some b) (Some c) xs ys p q = q ∙ ap (λ l. l ++ ys) p ∙ append_assoc a xs ys
+
+pub Appends-nothing : (a : Option (List ℕ)) → Appends a a []
+Appends-nothing None = tt
+Appends-nothing (Some a) = sym (append-nil a)
+
+held_none : (b : Buffer) → b.len ≡ 0 → held b ≡ []
+held_none b e = ap (λ n. take n b.bytes) e
+
+-- the buffer was written
+pub out_sent : (base now new : Option (List ℕ)) (b b' : Buffer) (front : List ℕ) → b'.len ≡ 0 → b'.sent ≡ b.sent + b.len → length (held b) ≡ b.len → Appends now new (held b)
+    → Out base now b front → Out base new b' front
+out_sent base now new b b' front e f long q p = record {
+  sent = p.sent ++ held b;
+  whole = p.whole ∙ sym (append-nil (p.sent ++ held b)) ∙ ap (λ l. (p.sent ++ held b) ++ l) (sym (held_none b' e));
+  count = omega (arith, f, p.count, length-append p.sent (held b), long);
+  out = Appends-then base now new p.sent (held b) p.out q;
+}
+
+-- more was put into the buffer
+pub out_held : (base now : Option (List ℕ)) (b b' : Buffer) (front text : List ℕ) → held b' ≡ held b ++ text → b'.sent ≡ b.sent → Out base now b front → Out base now b' (front ++ text)
+out_held base now b b' front text e f p = record {
+  sent = p.sent;
+  whole = ap (λ l. l ++ text) p.whole ∙ append_assoc p.sent (held b) text ∙ ap (λ l. p.sent ++ l) (sym e);
+  count = f ∙ p.count;
+  out = p.out;
+}
+
+-- more was written past the empty buffer
+pub out_past : (base now new : Option (List ℕ)) (b b' : Buffer) (front text : List ℕ) → b.len ≡ 0 → b'.len ≡ 0 → b'.sent ≡ b.sent + length text → Appends now new text → Out base now b front → Out base new b' (front ++ text)
+out_past base now new b b' front text e e' f q p =
+    let all : front ≡ p.sent = p.whole ∙ ap (λ l. p.sent ++ l) (held_none b e) ∙ append-nil p.sent in
+    record {
+      sent = p.sent ++ text;
+      whole = ap (λ l. l ++ text) all ∙ sym (append-nil (p.sent ++ text)) ∙ ap (λ l. (p.sent ++ text) ++ l) (sym (held_none b' e'));
+      count = omega (arith, f, p.count, length-append p.sent text);
+      out = Appends-then base now new p.sent text p.out q;
+    }
+
+-- a write of a piece failed behind what was sent
+stopped_piece : (base now new : Option (List ℕ)) (sent piece : List ℕ) (n : ℕ) (fault : WriteFault) → fault.written ≡ length sent + n → n < length piece → Appends base now sent → Appends now new (take n piece)
+    → Stopped base new (sent ++ piece) fault
+stopped_piece base now new sent piece n fault e lt p q =
+    let front : take fault.written (sent ++ piece) ≡ sent ++ take n piece = ap (λ k. take k (sent ++ piece)) e ∙ take-append-add sent piece n in
+    (omega (arith, e, length-append sent piece), subst (Appends base new) (sym front) (Appends-then base now new sent (take n piece) p q))
+
+pub stopped_past : (base now new : Option (List ℕ)) (b : Buffer) (front text : List ℕ) (n : ℕ) (fault : WriteFault) → b.len ≡ 0 → fault.written ≡ b.sent + n → n < length text → Appends now new (take n text) → Out base now b front
+    → Stopped base new (front ++ text) fault
+stopped_past base now new b front text n fault e f lt q p =
+    let all : front ≡ p.sent = p.whole ∙ ap (λ l. p.sent ++ l) (held_none b e) ∙ append-nil p.sent in
+    subst (λ l. Stopped base new (l ++ text) fault) (sym all) (stopped_piece base now new p.sent text n fault (f ∙ ap (λ k. k + n) p.count) lt p.out q)
+
+-- what stopped within a front stopped within what goes on from it
+pub stopped_more : (base new : Option (List ℕ)) (front text : List ℕ) (fault : WriteFault) → Stopped base new front fault → Stopped base new (front ++ text) fault
+stopped_more base new front text fault p =
+    let same : take fault.written (front ++ text) ≡ take fault.written front = take-append-le fault.written front text (omega (arith, p.0)) in
+    (omega (arith, p.0, length-append front text), subst (Appends base new) (sym same) p.1)
+
+pub out_all : (base now : Option (List ℕ)) (b : Buffer) (front : List ℕ) → b.len ≡ 0 → Out base now b front → Appends base now front
+out_all base now b front e p = subst (Appends base now) (sym (p.whole ∙ ap (λ l. p.sent ++ l) (held_none b e) ∙ append-nil p.sent)) p.out
+
+pub out_none : (base : Option (List ℕ)) (b : Buffer) → b.len ≡ 0 → b.sent ≡ 0 → Out base base b []
+out_none base b e f = record { sent = []; whole = sym (held_none b e); count = f; out = Appends-nothing base }
+
+pub held_length : (b : Buffer) → b.len ≤ length b.bytes → length (held b) ≡ b.len
+held_length b le = length-take-le b.len b.bytes le
+
+pub err_by : (r : Result (Unit {0}) WriteFault) (P Q : WriteFault → Type 0) → ((fault : WriteFault) → P fault → Q fault) → IfErr r P → IfErr r Q
+err_by (Ok u) P Q f p = tt
+err_by (Err fault) P Q f p = f fault p
+
+pub ok_by : (r : Result (Unit {0}) WriteFault) (P Q R : Type 0) → (P → R → Q) → OnOk r P → OnOk r R → OnOk r Q
+ok_by (Ok u) P Q R f p q = f p q
+ok_by (Err fault) P Q R f p q = tt
+
+blanks_cut : (k n : ℕ) → replicate {A = ℕ} k 32 ++ (32 ∷ replicate n 32) ≡ replicate (k + suc n) 32
+blanks_cut zero n = let e : suc n ≡ 0 + suc n = omega arith in ap (λ j. replicate {A = ℕ} j 32) e
+blanks_cut (suc k) n =
+    let e : suc (k + suc n) ≡ suc k + suc n = omega arith in
+    ap (λ l. 32 ∷ l) (blanks_cut k n) ∙ ap (λ j. replicate {A = ℕ} j 32) e
+
+pub stopped_blanks : (base new : Option (List ℕ)) (front : List ℕ) (k gap : ℕ) (fault : WriteFault) → k < gap → Stopped base new ((front ++ replicate k 32) ++ (32 ∷ [])) fault → Stopped base new (front ++ replicate gap 32) fault
+stopped_blanks base new front k gap fault lt p =
+    let n : ℕ = gap - suc k in
+    let all : k + suc n ≡ gap = omega arith in
+    let whole : ((front ++ replicate k 32) ++ (32 ∷ [])) ++ replicate n 32 ≡ front ++ replicate gap 32 =
+    append_assoc (front ++ replicate k 32) (32 ∷ []) (replicate n 32) ∙ append_assoc front (replicate k 32) (32 ∷ replicate n 32)
+    ∙ ap (λ l. front ++ l) (blanks_cut k n ∙ ap (λ j. replicate {A = ℕ} j 32) all) in
+    subst (λ l. Stopped base new l fault) whole (stopped_more base new ((front ++ replicate k 32) ++ (32 ∷ [])) (replicate n 32) fault p)
+
+-- a piece more of what is printed
+pub print_more : (whole front piece rest rest' : List ℕ) → whole ≡ front ++ rest → rest ≡ piece ++ rest' → whole ≡ (front ++ piece) ++ rest'
+print_more whole front piece rest rest' e f = e ∙ ap (λ l. front ++ l) f ∙ sym (append_assoc front piece rest')
+
+pub stopped_print : (base new : Option (List ℕ)) (whole front piece rest rest' : List ℕ) (fault : WriteFault) → whole ≡ front ++ rest → rest ≡ piece ++ rest' → Stopped base new (front ++ piece) fault → Stopped base new whole fault
+stopped_print base new whole front piece rest rest' fault e f p =
+    subst (λ l. Stopped base new l fault) (sym (print_more whole front piece rest rest' e f)) (stopped_more base new (front ++ piece) rest' fault p)
+
+pub print_end : (whole front rest : List ℕ) → whole ≡ front ++ rest → rest ≡ [] → front ≡ whole
+print_end whole front rest e f = sym (e ∙ ap (λ l. front ++ l) f ∙ append-nil front)

@@ -1,0 +1,17 @@
+use Rattle.std.proofs.Common.{◌≡◌, ◌≤◌, ◌+◌, ◌-◌, ◌*◌, ◌^◌, ◌++◌, ℕ, List, false, length}
+use Rattle.hcl_layout.specs.Left.{Ready, to_print}
+use Rattle.hcl_layout.specs.Out.{Out}
+use Rattle.hcl_layout.specs.Print.{print}
+use Rattle.hcl_layout.proofs.writer.emit.Given as goal
+
+abbrev pub invariant-loop-piece : goal.invariant-loop-piece
+invariant-loop-piece g l = record {
+  ready : Ready l.tokens.tokens l.gaps;
+  fresh : g.W.ByteSink.failed l.to ≡ false;
+  out : (front : List ℕ) × (print l.tokens.tokens ≡ front ++ to_print l.tokens.tokens l.gaps) × Out (g.W.ByteSink.taken l.initial.to) (g.W.ByteSink.taken l.to) l.buffer front;
+  within : l.gaps.next ≤ length l.tokens.tokens;
+  small : l.buffer.sent + l.buffer.len ≤ l.gaps.next * 2 ^ 35;
+}
+
+abbrev pub decreases-loop-piece : goal.decreases-loop-piece
+decreases-loop-piece g l = length l.tokens.tokens - l.gaps.next

@@ -1,0 +1,40 @@
+-- What is left to print, from a state of the reading.
+use Rattle.std.specs.Prelude.{◌-◌, ◌<◌, ◌≤◌, ◌^◌, ◌++◌, ℕ, List, IfSome, take, drop, length, option_map, replicate}
+use Rattle.std.specs.List.{flat_map}
+use Rattle.hcl_scan.specs.Lexemes.{Lexeme}
+use Rattle.hcl_scan.specs.Scanned.{lexeme}
+use Rattle.hcl_layout.specs.LineGaps.{gaps_from}
+use Rattle.hcl_layout.specs.Lines.{Line, lines}
+use Rattle.hcl_layout.specs.Print.{printed}
+use Rattle.hcl_layout.specs.Stream.{commented}
+use Rattle.hcl_layout.specs.Walks.{Stands}
+use Rattle.hcl_layout.specs.declared.gaps.Gaps.{Gaps}
+use Rattle.hcl_layout.specs.declared.gaps.Piece.{Piece}
+
+-- the rest of the line at hand
+abbrev pub line_left : List Lexeme → Gaps → Line
+line_left ts s = take (s.end - s.next) (drop s.next ts)
+
+-- the gaps of the lines behind it
+abbrev pub rest_gaps : List Lexeme → Gaps → List ℕ
+rest_gaps ts s = flat_map (λ g. g) (commented s.walk.depth s.walk.levels s.walk.column s.comment (lines (drop s.end ts)))
+
+abbrev pub gaps_left : List Lexeme → Gaps → List ℕ
+gaps_left ts s = gaps_from s.set s.place (option_map lexeme s.before) (option_map lexeme s.subject) (line_left ts s) ++ rest_gaps ts s
+
+abbrev pub to_print : List Lexeme → Gaps → List ℕ
+to_print ts s = printed (gaps_left ts s) (drop s.next ts)
+
+abbrev pub bytes_of : Piece → List ℕ
+bytes_of p = replicate p.gap 32 ++ p.text.now
+
+pub record Ready (ts : List Lexeme) (s : Gaps) : Type 0 where
+  pub order : s.next ≤ s.end
+  pub within : s.end ≤ length ts
+  pub place : s.place ≤ s.next
+  pub level : s.set.level ≤ 256
+  pub assign : IfSome s.set.assign (λ c. c.gap ≤ 2 ^ 33)
+  pub cell : IfSome s.set.comment (λ c. c.gap ≤ 2 ^ 34)
+  pub stands : Stands ts s.end s.walk.depth s.walk.levels
+  pub fits : IfSome s.walk.column (λ c. c < 2 ^ 33)
+  pub narrow : IfSome s.comment (λ c. c < 2 ^ 34)

@@ -1,0 +1,41 @@
+-- The gaps of a line from its level and two cells, token by token.
+use Rattle.std.specs.Prelude.{◌+◌, ◌==◌, ℕ, List, [], ◌∷◌, Option, Some, None, length, slice_set, if◌then◌else◌}
+use Rattle.hcl_scan.specs.Lexemes.{Lexeme}
+use Rattle.hcl_layout.specs.Lines.{Line}
+use Rattle.hcl_layout.specs.Gaps.{blanks, indent}
+use Rattle.hcl_layout.specs.declared.line.Cell.{Cell}
+use Rattle.hcl_layout.specs.declared.line.LineGaps.{LineGaps}
+
+-- the gap of the cell at its place, and else the other
+abbrev pub cell_gap : Option Cell → ℕ → ℕ → ℕ
+cell_gap None k gap = gap
+cell_gap (Some c) k gap = if c.place == k then c.gap else gap
+
+-- by the level and the spacing alone, behind the two tokens before it
+abbrev pub plain_gap : ℕ → Option Lexeme → Option Lexeme → Lexeme → ℕ
+plain_gap level before None t = indent level t
+plain_gap level before (Some subject) t = blanks before subject t
+
+abbrev pub gap_of : LineGaps → ℕ → Option Lexeme → Option Lexeme → Lexeme → ℕ
+gap_of g k before subject t = cell_gap g.comment k (cell_gap g.assign k (plain_gap g.level before subject t))
+
+-- from the token at a place on
+abbrev pub gaps_from : LineGaps → ℕ → Option Lexeme → Option Lexeme → Line → List ℕ
+gaps_from g k before subject [] = []
+gaps_from g k before subject (t ∷ line) = gap_of g k before subject t ∷ gaps_from g (k + 1) subject (Some t) line
+
+abbrev pub gaps_in : LineGaps → Line → List ℕ
+gaps_in g line = gaps_from g 0 None None line
+
+abbrev pub set_cell : Option Cell → List ℕ → List ℕ
+set_cell None gaps = gaps
+set_cell (Some c) gaps = slice_set gaps c.place c.gap
+
+-- what the texts and a blank for each take
+abbrev pub bulk : List Lexeme → ℕ
+bulk [] = 0
+bulk (t ∷ ts) = 1 + length t.text + bulk ts
+
+-- no cell
+abbrev pub plain_of : ℕ → LineGaps
+plain_of level = record { level = level; assign = None; comment = None }

@@ -1,0 +1,26 @@
+-- Lines, as the layout sees them: a token list split after each newline that stands outside heredocs. A text
+-- without a last newline ends in a line without one.
+-- Our own choice: a heredoc's body is kept as it is, so it belongs to the line on which it began.
+use Rattle.std.specs.Prelude.{◌&&◌, Bool, true, false, not, List, [], ◌∷◌, if◌then◌else◌}
+use Rattle.hcl_scan.specs.Lexemes.{Lexeme}
+use Rattle.hcl_scan.specs.declared.token.Kind.{Kind}
+use Rattle.hcl_scan.specs.declared.token.Kind.TheVariants as kind
+
+abbrev pub Line : Type 0
+Line = List Lexeme
+
+abbrev pub is_newline : Kind → Bool
+is_newline kind.Newline = true
+is_newline _ = false
+
+abbrev pub ends_line : Lexeme → Bool
+ends_line t = is_newline t.kind && not t.inside_heredoc
+
+-- the token at the front of the first line
+abbrev pub onto : Lexeme → List Line → List Line
+onto t [] = (t ∷ []) ∷ []
+onto t (line ∷ rest) = (t ∷ line) ∷ rest
+
+abbrev pub lines : List Lexeme → List Line
+lines [] = []
+lines (t ∷ ts) = if ends_line t then (t ∷ []) ∷ lines ts else onto t (lines ts)

@@ -1,0 +1,20 @@
+-- What of a text has gone out, to the sink or into the buffer before it.
+use Rattle.std.specs.Prelude.{◌≡◌, ◌<◌, ◌++◌, ℕ, List, Option, length, take}
+use Rattle.std.specs.Io.KnownBytes.{Appends}
+use Rattle.hcl_scan.specs.declared.device.WriteFault.{WriteFault}
+use Rattle.hcl_layout.specs.declared.buffer.Buffer.{Buffer}
+
+-- what waits in the buffer
+abbrev pub held : Buffer → List ℕ
+held b = take b.len b.bytes
+
+-- a front of the text: a part is in the sink, the rest in the buffer
+pub record Out (base now : Option (List ℕ)) (b : Buffer) (front : List ℕ) : Type 0 where
+  pub sent : List ℕ
+  pub whole : front ≡ sent ++ held b
+  pub count : b.sent ≡ length sent
+  pub out : Appends base now sent
+
+-- a write failed after a part of the front
+abbrev pub Stopped : Option (List ℕ) → Option (List ℕ) → List ℕ → WriteFault → Type 0
+Stopped base now front fault = (fault.written < length front) × Appends base now (take fault.written front)

@@ -1,0 +1,13 @@
+-- What is printed of a token list: the gaps, as spaces, and the texts in turn. Blanks before a newline and at the end
+-- vanish; all else is kept as it is.
+use Rattle.std.specs.Prelude.{ℕ, List, [], ◌∷◌, ◌++◌, replicate}
+use Rattle.hcl_scan.specs.Lexemes.{Lexeme}
+use Rattle.hcl_layout.specs.Gaps.{gaps}
+
+abbrev pub printed : List ℕ → List Lexeme → List ℕ
+printed [] ts = []
+printed (g ∷ gs) [] = []
+printed (g ∷ gs) (t ∷ ts) = (replicate g 32 ++ t.text) ++ printed gs ts
+
+abbrev pub print : List Lexeme → List ℕ
+print ts = printed (gaps ts) ts

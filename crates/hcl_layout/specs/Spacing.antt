@@ -1,0 +1,165 @@
+-- Whether one blank or none stands between two neighbours on a line: a table whose first row that fits decides.
+-- Our own choice, in the style of `terraform fmt`. Row 2 keeps apart what would be read as one token.
+use Rattle.std.specs.Prelude.{◌&&◌, ◌||◌, ◌==◌, ℕ, Bool, true, false, not, List, [], ◌∷◌, Option, Some, None, if◌then◌else◌, codes}
+use Rattle.std.specs.Str.{bytes_eq}
+use Rattle.hcl_scan.specs.Lexemes.{Lexeme}
+use Rattle.hcl_scan.specs.declared.token.Kind.{Kind}
+use Rattle.hcl_scan.specs.declared.token.Kind.TheVariants as kind
+use Rattle.hcl_layout.specs.Levels.{is_opener}
+use Rattle.hcl_layout.specs.Lines.{is_newline}
+
+abbrev pub is_dot : Kind → Bool
+is_dot kind.Dot = true
+is_dot _ = false
+
+abbrev pub is_ellipsis : Kind → Bool
+is_ellipsis kind.Ellipsis = true
+is_ellipsis _ = false
+
+abbrev pub is_comma : Kind → Bool
+is_comma kind.Comma = true
+is_comma _ = false
+
+abbrev pub is_not : Kind → Bool
+is_not kind.Not = true
+is_not _ = false
+
+abbrev pub is_minus : Kind → Bool
+is_minus kind.Minus = true
+is_minus _ = false
+
+abbrev pub is_ident : Kind → Bool
+is_ident kind.Ident = true
+is_ident _ = false
+
+abbrev pub is_number : Kind → Bool
+is_number kind.Number = true
+is_number _ = false
+
+abbrev pub is_paren_open : Kind → Bool
+is_paren_open kind.ParenOpen = true
+is_paren_open _ = false
+
+abbrev pub is_bracket_open : Kind → Bool
+is_bracket_open kind.BracketOpen = true
+is_bracket_open _ = false
+
+abbrev pub is_brace_open : Kind → Bool
+is_brace_open kind.BraceOpen = true
+is_brace_open _ = false
+
+abbrev pub is_brace_close : Kind → Bool
+is_brace_close kind.BraceClose = true
+is_brace_close _ = false
+
+abbrev pub is_seq_close : Kind → Bool
+is_seq_close kind.SeqClose = true
+is_seq_close _ = false
+
+-- `${` and `%{`
+abbrev pub opens_sequence : Kind → Bool
+opens_sequence kind.InterpOpen = true
+opens_sequence kind.ControlOpen = true
+opens_sequence _ = false
+
+abbrev pub is_quote_open : Kind → Bool
+is_quote_open kind.QuoteOpen = true
+is_quote_open _ = false
+
+abbrev pub is_lit : Kind → Bool
+is_lit kind.Lit = true
+is_lit _ = false
+
+abbrev pub is_quote_close : Kind → Bool
+is_quote_close kind.QuoteClose = true
+is_quote_close _ = false
+
+-- what closes a paren, a bracket or a sequence
+abbrev pub closes_group : Kind → Bool
+closes_group kind.ParenClose = true
+closes_group kind.BracketClose = true
+closes_group kind.SeqClose = true
+closes_group _ = false
+
+-- what an index may stand behind
+abbrev pub ends_operand : Kind → Bool
+ends_operand kind.Ident = true
+ends_operand kind.Number = true
+ends_operand kind.QuoteClose = true
+ends_operand kind.ParenClose = true
+ends_operand kind.BracketClose = true
+ends_operand kind.BraceClose = true
+ends_operand _ = false
+
+-- the binary operators and `!`
+abbrev pub is_operator : Kind → Bool
+is_operator kind.Plus = true
+is_operator kind.Minus = true
+is_operator kind.Star = true
+is_operator kind.Slash = true
+is_operator kind.Percent = true
+is_operator kind.And = true
+is_operator kind.Or = true
+is_operator kind.Equal = true
+is_operator kind.NotEqual = true
+is_operator kind.Less = true
+is_operator kind.Greater = true
+is_operator kind.LessEqual = true
+is_operator kind.GreaterEqual = true
+is_operator kind.Not = true
+is_operator _ = false
+
+-- marks behind which an expression begins
+abbrev pub awaits_operand : Kind → Bool
+awaits_operand kind.Assign = true
+awaits_operand kind.Arrow = true
+awaits_operand kind.Colon = true
+awaits_operand kind.Comma = true
+awaits_operand kind.Question = true
+awaits_operand _ = false
+
+abbrev pub begins_with_equals : List ℕ → Bool
+begins_with_equals [] = false
+begins_with_equals (b ∷ text) = b == 61
+
+-- the token before is of such a kind
+abbrev pub stands_before : (Kind → Bool) → Option Lexeme → Bool
+stands_before test None = false
+stands_before test (Some t) = test t.kind
+
+abbrev pub is_opening : Option Lexeme → Bool
+is_opening None = true
+is_opening (Some t) = is_opener t.kind || is_operator t.kind || awaits_operand t.kind
+
+-- neighbours that would be read as one token, or as others
+abbrev pub would_join : Option Lexeme → Lexeme → Lexeme → Bool
+would_join before subject after =
+    (is_dot subject.kind && (is_dot after.kind || is_ellipsis after.kind))
+    || (is_number subject.kind && not (stands_before is_dot before) && is_dot after.kind)
+    || (is_not subject.kind && begins_with_equals after.text)
+    || (opens_sequence subject.kind && is_seq_close after.kind && bytes_eq after.text (codes "~}"))
+
+-- the word `in`, behind the last name that a `for` declares
+abbrev pub is_in : Option Lexeme → Lexeme → Bool
+is_in before subject = is_ident subject.kind && bytes_eq subject.text (codes "in") && stands_before is_ident before
+
+-- THE TABLE: one blank between the subject and the token after it; `before` stands before the subject on its line
+abbrev pub spaced : Option Lexeme → Lexeme → Lexeme → Bool
+spaced before subject after =
+    if is_newline after.kind || after.inside_heredoc then false
+    else if would_join before subject after then true
+    else if is_ident subject.kind && is_paren_open after.kind then false
+    else if is_dot subject.kind || is_dot after.kind then false
+    else if is_comma after.kind || is_ellipsis after.kind then false
+    else if is_comma subject.kind then true
+    else if is_quote_open subject.kind || is_lit subject.kind || is_lit after.kind || is_quote_close after.kind then false
+    else if is_in before subject then true
+    else if is_bracket_open after.kind && ends_operand subject.kind then false
+    else if is_not subject.kind then false
+    else if is_minus subject.kind then not (is_opening before)
+    else if is_brace_open subject.kind && is_brace_close after.kind then false
+    else if is_brace_open subject.kind || is_brace_close after.kind then true
+    else if (opens_sequence subject.kind && is_brace_open after.kind) || (is_brace_close subject.kind && is_seq_close after.kind) then true
+    else if is_seq_close subject.kind && opens_sequence after.kind then false
+    else if is_paren_open subject.kind || is_bracket_open subject.kind || opens_sequence subject.kind then false
+    else not (closes_group after.kind)

@@ -1,0 +1,10 @@
+-- Where a walk along the lines stands.
+use Rattle.std.specs.Prelude.{◌≤◌, ℕ, List, drop}
+use Rattle.hcl_scan.specs.Lexemes.{Lexeme}
+use Rattle.hcl_layout.specs.Depths.{Balanced, Sound}
+
+-- what is left is balanced from the depth at hand on, and the levels fit it
+pub record Stands (ts : List Lexeme) (at d : ℕ) (levels : List ℕ) : Type 0 where
+  pub balanced : Balanced d (drop at ts)
+  pub low : d ≤ 256
+  pub sound : Sound d levels

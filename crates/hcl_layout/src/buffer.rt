@@ -1,0 +1,11 @@
+//! Bytes that wait to be written.
+ghost use Rattle.std.specs.Prelude.{◌≤◌};
+
+/// What waits to be written: the first `len` bytes. So many bytes were sent before them.
+#[derive(Drop)]
+pub struct Buffer {
+    pub bytes: [u8; 8192],
+    pub len: usize,
+    pub sent: u64,
+    ghost within: { len ≤ 8192 },
+}

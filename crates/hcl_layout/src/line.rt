@@ -1,0 +1,143 @@
+//! The gaps of one line, and the widths before its cells.
+ghost use Rattle.std.specs.Prelude.{◌≡◌, ◌<◌, ◌≤◌, ◌+◌, ◌^◌, true, length, take, drop, option_map};
+ghost use Rattle.unicode_segmentation.specs.Grapheme.{graphemes};
+ghost use Rattle.hcl_scan.specs.Scanned.{lexeme};
+ghost use Rattle.hcl_layout.specs.Gaps.{indent as indent_of, width as width_of};
+ghost use Rattle.hcl_layout.specs.Simple.{is_simple as is_simple_of};
+ghost use Rattle.hcl_layout.specs.LineGaps.{bulk, cell_gap as cell_gap_of, gap_of, gaps_in, plain_gap as plain_gap_of, plain_of};
+
+use crate::kind::is_newline;
+use crate::spacing::space_between;
+use hcl_scan::{Token, Tokens};
+use unicode_segmentation::UnicodeSegmentation;
+
+/// A cell: its place in the line, and the gap before it.
+#[derive(Clone, Copy)]
+pub struct Cell {
+    pub place: usize,
+    pub gap: u64,
+}
+
+/// What the gaps of a line go by.
+#[derive(Clone, Copy)]
+pub struct LineGaps {
+    pub level: u32,
+    pub assign: Option<Cell>,
+    pub comment: Option<Cell>,
+}
+
+/// The gaps of a line whose cells are not set.
+pub fn plain_line(level: u32) -> LineGaps
+    ensures { result ≡ plain_of level }
+{
+    LineGaps {
+        level,
+        assign: None,
+        comment: None,
+    }
+}
+
+fn indent(level: u32, token: Token<'_>) -> u64
+    requires { level ≤ 256 }
+    ensures { result ≡ indent_of level (lexeme token.entry) }
+{
+    if is_newline(token.kind) || token.inside_heredoc {
+        return 0;
+    }
+    2 * u64::from(level)
+}
+
+/// The gap before a token, by the level and the spacing alone.
+fn plain_gap(
+    level: u32,
+    before: Option<Token<'_>>,
+    subject: Option<Token<'_>>,
+    token: Token<'_>,
+) -> u64
+    requires { level ≤ 256 }
+    ensures value { result ≡ plain_gap_of level (option_map lexeme before.entry) (option_map lexeme subject.entry) (lexeme token.entry) }
+    ensures small { result ≤ 512 }
+{
+    let Some(subject) = subject else {
+        return indent(level, token);
+    };
+    if space_between(before, subject, token) {
+        return 1;
+    }
+    0
+}
+
+/// The gap of the cell at its place, and else the other.
+fn cell_gap(cell: Option<Cell>, place: usize, otherwise: u64) -> u64
+    ensures { result ≡ cell_gap_of cell place otherwise }
+{
+    let Some(cell) = cell else {
+        return otherwise;
+    };
+    if cell.place == place {
+        return cell.gap;
+    }
+    otherwise
+}
+
+/// The gap before the token at a place of a line, behind the two tokens before it.
+pub fn gap_before(
+    gaps: LineGaps,
+    place: usize,
+    before: Option<Token<'_>>,
+    subject: Option<Token<'_>>,
+    token: Token<'_>,
+) -> u64
+    requires { gaps.level ≤ 256 }
+    ensures { result ≡ gap_of gaps place (option_map lexeme before.entry) (option_map lexeme subject.entry) (lexeme token.entry) }
+{
+    let plain = plain_gap(gaps.level, before, subject, token);
+    cell_gap(gaps.comment, place, cell_gap(gaps.assign, place, plain))
+}
+
+/// Whether the bytes are ASCII without CR LF, so that each is a grapheme cluster.
+fn is_simple(bytes: &[u8]) -> bool
+    ensures { result ≡ is_simple_of bytes.now }
+{
+    let mut previous = 0;
+    for byte in bytes {
+        if *byte >= 128 || (previous == b'\r' && *byte == b'\n') {
+            return false;
+        }
+        previous = *byte;
+    }
+    true
+}
+
+/// How many extended grapheme clusters a text has.
+fn clusters(text: &str) -> u64
+    ensures count { result ≡ length (graphemes true text.now) }
+    ensures within { result ≤ length text.now }
+{
+    if is_simple(text.as_bytes()) {
+        return text.len() as u64;
+    }
+    text.graphemes(true).count() as u64
+}
+
+/// The width before the token at a place of the line that begins at a token.
+pub fn width(tokens: &Tokens<'_>, at: usize, len: usize, place: usize, gaps: LineGaps) -> u64
+    requires within { at + len ≤ length tokens.now.tokens }
+    requires there { place ≤ len }
+    requires level { gaps.level ≤ 256 }
+    requires small { bulk tokens.now.tokens < 2 ^ 32 }
+    requires fits { width_of place (gaps_in gaps (take len (drop at tokens.now.tokens))) (take len (drop at tokens.now.tokens)) < 2 ^ 64 }
+    ensures { result ≡ width_of place (gaps_in gaps (take len (drop at tokens.now.tokens))) (take len (drop at tokens.now.tokens)) }
+{
+    let mut before = None;
+    let mut subject = None;
+    let mut columns = 0;
+    for k in 0..place {
+        let token = tokens.get(at + k);
+        let gap = gap_before(gaps, k, before, subject, token);
+        columns += gap + clusters(token.text);
+        before = subject;
+        subject = Some(token);
+    }
+    columns
+}

@@ -1,0 +1,87 @@
+//! How long the print is, and whether the source is its own print.
+ghost use Rattle.std.specs.Prelude.{◌≡◌, ◌≢◌, ◌↔◌, ◌≤◌, ◌^◌, ◌++◌, ◌==◌, ◌&&◌, ℕ, List, IsTrue, length, drop, take, nat_le, IfSome, MatchOption};
+ghost use Rattle.std.specs.List.{list_all};
+ghost use Rattle.hcl_layout.specs.Left.{bytes_of};
+ghost use Rattle.hcl_layout.specs.LineGaps.{bulk};
+ghost use Rattle.hcl_layout.specs.Print.{print};
+
+use crate::gaps::{Piece, next_piece, start};
+use hcl_scan::Tokens;
+use hcl_syntax::Accepted;
+
+/// The bytes of the source. Its size bounds the number of tokens and their texts, and so every sum
+/// that is made of the print.
+pub fn source_of<'s>(tokens: &Tokens<'s>) -> &'s [u8]
+    ensures text { result.now ≡ tokens.now.text }
+    ensures few { length tokens.now.tokens ≤ 2 ^ 20 }
+    ensures small { bulk tokens.now.tokens ≤ 2 ^ 21 }
+{
+    // its contract says that there are no more tokens than bytes
+    let _count = tokens.len();
+    tokens.source().text().as_bytes()
+}
+
+/// The length of the print, in bytes.
+pub fn printed_len(accepted: &Accepted<'_, '_>) -> u64
+    ensures { result ≡ length (print accepted.now.tokens) }
+{
+    let tokens = accepted.tokens();
+    let _source = source_of(tokens);
+    let mut gaps = start();
+    let mut len = 0;
+    while let Some(piece) = next_piece(&mut gaps, tokens) {
+        len += piece.gap + piece.text.len() as u64;
+    }
+    len
+}
+
+fn is_blank(bytes: &[u8]) -> bool
+    ensures { result ≡ list_all (λ b. b == 32) bytes.now }
+{
+    bytes.iter().all(|b| *b == b' ')
+}
+
+/// Whether so many spaces stand at the front.
+fn begins_blank(bytes: &[u8], gap: u64) -> bool
+    ensures { result ≡ (nat_le gap (length bytes.now) && list_all (λ b. b == 32) (take gap bytes.now)) }
+{
+    if gap > bytes.len() as u64 {
+        return false;
+    }
+    let (front, _) = bytes.split_at(gap as usize);
+    is_blank(front)
+}
+
+/// Where a piece ends that stands at a place of the bytes, if it stands there.
+fn piece_end(bytes: &[u8], at: usize, piece: Piece<'_>) -> Option<usize>
+    requires { at ≤ length bytes.now }
+    ensures found { MatchOption result ((rest : List ℕ) → drop at bytes.now ≢ bytes_of piece.entry ++ rest) (λ end. drop at bytes.now ≡ bytes_of piece.entry ++ drop end bytes.now) }
+    ensures within { IfSome result (λ end. end ≤ length bytes.now) }
+{
+    let (_, left) = bytes.split_at(at);
+    if !begins_blank(left, piece.gap) {
+        return None;
+    }
+    let (_, behind) = left.split_at(piece.gap as usize);
+    if !behind.starts_with(piece.text.as_bytes()) {
+        return None;
+    }
+    Some(at + piece.gap as usize + piece.text.len())
+}
+
+/// Whether the print is the source: the bytes of the source are those of the print.
+pub fn is_formatted(accepted: &Accepted<'_, '_>) -> bool
+    ensures { IsTrue result ↔ (print accepted.now.tokens ≡ accepted.now.text) }
+{
+    let tokens = accepted.tokens();
+    let bytes = source_of(tokens);
+    let mut gaps = start();
+    let mut at = 0;
+    while let Some(piece) = next_piece(&mut gaps, tokens) {
+        let Some(end) = piece_end(bytes, at, piece) else {
+            return false;
+        };
+        at = end;
+    }
+    at == bytes.len()
+}

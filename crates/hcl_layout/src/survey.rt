@@ -1,0 +1,214 @@
+//! One line, in one walk: where it ends, how deep, and which cells it has.
+ghost use Rattle.std.specs.Prelude.{◌≡◌, ◌<◌, ◌≤◌, ◌+◌, ◌^◌, ◌==◌, length, drop, slice_get, Some};
+ghost use Rattle.std.specs.List.{list_any};
+ghost use Rattle.hcl_scan.specs.Lexemes.{Lexeme};
+ghost use Rattle.hcl_scan.specs.Scanned.{lexeme};
+ghost use Rattle.hcl_layout.specs.Lines.{ends_line};
+ghost use Rattle.hcl_layout.specs.Cells.{is_sign as is_sign_of, is_torn as is_torn_of, is_trailing as is_trailing_of};
+ghost use Rattle.hcl_layout.specs.Depths.{Balanced, Steps, deepen};
+ghost use Rattle.hcl_layout.specs.Survey.{IsLine, assign_of, first_noted, noted, running_of, surveyed};
+
+use crate::kind::{
+    is_assign, is_closer, is_inline_comment, is_line_comment, is_newline, is_opener,
+};
+use hcl_scan::{Kind, Token, Tokens};
+
+/// What is known behind a token of a line.
+#[derive(Clone, Copy)]
+pub struct Survey {
+    /// So many tokens were passed.
+    pub len: usize,
+    pub depth: u32,
+    /// There was an inline comment that holds a newline.
+    pub torn: bool,
+    /// The place of the trailing comment.
+    pub comment: Option<usize>,
+    /// The depth behind what stands before the trailing comment.
+    pub body_depth: u32,
+    /// The place of the first assignment sign.
+    pub sign: Option<usize>,
+    /// The depth before that sign.
+    pub sign_depth: u32,
+}
+
+/// What a line is: its tokens, the depth behind it, and the places of its cells.
+#[derive(Clone, Copy)]
+pub struct LineFacts {
+    pub len: usize,
+    pub depth: u32,
+    pub assign: Option<usize>,
+    pub comment: Option<usize>,
+    /// The trailing comment, where the line takes part in runs of comments.
+    pub running: Option<usize>,
+}
+
+/// Whether a line ends with the token.
+fn is_line_end(token: Token<'_>) -> bool
+    ensures { result ≡ ends_line (lexeme token.entry) }
+{
+    is_newline(token.kind) && !token.inside_heredoc
+}
+
+fn is_trailing(token: Token<'_>) -> bool
+    ensures { result ≡ is_trailing_of (lexeme token.entry) }
+{
+    is_line_comment(token.kind) && !token.inside_heredoc
+}
+
+fn is_sign(token: Token<'_>) -> bool
+    ensures { result ≡ is_sign_of (lexeme token.entry) }
+{
+    is_assign(token.kind) && !token.inside_heredoc
+}
+
+fn holds_newline(text: &str) -> bool
+    ensures { result ≡ list_any (λ b. b == 10) text.now }
+{
+    text.as_bytes().iter().any(|b| *b == b'\n')
+}
+
+fn is_torn(token: Token<'_>) -> bool
+    ensures { result ≡ is_torn_of (lexeme token.entry) }
+{
+    is_inline_comment(token.kind) && !token.inside_heredoc && holds_newline(token.text)
+}
+
+/// The depth behind a token.
+fn deepened(depth: u32, kind: Kind) -> u32
+    requires steps { Steps depth kind }
+    requires fits { depth ≤ 256 }
+    ensures { result ≡ deepen depth kind }
+{
+    if is_opener(kind) {
+        return depth + 1;
+    }
+    if is_closer(kind) {
+        return depth - 1;
+    }
+    depth
+}
+
+/// Behind the first token of a line.
+fn first_survey(depth: u32, token: Token<'_>) -> Survey
+    requires steps { Steps depth token.kind }
+    requires fits { depth ≤ 256 }
+    ensures { result ≡ first_noted depth (lexeme token.entry) }
+{
+    let depth = deepened(depth, token.kind);
+    Survey {
+        len: 1,
+        depth,
+        torn: is_torn(token),
+        comment: None,
+        body_depth: depth,
+        sign: None,
+        sign_depth: 0,
+    }
+}
+
+impl Survey {
+    /// Behind one token more.
+    fn with(self, token: Token<'_>) -> Survey
+        requires steps { Steps self.depth token.kind }
+        requires fits { self.depth ≤ 256 }
+        requires room { self.len + 1 < 2 ^ 64 }
+        ensures { result ≡ noted self (lexeme token.entry) }
+    {
+        let depth = deepened(self.depth, token.kind);
+        let len = self.len + 1;
+        let torn = self.torn || is_torn(token);
+        if self.comment.is_some() {
+            return Survey {
+                len,
+                depth,
+                torn,
+                ..self
+            };
+        }
+        if is_trailing(token) {
+            let comment = Some(self.len);
+            return Survey {
+                len,
+                depth,
+                torn,
+                comment,
+                ..self
+            };
+        }
+        if self.sign.is_none() && is_sign(token) {
+            return Survey {
+                len,
+                depth,
+                torn,
+                body_depth: depth,
+                sign: Some(self.len),
+                sign_depth: self.depth,
+                ..self
+            };
+        }
+        Survey {
+            len,
+            depth,
+            torn,
+            body_depth: depth,
+            ..self
+        }
+    }
+
+    /// The place of the sign, where it begins a cell.
+    fn assign(self) -> Option<usize>
+        ensures { result ≡ assign_of self }
+    {
+        if !self.torn && self.sign_depth == self.body_depth {
+            return self.sign;
+        }
+        None
+    }
+
+    /// The trailing comment, where the line takes part in runs.
+    fn running(self) -> Option<usize>
+        ensures { result ≡ running_of self }
+    {
+        if self.torn {
+            return None;
+        }
+        self.comment
+    }
+}
+
+/// The tokens of a line, from the one at a place on, each noted.
+fn read_line(tokens: &Tokens<'_>, at: usize, depth: u32) -> Survey
+    requires within { at < length tokens.now.tokens }
+    requires balanced { Balanced depth (drop at tokens.now.tokens) }
+    requires fits { depth ≤ 256 }
+    ensures { (t : Lexeme) → slice_get tokens.now.tokens at ≡ Some t → result ≡ surveyed (first_noted depth t) t (drop (at + 1) tokens.now.tokens) }
+{
+    let count = tokens.len();
+    let mut last = tokens.get(at);
+    let mut line = first_survey(depth, last);
+    while at + line.len < count {
+        if is_line_end(last) {
+            return line;
+        }
+        last = tokens.get(at + line.len);
+        line = line.with(last);
+    }
+    line
+}
+
+/// The line that begins at a place, where the depth is known.
+pub fn line_at(tokens: &Tokens<'_>, at: usize, depth: u32) -> LineFacts
+    requires within { at < length tokens.now.tokens }
+    requires balanced { Balanced depth (drop at tokens.now.tokens) }
+    requires fits { depth ≤ 256 }
+    ensures { IsLine tokens.now.tokens at depth result }
+{
+    let line = read_line(tokens, at, depth);
+    LineFacts {
+        len: line.len,
+        depth: line.depth,
+        assign: line.assign(),
+        comment: line.comment,
+        running: line.running(),
+    }
+}

@@ -1,0 +1,279 @@
+//! The lines, one after another, with the columns of the runs in which they stand.
+ghost use Rattle.std.specs.Prelude.{◌≡◌, ◌<◌, ◌≤◌, ◌+◌, ◌-◌, ◌^◌, ℕ, length, take, drop, None, IfSome, IsSome};
+ghost use Rattle.hcl_layout.specs.Columns.{ahead};
+ghost use Rattle.hcl_layout.specs.Cells.{assign_cell, trailing_comment};
+ghost use Rattle.hcl_layout.specs.Depths.{Sound, depth_after, fresh, level_at, raised, turned};
+ghost use Rattle.hcl_layout.specs.Gaps.{align, plain_gaps, width as width_of};
+ghost use Rattle.hcl_layout.specs.LineGaps.{bulk, gaps_in};
+ghost use Rattle.hcl_layout.specs.Lines.{lines};
+ghost use Rattle.hcl_layout.specs.Stream.{assign_column, assign_widths, comment_column, comment_widths, plain};
+ghost use Rattle.hcl_layout.specs.Survey.{IsLine, text_at};
+ghost use Rattle.hcl_layout.specs.Walks.{Stands};
+
+use crate::line::{Cell, LineGaps, plain_line, width};
+use crate::survey::{LineFacts, line_at};
+use hcl_scan::Tokens;
+
+/// Sets the level of depths that stand next to one another.
+fn raise(levels: &mut [u32; 257], level: u32, from: u32, to: u32)
+    requires order { from ≤ to }
+    requires within { to ≤ 257 }
+    ensures { levels.new ≡ raised levels.old level from (to - from) }
+{
+    for depth in from..to {
+        levels[depth as usize] = level;
+    }
+}
+
+/// The level of a line, by the depths before and behind it. The levels are then those behind it.
+fn turn(levels: &mut [u32; 257], before: u32, now: u32) -> u32
+    requires before { before ≤ 256 }
+    requires now { now ≤ 256 }
+    requires sound { Sound before levels.old }
+    ensures level { result ≡ level_at before now levels.old }
+    ensures levels { levels.new ≡ turned before now levels.old }
+    ensures small { result ≤ 256 }
+    ensures sound { Sound now levels.new }
+{
+    let level = levels[before.min(now) as usize];
+    if before < now {
+        let own = levels[before as usize] + 1;
+        raise(levels, own, before + 1, now + 1);
+    }
+    level
+}
+
+/// What is known of the lines that were passed: the depth, the levels by depth, and the column of
+/// the last line's run of assign cells.
+#[derive(Clone, Copy)]
+pub struct Walk {
+    pub depth: u32,
+    pub levels: [u32; 257],
+    pub column: Option<u64>,
+}
+
+/// What is known before the first line.
+pub fn start_walk() -> Walk
+    ensures depth { result.depth ≡ 0 }
+    ensures levels { result.levels ≡ fresh }
+    ensures column { result.column ≡ None }
+{
+    Walk {
+        depth: 0,
+        levels: [0; 257],
+        column: None,
+    }
+}
+
+/// The width before a place of a line, by the level and the spacing alone.
+fn plain_width(tokens: &Tokens<'_>, at: usize, len: usize, place: usize, level: u32) -> u64
+    requires within { at + len ≤ length tokens.now.tokens }
+    requires there { place ≤ len }
+    requires level { level ≤ 256 }
+    requires small { bulk tokens.now.tokens < 2 ^ 32 }
+    ensures value { result ≡ width_of place (plain_gaps level (take len (drop at tokens.now.tokens))) (take len (drop at tokens.now.tokens)) }
+    ensures small { result ≤ 512 + bulk tokens.now.tokens }
+{
+    width(tokens, at, len, place, plain_line(level))
+}
+
+/// The greatest width before the assign cells of the run that begins at a place.
+fn assign_ahead(walk: &Walk, tokens: &Tokens<'_>, from: usize) -> u64
+    requires within { from ≤ length tokens.now.tokens }
+    requires stands { Stands tokens.now.tokens from walk.now.depth walk.now.levels }
+    requires small { bulk tokens.now.tokens < 2 ^ 32 }
+    ensures value { result ≡ ahead (assign_widths walk.now.depth walk.now.levels (lines (drop from tokens.now.tokens))) }
+    ensures small { result ≤ 512 + bulk tokens.now.tokens }
+{
+    let count = tokens.len();
+    let mut depth = walk.depth;
+    let mut levels = walk.levels;
+    let mut at = from;
+    let mut greatest = 0;
+    while at < count {
+        let line = line_at(tokens, at, depth);
+        let Some(place) = line.assign else {
+            return greatest;
+        };
+        let level = turn(&mut levels, depth, line.depth);
+        let width = plain_width(tokens, at, line.len, place, level);
+        greatest = greatest.max(width);
+        depth = line.depth;
+        at += line.len;
+    }
+    greatest
+}
+
+/// The column of the assign cell of the line at a place, by that of the line before.
+fn assign_column_at(walk: &Walk, tokens: &Tokens<'_>, at: usize, line: LineFacts) -> Option<u64>
+    requires within { at < length tokens.now.tokens }
+    requires stands { Stands tokens.now.tokens at walk.now.depth walk.now.levels }
+    requires line { IsLine tokens.now.tokens at walk.now.depth line }
+    requires small { bulk tokens.now.tokens < 2 ^ 32 }
+    requires fits { IfSome walk.now.column (λ c. c < 2 ^ 33) }
+    ensures value { result ≡ assign_column walk.now.depth walk.now.levels walk.now.column (lines (drop at tokens.now.tokens)) }
+    ensures fits { IfSome result (λ c. c < 2 ^ 33) }
+    ensures some { IsSome line.assign → IsSome result }
+{
+    let Some(_place) = line.assign else {
+        return None;
+    };
+    let Some(column) = walk.column else {
+        return Some(assign_ahead(walk, tokens, at));
+    };
+    Some(column)
+}
+
+/// The gaps of a line in whose run the assign cells stand at the column.
+fn assigned_line(
+    tokens: &Tokens<'_>,
+    at: usize,
+    line: LineFacts,
+    level: u32,
+    column: Option<u64>,
+) -> LineGaps
+    requires within { at + line.len ≤ length tokens.now.tokens }
+    requires cell { line.assign ≡ assign_cell (text_at tokens.now.tokens at line) }
+    requires level { level ≤ 256 }
+    requires small { bulk tokens.now.tokens < 2 ^ 32 }
+    requires fits { IfSome column (λ c. c < 2 ^ 33) }
+    requires some { IsSome line.assign → IsSome column }
+    ensures gaps { gaps_in result (text_at tokens.now.tokens at line) ≡ align assign_cell (plain_gaps level (text_at tokens.now.tokens at line)) (text_at tokens.now.tokens at line) column }
+    ensures level { result.level ≡ level }
+    ensures comment { result.comment ≡ None }
+    ensures assign { IfSome result.assign (λ c. c.gap ≤ 2 ^ 33) }
+    ensures narrow { (k : ℕ) → width_of k (gaps_in result (text_at tokens.now.tokens at line)) (text_at tokens.now.tokens at line) < 2 ^ 34 }
+{
+    let Some(place) = line.assign else {
+        return plain_line(level);
+    };
+    let Some(column) = column else {
+        return plain_line(level);
+    };
+    let own = plain_width(tokens, at, line.len, place, level);
+    let gap = column.saturating_sub(own) + 1;
+    LineGaps {
+        level,
+        assign: Some(Cell { place, gap }),
+        comment: None,
+    }
+}
+
+impl Walk {
+    /// Passes the line at a place, and gives its gaps with the assign cell in its column.
+    pub fn pass(&mut self, tokens: &Tokens<'_>, at: usize, line: LineFacts) -> LineGaps
+        requires within { at < length tokens.now.tokens }
+        requires stands { Stands tokens.now.tokens at self.old.depth self.old.levels }
+        requires line { IsLine tokens.now.tokens at self.old.depth line }
+        requires small { bulk tokens.now.tokens < 2 ^ 32 }
+        requires fits { IfSome self.old.column (λ c. c < 2 ^ 33) }
+        ensures gaps { gaps_in result (text_at tokens.now.tokens at line) ≡ align assign_cell (plain self.old.depth self.old.levels (text_at tokens.now.tokens at line)) (text_at tokens.now.tokens at line) (assign_column self.old.depth self.old.levels self.old.column (lines (drop at tokens.now.tokens))) }
+        ensures level { result.level ≤ 256 }
+        ensures comment { result.comment ≡ None }
+        ensures assign { IfSome result.assign (λ c. c.gap ≤ 2 ^ 33) }
+        ensures narrow { (k : ℕ) → width_of k (gaps_in result (text_at tokens.now.tokens at line)) (text_at tokens.now.tokens at line) < 2 ^ 34 }
+        ensures depth { self.new.depth ≡ depth_after self.old.depth (text_at tokens.now.tokens at line) }
+        ensures levels { self.new.levels ≡ turned self.old.depth (depth_after self.old.depth (text_at tokens.now.tokens at line)) self.old.levels }
+        ensures column { self.new.column ≡ assign_column self.old.depth self.old.levels self.old.column (lines (drop at tokens.now.tokens)) }
+        ensures stands { Stands tokens.now.tokens (at + line.len) self.new.depth self.new.levels }
+        ensures fits { IfSome self.new.column (λ c. c < 2 ^ 33) }
+    {
+        let column = assign_column_at(self, tokens, at, line);
+        let before = self.depth;
+        let level = turn(&mut self.levels, before, line.depth);
+        self.depth = line.depth;
+        self.column = column;
+        assigned_line(tokens, at, line, level, column)
+    }
+}
+
+/// The greatest width before the trailing comments of the run that begins at a place.
+fn comment_ahead(walk: &Walk, tokens: &Tokens<'_>, from: usize) -> u64
+    requires within { from ≤ length tokens.now.tokens }
+    requires stands { Stands tokens.now.tokens from walk.now.depth walk.now.levels }
+    requires small { bulk tokens.now.tokens < 2 ^ 32 }
+    requires fits { IfSome walk.now.column (λ c. c < 2 ^ 33) }
+    ensures value { result ≡ ahead (comment_widths walk.now.depth walk.now.levels walk.now.column (lines (drop from tokens.now.tokens))) }
+    ensures small { result < 2 ^ 34 }
+{
+    let count = tokens.len();
+    let mut ahead = *walk;
+    let mut at = from;
+    let mut greatest = 0;
+    while at < count {
+        let line = line_at(tokens, at, ahead.depth);
+        let Some(place) = line.running else {
+            return greatest;
+        };
+        let set = ahead.pass(tokens, at, line);
+        let width = width(tokens, at, line.len, place, set);
+        greatest = greatest.max(width);
+        at += line.len;
+    }
+    greatest
+}
+
+/// The column of the trailing comment of the line at a place, by that of the line before.
+pub fn comment_column_at(
+    walk: &Walk,
+    comment: Option<u64>,
+    tokens: &Tokens<'_>,
+    at: usize,
+    line: LineFacts,
+) -> Option<u64>
+    requires within { at < length tokens.now.tokens }
+    requires stands { Stands tokens.now.tokens at walk.now.depth walk.now.levels }
+    requires line { IsLine tokens.now.tokens at walk.now.depth line }
+    requires small { bulk tokens.now.tokens < 2 ^ 32 }
+    requires column { IfSome walk.now.column (λ c. c < 2 ^ 33) }
+    requires fits { IfSome comment (λ c. c < 2 ^ 34) }
+    ensures value { result ≡ comment_column walk.now.depth walk.now.levels walk.now.column comment (lines (drop at tokens.now.tokens)) }
+    ensures fits { IfSome result (λ c. c < 2 ^ 34) }
+{
+    let Some(_place) = line.running else {
+        return None;
+    };
+    let Some(comment) = comment else {
+        return Some(comment_ahead(walk, tokens, at));
+    };
+    Some(comment)
+}
+
+/// The gaps of a line with its trailing comment in the column of its run, if it stands in one.
+pub fn commented_line(
+    tokens: &Tokens<'_>,
+    at: usize,
+    line: LineFacts,
+    set: LineGaps,
+    comment: Option<u64>,
+) -> LineGaps
+    requires within { at + line.len ≤ length tokens.now.tokens }
+    requires cell { line.comment ≡ trailing_comment (text_at tokens.now.tokens at line) }
+    requires level { set.level ≤ 256 }
+    requires plain { set.comment ≡ None }
+    requires small { bulk tokens.now.tokens < 2 ^ 32 }
+    requires narrow { (k : ℕ) → width_of k (gaps_in set (text_at tokens.now.tokens at line)) (text_at tokens.now.tokens at line) < 2 ^ 34 }
+    requires fits { IfSome comment (λ c. c < 2 ^ 34) }
+    ensures gaps { gaps_in result (text_at tokens.now.tokens at line) ≡ align trailing_comment (gaps_in set (text_at tokens.now.tokens at line)) (text_at tokens.now.tokens at line) comment }
+    ensures level { result.level ≡ set.level }
+    ensures assign { result.assign ≡ set.assign }
+    ensures comment { IfSome result.comment (λ c. c.gap ≤ 2 ^ 34) }
+{
+    let Some(place) = line.comment else {
+        return set;
+    };
+    let Some(column) = comment else {
+        let cell = Cell { place, gap: 1 };
+        return LineGaps {
+            comment: Some(cell),
+            ..set
+        };
+    };
+    let own = width(tokens, at, line.len, place, set);
+    let gap = column.saturating_sub(own) + 1;
+    let cell = Cell { place, gap };
+    LineGaps {
+        comment: Some(cell),
+        ..set
+    }
+}

@@ -1,0 +1,5 @@
+use Rattle.hcl_scan.proofs.Runs.{scan_bounded}
+use Rattle.hcl_scan.proofs.laws.bounded.Goals as goal
+
+pub returns : goal.returns
+returns c = scan_bounded

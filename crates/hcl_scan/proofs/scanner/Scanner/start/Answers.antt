@@ -1,0 +1,11 @@
+use Rattle.std.proofs.Common.{sym, ◌∙◌}
+use Rattle.hcl_scan.specs.Lexemes.{in_heredoc}
+use Rattle.hcl_scan.specs.Spelling.{context}
+use Rattle.hcl_scan.specs.Openings.{openers_of}
+use Rattle.hcl_scan.proofs.Turns.{start_gap, gaps_plain}
+use Rattle.hcl_scan.proofs.scanner.Scanner.start.Goals as goal
+
+pub returns-in-None : goal.returns-in-None
+returns-in-None c =
+    start_gap c.args.self.now c.blanks.result c.as_bytes.result.now c.requires c.as_bytes.ensures.utf8 (c.as_bytes.ensures.value ∙ c.range.ensures.value) c.blanks.ensures.count
+    (gaps_plain (context (openers_of c.args.self.now.stack)) (in_heredoc (openers_of c.args.self.now.stack)) (sym c.in-None.ensures) (sym c.inside_heredoc.ensures ∙ c.if-inside_heredoc.false))

@@ -1,0 +1,28 @@
+-- What the first two bytes of a text say of its kind: an own choice, which makes each step of the scanner short.
+use Rattle.std.specs.Prelude.{ℕ, ◌==◌, ◌||◌, ◌&&◌, Bool, List, if◌then◌else◌, nat_le, get_or}
+use Rattle.std.specs.Char.{is_ascii_digit, is_ascii_alphabetic}
+use Rattle.hcl_scan.specs.Spelling.{is_blank}
+use Rattle.hcl_scan.specs.declared.expression.Lead.{Lead}
+use Rattle.hcl_scan.specs.declared.expression.Lead.TheVariants.{LineEnd, Space, Letter, Digit, HashOrSlashes, SlashStar, OneSlash, LessLess, Closer, Sign}
+
+-- an identifier may begin with the byte; beyond ASCII its character decides
+abbrev pub may_begin_ident : ℕ → Bool
+may_begin_ident b = is_ascii_alphabetic b || (b == 95) || nat_le 128 b
+
+abbrev pub slash_lead : ℕ → Lead
+slash_lead second = if second == 47 then HashOrSlashes else (if second == 42 then SlashStar else OneSlash)
+
+abbrev pub lead_bytes : ℕ → ℕ → Lead
+lead_bytes first second =
+    if may_begin_ident first then Letter
+    else (if is_ascii_digit first then Digit
+    else (if (first == 10) || (first == 13) then LineEnd
+    else (if is_blank first then Space
+    else (if first == 35 then HashOrSlashes
+    else (if first == 47 then slash_lead second
+    else (if (first == 60) && (second == 60) then LessLess
+    else (if (first == 125) || (first == 126) then Closer
+    else Sign)))))))
+
+abbrev pub lead_of : List ℕ → Lead
+lead_of text = lead_bytes (get_or text 0 0) (get_or text 1 0)

@@ -1,0 +1,116 @@
+-- What the scanner keeps of what is open, and what this stands for: the openers, their offsets, what heredocs hide.
+-- Our own choice of representation: a heredoc is kept by where its closing marker ends and where what was seen around it ends.
+use Rattle.std.specs.Prelude.{◌≡◌, ℕ, ◌<◌, ◌≤◌, Bool, true, false, List, [], ◌∷◌, map, drop, if◌then◌else◌, slice_range, Option, Some, None}
+use Rattle.hcl_scan.specs.Lexemes as lexemes
+use Rattle.hcl_scan.specs.Lexemes.{is_group}
+use Rattle.hcl_scan.specs.Spelling.{Context, Template, Expression, context_in}
+use Rattle.hcl_scan.specs.Scans.{Hidden, owes}
+use Rattle.hcl_scan.specs.declared.opened.By.{By}
+use Rattle.hcl_scan.specs.declared.opened.By.TheVariants.{Quote, Heredoc, Sequence, Brace, Bracket, Paren}
+use Rattle.hcl_scan.specs.declared.opened.Opened.{Opened}
+use Rattle.hcl_scan.specs.declared.token.Kind.{Kind}
+use Rattle.hcl_scan.specs.declared.token.Kind.TheVariants.{QuoteOpen, HeredocOpen, InterpOpen, ControlOpen, ParenOpen, BracketOpen, BraceOpen, ParenClose, BracketClose, BraceClose, SeqClose, QuoteClose}
+
+abbrev pub opener_of : By → lexemes.Opener
+opener_of Quote = lexemes.Quote
+opener_of (Heredoc closer_end outer_end) = lexemes.Heredoc
+opener_of Sequence = lexemes.Sequence
+opener_of Brace = lexemes.Brace
+opener_of Bracket = lexemes.Bracket
+opener_of Paren = lexemes.Paren
+
+-- what is open
+abbrev pub openers_of : List Opened → List lexemes.Opener
+openers_of stack = map (λ o. opener_of o.by) stack
+
+-- where each of these was opened
+abbrev pub offsets_in : List Opened → List ℕ
+offsets_in stack = map (λ o. o.at) stack
+
+-- what is hidden where what is seen ends at `end`
+abbrev pub hidden_under : List ℕ → ℕ → By → (ℕ → List Hidden) → List Hidden
+hidden_under text end (Heredoc closer_end outer_end) above = record { closer = slice_range text end closer_end; after = slice_range text closer_end outer_end } ∷ above outer_end
+hidden_under text end _ above = above end
+
+abbrev pub hidden_of : List ℕ → List Opened → ℕ → List Hidden
+hidden_of text [] end = []
+hidden_of text (o ∷ stack) end = hidden_under text end o.by (hidden_of text stack)
+
+abbrev pub is_group_by : By → Bool
+is_group_by by = is_group (opener_of by)
+
+-- without the parens and brackets on top
+abbrev pub popped_groups : List Opened → List Opened
+popped_groups [] = []
+popped_groups (o ∷ stack) = if is_group_by o.by then popped_groups stack else o ∷ stack
+
+abbrev pub same_opener : lexemes.Opener → lexemes.Opener → Bool
+same_opener lexemes.Quote lexemes.Quote = true
+same_opener lexemes.Heredoc lexemes.Heredoc = true
+same_opener lexemes.Sequence lexemes.Sequence = true
+same_opener lexemes.Brace lexemes.Brace = true
+same_opener lexemes.Bracket lexemes.Bracket = true
+same_opener lexemes.Paren lexemes.Paren = true
+same_opener _ _ = false
+
+-- without the top, if it is this opener
+abbrev pub popped_if : lexemes.Opener → List Opened → List Opened
+popped_if opener [] = []
+popped_if opener (o ∷ stack) = if same_opener (opener_of o.by) opener then stack else o ∷ stack
+
+-- without what a token of this kind closes
+abbrev pub closed : Kind → List Opened → List Opened
+closed ParenClose stack = popped_if lexemes.Paren stack
+closed BracketClose stack = popped_if lexemes.Bracket stack
+closed BraceClose stack = popped_if lexemes.Brace (popped_groups stack)
+closed SeqClose stack = drop 1 (popped_groups stack)
+closed QuoteClose stack = drop 1 stack
+closed _ stack = stack
+
+-- a `}` closes a sequence in what this opens, where it does so around it or not
+abbrev pub closes_on : By → Bool → Bool
+closes_on Sequence around = true
+closes_on Paren around = around
+closes_on Bracket around = around
+closes_on _ around = false
+
+abbrev pub top_closes : List Opened → Bool
+top_closes [] = false
+top_closes (o ∷ stack) = o.closes_sequence
+
+-- with what opens at this offset on top
+abbrev pub opened_on : By → ℕ → List Opened → List Opened
+opened_on by at stack = record { by = by; at = at; closes_sequence = closes_on by (top_closes stack) } ∷ stack
+
+-- the innermost quote, heredoc or sequence
+abbrev pub innermost_owed : List Opened → Option Opened
+innermost_owed [] = None
+innermost_owed (o ∷ stack) = if owes (opener_of o.by) then Some o else innermost_owed stack
+
+-- in a template, whether it is in quotes
+abbrev pub quoted_in : Context → Option Bool
+quoted_in (Template quoted) = Some quoted
+quoted_in Expression = None
+
+-- what a token of this kind opens, heredocs aside
+abbrev pub opened_by : Kind → Option By
+opened_by QuoteOpen = Some Quote
+opened_by InterpOpen = Some Sequence
+opened_by ControlOpen = Some Sequence
+opened_by ParenOpen = Some Paren
+opened_by BracketOpen = Some Bracket
+opened_by BraceOpen = Some Brace
+opened_by _ = None
+
+abbrev pub option_and : Option Bool → Opened → Option Opened
+option_and None o = None
+option_and (Some quoted) o = Some o
+
+-- the innermost, if it is a template
+abbrev pub template_top : List Opened → Option Opened
+template_top [] = None
+template_top (o ∷ stack) = option_and (quoted_in (context_in (opener_of o.by))) o
+
+abbrev pub is_heredoc_open : Kind → Bool
+is_heredoc_open HeredocOpen = true
+is_heredoc_open _ = false

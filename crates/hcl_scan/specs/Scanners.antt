@@ -1,0 +1,95 @@
+-- Where the scanner stands, as a state of the reading, and what a turn of it comes to: a token read, all read, or the fault.
+-- Our own choice of representation: offsets into one text in place of its parts.
+use Rattle.std.specs.Prelude.{◌≡◌, ℕ, ◌+◌, ◌<◌, ◌≤◌, Bool, true, false, IsTrue, List, [], ◌∷◌, length, slice_range, map}
+use Rattle.std.specs.Str.{IsCharBoundary}
+use Rattle.hcl_scan.specs.Lexemes.{Lexeme, Opener, Sequence, in_heredoc, closes_sequence}
+use Rattle.hcl_scan.specs.Spelling.{Context, Template, Expression, context}
+use Rattle.hcl_scan.specs.Scans.{State, Next, IsLongest, IsComplete, gap_len}
+use Rattle.hcl_scan.specs.Faults.{Lacks, fault_offset}
+use Rattle.hcl_scan.specs.Openings.{opener_of, openers_of, offsets_in, hidden_of}
+use Rattle.hcl_scan.specs.declared.entry.Entry.{Entry}
+use Rattle.hcl_scan.specs.declared.opened.By.{By}
+use Rattle.hcl_scan.specs.declared.opened.By.TheVariants.{Heredoc}
+use Rattle.hcl_scan.specs.declared.opened.Opened.{Opened}
+use Rattle.hcl_scan.specs.declared.scanner.Scanner.{Scanner}
+use Rattle.hcl_scan.specs.declared.stopped.Stopped.{Stopped}
+use Rattle.hcl_scan.specs.declared.turn.Turn.{Turn}
+use Rattle.hcl_scan.specs.declared.turn.Turn.TheVariants as turn
+
+-- the state of the reading
+abbrev pub state_of : Scanner → State
+state_of s = record { at = s.at; opens = openers_of s.stack; offsets = offsets_in s.stack; after_dot = s.after_dot; seen = slice_range s.text.now s.at s.end; hidden = hidden_of s.text.now s.stack s.end }
+
+-- a sequence opens in a template, all else in an expression
+abbrev pub fits_in : Opener → Context → Bool
+fits_in Sequence (Template quoted) = true
+fits_in Sequence Expression = false
+fits_in _ (Template quoted) = false
+fits_in _ Expression = true
+
+-- what is seen inside a heredoc ends before its closing marker, and what is seen around it behind
+abbrev pub AreEndsBy : List ℕ → ℕ → By → (ℕ → Type 0) → Type 0
+AreEndsBy text end (Heredoc closer_end outer_end) around = (end < closer_end) × (closer_end ≤ outer_end) × IsCharBoundary text closer_end × IsCharBoundary text outer_end × around outer_end
+AreEndsBy text end _ around = around end
+
+-- the stack is one of this text, where what is seen ends at `end`
+abbrev pub IsStack : List ℕ → List Opened → ℕ → Type 0
+IsStack text [] end = end ≡ length text
+IsStack text (o ∷ stack) end = (o.closes_sequence ≡ closes_sequence (openers_of (o ∷ stack))) × IsTrue (fits_in (opener_of o.by) (context (openers_of stack))) × IsCharBoundary text o.at × AreEndsBy text end o.by (IsStack text stack)
+
+pub record IsSound (s : Scanner) : Type 0 where
+  pub small : length s.text.now ≤ 1048576
+  pub order : s.at ≤ s.end
+  pub within : s.end ≤ length s.text.now
+  pub start : IsCharBoundary s.text.now s.at
+  pub end : IsCharBoundary s.text.now s.end
+  pub stack : IsStack s.text.now s.stack s.end
+  pub depth : length s.stack ≤ 256
+
+-- the token of an entry
+abbrev pub lexeme_of : List ℕ → Entry → Lexeme
+lexeme_of text e = record { kind = e.kind; text = slice_range text e.start e.end; start = e.start; inside_heredoc = e.inside_heredoc }
+
+abbrev pub lexemes_of : List ℕ → List Entry → List Lexeme
+lexemes_of text es = map (lexeme_of text) es
+
+-- the entry's text is a part of the text, between characters
+pub record IsEntry (text : List ℕ) (e : Entry) : Type 0 where
+  pub order : e.start ≤ e.end
+  pub start : IsCharBoundary text e.start
+  pub end : IsCharBoundary text e.end
+
+-- a token begins here
+pub record IsStart (s : Scanner) (start : ℕ) : Type 0 where
+  pub gap : start ≡ s.at + gap_len (state_of s)
+  pub within : start ≤ s.end
+  pub boundary : IsCharBoundary s.text.now start
+
+-- the entry is the longest token that comes next
+pub record IsNext (s : Scanner) (e : Entry) : Type 0 where
+  pub start : IsStart s e.start
+  pub order : e.start < e.end
+  pub within : e.end ≤ s.end
+  pub boundary : IsCharBoundary s.text.now e.end
+  pub inside : e.inside_heredoc ≡ in_heredoc (openers_of s.stack)
+  pub longest : IsLongest (openers_of s.stack) s.after_dot (slice_range s.text.now e.start s.end) e.kind (slice_range s.text.now e.start e.end) (slice_range s.text.now e.end s.end)
+
+-- a token was read
+pub record Moves (s : Scanner) (e : Entry) (next : Scanner) : Type 0 where
+  pub same_text : next.text ≡ s.text
+  pub entry : IsEntry s.text.now e
+  pub read : Next (state_of s) (lexeme_of s.text.now e) (state_of next)
+  pub sound : IsSound next
+  pub further : s.at < next.at
+
+-- the reading ends here, with this fault
+pub record IsStopped (s : Scanner) (fault : Stopped) : Type 0 where
+  pub lacks : Lacks (state_of s) fault.kind
+  pub at : fault.at ≡ fault_offset (state_of s) fault.kind
+  pub boundary : IsCharBoundary s.text.now fault.at
+
+-- what a turn comes to
+abbrev pub IsTurn : Scanner → Turn → Scanner → Type 0
+IsTurn s (turn.Token e) next = Moves s e next
+IsTurn s turn.Complete next = IsComplete (state_of s)
+IsTurn s (turn.Fault fault) next = IsStopped s fault

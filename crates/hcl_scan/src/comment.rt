@@ -1,0 +1,43 @@
+// Comments.
+
+ghost use Rattle.std.specs.Prelude.{◌≡◌, ◌==◌, ◌≤◌, ◌<◌, not, ℕ, length, IfSome, IfNone};
+ghost use Rattle.std.specs.List.{prefix_len};
+ghost use Rattle.hcl_scan.specs.Spelling.{IsInlineComment};
+ghost use Rattle.hcl_scan.specs.Found.{IsLongestFront, HasNoFront, EndsComment};
+
+/// How many bytes stand before the first LF, or before the end: a comment at the front goes so far.
+pub(crate) fn line_len(seen: &[u8]) -> usize
+    ensures count { result ≡ prefix_len (λ b. not (b == 10)) seen.now }
+    ensures within { result ≤ length seen.now }
+{
+    seen.iter().take_while(|b| **b != b'\n').count()
+}
+
+/// Where the first `*/` begins.
+fn comment_end(seen: &[u8]) -> Option<usize>
+    ensures found { IfSome result (EndsComment seen.now) }
+    ensures first { IfSome result (λ n. (m : ℕ) → m < n → ¬ EndsComment seen.now m) }
+    ensures none { IfNone result ((m : ℕ) → ¬ EndsComment seen.now m) }
+{
+    for i in 1..seen.len() {
+        if seen[i - 1] == b'*' && seen[i] == b'/' {
+            return Some(i - 1);
+        }
+    }
+    None
+}
+
+/// How many bytes the comment at the front has, from `/*` through the first `*/` behind it.
+pub(crate) fn inline_comment_len(seen: &[u8]) -> Option<usize>
+    ensures found { IfSome result (IsLongestFront IsInlineComment seen.now) }
+    ensures none { IfNone result (HasNoFront IsInlineComment seen.now) }
+{
+    if !seen.starts_with(b"/*") {
+        return None;
+    }
+    let (_, inner) = seen.split_at(2);
+    match comment_end(inner) {
+        Some(end) => Some(end + 4),
+        None => None,
+    }
+}

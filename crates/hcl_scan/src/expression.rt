@@ -1,0 +1,197 @@
+// The longest token at the front of what is seen in an expression.
+
+ghost use Rattle.std.specs.Prelude.{◌≡◌, ℕ, Bool, Some, None, IfSome, IfNone};
+ghost use Rattle.std.specs.Str.{IsCharBoundary};
+ghost use Rattle.hcl_scan.specs.Spelling.{marks};
+ghost use Rattle.hcl_scan.specs.Found.{FindsAt, HasNoneAt, IsLongestFront, HasNoFront, IsLongestMark, HasNoMark, BlankText, NumberText, CloserText, closer_kind};
+ghost use Rattle.hcl_scan.specs.Leads.{lead_of, lead_bytes, slash_lead, may_begin_ident};
+ghost use Rattle.hcl_scan.specs.declared.expression.Lead.TheVariants.{LessLess};
+
+use crate::bytes::byte_at;
+use crate::comment::{inline_comment_len, line_len};
+use crate::found::{Found, Place};
+use crate::ident::{heredoc_open_len, ident_len};
+use crate::mark::longest_mark;
+use crate::number::{digits_len, number_len};
+use crate::space::{blanks_len, newline_len};
+use crate::token::Kind;
+
+/// What tokens the first two bytes may begin.
+#[derive(Clone, Copy)]
+enum Lead {
+    LineEnd,
+    Space,
+    Letter,
+    Digit,
+    HashOrSlashes,
+    SlashStar,
+    OneSlash,
+    LessLess,
+    Closer,
+    Sign,
+}
+
+fn may_begin_ident(b: u8) -> bool
+    ensures { result ≡ may_begin_ident b }
+{
+    b.is_ascii_alphabetic() || b == b'_' || b >= 128
+}
+
+fn slash_lead(second: u8) -> Lead
+    ensures { result ≡ slash_lead second }
+{
+    if second == b'/' {
+        Lead::HashOrSlashes
+    } else if second == b'*' {
+        Lead::SlashStar
+    } else {
+        Lead::OneSlash
+    }
+}
+
+fn lead_bytes(first: u8, second: u8) -> Lead
+    ensures { result ≡ lead_bytes first second }
+{
+    if may_begin_ident(first) {
+        Lead::Letter
+    } else if first.is_ascii_digit() {
+        Lead::Digit
+    } else if first == b'\n' || first == b'\r' {
+        Lead::LineEnd
+    } else if first == b' ' || first == b'\t' {
+        Lead::Space
+    } else if first == b'#' {
+        Lead::HashOrSlashes
+    } else if first == b'/' {
+        slash_lead(second)
+    } else if first == b'<' && second == b'<' {
+        Lead::LessLess
+    } else if first == b'}' || first == b'~' {
+        Lead::Closer
+    } else {
+        Lead::Sign
+    }
+}
+
+fn lead_of(seen: &[u8]) -> Lead
+    ensures { result ≡ lead_of seen.now }
+{
+    lead_bytes(byte_at(seen, 0), byte_at(seen, 1))
+}
+
+fn found_as(kind: Kind, len: Option<usize>) -> Option<Found>
+    ensures some { IfSome result (λ f. (f.kind ≡ kind) × (len ≡ Some f.len)) }
+    ensures none { IfNone result (len ≡ None) }
+{
+    match len {
+        Some(len) => Some(Found { kind, len }),
+        None => None,
+    }
+}
+
+/// Blanks, which are a token inside a heredoc.
+fn blank_len(seen: &[u8], inside_heredoc: bool) -> Option<usize>
+    ensures found { IfSome result (IsLongestFront (BlankText inside_heredoc) seen.now) }
+    ensures none { IfNone result (HasNoFront (BlankText inside_heredoc) seen.now) }
+{
+    if inside_heredoc {
+        blanks_len(seen)
+    } else {
+        None
+    }
+}
+
+/// A number, of which behind a Dot only the digits belong to the token.
+fn numeral_len(seen: &[u8], after_dot: bool) -> Option<usize>
+    ensures found { IfSome result (IsLongestFront (NumberText after_dot) seen.now) }
+    ensures none { IfNone result (HasNoFront (NumberText after_dot) seen.now) }
+{
+    if after_dot {
+        digits_len(seen)
+    } else {
+        number_len(seen)
+    }
+}
+
+fn closer_kind(closes_sequence: bool) -> Kind
+    ensures { result ≡ closer_kind closes_sequence }
+{
+    if closes_sequence {
+        Kind::SeqClose
+    } else {
+        Kind::BraceClose
+    }
+}
+
+/// What closes a sequence or a brace.
+fn closer_len(seen: &[u8], closes_sequence: bool) -> Option<usize>
+    ensures found { IfSome result (IsLongestFront (CloserText closes_sequence) seen.now) }
+    ensures none { IfNone result (HasNoFront (CloserText closes_sequence) seen.now) }
+{
+    if seen.starts_with(b"}") {
+        return Some(1);
+    }
+    if closes_sequence && seen.starts_with(b"~}") {
+        Some(2)
+    } else {
+        None
+    }
+}
+
+/// A heredoc's opener, or the first `<` of two.
+fn opener_or_less(seen: &str) -> Found
+    requires { lead_of seen.now ≡ LessLess }
+    ensures found { (after_dot inside closes : Bool) → FindsAt after_dot inside closes seen.now result.kind result.len }
+    ensures boundary { IsCharBoundary seen.now result.len }
+{
+    match heredoc_open_len(seen) {
+        Some(len) => Found {
+            kind: Kind::HeredocOpen,
+            len,
+        },
+        None => Found {
+            kind: Kind::Less,
+            len: 1,
+        },
+    }
+}
+
+fn mark(seen: &[u8]) -> Option<Found>
+    ensures found { IfSome result (λ f. IsLongestMark marks seen.now f.kind f.len) }
+    ensures none { IfNone result (HasNoMark marks seen.now) }
+{
+    match longest_mark(seen) {
+        Some((kind, len)) => Some(Found { kind, len }),
+        None => None,
+    }
+}
+
+/// The longest token at the front of what is seen, where an expression is read. `seen` is what stands behind the gap.
+pub(crate) fn next_in_expression(seen: &str, place: Place) -> Option<Found>
+    ensures found { IfSome result (λ f. FindsAt place.after_dot place.inside_heredoc place.closes_sequence seen.now f.kind f.len) }
+    ensures boundary { IfSome result (λ f. IsCharBoundary seen.now f.len) }
+    ensures none { IfNone result (HasNoneAt place.after_dot place.inside_heredoc place.closes_sequence seen.now) }
+{
+    let bytes = seen.as_bytes();
+    match lead_of(bytes) {
+        Lead::LineEnd => found_as(Kind::Newline, newline_len(bytes)),
+        Lead::Space => found_as(Kind::Blank, blank_len(bytes, place.inside_heredoc)),
+        Lead::Letter => found_as(Kind::Ident, ident_len(seen)),
+        Lead::Digit => found_as(Kind::Number, numeral_len(bytes, place.after_dot)),
+        Lead::HashOrSlashes => Some(Found {
+            kind: Kind::LineComment,
+            len: line_len(bytes),
+        }),
+        Lead::SlashStar => found_as(Kind::InlineComment, inline_comment_len(bytes)),
+        Lead::OneSlash => Some(Found {
+            kind: Kind::Slash,
+            len: 1,
+        }),
+        Lead::LessLess => Some(opener_or_less(seen)),
+        Lead::Closer => found_as(
+            closer_kind(place.closes_sequence),
+            closer_len(bytes, place.closes_sequence),
+        ),
+        Lead::Sign => mark(bytes),
+    }
+}

@@ -1,0 +1,148 @@
+// Identifiers, and the openers of heredocs, whose marker is one.
+
+ghost use Rattle.std.specs.Prelude.{◌≡◌, ◌==◌, ◌||◌, true, false, take, drop, IfSome, IfNone};
+ghost use Rattle.std.specs.Char.{is_ascii_alphabetic, is_ascii_alphanumeric};
+ghost use Rattle.std.specs.Str.{IsCharBoundary};
+ghost use Rattle.hcl_scan.specs.Spelling.{continues_ident, starts_ident, IsIdent, IsHeredocOpen};
+ghost use Rattle.hcl_scan.specs.Found.{IsLongestFront, HasNoFront, AreContinuing, BeginsWith, BeginsWithout, FirstChar, IsMarker, heredoc_mark_len};
+
+use crate::space::newline_len;
+
+fn continues_ident(c: char) -> bool
+    ensures { result ≡ continues_ident c }
+{
+    unicode_ident::is_xid_continue(c) || c == '-'
+}
+
+fn starts_ident(c: char) -> bool
+    ensures { result ≡ starts_ident c }
+{
+    unicode_ident::is_xid_start(c) || c == '_'
+}
+
+/// Whether the ASCII byte may continue an identifier.
+fn continues_ascii(b: u8) -> bool
+    ensures { result ≡ (is_ascii_alphanumeric b || (b == 95) || (b == 45)) }
+{
+    b.is_ascii_alphanumeric() || b == b'_' || b == b'-'
+}
+
+/// Whether the ASCII byte may start an identifier.
+fn starts_ascii(b: u8) -> bool
+    ensures { result ≡ (is_ascii_alphabetic b || (b == 95)) }
+{
+    b.is_ascii_alphabetic() || b == b'_'
+}
+
+/// How many bytes the first character has, if it may continue an identifier.
+fn continuing_char(text: &str) -> Option<usize>
+    ensures found { IfSome result (FirstChar continues_ident text.now) }
+    ensures none { IfNone result (BeginsWithout continues_ident text.now) }
+{
+    let bytes = text.as_bytes();
+    if bytes.is_empty() {
+        return None;
+    }
+    if bytes[0] < 128 {
+        return if continues_ascii(bytes[0]) {
+            Some(1)
+        } else {
+            None
+        };
+    }
+    match text.chars().next() {
+        Some(c) => if continues_ident(c) {
+            Some(c.len_utf8())
+        } else {
+            None
+        },
+        None => None,
+    }
+}
+
+/// Whether the first character may start an identifier.
+fn begins_ident(text: &str) -> bool
+    ensures yes { result ≡ true → BeginsWith starts_ident text.now }
+    ensures no { result ≡ false → BeginsWithout starts_ident text.now }
+{
+    let bytes = text.as_bytes();
+    if bytes.is_empty() {
+        return false;
+    }
+    if bytes[0] < 128 {
+        return starts_ascii(bytes[0]);
+    }
+    match text.chars().next() {
+        Some(c) => starts_ident(c),
+        None => false,
+    }
+}
+
+/// How many bytes the characters at the front have that may continue an identifier.
+fn continuing_len(text: &str) -> usize
+    ensures boundary { IsCharBoundary text.now result }
+    ensures continuing { AreContinuing (take result text.now) }
+    ensures stops { BeginsWithout continues_ident (drop result text.now) }
+{
+    let mut len = 0;
+    while let Some(n) = continuing_char(&text[len..]) {
+        len += n;
+    }
+    len
+}
+
+/// How many bytes the longest identifier at the front has.
+pub(crate) fn ident_len(text: &str) -> Option<usize>
+    ensures found { IfSome result (IsLongestFront IsIdent text.now) }
+    ensures boundary { IfSome result (IsCharBoundary text.now) }
+    ensures none { IfNone result (HasNoFront IsIdent text.now) }
+{
+    if begins_ident(text) {
+        Some(continuing_len(text))
+    } else {
+        None
+    }
+}
+
+/// How many bytes of the opener of a heredoc stand before its marker, 0 where there is none.
+fn heredoc_mark_len(seen: &[u8]) -> usize
+    ensures { result ≡ heredoc_mark_len seen.now }
+{
+    if seen.starts_with(b"<<-") {
+        3
+    } else if seen.starts_with(b"<<") {
+        2
+    } else {
+        0
+    }
+}
+
+/// How many bytes the marker and the newline behind it have.
+fn marker_len(seen: &str) -> Option<usize>
+    ensures found { IfSome result (IsLongestFront IsMarker seen.now) }
+    ensures none { IfNone result (HasNoFront IsMarker seen.now) }
+{
+    let Some(name) = ident_len(seen) else {
+        return None;
+    };
+    let (_, behind) = seen.as_bytes().split_at(name);
+    match newline_len(behind) {
+        Some(end) => Some(name + end),
+        None => None,
+    }
+}
+
+/// How many bytes the opener of a heredoc at the front has.
+pub(crate) fn heredoc_open_len(seen: &str) -> Option<usize>
+    ensures found { IfSome result (IsLongestFront IsHeredocOpen seen.now) }
+    ensures none { IfNone result (HasNoFront IsHeredocOpen seen.now) }
+{
+    let mark = heredoc_mark_len(seen.as_bytes());
+    if mark == 0 {
+        return None;
+    }
+    match marker_len(&seen[mark..]) {
+        Some(len) => Some(mark + len),
+        None => None,
+    }
+}

@@ -1,0 +1,39 @@
+// Newlines and blanks.
+
+ghost use Rattle.std.specs.Prelude.{◌≡◌, ◌≤◌, length, IfSome, IfNone};
+ghost use Rattle.std.specs.List.{prefix_len};
+ghost use Rattle.hcl_scan.specs.Spelling.{is_blank, IsNewline, IsBlanks};
+ghost use Rattle.hcl_scan.specs.Found.{IsLongestFront, HasNoFront};
+
+/// How many bytes the newline at the front has.
+pub(crate) fn newline_len(seen: &[u8]) -> Option<usize>
+    ensures found { IfSome result (IsLongestFront IsNewline seen.now) }
+    ensures none { IfNone result (HasNoFront IsNewline seen.now) }
+{
+    if seen.starts_with(b"\n") {
+        return Some(1);
+    }
+    if seen.starts_with(b"\r\n") {
+        Some(2)
+    } else {
+        None
+    }
+}
+
+fn count_blanks(seen: &[u8]) -> usize
+    ensures count { result ≡ prefix_len is_blank seen.now }
+    ensures within { result ≤ length seen.now }
+{
+    seen.iter()
+        .take_while(|b| **b == b' ' || **b == b'\t')
+        .count()
+}
+
+/// How many blanks stand at the front.
+pub(crate) fn blanks_len(seen: &[u8]) -> Option<usize>
+    ensures found { IfSome result (IsLongestFront IsBlanks seen.now) }
+    ensures none { IfNone result (HasNoFront IsBlanks seen.now) }
+{
+    let count = count_blanks(seen);
+    if count == 0 { None } else { Some(count) }
+}

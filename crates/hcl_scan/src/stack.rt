@@ -1,0 +1,230 @@
+// The stack of what is open.
+
+ghost use Rattle.std.specs.Prelude.{◌≡◌, ◌==◌, ◌<◌, ◌≤◌, ◌∷◌, [], length, drop, MatchOption};
+ghost use Rattle.hcl_scan.specs.Spelling.{context, context_in};
+ghost use Rattle.hcl_scan.specs.Scans.{owes};
+ghost use Rattle.hcl_scan.specs.Openings.{opener_of, openers_of, is_group_by, popped_groups, same_opener, popped_if, closes_on, top_closes, opened_on, closed, quoted_in, template_top, innermost_owed};
+
+use crate::opened::{By, Opened};
+use crate::token::Kind;
+use arrayvec::ArrayVec;
+use std::marker::Model;
+
+impl Default for Opened {
+    fn default() -> Self {
+        Opened {
+            by: By::Quote,
+            at: 0,
+            closes_sequence: false,
+        }
+    }
+}
+
+/// At most 256 openers, the innermost on top.
+#[derive(Drop)]
+pub struct Stack {
+    entries: ArrayVec<Opened, 256>,
+}
+
+impl Model for Stack {
+    ghost use Rattle.std.specs.Prelude.{List, reverse};
+    ghost use Rattle.hcl_scan.specs.declared.opened.Opened.{Opened};
+
+    ghost Value = { List Opened };
+
+    ghost view = { λ s. reverse s.entries.items };
+}
+
+/// Whether these are the same opener.
+fn is_same(by: By, other: By) -> bool
+    ensures { result ≡ same_opener (opener_of by) (opener_of other) }
+{
+    match by {
+        By::Quote => matches!(other, By::Quote),
+        By::Heredoc { .. } => matches!(other, By::Heredoc { .. }),
+        By::Sequence => matches!(other, By::Sequence),
+        By::Brace => matches!(other, By::Brace),
+        By::Bracket => matches!(other, By::Bracket),
+        By::Paren => matches!(other, By::Paren),
+    }
+}
+
+/// Where this opens a template, whether it is in quotes.
+fn template_by(by: By) -> Option<bool>
+    ensures { result ≡ quoted_in (context_in (opener_of by)) }
+{
+    match by {
+        By::Quote => Some(true),
+        By::Heredoc { .. } => Some(false),
+        _ => None,
+    }
+}
+
+/// Whether a `}` closes a sequence in what this opens, where it does so around it.
+fn closes_on(by: By, around: bool) -> bool
+    ensures { result ≡ closes_on by around }
+{
+    match by {
+        By::Sequence => true,
+        By::Paren | By::Bracket => around,
+        _ => false,
+    }
+}
+
+fn is_group(by: By) -> bool
+    ensures { result ≡ is_group_by by }
+{
+    matches!(by, By::Paren | By::Bracket)
+}
+
+/// What only expressions need isn't owed at the end.
+fn owes(by: By) -> bool
+    ensures { result ≡ owes (opener_of by) }
+{
+    !matches!(by, By::Brace | By::Bracket | By::Paren)
+}
+
+impl Stack {
+    /// Nothing is open.
+    pub fn new() -> Stack
+        ensures { result ≡ [] }
+    {
+        Stack {
+            entries: ArrayVec::new(),
+        }
+    }
+
+    pub fn is_full(&self) -> bool
+        ensures full { result ≡ (length self.now == 256) }
+        ensures small { length self.now ≤ 256 }
+    {
+        self.entries.is_full()
+    }
+
+    pub fn push(&mut self, opened: Opened)
+        requires { length self.old < 256 }
+        ensures { self.new ≡ opened ∷ self.old }
+    {
+        self.entries.push(opened);
+    }
+
+    /// The innermost.
+    pub fn top(&self) -> Option<Opened>
+        ensures { MatchOption result (self.now ≡ []) (λ o. self.now ≡ o ∷ drop 1 self.now) }
+    {
+        self.entries.last().copied()
+    }
+
+    pub fn pop(&mut self) -> Option<Opened>
+        ensures popped { MatchOption result ((self.old ≡ []) × (self.new ≡ [])) (λ o. self.old ≡ o ∷ self.new) }
+        ensures rest { self.new ≡ drop 1 self.old }
+    {
+        self.entries.pop()
+    }
+}
+
+impl Stack {
+    /// Whether a `}` closes a sequence.
+    pub fn closes_sequence(&self) -> bool
+        ensures { result ≡ top_closes self.now }
+    {
+        match self.top() {
+            Some(top) => top.closes_sequence,
+            None => false,
+        }
+    }
+
+    /// Where the innermost is a template, whether it is in quotes.
+    pub fn template(&self) -> Option<bool>
+        ensures { result ≡ quoted_in (context (openers_of self.now)) }
+    {
+        match self.top() {
+            Some(top) => template_by(top.by),
+            None => None,
+        }
+    }
+
+    /// The innermost, if it is a template.
+    pub fn template_top(&self) -> Option<Opened>
+        ensures { result ≡ template_top self.now }
+    {
+        let Some(top) = self.top() else {
+            return None;
+        };
+        match template_by(top.by) {
+            Some(_) => Some(top),
+            None => None,
+        }
+    }
+
+    /// Puts what opens here on top.
+    pub fn open(&mut self, by: By, at: u32)
+        requires { length self.old < 256 }
+        ensures { self.new ≡ opened_on by at self.old }
+    {
+        let closes_sequence = closes_on(by, self.closes_sequence());
+        self.push(Opened {
+            by,
+            at,
+            closes_sequence,
+        });
+    }
+
+    /// Drops what a token of this kind closes.
+    pub fn close(&mut self, kind: Kind)
+        ensures { self.new ≡ closed kind self.old }
+    {
+        match kind {
+            Kind::ParenClose => self.pop_if(By::Paren),
+            Kind::BracketClose => self.pop_if(By::Bracket),
+            Kind::BraceClose => {
+                self.pop_groups();
+                self.pop_if(By::Brace);
+            }
+            Kind::SeqClose => {
+                self.pop_groups();
+                let _ = self.pop();
+            }
+            Kind::QuoteClose => {
+                let _ = self.pop();
+            }
+            _ => {}
+        }
+    }
+
+    /// Drops the parens and brackets on top.
+    fn pop_groups(&mut self)
+        ensures { self.new ≡ popped_groups self.old }
+    {
+        while let Some(top) = self.top() {
+            if !is_group(top.by) {
+                return;
+            }
+            let _ = self.pop();
+        }
+    }
+
+    /// Drops the top if it was opened so.
+    fn pop_if(&mut self, by: By)
+        ensures { self.new ≡ popped_if (opener_of by) self.old }
+    {
+        let Some(top) = self.top() else {
+            return;
+        };
+        if is_same(top.by, by) {
+            let _ = self.pop();
+        }
+    }
+
+    /// The innermost quote, heredoc or sequence; the stack is used up on the way to it.
+    pub fn pop_owed(&mut self) -> Option<Opened>
+        ensures { result ≡ innermost_owed self.old }
+    {
+        while let Some(top) = self.pop() {
+            if owes(top.by) {
+                return Some(top);
+            }
+        }
+        None
+    }
+}

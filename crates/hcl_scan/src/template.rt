@@ -1,0 +1,55 @@
+// The tokens of templates.
+
+ghost use Rattle.std.specs.Prelude.{◌≡◌, ◌≤◌, Bool, List, length, drop, codes, if◌then◌else◌, IfSome, IfNone, IsUtf8};
+ghost use Rattle.std.specs.Str.{IsCharBoundary};
+ghost use Rattle.hcl_scan.specs.Lexemes.{Opener};
+ghost use Rattle.hcl_scan.specs.Spelling.{Template, context, starts};
+ghost use Rattle.hcl_scan.specs.Found.{Finds};
+ghost use Rattle.hcl_scan.specs.Scans.{HasNone};
+
+use crate::found::Found;
+use crate::lit::lit_len;
+use crate::token::Kind;
+
+/// How many bytes the opener of a sequence has, which is there: the longer one where it fits.
+fn sequence_open_len(seen: &[u8]) -> usize
+    requires { 2 ≤ length seen.now }
+    ensures { result ≡ (if starts (drop 2 seen.now) (codes "~") then 3 else 2) }
+{
+    let (_, after) = seen.split_at(2);
+    if after.starts_with(b"~") { 3 } else { 2 }
+}
+
+/// The longest token at the front of what is seen of a template.
+pub fn next_in_template(seen: &[u8], quoted: bool) -> Option<Found>
+    ensures found { IfSome result (λ f. (opens : List Opener) (after_dot : Bool) → context opens ≡ Template quoted → Finds opens after_dot seen.now f.kind f.len) }
+    ensures none { IfNone result ((opens : List Opener) (after_dot : Bool) → context opens ≡ Template quoted → HasNone opens after_dot seen.now) }
+    ensures boundary { IsUtf8 seen.now → IfSome result (λ f. IsCharBoundary seen.now f.len) }
+{
+    let len = lit_len(seen, quoted);
+    if len > 0 {
+        return Some(Found {
+            kind: Kind::Lit,
+            len,
+        });
+    }
+    if seen.starts_with(b"${") {
+        return Some(Found {
+            kind: Kind::InterpOpen,
+            len: sequence_open_len(seen),
+        });
+    }
+    if seen.starts_with(b"%{") {
+        return Some(Found {
+            kind: Kind::ControlOpen,
+            len: sequence_open_len(seen),
+        });
+    }
+    if quoted && seen.starts_with(b"\"") {
+        return Some(Found {
+            kind: Kind::QuoteClose,
+            len: 1,
+        });
+    }
+    None
+}

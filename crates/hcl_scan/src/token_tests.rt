@@ -1,0 +1,250 @@
+//! Texts, and their tokens or their fault. The expected values were worked out apart from this code.
+
+use crate::stop::Stop;
+use crate::tokens::entries;
+use std::alloc::{AllocError, Global};
+use std::test::Fail;
+
+/// The tokens of a text by kind and place, those inside heredocs with a `!`, or its fault.
+fn shown(alloc: Global, text: &str) -> Result<String, AllocError> {
+    let mut line = String::new(alloc);
+    if text.len() > 1_048_576 {
+        return Ok(line);
+    }
+    match entries(alloc, text) {
+        Ok(entries) => {
+            for entry in &entries {
+                if !line.is_empty() {
+                    line.push_str(" ")?;
+                }
+                if entry.inside_heredoc {
+                    line.push_str("!")?;
+                }
+                let token = format!(in alloc; "{:?} {}-{}", entry.kind, entry.start, entry.end)?;
+                line.push_str(token.as_str())?;
+            }
+        }
+        Err(Stop::Fault(fault)) => {
+            let stopped = format!(in alloc; "{:?} at {}", fault.kind, fault.at)?;
+            line.push_str(stopped.as_str())?;
+        }
+        Err(Stop::OutOfMemory) => line.push_str("out of memory")?,
+    }
+    Ok(line)
+}
+
+/// `count` openers in turn, and then a text.
+fn nested(alloc: Global, opener: &str, count: usize, rest: &str) -> Result<String, AllocError> {
+    let mut text = String::new(alloc);
+    for _ in 0..count {
+        text.push_str(opener)?;
+    }
+    text.push_str(rest)?;
+    Ok(text)
+}
+
+// Literal text, sequences and escapes.
+#[test]
+fn templates(rt: HostRuntime) -> Result<(), Fail> {
+    let rows = [
+        ("\"$$${a}\"", "QuoteOpen 0-1 Lit 1-7 QuoteClose 7-8"),
+        (
+            "\"${\"${x}\"}\"",
+            "QuoteOpen 0-1 InterpOpen 1-3 QuoteOpen 3-4 InterpOpen 4-6 Ident 6-7 SeqClose 7-8 QuoteClose 8-9 SeqClose 9-10 QuoteClose 10-11",
+        ),
+        (
+            "\"${~x~}\"",
+            "QuoteOpen 0-1 InterpOpen 1-4 Ident 4-5 SeqClose 5-7 QuoteClose 7-8",
+        ),
+        ("\"$\"", "QuoteOpen 0-1 Lit 1-2 QuoteClose 2-3"),
+        ("\"%\"", "QuoteOpen 0-1 Lit 1-2 QuoteClose 2-3"),
+        ("\"$${\"", "QuoteOpen 0-1 Lit 1-4 QuoteClose 4-5"),
+        ("\"$$$$\"", "QuoteOpen 0-1 Lit 1-5 QuoteClose 5-6"),
+        ("\"%%%{a}%%{b\"", "QuoteOpen 0-1 Lit 1-11 QuoteClose 11-12"),
+        ("\"a\r\"", "QuoteOpen 0-1 Lit 1-3 QuoteClose 3-4"),
+        (
+            "\"\\u1234\\U0001F600\\n\"",
+            "QuoteOpen 0-1 Lit 1-19 QuoteClose 19-20",
+        ),
+        (
+            "\"é${é}é\"",
+            "QuoteOpen 0-1 Lit 1-3 InterpOpen 3-5 Ident 5-7 SeqClose 7-8 Lit 8-10 QuoteClose 10-11",
+        ),
+        (
+            "\"${{}}\"",
+            "QuoteOpen 0-1 InterpOpen 1-3 BraceOpen 3-4 BraceClose 4-5 SeqClose 5-6 QuoteClose 6-7",
+        ),
+        (
+            "\"${{}~}\"",
+            "QuoteOpen 0-1 InterpOpen 1-3 BraceOpen 3-4 BraceClose 4-5 SeqClose 5-7 QuoteClose 7-8",
+        ),
+        (
+            "\"${(}\"",
+            "QuoteOpen 0-1 InterpOpen 1-3 ParenOpen 3-4 SeqClose 4-5 QuoteClose 5-6",
+        ),
+    ];
+    for (text, tokens) in rows {
+        let line = shown(rt.alloc(), text)?;
+        assert_eq!(rt; line.as_str(), tokens);
+    }
+    Ok(())
+}
+
+// Heredocs: marker lines, blanks and nesting.
+#[test]
+fn heredocs(rt: HostRuntime) -> Result<(), Fail> {
+    let rows = [
+        (
+            "<<E\nx ${ a }\n E\t\n",
+            "HeredocOpen 0-4 !Lit 4-6 !InterpOpen 6-8 !Blank 8-9 !Ident 9-10 !Blank 10-11 !SeqClose 11-12 !Lit 12-13 !HeredocClose 13-15 Newline 16-17",
+        ),
+        ("<<E\nx\nE", "HeredocOpen 0-4 !Lit 4-6 !HeredocClose 6-7"),
+        (
+            "<<E\nE\r\nx",
+            "HeredocOpen 0-4 !HeredocClose 4-5 Newline 5-7 Ident 7-8",
+        ),
+        (
+            "a = <<-X\n  ${<<Y\n  z\n Y \t\n}\n\tX\t q\n  X \n b",
+            "Ident 0-1 Assign 2-3 HeredocOpen 4-9 !Lit 9-11 !InterpOpen 11-13 !HeredocOpen 13-17 !Lit 17-21 !HeredocClose 21-23 !Blank 23-25 !Newline 25-26 !SeqClose 26-27 !Lit 27-34 !HeredocClose 34-37 Newline 38-39 Ident 40-41",
+        ),
+        ("<<E\n${<<E\na\nE\n}\nE\n", "UnterminatedHeredoc at 6"),
+        (
+            "<<EE\nE\nEE \nEE",
+            "HeredocOpen 0-5 !Lit 5-7 !HeredocClose 7-9 Newline 10-11 Ident 11-13",
+        ),
+        (
+            "<<E\n$$\n\"\\\nE\n",
+            "HeredocOpen 0-4 !Lit 4-10 !HeredocClose 10-11 Newline 11-12",
+        ),
+        (
+            "<<E\n${a.1.5}${a. 1.5}\nE\n",
+            "HeredocOpen 0-4 !InterpOpen 4-6 !Ident 6-7 !Dot 7-8 !Number 8-9 !Dot 9-10 !Number 10-11 !SeqClose 11-12 !InterpOpen 12-14 !Ident 14-15 !Dot 15-16 !Blank 16-17 !Number 17-20 !SeqClose 20-21 !Lit 21-22 !HeredocClose 22-23 Newline 23-24",
+        ),
+        (
+            "<<E\n%{if x}a%{endif}$\nE\n",
+            "HeredocOpen 0-4 !ControlOpen 4-6 !Ident 6-8 !Blank 8-9 !Ident 9-10 !SeqClose 10-11 !Lit 11-12 !ControlOpen 12-14 !Ident 14-19 !SeqClose 19-20 !Lit 20-22 !HeredocClose 22-23 Newline 23-24",
+        ),
+        ("<<é\né\n", "HeredocOpen 0-5 !HeredocClose 5-7 Newline 7-8"),
+    ];
+    for (text, tokens) in rows {
+        let line = shown(rt.alloc(), text)?;
+        assert_eq!(rt; line.as_str(), tokens);
+    }
+    Ok(())
+}
+
+// What closes, and what does not.
+#[test]
+fn closers(rt: HostRuntime) -> Result<(), Fail> {
+    let rows = [
+        ("}", "BraceClose 0-1"),
+        (
+            "a = [}",
+            "Ident 0-1 Assign 2-3 BracketOpen 4-5 BraceClose 5-6",
+        ),
+        (
+            "a = (] )",
+            "Ident 0-1 Assign 2-3 ParenOpen 4-5 BracketClose 5-6 ParenClose 7-8",
+        ),
+        ("a}b", "Ident 0-1 BraceClose 1-2 Ident 2-3"),
+        ("(})", "ParenOpen 0-1 BraceClose 1-2 ParenClose 2-3"),
+        ("{[}", "BraceOpen 0-1 BracketOpen 1-2 BraceClose 2-3"),
+    ];
+    for (text, tokens) in rows {
+        let line = shown(rt.alloc(), text)?;
+        assert_eq!(rt; line.as_str(), tokens);
+    }
+    Ok(())
+}
+
+// The fault of a text, and where it stands.
+#[test]
+fn faults(rt: HostRuntime) -> Result<(), Fail> {
+    let rows = [
+        ("\"${x\"", "UnterminatedQuote at 4"),
+        ("\"b\n", "UnterminatedQuote at 0"),
+        ("\"b", "UnterminatedQuote at 0"),
+        ("\"\\u12\"", "InvalidEscape at 1"),
+        ("\"\\u123\"", "InvalidEscape at 1"),
+        ("\"\\U0001F60\"", "InvalidEscape at 1"),
+        ("\"\t\\q\"", "InvalidEscape at 2"),
+        ("\"a\r\n\"", "UnterminatedQuote at 0"),
+        ("~}", "InvalidCharacter at 0"),
+        ("a}b~}c", "InvalidCharacter at 3"),
+        ("\"${/*}\"", "UnterminatedComment at 3"),
+        ("<<E\nE\r", "UnterminatedHeredoc at 0"),
+        ("<<E\n", "UnterminatedHeredoc at 0"),
+        ("<<E\n${<<F\nE\nF\n", "UnterminatedHeredoc at 6"),
+        ("<<E\n${\"\nE\n\"}\nE\n", "UnterminatedQuote at 6"),
+        ("<<E\n${(\nE\n", "UnterminatedTemplate at 4"),
+        ("\"${a", "UnterminatedTemplate at 1"),
+        ("\"${\"b", "UnterminatedQuote at 3"),
+    ];
+    for (text, tokens) in rows {
+        let line = shown(rt.alloc(), text)?;
+        assert_eq!(rt; line.as_str(), tokens);
+    }
+    Ok(())
+}
+
+// The opener past 256 open ones, also where it has no marker line.
+#[test]
+fn too_deep(rt: HostRuntime) -> Result<(), Fail> {
+    let rows = [
+        ("(", 257, "", "TooDeep at 256"),
+        ("(", 256, "\"", "TooDeep at 256"),
+        ("(", 256, "<<E\n", "TooDeep at 256"),
+        ("\"${", 128, "\"", "TooDeep at 384"),
+        ("\"${", 128, "${", "InvalidCharacter at 384"),
+    ];
+    for (opener, count, rest, fault) in rows {
+        let text = nested(rt.alloc(), opener, count, rest)?;
+        let line = shown(rt.alloc(), text.as_str())?;
+        assert_eq!(rt; line.as_str(), fault);
+    }
+    Ok(())
+}
+
+// 256 may be open.
+#[test]
+fn as_deep_as_can_be(rt: HostRuntime) -> Result<(), Fail> {
+    let text = nested(rt.alloc(), "(", 256, "x")?;
+    let line = shown(rt.alloc(), text.as_str())?;
+    assert!(rt; line.as_str().ends_with("Ident 256-257"));
+    let text = nested(rt.alloc(), "(", 255, "<<E\nE\n")?;
+    let line = shown(rt.alloc(), text.as_str())?;
+    assert!(rt;
+        line.as_str().ends_with("HeredocOpen 255-259 !HeredocClose 259-260 Newline 260-261")
+    );
+    Ok(())
+}
+
+// Comments, also at the end of what is seen, and numbers.
+#[test]
+fn comments_and_numbers(rt: HostRuntime) -> Result<(), Fail> {
+    let rows = [
+        ("# x", "LineComment 0-3"),
+        ("// x\r", "LineComment 0-5"),
+        ("/**/", "InlineComment 0-4"),
+        ("/* a */ */", "InlineComment 0-7 Star 8-9 Slash 9-10"),
+        (
+            "<<E\n${a # c\n}\nE",
+            "HeredocOpen 0-4 !InterpOpen 4-6 !Ident 6-7 !Blank 7-8 !LineComment 8-11 !Newline 11-12 !SeqClose 12-13 !Lit 13-14 !HeredocClose 14-15",
+        ),
+        ("<<E\n${a # c\nE\n", "UnterminatedTemplate at 4"),
+        ("<<E\n${a /* c\nE\n*/}\nE", "UnterminatedComment at 8"),
+        ("<<E\n${a // c", "UnterminatedHeredoc at 0"),
+        ("l.0.1", "Ident 0-1 Dot 1-2 Number 2-3 Dot 3-4 Number 4-5"),
+        ("1 .5", "Number 0-1 Dot 2-3 Number 3-4"),
+        ("1.5", "Number 0-3"),
+        ("a.1e5", "Ident 0-1 Dot 1-2 Number 2-3 Ident 3-5"),
+        ("1e+", "Number 0-1 Ident 1-2 Plus 2-3"),
+        ("1.5.2", "Number 0-3 Dot 3-4 Number 4-5"),
+        ("1e5.0", "Number 0-3 Dot 3-4 Number 4-5"),
+    ];
+    for (text, wanted) in rows {
+        let given = shown(rt.alloc(), text)?;
+        assert_eq!(rt; given.as_str(), wanted, "at {text:?}");
+    }
+    Ok(())
+}

@@ -1,0 +1,44 @@
+use Rattle.std.proofs.Common.{◌≡◌, ℕ, ◌+◌, ◌≤◌, Bool, true, false, List, [], ◌∷◌, length, arith, refl, cond, sym, ap, ◌∙◌}
+use Rattle.std.specs.Prelude.{slice_get}
+use Rattle.std.proofs.Common.{Some, suc, ◌<◌, get_or, drop, drop-cons}
+use Rattle.std.proofs.lemmas.Option.{slice_get_within, get_or_from_slice_get}
+use Rattle.hcl_scan.specs.Lexemes.{Lexeme}
+use Rattle.hcl_syntax.specs.Classes.{class_of, lookaheads_from}
+use Rattle.hcl_syntax.specs.declared.class.Lookahead.{Lookahead}
+use Rattle.hcl_syntax.specs.declared.class.Class.{Class}
+use Rattle.hcl_syntax.specs.declared.expected.Newlines.{Newlines}
+use Rattle.hcl_syntax.specs.Lookaheads.{shown, is_trivia, drops, after_first}
+
+pub length-lookaheads : (n : ℕ) (ts : List Lexeme) → length (lookaheads_from n ts) ≤ length ts
+length-lookaheads n [] = omega arith
+length-lookaheads n (t ∷ ts) = elim (is_trivia (class_of t)) as (λ b. length (cond b (lookaheads_from (n + 1) ts) (record { class = class_of t; number = n } ∷ lookaheads_from (n + 1) ts)) ≤ length (t ∷ ts)) [ true ↦ omega (arith, length-lookaheads (n + 1) ts) | false ↦ omega (arith, length-lookaheads (n + 1) ts) ]
+
+-- what stands at a number that is within the list
+pub at-number : (ts : List Lexeme) (n : ℕ) (t : Lexeme) (c : Class) → slice_get ts n ≡ Some t → c ≡ class_of t →
+    lookaheads_from n (drop n ts) ≡ cond (is_trivia c) (lookaheads_from (n + 1) (drop (n + 1) ts)) (record { class = c; number = n } ∷ lookaheads_from (n + 1) (drop (n + 1) ts))
+at-number ts n t c e k =
+    let within : n < length ts = slice_get_within ts n t e in
+    let got : get_or ts n t ≡ t = get_or_from_slice_get ts n t t e in
+    let more : suc n ≡ n + 1 = omega arith in
+    let front : drop n ts ≡ t ∷ drop (n + 1) ts = drop-cons ts n t within ∙ ap (λ x. x ∷ drop (suc n) ts) got ∙ ap (λ j. t ∷ drop j ts) more in
+    ap (λ l. lookaheads_from n l) front
+    ∙ ap (λ x. cond (is_trivia x) (lookaheads_from (n + 1) (drop (n + 1) ts)) (record { class = x; number = n } ∷ lookaheads_from (n + 1) (drop (n + 1) ts))) (sym k)
+
+pub length-shown : (m : Newlines) (ts : List Lookahead) → length (shown m ts) ≤ length ts
+length-shown m [] = omega arith
+length-shown m (t ∷ ts) = elim (drops m t.class) as (λ b. length (cond b (shown m ts) (t ∷ ts)) ≤ length (t ∷ ts)) [ true ↦ omega (arith, length-shown m ts) | false ↦ omega arith ]
+
+pub length-after_first : (ts : List Lookahead) → length (after_first ts) ≤ length ts
+length-after_first [] = omega arith
+length-after_first (t ∷ ts) = omega arith
+
+shown-by : (m : Newlines) (t : Lookahead) (ts : List Lookahead) (b : Bool) → drops m t.class ≡ b → shown m ts ≡ shown m (shown m ts) → cond b (shown m ts) (t ∷ ts) ≡ shown m (cond b (shown m ts) (t ∷ ts))
+shown-by m t ts true e h = h
+shown-by m t ts false e h = sym (ap (λ b. cond b (shown m ts) (t ∷ ts)) e)
+
+pub shown-shown : (m : Newlines) (ts : List Lookahead) → shown m ts ≡ shown m (shown m ts)
+shown-shown m [] = refl
+shown-shown m (t ∷ ts) = shown-by m t ts (drops m t.class) refl (shown-shown m ts)
+
+pub shown-again : (m : Newlines) (old new : List Lookahead) → new ≡ shown m old → new ≡ shown m new
+shown-again m old new e = e ∙ shown-shown m old ∙ ap (λ l. shown m l) (sym e)

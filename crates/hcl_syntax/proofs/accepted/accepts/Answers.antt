@@ -1,0 +1,7 @@
+use Rattle.std.proofs.Common.{ap, sym, ◌∙◌}
+use Rattle.hcl_syntax.specs.Predictor.{refusal_of}
+use Rattle.hcl_syntax.proofs.Moves.{refusal-names}
+use Rattle.hcl_syntax.proofs.accepted.accepts.Goals as goal
+
+pub fault_at-requires : goal.fault_at-requires
+fault_at-requires c = refusal-names c.args.tokens.now.tokens c.in-Err.refusal (ap (λ l. refusal_of l) (sym c.new.ensures) ∙ c.in-Err.ensures)

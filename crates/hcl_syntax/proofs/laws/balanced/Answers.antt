@@ -1,0 +1,5 @@
+use Rattle.hcl_syntax.proofs.Balance.{balance}
+use Rattle.hcl_syntax.proofs.laws.balanced.Goals as goal
+
+pub returns : goal.returns
+returns c = balance

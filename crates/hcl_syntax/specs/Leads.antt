@@ -1,0 +1,78 @@
+-- What a part of a recursive descent does, in terms of the predictor: our own words for the contracts of the parser.
+use Rattle.std.specs.Prelude.{◌≡◌, ℕ, zero, suc, ◌+◌, Bool, true, false, List, [], ◌∷◌, ◌++◌, Option, Some, Result, Ok, Err}
+use Rattle.hcl_syntax.specs.declared.class.Lookahead.{Lookahead}
+use Rattle.hcl_syntax.specs.declared.class.Class.{Class}
+use Rattle.hcl_syntax.specs.declared.class.Class.TheVariants.{Not, Minus}
+use Rattle.hcl_syntax.specs.declared.expected.Newlines.{Newlines}
+use Rattle.hcl_syntax.specs.declared.expected.Newlines.TheVariants.{Seen}
+use Rattle.hcl_syntax.specs.declared.expected.Terminal.{Terminal}
+use Rattle.hcl_syntax.specs.declared.expected.Terminal.TheVariants.{Separator, EndBrace}
+use Rattle.hcl_syntax.specs.declared.expected.Follow.{Follow}
+use Rattle.hcl_syntax.specs.declared.expected.Follow.TheVariants.{Operator, Choice, Other}
+use Rattle.hcl_syntax.specs.declared.refusal.Refusal.{Refusal}
+use Rattle.hcl_syntax.specs.Lookaheads.{shown, first, Looks}
+use Rattle.hcl_syntax.specs.Grammar.{Marked, ◌at◌, the, file, body, eol, expr, fits}
+use Rattle.hcl_syntax.specs.Predictor.{run}
+
+-- the refusal that was met, or else what comes of the rest
+abbrev pub outcome : {A : Type 0} → Result A Refusal → Option Refusal → Option Refusal
+outcome (Ok _) o = o
+outcome (Err f) o = Some f
+
+-- With the symbols xs first, whatever comes behind them, the predictor comes from the old tokens to the new ones with
+-- ys in their place, or ends with the refusal.
+pub record Leads {A : Type 0} (count : ℕ) (xs : List Marked) (old : List Lookahead) (result : Result A Refusal) (ys : List Marked) (new : List Lookahead) : Type 0 where
+  pub same : (behind : List Marked) → run count (xs ++ behind) old ≡ outcome result (run count (ys ++ behind) new)
+
+-- The same with the symbols gone and one directive fewer open.
+pub record Ends {A : Type 0} (count : ℕ) (xs : List Marked) (old : List Lookahead) (result : Result A Refusal) (new : List Lookahead) : Type 0 where
+  pub same : (behind : List Marked) → run (count + 1) (xs ++ behind) old ≡ outcome result (run count behind new)
+
+-- The same with the symbols gone.
+abbrev pub Parses : ℕ → List Marked → List Lookahead → Result (Unit {0}) Refusal → List Lookahead → Type 0
+Parses count xs old result new = Leads count xs old result [] new
+
+-- n times `:` and an expression
+abbrev pub waits : Newlines → ℕ → List Marked → List Marked
+waits m zero ss = ss
+waits m (suc n) ss = the Separator at m ∷ expr at m ∷ waits m n ss
+
+-- what has to stand where an operand ended
+abbrev pub follow_symbols : Newlines → Follow → List Marked
+follow_symbols m Operator = expr at m ∷ []
+follow_symbols m Choice = expr at m ∷ the Separator at m ∷ expr at m ∷ []
+follow_symbols m Other = []
+
+abbrev pub after_follow : Newlines → Result Follow Refusal → List Marked
+after_follow m (Ok f) = follow_symbols m f
+after_follow m (Err e) = []
+
+-- The first token was what the terminal waits for, and was read.
+pub record Took (m : Newlines) (e : Terminal) (old new : List Lookahead) : Type 0 where
+  pub token : Lookahead
+  pub looks : Looks m old token new
+  pub fits : fits e token.class ≡ true
+
+-- The first token, if there is one, is not what the terminal waits for.
+pub record Lacks (m : Newlines) (e : Terminal) (old new : List Lookahead) : Type 0 where
+  pub shows : new ≡ shown m old
+  pub unfit : (t : Lookahead) → Some t ≡ first new → fits e t.class ≡ false
+
+abbrev pub is_sign : Class → Bool
+is_sign Minus = true
+is_sign Not = true
+is_sign _ = false
+
+-- what stands behind a body's items
+abbrev pub body_symbols : Bool → List Marked
+body_symbols true = body at Seen ∷ the EndBrace at Seen ∷ eol at Seen ∷ []
+body_symbols false = []
+
+abbrev pub after_item : Result Bool Refusal → List Marked
+after_item (Ok opened) = body_symbols opened
+after_item (Err e) = []
+
+-- the state in a file, or in so many blocks of it
+abbrev pub bodies : ℕ → List Marked
+bodies zero = file at Seen ∷ []
+bodies (suc n) = body at Seen ∷ the EndBrace at Seen ∷ eol at Seen ∷ bodies n

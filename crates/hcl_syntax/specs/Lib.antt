@@ -1,0 +1,9 @@
+pub mod Lookaheads
+pub mod Classes
+pub mod Grammar
+pub mod Predictor
+pub mod Leads
+pub mod Verdict
+pub mod Balanced
+pub mod Relation
+pub mod Examples

@@ -1,0 +1,44 @@
+-- What the grammar sees of a token list. Comments, and the blanks that are tokens in heredocs, are passed over; between
+-- the delimiters of parentheses, brackets and template sequences newlines are too (HCL Native Syntax Specification, on
+-- comments, and on newlines in "Collection Values", "Functions and Function Calls" and "Templates").
+use Rattle.std.specs.Prelude.{◌≡◌, Bool, true, false, List, [], ◌∷◌, Option, Some, None, if◌then◌else◌}
+use Rattle.hcl_syntax.specs.declared.class.Lookahead.{Lookahead}
+use Rattle.hcl_syntax.specs.declared.class.Class.{Class}
+use Rattle.hcl_syntax.specs.declared.class.Class.TheVariants.{Newline, Trivia}
+use Rattle.hcl_syntax.specs.declared.expected.Newlines.{Newlines}
+use Rattle.hcl_syntax.specs.declared.expected.Newlines.TheVariants.{Seen, Dropped}
+
+abbrev pub is_trivia : Class → Bool
+is_trivia Trivia = true
+is_trivia _ = false
+
+abbrev pub is_newline : Class → Bool
+is_newline Newline = true
+is_newline _ = false
+
+-- whether a symbol with this mark passes over a token of the class
+abbrev pub drops : Newlines → Class → Bool
+drops Seen c = false
+drops Dropped c = is_newline c
+
+-- without the newlines at the front, where they are dropped
+abbrev pub shown : Newlines → List Lookahead → List Lookahead
+shown m [] = []
+shown m (t ∷ ts) = if drops m t.class then shown m ts else t ∷ ts
+
+abbrev pub first : List Lookahead → Option Lookahead
+first [] = None
+first (t ∷ ts) = Some t
+
+abbrev pub after_first : List Lookahead → List Lookahead
+after_first [] = []
+after_first (t ∷ ts) = ts
+
+-- whether a token of the class is seen, and no newline that is dropped
+abbrev pub is_shown : Newlines → Class → Bool
+is_shown m c = if is_trivia c then false else (if drops m c then false else true)
+
+-- the first token past the newlines that are dropped, and what follows it
+pub record Looks (m : Newlines) (old : List Lookahead) (t : Lookahead) (ts : List Lookahead) : Type 0 where
+  pub is : shown m old ≡ t ∷ ts
+  pub kept : drops m t.class ≡ false

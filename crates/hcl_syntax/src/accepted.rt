@@ -1,0 +1,91 @@
+// Which tokens are a file.
+
+ghost use Rattle.std.specs.Prelude.{◌≡◌, ◌<◌, length};
+ghost use Rattle.hcl_scan.specs.Places.{place};
+ghost use Rattle.hcl_syntax.specs.Balanced.{IsBalanced};
+ghost use Rattle.hcl_syntax.specs.Verdict.{start_of, fault_at, verdict, Names, IsAccepted};
+
+use crate::cursor::Cursor;
+use crate::refusal::Refusal;
+use hcl_scan::{Fault, FaultKind, Position, Tokens};
+use std::marker::Model;
+
+/// Tokens that are a file. Only [`accepts`] makes one.
+#[derive(Debug, Drop)]
+pub struct Accepted<'t, 's> {
+    tokens: &'t Tokens<'s>,
+}
+
+impl<'t, 's> Model for Accepted<'t, 's> {
+    ghost use Rattle.hcl_scan.specs.Scanned.{Scanned};
+    ghost use Rattle.hcl_syntax.specs.Verdict.{IsAccepted};
+
+    ghost Value = { Scanned };
+
+    ghost view = { λ a. a.tokens.now };
+
+    ghost invariant = { λ a. IsAccepted a.tokens.now.tokens };
+}
+
+impl<'t, 's> Accepted<'t, 's> {
+    /// The tokens that were accepted.
+    pub fn tokens(&self) -> &'t Tokens<'s>
+        ensures tokens { result.now ≡ self.now }
+        ensures accepted { IsAccepted self.now.tokens }
+        ensures balanced { IsBalanced self.now.tokens }
+    {
+        // Its contract says that the tokens are a scan of their source, on which `balanced` rests.
+        let _source = self.tokens.source();
+        self.tokens
+    }
+}
+
+// Where the token of this number begins.
+fn position_of(tokens: &Tokens, number: usize) -> Position
+    requires { number < length tokens.now.tokens }
+    ensures { result ≡ place tokens.now.text (start_of tokens.now.tokens number) }
+{
+    let token = tokens.get(number);
+    tokens.source().position(token.start)
+}
+
+// The end of the text.
+fn end_of(tokens: &Tokens) -> Position
+    ensures { result ≡ place tokens.now.text (length tokens.now.text) }
+{
+    let source = tokens.source();
+    source.position(source.text().len())
+}
+
+// What a refusal of the tokens is reported as.
+fn fault_at(tokens: &Tokens, refusal: Refusal) -> Fault
+    requires { Names refusal (length tokens.now.tokens) }
+    ensures { result ≡ fault_at tokens.now refusal }
+{
+    match refusal {
+        Refusal::UnexpectedToken(number) => Fault {
+            kind: FaultKind::UnexpectedToken,
+            at: position_of(tokens, number),
+        },
+        Refusal::UnexpectedEnd => Fault {
+            kind: FaultKind::UnexpectedEnd,
+            at: end_of(tokens),
+        },
+        Refusal::TooDeep(number) => Fault {
+            kind: FaultKind::TooDeep,
+            at: position_of(tokens, number),
+        },
+    }
+}
+
+/// The tokens again, where they are a file, and else the one fault of the grammar: `UnexpectedToken` at the first token
+/// that can't come where it stands, `UnexpectedEnd` at the end of the text, or `TooDeep` at the `%{` of the first
+/// directive past 256 open ones. It takes no memory, and time linear in the tokens.
+pub fn accepts<'t, 's>(tokens: &'t Tokens<'s>) -> Result<Accepted<'t, 's>, Fault>
+    ensures { result ≡ verdict tokens.now }
+{
+    match Cursor::new(tokens).file() {
+        Ok(()) => Ok(Accepted { tokens }),
+        Err(refusal) => Err(fault_at(tokens, refusal)),
+    }
+}

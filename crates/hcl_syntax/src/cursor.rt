@@ -1,0 +1,112 @@
+// A place in a token list.
+
+ghost use Rattle.std.specs.Prelude.{◌≡◌, ◌+◌, ◌<◌, ◌≤◌, ◌^◌, drop, length, IsSome};
+ghost use Rattle.hcl_syntax.specs.Classes.{lookaheads, lookaheads_from};
+ghost use Rattle.hcl_syntax.specs.Lookaheads.{shown, first, after_first, is_shown};
+
+use crate::class::{Class, Lookahead};
+use crate::classify::lookahead;
+use crate::expected::Newlines;
+use hcl_scan::Tokens;
+use std::marker::Model;
+
+/// The tokens from some number on, as the grammar sees them.
+#[derive(Drop)]
+pub struct Cursor<'t, 's> {
+    tokens: &'t Tokens<'s>,
+    next: usize,
+}
+
+impl<'t, 's> Model for Cursor<'t, 's> {
+    ghost use Rattle.std.specs.Prelude.{List, drop, length, ◌≤◌};
+    ghost use Rattle.hcl_syntax.specs.declared.class.Lookahead.{Lookahead};
+    ghost use Rattle.hcl_syntax.specs.Classes.{lookaheads_from};
+
+    ghost Value = { List Lookahead };
+
+    ghost view = { λ c. lookaheads_from c.next (drop c.next c.tokens.now.tokens) };
+
+    ghost invariant = { λ c. c.next ≤ length c.tokens.now.tokens };
+}
+
+// Whether the grammar sees a token of the class, where a Newline is seen or dropped.
+fn is_shown(newlines: Newlines, class: Class) -> bool
+    ensures { result ≡ is_shown newlines class }
+{
+    match class {
+        Class::Trivia => false,
+        Class::Newline => matches!(newlines, Newlines::Seen),
+        _ => true,
+    }
+}
+
+// The number of the first token that is shown, from a number on, or how many tokens there are, and the token.
+fn find(tokens: &Tokens, from: usize, newlines: Newlines) -> (usize, Option<Lookahead>)
+    requires { from ≤ length tokens.now.tokens }
+    ensures within { result.0 ≤ length tokens.now.tokens }
+    ensures left { lookaheads_from result.0 (drop result.0 tokens.now.tokens) ≡ shown newlines (lookaheads_from from (drop from tokens.now.tokens)) }
+    ensures found { result.1 ≡ first (lookaheads_from result.0 (drop result.0 tokens.now.tokens)) }
+{
+    let mut number = from;
+    while number < tokens.len() {
+        let token = lookahead(tokens, number);
+        if is_shown(newlines, token.class) {
+            return (number, Some(token));
+        }
+        number += 1;
+    }
+    (number, None)
+}
+
+// The number after that of the first token that is seen, from a number on.
+fn past(tokens: &Tokens, from: usize) -> usize
+    requires { from ≤ length tokens.now.tokens }
+    ensures within { result ≤ length tokens.now.tokens }
+    ensures left { lookaheads_from result (drop result tokens.now.tokens) ≡ after_first (lookaheads_from from (drop from tokens.now.tokens)) }
+{
+    let mut number = from;
+    while number < tokens.len() {
+        let token = lookahead(tokens, number);
+        number += 1;
+        if is_shown(Newlines::Seen, token.class) {
+            return number;
+        }
+    }
+    number
+}
+
+impl<'t, 's> Cursor<'t, 's> {
+    /// All tokens.
+    pub fn new(tokens: &'t Tokens<'s>) -> Cursor<'t, 's>
+        ensures { result ≡ lookaheads tokens.now.tokens }
+    {
+        Cursor { tokens, next: 0 }
+    }
+
+    /// There are fewer tokens than a machine number can count.
+    pub fn room(&self)
+        ensures { length self.now < 2 ^ 64 }
+    {
+        let _count = self.tokens.len();
+    }
+
+    /// The first token, past newlines where these are dropped.
+    pub fn look(&mut self, newlines: Newlines) -> Option<Lookahead>
+        ensures left { self.new ≡ shown newlines self.old }
+        ensures found { result ≡ first self.new }
+        ensures shorter { length self.new ≤ length self.old }
+    {
+        let (next, token) = find(self.tokens, self.next, newlines);
+        self.next = next;
+        token
+    }
+
+    /// Passes over the first token.
+    pub fn bump(&mut self)
+        requires { IsSome (first self.old) }
+        ensures left { self.new ≡ after_first self.old }
+        ensures shorter { length self.old ≡ length self.new + 1 }
+    {
+        self.next = past(self.tokens, self.next);
+    }
+}

@@ -1,0 +1,341 @@
+// Expressions. The functions of the cycle call each other only behind an opener or in an open directive, so the depth
+// of the recursion is bounded; all that can be chained without an opener is a loop with a count.
+
+ghost use Rattle.std.specs.Prelude.{◌≡◌, ◌+◌, ◌<◌, ◌≤◌, ◌^◌, ℕ, List, [], ◌∷◌, length, Some, None, Ok, OnOk, IfOk, IfSome, false};
+ghost use Rattle.std.specs.Bool.{OnTrue, OnFalse};
+ghost use Rattle.hcl_syntax.specs.Lookaheads.{shown, first};
+ghost use Rattle.hcl_syntax.specs.Grammar.{◌at◌, the, expr, after, after_ident, index, args, tuple, tuple_item, tuple_if, object, object_item, group, object_if, separator, names};
+ghost use Rattle.hcl_syntax.specs.Leads.{Leads, Parses, after_follow, is_sign};
+ghost use Rattle.hcl_syntax.specs.declared.expected.Terminal.TheVariants.{Name, Separator, FatArrow, EndBracket, EndBrace};
+ghost use Rattle.hcl_syntax.specs.declared.expected.Newlines.TheVariants.{Seen, Dropped};
+
+use crate::class::{Class, Lookahead};
+use crate::cursor::Cursor;
+use crate::expected::{Follow, Newlines, Terminal};
+use crate::refusal::Refusal;
+
+impl<'t, 's> Cursor<'t, 's> {
+    // Passes over the signs before an operand, and looks at the token behind them.
+    fn start(&mut self, newlines: Newlines) -> Option<Lookahead>
+        ensures leads { (count : ℕ) → Leads count (expr at newlines ∷ []) self.old (Ok (tt {0})) (expr at newlines ∷ []) self.new }
+        ensures left { self.new ≡ shown newlines self.new }
+        ensures found { result ≡ first self.new }
+        ensures plain { IfSome result (λ t. is_sign t.class ≡ false) }
+        ensures shorter { length self.new ≤ length self.old }
+    {
+        loop {
+            let token = self.look(newlines)?;
+            match token.class {
+                Class::Minus | Class::Not => self.bump(),
+                _ => return Some(token),
+            }
+        }
+    }
+
+    // An expression up to where its first operand ends.
+    #[cycle(parser)]
+    fn operand(&mut self, newlines: Newlines, directives: usize) -> Result<(), Refusal>
+        ensures leads { Leads directives (expr at newlines ∷ []) self.old result (after at newlines ∷ []) self.new }
+        ensures shorter { OnOk result (length self.new < length self.old) }
+    {
+        let Some(token) = self.start(newlines) else {
+            return Err(Refusal::UnexpectedEnd);
+        };
+        match token.class {
+            Class::Number(_) => {
+                self.bump();
+                Ok(())
+            }
+            Class::Ident(_) => {
+                self.bump();
+                self.call(newlines, directives)
+            }
+            Class::ParenOpen => {
+                self.bump();
+                self.expr(Newlines::Dropped, directives)?;
+                self.expect(Newlines::Dropped, Terminal::EndParen)
+            }
+            Class::BracketOpen => {
+                self.bump();
+                self.tuple(directives)
+            }
+            Class::BraceOpen => {
+                self.bump();
+                self.object(directives)
+            }
+            Class::QuoteOpen => {
+                self.bump();
+                self.parts(newlines, directives)?;
+                self.expect(newlines, Terminal::EndQuote)
+            }
+            Class::HeredocOpen => {
+                self.bump();
+                self.parts(newlines, directives)?;
+                self.expect(newlines, Terminal::EndHeredoc)
+            }
+            _ => Err(Refusal::UnexpectedToken(token.number)),
+        }
+    }
+
+    // What may follow an identifier.
+    #[cycle(parser)]
+    fn call(&mut self, newlines: Newlines, directives: usize) -> Result<(), Refusal>
+        ensures leads { Leads directives (after_ident at newlines ∷ []) self.old result (after at newlines ∷ []) self.new }
+        ensures shorter { OnOk result (length self.new ≤ length self.old) }
+    {
+        let Some(token) = self.look(newlines) else {
+            return Ok(());
+        };
+        match token.class {
+            Class::ParenOpen => {
+                self.bump();
+                self.args(directives)
+            }
+            _ => Ok(()),
+        }
+    }
+
+    // What follows an operand, up to where another operand has to stand.
+    #[cycle(parser)]
+    fn follow(&mut self, newlines: Newlines, directives: usize) -> Result<Follow, Refusal>
+        ensures leads { Leads directives (after at newlines ∷ []) self.old result (after_follow newlines result) self.new }
+        ensures shorter { OnOk result (length self.new ≤ length self.old) }
+        ensures waiting { IfOk result (λ f. f ≡ Follow.Choice → length self.new < length self.old) }
+    {
+        loop {
+            let Some(token) = self.look(newlines) else {
+                return Ok(Follow::Other);
+            };
+            match token.class {
+                Class::Dot => {
+                    self.bump();
+                    self.step(newlines)?;
+                }
+                Class::BracketOpen => {
+                    self.bump();
+                    self.index(directives)?;
+                }
+                Class::Minus | Class::Star | Class::Binary => {
+                    self.bump();
+                    return Ok(Follow::Operator);
+                }
+                Class::Question => {
+                    self.bump();
+                    return Ok(Follow::Choice);
+                }
+                _ => return Ok(Follow::Other),
+            }
+        }
+    }
+
+    // An index behind its bracket.
+    #[cycle(parser)]
+    fn index(&mut self, directives: usize) -> Result<(), Refusal>
+        ensures parses { Parses directives (index at Dropped ∷ []) self.old result self.new }
+        ensures shorter { OnOk result (length self.new < length self.old) }
+    {
+        if self.takes(Newlines::Dropped, Terminal::Asterisk) {
+            return self.expect(Newlines::Dropped, Terminal::EndBracket);
+        }
+        self.expr(Newlines::Dropped, directives)?;
+        self.expect(Newlines::Dropped, Terminal::EndBracket)
+    }
+
+    /// An expression, with so many directives open. Of the `?` that wait for their `:` it keeps the number.
+    #[cycle(parser)]
+    pub fn expr(&mut self, newlines: Newlines, directives: usize) -> Result<(), Refusal>
+        ensures parses { Parses directives (expr at newlines ∷ []) self.old result self.new }
+        ensures shorter { OnOk result (length self.new < length self.old) }
+    {
+        self.room();
+        let mut waiting: usize = 0;
+        loop {
+            self.operand(newlines, directives)?;
+            match self.follow(newlines, directives)? {
+                Follow::Operator => {}
+                Follow::Choice => waiting += 1,
+                Follow::Other => {
+                    if waiting == 0 {
+                        return Ok(());
+                    }
+                    self.expect(newlines, Terminal::Separator)?;
+                    waiting -= 1;
+                }
+            }
+        }
+    }
+
+    // The arguments of a call behind its parenthesis.
+    #[cycle(parser)]
+    fn args(&mut self, directives: usize) -> Result<(), Refusal>
+        ensures parses { Parses directives (args at Dropped ∷ []) self.old result self.new }
+        ensures shorter { OnOk result (length self.new < length self.old) }
+    {
+        loop {
+            if self.takes(Newlines::Dropped, Terminal::EndParen) {
+                return Ok(());
+            }
+            self.expr(Newlines::Dropped, directives)?;
+            let Some(token) = self.look(Newlines::Dropped) else {
+                return Err(Refusal::UnexpectedEnd);
+            };
+            match token.class {
+                Class::Comma => self.bump(),
+                Class::Ellipsis => {
+                    self.bump();
+                    return self.expect(Newlines::Dropped, Terminal::EndParen);
+                }
+                Class::ParenClose => {
+                    self.bump();
+                    return Ok(());
+                }
+                _ => return Err(Refusal::UnexpectedToken(token.number)),
+            }
+        }
+    }
+
+    // A tuple behind its bracket.
+    #[cycle(parser)]
+    fn tuple(&mut self, directives: usize) -> Result<(), Refusal>
+        ensures parses { Parses directives (tuple at Dropped ∷ []) self.old result self.new }
+        ensures shorter { OnOk result (length self.new < length self.old) }
+    {
+        if self.takes(Newlines::Dropped, Terminal::ForWord) {
+            self.generator(directives)?;
+            return self.tuple_condition(directives);
+        }
+        self.tuple_items(directives)
+    }
+
+    #[cycle(parser)]
+    fn tuple_items(&mut self, directives: usize) -> Result<(), Refusal>
+        ensures parses { Parses directives (tuple_item at Dropped ∷ []) self.old result self.new }
+        ensures shorter { OnOk result (length self.new < length self.old) }
+    {
+        loop {
+            if self.takes(Newlines::Dropped, Terminal::EndBracket) {
+                return Ok(());
+            }
+            self.expr(Newlines::Dropped, directives)?;
+            let Some(token) = self.look(Newlines::Dropped) else {
+                return Err(Refusal::UnexpectedEnd);
+            };
+            match token.class {
+                Class::Comma => self.bump(),
+                Class::BracketClose => {
+                    self.bump();
+                    return Ok(());
+                }
+                _ => return Err(Refusal::UnexpectedToken(token.number)),
+            }
+        }
+    }
+
+    // The names of a for-expression, what it goes over, and its first result.
+    #[cycle(parser)]
+    fn generator(&mut self, directives: usize) -> Result<(), Refusal>
+        ensures parses { Parses directives (the Name at Dropped ∷ names at Dropped ∷ expr at Dropped ∷ the Separator at Dropped ∷ expr at Dropped ∷ []) self.old result self.new }
+        ensures shorter { OnOk result (length self.new < length self.old) }
+    {
+        self.names()?;
+        self.expr(Newlines::Dropped, directives)?;
+        self.expect(Newlines::Dropped, Terminal::Separator)?;
+        self.expr(Newlines::Dropped, directives)
+    }
+
+    // The condition of a for-expression in brackets, where it has one, and the closing bracket.
+    #[cycle(parser)]
+    fn tuple_condition(&mut self, directives: usize) -> Result<(), Refusal>
+        ensures parses { Parses directives (tuple_if at Dropped ∷ []) self.old result self.new }
+        ensures shorter { OnOk result (length self.new < length self.old) }
+    {
+        if self.takes(Newlines::Dropped, Terminal::IfWord) {
+            self.expr(Newlines::Dropped, directives)?;
+            return self.expect(Newlines::Dropped, Terminal::EndBracket);
+        }
+        self.expect(Newlines::Dropped, Terminal::EndBracket)
+    }
+
+    // An object behind its brace.
+    #[cycle(parser)]
+    fn object(&mut self, directives: usize) -> Result<(), Refusal>
+        ensures parses { Parses directives (object at Seen ∷ []) self.old result self.new }
+        ensures shorter { OnOk result (length self.new < length self.old) }
+    {
+        if self.takes(Newlines::Dropped, Terminal::ForWord) {
+            return self.object_for(directives);
+        }
+        self.entries(directives)
+    }
+
+    // The entries of an object, through its closing brace. Newlines count only behind an entry.
+    #[cycle(parser)]
+    fn entries(&mut self, directives: usize) -> Result<(), Refusal>
+        ensures parses { Parses directives (object_item at Seen ∷ []) self.old result self.new }
+        ensures shorter { OnOk result (length self.new < length self.old) }
+    {
+        loop {
+            if self.takes(Newlines::Dropped, Terminal::EndBrace) {
+                return Ok(());
+            }
+            self.entry(directives)?;
+            let Some(token) = self.look(Newlines::Seen) else {
+                return Err(Refusal::UnexpectedEnd);
+            };
+            match token.class {
+                Class::Comma | Class::Newline => self.bump(),
+                Class::BraceClose => {
+                    self.bump();
+                    return Ok(());
+                }
+                _ => return Err(Refusal::UnexpectedToken(token.number)),
+            }
+        }
+    }
+
+    #[cycle(parser)]
+    fn entry(&mut self, directives: usize) -> Result<(), Refusal>
+        ensures parses { Parses directives (expr at Seen ∷ separator at Seen ∷ expr at Seen ∷ []) self.old result self.new }
+        ensures shorter { OnOk result (length self.new < length self.old) }
+    {
+        self.expr(Newlines::Seen, directives)?;
+        self.separator()?;
+        self.expr(Newlines::Seen, directives)
+    }
+
+    // A for-expression in braces behind its `for`.
+    #[cycle(parser)]
+    fn object_for(&mut self, directives: usize) -> Result<(), Refusal>
+        ensures parses { Parses directives (the Name at Dropped ∷ names at Dropped ∷ expr at Dropped ∷ the Separator at Dropped ∷ expr at Dropped ∷ the FatArrow at Dropped ∷ expr at Dropped ∷ group at Dropped ∷ []) self.old result self.new }
+        ensures shorter { OnOk result (length self.new < length self.old) }
+    {
+        self.generator(directives)?;
+        self.expect(Newlines::Dropped, Terminal::FatArrow)?;
+        self.expr(Newlines::Dropped, directives)?;
+        self.grouping();
+        self.object_condition(directives)
+    }
+
+    // The `...` of a for-expression in braces, where it has one.
+    fn grouping(&mut self)
+        ensures leads { (count : ℕ) → Leads count (group at Dropped ∷ []) self.old (Ok (tt {0})) (object_if at Dropped ∷ []) self.new }
+        ensures shorter { length self.new ≤ length self.old }
+    {
+        if self.takes(Newlines::Dropped, Terminal::Ellipses) {
+            return;
+        }
+    }
+
+    // The condition of a for-expression in braces, where it has one, and the closing brace.
+    #[cycle(parser)]
+    fn object_condition(&mut self, directives: usize) -> Result<(), Refusal>
+        ensures parses { Parses directives (object_if at Dropped ∷ []) self.old result self.new }
+        ensures shorter { OnOk result (length self.new < length self.old) }
+    {
+        if self.takes(Newlines::Dropped, Terminal::IfWord) {
+            self.expr(Newlines::Dropped, directives)?;
+            return self.expect(Newlines::Dropped, Terminal::EndBrace);
+        }
+        self.expect(Newlines::Dropped, Terminal::EndBrace)
+    }
+}

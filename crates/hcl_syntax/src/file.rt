@@ -1,0 +1,146 @@
+// Files, attributes and blocks.
+ghost use Rattle.std.specs.Prelude.{◌≡◌, ◌+◌, ◌<◌, ◌≤◌, ◌^◌, ℕ, List, [], ◌∷◌, length, Some, None, Ok, OnOk};
+ghost use Rattle.hcl_syntax.specs.Grammar.{◌at◌, the, eol, labels, label_literal, start, rest, expr, file};
+ghost use Rattle.hcl_syntax.specs.Predictor.{run};
+ghost use Rattle.hcl_syntax.specs.Leads.{Leads, Parses, outcome, after_item};
+ghost use Rattle.hcl_syntax.specs.declared.expected.Terminal.TheVariants.{EndQuote, Equals, EndBrace};
+ghost use Rattle.hcl_syntax.specs.declared.expected.Newlines.TheVariants.{Seen};
+
+use crate::class::Class;
+use crate::cursor::Cursor;
+use crate::expected::{Newlines, Terminal};
+use crate::refusal::Refusal;
+
+impl<'t, 's> Cursor<'t, 's> {
+    // A quoted label behind its opening quote.
+    fn label(&mut self) -> Result<(), Refusal>
+        ensures parses { Parses 0 (label_literal at Seen ∷ the EndQuote at Seen ∷ []) self.old result self.new }
+        ensures shorter { OnOk result (length self.new ≤ length self.old) }
+    {
+        let Some(token) = self.look(Newlines::Seen) else {
+            return Err(Refusal::UnexpectedEnd);
+        };
+        match token.class {
+            Class::Lit => {
+                self.bump();
+                self.expect(Newlines::Seen, Terminal::EndQuote)
+            }
+            Class::QuoteClose => {
+                self.bump();
+                Ok(())
+            }
+            _ => Err(Refusal::UnexpectedToken(token.number)),
+        }
+    }
+
+    // The labels of a block and its opening brace.
+    fn labels(&mut self) -> Result<(), Refusal>
+        ensures leads { Leads 0 (labels at Seen ∷ []) self.old result (start at Seen ∷ []) self.new }
+        ensures shorter { OnOk result (length self.new ≤ length self.old) }
+    {
+        loop {
+            let Some(token) = self.look(Newlines::Seen) else {
+                return Err(Refusal::UnexpectedEnd);
+            };
+            match token.class {
+                Class::Ident(_) => self.bump(),
+                Class::QuoteOpen => {
+                    self.bump();
+                    self.label()?;
+                }
+                Class::BraceOpen => {
+                    self.bump();
+                    return Ok(());
+                }
+                _ => return Err(Refusal::UnexpectedToken(token.number)),
+            }
+        }
+    }
+
+    // What follows a block's opening brace. The answer is whether its body goes on over lines.
+    fn block(&mut self) -> Result<bool, Refusal>
+        ensures leads { Leads 0 (start at Seen ∷ []) self.old result (after_item result) self.new }
+        ensures shorter { OnOk result (length self.new ≤ length self.old) }
+    {
+        let Some(token) = self.look(Newlines::Seen) else {
+            return Err(Refusal::UnexpectedEnd);
+        };
+        match token.class {
+            Class::Newline => {
+                self.bump();
+                Ok(true)
+            }
+            Class::Ident(_) => {
+                self.bump();
+                self.attribute_line()?;
+                Ok(false)
+            }
+            Class::BraceClose => {
+                self.bump();
+                self.end_of_line()?;
+                Ok(false)
+            }
+            _ => Err(Refusal::UnexpectedToken(token.number)),
+        }
+    }
+
+    // The one attribute of a block on one line, behind its name, and the rest of that line.
+    fn attribute_line(&mut self) -> Result<(), Refusal>
+        ensures parses { Parses 0 (the Equals at Seen ∷ expr at Seen ∷ the EndBrace at Seen ∷ eol at Seen ∷ []) self.old result self.new }
+        ensures shorter { OnOk result (length self.new ≤ length self.old) }
+    {
+        self.expect(Newlines::Seen, Terminal::Equals)?;
+        self.expr(Newlines::Seen, 0)?;
+        self.expect(Newlines::Seen, Terminal::EndBrace)?;
+        self.end_of_line()
+    }
+
+    // An attribute or a block behind its first identifier.
+    fn item(&mut self) -> Result<bool, Refusal>
+        ensures leads { Leads 0 (rest at Seen ∷ []) self.old result (after_item result) self.new }
+        ensures shorter { OnOk result (length self.new ≤ length self.old) }
+    {
+        if self.takes(Newlines::Seen, Terminal::Equals) {
+            self.expr(Newlines::Seen, 0)?;
+            self.end_of_line()?;
+            return Ok(false);
+        }
+        self.labels()?;
+        self.block()
+    }
+
+    /// A file. Of the blocks that are open it keeps the number.
+    pub fn file(&mut self) -> Result<(), Refusal>
+        ensures { run 0 (file at Seen ∷ []) self.old ≡ outcome result None }
+    {
+        self.room();
+        let mut levels: usize = 0;
+        loop {
+            let Some(token) = self.look(Newlines::Seen) else {
+                return if levels == 0 {
+                    Ok(())
+                } else {
+                    Err(Refusal::UnexpectedEnd)
+                };
+            };
+            match token.class {
+                Class::Newline => self.bump(),
+                Class::Ident(_) => {
+                    self.bump();
+                    if self.item()? {
+                        levels += 1;
+                    }
+                }
+                Class::BraceClose => {
+                    if levels == 0 {
+                        return Err(Refusal::UnexpectedToken(token.number));
+                    }
+                    self.bump();
+                    self.end_of_line()?;
+                    levels -= 1;
+                }
+                _ => return Err(Refusal::UnexpectedToken(token.number)),
+            }
+        }
+    }
+}

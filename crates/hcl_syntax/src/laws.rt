@@ -1,0 +1,28 @@
+//! What is proved of the definitions alone. No program calls these functions: their contracts are the laws.
+
+ghost use Rattle.std.specs.Prelude.{◌≡◌, ℕ, List, [], ◌∷◌, Option};
+ghost use Rattle.hcl_scan.specs.Lexemes.{Lexeme};
+ghost use Rattle.hcl_scan.specs.Scans.{Scans};
+ghost use Rattle.hcl_syntax.specs.declared.class.Lookahead.{Lookahead};
+ghost use Rattle.hcl_syntax.specs.declared.expected.Newlines.TheVariants.{Seen};
+ghost use Rattle.hcl_syntax.specs.declared.refusal.Refusal.{Refusal};
+ghost use Rattle.hcl_syntax.specs.Grammar.{file, ◌at◌};
+ghost use Rattle.hcl_syntax.specs.Predictor.{refusal_of};
+ghost use Rattle.hcl_syntax.specs.Relation.{Run};
+ghost use Rattle.hcl_syntax.specs.Verdict.{IsAccepted};
+ghost use Rattle.hcl_syntax.specs.Balanced.{IsBalanced};
+
+/// In each front of the tokens of a file there are 0 to 256 more openers than closers.
+pub fn balanced()
+    ensures { (text : List ℕ) (tokens : List Lexeme) → Scans text tokens → IsAccepted tokens → IsBalanced tokens }
+{}
+
+/// A run of the grammar as a relation ends with the answer of the grammar as a function.
+pub fn run_is_answer()
+    ensures { (tokens : List Lookahead) (answer : Option Refusal) → Run 0 (file at Seen ∷ []) tokens answer → refusal_of tokens ≡ answer }
+{}
+
+/// The answer of the grammar as a function has a run of the relation.
+pub fn answer_has_run()
+    ensures { (tokens : List Lookahead) → Run 0 (file at Seen ∷ []) tokens (refusal_of tokens) }
+{}

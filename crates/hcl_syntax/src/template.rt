@@ -1,0 +1,140 @@
+// Templates and their directives.
+
+ghost use Rattle.std.specs.Prelude.{◌≡◌, ◌+◌, ◌<◌, ◌≤◌, [], ◌∷◌, length, Some, None, Ok, OnOk};
+ghost use Rattle.hcl_syntax.specs.Grammar.{◌at◌, the, expr, parts, directive, inside, turning};
+ghost use Rattle.hcl_syntax.specs.Leads.{Leads, Parses, Ends};
+ghost use Rattle.hcl_syntax.specs.declared.expected.Terminal.TheVariants.{EndSequence};
+ghost use Rattle.hcl_syntax.specs.declared.expected.Newlines.TheVariants.{Dropped};
+
+use crate::class::{Class, Word};
+use crate::cursor::Cursor;
+use crate::expected::{Newlines, Section, Terminal, Turning};
+use crate::refusal::Refusal;
+
+// How many directives may be open.
+const MAX_OPEN: usize = 256;
+
+// What a word does in a directive.
+fn turning(section: Section, class: Class) -> Turning
+    ensures { result ≡ turning section class }
+{
+    match (section, class) {
+        (Section::InIf, Class::Ident(Word::Else)) => Turning::Onward,
+        (Section::InIf | Section::InElse, Class::Ident(Word::Endif)) => Turning::Closing,
+        (Section::InFor, Class::Ident(Word::Endfor)) => Turning::Closing,
+        _ => Turning::Inner,
+    }
+}
+
+impl<'t, 's> Cursor<'t, 's> {
+    /// A template up to its closing quote or marker.
+    #[cycle(parser)]
+    pub fn parts(&mut self, newlines: Newlines, directives: usize) -> Result<(), Refusal>
+        ensures parses { Parses directives (parts at newlines ∷ []) self.old result self.new }
+        ensures shorter { OnOk result (length self.new ≤ length self.old) }
+    {
+        loop {
+            let Some(token) = self.look(newlines) else {
+                return Err(Refusal::UnexpectedEnd);
+            };
+            match token.class {
+                Class::Lit => self.bump(),
+                Class::InterpOpen => {
+                    self.bump();
+                    self.sequence(directives)?;
+                }
+                Class::ControlOpen => {
+                    self.bump();
+                    self.directive(token.number, directives)?;
+                }
+                Class::QuoteClose | Class::HeredocClose => return Ok(()),
+                _ => return Err(Refusal::UnexpectedToken(token.number)),
+            }
+        }
+    }
+
+    // An expression and the end of its sequence.
+    #[cycle(parser)]
+    fn sequence(&mut self, directives: usize) -> Result<(), Refusal>
+        ensures parses { Parses directives (expr at Dropped ∷ the EndSequence at Dropped ∷ []) self.old result self.new }
+        ensures shorter { OnOk result (length self.new < length self.old) }
+    {
+        self.expr(Newlines::Dropped, directives)?;
+        self.expect(Newlines::Dropped, Terminal::EndSequence)
+    }
+
+    // A directive behind its `%{`, which is the token of this number.
+    #[cycle(parser)]
+    fn directive(&mut self, number: usize, directives: usize) -> Result<(), Refusal>
+        ensures parses { Parses directives (directive number at Dropped ∷ []) self.old result self.new }
+        ensures shorter { OnOk result (length self.new < length self.old) }
+    {
+        let Some(token) = self.look(Newlines::Dropped) else {
+            return Err(Refusal::UnexpectedEnd);
+        };
+        match token.class {
+            Class::Ident(word) => match word {
+                Word::If => {
+                    if directives >= MAX_OPEN {
+                        return Err(Refusal::TooDeep(number));
+                    }
+                    self.bump();
+                    self.sequence(directives + 1)?;
+                    self.section(Section::InIf, directives)
+                }
+                Word::For => {
+                    if directives >= MAX_OPEN {
+                        return Err(Refusal::TooDeep(number));
+                    }
+                    self.bump();
+                    self.names()?;
+                    self.sequence(directives + 1)?;
+                    self.section(Section::InFor, directives)
+                }
+                _ => Err(Refusal::UnexpectedToken(token.number)),
+            },
+            _ => Err(Refusal::UnexpectedToken(token.number)),
+        }
+    }
+
+    // The template in a directive, through the directive's end.
+    #[cycle(parser)]
+    fn section(&mut self, section: Section, directives: usize) -> Result<(), Refusal>
+        requires { directives < 256 }
+        ensures ends { Ends directives (inside section at Dropped ∷ []) self.old result self.new }
+        ensures shorter { OnOk result (length self.new < length self.old) }
+    {
+        let mut section = section;
+        loop {
+            let Some(token) = self.look(Newlines::Dropped) else {
+                return Err(Refusal::UnexpectedEnd);
+            };
+            match token.class {
+                Class::Lit => self.bump(),
+                Class::InterpOpen => {
+                    self.bump();
+                    self.sequence(directives + 1)?;
+                }
+                Class::ControlOpen => {
+                    self.bump();
+                    let Some(word) = self.look(Newlines::Dropped) else {
+                        return Err(Refusal::UnexpectedEnd);
+                    };
+                    match turning(section, word.class) {
+                        Turning::Onward => {
+                            self.bump();
+                            self.expect(Newlines::Dropped, Terminal::EndSequence)?;
+                            section = Section::InElse;
+                        }
+                        Turning::Closing => {
+                            self.bump();
+                            return self.expect(Newlines::Dropped, Terminal::EndSequence);
+                        }
+                        Turning::Inner => self.directive(token.number, directives + 1)?,
+                    }
+                }
+                _ => return Err(Refusal::UnexpectedToken(token.number)),
+            }
+        }
+    }
+}

@@ -1,0 +1,11 @@
+use Rattle.std.proofs.Common.{◌<◌, arith, length, subst}
+use Rattle.hcl_layout.specs.Print.{print}
+use Rattle.hcl_scan.specs.Load.{max_source}
+use Rattle.tffmt.proofs.Answers.{row_too_large}
+use Rattle.tffmt.proofs.run.format.Goals as goal
+
+pub returns-then-len : goal.returns-then-len
+returns-then-len g c =
+    let w = c.refuse.ensures in
+    let more : max_source < length (print c.args.accepted.now.tokens) = omega (arith, c.printed_len-len.ensures, c.if-len.true) in
+    (w.0, row_too_large c.args.options.now c.args.accepted.now w.0 more w.1, w.2)
