@@ -3,6 +3,7 @@ pub mod Runs
 pub mod Loads
 pub mod Elements
 pub mod Lines
+pub mod Candidates
 pub mod Literals
 pub mod Starts
 pub mod Templates

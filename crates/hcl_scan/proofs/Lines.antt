@@ -15,15 +15,6 @@ other_than b h = grind (arith, nat_tests)
 same_as : (b : ℕ) → not (b == 10) ≡ false → b ≡ 10
 same_as b h = grind (arith, nat_tests)
 
--- no marker line begins behind the text
-pub none_behind : (marker text : List ℕ) (n : ℕ) → 0 < length marker → length text ≤ n → is_marker_line marker (drop n text) ≡ true → ⊥
-none_behind [] text n some le h = omega arith
-none_behind (m ∷ marker) text n some le h = by (drop n text) (omega (arith, length-drop n text)) h
-  where
-    by : (rest : List ℕ) → length rest ≤ 0 → is_marker_line (m ∷ marker) rest ≡ true → ⊥
-    by [] le h = cc
-    by (b ∷ rest) le h = omega arith
-
 module _ (marker text : List ℕ) (at line : ℕ) (line_is : line ≡ position_or_len is_lf (drop at text)) where
   -- no line begins within a line
   inside : (m : ℕ) → at < m → m ≤ at + line → get_or text (m - 1) 0 ≢ 10

@@ -1,12 +1,14 @@
 // The line that ends a heredoc.
 
-ghost use Rattle.std.specs.Prelude.{◌≡◌, ◌==◌, ◌<◌, ◌≤◌, ◌^◌, ℕ, codes, nat_eq, if◌then◌else◌, drop, length, IfSome, IfNone, IsTrue};
+ghost use Rattle.std.specs.Prelude.{◌≡◌, ◌==◌, ◌<◌, ◌≤◌, ◌-◌, ◌^◌, ℕ, get_or, codes, nat_eq, if◌then◌else◌, drop, length, IfSome, IfNone, IsTrue};
 ghost use Rattle.std.specs.List.{position_or_len, starts_with};
 ghost use Rattle.hcl_scan.specs.Lexemes.{is_newline_byte, marker_of};
 ghost use Rattle.hcl_scan.specs.Spelling.{starts};
 ghost use Rattle.hcl_scan.specs.Scans.{skip_blanks, ends_line, closer_len, is_marker_line, IsMarkerLine, IsFirstMarkerLine};
 
 use crate::blanks::{blanks, skip_blanks};
+use crate::source::line_start;
+use memchr::memmem::Finder;
 
 /// How many bytes stand before the first newline.
 fn word_len(text: &[u8]) -> usize
@@ -65,23 +67,40 @@ fn line_len(text: &[u8]) -> usize
     text.iter().take_while(|b| **b != b'\n').count()
 }
 
+/// Where the next line begins that can be the marker: one that has the marker in it.
+/// Most lines don't, and are skipped here without a look at each.
+fn next_candidate(text: &[u8], marker: &Finder, at: usize) -> Option<usize>
+    requires within { at ≤ length text.now }
+    requires line { 0 < at → get_or text.now (at - 1) 0 ≡ 10 }
+    ensures within { IfSome result (λ n. (at ≤ n) × (n ≤ length text.now)) }
+    ensures line { IfSome result (λ n. 0 < n → get_or text.now (n - 1) 0 ≡ 10) }
+    ensures skipped { IfSome result (λ n. (m : ℕ) → at ≤ m → m < n → ¬ IsMarkerLine marker.now text.now m) }
+    ensures none { IfNone result ((m : ℕ) → at ≤ m → ¬ IsMarkerLine marker.now text.now m) }
+{
+    let (_, rest) = text.split_at(at);
+    let place = marker.find(rest)?;
+    let (front, _) = rest.split_at(place);
+    Some(at + line_start(front))
+}
+
 /// Where the first line begins that is the marker.
 pub fn marker_line(text: &[u8], marker: &[u8]) -> Option<usize>
     requires { 0 < length marker.now }
     ensures found { IfSome result (IsFirstMarkerLine marker.now text.now) }
     ensures none { IfNone result ((n : ℕ) → ¬ IsMarkerLine marker.now text.now n) }
 {
+    let finder = Finder::new(marker);
     let mut at = 0;
-    while at < text.len() {
-        let (_, rest) = text.split_at(at);
+    while let Some(start) = next_candidate(text, &finder, at) {
+        let (_, rest) = text.split_at(start);
         if is_marker_line(rest, marker) {
-            return Some(at);
+            return Some(start);
         }
         let line = line_len(rest);
         if line == rest.len() {
             return None;
         }
-        at += line + 1;
+        at = start + line + 1;
     }
     None
 }
