@@ -75,6 +75,7 @@ fn enter_line(gaps: &mut Gaps<'_>, tokens: &Tokens<'_>)
 }
 
 /// The piece at hand.
+#[inline(always)]
 fn take_piece<'s>(gaps: &mut Gaps<'s>, tokens: &Tokens<'s>) -> Piece<'s>
     requires ready { Ready tokens.now.tokens gaps.old }
     requires some { gaps.old.next < gaps.old.end }
@@ -98,6 +99,7 @@ fn take_piece<'s>(gaps: &mut Gaps<'s>, tokens: &Tokens<'s>) -> Piece<'s>
 }
 
 /// The next piece.
+#[inline(always)]
 pub fn next_piece<'s>(gaps: &mut Gaps<'s>, tokens: &Tokens<'s>) -> Option<Piece<'s>>
     requires ready { Ready tokens.now.tokens gaps.old }
     requires small { bulk tokens.now.tokens < 2 ^ 32 }

@@ -37,6 +37,7 @@ pub fn plain_line(level: u32) -> LineGaps
     }
 }
 
+#[inline(always)]
 fn indent(level: u32, token: Token<'_>) -> u64
     requires { level ≤ 256 }
     ensures { result ≡ indent_of level (lexeme token.entry) }
@@ -48,6 +49,7 @@ fn indent(level: u32, token: Token<'_>) -> u64
 }
 
 /// The gap before a token, by the level and the spacing alone.
+#[inline(always)]
 fn plain_gap(
     level: u32,
     before: Option<Token<'_>>,
@@ -68,6 +70,7 @@ fn plain_gap(
 }
 
 /// The gap of the cell at its place, and else the other.
+#[inline(always)]
 fn cell_gap(cell: Option<Cell>, place: usize, otherwise: u64) -> u64
     ensures { result ≡ cell_gap_of cell place otherwise }
 {
@@ -81,6 +84,7 @@ fn cell_gap(cell: Option<Cell>, place: usize, otherwise: u64) -> u64
 }
 
 /// The gap before the token at a place of a line, behind the two tokens before it.
+#[inline(always)]
 pub fn gap_before(
     gaps: LineGaps,
     place: usize,
@@ -96,6 +100,7 @@ pub fn gap_before(
 }
 
 /// Whether the bytes are ASCII without CR LF, so that each is a grapheme cluster.
+#[inline(always)]
 fn is_simple(bytes: &[u8]) -> bool
     ensures { result ≡ is_simple_of bytes.now }
 {
@@ -110,6 +115,7 @@ fn is_simple(bytes: &[u8]) -> bool
 }
 
 /// How many extended grapheme clusters a text has.
+#[inline(always)]
 fn clusters(text: &str) -> u64
     ensures count { result ≡ length (graphemes true text.now) }
     ensures within { result ≤ length text.now }

@@ -12,6 +12,7 @@ use crate::kind::{
 };
 use hcl_scan::Token;
 
+#[inline(always)]
 fn begins_with_equals(text: &str) -> bool
     ensures { result ≡ begins_with_equals_of text.now }
 {
@@ -22,6 +23,7 @@ fn begins_with_equals(text: &str) -> bool
 }
 
 /// Whether the token before is a Dot.
+#[inline(always)]
 fn is_behind_dot(before: Option<Token<'_>>) -> bool
     ensures { result ≡ stands_before is_dot_of (option_map lexeme before.entry) }
 {
@@ -32,6 +34,7 @@ fn is_behind_dot(before: Option<Token<'_>>) -> bool
 }
 
 /// Whether the token before is an Ident.
+#[inline(always)]
 fn is_behind_ident(before: Option<Token<'_>>) -> bool
     ensures { result ≡ stands_before is_ident_of (option_map lexeme before.entry) }
 {
@@ -42,6 +45,7 @@ fn is_behind_ident(before: Option<Token<'_>>) -> bool
 }
 
 /// Whether an expression begins behind the token before, so that a minus there is a sign.
+#[inline(always)]
 fn is_opening(before: Option<Token<'_>>) -> bool
     ensures { result ≡ is_opening_of (option_map lexeme before.entry) }
 {
@@ -52,6 +56,7 @@ fn is_opening(before: Option<Token<'_>>) -> bool
 }
 
 /// Whether the neighbours would be read as one token, or as others, without a blank.
+#[inline(always)]
 fn would_join(before: Option<Token<'_>>, subject: Token<'_>, after: Token<'_>) -> bool
     ensures { result ≡ would_join_of (option_map lexeme before.entry) (lexeme subject.entry) (lexeme after.entry) }
 {
@@ -62,6 +67,7 @@ fn would_join(before: Option<Token<'_>>, subject: Token<'_>, after: Token<'_>) -
 }
 
 /// Whether the subject is the word `in` behind a name.
+#[inline(always)]
 fn is_in(before: Option<Token<'_>>, subject: Token<'_>) -> bool
     ensures { result ≡ is_in_of (option_map lexeme before.entry) (lexeme subject.entry) }
 {
@@ -70,6 +76,7 @@ fn is_in(before: Option<Token<'_>>, subject: Token<'_>) -> bool
 
 /// Whether one blank stands between the subject and the token after it on a line, or none. `before`
 /// is the token before the subject on that line, if there is one.
+#[inline(always)]
 pub fn space_between(before: Option<Token<'_>>, subject: Token<'_>, after: Token<'_>) -> bool
     ensures { result ≡ spaced (option_map lexeme before.entry) (lexeme subject.entry) (lexeme after.entry) }
 {

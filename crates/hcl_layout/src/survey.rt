@@ -43,30 +43,35 @@ pub struct LineFacts {
 }
 
 /// Whether a line ends with the token.
+#[inline(always)]
 fn is_line_end(token: Token<'_>) -> bool
     ensures { result ≡ ends_line (lexeme token.entry) }
 {
     is_newline(token.kind) && !token.inside_heredoc
 }
 
+#[inline(always)]
 fn is_trailing(token: Token<'_>) -> bool
     ensures { result ≡ is_trailing_of (lexeme token.entry) }
 {
     is_line_comment(token.kind) && !token.inside_heredoc
 }
 
+#[inline(always)]
 fn is_sign(token: Token<'_>) -> bool
     ensures { result ≡ is_sign_of (lexeme token.entry) }
 {
     is_assign(token.kind) && !token.inside_heredoc
 }
 
+#[inline(always)]
 fn holds_newline(text: &str) -> bool
     ensures { result ≡ list_any (λ b. b == 10) text.now }
 {
     text.as_bytes().iter().any(|b| *b == b'\n')
 }
 
+#[inline(always)]
 fn is_torn(token: Token<'_>) -> bool
     ensures { result ≡ is_torn_of (lexeme token.entry) }
 {
@@ -74,6 +79,7 @@ fn is_torn(token: Token<'_>) -> bool
 }
 
 /// The depth behind a token.
+#[inline(always)]
 fn deepened(depth: u32, kind: Kind) -> u32
     requires steps { Steps depth kind }
     requires fits { depth ≤ 256 }
@@ -89,6 +95,7 @@ fn deepened(depth: u32, kind: Kind) -> u32
 }
 
 /// Behind the first token of a line.
+#[inline(always)]
 fn first_survey(depth: u32, token: Token<'_>) -> Survey
     requires steps { Steps depth token.kind }
     requires fits { depth ≤ 256 }
@@ -108,6 +115,7 @@ fn first_survey(depth: u32, token: Token<'_>) -> Survey
 
 impl Survey {
     /// Behind one token more.
+    #[inline(always)]
     fn with(self, token: Token<'_>) -> Survey
         requires steps { Steps self.depth token.kind }
         requires fits { self.depth ≤ 256 }
@@ -156,6 +164,7 @@ impl Survey {
     }
 
     /// The place of the sign, where it begins a cell.
+    #[inline(always)]
     fn assign(self) -> Option<usize>
         ensures { result ≡ assign_of self }
     {
@@ -166,6 +175,7 @@ impl Survey {
     }
 
     /// The trailing comment, where the line takes part in runs.
+    #[inline(always)]
     fn running(self) -> Option<usize>
         ensures { result ≡ running_of self }
     {
@@ -177,6 +187,7 @@ impl Survey {
 }
 
 /// The tokens of a line, from the one at a place on, each noted.
+#[inline(always)]
 fn read_line(tokens: &Tokens<'_>, at: usize, depth: u32) -> Survey
     requires within { at < length tokens.now.tokens }
     requires balanced { Balanced depth (drop at tokens.now.tokens) }
@@ -197,6 +208,7 @@ fn read_line(tokens: &Tokens<'_>, at: usize, depth: u32) -> Survey
 }
 
 /// The line that begins at a place, where the depth is known.
+#[inline(always)]
 pub fn line_at(tokens: &Tokens<'_>, at: usize, depth: u32) -> LineFacts
     requires within { at < length tokens.now.tokens }
     requires balanced { Balanced depth (drop at tokens.now.tokens) }

@@ -15,6 +15,7 @@ use crate::survey::{LineFacts, line_at};
 use hcl_scan::Tokens;
 
 /// Sets the level of depths that stand next to one another.
+#[inline(always)]
 fn raise(levels: &mut [u32; 257], level: u32, from: u32, to: u32)
     requires order { from ≤ to }
     requires within { to ≤ 257 }
@@ -26,6 +27,7 @@ fn raise(levels: &mut [u32; 257], level: u32, from: u32, to: u32)
 }
 
 /// The level of a line, by the depths before and behind it. The levels are then those behind it.
+#[inline(always)]
 fn turn(levels: &mut [u32; 257], before: u32, now: u32) -> u32
     requires before { before ≤ 256 }
     requires now { now ≤ 256 }
@@ -66,6 +68,7 @@ pub fn start_walk() -> Walk
 }
 
 /// The width before a place of a line, by the level and the spacing alone.
+#[inline(always)]
 fn plain_width(tokens: &Tokens<'_>, at: usize, len: usize, place: usize, level: u32) -> u64
     requires within { at + len ≤ length tokens.now.tokens }
     requires there { place ≤ len }
@@ -105,6 +108,7 @@ fn assign_ahead(walk: &Walk, tokens: &Tokens<'_>, from: usize) -> u64
 }
 
 /// The column of the assign cell of the line at a place, by that of the line before.
+#[inline(always)]
 fn assign_column_at(walk: &Walk, tokens: &Tokens<'_>, at: usize, line: LineFacts) -> Option<u64>
     requires within { at < length tokens.now.tokens }
     requires stands { Stands tokens.now.tokens at walk.now.depth walk.now.levels }
@@ -125,6 +129,7 @@ fn assign_column_at(walk: &Walk, tokens: &Tokens<'_>, at: usize, line: LineFacts
 }
 
 /// The gaps of a line in whose run the assign cells stand at the column.
+#[inline(always)]
 fn assigned_line(
     tokens: &Tokens<'_>,
     at: usize,

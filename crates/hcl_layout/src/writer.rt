@@ -24,6 +24,7 @@ impl Buffer {
     }
 
     /// Takes bytes for which there is room.
+    #[inline(always)]
     fn hold(&mut self, text: &[u8])
         requires { self.old.len + length text.now ≤ 8192 }
         ensures held { held self.new ≡ held self.old ++ text.now }
@@ -76,6 +77,7 @@ fn send_past<W: ByteSink>(to: &mut W, buffer: &mut Buffer, text: &[u8]) -> Resul
 }
 
 /// Writes bytes behind those before, or lets them wait.
+#[inline(always)]
 fn put<W: ByteSink>(to: &mut W, buffer: &mut Buffer, text: &[u8]) -> Result<(), WriteFault>
     requires fresh { W.failed to.old ≡ false }
     requires room { buffer.old.sent + buffer.old.len + length text.now < 2 ^ 63 }
@@ -99,6 +101,7 @@ fn put<W: ByteSink>(to: &mut W, buffer: &mut Buffer, text: &[u8]) -> Result<(), 
 }
 
 /// Writes so many spaces.
+#[inline(always)]
 fn put_blanks<W: ByteSink>(to: &mut W, buffer: &mut Buffer, gap: u64) -> Result<(), WriteFault>
     requires fresh { W.failed to.old ≡ false }
     requires room { buffer.old.sent + buffer.old.len + gap < 2 ^ 63 }
@@ -116,6 +119,7 @@ fn put_blanks<W: ByteSink>(to: &mut W, buffer: &mut Buffer, gap: u64) -> Result<
 }
 
 /// Writes a piece.
+#[inline(always)]
 fn put_piece<W: ByteSink>(
     to: &mut W,
     buffer: &mut Buffer,

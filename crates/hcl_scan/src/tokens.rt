@@ -86,6 +86,7 @@ impl<'s> Tokens<'s> {
     }
 
     /// The token of this number.
+    #[inline(always)]
     pub fn get(&self, i: usize) -> Token<'s>
         requires { i < length self.now.tokens }
         ensures token { slice_get self.now.tokens i ≡ Some (lexeme result) }
