@@ -1,0 +1,57 @@
+"""The table of bench/scan and bench/syntax: hostile inputs, timed through the program."""
+
+import argparse
+import os
+import pathlib
+import sys
+import tempfile
+
+import inputs
+from measure import MAX, best, in_ms, table
+
+TOP = pathlib.Path(__file__).resolve().parent.parent
+TIMES = 10
+LIMIT = 60
+
+
+def main(name, cases):
+    read = argparse.ArgumentParser(usage='%s [--limit N] [--keep FOLDER] [PROGRAM]' % name)
+    read.add_argument('--limit', type=float, default=4)
+    read.add_argument('--keep')
+    read.add_argument('program', nargs='?', default=str(TOP / 'bin' / 'tffmt'))
+    given = read.parse_args()
+    program = os.path.abspath(given.program)
+    if not os.access(program, os.X_OK):
+        sys.exit('%s: %s is not a program; build it first' % (name, given.program))
+
+    with tempfile.TemporaryDirectory() as made:
+        store = pathlib.Path(given.keep or made)
+        store.mkdir(parents=True, exist_ok=True)
+
+        def timed(text, label):
+            path = store / label
+            path.write_bytes(text)
+            return best([program], str(path), TIMES, LIMIT)
+
+        ordinary = inputs.tidy(MAX)
+        usual, status = timed(ordinary, 'ordinary.tf')
+        rows = [['ordinary configuration', format(len(ordinary), ','), shown(status), in_ms(usual), '1.0', '']]
+        high = []
+        for number, (label, make) in enumerate(cases):
+            text = make(MAX)
+            assert len(text) <= MAX, label
+            taken, status = timed(text, '%02d.tf' % number)
+            half, _ = timed(make(MAX // 2), '%02d-half.tf' % number)
+            ratio = taken / usual
+            rows.append([label, format(len(text), ','), shown(status), in_ms(taken), '%.1f' % ratio,
+                         '%.1f' % (taken / half)])
+            if given.limit and ratio > given.limit or status is None or status not in (0, 2):
+                high.append(label)
+        print(table(['input', 'bytes', 'status', 'time', 'ratio', 'growth'], rows))
+    for label in high:
+        print('too slow, or an unexpected status: %s' % label)
+    return 1 if high else 0
+
+
+def shown(status):
+    return 'over %d s' % LIMIT if status is None else str(status)

@@ -1,0 +1,102 @@
+"""What the scripts of this folder share: running a program on a file, and measuring the run.
+
+The program's standard input is the file, its standard output is /dev/null, and what it says on standard
+error is dropped. Linux only: the memory figure and the /dev paths are those of Linux.
+"""
+
+import os
+import re
+import shutil
+import signal
+import subprocess
+import time
+
+MAX = 1048576           # the largest file, and the largest result
+
+
+def _spawn(words, path):
+    return os.posix_spawn(words[0], words, os.environ, file_actions=[
+        (os.POSIX_SPAWN_OPEN, 0, path, os.O_RDONLY, 0),
+        (os.POSIX_SPAWN_OPEN, 1, '/dev/null', os.O_WRONLY, 0),
+        (os.POSIX_SPAWN_OPEN, 2, '/dev/null', os.O_WRONLY, 0)])
+
+
+def once(words, path, limit=None):
+    """(seconds, status) of one run; status None where it took longer than `limit` seconds and was ended."""
+    begin = time.perf_counter()
+    child = _spawn(words, path)
+    late = []
+    if limit:
+        def end(*_):
+            late.append(True)
+            os.kill(child, signal.SIGKILL)
+        signal.signal(signal.SIGALRM, end)
+        signal.setitimer(signal.ITIMER_REAL, limit)
+    _, code = os.waitpid(child, 0)
+    taken = time.perf_counter() - begin
+    if limit:
+        signal.setitimer(signal.ITIMER_REAL, 0)
+    if late:
+        return taken, None
+    return taken, os.WEXITSTATUS(code) if os.WIFEXITED(code) else -os.WTERMSIG(code)
+
+
+def best(words, path, times, limit=None, budget=5.0):
+    """(least seconds, status) of up to `times` runs; fewer, but one at least, once `budget` seconds are gone."""
+    least, status = once(words, path, limit)
+    spent = least
+    for _ in range(times - 1):
+        if status is None or spent > budget:
+            break
+        taken, again = once(words, path, limit)
+        if again != status:
+            raise SystemExit('%s: status %s, then %s on one input' % (words[0], status, again))
+        least = min(least, taken)
+        spent += taken
+    return least, status
+
+
+def memory(words, path):
+    """Peak resident memory in bytes, by GNU time, or None without it.
+
+    (The figure that a parent gets for a child begins at the parent's own size, so a small parent is needed.)
+    """
+    tool = shutil.which('time')
+    if tool is None:
+        return None
+    with open(path, 'rb') as given:
+        done = subprocess.run([tool, '-f', 'peak %M'] + words, stdin=given, stdout=subprocess.DEVNULL,
+                              stderr=subprocess.PIPE)
+    found = re.findall(r'^peak (\d+)$', done.stderr.decode('utf-8', 'replace'), re.M)
+    return int(found[-1]) * 1024 if found else None
+
+
+def instructions(words, path):
+    """Instructions in user space by callgrind, or None where it isn't there or fails. Slow.
+
+    A Go program runs under valgrind only with one processor and without preemption by signals; the variables
+    that ask for that mean nothing to other programs.
+    """
+    if shutil.which('valgrind') is None:
+        return None
+    setting = dict(os.environ, GOMAXPROCS='1', GODEBUG='asyncpreemptoff=1')
+    with open(path, 'rb') as given:
+        done = subprocess.run(['valgrind', '--tool=callgrind', '--callgrind-out-file=/dev/null'] + words,
+                              stdin=given, stdout=subprocess.DEVNULL, stderr=subprocess.PIPE, env=setting)
+    found = re.findall(r'Collected\s*:\s*(\d+)', done.stderr.decode('utf-8', 'replace'))
+    return int(found[-1]) if found else None
+
+
+def in_ms(seconds):
+    return '%.2f ms' % (seconds * 1000) if seconds < 0.1 else '%.0f ms' % (seconds * 1000)
+
+
+def table(heads, rows):
+    """Rows of texts as a table in Markdown, the first column to the left and the others to the right."""
+    widths = [max(len(r[i]) for r in [heads] + rows) for i in range(len(heads))]
+
+    def line(cells):
+        return '| ' + ' | '.join(c.ljust(w) if i == 0 else c.rjust(w)
+                                 for i, (c, w) in enumerate(zip(cells, widths))) + ' |'
+    rule = '|' + '|'.join('-' * (w + 1) + ('-' if i == 0 else ':') for i, w in enumerate(widths)) + '|'
+    return '\n'.join([line(heads), rule] + [line(r) for r in rows])
