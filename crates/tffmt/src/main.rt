@@ -3,6 +3,8 @@
 
 mod laws;
 mod options;
+#[cfg(test)]
+mod row_tests;
 mod run;
 #[cfg(test)]
 mod tests;

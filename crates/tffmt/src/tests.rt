@@ -8,7 +8,13 @@ use std::process::Abort;
 use std::test::Fail;
 
 /// Runs the program, and compares what it wrote and its status.
-fn check(rt: &impl Abort, alloc: Global, words: &[&str], input: &[u8], wanted: (&[u8], &[u8], u8)) {
+pub fn check(
+    rt: &impl Abort,
+    alloc: Global,
+    words: &[&str],
+    input: &[u8],
+    wanted: (&[u8], &[u8], u8),
+) {
     let mut written = Vec::new(alloc);
     let mut told = Vec::new(alloc);
     let mut source = FromRead::new(input);
@@ -20,60 +26,6 @@ fn check(rt: &impl Abort, alloc: Global, words: &[&str], input: &[u8], wanted: (
     assert_eq!(rt; written.as_slice(), wanted.0);
     assert_eq!(rt; told.as_slice(), wanted.1);
     assert_eq!(rt; status, wanted.2);
-}
-
-#[test]
-fn prints(rt: HostRuntime) {
-    for (input, print) in [
-        (b"".as_slice(), b"".as_slice()),
-        (b"a=1\n", b"a = 1\n"),
-        (b"a=1", b"a = 1"),
-        (
-            b"a=1 # x\nlong_name=2 # yy\n",
-            b"a         = 1 # x\nlong_name = 2 # yy\n",
-        ),
-        (b"w=1 .5\n", b"w = 1 .5\n"),
-    ] {
-        check(
-            &rt,
-            rt.alloc(),
-            ["tffmt"].as_slice(),
-            input,
-            (print, b"", 0),
-        );
-    }
-}
-
-#[test]
-fn refuses(rt: HostRuntime) {
-    for (input, line) in [
-        (
-            b"a=\xff".as_slice(),
-            b"tffmt: error: 1:3: invalid UTF-8\n".as_slice(),
-        ),
-        (b"a=\n", b"tffmt: error: 1:3: unexpected token\n"),
-        (b"a {", b"tffmt: error: 1:4: unexpected end\n"),
-        (
-            b"a = 1 2\nb = \"c\n",
-            b"tffmt: error: 2:5: unterminated quote\n",
-        ),
-    ] {
-        check(&rt, rt.alloc(), ["tffmt"].as_slice(), input, (b"", line, 2));
-        check(
-            &rt,
-            rt.alloc(),
-            ["tffmt", "--check"].as_slice(),
-            input,
-            (b"", line, 2),
-        );
-    }
-}
-
-#[test]
-fn checks(rt: HostRuntime) {
-    let words = ["tffmt", "--check"].as_slice();
-    check(&rt, rt.alloc(), words, b"a = 1\n", (b"", b"", 0));
-    check(&rt, rt.alloc(), words, b"a  = 1\n", (b"", b"", 3));
 }
 
 #[test]
