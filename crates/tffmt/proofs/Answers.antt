@@ -3,7 +3,6 @@ use Rattle.std.proofs.Common.{cond, ◌≡◌, ◌∙◌, ℕ, ◌≤◌, ◌<�
 use Rattle.std.specs.Io.KnownBytes.{Consumes, IsAtEnd}
 use Rattle.std.specs.Prelude.{Result, Ok, Err, nat_lt}
 use Rattle.std.specs.Str.{bytes_eq}
-use Rattle.std.proofs.lemmas.Slice.Eq.{bytes_eq-Decides}
 use Rattle.std.proofs.lemmas.Bool.Decides.{nat_tests}
 use Rattle.hcl_layout.specs.Print.{print}
 use Rattle.hcl_scan.specs.Scanned.{Scanned}
@@ -138,14 +137,3 @@ row_too_large options s row more (inr is) = inr (is ∙ sym (too_large_row (lt_t
   where
     too_large_row : nat_lt max_source (length (print s.tokens)) ≡ true → row_of_file options s ≡ refused too_large
     too_large_row e = ap (λ b. cond b (refused too_large) (cond options.check (record { out = []; err = []; status = cond (bytes_eq (print s.tokens) s.text) 0 3 }) (record { out = print s.tokens; err = []; status = 0 }))) e
-
--- ---- two tests of one fact
-
-same_test : (q r : Bool) (P : Type 0) → (q ≡ true → P) × (P → q ≡ true) → (r ≡ true → P) × (P → r ≡ true) → q ≡ r
-same_test true true P a b = refl
-same_test true false P a b = sym (b.1 (a.0 refl))
-same_test false true P a b = a.1 (b.0 refl)
-same_test false false P a b = refl
-
-pub is_formatted_is : (r : Bool) (print text : List ℕ) → (r ≡ true → print ≡ text) × (print ≡ text → r ≡ true) → bytes_eq print text ≡ r
-is_formatted_is r print text both = same_test (bytes_eq print text) r (print ≡ text) (bytes_eq-Decides print text) both

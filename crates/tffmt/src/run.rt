@@ -1,10 +1,10 @@
 //! A run over any devices.
 
-ghost use Rattle.std.specs.Prelude.{◌≡◌, ◌≢◌, ◌||◌, ◌<◌, ℕ, List, [], false, true, length, map, if◌then◌else◌, string_bytes, IfOk};
+ghost use Rattle.std.specs.Prelude.{◌≡◌, ◌≢◌, ◌||◌, ◌<◌, ◌≤◌, ℕ, List, [], false, true, length, map, if◌then◌else◌, string_bytes, IfOk};
 ghost use Rattle.tffmt.specs.Rows.{Row, Took, Shows, ShowsOne, Gives, IsRow, OrOutOfMemory, OfInput};
-ghost use Rattle.std.specs.Str.{bytes_eq};
+ghost use Rattle.hcl_scan.specs.Load.{max_source};
 ghost use Rattle.hcl_layout.specs.Print.{print};
-ghost use Rattle.tffmt.specs.Answer.{fault_line, refused, row_of_file, IsTextAnswer, IsFileAnswer, IsAnswer, usage_line};
+ghost use Rattle.tffmt.specs.Answer.{fault_line, refused, row_of_file, IsTextAnswer, IsFileAnswer, IsAnswer};
 
 use crate::options::{FmtOptions, Usage, options};
 use hcl_layout::{emit, is_formatted, printed_len};
@@ -71,15 +71,30 @@ fn refuse<O: ByteSink, E: ByteSink>(alloc: Global, out: &mut O, err: &mut E, fau
     }
 }
 
-/// Writes and flushes a text.
+/// Writes a text, and flushes it where it isn't empty.
 fn say<O: ByteSink>(out: &mut O, text: &str)
     requires { O.failed out.old ≡ false }
     ensures took { Took (O.failed out.new) (O.taken out.old) (O.taken out.new) text.now }
-    ensures flushed { O.failed out.new ≡ false → O.flushed out.new ≡ true }
+    ensures flushed { O.failed out.new ≡ false → 0 < length text.now → O.flushed out.new ≡ true }
 {
-    if write_fully(out, text.as_bytes()).is_ok() {
+    if write_fully(out, text.as_bytes()).is_ok() && !text.is_empty() {
         let _ = out.flush();
     }
+}
+
+/// Shows a text.
+fn deliver<O: ByteSink, E: ByteSink>(out: &mut O, err: &mut E, text: &str) -> u8
+    requires out { O.failed out.old ≡ false }
+    requires err { E.failed err.old ≡ false }
+    ensures { let row : Row = record { out = text.now; err = []; status = 0 } in
+        Shows row (O.failed out.new) (E.failed err.new) (O.flushed out.new)
+        (O.taken out.old) (O.taken out.new) (E.taken err.old) (E.taken err.new) result }
+{
+    say(out, text);
+    if out.has_failed() {
+        return complain(err, WRITE_FAILED, 4);
+    }
+    0
 }
 
 /// Writes the print of a file, which has so many bytes.
@@ -115,47 +130,44 @@ fn show<O: ByteSink, E: ByteSink>(
     0
 }
 
-/// Writes the usage line to standard output.
-fn help<O: ByteSink, E: ByteSink>(out: &mut O, err: &mut E) -> u8
+/// The text of a file.
+fn text_of<'s>(accepted: &Accepted<'_, 's>) -> &'s str
+    ensures value { result.now ≡ accepted.now.text }
+    ensures small { length result.now ≤ max_source }
+{
+    accepted.tokens().source().text()
+}
+
+/// Shows what a file gives that is its own print, and so is no larger than a source.
+fn show_formatted<O: ByteSink, E: ByteSink>(
+    options: &FmtOptions,
+    accepted: &Accepted<'_, '_>,
+    out: &mut O,
+    err: &mut E,
+) -> u8
+    requires formatted { print accepted.now.tokens ≡ accepted.now.text }
     requires out { O.failed out.old ≡ false }
     requires err { E.failed err.old ≡ false }
-    ensures { let row : Row = record { out = usage_line; err = []; status = 0 } in
-        Shows row (O.failed out.new) (E.failed err.new) (O.flushed out.new)
+    ensures { Shows (row_of_file options.now accepted.now) (O.failed out.new) (E.failed err.new) (O.flushed out.new)
         (O.taken out.old) (O.taken out.new) (E.taken err.old) (E.taken err.new) result }
 {
-    say(out, USAGE);
-    if out.has_failed() {
-        return complain(err, WRITE_FAILED, 4);
+    let text = text_of(accepted);
+    if options.check {
+        tell(out, err, "", 0)
+    } else {
+        deliver(out, err, text)
     }
-    0
 }
 
-/// The status that says whether a file is formatted.
-fn check_status(accepted: &Accepted<'_, '_>) -> u8
-    ensures { result ≡ (if bytes_eq (print accepted.now.tokens) accepted.now.text then 0 else 3) }
-{
-    if is_formatted(accepted) { 0 } else { 3 }
-}
-
-/// Says by the status whether a file is formatted.
-fn check<O: ByteSink, E: ByteSink>(accepted: &Accepted<'_, '_>, out: &mut O, err: &mut E) -> u8
-    requires out { O.failed out.old ≡ false }
-    requires err { E.failed err.old ≡ false }
-    ensures { let row : Row = record { out = []; err = []; status = if bytes_eq (print accepted.now.tokens) accepted.now.text then 0 else 3 } in
-        Shows row (O.failed out.new) (E.failed err.new) (O.flushed out.new)
-        (O.taken out.old) (O.taken out.new) (E.taken err.old) (E.taken err.new) result }
-{
-    tell(out, err, "", check_status(accepted))
-}
-
-/// Shows what an accepted file gives.
-fn format<O: ByteSink, E: ByteSink>(
+/// Shows what a file gives that isn't its own print.
+fn show_changed<O: ByteSink, E: ByteSink>(
     alloc: Global,
     options: &FmtOptions,
     accepted: &Accepted<'_, '_>,
     out: &mut O,
     err: &mut E,
 ) -> u8
+    requires changed { print accepted.now.tokens ≢ accepted.now.text }
     requires out { O.failed out.old ≡ false }
     requires err { E.failed err.old ≡ false }
     ensures { ShowsOne (OrOutOfMemory (λ row. row ≡ row_of_file options.now accepted.now))
@@ -171,9 +183,31 @@ fn format<O: ByteSink, E: ByteSink>(
         return refuse(alloc, out, err, &fault);
     }
     if options.check {
-        check(accepted, out, err)
+        tell(out, err, "", 3)
     } else {
         show(accepted, len, out, err)
+    }
+}
+
+/// Shows what an accepted file gives. A formatted file, which most are, is walked once and not
+/// printed anew.
+fn format<O: ByteSink, E: ByteSink>(
+    alloc: Global,
+    options: &FmtOptions,
+    accepted: &Accepted<'_, '_>,
+    out: &mut O,
+    err: &mut E,
+) -> u8
+    requires out { O.failed out.old ≡ false }
+    requires err { E.failed err.old ≡ false }
+    ensures { ShowsOne (OrOutOfMemory (λ row. row ≡ row_of_file options.now accepted.now))
+        (O.failed out.new) (E.failed err.new) (O.flushed out.new)
+        (O.taken out.old) (O.taken out.new) (E.taken err.old) (E.taken err.new) result }
+{
+    if is_formatted(accepted) {
+        show_formatted(options, accepted, out, err)
+    } else {
+        show_changed(alloc, options, accepted, out, err)
     }
 }
 
@@ -244,7 +278,7 @@ fn start<R: ByteSource, O: ByteSink, E: ByteSink>(
 {
     match options(alloc, words) {
         Ok(options) => run(alloc, &options, input, out, err),
-        Err(Usage::Help) => help(out, err),
+        Err(Usage::Help) => deliver(out, err, USAGE),
         Err(Usage::BadLine) => tell(out, err, USAGE, 2),
         Err(Usage::OutOfMemory) => tell(out, err, OUT_OF_MEMORY, 4),
     }

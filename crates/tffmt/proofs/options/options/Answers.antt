@@ -1,8 +1,7 @@
-use Rattle.std.proofs.Common.{rules, ap, ap₂, refl, sym, subst, codes, true, map, option_map, List, Option, Some, Result, Ok, Err, [], ◌∷◌, ◌≡◌, ◌∙◌, ◌⊎◌, inl, inr}
-use Rattle.clap.specs.Words.{App, HasKind, IsAmong, found_of, rows_of, Kinds, Row, Rule, Text, app_of, is_simple, is_simple_and_free, kind_of, fault_of, matches_of}
+use Rattle.std.proofs.Common.{ap, refl, sym, subst, codes, map, List, Result, Ok, Err, [], ◌∷◌, ◌≡◌, ◌∙◌, ◌⊎◌, inl, inr}
+use Rattle.clap.specs.Words.{HasKind, IsAmong, found_of, rows_of, Kinds, Row, Text, app_of, is_simple, is_simple_and_free, kind_of, fault_of, matches_of}
 use Rattle.clap.specs.declared.error.ErrorKind.{ErrorKind}
 use Rattle.clap.specs.declared.error.ErrorKind.TheVariants as kind
-use Rattle.clap.proofs.OnLiterals.{clap_on_literals}
 use Rattle.command_line.specs.Flags.{is_set}
 use Rattle.tffmt.specs.Line.{options_of, line_of, tffmt, usage_of_kind}
 use Rattle.tffmt.specs.declared.options.FmtOptions.{FmtOptions}

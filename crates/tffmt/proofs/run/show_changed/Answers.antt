@@ -1,8 +1,8 @@
-use Rattle.std.proofs.Common.{◌<◌, arith, length, subst}
+use Rattle.std.proofs.Common.{◌<◌, arith, length}
 use Rattle.hcl_layout.specs.Print.{print}
 use Rattle.hcl_scan.specs.Load.{max_source}
 use Rattle.tffmt.proofs.Answers.{row_too_large}
-use Rattle.tffmt.proofs.run.format.Goals as goal
+use Rattle.tffmt.proofs.run.show_changed.Goals as goal
 
 pub returns-then-len : goal.returns-then-len
 returns-then-len g c =
