@@ -47,6 +47,23 @@ text_front xs text e = sym (take-append-drop (length text) xs) ∙ ap (λ l. l +
 pub not_text : (xs text rest : List ℕ) → starts_with nat_eq xs text ≡ false → xs ≢ text ++ rest
 not_text xs text rest e f = other_text text (take (length text) xs) (sym e) (sym (front_of (length text) xs text rest refl f))
 
+-- the text is a part of what it is looked for in
+pub front_text : (xs text : List ℕ) → text ≡ take (length text) xs → starts_with nat_eq xs text ≡ true
+front_text xs text e = go (starts_with nat_eq xs text) refl
+  where
+    whole : xs ≡ text ++ drop (length text) xs
+    whole = sym (take-append-drop (length text) xs) ∙ ap (λ l. l ++ drop (length text) xs) (sym e)
+
+    go : (v : Bool) → starts_with nat_eq xs text ≡ v → starts_with nat_eq xs text ≡ true
+    go true v = v
+    go false v = absurd (not_text xs text (drop (length text) xs) v whole)
+
+pub behind : (gap at : ℕ) (left bytes : List ℕ) → left ≡ drop at bytes → drop gap left ≡ drop (at + gap) bytes
+behind gap at left bytes e = ap (drop gap) e ∙ twice
+  where
+    twice : drop gap (drop at bytes) ≡ drop (at + gap) bytes
+    twice = grind (arith, common_steps)
+
 -- a piece at a place
 pub piece_found : (xs : List ℕ) (at gap : ℕ) (text : List ℕ) → drop at xs ≡ replicate gap 32 ++ drop gap (drop at xs) → drop gap (drop at xs) ≡ text ++ drop (length text) (drop gap (drop at xs))
     → drop at xs ≡ (replicate gap 32 ++ text) ++ drop (at + gap + length text) xs

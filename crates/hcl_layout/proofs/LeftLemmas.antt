@@ -1,6 +1,8 @@
 -- What is left to print, piece by piece.
-use Rattle.std.proofs.Common.{◌≡◌, ◌∙◌, ◌+◌, ◌-◌, ◌++◌, ◌<◌, ◌≤◌, ◌==◌, ◌^◌, ℕ, suc, zero, Bool, true, false, List, [], ◌∷◌, Option, Some, None, length, ap, ap₂, sym, arith, take, drop, replicate}
-use Rattle.std.specs.Prelude.{IfSome, if◌then◌else◌, slice_get}
+use Rattle.std.proofs.Common.{◌≡◌, ◌∙◌, ◌+◌, ◌-◌, ◌++◌, ◌<◌, ◌≤◌, ◌==◌, ◌^◌, ℕ, suc, zero, Bool, true, false, List, [], ◌∷◌, Option, Some, None, length, ap, ap₂, refl, sym, arith, take, drop, replicate}
+use Rattle.std.specs.Prelude.{IfSome, if◌then◌else◌, nat_lt, slice_get}
+use Rattle.std.proofs.lemmas.Bool.Decides.{nat_tests}
+use Rattle.hcl_layout.specs.Left.{behind}
 use Rattle.std.specs.List.{flat_map}
 use Rattle.hcl_scan.specs.Lexemes.{Lexeme}
 use Rattle.hcl_layout.specs.Depths.{Balanced, fresh}
@@ -21,14 +23,41 @@ start_all ts d levels column p e f g =
     ap₂ (λ (x : ℕ) (y : List ℕ). flat_map (λ g. g) (commented x y column None (lines ts))) e f
     ∙ ap (λ (x : Option ℕ). flat_map (λ g. g) (commented 0 fresh x None (lines ts))) g ∙ sym (gaps_all ts p)
 
-pub piece_left : (ts : List Lexeme) (next end place : ℕ) (b s : Option Lexeme) (set : LineGaps) (rest : List ℕ) (t : Lexeme) (gap : ℕ) → slice_get ts next ≡ Some t → next < end → gap ≡ gap_of set place b s t
-    → printed (gaps_from set place b s (take (end - next) (drop next ts)) ++ rest) (drop next ts)
-    ≡ (replicate gap 32 ++ t.text) ++ printed (gaps_from set (place + 1) s (Some t) (take (end - (next + 1)) (drop (next + 1) ts)) ++ rest) (drop (next + 1) ts)
-piece_left ts next end place b s set rest t gap e lt g =
+-- the first token of a line has none behind it
+pub none_behind : (ts : List Lexeme) (at n : ℕ) → n ≤ at → behind ts at n ≡ None
+none_behind ts at n le = rw (not_less at n le) refl
+  where
+    not_less : (a b : ℕ) → b ≤ a → nat_lt a b ≡ false
+    not_less a b h = grind (arith, nat_tests)
+
+-- the token that was printed is behind the next
+pub printed_behind : (ts : List Lexeme) (start next : ℕ) (t : Lexeme) → slice_get ts next ≡ Some t → start ≤ next → behind ts start (next + 1) ≡ Some t
+printed_behind ts start next t e le = rw (less start next le) (ap (slice_get ts) (omega arith) ∙ e)
+  where
+    less : (a b : ℕ) → a ≤ b → nat_lt a (b + 1) ≡ true
+    less a b h = grind (arith, nat_tests)
+
+pub piece_left : (ts : List Lexeme) (next start end : ℕ) (set : LineGaps) (rest : List ℕ) (t : Lexeme) (gap : ℕ) → slice_get ts next ≡ Some t → next < end → start ≤ next
+    → gap ≡ gap_of set (next - start) (behind ts start (next - 1)) (behind ts start next) t
+    → printed (gaps_from set (next - start) (behind ts start (next - 1)) (behind ts start next) (take (end - next) (drop next ts)) ++ rest) (drop next ts)
+    ≡ (replicate gap 32 ++ t.text) ++ printed (gaps_from set ((next + 1) - start) (behind ts start ((next + 1) - 1)) (behind ts start (next + 1)) (take (end - (next + 1)) (drop (next + 1) ts)) ++ rest) (drop (next + 1) ts)
+piece_left ts next start end set rest t gap e lt le g =
     let one : end - next ≡ suc (end - (next + 1)) = omega arith in
-    let behind : List Lexeme = drop (next + 1) ts in
-    ap₂ (λ (n : ℕ) (xs : List Lexeme). printed (gaps_from set place b s (take n xs) ++ rest) xs) one (drop_at ts next t e)
-    ∙ ap (λ k. (replicate k 32 ++ t.text) ++ printed (gaps_from set (place + 1) s (Some t) (take (end - (next + 1)) behind) ++ rest) behind) (sym g)
+    let left : List Lexeme = drop (next + 1) ts in
+    let b = behind ts start (next - 1) in
+    let s = behind ts start next in
+    let place : (next - start) + 1 ≡ (next + 1) - start = omega arith in
+    let last : next ≡ (next + 1) - 1 = omega arith in
+    ap₂ (λ (n : ℕ) (xs : List Lexeme). printed (gaps_from set (next - start) b s (take n xs) ++ rest) xs) one (drop_at ts next t e)
+    ∙ ap (λ k. (replicate k 32 ++ t.text) ++ printed (gaps_from set ((next - start) + 1) s (Some t) (take (end - (next + 1)) left) ++ rest) left) (sym g)
+    ∙ ap (λ k. (replicate gap 32 ++ t.text) ++ printed (gaps_from set k s (Some t) (take (end - (next + 1)) left) ++ rest) left) place
+    ∙ ap₂ (λ (n : ℕ) (u : Option Lexeme). (replicate gap 32 ++ t.text) ++ printed (gaps_from set ((next + 1) - start) (behind ts start n) u (take (end - (next + 1)) left) ++ rest) left) last (sym (printed_behind ts start next t e le))
+
+-- the gap by the tokens that were looked up
+pub gap_there : (ts : List Lexeme) (start next last : ℕ) (set : LineGaps) (b u : Option Lexeme) (t : Lexeme) (gap : ℕ) → gap ≡ gap_of set (next - start) b u t
+    → last ≡ next - 1 → b ≡ behind ts start last → u ≡ behind ts start next → gap ≡ gap_of set (next - start) (behind ts start (next - 1)) (behind ts start next) t
+gap_there ts start next last set b u t gap g e f h =
+    g ∙ ap₂ (λ (x y : Option Lexeme). gap_of set (next - start) x y t) (f ∙ ap (behind ts start) e) h
 
 plain_small : (level : ℕ) (b s : Option Lexeme) (t : Lexeme) → level ≤ 256 → plain_gap level b s t ≤ 512
 plain_small level b None t low = omega (arith, indented level t)

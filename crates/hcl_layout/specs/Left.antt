@@ -1,8 +1,7 @@
 -- What is left to print, from a state of the reading.
-use Rattle.std.specs.Prelude.{◌-◌, ◌<◌, ◌≤◌, ◌^◌, ◌++◌, ℕ, List, IfSome, take, drop, length, option_map, replicate}
+use Rattle.std.specs.Prelude.{◌≡◌, ◌-◌, ◌<◌, ◌≤◌, ◌^◌, ◌++◌, ℕ, List, Option, None, IfSome, take, drop, length, nat_lt, replicate, slice_get, if◌then◌else◌}
 use Rattle.std.specs.List.{flat_map}
 use Rattle.hcl_scan.specs.Lexemes.{Lexeme}
-use Rattle.hcl_scan.specs.Scanned.{lexeme}
 use Rattle.hcl_layout.specs.LineGaps.{gaps_from}
 use Rattle.hcl_layout.specs.Lines.{Line, lines}
 use Rattle.hcl_layout.specs.Print.{printed}
@@ -19,8 +18,12 @@ line_left ts s = take (s.end - s.next) (drop s.next ts)
 abbrev pub rest_gaps : List Lexeme → Gaps → List ℕ
 rest_gaps ts s = flat_map (λ g. g) (commented s.walk.depth s.walk.levels s.walk.column s.comment (lines (drop s.end ts)))
 
+-- the token before a place, where it is of the line that begins at `start`
+abbrev pub behind : List Lexeme → ℕ → ℕ → Option Lexeme
+behind ts start at = if nat_lt start at then slice_get ts (at - 1) else None
+
 abbrev pub gaps_left : List Lexeme → Gaps → List ℕ
-gaps_left ts s = gaps_from s.set s.place (option_map lexeme s.before) (option_map lexeme s.subject) (line_left ts s) ++ rest_gaps ts s
+gaps_left ts s = gaps_from s.set (s.next - s.start) (behind ts s.start (s.next - 1)) (behind ts s.start s.next) (line_left ts s) ++ rest_gaps ts s
 
 abbrev pub to_print : List Lexeme → Gaps → List ℕ
 to_print ts s = printed (gaps_left ts s) (drop s.next ts)
@@ -28,10 +31,14 @@ to_print ts s = printed (gaps_left ts s) (drop s.next ts)
 abbrev pub bytes_of : Piece → List ℕ
 bytes_of p = replicate p.gap 32 ++ p.text.now
 
+-- a text stands in the source, and begins at a place
+abbrev pub IsFrom : List ℕ → ℕ → List ℕ → Type 0
+IsFrom source start text = text ≡ take (length text) (drop start source)
+
 pub record Ready (ts : List Lexeme) (s : Gaps) : Type 0 where
   pub order : s.next ≤ s.end
   pub within : s.end ≤ length ts
-  pub place : s.place ≤ s.next
+  pub began : s.start ≤ s.next
   pub level : s.set.level ≤ 256
   pub assign : IfSome s.set.assign (λ c. c.gap ≤ 2 ^ 33)
   pub cell : IfSome s.set.comment (λ c. c.gap ≤ 2 ^ 34)

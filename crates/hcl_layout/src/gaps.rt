@@ -1,8 +1,9 @@
 //! The pieces of the print, one after another: each token with the gap before it.
-ghost use Rattle.std.specs.Prelude.{◌≡◌, ◌<◌, ◌≤◌, ◌+◌, ◌*◌, ◌^◌, ◌++◌, ◌∷◌, [], List, length, IfSome, MatchOption};
+ghost use Rattle.std.specs.Prelude.{◌≡◌, ◌<◌, ◌≤◌, ◌+◌, ◌*◌, ◌^◌, ◌++◌, ◌∷◌, [], List, length, option_map, IfSome, MatchOption};
 ghost use Rattle.hcl_scan.specs.Lexemes.{Lexeme};
+ghost use Rattle.hcl_scan.specs.Scanned.{lexeme};
 ghost use Rattle.hcl_layout.specs.Depths.{Balanced};
-ghost use Rattle.hcl_layout.specs.Left.{Ready, bytes_of, gaps_left, rest_gaps, to_print};
+ghost use Rattle.hcl_layout.specs.Left.{IsFrom, Ready, behind, bytes_of, gaps_left, rest_gaps, to_print};
 ghost use Rattle.hcl_layout.specs.LineGaps.{bulk};
 ghost use Rattle.hcl_layout.specs.Print.{print};
 
@@ -11,40 +12,36 @@ use crate::survey::line_at;
 use crate::walk::{Walk, comment_column_at, commented_line, start_walk};
 use hcl_scan::{Token, Tokens};
 
-/// Where the next piece stands: the number of its token, the end of its line, its place in the
-/// line, the two tokens before it there, the line's gaps, and what is known of the lines up to its
-/// end.
+/// Where the next piece stands: the number of its token, where its line begins and ends, the
+/// line's gaps, and what is known of the lines up to its end.
 #[derive(Clone, Copy)]
-pub struct Gaps<'s> {
+pub struct Gaps {
     pub next: usize,
+    pub start: usize,
     pub end: usize,
-    pub place: usize,
-    pub before: Option<Token<'s>>,
-    pub subject: Option<Token<'s>>,
     pub set: LineGaps,
     pub walk: Walk,
     pub comment: Option<u64>,
 }
 
-/// A token's text, and so many blanks before it.
+/// A token's text, which begins at a byte offset of the source, and so many blanks before it.
 #[derive(Clone, Copy)]
 pub struct Piece<'s> {
     pub gap: u64,
     pub text: &'s str,
+    pub start: usize,
 }
 
 /// Before the first token.
-pub fn start<'s>() -> Gaps<'s>
+pub fn start() -> Gaps
     ensures ready { (ts : List Lexeme) → Balanced 0 ts → Ready ts result }
     ensures all { (ts : List Lexeme) → Balanced 0 ts → to_print ts result ≡ print ts }
     ensures first { result.next ≡ 0 }
 {
     Gaps {
         next: 0,
+        start: 0,
         end: 0,
-        place: 0,
-        before: None,
-        subject: None,
         set: plain_line(0),
         walk: start_walk(),
         comment: None,
@@ -52,7 +49,7 @@ pub fn start<'s>() -> Gaps<'s>
 }
 
 /// Goes on to the next line.
-fn enter_line(gaps: &mut Gaps<'_>, tokens: &Tokens<'_>)
+fn enter_line(gaps: &mut Gaps, tokens: &Tokens<'_>)
     requires ready { Ready tokens.now.tokens gaps.old }
     requires done { gaps.old.next ≡ gaps.old.end }
     requires within { gaps.old.end < length tokens.now.tokens }
@@ -67,16 +64,26 @@ fn enter_line(gaps: &mut Gaps<'_>, tokens: &Tokens<'_>)
     let comment = comment_column_at(&gaps.walk, gaps.comment, tokens, at, line);
     let set = gaps.walk.pass(tokens, at, line);
     gaps.set = commented_line(tokens, at, line, set, comment);
+    gaps.start = at;
     gaps.end = at + line.len;
-    gaps.place = 0;
-    gaps.before = None;
-    gaps.subject = None;
     gaps.comment = comment;
+}
+
+/// The token before a place, where it is of the line that begins at `start`.
+#[inline(always)]
+fn token_behind<'s>(tokens: &Tokens<'s>, start: usize, at: usize) -> Option<Token<'s>>
+    requires { at ≤ length tokens.now.tokens }
+    ensures { option_map lexeme result ≡ behind tokens.now.tokens start at }
+{
+    if start < at {
+        return Some(tokens.get(at - 1));
+    }
+    None
 }
 
 /// The piece at hand.
 #[inline(always)]
-fn take_piece<'s>(gaps: &mut Gaps<'s>, tokens: &Tokens<'s>) -> Piece<'s>
+fn take_piece<'s>(gaps: &mut Gaps, tokens: &Tokens<'s>) -> Piece<'s>
     requires ready { Ready tokens.now.tokens gaps.old }
     requires some { gaps.old.next < gaps.old.end }
     requires small { bulk tokens.now.tokens < 2 ^ 32 }
@@ -85,22 +92,24 @@ fn take_piece<'s>(gaps: &mut Gaps<'s>, tokens: &Tokens<'s>) -> Piece<'s>
     ensures next { gaps.new.next ≡ gaps.old.next + 1 }
     ensures gap { result.gap ≤ 2 ^ 34 }
     ensures text { length result.text.now < 2 ^ 32 }
+    ensures source { IsFrom tokens.now.text result.start result.text.now }
 {
-    let token = tokens.get(gaps.next);
-    let gap = gap_before(gaps.set, gaps.place, gaps.before, gaps.subject, token);
-    gaps.next += 1;
-    gaps.place += 1;
-    gaps.before = gaps.subject;
-    gaps.subject = Some(token);
+    let (start, at) = (gaps.start, gaps.next);
+    let token = tokens.get(at);
+    let subject = token_behind(tokens, start, at);
+    let before = token_behind(tokens, start, at.saturating_sub(1));
+    let gap = gap_before(gaps.set, at - start, before, subject, token);
+    gaps.next = at + 1;
     Piece {
         gap,
         text: token.text,
+        start: token.start,
     }
 }
 
 /// The next piece.
 #[inline(always)]
-pub fn next_piece<'s>(gaps: &mut Gaps<'s>, tokens: &Tokens<'s>) -> Option<Piece<'s>>
+pub fn next_piece<'s>(gaps: &mut Gaps, tokens: &Tokens<'s>) -> Option<Piece<'s>>
     requires ready { Ready tokens.now.tokens gaps.old }
     requires small { bulk tokens.now.tokens < 2 ^ 32 }
     ensures ready { Ready tokens.now.tokens gaps.new }
@@ -109,6 +118,7 @@ pub fn next_piece<'s>(gaps: &mut Gaps<'s>, tokens: &Tokens<'s>) -> Option<Piece<
     ensures within { gaps.new.next ≤ length tokens.now.tokens }
     ensures gap { IfSome result (λ p. p.gap ≤ 2 ^ 34) }
     ensures text { IfSome result (λ p. length p.text.now < 2 ^ 32) }
+    ensures source { IfSome result (λ p. IsFrom tokens.now.text p.start p.text.now) }
 {
     if gaps.next < gaps.end {
         return Some(take_piece(gaps, tokens));

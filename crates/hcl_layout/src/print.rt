@@ -1,7 +1,7 @@
 //! How long the print is, and whether the source is its own print.
-ghost use Rattle.std.specs.Prelude.{◌≡◌, ◌≢◌, ◌↔◌, ◌≤◌, ◌^◌, ◌++◌, ◌==◌, ◌&&◌, ℕ, List, IsTrue, length, drop, take, nat_le, IfSome, MatchOption};
-ghost use Rattle.std.specs.List.{list_all};
-ghost use Rattle.hcl_layout.specs.Left.{bytes_of};
+ghost use Rattle.std.specs.Prelude.{◌≡◌, ◌≢◌, ◌↔◌, ◌≤◌, ◌^◌, ◌++◌, ◌==◌, ◌&&◌, ℕ, List, IsTrue, length, drop, take, nat_eq, nat_le, IfSome, MatchOption};
+ghost use Rattle.std.specs.List.{list_all, starts_with};
+ghost use Rattle.hcl_layout.specs.Left.{IsFrom, bytes_of};
 ghost use Rattle.hcl_layout.specs.LineGaps.{bulk};
 ghost use Rattle.hcl_layout.specs.Print.{print};
 
@@ -35,6 +35,7 @@ pub fn printed_len(accepted: &Accepted<'_, '_>) -> u64
     len
 }
 
+#[inline(always)]
 fn is_blank(bytes: &[u8]) -> bool
     ensures { result ≡ list_all (λ b. b == 32) bytes.now }
 {
@@ -42,6 +43,7 @@ fn is_blank(bytes: &[u8]) -> bool
 }
 
 /// Whether so many spaces stand at the front.
+#[inline(always)]
 fn begins_blank(bytes: &[u8], gap: u64) -> bool
     ensures { result ≡ (nat_le gap (length bytes.now) && list_all (λ b. b == 32) (take gap bytes.now)) }
 {
@@ -52,9 +54,26 @@ fn begins_blank(bytes: &[u8], gap: u64) -> bool
     is_blank(front)
 }
 
-/// Where a piece ends that stands at a place of the bytes, if it stands there.
+/// Whether the text of a piece of the source stands at a place. Where nothing changed it stands
+/// there already, and isn't compared.
+#[inline(always)]
+fn stands_at(bytes: &[u8], at: usize, piece: Piece<'_>) -> bool
+    requires within { at ≤ length bytes.now }
+    requires source { IsFrom bytes.now piece.start piece.text.now }
+    ensures { result ≡ starts_with nat_eq (drop at bytes.now) piece.entry.text.now }
+{
+    if piece.start == at {
+        return true;
+    }
+    let (_, left) = bytes.split_at(at);
+    left.starts_with(piece.text.as_bytes())
+}
+
+/// Where a piece of the source ends that stands at a place, if it stands there.
+#[inline(always)]
 fn piece_end(bytes: &[u8], at: usize, piece: Piece<'_>) -> Option<usize>
-    requires { at ≤ length bytes.now }
+    requires within { at ≤ length bytes.now }
+    requires source { IsFrom bytes.now piece.start piece.text.now }
     ensures found { MatchOption result ((rest : List ℕ) → drop at bytes.now ≢ bytes_of piece.entry ++ rest) (λ end. drop at bytes.now ≡ bytes_of piece.entry ++ drop end bytes.now) }
     ensures within { IfSome result (λ end. end ≤ length bytes.now) }
 {
@@ -62,11 +81,11 @@ fn piece_end(bytes: &[u8], at: usize, piece: Piece<'_>) -> Option<usize>
     if !begins_blank(left, piece.gap) {
         return None;
     }
-    let (_, behind) = left.split_at(piece.gap as usize);
-    if !behind.starts_with(piece.text.as_bytes()) {
+    let front = at + piece.gap as usize;
+    if !stands_at(bytes, front, piece) {
         return None;
     }
-    Some(at + piece.gap as usize + piece.text.len())
+    Some(front + piece.text.len())
 }
 
 /// Whether the print is the source: the bytes of the source are those of the print.

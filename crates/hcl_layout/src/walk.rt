@@ -1,12 +1,12 @@
 //! The lines, one after another, with the columns of the runs in which they stand.
-ghost use Rattle.std.specs.Prelude.{◌≡◌, ◌<◌, ◌≤◌, ◌+◌, ◌-◌, ◌^◌, ℕ, length, take, drop, None, IfSome, IsSome};
+ghost use Rattle.std.specs.Prelude.{◌≡◌, ◌<◌, ◌≤◌, ◌+◌, ◌-◌, ◌^◌, ℕ, length, take, drop, Some, None, ◌∷◌, IfSome};
 ghost use Rattle.hcl_layout.specs.Columns.{ahead};
 ghost use Rattle.hcl_layout.specs.Cells.{assign_cell, trailing_comment};
 ghost use Rattle.hcl_layout.specs.Depths.{Sound, depth_after, fresh, level_at, raised, turned};
 ghost use Rattle.hcl_layout.specs.Gaps.{align, plain_gaps, width as width_of};
 ghost use Rattle.hcl_layout.specs.LineGaps.{bulk, gaps_in};
 ghost use Rattle.hcl_layout.specs.Lines.{lines};
-ghost use Rattle.hcl_layout.specs.Stream.{assign_column, assign_widths, comment_column, comment_widths, plain};
+ghost use Rattle.hcl_layout.specs.Stream.{assign_column, assign_widths, next_of, comment_column, comment_widths, plain};
 ghost use Rattle.hcl_layout.specs.Survey.{IsLine, text_at};
 ghost use Rattle.hcl_layout.specs.Walks.{Stands};
 
@@ -107,60 +107,21 @@ fn assign_ahead(walk: &Walk, tokens: &Tokens<'_>, from: usize) -> u64
     greatest
 }
 
-/// The column of the assign cell of the line at a place, by that of the line before.
+/// The column of the run in which a cell of that width stands, by that of the run before it. The
+/// line behind it begins at a place.
 #[inline(always)]
-fn assign_column_at(walk: &Walk, tokens: &Tokens<'_>, at: usize, line: LineFacts) -> Option<u64>
-    requires within { at < length tokens.now.tokens }
-    requires stands { Stands tokens.now.tokens at walk.now.depth walk.now.levels }
-    requires line { IsLine tokens.now.tokens at walk.now.depth line }
+fn run_column(walk: &Walk, tokens: &Tokens<'_>, next: usize, own: u64) -> u64
+    requires within { next ≤ length tokens.now.tokens }
+    requires stands { Stands tokens.now.tokens next walk.now.depth walk.now.levels }
     requires small { bulk tokens.now.tokens < 2 ^ 32 }
     requires fits { IfSome walk.now.column (λ c. c < 2 ^ 33) }
-    ensures value { result ≡ assign_column walk.now.depth walk.now.levels walk.now.column (lines (drop at tokens.now.tokens)) }
-    ensures fits { IfSome result (λ c. c < 2 ^ 33) }
-    ensures some { IsSome line.assign → IsSome result }
+    requires own { own ≤ 512 + bulk tokens.now.tokens }
+    ensures value { Some result ≡ next_of walk.now.column (Some own ∷ assign_widths walk.now.depth walk.now.levels (lines (drop next tokens.now.tokens))) }
+    ensures fits { result < 2 ^ 33 }
 {
-    let Some(_place) = line.assign else {
-        return None;
-    };
-    let Some(column) = walk.column else {
-        return Some(assign_ahead(walk, tokens, at));
-    };
-    Some(column)
-}
-
-/// The gaps of a line in whose run the assign cells stand at the column.
-#[inline(always)]
-fn assigned_line(
-    tokens: &Tokens<'_>,
-    at: usize,
-    line: LineFacts,
-    level: u32,
-    column: Option<u64>,
-) -> LineGaps
-    requires within { at + line.len ≤ length tokens.now.tokens }
-    requires cell { line.assign ≡ assign_cell (text_at tokens.now.tokens at line) }
-    requires level { level ≤ 256 }
-    requires small { bulk tokens.now.tokens < 2 ^ 32 }
-    requires fits { IfSome column (λ c. c < 2 ^ 33) }
-    requires some { IsSome line.assign → IsSome column }
-    ensures gaps { gaps_in result (text_at tokens.now.tokens at line) ≡ align assign_cell (plain_gaps level (text_at tokens.now.tokens at line)) (text_at tokens.now.tokens at line) column }
-    ensures level { result.level ≡ level }
-    ensures comment { result.comment ≡ None }
-    ensures assign { IfSome result.assign (λ c. c.gap ≤ 2 ^ 33) }
-    ensures narrow { (k : ℕ) → width_of k (gaps_in result (text_at tokens.now.tokens at line)) (text_at tokens.now.tokens at line) < 2 ^ 34 }
-{
-    let Some(place) = line.assign else {
-        return plain_line(level);
-    };
-    let Some(column) = column else {
-        return plain_line(level);
-    };
-    let own = plain_width(tokens, at, line.len, place, level);
-    let gap = column.saturating_sub(own) + 1;
-    LineGaps {
-        level,
-        assign: Some(Cell { place, gap }),
-        comment: None,
+    match walk.column {
+        Some(column) => column,
+        None => own.max(assign_ahead(walk, tokens, next)),
     }
 }
 
@@ -183,12 +144,22 @@ impl Walk {
         ensures stands { Stands tokens.now.tokens (at + line.len) self.new.depth self.new.levels }
         ensures fits { IfSome self.new.column (λ c. c < 2 ^ 33) }
     {
-        let column = assign_column_at(self, tokens, at, line);
         let before = self.depth;
         let level = turn(&mut self.levels, before, line.depth);
         self.depth = line.depth;
-        self.column = column;
-        assigned_line(tokens, at, line, level, column)
+        let Some(place) = line.assign else {
+            self.column = None;
+            return plain_line(level);
+        };
+        let own = plain_width(tokens, at, line.len, place, level);
+        let column = run_column(self, tokens, at + line.len, own);
+        self.column = Some(column);
+        let gap = column.saturating_sub(own) + 1;
+        LineGaps {
+            level,
+            assign: Some(Cell { place, gap }),
+            comment: None,
+        }
     }
 }
 

@@ -1,6 +1,6 @@
 //! The tokens of a source.
 
-ghost use Rattle.std.specs.Prelude.{◌≡◌, ◌≤◌, ◌<◌, ◌==◌, length, slice_get, All, IfOk, IfErr};
+ghost use Rattle.std.specs.Prelude.{◌≡◌, ◌≤◌, ◌<◌, ◌==◌, drop, length, slice_get, take, All, IfOk, IfErr};
 ghost use Rattle.std.specs.Str.{IsCharBoundary};
 ghost use Rattle.std.specs.Vec.{vec_len};
 ghost use Rattle.hcl_scan.specs.Scans.{Scans};
@@ -91,6 +91,7 @@ impl<'s> Tokens<'s> {
         requires { i < length self.now.tokens }
         ensures token { slice_get self.now.tokens i ≡ Some (lexeme result) }
         ensures start { IsCharBoundary self.now.text result.start }
+        ensures text { result.text.now ≡ take (length result.text.now) (drop result.start self.now.text) }
     {
         let entry = self.entries[i];
         let start = entry.start as usize;

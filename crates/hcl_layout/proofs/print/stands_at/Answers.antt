@@ -1,4 +1,4 @@
-use Rattle.std.proofs.Common.{◌≡◌, ◌∙◌, ap, drop, length, sym, take}
+use Rattle.std.proofs.Common.{◌∙◌, ap, drop, length, sym, take}
 use Rattle.hcl_layout.proofs.FormatLemmas.{front_text}
 use Rattle.hcl_layout.proofs.print.stands_at.Goals as goal
 
