@@ -30,6 +30,7 @@ impl<'t, 's> Model for Cursor<'t, 's> {
 }
 
 // Whether the grammar sees a token of the class, where a Newline is seen or dropped.
+#[inline(always)]
 fn is_shown(newlines: Newlines, class: Class) -> bool
     ensures { result ≡ is_shown newlines class }
 {
