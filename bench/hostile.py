@@ -33,7 +33,8 @@ def main(name, cases):
             path.write_bytes(text)
             return best([program], str(path), TIMES, LIMIT)
 
-        ordinary = inputs.tidy(MAX)
+        # it isn't in the style, as most of these inputs aren't: what is formatted is walked once less
+        ordinary = inputs.messy(MAX)
         usual, status = timed(ordinary, 'ordinary.tf')
         rows = [['ordinary configuration', format(len(ordinary), ','), shown(status), in_ms(usual), '1.0', '']]
         high = []

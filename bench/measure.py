@@ -41,7 +41,7 @@ def once(words, path, limit=None):
     return taken, os.WEXITSTATUS(code) if os.WIFEXITED(code) else -os.WTERMSIG(code)
 
 
-def best(words, path, times, limit=None, budget=5.0):
+def best(words, path, times, limit=None, budget=20.0):
     """(least seconds, status) of up to `times` runs; fewer, but one at least, once `budget` seconds are gone."""
     least, status = once(words, path, limit)
     spent = least
