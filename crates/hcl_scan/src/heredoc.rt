@@ -6,8 +6,8 @@ ghost use Rattle.hcl_scan.specs.Lexemes.{is_newline_byte, marker_of};
 ghost use Rattle.hcl_scan.specs.Spelling.{starts};
 ghost use Rattle.hcl_scan.specs.Scans.{skip_blanks, ends_line, closer_len, is_marker_line, IsMarkerLine, IsFirstMarkerLine};
 
-use crate::blanks::{blanks, skip_blanks};
 use crate::source::line_start;
+use crate::space::{count_blanks, skip_blanks};
 use memchr::memmem::Finder;
 
 /// How many bytes stand before the first newline.
@@ -111,5 +111,5 @@ pub fn closer_len(line: &[u8], marker: &[u8]) -> usize
     ensures value { result ≡ closer_len marker.now line.now }
     ensures within { result ≤ length line.now }
 {
-    blanks(line) + marker.len()
+    count_blanks(line) + marker.len()
 }

@@ -6,7 +6,6 @@
 //! holds what is proved of the definitions alone.
 #![tactic(auto)]
 
-mod blanks;
 mod bytes;
 mod comment;
 mod device;

@@ -12,13 +12,13 @@ ghost use Rattle.hcl_scan.specs.Openings.{openers_of, opened_by, is_heredoc_open
 ghost use Rattle.hcl_scan.specs.declared.opened.Opened.{Opened};
 ghost use Rattle.hcl_scan.specs.Scanners.{state_of, IsSound, IsStart, IsNext, IsStopped, Moves, IsTurn};
 
-use crate::blanks::blanks;
 use crate::entry::Entry;
 use crate::expression::next_in_expression;
 use crate::fault::FaultKind;
 use crate::found::{Found, Place};
 use crate::heredoc::{closer_len, marker_line, marker_of};
 use crate::opened::By;
+use crate::space::count_blanks;
 use crate::stack::Stack;
 use crate::stopped::Stopped;
 use crate::template::next_in_template;
@@ -110,7 +110,7 @@ impl<'s> Scanner<'s> {
         }
         match self.stack.template() {
             Some(_) => self.at,
-            None => self.at + blanks(self.text[self.at..self.end].as_bytes()),
+            None => self.at + count_blanks(self.text[self.at..self.end].as_bytes()),
         }
     }
 

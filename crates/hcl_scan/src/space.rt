@@ -4,6 +4,7 @@ ghost use Rattle.std.specs.Prelude.{◌≡◌, ◌≤◌, length, IfSome, IfNone
 ghost use Rattle.std.specs.List.{prefix_len};
 ghost use Rattle.hcl_scan.specs.Spelling.{is_blank, IsNewline, IsBlanks};
 ghost use Rattle.hcl_scan.specs.Found.{IsLongestFront, HasNoFront};
+ghost use Rattle.hcl_scan.specs.Scans.{skip_blanks};
 
 /// How many bytes the newline at the front has.
 pub(crate) fn newline_len(seen: &[u8]) -> Option<usize>
@@ -20,7 +21,8 @@ pub(crate) fn newline_len(seen: &[u8]) -> Option<usize>
     }
 }
 
-fn count_blanks(seen: &[u8]) -> usize
+/// How many spaces and tabs stand at the front.
+pub fn count_blanks(seen: &[u8]) -> usize
     ensures count { result ≡ prefix_len is_blank seen.now }
     ensures within { result ≤ length seen.now }
 {
@@ -29,7 +31,15 @@ fn count_blanks(seen: &[u8]) -> usize
         .count()
 }
 
-/// How many blanks stand at the front.
+/// What follows the blanks at the front.
+pub fn skip_blanks(text: &[u8]) -> &[u8]
+    ensures { result.now ≡ skip_blanks text.now }
+{
+    let (_, after) = text.split_at(count_blanks(text));
+    after
+}
+
+/// How many bytes the blanks at the front have, if there are some.
 pub(crate) fn blanks_len(seen: &[u8]) -> Option<usize>
     ensures found { IfSome result (IsLongestFront IsBlanks seen.now) }
     ensures none { IfNone result (HasNoFront IsBlanks seen.now) }

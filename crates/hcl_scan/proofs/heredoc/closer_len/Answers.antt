@@ -6,4 +6,4 @@ use Rattle.hcl_scan.proofs.Literals.{starts_len}
 use Rattle.hcl_scan.proofs.heredoc.closer_len.Goals as goal
 
 pub returns-clause-within : goal.returns-clause-within
-returns-clause-within c = omega (arith, c.blanks.ensures.count, c.blanks.ensures.within, starts_len (skip_blanks c.args.line.now) c.args.marker.now c.requires, length-drop (prefix_len is_blank c.args.line.now) c.args.line.now)
+returns-clause-within c = omega (arith, c.count_blanks.ensures.count, c.count_blanks.ensures.within, starts_len (skip_blanks c.args.line.now) c.args.marker.now c.requires, length-drop (prefix_len is_blank c.args.line.now) c.args.line.now)

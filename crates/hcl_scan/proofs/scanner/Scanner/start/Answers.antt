@@ -7,5 +7,5 @@ use Rattle.hcl_scan.proofs.scanner.Scanner.start.Goals as goal
 
 pub returns-in-None : goal.returns-in-None
 returns-in-None c =
-    start_gap c.args.self.now c.blanks.result c.as_bytes.result.now c.requires c.as_bytes.ensures.utf8 (c.as_bytes.ensures.value ∙ c.range.ensures.value) c.blanks.ensures.count
+    start_gap c.args.self.now c.count_blanks.result c.as_bytes.result.now c.requires c.as_bytes.ensures.utf8 (c.as_bytes.ensures.value ∙ c.range.ensures.value) c.count_blanks.ensures.count
     (gaps_plain (context (openers_of c.args.self.now.stack)) (in_heredoc (openers_of c.args.self.now.stack)) (sym c.in-None.ensures) (sym c.inside_heredoc.ensures ∙ c.if-inside_heredoc.false))
