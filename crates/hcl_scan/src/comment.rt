@@ -1,17 +1,8 @@
 // Comments.
 
-ghost use Rattle.std.specs.Prelude.{◌≡◌, ◌==◌, ◌≤◌, ◌<◌, not, ℕ, length, IfSome, IfNone};
-ghost use Rattle.std.specs.List.{prefix_len};
+ghost use Rattle.std.specs.Prelude.{◌<◌, ℕ, IfSome, IfNone};
 ghost use Rattle.hcl_scan.specs.Spelling.{IsInlineComment};
 ghost use Rattle.hcl_scan.specs.Found.{IsLongestFront, HasNoFront, EndsComment};
-
-/// How many bytes stand before the first LF, or before the end: a comment at the front goes so far.
-pub(crate) fn line_len(seen: &[u8]) -> usize
-    ensures count { result ≡ prefix_len (λ b. not (b == 10)) seen.now }
-    ensures within { result ≤ length seen.now }
-{
-    seen.iter().take_while(|b| **b != b'\n').count()
-}
 
 /// Where the first `*/` begins.
 fn comment_end(seen: &[u8]) -> Option<usize>

@@ -8,12 +8,12 @@ ghost use Rattle.hcl_scan.specs.Leads.{lead_of, lead_bytes, slash_lead, may_begi
 ghost use Rattle.hcl_scan.specs.declared.expression.Lead.TheVariants.{LessLess};
 
 use crate::bytes::byte_at;
-use crate::comment::{inline_comment_len, line_len};
+use crate::comment::inline_comment_len;
 use crate::found::{Found, Place};
 use crate::ident::{heredoc_open_len, ident_len};
 use crate::mark::longest_mark;
 use crate::number::{digits_len, number_len};
-use crate::space::{blanks_len, newline_len};
+use crate::space::{blanks_len, line_len, newline_len};
 use crate::token::Kind;
 
 /// What tokens the first two bytes may begin.

@@ -1,16 +1,16 @@
 // The line that ends a heredoc.
 
-ghost use Rattle.std.specs.Prelude.{◌≡◌, ◌==◌, ◌<◌, ◌≤◌, ◌-◌, ◌^◌, ℕ, get_or, codes, nat_eq, if◌then◌else◌, drop, length, IfSome, IfNone, IsTrue};
+ghost use Rattle.std.specs.Prelude.{◌≡◌, ◌<◌, ◌≤◌, ◌-◌, ◌^◌, ℕ, get_or, codes, nat_eq, if◌then◌else◌, drop, length, IfSome, IfNone, IsTrue};
 ghost use Rattle.std.specs.List.{position_or_len, starts_with};
 ghost use Rattle.hcl_scan.specs.Lexemes.{is_newline_byte, marker_of};
 ghost use Rattle.hcl_scan.specs.Spelling.{starts};
 ghost use Rattle.hcl_scan.specs.Scans.{skip_blanks, ends_line, closer_len, is_marker_line, IsMarkerLine, IsFirstMarkerLine};
 
 use crate::source::line_start;
-use crate::space::{count_blanks, skip_blanks};
+use crate::space::{count_blanks, line_len, skip_blanks};
 use memchr::memmem::Finder;
 
-/// How many bytes stand before the first newline.
+/// How many bytes stand before the first LF or CR, or before the end.
 fn word_len(text: &[u8]) -> usize
     ensures count { result ≡ position_or_len is_newline_byte text.now }
     ensures within { result ≤ length text.now }
@@ -58,13 +58,6 @@ fn is_marker_line(text: &[u8], marker: &[u8]) -> bool
     }
     let (_, after) = text.split_at(closer_len(text, marker));
     ends_line(skip_blanks(after))
-}
-
-fn line_len(text: &[u8]) -> usize
-    ensures count { result ≡ position_or_len (λ b. b == 10) text.now }
-    ensures within { result ≤ length text.now }
-{
-    text.iter().take_while(|b| **b != b'\n').count()
 }
 
 /// Where the next line begins that can be the marker: one that has the marker in it.

@@ -1,7 +1,7 @@
 // Newlines and blanks.
 
-ghost use Rattle.std.specs.Prelude.{◌≡◌, ◌≤◌, length, IfSome, IfNone};
-ghost use Rattle.std.specs.List.{prefix_len};
+ghost use Rattle.std.specs.Prelude.{◌≡◌, ◌==◌, ◌≤◌, length, IfSome, IfNone};
+ghost use Rattle.std.specs.List.{prefix_len, position_or_len};
 ghost use Rattle.hcl_scan.specs.Spelling.{is_blank, IsNewline, IsBlanks};
 ghost use Rattle.hcl_scan.specs.Found.{IsLongestFront, HasNoFront};
 ghost use Rattle.hcl_scan.specs.Scans.{skip_blanks};
@@ -19,6 +19,14 @@ pub(crate) fn newline_len(seen: &[u8]) -> Option<usize>
     } else {
         None
     }
+}
+
+/// How many bytes stand before the first LF, or before the end.
+pub(crate) fn line_len(seen: &[u8]) -> usize
+    ensures count { result ≡ position_or_len (λ b. b == 10) seen.now }
+    ensures within { result ≤ length seen.now }
+{
+    seen.iter().take_while(|b| **b != b'\n').count()
 }
 
 /// How many spaces and tabs stand at the front.
