@@ -1,4 +1,4 @@
-// Single bytes of a text.
+//! Single bytes of a text.
 
 ghost use Rattle.std.specs.Prelude.{◌≡◌, get_or};
 

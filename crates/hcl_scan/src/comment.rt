@@ -1,4 +1,4 @@
-// Comments.
+//! Comments.
 
 ghost use Rattle.std.specs.Prelude.{◌<◌, ℕ, IfSome, IfNone};
 ghost use Rattle.hcl_scan.specs.Spelling.{IsInlineComment};

@@ -15,10 +15,10 @@ pub struct Failed;
 
 /// What gives bytes.
 pub trait ByteSource {
-    // The bytes that are left, where the device tells them.
+    /// The bytes that are left, where the device tells them.
     ghost left: { Self → Option (List ℕ) };
 
-    // A call has failed.
+    /// A call has failed.
     ghost failed: { Self → Bool };
 
     /// Fills a part of the buffer from its front, and answers how many bytes came. 0 for a buffer
@@ -36,13 +36,13 @@ pub trait ByteSource {
 
 /// What takes bytes.
 pub trait ByteSink {
-    // The bytes taken so far, where the device tells them.
+    /// The bytes taken so far, where the device tells them.
     ghost taken: { Self → Option (List ℕ) };
 
-    // A call has failed.
+    /// A call has failed.
     ghost failed: { Self → Bool };
 
-    // All that was taken has been flushed.
+    /// All that was taken has been flushed.
     ghost flushed: { Self → Bool };
 
     /// Takes a part of the bytes from their front, and answers how many: at least one, where there

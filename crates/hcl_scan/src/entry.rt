@@ -1,4 +1,4 @@
-// What is kept of a token.
+//! What is kept of a token.
 
 use crate::token::Kind;
 

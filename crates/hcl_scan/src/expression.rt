@@ -1,4 +1,4 @@
-// The longest token at the front of what is seen in an expression.
+//! The longest token at the front of what is seen in an expression.
 
 ghost use Rattle.std.specs.Prelude.{◌≡◌, ℕ, Bool, Some, None, IfSome, IfNone};
 ghost use Rattle.std.specs.Str.{IsCharBoundary};

@@ -1,4 +1,4 @@
-// The line that ends a heredoc.
+//! The line that ends a heredoc.
 
 ghost use Rattle.std.specs.Prelude.{◌≡◌, ◌<◌, ◌≤◌, ◌-◌, ◌^◌, ℕ, get_or, codes, nat_eq, if◌then◌else◌, drop, length, IfSome, IfNone, IsTrue};
 ghost use Rattle.std.specs.List.{position_or_len, starts_with};

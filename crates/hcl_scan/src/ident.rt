@@ -1,4 +1,4 @@
-// Identifiers, and the openers of heredocs, whose marker is one.
+//! Identifiers, and the openers of heredocs, whose marker is one.
 
 ghost use Rattle.std.specs.Prelude.{◌≡◌, ◌==◌, ◌||◌, true, false, take, drop, IfSome, IfNone};
 ghost use Rattle.std.specs.Char.{is_ascii_alphabetic, is_ascii_alphanumeric};

@@ -1,4 +1,4 @@
-// Literal text of templates.
+//! Literal text of templates.
 
 ghost use Rattle.std.specs.Prelude.{◌≡◌, ◌≤◌, ◌||◌, ◌&&◌, ◌∷◌, codes, take, drop, length, None, IsTrue};
 ghost use Rattle.std.specs.List.{list_all};

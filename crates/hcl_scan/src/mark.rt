@@ -1,4 +1,4 @@
-// Operators and the other marks of expressions.
+//! Operators and the other marks of expressions.
 
 ghost use Rattle.std.specs.Prelude.{◌≡◌, find, map, nat_eq, IsTrue, IfSome, IfNone};
 ghost use Rattle.std.specs.Option.{option_copied};

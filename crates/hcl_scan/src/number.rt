@@ -1,4 +1,4 @@
-// Numbers, by a walk forward.
+//! Numbers, by a walk forward.
 
 ghost use Rattle.std.specs.Prelude.{◌≡◌, ◌==◌, ◌||◌, ◌≤◌, length, IfSome, IfNone};
 ghost use Rattle.std.specs.List.{prefix_len};

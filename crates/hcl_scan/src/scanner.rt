@@ -1,4 +1,4 @@
-// One token after the other.
+//! One token after the other.
 
 ghost use Rattle.std.specs.Prelude.{◌≡◌, ◌<◌, ◌≤◌, ◌≢◌, ◌∷◌, [], List, true, false, None, Some, length, slice_range, IfSome, IfNone};
 ghost use Rattle.std.specs.Str.{IsCharBoundary};

@@ -1,4 +1,4 @@
-// Newlines and blanks.
+//! Newlines and blanks.
 
 ghost use Rattle.std.specs.Prelude.{◌≡◌, ◌==◌, ◌≤◌, length, IfSome, IfNone};
 ghost use Rattle.std.specs.List.{prefix_len, position_or_len};

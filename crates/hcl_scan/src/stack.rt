@@ -1,4 +1,4 @@
-// The stack of what is open.
+//! The stack of what is open.
 
 ghost use Rattle.std.specs.Prelude.{◌≡◌, ◌==◌, ◌<◌, ◌≤◌, ◌∷◌, [], length, drop, MatchOption};
 ghost use Rattle.hcl_scan.specs.Spelling.{context, context_in};

@@ -1,4 +1,4 @@
-// Why a text has no tokens.
+//! Why a text has no tokens.
 
 use crate::stopped::Stopped;
 

@@ -1,4 +1,4 @@
-// The tokens of templates.
+//! The tokens of templates.
 
 ghost use Rattle.std.specs.Prelude.{◌≡◌, ◌≤◌, Bool, List, length, drop, codes, if◌then◌else◌, IfSome, IfNone, IsUtf8};
 ghost use Rattle.std.specs.Str.{IsCharBoundary};

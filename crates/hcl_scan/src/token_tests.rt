@@ -43,7 +43,7 @@ fn nested(alloc: Global, opener: &str, count: usize, rest: &str) -> Result<Strin
     Ok(text)
 }
 
-// Literal text, sequences and escapes.
+/// Literal text, sequences and escapes.
 #[test]
 fn templates(rt: HostRuntime) -> Result<(), Fail> {
     let rows = [
@@ -90,7 +90,7 @@ fn templates(rt: HostRuntime) -> Result<(), Fail> {
     Ok(())
 }
 
-// Heredocs: marker lines, blanks and nesting.
+/// Heredocs: marker lines, blanks and nesting.
 #[test]
 fn heredocs(rt: HostRuntime) -> Result<(), Fail> {
     let rows = [
@@ -133,7 +133,7 @@ fn heredocs(rt: HostRuntime) -> Result<(), Fail> {
     Ok(())
 }
 
-// What closes, and what does not.
+/// What closes, and what does not.
 #[test]
 fn closers(rt: HostRuntime) -> Result<(), Fail> {
     let rows = [
@@ -157,7 +157,7 @@ fn closers(rt: HostRuntime) -> Result<(), Fail> {
     Ok(())
 }
 
-// The fault of a text, and where it stands.
+/// The fault of a text, and where it stands.
 #[test]
 fn faults(rt: HostRuntime) -> Result<(), Fail> {
     let rows = [
@@ -187,7 +187,7 @@ fn faults(rt: HostRuntime) -> Result<(), Fail> {
     Ok(())
 }
 
-// The opener past 256 open ones, also where it has no marker line.
+/// The opener past 256 open ones, also where it has no marker line.
 #[test]
 fn too_deep(rt: HostRuntime) -> Result<(), Fail> {
     let rows = [
@@ -205,7 +205,7 @@ fn too_deep(rt: HostRuntime) -> Result<(), Fail> {
     Ok(())
 }
 
-// 256 may be open.
+/// 256 may be open.
 #[test]
 fn as_deep_as_can_be(rt: HostRuntime) -> Result<(), Fail> {
     let text = nested(rt.alloc(), "(", 256, "x")?;
@@ -219,7 +219,7 @@ fn as_deep_as_can_be(rt: HostRuntime) -> Result<(), Fail> {
     Ok(())
 }
 
-// Comments, also at the end of what is seen, and numbers.
+/// Comments, also at the end of what is seen, and numbers.
 #[test]
 fn comments_and_numbers(rt: HostRuntime) -> Result<(), Fail> {
     let rows = [

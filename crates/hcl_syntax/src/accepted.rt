@@ -1,4 +1,4 @@
-// Which tokens are a file.
+//! Which tokens are a file.
 
 ghost use Rattle.std.specs.Prelude.{◌≡◌, ◌<◌, length};
 ghost use Rattle.hcl_scan.specs.Places.{place};
@@ -40,7 +40,7 @@ impl<'t, 's> Accepted<'t, 's> {
     }
 }
 
-// Where the token of this number begins.
+/// Where the token of this number begins.
 fn position_of(tokens: &Tokens, number: usize) -> Position
     requires { number < length tokens.now.tokens }
     ensures { result ≡ place tokens.now.text (start_of tokens.now.tokens number) }
@@ -49,7 +49,7 @@ fn position_of(tokens: &Tokens, number: usize) -> Position
     tokens.source().position(token.start)
 }
 
-// The end of the text.
+/// The end of the text.
 fn end_of(tokens: &Tokens) -> Position
     ensures { result ≡ place tokens.now.text (length tokens.now.text) }
 {
@@ -57,7 +57,7 @@ fn end_of(tokens: &Tokens) -> Position
     source.position(source.text().len())
 }
 
-// What a refusal of the tokens is reported as.
+/// What a refusal of the tokens is reported as.
 fn fault_at(tokens: &Tokens, refusal: Refusal) -> Fault
     requires { Names refusal (length tokens.now.tokens) }
     ensures { result ≡ fault_at tokens.now refusal }

@@ -1,4 +1,4 @@
-// What the grammar sees of a token.
+//! What the grammar sees of a token.
 
 /// What an identifier can mean where the grammar asks for a word of its own.
 #[derive(Clone, Copy, Debug, PartialEq, Eq)]

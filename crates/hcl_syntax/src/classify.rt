@@ -1,4 +1,4 @@
-// The class of a token.
+//! The class of a token.
 
 ghost use Rattle.std.specs.Prelude.{◌≡◌, ◌<◌, ◌+◌, ◌∷◌, length, drop, if◌then◌else◌};
 ghost use Rattle.std.specs.Char.{is_ascii_digit};

@@ -1,4 +1,4 @@
-// A place in a token list.
+//! A place in a token list.
 
 ghost use Rattle.std.specs.Prelude.{◌≡◌, ◌+◌, ◌<◌, ◌≤◌, ◌^◌, drop, length, IsSome};
 ghost use Rattle.hcl_syntax.specs.Classes.{lookaheads, lookaheads_from};
@@ -29,7 +29,7 @@ impl<'t, 's> Model for Cursor<'t, 's> {
     ghost invariant = { λ c. c.next ≤ length c.tokens.now.tokens };
 }
 
-// Whether the grammar sees a token of the class, where a Newline is seen or dropped.
+/// Whether the grammar sees a token of the class, where a Newline is seen or dropped.
 #[inline(always)]
 fn is_shown(newlines: Newlines, class: Class) -> bool
     ensures { result ≡ is_shown newlines class }
@@ -41,7 +41,7 @@ fn is_shown(newlines: Newlines, class: Class) -> bool
     }
 }
 
-// The number of the first token that is shown, from a number on, or how many tokens there are, and the token.
+/// The number of the first token that is shown, from a number on, or how many tokens there are, and the token.
 fn find(tokens: &Tokens, from: usize, newlines: Newlines) -> (usize, Option<Lookahead>)
     requires { from ≤ length tokens.now.tokens }
     ensures within { result.0 ≤ length tokens.now.tokens }
@@ -59,7 +59,7 @@ fn find(tokens: &Tokens, from: usize, newlines: Newlines) -> (usize, Option<Look
     (number, None)
 }
 
-// The number after that of the first token that is seen, from a number on.
+/// The number after that of the first token that is seen, from a number on.
 fn past(tokens: &Tokens, from: usize) -> usize
     requires { from ≤ length tokens.now.tokens }
     ensures within { result ≤ length tokens.now.tokens }

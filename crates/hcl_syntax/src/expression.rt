@@ -1,5 +1,5 @@
-// Expressions. The functions of the cycle call each other only behind an opener or in an open directive, so the depth
-// of the recursion is bounded; all that can be chained without an opener is a loop with a count.
+//! Expressions. The functions of the cycle call each other only behind an opener or in an open directive, so the depth
+//! of the recursion is bounded; all that can be chained without an opener is a loop with a count.
 
 ghost use Rattle.std.specs.Prelude.{◌≡◌, ◌+◌, ◌<◌, ◌≤◌, ◌^◌, ℕ, List, [], ◌∷◌, length, Some, None, Ok, OnOk, IfOk, IfSome, false};
 ghost use Rattle.std.specs.Bool.{OnTrue, OnFalse};
@@ -15,7 +15,7 @@ use crate::expected::{Follow, Newlines, Terminal};
 use crate::refusal::Refusal;
 
 impl<'t, 's> Cursor<'t, 's> {
-    // Passes over the signs before an operand, and looks at the token behind them.
+    /// Passes over the signs before an operand, and looks at the token behind them.
     fn start(&mut self, newlines: Newlines) -> Option<Lookahead>
         ensures leads { (count : ℕ) → Leads count (expr at newlines ∷ []) self.old (Ok (tt {0})) (expr at newlines ∷ []) self.new }
         ensures left { self.new ≡ shown newlines self.new }
@@ -32,7 +32,7 @@ impl<'t, 's> Cursor<'t, 's> {
         }
     }
 
-    // An expression up to where its first operand ends.
+    /// An expression up to where its first operand ends.
     #[cycle(parser)]
     fn operand(&mut self, newlines: Newlines, directives: usize) -> Result<(), Refusal>
         ensures leads { Leads directives (expr at newlines ∷ []) self.old result (after at newlines ∷ []) self.new }
@@ -77,7 +77,7 @@ impl<'t, 's> Cursor<'t, 's> {
         }
     }
 
-    // What may follow an identifier.
+    /// What may follow an identifier.
     #[cycle(parser)]
     fn call(&mut self, newlines: Newlines, directives: usize) -> Result<(), Refusal>
         ensures leads { Leads directives (after_ident at newlines ∷ []) self.old result (after at newlines ∷ []) self.new }
@@ -95,7 +95,7 @@ impl<'t, 's> Cursor<'t, 's> {
         }
     }
 
-    // What follows an operand, up to where another operand has to stand.
+    /// What follows an operand, up to where another operand has to stand.
     #[cycle(parser)]
     fn follow(&mut self, newlines: Newlines, directives: usize) -> Result<Follow, Refusal>
         ensures leads { Leads directives (after at newlines ∷ []) self.old result (after_follow newlines result) self.new }
@@ -128,7 +128,7 @@ impl<'t, 's> Cursor<'t, 's> {
         }
     }
 
-    // An index behind its bracket.
+    /// An index behind its bracket.
     #[cycle(parser)]
     fn index(&mut self, directives: usize) -> Result<(), Refusal>
         ensures parses { Parses directives (index at Dropped ∷ []) self.old result self.new }
@@ -165,7 +165,7 @@ impl<'t, 's> Cursor<'t, 's> {
         }
     }
 
-    // The arguments of a call behind its parenthesis.
+    /// The arguments of a call behind its parenthesis.
     #[cycle(parser)]
     fn args(&mut self, directives: usize) -> Result<(), Refusal>
         ensures parses { Parses directives (args at Dropped ∷ []) self.old result self.new }
@@ -194,7 +194,7 @@ impl<'t, 's> Cursor<'t, 's> {
         }
     }
 
-    // A tuple behind its bracket.
+    /// A tuple behind its bracket.
     #[cycle(parser)]
     fn tuple(&mut self, directives: usize) -> Result<(), Refusal>
         ensures parses { Parses directives (tuple at Dropped ∷ []) self.old result self.new }
@@ -231,7 +231,7 @@ impl<'t, 's> Cursor<'t, 's> {
         }
     }
 
-    // The names of a for-expression, what it goes over, and its first result.
+    /// The names of a for-expression, what it goes over, and its first result.
     #[cycle(parser)]
     fn generator(&mut self, directives: usize) -> Result<(), Refusal>
         ensures parses { Parses directives (the Name at Dropped ∷ names at Dropped ∷ expr at Dropped ∷ the Separator at Dropped ∷ expr at Dropped ∷ []) self.old result self.new }
@@ -243,7 +243,7 @@ impl<'t, 's> Cursor<'t, 's> {
         self.expr(Newlines::Dropped, directives)
     }
 
-    // The condition of a for-expression in brackets, where it has one, and the closing bracket.
+    /// The condition of a for-expression in brackets, where it has one, and the closing bracket.
     #[cycle(parser)]
     fn tuple_condition(&mut self, directives: usize) -> Result<(), Refusal>
         ensures parses { Parses directives (tuple_if at Dropped ∷ []) self.old result self.new }
@@ -256,7 +256,7 @@ impl<'t, 's> Cursor<'t, 's> {
         self.expect(Newlines::Dropped, Terminal::EndBracket)
     }
 
-    // An object behind its brace.
+    /// An object behind its brace.
     #[cycle(parser)]
     fn object(&mut self, directives: usize) -> Result<(), Refusal>
         ensures parses { Parses directives (object at Seen ∷ []) self.old result self.new }
@@ -268,7 +268,7 @@ impl<'t, 's> Cursor<'t, 's> {
         self.entries(directives)
     }
 
-    // The entries of an object, through its closing brace. Newlines count only behind an entry.
+    /// The entries of an object, through its closing brace. Newlines count only behind an entry.
     #[cycle(parser)]
     fn entries(&mut self, directives: usize) -> Result<(), Refusal>
         ensures parses { Parses directives (object_item at Seen ∷ []) self.old result self.new }
@@ -303,7 +303,7 @@ impl<'t, 's> Cursor<'t, 's> {
         self.expr(Newlines::Seen, directives)
     }
 
-    // A for-expression in braces behind its `for`.
+    /// A for-expression in braces behind its `for`.
     #[cycle(parser)]
     fn object_for(&mut self, directives: usize) -> Result<(), Refusal>
         ensures parses { Parses directives (the Name at Dropped ∷ names at Dropped ∷ expr at Dropped ∷ the Separator at Dropped ∷ expr at Dropped ∷ the FatArrow at Dropped ∷ expr at Dropped ∷ group at Dropped ∷ []) self.old result self.new }
@@ -316,7 +316,7 @@ impl<'t, 's> Cursor<'t, 's> {
         self.object_condition(directives)
     }
 
-    // The `...` of a for-expression in braces, where it has one.
+    /// The `...` of a for-expression in braces, where it has one.
     fn grouping(&mut self)
         ensures leads { (count : ℕ) → Leads count (group at Dropped ∷ []) self.old (Ok (tt {0})) (object_if at Dropped ∷ []) self.new }
         ensures shorter { length self.new ≤ length self.old }
@@ -326,7 +326,7 @@ impl<'t, 's> Cursor<'t, 's> {
         }
     }
 
-    // The condition of a for-expression in braces, where it has one, and the closing brace.
+    /// The condition of a for-expression in braces, where it has one, and the closing brace.
     #[cycle(parser)]
     fn object_condition(&mut self, directives: usize) -> Result<(), Refusal>
         ensures parses { Parses directives (object_if at Dropped ∷ []) self.old result self.new }

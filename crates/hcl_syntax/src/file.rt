@@ -1,4 +1,4 @@
-// Files, attributes and blocks.
+//! Files, attributes and blocks.
 ghost use Rattle.std.specs.Prelude.{◌≡◌, ◌+◌, ◌<◌, ◌≤◌, ◌^◌, ℕ, List, [], ◌∷◌, length, Some, None, Ok, OnOk};
 ghost use Rattle.hcl_syntax.specs.Grammar.{◌at◌, the, eol, labels, label_literal, start, rest, expr, file};
 ghost use Rattle.hcl_syntax.specs.Predictor.{run};
@@ -12,7 +12,7 @@ use crate::expected::{Newlines, Terminal};
 use crate::refusal::Refusal;
 
 impl<'t, 's> Cursor<'t, 's> {
-    // A quoted label behind its opening quote.
+    /// A quoted label behind its opening quote.
     fn label(&mut self) -> Result<(), Refusal>
         ensures parses { Parses 0 (label_literal at Seen ∷ the EndQuote at Seen ∷ []) self.old result self.new }
         ensures shorter { OnOk result (length self.new ≤ length self.old) }
@@ -33,7 +33,7 @@ impl<'t, 's> Cursor<'t, 's> {
         }
     }
 
-    // The labels of a block and its opening brace.
+    /// The labels of a block and its opening brace.
     fn labels(&mut self) -> Result<(), Refusal>
         ensures leads { Leads 0 (labels at Seen ∷ []) self.old result (start at Seen ∷ []) self.new }
         ensures shorter { OnOk result (length self.new ≤ length self.old) }
@@ -57,7 +57,7 @@ impl<'t, 's> Cursor<'t, 's> {
         }
     }
 
-    // What follows a block's opening brace. The answer is whether its body goes on over lines.
+    /// What follows a block's opening brace. The answer is whether its body goes on over lines.
     fn block(&mut self) -> Result<bool, Refusal>
         ensures leads { Leads 0 (start at Seen ∷ []) self.old result (after_item result) self.new }
         ensures shorter { OnOk result (length self.new ≤ length self.old) }
@@ -84,7 +84,7 @@ impl<'t, 's> Cursor<'t, 's> {
         }
     }
 
-    // The one attribute of a block on one line, behind its name, and the rest of that line.
+    /// The one attribute of a block on one line, behind its name, and the rest of that line.
     fn attribute_line(&mut self) -> Result<(), Refusal>
         ensures parses { Parses 0 (the Equals at Seen ∷ expr at Seen ∷ the EndBrace at Seen ∷ eol at Seen ∷ []) self.old result self.new }
         ensures shorter { OnOk result (length self.new ≤ length self.old) }
@@ -95,7 +95,7 @@ impl<'t, 's> Cursor<'t, 's> {
         self.end_of_line()
     }
 
-    // An attribute or a block behind its first identifier.
+    /// An attribute or a block behind its first identifier.
     fn item(&mut self) -> Result<bool, Refusal>
         ensures leads { Leads 0 (rest at Seen ∷ []) self.old result (after_item result) self.new }
         ensures shorter { OnOk result (length self.new ≤ length self.old) }

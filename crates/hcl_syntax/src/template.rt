@@ -1,4 +1,4 @@
-// Templates and their directives.
+//! Templates and their directives.
 
 ghost use Rattle.std.specs.Prelude.{◌≡◌, ◌+◌, ◌<◌, ◌≤◌, [], ◌∷◌, length, Some, None, Ok, OnOk};
 ghost use Rattle.hcl_syntax.specs.Grammar.{◌at◌, the, expr, parts, directive, inside, turning};
@@ -11,10 +11,10 @@ use crate::cursor::Cursor;
 use crate::expected::{Newlines, Section, Terminal, Turning};
 use crate::refusal::Refusal;
 
-// How many directives may be open.
+/// How many directives may be open.
 const MAX_OPEN: usize = 256;
 
-// What a word does in a directive.
+/// What a word does in a directive.
 fn turning(section: Section, class: Class) -> Turning
     ensures { result ≡ turning section class }
 {
@@ -53,7 +53,7 @@ impl<'t, 's> Cursor<'t, 's> {
         }
     }
 
-    // An expression and the end of its sequence.
+    /// An expression and the end of its sequence.
     #[cycle(parser)]
     fn sequence(&mut self, directives: usize) -> Result<(), Refusal>
         ensures parses { Parses directives (expr at Dropped ∷ the EndSequence at Dropped ∷ []) self.old result self.new }
@@ -63,7 +63,7 @@ impl<'t, 's> Cursor<'t, 's> {
         self.expect(Newlines::Dropped, Terminal::EndSequence)
     }
 
-    // A directive behind its `%{`, which is the token of this number.
+    /// A directive behind its `%{`, which is the token of this number.
     #[cycle(parser)]
     fn directive(&mut self, number: usize, directives: usize) -> Result<(), Refusal>
         ensures parses { Parses directives (directive number at Dropped ∷ []) self.old result self.new }
@@ -97,7 +97,7 @@ impl<'t, 's> Cursor<'t, 's> {
         }
     }
 
-    // The template in a directive, through the directive's end.
+    /// The template in a directive, through the directive's end.
     #[cycle(parser)]
     fn section(&mut self, section: Section, directives: usize) -> Result<(), Refusal>
         requires { directives < 256 }

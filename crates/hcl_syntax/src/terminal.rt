@@ -1,4 +1,4 @@
-// Single tokens that a state waits for.
+//! Single tokens that a state waits for.
 
 ghost use Rattle.std.specs.Prelude.{◌≡◌, ◌<◌, ◌≤◌, ℕ, [], ◌∷◌, length, Some, None, OnOk};
 ghost use Rattle.std.specs.Bool.{OnTrue, OnFalse};
@@ -12,7 +12,7 @@ use crate::cursor::Cursor;
 use crate::expected::{Newlines, Terminal};
 use crate::refusal::Refusal;
 
-// Whether a token of the class is what the terminal waits for.
+/// Whether a token of the class is what the terminal waits for.
 fn fits(terminal: Terminal, class: Class) -> bool
     ensures { result ≡ fits terminal class }
 {
@@ -81,7 +81,7 @@ impl<'t, 's> Cursor<'t, 's> {
         self.more_names()
     }
 
-    // What follows the first name of a `for`.
+    /// What follows the first name of a `for`.
     fn more_names(&mut self) -> Result<(), Refusal>
         ensures parses { (count : ℕ) → Parses count (names at Dropped ∷ []) self.old result self.new }
         ensures shorter { OnOk result (length self.new < length self.old) }

@@ -6,7 +6,7 @@ use std::alloc::Global;
 use std::process::Abort;
 use std::test::Fail;
 
-// That the text is a file.
+/// That the text is a file.
 fn takes(rt: &impl Abort, alloc: Global, text: &str) -> Result<(), Fail> {
     let source = Source::from_bytes(alloc, text.as_bytes())?;
     let tokens = scan(alloc, &source)?;
@@ -17,7 +17,7 @@ fn takes(rt: &impl Abort, alloc: Global, text: &str) -> Result<(), Fail> {
     Ok(())
 }
 
-// That the text is none, for this fault.
+/// That the text is none, for this fault.
 fn refuses(
     rt: &impl Abort,
     alloc: Global,
@@ -402,7 +402,7 @@ fn refuses_templates(rt: HostRuntime) -> Result<(), Fail> {
     Ok(())
 }
 
-// `front`, then so many times `part`, then `middle`, then as many times `back`, and the end of the line.
+/// `front`, then so many times `part`, then `middle`, then as many times `back`, and the end of the line.
 fn nested(
     alloc: Global,
     front: &str,
@@ -424,7 +424,7 @@ fn nested(
     Ok(text)
 }
 
-// What needs no opener may be as long as a source can be.
+/// What needs no opener may be as long as a source can be.
 #[test]
 fn takes_long_chains(rt: HostRuntime) -> Result<(), Fail> {
     for (front, part, middle, back) in [
