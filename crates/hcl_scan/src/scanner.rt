@@ -228,8 +228,7 @@ impl<'s> Scanner<'s> {
     {
         let start = entry.start as usize;
         let at = entry.end as usize;
-        let full = self.stack.is_full();
-        if full {
+        if self.stack.is_full() {
             return Turn::Fault(Stopped {
                 kind: FaultKind::TooDeep,
                 at: start,

@@ -4,8 +4,8 @@ use Rattle.hcl_scan.specs.Scans.{IsMarkerLine, IsFirstMarkerLine, closer_len}
 use Rattle.hcl_scan.proofs.HeredocTurns.{deep_heredoc, is_full, has_room, marker_some, no_line, opens_heredoc}
 use Rattle.hcl_scan.proofs.scanner.Scanner.read_heredoc.Goals as goal
 
-pub returns-then-full : goal.returns-then-full
-returns-then-full c = deep_heredoc c.args.self.now c.args.entry c.requires.next (is_full (length c.args.self.now.stack) (sym c.is_full-full.ensures.full ∙ c.if-full.true)) c.requires.heredoc
+pub returns-then-is_full : goal.returns-then-is_full
+returns-then-is_full c = deep_heredoc c.args.self.now c.args.entry c.requires.next (is_full (length c.args.self.now.stack) (sym c.is_full.ensures.full ∙ c.if-is_full.true)) c.requires.heredoc
 
 pub marker_line-requires : goal.marker_line-requires
 marker_line-requires c =
@@ -17,7 +17,7 @@ returns-in_default c =
     let marker_is = c.marker_of-marker.ensures ∙ ap marker_of (c.as_bytes.ensures.value ∙ c.range.ensures.value) in
     let rest_is = c.as_bytes-rest.ensures.value ∙ c.range-2.ensures.value in
     no_line c.args.self.now c.args.entry c.requires.sound c.requires.next c.requires.heredoc
-    (has_room (length c.args.self.now.stack) c.is_full-full.ensures.small (sym c.is_full-full.ensures.full ∙ c.if-full.false))
+    (has_room (length c.args.self.now.stack) c.is_full.ensures.small (sym c.is_full.ensures.full ∙ c.if-is_full.false))
     (λ n. subst (λ r. ¬ IsMarkerLine (marker_of (slice_range c.args.self.now.text.now c.args.entry.start c.args.entry.end)) r n) rest_is
     (subst (λ m. ¬ IsMarkerLine m c.as_bytes-rest.result.now n) marker_is (c.in_default.ensures.none n)))
 
@@ -31,4 +31,4 @@ returns c =
     let first : IsFirstMarkerLine (marker_of word) rest c.in-Some.line = subst (λ r. IsFirstMarkerLine (marker_of word) r c.in-Some.line) rest_is (subst (λ m. IsFirstMarkerLine m c.as_bytes-rest.result.now c.in-Some.line) marker_is c.in-Some.ensures.found) in
     let len_is : c.closer_len.result ≡ closer_len (marker_of word) (drop c.in-Some.line rest) = c.closer_len.ensures.value ∙ (λ i. closer_len (marker_is i) (hidden_is i)) in
     opens_heredoc c.args.self.now c.args.entry c.requires.sound c.requires.next c.requires.heredoc c.in-Some.line (subst (λ r. IsUtf8 r) rest_is c.as_bytes-rest.ensures.utf8)
-    (has_room (length c.args.self.now.stack) c.is_full-full.ensures.small (sym c.is_full-full.ensures.full ∙ c.if-full.false)) first c.closer_len.result len_is c.open.new.self c.open.ensures
+    (has_room (length c.args.self.now.stack) c.is_full.ensures.small (sym c.is_full.ensures.full ∙ c.if-is_full.false)) first c.closer_len.result len_is c.open.new.self c.open.ensures
