@@ -7,9 +7,8 @@ use Rattle.std.proofs.lemmas.Bool.{cases_order}
 use Rattle.std.proofs.lemmas.Bool.Decides.{nat_tests}
 use Rattle.hcl_scan.specs.Lexemes.{Opener}
 use Rattle.hcl_scan.specs.Spelling.{starts, is_sign, ends_quoted, escape_len, element_len, are_elements, IsLit, IsTemplateText, IsTextIn, IsSpelling, Context, Template, Expression, context}
-use Rattle.hcl_scan.specs.Scans.{IsLongest}
+use Rattle.hcl_scan.specs.Scans.{IsLongest, HasNone}
 use Rattle.hcl_scan.specs.Found.{Finds}
-use Rattle.hcl_scan.specs.Scans.{HasNone}
 use Rattle.hcl_scan.specs.declared.token.Kind.{Kind}
 use Rattle.hcl_scan.specs.declared.token.Kind.TheVariants.{Lit, InterpOpen, ControlOpen, QuoteClose}
 use Rattle.hcl_scan.proofs.Elements.{no_longer_lit}

@@ -10,10 +10,9 @@ use Rattle.std.proofs.lemmas.List.{length-map}
 use Rattle.std.proofs.lemmas.List.Sums.{prefix_len_passes, prefix_len-le-length}
 use Rattle.hcl_scan.specs.Lexemes.{Lexeme, Opener, in_heredoc, moved, is_heredoc, Heredoc, Quote, Sequence, Brace, Bracket, Paren}
 use Rattle.hcl_scan.specs.Spelling.{IsSpelling, is_blank, starts, Context, Template, Expression, context, context_in}
-use Rattle.hcl_scan.specs.Scans.{State, Hidden, Next, Reads, Closes, Shows, IsLongest, IsComplete, gap_in, gap_len, ahead, begin, is_dot, offsets_of, owed, owes, has_gaps_in}
+use Rattle.hcl_scan.specs.Scans.{State, Hidden, Next, Reads, Closes, Shows, IsLongest, IsComplete, gap_in, gap_len, ahead, begin, is_dot, offsets_of, owed, owes, has_gaps_in, HasNone}
 use Rattle.hcl_scan.specs.Faults.{Lacks, no_token, at_end, too_deep, no_marker_line, no_token_fault, fault_offset, owed_offset, end_fault}
 use Rattle.hcl_scan.specs.Found.{Finds}
-use Rattle.hcl_scan.specs.Scans.{HasNone}
 use Rattle.hcl_scan.specs.Openings.{opener_of, openers_of, offsets_in, hidden_of, hidden_under, quoted_in, template_top, option_and, innermost_owed, opened_by, opened_on, closed, is_heredoc_open}
 use Rattle.hcl_scan.specs.Scanners.{state_of, IsStack, IsSound, IsEntry, IsStart, IsNext, IsStopped, Moves, lexeme_of, fits_in}
 use Rattle.hcl_scan.specs.declared.entry.Entry.{Entry}

@@ -1,6 +1,5 @@
-use Rattle.std.proofs.Common.{◌≡◌, ℕ, ◌+◌, ◌≤◌, Bool, true, false, List, [], ◌∷◌, length, arith, refl, cond, sym, ap, ◌∙◌}
+use Rattle.std.proofs.Common.{◌≡◌, ℕ, ◌+◌, ◌≤◌, Bool, true, false, List, [], ◌∷◌, length, arith, refl, cond, sym, ap, ◌∙◌, Some, suc, ◌<◌, get_or, drop, drop-cons}
 use Rattle.std.specs.Prelude.{slice_get}
-use Rattle.std.proofs.Common.{Some, suc, ◌<◌, get_or, drop, drop-cons}
 use Rattle.std.proofs.lemmas.Option.{slice_get_within, get_or_from_slice_get}
 use Rattle.hcl_scan.specs.Lexemes.{Lexeme}
 use Rattle.hcl_syntax.specs.Classes.{class_of, lookaheads_from}
