@@ -4,10 +4,11 @@ use Rattle.std.specs.Prelude.{nat_lt}
 use Rattle.std.specs.List.{list_all, prefix_len}
 use Rattle.std.specs.Str.{IsCharBoundary}
 use Rattle.std.specs.Char.{is_ascii_digit}
-use Rattle.std.proofs.lemmas.Str.{IsCharBoundary-after_ascii, IsCharBoundary-before_ascii, IsCharBoundary-end}
+use Rattle.std.proofs.lemmas.Str.{IsCharBoundary-after_ascii, IsCharBoundary-before_ascii, IsCharBoundary-start, IsCharBoundary-end}
 use Rattle.std.proofs.lemmas.List.{take-append-drop, get_or-append-add}
 use Rattle.std.proofs.lemmas.List.Folds.{list_all-append}
-use Rattle.std.proofs.lemmas.List.Sums.{prefix_len-le-length, prefix_len_stops}
+use Rattle.std.proofs.lemmas.Bool.{cases_order}
+use Rattle.std.proofs.lemmas.List.Sums.{prefix_len-le-length, prefix_len_passes, prefix_len_stops}
 use Rattle.std.proofs.lemmas.Bool.Decides.{nat_tests}
 use Rattle.hcl_scan.specs.Spelling.{marks, IsMark, IsNewline, IsDigits, IsSign, IsFraction, IsExponent, IsInlineComment, IsHeredocOpen, is_blank}
 use Rattle.hcl_scan.specs.Found.{BlankText, NumberText, CloserText}
@@ -42,6 +43,19 @@ low_cut seen n utf8 within e =
     let low = lt_of (get_or e.end last 0) 128 (all_at is_low e.end last (omega (arith, e.some)) e.low) in
     let next : n - 1 + 1 ≡ n = omega (arith, len, e.some) in
     subst (IsCharBoundary seen) next (IsCharBoundary-after_ascii seen (n - 1) utf8 (omega (arith, len, e.some, within)) (omega (arith, byte, low)))
+
+-- behind a run of ASCII bytes
+pub run_cut : (q : ℕ → Bool) → ((b : ℕ) → q b ≡ true → b < 128) → (seen : List ℕ) → IsUtf8 seen → IsCharBoundary seen (prefix_len q seen)
+run_cut q ascii seen utf8 =
+    ⊎_elim (λ none. subst (IsCharBoundary seen) (sym none) (IsCharBoundary-start seen utf8))
+    (λ other. ⊎_elim (λ neg. absurd (omega arith))
+    (λ some.
+    let n : ℕ = prefix_len q seen in
+    let back : n - 1 + 1 ≡ n = omega arith in
+    let le : n ≤ length seen = prefix_len-le-length q seen in
+    subst (IsCharBoundary seen) back (IsCharBoundary-after_ascii seen (n - 1) utf8 (omega (arith, le)) (ascii (get_or seen (n - 1) 0) (prefix_len_passes q seen (n - 1) 0 (omega arith)))))
+    other)
+    (cases_order (prefix_len q seen) 0)
 
 -- before an LF, or at the end
 pub line_cut : (seen : List ℕ) (n : ℕ) → n ≡ prefix_len goes_on seen → IsCharBoundary seen n

@@ -1,19 +1,23 @@
 -- Identifiers at the front of a text, character by character.
-use Rattle.std.proofs.Common.{◌≡◌, ℕ, ◌+◌, ◌-◌, ◌<◌, ◌≤◌, ◌&&◌, ◌||◌, ◌==◌, Bool, true, false, List, [], ◌∷◌, ◌++◌, length, take, drop, get_or, inl, inr, refl, sym, ap, subst, ◌∙◌, arith, IsUtf8, length-append, length-drop, append_assoc, append-nil, length-take-le}
+use Rattle.std.proofs.Common.{◌≡◌, ℕ, ◌+◌, ◌-◌, ◌<◌, ◌≤◌, ◌&&◌, ◌||◌, ◌==◌, Bool, true, false, List, [], ◌∷◌, ◌++◌, length, take, drop, get_or, get_or-drop, ◌⊎◌, ⊎_elim, inl, inr, refl, sym, ap, subst, ◌∙◌, arith, IsUtf8, length-append, length-drop, append_assoc, append-nil, length-take-le}
 use Rattle.std.specs.Prelude.{encode_utf8, encode_utf8_all}
-use Rattle.std.specs.List.{list_all}
+use Rattle.std.specs.List.{list_all, prefix_len}
 use Rattle.std.specs.Str.{IsCharBoundary, all_scalars}
 use Rattle.std.specs.Char.{is_ascii_alphabetic, is_ascii_alphanumeric, len_utf8}
-use Rattle.std.proofs.lemmas.Str.{encode_same, length-encode, len_utf8_bounds, encodes-append, encode_ascii, encodes_same, IsUtf8-take, IsUtf8-drop, IsCharBoundary-past_char, IsCharBoundary-start}
-use Rattle.std.proofs.lemmas.List.{take-append-drop}
+use Rattle.std.proofs.lemmas.Str.{encode_same, length-encode, len_utf8_bounds, encodes-append, encode_ascii, encodes_same, IsUtf8-take, IsUtf8-drop, IsCharBoundary-past_char}
+use Rattle.std.proofs.lemmas.List.{take-append-drop, drop_all}
+use Rattle.std.proofs.lemmas.List.Sums.{prefix_len_stops}
 use Rattle.std.proofs.lemmas.List.Folds.{list_all-append}
 use Rattle.std.proofs.Math.Seq.{take-append_seam, take-append-add}
 use Rattle.std.proofs.lemmas.Bool.Decides.{nat_tests}
 use Rattle.unicode_ident.specs.Ident.{is_xid_start}
 use Rattle.unicode_ident.proofs.IdentLemmas.{is_xid_start-ascii, is_xid_continue-ascii, is_xid_start-is_xid_continue}
 use Rattle.hcl_scan.specs.Spelling.{IsIdent, are_ident, starts_ident, continues_ident}
-use Rattle.hcl_scan.specs.Found.{IsLongestFront, HasNoFront, BeginsWith, FirstChar, BeginsWithout, AreContinuing}
+use Rattle.hcl_scan.specs.Found.{IsLongestFront, HasNoFront, BeginsWith, FirstChar, BeginsWithout, AreContinuing, continues_ascii}
 use Rattle.hcl_scan.proofs.Booleans.{and_true}
+use Rattle.hcl_scan.proofs.Cuts.{run_cut}
+use Rattle.hcl_scan.proofs.Fronts.{run_passes}
+use Rattle.hcl_scan.proofs.Words.{all_to}
 
 -- ASCII bytes
 pub ascii_continues : (b : ℕ) → b < 128 → continues_ident b ≡ (is_ascii_alphanumeric b || (b == 95) || (b == 45))
@@ -32,10 +36,6 @@ ascii_with test text some lt h = record { first = get_or text 0 0; rest = drop 1
 pub ascii_without : (test : ℕ → Bool) (text : List ℕ) → 0 < length text → get_or text 0 0 < 128 → test (get_or text 0 0) ≡ false → BeginsWithout test text
 ascii_without test text some lt h = inr (get_or text 0 0, drop 1 text, h, ascii_front text some lt)
 
-pub ascii_char : (test : ℕ → Bool) (text : List ℕ) → 0 < length text → (lt : get_or text 0 0 < 128) → test (get_or text 0 0) ≡ true → FirstChar test text 1
-unfolding ascii_with
-ascii_char test text some lt h = record { begins = ascii_with test text some lt h; takes = sym (ap length (encode_ascii (get_or text 0 0) lt)) }
-
 some_of : (n : ℕ) → (n == 0) ≡ false → 0 < n
 some_of n h = grind (arith, nat_tests)
 
@@ -47,17 +47,8 @@ module _ (text bytes : List ℕ) (same : bytes ≡ text) (some : (length bytes =
   low : get_or text 0 0 < 128
   low = subst (λ l. get_or l 0 0 < 128) same lt
 
-  continues_is : (r : Bool) → r ≡ (is_ascii_alphanumeric (get_or bytes 0 0) || (get_or bytes 0 0 == 95) || (get_or bytes 0 0 == 45)) → continues_ident (get_or text 0 0) ≡ r
-  continues_is r e = ap (λ l. continues_ident (get_or l 0 0)) (sym same) ∙ ascii_continues (get_or bytes 0 0) lt ∙ sym e
-
   starts_is : (r : Bool) → r ≡ (is_ascii_alphabetic (get_or bytes 0 0) || (get_or bytes 0 0 == 95)) → starts_ident (get_or text 0 0) ≡ r
   starts_is r e = ap (λ l. starts_ident (get_or l 0 0)) (sym same) ∙ ascii_starts (get_or bytes 0 0) lt ∙ sym e
-
-  pub continues_found : (r : Bool) → r ≡ (is_ascii_alphanumeric (get_or bytes 0 0) || (get_or bytes 0 0 == 95) || (get_or bytes 0 0 == 45)) → r ≡ true → FirstChar continues_ident text 1
-  continues_found r e h = ascii_char continues_ident text some_text low (continues_is r e ∙ h)
-
-  pub continues_none : (r : Bool) → r ≡ (is_ascii_alphanumeric (get_or bytes 0 0) || (get_or bytes 0 0 == 95) || (get_or bytes 0 0 == 45)) → r ≡ false → BeginsWithout continues_ident text
-  continues_none r e h = ascii_without continues_ident text some_text low (continues_is r e ∙ h)
 
   pub starts_found : (r : Bool) → r ≡ (is_ascii_alphabetic (get_or bytes 0 0) || (get_or bytes 0 0 == 95)) → r ≡ true → BeginsWith starts_ident text
   starts_found r e h = ascii_with starts_ident text some_text low (starts_is r e ∙ h)
@@ -111,8 +102,40 @@ pub record Continued (text : List ℕ) (n : ℕ) : Type 0 where
   pub boundary : IsCharBoundary text n
   pub continuing : AreContinuing (take n text)
 
-pub continued_none : (text : List ℕ) → IsUtf8 text → Continued text 0
-continued_none text utf8 = record { boundary = IsCharBoundary-start text utf8; continuing = ([], refl, refl) }
+ascii_only : (b : ℕ) → continues_ascii b ≡ true → b < 128
+ascii_only b h = grind (arith, nat_tests)
+
+encoded : (cs : List ℕ) → list_all continues_ascii cs ≡ true → cs ≡ encode_utf8_all cs
+encoded [] h = refl
+encoded (c ∷ cs) h =
+    let parts = and_true (continues_ascii c) (list_all continues_ascii cs) h in
+    ap (λ l. c ∷ l) (encoded cs parts.1) ∙ sym (ap (λ l. l ++ encode_utf8_all cs) (encode_ascii c (ascii_only c parts.0)))
+
+pub continued_ascii : (text bytes : List ℕ) (n : ℕ) → IsUtf8 text → bytes ≡ text → n ≡ prefix_len continues_ascii bytes → Continued text n
+continued_ascii text bytes n utf8 same is =
+    let n_is : n ≡ prefix_len continues_ascii text = is ∙ ap (prefix_len continues_ascii) same in
+    let all : list_all continues_ascii (take n text) ≡ true = ap (λ k. list_all continues_ascii (take k text)) n_is ∙ run_passes continues_ascii text in
+    record {
+      boundary = subst (IsCharBoundary text) (sym n_is) (run_cut continues_ascii ascii_only text utf8);
+      continuing = (take n text, all_to continues_ascii continues_ident (λ b h. ascii_continues b (ascii_only b h) ∙ h) (take n text) all, encoded (take n text) all);
+    }
+
+pub ascii_stops : (text bytes : List ℕ) (n : ℕ) → bytes ≡ text → n ≡ prefix_len continues_ascii bytes → get_or bytes n 0 < 128 → BeginsWithout continues_ident (drop n text)
+ascii_stops text bytes n same is low = subst (λ l. BeginsWithout continues_ident (drop n l)) same (⊎_elim stop end (either n (length bytes)))
+  where
+    either : (a b : ℕ) → (a < b) ⊎ (b ≤ a)
+    either a b = grind arith
+
+    first_is : get_or (drop n bytes) 0 0 ≡ get_or bytes n 0
+    first_is = get_or-drop n bytes 0 0 ∙ ap (λ i. get_or bytes i 0) (omega arith)
+
+    stop : n < length bytes → BeginsWithout continues_ident (drop n bytes)
+    stop lt =
+        let fails : continues_ascii (get_or bytes n 0) ≡ false = ap (λ i. continues_ascii (get_or bytes i 0)) is ∙ prefix_len_stops continues_ascii bytes 0 (omega (arith, is, lt)) in
+        ascii_without continues_ident (drop n bytes) (omega (arith, length-drop n bytes)) (omega (arith, first_is)) (ap continues_ident first_is ∙ ascii_continues (get_or bytes n 0) low ∙ fails)
+
+    end : length bytes ≤ n → BeginsWithout continues_ident (drop n bytes)
+    end le = inl (drop_all n bytes le)
 
 pub continued_more : (text rest : List ℕ) (len n : ℕ) → IsUtf8 text → Continued text len → rest ≡ drop len text → FirstChar continues_ident rest n → Continued text (len + n)
 continued_more text rest len n utf8 so_far e f =

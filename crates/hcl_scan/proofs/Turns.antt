@@ -3,11 +3,11 @@ use Rattle.std.proofs.Common.{◌≡◌, ◌≢◌, ℕ, zero, suc, ◌+◌, ◌
 use Rattle.std.specs.Prelude.{IfSome, IfNone}
 use Rattle.std.specs.List.{list_all, prefix_len}
 use Rattle.std.specs.Str.{IsCharBoundary}
-use Rattle.std.proofs.lemmas.Str.{IsCharBoundary-start, IsCharBoundary-end, IsCharBoundary-after_ascii}
+use Rattle.std.proofs.lemmas.Str.{IsCharBoundary-start, IsCharBoundary-end}
 use Rattle.std.proofs.lemmas.Bool.{cases_order}
 use Rattle.std.proofs.lemmas.Bool.Decides.{nat_tests}
 use Rattle.std.proofs.lemmas.List.{length-map}
-use Rattle.std.proofs.lemmas.List.Sums.{prefix_len_passes, prefix_len-le-length}
+use Rattle.std.proofs.lemmas.List.Sums.{prefix_len-le-length}
 use Rattle.hcl_scan.specs.Lexemes.{Lexeme, Opener, in_heredoc, moved, is_heredoc, Heredoc, Quote, Sequence, Brace, Bracket, Paren}
 use Rattle.hcl_scan.specs.Spelling.{IsSpelling, is_blank, starts, Context, Template, Expression, context, context_in}
 use Rattle.hcl_scan.specs.Scans.{State, Hidden, Next, Reads, Closes, Shows, IsLongest, IsComplete, gap_in, gap_len, ahead, begin, is_dot, offsets_of, owed, owes, has_gaps_in, HasNone}
@@ -26,6 +26,7 @@ use Rattle.hcl_scan.specs.declared.fault.FaultKind.{FaultKind}
 use Rattle.hcl_scan.specs.declared.fault.FaultKind.TheVariants.{InvalidCharacter, UnterminatedComment, UnterminatedQuote, UnterminatedTemplate, InvalidEscape, TooDeep, UnterminatedHeredoc}
 use Rattle.hcl_scan.specs.declared.token.Kind.{Kind}
 use Rattle.hcl_scan.specs.declared.token.Kind.TheVariants.{HeredocOpen, HeredocClose, Dot, QuoteOpen, InterpOpen, ControlOpen, ParenOpen, BracketOpen, BraceOpen}
+use Rattle.hcl_scan.proofs.Cuts.{run_cut}
 use Rattle.hcl_scan.proofs.Slices.{front_of, back_of, nothing_of, slice_len, part_boundary}
 use Rattle.hcl_scan.proofs.Stacks.{Drops, Closable, closed_is, closed_drops, drops_offsets, push_offsets, opens_so, ends_of, hidden_on, closes_is, some_around, owed_heredoc}
 use Rattle.hcl_scan.proofs.Sides.{no_close, closable, fits, heredoc}
@@ -110,18 +111,6 @@ sound_new s small utf8 at end stack = record {
 pub blank_ascii : (b : ℕ) → is_blank b ≡ true → b < 128
 blank_ascii b h = grind (arith, nat_tests)
 
-blanks_boundary : (seen : List ℕ) → IsUtf8 seen → IsCharBoundary seen 0 → IsCharBoundary seen (prefix_len is_blank seen)
-blanks_boundary seen utf8 first =
-    ⊎_elim (λ none. subst (IsCharBoundary seen) (sym none) first)
-    (λ other. ⊎_elim (λ neg. absurd (omega arith))
-    (λ some.
-    let n : ℕ = prefix_len is_blank seen in
-    let back : n - 1 + 1 ≡ n = omega arith in
-    let le : n ≤ length seen = prefix_len-le-length is_blank seen in
-    subst (IsCharBoundary seen) back (IsCharBoundary-after_ascii seen (n - 1) utf8 (omega (arith, le)) (blank_ascii (get_or seen (n - 1) 0) (prefix_len_passes is_blank seen (n - 1) 0 (omega arith)))))
-    other)
-    (cases_order (prefix_len is_blank seen) 0)
-
 pub quoted_none : (c : Context) → quoted_in c ≡ None → c ≡ Expression
 quoted_none Expression h = refl
 quoted_none (Template quoted) h = absurd (cc)
@@ -141,7 +130,7 @@ start_gap s n seen sound utf8 seen_is n_is gaps =
     let len = slice_len s.text.now s.at s.end sound.order sound.within in
     let le : prefix_len is_blank seen ≤ length seen = prefix_len-le-length is_blank seen in
     let within : s.at + n ≤ s.end = omega (arith, n_is, le, ap length seen_is, len) in
-    let inner : IsCharBoundary (slice_range s.text.now s.at s.end) n = subst (λ l. IsCharBoundary l n) seen_is (subst (IsCharBoundary seen) (sym n_is) (blanks_boundary seen utf8 (IsCharBoundary-start seen utf8))) in
+    let inner : IsCharBoundary (slice_range s.text.now s.at s.end) n = subst (λ l. IsCharBoundary l n) seen_is (subst (IsCharBoundary seen) (sym n_is) (run_cut is_blank blank_ascii seen utf8)) in
     record { gap = ap (λ k. s.at + k) (sym g); within = within; boundary = part_boundary s.text.now s.at s.end n within sound.within sound.end inner }
 
 pub no_gaps_inside : (c : Context) (inside : Bool) → inside ≡ true → has_gaps_in c inside ≡ false

@@ -1,6 +1,7 @@
 -- What the parts of the scanner find at the front of what is seen: the longest token of any kind, as the HCL Native
 -- Syntax Specification reads a text, or the longest front of one form.
-use Rattle.std.specs.Prelude.{◌≡◌, ℕ, ◌+◌, ◌<◌, ◌≤◌, Bool, true, false, List, [], ◌++◌, length, take, drop, if◌then◌else◌, get_or, codes, encode_utf8, encode_utf8_all, ◌⊎◌}
+use Rattle.std.specs.Prelude.{◌≡◌, ℕ, ◌+◌, ◌<◌, ◌≤◌, ◌==◌, ◌||◌, Bool, true, false, List, [], ◌++◌, length, take, drop, if◌then◌else◌, get_or, codes, encode_utf8, encode_utf8_all, ◌⊎◌}
+use Rattle.std.specs.Char.{is_ascii_alphanumeric}
 use Rattle.std.specs.List.{list_all}
 use Rattle.hcl_scan.specs.Lexemes.{Opener, in_heredoc, closes_sequence}
 use Rattle.hcl_scan.specs.Spelling.{IsMark, IsBlanks, IsDigits, IsNumber, IsIdent, IsNewline, starts, continues_ident, context, Expression}
@@ -76,6 +77,10 @@ pub record FirstChar (test : ℕ → Bool) (text : List ℕ) (n : ℕ) : Type 0 
 -- no first character passes
 abbrev pub BeginsWithout : (ℕ → Bool) → List ℕ → Type 0
 BeginsWithout test text = (text ≡ []) ⊎ ((first : ℕ) × (rest : List ℕ) × (test first ≡ false) × (text ≡ encode_utf8 first ++ rest))
+
+-- the ASCII byte may continue an identifier
+abbrev pub continues_ascii : ℕ → Bool
+continues_ascii b = is_ascii_alphanumeric b || (b == 95) || (b == 45)
 
 -- characters that may continue an identifier
 abbrev pub AreContinuing : List ℕ → Type 0

@@ -1,11 +1,13 @@
 //! Identifiers, and the openers of heredocs, whose marker is one.
 
 ghost use Rattle.std.specs.Prelude.{◌≡◌, ◌==◌, ◌||◌, true, false, take, drop, IfSome, IfNone};
-ghost use Rattle.std.specs.Char.{is_ascii_alphabetic, is_ascii_alphanumeric};
+ghost use Rattle.std.specs.Char.{is_ascii_alphabetic};
+ghost use Rattle.std.specs.List.{prefix_len};
 ghost use Rattle.std.specs.Str.{IsCharBoundary};
 ghost use Rattle.hcl_scan.specs.Spelling.{continues_ident, starts_ident, IsIdent, IsHeredocOpen};
-ghost use Rattle.hcl_scan.specs.Found.{IsLongestFront, HasNoFront, AreContinuing, BeginsWith, BeginsWithout, FirstChar, IsMarker, heredoc_mark_len};
+ghost use Rattle.hcl_scan.specs.Found.{IsLongestFront, HasNoFront, AreContinuing, BeginsWith, BeginsWithout, FirstChar, IsMarker, continues_ascii, heredoc_mark_len};
 
+use crate::bytes::byte_at;
 use crate::space::newline_len;
 
 fn continues_ident(c: char) -> bool
@@ -20,10 +22,13 @@ fn starts_ident(c: char) -> bool
     unicode_ident::is_xid_start(c) || c == '_'
 }
 
-/// Whether the ASCII byte may continue an identifier.
+/// Whether the ASCII byte may continue an identifier. Most are small letters, so that is asked first.
 fn continues_ascii(b: u8) -> bool
-    ensures { result ≡ (is_ascii_alphanumeric b || (b == 95) || (b == 45)) }
+    ensures { result ≡ continues_ascii b }
 {
+    if b.is_ascii_lowercase() {
+        return true;
+    }
     b.is_ascii_alphanumeric() || b == b'_' || b == b'-'
 }
 
@@ -39,17 +44,6 @@ fn continuing_char(text: &str) -> Option<usize>
     ensures found { IfSome result (FirstChar continues_ident text.now) }
     ensures none { IfNone result (BeginsWithout continues_ident text.now) }
 {
-    let bytes = text.as_bytes();
-    if bytes.is_empty() {
-        return None;
-    }
-    if bytes[0] < 128 {
-        return if continues_ascii(bytes[0]) {
-            Some(1)
-        } else {
-            None
-        };
-    }
     match text.chars().next() {
         Some(c) => if continues_ident(c) {
             Some(c.len_utf8())
@@ -78,13 +72,25 @@ fn begins_ident(text: &str) -> bool
     }
 }
 
-/// How many bytes the characters at the front have that may continue an identifier.
+/// How many bytes the ASCII characters at the front have that may continue an identifier.
+fn continuing_ascii(bytes: &[u8]) -> usize
+    ensures { result ≡ prefix_len continues_ascii bytes.now }
+{
+    bytes.iter().take_while(|b| continues_ascii(**b)).count()
+}
+
+/// How many bytes the characters at the front have that may continue an identifier. Nearly always
+/// these are ASCII, and are counted as bytes; only from another one on each is read as a character.
 fn continuing_len(text: &str) -> usize
     ensures boundary { IsCharBoundary text.now result }
     ensures continuing { AreContinuing (take result text.now) }
     ensures stops { BeginsWithout continues_ident (drop result text.now) }
 {
-    let mut len = 0;
+    let bytes = text.as_bytes();
+    let mut len = continuing_ascii(bytes);
+    if byte_at(bytes, len) < 128 {
+        return len;
+    }
     while let Some(n) = continuing_char(&text[len..]) {
         len += n;
     }

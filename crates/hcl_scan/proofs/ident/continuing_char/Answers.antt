@@ -1,15 +1,7 @@
 use Rattle.std.proofs.Common.{sym, ◌∙◌}
 use Rattle.hcl_scan.specs.Spelling.{continues_ident}
-use Rattle.hcl_scan.proofs.Idents.{continues_found, continues_none, char_found}
+use Rattle.hcl_scan.proofs.Idents.{char_found}
 use Rattle.hcl_scan.proofs.ident.continuing_char.Goals as goal
-
-pub returns-then-continues_ascii-clause-found : goal.returns-then-continues_ascii-clause-found
-returns-then-continues_ascii-clause-found c =
-    continues_found c.args.text.now c.as_bytes-bytes.result.now c.as_bytes-bytes.ensures.value (sym c.is_empty.ensures ∙ c.if-is_empty.false) c.if-bytes-lt128.true c.continues_ascii.result c.continues_ascii.ensures c.if-continues_ascii.true
-
-pub returns-else-continues_ascii-clause-none : goal.returns-else-continues_ascii-clause-none
-returns-else-continues_ascii-clause-none c =
-    continues_none c.args.text.now c.as_bytes-bytes.result.now c.as_bytes-bytes.ensures.value (sym c.is_empty.ensures ∙ c.if-is_empty.false) c.if-bytes-lt128.true c.continues_ascii.result c.continues_ascii.ensures c.if-continues_ascii.false
 
 pub returns-then-continues_ident-clause-found : goal.returns-then-continues_ident-clause-found
 returns-then-continues_ident-clause-found c =
