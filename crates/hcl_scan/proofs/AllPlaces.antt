@@ -1,13 +1,13 @@
 -- One kind for each text and no empty text, for all places from expressions and templates; and a reading that lacks something can't go on.
-use Rattle.std.proofs.Common.{◌≡◌, ◌≢◌, ℕ, zero, suc, ◌+◌, ◌-◌, ◌<◌, ◌≤◌, ◌&&◌, ◌||◌, ◌==◌, Bool, true, false, List, [], ◌∷◌, ◌++◌, length, take, drop, get_or, Option, Some, None, ◌⊎◌, inl, inr, ⊎_elim, refl, sym, ap, subst, ◌∙◌, arith, length-append, length-drop}
-use Rattle.hcl_scan.specs.Lexemes.{Lexeme, Opener, Heredoc, marker_of, moved}
-use Rattle.hcl_scan.specs.Spelling.{IsExpressionText, IsTemplateText, IsTextIn, IsSpelling, Context, Template, Expression, context, element_len, IsLit}
-use Rattle.hcl_scan.specs.Scans.{State, Hidden, gap_len, owed, ahead, begin, IsLongest, IsMarkerLine, IsFirstMarkerLine, Shows, Reads, Closes, Next, Run, Scans, IsComplete}
+use Rattle.std.proofs.Common.{◌≡◌, ℕ, ◌<◌, Bool, List, [], ◌∷◌, ◌++◌, length, get_or, None, ◌⊎◌, inl, inr, ⊎_elim, refl, sym, ap, subst, ◌∙◌, arith, length-drop}
+use Rattle.hcl_scan.specs.Lexemes.{Lexeme, Opener, marker_of, moved}
+use Rattle.hcl_scan.specs.Spelling.{IsExpressionText, IsTextIn, Context, Template, Expression, context, element_len, IsLit}
+use Rattle.hcl_scan.specs.Scans.{State, gap_len, owed, ahead, IsLongest, IsMarkerLine, Shows, Reads, Next, Run}
 use Rattle.hcl_scan.specs.Faults.{Lacks, at_end, no_token, too_deep, no_marker_line, end_fault}
 use Rattle.hcl_scan.specs.declared.fault.FaultKind.{FaultKind}
 use Rattle.hcl_scan.specs.declared.token.Kind.{Kind}
-use Rattle.hcl_scan.specs.declared.token.Kind.TheVariants.{HeredocOpen, Lit, InterpOpen, ControlOpen, QuoteClose}
-use Rattle.hcl_scan.proofs.Runs.{OneKind, Nonempty, Stuck, SameLongest, one_longest, some_ahead, nothing_ahead}
+use Rattle.hcl_scan.specs.declared.token.Kind.TheVariants.{HeredocOpen, Lit}
+use Rattle.hcl_scan.proofs.Runs.{OneKind, Nonempty, Stuck, one_longest, some_ahead, nothing_ahead}
 use Rattle.hcl_scan.proofs.Templates.{Way, ways, lit, interp, control, quote, no_lit, no_element}
 
 -- the laws of expressions

@@ -1,18 +1,18 @@
 -- What a turn of the scanner does where a heredoc is opened, and where it ends.
-use Rattle.std.proofs.Common.{◌≡◌, ◌≢◌, ℕ, zero, suc, ◌+◌, ◌-◌, ◌<◌, ◌≤◌, ◌&&◌, ◌||◌, ◌==◌, Bool, true, false, cond, IsTrue, List, [], ◌∷◌, ◌++◌, length, take, drop, map, get_or, slice_range, Option, Some, None, ◌⊎◌, inl, inr, ⊎_elim, refl, sym, ap, subst, ◌∙◌, arith, IsUtf8, length-drop, length-take-le, get_or-drop}
+use Rattle.std.proofs.Common.{◌≡◌, ℕ, ◌+◌, ◌-◌, ◌<◌, ◌≤◌, ◌&&◌, ◌||◌, ◌==◌, Bool, true, false, cond, List, [], ◌∷◌, length, take, drop, get_or, slice_range, Some, ◌⊎◌, inl, inr, ⊎_elim, refl, sym, ap, subst, ◌∙◌, arith, IsUtf8, length-drop, get_or-drop}
 use Rattle.std.specs.List.{prefix_len}
 use Rattle.std.specs.Str.{IsCharBoundary}
-use Rattle.std.proofs.lemmas.Str.{IsCharBoundary-start, IsCharBoundary-end, IsCharBoundary-after_ascii, IsCharBoundary-before_ascii}
+use Rattle.std.proofs.lemmas.Str.{IsCharBoundary-start, IsCharBoundary-after_ascii}
 use Rattle.std.proofs.lemmas.Bool.{cases_order}
 use Rattle.std.proofs.lemmas.Bool.Decides.{nat_tests}
 use Rattle.std.proofs.lemmas.List.{length-map}
 use Rattle.std.proofs.lemmas.List.Sums.{prefix_len-le-length}
-use Rattle.hcl_scan.specs.Lexemes.{Lexeme, Opener, Heredoc, marker_of, moved}
+use Rattle.hcl_scan.specs.Lexemes.{Opener, Heredoc, marker_of, moved}
 use Rattle.hcl_scan.specs.Spelling.{is_blank, starts, context, Expression, IsHeredocOpen}
-use Rattle.hcl_scan.specs.Scans.{State, Hidden, Next, Reads, Closes, Shows, hides, IsLongest, IsMarkerLine, IsFirstMarkerLine, closer_len, is_marker_line, skip_blanks, ends_line, ahead, is_dot}
-use Rattle.hcl_scan.specs.Faults.{Lacks, too_deep, no_marker_line, fault_offset}
-use Rattle.hcl_scan.specs.Openings.{opener_of, openers_of, offsets_in, hidden_of, opened_by, opened_on, is_heredoc_open, closes_on, top_closes}
-use Rattle.hcl_scan.specs.Scanners.{state_of, IsStack, IsSound, IsEntry, IsNext, IsStopped, Moves, lexeme_of, fits_in}
+use Rattle.hcl_scan.specs.Scans.{Shows, hides, IsLongest, IsMarkerLine, IsFirstMarkerLine, closer_len, is_marker_line, skip_blanks, ends_line, ahead, is_dot}
+use Rattle.hcl_scan.specs.Faults.{too_deep, no_marker_line}
+use Rattle.hcl_scan.specs.Openings.{opener_of, openers_of, offsets_in, hidden_of, opened_by, opened_on, is_heredoc_open}
+use Rattle.hcl_scan.specs.Scanners.{state_of, IsSound, IsNext, IsStopped, Moves, fits_in}
 use Rattle.hcl_scan.specs.declared.entry.Entry.{Entry}
 use Rattle.hcl_scan.specs.declared.opened.By.{By}
 use Rattle.hcl_scan.specs.declared.opened.By.TheVariants as by
@@ -20,8 +20,8 @@ use Rattle.hcl_scan.specs.declared.opened.Opened.{Opened}
 use Rattle.hcl_scan.specs.declared.scanner.Scanner.{Scanner}
 use Rattle.hcl_scan.specs.declared.fault.FaultKind.TheVariants.{TooDeep, UnterminatedHeredoc}
 use Rattle.hcl_scan.specs.declared.token.Kind.{Kind}
-use Rattle.hcl_scan.specs.declared.token.Kind.TheVariants.{HeredocOpen, HeredocClose}
-use Rattle.hcl_scan.proofs.Slices.{front_of, back_of, nothing_of, slice_len, part_boundary}
+use Rattle.hcl_scan.specs.declared.token.Kind.TheVariants.{HeredocOpen}
+use Rattle.hcl_scan.proofs.Slices.{front_of, back_of, slice_len, part_boundary}
 use Rattle.hcl_scan.proofs.Stacks.{push_offsets, closes_is, opens_so}
 use Rattle.hcl_scan.proofs.Literals.{starts_len}
 use Rattle.hcl_scan.proofs.Markers.{some_marker, long_opener}

@@ -1,11 +1,11 @@
 -- The marker of a heredoc.
-use Rattle.std.proofs.Common.{◌≡◌, ℕ, ◌+◌, ◌<◌, ◌≤◌, ◌&&◌, ◌||◌, ◌==◌, not, Bool, true, false, cond, List, [], ◌∷◌, ◌++◌, length, take, drop, if◌then◌else◌, ◌⊎◌, inl, inr, ⊎_elim, refl, sym, ap, subst, ◌∙◌, arith}
-use Rattle.std.specs.List.{position_or_len, before_first, starts_with}
+use Rattle.std.proofs.Common.{◌≡◌, ℕ, ◌+◌, ◌<◌, ◌≤◌, ◌&&◌, ◌==◌, not, Bool, true, false, cond, List, ◌∷◌, ◌++◌, length, take, drop, if◌then◌else◌, ⊎_elim, sym, ap, subst, ◌∙◌, arith}
+use Rattle.std.specs.List.{position_or_len, before_first}
 use Rattle.std.proofs.Math.Numerals.{one-add}
 use Rattle.std.proofs.lemmas.Bool.Decides.{nat_tests}
 use Rattle.hcl_scan.specs.Lexemes.{marker_of, is_newline_byte}
 use Rattle.hcl_scan.specs.Spelling.{IsHeredocOpen}
-use Rattle.hcl_scan.proofs.Words.{ident_word, IsWord, begins_word}
+use Rattle.hcl_scan.proofs.Words.{ident_word, begins_word}
 
 begun : (b : ℕ) (l : List ℕ) → is_newline_byte b ≡ false → 0 < length (before_first is_newline_byte (b ∷ l))
 begun b l h = subst (λ v. 0 < length (take (cond (not v) (1 + position_or_len is_newline_byte l) 0) (b ∷ l))) (sym h) (rw one-add (omega arith))

@@ -1,14 +1,14 @@
 -- Readings: a text has one at most, one fault at most, and not both; and its stack is small throughout.
-use Rattle.std.proofs.Common.{◌≡◌, ◌≢◌, ℕ, suc, ◌+◌, ◌-◌, ◌<◌, ◌≤◌, ◌&&◌, ◌||◌, ◌==◌, not, Bool, true, false, cond, IsTrue, List, [], ◌∷◌, ◌++◌, length, take, drop, get_or, ◌⊎◌, inl, inr, ⊎_elim, refl, sym, ap, subst, ◌∙◌, arith, length-append, length-drop, Option, Some, None}
+use Rattle.std.proofs.Common.{◌≡◌, ℕ, ◌+◌, ◌<◌, ◌≤◌, Bool, false, List, [], ◌∷◌, ◌++◌, length, take, drop, inl, inr, ⊎_elim, refl, sym, ap, subst, ◌∙◌, arith, length-append, length-drop, Some}
 use Rattle.std.proofs.lemmas.Bool.{cases_order}
 use Rattle.std.proofs.Math.Seq.{take-append_seam, drop-append_seam}
-use Rattle.hcl_scan.specs.Lexemes.{Lexeme, Opener, Heredoc, marker_of, moved, opened}
-use Rattle.hcl_scan.specs.Spelling.{IsSpelling, context}
-use Rattle.hcl_scan.specs.Scans.{State, Hidden, hides, is_dot, gap_len, offsets_of, owed, begin, ahead, IsLongest, IsMarkerLine, IsFirstMarkerLine, Shows, Reads, Closes, Next, Run, Scans, IsComplete}
-use Rattle.hcl_scan.specs.Faults.{Lacks, at_end, no_token, too_deep, no_marker_line, end_fault, no_token_fault, fault_offset, IsScanFault}
+use Rattle.hcl_scan.specs.Lexemes.{Lexeme, Opener, marker_of, moved, opened}
+use Rattle.hcl_scan.specs.Spelling.{IsSpelling}
+use Rattle.hcl_scan.specs.Scans.{State, Hidden, hides, is_dot, gap_len, offsets_of, owed, begin, ahead, IsLongest, IsFirstMarkerLine, Shows, Reads, Closes, Next, Run, Scans, IsComplete}
+use Rattle.hcl_scan.specs.Faults.{Lacks, at_end, no_token, too_deep, no_marker_line, end_fault, fault_offset, IsScanFault}
 use Rattle.hcl_scan.specs.declared.fault.FaultKind.{FaultKind}
 use Rattle.hcl_scan.specs.declared.token.Kind.{Kind}
-use Rattle.hcl_scan.specs.declared.token.Kind.TheVariants.{HeredocOpen, HeredocClose}
+use Rattle.hcl_scan.specs.declared.token.Kind.TheVariants.{HeredocOpen}
 
 -- two laws of the spellings: one kind for each text, and no empty text
 unfoldable pub OneKind : Type 0

@@ -1,13 +1,13 @@
 -- The scan as a whole: a run grows by the tokens read, and where it ends in a fault this is the fault of the text.
-use Rattle.std.proofs.Common.{◌≡◌, ℕ, ◌+◌, ◌<◌, ◌≤◌, List, [], ◌∷◌, ◌++◌, length, refl, sym, ap, subst, ◌∙◌, arith}
+use Rattle.std.proofs.Common.{◌≡◌, ℕ, List, [], ◌∷◌, ◌++◌, length, sym, ap, subst, ◌∙◌, arith}
 use Rattle.std.specs.Prelude.{All}
 use Rattle.std.specs.Str.{IsCharBoundary}
 use Rattle.std.proofs.lemmas.List.{map_push}
 use Rattle.std.proofs.lemmas.List.Elements.{All-push}
 use Rattle.hcl_scan.specs.Lexemes.{Lexeme}
-use Rattle.hcl_scan.specs.Scans.{State, Run, Next, begin, Scans}
-use Rattle.hcl_scan.specs.Faults.{Lacks, fault_offset, IsScanFault}
-use Rattle.hcl_scan.specs.Scanners.{state_of, lexeme_of, lexemes_of, IsEntry, IsSound, IsStopped, Moves}
+use Rattle.hcl_scan.specs.Scans.{Run, Next, begin}
+use Rattle.hcl_scan.specs.Faults.{IsScanFault}
+use Rattle.hcl_scan.specs.Scanners.{state_of, lexeme_of, lexemes_of, IsEntry, IsStopped, Moves}
 use Rattle.hcl_scan.specs.Stops.{IsFaultOf}
 use Rattle.hcl_scan.specs.declared.entry.Entry.{Entry}
 use Rattle.hcl_scan.specs.declared.scanner.Scanner.{Scanner}

@@ -1,13 +1,12 @@
 -- Which kinds are read where.
-use Rattle.std.proofs.Common.{◌≡◌, ◌≢◌, ℕ, ◌&&◌, Bool, true, false, cond, IsTrue, List, [], ◌∷◌, length, drop, if◌then◌else◌, Option, Some, None, ◌⊎◌, inl, inr, ⊎_elim, refl, sym, ap, subst, ◌∙◌}
+use Rattle.std.proofs.Common.{◌≡◌, ◌≢◌, ℕ, ◌&&◌, Bool, true, false, List, [], ◌∷◌, Option, Some, None, ⊎_elim, refl, sym, ap, subst, ◌∙◌}
 use Rattle.hcl_scan.specs.Lexemes.{Opener, closes_sequence}
 use Rattle.hcl_scan.specs.Spelling.{marks, IsMark, IsHeredocOpen, IsExpressionText, IsTextIn, IsSpelling, Context, Template, Expression, context}
-use Rattle.hcl_scan.specs.Scans.{is_dot}
 use Rattle.hcl_scan.specs.Openings.{opened_by, opener_of}
 use Rattle.hcl_scan.specs.Scanners.{fits_in}
 use Rattle.hcl_scan.specs.declared.opened.By.{By}
 use Rattle.hcl_scan.specs.declared.token.Kind.{Kind}
-use Rattle.hcl_scan.specs.declared.token.Kind.TheVariants.{Dot, Lit, InterpOpen, ControlOpen, QuoteClose, HeredocClose, HeredocOpen, QuoteOpen, ParenOpen, BracketOpen, BraceOpen, SeqClose}
+use Rattle.hcl_scan.specs.declared.token.Kind.TheVariants.{Lit, InterpOpen, ControlOpen, QuoteClose, HeredocClose, HeredocOpen, QuoteOpen, ParenOpen, BracketOpen, BraceOpen, SeqClose}
 use Rattle.hcl_scan.proofs.Starts.{both}
 use Rattle.hcl_scan.proofs.Templates.{Way, ways, lit, interp, control, quote}
 use Rattle.hcl_scan.proofs.Stacks.{Closable}

@@ -1,12 +1,11 @@
 -- The scanner's stack against what is open.
-use Rattle.std.proofs.Common.{◌≡◌, ◌≢◌, ℕ, zero, suc, ◌+◌, ◌-◌, ◌<◌, ◌≤◌, ◌&&◌, ◌||◌, Bool, true, false, cond, IsTrue, List, [], ◌∷◌, length, drop, map, if◌then◌else◌, Option, Some, None, refl, sym, ap, subst, ◌∙◌, arith, nat_lt, slice_range}
-use Rattle.std.specs.Str.{IsCharBoundary}
+use Rattle.std.proofs.Common.{◌≡◌, ◌≢◌, ℕ, suc, ◌+◌, ◌-◌, ◌<◌, ◌≤◌, ◌||◌, Bool, true, false, IsTrue, List, [], ◌∷◌, length, drop, if◌then◌else◌, Some, None, refl, sym, ap, subst, ◌∙◌, arith, nat_lt}
 use Rattle.std.proofs.lemmas.List.{length-map, drop-map, drop-drop}
 use Rattle.std.proofs.lemmas.Bool.Decides.{nat_tests}
 use Rattle.hcl_scan.specs.Lexemes.{Opener, Quote, Heredoc, Sequence, Brace, Bracket, Paren, is_heredoc, is_group, is_paren, is_bracket, is_brace, is_sequence, in_heredoc, below_groups, closes_sequence, pop_if, tops_with, moved}
 use Rattle.hcl_scan.specs.Spelling.{Context, Template, Expression, context, context_in}
 use Rattle.hcl_scan.specs.Scans.{Hidden, offsets_of, owed, owes}
-use Rattle.hcl_scan.specs.Openings.{opener_of, openers_of, offsets_in, hidden_of, hidden_under, popped_groups, popped_if, same_opener, closed, closes_on, top_closes, opened_on, opened_by}
+use Rattle.hcl_scan.specs.Openings.{opener_of, openers_of, offsets_in, hidden_of, hidden_under, popped_groups, popped_if, same_opener, closed, closes_on, top_closes, opened_by}
 use Rattle.hcl_scan.specs.Scanners.{fits_in, AreEndsBy, IsStack}
 use Rattle.hcl_scan.specs.declared.opened.By.{By}
 use Rattle.hcl_scan.specs.declared.opened.By.TheVariants as by

@@ -1,13 +1,12 @@
 -- The tokens of templates: which is found, and where the text may be cut behind it.
-use Rattle.std.proofs.Common.{◌≡◌, ◌≢◌, ℕ, zero, suc, ◌+◌, ◌-◌, ◌<◌, ◌≤◌, ◌&&◌, ◌||◌, ◌==◌, Bool, true, false, cond, List, [], ◌∷◌, ◌++◌, length, take, drop, get_or, if◌then◌else◌, Option, Some, None, ◌⊎◌, inl, inr, ⊎_elim, refl, sym, ap, subst, ◌∙◌, arith, length-append, length-take-le, codes, IsUtf8}
+use Rattle.std.proofs.Common.{◌≡◌, ℕ, zero, suc, ◌<◌, ◌≤◌, ◌&&◌, ◌||◌, ◌==◌, Bool, true, false, List, [], ◌∷◌, ◌++◌, length, take, drop, get_or, if◌then◌else◌, Option, Some, None, ◌⊎◌, inl, inr, ⊎_elim, refl, sym, ap, subst, ◌∙◌, arith, length-take-le, codes, IsUtf8}
 use Rattle.std.specs.Str.{IsCharBoundary}
-use Rattle.std.proofs.lemmas.Str.{IsCharBoundary-after_ascii, IsCharBoundary-before_ascii, IsCharBoundary-end}
+use Rattle.std.proofs.lemmas.Str.{IsCharBoundary-after_ascii, IsCharBoundary-before_ascii}
 use Rattle.std.proofs.lemmas.List.{take-append-drop}
-use Rattle.std.proofs.lemmas.Bool.{cases_order}
 use Rattle.std.proofs.lemmas.Bool.Decides.{nat_tests}
 use Rattle.hcl_scan.specs.Lexemes.{Opener}
-use Rattle.hcl_scan.specs.Spelling.{starts, is_sign, ends_quoted, escape_len, element_len, are_elements, IsLit, IsTemplateText, IsTextIn, IsSpelling, Context, Template, Expression, context}
-use Rattle.hcl_scan.specs.Scans.{IsLongest, HasNone}
+use Rattle.hcl_scan.specs.Spelling.{starts, is_sign, ends_quoted, escape_len, element_len, are_elements, IsLit, IsTemplateText, IsTextIn, IsSpelling, Template, context}
+use Rattle.hcl_scan.specs.Scans.{HasNone}
 use Rattle.hcl_scan.specs.Found.{Finds}
 use Rattle.hcl_scan.specs.declared.token.Kind.{Kind}
 use Rattle.hcl_scan.specs.declared.token.Kind.TheVariants.{Lit, InterpOpen, ControlOpen, QuoteClose}

@@ -1,35 +1,33 @@
 -- What a turn of the scanner does, as a step of the reading.
-use Rattle.std.proofs.Common.{◌≡◌, ◌≢◌, ℕ, zero, suc, ◌+◌, ◌-◌, ◌<◌, ◌≤◌, ◌&&◌, ◌||◌, ◌==◌, not, Bool, true, false, cond, IsTrue, List, [], ◌∷◌, ◌++◌, length, take, drop, map, get_or, slice_range, if◌then◌else◌, Option, Some, None, ◌⊎◌, inl, inr, ⊎_elim, refl, sym, ap, subst, ◌∙◌, arith, IsUtf8, length-drop, length-take-le, nat_lt}
-use Rattle.std.specs.Prelude.{IfSome, IfNone}
-use Rattle.std.specs.List.{list_all, prefix_len}
+use Rattle.std.proofs.Common.{◌≡◌, ◌≢◌, ℕ, ◌+◌, ◌<◌, ◌≤◌, not, Bool, true, false, List, [], ◌∷◌, length, take, slice_range, if◌then◌else◌, Option, Some, None, inl, refl, sym, ap, subst, ◌∙◌, arith, IsUtf8}
+use Rattle.std.specs.Prelude.{IfSome}
+use Rattle.std.specs.List.{prefix_len}
 use Rattle.std.specs.Str.{IsCharBoundary}
 use Rattle.std.proofs.lemmas.Str.{IsCharBoundary-start, IsCharBoundary-end}
-use Rattle.std.proofs.lemmas.Bool.{cases_order}
 use Rattle.std.proofs.lemmas.Bool.Decides.{nat_tests}
 use Rattle.std.proofs.lemmas.List.{length-map}
 use Rattle.std.proofs.lemmas.List.Sums.{prefix_len-le-length}
-use Rattle.hcl_scan.specs.Lexemes.{Lexeme, Opener, in_heredoc, moved, is_heredoc, Heredoc, Quote, Sequence, Brace, Bracket, Paren}
-use Rattle.hcl_scan.specs.Spelling.{IsSpelling, is_blank, starts, Context, Template, Expression, context, context_in}
-use Rattle.hcl_scan.specs.Scans.{State, Hidden, Next, Reads, Closes, Shows, IsLongest, IsComplete, gap_in, gap_len, ahead, begin, is_dot, offsets_of, owed, owes, has_gaps_in, HasNone}
-use Rattle.hcl_scan.specs.Faults.{Lacks, no_token, at_end, too_deep, no_marker_line, no_token_fault, fault_offset, owed_offset, end_fault}
+use Rattle.hcl_scan.specs.Lexemes.{Opener, in_heredoc, moved, Heredoc, Quote, Sequence, Brace, Bracket, Paren}
+use Rattle.hcl_scan.specs.Spelling.{is_blank, Context, Template, Expression, context, context_in}
+use Rattle.hcl_scan.specs.Scans.{State, Hidden, Shows, IsLongest, gap_len, ahead, is_dot, offsets_of, owed, owes, has_gaps_in, HasNone}
+use Rattle.hcl_scan.specs.Faults.{no_token, at_end, no_token_fault, fault_offset, owed_offset, end_fault}
 use Rattle.hcl_scan.specs.Found.{Finds}
-use Rattle.hcl_scan.specs.Openings.{opener_of, openers_of, offsets_in, hidden_of, hidden_under, quoted_in, template_top, option_and, innermost_owed, opened_by, opened_on, closed, is_heredoc_open}
-use Rattle.hcl_scan.specs.Scanners.{state_of, IsStack, IsSound, IsEntry, IsStart, IsNext, IsStopped, Moves, lexeme_of, fits_in}
+use Rattle.hcl_scan.specs.Openings.{opener_of, openers_of, offsets_in, hidden_of, quoted_in, template_top, option_and, innermost_owed, opened_by, opened_on, closed, is_heredoc_open}
+use Rattle.hcl_scan.specs.Scanners.{state_of, IsStack, IsSound, IsEntry, IsStart, IsNext, IsStopped, Moves}
 use Rattle.hcl_scan.specs.declared.entry.Entry.{Entry}
 use Rattle.hcl_scan.specs.declared.found.Found.{Found}
 use Rattle.hcl_scan.specs.declared.opened.By.{By}
 use Rattle.hcl_scan.specs.declared.opened.By.TheVariants as by
 use Rattle.hcl_scan.specs.declared.opened.Opened.{Opened}
 use Rattle.hcl_scan.specs.declared.scanner.Scanner.{Scanner}
-use Rattle.hcl_scan.specs.declared.stopped.Stopped.{Stopped}
 use Rattle.hcl_scan.specs.declared.fault.FaultKind.{FaultKind}
-use Rattle.hcl_scan.specs.declared.fault.FaultKind.TheVariants.{InvalidCharacter, UnterminatedComment, UnterminatedQuote, UnterminatedTemplate, InvalidEscape, TooDeep, UnterminatedHeredoc}
+use Rattle.hcl_scan.specs.declared.fault.FaultKind.TheVariants.{InvalidCharacter, UnterminatedComment, UnterminatedTemplate}
 use Rattle.hcl_scan.specs.declared.token.Kind.{Kind}
-use Rattle.hcl_scan.specs.declared.token.Kind.TheVariants.{HeredocOpen, HeredocClose, Dot, QuoteOpen, InterpOpen, ControlOpen, ParenOpen, BracketOpen, BraceOpen}
+use Rattle.hcl_scan.specs.declared.token.Kind.TheVariants.{HeredocOpen, Dot}
 use Rattle.hcl_scan.proofs.Cuts.{run_cut}
-use Rattle.hcl_scan.proofs.Slices.{front_of, back_of, nothing_of, slice_len, part_boundary}
-use Rattle.hcl_scan.proofs.Stacks.{Drops, Closable, closed_is, closed_drops, drops_offsets, push_offsets, opens_so, ends_of, hidden_on, closes_is, some_around, owed_heredoc}
-use Rattle.hcl_scan.proofs.Sides.{no_close, closable, fits, heredoc}
+use Rattle.hcl_scan.proofs.Slices.{front_of, back_of, slice_len, part_boundary}
+use Rattle.hcl_scan.proofs.Stacks.{closed_is, closed_drops, drops_offsets, push_offsets, opens_so, ends_of, hidden_on, closes_is, some_around, owed_heredoc}
+use Rattle.hcl_scan.proofs.Sides.{no_close, closable, fits}
 
 -- what is ahead where a token begins
 pub ahead_is : (s : Scanner) (start : ℕ) → IsStart s start → slice_range s.text.now start s.end ≡ ahead (state_of s)

@@ -1,5 +1,5 @@
 -- The ways to be a token of an expression.
-use Rattle.std.proofs.Common.{◌≡◌, ℕ, ◌&&◌, Bool, true, false, List, [], ◌∷◌, ◌⊎◌, inl, inr, refl, sym, ap, ◌∙◌}
+use Rattle.std.proofs.Common.{◌≡◌, ℕ, Bool, true, false, List, [], ◌∷◌, ◌⊎◌, inl, inr, refl, sym, ◌∙◌}
 use Rattle.std.specs.List.{list_all}
 use Rattle.hcl_scan.specs.Lexemes.{Opener, in_heredoc, closes_sequence}
 use Rattle.hcl_scan.specs.Spelling.{marks, IsMark, IsNewline, IsLineComment, IsInlineComment, IsBlanks, IsIdent, IsDigits, IsNumber, IsHeredocOpen, starts, IsExpressionText}

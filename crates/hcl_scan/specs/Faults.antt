@@ -1,6 +1,6 @@
 -- Why a text has no tokens: the one thing that is lacking where its longest reading ends. The kinds of faults
 -- and their places are our own choice.
-use Rattle.std.specs.Prelude.{◌≡◌, ℕ, ◌+◌, ◌<◌, ◌++◌, List, [], ◌∷◌, length, if◌then◌else◌, codes, Option, Some, None}
+use Rattle.std.specs.Prelude.{◌≡◌, ℕ, ◌+◌, ◌<◌, List, [], ◌∷◌, length, if◌then◌else◌, codes, Option, Some, None}
 use Rattle.hcl_scan.specs.Lexemes.{Lexeme, Opener, Quote, Sequence, marker_of, moved}
 use Rattle.hcl_scan.specs.Spelling.{starts, context, Context, Template, Expression}
 use Rattle.hcl_scan.specs.Scans.{State, begin, ahead, gap_len, owes, owed, IsLongest, HasNone, IsMarkerLine, Next, Run}

@@ -1,13 +1,13 @@
 -- The texts of each kind.
-use Rattle.std.specs.Prelude.{◌≡◌, ℕ, zero, suc, ◌+◌, ◌-◌, ◌<◌, ◌==◌, ◌||◌, ◌&&◌, not, Bool, true, false, IsTrue, IsFalse, List, [], ◌∷◌, ◌++◌, length, drop, take, if◌then◌else◌, nat_eq, nat_le, codes, encode_utf8_all, Option, Some, None, ◌⊎◌}
+use Rattle.std.specs.Prelude.{◌≡◌, ℕ, zero, suc, ◌-◌, ◌<◌, ◌==◌, ◌||◌, ◌&&◌, Bool, true, false, IsTrue, IsFalse, List, [], ◌∷◌, ◌++◌, length, drop, if◌then◌else◌, codes, encode_utf8_all, Option, Some, None, ◌⊎◌}
 use Rattle.std.specs.Option.{option_map_or}
 use Rattle.std.specs.Char.{is_ascii_digit, is_ascii_hexdigit}
-use Rattle.std.specs.List.{starts_with, list_all, list_any}
+use Rattle.std.specs.List.{list_all, list_any}
 use Rattle.std.specs.Str.{all_scalars}
 use Rattle.unicode_ident.specs.Ident.{is_xid_start, is_xid_continue}
 use Rattle.hcl_scan.specs.Lexemes.{Opener, in_heredoc, closes_sequence, Quote, Heredoc}
 use Rattle.hcl_scan.specs.declared.token.Kind.{Kind}
-use Rattle.hcl_scan.specs.declared.token.Kind.TheVariants.{Newline, LineComment, InlineComment, Blank, Ident, Number, HeredocOpen, QuoteOpen, ParenOpen, BracketOpen, BraceOpen, ParenClose, BracketClose, SeqClose, BraceClose, Dot, Comma, Ellipsis, Question, Colon, Assign, Arrow, Not, Minus, Plus, Star, Slash, Percent, And, Or, Equal, NotEqual, Less, Greater, LessEqual, GreaterEqual, Lit, InterpOpen, ControlOpen, QuoteClose, HeredocClose}
+use Rattle.hcl_scan.specs.declared.token.Kind.TheVariants.{Newline, LineComment, InlineComment, Blank, Ident, Number, HeredocOpen, QuoteOpen, ParenOpen, BracketOpen, BraceOpen, ParenClose, BracketClose, SeqClose, BraceClose, Dot, Comma, Ellipsis, Question, Colon, Assign, Arrow, Not, Minus, Plus, Star, Slash, Percent, And, Or, Equal, NotEqual, Less, Greater, LessEqual, GreaterEqual, Lit, InterpOpen, ControlOpen, QuoteClose}
 
 abbrev pub starts : List ℕ → List ℕ → Bool
 starts text [] = true

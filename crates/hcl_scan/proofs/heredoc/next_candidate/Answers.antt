@@ -1,4 +1,4 @@
-use Rattle.std.proofs.Common.{ℕ, IfNone, subst, ◌+◌, ◌-◌, ◌≤◌, length, take, get_or, sym, ap, ◌∙◌, arith}
+use Rattle.std.proofs.Common.{ℕ, IfNone, subst, ◌+◌, ◌-◌, ◌≤◌, take, get_or, sym, ap, ◌∙◌, arith}
 use Rattle.hcl_scan.specs.Scans.{IsMarkerLine}
 use Rattle.hcl_scan.proofs.Candidates.{no_place, skipped, lf_of}
 use Rattle.hcl_scan.proofs.heredoc.next_candidate.Goals as goal

@@ -1,4 +1,4 @@
-use Rattle.std.proofs.Common.{◌≡◌, sym, ◌∙◌, slice_range}
+use Rattle.std.proofs.Common.{sym, ◌∙◌, slice_range}
 use Rattle.hcl_scan.specs.Spelling.{context}
 use Rattle.hcl_scan.specs.Openings.{openers_of}
 use Rattle.hcl_scan.proofs.Turns.{template_found, quoted_some}
