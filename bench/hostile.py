@@ -16,7 +16,7 @@ LIMIT = 60
 
 def main(name, cases):
     read = argparse.ArgumentParser(usage='%s [--limit N] [--keep FOLDER] [PROGRAM]' % name)
-    read.add_argument('--limit', type=float, default=4)
+    read.add_argument('--limit', type=float, default=6)
     read.add_argument('--keep')
     read.add_argument('program', nargs='?', default=str(TOP / 'bin' / 'tffmt'))
     given = read.parse_args()
@@ -28,21 +28,22 @@ def main(name, cases):
         store = pathlib.Path(given.keep or made)
         store.mkdir(parents=True, exist_ok=True)
 
-        def timed(text, label):
+        def job(text, label):
             path = store / label
             path.write_bytes(text)
-            return best([program], str(path), TIMES, LIMIT)
+            return [program], str(path)
 
         # it isn't in the style, as most of these inputs aren't: what is formatted is walked once less
         ordinary = inputs.messy(MAX)
-        usual, status = timed(ordinary, 'ordinary.tf')
+        texts = [make(MAX) for _, make in cases]
+        jobs = [job(ordinary, 'ordinary.tf')]
+        for number, ((label, make), text) in enumerate(zip(cases, texts)):
+            assert len(text) <= MAX, label
+            jobs += [job(text, '%02d.tf' % number), job(make(MAX // 2), '%02d-half.tf' % number)]
+        (usual, status), *found = best(jobs, TIMES, LIMIT)
         rows = [['ordinary configuration', format(len(ordinary), ','), shown(status), in_ms(usual), '1.0', '']]
         high = []
-        for number, (label, make) in enumerate(cases):
-            text = make(MAX)
-            assert len(text) <= MAX, label
-            taken, status = timed(text, '%02d.tf' % number)
-            half, _ = timed(make(MAX // 2), '%02d-half.tf' % number)
+        for (label, _), text, (taken, status), (half, _) in zip(cases, texts, found[::2], found[1::2]):
             ratio = taken / usual
             rows.append([label, format(len(text), ','), shown(status), in_ms(taken), '%.1f' % ratio,
                          '%.1f' % (taken / half)])

@@ -41,19 +41,23 @@ def once(words, path, limit=None):
     return taken, os.WEXITSTATUS(code) if os.WIFEXITED(code) else -os.WTERMSIG(code)
 
 
-def best(words, path, times, limit=None, budget=20.0):
-    """(least seconds, status) of up to `times` runs; fewer, but one at least, once `budget` seconds are gone."""
-    least, status = once(words, path, limit)
-    spent = least
+def best(jobs, times, limit=None):
+    """(least seconds, status) of so many runs of each job, which is the words of a program and a file.
+
+    The jobs take turns, so that a slow spell of the machine doesn't fall on one of them alone. A job that
+    took longer than `limit` seconds isn't run again.
+    """
+    found = [once(words, path, limit) for words, path in jobs]
     for _ in range(times - 1):
-        if status is None or spent > budget:
-            break
-        taken, again = once(words, path, limit)
-        if again != status:
-            raise SystemExit('%s: status %s, then %s on one input' % (words[0], status, again))
-        least = min(least, taken)
-        spent += taken
-    return least, status
+        for number, (words, path) in enumerate(jobs):
+            least, status = found[number]
+            if status is None:
+                continue
+            taken, again = once(words, path, limit)
+            if again != status:
+                raise SystemExit('%s: status %s, then %s on one input' % (words[0], status, again))
+            found[number] = min(least, taken), status
+    return found
 
 
 def memory(words, path):
