@@ -146,6 +146,8 @@ fn takes_templates(rt: HostRuntime) -> Result<(), Fail> {
         "a = \"%{ if b }%{ for c in d }%{ if e }%{ else }%{ endif }%{ endfor }%{ endif }\"\n",
         "a = <<E\n%{ if b }\nx${ c }\n%{ endif }\nE\n",
         "a = \"%{\nif b\n}x%{\nendif\n}\"\n",
+        "a = \"%{if b}%{else}%{if c}%{endif}${d}%{endif}\"\n",
+        "a = \"%{for b in c}x${b}%{endfor}\"\n",
     ] {
         takes(&rt, rt.alloc(), text)?;
     }
@@ -379,6 +381,8 @@ fn refuses_templates(rt: HostRuntime) -> Result<(), Fail> {
         ("a = \"%{ endif }\"\n", 1, 9),
         ("a = \"%{ else }\"\n", 1, 9),
         ("a=\"%{ if b }x\"\n", 1, 14),
+        ("a = \"%{if b}%{else}x\"\n", 1, 21),
+        ("a = \"%{for b in c}x\"\n", 1, 20),
         ("a = \"%{ if b }%{ endfor }\"\n", 1, 18),
         ("a = \"%{ for b in c }%{ endif }\"\n", 1, 24),
         ("a = \"%{ for b in c }%{ else }%{ endfor }\"\n", 1, 24),
