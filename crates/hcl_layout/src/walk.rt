@@ -107,8 +107,8 @@ fn assign_ahead(walk: &Walk, tokens: &Tokens<'_>, from: usize) -> u64
     greatest
 }
 
-/// The column of the run in which a cell of that width stands, by that of the run before it. The
-/// line behind it begins at a place.
+/// The column of an assign cell of that width: that of the line before it, where the run goes on,
+/// or else the greatest width of the run that it begins. `next` is where the line after it begins.
 #[inline(always)]
 fn run_column(walk: &Walk, tokens: &Tokens<'_>, next: usize, own: u64) -> u64
     requires within { next ≤ length tokens.now.tokens }
