@@ -11,3 +11,8 @@ pub mod SizeLemmas
 pub mod BalanceLemmas
 pub mod OutLemmas
 pub mod FormatLemmas
+pub mod SpacingRows
+pub mod Fitting
+pub mod Rescanning
+pub mod Forgetting
+pub mod Reloading

@@ -9,6 +9,7 @@
 mod buffer;
 mod gaps;
 mod kind;
+pub mod laws;
 mod line;
 mod print;
 mod spacing;

@@ -74,14 +74,14 @@ within_by [] n b e = absurd (omega (arith, e))
 within_by (x ∷ text) zero b e = omega arith
 within_by (x ∷ text) (suc n) b e = let rec = within_by text n b e in omega arith
 
-end_cut : (text : List ℕ) (n : ℕ) → EndsComment text n → text ≡ take n text ++ (42 ∷ 47 ∷ drop (suc (suc n)) text)
+pub end_cut : (text : List ℕ) (n : ℕ) → EndsComment text n → text ≡ take n text ++ (42 ∷ 47 ∷ drop (suc (suc n)) text)
 end_cut text n h =
     let at : n < length text = within_by text n 41 h.0 in
     let second : get_or text (suc n) 0 ≡ 47 = ap (λ k. get_or text k 0) (sym (add-one n)) ∙ h.1 in
     let next : suc n < length text = within_by text (suc n) 46 second in
     sym (take-append-drop n text) ∙ ap (λ l. take n text ++ l) (drop-cons text n 0 at ∙ (λ i. h.0 i ∷ (drop-cons text (suc n) 0 next ∙ (λ j. second j ∷ drop (suc (suc n)) text)) i))
 
-ends_in : (before after : List ℕ) → EndsComment (before ++ (42 ∷ 47 ∷ after)) (length before)
+pub ends_in : (before after : List ℕ) → EndsComment (before ++ (42 ∷ 47 ∷ after)) (length before)
 ends_in before after =
     (sym (ap (λ n. get_or (before ++ (42 ∷ 47 ∷ after)) n 0) (add-zero (length before))) ∙ get_or-append-add before (42 ∷ 47 ∷ after) 0 0, get_or-append-add before (42 ∷ 47 ∷ after) 1 0)
 
@@ -93,11 +93,11 @@ ends_more text rest n h =
     let lt = end_within text n h in
     (get_or_append_left text rest 0 n (omega (arith, lt)) ∙ h.0, get_or_append_left text rest 0 (n + 1) lt ∙ h.1)
 
-ends_less : (text rest : List ℕ) (n : ℕ) → n + 1 < length text → EndsComment (text ++ rest) n → EndsComment text n
+pub ends_less : (text rest : List ℕ) (n : ℕ) → n + 1 < length text → EndsComment (text ++ rest) n → EndsComment text n
 ends_less text rest n lt h =
     (sym (get_or_append_left text rest 0 n (omega (arith, lt))) ∙ h.0, sym (get_or_append_left text rest 0 (n + 1) lt) ∙ h.1)
 
-star_moved : (body rest : List ℕ) → (body ++ (42 ∷ [])) ++ (47 ∷ rest) ≡ body ++ (42 ∷ 47 ∷ rest)
+pub star_moved : (body rest : List ℕ) → (body ++ (42 ∷ [])) ++ (47 ∷ rest) ≡ body ++ (42 ∷ 47 ∷ rest)
 star_moved body rest = append_assoc body (42 ∷ []) (47 ∷ rest)
 
 -- what a comment leaves of the text behind its `/*`

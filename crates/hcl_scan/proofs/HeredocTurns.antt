@@ -34,7 +34,7 @@ heredoc_kind HeredocOpen h = refl
 heredoc_kind _ h = absurd (cc)
 
 -- a marker line begins between characters, and so ends its marker
-ascii_there : (xs : List ℕ) (n : ℕ) → n ≤ length xs → (drop n xs ≡ []) ⊎ (get_or (drop n xs) 0 0 < 128) → IsCharBoundary xs n
+pub ascii_there : (xs : List ℕ) (n : ℕ) → n ≤ length xs → (drop n xs ≡ []) ⊎ (get_or (drop n xs) 0 0 < 128) → IsCharBoundary xs n
 ascii_there xs n within (inl none) = (within, λ lt. absurd (omega (arith, lt, ap length none, length-drop n xs)))
 ascii_there xs n within (inr small) =
     let same : get_or (drop n xs) 0 0 ≡ get_or xs n 0 = get_or-drop n xs 0 0 ∙ ap (λ i. get_or xs i 0) (omega arith) in
@@ -47,11 +47,11 @@ line_ascii : (b : ℕ) (rest : List ℕ) (v : Bool) → is_blank b ≡ v → end
 line_ascii b rest true e h = blank_ascii b e
 line_ascii b rest false e h = newline_ascii b (starts rest (10 ∷ [])) h
 
-after_marker : (rest : List ℕ) → ends_line (skip_blanks rest) ≡ true → (rest ≡ []) ⊎ (get_or rest 0 0 < 128)
+pub after_marker : (rest : List ℕ) → ends_line (skip_blanks rest) ≡ true → (rest ≡ []) ⊎ (get_or rest 0 0 < 128)
 after_marker [] h = inl refl
 after_marker (b ∷ rest) h = inr (line_ascii b rest (is_blank b) refl h)
 
-line_boundary : (marker rest : List ℕ) (n : ℕ) → IsUtf8 rest → IsMarkerLine marker rest n → IsCharBoundary rest n
+pub line_boundary : (marker rest : List ℕ) (n : ℕ) → IsUtf8 rest → IsMarkerLine marker rest n → IsCharBoundary rest n
 line_boundary marker rest n utf8 is =
     ⊎_elim (λ none. subst (IsCharBoundary rest) (sym none) (IsCharBoundary-start rest utf8))
     (λ other. ⊎_elim (λ neg. absurd (omega arith))
@@ -62,7 +62,7 @@ line_boundary marker rest n utf8 is =
     other)
     (cases_order n 0)
 
-closer_within : (marker line : List ℕ) → is_marker_line marker line ≡ true → closer_len marker line ≤ length line
+pub closer_within : (marker line : List ℕ) → is_marker_line marker line ≡ true → closer_len marker line ≤ length line
 closer_within marker line is =
     let b = both (starts (skip_blanks line) marker) (ends_line (skip_blanks (drop (closer_len marker line) line))) is in
     let le : prefix_len is_blank line ≤ length line = prefix_len-le-length is_blank line in

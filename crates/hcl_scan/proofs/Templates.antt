@@ -35,7 +35,7 @@ ways false _ text rest h = absurd h
 pub in_template : (quoted : Bool) (opens : List Opener) (dot : Bool) (kind : Kind) (text rest : List ℕ) → context opens ≡ Template quoted → IsSpelling opens dot kind text rest → Way quoted kind text rest
 in_template quoted opens dot kind text rest here h = ways quoted kind text rest (subst (λ c. IsTextIn c opens dot kind text rest) here h)
 
-of_template : (quoted : Bool) (opens : List Opener) (dot : Bool) (kind : Kind) (text rest : List ℕ) → context opens ≡ Template quoted → IsTemplateText quoted kind text rest → IsSpelling opens dot kind text rest
+pub of_template : (quoted : Bool) (opens : List Opener) (dot : Bool) (kind : Kind) (text rest : List ℕ) → context opens ≡ Template quoted → IsTemplateText quoted kind text rest → IsSpelling opens dot kind text rest
 of_template quoted opens dot kind text rest here h = subst (λ c. IsTextIn c opens dot kind text rest) (sym here) h
 
 -- where no element comes no literal text does

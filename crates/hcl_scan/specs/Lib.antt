@@ -14,3 +14,4 @@ pub mod Scanners
 pub mod Stops
 pub mod Scanned
 pub mod Entries
+pub mod Neighbours

@@ -1,12 +1,14 @@
 //! What is proved of the definitions alone. No program calls these functions: their contracts are
 //! the laws.
 
-ghost use Rattle.std.specs.Prelude.{◌≡◌, ◌<◌, ◌≤◌, ◌++◌, ℕ, Bool, List, [], length};
+ghost use Rattle.std.specs.Prelude.{◌≡◌, ◌<◌, ◌≤◌, ◌++◌, ℕ, Bool, true, false, IsTrue, IsFalse, IsUtf8, List, [], ◌∷◌, length, take, drop};
 ghost use Rattle.hcl_scan.specs.Spelling.{IsSpelling};
-ghost use Rattle.hcl_scan.specs.Lexemes.{Lexeme, Opener, opened};
-ghost use Rattle.hcl_scan.specs.Scans.{Scans, State, Run};
+ghost use Rattle.hcl_scan.specs.Lexemes.{Lexeme, Opener, opened, in_heredoc, marker_of};
+ghost use Rattle.hcl_scan.specs.Scans.{Scans, State, Next, Run, IsLongest, IsFirstMarkerLine, Hidden, hides, ends_line, skip_blanks};
+ghost use Rattle.hcl_scan.specs.Neighbours.{stays, AreTexts, ReadsToo, SameInside, Besides, Parts, tokens_of, printed, placed};
+ghost use Rattle.hcl_scan.specs.declared.token.Kind.TheVariants.{Newline, HeredocOpen};
 ghost use Rattle.hcl_scan.specs.Faults.{IsScanFault};
-ghost use Rattle.hcl_scan.specs.Load.{IsText, IsLoadFault};
+ghost use Rattle.hcl_scan.specs.Load.{IsText, IsLoadFault, has_mark};
 ghost use Rattle.hcl_scan.specs.declared.fault.Fault.{Fault};
 ghost use Rattle.hcl_scan.specs.declared.fault.FaultKind.{FaultKind};
 ghost use Rattle.hcl_scan.specs.declared.token.Kind.{Kind};
@@ -52,4 +54,41 @@ pub fn one_kind()
     ensures one_kind { (opens : List Opener) (after_dot : Bool) (kind other : Kind) (text rest : List ℕ) → IsSpelling opens after_dot kind text rest
         → IsSpelling opens after_dot other text rest → kind ≡ other }
     ensures nonempty { (opens : List Opener) (after_dot : Bool) (kind : Kind) (text rest : List ℕ) → IsSpelling opens after_dot kind text rest → 0 < length text }
+{}
+
+/// Outside heredocs a token that was the longest before one text is the longest before another,
+/// except where the table of neighbours says that they join.
+pub fn neighbours()
+    ensures { (opens : List Opener) (after_dot : Bool) (kind : Kind) (text rest other : List ℕ) → IsFalse (in_heredoc opens)
+        → IsLongest opens after_dot (text ++ rest) kind text rest → IsTrue (stays after_dot kind rest other)
+        → IsLongest opens after_dot (text ++ other) kind text other }
+{}
+
+/// What stands behind the marker line of a heredoc doesn't move it, as long as it ends the line.
+pub fn marker_line_kept()
+    ensures { (opens : List Opener) (after_dot : Bool) (text rest after : List ℕ) (n : ℕ) → IsSpelling opens after_dot HeredocOpen text rest
+        → IsFirstMarkerLine (marker_of text) rest n → IsTrue (ends_line (skip_blanks after))
+        → IsFirstMarkerLine (marker_of text) (take n rest ++ ((hides (marker_of text) (drop n rest)).closer ++ after)) n }
+{}
+
+/// What a scan says of tokens that stand side by side.
+pub fn side_by_side()
+    ensures { (text : List ℕ) (ts : List Lexeme) → Scans text ts → Besides Newline ts }
+{}
+
+/// The same tokens with other gaps between them, where these fit, are scanned again.
+pub fn other_gaps()
+    ensures { (text : List ℕ) (ps : List (ℕ × Lexeme)) → Scans text (tokens_of ps) → Parts false Newline ps → Scans (printed ps) (placed 0 ps) }
+{}
+
+/// The tokens of a text that is UTF-8 are UTF-8, and the first begins with no byte order mark.
+pub fn texts()
+    ensures utf8 { (text : List ℕ) (ts : List Lexeme) → IsUtf8 text → Scans text ts → AreTexts ts }
+    ensures unmarked { (text : List ℕ) (t : Lexeme) (ts : List Lexeme) (more : List ℕ) → Scans text (t ∷ ts) → IsFalse (has_mark (t.text ++ more)) }
+{}
+
+/// Inside an outermost heredoc the tokens are the same, whatever text stands behind it.
+pub fn heredoc_kept()
+    ensures { (other : List ℕ) (s twin : State) (t : Lexeme) (next : State) → SameInside other s twin → IsTrue (in_heredoc s.opens) → 0 < length s.hidden
+        → 0 < length next.hidden → Next s t next → ReadsToo other twin t next }
 {}

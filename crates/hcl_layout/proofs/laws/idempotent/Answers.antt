@@ -1,0 +1,9 @@
+use Rattle.std.proofs.Common.{ap, ◌∙◌}
+use Rattle.hcl_syntax.specs.Predictor.{refusal_of}
+use Rattle.hcl_layout.proofs.Rescanning.{scans_again}
+use Rattle.hcl_layout.proofs.Forgetting.{print_again, seen_again}
+use Rattle.hcl_layout.proofs.Reloading.{loads_again}
+use Rattle.hcl_layout.proofs.laws.idempotent.Goals as goal
+
+pub returns : goal.returns
+returns c = λ text ts is scans accepted small. (loads_again text ts is scans small, scans_again text ts scans, ap refusal_of (seen_again ts) ∙ accepted, print_again ts)

@@ -1,0 +1,5 @@
+use Rattle.hcl_layout.proofs.Rescanning.{scans_again}
+use Rattle.hcl_layout.proofs.laws.rescan.Goals as goal
+
+pub returns : goal.returns
+returns c = scans_again

@@ -1,0 +1,29 @@
+//! What is proved of the definitions alone. No program calls these functions: their contracts are
+//! the laws.
+
+ghost use Rattle.std.specs.Prelude.{◌≡◌, ◌≤◌, ℕ, List, length};
+ghost use Rattle.hcl_scan.specs.Lexemes.{Lexeme};
+ghost use Rattle.hcl_scan.specs.Scans.{Scans};
+ghost use Rattle.hcl_layout.specs.Print.{print};
+ghost use Rattle.hcl_layout.specs.Rescanned.{moved};
+ghost use Rattle.hcl_syntax.specs.Classes.{lookaheads};
+ghost use Rattle.hcl_syntax.specs.Verdict.{IsAccepted};
+ghost use Rattle.hcl_scan.specs.Load.{IsText, max_source};
+
+/// A print is scanned to the tokens of which it is made: none join, split or change their kind.
+pub fn rescan()
+    ensures { (text : List ℕ) (ts : List Lexeme) → Scans text ts → Scans (print ts) (moved ts) }
+{}
+
+/// The tokens of a print print it again, and the grammar sees them as it saw the first.
+pub fn print_kept()
+    ensures again { (ts : List Lexeme) → print (moved ts) ≡ print ts }
+    ensures seen { (ts : List Lexeme) → lookaheads (moved ts) ≡ lookaheads ts }
+{}
+
+/// Printing twice changes nothing: a print that isn't too large is a source, its tokens are a file,
+/// and their print is the same.
+pub fn idempotent()
+    ensures { (text : List ℕ) (ts : List Lexeme) → IsText text → Scans text ts → IsAccepted ts → length (print ts) ≤ max_source
+        → IsText (print ts) × Scans (print ts) (moved ts) × IsAccepted (moved ts) × (print (moved ts) ≡ print ts) }
+{}

@@ -1,0 +1,5 @@
+use Rattle.hcl_scan.proofs.Sidelong.{besides}
+use Rattle.hcl_scan.proofs.laws.side_by_side.Goals as goal
+
+pub returns : goal.returns
+returns c = besides
