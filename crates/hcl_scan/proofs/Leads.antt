@@ -3,6 +3,7 @@ use Rattle.std.proofs.Common.{◌≡◌, ℕ, ◌<◌, ◌&&◌, ◌||◌, ◌==
 use Rattle.std.specs.List.{list_all}
 use Rattle.std.specs.Char.{is_ascii_digit}
 use Rattle.std.proofs.lemmas.Bool.Decides.{nat_tests}
+use Rattle.std.proofs.lemmas.List.{append-nil}
 use Rattle.hcl_scan.specs.Lexemes.{Opener}
 use Rattle.hcl_scan.specs.Spelling.{marks, IsMark, IsDigits, is_blank, starts}
 use Rattle.hcl_scan.specs.Leads.{lead_of, lead_bytes, slash_lead, may_begin_ident}
@@ -43,38 +44,40 @@ mark_leads : (text : List ℕ) (kind : Kind) → IsMark marks text kind → (is_
 unfolding marks is_sign
 mark_leads text kind is = mark_passes (λ t k. is_sign (lead_of t) && is_sign (kind_lead k)) marks text kind refl is
 
-letter_leads : (b second : ℕ) → may_begin_ident b ≡ true → lead_bytes b second ≡ Letter
+pub letter_leads : (b second : ℕ) → may_begin_ident b ≡ true → lead_bytes b second ≡ Letter
 letter_leads b second h = rw h refl
 
-digit_leads : (b second : ℕ) → is_ascii_digit b ≡ true → lead_bytes b second ≡ Digit
+pub digit_leads : (b second : ℕ) → is_ascii_digit b ≡ true → lead_bytes b second ≡ Digit
 digit_leads b second h = let no : may_begin_ident b ≡ false = grind (arith, nat_tests) in rw (no, h) refl
 
-blank_leads : (b second : ℕ) → is_blank b ≡ true → lead_bytes b second ≡ Space
+pub blank_leads : (b second : ℕ) → is_blank b ≡ true → lead_bytes b second ≡ Space
 blank_leads b second h =
     let no : may_begin_ident b ≡ false = grind (arith, nat_tests) in
     let digit : is_ascii_digit b ≡ false = grind (arith, nat_tests) in
     let line : ((b == 10) || (b == 13)) ≡ false = grind (arith, nat_tests) in
     rw (no, digit, line, h) refl
 
+pub newline_leads : (b second : ℕ) → ((b == 10) || (b == 13)) ≡ true → lead_bytes b second ≡ LineEnd
+newline_leads b second h =
+    let no : may_begin_ident b ≡ false = grind (arith, nat_tests) in
+    let digit : is_ascii_digit b ≡ false = grind (arith, nat_tests) in
+    rw (no, digit, h) refl
+
 blanks_lead : (text : List ℕ) → 0 < length text → list_all is_blank text ≡ true → lead_of text ≡ Space
 blanks_lead [] some h = absurd (omega arith)
 blanks_lead (b ∷ text) some h = blank_leads b (get_or (b ∷ text) 1 0) (and_true (is_blank b) (list_all is_blank text) h).0
 
-digits_lead : (text after : List ℕ) → IsDigits text → lead_of (text ++ after) ≡ Digit
+pub digits_lead : (text after : List ℕ) → IsDigits text → lead_of (text ++ after) ≡ Digit
 digits_lead text after is = digit_leads (get_or (text ++ after) 0 0) (get_or (text ++ after) 1 0) (digit_head text after is)
 
 word_lead : (text more : List ℕ) (b : ℕ) → text ≡ b ∷ more → may_begin_ident b ≡ true → lead_of text ≡ Letter
 word_lead text more b e h = ap lead_of e ∙ letter_leads b (get_or (b ∷ more) 1 0) h
 
-line_lead : (text : List ℕ) → (starts text (35 ∷ []) || starts text (47 ∷ 47 ∷ [])) ≡ true → lead_of text ≡ HashOrSlashes
+pub line_lead : (text : List ℕ) → (starts text (35 ∷ []) || starts text (47 ∷ 47 ∷ [])) ≡ true → lead_of text ≡ HashOrSlashes
 line_lead text h = ⊎_elim
     (λ a. ap lead_of (starts_split text (35 ∷ []) a).1)
     (λ b. ap lead_of (starts_split text (47 ∷ 47 ∷ []) b).1)
     (or_cases (starts text (35 ∷ [])) (starts text (47 ∷ 47 ∷ [])) h)
-
-no_more : (l : List ℕ) → l ++ [] ≡ l
-no_more [] = refl
-no_more (b ∷ l) = ap (λ r. b ∷ r) (no_more l)
 
 -- THE LAW: a token begins as its kind does
 pub leads : (opens : List Opener) (dot : Bool) (kind : Kind) (text rest : List ℕ) → Ways opens dot kind text rest → lead_of text ≡ kind_lead kind
@@ -84,7 +87,7 @@ leads opens dot kind text rest (line_comment k is) = line_lead text is.0 ∙ ap 
 leads opens dot kind text rest (inline_comment k is) = ap lead_of is.1 ∙ ap kind_lead (sym k)
 leads opens dot kind text rest (blanks k h is) = blanks_lead text is.0 is.1 ∙ ap kind_lead (sym k)
 leads opens dot kind text rest (ident k is) = let w = ident_word text is in word_lead text w.more w.first w.whole w.begins ∙ ap kind_lead (sym k)
-leads opens dot kind text rest (digits k h is) = sym (ap lead_of (no_more text)) ∙ digits_lead text [] is ∙ ap kind_lead (sym k)
+leads opens dot kind text rest (digits k h is) = sym (ap lead_of (append-nil text)) ∙ digits_lead text [] is ∙ ap kind_lead (sym k)
 leads opens dot kind text rest (number k h is) = ap lead_of (is.6 ∙ append_assoc is.0 is.1 is.2) ∙ digits_lead is.0 (is.1 ++ is.2) is.3 ∙ ap kind_lead (sym k)
 leads opens dot kind text rest (heredoc k is) = ap lead_of is.6 ∙ ap kind_lead (sym k)
 leads opens dot kind text rest (seq_close k h (inl e)) = ap lead_of e ∙ ap kind_lead (sym k)

@@ -9,6 +9,8 @@ use Rattle.std.proofs.Math.Seq.{take-append_seam, drop-append_seam}
 use Rattle.hcl_scan.specs.Spelling.{is_blank, starts}
 use Rattle.hcl_scan.specs.Scans.{hides, skip_blanks, ends_line, closer_len, is_marker_line, IsFirstMarkerLine}
 use Rattle.hcl_scan.proofs.Booleans.{and_true}
+use Rattle.hcl_scan.proofs.Comments.{starts_split}
+use Rattle.hcl_scan.proofs.Starts.{starts_so}
 
 abbrev is_lf_free : List ℕ → Bool
 is_lf_free m = list_all (λ b. not (b == 10)) m
@@ -25,10 +27,6 @@ skip_none b l h = ap (λ c. drop (cond c (1 + prefix_len is_blank l) 0) (b ∷ l
 either : (v : Bool) → (v ≡ true) ⊎ (v ≡ false)
 either true = inl refl
 either false = inr refl
-
-by_bool : (P : Bool → Type 0) (b : Bool) → (b ≡ true → P true) → (b ≡ false → P false) → P b
-by_bool P true t f = t refl
-by_bool P false t f = f refl
 
 -- the end of a line depends on that line alone
 line_end : (pre x y : List ℕ) → ends_line (skip_blanks (pre ++ 10 ∷ x)) ≡ ends_line (skip_blanks (pre ++ 10 ∷ y))
@@ -83,24 +81,6 @@ marked_is m t = ap (λ l. starts (skip_blanks t) m && ends_line (skip_blanks l))
 pub line_only : (m pre x y : List ℕ) → is_lf_free m ≡ true → is_marker_line m (pre ++ 10 ∷ x) ≡ is_marker_line m (pre ++ 10 ∷ y)
 line_only m pre x y free = marked_is m (pre ++ 10 ∷ x) ∙ skipped_only m pre x y free ∙ sym (marked_is m (pre ++ 10 ∷ y))
 
-starts_split : (text front : List ℕ) → starts text front ≡ true → (r : List ℕ) × (text ≡ front ++ r)
-starts_split text [] h = (text, refl)
-starts_split [] (c ∷ front) h = absurd (cc)
-starts_split (b ∷ text) (c ∷ front) h =
-    let parts = and_true (b == c) (starts text front) h in
-    let rec = starts_split text front parts.1 in
-    (rec.0, (λ i. same_byte b c parts.0 i ∷ rec.1 i))
-  where
-    same_byte : (b c : ℕ) → (b == c) ≡ true → b ≡ c
-    same_byte b c h = grind (arith, nat_tests)
-
-pub starts_self : (front r : List ℕ) → starts (front ++ r) front ≡ true
-starts_self [] r = refl
-starts_self (c ∷ front) r = (λ i. same c i && starts_self front r i)
-  where
-    same : (b : ℕ) → (b == b) ≡ true
-    same b = grind (arith, nat_tests)
-
 -- a marker line with other text behind it
 record Stands (m t after : List ℕ) : Type 0 where
   marked : is_marker_line m (take (closer_len m t) t ++ after) ≡ true
@@ -108,7 +88,7 @@ record Stands (m t after : List ℕ) : Type 0 where
 
 stands : (m t after : List ℕ) → 0 < length m → is_marker_line m t ≡ true → ends_line (skip_blanks after) ≡ true → Stands m t after
 stands m t after some line ends = record {
-  marked = (λ i. starts (skipped i) m && ends_line (skip_blanks (drop (len_is i) xs))) ∙ (λ i. starts_self m after i && ends_line (skip_blanks (drop_all i))) ∙ ends;
+  marked = (λ i. starts (skipped i) m && ends_line (skip_blanks (drop (len_is i) xs))) ∙ (λ i. starts_so m after i && ends_line (skip_blanks (drop_all i))) ∙ ends;
   hidden = λ i. record { closer = (ap (λ n. take n xs) len_is ∙ take_all) i; after = (ap (λ n. drop n xs) len_is ∙ drop_all) i };
 }
   where

@@ -8,6 +8,7 @@ use Rattle.hcl_scan.specs.Lexemes.{Opener}
 use Rattle.hcl_scan.specs.Spelling.{starts, is_sign, ends_quoted, escape_len, element_len, are_elements, IsLit, IsTemplateText, IsTextIn, IsSpelling, Template, context}
 use Rattle.hcl_scan.specs.Scans.{HasNone}
 use Rattle.hcl_scan.specs.Found.{Finds}
+use Rattle.hcl_scan.specs.Regapped.{is_template}
 use Rattle.hcl_scan.specs.declared.token.Kind.{Kind}
 use Rattle.hcl_scan.specs.declared.token.Kind.TheVariants.{Lit, InterpOpen, ControlOpen, QuoteClose}
 use Rattle.hcl_scan.proofs.Elements.{no_longer_lit}
@@ -217,3 +218,9 @@ sequence_boundary s seen n utf8 h n_is = subst (IsCharBoundary seen) (sym n_is) 
         let third : get_or seen 2 0 ≡ 126 = ap (λ l. get_or l 2 0) seen_is ∙ ap (λ l. get_or l 0 0) tail in
         IsCharBoundary-after_ascii seen 2 utf8 (omega (arith, ap length seen_is, ap length tail)) (omega (arith, third))
     by false e = IsCharBoundary-after_ascii seen 1 utf8 (omega (arith, ap length seen_is)) (omega (arith, second))
+
+pub way_template : (quoted : Bool) (kind : Kind) (text rest : List ℕ) → Way quoted kind text rest → is_template kind ≡ true
+way_template quoted kind text rest (lit k h) = ap is_template k
+way_template quoted kind text rest (interp k h) = ap is_template k
+way_template quoted kind text rest (control k h) = ap is_template k
+way_template quoted kind text rest (quote k q h) = ap is_template k

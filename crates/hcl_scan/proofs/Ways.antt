@@ -4,7 +4,7 @@ use Rattle.std.specs.List.{list_all}
 use Rattle.hcl_scan.specs.Lexemes.{Opener, in_heredoc, closes_sequence}
 use Rattle.hcl_scan.specs.Spelling.{marks, IsMark, IsNewline, IsLineComment, IsInlineComment, IsBlanks, IsIdent, IsDigits, IsNumber, IsHeredocOpen, starts, IsExpressionText}
 use Rattle.hcl_scan.specs.declared.token.Kind.{Kind}
-use Rattle.hcl_scan.specs.declared.token.Kind.TheVariants.{Newline, LineComment, InlineComment, Blank, Ident, Number, HeredocOpen, SeqClose, BraceClose, Slash}
+use Rattle.hcl_scan.specs.declared.token.Kind.TheVariants.{Newline, LineComment, InlineComment, Blank, Ident, Number, HeredocOpen, SeqClose, BraceClose, Slash, Lit, InterpOpen, ControlOpen, QuoteClose, HeredocClose}
 use Rattle.hcl_scan.proofs.Booleans.{and_true}
 
 pub data Ways (opens : List Opener) (dot : Bool) (kind : Kind) (text rest : List ℕ) : Type 0 where
@@ -45,3 +45,26 @@ mark_passes test (m ∷ ms) text kind h (inl is) =
     let here = (and_true (test m.0 m.1) (list_all (λ o. test o.0 o.1) ms) h).0 in
     (λ i. test (sym is.0 i) (sym is.1 i)) ∙ here
 mark_passes test (m ∷ ms) text kind h (inr is) = mark_passes test ms text kind (and_true (test m.0 m.1) (list_all (λ o. test o.0 o.1) ms) h).1 is
+
+-- the kinds of marks
+abbrev pub is_marked : Kind → Bool
+is_marked Newline = false
+is_marked LineComment = false
+is_marked InlineComment = false
+is_marked Blank = false
+is_marked Ident = false
+is_marked Number = false
+is_marked HeredocOpen = false
+is_marked SeqClose = false
+is_marked BraceClose = false
+is_marked Slash = false
+is_marked Lit = false
+is_marked InterpOpen = false
+is_marked ControlOpen = false
+is_marked QuoteClose = false
+is_marked HeredocClose = false
+is_marked _ = true
+
+pub mark_kind : (text : List ℕ) (kind : Kind) → IsMark marks text kind → is_marked kind ≡ true
+unfolding marks
+mark_kind text kind is = mark_passes (λ _ k. is_marked k) marks text kind refl is

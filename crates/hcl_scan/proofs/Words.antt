@@ -67,7 +67,7 @@ encoded c = by (nat_lt c 128) refl
     by true e = (c, [], refl, (λ _. (refl, refl)), (λ h. h), refl)
     by false e = third (nat_lt c 2048) (nat_lt c 65536) (lt_false c 128 e)
 
-all_append : (q : ℕ → Bool) (xs ys : List ℕ) → list_all q xs ≡ true → list_all q ys ≡ true → list_all q (xs ++ ys) ≡ true
+pub all_append : (q : ℕ → Bool) (xs ys : List ℕ) → list_all q xs ≡ true → list_all q ys ≡ true → list_all q (xs ++ ys) ≡ true
 all_append q [] ys h k = k
 all_append q (x ∷ xs) ys h k = let p = and_true (q x) (list_all q xs) h in let rec = all_append q xs ys p.1 k in λ i. p.0 i && rec i
 

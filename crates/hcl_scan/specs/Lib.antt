@@ -15,3 +15,6 @@ pub mod Stops
 pub mod Scanned
 pub mod Entries
 pub mod Neighbours
+pub mod Regapped
+pub mod SideBySide
+pub mod InHeredocs

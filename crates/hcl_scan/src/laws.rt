@@ -5,7 +5,10 @@ ghost use Rattle.std.specs.Prelude.{◌≡◌, ◌<◌, ◌≤◌, ◌++◌, ℕ
 ghost use Rattle.hcl_scan.specs.Spelling.{IsSpelling};
 ghost use Rattle.hcl_scan.specs.Lexemes.{Lexeme, Opener, opened, in_heredoc, marker_of};
 ghost use Rattle.hcl_scan.specs.Scans.{Scans, State, Next, Run, IsLongest, IsFirstMarkerLine, Hidden, hides, ends_line, skip_blanks};
-ghost use Rattle.hcl_scan.specs.Neighbours.{stays, AreTexts, ReadsToo, SameInside, Besides, Parts, tokens_of, printed, placed};
+ghost use Rattle.hcl_scan.specs.Neighbours.{stays};
+ghost use Rattle.hcl_scan.specs.Regapped.{AllFit, placed, text_of, tokens_of};
+ghost use Rattle.hcl_scan.specs.SideBySide.{AreTexts, Besides};
+ghost use Rattle.hcl_scan.specs.InHeredocs.{ReadsToo, SameInside};
 ghost use Rattle.hcl_scan.specs.declared.token.Kind.TheVariants.{Newline, HeredocOpen};
 ghost use Rattle.hcl_scan.specs.Faults.{IsScanFault};
 ghost use Rattle.hcl_scan.specs.Load.{IsText, IsLoadFault, has_mark};
@@ -78,7 +81,7 @@ pub fn side_by_side()
 
 /// The same tokens with other gaps between them, where these fit, are scanned again.
 pub fn other_gaps()
-    ensures { (text : List ℕ) (ps : List (ℕ × Lexeme)) → Scans text (tokens_of ps) → Parts false Newline ps → Scans (printed ps) (placed 0 ps) }
+    ensures { (text : List ℕ) (ps : List (ℕ × Lexeme)) → Scans text (tokens_of ps) → AllFit false Newline ps → Scans (text_of ps) (placed 0 ps) }
 {}
 
 /// The tokens of a text that is UTF-8 are UTF-8, and the first begins with no byte order mark.

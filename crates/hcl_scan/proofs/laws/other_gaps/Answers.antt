@@ -1,5 +1,5 @@
-use Rattle.hcl_scan.proofs.Main as main
+use Rattle.hcl_scan.proofs.OtherGaps.{other_gaps}
 use Rattle.hcl_scan.proofs.laws.other_gaps.Goals as goal
 
 pub returns : goal.returns
-returns c = main.other_gaps
+returns c = other_gaps

@@ -1,23 +1,16 @@
--- LAW (c) of marker lines.
+-- The marker line of a heredoc stays its first one, whatever stands behind that line.
 use Rattle.std.proofs.Common.{◌≡◌, ℕ, ◌+◌, ◌<◌, ◌&&◌, ◌==◌, not, Bool, true, false, cond, List, [], ◌∷◌, ◌++◌, length, take, drop, if◌then◌else◌, ⊎_elim, refl, sym, subst, ◌∙◌, arith}
 use Rattle.std.specs.List.{list_all, prefix_len, position_or_len, before_first, starts_with}
 use Rattle.std.specs.Prelude.{nat_eq}
 use Rattle.std.proofs.Math.Numerals.{one-add}
 use Rattle.std.proofs.lemmas.Bool.Decides.{nat_tests}
 use Rattle.hcl_scan.specs.Lexemes.{Opener, marker_of, is_newline_byte}
-use Rattle.hcl_scan.specs.Spelling.{IsHeredocOpen, IsTextIn, context, Context, Template, Expression}
-use Rattle.hcl_scan.proofs.Rescan.{Marks}
+use Rattle.hcl_scan.specs.Scans.{Hidden, hides, skip_blanks, ends_line, IsFirstMarkerLine}
+use Rattle.hcl_scan.specs.Spelling.{IsSpelling, IsHeredocOpen, IsTextIn, context, Context, Template, Expression}
+use Rattle.hcl_scan.proofs.Fronts.{run_passes}
 use Rattle.hcl_scan.proofs.Words.{ident_word, all_to, begins_word}
 use Rattle.hcl_scan.proofs.MarkerLines.{first_z, take_z, hidden_z}
 use Rattle.hcl_scan.specs.declared.token.Kind.TheVariants.{HeredocOpen}
-
-before_passes : (q : ℕ → Bool) (xs : List ℕ) → list_all q (take (prefix_len q xs) xs) ≡ true
-before_passes q [] = refl
-before_passes q (b ∷ bs) =
-    elim (q b) as (λ v. q b ≡ v → list_all q (take (cond v (1 + prefix_len q bs) 0) (b ∷ bs)) ≡ true) [
-      | true ↦ λ h. rw one-add ((λ i. h i && before_passes q bs i))
-      | false ↦ λ h. refl
-    ] refl
 
 free : (b : ℕ) → not (is_newline_byte b) ≡ true → not (b == 10) ≡ true
 free b h = grind (arith, nat_tests)
@@ -54,10 +47,13 @@ heredoc_in Expression opens dot text rest h = h
 heredoc_in (Template true) opens dot text rest h = absurd h
 heredoc_in (Template false) opens dot text rest h = absurd h
 
-pub marks : Marks
-unfolding Marks
+-- THE LAW
+pub marks : (opens : List Opener) (dot : Bool) (text rest after : List ℕ) (n : ℕ) → IsSpelling opens dot HeredocOpen text rest → IsFirstMarkerLine (marker_of text) rest n → ends_line (skip_blanks after) ≡ true →
+    let h : Hidden = hides (marker_of text) (drop n rest) in
+    let z : List ℕ = take n rest ++ (h.closer ++ after) in
+    IsFirstMarkerLine (marker_of text) z n × (take n z ≡ take n rest) × (hides (marker_of text) (drop n z) ≡ record { closer = h.closer; after = after })
 marks opens dot text rest after n is first ends =
     let m : List ℕ = marker_of text in
     let some = some_marker text (heredoc_in (context opens) opens dot text rest is) in
-    let no_lf = all_to (λ b. not (is_newline_byte b)) (λ b. not (b == 10)) free m (before_passes (λ b. not (is_newline_byte b)) (if starts_with nat_eq text (60 ∷ 60 ∷ 45 ∷ []) then drop 3 text else drop 2 text)) in
+    let no_lf = all_to (λ b. not (is_newline_byte b)) (λ b. not (b == 10)) free m (run_passes (λ b. not (is_newline_byte b)) (if starts_with nat_eq text (60 ∷ 60 ∷ 45 ∷ []) then drop 3 text else drop 2 text)) in
     (first_z m rest after n some no_lf first ends, take_z m rest after n some no_lf first ends, hidden_z m rest after n some no_lf first ends)

@@ -9,11 +9,12 @@ use Rattle.std.proofs.lemmas.Bool.Decides.{nat_tests}
 use Rattle.hcl_scan.specs.Lexemes.{Lexeme, Opener, in_heredoc, marker_of}
 use Rattle.hcl_scan.specs.Spelling.{IsTextIn, IsLit, context, Template, Expression, is_blank, are_elements, element_len, starts}
 use Rattle.hcl_scan.specs.Scans.{State, Hidden, hides, gap_in, has_gaps_in, ahead, begin, skip_blanks, ends_line, closer_len, IsLongest, IsFirstMarkerLine, Next, Run, Scans}
-use Rattle.hcl_scan.specs.Neighbours.{ends_comment, AreTexts}
+use Rattle.hcl_scan.specs.Neighbours.{ends_comment}
+use Rattle.hcl_scan.specs.SideBySide.{AreTexts}
 use Rattle.hcl_scan.specs.declared.token.Kind.{Kind}
 use Rattle.hcl_scan.specs.declared.token.Kind.TheVariants.{LineComment, Lit}
 use Rattle.hcl_scan.proofs.Booleans.{and_true}
-use Rattle.hcl_scan.proofs.Rescan.{Shown, opening, plain, shown}
+use Rattle.hcl_scan.proofs.Showing.{Shown, opening, plain, shown}
 use Rattle.hcl_scan.proofs.Ways.{Ways, ways, newline, line_comment, inline_comment, blanks, ident, digits, number, heredoc, seq_close, brace_close, slash, mark}
 use Rattle.hcl_scan.proofs.Sides.{Side, expression, template, side}
 use Rattle.hcl_scan.proofs.Templates.{lit, interp, control, quote, lit_boundary}
@@ -22,7 +23,7 @@ use Rattle.hcl_scan.proofs.Literals.{element_is}
 use Rattle.hcl_scan.proofs.Fronts.{front_taken, front_dropped, front_within}
 use Rattle.hcl_scan.proofs.Cuts.{EndsLow, low_cut, run_cut, newline_low, blanks_low, number_low, inline_low, heredoc_low, closer_low, mark_low}
 use Rattle.hcl_scan.proofs.HeredocTurns.{ascii_there, after_marker, line_boundary, closer_within}
-use Rattle.hcl_scan.proofs.Follows.{comment_ends}
+use Rattle.hcl_scan.proofs.NextBehindComment.{comment_ends}
 
 low_there : (text rest seen : List ℕ) → IsUtf8 seen → text ++ rest ≡ seen → EndsLow text → IsCharBoundary seen (length text)
 low_there text rest seen utf8 whole e = low_cut seen (length text) utf8 (front_within text rest seen whole) (subst EndsLow (sym (front_taken text rest seen whole)) e)

@@ -1,41 +1,61 @@
--- What is open agrees with what is hidden.
-use Rattle.std.proofs.Common.{◌≡◌, ℕ, ◌&&◌, ◌||◌, Bool, true, false, cond, List, [], ◌∷◌, length, drop, ⊎_elim, refl, sym, ap, subst, ◌∙◌, arith}
-use Rattle.hcl_scan.specs.Lexemes.{Opener, Quote, Heredoc, Sequence, Brace, Bracket, Paren, moved, closes_sequence, below_groups, pop_if, is_paren, is_bracket, is_brace, is_sequence}
+-- What is open agrees with what is hidden: as many heredocs are open as are hidden. And all but a sequence is opened
+-- in an expression, so what a quote, a heredoc or a group leads back to when it is closed is one.
+use Rattle.std.proofs.Common.{◌≡◌, ℕ, ◌&&◌, ◌||◌, Bool, true, false, cond, List, [], ◌∷◌, length, drop, None, ◌+◌, ◌<◌, if◌then◌else◌, ⊎_elim, refl, sym, ap, subst, ◌∙◌, arith}
+use Rattle.hcl_scan.specs.Lexemes.{Lexeme, Opener, Quote, Heredoc, Sequence, Brace, Bracket, Paren, moved, closes_sequence, below_groups, pop_if, is_paren, is_bracket, is_brace, is_sequence, is_heredoc, in_heredoc}
 use Rattle.hcl_scan.specs.Spelling.{marks, IsMark, IsSpelling, IsTextIn, context, Context, Template, Expression}
-use Rattle.hcl_scan.specs.Scans.{State, Reads, Closes}
-use Rattle.hcl_scan.proofs.Rescan.{count, is_grounded, is_expression, Sound, Stacks, Shown, opening, plain, shown, opens_heredoc}
-use Rattle.hcl_scan.proofs.Booleans.{and_true}
+use Rattle.hcl_scan.specs.Scans.{State, Hidden, Next, Reads, Closes, owed}
 use Rattle.hcl_scan.specs.declared.token.Kind.{Kind}
 use Rattle.hcl_scan.specs.declared.token.Kind.TheVariants.{Newline, LineComment, InlineComment, Blank, Ident, Number, HeredocOpen, QuoteOpen, ParenOpen, BracketOpen, BraceOpen, ParenClose, BracketClose, SeqClose, BraceClose, Slash, Lit, InterpOpen, ControlOpen, QuoteClose, HeredocClose}
-use Rattle.hcl_scan.proofs.Ways.{Ways, ways, newline, line_comment, inline_comment, blanks, ident, digits, number, heredoc, seq_close, brace_close, slash, mark, mark_passes}
+use Rattle.hcl_scan.proofs.Ways.{Ways, ways, newline, line_comment, inline_comment, blanks, ident, digits, number, heredoc, seq_close, brace_close, slash, mark, is_marked, mark_kind}
+use Rattle.hcl_scan.proofs.Booleans.{and_true}
+use Rattle.hcl_scan.proofs.Contexts.{is_expression, is_quoted, not_both}
+use Rattle.hcl_scan.proofs.Showing.{Shown, opening, plain, shown, opens_heredoc}
 
-abbrev pub is_marked : Kind → Bool
-is_marked Newline = false
-is_marked LineComment = false
-is_marked InlineComment = false
-is_marked Blank = false
-is_marked Ident = false
-is_marked Number = false
-is_marked HeredocOpen = false
-is_marked SeqClose = false
-is_marked BraceClose = false
-is_marked Slash = false
-is_marked Lit = false
-is_marked InterpOpen = false
-is_marked ControlOpen = false
-is_marked QuoteClose = false
-is_marked HeredocClose = false
-is_marked _ = true
+abbrev pub count : List Opener → ℕ
+count [] = 0
+count (o ∷ os) = if is_heredoc o then 1 + count os else count os
 
-pub mark_kind : (text : List ℕ) (kind : Kind) → IsMark marks text kind → is_marked kind ≡ true
-unfolding marks
-mark_kind text kind is = mark_passes (λ _ k. is_marked k) marks text kind refl is
+-- all but a sequence is opened in an expression
+abbrev pub is_grounded : List Opener → Bool
+is_grounded [] = true
+is_grounded (o ∷ os) = (is_sequence o || is_expression (context os)) && is_grounded os
+
+pub record Sound (opens : List Opener) (hidden : List Hidden) : Type 0 where
+  pub counted : count opens ≡ length hidden
+  pub grounded : is_grounded opens ≡ true
+
+pub if_heredoc : (opens : List Opener) → 0 < count opens → in_heredoc opens ≡ true
+if_heredoc [] h = absurd (omega arith)
+if_heredoc (Heredoc ∷ os) h = refl
+if_heredoc (Quote ∷ os) h = if_heredoc os h
+if_heredoc (Sequence ∷ os) h = if_heredoc os h
+if_heredoc (Brace ∷ os) h = if_heredoc os h
+if_heredoc (Bracket ∷ os) h = if_heredoc os h
+if_heredoc (Paren ∷ os) h = if_heredoc os h
+
+pub no_heredoc : (opens : List Opener) → count opens ≡ 0 → in_heredoc opens ≡ false
+no_heredoc [] h = refl
+no_heredoc (Heredoc ∷ os) h = absurd (omega (arith, h))
+no_heredoc (Quote ∷ os) h = no_heredoc os h
+no_heredoc (Sequence ∷ os) h = no_heredoc os h
+no_heredoc (Brace ∷ os) h = no_heredoc os h
+no_heredoc (Bracket ∷ os) h = no_heredoc os h
+no_heredoc (Paren ∷ os) h = no_heredoc os h
+
+pub owes_heredoc : (opens : List Opener) → owed opens ≡ None → count opens ≡ 0
+owes_heredoc [] h = refl
+owes_heredoc (Heredoc ∷ os) h = absurd (cc)
+owes_heredoc (Quote ∷ os) h = absurd (cc)
+owes_heredoc (Sequence ∷ os) h = absurd (cc)
+owes_heredoc (Brace ∷ os) h = owes_heredoc os h
+owes_heredoc (Bracket ∷ os) h = owes_heredoc os h
+owes_heredoc (Paren ∷ os) h = owes_heredoc os h
 
 -- what a token moves
 abbrev pub Moves : Kind → List Opener → Type 0
 Moves kind opens = (count (moved kind opens) ≡ count opens) × (is_grounded (moved kind opens) ≡ true)
 
-abbrev Same : List Opener → List Opener → Type 0
+abbrev pub Same : List Opener → List Opener → Type 0
 Same old new = (count new ≡ count old) × (is_grounded new ≡ true)
 
 pub tail : (o : Opener) (os : List Opener) → is_grounded (o ∷ os) ≡ true → is_grounded os ≡ true
@@ -104,14 +124,10 @@ moves_in_expression opens dot kind text rest c never g (brace_close k h is) =
 moves_in_expression opens dot kind text rest c never g (slash k is h) = subst (λ (z : Kind). Moves z opens) (sym k) (refl, g)
 moves_in_expression opens dot kind text rest c never g (mark is) = moves_marked kind opens c (mark_kind text kind is) g
 
-abbrev quoted_in : Context → Bool
-quoted_in (Template quoted) = quoted
-quoted_in Expression = true
-
 quote_closed : (opens : List Opener) → context opens ≡ Template true → is_grounded opens ≡ true → Same opens (drop 1 opens)
 quote_closed (Quote ∷ os) h g = (refl, tail Quote os g)
 quote_closed [] h g = absurd (cc)
-quote_closed (Heredoc ∷ os) h g = absurd (let e : false ≡ true = ap quoted_in h in cc)
+quote_closed (Heredoc ∷ os) h g = absurd (let e : false ≡ true = ap is_quoted h in cc)
 quote_closed (Sequence ∷ os) h g = absurd (cc)
 quote_closed (Brace ∷ os) h g = absurd (cc)
 quote_closed (Bracket ∷ os) h g = absurd (cc)
@@ -132,8 +148,8 @@ open_in_expression Expression opens dot text rest h = refl
 open_in_expression (Template true) opens dot text rest h = absurd h
 open_in_expression (Template false) opens dot text rest h = absurd h
 
-pub stacks : Stacks
-unfolding Stacks
+-- THE LAW
+pub stacks : (s : State) (t : Lexeme) (next : State) → Next s t next → Sound s.opens s.hidden → Sound next.opens next.hidden
 stacks s t next step sound = ⊎_elim reads closes step
   where
     reads : Reads s t next → Sound next.opens next.hidden

@@ -18,7 +18,7 @@ use Rattle.hcl_scan.proofs.Booleans.{and_true}
 use Rattle.hcl_scan.proofs.Fronts.{begins}
 use Rattle.hcl_scan.proofs.Ways.{ways}
 use Rattle.hcl_scan.proofs.Leads.{leads, some, letter_kind}
-use Rattle.hcl_scan.proofs.Follows.{ReadPlain, read_plain}
+use Rattle.hcl_scan.proofs.NextInExpression.{ReadPlain, read_plain}
 
 no_start : starts_ident 0xFEFF ≡ false
 unfolding unicode_ident

@@ -1,88 +1,25 @@
--- What a scan says of the tokens side by side.
+-- What a scan says of tokens that stand side by side, by one reading from the front.
 use Rattle.std.proofs.Common.{◌≡◌, ℕ, ◌<◌, ◌&&◌, ◌||◌, ◌==◌, not, Bool, true, false, cond, List, [], ◌∷◌, ◌++◌, length, drop, get_or, inl, inr, ⊎_elim, refl, sym, ap, subst, ◌∙◌, arith, length-append, append_assoc}
-use Rattle.std.specs.Char.{is_ascii_digit}
-use Rattle.std.proofs.lemmas.Bool.Decides.{nat_tests}
 use Rattle.hcl_scan.specs.Lexemes.{Lexeme, Opener, Quote, Heredoc, Sequence, Brace, Bracket, Paren, in_heredoc, moved, pop_if, below_groups, is_paren, is_bracket, is_brace}
 use Rattle.hcl_scan.specs.Spelling.{marks, IsMark, IsDigits, IsExpressionText, context, Template, Expression, starts}
 use Rattle.hcl_scan.specs.Scans.{State, ahead, begin, IsLongest, Shows, Reads, Closes, Next, Run, Scans}
-use Rattle.hcl_scan.specs.Leads.{lead_of, lead_bytes, may_begin_ident}
-use Rattle.hcl_scan.specs.Neighbours.{is_template, ends_comment, begins_as, opens_template, Beside, Besides}
+use Rattle.hcl_scan.specs.Leads.{lead_of}
 use Rattle.hcl_scan.specs.declared.expression.Lead.TheVariants.{LineEnd}
 use Rattle.hcl_scan.specs.declared.token.Kind.{Kind}
 use Rattle.hcl_scan.specs.declared.token.Kind.TheVariants.{Newline, LineComment, Ident, Number, HeredocOpen, QuoteOpen, ParenOpen, BracketOpen, BraceOpen, ParenClose, BracketClose, SeqClose, BraceClose, Lit, InterpOpen, ControlOpen, QuoteClose, HeredocClose}
 use Rattle.hcl_scan.proofs.Booleans.{and_true}
-use Rattle.hcl_scan.proofs.Rescan.{Sound, Stacks, is_grounded, is_expression, expression_is}
-use Rattle.hcl_scan.proofs.Grounds.{stacks, below}
-use Rattle.hcl_scan.proofs.Ways.{Ways, ways, newline, line_comment, inline_comment, blanks, ident, digits, number, heredoc, seq_close, brace_close, slash, mark, mark_passes}
-use Rattle.hcl_scan.proofs.Leads.{leads, some, line_kind}
-use Rattle.hcl_scan.proofs.Words.{ident_word, begins_word}
-use Rattle.hcl_scan.proofs.Comments.{starts_split, or_cases}
-use Rattle.hcl_scan.proofs.Numerals.{digit_head}
+use Rattle.hcl_scan.proofs.Ways.{Ways, ways, newline, line_comment, inline_comment, blanks, ident, digits, number, heredoc, seq_close, brace_close, slash, mark}
+use Rattle.hcl_scan.proofs.Leads.{leads, some, newline_leads, line_kind}
 use Rattle.hcl_scan.proofs.Sides.{Side, expression, template, side, in_expressions}
-use Rattle.hcl_scan.proofs.Templates.{Way, lit, interp, control, quote}
-use Rattle.hcl_scan.proofs.Follows.{not_both, comment_spelled, line_gap, comment_ends, no_template}
-
--- ---- first bytes
-mark_begins : (text : List ℕ) (kind : Kind) → IsMark marks text kind → begins_as kind (get_or text 0 0) ≡ true
-unfolding marks
-mark_begins text kind is = mark_passes (λ t k. begins_as k (get_or t 0 0)) marks text kind refl is
-
-letter_begins : (b : ℕ) → begins_word b ≡ true → begins_as Ident b ≡ true
-letter_begins b h =
-    let d : is_ascii_digit b ≡ false = grind (arith, nat_tests) in
-    let e1 : (b == 45) ≡ false = grind (arith, nat_tests) in
-    let e2 : (b == 46) ≡ false = grind (arith, nat_tests) in
-    let e3 : (b == 61) ≡ false = grind (arith, nat_tests) in
-    let e4 : (b == 62) ≡ false = grind (arith, nat_tests) in
-    let e5 : (b == 60) ≡ false = grind (arith, nat_tests) in
-    let e6 : (b == 47) ≡ false = grind (arith, nat_tests) in
-    let e7 : (b == 42) ≡ false = grind (arith, nat_tests) in
-    let e8 : (b == 126) ≡ false = grind (arith, nat_tests) in
-    by (may_begin_ident b) (is_ascii_digit b) (b == 45) (b == 46) (b == 61) (b == 62) (b == 60) (b == 47) (b == 42) (b == 126) d e1 e2 e3 e4 e5 e6 e7 e8
-  where
-    by : (l d e1 e2 e3 e4 e5 e6 e7 e8 : Bool) → d ≡ false → e1 ≡ false → e2 ≡ false → e3 ≡ false → e4 ≡ false → e5 ≡ false → e6 ≡ false → e7 ≡ false → e8 ≡ false →
-        ((not l || true) && (not d || false) && (not e1 || false) && (not e2 || false) && (not e3 || false) && (not e4 || false) && (not e5 || false) && (not e6 || false) && (not e7 || false) && (not e8 || false)) ≡ true
-    by true d e1 e2 e3 e4 e5 e6 e7 e8 p q r s t u v w x = λ i. (not (p i) || false) && (not (q i) || false) && (not (r i) || false) && (not (s i) || false) && (not (t i) || false) && (not (u i) || false) && (not (v i) || false) && (not (w i) || false) && (not (x i) || false)
-    by false d e1 e2 e3 e4 e5 e6 e7 e8 p q r s t u v w x = λ i. (not (p i) || false) && (not (q i) || false) && (not (r i) || false) && (not (s i) || false) && (not (t i) || false) && (not (u i) || false) && (not (v i) || false) && (not (w i) || false) && (not (x i) || false)
-
-digit_begins : (b : ℕ) → is_ascii_digit b ≡ true → begins_as Number b ≡ true
-digit_begins b h =
-    let d : may_begin_ident b ≡ false = grind (arith, nat_tests) in
-    let e1 : (b == 45) ≡ false = grind (arith, nat_tests) in
-    let e2 : (b == 46) ≡ false = grind (arith, nat_tests) in
-    let e3 : (b == 61) ≡ false = grind (arith, nat_tests) in
-    let e4 : (b == 62) ≡ false = grind (arith, nat_tests) in
-    let e5 : (b == 60) ≡ false = grind (arith, nat_tests) in
-    let e6 : (b == 47) ≡ false = grind (arith, nat_tests) in
-    let e7 : (b == 42) ≡ false = grind (arith, nat_tests) in
-    let e8 : (b == 126) ≡ false = grind (arith, nat_tests) in
-    λ i. (not (d i) || false) && (not (h i) || true) && (not (e1 i) || false) && (not (e2 i) || false) && (not (e3 i) || false) && (not (e4 i) || false) && (not (e5 i) || false) && (not (e6 i) || false) && (not (e7 i) || false) && (not (e8 i) || false)
-
-digits_begin : (text after : List ℕ) → IsDigits text → begins_as Number (get_or (text ++ after) 0 0) ≡ true
-digits_begin text after is = digit_begins (get_or (text ++ after) 0 0) (digit_head text after is)
-
-nothing_more : (l : List ℕ) → l ++ [] ≡ l
-nothing_more [] = refl
-nothing_more (b ∷ l) = ap (λ r. b ∷ r) (nothing_more l)
-
-begins : (opens : List Opener) (dot : Bool) (kind : Kind) (text rest : List ℕ) → in_heredoc opens ≡ false → Ways opens dot kind text rest → begins_as kind (get_or text 0 0) ≡ true
-begins opens dot kind text rest plain (newline k (inl e)) = λ i. begins_as (k i) (get_or (e i) 0 0)
-begins opens dot kind text rest plain (newline k (inr e)) = λ i. begins_as (k i) (get_or (e i) 0 0)
-begins opens dot kind text rest plain (line_comment k is) = ⊎_elim
-    (λ a. let s = starts_split text (35 ∷ []) a in λ i. begins_as (k i) (get_or (s.1 i) 0 0))
-    (λ b. let s = starts_split text (47 ∷ 47 ∷ []) b in λ i. begins_as (k i) (get_or (s.1 i) 0 0))
-    (or_cases (starts text (35 ∷ [])) (starts text (47 ∷ 47 ∷ [])) is.0)
-begins opens dot kind text rest plain (inline_comment k is) = λ i. begins_as (k i) (get_or (is.1 i) 0 0)
-begins opens dot kind text rest plain (blanks k h is) = absurd (cc)
-begins opens dot kind text rest plain (ident k is) = let w = ident_word text is in (λ i. begins_as (k i) (get_or (w.whole i) 0 0)) ∙ letter_begins w.first w.begins
-begins opens dot kind text rest plain (digits k h is) = (λ i. begins_as (k i) (get_or (sym (nothing_more text) i) 0 0)) ∙ digits_begin text [] is
-begins opens dot kind text rest plain (number k h is) = (λ i. begins_as (k i) (get_or ((is.6 ∙ append_assoc is.0 is.1 is.2) i) 0 0)) ∙ digits_begin is.0 (is.1 ++ is.2) is.3
-begins opens dot kind text rest plain (heredoc k is) = λ i. begins_as (k i) (get_or (is.6 i) 0 0)
-begins opens dot kind text rest plain (seq_close k h (inl e)) = λ i. begins_as (k i) (get_or (e i) 0 0)
-begins opens dot kind text rest plain (seq_close k h (inr e)) = λ i. begins_as (k i) (get_or (e i) 0 0)
-begins opens dot kind text rest plain (brace_close k h e) = λ i. begins_as (k i) (get_or (e i) 0 0)
-begins opens dot kind text rest plain (slash k e h) = λ i. begins_as (k i) (get_or (e i) 0 0)
-begins opens dot kind text rest plain (mark is) = mark_begins text kind is
+use Rattle.hcl_scan.proofs.Templates.{Way, lit, interp, control, quote, way_template}
+use Rattle.hcl_scan.specs.Neighbours.{ends_comment}
+use Rattle.hcl_scan.specs.Regapped.{is_template}
+use Rattle.hcl_scan.specs.SideBySide.{opens_template, begins_as, Beside, Besides}
+use Rattle.hcl_scan.proofs.Contexts.{is_expression, expression_is, not_both}
+use Rattle.hcl_scan.proofs.OpenStacks.{Sound, is_grounded, stacks, below}
+use Rattle.hcl_scan.proofs.FirstBytes.{begins}
+use Rattle.hcl_scan.proofs.NextInExpression.{no_template}
+use Rattle.hcl_scan.proofs.NextBehindComment.{comment_spelled, line_gap, comment_ends}
 
 -- ---- where a template goes on
 popped_context : (is : Opener → Bool) → is Sequence ≡ false → (opens : List Opener) → context opens ≡ Expression → is_grounded opens ≡ true → context (pop_if is opens) ≡ Expression
@@ -153,18 +90,9 @@ record Stood (before : Kind) (s : State) : Type 0 where
   comment : in_heredoc s.opens ≡ false → before ≡ LineComment → (context s.opens ≡ Expression) × (ends_comment s.seen ≡ true)
   template : in_heredoc s.opens ≡ false → (quoted : Bool) → context s.opens ≡ Template quoted → opens_template before ≡ true
 
-first_lf : (text rest : List ℕ) → 0 < length text → ends_comment (text ++ rest) ≡ true → lead_of text ≡ LineEnd
-first_lf [] rest long h = absurd (omega arith)
-first_lf (b ∷ text) rest long h = let e : b ≡ 10 = lf b h in ap (λ c. lead_bytes c (get_or (b ∷ text) 1 0)) e
-  where
-    lf : (b : ℕ) → (b == 10) ≡ true → b ≡ 10
-    lf b h = grind (arith, nat_tests)
-
-way_template : (quoted : Bool) (kind : Kind) (text rest : List ℕ) → Way quoted kind text rest → is_template kind ≡ true
-way_template quoted kind text rest (lit k h) = ap is_template k
-way_template quoted kind text rest (interp k h) = ap is_template k
-way_template quoted kind text rest (control k h) = ap is_template k
-way_template quoted kind text rest (quote k q h) = ap is_template k
+lf_lead : (text rest : List ℕ) → 0 < length text → ends_comment (text ++ rest) ≡ true → lead_of text ≡ LineEnd
+lf_lead [] rest long h = absurd (omega arith)
+lf_lead (b ∷ text) rest long h = newline_leads b (get_or (b ∷ text) 1 0) (λ i. h i || (b == 13))
 
 no_closer : (quoted : Bool) (kind : Kind) (text rest : List ℕ) → Way quoted kind text rest → kind ≡ HeredocClose → ⊥
 no_closer quoted kind text rest (lit k h) e = let f = sym k ∙ e in cc
@@ -189,7 +117,7 @@ module _ (before : Kind) (s : State) (t : Lexeme) (next : State) (stood : Stood 
         let w = ways s.opens s.after_dot t.kind t.text r.rest h in
         let long = some s.opens s.after_dot t.kind t.text r.rest w in
         let there : ahead s ≡ s.seen = line_gap s.opens s.seen (omega (arith, long, ap length r.longest.whole, length-append t.text r.rest)) st.1 in
-        line_kind t.kind (sym (leads s.opens s.after_dot t.kind t.text r.rest w) ∙ first_lf t.text r.rest long (ap ends_comment (r.longest.whole ∙ there) ∙ st.1));
+        line_kind t.kind (sym (leads s.opens s.after_dot t.kind t.text r.rest w) ∙ lf_lead t.text r.rest long (ap ends_comment (r.longest.whole ∙ there) ∙ st.1));
     template = λ i b. absurd (let f = no_template t.kind k in cc);
     begins = λ i b. begins s.opens s.after_dot t.kind t.text r.rest (sym r.inside ∙ i) (ways s.opens s.after_dot t.kind t.text r.rest h);
     closer = λ b. absurd (let f = sym (no_template t.kind k) ∙ ap is_template b in cc);
@@ -235,7 +163,6 @@ module _ (before : Kind) (s : State) (t : Lexeme) (next : State) (stood : Stood 
   stood_on (inr c) sound = closes_stood c sound
 
 besides_run : (ts : List Lexeme) (before : Kind) (s end : State) → Stood before s → Run s ts end → Besides before ts
-unfolding Stacks
 besides_run [] before s end stood run = tt
 besides_run (t ∷ ts) before s end stood run = (beside before s t run.0 stood run.1, besides_run ts t.kind run.0 end (stood_on before s t run.0 stood run.1 (stacks s t run.0 run.1 stood.sound)) run.2)
 

@@ -1,0 +1,27 @@
+-- Two readings that stand inside the same heredocs, where other text stands behind the outermost of them.
+use Rattle.std.specs.Prelude.{◌≡◌, ℕ, List, [], ◌∷◌}
+use Rattle.hcl_scan.specs.Lexemes.{Lexeme}
+use Rattle.hcl_scan.specs.Scans.{Hidden, Next, State}
+
+-- what the heredocs hide, with other text behind the closing marker of the outermost
+abbrev pub behind_last : List ℕ → List Hidden → List Hidden
+behind_last other [] = []
+behind_last other (h ∷ []) = record { closer = h.closer; after = other } ∷ []
+behind_last other (h ∷ k ∷ hs) = h ∷ behind_last other (k ∷ hs)
+
+-- the same is open, seen and hidden, but for what stands behind the outermost; the offsets may differ
+pub record SameInside (other : List ℕ) (s twin : State) : Type 0 where
+  pub opens : twin.opens ≡ s.opens
+  pub after_dot : twin.after_dot ≡ s.after_dot
+  pub seen : twin.seen ≡ s.seen
+  pub hidden : twin.hidden ≡ behind_last other s.hidden
+
+-- the token at another offset
+abbrev pub starting : ℕ → Lexeme → Lexeme
+starting at t = record { kind = t.kind; text = t.text; start = at; inside_heredoc = t.inside_heredoc }
+
+-- the twin reads the token that led to `next`, and stands where `next` does
+pub record ReadsToo (other : List ℕ) (twin : State) (t : Lexeme) (next : State) : Type 0 where
+  pub state : State
+  pub read : Next twin (starting twin.at t) state
+  pub same : SameInside other next state

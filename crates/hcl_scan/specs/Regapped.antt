@@ -1,0 +1,46 @@
+-- A text made of tokens and blanks: each token with the number of spaces before it, and which numbers leave the tokens
+-- as they are. Nothing here knows why a blank is put.
+use Rattle.std.specs.Prelude.{ℕ, ◌+◌, ◌==◌, ◌||◌, not, Bool, true, false, IsTrue, List, [], ◌∷◌, ◌++◌, length, if◌then◌else◌, replicate, map}
+use Rattle.hcl_scan.specs.Lexemes.{Lexeme}
+use Rattle.hcl_scan.specs.Scans.{is_dot}
+use Rattle.hcl_scan.specs.Neighbours.{joins}
+use Rattle.hcl_scan.specs.declared.token.Kind.{Kind}
+use Rattle.hcl_scan.specs.declared.token.Kind.TheVariants.{LineComment, Lit, InterpOpen, ControlOpen, QuoteClose, HeredocClose}
+
+-- the tokens without the gaps
+abbrev pub tokens_of : List (ℕ × Lexeme) → List Lexeme
+tokens_of ps = map (λ p. p.1) ps
+
+-- the gaps, as spaces, and the texts in turn
+abbrev pub text_of : List (ℕ × Lexeme) → List ℕ
+text_of [] = []
+text_of (p ∷ ps) = replicate p.0 32 ++ (p.1.text ++ text_of ps)
+
+-- the tokens where they stand in that text, its first byte being at an offset
+abbrev pub placed : ℕ → List (ℕ × Lexeme) → List Lexeme
+placed at [] = []
+placed at (p ∷ ps) = record { kind = p.1.kind; text = p.1.text; start = at + p.0; inside_heredoc = p.1.inside_heredoc } ∷ placed (at + p.0 + length p.1.text) ps
+
+-- a token of templates: blanks before it would be literal text
+abbrev pub is_template : Kind → Bool
+is_template Lit = true
+is_template InterpOpen = true
+is_template ControlOpen = true
+is_template QuoteClose = true
+is_template HeredocClose = true
+is_template _ = false
+
+-- nothing may stand between a token of this kind and the next: a comment would go on over the blanks, and in a
+-- template or a heredoc they are text
+abbrev pub touches : Kind → Lexeme → Bool
+touches LineComment t = true
+touches _ t = is_template t.kind || t.inside_heredoc
+
+-- so many blanks may stand between a token of this kind and the next
+abbrev pub fits : Bool → Kind → Lexeme → ℕ → Bool
+fits after_dot before t gap = if touches before t then gap == 0 else (not (gap == 0) || not (joins after_dot before t.kind t.text))
+
+-- every gap fits, behind a token of this kind
+abbrev pub AllFit : Bool → Kind → List (ℕ × Lexeme) → Type 0
+AllFit after_dot before [] = Unit {0}
+AllFit after_dot before (p ∷ ps) = IsTrue (fits after_dot before p.1 p.0) × AllFit (is_dot before) p.1.kind ps

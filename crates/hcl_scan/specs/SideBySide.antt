@@ -1,0 +1,101 @@
+-- What a scan says of tokens that stand side by side, by the kind before and the first byte, so that whoever puts
+-- blanks between them need not know how a text is read.
+use Rattle.std.specs.Prelude.{◌≡◌, ℕ, ◌==◌, ◌||◌, Bool, true, false, List, [], ◌∷◌, get_or, codes, if◌then◌else◌, ◌⊎◌, IsUtf8}
+use Rattle.std.specs.Char.{is_ascii_digit}
+use Rattle.hcl_scan.specs.Lexemes.{Lexeme}
+use Rattle.hcl_scan.specs.Leads.{may_begin_ident}
+use Rattle.hcl_scan.specs.Neighbours.{is_number}
+use Rattle.hcl_scan.specs.Regapped.{is_template}
+use Rattle.hcl_scan.specs.declared.token.Kind.{Kind}
+use Rattle.hcl_scan.specs.declared.token.Kind.TheVariants.{Newline, LineComment, InlineComment, Ident, HeredocOpen, QuoteOpen, SeqClose, Dot, Ellipsis, Assign, Arrow, Minus, Star, Slash, Equal, Less, Greater, LessEqual, GreaterEqual, Lit, HeredocClose}
+
+abbrev pub is_ident : Kind → Bool
+is_ident Ident = true
+is_ident _ = false
+
+abbrev pub is_minus : Kind → Bool
+is_minus Minus = true
+is_minus _ = false
+
+abbrev pub is_star : Kind → Bool
+is_star Star = true
+is_star _ = false
+
+abbrev pub is_seq_close : Kind → Bool
+is_seq_close SeqClose = true
+is_seq_close _ = false
+
+-- the kinds whose texts begin with `.`
+abbrev pub is_pointed : Kind → Bool
+is_pointed Dot = true
+is_pointed Ellipsis = true
+is_pointed _ = false
+
+-- with `=`
+abbrev pub is_equals : Kind → Bool
+is_equals Assign = true
+is_equals Arrow = true
+is_equals Equal = true
+is_equals _ = false
+
+-- with `>`
+abbrev pub is_greater : Kind → Bool
+is_greater Greater = true
+is_greater GreaterEqual = true
+is_greater _ = false
+
+-- with `<`
+abbrev pub is_less : Kind → Bool
+is_less Less = true
+is_less LessEqual = true
+is_less HeredocOpen = true
+is_less _ = false
+
+-- with `/`
+abbrev pub is_slashed : Kind → Bool
+is_slashed Slash = true
+is_slashed LineComment = true
+is_slashed InlineComment = true
+is_slashed _ = false
+
+-- what the first byte of a token of an expression says of its kind; of the bytes that go on no token it says nothing
+abbrev pub begins_as : Kind → ℕ → Bool
+begins_as kind b =
+    if may_begin_ident b then is_ident kind
+    else if is_ascii_digit b then is_number kind
+    else if b == 45 then is_minus kind
+    else if b == 46 then is_pointed kind
+    else if b == 61 then is_equals kind
+    else if b == 62 then is_greater kind
+    else if b == 60 then is_less kind
+    else if b == 47 then is_slashed kind
+    else if b == 42 then is_star kind
+    else if b == 126 then is_seq_close kind
+    else true
+
+-- behind a token of this kind a template may go on
+abbrev pub opens_template : Kind → Bool
+opens_template QuoteOpen = true
+opens_template Lit = true
+opens_template SeqClose = true
+opens_template _ = false
+
+-- a token behind one of this kind. Outside heredocs: behind a comment to the end of its line comes a Newline; a
+-- template is begun by a quote, and goes on behind literal text or a sequence; the first byte tells the kind; a
+-- sequence's closer has two spellings. A heredoc's closer is inside.
+pub record Beside (before : Kind) (t : Lexeme) : Type 0 where
+  pub comment : t.inside_heredoc ≡ false → before ≡ LineComment → t.kind ≡ Newline
+  pub template : t.inside_heredoc ≡ false → is_template t.kind ≡ true → opens_template before ≡ true
+  pub begins : t.inside_heredoc ≡ false → is_template t.kind ≡ false → begins_as t.kind (get_or t.text 0 0) ≡ true
+  pub closer : t.kind ≡ HeredocClose → t.inside_heredoc ≡ true
+  pub tilde : t.inside_heredoc ≡ false → t.kind ≡ SeqClose → (t.text ≡ codes "}") ⊎ (t.text ≡ codes "~}")
+
+-- so for all tokens of a list, the first behind one of this kind
+abbrev pub Besides : Kind → List Lexeme → Type 0
+Besides before [] = Unit {0}
+Besides before (t ∷ ts) = Beside before t × Besides t.kind ts
+
+-- the text of each token is UTF-8
+abbrev pub AreTexts : List Lexeme → Type 0
+AreTexts [] = Unit {0}
+AreTexts (t ∷ ts) = IsUtf8 t.text × AreTexts ts
