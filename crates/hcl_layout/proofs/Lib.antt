@@ -12,7 +12,9 @@ pub mod BalanceLemmas
 pub mod OutLemmas
 pub mod FormatLemmas
 pub mod SpacingRows
-pub mod Fitting
-pub mod Rescanning
-pub mod Forgetting
-pub mod Reloading
+pub mod JoinedApart
+pub mod EachGap
+pub mod GapsFit
+pub mod PrintScans
+pub mod PlacesForgotten
+pub mod PrintLoads

@@ -13,4 +13,4 @@ pub mod Walks
 pub mod Left
 pub mod Out
 pub mod Simple
-pub mod Rescanned
+pub mod Reprinted

@@ -5,25 +5,25 @@ ghost use Rattle.std.specs.Prelude.{◌≡◌, ◌≤◌, ℕ, List, length};
 ghost use Rattle.hcl_scan.specs.Lexemes.{Lexeme};
 ghost use Rattle.hcl_scan.specs.Scans.{Scans};
 ghost use Rattle.hcl_layout.specs.Print.{print};
-ghost use Rattle.hcl_layout.specs.Rescanned.{moved};
+ghost use Rattle.hcl_layout.specs.Reprinted.{printed_tokens};
 ghost use Rattle.hcl_syntax.specs.Classes.{lookaheads};
 ghost use Rattle.hcl_syntax.specs.Verdict.{IsAccepted};
 ghost use Rattle.hcl_scan.specs.Load.{IsText, max_source};
 
 /// A print is scanned to the tokens of which it is made: none join, split or change their kind.
 pub fn rescan()
-    ensures { (text : List ℕ) (ts : List Lexeme) → Scans text ts → Scans (print ts) (moved ts) }
+    ensures { (text : List ℕ) (ts : List Lexeme) → Scans text ts → Scans (print ts) (printed_tokens ts) }
 {}
 
 /// The tokens of a print print it again, and the grammar sees them as it saw the first.
 pub fn print_kept()
-    ensures again { (ts : List Lexeme) → print (moved ts) ≡ print ts }
-    ensures seen { (ts : List Lexeme) → lookaheads (moved ts) ≡ lookaheads ts }
+    ensures again { (ts : List Lexeme) → print (printed_tokens ts) ≡ print ts }
+    ensures seen { (ts : List Lexeme) → lookaheads (printed_tokens ts) ≡ lookaheads ts }
 {}
 
 /// Printing twice changes nothing: a print that isn't too large is a source, its tokens are a file,
 /// and their print is the same.
 pub fn idempotent()
     ensures { (text : List ℕ) (ts : List Lexeme) → IsText text → Scans text ts → IsAccepted ts → length (print ts) ≤ max_source
-        → IsText (print ts) × Scans (print ts) (moved ts) × IsAccepted (moved ts) × (print (moved ts) ≡ print ts) }
+        → IsText (print ts) × Scans (print ts) (printed_tokens ts) × IsAccepted (printed_tokens ts) × (print (printed_tokens ts) ≡ print ts) }
 {}

@@ -102,6 +102,7 @@ inline_alone opens dot text other is kind longer left e lt h = is'.2 held
 
     held : (before after : List ℕ) × (inner ++ (42 ∷ []) ≡ before ++ (42 ∷ 47 ∷ []) ++ after)
     held = (take n (inner ++ (42 ∷ [])), drop (suc (suc n)) (inner ++ (42 ∷ [])), end_cut (inner ++ (42 ∷ [])) n here ∙ sym (append_assoc (take n (inner ++ (42 ∷ []))) (42 ∷ 47 ∷ []) (drop (suc (suc n)) (inner ++ (42 ∷ [])))))
+
 -- ---- a slash
 slash_leads : (other : List ℕ) → grows Slash (get_or other 0 0) ≡ false → lead_of (47 ∷ other) ≡ OneSlash
 slash_leads other h = by (get_or other 0 0 == 47) (get_or other 0 0 == 42) h

@@ -10,7 +10,7 @@ use Rattle.hcl_scan.specs.Leads.{lead_of}
 use Rattle.hcl_scan.specs.Regapped.{tokens_of, text_of, is_template, touches, fits}
 use Rattle.hcl_scan.specs.declared.expression.Lead.TheVariants.{LineEnd}
 use Rattle.hcl_scan.specs.declared.token.Kind.{Kind}
-use Rattle.hcl_scan.specs.declared.token.Kind.TheVariants.{Newline, LineComment}
+use Rattle.hcl_scan.specs.declared.token.Kind.TheVariants.{LineComment}
 use Rattle.hcl_scan.proofs.Ways.{ways}
 use Rattle.hcl_scan.proofs.Templates.{way_template}
 use Rattle.hcl_scan.proofs.Templates as templates

@@ -1,6 +1,6 @@
 -- The marker line of a heredoc stays its first one, whatever stands behind that line.
-use Rattle.std.proofs.Common.{◌≡◌, ℕ, ◌+◌, ◌<◌, ◌&&◌, ◌==◌, not, Bool, true, false, cond, List, [], ◌∷◌, ◌++◌, length, take, drop, if◌then◌else◌, ⊎_elim, refl, sym, subst, ◌∙◌, arith}
-use Rattle.std.specs.List.{list_all, prefix_len, position_or_len, before_first, starts_with}
+use Rattle.std.proofs.Common.{◌≡◌, ℕ, ◌+◌, ◌<◌, ◌&&◌, ◌==◌, not, Bool, true, false, cond, List, [], ◌∷◌, ◌++◌, length, take, drop, if◌then◌else◌, ⊎_elim, sym, subst, ◌∙◌, arith}
+use Rattle.std.specs.List.{position_or_len, before_first, starts_with}
 use Rattle.std.specs.Prelude.{nat_eq}
 use Rattle.std.proofs.Math.Numerals.{one-add}
 use Rattle.std.proofs.lemmas.Bool.Decides.{nat_tests}

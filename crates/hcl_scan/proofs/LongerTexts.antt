@@ -1,5 +1,5 @@
 -- A text that is longer than another at the same place: it goes on that one, and begins as that does.
-use Rattle.std.proofs.Common.{◌≡◌, ℕ, ◌<◌, ◌&&◌, Bool, true, List, [], ◌∷◌, ◌++◌, length, drop, get_or, refl, sym, ap, ◌∙◌, arith}
+use Rattle.std.proofs.Common.{◌≡◌, ℕ, ◌<◌, Bool, true, List, [], ◌∷◌, ◌++◌, length, drop, get_or, refl, sym, ap, ◌∙◌, arith}
 use Rattle.std.specs.List.{list_all}
 use Rattle.hcl_scan.specs.Lexemes.{Opener}
 use Rattle.hcl_scan.specs.Spelling.{IsExpressionText}

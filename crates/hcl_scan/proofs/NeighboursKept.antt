@@ -1,14 +1,12 @@
 -- The table of neighbours, kind by kind: a token outside heredocs that was the longest before one text is the longest
 -- before another where the table says so. Only that the text is spelled is needed: a longer one would begin with the
 -- same two bytes, and so be of the same kind, or of one more.
-use Rattle.std.proofs.Common.{◌≡◌, ℕ, suc, ◌+◌, ◌<◌, ◌&&◌, ◌||◌, ◌==◌, not, Bool, true, false, cond, List, [], ◌∷◌, ◌++◌, length, take, drop, get_or, if◌then◌else◌, ◌⊎◌, inl, inr, ⊎_elim, refl, sym, ap, subst, ◌∙◌, arith, length-append, append_assoc, None}
-use Rattle.std.specs.List.{list_all, list_any, prefix_len}
+use Rattle.std.proofs.Common.{◌≡◌, ℕ, ◌<◌, ◌&&◌, ◌||◌, ◌==◌, not, Bool, true, false, List, [], ◌∷◌, ◌++◌, length, take, drop, get_or, if◌then◌else◌, ◌⊎◌, inl, inr, ⊎_elim, refl, sym, ap, subst, ◌∙◌, arith, length-append, None}
 use Rattle.std.specs.Char.{is_ascii_digit}
-use Rattle.std.proofs.lemmas.Bool.Decides.{nat_tests}
-use Rattle.hcl_scan.specs.Lexemes.{Opener, Quote, Heredoc, Sequence, Brace, Bracket, Paren, in_heredoc}
-use Rattle.hcl_scan.specs.Spelling.{IsNewline, IsLineComment, IsInlineComment, IsHeredocOpen, IsExpressionText, IsSpelling, IsTextIn, IsLit, context, Context, Template, Expression, starts, are_elements, element_len}
+use Rattle.hcl_scan.specs.Lexemes.{Opener, in_heredoc}
+use Rattle.hcl_scan.specs.Spelling.{IsExpressionText, IsSpelling, IsTextIn, IsLit, context, Context, Template, Expression, starts, are_elements, element_len}
 use Rattle.hcl_scan.specs.Scans.{IsLongest}
-use Rattle.hcl_scan.specs.Neighbours.{grows, is_number, joins_text, ends_comment, same_close, stays}
+use Rattle.hcl_scan.specs.Neighbours.{grows, is_number, joins_text, same_close, stays}
 use Rattle.hcl_scan.specs.declared.token.Kind.{Kind}
 use Rattle.hcl_scan.specs.declared.token.Kind.TheVariants.{Newline, LineComment, InlineComment, Blank, Ident, Number, HeredocOpen, SeqClose, BraceClose, Slash, Lit, InterpOpen, ControlOpen, QuoteClose}
 use Rattle.hcl_scan.proofs.Booleans.{and_true, none_of, not_true}

@@ -1,12 +1,12 @@
 -- Behind a comment to the end of its line comes a newline, or the end: with no gap before it, the comment stays as it is.
-use Rattle.std.proofs.Common.{◌≡◌, ℕ, zero, suc, ◌+◌, ◌<◌, ◌≤◌, ◌&&◌, ◌||◌, ◌==◌, not, Bool, true, false, cond, List, [], ◌∷◌, ◌++◌, length, drop, get_or, replicate, Some, ◌⊎◌, inl, inr, ⊎_elim, refl, sym, ap, subst, ◌∙◌, arith, length-append, append_assoc}
+use Rattle.std.proofs.Common.{◌≡◌, ℕ, zero, suc, ◌+◌, ◌<◌, ◌&&◌, ◌||◌, ◌==◌, not, Bool, true, false, cond, List, [], ◌∷◌, ◌++◌, length, drop, replicate, refl, sym, ap, subst, ◌∙◌, arith, length-append, append_assoc}
 use Rattle.std.specs.List.{list_any, prefix_len}
 use Rattle.std.proofs.lemmas.Bool.Decides.{nat_tests}
 use Rattle.hcl_scan.specs.Lexemes.{Lexeme, Opener, in_heredoc, moved}
 use Rattle.hcl_scan.specs.Spelling.{IsLineComment, IsTextIn, context, Expression, starts, is_blank}
 use Rattle.hcl_scan.specs.Scans.{State, gap_in, has_gaps_in, ahead, IsLongest, Shows, Reads, Run}
 use Rattle.hcl_scan.specs.Neighbours.{ends_comment, joins}
-use Rattle.hcl_scan.specs.Regapped.{tokens_of, text_of, touches, fits, AllFit}
+use Rattle.hcl_scan.specs.Regapped.{tokens_of, text_of, fits, AllFit}
 use Rattle.hcl_scan.specs.declared.token.Kind.{Kind}
 use Rattle.hcl_scan.specs.declared.token.Kind.TheVariants.{LineComment}
 use Rattle.hcl_scan.proofs.Booleans.{and_true, or_true}

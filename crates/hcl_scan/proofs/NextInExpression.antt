@@ -1,11 +1,11 @@
 -- Behind a token that may grow: what is read there in a text of the same tokens doesn't go on it, where the gap fits.
-use Rattle.std.proofs.Common.{◌≡◌, ℕ, zero, suc, ◌+◌, ◌<◌, ◌≤◌, ◌&&◌, ◌||◌, ◌==◌, not, Bool, true, false, cond, List, [], ◌∷◌, ◌++◌, length, drop, get_or, replicate, Some, ◌⊎◌, inl, inr, ⊎_elim, refl, sym, ap, subst, ◌∙◌, arith, length-append, append_assoc}
+use Rattle.std.proofs.Common.{◌≡◌, ℕ, zero, suc, ◌<◌, ◌≤◌, ◌&&◌, ◌||◌, ◌==◌, not, Bool, true, false, cond, List, [], ◌∷◌, ◌++◌, length, get_or, replicate, ⊎_elim, refl, sym, ap, ◌∙◌, arith}
 use Rattle.std.specs.Char.{is_ascii_digit}
 use Rattle.std.specs.Prelude.{nat_le}
 use Rattle.std.proofs.lemmas.List.{get_or_append_left}
 use Rattle.std.proofs.lemmas.Bool.Decides.{nat_tests}
 use Rattle.hcl_scan.specs.Lexemes.{Lexeme, Opener, in_heredoc, moved}
-use Rattle.hcl_scan.specs.Spelling.{marks, IsMark, IsExpressionText, context, Template, Expression}
+use Rattle.hcl_scan.specs.Spelling.{marks, IsMark, IsExpressionText, context, Expression}
 use Rattle.hcl_scan.specs.Scans.{State, is_dot, ahead, Reads, Closes, Next, Run}
 use Rattle.hcl_scan.specs.Leads.{lead_of, lead_bytes}
 use Rattle.hcl_scan.specs.Neighbours.{grows, is_number, joins, joins_text, stays}
@@ -119,7 +119,6 @@ no_fraction opens dot kind text rest other is no_dot = by (get_or (text ++ other
       where
         le : (n : ℕ) → nat_le 2 n ≡ true → 2 ≤ n
         le n h = grind (arith, nat_tests)
-
 
     by : (v : Bool) → (get_or (text ++ other) 0 0 == 46) ≡ v → (v && is_ascii_digit (get_or (text ++ other) 1 0)) ≡ false
     by false e = refl

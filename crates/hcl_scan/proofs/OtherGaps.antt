@@ -1,7 +1,7 @@
 -- A text made of the tokens of another, with other gaps that fit, is scanned to the same tokens: by induction on the
 -- list, for readings that stand outside heredocs, where the gaps are others, and for those inside an outermost one,
 -- where the bytes are the same and only what stands behind it is another.
-use Rattle.std.proofs.Common.{◌≡◌, ℕ, zero, suc, ◌+◌, ◌<◌, ◌≤◌, ◌&&◌, ◌||◌, ◌==◌, not, Bool, true, false, cond, IsTrue, List, [], ◌∷◌, ◌++◌, length, take, drop, if◌then◌else◌, replicate, inl, inr, ⊎_elim, refl, sym, ap, subst, ◌∙◌, arith, length-append, append_assoc, None}
+use Rattle.std.proofs.Common.{◌≡◌, ℕ, ◌+◌, ◌≤◌, Bool, true, false, List, [], ◌∷◌, ◌++◌, length, take, drop, replicate, ⊎_elim, refl, sym, ap, subst, ◌∙◌, arith, length-append, append_assoc}
 use Rattle.std.proofs.lemmas.List.{take-append-drop}
 use Rattle.hcl_scan.specs.Lexemes.{Lexeme, Opener, Heredoc, marker_of, moved, in_heredoc}
 use Rattle.hcl_scan.specs.Spelling.{IsSpelling, context, Expression}
@@ -22,6 +22,7 @@ use Rattle.hcl_scan.proofs.NextTokens.{follows}
 abbrev behind : List Hidden → List ℕ → List ℕ
 behind [] z = z
 behind (h ∷ hs) z = h.closer ++ (h.after ++ behind hs z)
+
 -- where the texts are read again, outside of heredocs and inside
 abbrev Outside : List (ℕ × Lexeme) → Type 0
 Outside ps = (s end : State) (dot : Bool) (before : Kind) (at : ℕ) (offsets : List ℕ) → Run s (tokens_of ps) end → IsComplete end → s.hidden ≡ [] → Sound s.opens s.hidden → s.after_dot ≡ is_dot before → AllFit dot before ps →

@@ -1,20 +1,20 @@
 -- What a scan says of tokens that stand side by side, by one reading from the front.
-use Rattle.std.proofs.Common.{◌≡◌, ℕ, ◌<◌, ◌&&◌, ◌||◌, ◌==◌, not, Bool, true, false, cond, List, [], ◌∷◌, ◌++◌, length, drop, get_or, inl, inr, ⊎_elim, refl, sym, ap, subst, ◌∙◌, arith, length-append, append_assoc}
+use Rattle.std.proofs.Common.{◌≡◌, ℕ, ◌<◌, ◌||◌, ◌==◌, Bool, true, false, cond, List, [], ◌∷◌, ◌++◌, length, drop, get_or, inl, inr, refl, sym, ap, subst, ◌∙◌, arith, length-append}
 use Rattle.hcl_scan.specs.Lexemes.{Lexeme, Opener, Quote, Heredoc, Sequence, Brace, Bracket, Paren, in_heredoc, moved, pop_if, below_groups, is_paren, is_bracket, is_brace}
-use Rattle.hcl_scan.specs.Spelling.{marks, IsMark, IsDigits, IsExpressionText, context, Template, Expression, starts}
+use Rattle.hcl_scan.specs.Spelling.{IsExpressionText, context, Template, Expression}
 use Rattle.hcl_scan.specs.Scans.{State, ahead, begin, IsLongest, Shows, Reads, Closes, Next, Run, Scans}
 use Rattle.hcl_scan.specs.Leads.{lead_of}
 use Rattle.hcl_scan.specs.declared.expression.Lead.TheVariants.{LineEnd}
 use Rattle.hcl_scan.specs.declared.token.Kind.{Kind}
-use Rattle.hcl_scan.specs.declared.token.Kind.TheVariants.{Newline, LineComment, Ident, Number, HeredocOpen, QuoteOpen, ParenOpen, BracketOpen, BraceOpen, ParenClose, BracketClose, SeqClose, BraceClose, Lit, InterpOpen, ControlOpen, QuoteClose, HeredocClose}
+use Rattle.hcl_scan.specs.declared.token.Kind.TheVariants.{Newline, LineComment, HeredocOpen, QuoteOpen, ParenOpen, BracketOpen, BraceOpen, ParenClose, BracketClose, SeqClose, BraceClose, Lit, InterpOpen, ControlOpen, QuoteClose, HeredocClose}
 use Rattle.hcl_scan.proofs.Booleans.{and_true}
-use Rattle.hcl_scan.proofs.Ways.{Ways, ways, newline, line_comment, inline_comment, blanks, ident, digits, number, heredoc, seq_close, brace_close, slash, mark}
+use Rattle.hcl_scan.proofs.Ways.{ways}
 use Rattle.hcl_scan.proofs.Leads.{leads, some, newline_leads, line_kind}
 use Rattle.hcl_scan.proofs.Sides.{Side, expression, template, side, in_expressions}
 use Rattle.hcl_scan.proofs.Templates.{Way, lit, interp, control, quote, way_template}
 use Rattle.hcl_scan.specs.Neighbours.{ends_comment}
 use Rattle.hcl_scan.specs.Regapped.{is_template}
-use Rattle.hcl_scan.specs.SideBySide.{opens_template, begins_as, Beside, Besides}
+use Rattle.hcl_scan.specs.SideBySide.{opens_template, Beside, Besides}
 use Rattle.hcl_scan.proofs.Contexts.{is_expression, expression_is, not_both}
 use Rattle.hcl_scan.proofs.OpenStacks.{Sound, is_grounded, stacks, below}
 use Rattle.hcl_scan.proofs.FirstBytes.{begins}

@@ -1,6 +1,6 @@
 -- What a scan says of tokens that stand side by side, by the kind before and the first byte, so that whoever puts
 -- blanks between them need not know how a text is read.
-use Rattle.std.specs.Prelude.{◌≡◌, ℕ, ◌==◌, ◌||◌, Bool, true, false, List, [], ◌∷◌, get_or, codes, if◌then◌else◌, ◌⊎◌, IsUtf8}
+use Rattle.std.specs.Prelude.{◌≡◌, ℕ, ◌==◌, Bool, true, false, List, [], ◌∷◌, get_or, codes, if◌then◌else◌, ◌⊎◌, IsUtf8}
 use Rattle.std.specs.Char.{is_ascii_digit}
 use Rattle.hcl_scan.specs.Lexemes.{Lexeme}
 use Rattle.hcl_scan.specs.Leads.{may_begin_ident}

@@ -1,3 +1,3 @@
 pub mod Failed
 pub mod Answers
-pub mod Twice
+pub mod PrintAgain

@@ -1,18 +1,21 @@
 //! What is proved of the definitions alone. No program calls these functions: their contracts are
 //! the laws.
 
-ghost use Rattle.std.specs.Prelude.{◌≡◌, ℕ, Bool, false, List, [], if◌then◌else◌};
+ghost use Rattle.std.specs.Prelude.{◌≡◌, ℕ, List};
 ghost use Rattle.tffmt.specs.Rows.{Row};
-ghost use Rattle.tffmt.specs.Answer.{IsAnswer, IsFileAnswer};
-ghost use Rattle.tffmt.specs.declared.options.FmtOptions.{FmtOptions};
+ghost use Rattle.tffmt.specs.Answer.{IsAnswer};
+ghost use Rattle.tffmt.specs.PrintAgain.{AskForCheck, AskForPrint, formatted, printed};
 
 /// A line of words and an input have one answer at most.
 pub fn one_answer()
     ensures { (words : List (List ℕ)) (input : List ℕ) (row other : Row) → IsAnswer words input row → IsAnswer words input other → row ≡ other }
 {}
 
-/// What was printed is printed again, and a check of it finds nothing to change.
+/// A print that a run gave with status 0, and that is no help, gives itself when it is the input of a later run, with an
+/// empty standard error and status 0. A check of it gives nothing and status 0.
 pub fn printed_twice()
-    ensures { (options later : FmtOptions) (input : List ℕ) (row : Row) → options.check ≡ false → IsFileAnswer options input row → row.status ≡ 0
-        → IsFileAnswer later row.out (if later.check then record { out = []; err = []; status = 0 } else record { out = row.out; err = []; status = 0 }) }
+    ensures printed { (words later : List (List ℕ)) (input : List ℕ) (row : Row) → AskForPrint words → AskForPrint later → IsAnswer words input row
+        → row.status ≡ 0 → IsAnswer later row.out (printed row.out) }
+    ensures formatted { (words later : List (List ℕ)) (input : List ℕ) (row : Row) → AskForPrint words → AskForCheck later → IsAnswer words input row
+        → row.status ≡ 0 → IsAnswer later row.out formatted }
 {}

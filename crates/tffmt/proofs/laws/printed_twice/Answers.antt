@@ -1,5 +1,8 @@
-use Rattle.tffmt.proofs.Twice.{twice}
+use Rattle.tffmt.proofs.PrintAgain as law
 use Rattle.tffmt.proofs.laws.printed_twice.Goals as goal
 
-pub returns : goal.returns
-returns c = twice
+pub returns-clause-printed : goal.returns-clause-printed
+returns-clause-printed c = law.printed_again
+
+pub returns-clause-formatted : goal.returns-clause-formatted
+returns-clause-formatted c = law.found_formatted

@@ -1,14 +1,14 @@
 -- A print of few bytes is a source.
-use Rattle.std.proofs.Common.{◌≡◌, ℕ, zero, suc, ◌+◌, ◌<◌, ◌≤◌, Bool, true, false, List, [], ◌∷◌, ◌++◌, length, replicate, Option, Some, None, refl, sym, ap, subst, ◌∙◌, arith, append_assoc, IsUtf8}
-use Rattle.std.proofs.lemmas.Str.{IsUtf8-append, IsUtf8-nil, IsUtf8-from_ascii}
+use Rattle.std.proofs.Common.{◌≡◌, ℕ, zero, suc, ◌≤◌, false, List, [], ◌∷◌, ◌++◌, length, replicate, refl, IsUtf8}
+use Rattle.std.proofs.lemmas.Str.{IsUtf8-append, IsUtf8-nil}
 use Rattle.std.specs.Prelude.{encode_utf8_all}
 use lib.Utf8.{encode}
 use Rattle.hcl_scan.specs.Lexemes.{Lexeme}
 use Rattle.hcl_scan.specs.Load.{IsText, has_mark, max_source}
 use Rattle.hcl_scan.specs.Scans.{Scans}
-use Rattle.hcl_scan.specs.Neighbours.{AreTexts}
-use Rattle.hcl_scan.proofs.Characters.{texts_are}
-use Rattle.hcl_scan.proofs.Unmarked.{unmarked}
+use Rattle.hcl_scan.specs.SideBySide.{AreTexts}
+use Rattle.hcl_scan.proofs.TokenTexts.{texts_are}
+use Rattle.hcl_scan.proofs.ByteOrderMarks.{unmarked}
 use Rattle.hcl_layout.specs.Gaps.{gaps}
 use Rattle.hcl_layout.specs.Print.{print, printed}
 

@@ -1,20 +1,20 @@
 -- The gaps of a list go by kinds, texts and heredocs alone: where its tokens stood plays no part.
-use Rattle.std.proofs.Common.{◌≡◌, ◌∙◌, ℕ, zero, suc, ◌+◌, ◌*◌, ◌&&◌, ◌||◌, not, Bool, true, false, List, [], ◌∷◌, ◌++◌, length, drop, Option, Some, None, refl, sym, ap, ap₂, cond}
+use Rattle.std.proofs.Common.{◌≡◌, ◌∙◌, ℕ, zero, suc, ◌+◌, ◌||◌, Bool, true, false, List, [], ◌∷◌, ◌++◌, length, drop, Option, Some, None, refl, sym, ap, ap₂}
 use Rattle.std.specs.Prelude.{if◌then◌else◌, map, option_map, slice_set, replicate}
-use Rattle.std.specs.List.{flat_map, list_any}
+use Rattle.std.specs.List.{flat_map}
 use Rattle.hcl_scan.specs.Lexemes.{Lexeme}
-use Rattle.hcl_scan.specs.Neighbours.{tokens_of}
+use Rattle.hcl_scan.specs.Regapped.{tokens_of, placed}
 use Rattle.hcl_syntax.specs.declared.class.Lookahead.{Lookahead}
 use Rattle.hcl_syntax.specs.Classes.{class_of, lookaheads, lookaheads_from}
 use Rattle.hcl_syntax.specs.Lookaheads.{is_trivia}
 use Rattle.hcl_layout.specs.Lines.{Line, lines, onto, ends_line}
-use Rattle.hcl_layout.specs.Levels.{Net, levels, levels_after, net_of, net_of_kind, plus}
+use Rattle.hcl_layout.specs.Levels.{Net, levels, net_of, net_of_kind, plus}
 use Rattle.hcl_layout.specs.Cells.{is_sign, is_trailing, is_torn, is_level, has_torn, body, until, place, place_from, if_level, assign_cell, running_comment, trailing_comment}
 use Rattle.hcl_layout.specs.Columns.{columns}
-use Rattle.hcl_layout.specs.Gaps.{blanks, clusters, gaps_after, indent, plain_gaps, width, widths, gap_to, set_gap, align, aligned_by, aligned, indented, line_gaps, gaps, zip_with}
+use Rattle.hcl_layout.specs.Gaps.{blanks, clusters, gaps_after, indent, plain_gaps, width, widths, gap_to, set_gap, aligned_by, aligned, indented, line_gaps, gaps, zip_with}
 use Rattle.hcl_layout.specs.Print.{print, printed}
-use Rattle.hcl_layout.specs.Rescanned.{moved, moved_from}
-use Rattle.hcl_layout.proofs.Rescanning.{pairs, tokens_are}
+use Rattle.hcl_layout.specs.Reprinted.{with_gaps, printed_tokens}
+use Rattle.hcl_layout.proofs.PrintScans.{tokens_are}
 
 -- a token without its place
 abbrev forget : Lexeme → Lexeme
@@ -151,13 +151,12 @@ line_gaps_forgot ls =
 gaps_forgot : (ts : List Lexeme) → gaps (forgot ts) ≡ gaps ts
 gaps_forgot ts = ap (λ ls. flat_map (λ g. g) (line_gaps ls)) (lines_forgot ts) ∙ ap (λ gs. flat_map (λ g. g) gs) (line_gaps_forgot (lines ts))
 
-moved_forgot : (at : ℕ) (gs : List ℕ) (ts : List Lexeme) → forgot (moved_from at gs ts) ≡ forgot (tokens_of (pairs gs ts))
-moved_forgot at [] ts = refl
-moved_forgot at (g ∷ gs) [] = refl
-moved_forgot at (g ∷ gs) (t ∷ ts) = ap (λ y. forget t ∷ y) (moved_forgot (at + g + length t.text) gs ts)
+placed_forgot : (at : ℕ) (ps : List (ℕ × Lexeme)) → forgot (placed at ps) ≡ forgot (tokens_of ps)
+placed_forgot at [] = refl
+placed_forgot at (p ∷ ps) = ap (λ y. forget p.1 ∷ y) (placed_forgot (at + p.0 + length p.1.text) ps)
 
-pub same_tokens : (ts : List Lexeme) → forgot (moved ts) ≡ forgot ts
-same_tokens ts = moved_forgot 0 (gaps ts) ts ∙ ap forgot (tokens_are ts)
+pub same_tokens : (ts : List Lexeme) → forgot (printed_tokens ts) ≡ forgot ts
+same_tokens ts = placed_forgot 0 (with_gaps (gaps ts) ts) ∙ ap forgot (tokens_are ts)
 
 printed_forgot : (gs : List ℕ) (ts : List Lexeme) → printed gs (forgot ts) ≡ printed gs ts
 printed_forgot [] ts = refl
@@ -168,13 +167,13 @@ print_forgot : (ts : List Lexeme) → print (forgot ts) ≡ print ts
 print_forgot ts = ap (λ gs. printed gs (forgot ts)) (gaps_forgot ts) ∙ printed_forgot (gaps ts) ts
 
 -- THE PRINT OF A PRINT is the print
-pub print_again : (ts : List Lexeme) → print (moved ts) ≡ print ts
-print_again ts = sym (print_forgot (moved ts)) ∙ ap print (same_tokens ts) ∙ print_forgot ts
+pub print_again : (ts : List Lexeme) → print (printed_tokens ts) ≡ print ts
+print_again ts = sym (print_forgot (printed_tokens ts)) ∙ ap print (same_tokens ts) ∙ print_forgot ts
 
 -- ---- what the grammar sees
 seen_forgot : (n : ℕ) (ts : List Lexeme) → lookaheads_from n (forgot ts) ≡ lookaheads_from n ts
 seen_forgot n [] = refl
 seen_forgot n (t ∷ ts) = ap (λ (l : List Lookahead). if is_trivia (class_of t) then l else record { class = class_of t; number = n } ∷ l) (seen_forgot (n + 1) ts)
 
-pub seen_again : (ts : List Lexeme) → lookaheads (moved ts) ≡ lookaheads ts
-seen_again ts = sym (seen_forgot 0 (moved ts)) ∙ ap lookaheads (same_tokens ts) ∙ seen_forgot 0 ts
+pub seen_again : (ts : List Lexeme) → lookaheads (printed_tokens ts) ≡ lookaheads ts
+seen_again ts = sym (seen_forgot 0 (printed_tokens ts)) ∙ ap lookaheads (same_tokens ts) ∙ seen_forgot 0 ts

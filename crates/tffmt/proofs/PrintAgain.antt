@@ -1,6 +1,6 @@
--- What a run printed is printed again.
-use Rattle.std.proofs.Common.{◌≡◌, ◌∙◌, ℕ, suc, zero, ◌≤◌, ◌<◌, ◌++◌, ◌&&◌, ◌==◌, Bool, true, false, List, [], ◌∷◌, Option, Some, None, refl, sym, ap, subst, inl, inr, ◌⊎◌, length, arith}
-use Rattle.std.specs.Prelude.{Result, Ok, Err, nat_lt, if◌then◌else◌}
+-- What a run printed is printed again, and found formatted by a check.
+use Rattle.std.proofs.Common.{◌≡◌, ◌∙◌, ℕ, ◌≤◌, ◌&&◌, ◌==◌, Bool, true, false, List, [], ◌∷◌, Option, Some, None, refl, sym, ap, subst, inl, inr, length, arith}
+use Rattle.std.specs.Prelude.{Result, Ok, nat_lt, if◌then◌else◌}
 use Rattle.std.specs.Str.{bytes_eq}
 use Rattle.std.proofs.lemmas.Bool.Decides.{nat_tests}
 use Rattle.hcl_scan.specs.Lexemes.{Lexeme}
@@ -13,16 +13,19 @@ use Rattle.hcl_syntax.specs.Predictor.{refusal_of}
 use Rattle.hcl_syntax.specs.Verdict.{verdict, verdict_by}
 use Rattle.hcl_syntax.specs.declared.refusal.Refusal.{Refusal}
 use Rattle.hcl_layout.specs.Print.{print}
-use Rattle.hcl_layout.specs.Rescanned.{moved}
-use Rattle.hcl_layout.proofs.Rescanning.{scans_again}
-use Rattle.hcl_layout.proofs.Forgetting.{print_again, seen_again}
-use Rattle.hcl_layout.proofs.Reloading.{loads_again}
+use Rattle.hcl_layout.specs.Reprinted.{printed_tokens}
+use Rattle.hcl_layout.proofs.PrintScans.{scans_again}
+use Rattle.hcl_layout.proofs.PlacesForgotten.{print_again, seen_again}
+use Rattle.hcl_layout.proofs.PrintLoads.{loads_again}
 use Rattle.tffmt.specs.Rows.{Row}
-use Rattle.tffmt.specs.Answer.{refused, too_large, row_of_file, row_by, IsTextAnswer, IsFileAnswer}
+use Rattle.tffmt.specs.Answer.{refused, too_large, row_of_file, row_by, IsFileAnswer, IsAnswerBy, IsAnswer}
+use Rattle.tffmt.specs.Line.{options_of}
+use Rattle.tffmt.specs.PrintAgain.{AskForPrint, AskForCheck, printed, formatted}
 use Rattle.tffmt.specs.declared.options.FmtOptions.{FmtOptions}
+use Rattle.tffmt.specs.declared.options.Usage.{Usage}
 
-abbrev pub again : FmtOptions → List ℕ → Row
-again later out = if later.check then record { out = []; err = []; status = 0 } else record { out = out; err = []; status = 0 }
+abbrev again : FmtOptions → List ℕ → Row
+again later out = if later.check then formatted else printed out
 
 same_bytes : (l : List ℕ) → bytes_eq l l ≡ true
 same_bytes [] = refl
@@ -49,18 +52,30 @@ module _ (options : FmtOptions) (plain : options.check ≡ false) (later : FmtOp
   small_row false l accepted e =
       let row_is : row ≡ record { out = print ts; err = []; status = 0 } = e ∙ ap (λ b. if b then record { out = []; err = []; status = if bytes_eq (print ts) text then 0 else 3 } else record { out = print ts; err = []; status = 0 }) plain in
       let out_is : print ts ≡ row.out = sym (ap (λ (r : Row). r.out) row_is) in
-      let s : Scanned = record { text = print ts; tokens = moved ts } in
-      let none : refusal_of (lookaheads (moved ts)) ≡ None = ap refusal_of (seen_again ts) ∙ accepted in
-      let small : nat_lt max_source (length (print (moved ts))) ≡ false = ap (λ p. nat_lt max_source (length p)) (print_again ts) ∙ l in
+      let s : Scanned = record { text = print ts; tokens = printed_tokens ts } in
+      let none : refusal_of (lookaheads (printed_tokens ts)) ≡ None = ap refusal_of (seen_again ts) ∙ accepted in
+      let small : nat_lt max_source (length (print (printed_tokens ts))) ≡ false = ap (λ p. nat_lt max_source (length p)) (print_again ts) ∙ l in
       let own : again later (print ts) ≡ row_by later (verdict s) = sym (own_row later s small (print_again ts)) ∙ ap (λ r. row_by later (verdict_by s r)) (sym none) in
-      subst (λ (o : List ℕ). IsFileAnswer later o (again later o)) out_is (inr (loads_again text ts is scans (within (length (print ts)) max_source l), inr (moved ts, scans_again text ts scans, own)))
+      subst (λ (o : List ℕ). IsFileAnswer later o (again later o)) out_is (inr (loads_again text ts is scans (within (length (print ts)) max_source l), inr (printed_tokens ts, scans_again text ts scans, own)))
 
   by_verdict : (r : Option Refusal) → refusal_of (lookaheads ts) ≡ r → row ≡ row_by options (verdict_by (record { text = text; tokens = ts }) r) → IsFileAnswer later row.out (again later row.out)
   by_verdict None e h = small_row (nat_lt max_source (length (print ts))) refl e h
   by_verdict (Some r) e h = absurd (refused_not _ row h good)
 
--- THE LAW
-pub twice : (options later : FmtOptions) (input : List ℕ) (row : Row) → options.check ≡ false → IsFileAnswer options input row → row.status ≡ 0 → IsFileAnswer later row.out (again later row.out)
+-- the file that was printed, as the options of later words have it
+twice : (options later : FmtOptions) (input : List ℕ) (row : Row) → options.check ≡ false → IsFileAnswer options input row → row.status ≡ 0 → IsFileAnswer later row.out (again later row.out)
 twice options later input row plain (inl x) good = absurd (refused_not x.0 row x.2 good)
 twice options later input row plain (inr (is, inl x)) good = absurd (refused_not _ row x.3 good)
 twice options later input row plain (inr (is, inr x)) good = by_verdict options plain later input is x.0 x.1 row good (refusal_of (lookaheads x.0)) refl x.2
+
+-- the same by the words
+twice_by : (words later : List (List ℕ)) (input : List ℕ) (row : Row) (options : FmtOptions) → AskForPrint words → options_of later ≡ Ok options → IsAnswer words input row → row.status ≡ 0 → IsAnswer later row.out (again options row.out)
+twice_by words later input row options asks asks' answer good =
+    subst (λ (r : Result FmtOptions Usage). IsAnswerBy r row.out (again options row.out)) (sym asks') (twice (record { check = false }) options input row refl (subst (λ (r : Result FmtOptions Usage). IsAnswerBy r input row) asks answer) good)
+
+-- THE LAW
+pub printed_again : (words later : List (List ℕ)) (input : List ℕ) (row : Row) → AskForPrint words → AskForPrint later → IsAnswer words input row → row.status ≡ 0 → IsAnswer later row.out (printed row.out)
+printed_again words later input row = twice_by words later input row (record { check = false })
+
+pub found_formatted : (words later : List (List ℕ)) (input : List ℕ) (row : Row) → AskForPrint words → AskForCheck later → IsAnswer words input row → row.status ≡ 0 → IsAnswer later row.out formatted
+found_formatted words later input row = twice_by words later input row (record { check = true })

@@ -1,13 +1,14 @@
--- The gaps of a layout, one by one: none before what stands in a heredoc, and else what the spacing table says or, before a cell, some blanks.
-use Rattle.std.proofs.Common.{◌≡◌, ℕ, zero, suc, ◌+◌, ◌-◌, ◌<◌, ◌≤◌, ◌&&◌, ◌||◌, ◌==◌, not, Bool, true, false, List, [], ◌∷◌, ◌++◌, length, drop, get_or, Option, Some, None, ◌⊎◌, inl, inr, refl, sym, ap, subst, ◌∙◌, arith, cond, max, ◌*◌}
+-- The gaps of a layout, one by one: behind another token of the line what the spacing table says, or some blanks before a
+-- cell, and at a line's start none before what stands in a heredoc.
+use Rattle.std.proofs.Common.{◌≡◌, ℕ, zero, suc, ◌+◌, ◌<◌, ◌||◌, Bool, true, false, List, [], ◌∷◌, ◌++◌, length, drop, Option, Some, None, ◌⊎◌, inl, inr, refl, sym, ap, subst, ◌∙◌, arith, max, ◌*◌}
 use Rattle.std.specs.Prelude.{if◌then◌else◌, slice_set, map}
-use Rattle.std.specs.List.{flat_map}
 use Rattle.hcl_scan.specs.Lexemes.{Lexeme}
-use Rattle.hcl_layout.specs.Lines.{Line, is_newline, lines, onto, ends_line}
-use Rattle.hcl_layout.specs.Levels.{Net, level, levels, levels_after, net_of}
+use Rattle.hcl_scan.proofs.Booleans.{or_true}
+use Rattle.hcl_layout.specs.Lines.{Line, is_newline}
+use Rattle.hcl_layout.specs.Levels.{Net, level, levels_after, net_of}
 use Rattle.hcl_layout.specs.Cells.{is_sign, is_trailing, has_torn, body, until, place, place_from, if_level, is_level, assign_cell, running_comment, trailing_comment}
-use Rattle.hcl_layout.specs.Columns.{columns, columns_from, ahead}
-use Rattle.hcl_layout.specs.Gaps.{blanks, gaps_after, indent, plain_gaps, width, widths, gap_to, set_gap, align, aligned_by, aligned, indented, line_gaps, zip_with}
+use Rattle.hcl_layout.specs.Columns.{columns, columns_from}
+use Rattle.hcl_layout.specs.Gaps.{blanks, gaps_after, plain_gaps, width, widths, gap_to, set_gap, align, aligned_by, aligned, indented, line_gaps, zip_with}
 
 -- a token that may begin a cell
 abbrev pub is_cell : Lexeme → Bool
@@ -34,10 +35,6 @@ AllSpread (g ∷ gs) (l ∷ ls) = Spread None None g l × AllSpread gs ls
 after_spread : (before : Option Lexeme) (u : Lexeme) (line : Line) → Spread before (Some u) (gaps_after before u line) line
 after_spread before u [] = tt
 after_spread before u (t ∷ line) = (inl refl, after_spread (Some u) t line)
-
-or_true : (b : Bool) → (b || true) ≡ true
-or_true true = refl
-or_true false = refl
 
 plain_spread : (n : ℕ) (line : Line) → Spread None None (plain_gaps n line) line
 plain_spread n [] = tt
