@@ -131,7 +131,8 @@ abbrev pub is_opening : Option Lexeme → Bool
 is_opening None = true
 is_opening (Some t) = is_opener t.kind || is_operator t.kind || awaits_operand t.kind
 
--- neighbours that would be read as one token, or as others
+-- neighbours that would be read as one token, or as others: of the pairs that the scan's table of neighbours names
+-- (`Neighbours.joins` of `hcl_scan`), those that a row further down would put together
 abbrev pub would_join : Option Lexeme → Lexeme → Lexeme → Bool
 would_join before subject after =
     (is_dot subject.kind && (is_dot after.kind || is_ellipsis after.kind))
