@@ -99,19 +99,12 @@ pub fn gap_before(
     cell_gap(gaps.comment, place, cell_gap(gaps.assign, place, plain))
 }
 
-/// Whether the bytes are ASCII without CR LF, so that each is a grapheme cluster.
+/// Whether the bytes are ASCII without CR, so that each is a grapheme cluster.
 #[inline(always)]
 fn is_simple(bytes: &[u8]) -> bool
     ensures { result ≡ is_simple_of bytes.now }
 {
-    let mut previous = 0;
-    for byte in bytes {
-        if *byte >= 128 || (previous == b'\r' && *byte == b'\n') {
-            return false;
-        }
-        previous = *byte;
-    }
-    true
+    bytes.iter().all(|b| *b < 128 && *b != b'\r')
 }
 
 /// How many extended grapheme clusters a text has.
