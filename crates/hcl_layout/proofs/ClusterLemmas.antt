@@ -1,7 +1,6 @@
 -- No more grapheme clusters than bytes, and as many in a text that is ASCII without CR.
 use Rattle.std.proofs.Common.{get_or, not, ◌≡◌, ◌∙◌, ◌+◌, ◌-◌, ◌*◌, ◌≤◌, ◌<◌, ◌==◌, ◌&&◌, ap, ap₂, sym, refl, true≢false, ℕ, suc, zero, Bool, true, false, List, [], ◌∷◌, length, arith}
 use Rattle.std.specs.Prelude.{encode_utf8_all, ◌++◌, nat_lt, unwrap_or}
-use Rattle.std.specs.List.{list_all}
 use Rattle.hcl_layout.specs.Simple.{is_simple}
 use Rattle.std.proofs.lemmas.List.{length-map}
 use Rattle.std.proofs.lemmas.Str.{chars-IsAscii}

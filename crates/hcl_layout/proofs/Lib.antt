@@ -16,3 +16,5 @@ pub mod Fitting
 pub mod Rescanning
 pub mod Forgetting
 pub mod Reloading
+pub mod EachKind
+pub mod KindPairLemmas
