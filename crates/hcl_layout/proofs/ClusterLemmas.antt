@@ -1,9 +1,10 @@
--- No more grapheme clusters than bytes, and as many in a text that is ASCII without CR LF.
-use Rattle.std.proofs.Common.{get_or, ◌≡◌, ◌∙◌, ◌+◌, ◌-◌, ◌*◌, ◌≤◌, ◌<◌, ◌==◌, ◌&&◌, ap, ap₂, sym, refl, true≢false, ℕ, suc, zero, Bool, true, false, List, [], ◌∷◌, length, arith}
-use Rattle.std.specs.Prelude.{encode_utf8_all, ◌++◌, nat_le, unwrap_or}
-use Rattle.hcl_layout.specs.Simple.{is_simple, simple_from}
+-- No more grapheme clusters than bytes, and as many in a text that is ASCII without CR.
+use Rattle.std.proofs.Common.{get_or, not, ◌≡◌, ◌∙◌, ◌+◌, ◌-◌, ◌*◌, ◌≤◌, ◌<◌, ◌==◌, ◌&&◌, ap, ap₂, sym, refl, true≢false, ℕ, suc, zero, Bool, true, false, List, [], ◌∷◌, length, arith}
+use Rattle.std.specs.Prelude.{encode_utf8_all, ◌++◌, nat_lt, unwrap_or}
+use Rattle.hcl_layout.specs.Simple.{is_simple}
 use Rattle.std.proofs.lemmas.List.{length-map}
 use Rattle.std.proofs.lemmas.Str.{chars-IsAscii}
+use Rattle.std.proofs.lemmas.Bool.Decides.{nat_tests}
 use Rattle.std.specs.Str.{chars, chars_after, continuation_len, lead_bits}
 use Rattle.ucd_breaks.specs.GraphemeClusterBreak.{grapheme_cluster_break}
 use Rattle.ucd_breaks.specs.declared.GraphemeClusterBreak.{GraphemeClusterBreak}
@@ -135,18 +136,18 @@ ascii_breaks c n before after p q e =
     (λ l r. sym inside ∙ sym (is_grapheme_break-others true (c ∷ before) n after (omega arith) (omega arith) l r))
 
 -- a byte more that is simple
-simple_parts : (c n : ℕ) (cs : List ℕ) → simple_from c (n ∷ cs) ≡ true → (n < 128) × (((c == 13) && (n == 10)) ≡ false) × (simple_from n cs ≡ true)
-simple_parts c n cs e = go (nat_le 128 n) refl ((c == 13) && (n == 10)) refl
+simple_parts : (b : ℕ) (text : List ℕ) → is_simple (b ∷ text) ≡ true → (b < 128) × ((b == 13) ≡ false) × (is_simple text ≡ true)
+simple_parts b text e = go (nat_lt b 128) refl (b == 13) refl e
   where
-    go : (v : Bool) → nat_le 128 n ≡ v → (w : Bool) → ((c == 13) && (n == 10)) ≡ w → (n < 128) × (((c == 13) && (n == 10)) ≡ false) × (simple_from n cs ≡ true)
-    go true v w q = absurd (true≢false (sym (rw v at e)))
-    go false v true q = absurd (true≢false (sym (rw (v, q) at e)))
-    go false v false q = (grind arith, q, rw (v, q) at e)
+    go : (v : Bool) → nat_lt b 128 ≡ v → (w : Bool) → (b == 13) ≡ w → ((v && not w) && is_simple text) ≡ true → (b < 128) × ((b == 13) ≡ false) × (is_simple text ≡ true)
+    go true v false w h = (grind (arith, nat_tests), w, h)
+    go true v true w h = cc
+    go false v w q h = cc
 
-simple_ascii : (cs : List ℕ) (c i : ℕ) → simple_from c cs ≡ true → get_or cs i 0 < 128
-simple_ascii [] c i e = omega arith
-simple_ascii (n ∷ cs) c zero e = (simple_parts c n cs e).0
-simple_ascii (n ∷ cs) c (suc i) e = simple_ascii cs n i (simple_parts c n cs e).2
+simple_ascii : (text : List ℕ) (i : ℕ) → is_simple text ≡ true → get_or text i 0 < 128
+simple_ascii [] i e = omega arith
+simple_ascii (b ∷ text) zero e = (simple_parts b text e).0
+simple_ascii (b ∷ text) (suc i) e = simple_ascii text i (simple_parts b text e).2
 
 cut_step : (rule : Rule) (before : List ℕ) (c : ℕ) (cs after : List ℕ) → rule (c ∷ before) (cs ++ after) ≡ true → length (cut rule before (c ∷ cs) after) ≡ suc (length (cut rule (c ∷ before) cs after))
 unfolding cut
@@ -161,11 +162,11 @@ unfolding is_grapheme_break
 last_breaks c before = refl
 
 -- a cluster for each byte, behind the byte before
-simple_cut : (cs : List ℕ) (c : ℕ) (before : List ℕ) → c < 128 → simple_from c cs ≡ true → length (cut (is_grapheme_break true) before (c ∷ cs) []) ≡ suc (length cs)
-simple_cut [] c before p e = cut_step (is_grapheme_break true) before c [] [] (last_breaks c before) ∙ ap suc (cut_end (is_grapheme_break true) (c ∷ before) [])
-simple_cut (n ∷ cs) c before p e =
-    let parts = simple_parts c n cs e in
-    cut_step (is_grapheme_break true) before c (n ∷ cs) [] (ascii_breaks c n before (cs ++ []) p parts.0 parts.1) ∙ ap suc (simple_cut cs n (c ∷ before) parts.0 parts.2)
+simple_cut : (text : List ℕ) (c : ℕ) (before : List ℕ) → c < 128 → (c == 13) ≡ false → is_simple text ≡ true → length (cut (is_grapheme_break true) before (c ∷ text) []) ≡ suc (length text)
+simple_cut [] c before p q e = cut_step (is_grapheme_break true) before c [] [] (last_breaks c before) ∙ ap suc (cut_end (is_grapheme_break true) (c ∷ before) [])
+simple_cut (b ∷ text) c before p q e =
+    let parts = simple_parts b text e in
+    cut_step (is_grapheme_break true) before c (b ∷ text) [] (ascii_breaks c b before (text ++ []) p parts.0 (ap (λ v. v && (b == 10)) q)) ∙ ap suc (simple_cut text b (c ∷ before) parts.0 parts.1 parts.2)
 
 clusters_none : length (graphemes true []) ≡ 0
 unfolding segments chars cut
@@ -178,5 +179,5 @@ clusters_cut text e = length-map (cut (is_grapheme_break true) [] (chars text) [
 pub clusters_simple : (text : List ℕ) → is_simple text ≡ true → length (graphemes true text) ≡ length text
 clusters_simple [] e = clusters_none
 clusters_simple (b ∷ text) e =
-    let parts = simple_parts 0 b text e in
-    clusters_cut (b ∷ text) (chars-IsAscii (b ∷ text) (λ i. simple_ascii (b ∷ text) 0 i e)) ∙ simple_cut text b [] parts.0 parts.2
+    let parts = simple_parts b text e in
+    clusters_cut (b ∷ text) (chars-IsAscii (b ∷ text) (λ i. simple_ascii (b ∷ text) i e)) ∙ simple_cut text b [] parts.0 parts.1 parts.2

@@ -53,12 +53,6 @@ piece_left ts next start end set rest t gap e lt le g =
     ∙ ap (λ k. (replicate gap 32 ++ t.text) ++ printed (gaps_from set k s (Some t) (take (end - (next + 1)) left) ++ rest) left) place
     ∙ ap₂ (λ (n : ℕ) (u : Option Lexeme). (replicate gap 32 ++ t.text) ++ printed (gaps_from set ((next + 1) - start) (behind ts start n) u (take (end - (next + 1)) left) ++ rest) left) last (sym (printed_behind ts start next t e le))
 
--- the gap by the tokens that were looked up
-pub gap_there : (ts : List Lexeme) (start next last : ℕ) (set : LineGaps) (b u : Option Lexeme) (t : Lexeme) (gap : ℕ) → gap ≡ gap_of set (next - start) b u t
-    → last ≡ next - 1 → b ≡ behind ts start last → u ≡ behind ts start next → gap ≡ gap_of set (next - start) (behind ts start (next - 1)) (behind ts start next) t
-gap_there ts start next last set b u t gap g e f h =
-    g ∙ ap₂ (λ (x y : Option Lexeme). gap_of set (next - start) x y t) (f ∙ ap (behind ts start) e) h
-
 plain_small : (level : ℕ) (b s : Option Lexeme) (t : Lexeme) → level ≤ 256 → plain_gap level b s t ≤ 512
 plain_small level b None t low = omega (arith, indented level t)
 plain_small level b (Some s) t low = omega (arith, blank b s t)

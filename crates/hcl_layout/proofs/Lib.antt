@@ -18,3 +18,5 @@ pub mod GapsFit
 pub mod PrintScans
 pub mod PlacesForgotten
 pub mod PrintLoads
+pub mod EachKind
+pub mod KindPairLemmas

@@ -2,6 +2,7 @@ pub mod Lines
 pub mod Levels
 pub mod Cells
 pub mod Spacing
+pub mod KindPairs
 pub mod Columns
 pub mod Gaps
 pub mod Print

@@ -1,10 +1,7 @@
--- Texts of ASCII without CR LF: each byte of them is an extended grapheme cluster (UAX 29).
-use Rattle.std.specs.Prelude.{◌==◌, ◌&&◌, ◌||◌, ℕ, Bool, true, false, List, [], ◌∷◌, if◌then◌else◌, nat_le}
-
--- behind the byte before
-abbrev pub simple_from : ℕ → List ℕ → Bool
-simple_from previous [] = true
-simple_from previous (b ∷ text) = if nat_le 128 b || ((previous == 13) && (b == 10)) then false else simple_from b text
+-- Texts of ASCII without CR: each byte of them is an extended grapheme cluster (UAX 29), since among ASCII only CR LF
+-- is a cluster of two.
+use Rattle.std.specs.Prelude.{◌==◌, ◌&&◌, ℕ, Bool, List, not, nat_lt}
+use Rattle.std.specs.List.{list_all}
 
 abbrev pub is_simple : List ℕ → Bool
-is_simple text = simple_from 0 text
+is_simple text = list_all (λ b. nat_lt b 128 && not (b == 13)) text

@@ -1,16 +1,15 @@
 //! The pieces of the print, one after another: each token with the gap before it.
-ghost use Rattle.std.specs.Prelude.{◌≡◌, ◌<◌, ◌≤◌, ◌+◌, ◌*◌, ◌^◌, ◌++◌, ◌∷◌, [], List, length, option_map, IfSome, MatchOption};
+ghost use Rattle.std.specs.Prelude.{◌≡◌, ◌<◌, ◌≤◌, ◌+◌, ◌*◌, ◌^◌, ◌++◌, ◌∷◌, [], List, length, IfSome, MatchOption};
 ghost use Rattle.hcl_scan.specs.Lexemes.{Lexeme};
-ghost use Rattle.hcl_scan.specs.Scanned.{lexeme};
 ghost use Rattle.hcl_layout.specs.Depths.{Balanced};
-ghost use Rattle.hcl_layout.specs.Left.{IsFrom, Ready, behind, bytes_of, gaps_left, rest_gaps, to_print};
+ghost use Rattle.hcl_layout.specs.Left.{IsFrom, Ready, bytes_of, gaps_left, rest_gaps, to_print};
 ghost use Rattle.hcl_layout.specs.LineGaps.{bulk};
 ghost use Rattle.hcl_layout.specs.Print.{print};
 
-use crate::line::{LineGaps, gap_before, plain_line};
+use crate::line::{LineGaps, gap_by_cells, plain_gap_at, plain_line};
 use crate::survey::line_at;
 use crate::walk::{Walk, comment_column_at, commented_line, start_walk};
-use hcl_scan::{Token, Tokens};
+use hcl_scan::Tokens;
 
 /// Where the next piece stands: the number of its token, where its line begins and ends, the
 /// line's gaps, and what is known of the lines up to its end.
@@ -69,18 +68,6 @@ fn enter_line(gaps: &mut Gaps, tokens: &Tokens<'_>)
     gaps.comment = comment;
 }
 
-/// The token before a place, where it is of the line that begins at `start`.
-#[inline(always)]
-fn token_behind<'s>(tokens: &Tokens<'s>, start: usize, at: usize) -> Option<Token<'s>>
-    requires { at ≤ length tokens.now.tokens }
-    ensures { option_map lexeme result ≡ behind tokens.now.tokens start at }
-{
-    if start < at {
-        return Some(tokens.get(at - 1));
-    }
-    None
-}
-
 /// The piece at hand.
 #[inline(always)]
 fn take_piece<'s>(gaps: &mut Gaps, tokens: &Tokens<'s>) -> Piece<'s>
@@ -96,9 +83,8 @@ fn take_piece<'s>(gaps: &mut Gaps, tokens: &Tokens<'s>) -> Piece<'s>
 {
     let (start, at) = (gaps.start, gaps.next);
     let token = tokens.get(at);
-    let subject = token_behind(tokens, start, at);
-    let before = token_behind(tokens, start, at.saturating_sub(1));
-    let gap = gap_before(gaps.set, at - start, before, subject, token);
+    let plain = plain_gap_at(tokens, gaps.set.level, start, at, token);
+    let gap = gap_by_cells(gaps.set, at - start, plain);
     gaps.next = at + 1;
     Piece {
         gap,

@@ -4,7 +4,7 @@ ghost use Rattle.std.specs.Prelude.{◌≡◌};
 ghost use Rattle.hcl_layout.specs.Cells.{is_assign as is_assign_of, is_inline_comment as is_inline_comment_of, is_line_comment as is_line_comment_of};
 ghost use Rattle.hcl_layout.specs.Levels.{is_closer as is_closer_of, is_opener as is_opener_of};
 ghost use Rattle.hcl_layout.specs.Lines.{is_newline as is_newline_of};
-ghost use Rattle.hcl_layout.specs.Spacing.{is_dot as is_dot_of, is_ellipsis as is_ellipsis_of, is_comma as is_comma_of, is_not as is_not_of, is_minus as is_minus_of, is_ident as is_ident_of, is_number as is_number_of, is_paren_open as is_paren_open_of, is_bracket_open as is_bracket_open_of, is_brace_open as is_brace_open_of, is_brace_close as is_brace_close_of, is_seq_close as is_seq_close_of, opens_sequence as opens_sequence_of, is_quote_open as is_quote_open_of, is_lit as is_lit_of, is_quote_close as is_quote_close_of, closes_group as closes_group_of, ends_operand as ends_operand_of, is_operator as is_operator_of, awaits_operand as awaits_operand_of};
+ghost use Rattle.hcl_layout.specs.Spacing.{is_dot as is_dot_of, is_ellipsis as is_ellipsis_of, is_comma as is_comma_of, is_ident as is_ident_of, is_paren_open as is_paren_open_of, is_bracket_open as is_bracket_open_of, is_brace_open as is_brace_open_of, is_brace_close as is_brace_close_of, is_seq_close as is_seq_close_of, opens_sequence as opens_sequence_of, closes_group as closes_group_of, is_operator as is_operator_of, awaits_operand as awaits_operand_of};
 
 use hcl_scan::Kind;
 
@@ -26,28 +26,10 @@ pub fn is_comma(kind: Kind) -> bool
     matches!(kind, Kind::Comma)
 }
 
-pub fn is_not(kind: Kind) -> bool
-    ensures { result ≡ is_not_of kind }
-{
-    matches!(kind, Kind::Not)
-}
-
-pub fn is_minus(kind: Kind) -> bool
-    ensures { result ≡ is_minus_of kind }
-{
-    matches!(kind, Kind::Minus)
-}
-
 pub fn is_ident(kind: Kind) -> bool
     ensures { result ≡ is_ident_of kind }
 {
     matches!(kind, Kind::Ident)
-}
-
-pub fn is_number(kind: Kind) -> bool
-    ensures { result ≡ is_number_of kind }
-{
-    matches!(kind, Kind::Number)
 }
 
 pub fn is_paren_open(kind: Kind) -> bool
@@ -87,44 +69,11 @@ pub fn opens_sequence(kind: Kind) -> bool
     matches!(kind, Kind::InterpOpen | Kind::ControlOpen)
 }
 
-pub fn is_quote_open(kind: Kind) -> bool
-    ensures { result ≡ is_quote_open_of kind }
-{
-    matches!(kind, Kind::QuoteOpen)
-}
-
-pub fn is_lit(kind: Kind) -> bool
-    ensures { result ≡ is_lit_of kind }
-{
-    matches!(kind, Kind::Lit)
-}
-
-pub fn is_quote_close(kind: Kind) -> bool
-    ensures { result ≡ is_quote_close_of kind }
-{
-    matches!(kind, Kind::QuoteClose)
-}
-
 /// What closes a paren, a bracket or a sequence.
 pub fn closes_group(kind: Kind) -> bool
     ensures { result ≡ closes_group_of kind }
 {
     matches!(kind, Kind::ParenClose | Kind::BracketClose | Kind::SeqClose)
-}
-
-/// What an index may stand behind.
-pub fn ends_operand(kind: Kind) -> bool
-    ensures { result ≡ ends_operand_of kind }
-{
-    matches!(
-        kind,
-        Kind::Ident
-            | Kind::Number
-            | Kind::QuoteClose
-            | Kind::ParenClose
-            | Kind::BracketClose
-            | Kind::BraceClose
-    )
 }
 
 /// The binary operators and `!`.

@@ -1,13 +1,15 @@
 //! The gaps of one line, and the widths before its cells.
-ghost use Rattle.std.specs.Prelude.{◌≡◌, ◌<◌, ◌≤◌, ◌+◌, ◌^◌, true, length, take, drop, option_map};
+ghost use Rattle.std.specs.Prelude.{◌≡◌, ◌<◌, ◌≤◌, ◌+◌, ◌-◌, ◌^◌, true, Some, length, take, drop, option_map, slice_get};
 ghost use Rattle.unicode_segmentation.specs.Grapheme.{graphemes};
+ghost use Rattle.hcl_scan.specs.Lexemes.{Lexeme};
 ghost use Rattle.hcl_scan.specs.Scanned.{lexeme};
 ghost use Rattle.hcl_layout.specs.Gaps.{indent as indent_of, width as width_of};
 ghost use Rattle.hcl_layout.specs.Simple.{is_simple as is_simple_of};
+ghost use Rattle.hcl_layout.specs.Left.{behind};
 ghost use Rattle.hcl_layout.specs.LineGaps.{bulk, cell_gap as cell_gap_of, gap_of, gaps_in, plain_gap as plain_gap_of, plain_of};
 
 use crate::kind::is_newline;
-use crate::spacing::space_between;
+use crate::spacing::{space_between, space_by_kinds};
 use hcl_scan::{Token, Tokens};
 use unicode_segmentation::UnicodeSegmentation;
 
@@ -69,6 +71,55 @@ fn plain_gap(
     0
 }
 
+/// The token before a place, where it is of the line that begins at `start`.
+#[inline(always)]
+fn token_behind<'s>(tokens: &Tokens<'s>, start: usize, at: usize) -> Option<Token<'s>>
+    requires { at ≤ length tokens.now.tokens }
+    ensures { option_map lexeme result ≡ behind tokens.now.tokens start at }
+{
+    if start < at {
+        return Some(tokens.get(at - 1));
+    }
+    None
+}
+
+/// The gap before the token at a place of the line that begins at `start`, by the level and the spacing alone. It is a
+/// call that looks up all tokens itself, so that its caller builds none that it seldom needs.
+#[inline(never)]
+fn looked_up_gap(tokens: &Tokens<'_>, level: u32, start: usize, at: usize) -> u64
+    requires within { at < length tokens.now.tokens }
+    requires level { level ≤ 256 }
+    ensures { (t : Lexeme) → slice_get tokens.now.tokens at ≡ Some t → result ≡ plain_gap_of level (behind tokens.now.tokens start (at - 1)) (behind tokens.now.tokens start at) t }
+{
+    let token = tokens.get(at);
+    let subject = token_behind(tokens, start, at);
+    let before = token_behind(tokens, start, at.saturating_sub(1));
+    plain_gap(level, before, subject, token)
+}
+
+/// The same, where nearly always the kinds of the token and of the one before it tell the gap.
+#[inline(always)]
+pub fn plain_gap_at(
+    tokens: &Tokens<'_>,
+    level: u32,
+    start: usize,
+    at: usize,
+    token: Token<'_>,
+) -> u64
+    requires there { slice_get tokens.now.tokens at ≡ Some (lexeme token) }
+    requires within { at < length tokens.now.tokens }
+    requires level { level ≤ 256 }
+    ensures { result ≡ plain_gap_of level (behind tokens.now.tokens start (at - 1)) (behind tokens.now.tokens start at) (lexeme token.entry) }
+{
+    let Some(subject) = token_behind(tokens, start, at) else {
+        return indent(level, token);
+    };
+    match space_by_kinds(subject, token) {
+        Some(space) => u64::from(space),
+        None => looked_up_gap(tokens, level, start, at),
+    }
+}
+
 /// The gap of the cell at its place, and else the other.
 #[inline(always)]
 fn cell_gap(cell: Option<Cell>, place: usize, otherwise: u64) -> u64
@@ -83,9 +134,17 @@ fn cell_gap(cell: Option<Cell>, place: usize, otherwise: u64) -> u64
     otherwise
 }
 
+/// The gap at a place of a line: that of its cell there, and else the plain one.
+#[inline(always)]
+pub fn gap_by_cells(gaps: LineGaps, place: usize, plain: u64) -> u64
+    ensures { result ≡ cell_gap_of gaps.comment place (cell_gap_of gaps.assign place plain) }
+{
+    cell_gap(gaps.comment, place, cell_gap(gaps.assign, place, plain))
+}
+
 /// The gap before the token at a place of a line, behind the two tokens before it.
 #[inline(always)]
-pub fn gap_before(
+fn gap_before(
     gaps: LineGaps,
     place: usize,
     before: Option<Token<'_>>,
@@ -96,25 +155,27 @@ pub fn gap_before(
     ensures { result ≡ gap_of gaps place (option_map lexeme before.entry) (option_map lexeme subject.entry) (lexeme token.entry) }
 {
     let plain = plain_gap(gaps.level, before, subject, token);
-    cell_gap(gaps.comment, place, cell_gap(gaps.assign, place, plain))
+    gap_by_cells(gaps, place, plain)
 }
 
-/// Whether the bytes are ASCII without CR LF, so that each is a grapheme cluster.
+/// Whether the bytes are ASCII without CR, so that each is a grapheme cluster.
 #[inline(always)]
 fn is_simple(bytes: &[u8]) -> bool
     ensures { result ≡ is_simple_of bytes.now }
 {
-    let mut previous = 0;
-    for byte in bytes {
-        if *byte >= 128 || (previous == b'\r' && *byte == b'\n') {
-            return false;
-        }
-        previous = *byte;
-    }
-    true
+    bytes.iter().all(|b| *b < 128 && *b != b'\r')
 }
 
 /// How many extended grapheme clusters a text has.
+#[inline(never)]
+fn count_clusters(text: &str) -> u64
+    ensures count { result ≡ length (graphemes true text.now) }
+    ensures within { result ≤ length text.now }
+{
+    text.graphemes(true).count() as u64
+}
+
+/// The same, with a short way for most texts. What counts the others is a call, so that its caller keeps short.
 #[inline(always)]
 fn clusters(text: &str) -> u64
     ensures count { result ≡ length (graphemes true text.now) }
@@ -123,7 +184,7 @@ fn clusters(text: &str) -> u64
     if is_simple(text.as_bytes()) {
         return text.len() as u64;
     }
-    text.graphemes(true).count() as u64
+    count_clusters(text)
 }
 
 /// The width before the token at a place of the line that begins at a token.

@@ -1,16 +1,16 @@
 //! One blank or none between two neighbours on a line.
-ghost use Rattle.std.specs.Prelude.{◌≡◌, option_map, codes};
+ghost use Rattle.std.specs.Prelude.{◌≡◌, IfNone, IfSome, Option, option_map};
+ghost use Rattle.hcl_scan.specs.Lexemes.{Lexeme};
 ghost use Rattle.hcl_scan.specs.Scanned.{lexeme};
-ghost use Rattle.hcl_layout.specs.Spacing.{begins_with_equals as begins_with_equals_of, is_in as is_in_of, is_opening as is_opening_of, spaced, stands_before, would_join as would_join_of};
-ghost use Rattle.hcl_layout.specs.Spacing.{is_dot as is_dot_of, is_ident as is_ident_of};
+ghost use Rattle.hcl_layout.specs.Spacing.{begins_with_equals as begins_with_equals_of, is_dot as is_dot_of, is_ident as is_ident_of, is_opening as is_opening_of, spaced, stands_before};
+ghost use Rattle.hcl_layout.specs.KindPairs.{asked_space as asked_space_of, pair_space as pair_space_of, space_behind_operand as space_behind_operand_of, stands_close as stands_close_of};
 
 use crate::kind::{
-    awaits_operand, closes_group, ends_operand, is_brace_close, is_brace_open, is_bracket_open,
-    is_comma, is_dot, is_ellipsis, is_ident, is_lit, is_minus, is_newline, is_not, is_number,
-    is_opener, is_operator, is_paren_open, is_quote_close, is_quote_open, is_seq_close,
+    awaits_operand, closes_group, is_brace_close, is_brace_open, is_bracket_open, is_comma, is_dot,
+    is_ellipsis, is_ident, is_newline, is_opener, is_operator, is_paren_open, is_seq_close,
     opens_sequence,
 };
-use hcl_scan::Token;
+use hcl_scan::{Kind, Token};
 
 #[inline(always)]
 fn begins_with_equals(text: &str) -> bool
@@ -55,23 +55,80 @@ fn is_opening(before: Option<Token<'_>>) -> bool
     is_opener(before.kind) || is_operator(before.kind) || awaits_operand(before.kind)
 }
 
-/// Whether the neighbours would be read as one token, or as others, without a blank.
+/// Whether the token stands close behind whatever it doesn't join.
 #[inline(always)]
-fn would_join(before: Option<Token<'_>>, subject: Token<'_>, after: Token<'_>) -> bool
-    ensures { result ≡ would_join_of (option_map lexeme before.entry) (lexeme subject.entry) (lexeme after.entry) }
+fn stands_close(kind: Kind) -> bool
+    ensures { result ≡ stands_close_of kind }
 {
-    (is_dot(subject.kind) && (is_dot(after.kind) || is_ellipsis(after.kind)))
-        || (is_number(subject.kind) && !is_behind_dot(before) && is_dot(after.kind))
-        || (is_not(subject.kind) && begins_with_equals(after.text))
-        || (opens_sequence(subject.kind) && is_seq_close(after.kind) && after.text == "~}")
+    matches!(
+        kind,
+        Kind::Dot | Kind::Comma | Kind::Ellipsis | Kind::Lit | Kind::QuoteClose
+    )
 }
 
-/// Whether the subject is the word `in` behind a name.
+/// Behind what an index may follow.
 #[inline(always)]
-fn is_in(before: Option<Token<'_>>, subject: Token<'_>) -> bool
-    ensures { result ≡ is_in_of (option_map lexeme before.entry) (lexeme subject.entry) }
+fn space_behind_operand(right: Kind) -> bool
+    ensures { result ≡ space_behind_operand_of right }
 {
-    is_ident(subject.kind) && subject.text == "in" && is_behind_ident(before)
+    !(stands_close(right) || closes_group(right) || is_bracket_open(right))
+}
+
+/// What two kinds tell alone, the second no Newline and outside heredocs. Nearly always they do, so this is a table by
+/// the first of them, and not the rows of the definition in turn, of which most tokens pass all.
+#[inline(always)]
+fn pair_space(left: Kind, right: Kind) -> Option<bool>
+    ensures { result ≡ pair_space_of left right }
+{
+    match left {
+        Kind::Not | Kind::Minus => None,
+        Kind::QuoteOpen | Kind::Lit => Some(false),
+        Kind::Dot => Some(is_dot(right) || is_ellipsis(right)),
+        Kind::Comma => Some(!(is_dot(right) || is_comma(right) || is_ellipsis(right))),
+        Kind::ParenOpen | Kind::BracketOpen => Some(is_brace_close(right)),
+        Kind::BraceOpen => Some(!(stands_close(right) || is_brace_close(right))),
+        Kind::InterpOpen | Kind::ControlOpen if is_seq_close(right) => None,
+        Kind::InterpOpen | Kind::ControlOpen => Some(is_brace_open(right) || is_brace_close(right)),
+        Kind::SeqClose => Some(!(stands_close(right) || closes_group(right) || opens_sequence(right))),
+        Kind::BraceClose if is_seq_close(right) => Some(true),
+        Kind::Number if is_dot(right) => None,
+        Kind::Ident if is_bracket_open(right) || closes_group(right) => None,
+        Kind::Ident => Some(!(stands_close(right) || is_paren_open(right))),
+        Kind::BraceClose
+        | Kind::Number
+        | Kind::QuoteClose
+        | Kind::ParenClose
+        | Kind::BracketClose => Some(space_behind_operand(right)),
+        _ => Some(!(stands_close(right) || closes_group(right))),
+    }
+}
+
+/// What the texts tell and the token before, where the kinds don't: whether a `!` would join `=`, a number a dot, or
+/// the opening of a sequence the `~` that closes it, whether a minus is a sign, and whether a name is the word `in`.
+#[inline(always)]
+fn asked_space(before: Option<Token<'_>>, subject: Token<'_>, after: Token<'_>) -> bool
+    ensures { result ≡ asked_space_of (option_map lexeme before.entry) (lexeme subject.entry) (lexeme after.entry) }
+{
+    match subject.kind {
+        Kind::Not => begins_with_equals(after.text),
+        Kind::Minus => !(stands_close(after.kind) || is_opening(before)),
+        Kind::Number => !is_behind_dot(before),
+        Kind::Ident => subject.text == "in" && is_behind_ident(before),
+        _ => after.text == "~}",
+    }
+}
+
+/// Whether one blank stands between the subject and the token after it, where their kinds tell that, whatever their
+/// texts are and whatever stands before them.
+#[inline(always)]
+pub fn space_by_kinds(subject: Token<'_>, after: Token<'_>) -> Option<bool>
+    ensures given { IfSome result (λ space. (before : Option Lexeme) → space ≡ spaced before (lexeme subject.entry) (lexeme after.entry)) }
+    ensures asked { IfNone result ((before : Option Lexeme) → asked_space_of before (lexeme subject.entry) (lexeme after.entry) ≡ spaced before (lexeme subject.entry) (lexeme after.entry)) }
+{
+    if is_newline(after.kind) || after.inside_heredoc {
+        return Some(false);
+    }
+    pair_space(subject.kind, after.kind)
 }
 
 /// Whether one blank stands between the subject and the token after it on a line, or none. `before`
@@ -80,56 +137,8 @@ fn is_in(before: Option<Token<'_>>, subject: Token<'_>) -> bool
 pub fn space_between(before: Option<Token<'_>>, subject: Token<'_>, after: Token<'_>) -> bool
     ensures { result ≡ spaced (option_map lexeme before.entry) (lexeme subject.entry) (lexeme after.entry) }
 {
-    let (left, right) = (subject.kind, after.kind);
-    if is_newline(right) || after.inside_heredoc {
-        return false;
+    match space_by_kinds(subject, after) {
+        Some(space) => space,
+        None => asked_space(before, subject, after),
     }
-    if would_join(before, subject, after) {
-        return true;
-    }
-    if is_ident(left) && is_paren_open(right) {
-        return false;
-    }
-    if is_dot(left) || is_dot(right) {
-        return false;
-    }
-    if is_comma(right) || is_ellipsis(right) {
-        return false;
-    }
-    if is_comma(left) {
-        return true;
-    }
-    if is_quote_open(left) || is_lit(left) || is_lit(right) || is_quote_close(right) {
-        return false;
-    }
-    if is_in(before, subject) {
-        return true;
-    }
-    if is_bracket_open(right) && ends_operand(left) {
-        return false;
-    }
-    if is_not(left) {
-        return false;
-    }
-    if is_minus(left) {
-        return !is_opening(before);
-    }
-    if is_brace_open(left) && is_brace_close(right) {
-        return false;
-    }
-    if is_brace_open(left) || is_brace_close(right) {
-        return true;
-    }
-    if (opens_sequence(left) && is_brace_open(right))
-        || (is_brace_close(left) && is_seq_close(right))
-    {
-        return true;
-    }
-    if is_seq_close(left) && opens_sequence(right) {
-        return false;
-    }
-    if is_paren_open(left) || is_bracket_open(left) || opens_sequence(left) {
-        return false;
-    }
-    !closes_group(right)
 }

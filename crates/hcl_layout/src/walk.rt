@@ -80,7 +80,57 @@ fn plain_width(tokens: &Tokens<'_>, at: usize, len: usize, place: usize, level: 
     width(tokens, at, len, place, plain_line(level))
 }
 
-/// The greatest width before the assign cells of the run that begins at a place.
+/// The level of a line that ends no deeper than it begins, and so leaves the levels as they are.
+#[inline(always)]
+fn kept_level(levels: &[u32; 257], before: u32, now: u32) -> u32
+    requires order { now ≤ before }
+    requires before { before ≤ 256 }
+    requires sound { Sound before levels.now }
+    ensures level { result ≡ level_at before now levels.now }
+    ensures levels { levels.now ≡ turned before now levels.now }
+    ensures small { result ≤ 256 }
+    ensures sound { Sound now levels.now }
+{
+    levels[now as usize]
+}
+
+/// The greatest width before the assign cells of the run that begins at a place, over a copy of the levels, which its
+/// lines may change.
+#[inline(never)]
+fn assign_ahead_deepening(
+    from_depth: u32,
+    from_levels: &[u32; 257],
+    tokens: &Tokens<'_>,
+    from: usize,
+) -> u64
+    requires within { from ≤ length tokens.now.tokens }
+    requires stands { Stands tokens.now.tokens from from_depth from_levels.now }
+    requires small { bulk tokens.now.tokens < 2 ^ 32 }
+    ensures value { result ≡ ahead (assign_widths from_depth from_levels.now (lines (drop from tokens.now.tokens))) }
+    ensures small { result ≤ 512 + bulk tokens.now.tokens }
+{
+    let count = tokens.len();
+    let mut depth = from_depth;
+    let mut levels = *from_levels;
+    let mut at = from;
+    let mut greatest = 0;
+    while at < count {
+        let line = line_at(tokens, at, depth);
+        let Some(place) = line.assign else {
+            return greatest;
+        };
+        let level = turn(&mut levels, depth, line.depth);
+        let width = plain_width(tokens, at, line.len, place, level);
+        greatest = greatest.max(width);
+        depth = line.depth;
+        at += line.len;
+    }
+    greatest
+}
+
+/// The greatest width before the assign cells of the run that begins at a place. Hardly a run has a line that ends
+/// deeper than it begins, so the levels, which are a KiB, are copied from the first such line on.
+#[inline(never)]
 fn assign_ahead(walk: &Walk, tokens: &Tokens<'_>, from: usize) -> u64
     requires within { from ≤ length tokens.now.tokens }
     requires stands { Stands tokens.now.tokens from walk.now.depth walk.now.levels }
@@ -90,7 +140,6 @@ fn assign_ahead(walk: &Walk, tokens: &Tokens<'_>, from: usize) -> u64
 {
     let count = tokens.len();
     let mut depth = walk.depth;
-    let mut levels = walk.levels;
     let mut at = from;
     let mut greatest = 0;
     while at < count {
@@ -98,7 +147,10 @@ fn assign_ahead(walk: &Walk, tokens: &Tokens<'_>, from: usize) -> u64
         let Some(place) = line.assign else {
             return greatest;
         };
-        let level = turn(&mut levels, depth, line.depth);
+        if depth < line.depth {
+            return greatest.max(assign_ahead_deepening(depth, &walk.levels, tokens, at));
+        }
+        let level = kept_level(&walk.levels, depth, line.depth);
         let width = plain_width(tokens, at, line.len, place, level);
         greatest = greatest.max(width);
         depth = line.depth;
@@ -127,6 +179,7 @@ fn run_column(walk: &Walk, tokens: &Tokens<'_>, next: usize, own: u64) -> u64
 
 impl Walk {
     /// Passes the line at a place, and gives its gaps with the assign cell in its column.
+    #[inline(always)]
     pub fn pass(&mut self, tokens: &Tokens<'_>, at: usize, line: LineFacts) -> LineGaps
         requires within { at < length tokens.now.tokens }
         requires stands { Stands tokens.now.tokens at self.old.depth self.old.levels }
@@ -164,6 +217,7 @@ impl Walk {
 }
 
 /// The greatest width before the trailing comments of the run that begins at a place.
+#[inline(never)]
 fn comment_ahead(walk: &Walk, tokens: &Tokens<'_>, from: usize) -> u64
     requires within { from ≤ length tokens.now.tokens }
     requires stands { Stands tokens.now.tokens from walk.now.depth walk.now.levels }

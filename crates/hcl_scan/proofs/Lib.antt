@@ -17,7 +17,7 @@ pub mod Turns
 pub mod HeredocTurns
 pub mod AllPlaces
 pub mod Fronts
-pub mod Tables
+pub mod OrderedMarks
 pub mod Numerals
 pub mod Comments
 pub mod Idents

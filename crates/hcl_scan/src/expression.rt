@@ -4,7 +4,7 @@ ghost use Rattle.std.specs.Prelude.{◌≡◌, ℕ, Bool, Some, None, IfSome, If
 ghost use Rattle.std.specs.Str.{IsCharBoundary};
 ghost use Rattle.hcl_scan.specs.Spelling.{marks};
 ghost use Rattle.hcl_scan.specs.Found.{FindsAt, HasNoneAt, IsLongestFront, HasNoFront, IsLongestMark, HasNoMark, BlankText, NumberText, CloserText, closer_kind};
-ghost use Rattle.hcl_scan.specs.Leads.{lead_of, lead_bytes, slash_lead, may_begin_ident};
+ghost use Rattle.hcl_scan.specs.Leads.{lead_of, lead_bytes, slash_lead};
 ghost use Rattle.hcl_scan.specs.declared.expression.Lead.TheVariants.{LessLess};
 
 use crate::bytes::byte_at;
@@ -31,12 +31,6 @@ enum Lead {
     Sign,
 }
 
-fn may_begin_ident(b: u8) -> bool
-    ensures { result ≡ may_begin_ident b }
-{
-    b.is_ascii_alphabetic() || b == b'_' || b >= 128
-}
-
 fn slash_lead(second: u8) -> Lead
     ensures { result ≡ slash_lead second }
 {
@@ -52,24 +46,16 @@ fn slash_lead(second: u8) -> Lead
 fn lead_bytes(first: u8, second: u8) -> Lead
     ensures { result ≡ lead_bytes first second }
 {
-    if may_begin_ident(first) {
-        Lead::Letter
-    } else if first.is_ascii_digit() {
-        Lead::Digit
-    } else if first == b'\n' || first == b'\r' {
-        Lead::LineEnd
-    } else if first == b' ' || first == b'\t' {
-        Lead::Space
-    } else if first == b'#' {
-        Lead::HashOrSlashes
-    } else if first == b'/' {
-        slash_lead(second)
-    } else if first == b'<' && second == b'<' {
-        Lead::LessLess
-    } else if first == b'}' || first == b'~' {
-        Lead::Closer
-    } else {
-        Lead::Sign
+    match first {
+        b'a'..=b'z' | b'A'..=b'Z' | b'_' | 128..=255 => Lead::Letter,
+        b'0'..=b'9' => Lead::Digit,
+        b'\n' | b'\r' => Lead::LineEnd,
+        b' ' | b'\t' => Lead::Space,
+        b'#' => Lead::HashOrSlashes,
+        b'/' => slash_lead(second),
+        b'<' if second == b'<' => Lead::LessLess,
+        b'}' | b'~' => Lead::Closer,
+        _ => Lead::Sign,
     }
 }
 

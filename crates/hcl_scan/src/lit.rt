@@ -1,6 +1,6 @@
 //! Literal text of templates.
 
-ghost use Rattle.std.specs.Prelude.{◌≡◌, ◌≤◌, ◌||◌, ◌&&◌, ◌∷◌, codes, take, drop, length, None, IsTrue};
+ghost use Rattle.std.specs.Prelude.{◌≡◌, ◌==◌, ◌≤◌, not, ◌||◌, ◌&&◌, ◌∷◌, codes, take, drop, length, None, IsTrue};
 ghost use Rattle.std.specs.List.{list_all};
 ghost use Rattle.std.specs.Char.{is_ascii_hexdigit};
 ghost use Rattle.hcl_scan.specs.Spelling.{escape_len, element_len, are_elements, ends_quoted, hex_digits_after, is_sign, starts};
@@ -79,12 +79,21 @@ fn is_doubled_sign(seen: &[u8]) -> bool
     seen.starts_with(b"$${") || seen.starts_with(b"%%{")
 }
 
+/// Whether the byte is an element of literal text by itself, wherever it stands. Most are, so this is asked first.
+fn is_ordinary(b: u8) -> bool
+    ensures { result ≡ not (is_sign b || (b == 34) || (b == 92) || (b == 10) || (b == 13)) }
+{
+    !matches!(b, b'$' | b'%' | b'"' | b'\\' | b'\n' | b'\r')
+}
+
 /// How many bytes the element of literal text at the front has, which begins with `b` before `after`.
 fn element_len(seen: &[u8], b: u8, after: &[u8], quoted: bool) -> Option<usize>
     requires { seen.now ≡ b ∷ after.now }
     ensures { result ≡ element_len quoted seen.now }
 {
-    if is_doubled_sign(seen) {
+    if is_ordinary(b) {
+        Some(1)
+    } else if is_doubled_sign(seen) {
         Some(3)
     } else if is_sign(b) {
         if after.starts_with(b"{") {

@@ -42,6 +42,7 @@ fn is_shown(newlines: Newlines, class: Class) -> bool
 }
 
 /// The number of the first token that is shown, from a number on, or how many tokens there are, and the token.
+#[inline(always)]
 fn find(tokens: &Tokens, from: usize, newlines: Newlines) -> (usize, Option<Lookahead>)
     requires { from ≤ length tokens.now.tokens }
     ensures within { result.0 ≤ length tokens.now.tokens }
@@ -91,7 +92,9 @@ impl<'t, 's> Cursor<'t, 's> {
         let _count = self.tokens.len();
     }
 
-    /// The first token, past newlines where these are dropped.
+    /// The first token, past newlines where these are dropped. It is inlined, so that a caller that asks for no word
+    /// compares none.
+    #[inline(always)]
     pub fn look(&mut self, newlines: Newlines) -> Option<Lookahead>
         ensures left { self.new ≡ shown newlines self.old }
         ensures found { result ≡ first self.new }

@@ -13,6 +13,7 @@ use crate::expected::{Newlines, Terminal};
 use crate::refusal::Refusal;
 
 /// Whether a token of the class is what the terminal waits for.
+#[inline(always)]
 fn fits(terminal: Terminal, class: Class) -> bool
     ensures { result ≡ fits terminal class }
 {
@@ -38,7 +39,8 @@ fn fits(terminal: Terminal, class: Class) -> bool
 }
 
 impl<'t, 's> Cursor<'t, 's> {
-    /// Reads the next token, which has to be what the terminal waits for.
+    /// Reads the next token, which has to be what the terminal waits for. It is inlined, as `look` is.
+    #[inline(always)]
     pub fn expect(&mut self, newlines: Newlines, terminal: Terminal) -> Result<(), Refusal>
         ensures parses { (count : ℕ) → Parses count (the terminal at newlines ∷ []) self.old result self.new }
         ensures shorter { OnOk result (length self.new < length self.old) }
@@ -54,7 +56,8 @@ impl<'t, 's> Cursor<'t, 's> {
         }
     }
 
-    /// Reads the next token where it is what the terminal waits for.
+    /// Reads the next token where it is what the terminal waits for. It is inlined, as `look` is.
+    #[inline(always)]
     pub fn takes(&mut self, newlines: Newlines, terminal: Terminal) -> bool
         ensures yes { OnTrue result (Took newlines terminal self.old self.new) }
         ensures no { OnFalse result (Lacks newlines terminal self.old self.new) }

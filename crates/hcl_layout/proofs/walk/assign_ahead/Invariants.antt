@@ -8,8 +8,8 @@ use Rattle.hcl_layout.proofs.walk.assign_ahead.Given as goal
 
 abbrev pub invariant-loop-at : goal.invariant-loop-at
 invariant-loop-at l = record {
-  same : ahead (assign_widths l.walk.depth l.walk.levels (lines (drop l.fn.from l.tokens.tokens))) ≡ max l.greatest (ahead (assign_widths l.depth l.levels (lines (drop l.at l.tokens.tokens))));
-  stands : Stands l.tokens.tokens l.at l.depth l.levels;
+  same : ahead (assign_widths l.walk.depth l.walk.levels (lines (drop l.fn.from l.tokens.tokens))) ≡ max l.greatest (ahead (assign_widths l.depth l.walk.levels (lines (drop l.at l.tokens.tokens))));
+  stands : Stands l.tokens.tokens l.at l.depth l.walk.levels;
   small : l.greatest ≤ 512 + bulk l.tokens.tokens;
   within : l.at ≤ length l.tokens.tokens;
 }

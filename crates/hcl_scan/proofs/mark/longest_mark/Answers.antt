@@ -1,8 +1,12 @@
-use Rattle.hcl_scan.proofs.Tables.{some_found, none_found}
+use Rattle.std.proofs.Common.{refl, subst, sym}
+use Rattle.std.specs.Prelude.{IfSome, IfNone}
+use Rattle.hcl_scan.specs.Spelling.{marks}
+use Rattle.hcl_scan.specs.Found.{IsLongestMark, HasNoMark}
+use Rattle.hcl_scan.proofs.OrderedMarks.{first_found, first_none}
 use Rattle.hcl_scan.proofs.mark.longest_mark.Goals as goal
 
 pub returns-clause-found : goal.returns-clause-found
-returns-clause-found c = some_found c.longest_of.result c.args.seen.now c.longest_of.ensures.found
+returns-clause-found c = subst (λ o. IfSome o (λ m. IsLongestMark marks c.args.seen.now m.0 m.1)) (sym c.first_mark.ensures) (first_found c.args.seen.now _ refl)
 
 pub returns-clause-none : goal.returns-clause-none
-returns-clause-none c = none_found c.longest_of.result c.args.seen.now c.longest_of.ensures.none
+returns-clause-none c = subst (λ o. IfNone o (HasNoMark marks c.args.seen.now)) (sym c.first_mark.ensures) (first_none c.args.seen.now _ refl)

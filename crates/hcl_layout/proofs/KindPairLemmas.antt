@@ -1,0 +1,100 @@
+-- The table of spacing by pairs of kinds is the table of spacing: tried for all pairs, with all answers of the texts.
+use Rattle.std.proofs.Common.{◌≡◌, ◌∙◌, ◌&&◌, ◌||◌, not, Bool, true, false, Option, Some, None, ap, refl, sym}
+use Rattle.std.specs.Prelude.{codes, if◌then◌else◌}
+use Rattle.std.specs.List.{list_all}
+use Rattle.std.specs.Str.{bytes_eq}
+use Rattle.hcl_scan.specs.Lexemes.{Lexeme}
+use Rattle.hcl_scan.specs.declared.token.Kind.{Kind}
+use Rattle.hcl_layout.specs.Lines.{is_newline}
+use Rattle.hcl_layout.specs.Spacing.{begins_with_equals, closes_group, ends_operand, is_brace_close, is_brace_open, is_bracket_open, is_comma, is_dot, is_ellipsis, is_ident, is_lit, is_minus, is_not, is_number, is_opening, is_paren_open, is_quote_close, is_quote_open, is_seq_close, opens_sequence, spaced, stands_before}
+use Rattle.hcl_layout.specs.KindPairs.{asked, asked_space, pair_space}
+use Rattle.hcl_layout.proofs.EachKind.{each, kinds}
+
+-- The table, behind its first row, by the kinds and by what it asks of the texts and of the token before: whether the
+-- second begins with `=`, whether it is `~}`, whether the first is `in`, whether an Ident or a Dot stands before, and
+-- whether an expression begins there.
+abbrev pub table_by_kinds : Kind → Kind → Bool → Bool → Bool → Bool → Bool → Bool → Bool
+table_by_kinds l r equals tilde word name dot opening =
+    if (is_dot l && (is_dot r || is_ellipsis r)) || (is_number l && not dot && is_dot r) || (is_not l && equals) || (opens_sequence l && is_seq_close r && tilde) then true
+    else if is_ident l && is_paren_open r then false
+    else if is_dot l || is_dot r then false
+    else if is_comma r || is_ellipsis r then false
+    else if is_comma l then true
+    else if is_quote_open l || is_lit l || is_lit r || is_quote_close r then false
+    else if is_ident l && word && name then true
+    else if is_bracket_open r && ends_operand l then false
+    else if is_not l then false
+    else if is_minus l then not opening
+    else if is_brace_open l && is_brace_close r then false
+    else if is_brace_open l || is_brace_close r then true
+    else if (opens_sequence l && is_brace_open r) || (is_brace_close l && is_seq_close r) then true
+    else if is_seq_close l && opens_sequence r then false
+    else if is_paren_open l || is_bracket_open l || opens_sequence l then false
+    else not (closes_group r)
+
+abbrev both : (Bool → Bool) → Bool
+both P = P true && P false
+
+both_is : (P : Bool → Bool) → both P ≡ true → (b : Bool) → P b ≡ true
+both_is P h b = go (P true) refl (P false) refl h b
+  where
+    go : (v : Bool) → P true ≡ v → (w : Bool) → P false ≡ w → (v && w) ≡ true → (b : Bool) → P b ≡ true
+    go true e true f h true = e
+    go true e true f h false = f
+    go true e false f h b = cc
+    go false e w f h b = cc
+
+-- by the kinds, or else by what was asked
+abbrev pub answered : Option Bool → Bool → Bool
+answered None asked = asked
+answered (Some space) asked = space
+
+abbrev same : Bool → Bool → Bool
+same true b = b
+same false b = not b
+
+abbrev holds : Kind → Kind → Bool → Bool → Bool → Bool → Bool → Bool → Bool
+holds l r a b c d e f = is_newline r || same (answered (pair_space l r) (asked l r a b c d e f)) (table_by_kinds l r a b c d e f)
+
+tried : list_all (λ l. list_all (λ r. both (λ a. both (λ b. both (λ c. both (λ d. both (λ e. both (λ f. holds l r a b c d e f))))))) kinds) kinds ≡ true
+tried = refl
+
+every : (l r : Kind) (a b c d e f : Bool) → holds l r a b c d e f ≡ true
+every l r a b c d e f =
+    both_is (λ f. holds l r a b c d e f)
+    (both_is (λ e. both (λ f. holds l r a b c d e f))
+    (both_is (λ d. both (λ e. both (λ f. holds l r a b c d e f)))
+    (both_is (λ c. both (λ d. both (λ e. both (λ f. holds l r a b c d e f))))
+    (both_is (λ b. both (λ c. both (λ d. both (λ e. both (λ f. holds l r a b c d e f)))))
+    (both_is (λ a. both (λ b. both (λ c. both (λ d. both (λ e. both (λ f. holds l r a b c d e f))))))
+    (each (λ r. both (λ a. both (λ b. both (λ c. both (λ d. both (λ e. both (λ f. holds l r a b c d e f)))))))
+    (each (λ l. list_all (λ r. both (λ a. both (λ b. both (λ c. both (λ d. both (λ e. both (λ f. holds l r a b c d e f))))))) kinds) tried l) r) a) b) c) d) e) f
+
+same_is : (a b : Bool) → same a b ≡ true → a ≡ b
+same_is true b h = sym h
+same_is false true h = cc
+same_is false false h = refl
+
+second : (v w : Bool) → v ≡ false → (v || w) ≡ true → w ≡ true
+second true w e h = cc
+second false w e h = h
+
+-- behind its first row, the table says of two tokens what their kinds give, or else what was asked
+pub by_kinds : (before : Option Lexeme) (subject after : Lexeme) → is_newline after.kind ≡ false → after.inside_heredoc ≡ false → answered (pair_space subject.kind after.kind) (asked_space before subject after) ≡ spaced before subject after
+by_kinds before subject after e f =
+    let l = subject.kind in
+    let r = after.kind in
+    let a = begins_with_equals after.text in
+    let b = bytes_eq after.text (codes "~}") in
+    let c = bytes_eq subject.text (codes "in") in
+    let d = stands_before is_ident before in
+    let g = stands_before is_dot before in
+    let h = is_opening before in
+    let tested = second (is_newline r) (same (answered (pair_space l r) (asked l r a b c d g h)) (table_by_kinds l r a b c d g h)) e (every l r a b c d g h) in
+    rw (e, f) (same_is (answered (pair_space l r) (asked l r a b c d g h)) (table_by_kinds l r a b c d g h) tested)
+
+pub given : (space : Bool) (subject after : Lexeme) → is_newline after.kind ≡ false → after.inside_heredoc ≡ false → pair_space subject.kind after.kind ≡ Some space → (before : Option Lexeme) → space ≡ spaced before subject after
+given space subject after e f g before = sym (ap (λ o. answered o (asked_space before subject after)) g) ∙ by_kinds before subject after e f
+
+pub asked_is : (before : Option Lexeme) (subject after : Lexeme) → is_newline after.kind ≡ false → after.inside_heredoc ≡ false → pair_space subject.kind after.kind ≡ None → asked_space before subject after ≡ spaced before subject after
+asked_is before subject after e f g = sym (ap (λ o. answered o (asked_space before subject after)) g) ∙ by_kinds before subject after e f
