@@ -18,3 +18,4 @@ pub mod Forgetting
 pub mod Reloading
 pub mod EachKind
 pub mod KindPairLemmas
+pub mod SurveyKinds
