@@ -6,14 +6,14 @@ use Rattle.hcl_layout.specs.Left.{behind}
 use Rattle.std.specs.List.{flat_map}
 use Rattle.hcl_scan.specs.Lexemes.{Lexeme}
 use Rattle.hcl_layout.specs.Depths.{Balanced, fresh}
-use Rattle.hcl_layout.specs.Gaps.{gaps}
-use Rattle.hcl_layout.specs.LineGaps.{bulk, cell_gap, gap_of, gaps_from, plain_gap}
+use Rattle.hcl_layout.specs.Gaps.{clusters, gaps, width}
+use Rattle.hcl_layout.specs.LineGaps.{bulk, cell_gap, gap_of, gaps_from, gaps_in, plain_gap}
 use Rattle.hcl_layout.specs.Lines.{lines}
 use Rattle.hcl_layout.specs.Print.{printed}
 use Rattle.hcl_layout.specs.Stream.{commented}
 use Rattle.hcl_layout.specs.declared.line.Cell.{Cell}
 use Rattle.hcl_layout.specs.declared.line.LineGaps.{LineGaps}
-use Rattle.hcl_layout.proofs.LineLemmas.{blank, indented}
+use Rattle.hcl_layout.proofs.LineLemmas.{blank, indented, width_next}
 use Rattle.hcl_layout.proofs.StreamLemmas.{gaps_all}
 use Rattle.hcl_layout.proofs.SurveyLemmas.{drop_at}
 
@@ -36,6 +36,38 @@ printed_behind ts start next t e le = rw (less start next le) (ap (slice_get ts)
   where
     less : (a b : ℕ) → a ≤ b → nat_lt a (b + 1) ≡ true
     less a b h = grind (arith, nat_tests)
+
+-- the width on from a place of the line, by the tokens behind it, is that of the token there and that on from the next
+pub width_behind : (g : LineGaps) (ts : List Lexeme) (at len k i : ℕ) (t : Lexeme) → slice_get ts (at + k) ≡ Some t → i ≤ len → k < i
+    → width (i - k) (gaps_from g k (behind ts at ((at + k) - 1)) (behind ts at (at + k)) (take (len - k) (drop (at + k) ts))) (take (len - k) (drop (at + k) ts))
+    ≡ gap_of g k (behind ts at ((at + k) - 1)) (behind ts at (at + k)) t + clusters t
+    + width (i - (k + 1)) (gaps_from g (k + 1) (behind ts at ((at + (k + 1)) - 1)) (behind ts at (at + (k + 1))) (take (len - (k + 1)) (drop (at + (k + 1)) ts))) (take (len - (k + 1)) (drop (at + (k + 1)) ts))
+width_behind g ts at len k i t e le lt =
+    let b = behind ts at ((at + k) - 1) in
+    let s = behind ts at (at + k) in
+    let rest : List Lexeme = take (len - (k + 1)) (drop (at + (k + 1)) ts) in
+    let last : at + k ≡ (at + (k + 1)) - 1 = omega arith in
+    let next : (at + k) + 1 ≡ at + (k + 1) = omega arith in
+    let there : Some t ≡ behind ts at (at + (k + 1)) = sym (printed_behind ts at (at + k) t e (omega arith)) ∙ ap (behind ts at) next in
+    width_next g ts at len k i b s t e le lt
+    ∙ ap₂ (λ (n : ℕ) (u : Option Lexeme). gap_of g k b s t + clusters t + width (i - (k + 1)) (gaps_from g (k + 1) (behind ts at n) u rest) rest) last there
+
+-- no token behind the first of a line is of that line
+pub width_front : (g : LineGaps) (ts : List Lexeme) (at len i : ℕ)
+    → 0 + width (i - 0) (gaps_from g 0 (behind ts at ((at + 0) - 1)) (behind ts at (at + 0)) (take (len - 0) (drop (at + 0) ts))) (take (len - 0) (drop (at + 0) ts))
+    ≡ width i (gaps_in g (take len (drop at ts))) (take len (drop at ts))
+width_front g ts at len i =
+    let line : List Lexeme = take len (drop at ts) in
+    let b = behind ts at ((at + 0) - 1) in
+    let s = behind ts at (at + 0) in
+    let same : take (len - 0) (drop (at + 0) ts) ≡ line = ap₂ (λ (n m : ℕ). take n (drop m ts)) (omega arith) (omega arith) in
+    let whole : i - 0 ≡ i = omega arith in
+    zero_plus (width (i - 0) (gaps_from g 0 b s (take (len - 0) (drop (at + 0) ts))) (take (len - 0) (drop (at + 0) ts)))
+    ∙ ap₂ (λ (n : ℕ) (xs : List Lexeme). width n (gaps_from g 0 b s xs) xs) whole same
+    ∙ ap₂ (λ (x y : Option Lexeme). width i (gaps_from g 0 x y line) line) (none_behind ts at ((at + 0) - 1) (omega arith)) (none_behind ts at (at + 0) (omega arith))
+  where
+    zero_plus : (n : ℕ) → 0 + n ≡ n
+    zero_plus n = omega arith
 
 pub piece_left : (ts : List Lexeme) (next start end : ℕ) (set : LineGaps) (rest : List ℕ) (t : Lexeme) (gap : ℕ) → slice_get ts next ≡ Some t → next < end → start ≤ next
     → gap ≡ gap_of set (next - start) (behind ts start (next - 1)) (behind ts start next) t

@@ -20,3 +20,4 @@ pub mod PlacesForgotten
 pub mod PrintLoads
 pub mod EachKind
 pub mod KindPairLemmas
+pub mod SurveyKinds

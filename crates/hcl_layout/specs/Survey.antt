@@ -2,6 +2,7 @@
 use Rattle.std.specs.Prelude.{◌≡◌, ◌<◌, ◌≤◌, ◌+◌, ◌==◌, ◌||◌, ◌&&◌, ℕ, Bool, true, false, not, List, [], ◌∷◌, Option, Some, None, length, take, drop, if◌then◌else◌, is_some}
 use Rattle.hcl_scan.specs.Lexemes.{Lexeme}
 use Rattle.hcl_scan.specs.declared.token.Kind.{Kind}
+use Rattle.hcl_scan.specs.declared.token.Kind.TheVariants as kind
 use Rattle.hcl_layout.specs.Lines.{Line, ends_line, lines}
 use Rattle.hcl_layout.specs.Cells.{assign_cell, is_assign, is_inline_comment, is_line_comment, is_sign, is_torn, is_trailing, running_comment, trailing_comment}
 use Rattle.hcl_layout.specs.Levels.{is_closer, is_opener}
@@ -9,9 +10,21 @@ use Rattle.hcl_layout.specs.Depths.{Balanced, deepen, depth_after}
 use Rattle.hcl_layout.specs.declared.survey.Survey.{Survey}
 use Rattle.hcl_layout.specs.declared.survey.LineFacts.{LineFacts}
 
--- a token of the kind changes the depth, or may be or tear a cell
+-- a token of the kind changes the depth, or may be or tear a cell (proofs/SurveyKinds)
 abbrev pub is_noted : Kind → Bool
-is_noted k = is_opener k || is_closer k || is_assign k || is_line_comment k || is_inline_comment k
+is_noted kind.ParenOpen = true
+is_noted kind.BracketOpen = true
+is_noted kind.BraceOpen = true
+is_noted kind.InterpOpen = true
+is_noted kind.ControlOpen = true
+is_noted kind.ParenClose = true
+is_noted kind.BracketClose = true
+is_noted kind.SeqClose = true
+is_noted kind.BraceClose = true
+is_noted kind.Assign = true
+is_noted kind.LineComment = true
+is_noted kind.InlineComment = true
+is_noted _ = false
 
 -- behind the line's first token
 abbrev pub first_noted : ℕ → Lexeme → Survey

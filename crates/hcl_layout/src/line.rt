@@ -6,7 +6,7 @@ ghost use Rattle.hcl_scan.specs.Scanned.{lexeme};
 ghost use Rattle.hcl_layout.specs.Gaps.{indent as indent_of, width as width_of};
 ghost use Rattle.hcl_layout.specs.Simple.{is_simple as is_simple_of};
 ghost use Rattle.hcl_layout.specs.Left.{behind};
-ghost use Rattle.hcl_layout.specs.LineGaps.{bulk, cell_gap as cell_gap_of, gap_of, gaps_in, plain_gap as plain_gap_of, plain_of};
+ghost use Rattle.hcl_layout.specs.LineGaps.{bulk, cell_gap as cell_gap_of, gaps_in, plain_gap as plain_gap_of, plain_of};
 
 use crate::kind::is_newline;
 use crate::spacing::{space_between, space_by_kinds};
@@ -142,22 +142,6 @@ pub fn gap_by_cells(gaps: LineGaps, place: usize, plain: u64) -> u64
     cell_gap(gaps.comment, place, cell_gap(gaps.assign, place, plain))
 }
 
-/// The gap before the token at a place of a line, behind the two tokens before it.
-#[inline(always)]
-fn gap_before(
-    gaps: LineGaps,
-    place: usize,
-    before: Option<Token<'_>>,
-    subject: Option<Token<'_>>,
-    token: Token<'_>,
-) -> u64
-    requires { gaps.level ≤ 256 }
-    ensures { result ≡ gap_of gaps place (option_map lexeme before.entry) (option_map lexeme subject.entry) (lexeme token.entry) }
-{
-    let plain = plain_gap(gaps.level, before, subject, token);
-    gap_by_cells(gaps, place, plain)
-}
-
 /// Whether the bytes are ASCII without CR, so that each is a grapheme cluster.
 #[inline(always)]
 fn is_simple(bytes: &[u8]) -> bool
@@ -196,15 +180,12 @@ pub fn width(tokens: &Tokens<'_>, at: usize, len: usize, place: usize, gaps: Lin
     requires fits { width_of place (gaps_in gaps (take len (drop at tokens.now.tokens))) (take len (drop at tokens.now.tokens)) < 2 ^ 64 }
     ensures { result ≡ width_of place (gaps_in gaps (take len (drop at tokens.now.tokens))) (take len (drop at tokens.now.tokens)) }
 {
-    let mut before = None;
-    let mut subject = None;
     let mut columns = 0;
     for k in 0..place {
         let token = tokens.get(at + k);
-        let gap = gap_before(gaps, k, before, subject, token);
+        let plain = plain_gap_at(tokens, gaps.level, at, at + k, token);
+        let gap = gap_by_cells(gaps, k, plain);
         columns += gap + clusters(token.text);
-        before = subject;
-        subject = Some(token);
     }
     columns
 }

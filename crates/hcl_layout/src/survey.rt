@@ -1,10 +1,11 @@
 //! One line, in one walk: where it ends, how deep, and which cells it has.
-ghost use Rattle.std.specs.Prelude.{◌≡◌, false, ◌<◌, ◌≤◌, ◌+◌, ◌^◌, ◌==◌, length, drop, slice_get, Some};
+ghost use Rattle.std.specs.Prelude.{◌≡◌, ◌||◌, false, ◌<◌, ◌≤◌, ◌+◌, ◌^◌, ◌==◌, length, drop, slice_get, Some};
 ghost use Rattle.std.specs.List.{list_any};
 ghost use Rattle.hcl_scan.specs.Lexemes.{Lexeme};
 ghost use Rattle.hcl_scan.specs.Scanned.{lexeme};
 ghost use Rattle.hcl_layout.specs.Lines.{ends_line};
-ghost use Rattle.hcl_layout.specs.Cells.{is_sign as is_sign_of, is_torn as is_torn_of, is_trailing as is_trailing_of};
+ghost use Rattle.hcl_layout.specs.Cells.{is_sign as is_sign_of, is_torn as is_torn_of, is_trailing as is_trailing_of, is_assign as is_assign_of, is_inline_comment as is_inline_comment_of, is_line_comment as is_line_comment_of};
+ghost use Rattle.hcl_layout.specs.Levels.{is_closer as is_closer_of, is_opener as is_opener_of};
 ghost use Rattle.hcl_layout.specs.Depths.{Balanced, Steps, deepen};
 ghost use Rattle.hcl_layout.specs.Survey.{IsLine, assign_of, first_noted, is_noted as is_noted_of, noted, running_of, surveyed};
 
@@ -113,16 +114,27 @@ fn first_survey(depth: u32, token: Token<'_>) -> Survey
     }
 }
 
-/// Whether a token of the kind changes the depth, or may be or tear a cell. Most do neither.
+/// Whether a token of the kind changes the depth, or may be or tear a cell. Most do neither. It is one test, and not
+/// one for each group of kinds, since it is asked of every token.
 #[inline(always)]
 fn is_noted(kind: Kind) -> bool
     ensures { result ≡ is_noted_of kind }
 {
-    is_opener(kind)
-        || is_closer(kind)
-        || is_assign(kind)
-        || is_line_comment(kind)
-        || is_inline_comment(kind)
+    matches!(
+        kind,
+        Kind::ParenOpen
+            | Kind::BracketOpen
+            | Kind::BraceOpen
+            | Kind::InterpOpen
+            | Kind::ControlOpen
+            | Kind::ParenClose
+            | Kind::BracketClose
+            | Kind::SeqClose
+            | Kind::BraceClose
+            | Kind::Assign
+            | Kind::LineComment
+            | Kind::InlineComment
+    )
 }
 
 impl Survey {
@@ -130,7 +142,7 @@ impl Survey {
     #[inline(always)]
     fn passed(self) -> Survey
         requires room { self.len + 1 < 2 ^ 64 }
-        ensures { (t : Lexeme) → is_noted_of t.kind ≡ false → result ≡ noted self t }
+        ensures { (t : Lexeme) → (is_opener_of t.kind || is_closer_of t.kind || is_line_comment_of t.kind || is_inline_comment_of t.kind || is_assign_of t.kind) ≡ false → result ≡ noted self t }
     {
         let len = self.len + 1;
         if self.comment.is_some() {

@@ -1,11 +1,11 @@
 use Rattle.std.proofs.Common.{◌≡◌, ◌+◌, ◌-◌, take, drop}
-use Rattle.std.specs.Prelude.{option_map}
-use Rattle.hcl_scan.specs.Scanned.{lexeme}
 use Rattle.hcl_layout.specs.Gaps.{width}
+use Rattle.hcl_layout.specs.Left.{behind}
 use Rattle.hcl_layout.specs.LineGaps.{gaps_from, gaps_in}
 use Rattle.hcl_layout.proofs.line.width.Given as goal
 
 abbrev pub invariant-loop-k : goal.invariant-loop-k
 invariant-loop-k l =
-    l.columns + width (l.place - l.k) (gaps_from l.gaps l.k (option_map lexeme l.before) (option_map lexeme l.subject) (take (l.len - l.k) (drop (l.at + l.k) l.tokens.tokens))) (take (l.len - l.k) (drop (l.at + l.k) l.tokens.tokens))
+    l.columns
+    + width (l.place - l.k) (gaps_from l.gaps l.k (behind l.tokens.tokens l.at ((l.at + l.k) - 1)) (behind l.tokens.tokens l.at (l.at + l.k)) (take (l.len - l.k) (drop (l.at + l.k) l.tokens.tokens))) (take (l.len - l.k) (drop (l.at + l.k) l.tokens.tokens))
     ≡ width l.place (gaps_in l.gaps (take l.len (drop l.at l.tokens.tokens))) (take l.len (drop l.at l.tokens.tokens))
