@@ -5,7 +5,7 @@ ghost use Rattle.tffmt.specs.Rows.{Row, Took, Shows, ShowsOne, Gives, IsRow, OrO
 ghost use Rattle.hcl_scan.specs.Load.{max_source};
 ghost use Rattle.hcl_layout.specs.Print.{print};
 ghost use Rattle.tffmt.specs.Line.{options_of};
-ghost use Rattle.tffmt.specs.Answer.{fault_line, refused, row_of_file, IsTextAnswer, IsFileAnswer, IsAnswer};
+ghost use Rattle.tffmt.specs.Answer.{fault_line, refused, usage_line, row_of_file, IsTextAnswer, IsFileAnswer, IsAnswer};
 
 use crate::options::{FmtOptions, Usage, options};
 use hcl_layout::{emit, is_formatted, printed_len};
@@ -266,6 +266,17 @@ pub fn run<R: ByteSource, O: ByteSink, E: ByteSink>(
     }
 }
 
+/// Says what the lines of this program are. It reads nothing.
+pub fn bad_line<O: ByteSink, E: ByteSink>(out: &mut O, err: &mut E) -> u8
+    requires out { O.failed out.old ≡ false }
+    requires err { E.failed err.old ≡ false }
+    ensures { let row : Row = record { out = []; err = usage_line; status = 2 } in
+        Shows row (O.failed out.new) (E.failed err.new) (O.flushed out.new) (E.flushed err.new)
+        (O.taken out.old) (O.taken out.new) (E.taken err.old) (E.taken err.new) result }
+{
+    tell(out, err, USAGE, 2)
+}
+
 /// Reads the words, and then runs.
 fn start<R: ByteSource, O: ByteSink, E: ByteSink>(
     alloc: Global,
@@ -285,7 +296,7 @@ fn start<R: ByteSource, O: ByteSink, E: ByteSink>(
     match options(alloc, words) {
         Ok(options) => run(alloc, &options, input, out, err),
         Err(Usage::Help) => deliver(out, err, USAGE),
-        Err(Usage::BadLine) => tell(out, err, USAGE, 2),
+        Err(Usage::BadLine) => bad_line(out, err),
         Err(Usage::OutOfMemory) => tell(out, err, OUT_OF_MEMORY, 4),
     }
 }

@@ -16,9 +16,11 @@ still text s next e same moved = ap (λ t. t.now) moved.same_text ∙ same
 
 -- one token more
 read_on : (text : List ℕ) (s next : Scanner) (e : Entry) → s.text.now ≡ text → Moves s e next → Read text s → Read text next
-read_on text s next e same moved (ts, run) =
-    (ts ++ lexeme_of text e ∷ [], Run-push (begin text) ts (state_of s) (lexeme_of text e) (state_of next) run
-    (subst (λ t. Next (state_of s) (lexeme_of t e) (state_of next)) same moved.read))
+read_on text s next e same moved (ts, run) = (
+  ts ++ lexeme_of text e ∷ [],
+  Run-push (begin text) ts (state_of s) (lexeme_of text e) (state_of next) run
+      (subst (λ t. Next (state_of s) (lexeme_of t e) (state_of next)) same moved.read),
+)
 
 pub loop-init : goal.loop-init
 loop-init c = record {
