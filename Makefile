@@ -1,4 +1,4 @@
-# `make` proves and builds the program as bin/tffmt; `make test` runs the whole gate; `make install PREFIX=FOLDER`
+# `make` proves the crates and builds the program as bin/tffmt; `make test` runs the whole gate; `make install PREFIX=FOLDER`
 # puts the program and its man page below the folder.
 .PHONY: all test install uninstall clean
 
@@ -8,9 +8,7 @@ DESTDIR =
 all: bin/tffmt
 
 bin/tffmt: $(shell find crates -name out -prune -o -type f -print) crates.txt
-	mkdir -p bin
-	cd crates/tffmt && rt run < stdin > out.tmp && cmp out.tmp stdout; status=$$?; rm -f out.tmp; exit $$status
-	cp crates/tffmt/out/tffmt bin/tffmt
+	./tools/prove
 
 test:
 	./tests/gate

@@ -1,4 +1,4 @@
--- A command without subcommands has one fault at most.
+-- A command without subcommands has one fault at most, and it is one of the words.
 use Rattle.std.proofs.Common.{◌≡◌, ◌∙◌, ℕ, zero, suc, Bool, true, false, not, List, [], ◌∷◌, Option, Some, None, ap, refl, subst, sym}
 use Rattle.std.specs.Prelude.{◌&&◌, ◌||◌, ◌==◌, ◌+◌, if◌then◌else◌, nat_lt, length, drop, encode_utf8, codes, slice_get, find, is_some, min}
 use Rattle.std.specs.Option.{option_map_or}
@@ -15,6 +15,7 @@ use Rattle.clap.specs.Walk.{Held, Names, Row, Rule, Step, Text, Waiting, Walk, a
 use Rattle.clap.specs.Simple.{App, Shape, argument_words, built}
 use Rattle.clap.specs.Faults.{action_fault, bundle_fault, bundle_step_fault, check_fault, count_fault, default_fault, defaults_fault, fault_of, flag_word_fault, flags_fault, given_default_fault, level_fault, long_fault, option_fault, other_fault, positional_fault, react_fault, repeat_fault, set_fault, settle_fault, short_fault, step_fault, stray_fault, turn_fault, use_fault, values_fault, walk_fault, word_fault}
 use Rattle.clap.specs.declared.builder.value_parser.ValueParser.{ValueParser}
+use Rattle.clap.specs.declared.builder.value_parser.ValueParser.TheVariants as vp
 use Rattle.clap.specs.declared.builder.action.ArgAction.{ArgAction}
 use Rattle.clap.specs.declared.builder.action.ArgAction.TheVariants.{Set, Append, SetTrue, SetFalse, Count, Help, HelpShort, HelpLong, Version}
 use Rattle.clap.proofs.FaultLemmas.{leaf_fault}
@@ -32,8 +33,21 @@ one_option : {X : Type 0} (f : X → Kinds) (o : Option X) (d : Kinds) → ((x :
 one_option f None d p q = q
 one_option f (Some x) d p q = p x
 
+one_refused : (p : ValueParser) → One (refused_kind p ∷ [])
+one_refused vp.String = tt
+one_refused vp.NonEmptyString = tt
+one_refused vp.Bool = tt
+one_refused vp.Boolish = tt
+one_refused vp.Falsey = tt
+one_refused (vp.Signed least most) = tt
+one_refused (vp.Unsigned least most) = tt
+one_refused vp.Float = tt
+one_refused vp.Char = tt
+one_refused (vp.Names names) = tt
+one_refused (vp.Values values) = tt
+
 one_value : (i : Bool) (p : ValueParser) (t : Text) → One (value_kinds i p t)
-one_value i p t = one_if (accepts i p t) [] (refused_kind p ∷ []) tt tt
+one_value i p t = one_if (accepts i p t) [] (refused_kind p ∷ []) tt (one_refused p)
 
 one_values : (i : Bool) (p : ValueParser) (vs : List Text) → One (values_kinds i p vs)
 one_values i p [] = tt

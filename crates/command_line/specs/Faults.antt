@@ -1,9 +1,16 @@
--- How many faults a line of words has, as clap lists them.
+-- How many faults a line of words has, as clap lists them, and of what kinds.
 use Rattle.std.specs.Prelude.{[], ◌∷◌}
 use Rattle.clap.specs.Kinds.{Kinds}
+use Rattle.clap.specs.declared.error.kind.ErrorKind.{ErrorKind}
+use Rattle.clap.specs.declared.error.kind.ErrorKind.TheVariants.{OutOfMemory}
 
--- one fault at most
+-- a fault of the words themselves: no want of memory
+abbrev pub IsOfWords : ErrorKind → Type 0
+IsOfWords OutOfMemory = ⊥
+IsOfWords _ = Unit {0}
+
+-- one fault at most, and it is one of the words
 abbrev pub One : Kinds → Type 0
 One [] = Unit {0}
-One (k ∷ []) = Unit {0}
+One (k ∷ []) = IsOfWords k
 One (k ∷ l ∷ ks) = ⊥

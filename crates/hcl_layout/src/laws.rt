@@ -4,11 +4,17 @@
 ghost use Rattle.std.specs.Prelude.{◌≡◌, ◌≤◌, ℕ, List, length};
 ghost use Rattle.hcl_scan.specs.Lexemes.{Lexeme};
 ghost use Rattle.hcl_scan.specs.Scans.{Scans};
+ghost use Rattle.hcl_layout.specs.Gaps.{gaps};
 ghost use Rattle.hcl_layout.specs.Print.{print};
 ghost use Rattle.hcl_layout.specs.Reprinted.{printed_tokens};
 ghost use Rattle.hcl_syntax.specs.Classes.{lookaheads};
 ghost use Rattle.hcl_syntax.specs.Verdict.{IsAccepted};
 ghost use Rattle.hcl_scan.specs.Load.{IsText, max_source};
+
+/// There is one gap for each token, so a print leaves no token out.
+pub fn one_gap_each()
+    ensures { (ts : List Lexeme) → length (gaps ts) ≡ length ts }
+{}
 
 /// A print is scanned to the tokens of which it is made: none join, split or change their kind.
 pub fn rescan()

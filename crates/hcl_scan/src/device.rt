@@ -178,6 +178,7 @@ pub fn write_fully<W: ByteSink>(sink: &mut W, bytes: &[u8]) -> Result<(), WriteF
     ensures ok { OnOk result (Appends (W.taken sink.old) (W.taken sink.new) bytes.now) }
     ensures err { IfErr result (λ fault. Appends (W.taken sink.old) (W.taken sink.new) (take fault.written bytes.now)) }
     ensures written { IfErr result (λ fault. fault.written < length bytes.now) }
+    ensures pending { OnOk result (0 < length bytes.now → W.flushed sink.new ≡ false) }
     ensures failed { W.failed sink.new ≡ is_err result }
 {
     let mut done = 0;

@@ -1,7 +1,7 @@
 //! What is proved of the definitions alone. No program calls these functions: their contracts are
 //! the laws.
 
-ghost use Rattle.std.specs.Prelude.{◌≡◌, ◌<◌, ◌≤◌, ◌++◌, ℕ, Bool, true, false, IsTrue, IsFalse, IsUtf8, List, [], ◌∷◌, length, take, drop};
+ghost use Rattle.std.specs.Prelude.{◌≡◌, ◌⊎◌, ◌<◌, ◌≤◌, ◌++◌, ℕ, Bool, true, false, IsTrue, IsFalse, IsUtf8, IfSome, IfNone, List, [], ◌∷◌, length, take, drop};
 ghost use Rattle.hcl_scan.specs.Spelling.{IsSpelling};
 ghost use Rattle.hcl_scan.specs.Lexemes.{Lexeme, Opener, opened, in_heredoc, marker_of};
 ghost use Rattle.hcl_scan.specs.Scans.{Scans, State, Next, Run, IsLongest, IsFirstMarkerLine, Hidden, hides, ends_line, skip_blanks};
@@ -11,10 +11,14 @@ ghost use Rattle.hcl_scan.specs.SideBySide.{AreTexts, Besides};
 ghost use Rattle.hcl_scan.specs.InHeredocs.{ReadsToo, SameInside};
 ghost use Rattle.hcl_scan.specs.declared.token.Kind.TheVariants.{Newline, HeredocOpen};
 ghost use Rattle.hcl_scan.specs.Faults.{IsScanFault};
-ghost use Rattle.hcl_scan.specs.Load.{IsText, IsLoadFault, has_mark};
+ghost use Rattle.hcl_scan.specs.Load.{max_source, IsText, IsLoadFault, has_mark};
 ghost use Rattle.hcl_scan.specs.declared.fault.Fault.{Fault};
 ghost use Rattle.hcl_scan.specs.declared.fault.FaultKind.{FaultKind};
 ghost use Rattle.hcl_scan.specs.declared.token.Kind.{Kind};
+
+use crate::scanner::Scanner;
+use crate::source::load_fault;
+use crate::turn::Turn;
 
 /// Bytes have one load fault at most.
 pub fn one_load_fault()
@@ -25,6 +29,33 @@ pub fn one_load_fault()
 pub fn fault_or_text()
     ensures { (bytes : List ℕ) (fault : Fault) → IsLoadFault bytes fault → ¬ IsText bytes }
 {}
+
+/// Bytes are a source, and are given as a text, or they have a load fault. The body shows it: it
+/// loads without a copy.
+pub fn text_or_fault(bytes: &[u8]) -> Option<&str>
+    ensures text { IfSome result (λ text. (text.now ≡ bytes.now) × IsText bytes.now) }
+    ensures fault { IfNone result ((fault : Fault) × IsLoadFault bytes.now fault) }
+{
+    match load_fault(bytes) {
+        Some(_) => None,
+        None => simdutf8::compat::from_utf8(bytes).ok(),
+    }
+}
+
+/// A text is a list of tokens or has a scan fault. The body shows it: it scans, and keeps nothing.
+pub fn list_or_fault(text: &str)
+    requires { length text.now ≤ max_source }
+    ensures { ((ts : List Lexeme) × Scans text.now ts) ⊎ ((kind : FaultKind) × (at : ℕ) × IsScanFault text.now kind at) }
+{
+    let mut scanner = Scanner::new(text);
+    loop {
+        match scanner.turn() {
+            Turn::Token(_) => {}
+            Turn::Complete => return,
+            Turn::Fault(_) => return,
+        }
+    }
+}
 
 /// A text, scanned or not, is at most one list of tokens.
 pub fn one_list()

@@ -9,6 +9,8 @@
 mod bytes;
 mod comment;
 mod device;
+#[cfg(test)]
+mod device_tests;
 mod entry;
 mod expression;
 #[cfg(test)]

@@ -100,7 +100,7 @@ fn has_mark(bytes: &[u8]) -> bool
 }
 
 /// The fault of bytes that are no source.
-fn load_fault(bytes: &[u8]) -> Option<Fault>
+pub(crate) fn load_fault(bytes: &[u8]) -> Option<Fault>
     ensures { MatchOption result (IsText bytes.now) (IsLoadFault bytes.now) }
 {
     let start = end_of("");

@@ -44,7 +44,7 @@ one_answer_by : (r : Result FmtOptions Usage) (input : List ℕ) (row other : Ro
 one_answer_by (Ok options) input row other x y = one_file_answer options input row other x y
 one_answer_by (Err usage.Help) input row other x y = x ∙ sym y
 one_answer_by (Err usage.BadLine) input row other x y = x ∙ sym y
-one_answer_by (Err usage.OutOfMemory) input row other x y = x ∙ sym y
+one_answer_by (Err usage.OutOfMemory) input row other x y = absurd x
 
 pub one_answer : (words : List (List ℕ)) (input : List ℕ) (row other : Row) → IsAnswer words input row → IsAnswer words input other → row ≡ other
 one_answer words = one_answer_by (options_of words)
@@ -73,27 +73,27 @@ fault_of_input options (Some xs) (Some ys) bytes fault taken done x =
 -- ---- a run in which nothing failed and memory was there
 
 module _ (answer : List ℕ → Row → Type 0) where
-  abbrev Answered : Option (List ℕ) → Bool → Option (List ℕ) → Option (List ℕ) → Option (List ℕ) → Option (List ℕ) → ℕ → Type 0
-  Answered left flushed out out' err err' status = OfInput left (λ input. (row : Row) × answer input row × Gives row flushed out out' err err' status)
+  abbrev Answered : Option (List ℕ) → Bool → Bool → Option (List ℕ) → Option (List ℕ) → Option (List ℕ) → Option (List ℕ) → ℕ → Type 0
+  Answered left u v out out' err err' status = OfInput left (λ input. (row : Row) × answer input row × Gives row u v out out' err err' status)
 
-  given : (row : Row) (flushed : Bool) (out out' err err' : Option (List ℕ)) (status : ℕ) → Shows row false false flushed out out' err err' status → Gives row flushed out out' err err' status
-  given row flushed out out' err err' status s = record { output = s.output; message = s.message; exit = s.exit; flush = s.flush refl }
+  given : (row : Row) (u v : Bool) (out out' err err' : Option (List ℕ)) (status : ℕ) → Shows row false false u v out out' err err' status → Gives row u v out out' err err' status
+  given row u v out out' err err' status s = record { output = s.output; message = s.message; exit = s.exit; flush = s.flush refl; unflushed = s.unflushed refl }
 
-  by_row : (left : Option (List ℕ)) (row : Row) (flushed : Bool) (out out' err err' : Option (List ℕ)) (status : ℕ) → OfInput left (λ input. answer input row) → Gives row flushed out out' err err' status → Answered left flushed out out' err err' status
-  by_row None row flushed out out' err err' status a g = (a.0, (row, a.1, g))
-  by_row (Some input) row flushed out out' err err' status a g = (row, a, g)
+  by_row : (left : Option (List ℕ)) (row : Row) (u v : Bool) (out out' err err' : Option (List ℕ)) (status : ℕ) → OfInput left (λ input. answer input row) → Gives row u v out out' err err' status → Answered left u v out out' err err' status
+  by_row None row u v out out' err err' status a g = (a.0, (row, a.1, g))
+  by_row (Some input) row u v out out' err err' status a g = (row, a, g)
 
-  or_memory : (left : Option (List ℕ)) (row : Row) (flushed : Bool) (out out' err err' : Option (List ℕ)) (status : ℕ)
-      → OrOutOfMemory (λ r. OfInput left (λ input. answer input r)) row → Shows row false false flushed out out' err err' status → (status ≡ 4 → ⊥) → Answered left flushed out out' err err' status
-  or_memory left row flushed out out' err err' status (inl e) s four = absurd (four (s.exit ∙ ap (λ (r : Row). r.status) e))
-  or_memory left row flushed out out' err err' status (inr a) s four = by_row left row flushed out out' err err' status a (given row flushed out out' err err' status s)
+  or_memory : (left : Option (List ℕ)) (row : Row) (u v : Bool) (out out' err err' : Option (List ℕ)) (status : ℕ)
+      → OrOutOfMemory (λ r. OfInput left (λ input. answer input r)) row → Shows row false false u v out out' err err' status → (status ≡ 4 → ⊥) → Answered left u v out out' err err' status
+  or_memory left row u v out out' err err' status (inl e) s four = absurd (four (s.exit ∙ ap (λ (r : Row). r.status) e))
+  or_memory left row u v out out' err err' status (inr a) s four = by_row left row u v out out' err err' status a (given row u v out out' err err' status s)
 
-  pub answered : (left : Option (List ℕ)) (r o e flushed : Bool) (out out' err err' : Option (List ℕ)) (status : ℕ)
-      → (row : Row) × IsRow answer r left row × Shows row o e flushed out out' err err' status
-      → r ≡ false → o ≡ false → e ≡ false → (status ≡ 4 → ⊥) → Answered left flushed out out' err err' status
-  answered left r o e flushed out out' err err' status w p q s four =
-      or_memory left w.0 flushed out out' err err' status (subst (λ b. IsRow answer b left w.0) p w.1)
-      (subst (λ b. Shows w.0 false b flushed out out' err err' status) s (subst (λ b. Shows w.0 b e flushed out out' err err' status) q w.2)) four
+  pub answered : (left : Option (List ℕ)) (r o e u v : Bool) (out out' err err' : Option (List ℕ)) (status : ℕ)
+      → (row : Row) × IsRow answer r left row × Shows row o e u v out out' err err' status
+      → r ≡ false → o ≡ false → e ≡ false → (status ≡ 4 → ⊥) → Answered left u v out out' err err' status
+  answered left r o e u v out out' err err' status w p q s four =
+      or_memory left w.0 u v out out' err err' status (subst (λ b. IsRow answer b left w.0) p w.1)
+      (subst (λ b. Shows w.0 false b u v out out' err err' status) s (subst (λ b. Shows w.0 b e u v out out' err err' status) q w.2)) four
 
 -- ---- the row of what was read
 

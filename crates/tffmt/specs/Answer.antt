@@ -13,7 +13,7 @@ use Rattle.hcl_scan.specs.declared.fault.FaultKind.{FaultKind}
 use Rattle.hcl_scan.specs.declared.fault.FaultKind.TheVariants.{ResultTooLarge}
 use Rattle.hcl_syntax.specs.Verdict.{verdict}
 use Rattle.hcl_layout.specs.Print.{print}
-use Rattle.tffmt.specs.Rows.{Row, line, out_of_memory}
+use Rattle.tffmt.specs.Rows.{Row, line}
 use Rattle.tffmt.specs.Line.{options_of}
 use Rattle.tffmt.specs.declared.options.FmtOptions.{FmtOptions}
 use Rattle.tffmt.specs.declared.options.Usage.{Usage}
@@ -55,11 +55,12 @@ IsFileAnswer options input row = ((fault : Fault) × IsLoadFault input fault × 
 abbrev pub usage_line : List ℕ
 usage_line = line (codes "usage: tffmt [--check] [--help]")
 
+-- no line has want of memory as its usage
 abbrev pub IsAnswerBy : Result FmtOptions Usage → List ℕ → Row → Type 0
 IsAnswerBy (Ok options) input row = IsFileAnswer options input row
 IsAnswerBy (Err usage.Help) input row = row ≡ record { out = usage_line; err = []; status = 0 }
 IsAnswerBy (Err usage.BadLine) input row = row ≡ record { out = []; err = usage_line; status = 2 }
-IsAnswerBy (Err usage.OutOfMemory) input row = row ≡ out_of_memory
+IsAnswerBy (Err usage.OutOfMemory) input row = ⊥
 
 -- THE ANSWER to a line of words and an input
 abbrev pub IsAnswer : List (List ℕ) → List ℕ → Row → Type 0

@@ -30,20 +30,24 @@ abbrev pub told : Bool → Row → List ℕ
 told out_failed row = if out_failed then write_failed else row.err
 
 -- A run that is to show the row ends so: each writer took its text, standard error that of the failed write
--- where standard output failed, and the status is 4 where a writer failed. Standard output is flushed, unless
--- it failed or there is none.
-pub record Shows (row : Row) (out_failed err_failed flushed : Bool) (out out' err err' : Option (List ℕ)) (status : ℕ) : Type 0 where
+-- where standard output failed, and the status is 4 where a writer failed. Standard output is flushed behind its
+-- text, and standard error isn't. Where there is no text a writer is not called, so it can't fail.
+pub record Shows (row : Row) (out_failed err_failed out_flushed err_flushed : Bool) (out out' err err' : Option (List ℕ)) (status : ℕ) : Type 0 where
   pub output : Took out_failed out out' row.out
   pub message : Took err_failed err err' (told out_failed row)
   pub exit : status ≡ (if out_failed || err_failed then 4 else row.status)
-  pub flush : out_failed ≡ false → 0 < length row.out → flushed ≡ true
+  pub flush : out_failed ≡ false → 0 < length row.out → out_flushed ≡ true
+  pub unflushed : err_failed ≡ false → 0 < length (told out_failed row) → err_flushed ≡ false
+  pub no_output : length row.out ≡ 0 → out_failed ≡ false
+  pub no_message : length (told out_failed row) ≡ 0 → err_failed ≡ false
 
 -- the row as it stands: both texts are appended, and the status is the row's
-pub record Gives (row : Row) (flushed : Bool) (out out' err err' : Option (List ℕ)) (status : ℕ) : Type 0 where
+pub record Gives (row : Row) (out_flushed err_flushed : Bool) (out out' err err' : Option (List ℕ)) (status : ℕ) : Type 0 where
   pub output : Appends out out' row.out
   pub message : Appends err err' row.err
   pub exit : status ≡ row.status
-  pub flush : 0 < length row.out → flushed ≡ true
+  pub flush : 0 < length row.out → out_flushed ≡ true
+  pub unflushed : 0 < length row.err → err_flushed ≡ false
 
 -- some input has the property, and where the reader tells what it has left, that is the input
 abbrev pub OfInput : Option (List ℕ) → (List ℕ → Type 0) → Type 0
@@ -60,5 +64,5 @@ IsRow answer true left row = row ≡ read_failed
 IsRow answer false left row = OrOutOfMemory (λ r. OfInput left (λ input. answer input r)) row
 
 -- a run shows a row of which this holds
-abbrev pub ShowsOne : (Row → Type 0) → Bool → Bool → Bool → Option (List ℕ) → Option (List ℕ) → Option (List ℕ) → Option (List ℕ) → ℕ → Type 0
-ShowsOne P out_failed err_failed flushed out out' err err' status = (row : Row) × P row × Shows row out_failed err_failed flushed out out' err err' status
+abbrev pub ShowsOne : (Row → Type 0) → Bool → Bool → Bool → Bool → Option (List ℕ) → Option (List ℕ) → Option (List ℕ) → Option (List ℕ) → ℕ → Type 0
+ShowsOne P out_failed err_failed out_flushed err_flushed out out' err err' status = (row : Row) × P row × Shows row out_failed err_failed out_flushed err_flushed out out' err err' status

@@ -1,10 +1,24 @@
 //! What is proved of the definitions alone. No program calls these functions: their contracts are
 //! the laws.
 
-ghost use Rattle.std.specs.Prelude.{◌≡◌, ℕ, List};
+ghost use Rattle.std.specs.Prelude.{◌≡◌, ℕ, List, map};
 ghost use Rattle.tffmt.specs.Rows.{Row};
 ghost use Rattle.tffmt.specs.Answer.{IsAnswer};
 ghost use Rattle.tffmt.specs.PrintAgain.{AskForCheck, AskForPrint, formatted, printed};
+
+use hcl_scan::laws::{list_or_fault, text_or_fault};
+
+/// A line of words and an input have an answer. The body shows it for those that are there: it
+/// loads and scans, and keeps nothing.
+pub fn an_answer(words: &[&str], input: &[u8])
+    ensures { (row : Row) × IsAnswer (map (λ word. word.now) words.now) input.now row }
+{
+    let _ = words;
+    match text_or_fault(input) {
+        Some(text) => list_or_fault(text),
+        None => {}
+    }
+}
 
 /// A line of words and an input have one answer at most.
 pub fn one_answer()

@@ -1,10 +1,11 @@
 //! A run over any devices.
 
-ghost use Rattle.std.specs.Prelude.{◌≡◌, ◌≢◌, ◌||◌, ◌<◌, ◌≤◌, ℕ, List, [], false, true, length, map, if◌then◌else◌, string_bytes, IfOk};
+ghost use Rattle.std.specs.Prelude.{◌≡◌, ◌≢◌, ◌||◌, ◌<◌, ◌≤◌, ℕ, List, [], false, true, length, map, if◌then◌else◌, string_bytes, IfOk, IfErr};
 ghost use Rattle.tffmt.specs.Rows.{Row, Took, Shows, ShowsOne, Gives, IsRow, OrOutOfMemory, OfInput};
 ghost use Rattle.hcl_scan.specs.Load.{max_source};
 ghost use Rattle.hcl_layout.specs.Print.{print};
-ghost use Rattle.tffmt.specs.Answer.{fault_line, refused, row_of_file, IsTextAnswer, IsFileAnswer, IsAnswer};
+ghost use Rattle.tffmt.specs.Line.{options_of};
+ghost use Rattle.tffmt.specs.Answer.{fault_line, refused, usage_line, row_of_file, IsTextAnswer, IsFileAnswer, IsAnswer};
 
 use crate::options::{FmtOptions, Usage, options};
 use hcl_layout::{emit, is_formatted, printed_len};
@@ -28,6 +29,8 @@ fn complain<E: ByteSink>(err: &mut E, message: &str, status: u8) -> u8
     requires { E.failed err.old ≡ false }
     ensures took { Took (E.failed err.new) (E.taken err.old) (E.taken err.new) message.now }
     ensures exit { result ≡ (if E.failed err.new then 4 else status) }
+    ensures unflushed { E.failed err.new ≡ false → 0 < length message.now → E.flushed err.new ≡ false }
+    ensures untouched { length message.now ≡ 0 → E.failed err.new ≡ false }
 {
     match write_fully(err, message.as_bytes()) {
         Ok(()) => status,
@@ -50,7 +53,7 @@ fn tell<O: ByteSink, E: ByteSink>(out: &mut O, err: &mut E, message: &str, statu
     requires out { O.failed out.old ≡ false }
     requires err { E.failed err.old ≡ false }
     ensures { let row : Row = record { out = []; err = message.now; status = status } in
-        Shows row (O.failed out.new) (E.failed err.new) (O.flushed out.new)
+        Shows row (O.failed out.new) (E.failed err.new) (O.flushed out.new) (E.flushed err.new)
         (O.taken out.old) (O.taken out.new) (E.taken err.old) (E.taken err.new) result }
 {
     let _ = &*out;
@@ -62,7 +65,7 @@ fn refuse<O: ByteSink, E: ByteSink>(alloc: Global, out: &mut O, err: &mut E, fau
     requires out { O.failed out.old ≡ false }
     requires err { E.failed err.old ≡ false }
     ensures { ShowsOne (OrOutOfMemory (λ row. row ≡ refused fault.now))
-        (O.failed out.new) (E.failed err.new) (O.flushed out.new)
+        (O.failed out.new) (E.failed err.new) (O.flushed out.new) (E.flushed err.new)
         (O.taken out.old) (O.taken out.new) (E.taken err.old) (E.taken err.new) result }
 {
     match line_of(alloc, fault) {
@@ -76,6 +79,7 @@ fn say<O: ByteSink>(out: &mut O, text: &str)
     requires { O.failed out.old ≡ false }
     ensures took { Took (O.failed out.new) (O.taken out.old) (O.taken out.new) text.now }
     ensures flushed { O.failed out.new ≡ false → 0 < length text.now → O.flushed out.new ≡ true }
+    ensures untouched { length text.now ≡ 0 → O.failed out.new ≡ false }
 {
     if write_fully(out, text.as_bytes()).is_ok() && !text.is_empty() {
         let _ = out.flush();
@@ -87,7 +91,7 @@ fn deliver<O: ByteSink, E: ByteSink>(out: &mut O, err: &mut E, text: &str) -> u8
     requires out { O.failed out.old ≡ false }
     requires err { E.failed err.old ≡ false }
     ensures { let row : Row = record { out = text.now; err = []; status = 0 } in
-        Shows row (O.failed out.new) (E.failed err.new) (O.flushed out.new)
+        Shows row (O.failed out.new) (E.failed err.new) (O.flushed out.new) (E.flushed err.new)
         (O.taken out.old) (O.taken out.new) (E.taken err.old) (E.taken err.new) result }
 {
     say(out, text);
@@ -103,6 +107,7 @@ fn print<O: ByteSink>(accepted: &Accepted<'_, '_>, len: u64, out: &mut O)
     requires len { len ≡ length (print accepted.now.tokens) }
     ensures took { Took (O.failed out.new) (O.taken out.old) (O.taken out.new) (print accepted.now.tokens) }
     ensures flushed { O.failed out.new ≡ false → 0 < length (print accepted.now.tokens) → O.flushed out.new ≡ true }
+    ensures untouched { length (print accepted.now.tokens) ≡ 0 → O.failed out.new ≡ false }
 {
     if emit(accepted, out).is_ok() && len > 0 {
         let _ = out.flush();
@@ -120,7 +125,7 @@ fn show<O: ByteSink, E: ByteSink>(
     requires err { E.failed err.old ≡ false }
     requires len { len ≡ length (print accepted.now.tokens) }
     ensures { let row : Row = record { out = print accepted.now.tokens; err = []; status = 0 } in
-        Shows row (O.failed out.new) (E.failed err.new) (O.flushed out.new)
+        Shows row (O.failed out.new) (E.failed err.new) (O.flushed out.new) (E.flushed err.new)
         (O.taken out.old) (O.taken out.new) (E.taken err.old) (E.taken err.new) result }
 {
     print(accepted, len, out);
@@ -148,7 +153,7 @@ fn show_formatted<O: ByteSink, E: ByteSink>(
     requires formatted { print accepted.now.tokens ≡ accepted.now.text }
     requires out { O.failed out.old ≡ false }
     requires err { E.failed err.old ≡ false }
-    ensures { Shows (row_of_file options.now accepted.now) (O.failed out.new) (E.failed err.new) (O.flushed out.new)
+    ensures { Shows (row_of_file options.now accepted.now) (O.failed out.new) (E.failed err.new) (O.flushed out.new) (E.flushed err.new)
         (O.taken out.old) (O.taken out.new) (E.taken err.old) (E.taken err.new) result }
 {
     let text = text_of(accepted);
@@ -171,7 +176,7 @@ fn show_changed<O: ByteSink, E: ByteSink>(
     requires out { O.failed out.old ≡ false }
     requires err { E.failed err.old ≡ false }
     ensures { ShowsOne (OrOutOfMemory (λ row. row ≡ row_of_file options.now accepted.now))
-        (O.failed out.new) (E.failed err.new) (O.flushed out.new)
+        (O.failed out.new) (E.failed err.new) (O.flushed out.new) (E.flushed err.new)
         (O.taken out.old) (O.taken out.new) (E.taken err.old) (E.taken err.new) result }
 {
     let len = printed_len(accepted);
@@ -201,7 +206,7 @@ fn format<O: ByteSink, E: ByteSink>(
     requires out { O.failed out.old ≡ false }
     requires err { E.failed err.old ≡ false }
     ensures { ShowsOne (OrOutOfMemory (λ row. row ≡ row_of_file options.now accepted.now))
-        (O.failed out.new) (E.failed err.new) (O.flushed out.new)
+        (O.failed out.new) (E.failed err.new) (O.flushed out.new) (E.flushed err.new)
         (O.taken out.old) (O.taken out.new) (E.taken err.old) (E.taken err.new) result }
 {
     if is_formatted(accepted) {
@@ -222,7 +227,7 @@ fn answer<O: ByteSink, E: ByteSink>(
     requires out { O.failed out.old ≡ false }
     requires err { E.failed err.old ≡ false }
     ensures { ShowsOne (OrOutOfMemory (IsTextAnswer options.now source.now))
-        (O.failed out.new) (E.failed err.new) (O.flushed out.new)
+        (O.failed out.new) (E.failed err.new) (O.flushed out.new) (E.flushed err.new)
         (O.taken out.old) (O.taken out.new) (E.taken err.old) (E.taken err.new) result }
 {
     match scan(alloc, source) {
@@ -250,7 +255,7 @@ pub fn run<R: ByteSource, O: ByteSink, E: ByteSink>(
     requires err { E.failed err.old ≡ false }
     // However the run goes, it shows a row.
     ensures { ShowsOne (IsRow (IsFileAnswer options.now) (R.failed input.new) (R.left input.old))
-        (O.failed out.new) (E.failed err.new) (O.flushed out.new)
+        (O.failed out.new) (E.failed err.new) (O.flushed out.new) (E.flushed err.new)
         (O.taken out.old) (O.taken out.new) (E.taken err.old) (E.taken err.new) result }
 {
     match Source::read_from(alloc, input) {
@@ -259,6 +264,17 @@ pub fn run<R: ByteSource, O: ByteSink, E: ByteSink>(
         Err(LoadError::ReadFailed) => tell(out, err, READ_FAILED, 4),
         Err(LoadError::OutOfMemory) => tell(out, err, OUT_OF_MEMORY, 4),
     }
+}
+
+/// Says what the lines of this program are. It reads nothing.
+pub fn bad_line<O: ByteSink, E: ByteSink>(out: &mut O, err: &mut E) -> u8
+    requires out { O.failed out.old ≡ false }
+    requires err { E.failed err.old ≡ false }
+    ensures { let row : Row = record { out = []; err = usage_line; status = 2 } in
+        Shows row (O.failed out.new) (E.failed err.new) (O.flushed out.new) (E.flushed err.new)
+        (O.taken out.old) (O.taken out.new) (E.taken err.old) (E.taken err.new) result }
+{
+    tell(out, err, USAGE, 2)
 }
 
 /// Reads the words, and then runs.
@@ -272,14 +288,15 @@ fn start<R: ByteSource, O: ByteSink, E: ByteSink>(
     requires input { R.failed input.old ≡ false }
     requires out { O.failed out.old ≡ false }
     requires err { E.failed err.old ≡ false }
-    ensures { ShowsOne (IsRow (IsAnswer (map (λ word. word.now) words.now)) (R.failed input.new) (R.left input.old))
-        (O.failed out.new) (E.failed err.new) (O.flushed out.new)
+    ensures row { ShowsOne (IsRow (IsAnswer (map (λ word. word.now) words.now)) (R.failed input.new) (R.left input.old))
+        (O.failed out.new) (E.failed err.new) (O.flushed out.new) (E.flushed err.new)
         (O.taken out.old) (O.taken out.new) (E.taken err.old) (E.taken err.new) result }
+    ensures unread { IfErr (options_of (map (λ word. word.now) words.now)) (λ _. (R.failed input.new ≡ false) × (R.left input.new ≡ R.left input.old)) }
 {
     match options(alloc, words) {
         Ok(options) => run(alloc, &options, input, out, err),
         Err(Usage::Help) => deliver(out, err, USAGE),
-        Err(Usage::BadLine) => tell(out, err, USAGE, 2),
+        Err(Usage::BadLine) => bad_line(out, err),
         Err(Usage::OutOfMemory) => tell(out, err, OUT_OF_MEMORY, 4),
     }
 }
@@ -298,12 +315,13 @@ pub fn program<R: ByteSource, O: ByteSink, E: ByteSink>(
     requires err { E.failed err.old ≡ false }
     // However the run goes, it shows a row.
     ensures row { ShowsOne (IsRow (IsAnswer (map (λ word. word.now) words.now)) (R.failed input.new) (R.left input.old))
-        (O.failed out.new) (E.failed err.new) (O.flushed out.new)
+        (O.failed out.new) (E.failed err.new) (O.flushed out.new) (E.flushed err.new)
         (O.taken out.old) (O.taken out.new) (E.taken err.old) (E.taken err.new) result }
     // Where nothing failed and memory was there, it shows the row of its words and its input.
     ensures answer { R.failed input.new ≡ false → O.failed out.new ≡ false → E.failed err.new ≡ false → result ≢ 4
         → OfInput (R.left input.old) (λ bytes. (row : Row) × IsAnswer (map (λ word. word.now) words.now) bytes row
-        × Gives row (O.flushed out.new) (O.taken out.old) (O.taken out.new) (E.taken err.old) (E.taken err.new) result) }
+        × Gives row (O.flushed out.new) (E.flushed err.new) (O.taken out.old) (O.taken out.new) (E.taken err.old) (E.taken err.new) result) }
+    ensures unread { IfErr (options_of (map (λ word. word.now) words.now)) (λ _. (R.failed input.new ≡ false) × (R.left input.new ≡ R.left input.old)) }
 {
     start(alloc, words, input, out, err)
 }

@@ -5,4 +5,4 @@ use Rattle.tffmt.proofs.run.show.Goals as goal
 
 pub returns-then-has_failed : goal.returns-then-has_failed
 returns-then-has_failed g c =
-    shows_failed (record { out = print c.args.accepted.now.tokens; err = []; status = 0 }) _ _ _ _ _ _ _ _ (sym c.has_failed.ensures ∙ c.if-has_failed.true) c.print.ensures.took c.complain.ensures.took c.complain.ensures.exit
+    shows_failed (record { out = print c.args.accepted.now.tokens; err = []; status = 0 }) _ _ _ _ _ _ _ _ _ (sym c.has_failed.ensures ∙ c.if-has_failed.true) c.print.ensures.untouched c.complain.ensures.unflushed c.print.ensures.took c.complain.ensures.took c.complain.ensures.exit

@@ -1,0 +1,53 @@
+use Rattle.std.proofs.Common.{◌≡◌, ℕ, List, [], ◌∷◌, ◌++◌, length, ap, sym, subst, ◌∙◌, inl, inr, arith, refl}
+use Rattle.hcl_scan.specs.Lexemes.{Lexeme}
+use Rattle.hcl_scan.specs.Scans.{Next, Run, begin}
+use Rattle.hcl_scan.specs.Scanners.{state_of, lexeme_of, Moves}
+use Rattle.hcl_scan.specs.declared.entry.Entry.{Entry}
+use Rattle.hcl_scan.specs.declared.scanner.Scanner.{Scanner}
+use Rattle.hcl_scan.proofs.AllPlaces.{Run-push}
+use Rattle.hcl_scan.proofs.Scanning.{fault_of}
+use Rattle.hcl_scan.proofs.laws.list_or_fault.Goals as goal
+
+abbrev Read : List ℕ → Scanner → Type 0
+Read text s = (ts : List Lexeme) × Run (begin text) ts (state_of s)
+
+still : (text : List ℕ) (s next : Scanner) (e : Entry) → s.text.now ≡ text → Moves s e next → next.text.now ≡ text
+still text s next e same moved = ap (λ t. t.now) moved.same_text ∙ same
+
+-- one token more
+read_on : (text : List ℕ) (s next : Scanner) (e : Entry) → s.text.now ≡ text → Moves s e next → Read text s → Read text next
+read_on text s next e same moved (ts, run) = (
+  ts ++ lexeme_of text e ∷ [],
+  Run-push (begin text) ts (state_of s) (lexeme_of text e) (state_of next) run
+      (subst (λ t. Next (state_of s) (lexeme_of t e) (state_of next)) same moved.read),
+)
+
+pub loop-init : goal.loop-init
+loop-init c = record {
+  same_text = ap (λ t. t.now) c.new-scanner.ensures.text;
+  sound = c.new-scanner.ensures.sound;
+  read = ([], sym c.new-scanner.ensures.state);
+}
+
+pub turn-requires : goal.turn-requires
+turn-requires c = c.loop.invariant.sound
+
+pub loop-smaller : goal.loop-smaller
+loop-smaller c =
+    let left = ap (λ t. length t) (still c.args.text.now c.loop.scanner c.turn.new.self c.in-Token.field-0 c.loop.invariant.same_text c.in-Token.ensures ∙ sym c.loop.invariant.same_text) in
+    omega (arith, left, c.in-Token.ensures.further, c.in-Token.ensures.sound.order, c.in-Token.ensures.sound.within)
+
+pub loop-preserved : goal.loop-preserved
+loop-preserved c = record {
+  same_text = still c.args.text.now c.loop.scanner c.turn.new.self c.in-Token.field-0 c.loop.invariant.same_text c.in-Token.ensures;
+  sound = c.in-Token.ensures.sound;
+  read = read_on c.args.text.now c.loop.scanner c.turn.new.self c.in-Token.field-0 c.loop.invariant.same_text c.in-Token.ensures c.loop.invariant.read;
+}
+
+pub returns-in-Complete : goal.returns-in-Complete
+returns-in-Complete c = inl (c.loop.invariant.read.0, (state_of c.loop.scanner, c.loop.invariant.read.1, c.in-Complete.ensures))
+
+pub returns-in-Fault : goal.returns-in-Fault
+returns-in-Fault c =
+    let fault = fault_of c.args.text.now c.loop.invariant.read.0 c.loop.scanner c.in-Fault.field-0 c.loop.invariant.same_text c.loop.invariant.read.1 c.in-Fault.ensures in
+    inr (c.in-Fault.field-0.kind, c.in-Fault.field-0.at, fault.scan_fault)

@@ -1,0 +1,12 @@
+use Rattle.std.proofs.Common.{◌≡◌, ◌-◌, List, length}
+use Rattle.hcl_scan.specs.Lexemes.{Lexeme}
+use Rattle.hcl_scan.specs.Scans.{Run, begin}
+use Rattle.hcl_scan.specs.Scanners.{state_of, IsSound}
+use Rattle.hcl_scan.proofs.laws.list_or_fault.Given as goal
+
+-- some tokens were read, up to here
+abbrev pub invariant-loop : goal.invariant-loop
+invariant-loop l = record { same_text : l.scanner.text.now ≡ l.text; sound : IsSound l.scanner; read : (ts : List Lexeme) × Run (begin l.text) ts (state_of l.scanner) }
+
+abbrev pub decreases-loop : goal.decreases-loop
+decreases-loop l = length l.scanner.text.now - l.scanner.at
