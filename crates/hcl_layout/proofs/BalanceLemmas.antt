@@ -6,7 +6,7 @@ use Rattle.hcl_scan.specs.Lexemes.{Lexeme}
 use Rattle.hcl_scan.specs.declared.token.Kind.{Kind}
 use Rattle.hcl_scan.specs.declared.token.Kind.TheVariants as kind
 use Rattle.hcl_syntax.specs.Balanced.{IsBalanced, closers, closing, openers, opening}
-use Rattle.hcl_layout.specs.Depths.{Balanced, deepen}
+use Rattle.hcl_layout.specs.Inner.Depths.{Balanced, deepen}
 use Rattle.hcl_layout.specs.Levels.{is_closer, is_opener}
 use Rattle.hcl_layout.proofs.KindLemmas.{disjoint}
 

@@ -1,7 +1,7 @@
 -- No more grapheme clusters than bytes, and as many in a text that is ASCII without CR.
 use Rattle.std.proofs.Common.{get_or, not, ◌≡◌, ◌∙◌, ◌+◌, ◌-◌, ◌*◌, ◌≤◌, ◌<◌, ◌==◌, ◌&&◌, ap, ap₂, sym, refl, true≢false, ℕ, suc, zero, Bool, true, false, List, [], ◌∷◌, length, arith}
 use Rattle.std.specs.Prelude.{encode_utf8_all, ◌++◌, nat_lt, unwrap_or}
-use Rattle.hcl_layout.specs.Simple.{is_simple}
+use Rattle.hcl_layout.specs.Inner.Simple.{is_simple}
 use Rattle.std.proofs.lemmas.List.{length-map}
 use Rattle.std.proofs.lemmas.Str.{chars-IsAscii}
 use Rattle.std.proofs.lemmas.Bool.Decides.{nat_tests}

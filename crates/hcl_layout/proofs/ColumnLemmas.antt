@@ -1,7 +1,7 @@
 -- One column serves a whole run.
 use Rattle.std.proofs.Common.{◌≡◌, ℕ, List, [], ◌∷◌, Option, Some, None, max, ap, ap₂, arith, refl}
 use Rattle.hcl_layout.specs.Columns.{ahead, columns_from}
-use Rattle.hcl_layout.specs.Stream.{next_of}
+use Rattle.hcl_layout.specs.Inner.Stream.{next_of}
 
 -- the columns from here on, by the column of the line before
 abbrev pub columns_at : Option ℕ → List (Option ℕ) → List (Option ℕ)

@@ -8,7 +8,7 @@ use Rattle.std.specs.Str.{bytes_eq}
 use Rattle.std.proofs.lemmas.Bool.Decides.{nat_tests}
 use Rattle.hcl_scan.specs.Lexemes.{Lexeme}
 use Rattle.hcl_scan.specs.Scans as scans
-use Rattle.hcl_scan.specs.Leads.{may_begin_ident}
+use Rattle.hcl_scan.specs.SideBySide.{may_begin_ident}
 use Rattle.hcl_scan.specs.Neighbours as neighbours
 use Rattle.hcl_scan.specs.SideBySide as beside
 use Rattle.hcl_scan.specs.declared.token.Kind.{Kind}

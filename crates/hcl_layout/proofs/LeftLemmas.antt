@@ -2,15 +2,15 @@
 use Rattle.std.proofs.Common.{◌≡◌, ◌∙◌, ◌+◌, ◌-◌, ◌++◌, ◌<◌, ◌≤◌, ◌==◌, ◌^◌, ℕ, suc, zero, Bool, true, false, List, [], ◌∷◌, Option, Some, None, length, ap, ap₂, refl, sym, arith, take, drop, replicate}
 use Rattle.std.specs.Prelude.{IfSome, if◌then◌else◌, nat_lt, slice_get}
 use Rattle.std.proofs.lemmas.Bool.Decides.{nat_tests}
-use Rattle.hcl_layout.specs.Left.{behind}
+use Rattle.hcl_layout.specs.Inner.Left.{behind}
 use Rattle.std.specs.List.{flat_map}
 use Rattle.hcl_scan.specs.Lexemes.{Lexeme}
-use Rattle.hcl_layout.specs.Depths.{Balanced, fresh}
+use Rattle.hcl_layout.specs.Inner.Depths.{Balanced, fresh}
 use Rattle.hcl_layout.specs.Gaps.{clusters, gaps, width}
-use Rattle.hcl_layout.specs.LineGaps.{bulk, cell_gap, gap_of, gaps_from, gaps_in, plain_gap}
+use Rattle.hcl_layout.specs.Inner.LineGaps.{bulk, cell_gap, gap_of, gaps_from, gaps_in, plain_gap}
 use Rattle.hcl_layout.specs.Lines.{lines}
 use Rattle.hcl_layout.specs.Print.{printed}
-use Rattle.hcl_layout.specs.Stream.{commented}
+use Rattle.hcl_layout.specs.Inner.Stream.{commented}
 use Rattle.hcl_layout.specs.declared.line.Cell.{Cell}
 use Rattle.hcl_layout.specs.declared.line.LineGaps.{LineGaps}
 use Rattle.hcl_layout.proofs.LineLemmas.{blank, indented, width_next}

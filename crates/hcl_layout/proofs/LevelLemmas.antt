@@ -5,7 +5,7 @@ use Rattle.std.proofs.Common.{length-set}
 use Rattle.std.proofs.lemmas.List.{get_or-set_other}
 use Rattle.std.proofs.lemmas.Grind.{get_or-set_at}
 use Rattle.hcl_layout.specs.Levels.{Net, is_above, level, levels_after, none, plus, stays_above}
-use Rattle.hcl_layout.specs.Depths.{Sound, raised, turned}
+use Rattle.hcl_layout.specs.Inner.Depths.{Sound, raised, turned}
 
 -- ---- the groups that are open, one after another
 

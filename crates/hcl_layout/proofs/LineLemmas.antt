@@ -3,7 +3,7 @@ use Rattle.std.proofs.Common.{◌≡◌, ◌∙◌, ◌+◌, ◌-◌, ◌*◌, �
 use Rattle.std.specs.Prelude.{if◌then◌else◌, slice_get, slice_set, nat_eq, ◌||◌}
 use Rattle.hcl_scan.specs.Lexemes.{Lexeme}
 use Rattle.hcl_layout.specs.Gaps.{blanks, clusters, gaps_after, indent, plain_gaps, width}
-use Rattle.hcl_layout.specs.LineGaps.{bulk, cell_gap, gap_of, gaps_from, gaps_in, plain_gap, set_cell}
+use Rattle.hcl_layout.specs.Inner.LineGaps.{bulk, cell_gap, gap_of, gaps_from, gaps_in, plain_gap, set_cell}
 use Rattle.hcl_layout.specs.Lines.{Line, is_newline}
 use Rattle.hcl_layout.specs.Spacing.{spaced}
 use Rattle.hcl_layout.specs.declared.line.Cell.{Cell}

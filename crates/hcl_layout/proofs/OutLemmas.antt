@@ -5,7 +5,7 @@ use Rattle.std.proofs.lemmas.List.{append-nil, length-take-le, take-append-le}
 use Rattle.std.specs.Prelude.{IfErr, OnOk, Result, Ok, Err}
 use Rattle.std.specs.Io.KnownBytes.{Appends}
 use Rattle.hcl_scan.specs.declared.device.WriteFault.{WriteFault}
-use Rattle.hcl_layout.specs.Out.{Out, Stopped, held}
+use Rattle.hcl_layout.specs.Inner.Out.{Out, Stopped, held}
 use Rattle.hcl_layout.specs.declared.buffer.Buffer.{Buffer}
 
 pub Appends-then : (a b c : Option (List ℕ)) (xs ys : List ℕ) → Appends a b xs → Appends b c ys → Appends a c (xs ++ ys)

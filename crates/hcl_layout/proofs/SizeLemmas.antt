@@ -4,7 +4,7 @@ use Rattle.hcl_scan.specs.Lexemes.{Lexeme, marker_of}
 use Rattle.hcl_scan.specs.Scans.{Closes, Hidden, Next, Reads, Run, Scans, Shows, State, ahead, begin, gap_len, closer_len}
 use Rattle.hcl_scan.specs.declared.token.Kind.{Kind}
 use Rattle.hcl_scan.specs.declared.token.Kind.TheVariants as kind
-use Rattle.hcl_layout.specs.LineGaps.{bulk}
+use Rattle.hcl_layout.specs.Inner.LineGaps.{bulk}
 
 cut_length : (n : ℕ) (xs : List ℕ) → length (take n xs) + length (drop n xs) ≡ length xs
 cut_length zero xs = omega arith

@@ -7,11 +7,11 @@ use Rattle.std.proofs.lemmas.List.Elements.{filter-append}
 use Rattle.hcl_scan.specs.Lexemes.{Lexeme}
 use Rattle.hcl_scan.specs.declared.token.Kind.{Kind}
 use Rattle.hcl_layout.specs.Cells.{assign_cell, running_comment, trailing_comment}
-use Rattle.hcl_layout.specs.Depths.{Balanced, Steps, deepen, depth_after, fresh, level_at, turned}
+use Rattle.hcl_layout.specs.Inner.Depths.{Balanced, Steps, deepen, depth_after, fresh, level_at, turned}
 use Rattle.hcl_layout.specs.Gaps.{aligned, aligned_by, align, gaps, indented, line_gaps, plain_gaps, zip_with}
 use Rattle.hcl_layout.specs.Levels.{Net, is_above, is_closer, is_opener, levels, net_of, net_of_kind, none, plus}
 use Rattle.hcl_layout.specs.Lines.{Line, ends_line, lines, onto}
-use Rattle.hcl_layout.specs.Stream.{assign_column, assign_widths, assigned, comment_column, comment_widths, commented, leveled, plain}
+use Rattle.hcl_layout.specs.Inner.Stream.{assign_column, assign_widths, assigned, comment_column, comment_widths, commented, leveled, plain}
 use Rattle.hcl_layout.proofs.KindLemmas.{disjoint}
 use Rattle.hcl_layout.proofs.ColumnLemmas.{columns_at, before_run}
 use Rattle.hcl_layout.proofs.LevelLemmas.{Counted, Is, above_is, count, deeper_is, filter_higher, filter_lower, groups_then, is_deeper, levels_from, levels_of_state, turned_above, turned_before, turned_length}

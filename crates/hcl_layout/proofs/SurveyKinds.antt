@@ -3,7 +3,7 @@ use Rattle.std.proofs.Common.{◌≡◌, ◌&&◌, ◌||◌, Bool, true, false, 
 use Rattle.hcl_scan.specs.declared.token.Kind.{Kind}
 use Rattle.hcl_layout.specs.Cells.{is_assign, is_inline_comment, is_line_comment}
 use Rattle.hcl_layout.specs.Levels.{is_closer, is_opener}
-use Rattle.hcl_layout.specs.Survey.{is_noted}
+use Rattle.hcl_layout.specs.Inner.Survey.{is_noted}
 use Rattle.hcl_layout.proofs.EachKind.{each}
 
 abbrev pub changes : Kind → Bool

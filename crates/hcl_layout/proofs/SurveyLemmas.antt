@@ -7,10 +7,10 @@ use Rattle.std.proofs.lemmas.Grind.{common_steps}
 use Rattle.std.proofs.lemmas.Option.{get_or_from_slice_get, slice_get_within}
 use Rattle.hcl_scan.specs.Lexemes.{Lexeme}
 use Rattle.hcl_layout.specs.Cells.{assign_cell, has_torn, if_level, is_level, is_sign, is_torn, is_trailing, place_from, running_comment, trailing_comment, until}
-use Rattle.hcl_layout.specs.Depths.{Balanced, Steps, deepen, depth_after}
+use Rattle.hcl_layout.specs.Inner.Depths.{Balanced, Steps, deepen, depth_after}
 use Rattle.hcl_layout.specs.Levels.{Net, net_of}
 use Rattle.hcl_layout.specs.Lines.{Line, ends_line, lines, onto}
-use Rattle.hcl_layout.specs.Survey.{IsLine, assign_of, cell_if, first_noted, noted, running_of, surveyed, takes_sign}
+use Rattle.hcl_layout.specs.Inner.Survey.{IsLine, assign_of, cell_if, first_noted, noted, running_of, surveyed, takes_sign}
 use Rattle.hcl_layout.specs.declared.survey.Survey.{Survey}
 use Rattle.hcl_layout.specs.declared.survey.LineFacts.{LineFacts}
 use Rattle.hcl_layout.proofs.StreamLemmas.{after_is, after_low, deepen_low}

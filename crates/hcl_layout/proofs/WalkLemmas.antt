@@ -5,7 +5,7 @@ use Rattle.hcl_scan.specs.Lexemes.{Lexeme}
 use Rattle.hcl_layout.specs.Cells.{assign_cell, body, has_torn, if_level, is_level, is_sign, is_trailing, place_from, running_comment, trailing_comment, until}
 use Rattle.hcl_layout.specs.Gaps.{align, gap_to, plain_gaps, width}
 use Rattle.hcl_layout.specs.Levels.{net_of}
-use Rattle.hcl_layout.specs.LineGaps.{bulk, gaps_in, plain_of, set_cell}
+use Rattle.hcl_layout.specs.Inner.LineGaps.{bulk, gaps_in, plain_of, set_cell}
 use Rattle.hcl_layout.specs.Lines.{Line}
 use Rattle.hcl_layout.specs.declared.line.Cell.{Cell}
 use Rattle.hcl_layout.proofs.LineLemmas.{gaps_in_is, width_set, width_small}

@@ -2,16 +2,8 @@ pub mod Lines
 pub mod Levels
 pub mod Cells
 pub mod Spacing
-pub mod KindPairs
 pub mod Columns
 pub mod Gaps
 pub mod Print
-pub mod Depths
-pub mod Stream
-pub mod Survey
-pub mod LineGaps
-pub mod Walks
-pub mod Left
-pub mod Out
-pub mod Simple
 pub mod Reprinted
+pub mod Inner

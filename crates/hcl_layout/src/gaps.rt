@@ -1,9 +1,9 @@
 //! The pieces of the print, one after another: each token with the gap before it.
 ghost use Rattle.std.specs.Prelude.{◌≡◌, ◌<◌, ◌≤◌, ◌+◌, ◌*◌, ◌^◌, ◌++◌, ◌∷◌, [], List, length, IfSome, MatchOption};
 ghost use Rattle.hcl_scan.specs.Lexemes.{Lexeme};
-ghost use Rattle.hcl_layout.specs.Depths.{Balanced};
-ghost use Rattle.hcl_layout.specs.Left.{IsFrom, Ready, bytes_of, gaps_left, rest_gaps, to_print};
-ghost use Rattle.hcl_layout.specs.LineGaps.{bulk};
+ghost use Rattle.hcl_layout.specs.Inner.Depths.{Balanced};
+ghost use Rattle.hcl_layout.specs.Inner.Left.{IsFrom, Ready, bytes_of, gaps_left, rest_gaps, to_print};
+ghost use Rattle.hcl_layout.specs.Inner.LineGaps.{bulk};
 ghost use Rattle.hcl_layout.specs.Print.{print};
 
 use crate::line::{LineGaps, gap_by_cells, plain_gap_at, plain_line};

@@ -4,9 +4,9 @@ ghost use Rattle.unicode_segmentation.specs.Grapheme.{graphemes};
 ghost use Rattle.hcl_scan.specs.Lexemes.{Lexeme};
 ghost use Rattle.hcl_scan.specs.Scanned.{lexeme};
 ghost use Rattle.hcl_layout.specs.Gaps.{indent as indent_of, width as width_of};
-ghost use Rattle.hcl_layout.specs.Simple.{is_simple as is_simple_of};
-ghost use Rattle.hcl_layout.specs.Left.{behind};
-ghost use Rattle.hcl_layout.specs.LineGaps.{bulk, cell_gap as cell_gap_of, gaps_in, plain_gap as plain_gap_of, plain_of};
+ghost use Rattle.hcl_layout.specs.Inner.Simple.{is_simple as is_simple_of};
+ghost use Rattle.hcl_layout.specs.Inner.Left.{behind};
+ghost use Rattle.hcl_layout.specs.Inner.LineGaps.{bulk, cell_gap as cell_gap_of, gaps_in, plain_gap as plain_gap_of, plain_of};
 
 use crate::kind::is_newline;
 use crate::spacing::{space_between, space_by_kinds};

@@ -1,8 +1,8 @@
 //! How long the print is, and whether the source is its own print.
 ghost use Rattle.std.specs.Prelude.{◌≡◌, ◌≢◌, ◌↔◌, ◌≤◌, ◌^◌, ◌++◌, ◌==◌, ◌&&◌, ℕ, List, IsTrue, length, drop, take, nat_eq, nat_le, IfSome, MatchOption};
 ghost use Rattle.std.specs.List.{list_all, starts_with};
-ghost use Rattle.hcl_layout.specs.Left.{IsFrom, bytes_of};
-ghost use Rattle.hcl_layout.specs.LineGaps.{bulk};
+ghost use Rattle.hcl_layout.specs.Inner.Left.{IsFrom, bytes_of};
+ghost use Rattle.hcl_layout.specs.Inner.LineGaps.{bulk};
 ghost use Rattle.hcl_layout.specs.Print.{print};
 
 use crate::gaps::{Piece, next_piece, start};

@@ -3,7 +3,7 @@ ghost use Rattle.std.specs.Prelude.{◌≡◌, IfNone, IfSome, Option, option_ma
 ghost use Rattle.hcl_scan.specs.Lexemes.{Lexeme};
 ghost use Rattle.hcl_scan.specs.Scanned.{lexeme};
 ghost use Rattle.hcl_layout.specs.Spacing.{begins_with_equals as begins_with_equals_of, is_dot as is_dot_of, is_ident as is_ident_of, is_opening as is_opening_of, spaced, stands_before};
-ghost use Rattle.hcl_layout.specs.KindPairs.{asked_space as asked_space_of, pair_space as pair_space_of, space_behind_operand as space_behind_operand_of, stands_close as stands_close_of};
+ghost use Rattle.hcl_layout.specs.Inner.KindPairs.{asked_space as asked_space_of, pair_space as pair_space_of, space_behind_operand as space_behind_operand_of, stands_close as stands_close_of};
 
 use crate::kind::{
     awaits_operand, closes_group, is_brace_close, is_brace_open, is_bracket_open, is_comma, is_dot,

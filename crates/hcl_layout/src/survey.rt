@@ -6,8 +6,8 @@ ghost use Rattle.hcl_scan.specs.Scanned.{lexeme};
 ghost use Rattle.hcl_layout.specs.Lines.{ends_line};
 ghost use Rattle.hcl_layout.specs.Cells.{is_sign as is_sign_of, is_torn as is_torn_of, is_trailing as is_trailing_of, is_assign as is_assign_of, is_inline_comment as is_inline_comment_of, is_line_comment as is_line_comment_of};
 ghost use Rattle.hcl_layout.specs.Levels.{is_closer as is_closer_of, is_opener as is_opener_of};
-ghost use Rattle.hcl_layout.specs.Depths.{Balanced, Steps, deepen};
-ghost use Rattle.hcl_layout.specs.Survey.{IsLine, assign_of, first_noted, is_noted as is_noted_of, noted, running_of, surveyed};
+ghost use Rattle.hcl_layout.specs.Inner.Depths.{Balanced, Steps, deepen};
+ghost use Rattle.hcl_layout.specs.Inner.Survey.{IsLine, assign_of, first_noted, is_noted as is_noted_of, noted, running_of, surveyed};
 
 use crate::kind::{
     is_assign, is_closer, is_inline_comment, is_line_comment, is_newline, is_opener,

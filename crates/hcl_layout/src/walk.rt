@@ -2,13 +2,13 @@
 ghost use Rattle.std.specs.Prelude.{◌≡◌, ◌<◌, ◌≤◌, ◌+◌, ◌-◌, ◌^◌, ℕ, length, take, drop, Some, None, ◌∷◌, IfSome};
 ghost use Rattle.hcl_layout.specs.Columns.{ahead};
 ghost use Rattle.hcl_layout.specs.Cells.{assign_cell, trailing_comment};
-ghost use Rattle.hcl_layout.specs.Depths.{Sound, depth_after, fresh, level_at, raised, turned};
+ghost use Rattle.hcl_layout.specs.Inner.Depths.{Sound, depth_after, fresh, level_at, raised, turned};
 ghost use Rattle.hcl_layout.specs.Gaps.{align, plain_gaps, width as width_of};
-ghost use Rattle.hcl_layout.specs.LineGaps.{bulk, gaps_in};
+ghost use Rattle.hcl_layout.specs.Inner.LineGaps.{bulk, gaps_in};
 ghost use Rattle.hcl_layout.specs.Lines.{lines};
-ghost use Rattle.hcl_layout.specs.Stream.{assign_column, assign_widths, next_of, comment_column, comment_widths, plain};
-ghost use Rattle.hcl_layout.specs.Survey.{IsLine, text_at};
-ghost use Rattle.hcl_layout.specs.Walks.{Stands};
+ghost use Rattle.hcl_layout.specs.Inner.Stream.{assign_column, assign_widths, next_of, comment_column, comment_widths, plain};
+ghost use Rattle.hcl_layout.specs.Inner.Survey.{IsLine, text_at};
+ghost use Rattle.hcl_layout.specs.Inner.Walks.{Stands};
 
 use crate::line::{Cell, LineGaps, plain_line, width};
 use crate::survey::{LineFacts, line_at};

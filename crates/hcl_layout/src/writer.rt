@@ -1,8 +1,8 @@
 //! The print, written.
 ghost use Rattle.std.specs.Prelude.{◌≡◌, ◌<◌, ◌≤◌, ◌+◌, ◌^◌, ◌++◌, ℕ, List, Option, false, length, take, replicate, is_err, IfErr, OnOk};
 ghost use Rattle.std.specs.Io.KnownBytes.{Appends};
-ghost use Rattle.hcl_layout.specs.Left.{bytes_of};
-ghost use Rattle.hcl_layout.specs.Out.{Out, Stopped, held};
+ghost use Rattle.hcl_layout.specs.Inner.Left.{bytes_of};
+ghost use Rattle.hcl_layout.specs.Inner.Out.{Out, Stopped, held};
 ghost use Rattle.hcl_layout.specs.Print.{print};
 
 use crate::buffer::Buffer;

@@ -7,7 +7,7 @@ use Rattle.std.proofs.lemmas.List.{take-append-drop, get_or_append_left, get_or-
 use Rattle.std.proofs.lemmas.List.Sums.{prefix_len-le-length}
 use Rattle.std.proofs.lemmas.Bool.Decides.{nat_tests}
 use Rattle.hcl_scan.specs.Spelling.{starts, Holds, IsLineComment, IsInlineComment}
-use Rattle.hcl_scan.specs.Found.{IsLongestFront, HasNoFront, EndsComment}
+use Rattle.hcl_scan.specs.Inner.Found.{IsLongestFront, HasNoFront, EndsComment}
 use Rattle.hcl_scan.proofs.Booleans.{and_true}
 use Rattle.hcl_scan.proofs.Fronts.{begins, longest_is, run_passes, run_longest}
 

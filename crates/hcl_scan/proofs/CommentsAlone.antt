@@ -4,8 +4,8 @@ use Rattle.std.proofs.Common.{◌≡◌, ℕ, suc, ◌+◌, ◌<◌, ◌||◌, �
 use Rattle.std.specs.List.{list_any}
 use Rattle.hcl_scan.specs.Lexemes.{Opener}
 use Rattle.hcl_scan.specs.Spelling.{IsNewline, IsLineComment, IsInlineComment, IsExpressionText, starts}
-use Rattle.hcl_scan.specs.Found.{EndsComment}
-use Rattle.hcl_scan.specs.Leads.{lead_of}
+use Rattle.hcl_scan.specs.Inner.Found.{EndsComment}
+use Rattle.hcl_scan.specs.Inner.Leads.{lead_of}
 use Rattle.hcl_scan.specs.Neighbours.{grows, ends_comment}
 use Rattle.hcl_scan.specs.declared.expression.Lead.TheVariants.{LineEnd, HashOrSlashes, SlashStar, OneSlash}
 use Rattle.hcl_scan.specs.declared.token.Kind.{Kind}

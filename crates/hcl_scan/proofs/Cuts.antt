@@ -11,7 +11,7 @@ use Rattle.std.proofs.lemmas.Bool.{cases_order}
 use Rattle.std.proofs.lemmas.List.Sums.{prefix_len-le-length, prefix_len_passes, prefix_len_stops}
 use Rattle.std.proofs.lemmas.Bool.Decides.{nat_tests}
 use Rattle.hcl_scan.specs.Spelling.{marks, IsMark, IsNewline, IsDigits, IsSign, IsFraction, IsExponent, IsInlineComment, IsHeredocOpen, is_blank}
-use Rattle.hcl_scan.specs.Found.{BlankText, NumberText, CloserText}
+use Rattle.hcl_scan.specs.Inner.Found.{BlankText, NumberText, CloserText}
 use Rattle.hcl_scan.specs.declared.token.Kind.{Kind}
 use Rattle.hcl_scan.proofs.Words.{all_to}
 use Rattle.hcl_scan.proofs.Ways.{mark_passes}

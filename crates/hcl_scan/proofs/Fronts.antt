@@ -7,7 +7,7 @@ use Rattle.std.specs.Prelude.{nat_eq}
 use Rattle.std.specs.List.{list_all, prefix_len, starts_with}
 use Rattle.std.proofs.lemmas.Slice.Eq.{starts_is}
 use Rattle.std.proofs.lemmas.Bool.Decides.{Decides-eqb}
-use Rattle.hcl_scan.specs.Found.{IsLongestFront, HasNoFront}
+use Rattle.hcl_scan.specs.Inner.Found.{IsLongestFront, HasNoFront}
 use Rattle.hcl_scan.proofs.Booleans.{and_true}
 
 -- what a test for a front says

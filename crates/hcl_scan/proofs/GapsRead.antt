@@ -6,7 +6,7 @@ use Rattle.std.proofs.lemmas.Bool.Decides.{nat_tests}
 use Rattle.hcl_scan.specs.Lexemes.{Lexeme, Opener, in_heredoc}
 use Rattle.hcl_scan.specs.Spelling.{IsNewline, IsTextIn, IsExpressionText, is_blank, starts, context, Context, Template, Expression}
 use Rattle.hcl_scan.specs.Scans.{State, gap_in, gap_len, has_gaps_in, skip_blanks, ends_line, Reads, Closes, Run, IsComplete}
-use Rattle.hcl_scan.specs.Leads.{lead_of}
+use Rattle.hcl_scan.specs.Inner.Leads.{lead_of}
 use Rattle.hcl_scan.specs.Regapped.{tokens_of, text_of, is_template, touches, fits}
 use Rattle.hcl_scan.specs.declared.expression.Lead.TheVariants.{LineEnd}
 use Rattle.hcl_scan.specs.declared.token.Kind.{Kind}

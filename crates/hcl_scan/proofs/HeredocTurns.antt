@@ -11,8 +11,8 @@ use Rattle.hcl_scan.specs.Lexemes.{Opener, Heredoc, marker_of, moved}
 use Rattle.hcl_scan.specs.Spelling.{is_blank, starts, context, Expression, IsHeredocOpen}
 use Rattle.hcl_scan.specs.Scans.{Shows, hides, IsLongest, IsMarkerLine, IsFirstMarkerLine, closer_len, is_marker_line, skip_blanks, ends_line, ahead, is_dot}
 use Rattle.hcl_scan.specs.Faults.{too_deep, no_marker_line}
-use Rattle.hcl_scan.specs.Openings.{opener_of, openers_of, offsets_in, hidden_of, opened_by, opened_on, is_heredoc_open}
-use Rattle.hcl_scan.specs.Scanners.{state_of, IsSound, IsNext, IsStopped, Moves, fits_in}
+use Rattle.hcl_scan.specs.Inner.Openings.{opener_of, openers_of, offsets_in, hidden_of, opened_by, opened_on, is_heredoc_open}
+use Rattle.hcl_scan.specs.Inner.Scanners.{state_of, IsSound, IsNext, IsStopped, Moves, fits_in}
 use Rattle.hcl_scan.specs.declared.entry.Entry.{Entry}
 use Rattle.hcl_scan.specs.declared.opened.By.{By}
 use Rattle.hcl_scan.specs.declared.opened.By.TheVariants as by

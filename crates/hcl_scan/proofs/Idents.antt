@@ -13,7 +13,7 @@ use Rattle.std.proofs.lemmas.Bool.Decides.{nat_tests}
 use Rattle.unicode_ident.specs.Ident.{is_xid_start}
 use Rattle.unicode_ident.proofs.IdentLemmas.{is_xid_start-ascii, is_xid_continue-ascii, is_xid_start-is_xid_continue}
 use Rattle.hcl_scan.specs.Spelling.{IsIdent, are_ident, starts_ident, continues_ident}
-use Rattle.hcl_scan.specs.Found.{IsLongestFront, HasNoFront, BeginsWith, FirstChar, BeginsWithout, AreContinuing, continues_ascii}
+use Rattle.hcl_scan.specs.Inner.Found.{IsLongestFront, HasNoFront, BeginsWith, FirstChar, BeginsWithout, AreContinuing, continues_ascii}
 use Rattle.hcl_scan.proofs.Booleans.{and_true}
 use Rattle.hcl_scan.proofs.Cuts.{run_cut}
 use Rattle.hcl_scan.proofs.Fronts.{run_passes}

@@ -6,7 +6,8 @@ use Rattle.std.proofs.lemmas.Bool.Decides.{nat_tests}
 use Rattle.std.proofs.lemmas.List.{append-nil}
 use Rattle.hcl_scan.specs.Lexemes.{Opener}
 use Rattle.hcl_scan.specs.Spelling.{marks, IsMark, IsDigits, is_blank, starts}
-use Rattle.hcl_scan.specs.Leads.{lead_of, lead_bytes, slash_lead, may_begin_ident}
+use Rattle.hcl_scan.specs.Inner.Leads.{lead_of, lead_bytes, slash_lead}
+use Rattle.hcl_scan.specs.SideBySide.{may_begin_ident}
 use Rattle.hcl_scan.specs.declared.expression.Lead.{Lead}
 use Rattle.hcl_scan.specs.declared.expression.Lead.TheVariants.{LineEnd, Space, Letter, Digit, HashOrSlashes, SlashStar, OneSlash, LessLess, Closer, Sign}
 use Rattle.hcl_scan.specs.declared.token.Kind.{Kind}

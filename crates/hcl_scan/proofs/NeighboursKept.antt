@@ -16,7 +16,7 @@ use Rattle.hcl_scan.proofs.Templates.{Way, lit, interp, control, quote as closin
 use Rattle.hcl_scan.proofs.Templates as templates
 use Rattle.hcl_scan.proofs.Starts.{starts_is}
 use Rattle.std.proofs.Math.Seq.{take-append_seam, drop-append_seam}
-use Rattle.hcl_scan.specs.Found.{Finds}
+use Rattle.hcl_scan.specs.Inner.Found.{Finds}
 use Rattle.hcl_scan.proofs.Contexts.{heredoc_on_top}
 use Rattle.hcl_scan.proofs.Leads.{some}
 use Rattle.hcl_scan.proofs.Comments.{or_cases}

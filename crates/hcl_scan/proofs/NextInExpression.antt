@@ -7,7 +7,7 @@ use Rattle.std.proofs.lemmas.Bool.Decides.{nat_tests}
 use Rattle.hcl_scan.specs.Lexemes.{Lexeme, Opener, in_heredoc, moved}
 use Rattle.hcl_scan.specs.Spelling.{marks, IsMark, IsExpressionText, context, Expression}
 use Rattle.hcl_scan.specs.Scans.{State, is_dot, ahead, Reads, Closes, Next, Run}
-use Rattle.hcl_scan.specs.Leads.{lead_of, lead_bytes}
+use Rattle.hcl_scan.specs.Inner.Leads.{lead_of, lead_bytes}
 use Rattle.hcl_scan.specs.Neighbours.{grows, is_number, joins, joins_text, stays}
 use Rattle.hcl_scan.specs.Regapped.{tokens_of, text_of, is_template, touches, AllFit}
 use Rattle.hcl_scan.specs.declared.expression.Lead.TheVariants.{Sign as SignLead}

@@ -5,7 +5,7 @@ use Rattle.std.proofs.lemmas.Str.{IsCharBoundary-after_ascii}
 use Rattle.std.proofs.lemmas.List.{take-append-drop}
 use Rattle.std.proofs.lemmas.Bool.Decides.{nat_tests}
 use Rattle.hcl_scan.specs.Spelling.{IsIdent, IsNewline, IsHeredocOpen, starts}
-use Rattle.hcl_scan.specs.Found.{IsLongestFront, HasNoFront, IsMarker, heredoc_mark_len}
+use Rattle.hcl_scan.specs.Inner.Found.{IsLongestFront, HasNoFront, IsMarker, heredoc_mark_len}
 use Rattle.hcl_scan.proofs.Words.{ident_word, is_word, begins_word}
 use Rattle.hcl_scan.proofs.Numerals.{behind, inside, all_at}
 use Rattle.hcl_scan.proofs.Fronts.{longest_is, front_dropped}

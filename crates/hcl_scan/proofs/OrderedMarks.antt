@@ -5,8 +5,8 @@ use Rattle.std.specs.List.{list_all, starts_with}
 use Rattle.std.proofs.lemmas.Bool.Decides.{nat_tests}
 use Rattle.std.proofs.Math.Seq.{take-append_seam}
 use Rattle.hcl_scan.specs.Spelling.{marks, IsMark}
-use Rattle.hcl_scan.specs.Marks.{is_longest_first, ordered_marks}
-use Rattle.hcl_scan.specs.Found.{IsLongestMark, HasNoMark}
+use Rattle.hcl_scan.specs.Inner.Marks.{is_longest_first, ordered_marks}
+use Rattle.hcl_scan.specs.Inner.Found.{IsLongestMark, HasNoMark}
 use Rattle.hcl_scan.specs.declared.token.Kind.{Kind}
 use Rattle.hcl_scan.specs.declared.token.Kind.TheVariants.{Dot}
 use Rattle.hcl_scan.proofs.Booleans.{and_true}

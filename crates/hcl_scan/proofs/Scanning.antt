@@ -7,8 +7,8 @@ use Rattle.std.proofs.lemmas.List.Elements.{All-push}
 use Rattle.hcl_scan.specs.Lexemes.{Lexeme}
 use Rattle.hcl_scan.specs.Scans.{Run, Next, begin}
 use Rattle.hcl_scan.specs.Faults.{IsScanFault}
-use Rattle.hcl_scan.specs.Scanners.{state_of, lexeme_of, lexemes_of, IsEntry, IsStopped, Moves}
-use Rattle.hcl_scan.specs.Stops.{IsFaultOf}
+use Rattle.hcl_scan.specs.Inner.Scanners.{state_of, lexeme_of, lexemes_of, IsEntry, IsStopped, Moves}
+use Rattle.hcl_scan.specs.Inner.Stops.{IsFaultOf}
 use Rattle.hcl_scan.specs.declared.entry.Entry.{Entry}
 use Rattle.hcl_scan.specs.declared.scanner.Scanner.{Scanner}
 use Rattle.hcl_scan.specs.declared.stopped.Stopped.{Stopped}

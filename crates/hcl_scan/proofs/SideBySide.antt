@@ -3,7 +3,7 @@ use Rattle.std.proofs.Common.{◌≡◌, ℕ, ◌<◌, ◌||◌, ◌==◌, Bool,
 use Rattle.hcl_scan.specs.Lexemes.{Lexeme, Opener, Quote, Heredoc, Sequence, Brace, Bracket, Paren, in_heredoc, moved, pop_if, below_groups, is_paren, is_bracket, is_brace}
 use Rattle.hcl_scan.specs.Spelling.{IsExpressionText, context, Template, Expression}
 use Rattle.hcl_scan.specs.Scans.{State, ahead, begin, IsLongest, Shows, Reads, Closes, Next, Run, Scans}
-use Rattle.hcl_scan.specs.Leads.{lead_of}
+use Rattle.hcl_scan.specs.Inner.Leads.{lead_of}
 use Rattle.hcl_scan.specs.declared.expression.Lead.TheVariants.{LineEnd}
 use Rattle.hcl_scan.specs.declared.token.Kind.{Kind}
 use Rattle.hcl_scan.specs.declared.token.Kind.TheVariants.{Newline, LineComment, HeredocOpen, QuoteOpen, ParenOpen, BracketOpen, BraceOpen, ParenClose, BracketClose, SeqClose, BraceClose, Lit, InterpOpen, ControlOpen, QuoteClose, HeredocClose}

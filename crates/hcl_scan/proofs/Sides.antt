@@ -2,8 +2,8 @@
 use Rattle.std.proofs.Common.{◌≡◌, ◌≢◌, ℕ, ◌&&◌, Bool, true, false, List, [], ◌∷◌, Option, Some, None, ⊎_elim, refl, sym, ap, subst, ◌∙◌}
 use Rattle.hcl_scan.specs.Lexemes.{Opener, closes_sequence}
 use Rattle.hcl_scan.specs.Spelling.{marks, IsMark, IsHeredocOpen, IsExpressionText, IsTextIn, IsSpelling, Context, Template, Expression, context}
-use Rattle.hcl_scan.specs.Openings.{opened_by, opener_of}
-use Rattle.hcl_scan.specs.Scanners.{fits_in}
+use Rattle.hcl_scan.specs.Inner.Openings.{opened_by, opener_of}
+use Rattle.hcl_scan.specs.Inner.Scanners.{fits_in}
 use Rattle.hcl_scan.specs.declared.opened.By.{By}
 use Rattle.hcl_scan.specs.declared.token.Kind.{Kind}
 use Rattle.hcl_scan.specs.declared.token.Kind.TheVariants.{Lit, InterpOpen, ControlOpen, QuoteClose, HeredocClose, HeredocOpen, QuoteOpen, ParenOpen, BracketOpen, BraceOpen, SeqClose}

@@ -5,8 +5,8 @@ use Rattle.std.proofs.lemmas.Bool.Decides.{nat_tests}
 use Rattle.hcl_scan.specs.Lexemes.{Opener, Quote, Heredoc, Sequence, Brace, Bracket, Paren, is_heredoc, is_group, is_paren, is_bracket, is_brace, is_sequence, in_heredoc, below_groups, closes_sequence, pop_if, tops_with, moved}
 use Rattle.hcl_scan.specs.Spelling.{Context, Template, Expression, context, context_in}
 use Rattle.hcl_scan.specs.Scans.{Hidden, offsets_of, owed, owes}
-use Rattle.hcl_scan.specs.Openings.{opener_of, openers_of, offsets_in, hidden_of, hidden_under, popped_groups, popped_if, same_opener, closed, closes_on, top_closes, opened_by}
-use Rattle.hcl_scan.specs.Scanners.{fits_in, AreEndsBy, IsStack}
+use Rattle.hcl_scan.specs.Inner.Openings.{opener_of, openers_of, offsets_in, hidden_of, hidden_under, popped_groups, popped_if, same_opener, closed, closes_on, top_closes, opened_by}
+use Rattle.hcl_scan.specs.Inner.Scanners.{fits_in, AreEndsBy, IsStack}
 use Rattle.hcl_scan.specs.declared.opened.By.{By}
 use Rattle.hcl_scan.specs.declared.opened.By.TheVariants as by
 use Rattle.hcl_scan.specs.declared.opened.Opened.{Opened}

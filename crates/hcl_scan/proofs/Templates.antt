@@ -7,7 +7,7 @@ use Rattle.std.proofs.lemmas.Bool.Decides.{nat_tests}
 use Rattle.hcl_scan.specs.Lexemes.{Opener}
 use Rattle.hcl_scan.specs.Spelling.{starts, is_sign, ends_quoted, escape_len, element_len, are_elements, IsLit, IsTemplateText, IsTextIn, IsSpelling, Template, context}
 use Rattle.hcl_scan.specs.Scans.{HasNone}
-use Rattle.hcl_scan.specs.Found.{Finds}
+use Rattle.hcl_scan.specs.Inner.Found.{Finds}
 use Rattle.hcl_scan.specs.Regapped.{is_template}
 use Rattle.hcl_scan.specs.declared.token.Kind.{Kind}
 use Rattle.hcl_scan.specs.declared.token.Kind.TheVariants.{Lit, InterpOpen, ControlOpen, QuoteClose}

@@ -8,9 +8,10 @@ use Rattle.std.proofs.lemmas.List.{take-append-drop}
 use Rattle.std.proofs.lemmas.Bool.Decides.{nat_tests}
 use Rattle.hcl_scan.specs.Lexemes.{Opener, in_heredoc, closes_sequence}
 use Rattle.hcl_scan.specs.Spelling.{marks, IsMark, IsNewline, IsLineComment, IsInlineComment, IsIdent, IsHeredocOpen, IsSpelling, IsTextIn, IsExpressionText, Context, starts}
-use Rattle.hcl_scan.specs.Found.{Finds, IsPlace, FindsAt, HasNoneAt, IsLongestFront, HasNoFront, BlankText, NumberText, CloserText, closer_kind, IsLongestMark, HasNoMark}
+use Rattle.hcl_scan.specs.Inner.Found.{Finds, IsPlace, FindsAt, HasNoneAt, IsLongestFront, HasNoFront, BlankText, NumberText, CloserText, closer_kind, IsLongestMark, HasNoMark}
 use Rattle.hcl_scan.specs.Scans.{HasNone}
-use Rattle.hcl_scan.specs.Leads.{lead_of, lead_bytes, slash_lead, may_begin_ident}
+use Rattle.hcl_scan.specs.Inner.Leads.{lead_of, lead_bytes, slash_lead}
+use Rattle.hcl_scan.specs.SideBySide.{may_begin_ident}
 use Rattle.hcl_scan.specs.declared.expression.Lead.{Lead}
 use Rattle.hcl_scan.specs.declared.expression.Lead.TheVariants.{LineEnd, Space, Letter, Digit, HashOrSlashes, SlashStar, OneSlash, LessLess, Closer, Sign}
 use Rattle.hcl_scan.specs.declared.found.Found.{Found}

@@ -11,9 +11,9 @@ use Rattle.hcl_scan.specs.Lexemes.{Opener, in_heredoc, moved, Heredoc, Quote, Se
 use Rattle.hcl_scan.specs.Spelling.{is_blank, Context, Template, Expression, context, context_in}
 use Rattle.hcl_scan.specs.Scans.{State, Hidden, Shows, IsLongest, gap_len, ahead, is_dot, offsets_of, owed, owes, has_gaps_in, HasNone}
 use Rattle.hcl_scan.specs.Faults.{no_token, at_end, no_token_fault, fault_offset, owed_offset, end_fault}
-use Rattle.hcl_scan.specs.Found.{Finds}
-use Rattle.hcl_scan.specs.Openings.{opener_of, openers_of, offsets_in, hidden_of, quoted_in, template_top, option_and, innermost_owed, opened_by, opened_on, closed, is_heredoc_open}
-use Rattle.hcl_scan.specs.Scanners.{state_of, IsStack, IsSound, IsEntry, IsStart, IsNext, IsStopped, Moves}
+use Rattle.hcl_scan.specs.Inner.Found.{Finds}
+use Rattle.hcl_scan.specs.Inner.Openings.{opener_of, openers_of, offsets_in, hidden_of, quoted_in, template_top, option_and, innermost_owed, opened_by, opened_on, closed, is_heredoc_open}
+use Rattle.hcl_scan.specs.Inner.Scanners.{state_of, IsStack, IsSound, IsEntry, IsStart, IsNext, IsStopped, Moves}
 use Rattle.hcl_scan.specs.declared.entry.Entry.{Entry}
 use Rattle.hcl_scan.specs.declared.found.Found.{Found}
 use Rattle.hcl_scan.specs.declared.opened.By.{By}

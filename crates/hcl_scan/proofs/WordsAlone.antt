@@ -4,7 +4,7 @@ use Rattle.std.specs.List.{list_all}
 use Rattle.std.specs.Char.{is_ascii_digit}
 use Rattle.hcl_scan.specs.Lexemes.{Opener}
 use Rattle.hcl_scan.specs.Spelling.{IsDigits, IsIdent, IsNumber, IsExpressionText}
-use Rattle.hcl_scan.specs.Leads.{lead_of}
+use Rattle.hcl_scan.specs.Inner.Leads.{lead_of}
 use Rattle.hcl_scan.specs.Neighbours.{grows}
 use Rattle.hcl_scan.specs.declared.expression.Lead.TheVariants.{Letter, Digit}
 use Rattle.hcl_scan.specs.declared.token.Kind.{Kind}

@@ -6,15 +6,9 @@ pub mod Lexemes
 pub mod Spelling
 pub mod Scans
 pub mod Faults
-pub mod Found
-pub mod Leads
-pub mod Marks
-pub mod Openings
-pub mod Scanners
-pub mod Stops
 pub mod Scanned
-pub mod Entries
 pub mod Neighbours
 pub mod Regapped
 pub mod SideBySide
 pub mod InHeredocs
+pub mod Inner

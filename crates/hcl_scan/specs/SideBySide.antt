@@ -1,13 +1,16 @@
 -- What a scan says of tokens that stand side by side, by the kind before and the first byte, so that whoever puts
 -- blanks between them need not know how a text is read.
-use Rattle.std.specs.Prelude.{◌≡◌, ℕ, ◌==◌, Bool, true, false, List, [], ◌∷◌, get_or, codes, if◌then◌else◌, ◌⊎◌, IsUtf8}
-use Rattle.std.specs.Char.{is_ascii_digit}
+use Rattle.std.specs.Prelude.{◌||◌, ◌≡◌, ℕ, ◌==◌, Bool, true, false, List, [], ◌∷◌, get_or, nat_le, codes, if◌then◌else◌, ◌⊎◌, IsUtf8}
+use Rattle.std.specs.Char.{is_ascii_digit, is_ascii_alphabetic}
 use Rattle.hcl_scan.specs.Lexemes.{Lexeme}
-use Rattle.hcl_scan.specs.Leads.{may_begin_ident}
 use Rattle.hcl_scan.specs.Neighbours.{is_number}
 use Rattle.hcl_scan.specs.Regapped.{is_template}
 use Rattle.hcl_scan.specs.declared.token.Kind.{Kind}
 use Rattle.hcl_scan.specs.declared.token.Kind.TheVariants.{Newline, LineComment, InlineComment, Ident, HeredocOpen, QuoteOpen, SeqClose, Dot, Ellipsis, Assign, Arrow, Minus, Star, Slash, Equal, Less, Greater, LessEqual, GreaterEqual, Lit, HeredocClose}
+
+-- an identifier may begin with the byte; beyond ASCII its character decides
+abbrev pub may_begin_ident : ℕ → Bool
+may_begin_ident b = is_ascii_alphabetic b || (b == 95) || nat_le 128 b
 
 abbrev pub is_ident : Kind → Bool
 is_ident Ident = true

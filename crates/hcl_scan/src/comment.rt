@@ -2,7 +2,7 @@
 
 ghost use Rattle.std.specs.Prelude.{◌<◌, ℕ, IfSome, IfNone};
 ghost use Rattle.hcl_scan.specs.Spelling.{IsInlineComment};
-ghost use Rattle.hcl_scan.specs.Found.{IsLongestFront, HasNoFront, EndsComment};
+ghost use Rattle.hcl_scan.specs.Inner.Found.{IsLongestFront, HasNoFront, EndsComment};
 
 /// Where the first `*/` begins.
 fn comment_end(seen: &[u8]) -> Option<usize>

@@ -3,8 +3,8 @@
 ghost use Rattle.std.specs.Prelude.{◌≡◌, ℕ, Bool, Some, None, IfSome, IfNone};
 ghost use Rattle.std.specs.Str.{IsCharBoundary};
 ghost use Rattle.hcl_scan.specs.Spelling.{marks};
-ghost use Rattle.hcl_scan.specs.Found.{FindsAt, HasNoneAt, IsLongestFront, HasNoFront, IsLongestMark, HasNoMark, BlankText, NumberText, CloserText, closer_kind};
-ghost use Rattle.hcl_scan.specs.Leads.{lead_of, lead_bytes, slash_lead};
+ghost use Rattle.hcl_scan.specs.Inner.Found.{FindsAt, HasNoneAt, IsLongestFront, HasNoFront, IsLongestMark, HasNoMark, BlankText, NumberText, CloserText, closer_kind};
+ghost use Rattle.hcl_scan.specs.Inner.Leads.{lead_of, lead_bytes, slash_lead};
 ghost use Rattle.hcl_scan.specs.declared.expression.Lead.TheVariants.{LessLess};
 
 use crate::bytes::byte_at;

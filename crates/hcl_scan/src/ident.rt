@@ -5,7 +5,7 @@ ghost use Rattle.std.specs.Char.{is_ascii_alphabetic};
 ghost use Rattle.std.specs.List.{prefix_len};
 ghost use Rattle.std.specs.Str.{IsCharBoundary};
 ghost use Rattle.hcl_scan.specs.Spelling.{continues_ident, starts_ident, IsIdent, IsHeredocOpen};
-ghost use Rattle.hcl_scan.specs.Found.{IsLongestFront, HasNoFront, AreContinuing, BeginsWith, BeginsWithout, FirstChar, IsMarker, continues_ascii, heredoc_mark_len};
+ghost use Rattle.hcl_scan.specs.Inner.Found.{IsLongestFront, HasNoFront, AreContinuing, BeginsWith, BeginsWithout, FirstChar, IsMarker, continues_ascii, heredoc_mark_len};
 
 use crate::bytes::byte_at;
 use crate::space::newline_len;

@@ -2,8 +2,8 @@
 
 ghost use Rattle.std.specs.Prelude.{◌≡◌, IfSome, IfNone};
 ghost use Rattle.hcl_scan.specs.Spelling.{marks};
-ghost use Rattle.hcl_scan.specs.Found.{IsLongestMark, HasNoMark};
-ghost use Rattle.hcl_scan.specs.Marks.{first_mark};
+ghost use Rattle.hcl_scan.specs.Inner.Found.{IsLongestMark, HasNoMark};
+ghost use Rattle.hcl_scan.specs.Inner.Marks.{first_mark};
 
 use crate::bytes::byte_at;
 use crate::token::Kind;

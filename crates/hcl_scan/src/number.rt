@@ -4,7 +4,7 @@ ghost use Rattle.std.specs.Prelude.{◌≡◌, ◌==◌, ◌||◌, ◌≤◌, le
 ghost use Rattle.std.specs.List.{prefix_len};
 ghost use Rattle.std.specs.Char.{is_ascii_digit};
 ghost use Rattle.hcl_scan.specs.Spelling.{IsDigits, IsFraction, IsSign, IsExponent, IsNumber};
-ghost use Rattle.hcl_scan.specs.Found.{IsLongestFront, HasNoFront};
+ghost use Rattle.hcl_scan.specs.Inner.Found.{IsLongestFront, HasNoFront};
 
 use crate::bytes::byte_at;
 

@@ -6,10 +6,10 @@ ghost use Rattle.hcl_scan.specs.Lexemes.{in_heredoc};
 ghost use Rattle.hcl_scan.specs.Spelling.{context, Template, Expression};
 ghost use Rattle.hcl_scan.specs.Scans.{ahead, begin, is_dot, HasNone};
 ghost use Rattle.hcl_scan.specs.Faults.{no_token_fault};
-ghost use Rattle.hcl_scan.specs.Found.{Finds};
-ghost use Rattle.hcl_scan.specs.Openings.{openers_of, opened_by, is_heredoc_open};
+ghost use Rattle.hcl_scan.specs.Inner.Found.{Finds};
+ghost use Rattle.hcl_scan.specs.Inner.Openings.{openers_of, opened_by, is_heredoc_open};
 ghost use Rattle.hcl_scan.specs.declared.opened.Opened.{Opened};
-ghost use Rattle.hcl_scan.specs.Scanners.{state_of, IsSound, IsStart, IsNext, IsStopped, Moves, IsTurn};
+ghost use Rattle.hcl_scan.specs.Inner.Scanners.{state_of, IsSound, IsStart, IsNext, IsStopped, Moves, IsTurn};
 
 use crate::entry::Entry;
 use crate::expression::next_in_expression;

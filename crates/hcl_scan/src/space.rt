@@ -3,7 +3,7 @@
 ghost use Rattle.std.specs.Prelude.{◌≡◌, ◌==◌, ◌≤◌, length, IfSome, IfNone};
 ghost use Rattle.std.specs.List.{prefix_len, position_or_len};
 ghost use Rattle.hcl_scan.specs.Spelling.{is_blank, IsNewline, IsBlanks};
-ghost use Rattle.hcl_scan.specs.Found.{IsLongestFront, HasNoFront};
+ghost use Rattle.hcl_scan.specs.Inner.Found.{IsLongestFront, HasNoFront};
 ghost use Rattle.hcl_scan.specs.Scans.{skip_blanks};
 
 /// How many bytes the newline at the front has.

@@ -3,7 +3,7 @@
 ghost use Rattle.std.specs.Prelude.{◌≡◌, ◌==◌, ◌<◌, ◌≤◌, ◌∷◌, [], length, drop, MatchOption};
 ghost use Rattle.hcl_scan.specs.Spelling.{context, context_in};
 ghost use Rattle.hcl_scan.specs.Scans.{owes};
-ghost use Rattle.hcl_scan.specs.Openings.{opener_of, openers_of, is_group_by, popped_groups, same_opener, popped_if, closes_on, top_closes, opened_on, closed, quoted_in, template_top, innermost_owed};
+ghost use Rattle.hcl_scan.specs.Inner.Openings.{opener_of, openers_of, is_group_by, popped_groups, same_opener, popped_if, closes_on, top_closes, opened_on, closed, quoted_in, template_top, innermost_owed};
 
 use crate::opened::{By, Opened};
 use crate::token::Kind;

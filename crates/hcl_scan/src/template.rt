@@ -4,7 +4,7 @@ ghost use Rattle.std.specs.Prelude.{◌≡◌, ◌≤◌, Bool, List, length, dr
 ghost use Rattle.std.specs.Str.{IsCharBoundary};
 ghost use Rattle.hcl_scan.specs.Lexemes.{Opener};
 ghost use Rattle.hcl_scan.specs.Spelling.{Template, context, starts};
-ghost use Rattle.hcl_scan.specs.Found.{Finds};
+ghost use Rattle.hcl_scan.specs.Inner.Found.{Finds};
 ghost use Rattle.hcl_scan.specs.Scans.{HasNone};
 
 use crate::found::Found;

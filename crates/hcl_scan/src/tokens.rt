@@ -4,8 +4,8 @@ ghost use Rattle.std.specs.Prelude.{◌≡◌, ◌≤◌, ◌<◌, ◌==◌, dro
 ghost use Rattle.std.specs.Str.{IsCharBoundary};
 ghost use Rattle.std.specs.Vec.{vec_len};
 ghost use Rattle.hcl_scan.specs.Scans.{Scans};
-ghost use Rattle.hcl_scan.specs.Scanners.{lexemes_of, IsEntry};
-ghost use Rattle.hcl_scan.specs.Stops.{IsStop};
+ghost use Rattle.hcl_scan.specs.Inner.Scanners.{lexemes_of, IsEntry};
+ghost use Rattle.hcl_scan.specs.Inner.Stops.{IsStop};
 ghost use Rattle.hcl_scan.specs.Scanned.{lexeme, IsScanError};
 
 use crate::entry::Entry;
@@ -52,8 +52,8 @@ impl<'s> Model for Tokens<'s> {
 
     ghost Value = { Scanned };
 
-    ghost use Rattle.hcl_scan.specs.Scanners.{lexemes_of};
-    ghost use Rattle.hcl_scan.specs.Entries.{AreTokens};
+    ghost use Rattle.hcl_scan.specs.Inner.Scanners.{lexemes_of};
+    ghost use Rattle.hcl_scan.specs.Inner.Entries.{AreTokens};
 
     ghost view = { λ t. record { text = t.origin.now; tokens = lexemes_of t.origin.now t.entries.items } };
 

@@ -13,7 +13,7 @@ use Rattle.hcl_syntax.proofs.LookaheadLemmas.{shown-shown}
 use Rattle.hcl_syntax.specs.declared.class.Word.{Word}
 use Rattle.hcl_syntax.specs.Grammar.{Symbol, Marked, ◌at◌, Row, ◌then◌, none, nothing, reads, opens, closes, row, ends, the, fits, expr, expr_row, args_row, arg_next, tuple_row, tuple_item_row, tuple_next, tuple_if, tuple_if_row, object, object_row, object_item, object_item_row, object_next, object_if, object_if_row, group, group_row, separator, names, index_row, names_row, terminal_row, rest, rest_row, labels_row, file_row, body_row, eol, file, body, directive, directive_row, inside, turning, turning_row, section_directive_row}
 use Rattle.hcl_syntax.specs.Predictor.{ending, Turn, on, stop, opening, taken, turn, next, run}
-use Rattle.hcl_syntax.specs.Leads.{outcome, Leads, bodies, Ends, waits}
+use Rattle.hcl_syntax.specs.Inner.Parsing.{outcome, Leads, bodies, Ends, waits}
 use Rattle.hcl_syntax.specs.declared.class.Word.TheVariants.{For, In, If}
 use Rattle.hcl_syntax.specs.declared.expected.Section.{Section}
 use Rattle.hcl_syntax.specs.declared.expected.Section.TheVariants.{InElse}

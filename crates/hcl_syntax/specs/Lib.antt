@@ -2,8 +2,8 @@ pub mod Lookaheads
 pub mod Classes
 pub mod Grammar
 pub mod Predictor
-pub mod Leads
 pub mod Verdict
 pub mod Balanced
 pub mod Relation
 pub mod Examples
+pub mod Inner

@@ -5,7 +5,7 @@ ghost use Rattle.std.specs.Prelude.{◌≡◌, ◌+◌, ◌<◌, ◌≤◌, ◌^
 ghost use Rattle.std.specs.Bool.{OnTrue, OnFalse};
 ghost use Rattle.hcl_syntax.specs.Lookaheads.{shown, first};
 ghost use Rattle.hcl_syntax.specs.Grammar.{◌at◌, the, expr, after, after_ident, index, args, tuple, tuple_item, tuple_if, object, object_item, group, object_if, separator, names};
-ghost use Rattle.hcl_syntax.specs.Leads.{Leads, Parses, after_follow, is_sign};
+ghost use Rattle.hcl_syntax.specs.Inner.Parsing.{Leads, Parses, after_follow, is_sign};
 ghost use Rattle.hcl_syntax.specs.declared.expected.Terminal.TheVariants.{Name, Separator, FatArrow, EndBracket, EndBrace};
 ghost use Rattle.hcl_syntax.specs.declared.expected.Newlines.TheVariants.{Seen, Dropped};
 

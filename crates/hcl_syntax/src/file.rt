@@ -2,7 +2,7 @@
 ghost use Rattle.std.specs.Prelude.{◌≡◌, ◌+◌, ◌<◌, ◌≤◌, ◌^◌, ℕ, List, [], ◌∷◌, length, Some, None, Ok, OnOk};
 ghost use Rattle.hcl_syntax.specs.Grammar.{◌at◌, the, eol, labels, label_literal, start, rest, expr, file};
 ghost use Rattle.hcl_syntax.specs.Predictor.{run};
-ghost use Rattle.hcl_syntax.specs.Leads.{Leads, Parses, outcome, after_item};
+ghost use Rattle.hcl_syntax.specs.Inner.Parsing.{Leads, Parses, outcome, after_item};
 ghost use Rattle.hcl_syntax.specs.declared.expected.Terminal.TheVariants.{EndQuote, Equals, EndBrace};
 ghost use Rattle.hcl_syntax.specs.declared.expected.Newlines.TheVariants.{Seen};
 

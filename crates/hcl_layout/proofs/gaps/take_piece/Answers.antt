@@ -1,7 +1,7 @@
 use Rattle.std.proofs.Common.{◌∙◌, ◌-◌, ap, arith}
 use Rattle.hcl_scan.specs.Scanned.{lexeme}
-use Rattle.hcl_layout.specs.Left.{behind, rest_gaps}
-use Rattle.hcl_layout.specs.LineGaps.{cell_gap}
+use Rattle.hcl_layout.specs.Inner.Left.{behind, rest_gaps}
+use Rattle.hcl_layout.specs.Inner.LineGaps.{cell_gap}
 use Rattle.hcl_layout.proofs.LeftLemmas.{gap_small, piece_left, text_bulk}
 use Rattle.hcl_layout.proofs.gaps.take_piece.Goals as goal
 

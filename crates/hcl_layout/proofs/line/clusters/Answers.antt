@@ -1,5 +1,5 @@
 use Rattle.std.proofs.Common.{◌≡◌, ◌∙◌, ap, sym, true}
-use Rattle.hcl_layout.specs.Simple.{is_simple}
+use Rattle.hcl_layout.specs.Inner.Simple.{is_simple}
 use Rattle.hcl_layout.proofs.ClusterLemmas.{clusters_simple}
 use Rattle.hcl_layout.proofs.line.clusters.Goals as goal
 

@@ -1,6 +1,6 @@
 use Rattle.std.proofs.Common.{◌∙◌, ap, arith}
 use Rattle.hcl_scan.specs.Scanned.{lexeme}
-use Rattle.hcl_layout.specs.LineGaps.{cell_gap}
+use Rattle.hcl_layout.specs.Inner.LineGaps.{cell_gap}
 use Rattle.hcl_layout.proofs.LeftLemmas.{width_behind, width_front}
 use Rattle.hcl_layout.proofs.WalkLemmas.{length_bulk}
 use Rattle.hcl_layout.proofs.line.width.Goals as goal

@@ -1,7 +1,7 @@
 use Rattle.std.proofs.Common.{◌≡◌, ◌+◌, ◌-◌, take, drop}
 use Rattle.hcl_layout.specs.Gaps.{width}
-use Rattle.hcl_layout.specs.Left.{behind}
-use Rattle.hcl_layout.specs.LineGaps.{gaps_from, gaps_in}
+use Rattle.hcl_layout.specs.Inner.Left.{behind}
+use Rattle.hcl_layout.specs.Inner.LineGaps.{gaps_from, gaps_in}
 use Rattle.hcl_layout.proofs.line.width.Given as goal
 
 abbrev pub invariant-loop-k : goal.invariant-loop-k

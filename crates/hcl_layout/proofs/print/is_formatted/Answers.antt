@@ -2,8 +2,8 @@ use Rattle.std.proofs.Common.{◌≡◌, ℕ, List, arith, length, refl, subst, 
 use Rattle.std.specs.Prelude.{◌↔◌, IsTrue, nat_eq}
 use Rattle.hcl_scan.specs.Scanned.{Scanned}
 use Rattle.hcl_syntax.specs.Balanced.{IsBalanced}
-use Rattle.hcl_layout.specs.Depths.{Balanced}
-use Rattle.hcl_layout.specs.Left.{bytes_of, to_print}
+use Rattle.hcl_layout.specs.Inner.Depths.{Balanced}
+use Rattle.hcl_layout.specs.Inner.Left.{bytes_of, to_print}
 use Rattle.hcl_layout.specs.Print.{print}
 use Rattle.hcl_layout.proofs.BalanceLemmas.{balanced_from}
 use Rattle.hcl_layout.proofs.FormatLemmas.{agrees_all, agrees_end, agrees_more}

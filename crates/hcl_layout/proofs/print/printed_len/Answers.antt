@@ -1,7 +1,7 @@
 use Rattle.std.proofs.Common.{arith, ap, length, subst, sym}
 use Rattle.hcl_scan.specs.Scanned.{Scanned}
 use Rattle.hcl_syntax.specs.Balanced.{IsBalanced}
-use Rattle.hcl_layout.specs.Depths.{Balanced}
+use Rattle.hcl_layout.specs.Inner.Depths.{Balanced}
 use Rattle.hcl_layout.proofs.BalanceLemmas.{balanced_from}
 use Rattle.hcl_layout.proofs.print.printed_len.Goals as goal
 

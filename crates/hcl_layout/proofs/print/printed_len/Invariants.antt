@@ -1,5 +1,5 @@
 use Rattle.std.proofs.Common.{◌≡◌, ◌≤◌, ◌+◌, ◌-◌, ◌*◌, ◌^◌, length}
-use Rattle.hcl_layout.specs.Left.{Ready, to_print}
+use Rattle.hcl_layout.specs.Inner.Left.{Ready, to_print}
 use Rattle.hcl_layout.specs.Print.{print}
 use Rattle.hcl_layout.proofs.print.printed_len.Given as goal
 

@@ -1,5 +1,5 @@
 use Rattle.std.proofs.Common.{ℕ, Option, ap₂, sym, subst}
-use Rattle.hcl_layout.specs.Survey.{IsLine}
+use Rattle.hcl_layout.specs.Inner.Survey.{IsLine}
 use Rattle.hcl_layout.specs.declared.survey.LineFacts.{LineFacts}
 use Rattle.hcl_layout.proofs.SurveyLemmas.{is_line, token_at}
 use Rattle.hcl_layout.proofs.survey.line_at.Goals as goal

@@ -2,8 +2,8 @@ use Rattle.std.proofs.Common.{◌≡◌, ◌∙◌, ◌+◌, ◌≤◌, ℕ, Som
 use Rattle.std.specs.Prelude.{slice_get}
 use Rattle.hcl_scan.specs.Lexemes.{Lexeme}
 use Rattle.hcl_scan.specs.Scanned.{lexeme}
-use Rattle.hcl_layout.specs.Depths.{Balanced, deepen}
-use Rattle.hcl_layout.specs.Survey.{first_noted, noted, surveyed}
+use Rattle.hcl_layout.specs.Inner.Depths.{Balanced, deepen}
+use Rattle.hcl_layout.specs.Inner.Survey.{first_noted, noted, surveyed}
 use Rattle.hcl_layout.specs.declared.survey.Survey.{Survey}
 use Rattle.hcl_layout.proofs.SurveyLemmas.{low_at, rest_at, same_token, steps_at, surveyed_end, surveyed_more, surveyed_out}
 use Rattle.hcl_layout.proofs.survey.read_line.Goals as goal

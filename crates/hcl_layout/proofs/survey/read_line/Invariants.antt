@@ -1,7 +1,7 @@
 use Rattle.std.proofs.Common.{◌≡◌, ◌≤◌, ◌+◌, ◌-◌, length, drop}
 use Rattle.hcl_scan.specs.Scanned.{lexeme}
-use Rattle.hcl_layout.specs.Depths.{Balanced}
-use Rattle.hcl_layout.specs.Survey.{surveyed}
+use Rattle.hcl_layout.specs.Inner.Depths.{Balanced}
+use Rattle.hcl_layout.specs.Inner.Survey.{surveyed}
 use Rattle.hcl_layout.proofs.survey.read_line.Given as goal
 
 abbrev pub invariant-loop-line : goal.invariant-loop-line

@@ -1,9 +1,9 @@
 use Rattle.std.proofs.Common.{◌≡◌, ◌≤◌, ◌+◌, ◌-◌, max, length, drop}
 use Rattle.hcl_layout.specs.Columns.{ahead}
-use Rattle.hcl_layout.specs.LineGaps.{bulk}
+use Rattle.hcl_layout.specs.Inner.LineGaps.{bulk}
 use Rattle.hcl_layout.specs.Lines.{lines}
-use Rattle.hcl_layout.specs.Stream.{assign_widths}
-use Rattle.hcl_layout.specs.Walks.{Stands}
+use Rattle.hcl_layout.specs.Inner.Stream.{assign_widths}
+use Rattle.hcl_layout.specs.Inner.Walks.{Stands}
 use Rattle.hcl_layout.proofs.walk.assign_ahead.Given as goal
 
 abbrev pub invariant-loop-at : goal.invariant-loop-at

@@ -1,8 +1,8 @@
 use Rattle.std.proofs.Common.{◌≡◌, ◌≤◌, ◌<◌, ◌-◌, ◌^◌, max, length, drop, IfSome}
 use Rattle.hcl_layout.specs.Columns.{ahead}
 use Rattle.hcl_layout.specs.Lines.{lines}
-use Rattle.hcl_layout.specs.Stream.{comment_widths}
-use Rattle.hcl_layout.specs.Walks.{Stands}
+use Rattle.hcl_layout.specs.Inner.Stream.{comment_widths}
+use Rattle.hcl_layout.specs.Inner.Walks.{Stands}
 use Rattle.hcl_layout.proofs.walk.comment_ahead.Given as goal
 
 abbrev pub invariant-loop-at : goal.invariant-loop-at

@@ -1,6 +1,6 @@
 use Rattle.std.proofs.Common.{◌∙◌, ◌+◌, ◌-◌, ℕ, ap, sym, take, drop}
 use Rattle.hcl_layout.specs.Gaps.{gap_to, width}
-use Rattle.hcl_layout.specs.LineGaps.{gaps_in}
+use Rattle.hcl_layout.specs.Inner.LineGaps.{gaps_in}
 use Rattle.hcl_layout.specs.Lines.{Line}
 use Rattle.hcl_layout.proofs.WalkLemmas.{comment_cell, comment_there, commented_in}
 use Rattle.hcl_layout.proofs.walk.commented_line.Goals as goal

@@ -1,6 +1,6 @@
 use Rattle.std.proofs.Common.{◌≡◌, ◌∙◌, ap, arith, take, drop}
 use Rattle.hcl_layout.specs.Gaps.{plain_gaps, width}
-use Rattle.hcl_layout.specs.LineGaps.{gaps_in}
+use Rattle.hcl_layout.specs.Inner.LineGaps.{gaps_in}
 use Rattle.hcl_layout.specs.Lines.{Line}
 use Rattle.hcl_layout.specs.declared.line.LineGaps.{LineGaps}
 use Rattle.hcl_layout.proofs.WalkLemmas.{plain_in, plain_low}

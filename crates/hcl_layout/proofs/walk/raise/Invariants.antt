@@ -1,5 +1,5 @@
 use Rattle.std.proofs.Common.{◌≡◌, ◌-◌}
-use Rattle.hcl_layout.specs.Depths.{raised}
+use Rattle.hcl_layout.specs.Inner.Depths.{raised}
 use Rattle.hcl_layout.proofs.walk.raise.Given as goal
 
 abbrev pub invariant-loop-depth : goal.invariant-loop-depth

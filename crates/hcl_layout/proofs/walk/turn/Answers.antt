@@ -1,5 +1,5 @@
 use Rattle.std.proofs.Common.{◌≡◌, ◌∙◌, ◌+◌, ◌-◌, ap, arith, get_or}
-use Rattle.hcl_layout.specs.Depths.{raised}
+use Rattle.hcl_layout.specs.Inner.Depths.{raised}
 use Rattle.hcl_layout.proofs.LevelLemmas.{turned_sound}
 use Rattle.hcl_layout.proofs.walk.turn.Goals as goal
 

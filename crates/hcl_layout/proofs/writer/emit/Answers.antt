@@ -2,9 +2,9 @@ use Rattle.std.proofs.Common.{◌≡◌, ◌<◌, ◌++◌, ◌∙◌, ℕ, List
 use Rattle.std.specs.Io.KnownBytes.{Appends}
 use Rattle.hcl_scan.specs.Scanned.{Scanned}
 use Rattle.hcl_syntax.specs.Balanced.{IsBalanced}
-use Rattle.hcl_layout.specs.Depths.{Balanced}
-use Rattle.hcl_layout.specs.Left.{bytes_of, to_print}
-use Rattle.hcl_layout.specs.Out.{Out, Stopped}
+use Rattle.hcl_layout.specs.Inner.Depths.{Balanced}
+use Rattle.hcl_layout.specs.Inner.Left.{bytes_of, to_print}
+use Rattle.hcl_layout.specs.Inner.Out.{Out, Stopped}
 use Rattle.hcl_layout.specs.Print.{print}
 use Rattle.hcl_layout.proofs.BalanceLemmas.{balanced_from}
 use Rattle.hcl_layout.proofs.OutLemmas.{err_by, ok_by, out_all, out_none, print_end, print_more, stopped_print}

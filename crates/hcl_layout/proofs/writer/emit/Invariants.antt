@@ -1,6 +1,6 @@
 use Rattle.std.proofs.Common.{◌≡◌, ◌≤◌, ◌+◌, ◌-◌, ◌*◌, ◌^◌, ◌++◌, ℕ, List, false, length}
-use Rattle.hcl_layout.specs.Left.{Ready, to_print}
-use Rattle.hcl_layout.specs.Out.{Out}
+use Rattle.hcl_layout.specs.Inner.Left.{Ready, to_print}
+use Rattle.hcl_layout.specs.Inner.Out.{Out}
 use Rattle.hcl_layout.specs.Print.{print}
 use Rattle.hcl_layout.proofs.writer.emit.Given as goal
 

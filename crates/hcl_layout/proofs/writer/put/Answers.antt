@@ -1,5 +1,5 @@
 use Rattle.std.proofs.Common.{◌++◌, ℕ, List, Option}
-use Rattle.hcl_layout.specs.Out.{Out, Stopped}
+use Rattle.hcl_layout.specs.Inner.Out.{Out, Stopped}
 use Rattle.hcl_layout.proofs.OutLemmas.{err_by, stopped_more}
 use Rattle.hcl_layout.proofs.writer.put.Goals as goal
 

@@ -1,5 +1,5 @@
 use Rattle.std.proofs.Common.{◌≡◌, ◌≤◌, ◌+◌, ◌++◌, ℕ, List, Option, false, replicate}
-use Rattle.hcl_layout.specs.Out.{Out}
+use Rattle.hcl_layout.specs.Inner.Out.{Out}
 use Rattle.hcl_layout.proofs.writer.put_blanks.Given as goal
 
 abbrev pub invariant-loop : goal.invariant-loop

@@ -1,6 +1,6 @@
 use Rattle.std.proofs.Common.{◌∙◌, ◌++◌, ℕ, List, Option, ap, append_assoc, replicate, subst}
-use Rattle.hcl_layout.specs.Left.{bytes_of}
-use Rattle.hcl_layout.specs.Out.{Out, Stopped}
+use Rattle.hcl_layout.specs.Inner.Left.{bytes_of}
+use Rattle.hcl_layout.specs.Inner.Out.{Out, Stopped}
 use Rattle.hcl_layout.proofs.OutLemmas.{err_by, stopped_more}
 use Rattle.hcl_layout.proofs.writer.put_piece.Goals as goal
 

@@ -1,5 +1,5 @@
 use Rattle.std.proofs.Common.{ℕ, ◌+◌, ◌<◌}
-use Rattle.hcl_scan.specs.Found.{EndsComment}
+use Rattle.hcl_scan.specs.Inner.Found.{EndsComment}
 use Rattle.hcl_scan.proofs.comment.comment_end.Given as goal
 
 abbrev pub invariant-loop-i : goal.invariant-loop-i

@@ -1,7 +1,7 @@
 use Rattle.std.proofs.Common.{subst, refl, sym, ap, ◌∙◌}
 use Rattle.std.specs.List.{prefix_len}
-use Rattle.hcl_scan.specs.Leads.{lead_of}
-use Rattle.hcl_scan.specs.Found.{CloserText}
+use Rattle.hcl_scan.specs.Inner.Leads.{lead_of}
+use Rattle.hcl_scan.specs.Inner.Found.{CloserText}
 use Rattle.hcl_scan.specs.declared.expression.Lead.TheVariants.{Closer}
 use Rattle.hcl_scan.specs.declared.token.Kind.{Kind}
 use Rattle.hcl_scan.specs.declared.token.Kind.TheVariants.{Newline, InlineComment, Blank, Number, Ident}

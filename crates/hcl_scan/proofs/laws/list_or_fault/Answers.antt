@@ -1,7 +1,7 @@
 use Rattle.std.proofs.Common.{◌≡◌, ℕ, List, [], ◌∷◌, ◌++◌, length, ap, sym, subst, ◌∙◌, inl, inr, arith, refl}
 use Rattle.hcl_scan.specs.Lexemes.{Lexeme}
 use Rattle.hcl_scan.specs.Scans.{Next, Run, begin}
-use Rattle.hcl_scan.specs.Scanners.{state_of, lexeme_of, Moves}
+use Rattle.hcl_scan.specs.Inner.Scanners.{state_of, lexeme_of, Moves}
 use Rattle.hcl_scan.specs.declared.entry.Entry.{Entry}
 use Rattle.hcl_scan.specs.declared.scanner.Scanner.{Scanner}
 use Rattle.hcl_scan.proofs.AllPlaces.{Run-push}

@@ -1,7 +1,7 @@
 use Rattle.std.proofs.Common.{refl, subst, sym}
 use Rattle.std.specs.Prelude.{IfSome, IfNone}
 use Rattle.hcl_scan.specs.Spelling.{marks}
-use Rattle.hcl_scan.specs.Found.{IsLongestMark, HasNoMark}
+use Rattle.hcl_scan.specs.Inner.Found.{IsLongestMark, HasNoMark}
 use Rattle.hcl_scan.proofs.OrderedMarks.{first_found, first_none}
 use Rattle.hcl_scan.proofs.mark.longest_mark.Goals as goal
 

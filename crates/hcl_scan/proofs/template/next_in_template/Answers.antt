@@ -1,6 +1,6 @@
 use Rattle.std.proofs.Common.{◌≡◌, ℕ, Bool, true, false, List, drop, None, arith, sym, ap, subst, ◌∙◌, codes}
 use Rattle.hcl_scan.specs.Spelling.{element_len, starts}
-use Rattle.hcl_scan.specs.Found.{Finds}
+use Rattle.hcl_scan.specs.Inner.Found.{Finds}
 use Rattle.hcl_scan.proofs.Templates.{lit_found, interp_found, control_found, quote_found, nothing_found, lit_boundary, quote_boundary, sequence_boundary}
 use Rattle.hcl_scan.proofs.Starts.{starts_same}
 use Rattle.hcl_scan.specs.declared.token.Kind.TheVariants.{InterpOpen, ControlOpen}

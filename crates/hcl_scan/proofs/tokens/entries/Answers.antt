@@ -1,5 +1,5 @@
 use Rattle.std.proofs.Common.{arith, ap}
-use Rattle.hcl_scan.specs.Scanners.{state_of, lexemes_of}
+use Rattle.hcl_scan.specs.Inner.Scanners.{state_of, lexemes_of}
 use Rattle.hcl_scan.proofs.Scanning.{none_yet, starts_run, more_parts, same_still, more_run, less_left, fault_of}
 use Rattle.hcl_scan.proofs.tokens.entries.Goals as goal
 

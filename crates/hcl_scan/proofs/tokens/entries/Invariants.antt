@@ -1,7 +1,7 @@
 use Rattle.std.proofs.Common.{◌≡◌, ◌≤◌, ◌-◌, length, vec_len}
 use Rattle.std.specs.Prelude.{All}
 use Rattle.hcl_scan.specs.Scans.{Run, begin}
-use Rattle.hcl_scan.specs.Scanners.{state_of, lexemes_of, IsSound, IsEntry}
+use Rattle.hcl_scan.specs.Inner.Scanners.{state_of, lexemes_of, IsSound, IsEntry}
 use Rattle.hcl_scan.proofs.tokens.entries.Given as goal
 
 -- the tokens so far were read, up to here

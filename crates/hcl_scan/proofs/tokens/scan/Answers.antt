@@ -1,6 +1,6 @@
 use Rattle.std.proofs.Common.{◌≡◌, ℕ, List, subst}
 use Rattle.hcl_scan.specs.Places.{place}
-use Rattle.hcl_scan.specs.Stops.{IsFaultOf, IsStop}
+use Rattle.hcl_scan.specs.Inner.Stops.{IsFaultOf, IsStop}
 use Rattle.hcl_scan.specs.Scanned.{IsScanError}
 use Rattle.hcl_scan.specs.declared.stopped.Stopped.{Stopped}
 use Rattle.hcl_scan.specs.declared.fault.Position.{Position}

@@ -1,11 +1,11 @@
 use Rattle.std.proofs.Common.{rules, ◌≡◌, ◌∙◌, ◌≤◌, ℕ, ◌+◌, ◌-◌, ◌^◌, Some, ap, arith, sym, take, drop}
 use Rattle.hcl_layout.specs.Cells.{assign_cell}
-use Rattle.hcl_layout.specs.Depths.{depth_after, level_at}
+use Rattle.hcl_layout.specs.Inner.Depths.{depth_after, level_at}
 use Rattle.hcl_layout.specs.Gaps.{align, plain_gaps, width}
 use Rattle.std.specs.Prelude.{slice_set}
-use Rattle.hcl_layout.specs.LineGaps.{gaps_in}
+use Rattle.hcl_layout.specs.Inner.LineGaps.{gaps_in}
 use Rattle.hcl_layout.specs.Lines.{Line, lines}
-use Rattle.hcl_layout.specs.Stream.{assign_column, plain}
+use Rattle.hcl_layout.specs.Inner.Stream.{assign_column, plain}
 use Rattle.hcl_layout.specs.declared.line.LineGaps.{LineGaps}
 use Rattle.hcl_layout.proofs.WalkLemmas.{aligned_none, aligned_some, assign_there, assigned_in, length_bulk, narrow_plain, narrow_set, plain_in}
 use Rattle.hcl_layout.proofs.walk.Walk.pass.Goals as goal

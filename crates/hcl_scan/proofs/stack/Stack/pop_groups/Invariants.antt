@@ -1,5 +1,5 @@
 use Rattle.std.proofs.Common.{◌≡◌, length}
-use Rattle.hcl_scan.specs.Openings.{popped_groups}
+use Rattle.hcl_scan.specs.Inner.Openings.{popped_groups}
 use Rattle.hcl_scan.proofs.stack.Stack.pop_groups.Given as goal
 
 -- what is left in the end stays the same

@@ -1,5 +1,5 @@
 use Rattle.std.proofs.Common.{◌≡◌, length}
-use Rattle.hcl_scan.specs.Openings.{innermost_owed}
+use Rattle.hcl_scan.specs.Inner.Openings.{innermost_owed}
 use Rattle.hcl_scan.proofs.stack.Stack.pop_owed.Given as goal
 
 -- what is found in the end stays the same

@@ -1,5 +1,5 @@
 use Rattle.std.proofs.Common.{rules, arith, refl, [], ap, ◌-◌}
-use Rattle.hcl_syntax.specs.Leads.{bodies, body_symbols}
+use Rattle.hcl_syntax.specs.Inner.Parsing.{bodies, body_symbols}
 use Rattle.hcl_syntax.proofs.Steps.{looks, onward, beside, done, renamed, bodies-newline, bodies-item, bodies-close, bodies-refuse, bodies-end, bodies-done, bodies-up, whole, whole-fault, whole-quits, refuse-close}
 use Rattle.hcl_syntax.proofs.cursor.Cursor.file.Goals as goal
 

@@ -1,6 +1,6 @@
 use Rattle.std.proofs.Common.{[], ◌∷◌, length, Ok, ◌≤◌, ◌<◌, ◌+◌, ◌^◌}
 use Rattle.hcl_syntax.specs.Grammar.{◌at◌, file}
-use Rattle.hcl_syntax.specs.Leads.{Leads, bodies}
+use Rattle.hcl_syntax.specs.Inner.Parsing.{Leads, bodies}
 use Rattle.hcl_syntax.specs.declared.expected.Newlines.TheVariants.{Seen}
 use Rattle.hcl_syntax.proofs.cursor.Cursor.file.Given as goal
 

@@ -1,6 +1,6 @@
 use Rattle.std.proofs.Common.{[], ◌∷◌, length, Ok, ◌≤◌}
 use Rattle.hcl_syntax.specs.Grammar.{◌at◌, labels}
-use Rattle.hcl_syntax.specs.Leads.{Leads}
+use Rattle.hcl_syntax.specs.Inner.Parsing.{Leads}
 use Rattle.hcl_syntax.specs.declared.expected.Newlines.TheVariants.{Seen}
 use Rattle.hcl_syntax.proofs.cursor.Cursor.labels.Given as goal
 

@@ -1,6 +1,6 @@
 use Rattle.std.proofs.Common.{ℕ, [], ◌∷◌, length, Ok, ◌≤◌}
 use Rattle.hcl_syntax.specs.Grammar.{◌at◌, expr}
-use Rattle.hcl_syntax.specs.Leads.{Leads}
+use Rattle.hcl_syntax.specs.Inner.Parsing.{Leads}
 use Rattle.hcl_syntax.proofs.cursor.Cursor.start.Given as goal
 
 abbrev pub invariant-loop-token : goal.invariant-loop-token

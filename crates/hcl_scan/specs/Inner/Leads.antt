@@ -1,13 +1,10 @@
 -- What the first two bytes of a text say of its kind: an own choice, which makes each step of the scanner short.
-use Rattle.std.specs.Prelude.{ℕ, ◌==◌, ◌||◌, ◌&&◌, Bool, List, if◌then◌else◌, nat_le, get_or}
-use Rattle.std.specs.Char.{is_ascii_digit, is_ascii_alphabetic}
+use Rattle.std.specs.Prelude.{ℕ, ◌==◌, ◌||◌, ◌&&◌, List, if◌then◌else◌, get_or}
+use Rattle.std.specs.Char.{is_ascii_digit}
 use Rattle.hcl_scan.specs.Spelling.{is_blank}
+use Rattle.hcl_scan.specs.SideBySide.{may_begin_ident}
 use Rattle.hcl_scan.specs.declared.expression.Lead.{Lead}
 use Rattle.hcl_scan.specs.declared.expression.Lead.TheVariants.{LineEnd, Space, Letter, Digit, HashOrSlashes, SlashStar, OneSlash, LessLess, Closer, Sign}
-
--- an identifier may begin with the byte; beyond ASCII its character decides
-abbrev pub may_begin_ident : ℕ → Bool
-may_begin_ident b = is_ascii_alphabetic b || (b == 95) || nat_le 128 b
 
 abbrev pub slash_lead : ℕ → Lead
 slash_lead second = if second == 47 then HashOrSlashes else (if second == 42 then SlashStar else OneSlash)

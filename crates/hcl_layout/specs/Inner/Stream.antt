@@ -6,7 +6,7 @@ use Rattle.hcl_layout.specs.Lines.{Line}
 use Rattle.hcl_layout.specs.Cells.{assign_cell, running_comment, trailing_comment}
 use Rattle.hcl_layout.specs.Columns.{ahead}
 use Rattle.hcl_layout.specs.Gaps.{align, plain_gaps, widths}
-use Rattle.hcl_layout.specs.Depths.{depth_after, level_at, turned}
+use Rattle.hcl_layout.specs.Inner.Depths.{depth_after, level_at, turned}
 
 -- ---- runs
 

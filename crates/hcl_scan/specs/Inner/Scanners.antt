@@ -6,7 +6,7 @@ use Rattle.hcl_scan.specs.Lexemes.{Lexeme, Opener, Sequence, in_heredoc, closes_
 use Rattle.hcl_scan.specs.Spelling.{Context, Template, Expression, context}
 use Rattle.hcl_scan.specs.Scans.{State, Next, IsLongest, IsComplete, gap_len}
 use Rattle.hcl_scan.specs.Faults.{Lacks, fault_offset}
-use Rattle.hcl_scan.specs.Openings.{opener_of, openers_of, offsets_in, hidden_of}
+use Rattle.hcl_scan.specs.Inner.Openings.{opener_of, openers_of, offsets_in, hidden_of}
 use Rattle.hcl_scan.specs.declared.entry.Entry.{Entry}
 use Rattle.hcl_scan.specs.declared.opened.By.{By}
 use Rattle.hcl_scan.specs.declared.opened.By.TheVariants.{Heredoc}

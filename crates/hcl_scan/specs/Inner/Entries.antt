@@ -1,7 +1,7 @@
 -- What a `Tokens` keeps of its tokens.
 use Rattle.std.specs.Prelude.{ℕ, ◌≤◌, List, length, All}
 use Rattle.hcl_scan.specs.Scans.{Scans}
-use Rattle.hcl_scan.specs.Scanners.{lexemes_of, IsEntry}
+use Rattle.hcl_scan.specs.Inner.Scanners.{lexemes_of, IsEntry}
 use Rattle.hcl_scan.specs.declared.entry.Entry.{Entry}
 
 -- the entries are the tokens of the text

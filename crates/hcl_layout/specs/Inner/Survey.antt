@@ -6,7 +6,7 @@ use Rattle.hcl_scan.specs.declared.token.Kind.TheVariants as kind
 use Rattle.hcl_layout.specs.Lines.{Line, ends_line, lines}
 use Rattle.hcl_layout.specs.Cells.{assign_cell, is_assign, is_inline_comment, is_line_comment, is_sign, is_torn, is_trailing, running_comment, trailing_comment}
 use Rattle.hcl_layout.specs.Levels.{is_closer, is_opener}
-use Rattle.hcl_layout.specs.Depths.{Balanced, deepen, depth_after}
+use Rattle.hcl_layout.specs.Inner.Depths.{Balanced, deepen, depth_after}
 use Rattle.hcl_layout.specs.declared.survey.Survey.{Survey}
 use Rattle.hcl_layout.specs.declared.survey.LineFacts.{LineFacts}
 

@@ -2,11 +2,11 @@
 use Rattle.std.specs.Prelude.{◌≡◌, ◌-◌, ◌<◌, ◌≤◌, ◌^◌, ◌++◌, ℕ, List, Option, None, IfSome, take, drop, length, nat_lt, replicate, slice_get, if◌then◌else◌}
 use Rattle.std.specs.List.{flat_map}
 use Rattle.hcl_scan.specs.Lexemes.{Lexeme}
-use Rattle.hcl_layout.specs.LineGaps.{gaps_from}
+use Rattle.hcl_layout.specs.Inner.LineGaps.{gaps_from}
 use Rattle.hcl_layout.specs.Lines.{Line, lines}
 use Rattle.hcl_layout.specs.Print.{printed}
-use Rattle.hcl_layout.specs.Stream.{commented}
-use Rattle.hcl_layout.specs.Walks.{Stands}
+use Rattle.hcl_layout.specs.Inner.Stream.{commented}
+use Rattle.hcl_layout.specs.Inner.Walks.{Stands}
 use Rattle.hcl_layout.specs.declared.gaps.Gaps.{Gaps}
 use Rattle.hcl_layout.specs.declared.gaps.Piece.{Piece}
 

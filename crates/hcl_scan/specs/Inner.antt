@@ -1,0 +1,8 @@
+-- Words for the code's own parts, which its inner contracts use. Nobody has to believe them.
+pub mod Entries
+pub mod Found
+pub mod Leads
+pub mod Marks
+pub mod Openings
+pub mod Scanners
+pub mod Stops
