@@ -23,8 +23,9 @@
 
 (defun tffmt--replace (printed)
   "Make the text of the buffer that of the buffer PRINTED.
-The two differ in blanks alone, so only blanks are replaced, and point and markers stay at their words.  Where
-something else differs, all from there on is replaced.  Takes time linear in the text."
+The two differ in blanks alone, so only blanks are replaced, and point and
+markers stay at their words.  Where something else differs, all from there on
+is replaced.  Takes time linear in the text."
   (let ((theirs (with-current-buffer printed (point-min)))
         (their-end (with-current-buffer printed (point-max)))
         (case-fold-search nil)
