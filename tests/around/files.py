@@ -3,13 +3,13 @@ where something fails."""
 
 import os
 import pathlib
-import pty
+import re
 import shutil
 import stat
-import subprocess
 import time
 
-from harness import BAD, GOOD, LIMIT, OTHER, REFUSED, lines, put
+from editors import on_terminal
+from harness import BAD, GOOD, OTHER, REFUSED, lines, put
 
 NOBODY = 65534
 SHELLS = ['sh', 'dash', 'bash', 'busybox']
@@ -56,7 +56,7 @@ def run_shell(group):
         return
     script = Script(group, shell)
     for part in (walk, checks, writes, links, refusals, options, names_from_input, diffs, failing_tools,
-                 full_devices, rights, signals, many):
+                 full_devices, full_folder, rights, signals, many):
         part(group, script)
     left = list(group.folder('tmp').iterdir())
     group.check('nothing is left in the temporary folder', left, [])
@@ -225,6 +225,23 @@ def full_devices(group, script):
         group.check('a full device under ' + mode, done[0], 4)
 
 
+def full_folder(group, script):
+    """A device that is really full, where one can be mounted: room for both texts, and not for both."""
+    top = group.fresh()
+    mounted = 'mount -t tmpfs -o size=64k,mode=755 none "$1" && cd "$1" || exit 99\n'
+    works = 'yes a=1 | head -c "$2" >a.tf; sh "$3" >/dev/null 2>&1; echo $?; ls -A; wc -c <a.tf; grep -c "a=1" a.tf'
+
+    def run(size):
+        return group.call('unshare', '-m', 'sh', '-c', mounted + works, 'sh', top, str(size), script.words[1],
+                          cwd='/', PATH=script.path)
+
+    if not shutil.which('unshare') or run(4)[0] == 99:
+        group.skip('a full device', 2, 'nothing can be mounted')
+        return
+    group.check('room for both texts', run(24000)[1].split(), [b'0', b'a.tf', b'36000', b'0'])
+    group.check('no room for both', run(32000)[1].split(), [b'4', b'a.tf', b'32000', b'8000'])
+
+
 def rights(group, script):
     if os.getuid() != 0:
         group.skip('rights of files', 5, 'not run by root')
@@ -288,20 +305,7 @@ def many(group, script):
 
 def progress(group, script, top, slow):
     """A line of progress on a terminal."""
-    master, slave = pty.openpty()
-    process = subprocess.Popen([str(w) for w in script.words] + ['--list', '-j', '1', 'x'], cwd=str(top),
-                               env=dict(group.setting, PATH=script.path, TFFMT=str(slow)), stdin=subprocess.DEVNULL,
-                               stdout=subprocess.DEVNULL, stderr=slave)
-    os.close(slave)
-    said = b''
-    while True:
-        try:
-            more = os.read(master, 1000)
-        except OSError:
-            break
-        if not more:
-            break
-        said += more
-    os.close(master)
-    process.wait(timeout=LIMIT)
-    group.holds('progress is shown, and wiped', b' of 8 files' in said and said.endswith(b'\r'), said)
+    said = on_terminal(group, script.words + ['--list', '-j', '1', 'x'], top, PATH=script.path, TFFMT=str(slow))
+    shown, _, rest = said.rpartition(b'\r')
+    group.holds('progress is shown, and wiped', re.search(rb'\r[1-7] of 8 files', said) and b'of' not in rest
+                and rest.split() == [b'x/%d.tf' % i for i in range(8)] and shown.endswith(b' '), said)
