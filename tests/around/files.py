@@ -306,6 +306,5 @@ def many(group, script):
 def progress(group, script, top, slow):
     """A line of progress on a terminal."""
     said = on_terminal(group, script.words + ['--list', '-j', '1', 'x'], top, PATH=script.path, TFFMT=str(slow))
-    shown, _, rest = said.rpartition(b'\r')
-    group.holds('progress is shown, and wiped', re.search(rb'\r[1-7] of 8 files', said) and b'of' not in rest
-                and rest.split() == [b'x/%d.tf' % i for i in range(8)] and shown.endswith(b' '), said)
+    group.holds('progress is shown, and wiped', re.fullmatch(
+        rb'(\r[0-8] of 8 files)+\r +\r(x/[0-7]\.tf\r\n){8}', said), said)

@@ -230,7 +230,7 @@ def command_line(group):
 
 def run_framework(group):
     """The hooks for pre-commit, from a repository of this folder's files."""
-    if not group.has('git', checks=6) or not group.has('pre-commit', checks=6):
+    if not all([group.has('git', checks=0), group.has('pre-commit', checks=7)]):
         return
     source = Repository(group)
     shutil.copy(str(TOP / '.pre-commit-hooks.yaml'), str(source.top))

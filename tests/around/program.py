@@ -25,6 +25,29 @@ def run(group):
         group.check('a read that fails %r' % words, call(words, folder), (4, b'tffmt: error: read failed\n'))
     os.close(folder)
     readme(group)
+    walk(group)
+
+
+def walk(group):
+    """The README's first walk, line by line. A line that says `refused: TEXT` must fail and say so."""
+    if not group.has('git', checks=2):
+        return
+    text = (TOP / 'README.md').read_text(encoding='utf-8')
+    lines = re.search(r'### A first walk\n.*?```sh\n(.*?)```', text, re.S).group(1).splitlines()
+    script = 'git config --global user.name n && git config --global user.email n@localhost\n'
+    script += ''.join('%s || echo "failed: %d"\n' % (line.partition('#')[0].rstrip(), i) for i, line in enumerate(lines))
+    path = group.before_path(group.contrib, group.script('tffmt', 'exec %s "$@"\n' % group.program).parent)
+    del group.setting['TFFMT']
+    here = group.fresh()
+    status, out, err = group.call('sh', '-c', script, cwd=here, PATH=path)
+    refused = [i for i, line in enumerate(lines) if 'refused: ' in line]
+    group.check('what fails in the first walk', (re.findall('failed: ([0-9]+)', out.decode()), len(refused)),
+                ([str(i) for i in refused], 1))
+    wanted = lines[refused[0]].partition('refused: ')[2]
+    group.holds('says what the README says', wanted in err.decode().splitlines(), err)
+    group.holds('and the formatted file is named', '\nmodules/web/main.tf\n' in out.decode(), out)
+    made = group.call('git', 'log', '--format=%s', cwd=here / 'walk')[1]
+    group.check('one commit was made', made, b'Add a module\n')
 
 
 def readme(group):
