@@ -29,7 +29,7 @@ install: bin/tffmt
 	install -m 755 bin/tffmt contrib/tffmt-all contrib/tffmt-hook "$(BIN)"
 	install -m 644 man/tffmt.1 man/tffmt-all.1 man/tffmt-hook.1 "$(MAN)"
 	install -m 644 VERSION CHANGELOG.md docs/STYLE.md "$(DOC)"
-	install -m 644 .pre-commit-hooks.yaml contrib/treefmt.toml "$(DOC)/examples"
+	install -m 644 contrib/pre-commit-config.yaml contrib/treefmt.toml "$(DOC)/examples"
 	install -m 644 contrib/ci/* "$(DOC)/examples/ci"
 	install -m 644 contrib/editors/*.* "$(DOC)/examples/editors"
 	install -m 644 contrib/editors/vscode/* "$(DOC)/examples/editors/vscode"

@@ -66,10 +66,8 @@ is replaced.  Takes time linear in the text."
                 (if (zerop (buffer-size))
                     (format "%s failed: %s" tffmt-program status)
                   (replace-regexp-in-string "\n+\\'" "" (buffer-string)))))
-             ((fboundp 'combine-change-calls)
-              (combine-change-calls (point-min) (point-max) (tffmt--replace printed))
-              nil)
-             (t (tffmt--replace printed) nil))))
+             (t (combine-after-change-calls (tffmt--replace printed))
+                nil))))
       (kill-buffer printed))))
 
 ;;;###autoload

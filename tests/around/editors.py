@@ -147,6 +147,11 @@ BATCH = '''
 (setq tffmt-program "PROGRAM")
 (princ (format "loading turns on: %S\\n" terraform-mode-hook))
 (find-file "big.tf")
+(let ((before (buffer-string)))
+  (tffmt)
+  (undo-boundary)
+  (let ((last-command nil) (inhibit-message t)) (undo))
+  (princ (format "undo restores: %S\\n" (equal before (buffer-string)))))
 (search-forward "a777=")
 (let ((began (float-time)) (word (copy-marker 5)))
   (tffmt)
@@ -165,7 +170,8 @@ def batch(group):
                                              .replace('PROGRAM', group.program).encode()})
     status, out, err = group.call('emacs', '-Q', '--batch', '-l', 'test.el', cwd=here)
     group.check('20,000 changed lines', out.decode().splitlines(), [
-        'loading turns on: nil', 'in time: t', 'point stands behind: "a777   ="', 'a marker stands behind: "a0     = 0"'])
+        'loading turns on: nil', 'undo restores: t', 'in time: t', 'point stands behind: "a777   ="', 'a marker stands behind: "a0     = 0"'])
+    group.check('with no other message', err.decode().splitlines()[1:], [])
     group.check('are what tffmt prints', (here / 'big.tf').read_bytes(), group.call(group.program, cwd=here, stdin=text)[1])
     put(here, {'mixed.tf': b'b{\n\tx   =[1,  2]\t\n\n  long=<<E\n  k  \nE\n}\r\n\xc3\xa9 = 1', 'other.el': (
         '(load "%s/editors/tffmt.el" nil t) (setq tffmt-program "%s") (find-file-literally "mixed.tf") '

@@ -139,6 +139,8 @@ def refusals(group, script):
         group.check('a refused file with ' + mode, (given[0], given[2]), (2, lines('a.tf' + REFUSED)))
     group.check('work goes on after a refusal', (script(cwd=top), contents(top)),
                 ((2, lines('b.tf'), lines('a.tf' + REFUSED)), {'a.tf': BAD, 'b.tf': GOOD, 'c.tf': GOOD}))
+    for name, said in (('nowhere.tf', 'no such file or folder'), ('nowhere/', 'no such file or folder')):
+        group.check('%s alone' % name, script('--check', name, cwd=top), (4, b'', lines('%s: %s' % (name, said))))
     os.mkfifo(str(top / 'pipe.tf'))
     group.check('what cannot be read', script('--check', 'nowhere.tf', 'pipe.tf', 'c.tf', cwd=top),
                 (4, b'', lines('nowhere.tf: no such file or folder', 'pipe.tf: not a file')))

@@ -230,7 +230,7 @@ def command_line(group):
 
 def run_framework(group):
     """The hooks for pre-commit, from a repository of this folder's files."""
-    if not all([group.has('git', checks=0), group.has('pre-commit', checks=7)]):
+    if not all([group.has('git', checks=0), group.has('pre-commit', checks=8)]):
         return
     source = Repository(group)
     shutil.copy(str(TOP / '.pre-commit-hooks.yaml'), str(source.top))
@@ -245,6 +245,9 @@ def run_framework(group):
     def framework(here, identity, *words):
         (here.top / '.pre-commit-config.yaml').write_text(
             'repos:\n- repo: %s\n  rev: %s\n  hooks:\n  - id: %s\n' % (source.top, revision, identity))
+        return call(here, *words)
+
+    def call(here, *words):
         here.git('add', '.pre-commit-config.yaml')
         status, out, _ = group.call('pre-commit', *words, cwd=here.top, PATH=path, TFFMT='tffmt', PRE_COMMIT_HOME=home)
         return status, out.decode('utf-8', 'replace')
@@ -265,3 +268,10 @@ def run_framework(group):
     here.stage({'bad.tf': BAD})
     status, _, err = here.git('commit', '-q', '-m', 'x', PATH=path, TFFMT='tffmt', PRE_COMMIT_HOME=home)
     group.holds('a refused file refuses the commit', status == 1 and b'bad.tf:1:3: unexpected token' in err, err)
+    # the example for an installed tffmt-all
+    here = Repository(group)
+    here.stage({'a.tf': OTHER, 'b.txt': OTHER})
+    shutil.copy(str(group.contrib / 'pre-commit-config.yaml'), str(here.top / '.pre-commit-config.yaml'))
+    path = '%s:%s' % (group.contrib, path)
+    given = [call(here, 'run', '--all-files')[0] for _ in range(2)]
+    group.check('the example formats, and passes then', (given, (here.top / 'a.tf').read_bytes()), ([1, 0], GOOD))

@@ -91,9 +91,10 @@ def recipes(group):
     python = next((p for p in ('/usr/bin/python3', 'python3')
                    if subprocess.run([p, '-c', 'import yaml'], stderr=subprocess.DEVNULL).returncode == 0), None)
     if python is None:
-        group.skip('yaml', 3, 'no PyYAML')
+        group.skip('yaml', 4, 'no PyYAML')
     else:
-        for name in (contrib / 'ci' / 'github.yml', contrib / 'ci' / 'gitlab.yml', TOP / '.pre-commit-hooks.yaml'):
+        for name in (contrib / 'ci' / 'github.yml', contrib / 'ci' / 'gitlab.yml', contrib / 'pre-commit-config.yaml',
+                     TOP / '.pre-commit-hooks.yaml'):
             group.check('%s is YAML' % name.name, group.call(python, '-c', 'import sys, yaml; yaml.safe_load(sys.stdin)',
                                                              cwd=here, stdin=name.read_bytes()), (0, b'', b''))
 
@@ -127,6 +128,9 @@ def pages(group):
         if group.has('mandoc'):
             group.check('mandoc -Tlint ' + name, group.call('mandoc', '-Tlint', page, cwd=group.top), (0, b'', b''))
     text = (TOP / 'man' / 'tffmt.1').read_text()
+    for name in ('README.md', 'man/tffmt.1'):
+        group.check('%s redirects nothing to a file that was read' % name,
+                    re.findall(r'.*\.new\b.*|.*cat .*>.*\.tf\b.*', (TOP / name).read_text()), [])
     sessions = [(name, plain(shown)) for name, shown in re.findall(r'\.SS (.*)\n(?:.*\n)*?\.EX\n\.RS 4\n((?:.*\n)*?)\.RE', text)]
     group.check('thirteen refusals', len({name for name, _ in sessions}), 13)
     path = group.before_path(group.script('tffmt', 'exec %s "$@"\n' % group.program).parent)
@@ -152,7 +156,7 @@ def installing(group):
     wanted += ['share/bash-completion/completions/' + name for name in PAGES]
     wanted += ['share/fish/vendor_completions.d/%s.fish' % name for name in PAGES] + ['share/zsh/site-functions/_tffmt']
     wanted += ['share/doc/tffmt/' + name for name in ('VERSION', 'CHANGELOG.md', 'STYLE.md')]
-    examples = ['.pre-commit-hooks.yaml', 'treefmt.toml'] + [
+    examples = ['pre-commit-config.yaml', 'treefmt.toml'] + [
         str(p.relative_to(TOP / 'contrib')) for folder in ('ci', 'editors') for p in (TOP / 'contrib' / folder).rglob('*')
         if not p.is_dir()]
     group.check('what is installed', got, sorted(wanted + ['share/doc/tffmt/examples/' + name for name in examples]))
