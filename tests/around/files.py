@@ -34,12 +34,15 @@ def contents(top):
 
 
 class Script:
-    """tffmt-all under one shell, which is also the `sh` that it calls."""
+    """tffmt-all under one shell, which is also the `sh` that it calls; busybox brings its own find and the like."""
 
     def __init__(self, group, shell):
         self.group = group
         folder = group.fresh()
         (folder / 'sh').symlink_to(shutil.which(shell))
+        if shell == 'busybox':
+            for tool in set(group.call(shell, '--list', cwd='/')[1].decode().split()) - {'sh', 'mount', 'unshare', 'tail'}:
+                (folder / tool).symlink_to(shutil.which(shell))
         self.path = group.before_path(folder)
         self.words = ['sh', group.contrib / 'tffmt-all']
 
