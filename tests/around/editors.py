@@ -3,6 +3,7 @@
 import fcntl
 import os
 import pty
+import re
 import select
 import struct
 import subprocess
@@ -13,7 +14,8 @@ from harness import BAD, GOOD, OTHER, put
 
 
 def on_terminal(group, words, cwd, seconds=20, keys=(), **setting):
-    """Runs a command on a terminal until it ends; what it wrote there. `keys` are typed one after the other."""
+    """Runs a command on a terminal until it ends; what it wrote there. `keys` are pairs: once the first stands in
+    what was written since the last were typed, the second are typed."""
     master, slave = pty.openpty()
     fcntl.ioctl(slave, termios.TIOCSWINSZ, struct.pack('HHHH', 30, 100, 0, 0))
 
@@ -24,16 +26,16 @@ def on_terminal(group, words, cwd, seconds=20, keys=(), **setting):
     process = subprocess.Popen([str(w) for w in words], cwd=str(cwd), stdin=slave, stdout=slave, stderr=slave,
                                preexec_fn=own_terminal, env=dict(group.setting, TERM='xterm', **setting))
     os.close(slave)
-    said, end, keys, typed = b'', time.monotonic() + seconds, list(keys), time.monotonic()
+    said, end, keys, seen = b'', time.monotonic() + seconds, list(keys), 0
     while process.poll() is None and time.monotonic() < end:
         if select.select([master], [], [], 0.05)[0]:
             try:
                 said += os.read(master, 65536)
             except OSError:
                 break
-        elif keys and time.monotonic() > typed + 0.3:
-            os.write(master, keys.pop(0))
-            typed = time.monotonic()
+        elif keys and re.search(keys[0][0], said[seen:], re.S):
+            seen = len(said)
+            os.write(master, keys.pop(0)[1])
     if process.poll() is None and time.monotonic() >= end:
         process.kill()
         said += b' (did not end)'
@@ -56,8 +58,11 @@ function! Note(timer) abort
   call writefile(getline(1, '$'), 'buffer')
   qall!
 endfunction
-call timer_start(200, {-> feedkeys("KEYS\\<CR>", 't')})
-call timer_start(700, function('Note'))
+function! Type(timer) abort
+  call feedkeys("KEYS\\<CR>", 't')
+  call timer_start(400, function('Note'))
+endfunction
+call timer_start(200, function('Type'))
 '''
 
 

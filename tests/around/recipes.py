@@ -21,7 +21,7 @@ def completions(group):
     here = group.fresh()
     put(here, {'good.tf': GOOD, 'text.txt': GOOD, 'in/x.tf': GOOD})
     path = group.before_path(group.script('tffmt', 'exit 0\n').parent, group.contrib)
-    if group.has('bash', checks=4):
+    if group.has('bash', checks=5):
         def bash(line):
             words = line.split(' ')
             script = ('source "$1"; COMP_WORDS=(%s); COMP_CWORD=%d; _tffmt %s; printf "%%s\\n" "${COMPREPLY[@]}"'
@@ -32,15 +32,16 @@ def completions(group):
         group.check('bash: one option', (bash('tffmt --c'), bash('tffmt-hook --i')), ([b'--check'], [b'--install']))
         group.check('bash: files and folders', bash('tffmt-all --check '), [b'good.tf', b'in'])
         group.check('bash: no option behind --', bash('tffmt-all -- --'), [])
-        said = on_terminal(group, ['bash', '--norc', '-i'], here, 6, PATH=path, PS1='> ', keys=[
-            b'source "%s"\n' % os.fsencode(str(folder / 'tffmt.bash')), b'echo tffmt-all; tffmt-hook --in\t', b'\x15exit\n'])
+        said = on_terminal(group, ['bash', '--norc', '-i'], here, PATH=path, PS1='> ', keys=[
+            (b'> ', b'source "%s"; echo rea""dy\n' % os.fsencode(str(folder / 'tffmt.bash'))),
+            (b'ready.*> ', b'tffmt-hook --in\t'), (b'--install', b'\x15exit\n')])
         group.holds('bash: on a terminal', b'tffmt-hook --install' in said, said)
-    if group.has('zsh', checks=2):
-        setup = b'fpath=("%s" $fpath); autoload -U compinit; compinit -u -D\n' % os.fsencode(str(folder))
+    if group.has('zsh', checks=4):
+        setup = b'fpath=("%s" $fpath); autoload -U compinit; compinit -u -D; print rea""dy\n' % os.fsencode(str(folder))
         for typed, wanted in ((b'tffmt-all --ch\t', b'tffmt-all --check'), (b'tffmt-hook --in\t', b'tffmt-hook --install'),
                               (b'tffmt --c\t', b'tffmt --check'), (b'tffmt-all goo\t', b'tffmt-all good.tf')):
-            said = on_terminal(group, ['zsh', '-f', '-i'], here, 8, PATH=path, PS1='> ',
-                               keys=[setup, typed, b'\x15exit\n'])
+            said = on_terminal(group, ['zsh', '-f', '-i'], here, PATH=path, PS1='> ', keys=[
+                (b'> ', setup), (b'ready.*> ', typed), (b'', b'\x15exit\n')])
             shown = re.sub(rb'\x1b\[[0-9;?]*[a-zA-Z]|.\x08', b'', said)
             group.holds('zsh: ' + typed.decode().strip(), wanted in shown, said)
     if group.has('fish', checks=3):
