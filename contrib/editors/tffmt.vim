@@ -1,31 +1,57 @@
-" Vim: formats a Terraform file when it is written.
+" Vim and Neovim: formats a Terraform file when it is written.
 "
-" Put this file into ~/.vim/plugin/. `:Tffmt` formats the buffer by hand. Where tffmt refuses the text, the
-" buffer stays as it is, the message is shown, and the file is written as it stands.
+" Put this file into ~/.vim/plugin/ (Vim) or ~/.config/nvim/plugin/ (Neovim). `:Tffmt` formats the buffer by hand.
+" Where tffmt refuses the text, the buffer stays as it is, the file is written as it stands, and the message is
+" shown after Vim's own that the file was written. The same holds where tffmt can't be run.
+"
+" g:tffmt_program names the program where it isn't `tffmt` on the path; with `let g:tffmt_on_save = 0` nothing
+" is formatted on writing.
 "
 " 'formatprg' and 'equalprg' are not the place for tffmt: they hand it a part of a file, and Vim puts what a
 " failed filter said in place of the text.
 
-function! s:Tffmt() abort
-  if !executable('tffmt')
-    return
+" Formats the buffer; what went wrong, or nothing.
+function! s:Format() abort
+  let l:program = get(g:, 'tffmt_program', 'tffmt')
+  if !executable(l:program)
+    return l:program . ': not found'
   endif
   let l:before = getline(1, '$')
-  let l:after = systemlist('tffmt', l:before + [''])
+  let l:after = systemlist(shellescape(l:program), l:before + [''])
   if v:shell_error || len(l:after) != len(l:before)
-    echohl WarningMsg
-    echomsg join(l:after, ' ')
-    echohl None
-  elseif l:after !=# l:before
+    return empty(l:after) ? l:program . ' failed' : join(l:after, ' ')
+  endif
+  if l:after !=# l:before
     let l:view = winsaveview()
     call setline(1, l:after)
     call winrestview(l:view)
   endif
+  return ''
 endfunction
 
-command! Tffmt call s:Tffmt()
+function! s:Show(message) abort
+  if !empty(a:message)
+    redraw
+    echohl WarningMsg
+    echomsg a:message
+    echohl None
+  endif
+endfunction
+
+" A message before the write would be covered by the one that the file was written.
+function! s:BeforeWrite() abort
+  let b:tffmt_message = get(g:, 'tffmt_on_save', 1) ? s:Format() : ''
+endfunction
+
+function! s:AfterWrite() abort
+  call s:Show(get(b:, 'tffmt_message', ''))
+  let b:tffmt_message = ''
+endfunction
+
+command! Tffmt call s:Show(s:Format())
 
 augroup tffmt
   autocmd!
-  autocmd BufWritePre *.tf,*.tfvars call s:Tffmt()
+  autocmd BufWritePre *.tf,*.tfvars,*.tofu,*.tftest.hcl,*.tfmock.hcl call s:BeforeWrite()
+  autocmd BufWritePost *.tf,*.tfvars,*.tofu,*.tftest.hcl,*.tfmock.hcl call s:AfterWrite()
 augroup END

@@ -1,0 +1,30 @@
+# Completion of tffmt, tffmt-all and tffmt-hook for bash. `make install` puts it where bash-completion finds it;
+# without that, source it in ~/.bashrc.
+
+_tffmt() {
+  local word=${COMP_WORDS[COMP_CWORD]} before=${COMP_WORDS[COMP_CWORD - 1]} options i found
+  COMPREPLY=()
+  case ${1##*/} in
+    tffmt) options='--check --help' ;;
+    tffmt-all) options='--check --diff --list --jobs --null --help' ;;
+    tffmt-hook) options='--install --help' ;;
+  esac
+  for ((i = 1; i < COMP_CWORD; i++)); do
+    [[ ${COMP_WORDS[i]} != -- ]] || options=
+  done
+  if [[ $word == -* && -n $options ]]; then
+    while IFS= read -r found; do
+      COMPREPLY+=("$found")
+    done < <(compgen -W "$options" -- "$word")
+  elif [[ ${1##*/} == tffmt-all && $before != -j && $before != --jobs ]]; then
+    compopt -o filenames 2>/dev/null
+    while IFS= read -r found; do
+      case $found in
+        *.tf | *.tfvars | *.tofu | *.tftest.hcl | *.tfmock.hcl) COMPREPLY+=("$found") ;;
+        *) [[ ! -d $found ]] || COMPREPLY+=("$found") ;;
+      esac
+    done < <(compgen -f -- "$word")
+  fi
+}
+
+complete -F _tffmt tffmt tffmt-all tffmt-hook

@@ -1,0 +1,189 @@
+"""contrib/editors in the real editors, on a terminal of our own."""
+
+import fcntl
+import os
+import pty
+import re
+import select
+import struct
+import subprocess
+import termios
+import time
+
+from harness import BAD, GOOD, OTHER, put
+
+
+def on_terminal(group, words, cwd, seconds=20, keys=(), **setting):
+    """Runs a command on a terminal until it ends; what it wrote there. `keys` are pairs: once the first stands in
+    what was written since the last were typed, the second are typed."""
+    master, slave = pty.openpty()
+    fcntl.ioctl(slave, termios.TIOCSWINSZ, struct.pack('HHHH', 30, 100, 0, 0))
+
+    def own_terminal():
+        os.setsid()
+        fcntl.ioctl(0, termios.TIOCSCTTY, 0)
+
+    process = subprocess.Popen([str(w) for w in words], cwd=str(cwd), stdin=slave, stdout=slave, stderr=slave,
+                               preexec_fn=own_terminal, env=dict(group.setting, TERM='xterm', **setting))
+    os.close(slave)
+    said, end, keys, seen = b'', time.monotonic() + seconds, list(keys), 0
+    while process.poll() is None and time.monotonic() < end:
+        if select.select([master], [], [], 0.05)[0]:
+            try:
+                said += os.read(master, 65536)
+            except OSError:
+                break
+        elif keys and re.search(keys[0][0], said[seen:], re.S):
+            seen = len(said)
+            os.write(master, keys.pop(0)[1])
+    if process.poll() is None and time.monotonic() >= end:
+        process.kill()
+        said += b' (did not end)'
+    process.wait()
+    os.close(master)
+    return said
+
+
+# Vim script for both: writes the buffer as a user would, and then notes what stands on the last line.
+VIM = '''
+set nomore cmdheight=1 columns=100 lines=30 noswapfile
+source PLUGIN
+function! Note(timer) abort
+  redraw
+  let l:shown = ''
+  for l:column in range(1, &columns)
+    let l:shown .= screenstring(&lines, l:column)
+  endfor
+  call writefile([substitute(l:shown, ' *$', '', '')], 'shown')
+  call writefile(getline(1, '$'), 'buffer')
+  qall!
+endfunction
+function! Type(timer) abort
+  call feedkeys("KEYS\\<CR>", 't')
+  call timer_start(400, function('Note'))
+endfunction
+call timer_start(200, function('Type'))
+'''
+
+
+def run_vim(group):
+    editor = group.name
+    if not group.has(editor, checks=9):
+        return
+
+    def edit(name, text, keys=':w', program=group.program, path=None, **setting):
+        """What the last line shows, what the buffer holds, and what the file holds."""
+        here = group.fresh()
+        put(here, {name: text})
+        script = VIM.replace('PLUGIN', str(group.contrib / 'editors' / 'tffmt.vim')).replace('KEYS', keys)
+        (here / 'test.vim').write_text('let g:tffmt_program = "%s"\n%s' % (program, script))
+        words = [editor, '-u', 'NONE', '-N', '-i', 'NONE'] if editor == 'vim' else [editor, '-u', 'NONE', '-i', 'NONE']
+        said = on_terminal(group, words + ['-S', 'test.vim', name], here, **setting)
+        if not (here / 'shown').exists():
+            return 'nothing was noted: %r' % said[-300:], b'', b''
+        return (here / 'shown').read_text().strip(), (here / 'buffer').read_bytes(), (here / name).read_bytes()
+
+    shown, buffer, file = edit('a.tf', OTHER)
+    group.check('a file is formatted when it is written', (buffer, file), (GOOD, GOOD))
+    group.holds('and Vim says that it was written', 'written' in shown, shown)
+    for name in ('a.tfvars', 'a.tofu', 'a.tftest.hcl', 'a.tfmock.hcl'):
+        group.check(name, edit(name, OTHER)[2], GOOD)
+    group.check('a refused buffer: the message is seen in the end', edit('a.tf', BAD),
+                ('tffmt: error: 1:3: unexpected token', BAD, BAD))
+    group.check('without the program, on writing', edit('a.tf', OTHER, program='no-such-program'),
+                ('no-such-program: not found', OTHER, OTHER))
+    group.check('without the program, by hand', edit('a.tf', OTHER, ':Tffmt', program='no-such-program'),
+                ('no-such-program: not found', OTHER, OTHER))
+    group.check('by hand, refused', edit('a.tf', BAD, ':Tffmt'), ('tffmt: error: 1:3: unexpected token', BAD, BAD))
+    group.check('by hand', edit('a.tf', OTHER, ':Tffmt')[1:], (GOOD, OTHER))
+    group.check('turned off', edit('a.tf', OTHER, ':let g:tffmt_on_save = 0|w')[2], OTHER)
+    group.check('another file', edit('a.txt', OTHER)[2], OTHER)
+    shell = os.path.join(str(group.fresh()), 'a b')
+    os.symlink(group.program, shell)
+    group.check('a program with a blank in its path', edit('a.tf', OTHER, program=shell)[2], GOOD)
+
+
+EMACS = '''
+(load "PLUGIN" nil t)
+(setq tffmt-program "PROGRAM" make-backup-files nil)
+(find-file "NAME")
+(run-with-timer 0.3 nil (lambda ()
+  FORM
+  (run-with-timer 0.5 nil (lambda ()
+    (write-region (or (current-message) "") nil "shown" nil 'quiet)
+    (write-region (buffer-string) nil "buffer" nil 'quiet)
+    (kill-emacs)))))
+'''
+
+
+def run_emacs(group):
+    if not group.has('emacs', checks=12):
+        return
+
+    def edit(name, text, form, program=group.program, before=''):
+        here = group.fresh()
+        put(here, {name: text})
+        (here / 'test.el').write_text(
+            EMACS.replace('PLUGIN', str(group.contrib / 'editors' / 'tffmt.el')).replace('PROGRAM', program)
+            .replace('NAME', name).replace('FORM', form))
+        said = on_terminal(group, ['emacs', '-Q', '-nw', '-l', 'test.el'], here)
+        if not (here / 'shown').exists():
+            return 'nothing was noted: %r' % said[-300:], b'', b''
+        return (here / 'shown').read_text(), (here / 'buffer').read_bytes(), (here / name).read_bytes()
+
+    saving = '(tffmt-on-save-mode 1) (set-buffer-modified-p t) (save-buffer)'
+    shown, buffer, file = edit('a.tf', OTHER, saving)
+    group.check('a buffer is formatted when it is saved', (buffer, file), (GOOD, GOOD))
+    group.holds('and Emacs says that it was written', shown.startswith('Wrote'), shown)
+    group.check('a refused buffer: the message is seen in the end', edit('a.tf', BAD, saving),
+                ('tffmt: error: 1:3: unexpected token', BAD, BAD))
+    shown, buffer, file = edit('a.tf', OTHER, saving, program='no-such-program')
+    group.holds('without the program, on saving', 'no-such-program' in shown, shown)
+    group.check('the file is saved then', (buffer, file), (OTHER, OTHER))
+    shown, buffer, file = edit('a.tf', OTHER, '(tffmt)', program='no-such-program')
+    group.holds('without the program, by hand', 'no-such-program' in shown, shown)
+    group.check('by hand', edit('a.tf', OTHER, '(tffmt)')[1:], (GOOD, OTHER))
+    batch(group)
+
+
+BATCH = '''
+(defvar terraform-mode-hook nil)
+(load "PLUGIN" nil t)
+(setq tffmt-program "PROGRAM")
+(princ (format "loading turns on: %S\\n" terraform-mode-hook))
+(find-file "big.tf")
+(let ((before (buffer-string)))
+  (tffmt)
+  (undo-boundary)
+  (let ((last-command nil) (inhibit-message t)) (undo))
+  (princ (format "undo restores: %S\\n" (equal before (buffer-string)))))
+(search-forward "a777=")
+(let ((began (float-time)) (word (copy-marker 5)))
+  (tffmt)
+  (princ (format "in time: %S\\n" (< (- (float-time) began) 5)))
+  (princ (format "point stands behind: %S\\n" (buffer-substring (line-beginning-position) (point))))
+  (princ (format "a marker stands behind: %S\\n" (buffer-substring 1 word))))
+(set-buffer-modified-p t)
+(save-buffer)
+'''
+
+
+def batch(group):
+    here = group.fresh()
+    text = b''.join(b'a%d=%d # x  y\n' % (i, i) for i in range(20000))
+    put(here, {'big.tf': text, 'test.el': BATCH.replace('PLUGIN', str(group.contrib / 'editors' / 'tffmt.el'))
+                                             .replace('PROGRAM', group.program).encode()})
+    status, out, err = group.call('emacs', '-Q', '--batch', '-l', 'test.el', cwd=here)
+    group.check('20,000 changed lines', out.decode().splitlines(), [
+        'loading turns on: nil', 'undo restores: t', 'in time: t', 'point stands behind: "a777   ="', 'a marker stands behind: "a0     = 0"'])
+    group.check('with no other message', err.decode().splitlines()[1:], [])
+    group.check('are what tffmt prints', (here / 'big.tf').read_bytes(), group.call(group.program, cwd=here, stdin=text)[1])
+    put(here, {'mixed.tf': b'b{\n\tx   =[1,  2]\t\n\n  long=<<E\n  k  \nE\n}\r\n\xc3\xa9 = 1', 'other.el': (
+        '(load "%s/editors/tffmt.el" nil t) (setq tffmt-program "%s") (find-file-literally "mixed.tf") '
+        '(set-buffer-multibyte t) (tffmt) (save-buffer)' % (group.contrib, group.program)).encode()})
+    wanted = group.call(group.program, cwd=here, stdin=(here / 'mixed.tf').read_bytes())[1]
+    group.call('emacs', '-Q', '--batch', '-l', 'other.el', cwd=here)
+    group.check('a text of all kinds', (here / 'mixed.tf').read_bytes(), wanted)
+    warnings = group.call('emacs', '-Q', '--batch', '--eval', '(setq byte-compile-dest-file-function (lambda (_) "%s"))'
+                          % (here / 'x.elc'), '-f', 'batch-byte-compile', group.contrib / 'editors' / 'tffmt.el', cwd=here)
+    group.check('compiles without a warning', (warnings[0], warnings[2]), (0, b''))

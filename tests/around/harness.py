@@ -1,0 +1,134 @@
+"""What the checks of tests/contrib share: counting, and calling programs in a folder of their own."""
+
+import os
+import pathlib
+import shutil
+import signal
+import subprocess
+import tempfile
+
+TOP = pathlib.Path(__file__).resolve().parent.parent.parent
+GOOD, OTHER, BAD = b'a = 1\n', b'a=1\n', b'a=\n'
+REFUSED = ':1:3: unexpected token'
+LIMIT = 60
+
+
+class Group:
+    """Checks of one subject, with a temporary folder. `lines` is what is to be printed in the end."""
+
+    def __init__(self, name, program, contrib):
+        self.name, self.program, self.contrib = name, program, contrib
+        self.passed = self.failed = self.skipped = 0
+        self.lines, self.ran, self.missing = [], [], []
+        self.made = tempfile.TemporaryDirectory(prefix='tffmt-tests-')
+        self.top = pathlib.Path(os.path.realpath(self.made.name))
+        self.top.chmod(0o755)
+        self.setting = {name: value for name, value in os.environ.items() if not name.startswith('GIT_')}
+        self.setting.update(TFFMT=program, HOME=str(self.folder('home')), TMPDIR=str(self.folder('tmp')),
+                            GIT_CONFIG_NOSYSTEM='1', LC_ALL='C.UTF-8', TERM='dumb')
+        self.top.joinpath('tmp').chmod(0o777)
+
+    def folder(self, name):
+        made = self.top / name
+        made.mkdir(parents=True, exist_ok=True)
+        return made
+
+    def fresh(self):
+        """A new empty folder."""
+        made = pathlib.Path(tempfile.mkdtemp(dir=str(self.top)))
+        made.chmod(0o755)
+        return made
+
+    def check(self, name, given, wanted):
+        if given == wanted:
+            self.passed += 1
+        else:
+            self.failed += 1
+            self.lines.append('%s: %s: wanted %r, got %r' % (self.name, name, wanted, given))
+
+    def holds(self, name, truth, said=''):
+        self.check(name, (bool(truth), '' if truth else said), (True, ''))
+
+    def has(self, program, checks=1, why=None):
+        """Whether a program is there. Where it isn't, the checks that need it count as skipped."""
+        found = why is None and shutil.which(program)
+        if found:
+            if program not in self.ran:
+                self.ran.append(program)
+        else:
+            self.skip(program, checks, why)
+        return bool(found)
+
+    def skip(self, what, checks, why=None):
+        self.skipped += checks
+        self.missing.append('%s (%s)' % (what, why or 'not installed'))
+
+    def call(self, *words, cwd, stdin=b'', user=None, limit=None, **setting):
+        """(status, standard output, standard error) of a command; a status below 0 is a signal."""
+        def prepare():
+            if limit is not None:
+                import resource
+                resource.setrlimit(resource.RLIMIT_FSIZE, (limit, limit))
+            if user is not None:
+                os.setgroups([])
+                os.setgid(user)
+                os.setuid(user)
+        done = subprocess.run([os.fspath(w) for w in words], cwd=str(cwd), env=dict(self.setting, **setting),
+                              input=stdin, stdout=subprocess.PIPE, stderr=subprocess.PIPE, timeout=LIMIT,
+                              preexec_fn=prepare)
+        return done.returncode, done.stdout, done.stderr
+
+    def start(self, *words, cwd, **setting):
+        return subprocess.Popen([os.fspath(w) for w in words], cwd=str(cwd), env=dict(self.setting, **setting),
+                                stdin=subprocess.DEVNULL, stdout=subprocess.PIPE, stderr=subprocess.PIPE)
+
+    def end(self, process, sent=signal.SIGTERM):
+        """(status, standard output, standard error) of a started command after a signal."""
+        process.send_signal(sent)
+        try:
+            out, err = process.communicate(timeout=20)
+        except subprocess.TimeoutExpired:
+            process.kill()
+            return 'did not end', b'', b''
+        return process.returncode, out, err
+
+    def script(self, name, text):
+        """A folder with one program, to be put in front of the path."""
+        folder = self.fresh()
+        made = folder / name
+        made.write_text('#!/bin/sh\n' + text)
+        made.chmod(0o755)
+        return made
+
+    def before_path(self, *folders):
+        return ':'.join([str(f) for f in folders] + [self.setting['PATH']])
+
+
+def put(folder, files):
+    """Writes files, by their names below a folder; a text that begins with `->` is a link."""
+    for name, text in files.items():
+        made = os.path.join(os.fsencode(str(folder)), name if isinstance(name, bytes) else os.fsencode(name))
+        os.makedirs(os.path.dirname(made), exist_ok=True)
+        if text.startswith(b'->'):
+            os.symlink(text[2:], made)
+        else:
+            with open(made, 'wb') as file:
+                file.write(text)
+
+
+def lines(*each):
+    """The bytes of lines of text."""
+    return b''.join((one if isinstance(one, bytes) else one.encode()) + b'\n' for one in each)
+
+
+def run(subject):
+    """Runs a function over a group of its own; what came of it. A function that breaks off counts as failed."""
+    function, name, program, contrib = subject
+    group = Group(name, program, contrib)
+    try:
+        function(group)
+    except Exception as fault:                                   # one group's fault must not hide another's
+        group.failed += 1
+        group.lines.append('%s: broke off: %r' % (name, fault))
+    group.made.cleanup()
+    return group.passed, group.failed, group.skipped, group.lines, group.ran, group.missing

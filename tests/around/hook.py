@@ -1,0 +1,277 @@
+"""contrib/tffmt-hook in real git, and the hooks for pre-commit in the real pre-commit."""
+
+import os
+import pathlib
+import shutil
+
+from harness import BAD, GOOD, OTHER, REFUSED, TOP, lines, put
+
+FORMAT = 'tffmt-hook: the commit is refused: format these files, as with tffmt-all, and stage them again'
+MEND = 'tffmt-hook: the commit is refused: mend these files and stage them again'
+BLIND = 'tffmt-hook: the commit is refused: not every staged file could be looked at'
+
+
+class Repository:
+    def __init__(self, group, folder=None):
+        self.group, self.top = group, folder or group.fresh()
+        self.hook = group.contrib / 'tffmt-hook'
+        for words in (['init', '-q', '.'], ['config', 'user.name', 'n'], ['config', 'user.email', 'n@localhost']):
+            self.git(*words)
+
+    def git(self, *words, **more):
+        more.setdefault('cwd', self.top)
+        return self.group.call('git', *words, **more)
+
+    def stage(self, files):
+        put(self.top, files)
+        self.git('add', '-A')
+
+    def commit(self, *words, **more):
+        """Whether the commit passed, and what was said."""
+        status, _, err = self.git('commit', '-q', '-m', 'x', *words, **more)
+        return status == 0, b''.join(sorted(err.splitlines(True)))
+
+    def run_hook(self, **more):
+        return self.group.call(self.hook, cwd=self.top, **more)
+
+    def install(self, **more):
+        more.setdefault('cwd', self.top)
+        return self.group.call(self.hook, '--install', **more)
+
+
+def said(*each):
+    return b''.join(sorted(lines(*each).splitlines(True)))
+
+
+def run(group):
+    if group.has('git', checks=40):
+        for part in (first_commit, later_commits, alone, odd_names, without_program, failing_tools, filters, installing,
+                     other_hooks, command_line):
+            part(group)
+        group.check('nothing is left in the temporary folder', list(group.folder('tmp').iterdir()), [])
+
+
+def installed(group):
+    made = Repository(group)
+    made.install()
+    return made
+
+
+def first_commit(group):
+    here = installed(group)
+    here.stage({'good.tf': GOOD, 'other.tf': OTHER, 'vars.tfvars': OTHER, 'b.tofu': OTHER, 'c.tftest.hcl': OTHER,
+                'd.tfmock.hcl': OTHER, 'text.txt': OTHER, 'e.hcl': OTHER, 'a folder/bad.tf': BAD, '\u00e9.tf': OTHER,
+                'link.tf': b'->other.tf'})
+    group.check('first commit, all reported', here.commit(), (False, said(
+        'other.tf: not formatted', 'vars.tfvars: not formatted', '\u00e9.tf: not formatted', 'b.tofu: not formatted',
+        'c.tftest.hcl: not formatted', 'd.tfmock.hcl: not formatted', 'a folder/bad.tf' + REFUSED, MEND)))
+    group.check('the status is the worst', here.run_hook()[0], 2)
+    here.stage({name: GOOD for name in ('other.tf', 'vars.tfvars', 'b.tofu', 'c.tftest.hcl', 'd.tfmock.hcl',
+                                        'a folder/bad.tf', '\u00e9.tf')})
+    put(here.top, {'other.tf': OTHER})
+    group.check('what is staged counts, not the working tree', here.commit(), (True, b''))
+
+
+def later_commits(group):
+    here = installed(group)
+    here.stage({'old.tf': OTHER, 'good.tf': GOOD, 'gone.tf': OTHER, 'link.tf': b'->good.tf', 'in/x.tf': GOOD})
+    here.commit('--no-verify')
+    here.stage({'new.tf': GOOD})
+    group.check('a file that was committed before is not looked at', here.commit(), (True, b''))
+    here.git('rm', '-q', 'gone.tf')
+    group.check('nor one that is removed', here.commit(), (True, b''))
+    here.stage({'in/x.tf': OTHER})
+    group.check('a changed file, from a folder below', here.commit(cwd=here.top / 'in'),
+                (False, said('in/x.tf: not formatted', FORMAT)))
+    here.git('reset', '-q', '--hard')
+    (here.top / 'link.tf').unlink()
+    here.stage({'link.tf': OTHER})
+    group.check('a link that became a file', here.commit(), (False, said('link.tf: not formatted', FORMAT)))
+    here.git('reset', '-q', '--hard')
+    here.git('mv', 'old.tf', 'moved.tf')
+    group.check('a file under a new name', here.commit(), (False, said('moved.tf: not formatted', FORMAT)))
+    here.git('reset', '-q', '--hard')
+    put(here.top, {'good.tf': b'a = 1\nb = 2\n', 'in/x.tf': OTHER})
+    here.git('add', 'in/x.tf')
+    group.check('a commit of one file by its name', here.commit('good.tf'), (True, b''))
+
+
+def alone(group):
+    """Each kind of fault by itself refuses."""
+    for name, text, status, line, last in (('bad.tf', BAD, 2, 'bad.tf' + REFUSED, MEND),
+                                           ('other.tf', OTHER, 3, 'other.tf: not formatted', FORMAT)):
+        here = installed(group)
+        here.stage({name: text, 'good.tf': GOOD})
+        group.check(name + ' alone', here.commit(), (False, said(line, last)))
+        group.check(name + ' alone, the status', here.run_hook(), (status, b'', lines(line, last)))
+
+
+def odd_names(group):
+    names = ['new\nline.tf', 'tab\t.tf', 'quo"te.tf', 'back\\slash.tf', 'a\\c.tf', '-n.tf', '*.tf', ':0:x.tf', ' .tf']
+    here = installed(group)
+    here.stage({name: GOOD for name in names})
+    group.check('formatted files of any name', here.commit(), (True, b''))
+    here.stage({name: OTHER for name in names})
+    group.check('other files of any name', here.commit(),
+                (False, said(*([name + ': not formatted' for name in names] + [FORMAT]))))
+    here = installed(group)
+    here.stage({b'caf\xe9.tf': OTHER})
+    group.check('a name that is not UTF-8', here.commit(), (False, said(b'caf\xe9.tf: not formatted', FORMAT)))
+
+
+def without_program(group):
+    here = installed(group)
+    here.stage({'text.txt': OTHER, 'link.tf': b'->text.txt'})
+    group.check('without the program and such a file', here.commit(TFFMT='no-such-program'), (True, b''))
+    here.stage({'good.tf': GOOD})
+    group.check('without the program', here.commit(TFFMT='no-such-program'), (False, said(
+        'good.tf: not looked at, since there is no no-such-program on the path', BLIND)))
+    group.check('without the program, the status', here.run_hook(TFFMT='no-such-program')[0], 4)
+
+
+def failing_tools(group):
+    here = installed(group)
+    here.stage({'good.tf': GOOD})
+    failing = group.script('t', 'echo "tffmt: error: read failed" >&2\nexit 4\n')
+    group.check('a program that fails', here.commit(TFFMT=str(failing)), (False, said('good.tf: read failed', BLIND)))
+    other = group.script('t', 'exit 2\n')
+    group.check('another program', here.run_hook(TFFMT=str(other))[0], 4)
+    for tool, text in (('xargs', 'exit 1\n'), ('git', 'case $* in *diff-index*|*cat-file*) exit 1 ;; esac\n%s "$@"\n'),
+                       ('git', 'case $* in *cat-file*) exit 1 ;; esac\n%s "$@"\n'),
+                       ('git', 'case $* in *ls-files*) exit 1 ;; esac\n%s "$@"\n')):
+        made = group.script(tool, text.replace('%s', shutil.which('git')))
+        group.check('a %s that fails' % tool, here.run_hook(PATH=group.before_path(made.parent))[0], 4)
+    group.check('without a temporary folder', here.run_hook(TMPDIR='/nowhere')[0], 4)
+
+
+def filters(group):
+    """What is staged is judged as a checkout would have it."""
+    here = installed(group)
+    here.git('config', 'filter.turned.clean', 'tr =a-y y=-x')
+    here.git('config', 'filter.turned.smudge', 'tr y=-x =a-y')
+    put(here.top, {'.gitattributes': b'*.tfvars filter=turned\n'})
+    here.stage({'secret.tfvars': GOOD})
+    group.check('a filter turns the text', here.git('cat-file', 'blob', ':secret.tfvars')[1] != GOOD, True)
+    group.check('a formatted file behind a filter', here.commit(), (True, b''))
+    here.stage({'secret.tfvars': OTHER})
+    group.check('another one', here.commit(), (False, said('secret.tfvars: not formatted', FORMAT)))
+
+
+def refuses(group, name, here, top):
+    """Whether a hook is at work in a working tree."""
+    put(top, {'other.tf': OTHER})
+    here.git('add', 'other.tf', cwd=top)
+    group.check('the hook works ' + name, here.commit(cwd=top), (False, said('other.tf: not formatted', FORMAT)))
+
+
+def installing(group):
+    here = Repository(group)
+    inner = group.folder(str(here.top / 'in'))
+    place = lines('installed %s/.git/hooks/pre-commit' % here.top)
+    group.check('installing', here.install(cwd=inner), (0, place, b''))
+    group.check('installing again', here.install(), (0, place, b''))
+    refuses(group, 'after installing', here, here.top)
+    here.commit('--no-verify')
+    # a worktree has the hooks of its repository
+    tree = pathlib.Path(str(here.top) + '-tree')
+    here.git('worktree', 'add', '-q', tree)
+    (here.top / '.git' / 'hooks' / 'pre-commit').unlink()
+    group.check('installing in a worktree', here.install(cwd=tree), (0, place, b''))
+    put(tree, {'new.tf': OTHER})
+    here.git('add', '-A', cwd=tree)
+    group.check('the hook works in a worktree', here.commit(cwd=tree), (False, said('new.tf: not formatted', FORMAT)))
+    # a submodule has hooks of its own
+    outer = Repository(group)
+    outer.git('-c', 'protocol.file.allow=always', 'submodule', '--quiet', 'add', here.top, 'sub')
+    sub = outer.top / 'sub'
+    for words in (['user.name', 'n'], ['user.email', 'n@localhost']):
+        outer.git('config', *words, cwd=sub)
+    group.check('installing in a submodule', outer.install(cwd=sub),
+                (0, lines('installed %s/.git/modules/sub/hooks/pre-commit' % outer.top), b''))
+    put(sub, {'new.tf': OTHER})
+    outer.git('add', '-A', cwd=sub)
+    group.check('the hook works in a submodule', outer.commit(cwd=sub), (False, said('new.tf: not formatted', FORMAT)))
+    # core.hooksPath
+    here = Repository(group)
+    here.git('config', 'core.hooksPath', '.githooks')
+    group.check('installing under core.hooksPath', here.install(cwd=group.folder(str(here.top / 'in'))),
+                (0, lines('installed %s/.githooks/pre-commit' % here.top), b''))
+    refuses(group, 'under core.hooksPath', here, here.top)
+
+
+def other_hooks(group):
+    here = Repository(group)
+    theirs = here.top / '.git' / 'hooks' / 'pre-commit'
+    theirs.write_text('#!/bin/sh\nexit 0\n')
+    group.check('another hook is left alone', (here.install(), theirs.read_text()), ((4, b'', lines(
+        'tffmt-hook: %s: there is another hook already; have it call tffmt-hook' % theirs)), '#!/bin/sh\nexit 0\n'))
+    theirs.write_text('#!/bin/sh\n"%s" || exit\n' % here.hook)
+    theirs.chmod(0o755)
+    refuses(group, 'when another hook calls it', here, here.top)
+    theirs.unlink()
+    theirs.symlink_to('nowhere')
+    group.check('nor is a link', (here.install()[0], os.readlink(str(theirs))), (4, 'nowhere'))
+    theirs.unlink()
+    theirs.write_text((here.hook).read_text() + '# of an earlier version\n')
+    group.check('an earlier version is replaced', (here.install()[0], theirs.read_text()), (0, here.hook.read_text()))
+
+
+def command_line(group):
+    here = Repository(group)
+    status, out, err = group.call(here.hook, '--help', cwd=here.top)
+    group.check('--help', (status, out.startswith(b'usage: tffmt-hook '), err), (0, True, b''))
+    usage = out.split(b'\n')[0] + b'\n'
+    for words in (['--bogus'], ['--install', 'x'], ['']):
+        group.check('a wrong line %r' % words, group.call(here.hook, *words, cwd=here.top), (2, b'', usage))
+    for words in ([], ['--install']):
+        group.check('outside a repository %r' % words,
+                    group.call(here.hook, *words, cwd=group.fresh(), GIT_CEILING_DIRECTORIES=str(group.top))[0], 4)
+
+
+def run_framework(group):
+    """The hooks for pre-commit, from a repository of this folder's files."""
+    if not all([group.has('git', checks=0), group.has('pre-commit', checks=8)]):
+        return
+    source = Repository(group)
+    shutil.copy(str(TOP / '.pre-commit-hooks.yaml'), str(source.top))
+    shutil.copytree(str(group.contrib), str(source.top / 'contrib'))
+    source.git('add', '-A')
+    source.git('commit', '-q', '-m', 'x')
+    revision = source.git('rev-parse', 'HEAD')[1].decode().strip()
+    home = str(group.fresh())
+    # this test's own Python may hide that of pre-commit
+    path = '%s:/usr/bin:/bin' % group.script('tffmt', 'exec %s "$@"\n' % group.program).parent
+
+    def framework(here, identity, *words):
+        (here.top / '.pre-commit-config.yaml').write_text(
+            'repos:\n- repo: %s\n  rev: %s\n  hooks:\n  - id: %s\n' % (source.top, revision, identity))
+        return call(here, *words)
+
+    def call(here, *words):
+        here.git('add', '.pre-commit-config.yaml')
+        status, out, _ = group.call('pre-commit', *words, cwd=here.top, PATH=path, TFFMT='tffmt', PRE_COMMIT_HOME=home)
+        return status, out.decode('utf-8', 'replace')
+
+    here = Repository(group)
+    here.stage({'good.tf': GOOD, 'a b.tf': OTHER, '-x.tfvars': OTHER, 'e.hcl': OTHER})
+    status, out = framework(here, 'tffmt-check', 'run', '--all-files')
+    group.check('tffmt-check refuses', (status, [line for line in out.splitlines() if 'not formatted' in line]),
+                (1, ['-x.tfvars: not formatted', 'a b.tf: not formatted']))
+    status, out = framework(here, 'tffmt', 'run', '--all-files')
+    group.check('tffmt formats, and fails once', (status, 'files were modified by this hook' in out), (1, True))
+    group.check('in place', {name: (here.top / name).read_bytes() for name in ('a b.tf', '-x.tfvars', 'e.hcl')},
+                {'a b.tf': GOOD, '-x.tfvars': GOOD, 'e.hcl': OTHER})
+    here.git('add', '-A')
+    for identity in ('tffmt', 'tffmt-check'):
+        group.check(identity + ' passes', framework(here, identity, 'run', '--all-files')[0], 0)
+    group.check('as the hook of a commit', framework(here, 'tffmt-check', 'install')[0], 0)
+    here.stage({'bad.tf': BAD})
+    status, _, err = here.git('commit', '-q', '-m', 'x', PATH=path, TFFMT='tffmt', PRE_COMMIT_HOME=home)
+    group.holds('a refused file refuses the commit', status == 1 and b'bad.tf:1:3: unexpected token' in err, err)
+    # the example for an installed tffmt-all
+    here = Repository(group)
+    here.stage({'a.tf': OTHER, 'b.txt': OTHER})
+    shutil.copy(str(group.contrib / 'pre-commit-config.yaml'), str(here.top / '.pre-commit-config.yaml'))
+    path = '%s:%s' % (group.contrib, path)
+    given = [call(here, 'run', '--all-files')[0] for _ in range(2)]
+    group.check('the example formats, and passes then', (given, (here.top / 'a.tf').read_bytes()), ([1, 0], GOOD))

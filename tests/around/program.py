@@ -1,0 +1,60 @@
+"""The program itself, where tests/cases can't go: devices that fail, and what the documents show."""
+
+import os
+import re
+import subprocess
+
+from harness import TOP
+
+
+def run(group):
+    work = group.fresh()
+
+    def call(words, stdin, stdout=subprocess.PIPE):
+        done = subprocess.run([group.program] + words, stdin=stdin, stdout=stdout, stderr=subprocess.PIPE,
+                              cwd=str(work))
+        return done.returncode, done.stderr
+
+    (work / 'a.tf').write_bytes(b'a=1\n')
+    with open('/dev/full', 'wb') as full:
+        for words in ([], ['--help']):
+            with open(str(work / 'a.tf'), 'rb') as stdin:
+                group.check('a full device %r' % words, call(words, stdin, full), (4, b'tffmt: error: write failed\n'))
+    folder = os.open(str(work), os.O_RDONLY)
+    for words in ([], ['--check']):
+        group.check('a read that fails %r' % words, call(words, folder), (4, b'tffmt: error: read failed\n'))
+    os.close(folder)
+    readme(group)
+    walk(group)
+
+
+def walk(group):
+    """The README's first walk, line by line. A line that says `refused: TEXT` must fail and say so."""
+    if not group.has('git', checks=2):
+        return
+    text = (TOP / 'README.md').read_text(encoding='utf-8')
+    lines = re.search(r'### A first walk\n.*?```sh\n(.*?)```', text, re.S).group(1).splitlines()
+    script = 'git config --global user.name n && git config --global user.email n@localhost\n'
+    script += ''.join('%s || echo "failed: %d"\n' % (line.partition('#')[0].rstrip(), i) for i, line in enumerate(lines))
+    path = group.before_path(group.contrib, group.script('tffmt', 'exec %s "$@"\n' % group.program).parent)
+    del group.setting['TFFMT']
+    here = group.fresh()
+    status, out, err = group.call('sh', '-c', script, cwd=here, PATH=path)
+    refused = [i for i, line in enumerate(lines) if 'refused: ' in line]
+    group.check('what fails in the first walk', (re.findall('failed: ([0-9]+)', out.decode()), len(refused)),
+                ([str(i) for i in refused], 1))
+    wanted = lines[refused[0]].partition('refused: ')[2]
+    group.holds('says what the README says', wanted in err.decode().splitlines(), err)
+    group.holds('and the formatted file is named', '\nmodules/web/main.tf\n' in out.decode(), out)
+    made = group.call('git', 'log', '--format=%s', cwd=here / 'walk')[1]
+    group.check('one commit was made', made, b'Add a module\n')
+
+
+def readme(group):
+    """The example of the README, and the text that it explains."""
+    text = (TOP / 'README.md').read_text(encoding='utf-8')
+    blocks = re.findall(r'```hcl\n(.*?)```', text, re.S)
+    group.check('the example of the README', group.call(group.program, cwd=group.top, stdin=blocks[0].encode()),
+                (0, blocks[1].encode(), b''))
+    group.check('1.2.3', group.call(group.program, cwd=group.top, stdin=b'v = 1.2.3\n'), (0, b'v = 1.2 .3\n', b''))
+    group.holds('1.2.3 is explained', '1.2 .3' in text)

@@ -1,0 +1,191 @@
+"""Completions in the real shells, the recipes for pipelines, the settings that no program here reads, the man
+pages, and what `make install` installs."""
+
+import json
+import os
+import re
+import shutil
+import subprocess
+import xml.etree.ElementTree
+
+from editors import on_terminal
+from harness import BAD, GOOD, OTHER, TOP, lines, put
+
+PAGES = ['tffmt', 'tffmt-all', 'tffmt-hook']
+
+
+# --- completions -----------------------------------------------------------------------------------------------
+
+def completions(group):
+    folder = group.contrib / 'completions'
+    here = group.fresh()
+    put(here, {'good.tf': GOOD, 'text.txt': GOOD, 'in/x.tf': GOOD})
+    path = group.before_path(group.script('tffmt', 'exit 0\n').parent, group.contrib)
+    if group.has('bash', checks=5):
+        def bash(line):
+            words = line.split(' ')
+            script = ('source "$1"; COMP_WORDS=(%s); COMP_CWORD=%d; _tffmt %s; printf "%%s\\n" "${COMPREPLY[@]}"'
+                      % (' '.join('"%s"' % w for w in words), len(words) - 1, words[0]))
+            return sorted(group.call('bash', '-c', script, 'bash', folder / 'tffmt.bash', cwd=here)[1].split())
+        group.check('bash: options', bash('tffmt-all --'),
+                    [b'--check', b'--diff', b'--help', b'--jobs', b'--list', b'--null'])
+        group.check('bash: one option', (bash('tffmt --c'), bash('tffmt-hook --i')), ([b'--check'], [b'--install']))
+        group.check('bash: files and folders', bash('tffmt-all --check '), [b'good.tf', b'in'])
+        group.check('bash: no option behind --', bash('tffmt-all -- --'), [])
+        said = on_terminal(group, ['bash', '--norc', '-i'], here, PATH=path, PS1='> ', keys=[
+            (b'> ', b'source "%s"; echo rea""dy\n' % os.fsencode(str(folder / 'tffmt.bash'))),
+            (b'ready.*> ', b'tffmt-hook --in\t'), (b'--install', b'\x15exit\n')])
+        group.holds('bash: on a terminal', b'tffmt-hook --install' in said, said)
+    if group.has('zsh', checks=4):
+        setup = b'fpath=("%s" $fpath); autoload -U compinit; compinit -u -D; print rea""dy\n' % os.fsencode(str(folder))
+        for typed, wanted in ((b'tffmt-all --ch\t', b'tffmt-all --check'), (b'tffmt-hook --in\t', b'tffmt-hook --install'),
+                              (b'tffmt --c\t', b'tffmt --check'), (b'tffmt-all goo\t', b'tffmt-all good.tf')):
+            said = on_terminal(group, ['zsh', '-f', '-i'], here, PATH=path, PS1='> ', keys=[
+                (b'> ', setup), (b'ready.*> ', typed), (b'', b'\x15exit\n')])
+            shown = re.sub(rb'\x1b\[[0-9;?]*[a-zA-Z]|.\x08', b'', said)
+            group.holds('zsh: ' + typed.decode().strip(), wanted in shown, said)
+    if group.has('fish', checks=3):
+        def fish(line):
+            done = group.call('fish', '--no-config', '-c', 'source "%s"; complete -C "%s"' % (folder / 'tffmt.fish', line),
+                              cwd=here)
+            return sorted(each.split(b'\t')[0] for each in done[1].splitlines())
+        group.check('fish: options', fish('tffmt-all --'),
+                    [b'--check', b'--diff', b'--help', b'--jobs', b'--list', b'--null'])
+        group.check('fish: one option', (fish('tffmt --c'), fish('tffmt-hook --i')), ([b'--check'], [b'--install']))
+        group.check('fish: files', fish('tffmt-all g'), [b'good.tf'])
+
+
+# --- recipes ---------------------------------------------------------------------------------------------------
+
+def recipes(group):
+    contrib = group.contrib
+    matcher = json.loads((contrib / 'ci' / 'tffmt-matcher.json').read_text())
+    tasks = json.loads((contrib / 'editors' / 'vscode' / 'tasks.json').read_text())
+    json.loads((contrib / 'editors' / 'vscode' / 'settings.json').read_text())
+    tree = xml.etree.ElementTree.parse(str(contrib / 'editors' / 'jetbrains' / 'watcherTasks.xml'))
+    group.check('JetBrains: a program and an argument', [
+        tree.find('.//TaskOptions/option[@name="%s"]' % name).get('value') for name in ('program', 'arguments')],
+        ['tffmt-all', '-- "$FilePath$"'])
+    here = group.fresh()
+    put(here, {'a b:1/bad.tf': BAD, 'other.tf': OTHER, 'good.tf': GOOD})
+    path = group.before_path(group.contrib)
+    said = group.call('tffmt-all', '--check', cwd=here, PATH=path)[2].decode()
+    for name, problems in (('GitHub', [p['pattern'][0] for p in matcher['problemMatcher']]),
+                           ('VS Code', [p['pattern'] for p in tasks['tasks'][0]['problemMatcher']])):
+        found = [{key: match.group(number) for key, number in pattern.items() if isinstance(number, int)}
+                 for line in said.splitlines() for pattern in problems for match in [re.match(pattern['regexp'], line)]
+                 if match]
+        group.check('the matchers of %s read the reports' % name, found, [
+            {'file': 'a b:1/bad.tf', 'line': '1', 'column': '3', 'message': 'unexpected token'},
+            {'file': 'other.tf', 'message': 'not formatted'}])
+    for name, mark, status in (('github.yml', '- run:', 2), ('gitlab.yml', '    - tffmt', 2)):
+        text = (contrib / 'ci' / name).read_text()
+        steps = [line.strip()[2:].replace('run: ', '') for line in text.splitlines() if line.strip().startswith(mark.strip())]
+        done = [group.call('sh', '-e', '-c', step, cwd=here, PATH=path)[0] for step in steps]
+        group.check('the steps of ' + name, done, [0] * (len(steps) - 1) + [status])
+        group.check('pass on formatted files ' + name,
+                    group.call('sh', '-e', '-c', steps[-1], cwd=group.fresh(), PATH=path)[0], 0)
+    suffixes = {'tf', 'tfvars', 'tofu', 'tftest.hcl', 'tfmock.hcl'}
+    gitlab = set(re.findall(r'\*\*/\*\.([a-z.]+)', (contrib / 'ci' / 'gitlab.yml').read_text()))
+    treefmt = set(re.findall(r'"\*\.([a-z.]+)"', (contrib / 'treefmt.toml').read_text()))
+    group.check('the kinds of files', (gitlab, treefmt), (suffixes, suffixes))
+    python = next((p for p in ('/usr/bin/python3', 'python3')
+                   if subprocess.run([p, '-c', 'import yaml'], stderr=subprocess.DEVNULL).returncode == 0), None)
+    if python is None:
+        group.skip('yaml', 4, 'no PyYAML')
+    else:
+        for name in (contrib / 'ci' / 'github.yml', contrib / 'ci' / 'gitlab.yml', contrib / 'pre-commit-config.yaml',
+                     TOP / '.pre-commit-hooks.yaml'):
+            group.check('%s is YAML' % name.name, group.call(python, '-c', 'import sys, yaml; yaml.safe_load(sys.stdin)',
+                                                             cwd=here, stdin=name.read_bytes()), (0, b'', b''))
+
+
+def scripts(group):
+    if group.has('shellcheck', checks=5):
+        for shell in ('dash', 'bash'):
+            for name in ('tffmt-all', 'tffmt-hook'):
+                group.check('shellcheck of %s for %s' % (name, shell), group.call(
+                    'shellcheck', '-s', shell, group.contrib / name, cwd=group.top), (0, b'', b''))
+        group.check('shellcheck of the completion', group.call(
+            'shellcheck', '-s', 'bash', group.contrib / 'completions' / 'tffmt.bash', cwd=group.top), (0, b'', b''))
+
+
+# --- man pages and installation --------------------------------------------------------------------------------
+
+def plain(roff):
+    for old, new in (('\\(aq', "'"), ('\\(dq', '"'), ('\\(ha', '^'), ('\\(ti', '~'), ('\\(ga', '`'), ('\\-', '-'), ('\\e', '\\')):
+        roff = roff.replace(old, new)
+    return roff
+
+
+def pages(group):
+    version = (TOP / 'VERSION').read_text().strip()
+    group.holds('the changes tell of this version', '\n## %s\n' % version in (TOP / 'CHANGELOG.md').read_text())
+    for name in PAGES:
+        page = TOP / 'man' / (name + '.1')
+        first = page.read_text().split('\n')[0]
+        group.holds('%s has a date and the version' % name, re.match(
+            r'\.TH %s 1 20\d\d-\d\d-\d\d "tffmt %s" ' % (name.upper(), re.escape(version)), first), first)
+        if group.has('mandoc'):
+            group.check('mandoc -Tlint ' + name, group.call('mandoc', '-Tlint', page, cwd=group.top), (0, b'', b''))
+    text = (TOP / 'man' / 'tffmt.1').read_text()
+    for name in ('README.md', 'man/tffmt.1'):
+        group.check('%s redirects nothing to a file that was read' % name,
+                    re.findall(r'.*\.new\b.*|.*cat .*>.*\.tf\b.*', (TOP / name).read_text()), [])
+    sessions = [(name, plain(shown)) for name, shown in re.findall(r'\.SS (.*)\n(?:.*\n)*?\.EX\n\.RS 4\n((?:.*\n)*?)\.RE', text)]
+    group.check('thirteen refusals', len({name for name, _ in sessions}), 13)
+    path = group.before_path(group.script('tffmt', 'exec %s "$@"\n' % group.program).parent)
+    for name, shown in sessions:
+        command, _, wanted = shown.partition('\n')
+        group.holds('the example is of ' + name, wanted.endswith(': %s\n' % name), shown)
+        group.check('the example of ' + name, group.call('sh', '-c', command[2:] + ' 2>&1', cwd=group.top, PATH=path)[1],
+                    wanted.encode())
+
+
+def installing(group):
+    if not os.access(str(TOP / 'bin' / 'tffmt'), os.X_OK):
+        group.skip('make install', 10, 'bin/tffmt is not built')
+        return
+    if not group.has('make', checks=10):
+        return
+    top = group.fresh()
+    words = ['make', '-s', '-C', TOP, '-o', 'bin/tffmt', 'DESTDIR=%s' % (top / 'a folder'), 'PREFIX=/usr']
+    group.check('make install', group.call(*words, 'install', cwd=top), (0, b'', b''))
+    usr = top / 'a folder' / 'usr'
+    got = sorted(str(p.relative_to(usr)) for p in usr.rglob('*') if not p.is_dir())
+    wanted = ['bin/' + name for name in PAGES] + ['share/man/man1/%s.1' % name for name in PAGES]
+    wanted += ['share/bash-completion/completions/' + name for name in PAGES]
+    wanted += ['share/fish/vendor_completions.d/%s.fish' % name for name in PAGES] + ['share/zsh/site-functions/_tffmt']
+    wanted += ['share/doc/tffmt/' + name for name in ('VERSION', 'CHANGELOG.md', 'STYLE.md')]
+    examples = ['pre-commit-config.yaml', 'treefmt.toml'] + [
+        str(p.relative_to(TOP / 'contrib')) for folder in ('ci', 'editors') for p in (TOP / 'contrib' / folder).rglob('*')
+        if not p.is_dir()]
+    group.check('what is installed', got, sorted(wanted + ['share/doc/tffmt/examples/' + name for name in examples]))
+    named = set()
+    for name in PAGES:
+        named |= set(re.findall(r'share/doc/[\w./-]*\w', (usr / 'share/man/man1' / (name + '.1')).read_text()))
+    group.check('the man pages name nothing else', sorted(n for n in named if not (usr / n).exists()), [])
+    group.check('VERSION', (usr / 'share/doc/tffmt/VERSION').read_text(), (TOP / 'VERSION').read_text())
+    here = group.fresh()
+    put(here, {'a.tf': OTHER})
+    path = '%s:%s' % (usr / 'bin', group.setting['PATH'])
+    del group.setting['TFFMT']
+    group.check('what is installed works', (group.call('tffmt-all', cwd=here, PATH=path), (here / 'a.tf').read_bytes()),
+                ((0, lines('a.tf'), b''), GOOD))
+    if group.has('bash') and os.path.exists('/usr/share/bash-completion/bash_completion'):
+        script = '. /usr/share/bash-completion/bash_completion; _completion_loader tffmt-all; complete -p tffmt-all'
+        group.check('bash-completion finds it', group.call('bash', '-c', script, cwd=here, PATH=path,
+                                                           XDG_DATA_DIRS=str(usr / 'share'))[1],
+                    b'complete -F _tffmt tffmt-all\n')
+    else:
+        group.skip('bash-completion', 1)
+    if group.has('fish'):
+        said = group.call('fish', '-c', 'complete -C "tffmt-hook --i"', cwd=here, PATH=path, XDG_DATA_DIRS=str(usr / 'share'))
+        group.holds('fish finds it', said[1].startswith(b'--install'), said)
+    if group.has('man') and shutil.which('groff'):
+        group.check('man finds it', group.call('man', '-w', '-M', usr / 'share/man', 'tffmt-all', cwd=here)[1],
+                    lines('%s/share/man/man1/tffmt-all.1' % usr))
+    else:
+        group.skip('man', 1)
+    group.check('make uninstall', (group.call(*words, 'uninstall', cwd=top), [p for p in usr.rglob('*') if not p.is_dir()]),
+                ((0, b'', b''), []))
