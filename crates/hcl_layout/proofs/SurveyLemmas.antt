@@ -10,7 +10,7 @@ use Rattle.hcl_layout.specs.Cells.{assign_cell, has_torn, if_level, is_level, is
 use Rattle.hcl_layout.specs.Inner.Depths.{Balanced, Steps, deepen, depth_after}
 use Rattle.hcl_layout.specs.Levels.{Net, net_of}
 use Rattle.hcl_layout.specs.Lines.{Line, ends_line, lines, onto}
-use Rattle.hcl_layout.specs.Inner.Survey.{IsLine, assign_of, cell_if, first_noted, noted, running_of, surveyed, takes_sign}
+use Rattle.hcl_layout.specs.Inner.Survey.{IsLine, assign_of, cell_if, first_noted, going, noted, running_of, surveyed, takes_sign}
 use Rattle.hcl_layout.specs.declared.survey.Survey.{Survey}
 use Rattle.hcl_layout.specs.declared.survey.LineFacts.{LineFacts}
 use Rattle.hcl_layout.proofs.StreamLemmas.{after_is, after_low, deepen_low}
@@ -342,16 +342,23 @@ rest_at ts i d t e p = (subst (Balanced d) (drop_at ts i t e) p).1
 pub low_at : (ts : List Lexeme) (i d : ℕ) (t : Lexeme) → slice_get ts i ≡ Some t → Balanced d (drop i ts) → d ≤ 256 → deepen d t.kind ≤ 256
 low_at ts i d t e p low = deepen_low t.kind d (steps_at ts i d t e p) low
 
-pub surveyed_more : (ts : List Lexeme) (i : ℕ) (t last : Lexeme) (s whole : Survey) → slice_get ts i ≡ Some t → ends_line last ≡ false
-    → whole ≡ surveyed s last (drop i ts) → whole ≡ surveyed (noted s t) t (drop (i + 1) ts)
-surveyed_more ts i t last s whole e goes p = p ∙ ap (surveyed s last) (drop_at ts i t e) ∙ rw goes refl
+pub surveyed_going : (ts : List Lexeme) (s : Survey) (last : Lexeme) → ends_line last ≡ false → surveyed s last ts ≡ going s ts
+surveyed_going [] s last e = refl
+surveyed_going (t ∷ ts) s last e = rw e refl
+
+pub going_more : (ts : List Lexeme) (i : ℕ) (t : Lexeme) (s whole : Survey) → slice_get ts i ≡ Some t → whole ≡ going s (drop i ts) → whole ≡ surveyed (noted s t) t (drop (i + 1) ts)
+going_more ts i t s whole e p = p ∙ ap (going s) (drop_at ts i t e)
+
+-- a token more of a line that goes on behind it
+pub going_on : (ts : List Lexeme) (i : ℕ) (t : Lexeme) (s new whole : Survey) → slice_get ts i ≡ Some t → new ≡ noted s t → ends_line t ≡ false → whole ≡ going s (drop i ts) → whole ≡ going new (drop (i + 1) ts)
+going_on ts i t s new whole e same goes p = going_more ts i t s whole e p ∙ surveyed_going (drop (i + 1) ts) (noted s t) t goes ∙ ap (λ u. going u (drop (i + 1) ts)) (sym same)
 
 pub surveyed_end : (xs : List Lexeme) (last : Lexeme) (s whole : Survey) → ends_line last ≡ true → whole ≡ surveyed s last xs → s ≡ whole
 surveyed_end [] last s whole e p = sym p
 surveyed_end (x ∷ xs) last s whole e p = sym (p ∙ rw e refl)
 
-pub surveyed_out : (ts : List Lexeme) (i : ℕ) (last : Lexeme) (s whole : Survey) → length ts ≤ i → whole ≡ surveyed s last (drop i ts) → s ≡ whole
-surveyed_out ts i last s whole le p = sym (p ∙ ap (surveyed s last) (drop_of_length-le ts le))
+pub going_out : (ts : List Lexeme) (i : ℕ) (s whole : Survey) → length ts ≤ i → whole ≡ going s (drop i ts) → s ≡ whole
+going_out ts i s whole le p = sym (p ∙ ap (going s) (drop_of_length-le ts le))
 
 pub same_token : (ts : List Lexeme) (i : ℕ) (t u : Lexeme) → slice_get ts i ≡ Some t → slice_get ts i ≡ Some u → t ≡ u
 same_token ts i t u p q = some_is t u (sym p ∙ q)

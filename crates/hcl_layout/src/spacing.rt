@@ -89,7 +89,9 @@ fn pair_space(left: Kind, right: Kind) -> Option<bool>
         Kind::BraceOpen => Some(!(stands_close(right) || is_brace_close(right))),
         Kind::InterpOpen | Kind::ControlOpen if is_seq_close(right) => None,
         Kind::InterpOpen | Kind::ControlOpen => Some(is_brace_open(right) || is_brace_close(right)),
-        Kind::SeqClose => Some(!(stands_close(right) || closes_group(right) || opens_sequence(right))),
+        Kind::SeqClose => Some(
+            !(stands_close(right) || closes_group(right) || opens_sequence(right)),
+        ),
         Kind::BraceClose if is_seq_close(right) => Some(true),
         Kind::Number if is_dot(right) => None,
         Kind::Ident if is_bracket_open(right) || closes_group(right) => None,

@@ -1,13 +1,12 @@
 //! One line, in one walk: where it ends, how deep, and which cells it has.
-ghost use Rattle.std.specs.Prelude.{◌≡◌, ◌||◌, false, ◌<◌, ◌≤◌, ◌+◌, ◌^◌, ◌==◌, length, drop, slice_get, Some};
+ghost use Rattle.std.specs.Prelude.{◌≡◌, false, ◌<◌, ◌≤◌, ◌+◌, ◌^◌, ◌==◌, length, drop, slice_get, Some};
 ghost use Rattle.std.specs.List.{list_any};
 ghost use Rattle.hcl_scan.specs.Lexemes.{Lexeme};
 ghost use Rattle.hcl_scan.specs.Scanned.{lexeme};
 ghost use Rattle.hcl_layout.specs.Lines.{ends_line};
-ghost use Rattle.hcl_layout.specs.Cells.{is_sign as is_sign_of, is_torn as is_torn_of, is_trailing as is_trailing_of, is_assign as is_assign_of, is_inline_comment as is_inline_comment_of, is_line_comment as is_line_comment_of};
-ghost use Rattle.hcl_layout.specs.Levels.{is_closer as is_closer_of, is_opener as is_opener_of};
+ghost use Rattle.hcl_layout.specs.Cells.{is_sign as is_sign_of, is_torn as is_torn_of, is_trailing as is_trailing_of};
 ghost use Rattle.hcl_layout.specs.Inner.Depths.{Balanced, Steps, deepen};
-ghost use Rattle.hcl_layout.specs.Inner.Survey.{IsLine, assign_of, first_noted, is_noted as is_noted_of, noted, running_of, surveyed};
+ghost use Rattle.hcl_layout.specs.Inner.Survey.{IsLine, assign_of, changes, first_noted, is_noted as is_noted_of, noted, running_of, surveyed};
 
 use crate::kind::{
     is_assign, is_closer, is_inline_comment, is_line_comment, is_newline, is_opener,
@@ -114,15 +113,16 @@ fn first_survey(depth: u32, token: Token<'_>) -> Survey
     }
 }
 
-/// Whether a token of the kind changes the depth, or may be or tear a cell. Most do neither. It is one test, and not
-/// one for each group of kinds, since it is asked of every token.
+/// Whether a token of the kind may end the line, changes the depth, or may be or tear a cell. Most do none of these. It
+/// is one test, and not one for each group of kinds, since it is asked of every token.
 #[inline(always)]
 fn is_noted(kind: Kind) -> bool
     ensures { result ≡ is_noted_of kind }
 {
     matches!(
         kind,
-        Kind::ParenOpen
+        Kind::Newline
+            | Kind::ParenOpen
             | Kind::BracketOpen
             | Kind::BraceOpen
             | Kind::InterpOpen
@@ -138,11 +138,11 @@ fn is_noted(kind: Kind) -> bool
 }
 
 impl Survey {
-    /// Behind one token more, of a kind that isn't noted.
+    /// Behind one token more, of a kind that changes nothing.
     #[inline(always)]
     fn passed(self) -> Survey
         requires room { self.len + 1 < 2 ^ 64 }
-        ensures { (t : Lexeme) → (is_opener_of t.kind || is_closer_of t.kind || is_line_comment_of t.kind || is_inline_comment_of t.kind || is_assign_of t.kind) ≡ false → result ≡ noted self t }
+        ensures { (t : Lexeme) → changes t.kind ≡ false → result ≡ noted self t }
     {
         let len = self.len + 1;
         if self.comment.is_some() {
@@ -163,9 +163,6 @@ impl Survey {
         requires room { self.len + 1 < 2 ^ 64 }
         ensures { result ≡ noted self (lexeme token.entry) }
     {
-        if !is_noted(token.kind) {
-            return self.passed();
-        }
         let depth = deepened(self.depth, token.kind);
         let len = self.len + 1;
         let torn = self.torn || is_torn(token);
@@ -239,14 +236,21 @@ fn read_line(tokens: &Tokens<'_>, at: usize, depth: u32) -> Survey
     ensures { (t : Lexeme) → slice_get tokens.now.tokens at ≡ Some t → result ≡ surveyed (first_noted depth t) t (drop (at + 1) tokens.now.tokens) }
 {
     let count = tokens.len();
-    let mut last = tokens.get(at);
-    let mut line = first_survey(depth, last);
+    let first = tokens.get(at);
+    let mut line = first_survey(depth, first);
+    if is_line_end(first) {
+        return line;
+    }
     while at + line.len < count {
-        if is_line_end(last) {
-            return line;
+        let token = tokens.get(at + line.len);
+        if !is_noted(token.kind) {
+            line = line.passed();
+            continue;
         }
-        last = tokens.get(at + line.len);
-        line = line.with(last);
+        if is_line_end(token) {
+            return line.passed();
+        }
+        line = line.with(token);
     }
     line
 }

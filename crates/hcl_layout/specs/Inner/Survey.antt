@@ -10,8 +10,13 @@ use Rattle.hcl_layout.specs.Inner.Depths.{Balanced, deepen, depth_after}
 use Rattle.hcl_layout.specs.declared.survey.Survey.{Survey}
 use Rattle.hcl_layout.specs.declared.survey.LineFacts.{LineFacts}
 
--- a token of the kind changes the depth, or may be or tear a cell (proofs/SurveyKinds)
+-- a token of the kind changes the depth, or may be or tear a cell
+abbrev pub changes : Kind → Bool
+changes k = is_opener k || is_closer k || is_line_comment k || is_inline_comment k || is_assign k
+
+-- these kinds, and those that may end the line, in one list (proofs/SurveyKinds)
 abbrev pub is_noted : Kind → Bool
+is_noted kind.Newline = true
 is_noted kind.ParenOpen = true
 is_noted kind.BracketOpen = true
 is_noted kind.BraceOpen = true
@@ -50,6 +55,11 @@ noted s t = record {
 abbrev pub surveyed : Survey → Lexeme → List Lexeme → Survey
 surveyed s last [] = s
 surveyed s last (t ∷ ts) = if ends_line last then s else surveyed (noted s t) t ts
+
+-- the same, where the line goes on behind the token before
+abbrev pub going : Survey → List Lexeme → Survey
+going s [] = s
+going s (t ∷ ts) = surveyed (noted s t) t ts
 
 -- the place of the sign, where it begins a cell
 abbrev pub cell_if : Bool → Option ℕ → Option ℕ

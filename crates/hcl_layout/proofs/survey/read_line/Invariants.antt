@@ -1,12 +1,13 @@
-use Rattle.std.proofs.Common.{◌≡◌, ◌≤◌, ◌+◌, ◌-◌, length, drop}
-use Rattle.hcl_scan.specs.Scanned.{lexeme}
+use Rattle.std.proofs.Common.{◌≡◌, ◌≤◌, ◌+◌, ◌-◌, Some, length, drop}
+use Rattle.std.specs.Prelude.{slice_get}
+use Rattle.hcl_scan.specs.Lexemes.{Lexeme}
 use Rattle.hcl_layout.specs.Inner.Depths.{Balanced}
-use Rattle.hcl_layout.specs.Inner.Survey.{surveyed}
+use Rattle.hcl_layout.specs.Inner.Survey.{first_noted, going, surveyed}
 use Rattle.hcl_layout.proofs.survey.read_line.Given as goal
 
 abbrev pub invariant-loop-line : goal.invariant-loop-line
 invariant-loop-line l = record {
-  same : surveyed l.initial.line (lexeme l.initial.last) (drop (l.at + 1) l.tokens.tokens) ≡ surveyed l.line (lexeme l.last) (drop (l.at + l.line.len) l.tokens.tokens);
+  same : (t : Lexeme) → slice_get l.tokens.tokens l.at ≡ Some t → surveyed (first_noted l.fn.depth t) t (drop (l.at + 1) l.tokens.tokens) ≡ going l.line (drop (l.at + l.line.len) l.tokens.tokens);
   balanced : Balanced l.line.depth (drop (l.at + l.line.len) l.tokens.tokens);
   low : l.line.depth ≤ 256;
   within : l.at + l.line.len ≤ length l.tokens.tokens;
