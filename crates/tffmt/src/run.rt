@@ -321,6 +321,7 @@ pub fn program<R: ByteSource, O: ByteSink, E: ByteSink>(
     ensures answer { R.failed input.new ≡ false → O.failed out.new ≡ false → E.failed err.new ≡ false → result ≢ 4
         → OfInput (R.left input.old) (λ bytes. (row : Row) × IsAnswer (map (λ word. word.now) words.now) bytes row
         × Gives row (O.flushed out.new) (E.flushed err.new) (O.taken out.old) (O.taken out.new) (E.taken err.old) (E.taken err.new) result) }
+    // Where the words give no options, nothing is read.
     ensures unread { IfErr (options_of (map (λ word. word.now) words.now)) (λ _. (R.failed input.new ≡ false) × (R.left input.new ≡ R.left input.old)) }
 {
     start(alloc, words, input, out, err)
