@@ -75,6 +75,8 @@ def walk(group, script):
                 (3, lines(*['%s/%s' % (top, name) for name in WALKED]), b''))
     group.check('a hidden folder by name', script('--list', '.terraform/', cwd=top), (3, lines('.terraform/m.tf'), b''))
     group.check('an operand with brackets', script('--list', '[x]', cwd=top), (3, lines('[x]/a.tf'), b''))
+    put(top, {'.a[x]/h.tf': OTHER})
+    group.check('a hidden one with brackets', script('--list', '.a[x]', cwd=top), (3, lines('.a[x]/h.tf'), b''))
     group.check('any name that is given', script('--list', 'e.hcl', './d.tfvars', cwd=top),
                 (3, lines('d.tfvars', 'e.hcl'), b''))
     (top / 'other').symlink_to('x')
