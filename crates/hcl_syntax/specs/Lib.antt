@@ -13,3 +13,4 @@ pub mod Pieces
 pub mod Labels
 pub mod Bodies
 pub mod ItemOrder
+pub mod ItemExamples

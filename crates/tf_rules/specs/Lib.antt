@@ -1,0 +1,16 @@
+pub mod Texts
+pub mod Rules
+pub mod RuleSets
+pub mod Naming
+pub mod Silencing
+pub mod Comments
+pub mod Sources
+pub mod Declarations
+pub mod References
+pub mod Patterns
+pub mod Findings
+pub mod Ordered
+pub mod Issues
+pub mod Kept
+pub mod Agreement
+pub mod Examples

@@ -1,0 +1,18 @@
+//! Ten rules for the files of a Terraform module: what they are called, and the namings that one of them goes by.
+//!
+//! What the rules report is defined in `specs`, with laws in the module [`laws`]; the calls that look for it are still to come.
+#![tactic(auto)]
+
+mod declaration_kind;
+pub mod laws;
+mod naming;
+mod rule;
+mod rule_set;
+#[cfg(test)]
+mod rule_tests;
+mod settings;
+
+pub use naming::Naming;
+pub use rule::{Rule, Severity};
+pub use rule_set::RuleSet;
+pub use settings::Settings;
