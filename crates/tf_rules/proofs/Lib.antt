@@ -5,3 +5,11 @@ pub mod KeptLemmas
 pub mod AgreementLemmas
 pub mod OneReport
 pub mod ReportLemmas
+pub mod SeenLemmas
+pub mod TextLemmas
+pub mod OwnLemmas
+pub mod CollectLemmas
+pub mod StartLemmas
+pub mod ClusterLemmas
+pub mod WalkLemmas
+pub mod PlaceLemmas

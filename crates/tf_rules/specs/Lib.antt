@@ -13,4 +13,9 @@ pub mod Ordered
 pub mod Issues
 pub mod Kept
 pub mod Agreement
+pub mod Seen
+pub mod Spelled
+pub mod OwnBlocks
+pub mod Walks
+pub mod Walked
 pub mod Examples

@@ -1,9 +1,15 @@
 //! What is proved of the definitions alone. No program calls these functions: their contracts are the laws.
 
-ghost use Rattle.std.specs.Prelude.{◌≡◌, ◌++◌, ◌∷◌, [], List};
+ghost use Rattle.std.specs.Prelude.{◌≡◌, ◌++◌, ◌∷◌, ◌≤◌, ◌<◌, [], ℕ, List, length};
 ghost use Rattle.std.specs.List.{AllZip};
 ghost use Rattle.tf_rules.specs.Issues.{Asked, File, Issue, IsReport, issues};
 ghost use Rattle.tf_rules.specs.Agreement.{SameTokens, told_all};
+ghost use Rattle.hcl_scan.specs.Lexemes.{Lexeme};
+ghost use Rattle.hcl_scan.specs.Scans.{Scans};
+ghost use Rattle.hcl_syntax.specs.Numbered.{numbered};
+ghost use Rattle.hcl_syntax.specs.Verdict.{start_of};
+ghost use Rattle.tf_rules.specs.OwnBlocks.{Apart};
+ghost use Rattle.tf_rules.specs.References.{own_blocks};
 ghost use Rattle.tf_rules.specs.Kept.{kept_of, with_file, issues_of_kept};
 
 /// What is kept of files and one more is a function of what is kept of the files, and of that one.
@@ -30,4 +36,14 @@ pub fn issues_agree()
 pub fn reports_agree()
     ensures { (asked : Asked) (files others : List File) (report other : List Issue) → AllZip SameTokens files others
         → IsReport asked files report → IsReport asked others other → told_all report ≡ told_all other }
+{}
+
+/// The blocks of the variables of a file stand one behind the other.
+pub fn own_apart()
+    ensures { (tokens : List Lexeme) → Apart 0 (own_blocks (numbered tokens)) }
+{}
+
+/// Tokens begin in the order of their numbers.
+pub fn starts_rise()
+    ensures { (text : List ℕ) (tokens : List Lexeme) → Scans text tokens → (i j : ℕ) → i ≤ j → j < length tokens → start_of tokens i ≤ start_of tokens j }
 {}

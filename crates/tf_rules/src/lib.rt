@@ -6,11 +6,17 @@
 mod declaration_kind;
 pub mod laws;
 mod naming;
+mod own_block;
+mod reference;
+mod references;
 mod rule;
 mod rule_set;
 #[cfg(test)]
 mod rule_tests;
+mod seen;
 mod settings;
+mod text_set;
+mod walker;
 
 pub use naming::Naming;
 pub use rule::{Rule, Severity};
