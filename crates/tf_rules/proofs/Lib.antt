@@ -7,6 +7,8 @@ pub mod OneReport
 pub mod ReportLemmas
 pub mod SeenLemmas
 pub mod TextLemmas
+pub mod CutLemmas
+pub mod FrontLemmas
 pub mod OwnLemmas
 pub mod CollectLemmas
 pub mod StartLemmas

@@ -18,4 +18,6 @@ pub mod Spelled
 pub mod OwnBlocks
 pub mod Walks
 pub mod Walked
+pub mod Cuts
+pub mod SourceViews
 pub mod Examples

@@ -42,8 +42,7 @@ abbrev pub is_default_branch : List ℕ → Bool
 is_default_branch r = list_any (bytes_eq r) (codes "master" ∷ codes "main" ∷ codes "default" ∷ codes "develop" ∷ [])
 
 abbrev pub pinned_to : List ℕ → Source
-pinned_to [] = NotPinned
-pinned_to (b ∷ bs) = if is_default_branch (b ∷ bs) then DefaultBranch (b ∷ bs) else Other
+pinned_to r = if length r == 0 then NotPinned else if is_default_branch r then DefaultBranch r else Other
 
 -- ---- addresses in a registry
 

@@ -3,8 +3,10 @@
 //! What the rules report is defined in `specs`, with laws in the module [`laws`]; the calls that look for it are still to come.
 #![tactic(auto)]
 
+mod cut;
 mod declaration_kind;
 pub mod laws;
+mod module_source;
 mod naming;
 mod own_block;
 mod reference;
@@ -15,7 +17,10 @@ mod rule_set;
 mod rule_tests;
 mod seen;
 mod settings;
+mod silencing;
+mod source;
 mod text_set;
+mod texts;
 mod walker;
 
 pub use naming::Naming;

@@ -4,6 +4,8 @@ ghost use Rattle.std.specs.Prelude.{◌≡◌, ◌<◌, MatchOption, find, None}
 ghost use Rattle.std.specs.Str.{bytes_eq};
 ghost use Rattle.tf_rules.specs.Rules.{all_rules, rank, rule_name, severity, severity_text};
 
+use crate::texts::equals;
+
 /// A rule. The variants stand in the order of the names.
 #[derive(Clone, Copy, Debug, PartialEq, Eq)]
 pub enum Rule {
@@ -55,10 +57,13 @@ impl Severity {
 }
 
 /// The first of these rules that has a name.
-fn named(rules: &[Rule], name: &str) -> Option<Rule>
+pub(crate) fn named(rules: &[Rule], name: &[u8]) -> Option<Rule>
     ensures { result ≡ find (λ rule. bytes_eq (rule_name rule) name.now) rules.now }
 {
-    rules.iter().copied().find(|rule| rule.name() == name)
+    rules
+        .iter()
+        .copied()
+        .find(|rule| equals(rule.name().as_bytes(), name))
 }
 
 impl Rule {
@@ -96,7 +101,7 @@ impl Rule {
     pub fn from_name(name: &str) -> Option<Rule>
         ensures { MatchOption result ((rule : Rule) → rule_name rule ≡ name.now → ⊥) (λ rule. rule_name rule ≡ name.now) }
     {
-        named(&ALL_RULES, name)
+        named(&ALL_RULES, name.as_bytes())
     }
 
     /// Its place in the order of the names, from 0 on.
