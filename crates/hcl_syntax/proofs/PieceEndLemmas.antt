@@ -1,7 +1,7 @@
 -- The newlines ahead, token by token from right to left.
 use Rattle.std.proofs.Common.{◌≡◌, ◌∙◌, ap, sym, refl, ℕ, suc, zero, ◌+◌, ◌-◌, ◌<◌, ◌≤◌, Bool, true, false, cond, List, [], ◌∷◌, ◌++◌, drop, take, length, get_or, set, replicate, reverse, arith, ◌⊎◌, inl, inr, ◌≢◌}
 use Rattle.std.specs.Prelude.{Option, Some, None, slice_get, ◌&&◌, option_to_list}
-use Rattle.std.proofs.lemmas.List.{reverse-append, get_or-set_same, get_or-set_other, length-set}
+use Rattle.std.proofs.lemmas.List.{reverse-append, get_or-set_same, get_or-set_other, length-set, length-replicate, drop_all}
 use Rattle.std.proofs.lemmas.Bool.{cases_eq}
 use Rattle.hcl_scan.specs.Lexemes.{Lexeme}
 use Rattle.hcl_scan.specs.declared.token.Kind.{Kind}
@@ -110,20 +110,20 @@ module _ (ts : List Lexeme) (n : ℕ) (t : Lexeme) (e : slice_get ts n ≡ Some 
       by (suc k) = popped k (length ts) ∙ h (suc k) ∙ sym (from_deeper k m.newline_is (m.moves (suc k)))
 
 -- what a pop leaves
-pub popped : (old new : List ℕ) (r : Option ℕ) (n : ℕ) → length old ≡ n → old ≡ new ++ option_to_list r → new ≡ take (n - 1) old → (d c : ℕ) → get_or (reverse new) d c ≡ get_or (reverse old) (suc d) c
+pub popped : {X : Type 0} (old new : List X) (r : Option X) (n : ℕ) → length old ≡ n → old ≡ new ++ option_to_list r → new ≡ take (n - 1) old → (d : ℕ) (c : X) → get_or (reverse new) d c ≡ get_or (reverse old) (suc d) c
 popped old new (Some x) n size is rest d c = sym (ap (λ r. get_or r (suc d) c) (ap reverse is ∙ reverse-append new (x ∷ [])))
-popped [] new None n size is rest d c = ap (λ r. get_or (reverse r) d c) (rest ∙ nothing (n - 1))
+popped {X} [] new None n size is rest d c = ap (λ r. get_or (reverse r) d c) (rest ∙ nothing (n - 1))
   where
-    nothing : (k : ℕ) → take {A = ℕ} k [] ≡ []
+    nothing : (k : ℕ) → take {A = X} k [] ≡ []
     nothing zero = refl
     nothing (suc k) = refl
-popped (y ∷ ys) new None n size is rest d c = absurd (omega (arith, size, ap length is, ap length rest, nil new, short (n - 1) (y ∷ ys)))
+popped {X} (y ∷ ys) new None n size is rest d c = absurd (omega (arith, size, ap length is, ap length rest, nil new, short (n - 1) (y ∷ ys)))
   where
-    nil : (xs : List ℕ) → length (xs ++ []) ≡ length xs
+    nil : (xs : List X) → length (xs ++ []) ≡ length xs
     nil [] = refl
     nil (x ∷ xs) = ap suc (nil xs)
 
-    short : (k : ℕ) (zs : List ℕ) → length (take k zs) ≤ k
+    short : (k : ℕ) (zs : List X) → length (take k zs) ≤ k
     short zero [] = omega arith
     short zero (z ∷ zs) = omega arith
     short (suc k) [] = omega arith
@@ -137,19 +137,11 @@ pub record IsFilled (ts : List Lexeme) (ends ahead : List ℕ) (n : ℕ) : Type 
   pub newlines_ahead : IsAhead ts ahead n
   pub each : (i : ℕ) → n ≤ i → i < length ts → get_or ends i 0 ≡ newline_from ts 0 i
 
-drop_all : (xs : List Lexeme) → drop (length xs) xs ≡ []
-drop_all [] = refl
-drop_all (x ∷ xs) = drop_all xs
-
-length-replicate : (n x : ℕ) → length (replicate n x) ≡ n
-length-replicate zero x = refl
-length-replicate (suc n) x = ap suc (length-replicate n x)
-
 pub starts_filled : (ts : List Lexeme) (count : ℕ) (ends : List ℕ) → count ≡ length ts → ends ≡ replicate count 0 → IsFilled ts ends [] count
 starts_filled ts count ends is made = record {
   len = ap length made ∙ length-replicate count 0 ∙ is;
   within = omega (arith, is);
-  newlines_ahead = λ d. sym (ap (λ k. newline_from ts d k) is ∙ ap (λ r. length ts + first_len d r) (drop_all ts) ∙ omega arith);
+  newlines_ahead = λ d. sym (ap (λ k. newline_from ts d k) is ∙ ap (λ r. length ts + first_len d r) (drop_all (length ts) ts (omega arith)) ∙ omega arith);
   each = λ i h k. absurd (omega (arith, h, k, is));
 }
 

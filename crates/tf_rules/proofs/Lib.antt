@@ -15,3 +15,5 @@ pub mod StartLemmas
 pub mod ClusterLemmas
 pub mod WalkLemmas
 pub mod PlaceLemmas
+pub mod ClosingLemmas
+pub mod PatternLemmas

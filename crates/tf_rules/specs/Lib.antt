@@ -18,6 +18,7 @@ pub mod Spelled
 pub mod OwnBlocks
 pub mod Walks
 pub mod Walked
+pub mod Closings
 pub mod Cuts
 pub mod SourceViews
 pub mod Examples
