@@ -39,7 +39,7 @@ pub rises_numbered : (n : ℕ) (xs : List Lexeme) → Rises n (numbered_from n x
 rises_numbered n [] = omega arith
 rises_numbered n (x ∷ xs) = (omega arith, let e : n + 1 + length xs ≡ n + length (x ∷ xs) = omega arith in subst (λ (to : ℕ). Rises (n + 1) (numbered_from (n + 1) xs) to) e (rises_numbered (n + 1) xs))
 
-climbs_wide : (from to : ℕ) (is : List Item) → Climbs from is to → from ≤ to
+pub climbs_wide : (from to : ℕ) (is : List Item) → Climbs from is to → from ≤ to
 climbs_wide from to [] h = h
 climbs_wide from to (i ∷ is) h = omega (arith, h.0, climbs_wide (lead i + 1) to is h.2)
 

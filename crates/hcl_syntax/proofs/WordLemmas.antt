@@ -10,7 +10,7 @@ use Rattle.hcl_scan.specs.declared.token.Kind.TheVariants as kind
 use Rattle.hcl_syntax.specs.Numbered.{Numbered, numbered, numbered_from, uncommented, is_comment, is_brace_open}
 use Rattle.hcl_syntax.specs.Pieces.{between, words}
 
-pub drop_at : (ts : List Lexeme) (n : ℕ) (t : Lexeme) → slice_get ts n ≡ Some t → drop n ts ≡ t ∷ drop (n + 1) ts
+pub drop_at : {X : Type 0} (ts : List X) (n : ℕ) (t : X) → slice_get ts n ≡ Some t → drop n ts ≡ t ∷ drop (n + 1) ts
 drop_at ts n t e =
     let within : n < length ts = slice_get_within ts n t e in
     let got : get_or ts n t ≡ t = get_or_from_slice_get ts n t t e in

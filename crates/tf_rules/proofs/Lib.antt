@@ -17,3 +17,4 @@ pub mod WalkLemmas
 pub mod PlaceLemmas
 pub mod ClosingLemmas
 pub mod PatternLemmas
+pub mod BodyLemmas

@@ -1,8 +1,8 @@
 -- What a file declares: its top-level blocks `variable`, `output` and `module` with one label, `resource` and `data`
 -- with two, and the attributes of its top-level blocks `locals` without labels. Our own choice, after Terraform's
 -- documentation of its blocks.
-use Rattle.std.specs.Prelude.{ℕ, ◌-◌, ◌==◌, ◌&&◌, Bool, true, false, not, List, [], ◌∷◌, ◌++◌, length, filter, map, take, drop, take_while, codes, Option, Some, None, if◌then◌else◌, find}
-use Rattle.std.specs.List.{list_any, filter_map}
+use Rattle.std.specs.Prelude.{ℕ, ◌-◌, ◌==◌, ◌&&◌, Bool, true, false, not, List, [], ◌∷◌, ◌++◌, length, filter, map, take, drop, codes, Option, Some, None, if◌then◌else◌, find}
+use Rattle.std.specs.List.{list_any}
 use Rattle.std.specs.Str.{bytes_eq}
 use Rattle.hcl_syntax.specs.Numbered.{Numbered, is_comment, is_newline, is_quote_open, is_quote_close}
 use Rattle.hcl_syntax.specs.Items.{items_of, is_closed}
@@ -30,14 +30,6 @@ pub record Declaration (P : Type 0) : Type 0 where
 
 -- ---- what follows a block in the list of items
 
-abbrev pub text_of_label : List Numbered → Item → Option (List ℕ)
-text_of_label ts (item.Label l) = Some (label_text ts l)
-text_of_label ts _ = None
-
-abbrev pub is_label : Item → Bool
-is_label (item.Label l) = true
-is_label _ = false
-
 abbrev pub is_inside : Item → Bool
 is_inside (item.Attribute level name first end) = not (is_closed level)
 is_inside (item.Block level kind end) = not (is_closed level)
@@ -55,11 +47,19 @@ attribute ts _ = None
 
 -- the labels of a block, where `rest` follows it
 abbrev pub labels_in : List Numbered → List Item → List (List ℕ)
-labels_in ts rest = filter_map (text_of_label ts) (take_while is_label rest)
+labels_in ts [] = []
+labels_in ts (item.Label l ∷ rest) = label_text ts l ∷ labels_in ts rest
+labels_in ts (item.Attribute level name first end ∷ rest) = []
+labels_in ts (item.Block level kind end ∷ rest) = []
+
+abbrev pub with_attribute : Option Attribute → List Attribute → List Attribute
+with_attribute None attributes = attributes
+with_attribute (Some a) attributes = a ∷ attributes
 
 -- the attributes directly in its body
 abbrev pub attributes_in : List Numbered → List Item → List Attribute
-attributes_in ts rest = filter_map (attribute ts) (take_while is_inside rest)
+attributes_in ts [] = []
+attributes_in ts (i ∷ rest) = let more = attributes_in ts rest in if is_inside i then with_attribute (attribute ts i) more else []
 
 abbrev pub has : List ℕ → List Attribute → Bool
 has name attributes = list_any (λ a. bytes_eq a.name name) attributes

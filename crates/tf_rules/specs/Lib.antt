@@ -19,6 +19,7 @@ pub mod OwnBlocks
 pub mod Walks
 pub mod Walked
 pub mod Closings
+pub mod Labelled
 pub mod Cuts
 pub mod SourceViews
 pub mod Examples

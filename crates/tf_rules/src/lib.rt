@@ -3,11 +3,13 @@
 //! What the rules report is defined in `specs`, with laws in the module [`laws`]; the calls that look for it are still to come.
 #![tactic(auto)]
 
+mod block;
 mod closing;
 mod cut;
 mod declaration_kind;
 pub mod laws;
 mod module_source;
+mod names;
 mod naming;
 mod own_block;
 mod pattern;
