@@ -12,6 +12,8 @@ mod module_source;
 mod names;
 mod naming;
 mod own_block;
+#[cfg(test)]
+mod part_tests;
 mod pattern;
 mod reference;
 mod references;
