@@ -1,5 +1,5 @@
 -- Closers before closing quotes, token by token from right to left.
-use Rattle.std.proofs.Common.{◌≡◌, ◌∙◌, ap, sym, refl, true≢false, ℕ, suc, zero, ◌+◌, ◌-◌, ◌<◌, ◌≤◌, Bool, true, false, cond, not, List, [], ◌∷◌, ◌++◌, length, get_or, set, replicate, reverse, arith, ◌⊎◌, inl, inr, ◌≢◌}
+use Rattle.std.proofs.Common.{◌≡◌, ◌∙◌, ap, sym, refl, true≢false, ℕ, suc, zero, ◌+◌, ◌-◌, ◌<◌, ◌≤◌, Bool, true, false, cond, List, [], ◌∷◌, ◌++◌, length, get_or, set, replicate, reverse, arith, ◌⊎◌, inl, inr, ◌≢◌}
 use Rattle.std.specs.Prelude.{◌==◌, ◌&&◌, Some, slice_get}
 use Rattle.std.proofs.lemmas.List.{reverse-append, get_or-set_same, get_or-set_other, length-set, length-replicate}
 use Rattle.std.proofs.lemmas.Bool.{cases_eq}
@@ -8,9 +8,9 @@ use Rattle.hcl_scan.specs.declared.token.Kind.{Kind}
 use Rattle.hcl_scan.specs.declared.token.Kind.TheVariants as kind
 use Rattle.hcl_syntax.specs.Balanced.{opening, closing}
 use Rattle.hcl_syntax.specs.Items.{deepen, is_closed}
-use Rattle.hcl_syntax.specs.Numbered.{Numbered, is_passed_over, is_quote_close}
+use Rattle.hcl_syntax.specs.Numbered.{is_passed_over, is_quote_close}
 use Rattle.tf_rules.specs.Patterns.{begins_with_close, behind_closer}
-use Rattle.tf_rules.specs.Seen.{number_of, seen_from}
+use Rattle.tf_rules.specs.Seen.{seen_from}
 use Rattle.tf_rules.specs.Closings.{AreAhead, AreClosings, closes_before_quote, quote_from}
 use Rattle.tf_rules.proofs.SeenLemmas.{seen_here, seen_none, seen_past}
 

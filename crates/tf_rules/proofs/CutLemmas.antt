@@ -1,5 +1,5 @@
 -- A text in parts, cut at one byte.
-use Rattle.std.proofs.Common.{◌≡◌, ◌∙◌, ap, ap₂, sym, refl, ℕ, suc, zero, ◌+◌, ◌-◌, ◌<◌, ◌≤◌, Bool, true, false, cond, List, [], ◌∷◌, ◌++◌, append_assoc, length, take, drop, drop-cons, get_or, arith}
+use Rattle.std.proofs.Common.{◌≡◌, ◌∙◌, ap, ap₂, sym, refl, ℕ, suc, ◌+◌, ◌<◌, ◌≤◌, Bool, true, false, cond, List, [], ◌∷◌, ◌++◌, append_assoc, length, take, drop, drop-cons, get_or, arith}
 use Rattle.std.specs.Prelude.{◌==◌, ◌||◌, not, Option, Some, None}
 use Rattle.std.specs.List.{before_first, list_any, onto_first, prefix_len, slice_split}
 use Rattle.std.specs.Option.{is_some}

@@ -18,3 +18,4 @@ pub mod PlaceLemmas
 pub mod ClosingLemmas
 pub mod PatternLemmas
 pub mod BodyLemmas
+pub mod ValueLemmas

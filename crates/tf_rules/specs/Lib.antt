@@ -20,6 +20,7 @@ pub mod Walks
 pub mod Walked
 pub mod Closings
 pub mod Labelled
+pub mod Values
 pub mod Cuts
 pub mod SourceViews
 pub mod Examples

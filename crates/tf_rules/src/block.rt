@@ -1,12 +1,16 @@
 //! What follows a block in the outline of a file: its labels, and the attributes directly in its body.
 
-ghost use Rattle.std.specs.Prelude.{◌≡◌, ◌<◌, ◌≤◌, ◌+◌, ◌∷◌, ℕ, [], drop, length, slice_get, MatchOption, Some};
+ghost use Rattle.std.specs.Prelude.{◌≡◌, ◌<◌, ◌≤◌, ◌+◌, ◌∷◌, ℕ, [], drop, find, length, slice_get, MatchOption, Some};
 ghost use Rattle.hcl_syntax.specs.Items.{outline};
 ghost use Rattle.hcl_syntax.specs.Numbered.{numbered};
 ghost use Rattle.tf_rules.specs.Declarations.{attribute, attributes_in, has, is_inside, labels_in, with_attribute};
 ghost use Rattle.tf_rules.specs.Labelled.{AreNames};
+ghost use Rattle.tf_rules.specs.Values.{value_of_attribute, value_of_item};
+ghost use Rattle.std.specs.Option.{option_map};
+ghost use Rattle.std.specs.Str.{bytes_eq};
 
 use crate::names::Names;
+use crate::value::Value;
 use hcl_syntax::{Accepted, Item, Outline, label_text};
 
 /// The text of a label, and the number of the item behind it.
@@ -96,4 +100,37 @@ pub fn has_attribute(
         }
     }
     false
+}
+
+/// The value of an item that is an attribute.
+fn value_of(item: Item) -> Option<Value>
+    ensures { result ≡ value_of_item item }
+{
+    match item {
+        Item::Attribute { first, end, .. } => Some(Value { first, end }),
+        Item::Block { .. } => None,
+        Item::Label(_) => None,
+    }
+}
+
+/// The value of the first attribute of this name directly in the body of the block behind which this number stands.
+pub fn attribute_value(
+    accepted: &Accepted<'_, '_>,
+    items: &Outline,
+    from: usize,
+    wanted: &str,
+) -> Option<Value>
+    requires { items.now ≡ outline accepted.now.tokens }
+    ensures { result ≡ option_map value_of_attribute (find (λ a. bytes_eq a.name wanted.now) (attributes_in (numbered accepted.now.tokens) (drop from items.now))) }
+{
+    for number in from..items.len() {
+        let item = items.get(number);
+        if !is_inside(item) {
+            return None;
+        }
+        if is_named(accepted, item, wanted) {
+            return value_of(item);
+        }
+    }
+    None
 }

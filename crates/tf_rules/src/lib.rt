@@ -15,6 +15,7 @@ mod own_block;
 #[cfg(test)]
 mod part_tests;
 mod pattern;
+mod plain_text;
 mod reference;
 mod references;
 mod rule;
@@ -27,6 +28,7 @@ mod silencing;
 mod source;
 mod text_set;
 mod texts;
+mod value;
 mod walker;
 
 pub use naming::Naming;

@@ -1,4 +1,4 @@
-use Rattle.std.proofs.Common.{◌≡◌, ◌<◌, ap, sym, subst, [], length, eq-eqb}
+use Rattle.std.proofs.Common.{◌≡◌, ◌<◌, sym, subst, [], length, eq-eqb}
 use Rattle.std.specs.Prelude.{Some, slice_get}
 use Rattle.hcl_scan.specs.Scanned.{Scanned, lexeme}
 use Rattle.hcl_syntax.specs.Items.{outline}

@@ -1,4 +1,4 @@
-use Rattle.std.proofs.Common.{◌≡◌, ◌∙◌, ap, sym, length, rules, tests, take, arith}
+use Rattle.std.proofs.Common.{◌∙◌, ap, sym, length, rules, tests, take, arith}
 use Rattle.std.specs.Prelude.{◌==◌, ◌||◌}
 use Rattle.std.specs.List.{list_any, slice_split}
 use Rattle.std.proofs.lemmas.List.{length_push, take_all}

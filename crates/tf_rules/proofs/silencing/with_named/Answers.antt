@@ -1,7 +1,6 @@
 use Rattle.std.proofs.Common.{◌∙◌, ap, sym}
-use Rattle.std.specs.Prelude.{◌||◌, false}
+use Rattle.std.specs.Prelude.{◌||◌}
 use Rattle.tf_rules.specs.RuleSets.{holds}
-use Rattle.tf_rules.specs.Silencing.{names}
 use Rattle.tf_rules.proofs.RuleLemmas.{names_none, names_one, or_false}
 use Rattle.tf_rules.proofs.silencing.with_named.Goals as goal
 

@@ -1,4 +1,4 @@
-use Rattle.std.proofs.Common.{◌∙◌, ◌-◌, ap, sym, length, take, arith}
+use Rattle.std.proofs.Common.{◌∙◌, ◌-◌, ap, sym, length, arith}
 use Rattle.std.proofs.lemmas.List.{take_all}
 use Rattle.tf_rules.specs.Texts.{without_end}
 use Rattle.tf_rules.specs.Silencing.{is_margin}

@@ -1,6 +1,6 @@
 use Rattle.std.proofs.Common.{◌∙◌, ◌+◌, sym, eq-eqb}
 use Rattle.std.proofs.lemmas.List.{take_rest}
-use Rattle.tf_rules.proofs.FrontLemmas.{question_here, question_past}
+use Rattle.tf_rules.proofs.FrontLemmas.{question_here}
 use Rattle.tf_rules.proofs.source.behind_question.Goals as goal
 
 pub returns-then-text-start-eq63 : goal.returns-then-text-start-eq63

@@ -1,5 +1,5 @@
 use Rattle.std.proofs.Common.{◌≡◌, ◌∙◌, ap, sym, ℕ, List, length, arith, rules, tests}
-use Rattle.std.specs.Prelude.{◌==◌, Option, Some, None, find}
+use Rattle.std.specs.Prelude.{◌==◌, Option, find}
 use Rattle.std.specs.Option.{option_map}
 use Rattle.std.specs.List.{slice_split}
 use Rattle.std.proofs.lemmas.List.{drop_all}

@@ -1,4 +1,4 @@
-use Rattle.tf_rules.proofs.CutLemmas.{begins, passes, cuts, ends}
+use Rattle.tf_rules.proofs.CutLemmas.{begins, ends}
 use Rattle.tf_rules.proofs.texts.cut.Goals as goal
 
 pub loop-end-init : goal.loop-end-init
