@@ -5,3 +5,14 @@ pub mod Rows
 pub mod Moves
 pub mod Balance
 pub mod RelationLemmas
+pub mod WordLemmas
+pub mod SoughtLemmas
+pub mod PieceEndLemmas
+pub mod DeeperLemmas
+pub mod FirstPieceLemmas
+pub mod LabelLemmas
+pub mod BlockLemmas
+pub mod PieceLemmas
+pub mod OutlineLemmas
+pub mod ItemOrderLemmas
+pub mod TopBlockLemmas

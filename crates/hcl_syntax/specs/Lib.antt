@@ -6,4 +6,11 @@ pub mod Verdict
 pub mod Balanced
 pub mod Relation
 pub mod Examples
+pub mod Numbered
+pub mod Items
+pub mod Pieces
+pub mod Labels
+pub mod Bodies
+pub mod ItemOrder
+pub mod ItemExamples
 pub mod Inner

@@ -1,6 +1,6 @@
 //! What is proved of the definitions alone. No program calls these functions: their contracts are the laws.
 
-ghost use Rattle.std.specs.Prelude.{◌≡◌, ℕ, List, [], ◌∷◌, Option};
+ghost use Rattle.std.specs.Prelude.{◌≡◌, ℕ, List, [], ◌∷◌, Option, length};
 ghost use Rattle.hcl_scan.specs.Lexemes.{Lexeme};
 ghost use Rattle.hcl_scan.specs.Scans.{Scans};
 ghost use Rattle.hcl_syntax.specs.declared.class.Lookahead.{Lookahead};
@@ -11,6 +11,8 @@ ghost use Rattle.hcl_syntax.specs.Predictor.{refusal_of};
 ghost use Rattle.hcl_syntax.specs.Relation.{Run};
 ghost use Rattle.hcl_syntax.specs.Verdict.{IsAccepted};
 ghost use Rattle.hcl_syntax.specs.Balanced.{IsBalanced};
+ghost use Rattle.hcl_syntax.specs.ItemOrder.{Climbs, TopsApart};
+ghost use Rattle.hcl_syntax.specs.Items.{outline};
 
 /// In each front of the tokens of a file there are 0 to 256 more openers than closers.
 pub fn balanced()
@@ -25,4 +27,14 @@ pub fn run_is_answer()
 /// The answer of the grammar as a function has a run of the relation.
 pub fn answer_has_run()
     ensures { (tokens : List Lookahead) → Run 0 (file at Seen ∷ []) tokens (refusal_of tokens) }
+{}
+
+/// Each item begins behind the one before it, and reaches no further than the tokens.
+pub fn climbs()
+    ensures { (tokens : List Lexeme) → Climbs 0 (outline tokens) (length tokens) }
+{}
+
+/// Each top-level block begins behind the end of the one before it.
+pub fn tops_apart()
+    ensures { (tokens : List Lexeme) → TopsApart 0 (outline tokens) (length tokens) }
 {}

@@ -1,4 +1,4 @@
-//! The second layer of the front end for HCL native syntax: which token lists are files.
+//! The second layer of the front end for HCL native syntax: which token lists are files, and what items they hold.
 //!
 //! [`accepts`] is a recursive descent that takes no memory. What it accepts, and what it refuses at which place, is what
 //! the grammar's table says, of which the module [`laws`] holds what is proved beside.
@@ -11,11 +11,25 @@ mod cursor;
 mod expected;
 mod expression;
 mod file;
+mod item;
+mod item_list;
+mod label;
 pub mod laws;
+mod nesting;
+#[cfg(test)]
+mod outline_tests;
+mod outlining;
+mod piece_end;
+mod pieces;
 mod refusal;
 mod template;
 mod terminal;
 #[cfg(test)]
 mod tests;
+mod words;
 
 pub use accepted::{Accepted, accepts};
+pub use item::{Item, Label};
+pub use item_list::Outline;
+pub use label::label_text;
+pub use outlining::outline;

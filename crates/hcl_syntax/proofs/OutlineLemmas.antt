@@ -1,0 +1,56 @@
+-- The items of tokens, piece by piece, up to the whole outline.
+use Rattle.std.proofs.Common.{◌≡◌, ◌∙◌, ap, sym, refl, ℕ, suc, ◌+◌, ◌-◌, ◌≤◌, ◌<◌, not, min, List, [], ◌∷◌, ◌++◌, append_assoc, length, take, arith}
+use Rattle.std.specs.List.{flat_map}
+use Rattle.std.proofs.lemmas.List.{append-nil}
+use Rattle.hcl_scan.specs.Lexemes.{Lexeme}
+use Rattle.hcl_syntax.specs.Numbered.{Numbered, numbered, numbered_from, uncommented, is_comment}
+use Rattle.hcl_syntax.specs.Items.{pieces, item_of, outline}
+use Rattle.hcl_syntax.specs.Pieces.{words, newline_from, items_at}
+use Rattle.hcl_syntax.specs.Bodies.{PutsPiece}
+use Rattle.hcl_syntax.specs.declared.pieces.Body.{Body}
+use Rattle.hcl_syntax.specs.declared.item.Item.{Item}
+use Rattle.hcl_syntax.proofs.WordLemmas.{number_of, words_none}
+use Rattle.hcl_syntax.proofs.DeeperLemmas.{filter_short, items_more, items_at_pieces}
+use Rattle.hcl_syntax.proofs.FirstPieceLemmas.{first_piece}
+
+-- what is put out, with the items of the pieces that are left, is all of them
+pub record AreItems (ts : List Lexeme) (level from to : ℕ) (old new : List Item) (start : ℕ) : Type 0 where
+  pub is : new ++ flat_map (item_of (items_at (level + 1)) level) (pieces 0 (words ts start to)) ≡ old ++ items_at level (words ts from to)
+  pub from_on : from ≤ start
+
+pub items_begin : (ts : List Lexeme) (level from to : ℕ) (old : List Item) → AreItems ts level from to old old from
+items_begin ts level from to old = record { is = ap (λ r. old ++ r) (sym (items_at_pieces level (words ts from to))); from_on = omega arith }
+
+pub items_end : (ts : List Lexeme) (level from to : ℕ) (old new : List Item) (start : ℕ) → to ≤ start → AreItems ts level from to old new start → new ≡ old ++ items_at level (words ts from to)
+items_end ts level from to old new start past h =
+    sym (append-nil new) ∙ ap (λ ws. new ++ flat_map (item_of (items_at (level + 1)) level) (pieces 0 ws)) (sym (words_none ts start to past)) ∙ h.is
+
+pub items_step : (ts : List Lexeme) (level from to : ℕ) (old new mid next : List Item) (start end : ℕ) (b : Body) → start < to → end ≡ min (newline_from ts 0 start) to
+    → PutsPiece ts level start end new mid b → next ≡ mid ++ items_at (level + 1) (words ts b.first b.end) → AreItems ts level from to old new start → AreItems ts level from to old next (end + 1)
+items_step ts level from to old new mid next start end b less at piece deeper h = record {
+  is =
+      ap (λ r. r ++ flat_map f (pieces 0 (words ts (end + 1) to))) (deeper ∙ piece.is (items_at (level + 1)) refl)
+      ∙ append_assoc new (f (words ts start end)) (flat_map f (pieces 0 (words ts (end + 1) to)))
+      ∙ ap (λ r. new ++ r) (sym (first_piece f refl ts start to end less at))
+      ∙ h.is;
+  from_on = omega (arith, h.from_on, at, less);
+}
+  where
+    f : List Numbered → List Item
+    f = item_of (items_at (level + 1)) level
+
+numbered_length : (n : ℕ) (xs : List Lexeme) → take (length xs) (numbered_from n xs) ≡ numbered_from n xs
+numbered_length n [] = refl
+numbered_length n (x ∷ xs) = ap (λ r. number_of n x ∷ r) (numbered_length (n + 1) xs)
+
+pub words_all : (ts : List Lexeme) → words ts 0 (length ts) ≡ uncommented (numbered ts)
+words_all ts = let z : length ts - 0 ≡ length ts = omega arith in ap (λ k. uncommented (take k (numbered_from 0 ts))) z ∙ ap uncommented (numbered_length 0 ts)
+
+length_numbered : (n : ℕ) (xs : List Lexeme) → length (numbered_from n xs) ≡ length xs
+length_numbered n [] = refl
+length_numbered n (x ∷ xs) = ap suc (length_numbered (n + 1) xs)
+
+pub outline_is : (ts : List Lexeme) → items_at 0 (words ts 0 (length ts)) ≡ outline ts
+outline_is ts =
+    ap (items_at 0) (words_all ts)
+    ∙ items_more (length (uncommented (numbered ts))) (length (numbered ts)) 0 (uncommented (numbered ts)) (omega arith) (filter_short (λ t. not (is_comment t.kind)) (numbered ts))

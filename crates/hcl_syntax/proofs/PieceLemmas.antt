@@ -1,0 +1,61 @@
+-- The item of a piece, by its first two words.
+use Rattle.std.proofs.Common.{◌≡◌, ◌∙◌, ap, sym, refl, ℕ, ◌+◌, ◌≤◌, true, false, cond, List, [], ◌∷◌, ◌++◌, arith}
+use Rattle.std.proofs.lemmas.List.{append-nil}
+use Rattle.hcl_scan.specs.Lexemes.{Lexeme}
+use Rattle.hcl_syntax.specs.Numbered.{Numbered, is_assign, end_of}
+use Rattle.hcl_syntax.specs.Items.{block, item_of}
+use Rattle.hcl_syntax.specs.Pieces.{IsFirst, words}
+use Rattle.hcl_syntax.specs.Bodies.{PutsBlock, PutsPiece}
+use Rattle.hcl_syntax.specs.declared.pieces.Body.{Body}
+use Rattle.hcl_syntax.specs.declared.words.Word.{Word}
+use Rattle.hcl_syntax.specs.declared.item.Item.{Item}
+use Rattle.hcl_syntax.specs.declared.item.Item.TheVariants as item
+use Rattle.hcl_syntax.proofs.WordLemmas.{words_none}
+
+abbrev head_of : Word → List ℕ → Numbered
+head_of w text = record { number = w.number; kind = w.kind; text = text }
+
+pub puts_nothing : (ts : List Lexeme) (level from to : ℕ) (old : List Item) → from ≤ to → words ts from to ≡ [] → PutsPiece ts level from to old old (record { first = to; end = to })
+puts_nothing ts level from to old h none = record {
+  is = λ inner nothing. ap (λ ws. old ++ inner ws) (words_none ts to to (omega arith)) ∙ ap (λ r. old ++ r) nothing ∙ ap (λ ws. old ++ item_of inner level ws) (sym none);
+  within = omega arith;
+  deeper = λ less. absurd (omega (arith, less));
+}
+
+pub puts_alone : (ts : List Lexeme) (level from to : ℕ) (old new : List Item) (name : Word) (b : Body) → IsFirst ts from to name → words ts (name.number + 1) to ≡ [] → PutsBlock ts level name.number to old new b
+    → PutsPiece ts level from to old new b
+puts_alone ts level from to old new name b f none h = record {
+  is = λ inner nothing.
+      h.is inner (head_of name f.text) refl
+      ∙ ap (λ ws. old ++ block inner level (head_of name f.text) ws) none
+      ∙ ap (λ ws. old ++ item_of inner level (head_of name f.text ∷ ws)) (sym none)
+      ∙ ap (λ ws. old ++ item_of inner level ws) (sym f.first);
+  within = h.within;
+  deeper = λ less. omega (arith, h.deeper, f.from_on);
+}
+
+pub puts_labelled : (ts : List Lexeme) (level from to : ℕ) (old new : List Item) (name second : Word) (b : Body) → IsFirst ts from to name → IsFirst ts (name.number + 1) to second → is_assign second.kind ≡ false
+    → PutsBlock ts level name.number to old new b → PutsPiece ts level from to old new b
+puts_labelled ts level from to old new name second b f s plain h = record {
+  is = λ inner nothing.
+      h.is inner (head_of name f.text) refl
+      ∙ ap (λ ws. old ++ block inner level (head_of name f.text) ws) s.first
+      ∙ ap (λ c. old ++ cond c (item.Attribute level name.number (second.number + 1) (end_of (head_of second s.text ∷ words ts (second.number + 1) to)) ∷ []) (block inner level (head_of name f.text) (head_of second s.text ∷ words ts (second.number + 1) to))) (sym plain)
+      ∙ ap (λ ws. old ++ item_of inner level (head_of name f.text ∷ ws)) (sym s.first)
+      ∙ ap (λ ws. old ++ item_of inner level ws) (sym f.first);
+  within = h.within;
+  deeper = λ less. omega (arith, h.deeper, f.from_on);
+}
+
+pub puts_attribute : (ts : List Lexeme) (level from to end : ℕ) (old new : List Item) (name second : Word) → IsFirst ts from to name → IsFirst ts (name.number + 1) to second → is_assign second.kind ≡ true
+    → end ≡ end_of (words ts (name.number + 1) to) → new ≡ old ++ item.Attribute level name.number (second.number + 1) end ∷ [] → PutsPiece ts level from to old new (record { first = to; end = to })
+puts_attribute ts level from to end old new name second f s assign at pushed = record {
+  is = λ inner nothing.
+      ap (λ ws. new ++ inner ws) (words_none ts to to (omega arith)) ∙ ap (λ r. new ++ r) nothing ∙ append-nil new ∙ pushed
+      ∙ ap (λ n. old ++ item.Attribute level name.number (second.number + 1) n ∷ []) (at ∙ ap end_of s.first)
+      ∙ ap (λ c. old ++ cond c (item.Attribute level name.number (second.number + 1) (end_of (head_of second s.text ∷ words ts (second.number + 1) to)) ∷ []) (block inner level (head_of name f.text) (head_of second s.text ∷ words ts (second.number + 1) to))) (sym assign)
+      ∙ ap (λ ws. old ++ item_of inner level (head_of name f.text ∷ ws)) (sym s.first)
+      ∙ ap (λ ws. old ++ item_of inner level ws) (sym f.first);
+  within = omega arith;
+  deeper = λ less. absurd (omega (arith, less));
+}

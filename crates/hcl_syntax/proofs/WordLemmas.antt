@@ -1,0 +1,110 @@
+-- Tokens between two numbers, one by one and in two parts.
+use Rattle.std.proofs.Common.{◌≡◌, ◌∙◌, ap, sym, refl, true≢false, ℕ, suc, zero, ◌+◌, ◌-◌, ◌<◌, ◌≤◌, true, false, cond, not, List, [], ◌∷◌, ◌++◌, drop, drop-cons, take, length, get_or, arith}
+use Rattle.std.specs.Prelude.{Some, slice_get}
+use Rattle.std.proofs.lemmas.Option.{slice_get_within, get_or_from_slice_get}
+use Rattle.std.proofs.lemmas.List.{drop-drop}
+use Rattle.std.proofs.lemmas.List.Elements.{filter-append}
+use Rattle.hcl_scan.specs.Lexemes.{Lexeme}
+use Rattle.hcl_scan.specs.declared.token.Kind.{Kind}
+use Rattle.hcl_scan.specs.declared.token.Kind.TheVariants as kind
+use Rattle.hcl_syntax.specs.Numbered.{Numbered, numbered, numbered_from, uncommented, is_comment, is_brace_open}
+use Rattle.hcl_syntax.specs.Pieces.{between, words}
+
+pub drop_at : {X : Type 0} (ts : List X) (n : ℕ) (t : X) → slice_get ts n ≡ Some t → drop n ts ≡ t ∷ drop (n + 1) ts
+drop_at ts n t e =
+    let within : n < length ts = slice_get_within ts n t e in
+    let got : get_or ts n t ≡ t = get_or_from_slice_get ts n t t e in
+    let more : suc n ≡ n + 1 = omega arith in
+    drop-cons ts n t within ∙ ap (λ x. x ∷ drop (suc n) ts) got ∙ ap (λ j. t ∷ drop j ts) more
+
+abbrev pub number_of : ℕ → Lexeme → Numbered
+number_of n t = record { number = n; kind = t.kind; text = t.text }
+
+-- from a token on
+pub between_here : (ts : List Lexeme) (from to : ℕ) (t : Lexeme) → slice_get ts from ≡ Some t → from < to → between ts from to ≡ number_of from t ∷ between ts (from + 1) to
+between_here ts from to t e h =
+    let n : to - from ≡ suc (to - (from + 1)) = omega arith in
+    ap (λ k. take k (numbered_from from (drop from ts))) n ∙ ap (λ r. take (suc (to - (from + 1))) (numbered_from from r)) (drop_at ts from t e)
+
+pub between_none : (ts : List Lexeme) (from to : ℕ) → to ≤ from → between ts from to ≡ []
+between_none ts from to h = let n : to - from ≡ 0 = omega arith in ap (λ k. take k (numbered_from from (drop from ts))) n ∙ none (numbered_from from (drop from ts))
+  where
+    none : (xs : List Numbered) → take 0 xs ≡ []
+    none [] = refl
+    none (x ∷ xs) = refl
+
+-- in two parts
+parts : (xs : List Lexeme) (n i k : ℕ) → take (i + k) (numbered_from n xs) ≡ take i (numbered_from n xs) ++ take k (numbered_from (n + i) (drop i xs))
+parts xs n zero k =
+    let z : n + 0 ≡ n = omega arith in
+    let y : 0 + k ≡ k = omega arith in
+    ap (λ j. take j (numbered_from n xs)) y ∙ ap (λ j. take k (numbered_from j xs)) (sym z) ∙ ap (λ r. r ++ take k (numbered_from (n + 0) xs)) (sym (none (numbered_from n xs)))
+  where
+    none : (ys : List Numbered) → take 0 ys ≡ []
+    none [] = refl
+    none (y ∷ ys) = refl
+parts [] n (suc i) k = empty (suc i + k) ∙ sym (empty k)
+  where
+    empty : (j : ℕ) → take {A = Numbered} j [] ≡ []
+    empty zero = refl
+    empty (suc j) = refl
+parts (x ∷ xs) n (suc i) k =
+    let s : suc i + k ≡ suc (i + k) = omega arith in
+    let m : n + suc i ≡ n + 1 + i = omega arith in
+    ap (λ j. take j (numbered_from n (x ∷ xs))) s
+    ∙ ap (λ r. number_of n x ∷ r) (parts xs (n + 1) i k)
+    ∙ ap (λ j. number_of n x ∷ (take i (numbered_from (n + 1) xs) ++ take k (numbered_from j (drop i xs)))) (sym m)
+
+pub between_parts : (ts : List Lexeme) (from mid to : ℕ) → from ≤ mid → mid ≤ to → between ts from to ≡ between ts from mid ++ between ts mid to
+between_parts ts from mid to h k =
+    let n : to - from ≡ (mid - from) + (to - mid) = omega arith in
+    let m : from + (mid - from) ≡ mid = omega arith in
+    ap (λ j. take j (numbered_from from (drop from ts))) n
+    ∙ parts (drop from ts) from (mid - from) (to - mid)
+    ∙ ap (λ r. between ts from mid ++ take (to - mid) (numbered_from (from + (mid - from)) r)) (drop-drop (mid - from) from ts)
+    ∙ ap (λ j. between ts from mid ++ take (to - mid) (numbered_from j (drop j ts))) m
+
+-- ---- without comments
+
+pub words_parts : (ts : List Lexeme) (from mid to : ℕ) → from ≤ mid → mid ≤ to → words ts from to ≡ words ts from mid ++ words ts mid to
+words_parts ts from mid to h k = ap uncommented (between_parts ts from mid to h k) ∙ filter-append (λ t. not (is_comment t.kind)) (between ts from mid) (between ts mid to)
+
+pub words_none : (ts : List Lexeme) (from to : ℕ) → to ≤ from → words ts from to ≡ []
+words_none ts from to h = ap uncommented (between_none ts from to h)
+
+pub words_step : (ts : List Lexeme) (from to : ℕ) (t : Lexeme) → slice_get ts from ≡ Some t → from < to
+    → words ts from to ≡ cond (not (is_comment t.kind)) (number_of from t ∷ words ts (from + 1) to) (words ts (from + 1) to)
+words_step ts from to t e h = ap uncommented (between_here ts from to t e h)
+
+-- a comment
+pub words_past : (ts : List Lexeme) (from to : ℕ) (t : Lexeme) → slice_get ts from ≡ Some t → from < to → is_comment t.kind ≡ true → words ts from to ≡ words ts (from + 1) to
+words_past ts from to t e h comment = words_step ts from to t e h ∙ ap (λ b. cond (not b) (number_of from t ∷ words ts (from + 1) to) (words ts (from + 1) to)) comment
+
+-- no comment
+pub words_here : (ts : List Lexeme) (from to : ℕ) (t : Lexeme) → slice_get ts from ≡ Some t → from < to → is_comment t.kind ≡ false → words ts from to ≡ number_of from t ∷ words ts (from + 1) to
+words_here ts from to t e h word = words_step ts from to t e h ∙ ap (λ b. cond (not b) (number_of from t ∷ words ts (from + 1) to) (words ts (from + 1) to)) word
+
+pub drop_numbered : (n : ℕ) (xs : List Lexeme) (k : ℕ) → drop n (numbered_from k xs) ≡ numbered_from (k + n) (drop n xs)
+drop_numbered zero xs k = let z : k + 0 ≡ k = omega arith in ap (λ j. numbered_from j xs) (sym z)
+drop_numbered (suc n) [] k = refl
+drop_numbered (suc n) (x ∷ xs) k = let s : k + suc n ≡ k + 1 + n = omega arith in drop_numbered n xs (k + 1) ∙ ap (λ j. numbered_from j (drop n xs)) (sym s)
+
+pub numbered_at : (ts : List Lexeme) (n : ℕ) → drop n (numbered ts) ≡ numbered_from n (drop n ts)
+numbered_at ts n = let z : 0 + n ≡ n = omega arith in drop_numbered n ts 0 ∙ ap (λ j. numbered_from j (drop n ts)) z
+
+pub numbered_here : (ts : List Lexeme) (n : ℕ) (t : Lexeme) → slice_get ts n ≡ Some t → drop n (numbered ts) ≡ number_of n t ∷ numbered_from (n + 1) (drop (n + 1) ts)
+numbered_here ts n t e = numbered_at ts n ∙ ap (numbered_from n) (drop_at ts n t e)
+
+pub numbered_past : (ts : List Lexeme) (n : ℕ) → length ts ≤ n → drop n (numbered ts) ≡ []
+numbered_past ts n h = numbered_at ts n ∙ ap (numbered_from n) (past ts n h)
+  where
+    past : (xs : List Lexeme) (k : ℕ) → length xs ≤ k → drop k xs ≡ []
+    past [] zero h = refl
+    past [] (suc k) h = refl
+    past (x ∷ xs) zero h = absurd (omega arith)
+    past (x ∷ xs) (suc k) h = past xs k (omega arith)
+
+-- an opening brace is no comment
+pub open_word : (k : Kind) → is_brace_open k ≡ true → is_comment k ≡ false
+open_word kind.BraceOpen e = refl
+open_word _ e = absurd (true≢false (sym e))

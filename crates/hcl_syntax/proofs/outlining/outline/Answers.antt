@@ -1,0 +1,13 @@
+use Rattle.std.proofs.Common.{◌∙◌, ap, ap₂, ◌++◌}
+use Rattle.hcl_syntax.specs.Items.{outline}
+use Rattle.hcl_syntax.specs.Pieces.{items_at, words}
+use Rattle.hcl_syntax.proofs.OutlineLemmas.{outline_is}
+use Rattle.hcl_syntax.proofs.outlining.outline.Goals as goal
+
+pub returns : goal.returns
+returns c =
+    let ts = c.tokens-tokens.result.now.tokens in
+    c.in_ok-put_items.ensures
+    ∙ ap₂ (λ old n. old ++ items_at 0 (words ts 0 n)) c.new-entries.ensures.items c.len.ensures.len
+    ∙ outline_is ts
+    ∙ ap (λ s. outline s.tokens) c.tokens-tokens.ensures.tokens

@@ -1,0 +1,7 @@
+use Rattle.std.proofs.Common.{◌≡◌}
+use Rattle.hcl_syntax.specs.Pieces.{words}
+use Rattle.hcl_syntax.specs.Items.{closing_quote}
+use Rattle.hcl_syntax.proofs.words.closing_quote.Given as goal
+
+abbrev pub invariant-loop-number : goal.invariant-loop-number
+invariant-loop-number l = closing_quote (words l.tokens.tokens l.number l.to) ≡ closing_quote (words l.tokens.tokens l.from l.to)

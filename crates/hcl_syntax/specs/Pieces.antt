@@ -1,0 +1,55 @@
+-- Pieces of items by token numbers, as the code finds them.
+use Rattle.std.specs.Prelude.{◌≡◌, ◌<◌, ◌≤◌, ℕ, ◌+◌, ◌-◌, ◌&&◌, List, [], ◌∷◌, drop, take, length, get_or, reverse, ◌==◌, if◌then◌else◌}
+use Rattle.hcl_scan.specs.Lexemes.{Lexeme}
+use Rattle.hcl_scan.specs.declared.token.Kind.{Kind}
+use Rattle.hcl_syntax.specs.Balanced.{opening, closing}
+use Rattle.hcl_syntax.specs.declared.nesting.Nesting.{Nesting}
+use Rattle.hcl_syntax.specs.declared.nesting.Nesting.TheVariants as nesting
+use Rattle.hcl_syntax.specs.Numbered.{Numbered, numbered_from, uncommented, is_newline}
+use Rattle.hcl_syntax.specs.Items.{deepen, is_closed, items}
+use Rattle.hcl_syntax.specs.declared.item.Item.{Item}
+use Rattle.hcl_syntax.specs.declared.words.Word.{Word}
+
+-- the tokens from a number on to before another
+abbrev pub between : List Lexeme → ℕ → ℕ → List Numbered
+between tokens from to = take (to - from) (numbered_from from (drop from tokens))
+
+-- the same without comments
+abbrev pub words : List Lexeme → ℕ → ℕ → List Numbered
+words tokens from to = uncommented (between tokens from to)
+
+-- the token is the first of these
+pub record IsFirst (tokens : List Lexeme) (from to : ℕ) (word : Word) : Type 0 where
+  pub text : List ℕ
+  pub first : words tokens from to ≡ record { number = word.number; kind = word.kind; text = text } ∷ words tokens (word.number + 1) to
+  pub from_on : from ≤ word.number
+  pub within : word.number < to
+
+-- what a token means to the search for newlines
+abbrev pub nesting_of : Kind → Nesting
+nesting_of k = if is_newline k then nesting.Newline else if opening k == 1 then nesting.Opens else if closing k == 1 then nesting.Closes else nesting.Passes
+
+-- how many tokens stand before the first newline outside all openers, where so many are open
+abbrev pub first_len : ℕ → List Lexeme → ℕ
+first_len depth [] = 0
+first_len depth (t ∷ ts) =
+    let rest = first_len (deepen depth t.kind) ts in
+    if is_newline t.kind && is_closed depth then 0 else rest + 1
+
+-- the number of the first newline, from a number on, outside all openers, where so many are open; or how many tokens there are
+abbrev pub newline_from : List Lexeme → ℕ → ℕ → ℕ
+newline_from tokens depth n = n + first_len depth (drop n tokens)
+
+-- the table has this number for each token
+pub record AreEnds (tokens : List Lexeme) (ends : List ℕ) : Type 0 where
+  pub len : length ends ≡ length tokens
+  pub each : (i : ℕ) → i < length tokens → get_or ends i 0 ≡ newline_from tokens 0 i
+
+-- the items at a level of tokens without comments
+abbrev pub items_at : ℕ → List Numbered → List Item
+items_at level ts = items (length ts) level ts
+
+-- the first newline outside all openers is last, before it the first one where one opener is open, and so on; where there
+-- is no more, there is none
+abbrev pub IsAhead : List Lexeme → List ℕ → ℕ → Type 0
+IsAhead tokens ahead n = (depth : ℕ) → get_or (reverse ahead) depth (length tokens) ≡ newline_from tokens depth n

@@ -1,0 +1,10 @@
+//! What a token means to the search for newlines.
+
+/// A newline, an opener, a closer, or none of these.
+#[derive(Clone, Copy, Debug)]
+pub enum Nesting {
+    Newline,
+    Opens,
+    Closes,
+    Passes,
+}

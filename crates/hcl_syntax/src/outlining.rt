@@ -1,0 +1,21 @@
+//! The outline of a file.
+
+ghost use Rattle.std.specs.Prelude.{◌≡◌, IfOk};
+ghost use Rattle.hcl_syntax.specs.Items.{outline};
+
+use crate::accepted::Accepted;
+use crate::item_list::Outline;
+use crate::piece_end::newlines;
+use crate::pieces::put_items;
+use std::alloc::{AllocError, Global};
+
+/// The outline of a file, in time linear in its tokens.
+pub fn outline(alloc: Global, accepted: &Accepted<'_, '_>) -> Result<Outline, AllocError>
+    ensures { IfOk result (λ items. items ≡ outline accepted.now.tokens) }
+{
+    let tokens = accepted.tokens();
+    let ends = newlines(alloc, tokens)?;
+    let mut entries = Vec::new(alloc);
+    put_items(tokens, &ends, 0, 0, tokens.len(), &mut entries)?;
+    Ok(Outline { entries })
+}

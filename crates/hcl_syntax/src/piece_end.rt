@@ -1,0 +1,76 @@
+//! Where items end: for each token the first newline outside all openers.
+
+ghost use Rattle.std.specs.Prelude.{◌≡◌, ◌<◌, ◌+◌, length, get_or, reverse, IfOk, OnOk};
+ghost use Rattle.hcl_syntax.specs.Pieces.{AreEnds, nesting_of, IsAhead};
+
+use crate::nesting::Nesting;
+use hcl_scan::{Kind, Tokens};
+use std::alloc::{AllocError, Global};
+
+fn nesting_of(kind: Kind) -> Nesting
+    ensures { result ≡ nesting_of kind }
+{
+    match kind {
+        Kind::Newline => Nesting::Newline,
+        Kind::ParenOpen
+        | Kind::BracketOpen
+        | Kind::BraceOpen
+        | Kind::InterpOpen
+        | Kind::ControlOpen => Nesting::Opens,
+        Kind::ParenClose | Kind::BracketClose | Kind::BraceClose | Kind::SeqClose =>
+            Nesting::Closes,
+        _ => Nesting::Passes,
+    }
+}
+
+/// The last number, or another where there is none.
+fn last_or(numbers: &[usize], other: usize) -> usize
+    ensures { result ≡ get_or (reverse numbers.now) 0 other }
+{
+    match numbers.last() {
+        Some(number) => *number,
+        None => other,
+    }
+}
+
+/// Goes over a token from right to left. `ahead` has the first newline outside all openers last, before it the first one
+/// where one opener is open, and so on; where it has no more, there is none.
+fn pass(tokens: &Tokens<'_>, number: usize, ahead: &mut Vec<usize>) -> Result<(), AllocError>
+    requires within { number < length tokens.now.tokens }
+    requires ahead { IsAhead tokens.now.tokens ahead.old.items (number + 1) }
+    ensures { OnOk result (IsAhead tokens.now.tokens ahead.new.items number) }
+{
+    match nesting_of(tokens.get(number).kind) {
+        Nesting::Newline => {
+            ahead.pop();
+            ahead.push(number)?;
+            Ok(())
+        }
+        Nesting::Opens => {
+            ahead.pop();
+            Ok(())
+        }
+        Nesting::Closes => {
+            let last = last_or(ahead, tokens.len());
+            ahead.push(last)?;
+            Ok(())
+        }
+        Nesting::Passes => Ok(()),
+    }
+}
+
+/// For each token the number of the first newline from it on outside all openers, or how many tokens there are.
+pub fn newlines(alloc: Global, tokens: &Tokens<'_>) -> Result<Vec<usize>, AllocError>
+    ensures { IfOk result (λ ends. AreEnds tokens.now.tokens ends.items) }
+{
+    let count = tokens.len();
+    let mut ends = vec![in alloc; 0; count]?;
+    let mut ahead = Vec::new(alloc);
+    let mut number = count;
+    while number > 0 {
+        number -= 1;
+        pass(tokens, number, &mut ahead)?;
+        ends[number] = last_or(&ahead, count);
+    }
+    Ok(ends)
+}

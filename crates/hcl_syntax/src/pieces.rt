@@ -1,0 +1,150 @@
+//! The items of tokens, put out piece by piece.
+
+ghost use Rattle.std.specs.Prelude.{◌≡◌, ◌<◌, ◌≤◌, ◌+◌, ◌++◌, length, IfOk, OnOk};
+ghost use Rattle.hcl_syntax.specs.Pieces.{AreEnds, items_at, words};
+ghost use Rattle.hcl_syntax.specs.Bodies.{PutsBlock, PutsPiece};
+ghost use Rattle.hcl_syntax.specs.Items.{label_at, labels};
+
+use crate::item::{Item, Label};
+use crate::words::{
+    behind_brace, block_end, closing_quote, first_word, is_assign, is_brace_open, words_end,
+};
+use hcl_scan::{Kind, Tokens};
+use std::alloc::AllocError;
+
+/// The tokens between a block's braces, by the number of the first and one past that of the last; it may be empty.
+#[derive(Clone, Copy, Debug)]
+struct Body {
+    first: usize,
+    end: usize,
+}
+
+/// Puts out the label that begins with a token: an identifier, or a quote.
+fn put_label(
+    tokens: &Tokens<'_>,
+    number: usize,
+    kind: Kind,
+    to: usize,
+    items: &mut Vec<Item>,
+) -> Result<(), AllocError>
+    requires within { to ≤ length tokens.now.tokens }
+    requires before { number < to }
+    ensures { OnOk result (items.new.items ≡ items.old.items ++ label_at number kind (words tokens.now.tokens (number + 1) to)) }
+{
+    match kind {
+        Kind::Ident => {
+            items.push(Item::Label(Label {
+                first: number,
+                last: number,
+            }))?;
+            Ok(())
+        }
+        Kind::QuoteOpen => {
+            let last = closing_quote(tokens, number + 1, to);
+            items.push(Item::Label(Label {
+                first: number,
+                last,
+            }))?;
+            Ok(())
+        }
+        _ => Ok(()),
+    }
+}
+
+/// Puts out the labels that stand before the first opening brace.
+fn put_labels(
+    tokens: &Tokens<'_>,
+    from: usize,
+    to: usize,
+    items: &mut Vec<Item>,
+) -> Result<(), AllocError>
+    requires { to ≤ length tokens.now.tokens }
+    ensures { OnOk result (items.new.items ≡ items.old.items ++ labels (words tokens.now.tokens from to)) }
+{
+    for number in from..to {
+        let token = tokens.get(number);
+        if is_brace_open(token.kind) {
+            return Ok(());
+        }
+        put_label(tokens, number, token.kind, to, items)?;
+    }
+    Ok(())
+}
+
+/// Puts out a block and its labels. Its kind is the token of this number, and its piece ends before `to`.
+fn put_block(
+    tokens: &Tokens<'_>,
+    level: usize,
+    kind: usize,
+    to: usize,
+    items: &mut Vec<Item>,
+) -> Result<Body, AllocError>
+    requires within { to ≤ length tokens.now.tokens }
+    requires before { kind < to }
+    ensures { IfOk result (PutsBlock tokens.now.tokens level kind to items.old.items items.new.items) }
+{
+    let first = behind_brace(tokens, kind + 1, to);
+    let end = block_end(tokens, kind + 1, to);
+    items.push(Item::Block { level, kind, end })?;
+    put_labels(tokens, kind + 1, to, items)?;
+    Ok(Body {
+        first,
+        end: end.saturating_sub(1),
+    })
+}
+
+/// Puts out the item of a piece, up to the items of its body.
+fn put_piece(
+    tokens: &Tokens<'_>,
+    level: usize,
+    from: usize,
+    to: usize,
+    items: &mut Vec<Item>,
+) -> Result<Body, AllocError>
+    requires within { to ≤ length tokens.now.tokens }
+    requires ordered { from ≤ to }
+    ensures { IfOk result (PutsPiece tokens.now.tokens level from to items.old.items items.new.items) }
+{
+    let Some(name) = first_word(tokens, from, to) else {
+        return Ok(Body { first: to, end: to });
+    };
+    let Some(second) = first_word(tokens, name.number + 1, to) else {
+        return put_block(tokens, level, name.number, to, items);
+    };
+    if !is_assign(second.kind) {
+        return put_block(tokens, level, name.number, to, items);
+    }
+    let end = words_end(tokens, name.number + 1, to);
+    items.push(Item::Attribute {
+        level,
+        name: name.number,
+        first: second.number + 1,
+        end,
+    })?;
+    Ok(Body { first: to, end: to })
+}
+
+/// Puts out the items of the tokens from a number on to before another. `ends` has for each token the first newline
+/// from it on outside all openers, so no token is looked at twice as the end of a piece is found.
+pub fn put_items(
+    tokens: &Tokens<'_>,
+    ends: &[usize],
+    level: usize,
+    from: usize,
+    to: usize,
+    items: &mut Vec<Item>,
+) -> Result<(), AllocError>
+    requires ends { AreEnds tokens.now.tokens ends.now }
+    requires within { to ≤ length tokens.now.tokens }
+    requires deep { from < to → level ≤ from }
+    ensures { OnOk result (items.new.items ≡ items.old.items ++ items_at level (words tokens.now.tokens from to)) }
+{
+    let mut start = from;
+    while start < to {
+        let end = ends[start].min(to);
+        let body = put_piece(tokens, level, start, end, items)?;
+        put_items(tokens, ends, level + 1, body.first, body.end, items)?;
+        start = end + 1;
+    }
+    Ok(())
+}

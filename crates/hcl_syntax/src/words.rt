@@ -1,0 +1,126 @@
+//! Tokens that are no comments, and what is looked for among them.
+
+ghost use Rattle.std.specs.Prelude.{◌≡◌, ◌≤◌, [], filter, length, MatchOption};
+ghost use Rattle.hcl_syntax.specs.Pieces.{IsFirst, words};
+ghost use Rattle.hcl_syntax.specs.Items.{behind_brace, block_end, closing_quote};
+ghost use Rattle.hcl_syntax.specs.Numbered.{end_of, is_assign, is_brace_close, is_brace_open, is_comment, is_quote_close};
+
+use hcl_scan::{Kind, Tokens};
+
+/// A token that is no comment, and its number.
+#[derive(Clone, Copy, Debug)]
+pub struct Word {
+    pub number: usize,
+    pub kind: Kind,
+}
+
+fn is_comment(kind: Kind) -> bool
+    ensures { result ≡ is_comment kind }
+{
+    matches!(kind, Kind::LineComment | Kind::InlineComment)
+}
+
+pub fn is_assign(kind: Kind) -> bool
+    ensures { result ≡ is_assign kind }
+{
+    matches!(kind, Kind::Assign)
+}
+
+fn is_quote_close(kind: Kind) -> bool
+    ensures { result ≡ is_quote_close kind }
+{
+    matches!(kind, Kind::QuoteClose)
+}
+
+pub fn is_brace_open(kind: Kind) -> bool
+    ensures { result ≡ is_brace_open kind }
+{
+    matches!(kind, Kind::BraceOpen)
+}
+
+fn is_brace_close(kind: Kind) -> bool
+    ensures { result ≡ is_brace_close kind }
+{
+    matches!(kind, Kind::BraceClose)
+}
+
+/// The first token from a number on to before another that is no comment.
+pub fn first_word(tokens: &Tokens<'_>, from: usize, to: usize) -> Option<Word>
+    requires { to ≤ length tokens.now.tokens }
+    ensures { MatchOption result (words tokens.now.tokens from to ≡ []) (IsFirst tokens.now.tokens from to) }
+{
+    for number in from..to {
+        let token = tokens.get(number);
+        if !is_comment(token.kind) {
+            let kind = token.kind;
+            return Some(Word { number, kind });
+        }
+    }
+    None
+}
+
+/// The number of the first closing quote, or 0.
+pub fn closing_quote(tokens: &Tokens<'_>, from: usize, to: usize) -> usize
+    requires { to ≤ length tokens.now.tokens }
+    ensures { result ≡ closing_quote (words tokens.now.tokens from to) }
+{
+    for number in from..to {
+        let token = tokens.get(number);
+        if is_quote_close(token.kind) {
+            return number;
+        }
+    }
+    0
+}
+
+/// One past the number of the first opening brace, or the end.
+pub fn behind_brace(tokens: &Tokens<'_>, from: usize, to: usize) -> usize
+    requires within { to ≤ length tokens.now.tokens }
+    requires ordered { from ≤ to }
+    ensures is { words tokens.now.tokens result to ≡ behind_brace (words tokens.now.tokens from to) }
+    ensures from_on { from ≤ result }
+    ensures within { result ≤ to }
+{
+    for number in from..to {
+        let token = tokens.get(number);
+        if is_brace_open(token.kind) {
+            return number + 1;
+        }
+    }
+    to
+}
+
+/// One past the number of the last closing brace, or 0.
+pub fn block_end(tokens: &Tokens<'_>, from: usize, to: usize) -> usize
+    requires within { to ≤ length tokens.now.tokens }
+    requires ordered { from ≤ to }
+    ensures is { result ≡ block_end (words tokens.now.tokens from to) }
+    ensures within { result ≤ to }
+{
+    let mut end = to;
+    while from < end {
+        let last = tokens.get(end - 1);
+        if is_brace_close(last.kind) {
+            return end;
+        }
+        end -= 1;
+    }
+    0
+}
+
+/// One past the number of the last token that is no comment, or 0.
+pub fn words_end(tokens: &Tokens<'_>, from: usize, to: usize) -> usize
+    requires within { to ≤ length tokens.now.tokens }
+    requires ordered { from ≤ to }
+    ensures { result ≡ end_of (words tokens.now.tokens from to) }
+{
+    let mut end = to;
+    while from < end {
+        let last = tokens.get(end - 1);
+        if !is_comment(last.kind) {
+            return end;
+        }
+        end -= 1;
+    }
+    0
+}

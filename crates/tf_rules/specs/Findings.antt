@@ -1,0 +1,129 @@
+-- What each rule reports, and what it says. A rule goes by the facts of a file: where the patterns of tokens are, what
+-- is declared, and which references all files have. Our own choice.
+use Rattle.std.specs.Prelude.{ℕ, ◌++◌, ◌&&◌, Bool, true, false, not, List, [], ◌∷◌, Option, Some, None, codes, map, if◌then◌else◌}
+use Rattle.std.specs.List.{list_any, flat_map}
+use Rattle.std.specs.Str.{bytes_eq}
+use Rattle.hcl_syntax.specs.Numbered.{Numbered}
+use Rattle.tf_rules.specs.Naming.{fits, naming_text}
+use Rattle.tf_rules.specs.Sources.{Source, Other, NotPinned, DefaultBranch, Registry}
+use Rattle.tf_rules.specs.Declarations.{Declaration, SourceAt, declarations}
+use Rattle.tf_rules.specs.References.{last_of, variable_reference, local_reference, data_reference}
+use Rattle.tf_rules.specs.Comments.{Comment, comments}
+use Rattle.tf_rules.specs.Patterns.{legacy_indexes, wrapped_interpolations}
+use Rattle.tf_rules.specs.declared.rule.Rule.{Rule}
+use Rattle.tf_rules.specs.declared.rule.Rule.TheVariants.{CommentSyntax, DeprecatedIndex, DeprecatedInterpolation, DocumentedOutputs, DocumentedVariables, ModulePinnedSource, ModuleVersion, NamingConvention, TypedVariables, UnusedDeclarations}
+use Rattle.tf_rules.specs.declared.naming.Naming.{Naming}
+use Rattle.tf_rules.specs.declared.declaration_kind.DeclarationKind.{DeclarationKind}
+use Rattle.tf_rules.specs.declared.declaration_kind.DeclarationKind.TheVariants as declares
+
+-- The facts of files, references aside, by the places of tokens.
+pub record Facts (P : Type 0) : Type 0 where
+  pub comments : List (Comment P)
+  pub indexes : List P
+  pub interpolations : List P
+  pub declarations : List (Declaration P)
+
+-- a place, and what a rule says of it
+pub record Finding (P : Type 0) : Type 0 where
+  pub at : P
+  pub message : List ℕ
+
+-- the facts of one file, by the numbers of its tokens
+abbrev pub facts_of : List Numbered → Facts ℕ
+facts_of ts = record { comments = comments ts; indexes = legacy_indexes ts; interpolations = wrapped_interpolations ts; declarations = declarations ts }
+
+-- ---- texts
+
+abbrev pub kind_text : DeclarationKind → List ℕ
+kind_text declares.Variable = codes "variable"
+kind_text declares.Output = codes "output"
+kind_text declares.Module = codes "module"
+kind_text declares.Resource = codes "resource"
+kind_text declares.Data = codes "data"
+kind_text declares.Local = codes "local"
+
+-- a name in double quotes, a blank before it, and what follows
+abbrev pub quoting : List ℕ → List ℕ → List ℕ
+quoting name rest = codes " \"" ++ (name ++ (codes "\"" ++ rest))
+
+abbrev pub both_quoted : List (List ℕ) → List ℕ → List ℕ
+both_quoted [] rest = rest
+both_quoted (n ∷ ns) rest = quoting n (both_quoted ns rest)
+
+-- `KIND "NAME"` and what follows
+abbrev pub about : {P : Type 0} → Declaration P → List ℕ → List ℕ
+about d rest = kind_text d.kind ++ quoting (last_of d.names) rest
+
+-- ---- tests
+
+abbrev pub is_kind : DeclarationKind → DeclarationKind → Bool
+is_kind declares.Variable declares.Variable = true
+is_kind declares.Output declares.Output = true
+is_kind declares.Module declares.Module = true
+is_kind declares.Resource declares.Resource = true
+is_kind declares.Data declares.Data = true
+is_kind declares.Local declares.Local = true
+is_kind _ _ = false
+
+-- the references that use a declaration: none for what cannot be unused
+abbrev pub uses_of : DeclarationKind → List (List ℕ) → Option (List ℕ)
+uses_of declares.Variable names = Some (variable_reference (last_of names))
+uses_of declares.Local names = Some (local_reference (last_of names))
+uses_of declares.Data (t ∷ n ∷ []) = Some (data_reference t n)
+uses_of _ names = None
+
+abbrev pub is_unused : List (List ℕ) → Option (List ℕ) → Bool
+is_unused used None = false
+is_unused used (Some text) = not (list_any (bytes_eq text) used)
+
+-- ---- findings
+
+abbrev pub says_if : {P : Type 0} → Bool → P → List ℕ → List (Finding P)
+says_if test at message = if test then record { at = at; message = message } ∷ [] else []
+
+abbrev pub says_of : {P : Type 0} → List ℕ → P → Finding P
+says_of message at = record { at = at; message = message }
+
+abbrev pub unpinned_by : {P : Type 0} → Declaration P → P → Source → List (Finding P)
+unpinned_by d quote NotPinned = says_of (about d (codes " source is not pinned")) quote ∷ []
+unpinned_by d quote (DefaultBranch branch) = says_of (about d (codes " source uses a default branch: " ++ branch)) quote ∷ []
+unpinned_by d quote Other = []
+unpinned_by d quote Registry = []
+
+abbrev pub unpinned : {P : Type 0} → Declaration P → Option (SourceAt P) → List (Finding P)
+unpinned d None = []
+unpinned d (Some s) = unpinned_by d s.at s.source
+
+abbrev pub is_registry : {P : Type 0} → Option (SourceAt P) → Bool
+is_registry None = false
+is_registry (Some s) = is_address s.source
+  where
+    is_address : Source → Bool
+    is_address Registry = true
+    is_address _ = false
+
+-- of a comment that begins with `//`
+abbrev pub slashed : {P : Type 0} → Comment P → List (Finding P)
+slashed c = says_if c.slashes c.at (codes "line comments should begin with #")
+
+-- what a rule reports of one declaration, where all files have these references
+abbrev pub finding : {P : Type 0} → Naming → List (List ℕ) → Rule → Declaration P → List (Finding P)
+finding naming used DocumentedOutputs d = says_if (is_kind declares.Output d.kind && not d.described) d.at (about d (codes " has no description"))
+finding naming used DocumentedVariables d = says_if (is_kind declares.Variable d.kind && not d.described) d.at (about d (codes " has no description"))
+finding naming used ModulePinnedSource d = unpinned d d.source
+finding naming used ModuleVersion d = says_if (is_registry d.source && not d.versioned) d.at (about d (codes " has no version"))
+finding naming used NamingConvention d =
+    says_if (not (fits naming (last_of d.names))) d.at (kind_text d.kind ++ (codes " name" ++ quoting (last_of d.names) (codes " must match " ++ naming_text naming)))
+finding naming used TypedVariables d = says_if (is_kind declares.Variable d.kind && not d.typed) d.at (about d (codes " has no type"))
+finding naming used UnusedDeclarations d =
+    says_if (is_unused used (uses_of d.kind d.names)) d.at (kind_text d.kind ++ both_quoted d.names (codes " is declared but not used"))
+finding naming used CommentSyntax d = []
+finding naming used DeprecatedIndex d = []
+finding naming used DeprecatedInterpolation d = []
+
+-- WHAT A RULE REPORTS
+abbrev pub findings : {P : Type 0} → Naming → List (List ℕ) → Facts P → Rule → List (Finding P)
+findings naming used facts CommentSyntax = flat_map slashed facts.comments
+findings naming used facts DeprecatedIndex = map (says_of (codes "list items should be accessed using square brackets")) facts.indexes
+findings naming used facts DeprecatedInterpolation = map (says_of (codes "interpolation-only expressions are deprecated")) facts.interpolations
+findings naming used facts rule = flat_map (finding naming used rule) facts.declarations

@@ -1,0 +1,68 @@
+-- What is kept of the files of a module: places, names and flags, and no source. The issues are a function of it.
+use Rattle.std.specs.Prelude.{ℕ, ◌++◌, not, List, [], Option, Some, None, filter, map, fold}
+use Rattle.std.specs.List.{flat_map}
+use Rattle.std.specs.Str.{bytes_eq}
+use Rattle.indexmap.specs.IndexSet.{insert_all}
+use Rattle.tf_rules.specs.Declarations.{Declaration, SourceAt}
+use Rattle.tf_rules.specs.References.{references}
+use Rattle.tf_rules.specs.Findings.{Facts, Finding, facts_of, findings}
+use Rattle.tf_rules.specs.Issues.{File, Place, Issue, Asked, tokens_of, place_in, comment_at, is_silenced}
+use Rattle.tf_rules.specs.declared.rule.Rule.{Rule}
+
+pub record Kept : Type 0 where
+  pub facts : Facts Place
+  pub references : List (List ℕ)  -- each once
+
+-- ---- facts at other places
+
+abbrev pub source_at : {P Q : Type 0} → (P → Q) → Option (SourceAt P) → Option (SourceAt Q)
+source_at f None = None
+source_at f (Some s) = Some (record { source = s.source; at = f s.at })
+
+abbrev pub declaration_at : {P Q : Type 0} → (P → Q) → Declaration P → Declaration Q
+declaration_at f d = record {
+  kind = d.kind;
+  names = d.names;
+  at = f d.at;
+  described = d.described;
+  typed = d.typed;
+  versioned = d.versioned;
+  source = source_at f d.source;
+}
+
+abbrev pub facts_at : {P Q : Type 0} → (P → Q) → Facts P → Facts Q
+facts_at f k = record { comments = map (comment_at f) k.comments; indexes = map f k.indexes; interpolations = map f k.interpolations; declarations = map (declaration_at f) k.declarations }
+
+-- ---- of one file, and of more
+
+abbrev pub nothing : Kept
+nothing = record { facts = record { comments = []; indexes = []; interpolations = []; declarations = [] }; references = [] }
+
+abbrev pub both : {P : Type 0} → Facts P → Facts P → Facts P
+both a b = record { comments = a.comments ++ b.comments; indexes = a.indexes ++ b.indexes; interpolations = a.interpolations ++ b.interpolations; declarations = a.declarations ++ b.declarations }
+
+-- with these references
+abbrev pub with_references : Kept → List (List ℕ) → Kept
+with_references kept texts = record { facts = kept.facts; references = insert_all bytes_eq kept.references texts }
+
+-- with one file more
+abbrev pub with_file : Kept → File → Kept
+with_file kept file = record {
+  facts = both kept.facts (facts_at (place_in file) (facts_of (tokens_of file)));
+  references = insert_all bytes_eq kept.references (references (tokens_of file));
+}
+
+-- WHAT IS KEPT of these files
+abbrev pub kept_of : List File → Kept
+kept_of files = fold with_file nothing files
+
+-- ---- the issues again, of what is kept
+
+abbrev pub issue_at : Rule → Finding Place → Issue
+issue_at rule f = record { place = f.at; rule = rule; message = f.message }
+
+abbrev pub reported_of_kept : Asked → Kept → List Issue
+reported_of_kept asked kept = flat_map (λ rule. map (issue_at rule) (findings asked.naming kept.references kept.facts rule)) asked.rules
+
+abbrev pub issues_of_kept : Asked → Kept → List Issue
+issues_of_kept asked kept = filter (λ i. not (is_silenced kept.facts.comments i)) (reported_of_kept asked kept)

@@ -1,0 +1,49 @@
+//! What is proved of the definitions alone. No program calls these functions: their contracts are the laws.
+
+ghost use Rattle.std.specs.Prelude.{◌≡◌, ◌++◌, ◌∷◌, ◌≤◌, ◌<◌, [], ℕ, List, length};
+ghost use Rattle.std.specs.List.{AllZip};
+ghost use Rattle.tf_rules.specs.Issues.{Asked, File, Issue, IsReport, issues};
+ghost use Rattle.tf_rules.specs.Agreement.{SameTokens, told_all};
+ghost use Rattle.hcl_scan.specs.Lexemes.{Lexeme};
+ghost use Rattle.hcl_scan.specs.Scans.{Scans};
+ghost use Rattle.hcl_syntax.specs.Numbered.{numbered};
+ghost use Rattle.hcl_syntax.specs.Verdict.{start_of};
+ghost use Rattle.tf_rules.specs.OwnBlocks.{Apart};
+ghost use Rattle.tf_rules.specs.References.{own_blocks};
+ghost use Rattle.tf_rules.specs.Kept.{kept_of, with_file, issues_of_kept};
+
+/// What is kept of files and one more is a function of what is kept of the files, and of that one.
+pub fn kept_of_more()
+    ensures { (files : List File) (file : File) → kept_of (files ++ file ∷ []) ≡ with_file (kept_of files) file }
+{}
+
+/// The issues of files are a function of what is kept of them.
+pub fn issues_of_kept()
+    ensures { (asked : Asked) (files : List File) → issues asked files ≡ issues_of_kept asked (kept_of files) }
+{}
+
+/// Files have one ordered list of issues at most.
+pub fn one_report()
+    ensures { (asked : Asked) (files : List File) (report other : List Issue) → IsReport asked files report → IsReport asked files other → report ≡ other }
+{}
+
+/// Files with the same tokens, by kind and text, on the same lines have the same issues, columns aside.
+pub fn issues_agree()
+    ensures { (asked : Asked) (files others : List File) → AllZip SameTokens files others → told_all (issues asked files) ≡ told_all (issues asked others) }
+{}
+
+/// The ordered lists of issues of files with the same tokens on the same lines are the same, columns aside.
+pub fn reports_agree()
+    ensures { (asked : Asked) (files others : List File) (report other : List Issue) → AllZip SameTokens files others
+        → IsReport asked files report → IsReport asked others other → told_all report ≡ told_all other }
+{}
+
+/// The blocks of the variables of a file stand one behind the other.
+pub fn own_apart()
+    ensures { (tokens : List Lexeme) → Apart 0 (own_blocks (numbered tokens)) }
+{}
+
+/// Tokens begin in the order of their numbers.
+pub fn starts_rise()
+    ensures { (text : List ℕ) (tokens : List Lexeme) → Scans text tokens → (i j : ℕ) → i ≤ j → j < length tokens → start_of tokens i ≤ start_of tokens j }
+{}

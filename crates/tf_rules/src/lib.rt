@@ -1,0 +1,37 @@
+//! Ten rules for the files of a Terraform module: what they are called, and the namings that one of them goes by.
+//!
+//! What the rules report is defined in `specs`, with laws in the module [`laws`]; the calls that look for it are still to come.
+#![tactic(auto)]
+
+mod block;
+mod closing;
+mod cut;
+mod declaration_kind;
+pub mod laws;
+mod module_source;
+mod names;
+mod naming;
+mod own_block;
+#[cfg(test)]
+mod part_tests;
+mod pattern;
+mod plain_text;
+mod reference;
+mod references;
+mod rule;
+mod rule_set;
+#[cfg(test)]
+mod rule_tests;
+mod seen;
+mod settings;
+mod silencing;
+mod source;
+mod text_set;
+mod texts;
+mod value;
+mod walker;
+
+pub use naming::Naming;
+pub use rule::{Rule, Severity};
+pub use rule_set::RuleSet;
+pub use settings::Settings;

@@ -1,0 +1,10 @@
+//! The labels of a block.
+
+/// Up to two labels, or more.
+#[derive(Clone, Copy)]
+pub enum Names<'s> {
+    None,
+    One(&'s str),
+    Two(&'s str, &'s str),
+    More,
+}

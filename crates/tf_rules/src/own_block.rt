@@ -1,0 +1,9 @@
+//! Where a variable is declared.
+
+/// The block of a variable, by its name and the numbers of its first token and of the one behind its last.
+#[derive(Clone, Copy)]
+pub struct OwnBlock<'s> {
+    pub name: &'s str,
+    pub first: usize,
+    pub end: usize,
+}

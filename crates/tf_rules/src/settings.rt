@@ -1,0 +1,11 @@
+//! What is asked of the linter.
+
+use crate::naming::Naming;
+use crate::rule_set::RuleSet;
+
+/// The rules that are to be looked at, and how names are to be written.
+#[derive(Clone, Copy, Debug, PartialEq, Eq)]
+pub struct Settings {
+    pub rules: RuleSet,
+    pub naming: Naming,
+}
