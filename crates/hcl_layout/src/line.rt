@@ -159,7 +159,7 @@ fn count_clusters(text: &str) -> u64
     text.graphemes(true).count() as u64
 }
 
-/// The same, with a short way for most texts. What counts the others is a call, so that its caller keeps short.
+/// The same, with a short way for most texts. What counts the others is a call, so that its callers stay short.
 #[inline(always)]
 fn clusters(text: &str) -> u64
     ensures count { result ≡ length (graphemes true text.now) }

@@ -61,6 +61,7 @@ fn find(tokens: &Tokens, from: usize, newlines: Newlines) -> (usize, Option<Look
 }
 
 /// The number after that of the first token that is seen, from a number on.
+#[inline(always)]
 fn past(tokens: &Tokens, from: usize) -> usize
     requires { from ≤ length tokens.now.tokens }
     ensures within { result ≤ length tokens.now.tokens }
@@ -105,7 +106,8 @@ impl<'t, 's> Cursor<'t, 's> {
         token
     }
 
-    /// Passes over the first token.
+    /// Passes over the first token. It is inlined, as `look` is.
+    #[inline(always)]
     pub fn bump(&mut self)
         requires { IsSome (first self.old) }
         ensures left { self.new ≡ after_first self.old }
