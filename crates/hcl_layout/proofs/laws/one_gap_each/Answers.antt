@@ -1,12 +1,12 @@
-use Rattle.std.proofs.Common.{◌≡◌, ◌∙◌, ◌+◌, ℕ, zero, suc, Bool, true, false, List, [], ◌∷◌, ◌++◌, Option, Some, None, refl, sym, ap, arith, cond, max, map, length, length-append}
+use Rattle.std.proofs.Common.{◌≡◌, ◌∙◌, ◌+◌, ℕ, zero, suc, Bool, true, false, List, [], ◌∷◌, ◌++◌, Option, Some, None, refl, arith, max, map, length, length-append}
 use Rattle.std.specs.Prelude.{if◌then◌else◌, slice_set}
 use Rattle.std.specs.List.{flat_map}
 use Rattle.hcl_scan.specs.Lexemes.{Lexeme}
 use Rattle.hcl_layout.specs.Lines.{Line, ends_line, lines, onto}
 use Rattle.hcl_layout.specs.Levels.{Net, level, levels_after, net_of}
 use Rattle.hcl_layout.specs.Cells.{assign_cell, running_comment, trailing_comment}
-use Rattle.hcl_layout.specs.Columns.{ahead, columns, columns_from}
-use Rattle.hcl_layout.specs.Gaps.{align, aligned, aligned_by, gap_to, gaps_after, indented, line_gaps, plain_gaps, set_gap, width, widths, zip_with}
+use Rattle.hcl_layout.specs.Columns.{columns, columns_from}
+use Rattle.hcl_layout.specs.Gaps.{aligned, aligned_by, gap_to, gaps_after, indented, line_gaps, plain_gaps, set_gap, width, widths, zip_with}
 use Rattle.hcl_layout.proofs.laws.one_gap_each.Goals as goal
 
 -- each line has a gap for each token

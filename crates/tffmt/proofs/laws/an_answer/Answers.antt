@@ -1,4 +1,4 @@
-use Rattle.std.proofs.Common.{◌≡◌, ◌⊎◌, inl, inr, refl, sym, subst, ℕ, List, [], ◌∷◌, map}
+use Rattle.std.proofs.Common.{◌≡◌, ◌⊎◌, inl, inr, refl, subst, ℕ, List, [], ◌∷◌, map}
 use Rattle.std.specs.Prelude.{Result, Ok, Err}
 use Rattle.clap.specs.Words.{Kinds, fault_of, matches_of}
 use Rattle.clap.specs.Words as clap
@@ -15,7 +15,7 @@ use Rattle.hcl_scan.specs.declared.fault.FaultKind.{FaultKind}
 use Rattle.hcl_syntax.specs.Verdict.{verdict}
 use Rattle.tffmt.specs.Rows.{Row}
 use Rattle.tffmt.specs.Line.{line_of, options_of, tffmt, usage_of_kind}
-use Rattle.tffmt.specs.Answer.{IsAnswer, IsAnswerBy, IsFileAnswer, IsTextAnswer, refused, row_by, usage_line}
+use Rattle.tffmt.specs.Answer.{IsAnswerBy, IsFileAnswer, IsTextAnswer, refused, row_by, usage_line}
 use Rattle.tffmt.specs.declared.options.FmtOptions.{FmtOptions}
 use Rattle.tffmt.specs.declared.options.Usage.{Usage}
 use Rattle.tffmt.specs.declared.options.Usage.TheVariants as usage
