@@ -145,7 +145,7 @@ AtMostOne [] = Unit {0}
 AtMostOne (d ∷ []) = Unit {0}
 AtMostOne (d ∷ e ∷ ds) = ⊥
 
-no_locals : (attributes : List Attribute) → filter (λ d. is_variable d.kind) (map of_local attributes) ≡ []
+pub no_locals : (attributes : List Attribute) → filter (λ d. is_variable d.kind) (map of_local attributes) ≡ []
 no_locals [] = refl
 no_locals (a ∷ attributes) = no_locals attributes
 

@@ -6,12 +6,15 @@
 mod block;
 mod closing;
 mod cut;
+mod declaration;
 mod declaration_kind;
+mod found;
 pub mod laws;
 mod module_source;
 mod names;
 mod naming;
 mod own_block;
+mod owners;
 #[cfg(test)]
 mod part_tests;
 mod pattern;
