@@ -21,3 +21,4 @@ pub mod BodyLemmas
 pub mod ValueLemmas
 pub mod DeclarationLemmas
 pub mod OwnerLemmas
+pub mod CommentLemmas

@@ -1,8 +1,9 @@
-//! What a file declares, by the numbers of its tokens.
+//! What is found in a file, by the numbers of its tokens.
 
 use crate::declaration_kind::DeclarationKind;
 use crate::module_source::ModuleSource;
 use crate::names::Names;
+use crate::rule_set::RuleSet;
 
 /// What a block with a word as its kind declares, and with how many labels.
 #[derive(Clone, Copy)]
@@ -28,4 +29,12 @@ pub struct Declared<'s> {
     pub is_typed: bool,
     pub is_versioned: bool,
     pub source: Option<FoundSource>,
+}
+
+/// A line comment that begins with `//` or silences a rule.
+#[derive(Clone, Copy)]
+pub struct FoundComment {
+    pub at: usize,
+    pub has_slashes: bool,
+    pub silences: RuleSet,
 }

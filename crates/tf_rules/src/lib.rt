@@ -5,6 +5,7 @@
 
 mod block;
 mod closing;
+mod comment;
 mod cut;
 mod declaration;
 mod declaration_kind;

@@ -1,17 +1,21 @@
-//! Where the variables of a file are declared.
+//! Where the variables of a file are declared, and the references that are left without their own.
 
-ghost use Rattle.std.specs.Prelude.{◌≡◌, ◌<◌, ◌+◌, ◌^◌, ℕ, drop, length, map, slice_get, Some, IfOk};
+ghost use Rattle.std.specs.Prelude.{◌≡◌, ◌<◌, ◌+◌, ◌^◌, ℕ, drop, length, map, slice_get, Some, IfOk, OnOk, OnErr};
+ghost use Rattle.std.specs.Str.{bytes_eq};
+ghost use Rattle.indexmap.specs.IndexSet.{insert_all};
 ghost use Rattle.hcl_syntax.specs.Items.{outline};
 ghost use Rattle.hcl_syntax.specs.Numbered.{numbered};
 ghost use Rattle.hcl_syntax.specs.declared.item.Item.{Item};
 ghost use Rattle.tf_rules.specs.OwnBlocks.{own_of, Apart};
-ghost use Rattle.tf_rules.specs.References.{is_variable, last_of, own_blocks, own_of_item};
+ghost use Rattle.tf_rules.specs.References.{is_variable, last_of, own_blocks, own_of_item, references};
 ghost use Rattle.tf_rules.specs.Inner.FoundViews.{own_listed, texts_of};
 
 use crate::declaration::declared_by;
 use crate::declaration_kind::DeclarationKind;
 use crate::names::Names;
 use crate::own_block::OwnBlock;
+use crate::references::add_references;
+use crate::text_set::TextSet;
 use hcl_syntax::{Accepted, Item, Outline};
 use std::alloc::{AllocError, Global};
 
@@ -81,4 +85,21 @@ pub fn own_blocks<'s>(
         found.push(block)?;
     }
     Ok(found)
+}
+
+/// Puts the references of a file into the set, by its outline. On refusal the set is as it was.
+pub fn add_references_of(
+    alloc: Global,
+    accepted: &Accepted<'_, '_>,
+    items: &Outline,
+    into: &mut TextSet,
+) -> Result<(), AllocError>
+    requires { items.now ≡ outline accepted.now.tokens }
+    ensures ok { OnOk result (into.new ≡ insert_all bytes_eq into.old (references (numbered accepted.now.tokens))) }
+    ensures err { OnErr result (into.new ≡ into.old) }
+{
+    let blocks = own_blocks(alloc, accepted, items)?;
+    let tokens = accepted.tokens();
+    add_references(alloc, tokens, &blocks, into)?;
+    Ok(())
 }

@@ -1,10 +1,11 @@
 //! What the parts of the linter answer on small texts, worked out by hand.
 
+use crate::comment::comments;
 use crate::declaration::declarations;
 use crate::declaration_kind::DeclarationKind;
 use crate::module_source::ModuleSource;
 use crate::naming::{Naming, fits};
-use crate::owners::own_blocks;
+use crate::owners::{add_references_of, own_blocks};
 use crate::pattern::{legacy_indexes, wrapped_interpolations};
 use crate::references::add_references;
 use crate::rule::Rule;
@@ -182,7 +183,7 @@ fn walks_over_places(rt: HostRuntime) -> Result<(), Fail> {
 fn lists_declarations(rt: HostRuntime) -> Result<(), Fail> {
     let alloc = rt.alloc();
     let text =
-        "variable \"v\" {\n  type = any\n}\nlocals {\n  a = 1\n}\ndata \"t\" \"n\" {}\nmodule \"m\" {\n  source = \"a/b/c\"\n}\noutput {}\n";
+        "variable \"v\" {\n  type = var.v\n}\nlocals {\n  a = var.w\n}\ndata \"t\" \"n\" {}\nmodule \"m\" {\n  source = \"a/b/c\"\n}\noutput {}\n";
     let source = Source::from_bytes(alloc, text.as_bytes())?;
     let tokens = scan(alloc, &source)?;
     let Ok(accepted) = accepts(&tokens) else {
@@ -206,5 +207,25 @@ fn lists_declarations(rt: HostRuntime) -> Result<(), Fail> {
     }
     let blocks = own_blocks(alloc, &accepted, &items)?;
     assert_eq!(&rt; blocks.len(), 1);
+    let mut used = TextSet::new(alloc);
+    add_references_of(alloc, &accepted, &items, &mut used)?;
+    assert_eq!(&rt; used.len(), 1);
+    assert!(&rt; used.contains("var.w"));
+    Ok(())
+}
+
+#[test]
+fn lists_comments(rt: HostRuntime) -> Result<(), Fail> {
+    let alloc = rt.alloc();
+    let text = "# a\n// b\n/* // c */\n# tflint-ignore: all\n";
+    let source = Source::from_bytes(alloc, text.as_bytes())?;
+    let tokens = scan(alloc, &source)?;
+    let found = comments(alloc, &tokens)?;
+    assert_eq!(&rt; found.len(), 2);
+    for i in 0..found.len() {
+        let comment = found[i];
+        assert_eq!(&rt; comment.has_slashes, i == 0, "{i}");
+        assert_eq!(&rt; comment.silences.holds(Rule::ModuleVersion), i == 1, "{i}");
+    }
     Ok(())
 }

@@ -1,12 +1,15 @@
--- What contracts see of declarations, as the code finds them.
+-- What contracts see of what the code finds in a file.
 use Rattle.std.specs.Prelude.{ℕ, List, [], ◌∷◌, Option, Some, None}
 use Rattle.std.specs.Option.{option_map}
 use Rattle.tf_rules.specs.Declarations.{Declaration, Declarer, SourceAt}
+use Rattle.tf_rules.specs.Comments.{Comment}
 use Rattle.tf_rules.specs.OwnBlocks.{own_of}
 use Rattle.tf_rules.specs.References.{Own}
+use Rattle.tf_rules.specs.RuleSets.{rules_of}
 use Rattle.tf_rules.specs.Inner.SourceViews.{source}
 use Rattle.tf_rules.specs.declared.found.Declared.{Declared}
 use Rattle.tf_rules.specs.declared.found.Declarer as found
+use Rattle.tf_rules.specs.declared.found.FoundComment.{FoundComment}
 use Rattle.tf_rules.specs.declared.found.FoundSource.{FoundSource}
 use Rattle.tf_rules.specs.declared.names.Names.{Names}
 use Rattle.tf_rules.specs.declared.names.Names.TheVariants as names
@@ -44,3 +47,12 @@ listed (Some d) = declaration d ∷ []
 abbrev pub own_listed : Option OwnBlock → List Own
 own_listed None = []
 own_listed (Some o) = own_of o ∷ []
+
+-- ---- comments
+
+abbrev pub comment : FoundComment → Comment ℕ
+comment c = record { at = c.at; slashes = c.has_slashes; silences = rules_of c.silences }
+
+abbrev pub told : Option FoundComment → List (Comment ℕ)
+told None = []
+told (Some c) = comment c ∷ []
