@@ -1,6 +1,7 @@
 -- Words for the code's own parts, which its inner contracts use. Nobody has to believe them.
 pub mod Closings
 pub mod Cuts
+pub mod FactViews
 pub mod FoundViews
 pub mod Labelled
 pub mod Seen

@@ -9,6 +9,7 @@ mod comment;
 mod cut;
 mod declaration;
 mod declaration_kind;
+mod file_facts;
 mod found;
 pub mod laws;
 mod module_source;
