@@ -13,7 +13,7 @@ use Rattle.hcl_syntax.specs.declared.item.Item.{Item}
 use Rattle.hcl_syntax.specs.declared.item.Item.TheVariants as item
 use Rattle.hcl_syntax.proofs.WordLemmas.{drop_at, numbered_here}
 use Rattle.hcl_syntax.proofs.ItemOrderLemmas.{climbs_wide, outline_climbs}
-use Rattle.tf_rules.specs.Values.{value_of_attribute, value_of_item}
+use Rattle.tf_rules.specs.Inner.Values.{value_of_attribute, value_of_item}
 use Rattle.tf_rules.specs.declared.value.Value.{Value}
 use Rattle.tf_rules.specs.Declarations.{Attribute, attribute, attributes_in, has, is_inside, labels_in, with_attribute}
 

@@ -10,8 +10,8 @@ use Rattle.hcl_syntax.specs.Balanced.{opening, closing}
 use Rattle.hcl_syntax.specs.Items.{deepen, is_closed}
 use Rattle.hcl_syntax.specs.Numbered.{is_passed_over, is_quote_close}
 use Rattle.tf_rules.specs.Patterns.{begins_with_close, behind_closer}
-use Rattle.tf_rules.specs.Seen.{seen_from}
-use Rattle.tf_rules.specs.Closings.{AreAhead, AreClosings, closes_before_quote, quote_from}
+use Rattle.tf_rules.specs.Inner.Seen.{seen_from}
+use Rattle.tf_rules.specs.Inner.Closings.{AreAhead, AreClosings, closes_before_quote, quote_from}
 use Rattle.tf_rules.proofs.SeenLemmas.{seen_here, seen_none, seen_past}
 
 -- what a kind does to the depth

@@ -7,7 +7,7 @@ use Rattle.std.proofs.Math.Seq.{take-add}
 use Rattle.std.proofs.lemmas.List.{append-nil, drop_all, take_all, take_more}
 use Rattle.std.proofs.lemmas.List.Folds.{list_any-append}
 use denote.Ref.{Bor}
-use Rattle.tf_rules.specs.Cuts.{behind_cut, parts_of}
+use Rattle.tf_rules.specs.Inner.Cuts.{behind_cut, parts_of}
 use Rattle.tf_rules.specs.Sources.{is_address}
 use Rattle.tf_rules.specs.declared.cut.Cut.{Cut}
 

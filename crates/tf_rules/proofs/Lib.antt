@@ -19,3 +19,6 @@ pub mod ClosingLemmas
 pub mod PatternLemmas
 pub mod BodyLemmas
 pub mod ValueLemmas
+pub mod DeclarationLemmas
+pub mod OwnerLemmas
+pub mod CommentLemmas

@@ -18,7 +18,7 @@ use Rattle.tf_rules.specs.References.{Own, is_own, is_variable, last_of, own_blo
 use Rattle.tf_rules.specs.declared.own_block.OwnBlock.{OwnBlock}
 use Rattle.tf_rules.specs.declared.reference.Reference.{Reference}
 use Rattle.tf_rules.specs.declared.reference.Reference.TheVariants.{Variable, Local, Data}
-use Rattle.tf_rules.specs.Spelled.{spelled}
+use Rattle.tf_rules.specs.Inner.Spelled.{spelled}
 use denote.Bor.{Bor}
 use Rattle.tf_rules.proofs.TextLemmas.{list_any-map}
 
@@ -145,7 +145,7 @@ AtMostOne [] = Unit {0}
 AtMostOne (d ∷ []) = Unit {0}
 AtMostOne (d ∷ e ∷ ds) = ⊥
 
-no_locals : (attributes : List Attribute) → filter (λ d. is_variable d.kind) (map of_local attributes) ≡ []
+pub no_locals : (attributes : List Attribute) → filter (λ d. is_variable d.kind) (map of_local attributes) ≡ []
 no_locals [] = refl
 no_locals (a ∷ attributes) = no_locals attributes
 

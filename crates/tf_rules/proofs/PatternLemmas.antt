@@ -8,7 +8,7 @@ use Rattle.hcl_scan.specs.declared.token.Kind.TheVariants as kind
 use Rattle.hcl_syntax.specs.Numbered.{Numbered, is_passed_over, is_quote_open}
 use Rattle.tf_rules.specs.References.{is_dot}
 use Rattle.tf_rules.specs.Patterns.{begins_with_close, behind_closer, is_index, is_interpolation, is_number, is_wrapped, numbers_where}
-use Rattle.tf_rules.specs.Seen.{number_of, seen_from}
+use Rattle.tf_rules.specs.Inner.Seen.{number_of, seen_from}
 use Rattle.tf_rules.proofs.SeenLemmas.{seen_here, seen_none, seen_past}
 
 pub there_is : (ts : List Lexeme) (n : ℕ) → n < length ts → (t : Lexeme) × (slice_get ts n ≡ Some t)

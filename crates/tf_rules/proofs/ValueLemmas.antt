@@ -4,8 +4,8 @@ use Rattle.std.specs.Prelude.{Some, filter, slice_get}
 use Rattle.hcl_scan.specs.Lexemes.{Lexeme}
 use Rattle.hcl_syntax.specs.Numbered.{numbered}
 use Rattle.hcl_syntax.proofs.WordLemmas.{numbered_at, numbered_here}
-use Rattle.tf_rules.specs.Seen.{number_of}
-use Rattle.tf_rules.specs.Values.{in_value, values}
+use Rattle.tf_rules.specs.Inner.Seen.{number_of}
+use Rattle.tf_rules.specs.Inner.Values.{in_value, values}
 
 -- from a token on
 pub values_step : (ts : List Lexeme) (n to : ℕ) (t : Lexeme) → slice_get ts n ≡ Some t → n < to → values ts n to ≡ cond (in_value (number_of n t)) (number_of n t ∷ values ts (n + 1) to) (values ts (n + 1) to)

@@ -13,14 +13,6 @@ pub mod Ordered
 pub mod Issues
 pub mod Kept
 pub mod Agreement
-pub mod Seen
-pub mod Spelled
 pub mod OwnBlocks
-pub mod Walks
-pub mod Walked
-pub mod Closings
-pub mod Labelled
-pub mod Values
-pub mod Cuts
-pub mod SourceViews
 pub mod Examples
+pub mod Inner

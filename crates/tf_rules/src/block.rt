@@ -4,8 +4,8 @@ ghost use Rattle.std.specs.Prelude.{◌≡◌, ◌<◌, ◌≤◌, ◌+◌, ◌�
 ghost use Rattle.hcl_syntax.specs.Items.{outline};
 ghost use Rattle.hcl_syntax.specs.Numbered.{numbered};
 ghost use Rattle.tf_rules.specs.Declarations.{attribute, attributes_in, has, is_inside, labels_in, with_attribute};
-ghost use Rattle.tf_rules.specs.Labelled.{AreNames};
-ghost use Rattle.tf_rules.specs.Values.{value_of_attribute, value_of_item};
+ghost use Rattle.tf_rules.specs.Inner.Labelled.{AreNames};
+ghost use Rattle.tf_rules.specs.Inner.Values.{value_of_attribute, value_of_item};
 ghost use Rattle.std.specs.Option.{option_map};
 ghost use Rattle.std.specs.Str.{bytes_eq};
 
@@ -57,7 +57,7 @@ pub fn names<'s>(accepted: &Accepted<'_, 's>, items: &Outline, from: usize) -> N
 }
 
 /// Whether an item stands in a block or is one of its labels.
-fn is_inside(item: Item) -> bool
+pub fn is_inside(item: Item) -> bool
     ensures { result ≡ is_inside item }
 {
     match item {

@@ -3,7 +3,7 @@
 ghost use Rattle.std.specs.Prelude.{◌≡◌, ◌==◌, ◌<◌, ◌+◌, false, length, get_or, reverse, if◌then◌else◌, IfOk, OnOk};
 ghost use Rattle.hcl_syntax.specs.Balanced.{closing, opening};
 ghost use Rattle.hcl_syntax.specs.Numbered.{is_passed_over, is_quote_close};
-ghost use Rattle.tf_rules.specs.Closings.{AreAhead, AreClosings, quote_from};
+ghost use Rattle.tf_rules.specs.Inner.Closings.{AreAhead, AreClosings, quote_from};
 
 use crate::seen::is_passed_over;
 use hcl_scan::{Kind, Tokens};

@@ -5,13 +5,18 @@
 
 mod block;
 mod closing;
+mod comment;
 mod cut;
+mod declaration;
 mod declaration_kind;
+mod file_facts;
+mod found;
 pub mod laws;
 mod module_source;
 mod names;
 mod naming;
 mod own_block;
+mod owners;
 #[cfg(test)]
 mod part_tests;
 mod pattern;

@@ -1,7 +1,11 @@
 //! What the parts of the linter answer on small texts, worked out by hand.
 
+use crate::comment::comments;
+use crate::declaration::declarations;
+use crate::declaration_kind::DeclarationKind;
 use crate::module_source::ModuleSource;
 use crate::naming::{Naming, fits};
+use crate::owners::{add_references_of, own_blocks};
 use crate::pattern::{legacy_indexes, wrapped_interpolations};
 use crate::references::add_references;
 use crate::rule::Rule;
@@ -11,6 +15,7 @@ use crate::source::source_of;
 use crate::text_set::TextSet;
 use crate::walker::Walker;
 use hcl_scan::{Source, scan};
+use hcl_syntax::{accepts, outline};
 use std::process::Abort;
 use std::test::Fail;
 
@@ -171,5 +176,56 @@ fn walks_over_places(rt: HostRuntime) -> Result<(), Fail> {
     assert_eq!(&rt; walker.position(29), source.position(29));
     assert_eq!(&rt; walker.position(39), source.position(39));
     assert_eq!(&rt; walker.position(39), source.position(39));
+    Ok(())
+}
+
+#[test]
+fn lists_declarations(rt: HostRuntime) -> Result<(), Fail> {
+    let alloc = rt.alloc();
+    let text =
+        "variable \"v\" {\n  type = var.v\n}\nlocals {\n  a = var.w\n}\ndata \"t\" \"n\" {}\nmodule \"m\" {\n  source = \"a/b/c\"\n}\noutput {}\n";
+    let source = Source::from_bytes(alloc, text.as_bytes())?;
+    let tokens = scan(alloc, &source)?;
+    let Ok(accepted) = accepts(&tokens) else {
+        assert!(&rt; false, "refused");
+        return Ok(());
+    };
+    let items = outline(alloc, &accepted)?;
+    let found = declarations(alloc, &accepted, &items)?;
+    let kinds = [
+        DeclarationKind::Variable,
+        DeclarationKind::Local,
+        DeclarationKind::Data,
+        DeclarationKind::Module,
+    ];
+    assert_eq!(&rt; found.len(), kinds.len());
+    for i in 0..found.len() {
+        let declared = found[i];
+        assert_eq!(&rt; declared.kind, kinds[i], "{i}");
+        assert_eq!(&rt; declared.is_typed, i == 0, "{i}");
+        assert_eq!(&rt; declared.source.is_some(), i == 3, "{i}");
+    }
+    let blocks = own_blocks(alloc, &accepted, &items)?;
+    assert_eq!(&rt; blocks.len(), 1);
+    let mut used = TextSet::new(alloc);
+    add_references_of(alloc, &accepted, &items, &mut used)?;
+    assert_eq!(&rt; used.len(), 1);
+    assert!(&rt; used.contains("var.w"));
+    Ok(())
+}
+
+#[test]
+fn lists_comments(rt: HostRuntime) -> Result<(), Fail> {
+    let alloc = rt.alloc();
+    let text = "# a\n// b\n/* // c */\n# tflint-ignore: all\n";
+    let source = Source::from_bytes(alloc, text.as_bytes())?;
+    let tokens = scan(alloc, &source)?;
+    let found = comments(alloc, &tokens)?;
+    assert_eq!(&rt; found.len(), 2);
+    for i in 0..found.len() {
+        let comment = found[i];
+        assert_eq!(&rt; comment.has_slashes, i == 0, "{i}");
+        assert_eq!(&rt; comment.silences.holds(Rule::ModuleVersion), i == 1, "{i}");
+    }
     Ok(())
 }

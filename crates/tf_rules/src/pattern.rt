@@ -4,8 +4,8 @@ ghost use Rattle.std.specs.Prelude.{◌≡◌, ◌<◌, ◌∷◌, ◌+◌, ◌^
 ghost use Rattle.hcl_scan.specs.Lexemes.{Lexeme};
 ghost use Rattle.hcl_syntax.specs.Numbered.{is_quote_open, numbered};
 ghost use Rattle.tf_rules.specs.Patterns.{is_index, is_interpolation, is_number, is_wrapped, legacy_indexes, wrapped_interpolations};
-ghost use Rattle.tf_rules.specs.Closings.{AreClosings};
-ghost use Rattle.tf_rules.specs.Seen.{number_of, seen_from};
+ghost use Rattle.tf_rules.specs.Inner.Closings.{AreClosings};
+ghost use Rattle.tf_rules.specs.Inner.Seen.{number_of, seen_from};
 
 use crate::closing::closings;
 use crate::reference::is_dot;

@@ -6,8 +6,8 @@ ghost use Rattle.std.specs.String.{string_bytes};
 ghost use Rattle.std.specs.Str.{bytes_eq};
 ghost use Rattle.indexmap.specs.IndexSet.{insert_all};
 ghost use Rattle.tf_rules.specs.References.{is_own, reference_at, references_from, unless_own};
-ghost use Rattle.tf_rules.specs.Seen.{seen_from, numbered_of};
-ghost use Rattle.tf_rules.specs.Spelled.{spelled};
+ghost use Rattle.tf_rules.specs.Inner.Seen.{seen_from, numbered_of};
+ghost use Rattle.tf_rules.specs.Inner.Spelled.{spelled};
 ghost use Rattle.tf_rules.specs.OwnBlocks.{own_of, Apart, ArePassed, Extends, IsAhead};
 
 use crate::own_block::OwnBlock;

@@ -3,7 +3,7 @@
 ghost use Rattle.std.specs.Prelude.{◌≡◌, ◌==◌, MatchOption, true, false};
 ghost use Rattle.std.specs.List.{list_all, list_any, slice_split};
 ghost use Rattle.tf_rules.specs.Sources.{before_slashes, behind_question, is_address, is_alphanumeric, is_default_branch, is_git, is_host, is_host_byte, is_local, is_mercurial, is_part, is_part_byte, is_registry, pinned_to, revision, source_of};
-ghost use Rattle.tf_rules.specs.SourceViews.{source};
+ghost use Rattle.tf_rules.specs.Inner.SourceViews.{source};
 
 use crate::module_source::ModuleSource;
 use crate::texts::{begins, behind, cut, equals};

@@ -4,7 +4,7 @@ ghost use Rattle.std.specs.Prelude.{◌≡◌, ◌==◌, drop};
 ghost use Rattle.std.specs.List.{slice_split};
 ghost use Rattle.std.specs.Str.{bytes_eq};
 ghost use Rattle.tf_rules.specs.Texts.{begins};
-ghost use Rattle.tf_rules.specs.Cuts.{parts_of};
+ghost use Rattle.tf_rules.specs.Inner.Cuts.{parts_of};
 
 use crate::cut::Cut;
 

@@ -1,6 +1,6 @@
 use Rattle.std.proofs.Common.{◌≡◌, ◌∙◌, ◌+◌, ◌-◌, ap, reverse, get_or, set, false, refl, arith}
 use Rattle.hcl_scan.specs.Scanned.{lexeme}
-use Rattle.tf_rules.specs.Closings.{quote_from}
+use Rattle.tf_rules.specs.Inner.Closings.{quote_from}
 use Rattle.tf_rules.proofs.ClosingLemmas.{fills, quote_here}
 use Rattle.tf_rules.proofs.closing.closings.Goals as goal
 

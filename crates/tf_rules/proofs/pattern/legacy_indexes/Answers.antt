@@ -1,6 +1,6 @@
 use Rattle.std.proofs.Common.{◌∙◌, ◌+◌, ap, sym, arith}
 use Rattle.tf_rules.specs.Patterns.{is_index}
-use Rattle.tf_rules.specs.Seen.{seen_from}
+use Rattle.tf_rules.specs.Inner.Seen.{seen_from}
 use Rattle.tf_rules.proofs.PatternLemmas.{index_unseen, finds, skips, there_is}
 use Rattle.tf_rules.proofs.pattern.legacy_indexes.Goals as goal
 use Rattle.tf_rules.proofs.pattern.legacy_indexes.Goals.{then-is_index+in_ok-push, else-is_index}

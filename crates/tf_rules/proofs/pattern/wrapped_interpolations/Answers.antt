@@ -1,6 +1,6 @@
 use Rattle.std.proofs.Common.{◌∙◌, ◌+◌, ap, sym, arith}
 use Rattle.tf_rules.specs.Patterns.{is_wrapped}
-use Rattle.tf_rules.specs.Seen.{seen_from}
+use Rattle.tf_rules.specs.Inner.Seen.{seen_from}
 use Rattle.tf_rules.proofs.PatternLemmas.{wrapped_unseen, finds, skips, there_is}
 use Rattle.tf_rules.proofs.pattern.wrapped_interpolations.Goals as goal
 use Rattle.tf_rules.proofs.pattern.wrapped_interpolations.Goals.{then-is_wrapped+in_ok-push, else-is_wrapped}

@@ -1,5 +1,5 @@
 use Rattle.std.proofs.Common.{◌≡◌}
-use Rattle.tf_rules.specs.Values.{values}
+use Rattle.tf_rules.specs.Inner.Values.{values}
 use Rattle.tf_rules.proofs.plain_text.next_value.Given as goal
 
 abbrev pub invariant-loop-number : goal.invariant-loop-number

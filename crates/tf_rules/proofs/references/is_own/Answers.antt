@@ -1,7 +1,7 @@
 use Rattle.std.proofs.Common.{◌∙◌, ap, sym, map}
 use Rattle.tf_rules.specs.OwnBlocks.{own_of}
 use Rattle.tf_rules.specs.References.{is_own}
-use Rattle.tf_rules.specs.Spelled.{spelled}
+use Rattle.tf_rules.specs.Inner.Spelled.{spelled}
 use Rattle.tf_rules.proofs.OwnLemmas.{decides, none_left, own_other}
 use Rattle.tf_rules.proofs.references.is_own.Goals as goal
 

@@ -5,7 +5,7 @@ use Rattle.hcl_syntax.specs.Numbered.{Numbered, is_comment, is_newline, numbered
 use Rattle.hcl_syntax.specs.declared.item.Item.{Item}
 use Rattle.hcl_syntax.specs.declared.item.Item.TheVariants as item
 use Rattle.tf_rules.specs.Declarations.{Attribute, PlainText}
-use Rattle.tf_rules.specs.Seen.{numbered_of}
+use Rattle.tf_rules.specs.Inner.Seen.{numbered_of}
 use Rattle.tf_rules.specs.declared.value.Value.{Value}
 use Rattle.tf_rules.specs.declared.value.Plain.{Plain}
 use Rattle.tf_rules.specs.declared.seen.Seen.{Seen}

@@ -2,7 +2,7 @@
 use Rattle.std.specs.Prelude.{◌≡◌, ◌<◌, ◌+◌, ℕ, Bool, false, List, length, get_or, reverse}
 use Rattle.hcl_scan.specs.Lexemes.{Lexeme}
 use Rattle.tf_rules.specs.Patterns.{begins_with_close, behind_closer}
-use Rattle.tf_rules.specs.Seen.{seen_from}
+use Rattle.tf_rules.specs.Inner.Seen.{seen_from}
 
 -- what is seen from a number on begins with a closing quote
 abbrev pub quote_from : List Lexeme → ℕ → Bool
