@@ -9,7 +9,7 @@ ghost use Rattle.hcl_layout.specs.Print.{print};
 ghost use Rattle.hcl_layout.specs.Reprinted.{printed_tokens};
 ghost use Rattle.hcl_syntax.specs.Classes.{lookaheads};
 ghost use Rattle.hcl_syntax.specs.Verdict.{IsAccepted};
-ghost use Rattle.hcl_scan.specs.Load.{IsText, max_source};
+ghost use Rattle.hcl_source.specs.Load.{IsText, max_source};
 
 /// There is one gap for each token, so a print leaves no token out.
 pub fn one_gap_each()
