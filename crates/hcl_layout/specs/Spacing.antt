@@ -16,6 +16,14 @@ abbrev pub is_ellipsis : Kind → Bool
 is_ellipsis kind.Ellipsis = true
 is_ellipsis _ = false
 
+abbrev pub is_colon : Kind → Bool
+is_colon kind.Colon = true
+is_colon _ = false
+
+abbrev pub is_colon_colon : Kind → Bool
+is_colon_colon kind.ColonColon = true
+is_colon_colon _ = false
+
 abbrev pub is_comma : Kind → Bool
 is_comma kind.Comma = true
 is_comma _ = false
@@ -122,6 +130,10 @@ abbrev pub begins_with_equals : List ℕ → Bool
 begins_with_equals [] = false
 begins_with_equals (b ∷ text) = b == 61
 
+abbrev pub begins_with_colon : List ℕ → Bool
+begins_with_colon [] = false
+begins_with_colon (b ∷ text) = b == 58
+
 -- the token before is of such a kind
 abbrev pub stands_before : (Kind → Bool) → Option Lexeme → Bool
 stands_before test None = false
@@ -139,6 +151,7 @@ would_join before subject after =
     || (is_number subject.kind && not (stands_before is_dot before) && is_dot after.kind)
     || (is_not subject.kind && begins_with_equals after.text)
     || (opens_sequence subject.kind && is_seq_close after.kind && bytes_eq after.text (codes "~}"))
+    || (is_colon subject.kind && begins_with_colon after.text)
 
 -- the word `in`, behind the last name that a `for` declares
 abbrev pub is_in : Option Lexeme → Lexeme → Bool
@@ -151,6 +164,7 @@ spaced before subject after =
     else if would_join before subject after then true
     else if is_ident subject.kind && is_paren_open after.kind then false
     else if is_dot subject.kind || is_dot after.kind then false
+    else if is_colon_colon subject.kind || is_colon_colon after.kind then false
     else if is_comma after.kind || is_ellipsis after.kind then false
     else if is_comma subject.kind then true
     else if is_quote_open subject.kind || is_lit subject.kind || is_lit after.kind || is_quote_close after.kind then false
