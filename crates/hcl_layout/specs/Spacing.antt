@@ -5,82 +5,14 @@ use Rattle.std.specs.Str.{bytes_eq}
 use Rattle.hcl_scan.specs.Lexemes.{Lexeme}
 use Rattle.hcl_scan.specs.declared.token.Kind.{Kind}
 use Rattle.hcl_scan.specs.declared.token.Kind.TheVariants as kind
-use Rattle.hcl_layout.specs.Levels.{is_opener}
-use Rattle.hcl_layout.specs.Lines.{is_newline}
-
-abbrev pub is_dot : Kind → Bool
-is_dot kind.Dot = true
-is_dot _ = false
-
-abbrev pub is_ellipsis : Kind → Bool
-is_ellipsis kind.Ellipsis = true
-is_ellipsis _ = false
-
-abbrev pub is_colon : Kind → Bool
-is_colon kind.Colon = true
-is_colon _ = false
-
-abbrev pub is_colon_colon : Kind → Bool
-is_colon_colon kind.ColonColon = true
-is_colon_colon _ = false
-
-abbrev pub is_comma : Kind → Bool
-is_comma kind.Comma = true
-is_comma _ = false
-
-abbrev pub is_not : Kind → Bool
-is_not kind.Not = true
-is_not _ = false
-
-abbrev pub is_minus : Kind → Bool
-is_minus kind.Minus = true
-is_minus _ = false
-
-abbrev pub is_ident : Kind → Bool
-is_ident kind.Ident = true
-is_ident _ = false
-
-abbrev pub is_number : Kind → Bool
-is_number kind.Number = true
-is_number _ = false
-
-abbrev pub is_paren_open : Kind → Bool
-is_paren_open kind.ParenOpen = true
-is_paren_open _ = false
-
-abbrev pub is_bracket_open : Kind → Bool
-is_bracket_open kind.BracketOpen = true
-is_bracket_open _ = false
-
-abbrev pub is_brace_open : Kind → Bool
-is_brace_open kind.BraceOpen = true
-is_brace_open _ = false
-
-abbrev pub is_brace_close : Kind → Bool
-is_brace_close kind.BraceClose = true
-is_brace_close _ = false
-
-abbrev pub is_seq_close : Kind → Bool
-is_seq_close kind.SeqClose = true
-is_seq_close _ = false
+use Rattle.hcl_syntax.specs.Balanced.{is_opener}
+use Rattle.hcl_syntax.specs.Kinds.{is_newline, is_ident, is_number, is_paren_open, is_bracket_open, is_brace_open, is_brace_close, is_seq_close, is_quote_open, is_lit, is_quote_close, is_dot, is_colon, is_colon_colon, is_comma, is_ellipsis, is_not, is_minus}
 
 -- `${` and `%{`
 abbrev pub opens_sequence : Kind → Bool
 opens_sequence kind.InterpOpen = true
 opens_sequence kind.ControlOpen = true
 opens_sequence _ = false
-
-abbrev pub is_quote_open : Kind → Bool
-is_quote_open kind.QuoteOpen = true
-is_quote_open _ = false
-
-abbrev pub is_lit : Kind → Bool
-is_lit kind.Lit = true
-is_lit _ = false
-
-abbrev pub is_quote_close : Kind → Bool
-is_quote_close kind.QuoteClose = true
-is_quote_close _ = false
 
 -- what closes a paren, a bracket or a sequence
 abbrev pub closes_group : Kind → Bool

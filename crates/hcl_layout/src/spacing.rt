@@ -2,7 +2,8 @@
 ghost use Rattle.std.specs.Prelude.{◌≡◌, IfNone, IfSome, Option, option_map};
 ghost use Rattle.hcl_scan.specs.Lexemes.{Lexeme};
 ghost use Rattle.hcl_scan.specs.Scanned.{lexeme};
-ghost use Rattle.hcl_layout.specs.Spacing.{begins_with_colon as begins_with_colon_of, begins_with_equals as begins_with_equals_of, is_dot as is_dot_of, is_ident as is_ident_of, is_opening as is_opening_of, spaced, stands_before};
+ghost use Rattle.hcl_syntax.specs.Kinds.{is_dot as is_dot_of, is_ident as is_ident_of};
+ghost use Rattle.hcl_layout.specs.Spacing.{begins_with_colon as begins_with_colon_of, begins_with_equals as begins_with_equals_of, is_opening as is_opening_of, spaced, stands_before};
 ghost use Rattle.hcl_layout.specs.Inner.KindPairs.{asked_space as asked_space_of, pair_space as pair_space_of, space_behind_operand as space_behind_operand_of, stands_close as stands_close_of};
 
 use crate::kind::{
@@ -90,7 +91,7 @@ fn space_behind_operand(right: Kind) -> bool
 }
 
 /// What two kinds tell alone, the second no Newline and outside heredocs. Nearly always they do, so this is a table by
-/// the first of them, and not the rows of the definition in turn, of which most tokens pass all.
+/// the first of them, and not the rows of the definition in next_level, of which most tokens pass all.
 #[inline(always)]
 fn pair_space(left: Kind, right: Kind) -> Option<bool>
     ensures { result ≡ pair_space_of left right }

@@ -6,7 +6,7 @@ use Rattle.hcl_syntax.specs.declared.class.Class.TheVariants.{Newline, Trivia, I
 use Rattle.hcl_syntax.specs.declared.class.Word.TheVariants.{Plain, For, In, If, Else, Endif}
 use Rattle.hcl_syntax.specs.declared.refusal.Refusal.{Refusal}
 use Rattle.hcl_syntax.specs.declared.refusal.Refusal.TheVariants.{UnexpectedToken, UnexpectedEnd}
-use Rattle.hcl_syntax.specs.Lookaheads.{is_trivia}
+use Rattle.hcl_syntax.specs.Classes.{is_trivia}
 use Rattle.hcl_syntax.specs.Predictor.{run, refusal_of}
 
 abbrev numbered : ℕ → List Class → List Lookahead

@@ -4,7 +4,7 @@ ghost use Rattle.std.specs.Prelude.{◌≡◌, ◌<◌, ◌+◌, ◌∷◌, leng
 ghost use Rattle.std.specs.Char.{is_ascii_digit};
 ghost use Rattle.std.specs.List.{list_all};
 ghost use Rattle.hcl_syntax.specs.Classes.{word_of, class_at, lookaheads_from};
-ghost use Rattle.hcl_syntax.specs.Lookaheads.{is_trivia};
+ghost use Rattle.hcl_syntax.specs.Classes.{is_trivia};
 
 use crate::class::{Class, Lookahead, Word};
 use hcl_scan::{Kind, Tokens};

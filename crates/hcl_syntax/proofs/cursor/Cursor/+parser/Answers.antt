@@ -242,11 +242,11 @@ directive-returns-in_default-class n c = record { parses = refusing (looks _ _ _
 pub directive-returns-in_default-word : goal.directive-returns-in_default-word
 directive-returns-in_default-word n c = record { parses = refusing (looks _ _ _ _ _ c.look.ensures.left c.in-Some.ensures.found refl) (search rules); shorter = tt }
 
-pub directive-returns-then-directives-ge-MAX_OPEN-clause-parses : goal.directive-returns-then-directives-ge-MAX_OPEN-clause-parses
-directive-returns-then-directives-ge-MAX_OPEN-clause-parses n c = too-deep {xs = expr at Dropped ∷ the EndSequence at Dropped ∷ inside InIf at Dropped ∷ []} (looks _ _ _ _ _ c.look.ensures.left c.in-Some.ensures.found refl) (search rules) (omega arith)
+pub directive-returns-then-directives-ge-MAX_DIRECTIVES-clause-parses : goal.directive-returns-then-directives-ge-MAX_DIRECTIVES-clause-parses
+directive-returns-then-directives-ge-MAX_DIRECTIVES-clause-parses n c = too-deep {xs = expr at Dropped ∷ the EndSequence at Dropped ∷ inside InIf at Dropped ∷ []} (looks _ _ _ _ _ c.look.ensures.left c.in-Some.ensures.found refl) (search rules) (omega arith)
 
-pub directive-returns-then-directives-ge-MAX_OPEN-2-clause-parses : goal.directive-returns-then-directives-ge-MAX_OPEN-2-clause-parses
-directive-returns-then-directives-ge-MAX_OPEN-2-clause-parses n c = too-deep {xs = the Name at Dropped ∷ names at Dropped ∷ expr at Dropped ∷ the EndSequence at Dropped ∷ inside InFor at Dropped ∷ []} (looks _ _ _ _ _ c.look.ensures.left c.in-Some.ensures.found refl) (search rules) (omega arith)
+pub directive-returns-then-directives-ge-MAX_DIRECTIVES-2-clause-parses : goal.directive-returns-then-directives-ge-MAX_DIRECTIVES-2-clause-parses
+directive-returns-then-directives-ge-MAX_DIRECTIVES-2-clause-parses n c = too-deep {xs = the Name at Dropped ∷ names at Dropped ∷ expr at Dropped ∷ the EndSequence at Dropped ∷ inside InFor at Dropped ∷ []} (looks _ _ _ _ _ c.look.ensures.left c.in-Some.ensures.found refl) (search rules) (omega arith)
 
 pub directive-returns-in_err-sequence-in-If-clause-parses : goal.directive-returns-in_err-sequence-in-If-clause-parses
 directive-returns-in_err-sequence-in-If-clause-parses n c = opening-row {p = c.args.number} (looks _ _ _ _ _ c.look.ensures.left c.in-Some.ensures.found c.bump.ensures.left) (search rules) (omega arith)
