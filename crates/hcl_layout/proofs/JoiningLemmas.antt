@@ -17,8 +17,8 @@ use Rattle.hcl_scan.proofs.Booleans.{and_true, or_true, not_true}
 use Rattle.hcl_scan.proofs.Comments.{or_cases}
 use Rattle.hcl_scan.proofs.FirstBytes.{Says, says}
 use Rattle.hcl_syntax.specs.Kinds.{is_newline}
-use Rattle.hcl_syntax.specs.Kinds.{is_dot, is_ellipsis, is_not, is_number, is_seq_close}
-use Rattle.hcl_layout.specs.Spacing.{opens_sequence, begins_with_equals, stands_before, spaced}
+use Rattle.hcl_syntax.specs.Kinds.{is_colon, is_dot, is_ellipsis, is_not, is_number, is_seq_close}
+use Rattle.hcl_layout.specs.Spacing.{opens_sequence, begins_with_colon, begins_with_equals, stands_before, spaced}
 use Rattle.hcl_layout.proofs.SpacingLemmas.{plain_pair, by_kinds, by_joining}
 
 -- the kinds whose texts may go on one of this kind, by the first byte
@@ -103,6 +103,10 @@ equals_on : (k : Kind) → beside.is_equals k ≡ true → is_newline k ≡ fals
 equals_on kind.Newline h = absurd (cc)
 equals_on _ h = refl
 
+coloned_on : (k : Kind) → beside.is_coloned k ≡ true → is_newline k ≡ false
+coloned_on kind.Newline h = absurd (cc)
+coloned_on _ h = refl
+
 dot_on : (k : Kind) → scans.is_dot k ≡ true → is_newline k ≡ false
 dot_on kind.Newline h = absurd (cc)
 dot_on _ h = refl
@@ -115,21 +119,28 @@ equals_first : (text : List ℕ) → (get_or text 0 0 == 61) ≡ true → begins
 equals_first [] h = absurd (cc)
 equals_first (b ∷ text) h = h
 
+colon_first : (text : List ℕ) → (get_or text 0 0 == 58) ≡ true → begins_with_colon text ≡ true
+colon_first [] h = absurd (cc)
+colon_first (b ∷ text) h = h
+
 -- row 2, part by part
-abbrev parts_of_two : Bool → Bool → Bool → Bool → Bool
-parts_of_two a b c d = a || b || c || d
+abbrev parts_of_two : Bool → Bool → Bool → Bool → Bool → Bool
+parts_of_two a b c d f = a || b || c || d || f
 
-by_first : (a b c d : Bool) → a ≡ true → parts_of_two a b c d ≡ true
-by_first a b c d h = λ i. h i || b || c || d
+by_first : (a b c d f : Bool) → a ≡ true → parts_of_two a b c d f ≡ true
+by_first a b c d f h = λ i. h i || b || c || d || f
 
-by_second : (a b c d : Bool) → b ≡ true → parts_of_two a b c d ≡ true
-by_second a b c d h = (λ i. a || h i || c || d) ∙ (λ i. or_true a i || c || d)
+by_second : (a b c d f : Bool) → b ≡ true → parts_of_two a b c d f ≡ true
+by_second a b c d f h = (λ i. a || h i || c || d || f) ∙ (λ i. or_true a i || c || d || f)
 
-by_third : (a b c d : Bool) → c ≡ true → parts_of_two a b c d ≡ true
-by_third a b c d h = (λ i. a || b || h i || d) ∙ (λ i. or_true (a || b) i || d)
+by_third : (a b c d f : Bool) → c ≡ true → parts_of_two a b c d f ≡ true
+by_third a b c d f h = (λ i. a || b || h i || d || f) ∙ (λ i. or_true (a || b) i || d || f)
 
-by_fourth : (a b c d : Bool) → d ≡ true → parts_of_two a b c d ≡ true
-by_fourth a b c d h = (λ i. a || b || c || h i) ∙ or_true (a || b || c)
+by_fourth : (a b c d f : Bool) → d ≡ true → parts_of_two a b c d f ≡ true
+by_fourth a b c d f h = (λ i. a || b || c || h i || f) ∙ (λ i. or_true (a || b || c) i || f)
+
+by_fifth : (a b c d f : Bool) → f ≡ true → parts_of_two a b c d f ≡ true
+by_fifth a b c d f h = (λ i. a || b || c || d || h i) ∙ or_true (a || b || c || d)
 
 pub same_dot : (k : Kind) → scans.is_dot k ≡ is_dot k
 same_dot kind.Dot = refl
@@ -146,8 +157,23 @@ module _ (before : Option Lexeme) (u t : Lexeme) (dot : Bool) (outside_all : t.i
   pair : (k : Kind) → u.kind ≡ k → plain_pair k t.kind ≡ true → spaced before u t ≡ true
   pair k e h = by_kinds before u t outside_all (ap (λ (z : Kind). plain_pair z t.kind) e ∙ h)
 
-  two : is_newline t.kind ≡ false → parts_of_two (is_dot u.kind && (is_dot t.kind || is_ellipsis t.kind)) (is_number u.kind && not (stands_before is_dot before) && is_dot t.kind) (is_not u.kind && begins_with_equals t.text)
-      (opens_sequence u.kind && is_seq_close t.kind && bytes_eq t.text (codes "~}")) ≡ true → spaced before u t ≡ true
+  -- the parts of row 2
+  abbrev dots : Bool
+  dots = is_dot u.kind && (is_dot t.kind || is_ellipsis t.kind)
+
+  abbrev point_behind : Bool
+  point_behind = is_number u.kind && not (stands_before is_dot before) && is_dot t.kind
+
+  abbrev not_equals : Bool
+  not_equals = is_not u.kind && begins_with_equals t.text
+
+  abbrev closed_by_tilde : Bool
+  closed_by_tilde = opens_sequence u.kind && is_seq_close t.kind && bytes_eq t.text (codes "~}")
+
+  abbrev colons : Bool
+  colons = is_colon u.kind && begins_with_colon t.text
+
+  two : is_newline t.kind ≡ false → parts_of_two dots point_behind not_equals closed_by_tilde colons ≡ true → spaced before u t ≡ true
   two n h = by_joining before u t (λ i. n i || outside_all i) h
 
   tilde_text : (t.text ≡ codes "}") ⊎ (t.text ≡ codes "~}") → (b == 126) ≡ true → bytes_eq t.text (codes "~}") ≡ true
@@ -157,7 +183,7 @@ module _ (before : Option Lexeme) (u t : Lexeme) (dot : Bool) (outside_all : t.i
   sequence : opens_sequence u.kind ≡ true → (b == 126) ≡ true → spaced before u t ≡ true
   sequence e h =
       let k = seq_close_is t.kind (s.tilde h) in
-      two (ap is_newline k) (by_fourth (is_dot u.kind && (is_dot t.kind || is_ellipsis t.kind)) (is_number u.kind && not (stands_before is_dot before) && is_dot t.kind) (is_not u.kind && begins_with_equals t.text) _ (λ i. e i && is_seq_close (k i) && tilde_text (tilde k) h i))
+      two (ap is_newline k) (by_fourth dots point_behind not_equals _ colons (λ i. e i && is_seq_close (k i) && tilde_text (tilde k) h i))
 
   abbrev Grown : Kind → Type 0
   Grown k = u.kind ≡ k → neighbours.joins dot k t.kind t.text ≡ true → spaced before u t ≡ true
@@ -186,16 +212,20 @@ module _ (before : Option Lexeme) (u t : Lexeme) (dot : Bool) (outside_all : t.i
       by (inr x) =
           let p = and_true (not dot) (scans.is_dot t.kind) x in
           let q = point (not_true dot p.0) in
-          two (dot_on t.kind p.1) (by_second (is_dot u.kind && (is_dot t.kind || is_ellipsis t.kind)) _ (is_not u.kind && begins_with_equals t.text) (opens_sequence u.kind && is_seq_close t.kind && bytes_eq t.text (codes "~}"))
+          two (dot_on t.kind p.1) (by_second dots _ not_equals closed_by_tilde colons
           (λ i. is_number (e i) && not (q i) && (sym (same_dot t.kind) ∙ p.1) i))
 
   grown_dot : Grown kind.Dot
   grown_dot e h = let p = pair_dot t.kind (s.point (plain (b == 46) h)) in
-      two (pointed_on t.kind (s.point (plain (b == 46) h))) (by_first _ (is_number u.kind && not (stands_before is_dot before) && is_dot t.kind) (is_not u.kind && begins_with_equals t.text) (opens_sequence u.kind && is_seq_close t.kind && bytes_eq t.text (codes "~}")) (λ i. is_dot (e i) && p i))
+      two (pointed_on t.kind (s.point (plain (b == 46) h))) (by_first _ point_behind not_equals closed_by_tilde colons (λ i. is_dot (e i) && p i))
 
   grown_not : Grown kind.Not
   grown_not e h = let p = equals_first t.text (plain (b == 61) h) in
-      two (equals_on t.kind (s.equals (plain (b == 61) h))) (by_third (is_dot u.kind && (is_dot t.kind || is_ellipsis t.kind)) (is_number u.kind && not (stands_before is_dot before) && is_dot t.kind) _ (opens_sequence u.kind && is_seq_close t.kind && bytes_eq t.text (codes "~}")) (λ i. is_not (e i) && p i))
+      two (equals_on t.kind (s.equals (plain (b == 61) h))) (by_third dots point_behind _ closed_by_tilde colons (λ i. is_not (e i) && p i))
+
+  grown_colon : Grown kind.Colon
+  grown_colon e h = let p = colon_first t.text (plain (b == 58) h) in
+      two (coloned_on t.kind (s.colons (plain (b == 58) h))) (by_fifth dots point_behind not_equals closed_by_tilde _ (λ i. is_colon (e i) && p i))
 
   either : (p q : Bool) (P Q : Type 0) → (p ≡ true → P) → (q ≡ true → Q) → ((p || q) || false) ≡ true → P ⊎ Q
   either true q P Q f g h = inl (f refl)
@@ -224,6 +254,7 @@ module _ (before : Option Lexeme) (u t : Lexeme) (dot : Bool) (outside_all : t.i
   by_kind kind.Ident = grown_ident
   by_kind kind.Number = grown_number
   by_kind kind.Dot = grown_dot
+  by_kind kind.Colon = grown_colon
   by_kind kind.Not = grown_not
   by_kind kind.Assign = grown_assign
   by_kind kind.Less = grown_less

@@ -1,4 +1,4 @@
--- What a test says of each kind in next_level, it says of all kinds.
+-- What a test says of each kind in turn, it says of all kinds.
 use Rattle.std.proofs.Common.{◌≡◌, ◌&&◌, ℕ, zero, suc, Bool, true, false, List, [], ◌∷◌, length, get_or, arith, refl}
 use Rattle.std.specs.Prelude.{nat_lt}
 use Rattle.std.specs.List.{list_all}
@@ -7,7 +7,7 @@ use Rattle.hcl_scan.specs.declared.token.Kind.{Kind}
 use Rattle.hcl_scan.specs.declared.token.Kind.TheVariants as kind
 
 abbrev pub kinds : List Kind
-kinds = kind.Newline ∷ kind.LineComment ∷ kind.InlineComment ∷ kind.Blank ∷ kind.Ident ∷ kind.Number ∷ kind.HeredocOpen ∷ kind.QuoteOpen ∷ kind.ParenOpen ∷ kind.BracketOpen ∷ kind.BraceOpen ∷ kind.ParenClose ∷ kind.BracketClose ∷ kind.SeqClose ∷ kind.BraceClose ∷ kind.Dot ∷ kind.Comma ∷ kind.Ellipsis ∷ kind.Question ∷ kind.Colon ∷ kind.Assign ∷ kind.Arrow ∷ kind.Not ∷ kind.Minus ∷ kind.Plus ∷ kind.Star ∷ kind.Slash ∷ kind.Percent ∷ kind.And ∷ kind.Or ∷ kind.Equal ∷ kind.NotEqual ∷ kind.Less ∷ kind.Greater ∷ kind.LessEqual ∷ kind.GreaterEqual ∷ kind.Lit ∷ kind.InterpOpen ∷ kind.ControlOpen ∷ kind.QuoteClose ∷ kind.HeredocClose ∷ []
+kinds = kind.Newline ∷ kind.LineComment ∷ kind.InlineComment ∷ kind.Blank ∷ kind.Ident ∷ kind.Number ∷ kind.HeredocOpen ∷ kind.QuoteOpen ∷ kind.ParenOpen ∷ kind.BracketOpen ∷ kind.BraceOpen ∷ kind.ParenClose ∷ kind.BracketClose ∷ kind.SeqClose ∷ kind.BraceClose ∷ kind.Dot ∷ kind.Comma ∷ kind.Ellipsis ∷ kind.Question ∷ kind.Colon ∷ kind.ColonColon ∷ kind.Assign ∷ kind.Arrow ∷ kind.Not ∷ kind.Minus ∷ kind.Plus ∷ kind.Star ∷ kind.Slash ∷ kind.Percent ∷ kind.And ∷ kind.Or ∷ kind.Equal ∷ kind.NotEqual ∷ kind.Less ∷ kind.Greater ∷ kind.LessEqual ∷ kind.GreaterEqual ∷ kind.Lit ∷ kind.InterpOpen ∷ kind.ControlOpen ∷ kind.QuoteClose ∷ kind.HeredocClose ∷ []
 
 all_parts : (P : Kind → Bool) (k : Kind) (ks : List Kind) → list_all P (k ∷ ks) ≡ true → (P k ≡ true) × (list_all P ks ≡ true)
 all_parts P k ks h = go (P k) refl h
@@ -48,24 +48,25 @@ each P h kind.Comma = at_place P kinds 16 h refl
 each P h kind.Ellipsis = at_place P kinds 17 h refl
 each P h kind.Question = at_place P kinds 18 h refl
 each P h kind.Colon = at_place P kinds 19 h refl
-each P h kind.Assign = at_place P kinds 20 h refl
-each P h kind.Arrow = at_place P kinds 21 h refl
-each P h kind.Not = at_place P kinds 22 h refl
-each P h kind.Minus = at_place P kinds 23 h refl
-each P h kind.Plus = at_place P kinds 24 h refl
-each P h kind.Star = at_place P kinds 25 h refl
-each P h kind.Slash = at_place P kinds 26 h refl
-each P h kind.Percent = at_place P kinds 27 h refl
-each P h kind.And = at_place P kinds 28 h refl
-each P h kind.Or = at_place P kinds 29 h refl
-each P h kind.Equal = at_place P kinds 30 h refl
-each P h kind.NotEqual = at_place P kinds 31 h refl
-each P h kind.Less = at_place P kinds 32 h refl
-each P h kind.Greater = at_place P kinds 33 h refl
-each P h kind.LessEqual = at_place P kinds 34 h refl
-each P h kind.GreaterEqual = at_place P kinds 35 h refl
-each P h kind.Lit = at_place P kinds 36 h refl
-each P h kind.InterpOpen = at_place P kinds 37 h refl
-each P h kind.ControlOpen = at_place P kinds 38 h refl
-each P h kind.QuoteClose = at_place P kinds 39 h refl
-each P h kind.HeredocClose = at_place P kinds 40 h refl
+each P h kind.ColonColon = at_place P kinds 20 h refl
+each P h kind.Assign = at_place P kinds 21 h refl
+each P h kind.Arrow = at_place P kinds 22 h refl
+each P h kind.Not = at_place P kinds 23 h refl
+each P h kind.Minus = at_place P kinds 24 h refl
+each P h kind.Plus = at_place P kinds 25 h refl
+each P h kind.Star = at_place P kinds 26 h refl
+each P h kind.Slash = at_place P kinds 27 h refl
+each P h kind.Percent = at_place P kinds 28 h refl
+each P h kind.And = at_place P kinds 29 h refl
+each P h kind.Or = at_place P kinds 30 h refl
+each P h kind.Equal = at_place P kinds 31 h refl
+each P h kind.NotEqual = at_place P kinds 32 h refl
+each P h kind.Less = at_place P kinds 33 h refl
+each P h kind.Greater = at_place P kinds 34 h refl
+each P h kind.LessEqual = at_place P kinds 35 h refl
+each P h kind.GreaterEqual = at_place P kinds 36 h refl
+each P h kind.Lit = at_place P kinds 37 h refl
+each P h kind.InterpOpen = at_place P kinds 38 h refl
+each P h kind.ControlOpen = at_place P kinds 39 h refl
+each P h kind.QuoteClose = at_place P kinds 40 h refl
+each P h kind.HeredocClose = at_place P kinds 41 h refl

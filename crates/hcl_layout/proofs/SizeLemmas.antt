@@ -45,6 +45,7 @@ shows_length kind.Comma text rest hidden seen behind p = goes_on rest hidden see
 shows_length kind.Ellipsis text rest hidden seen behind p = goes_on rest hidden seen behind p
 shows_length kind.Question text rest hidden seen behind p = goes_on rest hidden seen behind p
 shows_length kind.Colon text rest hidden seen behind p = goes_on rest hidden seen behind p
+shows_length kind.ColonColon text rest hidden seen behind p = goes_on rest hidden seen behind p
 shows_length kind.Assign text rest hidden seen behind p = goes_on rest hidden seen behind p
 shows_length kind.Arrow text rest hidden seen behind p = goes_on rest hidden seen behind p
 shows_length kind.Not text rest hidden seen behind p = goes_on rest hidden seen behind p

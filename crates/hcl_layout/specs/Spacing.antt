@@ -6,7 +6,7 @@ use Rattle.hcl_scan.specs.Lexemes.{Lexeme}
 use Rattle.hcl_scan.specs.declared.token.Kind.{Kind}
 use Rattle.hcl_scan.specs.declared.token.Kind.TheVariants as kind
 use Rattle.hcl_syntax.specs.Balanced.{is_opener}
-use Rattle.hcl_syntax.specs.Kinds.{is_newline, is_ident, is_number, is_paren_open, is_bracket_open, is_brace_open, is_brace_close, is_seq_close, is_quote_open, is_lit, is_quote_close, is_dot, is_comma, is_ellipsis, is_not, is_minus}
+use Rattle.hcl_syntax.specs.Kinds.{is_newline, is_ident, is_number, is_paren_open, is_bracket_open, is_brace_open, is_brace_close, is_seq_close, is_quote_open, is_lit, is_quote_close, is_dot, is_colon, is_colon_colon, is_comma, is_ellipsis, is_not, is_minus}
 
 -- `${` and `%{`
 abbrev pub opens_sequence : Kind → Bool
@@ -62,6 +62,10 @@ abbrev pub begins_with_equals : List ℕ → Bool
 begins_with_equals [] = false
 begins_with_equals (b ∷ text) = b == 61
 
+abbrev pub begins_with_colon : List ℕ → Bool
+begins_with_colon [] = false
+begins_with_colon (b ∷ text) = b == 58
+
 -- the token before is of such a kind
 abbrev pub stands_before : (Kind → Bool) → Option Lexeme → Bool
 stands_before test None = false
@@ -79,6 +83,7 @@ would_join before subject after =
     || (is_number subject.kind && not (stands_before is_dot before) && is_dot after.kind)
     || (is_not subject.kind && begins_with_equals after.text)
     || (opens_sequence subject.kind && is_seq_close after.kind && bytes_eq after.text (codes "~}"))
+    || (is_colon subject.kind && begins_with_colon after.text)
 
 -- the word `in`, behind the last name that a `for` declares
 abbrev pub is_in : Option Lexeme → Lexeme → Bool
@@ -91,6 +96,7 @@ spaced before subject after =
     else if would_join before subject after then true
     else if is_ident subject.kind && is_paren_open after.kind then false
     else if is_dot subject.kind || is_dot after.kind then false
+    else if is_colon_colon subject.kind || is_colon_colon after.kind then false
     else if is_comma after.kind || is_ellipsis after.kind then false
     else if is_comma subject.kind then true
     else if is_quote_open subject.kind || is_lit subject.kind || is_lit after.kind || is_quote_close after.kind then false

@@ -13,8 +13,8 @@ use hcl_syntax::Accepted;
 /// that is made of the print.
 pub fn source_of<'s>(tokens: &Tokens<'s>) -> &'s [u8]
     ensures text { result.now ≡ tokens.now.text }
-    ensures few { length tokens.now.tokens ≤ 2 ^ 20 }
-    ensures small { len_with_blanks tokens.now.tokens ≤ 2 ^ 21 }
+    ensures few { length tokens.now.tokens ≤ 2 ^ 22 }
+    ensures small { len_with_blanks tokens.now.tokens ≤ 2 ^ 23 }
 {
     // its contract says that there are no more tokens than bytes
     let _count = tokens.len();

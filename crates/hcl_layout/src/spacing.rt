@@ -4,12 +4,12 @@ ghost use Rattle.std.specs.Prelude.{◌≡◌, IfNone, IfSome, Option, option_ma
 ghost use Rattle.hcl_scan.specs.Lexemes.{Lexeme};
 ghost use Rattle.hcl_scan.specs.Scanned.{lexeme};
 ghost use Rattle.hcl_syntax.specs.Kinds.{is_dot as is_dot_of, is_ident as is_ident_of};
-ghost use Rattle.hcl_layout.specs.Spacing.{begins_with_equals as begins_with_equals_of, is_opening as is_opening_of, spaced, stands_before};
+ghost use Rattle.hcl_layout.specs.Spacing.{begins_with_colon as begins_with_colon_of, begins_with_equals as begins_with_equals_of, is_opening as is_opening_of, spaced, stands_before};
 ghost use Rattle.hcl_layout.specs.Inner.KindPairs.{asked_space as asked_space_of, pair_space as pair_space_of, space_behind_operand as space_behind_operand_of, stands_close as stands_close_of};
 
 use crate::kind::{
-    awaits_operand, closes_group, is_brace_close, is_brace_open, is_bracket_open, is_comma, is_dot,
-    is_ellipsis, is_ident, is_newline, is_opener, is_operator, is_paren_open, is_seq_close,
+    awaits_operand, closes_group, is_brace_close, is_brace_open, is_bracket_open, is_colon_colon, is_comma,
+    is_dot, is_ellipsis, is_ident, is_newline, is_opener, is_operator, is_paren_open, is_seq_close,
     opens_sequence,
 };
 use hcl_scan::{Kind, Token};
@@ -22,6 +22,16 @@ fn begins_with_equals(text: &str) -> bool
         return false;
     };
     *first == b'='
+}
+
+#[inline(always)]
+fn begins_with_colon(text: &str) -> bool
+    ensures { result ≡ begins_with_colon_of text.now }
+{
+    let Some(first) = text.as_bytes().first() else {
+        return false;
+    };
+    *first == b':'
 }
 
 /// Whether the token before is a Dot.
@@ -57,14 +67,19 @@ fn is_opening(before: Option<Token<'_>>) -> bool
     is_opener(before.kind) || is_operator(before.kind) || awaits_operand(before.kind)
 }
 
-/// Whether the token stands close behind whatever it doesn't join: by "Dots", "Commas" and "Quotes".
+/// Whether the token stands close behind whatever it doesn't join: by "Dots", "Two colons", "Commas" and "Quotes".
 #[inline(always)]
 fn stands_close(kind: Kind) -> bool
     ensures { result ≡ stands_close_of kind }
 {
     matches!(
         kind,
-        Kind::Dot | Kind::Comma | Kind::Ellipsis | Kind::Lit | Kind::QuoteClose
+        Kind::Dot
+            | Kind::ColonColon
+            | Kind::Comma
+            | Kind::Ellipsis
+            | Kind::Lit
+            | Kind::QuoteClose
     )
 }
 
@@ -77,20 +92,23 @@ fn space_behind_operand(right: Kind) -> bool
 }
 
 /// What two kinds tell alone, the second no Newline and outside heredocs. Nearly always they do, so this is a table by
-/// the first of them, and not the rows of the definition in next_level, of which most tokens pass all.
+/// the first of them, and not the rows of the definition in turn, of which most tokens pass all.
 #[inline(always)]
 fn pair_space(left: Kind, right: Kind) -> Option<bool>
     ensures { result ≡ pair_space_of left right }
 {
     match left {
-        // "Not", "Minus": a sign stands at its operand. What comes before tells a sign, and a `!` may not join a `=`
-        Kind::Not | Kind::Minus => None,
-        // "Quotes": what is added there would be text
-        Kind::QuoteOpen | Kind::Lit => Some(false),
-        // "Dots": a path is one thing to its reader; but two dots would be read as another mark
+        // "Not", "Minus": a sign stands at its operand. What comes before tells a sign, and a `!` may not join a `=`, nor
+        // a `:` another
+        Kind::Not | Kind::Minus | Kind::Colon => None,
+        // "Quotes": what is added there would be text; "Two colons": a name is one thing to its reader
+        Kind::QuoteOpen | Kind::Lit | Kind::ColonColon => Some(false),
+        // "Dots": so are attributes of attributes; but two dots would be read as another mark
         Kind::Dot => Some(is_dot(right) || is_ellipsis(right)),
         // "Commas": they part what stands behind them from the rest, but not from a comma or dots
-        Kind::Comma => Some(!(is_dot(right) || is_comma(right) || is_ellipsis(right))),
+        Kind::Comma => Some(
+            !(is_dot(right) || is_colon_colon(right) || is_comma(right) || is_ellipsis(right)),
+        ),
         // "Brackets, parentheses": they hug what they hold; "Braces": a closing brace never does
         Kind::ParenOpen | Kind::BracketOpen => Some(is_brace_close(right)),
         // "Braces": a blank on the inner side, and none in an empty pair
@@ -122,8 +140,8 @@ fn pair_space(left: Kind, right: Kind) -> Option<bool>
     }
 }
 
-/// What the texts tell and the token before, where the kinds don't: whether a `!` would join `=`, a number a dot, or
-/// the opening of a sequence the `~` that closes it, whether a minus is a sign, and whether a name is the word `in`.
+/// What the texts tell and the token before, where the kinds don't: whether a `!` would join `=`, a `:` another, a
+/// number a dot, or the opening of a sequence the `~` that closes it, whether a minus is a sign, and whether a name is the word `in`.
 #[inline(always)]
 fn asked_space(before: Option<Token<'_>>, subject: Token<'_>, after: Token<'_>) -> bool
     ensures { result ≡ asked_space_of (option_map lexeme before.entry) (lexeme subject.entry) (lexeme after.entry) }
@@ -131,6 +149,11 @@ fn asked_space(before: Option<Token<'_>>, subject: Token<'_>, after: Token<'_>) 
     match subject.kind {
         // "Not" has no blank after it, unless the two would be read as `!=`
         Kind::Not => begins_with_equals(after.text),
+        // "All else": a `:` has one blank, also where it would join another
+        Kind::Colon => {
+            begins_with_colon(after.text)
+                || !(stands_close(after.kind) || closes_group(after.kind))
+        }
         // "Minus" has none after it where it is a sign: where an expression begins
         Kind::Minus => !(stands_close(after.kind) || is_opening(before)),
         // "A number and a dot": behind a dot the number is a step, and joins no other dot

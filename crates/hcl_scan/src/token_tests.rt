@@ -8,7 +8,7 @@ use std::test::Fail;
 /// The tokens of a text by kind and place, those inside heredocs with a `!`, or its fault.
 fn shown(alloc: Global, text: &str) -> Result<String, AllocError> {
     let mut line = String::new(alloc);
-    if text.len() > 1_048_576 {
+    if text.len() > 4_194_304 {
         return Ok(line);
     }
     match entries(alloc, text) {

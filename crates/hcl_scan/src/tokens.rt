@@ -19,7 +19,7 @@ use std::marker::Model;
 
 /// The tokens of a text, or the one fault of a text that has none, with its byte offset.
 pub(crate) fn entries(alloc: Global, text: &str) -> Result<Vec<Entry>, Stop>
-    requires { length text.now ≤ 1_048_576 }
+    requires { length text.now ≤ 4_194_304 }
     ensures parts { IfOk result (λ es. All (IsEntry text.now) es.items) }
     ensures within { IfOk result (λ es. vec_len es ≤ length text.now) }
     ensures ok { IfOk result (λ es. Scans text.now (lexemes_of text.now es.items)) }

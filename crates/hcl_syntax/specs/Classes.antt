@@ -14,7 +14,7 @@ use Rattle.hcl_scan.specs.declared.token.Kind.TheVariants as kind
 use Rattle.hcl_syntax.specs.declared.class.Word.{Word}
 use Rattle.hcl_syntax.specs.declared.class.Word.TheVariants.{Plain, For, In, If, Else, Endif, Endfor}
 use Rattle.hcl_syntax.specs.declared.class.Class.{Class}
-use Rattle.hcl_syntax.specs.declared.class.Class.TheVariants.{Trivia, Newline, Ident, Number, HeredocOpen, HeredocClose, QuoteOpen, QuoteClose, Lit, InterpOpen, ControlOpen, SeqClose, ParenOpen, ParenClose, BracketOpen, BracketClose, BraceOpen, BraceClose, Dot, Comma, Ellipsis, Question, Colon, Assign, Arrow, Not, Minus, Star, Binary}
+use Rattle.hcl_syntax.specs.declared.class.Class.TheVariants.{Trivia, Newline, Ident, Number, HeredocOpen, HeredocClose, QuoteOpen, QuoteClose, Lit, InterpOpen, ControlOpen, SeqClose, ParenOpen, ParenClose, BracketOpen, BracketClose, BraceOpen, BraceClose, Dot, Comma, Ellipsis, Question, Colon, ColonColon, Assign, Arrow, Not, Minus, Star, Binary}
 use Rattle.hcl_syntax.specs.declared.class.Lookahead.{Lookahead}
 use Rattle.hcl_syntax.specs.declared.expected.Newlines.{Newlines}
 use Rattle.hcl_syntax.specs.declared.expected.Newlines.TheVariants.{Dropped}
@@ -51,6 +51,7 @@ class_at kind.Comma text = Comma
 class_at kind.Ellipsis text = Ellipsis
 class_at kind.Question text = Question
 class_at kind.Colon text = Colon
+class_at kind.ColonColon text = ColonColon
 class_at kind.Assign text = Assign
 class_at kind.Arrow text = Arrow
 class_at kind.Not text = Not

@@ -59,6 +59,14 @@ abbrev pub is_dot : Kind → Bool
 is_dot kind.Dot = true
 is_dot _ = false
 
+abbrev pub is_colon : Kind → Bool
+is_colon kind.Colon = true
+is_colon _ = false
+
+abbrev pub is_colon_colon : Kind → Bool
+is_colon_colon kind.ColonColon = true
+is_colon_colon _ = false
+
 abbrev pub is_comma : Kind → Bool
 is_comma kind.Comma = true
 is_comma _ = false

@@ -52,6 +52,7 @@ fn class_at(kind: Kind, text: &str) -> Class
         Kind::Ellipsis => Class::Ellipsis,
         Kind::Question => Class::Question,
         Kind::Colon => Class::Colon,
+        Kind::ColonColon => Class::ColonColon,
         Kind::Assign => Class::Assign,
         Kind::Arrow => Class::Arrow,
         Kind::Not => Class::Not,
