@@ -18,6 +18,7 @@ pub mod GapsFit
 pub mod PrintScans
 pub mod PlacesForgotten
 pub mod PrintLoads
+pub mod SameLines
 pub mod EachKind
 pub mod KindPairLemmas
 pub mod SurveyKinds
