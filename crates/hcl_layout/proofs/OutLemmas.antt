@@ -4,7 +4,7 @@ use Rattle.std.proofs.Math.Seq.{take-append-add}
 use Rattle.std.proofs.lemmas.List.{append-nil, length-take-le, take-append-le}
 use Rattle.std.specs.Prelude.{IfErr, OnOk, Result, Ok, Err}
 use Rattle.std.specs.Io.KnownBytes.{Appends}
-use Rattle.hcl_scan.specs.declared.device.WriteFault.{WriteFault}
+use Rattle.hcl_source.specs.declared.device.WriteFault.{WriteFault}
 use Rattle.hcl_layout.specs.Inner.Out.{Out, Stopped, held}
 use Rattle.hcl_layout.specs.declared.buffer.Buffer.{Buffer}
 

@@ -4,7 +4,7 @@ use Rattle.std.proofs.lemmas.Str.{IsUtf8-append, IsUtf8-nil}
 use Rattle.std.specs.Prelude.{encode_utf8_all}
 use lib.Utf8.{encode}
 use Rattle.hcl_scan.specs.Lexemes.{Lexeme}
-use Rattle.hcl_scan.specs.Load.{IsText, has_mark, max_source}
+use Rattle.hcl_source.specs.Load.{IsText, has_mark, max_source}
 use Rattle.hcl_scan.specs.Scans.{Scans}
 use Rattle.hcl_scan.specs.SideBySide.{AreTexts}
 use Rattle.hcl_scan.proofs.TokenTexts.{texts_are}

@@ -5,7 +5,7 @@ use Rattle.std.specs.List.{flat_map}
 use Rattle.std.proofs.lemmas.Bool.{cases_lt}
 use Rattle.std.proofs.lemmas.List.{length-map}
 use Rattle.hcl_scan.specs.Lexemes.{Lexeme}
-use Rattle.hcl_scan.specs.Places.{line_of}
+use Rattle.hcl_source.specs.Places.{line_of}
 use Rattle.hcl_scan.specs.Scans.{Scans}
 use Rattle.hcl_scan.proofs.LineLemmas.{line_is}
 use Rattle.hcl_scan.proofs.Runs.{one_scan}

@@ -10,8 +10,8 @@ ghost use Rattle.hcl_layout.specs.Reprinted.{printed_tokens};
 ghost use Rattle.hcl_syntax.specs.Classes.{lookaheads};
 ghost use Rattle.hcl_syntax.specs.Numbered.{numbered};
 ghost use Rattle.hcl_syntax.specs.Verdict.{IsAccepted, start_of};
-ghost use Rattle.hcl_scan.specs.Load.{IsText, max_source};
-ghost use Rattle.hcl_scan.specs.Places.{line_of};
+ghost use Rattle.hcl_source.specs.Load.{IsText, max_source};
+ghost use Rattle.hcl_source.specs.Places.{line_of};
 
 /// There is one gap for each token, so a print leaves no token out.
 pub fn one_gap_each()

@@ -4,7 +4,7 @@ use Rattle.hcl_scan.specs.Lexemes.{Lexeme, Opener, marker_of, moved}
 use Rattle.hcl_scan.specs.Spelling.{IsExpressionText, IsTextIn, Context, Template, Expression, context, element_len, IsLit}
 use Rattle.hcl_scan.specs.Scans.{State, gap_len, owed, ahead, IsLongest, IsMarkerLine, Shows, Reads, Next, Run}
 use Rattle.hcl_scan.specs.Faults.{Lacks, at_end, no_token, too_deep, no_marker_line, end_fault}
-use Rattle.hcl_scan.specs.declared.fault.FaultKind.{FaultKind}
+use Rattle.hcl_source.specs.declared.fault.FaultKind.{FaultKind}
 use Rattle.hcl_scan.specs.declared.token.Kind.{Kind}
 use Rattle.hcl_scan.specs.declared.token.Kind.TheVariants.{HeredocOpen, Lit}
 use Rattle.hcl_scan.proofs.Runs.{OneKind, Nonempty, Stuck, one_longest, some_ahead, nothing_ahead}

@@ -9,7 +9,7 @@ use Rattle.std.proofs.lemmas.List.{get_or_append_left}
 use Rattle.hcl_scan.specs.Lexemes.{Lexeme}
 use Rattle.hcl_scan.specs.Spelling.{IsIdent, IsExpressionText, are_ident, starts_ident, continues_ident}
 use Rattle.hcl_scan.specs.Scans.{Scans, begin}
-use Rattle.hcl_scan.specs.Load.{has_mark}
+use Rattle.hcl_source.specs.Load.{has_mark}
 use Rattle.hcl_scan.specs.Inner.Leads.{lead_of, lead_bytes}
 use Rattle.hcl_scan.specs.declared.expression.Lead.TheVariants.{Letter}
 use Rattle.hcl_scan.specs.declared.token.Kind.{Kind}

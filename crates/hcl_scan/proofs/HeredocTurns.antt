@@ -18,7 +18,7 @@ use Rattle.hcl_scan.specs.declared.opened.By.{By}
 use Rattle.hcl_scan.specs.declared.opened.By.TheVariants as by
 use Rattle.hcl_scan.specs.declared.opened.Opened.{Opened}
 use Rattle.hcl_scan.specs.declared.scanner.Scanner.{Scanner}
-use Rattle.hcl_scan.specs.declared.fault.FaultKind.TheVariants.{TooDeep, UnterminatedHeredoc}
+use Rattle.hcl_source.specs.declared.fault.FaultKind.TheVariants.{TooDeep, UnterminatedHeredoc}
 use Rattle.hcl_scan.specs.declared.token.Kind.{Kind}
 use Rattle.hcl_scan.specs.declared.token.Kind.TheVariants.{HeredocOpen}
 use Rattle.hcl_scan.proofs.Slices.{front_of, back_of, slice_len, part_boundary}

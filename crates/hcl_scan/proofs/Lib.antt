@@ -1,6 +1,5 @@
 pub mod Booleans
 pub mod Runs
-pub mod Loads
 pub mod Elements
 pub mod Lines
 pub mod Candidates

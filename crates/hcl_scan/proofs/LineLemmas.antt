@@ -11,7 +11,7 @@ use Rattle.std.proofs.lemmas.Bool.Decides.{nat_tests}
 use Rattle.hcl_scan.specs.Lexemes.{Lexeme, Opener, marker_of, in_heredoc}
 use Rattle.hcl_scan.specs.Spelling.{context, is_blank}
 use Rattle.hcl_scan.specs.Scans.{State, Hidden, hides, has_gaps_in, gap_in, gap_len, ahead, closer_len, begin, Reads, Closes, Next, Run, Scans}
-use Rattle.hcl_scan.specs.Places.{line_of}
+use Rattle.hcl_source.specs.Places.{line_of}
 use Rattle.hcl_scan.proofs.Booleans.{and_true}
 use Rattle.hcl_scan.proofs.Fronts.{run_passes}
 use Rattle.hcl_scan.proofs.Showing.{Shown, opening, plain, shown}

@@ -6,7 +6,7 @@ use Rattle.hcl_scan.specs.Lexemes.{Lexeme, Opener, marker_of, moved, opened}
 use Rattle.hcl_scan.specs.Spelling.{IsSpelling}
 use Rattle.hcl_scan.specs.Scans.{State, Hidden, hides, is_dot, gap_len, offsets_of, owed, begin, ahead, IsLongest, IsFirstMarkerLine, Shows, Reads, Closes, Next, Run, Scans, IsComplete}
 use Rattle.hcl_scan.specs.Faults.{Lacks, at_end, no_token, too_deep, no_marker_line, end_fault, fault_offset, IsScanFault}
-use Rattle.hcl_scan.specs.declared.fault.FaultKind.{FaultKind}
+use Rattle.hcl_source.specs.declared.fault.FaultKind.{FaultKind}
 use Rattle.hcl_scan.specs.declared.token.Kind.{Kind}
 use Rattle.hcl_scan.specs.declared.token.Kind.TheVariants.{HeredocOpen}
 

@@ -20,8 +20,8 @@ use Rattle.hcl_scan.specs.declared.opened.By.{By}
 use Rattle.hcl_scan.specs.declared.opened.By.TheVariants as by
 use Rattle.hcl_scan.specs.declared.opened.Opened.{Opened}
 use Rattle.hcl_scan.specs.declared.scanner.Scanner.{Scanner}
-use Rattle.hcl_scan.specs.declared.fault.FaultKind.{FaultKind}
-use Rattle.hcl_scan.specs.declared.fault.FaultKind.TheVariants.{InvalidCharacter, UnterminatedComment, UnterminatedTemplate}
+use Rattle.hcl_source.specs.declared.fault.FaultKind.{FaultKind}
+use Rattle.hcl_source.specs.declared.fault.FaultKind.TheVariants.{InvalidCharacter, UnterminatedComment, UnterminatedTemplate}
 use Rattle.hcl_scan.specs.declared.token.Kind.{Kind}
 use Rattle.hcl_scan.specs.declared.token.Kind.TheVariants.{HeredocOpen, Dot}
 use Rattle.hcl_scan.proofs.Cuts.{run_cut}

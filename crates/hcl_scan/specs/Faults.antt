@@ -4,8 +4,8 @@ use Rattle.std.specs.Prelude.{◌≡◌, ℕ, ◌+◌, ◌<◌, List, [], ◌∷
 use Rattle.hcl_scan.specs.Lexemes.{Lexeme, Opener, Quote, Sequence, marker_of, moved}
 use Rattle.hcl_scan.specs.Spelling.{starts, context, Context, Template, Expression}
 use Rattle.hcl_scan.specs.Scans.{State, begin, ahead, gap_len, owes, owed, IsLongest, HasNone, IsMarkerLine, Next, Run}
-use Rattle.hcl_scan.specs.declared.fault.FaultKind.{FaultKind}
-use Rattle.hcl_scan.specs.declared.fault.FaultKind.TheVariants.{InvalidCharacter, UnterminatedQuote, UnterminatedComment, UnterminatedHeredoc, UnterminatedTemplate, InvalidEscape, TooDeep}
+use Rattle.hcl_source.specs.declared.fault.FaultKind.{FaultKind}
+use Rattle.hcl_source.specs.declared.fault.FaultKind.TheVariants.{InvalidCharacter, UnterminatedQuote, UnterminatedComment, UnterminatedHeredoc, UnterminatedTemplate, InvalidEscape, TooDeep}
 use Rattle.hcl_scan.specs.declared.token.Kind.{Kind}
 use Rattle.hcl_scan.specs.declared.token.Kind.TheVariants.{HeredocOpen}
 

@@ -1,7 +1,3 @@
-pub mod Devices
-pub mod Texts
-pub mod Places
-pub mod Load
 pub mod Lexemes
 pub mod Spelling
 pub mod Scans

@@ -12,37 +12,16 @@ ghost use Rattle.hcl_scan.specs.SideBySide.{AreTexts, Besides};
 ghost use Rattle.hcl_scan.specs.InHeredocs.{ReadsToo, SameInside};
 ghost use Rattle.hcl_scan.specs.declared.token.Kind.TheVariants.{Newline, HeredocOpen};
 ghost use Rattle.hcl_scan.specs.Faults.{IsScanFault};
-ghost use Rattle.hcl_scan.specs.Places.{line_of};
-ghost use Rattle.hcl_scan.specs.Load.{max_source, IsText, IsLoadFault, has_mark};
-ghost use Rattle.hcl_scan.specs.declared.fault.Fault.{Fault};
-ghost use Rattle.hcl_scan.specs.declared.fault.FaultKind.{FaultKind};
+ghost use Rattle.hcl_source.specs.Places.{line_of};
+ghost use Rattle.hcl_source.specs.Load.{max_source, IsText, IsLoadFault, has_mark};
+ghost use Rattle.hcl_source.specs.declared.fault.Fault.{Fault};
+ghost use Rattle.hcl_source.specs.declared.fault.FaultKind.{FaultKind};
 ghost use Rattle.hcl_scan.specs.declared.token.Kind.{Kind};
 
 use crate::scanner::Scanner;
-use crate::source::load_fault;
 use crate::turn::Turn;
 
-/// Bytes have one load fault at most.
-pub fn one_load_fault()
-    ensures { (bytes : List ℕ) (fault other : Fault) → IsLoadFault bytes fault → IsLoadFault bytes other → fault ≡ other }
-{}
-
-/// Bytes that have a load fault are no source.
-pub fn fault_or_text()
-    ensures { (bytes : List ℕ) (fault : Fault) → IsLoadFault bytes fault → ¬ IsText bytes }
-{}
-
-/// Bytes are a source, and are given as a text, or they have a load fault. The body shows it: it
-/// loads without a copy.
-pub fn text_or_fault(bytes: &[u8]) -> Option<&str>
-    ensures text { IfSome result (λ text. (text.now ≡ bytes.now) × IsText bytes.now) }
-    ensures fault { IfNone result ((fault : Fault) × IsLoadFault bytes.now fault) }
-{
-    match load_fault(bytes) {
-        Some(_) => None,
-        None => simdutf8::compat::from_utf8(bytes).ok(),
-    }
-}
+pub use hcl_source::laws::{fault_or_text, one_load_fault, text_or_fault};
 
 /// A text is a list of tokens or has a scan fault. The body shows it: it scans, and keeps nothing.
 pub fn list_or_fault(text: &str)

@@ -1,21 +1,16 @@
-//! The first layer of the front end for HCL native syntax: the bytes of a file, the places in it,
-//! and its tokens.
+//! The tokens of a file in HCL native syntax.
 //!
 //! Data flows one way: bytes from a [`ByteSource`] become a [`Source`], and [`scan`] makes its
-//! [`Tokens`]. What goes out again goes to a [`ByteSink`] by [`write_fully`]. The module [`laws`]
-//! holds what is proved of the definitions alone.
+//! [`Tokens`]. All that `hcl_source` has is handed on, so that the crates above call this one alone.
+//! The module [`laws`] holds what is proved of the definitions alone.
 #![tactic(auto)]
 
 mod bytes;
 mod comment;
-mod device;
-#[cfg(test)]
-mod device_tests;
 mod entry;
 mod expression;
 #[cfg(test)]
 mod expression_tests;
-mod fault;
 mod found;
 mod heredoc;
 mod ident;
@@ -27,7 +22,6 @@ mod opened;
 #[cfg(test)]
 mod pair_tests;
 mod scanner;
-mod source;
 mod space;
 mod stack;
 mod stop;
@@ -41,8 +35,9 @@ mod token_tests;
 mod tokens;
 mod turn;
 
-pub use device::{ByteSink, ByteSource, Failed, FromRead, ToWrite, WriteFault, write_fully};
-pub use fault::{Fault, FaultKind, LoadError, Position, ScanError};
-pub use source::{MAX_SOURCE, Source};
-pub use token::{Kind, Token};
+pub use hcl_source::{
+    ByteSink, ByteSource, Failed, Fault, FaultKind, FromRead, LoadError, MAX_SOURCE, Position,
+    Source, ToWrite, WriteFault, write_fully,
+};
+pub use token::{Kind, ScanError, Token};
 pub use tokens::{Tokens, scan};

@@ -13,7 +13,7 @@ ghost use Rattle.hcl_scan.specs.Inner.Scanners.{state_of, IsSound, IsStart, IsNe
 
 use crate::entry::Entry;
 use crate::expression::next_in_expression;
-use crate::fault::FaultKind;
+use hcl_source::FaultKind;
 use crate::found::{Found, Place};
 use crate::heredoc::{closer_len, marker_line, marker_of};
 use crate::opened::By;

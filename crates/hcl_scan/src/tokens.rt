@@ -9,11 +9,10 @@ ghost use Rattle.hcl_scan.specs.Inner.Stops.{IsStop};
 ghost use Rattle.hcl_scan.specs.Scanned.{lexeme, IsScanError};
 
 use crate::entry::Entry;
-use crate::fault::{Fault, ScanError};
+use hcl_source::{Fault, Source};
 use crate::scanner::Scanner;
-use crate::source::Source;
 use crate::stop::Stop;
-use crate::token::Token;
+use crate::token::{ScanError, Token};
 use crate::turn::Turn;
 use std::alloc::Global;
 use std::marker::Model;

@@ -1,7 +1,7 @@
 //! Which tokens are a file.
 
 ghost use Rattle.std.specs.Prelude.{◌≡◌, ◌<◌, length};
-ghost use Rattle.hcl_scan.specs.Places.{place};
+ghost use Rattle.hcl_source.specs.Places.{place};
 ghost use Rattle.hcl_syntax.specs.Balanced.{IsBalanced};
 ghost use Rattle.hcl_syntax.specs.Verdict.{start_of, fault_at, verdict, Names, IsAccepted};
 

@@ -5,8 +5,8 @@ use Rattle.std.specs.Prelude.{◌≡◌, ◌<◌, ◌+◌, ◌⊎◌, ◌==◌, 
 use Rattle.std.specs.List.{flat_map, list_any}
 use Rattle.tf_rules.specs.Ordered.{SameMembers, Ascends}
 use Rattle.hcl_scan.specs.Scanned.{Scanned}
-use Rattle.hcl_scan.specs.Places.{place}
-use Rattle.hcl_scan.specs.declared.fault.Position.{Position}
+use Rattle.hcl_source.specs.Places.{place}
+use Rattle.hcl_source.specs.declared.fault.Position.{Position}
 use Rattle.hcl_syntax.specs.Verdict.{start_of}
 use Rattle.hcl_syntax.specs.Numbered.{Numbered, numbered}
 use Rattle.tf_rules.specs.Rules.{is_rule, rank}

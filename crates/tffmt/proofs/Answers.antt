@@ -6,13 +6,13 @@ use Rattle.std.specs.Str.{bytes_eq}
 use Rattle.std.proofs.lemmas.Bool.Decides.{nat_tests}
 use Rattle.hcl_layout.specs.Print.{print}
 use Rattle.hcl_scan.specs.Scanned.{Scanned}
-use Rattle.hcl_scan.specs.Places.{place}
+use Rattle.hcl_source.specs.Places.{place}
 use Rattle.hcl_scan.specs.Lexemes.{Lexeme}
-use Rattle.hcl_scan.specs.Load.{max_source, IsText, IsLoadFault, Loads, is_failed_load}
-use Rattle.hcl_scan.specs.declared.fault.LoadError.{LoadError}
-use Rattle.hcl_scan.specs.declared.fault.LoadError.TheVariants as error
-use Rattle.hcl_scan.specs.declared.fault.Fault.{Fault}
-use Rattle.hcl_scan.proofs.Loads.{one_load_fault, text_or_fault, too_large_too}
+use Rattle.hcl_source.specs.Load.{max_source, IsText, IsLoadFault, Loads, is_failed_load}
+use Rattle.hcl_source.specs.declared.fault.LoadError.{LoadError}
+use Rattle.hcl_source.specs.declared.fault.LoadError.TheVariants as error
+use Rattle.hcl_source.specs.declared.fault.Fault.{Fault}
+use Rattle.hcl_source.proofs.Loads.{one_load_fault, text_or_fault, too_large_too}
 use Rattle.hcl_scan.proofs.Runs.{one_scan, one_fault, no_fault}
 use Rattle.hcl_scan.proofs.SpellingLaws.{one_kind, nonempty}
 use Rattle.tffmt.specs.Rows.{Row, Shows, Gives, IsRow, OfInput, OrOutOfMemory}

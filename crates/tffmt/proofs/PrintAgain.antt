@@ -4,10 +4,10 @@ use Rattle.std.specs.Prelude.{Result, Ok, nat_lt, if◌then◌else◌}
 use Rattle.std.specs.Str.{bytes_eq}
 use Rattle.std.proofs.lemmas.Bool.Decides.{nat_tests}
 use Rattle.hcl_scan.specs.Lexemes.{Lexeme}
-use Rattle.hcl_scan.specs.Load.{max_source, IsText}
+use Rattle.hcl_source.specs.Load.{max_source, IsText}
 use Rattle.hcl_scan.specs.Scanned.{Scanned}
 use Rattle.hcl_scan.specs.Scans.{Scans}
-use Rattle.hcl_scan.specs.declared.fault.Fault.{Fault}
+use Rattle.hcl_source.specs.declared.fault.Fault.{Fault}
 use Rattle.hcl_syntax.specs.Classes.{lookaheads}
 use Rattle.hcl_syntax.specs.Predictor.{refusal_of}
 use Rattle.hcl_syntax.specs.Verdict.{verdict, verdict_by}

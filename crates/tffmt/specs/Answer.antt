@@ -1,16 +1,16 @@
 -- What `tffmt` answers to a line of words and an input.
 use Rattle.std.specs.Prelude.{◌≡◌, ◌⊎◌, ℕ, List, [], ◌++◌, Result, Ok, Err, codes, decimal, length, nat_lt, if◌then◌else◌}
 use Rattle.std.specs.Str.{bytes_eq}
-use Rattle.hcl_scan.specs.Texts.{fault_text}
-use Rattle.hcl_scan.specs.Places.{place}
-use Rattle.hcl_scan.specs.Load.{max_source, IsText, IsLoadFault}
+use Rattle.hcl_source.specs.Texts.{fault_text}
+use Rattle.hcl_source.specs.Places.{place}
+use Rattle.hcl_source.specs.Load.{max_source, IsText, IsLoadFault}
 use Rattle.hcl_scan.specs.Lexemes.{Lexeme}
 use Rattle.hcl_scan.specs.Scanned.{Scanned}
 use Rattle.hcl_scan.specs.Scans.{Scans}
 use Rattle.hcl_scan.specs.Faults.{IsScanFault}
-use Rattle.hcl_scan.specs.declared.fault.Fault.{Fault}
-use Rattle.hcl_scan.specs.declared.fault.FaultKind.{FaultKind}
-use Rattle.hcl_scan.specs.declared.fault.FaultKind.TheVariants.{ResultTooLarge}
+use Rattle.hcl_source.specs.declared.fault.Fault.{Fault}
+use Rattle.hcl_source.specs.declared.fault.FaultKind.{FaultKind}
+use Rattle.hcl_source.specs.declared.fault.FaultKind.TheVariants.{ResultTooLarge}
 use Rattle.hcl_syntax.specs.Verdict.{verdict}
 use Rattle.hcl_layout.specs.Print.{print}
 use Rattle.tffmt.specs.Rows.{Row, line}

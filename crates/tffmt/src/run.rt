@@ -2,7 +2,7 @@
 
 ghost use Rattle.std.specs.Prelude.{◌≡◌, ◌≢◌, ◌||◌, ◌<◌, ◌≤◌, ℕ, List, [], false, true, length, map, if◌then◌else◌, string_bytes, IfOk, IfErr};
 ghost use Rattle.tffmt.specs.Rows.{Row, Took, Shows, ShowsOne, Gives, IsRow, OrOutOfMemory, OfInput};
-ghost use Rattle.hcl_scan.specs.Load.{max_source};
+ghost use Rattle.hcl_source.specs.Load.{max_source};
 ghost use Rattle.hcl_layout.specs.Print.{print};
 ghost use Rattle.tffmt.specs.Line.{options_of};
 ghost use Rattle.tffmt.specs.Answer.{fault_line, refused, usage_line, row_of_file, IsTextAnswer, IsFileAnswer, IsAnswer};

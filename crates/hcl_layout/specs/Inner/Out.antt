@@ -1,7 +1,7 @@
 -- What of a text has gone out, to the sink or into the buffer before it.
 use Rattle.std.specs.Prelude.{◌≡◌, ◌<◌, ◌++◌, ℕ, List, Option, length, take}
 use Rattle.std.specs.Io.KnownBytes.{Appends}
-use Rattle.hcl_scan.specs.declared.device.WriteFault.{WriteFault}
+use Rattle.hcl_source.specs.declared.device.WriteFault.{WriteFault}
 use Rattle.hcl_layout.specs.declared.buffer.Buffer.{Buffer}
 
 -- what waits in the buffer

@@ -1,10 +1,10 @@
 use Rattle.std.proofs.Common.{◌≡◌, ℕ, List, subst}
-use Rattle.hcl_scan.specs.Places.{place}
+use Rattle.hcl_source.specs.Places.{place}
 use Rattle.hcl_scan.specs.Inner.Stops.{IsFaultOf, IsStop}
 use Rattle.hcl_scan.specs.Scanned.{IsScanError}
 use Rattle.hcl_scan.specs.declared.stopped.Stopped.{Stopped}
-use Rattle.hcl_scan.specs.declared.fault.Position.{Position}
-use Rattle.hcl_scan.specs.declared.fault.ScanError.TheVariants as error
+use Rattle.hcl_source.specs.declared.fault.Position.{Position}
+use Rattle.hcl_scan.specs.declared.token.ScanError.TheVariants as error
 use Rattle.hcl_scan.proofs.tokens.scan.Goals as goal
 
 error_of : (text : List ℕ) (stopped : Stopped) (p : Position) → IsFaultOf text stopped → p ≡ place text stopped.at → IsScanError text (error.Fault (record { kind = stopped.kind; at = p }))

@@ -8,10 +8,10 @@ use Rattle.command_line.specs.Faults.{IsOfWords, One}
 use Rattle.command_line.proofs.OneFault.{one_fault}
 use Rattle.hcl_scan.specs.Faults.{IsScanFault}
 use Rattle.hcl_scan.specs.Lexemes.{Lexeme}
-use Rattle.hcl_scan.specs.Load.{IsText}
-use Rattle.hcl_scan.specs.Places.{place}
+use Rattle.hcl_source.specs.Load.{IsText}
+use Rattle.hcl_source.specs.Places.{place}
 use Rattle.hcl_scan.specs.Scans.{Scans}
-use Rattle.hcl_scan.specs.declared.fault.FaultKind.{FaultKind}
+use Rattle.hcl_source.specs.declared.fault.FaultKind.{FaultKind}
 use Rattle.hcl_syntax.specs.Verdict.{verdict}
 use Rattle.tffmt.specs.Rows.{Row}
 use Rattle.tffmt.specs.Line.{line_of, options_of, tffmt, usage_of_kind}

@@ -1,6 +1,6 @@
 use Rattle.std.proofs.Common.{◌<◌, arith, length}
 use Rattle.hcl_layout.specs.Print.{print}
-use Rattle.hcl_scan.specs.Load.{max_source}
+use Rattle.hcl_source.specs.Load.{max_source}
 use Rattle.tffmt.proofs.Answers.{row_too_large}
 use Rattle.tffmt.proofs.run.show_changed.Goals as goal
 

@@ -4,12 +4,12 @@ use Rattle.std.specs.Prelude.{◌≡◌, ℕ, ◌<◌, ◌≤◌, Bool, true, fa
 use Rattle.std.specs.List.{starts_with}
 use Rattle.std.specs.Str.{IsValidUpTo}
 use Rattle.std.specs.Io.KnownBytes.{IsAtEnd}
-use Rattle.hcl_scan.specs.Places.{place}
-use Rattle.hcl_scan.specs.declared.fault.Fault.{Fault}
-use Rattle.hcl_scan.specs.declared.fault.LoadError.{LoadError}
-use Rattle.hcl_scan.specs.declared.fault.LoadError.TheVariants as error
-use Rattle.hcl_scan.specs.declared.fault.FaultKind.{FaultKind}
-use Rattle.hcl_scan.specs.declared.fault.FaultKind.TheVariants.{TooLarge, InvalidUtf8, ByteOrderMark}
+use Rattle.hcl_source.specs.Places.{place}
+use Rattle.hcl_source.specs.declared.fault.Fault.{Fault}
+use Rattle.hcl_source.specs.declared.fault.LoadError.{LoadError}
+use Rattle.hcl_source.specs.declared.fault.LoadError.TheVariants as error
+use Rattle.hcl_source.specs.declared.fault.FaultKind.{FaultKind}
+use Rattle.hcl_source.specs.declared.fault.FaultKind.TheVariants.{TooLarge, InvalidUtf8, ByteOrderMark}
 
 -- the most bytes that a source has
 abbrev pub max_source : ℕ

@@ -3,11 +3,11 @@ use Rattle.std.proofs.Common.{◌≡◌, ℕ, ◌<◌, ◌≤◌, List, ◌++◌
 use Rattle.std.proofs.Math.Seq.{take-length}
 use Rattle.std.proofs.lemmas.Bool.{cases_order}
 use Rattle.std.specs.Str.{IsValidUpTo}
-use Rattle.hcl_scan.specs.Places.{place}
-use Rattle.hcl_scan.specs.Load.{max_source, has_mark, IsText, IsLoadFaultAt, IsLoadFault}
-use Rattle.hcl_scan.specs.declared.fault.Fault.{Fault}
-use Rattle.hcl_scan.specs.declared.fault.FaultKind.{FaultKind}
-use Rattle.hcl_scan.specs.declared.fault.FaultKind.TheVariants.{TooLarge, InvalidUtf8, ByteOrderMark}
+use Rattle.hcl_source.specs.Places.{place}
+use Rattle.hcl_source.specs.Load.{max_source, has_mark, IsText, IsLoadFaultAt, IsLoadFault}
+use Rattle.hcl_source.specs.declared.fault.Fault.{Fault}
+use Rattle.hcl_source.specs.declared.fault.FaultKind.{FaultKind}
+use Rattle.hcl_source.specs.declared.fault.FaultKind.TheVariants.{TooLarge, InvalidUtf8, ByteOrderMark}
 
 -- the three ways to be no source
 data Refused (bytes : List ℕ) (kind : FaultKind) (at : ℕ) : Type 0 where

@@ -1,7 +1,7 @@
 use Rattle.std.proofs.Common.{◌≡◌, ℕ, ◌+◌, List, ◌++◌, take, drop, Option, Some, None, ap, sym, ◌∙◌, arith, append_assoc}
 use Rattle.std.proofs.Math.Seq.{take-add}
 use Rattle.std.specs.Io.KnownBytes.{Appends}
-use Rattle.hcl_scan.proofs.device.write_fully.Goals as goal
+use Rattle.hcl_source.proofs.device.write_fully.Goals as goal
 
 -- what two writes in a row append
 both_append : (a b c : Option (List ℕ)) (bytes rest : List ℕ) (d n : ℕ) → Appends a b (take d bytes) → rest ≡ drop d bytes → Appends b c (take n rest) → Appends a c (take (d + n) bytes)

@@ -1,7 +1,7 @@
 use Rattle.std.proofs.Common.{◌≡◌, ◌+◌, ◌-◌, ◌<◌, ◌≤◌, ℕ, List, length, get_or, subst, arith}
 use Rattle.std.specs.Str.{IsUtf8, IsCharBoundary}
 use Rattle.std.proofs.lemmas.Str.{IsCharBoundary-after_ascii}
-use Rattle.hcl_scan.proofs.source.end_of.Goals as goal
+use Rattle.hcl_source.proofs.source.end_of.Goals as goal
 
 behind_lf : (bs : List ℕ) (n : ℕ) → IsUtf8 bs → 0 < n → n ≤ length bs → get_or bs (n - 1) 0 ≡ 10 → IsCharBoundary bs n
 behind_lf bs n utf8 low high lf =

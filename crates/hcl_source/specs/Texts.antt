@@ -1,7 +1,7 @@
 -- The words that messages say for each kind of fault: our own choice.
 use Rattle.std.specs.Prelude.{ℕ, List, codes}
-use Rattle.hcl_scan.specs.declared.fault.FaultKind.{FaultKind}
-use Rattle.hcl_scan.specs.declared.fault.FaultKind.TheVariants.{TooLarge, InvalidUtf8, ByteOrderMark, InvalidCharacter, UnterminatedQuote, UnterminatedComment, UnterminatedHeredoc, UnterminatedTemplate, InvalidEscape, TooDeep, UnexpectedToken, UnexpectedEnd, ResultTooLarge}
+use Rattle.hcl_source.specs.declared.fault.FaultKind.{FaultKind}
+use Rattle.hcl_source.specs.declared.fault.FaultKind.TheVariants.{TooLarge, InvalidUtf8, ByteOrderMark, InvalidCharacter, UnterminatedQuote, UnterminatedComment, UnterminatedHeredoc, UnterminatedTemplate, InvalidEscape, TooDeep, UnexpectedToken, UnexpectedEnd, ResultTooLarge}
 
 abbrev pub fault_text : FaultKind → List ℕ
 fault_text TooLarge = codes "source too large"

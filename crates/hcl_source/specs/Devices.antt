@@ -1,7 +1,7 @@
 -- Answers of devices.
 use Rattle.std.specs.Prelude.{ℕ, ◌<◌, Bool, true, false, Result, Ok, Err}
-use Rattle.hcl_scan.specs.declared.device.ReadError.{ReadError}
-use Rattle.hcl_scan.specs.declared.device.ReadError.TheVariants.{Failed}
+use Rattle.hcl_source.specs.declared.device.ReadError.{ReadError}
+use Rattle.hcl_source.specs.declared.device.ReadError.TheVariants.{Failed}
 
 -- a write took a byte or more
 abbrev pub TookSome : {E : Type 0} → Result ℕ E → Type 0

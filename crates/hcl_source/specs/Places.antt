@@ -3,7 +3,7 @@
 use Rattle.std.specs.Prelude.{ℕ, ◌+◌, ◌==◌, true, List, take, length, count_by}
 use Rattle.std.specs.List.{after_last}
 use Rattle.unicode_segmentation.specs.Grapheme.{graphemes}
-use Rattle.hcl_scan.specs.declared.fault.Position.{Position}
+use Rattle.hcl_source.specs.declared.fault.Position.{Position}
 
 -- lines begin at 1, and each LF ends one
 abbrev pub line_of : List ℕ → ℕ → ℕ

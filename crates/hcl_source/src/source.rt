@@ -5,8 +5,8 @@ ghost use Rattle.std.specs.List.{after_last};
 ghost use Rattle.std.specs.Str.{IsCharBoundary, IsValidUpTo};
 ghost use Rattle.std.specs.Io.KnownBytes.{Consumes};
 ghost use Rattle.unicode_segmentation.specs.Grapheme.{graphemes};
-ghost use Rattle.hcl_scan.specs.Places.{place};
-ghost use Rattle.hcl_scan.specs.Load.{max_source, has_mark, IsText, IsLoadFault, IsLoadError, Loads, is_failed_load};
+ghost use Rattle.hcl_source.specs.Places.{place};
+ghost use Rattle.hcl_source.specs.Load.{max_source, has_mark, IsText, IsLoadFault, IsLoadError, Loads, is_failed_load};
 
 use crate::device::{ByteSource, ReadError, read_up_to};
 use crate::fault::{Fault, FaultKind, LoadError, Position};
@@ -29,15 +29,15 @@ impl Model for Source {
 
     ghost Value = { List ℕ };
 
-    ghost use Rattle.hcl_scan.specs.Load.{IsText};
+    ghost use Rattle.hcl_source.specs.Load.{IsText};
 
     ghost view = { λ s. string_bytes s.content };
 
     ghost invariant = { λ s. IsText (string_bytes s.content) };
 }
 
-/// Where the last line of a text begins.
-pub(crate) fn line_start(bytes: &[u8]) -> usize
+/// Where the last line of a text begins: behind its last LF, or at 0.
+pub fn line_start(bytes: &[u8]) -> usize
     ensures within { result ≤ length bytes.now }
     ensures start { drop result bytes.now ≡ after_last (λ b. b == 10) bytes.now }
     ensures behind_lf { 0 < result → slice_index bytes.now (result - 1) ≡ 10 }

@@ -1,7 +1,7 @@
 //! What a text is refused for, and where.
 
 ghost use Rattle.std.specs.Prelude.{◌≡◌};
-ghost use Rattle.hcl_scan.specs.Texts.{fault_text};
+ghost use Rattle.hcl_source.specs.Texts.{fault_text};
 
 use thiserror::Error;
 
@@ -83,17 +83,6 @@ pub enum LoadError {
     /// A read failed.
     #[error("a read failed")]
     ReadFailed,
-    /// Memory ran out.
-    #[error("out of memory")]
-    OutOfMemory,
-}
-
-/// Why a source has no tokens.
-#[derive(Debug, Drop, Error)]
-pub enum ScanError {
-    /// The text is no list of tokens.
-    #[error("the source is refused")]
-    Fault(Fault),
     /// Memory ran out.
     #[error("out of memory")]
     OutOfMemory,

@@ -2,7 +2,7 @@ use Rattle.std.proofs.Common.{◌≡◌, ◌-◌, ◌<◌, ◌≤◌, ◌==◌, 
 use Rattle.std.specs.List.{after_last, suffix_len}
 use Rattle.std.proofs.lemmas.List.Sums.{suffix_len_is}
 use Rattle.std.proofs.lemmas.Bool.Decides.{nat_tests}
-use Rattle.hcl_scan.proofs.source.line_start.Goals as goal
+use Rattle.hcl_source.proofs.source.line_start.Goals as goal
 
 -- what no LF is in, behind an LF or at the start, is what stands after the last LF
 drop_is : (xs : List ℕ) (n : ℕ) → n ≤ length xs → ((k : ℕ) → n ≤ k → k < length xs → get_or xs k 0 ≡ 10 → ⊥) → (0 < n → get_or xs (n - 1) 0 ≡ 10) → drop n xs ≡ after_last (λ b. b == 10) xs

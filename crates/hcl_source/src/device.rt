@@ -4,7 +4,7 @@ ghost use Rattle.std.specs.Prelude.{◌≡◌, ℕ, ◌<◌, ◌≤◌, ◌+◌,
 ghost use Rattle.std.specs.Io.KnownBytes.{Keeps, Appends, WriteAppends, Consumes, ReadConsumes, IsAtEnd};
 ghost use Rattle.std.specs.Io.{ReadsAtMost};
 ghost use Rattle.std.specs.Vec.{vec_len};
-ghost use Rattle.hcl_scan.specs.Devices.{is_read_failed, TookSome};
+ghost use Rattle.hcl_source.specs.Devices.{is_read_failed, TookSome};
 
 use std::alloc::Global;
 use std::io::{Read, Write};

@@ -1,5 +1,0 @@
-use Rattle.hcl_scan.proofs.Loads.{text_or_fault}
-use Rattle.hcl_scan.proofs.laws.fault_or_text.Goals as goal
-
-pub returns : goal.returns
-returns c = λ bytes fault refused text. text_or_fault bytes fault text refused

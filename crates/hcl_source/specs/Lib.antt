@@ -1,0 +1,4 @@
+pub mod Devices
+pub mod Texts
+pub mod Places
+pub mod Load

@@ -1,0 +1,19 @@
+//! The text of a file in HCL native syntax, and the places in it.
+//!
+//! Bytes from a [`ByteSource`] become a [`Source`], and what goes out again goes to a [`ByteSink`]
+//! by [`write_fully`]. The kinds of [`Fault`] are those of all layers above, so that each has its
+//! words in one place. The module [`laws`] holds what is proved of the definitions alone.
+#![tactic(auto)]
+
+mod device;
+#[cfg(test)]
+mod device_tests;
+mod fault;
+pub mod laws;
+mod source;
+#[cfg(test)]
+mod tests;
+
+pub use device::{ByteSink, ByteSource, Failed, FromRead, ToWrite, WriteFault, write_fully};
+pub use fault::{Fault, FaultKind, LoadError, Position};
+pub use source::{MAX_SOURCE, Source, line_start};
