@@ -18,5 +18,6 @@ pub mod RescanLemmas
 pub mod PlaceLemmas
 pub mod LoadLemmas
 pub mod KindLemmas
+pub mod SameLineLemmas
 pub mod KindPairLemmas
 pub mod NotedKindLemmas

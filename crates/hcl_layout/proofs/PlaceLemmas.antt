@@ -18,10 +18,10 @@ use Rattle.hcl_layout.specs.Reprinted.{with_gaps, printed_tokens}
 use Rattle.hcl_layout.proofs.RescanLemmas.{tokens_are}
 
 -- a token without its place
-abbrev forget : Lexeme → Lexeme
+abbrev pub forget : Lexeme → Lexeme
 forget t = record { kind = t.kind; text = t.text; start = 0; inside_heredoc = t.inside_heredoc }
 
-abbrev forgot : List Lexeme → List Lexeme
+abbrev pub forgot : List Lexeme → List Lexeme
 forgot ts = map forget ts
 
 -- ---- lines

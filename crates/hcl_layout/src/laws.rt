@@ -8,8 +8,10 @@ ghost use Rattle.hcl_layout.specs.Gaps.{gaps};
 ghost use Rattle.hcl_layout.specs.Print.{print};
 ghost use Rattle.hcl_layout.specs.Reprinted.{printed_tokens};
 ghost use Rattle.hcl_syntax.specs.Classes.{lookaheads};
-ghost use Rattle.hcl_syntax.specs.Verdict.{IsAccepted};
+ghost use Rattle.hcl_syntax.specs.Numbered.{numbered};
+ghost use Rattle.hcl_syntax.specs.Verdict.{IsAccepted, start_of};
 ghost use Rattle.hcl_source.specs.Load.{IsText, max_source};
+ghost use Rattle.hcl_source.specs.Places.{line_of};
 
 /// There is one gap for each token, so a print leaves no token out.
 pub fn one_gap_each()
@@ -32,4 +34,11 @@ pub fn print_kept()
 pub fn idempotent()
     ensures { (text : List ℕ) (ts : List Lexeme) → IsText text → Scans text ts → IsAccepted ts → length (print ts) ≤ max_source
         → IsText (print ts) × Scans (print ts) (printed_tokens ts) × IsAccepted (printed_tokens ts) × (print (printed_tokens ts) ≡ print ts) }
+{}
+
+/// A print has the tokens of its text, by kind and text in the same order, and each on the same line.
+pub fn same_lines()
+    ensures tokens { (text : List ℕ) (ts us : List Lexeme) → Scans text ts → Scans (print ts) us → numbered us ≡ numbered ts }
+    ensures lines { (text : List ℕ) (ts us : List Lexeme) → Scans text ts → Scans (print ts) us
+        → (n : ℕ) → line_of (print ts) (start_of us n) ≡ line_of text (start_of ts n) }
 {}

@@ -51,3 +51,4 @@ pub mod SideBySide
 pub mod InHeredocs
 pub mod TokenTexts
 pub mod ByteOrderMarks
+pub mod LineLemmas

@@ -1,7 +1,8 @@
 //! What is proved of the definitions alone. No program calls these functions: their contracts are
 //! the laws.
 
-ghost use Rattle.std.specs.Prelude.{◌≡◌, ◌⊎◌, ◌<◌, ◌≤◌, ◌++◌, ℕ, Bool, true, false, IsTrue, IsFalse, IsUtf8, IfSome, IfNone, List, [], ◌∷◌, length, take, drop};
+ghost use Rattle.std.specs.Prelude.{◌≡◌, ◌⊎◌, ◌<◌, ◌≤◌, ◌+◌, ◌==◌, ◌++◌, ℕ, Bool, true, false, IsTrue, IsFalse, IsUtf8, IfSome, IfNone, List, [], ◌∷◌, length, take, drop, count_by};
+ghost use Rattle.std.specs.List.{flat_map};
 ghost use Rattle.hcl_scan.specs.Spelling.{IsSpelling};
 ghost use Rattle.hcl_scan.specs.Lexemes.{Lexeme, Opener, opened, in_heredoc, marker_of};
 ghost use Rattle.hcl_scan.specs.Scans.{Scans, State, Next, Run, IsLongest, IsFirstMarkerLine, Hidden, hides, ends_line, skip_blanks};
@@ -11,6 +12,7 @@ ghost use Rattle.hcl_scan.specs.SideBySide.{AreTexts, Besides};
 ghost use Rattle.hcl_scan.specs.InHeredocs.{ReadsToo, SameInside};
 ghost use Rattle.hcl_scan.specs.declared.token.Kind.TheVariants.{Newline, HeredocOpen};
 ghost use Rattle.hcl_scan.specs.Faults.{IsScanFault};
+ghost use Rattle.hcl_source.specs.Places.{line_of};
 ghost use Rattle.hcl_source.specs.Load.{max_source, IsText, IsLoadFault, has_mark};
 ghost use Rattle.hcl_source.specs.declared.fault.Fault.{Fault};
 ghost use Rattle.hcl_source.specs.declared.fault.FaultKind.{FaultKind};
@@ -104,4 +106,10 @@ pub fn texts()
 pub fn heredoc_kept()
     ensures { (other : List ℕ) (s twin : State) (t : Lexeme) (next : State) → SameInside other s twin → IsTrue (in_heredoc s.opens) → 0 < length s.hidden
         → 0 < length next.hidden → Next s t next → ReadsToo other twin t next }
+{}
+
+/// The line of a token is 1 and the LFs in the texts before it: what stands between tokens ends no line.
+pub fn line_of_token()
+    ensures { (text : List ℕ) (front : List Lexeme) (t : Lexeme) (back : List Lexeme) → Scans text (front ++ t ∷ back)
+        → line_of text t.start ≡ 1 + count_by (λ b. b == 10) (flat_map (λ u. u.text) front) }
 {}

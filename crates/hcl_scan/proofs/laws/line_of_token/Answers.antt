@@ -1,0 +1,5 @@
+use Rattle.hcl_scan.proofs.LineLemmas.{line_is}
+use Rattle.hcl_scan.proofs.laws.line_of_token.Goals as goal
+
+pub returns : goal.returns
+returns c = line_is
