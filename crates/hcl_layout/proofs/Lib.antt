@@ -20,3 +20,6 @@ pub mod LoadLemmas
 pub mod KindLemmas
 pub mod KindPairLemmas
 pub mod NotedKindLemmas
+pub mod OlderScans
+pub mod OlderRuns
+pub mod OlderPrints
