@@ -109,6 +109,9 @@ class Maker:
 
     def call(self):
         self.name()
+        while self.rarely():
+            self.put('::')
+            self.name()
         self.group('(', ')', lambda: self.expression(True), self.chance.choice(('', '', ',', '...')))
 
     def paren(self):

@@ -21,3 +21,6 @@ pub mod KindLemmas
 pub mod SameLineLemmas
 pub mod KindPairLemmas
 pub mod NotedKindLemmas
+pub mod OlderScans
+pub mod OlderRuns
+pub mod OlderPrints

@@ -7,4 +7,5 @@ pub mod Gaps
 pub mod Print
 pub mod Reprinted
 pub mod Examples
+pub mod Older
 pub mod Inner

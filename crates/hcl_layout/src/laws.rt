@@ -5,6 +5,9 @@ ghost use Rattle.std.specs.Prelude.{◌≡◌, ◌≤◌, ℕ, List, length};
 ghost use Rattle.hcl_scan.specs.Lexemes.{Lexeme};
 ghost use Rattle.hcl_scan.specs.Scans.{Scans};
 ghost use Rattle.hcl_layout.specs.Gaps.{gaps};
+ghost use Rattle.hcl_layout.specs.Older.Prints.{was_print};
+ghost use Rattle.hcl_layout.specs.Older.Rows.{WasAccepted};
+ghost use Rattle.hcl_layout.specs.Older.Tokens.{WasScanned};
 ghost use Rattle.hcl_layout.specs.Print.{print};
 ghost use Rattle.hcl_layout.specs.Reprinted.{printed_tokens};
 ghost use Rattle.hcl_syntax.specs.Classes.{lookaheads};
@@ -41,4 +44,10 @@ pub fn same_lines()
     ensures tokens { (text : List ℕ) (ts us : List Lexeme) → Scans text ts → Scans (print ts) us → numbered us ≡ numbered ts }
     ensures lines { (text : List ℕ) (ts us : List Lexeme) → Scans text ts → Scans (print ts) us
         → (n : ℕ) → line_of (print ts) (start_of us n) ≡ line_of text (start_of ts n) }
+{}
+
+/// A text that was accepted by the tables before names with `::` has the same tokens by those of
+/// now, is accepted, and has the same print.
+pub fn older_files()
+    ensures { (text : List ℕ) (ts : List Lexeme) → WasScanned text ts → WasAccepted ts → Scans text ts × IsAccepted ts × (was_print ts ≡ print ts) }
 {}
