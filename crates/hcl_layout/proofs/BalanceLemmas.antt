@@ -7,7 +7,7 @@ use Rattle.hcl_scan.specs.declared.token.Kind.{Kind}
 use Rattle.hcl_syntax.specs.Balanced.{IsBalanced, closers, closing, openers, opening, max_open}
 use Rattle.hcl_layout.specs.Inner.Depths.{BalancedFrom, deepen}
 use Rattle.hcl_syntax.specs.Balanced.{is_closer, is_opener}
-use Rattle.hcl_layout.proofs.KindLemmas.{each}
+use Rattle.hcl_spacing.proofs.KindLemmas.{each}
 
 abbrev one_if : Bool → ℕ
 one_if b = if b then 1 else 0

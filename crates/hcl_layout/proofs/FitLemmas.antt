@@ -14,12 +14,12 @@ use Rattle.hcl_scan.proofs.OtherSteps.{touching}
 use Rattle.hcl_scan.proofs.GapsRead.{template_touches}
 use Rattle.hcl_syntax.specs.Kinds.{is_newline}
 use Rattle.hcl_syntax.specs.Kinds.{is_dot}
-use Rattle.hcl_layout.specs.Spacing.{stands_before, spaced}
+use Rattle.hcl_spacing.specs.Spacing.{stands_before, spaced}
 use Rattle.hcl_syntax.specs.Kinds.{is_assign, is_line_comment}
 use Rattle.hcl_layout.specs.Gaps.{blanks}
-use Rattle.hcl_layout.proofs.SpacingLemmas as rows
-use Rattle.hcl_layout.proofs.SpacingLemmas.{row_one}
-use Rattle.hcl_layout.proofs.JoiningLemmas.{joined_apart, same_dot}
+use Rattle.hcl_spacing.proofs.SpacingLemmas as rows
+use Rattle.hcl_spacing.proofs.SpacingLemmas.{row_one}
+use Rattle.hcl_spacing.proofs.JoiningLemmas.{joined_apart, same_dot}
 use Rattle.hcl_layout.proofs.GapLemmas.{is_cell, GapFor}
 
 -- ---- one gap

@@ -10,16 +10,12 @@ pub mod SizeLemmas
 pub mod BalanceLemmas
 pub mod OutLemmas
 pub mod FormatLemmas
-pub mod SpacingLemmas
-pub mod JoiningLemmas
 pub mod GapLemmas
 pub mod FitLemmas
 pub mod RescanLemmas
 pub mod PlaceLemmas
 pub mod LoadLemmas
-pub mod KindLemmas
 pub mod SameLineLemmas
-pub mod KindPairLemmas
 pub mod NotedKindLemmas
 pub mod OlderScans
 pub mod OlderRuns

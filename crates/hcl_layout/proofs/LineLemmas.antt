@@ -6,7 +6,7 @@ use Rattle.hcl_layout.specs.Gaps.{blanks, clusters, gaps_after, indent, plain_ga
 use Rattle.hcl_layout.specs.Inner.LineGaps.{len_with_blanks, cell_gap, gap_of, gaps_from, gaps_in, plain_gap, set_cell}
 use Rattle.hcl_syntax.specs.Kinds.{is_newline}
 use Rattle.hcl_layout.specs.Lines.{Line}
-use Rattle.hcl_layout.specs.Spacing.{spaced}
+use Rattle.hcl_spacing.specs.Spacing.{spaced}
 use Rattle.hcl_layout.specs.declared.gap.Cell.{Cell}
 use Rattle.hcl_layout.specs.declared.gap.LineGaps.{LineGaps}
 use Rattle.hcl_layout.proofs.ClusterLemmas.{clusters_few}

@@ -6,7 +6,7 @@ use Rattle.hcl_scan.specs.declared.token.Kind.{Kind}
 use Rattle.hcl_syntax.specs.Kinds.{is_newline}
 use Rattle.hcl_layout.specs.Lines.{ends_line}
 use Rattle.hcl_layout.specs.Inner.Survey.{changes, is_noted}
-use Rattle.hcl_layout.proofs.KindLemmas.{each}
+use Rattle.hcl_spacing.proofs.KindLemmas.{each}
 
 passes : (a b : Bool) → (a || not b) ≡ true → a ≡ false → b ≡ false
 passes a true h e = cc

@@ -9,7 +9,7 @@ use Rattle.hcl_scan.specs.Lexemes.{Lexeme}
 use Rattle.hcl_syntax.specs.Kinds.{is_newline}
 use Rattle.hcl_layout.specs.Lines.{Line, lines}
 use Rattle.hcl_layout.specs.Levels.{levels, net_of}
-use Rattle.hcl_layout.specs.Spacing.{spaced}
+use Rattle.hcl_spacing.specs.Spacing.{spaced}
 use Rattle.hcl_layout.specs.Cells.{assign_cell, running_comment, trailing_comment}
 use Rattle.hcl_layout.specs.Columns.{columns}
 

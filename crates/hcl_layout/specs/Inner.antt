@@ -1,6 +1,5 @@
 -- Words for the code's own parts, which its inner contracts use. Nobody has to believe them.
 pub mod Depths
-pub mod KindPairs
 pub mod Left
 pub mod LineGaps
 pub mod Out

@@ -1,7 +1,6 @@
 pub mod Lines
 pub mod Levels
 pub mod Cells
-pub mod Spacing
 pub mod Columns
 pub mod Gaps
 pub mod Print

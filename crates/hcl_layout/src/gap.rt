@@ -10,8 +10,8 @@ ghost use Rattle.hcl_layout.specs.Inner.Left.{behind};
 ghost use Rattle.hcl_layout.specs.Inner.LineGaps.{len_with_blanks, cell_gap as cell_gap_of, gaps_in, plain_gap as plain_gap_of, plain_of};
 
 use crate::kind::is_newline;
-use crate::spacing::{space_between, space_by_kinds};
 use hcl_scan::{Token, Tokens};
+use hcl_spacing::{space_between, space_by_kinds};
 use unicode_segmentation::UnicodeSegmentation;
 
 /// A cell: its place in the line, and the gap before it.

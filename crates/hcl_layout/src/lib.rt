@@ -15,9 +15,8 @@ mod line;
 mod pieces;
 mod print;
 mod runs;
-mod spacing;
 mod writer;
 
+pub use hcl_spacing::space_between;
 pub use print::{is_formatted, printed_len};
-pub use spacing::space_between;
 pub use writer::emit;

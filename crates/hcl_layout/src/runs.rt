@@ -23,7 +23,7 @@ ghost use Rattle.hcl_layout.specs.Inner.Depths.{depth_after, fresh, levels_behin
 ghost use Rattle.hcl_layout.specs.Gaps.{align, plain_gaps, width as width_of};
 ghost use Rattle.hcl_layout.specs.Inner.LineGaps.{len_with_blanks, gaps_in};
 ghost use Rattle.hcl_layout.specs.Lines.{lines};
-ghost use Rattle.hcl_layout.specs.Inner.Stream.{assign_column, assign_widths, next_of, comment_column, comment_widths, plain};
+ghost use Rattle.hcl_layout.specs.Inner.Stream.{assign_column, assigned_line, assign_widths, next_of, comment_column, comment_widths, plain};
 ghost use Rattle.hcl_layout.specs.Inner.Survey.{IsLine, text_at};
 ghost use Rattle.hcl_layout.specs.Inner.Walks.{Stands};
 
@@ -159,7 +159,7 @@ impl Walk {
         requires line { IsLine tokens.now.tokens at self.old.depth line }
         requires small { len_with_blanks tokens.now.tokens < 2 ^ 32 }
         requires fits { IfSome self.old.column (λ c. c < 2 ^ 33) }
-        ensures gaps { gaps_in result (text_at tokens.now.tokens at line) ≡ align assign_cell (plain self.old.depth self.old.levels (text_at tokens.now.tokens at line)) (text_at tokens.now.tokens at line) (assign_column self.old.depth self.old.levels self.old.column (lines (drop at tokens.now.tokens))) }
+        ensures gaps { gaps_in result (text_at tokens.now.tokens at line) ≡ assigned_line self.old.depth self.old.levels self.old.column (text_at tokens.now.tokens at line) (lines (drop at tokens.now.tokens)) }
         ensures level { result.level ≤ max_open }
         ensures comment { result.comment ≡ None }
         ensures assign { IfSome result.assign (λ c. c.gap ≤ 2 ^ 33) }

@@ -3,7 +3,7 @@
 ghost use Rattle.std.specs.Prelude.{◌≡◌, ◌<◌, ◌≤◌, ℕ, [], ◌∷◌, length, Some, None, OnOk};
 ghost use Rattle.std.specs.Bool.{OnTrue, OnFalse};
 ghost use Rattle.hcl_syntax.specs.Grammar.{fits, ◌at◌, the, names, step, separator, eol};
-ghost use Rattle.hcl_syntax.specs.Inner.Parsing.{Leads, Parses, Took, Lacks};
+ghost use Rattle.hcl_syntax.specs.Inner.Parsing.{Advances, Parses, Took, Lacks};
 ghost use Rattle.hcl_syntax.specs.declared.expected.Newlines.TheVariants.{Seen, Dropped};
 ghost use Rattle.hcl_syntax.specs.declared.expected.Terminal.TheVariants.{Name};
 

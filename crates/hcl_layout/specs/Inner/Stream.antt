@@ -32,6 +32,10 @@ assign_widths d levels ls = widths assign_cell (leveled d levels ls) ls
 abbrev pub assign_column : ℕ → List ℕ → Option ℕ → List Line → Option ℕ
 assign_column d levels column ls = next_of column (assign_widths d levels ls)
 
+-- the first line with its assign cell in that column
+abbrev pub assigned_line : ℕ → List ℕ → Option ℕ → Line → List Line → List ℕ
+assigned_line d levels column l ls = align assign_cell (plain d levels l) l (assign_column d levels column ls)
+
 abbrev pub assigned : ℕ → List ℕ → Option ℕ → List Line → List (List ℕ)
 assigned d levels column [] = []
 assigned d levels column (l ∷ ls) =

@@ -10,7 +10,7 @@ use Rattle.hcl_layout.specs.Levels.{levels, net_of}
 use Rattle.hcl_layout.specs.Cells.{assign_cell, running_comment, trailing_comment}
 use Rattle.hcl_layout.specs.Gaps.{aligned, indent, zip_with}
 use Rattle.hcl_layout.specs.Print.{printed}
-use Rattle.hcl_layout.specs.Spacing.{begins_with_equals, closes_group, ends_operand, is_in, is_opening, opens_sequence, stands_before}
+use Rattle.hcl_spacing.specs.Spacing.{begins_with_equals, closes_group, ends_operand, is_in, is_opening, opens_sequence, stands_before}
 
 abbrev pub would_have_joined : Option Lexeme → Lexeme → Lexeme → Bool
 would_have_joined before subject after =

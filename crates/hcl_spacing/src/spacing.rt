@@ -4,8 +4,8 @@ ghost use Rattle.std.specs.Prelude.{◌≡◌, IfNone, IfSome, Option, option_ma
 ghost use Rattle.hcl_scan.specs.Lexemes.{Lexeme};
 ghost use Rattle.hcl_scan.specs.Scanned.{lexeme};
 ghost use Rattle.hcl_syntax.specs.Kinds.{is_dot as is_dot_of, is_ident as is_ident_of};
-ghost use Rattle.hcl_layout.specs.Spacing.{begins_with_colon as begins_with_colon_of, begins_with_equals as begins_with_equals_of, is_opening as is_opening_of, spaced, stands_before};
-ghost use Rattle.hcl_layout.specs.Inner.KindPairs.{asked_space as asked_space_of, pair_space as pair_space_of, space_behind_operand as space_behind_operand_of, stands_close as stands_close_of};
+ghost use Rattle.hcl_spacing.specs.Spacing.{begins_with_colon as begins_with_colon_of, begins_with_equals as begins_with_equals_of, is_opening as is_opening_of, spaced, stands_before};
+ghost use Rattle.hcl_spacing.specs.Inner.KindPairs.{asked_space as asked_space_of, pair_space as pair_space_of, space_behind_operand as space_behind_operand_of, stands_close as stands_close_of};
 
 use crate::kind::{
     awaits_operand, closes_group, is_brace_close, is_brace_open, is_bracket_open, is_colon_colon, is_comma,
@@ -165,10 +165,9 @@ fn asked_space(before: Option<Token<'_>>, subject: Token<'_>, after: Token<'_>) 
     }
 }
 
-/// Whether one blank stands between the subject and the token after it, where their kinds tell that, whatever their
-/// texts are and whatever stands before them.
+/// What their kinds tell of two tokens, and else what has to be asked.
 #[inline(always)]
-pub fn space_by_kinds(subject: Token<'_>, after: Token<'_>) -> Option<bool>
+fn kinds_space(subject: Token<'_>, after: Token<'_>) -> Option<bool>
     ensures given { IfSome result (λ space. (before : Option Lexeme) → space ≡ spaced before (lexeme subject.entry) (lexeme after.entry)) }
     ensures asked { IfNone result ((before : Option Lexeme) → asked_space_of before (lexeme subject.entry) (lexeme after.entry) ≡ spaced before (lexeme subject.entry) (lexeme after.entry)) }
 {
@@ -179,13 +178,22 @@ pub fn space_by_kinds(subject: Token<'_>, after: Token<'_>) -> Option<bool>
     pair_space(subject.kind, after.kind)
 }
 
+/// Whether one blank stands between the subject and the token after it, where their kinds tell that, whatever their
+/// texts are and whatever stands before them.
+#[inline(always)]
+pub fn space_by_kinds(subject: Token<'_>, after: Token<'_>) -> Option<bool>
+    ensures { IfSome result (λ space. (before : Option Lexeme) → space ≡ spaced before (lexeme subject.entry) (lexeme after.entry)) }
+{
+    kinds_space(subject, after)
+}
+
 /// Whether one blank stands between the subject and the token after it on a line, or none. `before`
 /// is the token before the subject on that line, if there is one.
 #[inline(always)]
 pub fn space_between(before: Option<Token<'_>>, subject: Token<'_>, after: Token<'_>) -> bool
     ensures { result ≡ spaced (option_map lexeme before.entry) (lexeme subject.entry) (lexeme after.entry) }
 {
-    match space_by_kinds(subject, after) {
+    match kinds_space(subject, after) {
         Some(space) => space,
         None => asked_space(before, subject, after),
     }

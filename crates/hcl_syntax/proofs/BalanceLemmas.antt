@@ -8,8 +8,8 @@ use Rattle.hcl_scan.proofs.Runs.{scan_bounded}
 use Rattle.hcl_syntax.specs.Classes.{class_at}
 use Rattle.hcl_syntax.specs.Verdict.{IsAccepted}
 use Rattle.hcl_syntax.specs.Balanced.{max_open, opening, closing, openers, closers, IsWithin, IsBalanced}
-use Rattle.hcl_syntax.proofs.Owed.{Shift}
-use Rattle.hcl_syntax.proofs.Moves.{Shifts, accepted-shifts}
+use Rattle.hcl_syntax.proofs.OwedLemmas.{Shift}
+use Rattle.hcl_syntax.proofs.MoveLemmas.{Shifts, accepted-shifts}
 
 -- how many of what is open are no quotes and heredocs
 abbrev groups : List Opener → ℕ

@@ -7,9 +7,9 @@ use Rattle.hcl_scan.specs.Lexemes.{Lexeme}
 use Rattle.hcl_scan.specs.declared.token.Kind.{Kind}
 use Rattle.hcl_syntax.specs.Kinds.{is_newline}
 use Rattle.hcl_syntax.specs.Kinds.{is_brace_close, is_brace_open, is_bracket_open, is_colon, is_colon_colon, is_comma, is_dot, is_ellipsis, is_ident, is_lit, is_minus, is_not, is_number, is_paren_open, is_quote_close, is_quote_open, is_seq_close}
-use Rattle.hcl_layout.specs.Spacing.{begins_with_colon, begins_with_equals, closes_group, ends_operand, is_opening, opens_sequence, spaced, stands_before}
-use Rattle.hcl_layout.specs.Inner.KindPairs.{asked, asked_space, pair_space}
-use Rattle.hcl_layout.proofs.KindLemmas.{each, kinds}
+use Rattle.hcl_spacing.specs.Spacing.{begins_with_colon, begins_with_equals, closes_group, ends_operand, is_opening, opens_sequence, spaced, stands_before}
+use Rattle.hcl_spacing.specs.Inner.KindPairs.{asked, asked_space, pair_space}
+use Rattle.hcl_spacing.proofs.KindLemmas.{each, kinds}
 
 -- The table, behind its first row, by the kinds and by what it asks of the texts and of the token before: whether the
 -- second begins with `=` or `:`, whether it is `~}`, whether the first is `in`, whether an Ident or a Dot stands before, and

@@ -18,8 +18,8 @@ use Rattle.hcl_scan.proofs.Comments.{or_cases}
 use Rattle.hcl_scan.proofs.FirstBytes.{Says, says}
 use Rattle.hcl_syntax.specs.Kinds.{is_newline}
 use Rattle.hcl_syntax.specs.Kinds.{is_colon, is_dot, is_ellipsis, is_not, is_number, is_seq_close}
-use Rattle.hcl_layout.specs.Spacing.{opens_sequence, begins_with_colon, begins_with_equals, stands_before, spaced}
-use Rattle.hcl_layout.proofs.SpacingLemmas.{plain_pair, by_kinds, by_joining}
+use Rattle.hcl_spacing.specs.Spacing.{opens_sequence, begins_with_colon, begins_with_equals, stands_before, spaced}
+use Rattle.hcl_spacing.proofs.SpacingLemmas.{plain_pair, by_kinds, by_joining}
 
 -- the kinds whose texts may go on one of this kind, by the first byte
 word_byte : (b : ℕ) → neighbours.grows kind.Ident b ≡ true → (may_begin_ident b ≡ true) ⊎ (is_ascii_digit b ≡ true) ⊎ ((b == 45) ≡ true)

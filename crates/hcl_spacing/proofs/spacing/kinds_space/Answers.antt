@@ -2,11 +2,11 @@ use Rattle.std.proofs.Common.{◌∙◌, ◌≡◌, Bool, false, Option, Some, N
 use Rattle.std.specs.Prelude.{IfNone, IfSome}
 use Rattle.hcl_scan.specs.Lexemes.{Lexeme}
 use Rattle.hcl_scan.specs.Scanned.{lexeme}
-use Rattle.hcl_layout.specs.Inner.KindPairs.{asked_space, pair_space}
+use Rattle.hcl_spacing.specs.Inner.KindPairs.{asked_space, pair_space}
 use Rattle.hcl_syntax.specs.Kinds.{is_newline}
-use Rattle.hcl_layout.specs.Spacing.{spaced}
-use Rattle.hcl_layout.proofs.KindPairLemmas.{asked_is, given}
-use Rattle.hcl_layout.proofs.spacing.space_by_kinds.Goals as goal
+use Rattle.hcl_spacing.specs.Spacing.{spaced}
+use Rattle.hcl_spacing.proofs.KindPairLemmas.{asked_is, given}
+use Rattle.hcl_spacing.proofs.spacing.kinds_space.Goals as goal
 
 all_given : (o : Option Bool) (subject after : Lexeme) → is_newline after.kind ≡ false → after.inside_heredoc ≡ false → o ≡ pair_space subject.kind after.kind → IfSome o (λ space. (before : Option Lexeme) → space ≡ spaced before subject after)
 all_given None subject after e f g = tt

@@ -1,0 +1,4 @@
+pub mod KindLemmas
+pub mod KindPairLemmas
+pub mod SpacingLemmas
+pub mod JoiningLemmas

@@ -1,0 +1,22 @@
+//! What is proved of the definitions alone. No program calls these functions: their contracts are the laws.
+
+ghost use Rattle.std.specs.Prelude.{◌≡◌, Option, false, true};
+ghost use Rattle.hcl_scan.specs.Lexemes.{Lexeme};
+ghost use Rattle.hcl_scan.specs.Neighbours.{joins};
+ghost use Rattle.hcl_scan.specs.Regapped.{is_template};
+ghost use Rattle.hcl_scan.specs.SideBySide.{Beside};
+ghost use Rattle.hcl_syntax.specs.Kinds.{is_dot, is_newline};
+ghost use Rattle.hcl_spacing.specs.Spacing.{spaced, stands_before};
+
+/// Outside heredocs and templates neighbours are parted that a scan would read otherwise if they stood together.
+pub fn parted()
+    ensures { (before : Option Lexeme) (u t : Lexeme) → Beside u.kind t → t.inside_heredoc ≡ false → is_template t.kind ≡ false
+        → joins (stands_before is_dot before) u.kind t.kind t.text ≡ true → spaced before u t ≡ true }
+{}
+
+/// Nothing is added before a newline, inside a heredoc, and where a template goes on.
+pub fn kept()
+    ensures newline { (before : Option Lexeme) (u t : Lexeme) → is_newline t.kind ≡ true → spaced before u t ≡ false }
+    ensures heredoc { (before : Option Lexeme) (u t : Lexeme) → t.inside_heredoc ≡ true → spaced before u t ≡ false }
+    ensures template { (before : Option Lexeme) (u t : Lexeme) → Beside u.kind t → t.inside_heredoc ≡ false → is_template t.kind ≡ true → spaced before u t ≡ false }
+{}
