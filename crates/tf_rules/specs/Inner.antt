@@ -3,6 +3,7 @@ pub mod Closings
 pub mod Cuts
 pub mod FactViews
 pub mod FoundViews
+pub mod KeptViews
 pub mod Labelled
 pub mod Seen
 pub mod SourceViews

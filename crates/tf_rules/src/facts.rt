@@ -1,0 +1,79 @@
+//! What is kept of the files of a module, and the issues that it gives.
+
+ghost use Rattle.std.specs.Prelude.{◌≡◌, ◌++◌, ◌∷◌, [], List, IfOk, OnOk, OnErr};
+ghost use Rattle.tf_rules.specs.Answers.{IsAnswer, Rising};
+ghost use Rattle.tf_rules.specs.Issues.{File, asked_of};
+ghost use Rattle.tf_rules.specs.Kept.{kept_of, nothing, with_file};
+
+use crate::issue::Issue;
+use crate::kept::{KeptComment, KeptDeclaration, TokenPlace};
+use crate::settings::Settings;
+use crate::text_set::TextSet;
+use hcl_syntax::Accepted;
+use std::alloc::{AllocError, Global};
+use std::marker::Model;
+
+/// What is kept of the files of a module: places, names and flags, and no source.
+#[derive(Drop)]
+pub struct Facts {
+    alloc: Global,
+    comments: Vec<KeptComment>,
+    indexes: Vec<TokenPlace>,
+    interpolations: Vec<TokenPlace>,
+    declarations: Vec<KeptDeclaration>,
+    references: TextSet,
+}
+
+impl Model for Facts {
+    ghost use Rattle.std.specs.Prelude.{map};
+    ghost use Rattle.tf_rules.specs.Kept.{Kept};
+    ghost use Rattle.tf_rules.specs.Inner.KeptViews.{kept_comment, kept_declaration, place_of};
+
+    ghost Value = { Kept };
+
+    ghost view = { λ f. record {
+      facts = record {
+        comments = map kept_comment f.comments.items;
+        indexes = map place_of f.indexes.items;
+        interpolations = map place_of f.interpolations.items;
+        declarations = map kept_declaration f.declarations.items;
+      };
+      references = f.references;
+    } };
+}
+
+impl Facts {
+    /// The facts of no file.
+    pub fn new(alloc: Global) -> Result<Facts, AllocError>
+        ensures { IfOk result (λ facts. facts ≡ nothing) }
+    {
+        Ok(Facts {
+            alloc,
+            comments: Vec::new(alloc),
+            indexes: Vec::new(alloc),
+            interpolations: Vec::new(alloc),
+            declarations: Vec::new(alloc),
+            references: TextSet::new(alloc),
+        })
+    }
+
+    /// Keeps what the rules need of one file more, whose number is above those of the files before it. On refusal the
+    /// facts are as they were.
+    pub fn add_file(
+        &mut self,
+        number: u32,
+        accepted: &Accepted<'_, '_>,
+    ) -> Result<(), AllocError>
+        ensures ok { OnOk result (self.new ≡ with_file self.old (record { number = number; source = accepted.now })) }
+        ensures err { OnErr result (self.new ≡ self.old) }
+    {
+        Err(AllocError)
+    }
+
+    /// The issues of the files, by file, then token, then the name of the rule.
+    pub fn issues(&self, settings: &Settings) -> Result<Vec<Issue>, AllocError>
+        ensures { (files : List File) → self.now ≡ kept_of files → Rising files → IfOk result (λ issues. IsAnswer (asked_of settings.now) files issues.items) }
+    {
+        Err(AllocError)
+    }
+}
