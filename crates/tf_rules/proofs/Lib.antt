@@ -22,3 +22,6 @@ pub mod ValueLemmas
 pub mod DeclarationLemmas
 pub mod OwnerLemmas
 pub mod CommentLemmas
+pub mod ForwardLemmas
+pub mod KeepingLemmas
+pub mod KeptFileLemmas

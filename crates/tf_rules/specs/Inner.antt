@@ -3,8 +3,10 @@ pub mod Closings
 pub mod Cuts
 pub mod FactViews
 pub mod FoundViews
+pub mod KeptFacts
 pub mod KeptViews
 pub mod Labelled
+pub mod Placing
 pub mod Seen
 pub mod SourceViews
 pub mod Spelled

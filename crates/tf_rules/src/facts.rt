@@ -1,15 +1,18 @@
 //! What is kept of the files of a module, and the issues that it gives.
 
-ghost use Rattle.std.specs.Prelude.{◌≡◌, ◌++◌, ◌∷◌, [], List, IfOk, OnOk, OnErr};
+ghost use Rattle.std.specs.Prelude.{◌≡◌, ◌≤◌, ◌+◌, ◌++◌, List, IfOk, OnOk, OnErr};
+ghost use Rattle.std.specs.Vec.{vec_capacity, vec_len};
 ghost use Rattle.tf_rules.specs.Answers.{IsAnswer, Rising};
 ghost use Rattle.tf_rules.specs.Issues.{File, asked_of};
 ghost use Rattle.tf_rules.specs.Kept.{kept_of, nothing, with_file};
 
 use crate::issue::Issue;
 use crate::kept::{KeptComment, KeptDeclaration, TokenPlace};
+use crate::kept_file::kept_file;
+use crate::owners::add_references_of;
 use crate::settings::Settings;
 use crate::text_set::TextSet;
-use hcl_syntax::Accepted;
+use hcl_syntax::{Accepted, outline};
 use std::alloc::{AllocError, Global};
 use std::marker::Model;
 
@@ -42,6 +45,16 @@ impl Model for Facts {
     } };
 }
 
+/// Moves all that is in one list behind what is in another, which has room for it.
+fn move_behind<T>(from: &mut Vec<T>, into: &mut Vec<T>)
+    requires { vec_len into.old + vec_len from.old ≤ vec_capacity into.old }
+    ensures { into.new.items ≡ into.old.items ++ from.old.items }
+{
+    let Ok(()) = into.append(from) else {
+        unreachable!();
+    };
+}
+
 impl Facts {
     /// The facts of no file.
     pub fn new(alloc: Global) -> Result<Facts, AllocError>
@@ -59,15 +72,22 @@ impl Facts {
 
     /// Keeps what the rules need of one file more, whose number is above those of the files before it. On refusal the
     /// facts are as they were.
-    pub fn add_file(
-        &mut self,
-        number: u32,
-        accepted: &Accepted<'_, '_>,
-    ) -> Result<(), AllocError>
+    pub fn add_file(&mut self, number: u32, accepted: &Accepted<'_, '_>) -> Result<(), AllocError>
         ensures ok { OnOk result (self.new ≡ with_file self.old (record { number = number; source = accepted.now })) }
         ensures err { OnErr result (self.new ≡ self.old) }
     {
-        Err(AllocError)
+        let items = outline(self.alloc, accepted)?;
+        let mut kept = kept_file(self.alloc, number, accepted, &items)?;
+        self.comments.reserve(kept.comments.len())?;
+        self.indexes.reserve(kept.indexes.len())?;
+        self.interpolations.reserve(kept.interpolations.len())?;
+        self.declarations.reserve(kept.declarations.len())?;
+        add_references_of(self.alloc, accepted, &items, &mut self.references)?;
+        move_behind(&mut kept.comments, &mut self.comments);
+        move_behind(&mut kept.indexes, &mut self.indexes);
+        move_behind(&mut kept.interpolations, &mut self.interpolations);
+        move_behind(&mut kept.declarations, &mut self.declarations);
+        Ok(())
     }
 
     /// The issues of the files, by file, then token, then the name of the rule.

@@ -13,7 +13,9 @@ mod facts;
 mod file_facts;
 mod found;
 mod issue;
+mod keeping;
 mod kept;
+mod kept_file;
 pub mod laws;
 mod module_source;
 mod names;
@@ -23,6 +25,7 @@ mod owners;
 #[cfg(test)]
 mod part_tests;
 mod pattern;
+mod placer;
 mod plain_text;
 mod reference;
 mod references;
