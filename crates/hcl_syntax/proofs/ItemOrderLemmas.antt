@@ -1,12 +1,12 @@
 -- Items begin in the order of their tokens.
-use Rattle.std.proofs.Common.{◌≡◌, subst, ℕ, suc, zero, ◌+◌, ◌≤◌, Bool, true, false, cond, not, List, [], ◌∷◌, ◌++◌, length, arith}
+use Rattle.std.proofs.Common.{◌≡◌, subst, ℕ, suc, zero, ◌+◌, ◌≤◌, ◌<◌, Bool, true, false, cond, not, List, [], ◌∷◌, ◌++◌, length, arith}
 use Rattle.std.specs.Prelude.{◌&&◌, filter, nat_lt}
 use Rattle.std.specs.List.{flat_map}
 use Rattle.hcl_scan.specs.Lexemes.{Lexeme}
 use Rattle.hcl_scan.specs.declared.token.Kind.{Kind}
 use Rattle.hcl_syntax.specs.Numbered.{Numbered, numbered, numbered_from, uncommented, is_newline, is_comment, is_assign, is_brace_open, is_brace_close, is_ident, is_quote_open, end_of}
 use Rattle.hcl_syntax.specs.Items.{deepen, is_closed, onto, pieces, behind_brace, block_end, body, block, item_of, items, label_at, labels, outline, closing_quote}
-use Rattle.hcl_syntax.specs.ItemOrder.{Climbs, lead}
+use Rattle.hcl_syntax.specs.ItemOrder.{Climbs, Spans, lead, past}
 use Rattle.hcl_syntax.specs.declared.item.Item.{Item}
 use Rattle.hcl_syntax.specs.declared.item.Item.TheVariants as item
 
@@ -39,21 +39,41 @@ pub rises_numbered : (n : ℕ) (xs : List Lexeme) → Rises n (numbered_from n x
 rises_numbered n [] = omega arith
 rises_numbered n (x ∷ xs) = (omega arith, let e : n + 1 + length xs ≡ n + length (x ∷ xs) = omega arith in subst (λ (to : ℕ). Rises (n + 1) (numbered_from (n + 1) xs) to) e (rises_numbered (n + 1) xs))
 
+pub spans_lead : (from to : ℕ) (i : Item) → Spans from i to → from ≤ lead i
+spans_lead from to (item.Attribute level name first end) h = h.0
+spans_lead from to (item.Block level kind end) h = h.0
+spans_lead from to (item.Label l) h = h.0
+
+pub spans_past : (from to : ℕ) (i : Item) → Spans from i to → lead i < past i
+spans_past from to (item.Attribute level name first end) h = omega (arith, h.1, h.2)
+spans_past from to (item.Block level kind end) h = omega arith
+spans_past from to (item.Label l) h = omega arith
+
+spans_from : (from later to : ℕ) (i : Item) → from ≤ later → Spans later i to → Spans from i to
+spans_from from later to (item.Attribute level name first end) h s = (omega (arith, h, s.0), s.1, s.2, s.3)
+spans_from from later to (item.Block level kind end) h s = (omega (arith, h, s.0), s.1)
+spans_from from later to (item.Label l) h s = (omega (arith, h, s.0), s.1)
+
+spans_to : (from to more : ℕ) (i : Item) → to ≤ more → Spans from i to → Spans from i more
+spans_to from to more (item.Attribute level name first end) h s = (s.0, s.1, s.2, omega (arith, s.3, h))
+spans_to from to more (item.Block level kind end) h s = (s.0, omega (arith, s.1, h))
+spans_to from to more (item.Label l) h s = (s.0, omega (arith, s.1, h))
+
 pub climbs_wide : (from to : ℕ) (is : List Item) → Climbs from is to → from ≤ to
 climbs_wide from to [] h = h
-climbs_wide from to (i ∷ is) h = omega (arith, h.0, climbs_wide (lead i + 1) to is h.2)
+climbs_wide from to (i ∷ is) h = omega (arith, spans_lead from to i h.0, spans_past from to i h.0, climbs_wide (past i) to is h.1)
 
 climbs_from : (from later to : ℕ) (is : List Item) → from ≤ later → Climbs later is to → Climbs from is to
 climbs_from from later to [] h r = omega (arith, h, r)
-climbs_from from later to (i ∷ is) h r = (omega (arith, h, r.0), r.1, r.2)
+climbs_from from later to (i ∷ is) h r = (spans_from from later to i h r.0, r.1)
 
 climbs_to : (from to more : ℕ) (is : List Item) → to ≤ more → Climbs from is to → Climbs from is more
 climbs_to from to more [] h r = omega (arith, h, r)
-climbs_to from to more (i ∷ is) h r = (r.0, omega (arith, r.1, h), climbs_to (lead i + 1) to more is h r.2)
+climbs_to from to more (i ∷ is) h r = (spans_to from to more i h r.0, climbs_to (past i) to more is h r.1)
 
-pub climbs_both : (from mid to : ℕ) (is js : List Item) → Climbs from is mid → Climbs mid js to → Climbs from (is ++ js) to
+climbs_both : (from mid to : ℕ) (is js : List Item) → Climbs from is mid → Climbs mid js to → Climbs from (is ++ js) to
 climbs_both from mid to [] js h k = climbs_from from mid to js h k
-climbs_both from mid to (i ∷ is) js h k = (h.0, omega (arith, h.1, climbs_wide mid to js k), climbs_both (lead i + 1) mid to is js h.2 k)
+climbs_both from mid to (i ∷ is) js h k = (spans_to from mid to i (climbs_wide mid to js k) h.0, climbs_both (past i) mid to is js h.1 k)
 
 -- pieces one behind the other
 abbrev pub AllRise : ℕ → List (List Numbered) → ℕ → Type 0
@@ -81,13 +101,17 @@ end_within from to [] h = omega arith
 end_within from to (t ∷ []) h = h.1
 end_within from to (t ∷ u ∷ ts) h = end_within (t.number + 1) to (u ∷ ts) h.1
 
+end_behind : (to : ℕ) (t : Numbered) (ts : List Numbered) → Rises (t.number + 1) ts to → t.number + 1 ≤ end_of (t ∷ ts)
+end_behind to t [] h = omega arith
+end_behind to t (u ∷ us) h = omega (arith, h.0, end_behind to u us h.1)
+
 -- the labels in front of the first opening brace, and what stands behind it
 label_climbs : (n : ℕ) (k : Kind) (rest : List Numbered) → Climbs n (label_at n k rest) (n + 1)
 label_climbs n k rest = by (is_ident k) (is_quote_open k)
   where
     by : (a b : Bool) → Climbs n (cond a (item.Label (record { first = n; last = n }) ∷ []) (cond b (item.Label (record { first = n; last = closing_quote rest }) ∷ []) [])) (n + 1)
-    by true b = (omega arith, omega arith, omega arith)
-    by false true = (omega arith, omega arith, omega arith)
+    by true b = ((omega arith, omega arith), omega arith)
+    by false true = ((omega arith, omega arith), omega arith)
     by false false = omega arith
 
 labels_climb : (from to : ℕ) (ts : List Numbered) → Rises from ts to → (mid : ℕ) × Climbs from (labels ts) mid × Rises mid (behind_brace ts) to
@@ -107,8 +131,7 @@ module _ (inner : List Numbered → List Item) (climb : Climbing inner) (level :
   block_climbs : (from to : ℕ) (kind : Numbered) (rest : List Numbered) → from ≤ kind.number → Rises (kind.number + 1) rest to → Climbs from (block inner level kind rest) to
   block_climbs from to kind rest h r =
       let l : (mid : ℕ) × Climbs (kind.number + 1) (labels rest) mid × Rises mid (behind_brace rest) to = labels_climb (kind.number + 1) to rest r in (
-        h,
-        end_within (kind.number + 1) to (filter (λ t. is_brace_close t.kind) rest) (rises_filter (λ t. is_brace_close t.kind) (kind.number + 1) to rest r),
+        (h, end_within (kind.number + 1) to (filter (λ t. is_brace_close t.kind) rest) (rises_filter (λ t. is_brace_close t.kind) (kind.number + 1) to rest r)),
         climbs_both (kind.number + 1) l.0 to (labels rest) (inner (body rest)) l.1 (climb l.0 to (body rest) (rises_filter (λ t. nat_lt (t.number + 1) (block_end rest)) l.0 to (behind_brace rest) l.2)),
       )
 
@@ -118,7 +141,9 @@ module _ (inner : List Numbered → List Item) (climb : Climbing inner) (level :
   item_climbs from to (name ∷ second ∷ rest) h = by (is_assign second.kind)
     where
       by : (b : Bool) → Climbs from (cond b (item.Attribute level name.number (second.number + 1) (end_of (second ∷ rest)) ∷ []) (block inner level name (second ∷ rest))) to
-      by true = (h.0, end_within (name.number + 1) to (second ∷ rest) h.1, rises_wide (name.number + 1) to (second ∷ rest) h.1)
+      by true =
+          let last : end_of (second ∷ rest) ≤ to = end_within (name.number + 1) to (second ∷ rest) h.1 in
+          ((h.0, omega (arith, h.1.0), end_behind to second rest h.1.1, last), last)
       by false = block_climbs from to name (second ∷ rest) h.0 h.1
 
   all_climb : (from to : ℕ) (ps : List (List Numbered)) → AllRise from ps to → Climbs from (flat_map (item_of inner level) ps) to

@@ -29,7 +29,8 @@ pub fn answer_has_run()
     ensures { (tokens : List Lookahead) → Run 0 (file at Seen ∷ []) tokens (refusal_of tokens) }
 {}
 
-/// Each item begins behind the one before it, and reaches no further than the tokens.
+/// Each item begins behind the one before it, an attribute's value and a label's or block's first token included, and
+/// reaches no further than the tokens.
 pub fn climbs()
     ensures { (tokens : List Lexeme) → Climbs 0 (outline tokens) (length tokens) }
 {}

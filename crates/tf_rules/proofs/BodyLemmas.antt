@@ -7,12 +7,12 @@ use Rattle.std.proofs.lemmas.List.{drop_all}
 use Rattle.hcl_scan.specs.Lexemes.{Lexeme}
 use Rattle.hcl_syntax.specs.Numbered.{Numbered, numbered}
 use Rattle.hcl_syntax.specs.Items.{outline}
-use Rattle.hcl_syntax.specs.ItemOrder.{Climbs, lead}
+use Rattle.hcl_syntax.specs.ItemOrder.{Climbs, lead, past}
 use Rattle.hcl_syntax.specs.Labels.{first_text, text_of}
 use Rattle.hcl_syntax.specs.declared.item.Item.{Item}
 use Rattle.hcl_syntax.specs.declared.item.Item.TheVariants as item
 use Rattle.hcl_syntax.proofs.WordLemmas.{drop_at, numbered_here}
-use Rattle.hcl_syntax.proofs.ItemOrderLemmas.{climbs_wide, outline_climbs}
+use Rattle.hcl_syntax.proofs.ItemOrderLemmas.{climbs_wide, outline_climbs, spans_past}
 use Rattle.tf_rules.specs.Inner.Values.{value_of_attribute, value_of_item}
 use Rattle.tf_rules.specs.declared.value.Value.{Value}
 use Rattle.tf_rules.specs.Declarations.{Attribute, attribute, attributes_in, has, is_inside, labels_in, with_attribute}
@@ -21,11 +21,12 @@ use Rattle.tf_rules.specs.Declarations.{Attribute, attribute, attributes_in, has
 lead_within : (from to : ℕ) (is : List Item) (n : ℕ) (i : Item) → Climbs from is to → slice_get is n ≡ Some i → lead i < to
 lead_within from to [] n i h e = absurd (cc)
 lead_within from to (x ∷ xs) zero i h e =
-    let wide : lead x + 1 ≤ to = climbs_wide (lead x + 1) to xs h.2 in
+    let wide : past x ≤ to = climbs_wide (past x) to xs h.1 in
+    let low : lead x < past x = spans_past from to x h.0 in
     let same : x ≡ i = cc in
     let leads : lead x ≡ lead i = ap lead same in
     omega arith
-lead_within from to (x ∷ xs) (suc n) i h e = lead_within (lead x + 1) to xs n i h.2 e
+lead_within from to (x ∷ xs) (suc n) i h e = lead_within (past x) to xs n i h.1 e
 
 pub begins_within : (tokens : List Lexeme) (n : ℕ) (i : Item) → slice_get (outline tokens) n ≡ Some i → lead i < length tokens
 begins_within tokens n i e = lead_within 0 (length tokens) (outline tokens) n i (outline_climbs tokens) e
@@ -38,10 +39,10 @@ module _ (ts : List Numbered) (items : List Item) (n : ℕ) (i : Item) (e : slic
   attributes_here = ap (attributes_in ts) (drop_at items n i e)
 
 pub labels_none : (ts : List Numbered) (items : List Item) (n : ℕ) → length items ≤ n → labels_in ts (drop n items) ≡ []
-labels_none ts items n past = ap (labels_in ts) (drop_all n items past)
+labels_none ts items n all = ap (labels_in ts) (drop_all n items all)
 
 pub attributes_none : (ts : List Numbered) (items : List Item) (n : ℕ) → length items ≤ n → attributes_in ts (drop n items) ≡ []
-attributes_none ts items n past = ap (attributes_in ts) (drop_all n items past)
+attributes_none ts items n all = ap (attributes_in ts) (drop_all n items all)
 
 -- ---- one attribute and more
 

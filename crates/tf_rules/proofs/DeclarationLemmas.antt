@@ -7,13 +7,13 @@ use Rattle.std.proofs.lemmas.List.{append-nil, drop_all}
 use Rattle.hcl_scan.specs.Lexemes.{Lexeme}
 use Rattle.hcl_syntax.specs.Numbered.{Numbered, numbered}
 use Rattle.hcl_syntax.specs.Items.{is_closed, outline}
-use Rattle.hcl_syntax.specs.ItemOrder.{Climbs, lead}
+use Rattle.hcl_syntax.specs.ItemOrder.{Climbs, past}
 use Rattle.hcl_syntax.specs.Labels.{text_of}
 use Rattle.hcl_syntax.specs.declared.item.Item.{Item}
 use Rattle.hcl_syntax.specs.declared.item.Item.TheVariants as item
 use Rattle.hcl_syntax.proofs.WordLemmas.{drop_at}
 use Rattle.hcl_syntax.proofs.ItemOrderLemmas.{outline_climbs}
-use Rattle.tf_rules.specs.Declarations.{Attribute, Declaration, Declarer, SourceAt, PlainText, attribute, attributes_in, by_declarer, declarer, has, is_inside, is_module, module_source, of_block, of_item, of_items, of_local, plain_text, source_at, source_of_attribute, value_of, with_attribute}
+use Rattle.tf_rules.specs.Declarations.{Attribute, Declaration, Declarer, SourceAt, PlainText, attribute, attributes_in, by_declarer, declarer, has, is_inside, is_module, module_source, of_item, of_items, of_local, plain_text, source_at, source_of_attribute, with_attribute}
 use Rattle.tf_rules.specs.Sources.{Source, source_of}
 use Rattle.tf_rules.specs.Inner.FoundViews.{declaration, texts_of}
 use Rattle.tf_rules.specs.Inner.FoundViews as found
@@ -42,30 +42,30 @@ texts_are names.More texts h few = absurd (omega (arith, h, few))
 climbs_drop : (from to n : ℕ) (is : List Item) → Climbs from is to → (later : ℕ) × Climbs later (drop n is) to
 climbs_drop from to zero is c = (from, c)
 climbs_drop from to (suc n) [] c = (from, c)
-climbs_drop from to (suc n) (i ∷ is) c = climbs_drop (lead i + 1) to n is c.2
+climbs_drop from to (suc n) (i ∷ is) c = climbs_drop (past i) to n is c.1
 
 -- an attribute ends within
 ends_within : (ts : List Numbered) (p : Attribute → Bool) (from to : ℕ) (is : List Item) (a : Attribute) → Climbs from is to → find p (attributes_in ts is) ≡ Some a → a.end ≤ to
 ends_within ts p from to [] a c e = absurd (cc)
-ends_within ts p from to (item.Attribute level name first end ∷ is) a c e = by (λ h. ends_within ts p (name + 1) to is a c.2 h) (is_closed level) (level == 1) e
+ends_within ts p from to (item.Attribute level name first end ∷ is) a c e = by (λ h. ends_within ts p end to is a c.1 h) (is_closed level) (level == 1) e
   where
     it : Attribute
     it = record { name = text_of ts name; token = name; first = first; end = end }
 
     one : (find p (attributes_in ts is) ≡ Some a → a.end ≤ to) → (b : Bool) → cond b (Some it) (find p (attributes_in ts is)) ≡ Some a → a.end ≤ to
-    one more true h = let same : it ≡ a = cc in let ends : end ≡ a.end = ap (λ x. x.end) same in omega (arith, ends, c.1)
+    one more true h = let same : it ≡ a = cc in let ends : end ≡ a.end = ap (λ x. x.end) same in omega (arith, ends, c.0.3)
     one more false h = more h
 
     by : (find p (attributes_in ts is) ≡ Some a → a.end ≤ to) → (b d : Bool) → find p (cond (not b) (with_attribute (cond d (Some it) None) (attributes_in ts is)) []) ≡ Some a → a.end ≤ to
     by more true d h = absurd (cc)
     by more false true h = one more (p it) h
     by more false false h = more h
-ends_within ts p from to (item.Block level kind end ∷ is) a c e = by (λ h. ends_within ts p (kind + 1) to is a c.2 h) (is_closed level) e
+ends_within ts p from to (item.Block level kind end ∷ is) a c e = by (λ h. ends_within ts p (kind + 1) to is a c.1 h) (is_closed level) e
   where
     by : (find p (attributes_in ts is) ≡ Some a → a.end ≤ to) → (b : Bool) → find p (cond (not b) (attributes_in ts is) []) ≡ Some a → a.end ≤ to
     by more true h = absurd (cc)
     by more false h = more h
-ends_within ts p from to (item.Label l ∷ is) a c e = ends_within ts p (l.first + 1) to is a c.2 e
+ends_within ts p from to (item.Label l ∷ is) a c e = ends_within ts p (l.first + 1) to is a c.1 e
 
 value_ends : (to : ℕ) (o : Option Attribute) (v : Value) → ((a : Attribute) → o ≡ Some a → a.end ≤ to) → option_map value_of_attribute o ≡ Some v → v.end ≤ to
 value_ends to None v h e = absurd (cc)

@@ -1,6 +1,6 @@
 -- The blocks of variables, item by item.
 use Rattle.std.proofs.Common.{◌≡◌, ◌∙◌, ap, sym, refl, ℕ, suc, zero, ◌+◌, ◌<◌, ◌≤◌, Bool, true, false, cond, List, [], ◌∷◌, ◌++◌, append_assoc, map, drop, length, arith}
-use Rattle.std.specs.Prelude.{Option, Some, None, codes, filter, slice_get}
+use Rattle.std.specs.Prelude.{Some, codes, filter, slice_get}
 use Rattle.std.specs.Str.{bytes_eq}
 use Rattle.std.proofs.lemmas.List.{append-nil, drop_all, map-append}
 use Rattle.std.proofs.lemmas.Slice.Eq.{bytes_eq-Decides}
@@ -13,7 +13,7 @@ use Rattle.hcl_syntax.proofs.WordLemmas.{drop_at}
 use Rattle.tf_rules.specs.Declarations.{Attribute, Declaration, attributes_in, by_declarer, declarer, is_empty, labels_in, of_block, of_local}
 use Rattle.tf_rules.specs.References.{Own, is_variable, last_of, own_of_item, own_of_items}
 use Rattle.tf_rules.specs.OwnBlocks.{own_of}
-use Rattle.tf_rules.specs.Inner.FoundViews.{declaration, own_listed, texts_of}
+use Rattle.tf_rules.specs.Inner.FoundViews.{declaration, texts_of}
 use Rattle.tf_rules.specs.declared.found.Declared.{Declared}
 use Rattle.tf_rules.specs.declared.own_block.OwnBlock.{OwnBlock}
 use Rattle.tf_rules.proofs.OwnLemmas.{no_locals}

@@ -1,5 +1,5 @@
 use Rattle.std.proofs.Common.{◌≡◌, ◌∙◌, ◌≤◌, ap, sym, refl, subst, List, drop, length}
-use Rattle.std.specs.Prelude.{Option, Some, codes, find}
+use Rattle.std.specs.Prelude.{Some, codes, find}
 use Rattle.std.specs.Option.{option_map}
 use Rattle.std.specs.Str.{bytes_eq}
 use Rattle.hcl_scan.specs.Scanned.{Scanned}

@@ -1,11 +1,11 @@
-use Rattle.std.proofs.Common.{◌≡◌, ◌∙◌, ap, map, ℕ, List}
+use Rattle.std.proofs.Common.{◌∙◌, ap, map, ℕ, List}
 use Rattle.hcl_scan.specs.Scanned.{Scanned}
 use Rattle.hcl_syntax.specs.Numbered.{numbered}
 use Rattle.tf_rules.specs.Comments.{Comment, comments}
 use Rattle.tf_rules.specs.Declarations.{Declaration, declarations}
 use Rattle.tf_rules.specs.Findings.{Facts}
 use Rattle.tf_rules.specs.Patterns.{legacy_indexes, wrapped_interpolations}
-use Rattle.tf_rules.specs.Inner.FoundViews.{comment, declaration}
+use Rattle.tf_rules.specs.Inner.FoundViews.{declaration}
 use Rattle.tf_rules.proofs.file_facts.file_facts.Goals as goal
 
 abbrev made : List (Comment ℕ) → List ℕ → List ℕ → List (Declaration ℕ) → Facts ℕ

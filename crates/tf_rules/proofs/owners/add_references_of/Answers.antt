@@ -1,4 +1,4 @@
-use Rattle.std.proofs.Common.{◌≡◌, ◌∙◌, ap, map, false, List}
+use Rattle.std.proofs.Common.{◌∙◌, ap, map, false, List}
 use Rattle.std.specs.Str.{bytes_eq}
 use Rattle.indexmap.specs.IndexSet.{insert_all}
 use Rattle.hcl_scan.specs.Scanned.{Scanned}

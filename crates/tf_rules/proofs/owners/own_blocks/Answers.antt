@@ -1,4 +1,4 @@
-use Rattle.std.proofs.Common.{◌∙◌, ap, sym, subst, ℕ, List, arith}
+use Rattle.std.proofs.Common.{◌∙◌, ap, sym, subst, List, arith}
 use Rattle.hcl_syntax.specs.Numbered.{numbered}
 use Rattle.tf_rules.specs.OwnBlocks.{Apart}
 use Rattle.tf_rules.specs.References.{Own, own_of_items}

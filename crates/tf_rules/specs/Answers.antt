@@ -1,0 +1,24 @@
+-- What the calls answer of the issues of a module: the ordered list, each issue with the number of its file, its position,
+-- its rule and its message. The files of a module have rising numbers, so that no two issues stand at one place by one rule.
+use Rattle.std.specs.Prelude.{◌≡◌, ◌<◌, List, map}
+use Rattle.tf_rules.specs.Ordered.{Ascends}
+use Rattle.tf_rules.specs.Issues.{Asked, File, IsReport}
+use Rattle.tf_rules.specs.Issues as issues
+use Rattle.tf_rules.specs.declared.issue.Issue.{Issue}
+
+abbrev pub shown : issues.Issue → Issue
+shown i = record { file = i.place.file; at = i.place.at; rule = i.rule; message = i.message }
+
+-- the number of a file is below another's
+abbrev pub IsBelow : File → File → Type 0
+IsBelow file other = file.number < other.number
+
+-- the numbers of files rise
+abbrev pub Rising : List File → Type 0
+Rising files = Ascends IsBelow files
+
+-- THE ANSWER: the ordered list of the issues of files, as it is shown
+pub record IsAnswer (asked : Asked) (files : List File) (answer : List Issue) : Type 0 where
+  pub report : List issues.Issue
+  pub is : IsReport asked files report
+  pub same : map shown report ≡ answer

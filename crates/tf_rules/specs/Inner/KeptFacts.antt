@@ -1,0 +1,9 @@
+-- What contracts see of what is kept of one file.
+use Rattle.std.specs.Prelude.{map}
+use Rattle.tf_rules.specs.Findings.{Facts}
+use Rattle.tf_rules.specs.Issues.{Place}
+use Rattle.tf_rules.specs.Inner.KeptViews.{kept_comment, kept_declaration, place_of}
+use Rattle.tf_rules.specs.declared.kept_file.KeptFile.{KeptFile}
+
+abbrev pub kept_facts : KeptFile → Facts Place
+kept_facts f = record { comments = map kept_comment f.comments.items; indexes = map place_of f.indexes.items; interpolations = map place_of f.interpolations.items; declarations = map kept_declaration f.declarations.items }

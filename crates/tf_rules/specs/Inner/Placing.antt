@@ -1,0 +1,46 @@
+-- A walk through the tokens of a file, and the tokens that it can go to one behind the other.
+use Rattle.std.specs.Prelude.{◌≡◌, ◌<◌, ◌≤◌, ◌++◌, ℕ, List, [], ◌∷◌, Option, Some, None, drop, length, map}
+use Rattle.std.specs.List.{flat_map}
+use Rattle.hcl_scan.specs.Lexemes.{Lexeme}
+use Rattle.hcl_syntax.specs.Verdict.{start_of}
+use Rattle.tf_rules.specs.Declarations.{Declaration, SourceAt}
+use Rattle.tf_rules.specs.Issues.{File}
+
+-- a file, and the offset of the last token whose place was asked for
+pub record Placing : Type 0 where
+  pub file : File
+  pub reached : ℕ
+
+-- from an offset on, the walk can go to the tokens of these numbers
+abbrev pub Forward : List Lexeme → ℕ → List ℕ → Type 0
+Forward tokens reached [] = Unit {0}
+Forward tokens reached (n ∷ ns) = (n < length tokens) × (reached ≤ start_of tokens n) × Forward tokens (start_of tokens n) ns
+
+-- where it is then
+abbrev pub behind : List Lexeme → ℕ → List ℕ → ℕ
+behind tokens reached [] = reached
+behind tokens reached (n ∷ ns) = behind tokens (start_of tokens n) ns
+
+abbrev pub gone : Placing → List ℕ → Placing
+gone p numbers = record { file = p.file; reached = behind p.file.source.tokens p.reached numbers }
+
+-- the walk can go to these tokens
+abbrev pub CanGo : Placing → List ℕ → Type 0
+CanGo p numbers = Forward p.file.source.tokens p.reached numbers
+
+-- ---- the tokens that what is found names, in order
+
+abbrev pub quotes : Option (SourceAt ℕ) → List ℕ
+quotes None = []
+quotes (Some s) = s.at ∷ []
+
+abbrev pub numbers_of : Declaration ℕ → List ℕ
+numbers_of d = d.at ∷ quotes d.source
+
+-- ---- a loop over what was found
+
+-- what was kept of the first, with what is still to be kept, is all, and the walk can go on
+pub record IsKeeping {X K V : Type 0} (view : K → V) (whole : X → V) (numbers : X → List ℕ) (file : File) (all : List X) (kept : List K) (n : ℕ) (p : Placing) : Type 0 where
+  pub so_far : map view kept ++ map whole (drop n all) ≡ map whole all
+  pub same : p.file ≡ file
+  pub ahead : Forward file.source.tokens p.reached (flat_map numbers (drop n all))

@@ -1,0 +1,130 @@
+//! What was found in a file, as it is kept: with places, and names of its own.
+
+ghost use Rattle.std.specs.Prelude.{◌≡◌, ◌<◌, [], ◌∷◌, ℕ, length, map, slice_get, Some, IfOk, OnOk};
+ghost use Rattle.std.specs.List.{flat_map};
+ghost use Rattle.std.specs.Option.{option_map};
+ghost use Rattle.tf_rules.specs.Issues.{comment_at, place_in};
+ghost use Rattle.tf_rules.specs.Kept.{declaration_at, source_at};
+ghost use Rattle.tf_rules.specs.Inner.FoundViews.{declaration, texts_of};
+ghost use Rattle.tf_rules.specs.Inner.FoundViews as found;
+ghost use Rattle.tf_rules.specs.Inner.KeptViews.{kept_comment, kept_declaration, kept_names, kept_source, place_of};
+ghost use Rattle.tf_rules.specs.Inner.Placing.{CanGo, gone, numbers_of, quotes};
+
+use crate::found::{Declared, FoundComment, FoundSource};
+use crate::kept::{KeptComment, KeptDeclaration, KeptNames, KeptSource, TokenPlace};
+use crate::names::Names;
+use crate::placer::Placer;
+use std::alloc::{AllocError, Global};
+
+/// The places of the tokens of these numbers.
+pub fn places(
+    alloc: Global,
+    numbers: &[usize],
+    mut placer: Placer<'_, '_>,
+) -> Result<Vec<TokenPlace>, AllocError>
+    requires { CanGo placer numbers.now }
+    ensures { IfOk result (λ kept. map place_of kept.items ≡ map (place_in placer.entry.file) numbers.now) }
+{
+    let mut kept = Vec::new(alloc);
+    for number in numbers {
+        kept.push(placer.place(*number))?;
+    }
+    Ok(kept)
+}
+
+fn kept_comment(comment: FoundComment, placer: &mut Placer<'_, '_>) -> KeptComment
+    requires { CanGo placer.old (comment.at ∷ []) }
+    ensures kept { kept_comment result ≡ comment_at (place_in placer.old.file) (found.comment comment) }
+    ensures moved { placer.new ≡ gone placer.old (comment.at ∷ []) }
+{
+    KeptComment {
+        at: placer.place(comment.at),
+        has_slashes: comment.has_slashes,
+        silences: comment.silences,
+    }
+}
+
+/// Comments as they are kept.
+pub fn kept_comments(
+    alloc: Global,
+    comments: &[FoundComment],
+    mut placer: Placer<'_, '_>,
+) -> Result<Vec<KeptComment>, AllocError>
+    requires { CanGo placer (map (λ c. c.at) comments.now) }
+    ensures { IfOk result (λ kept. map kept_comment kept.items ≡ map (λ c. comment_at (place_in placer.entry.file) (found.comment c)) comments.now) }
+{
+    let mut kept = Vec::new(alloc);
+    for comment in comments {
+        kept.push(kept_comment(*comment, &mut placer))?;
+    }
+    Ok(kept)
+}
+
+/// A copy of the labels of a block.
+fn kept_names(alloc: Global, names: Names<'_>) -> Result<KeptNames, AllocError>
+    ensures { IfOk result (λ kept. kept_names kept ≡ texts_of names.entry) }
+{
+    match names {
+        Names::None => Ok(KeptNames::None),
+        Names::One(name) => Ok(KeptNames::One(String::from_str(alloc, name)?)),
+        Names::Two(first, second) => {
+            let first = String::from_str(alloc, first)?;
+            let second = String::from_str(alloc, second)?;
+            Ok(KeptNames::Two(first, second))
+        }
+        Names::More => Ok(KeptNames::More),
+    }
+}
+
+fn kept_source(source: Option<FoundSource>, placer: &mut Placer<'_, '_>) -> Option<KeptSource>
+    requires { CanGo placer.old (quotes (option_map found.source_at source)) }
+    ensures kept { option_map kept_source result ≡ source_at (place_in placer.old.file) (option_map found.source_at source) }
+    ensures moved { placer.new ≡ gone placer.old (quotes (option_map found.source_at source)) }
+{
+    let Some(source) = source else {
+        return None;
+    };
+    Some(KeptSource {
+        source: source.source,
+        at: placer.place(source.at),
+    })
+}
+
+fn kept_declaration(
+    alloc: Global,
+    declared: Declared<'_>,
+    placer: &mut Placer<'_, '_>,
+) -> Result<KeptDeclaration, AllocError>
+    requires { CanGo placer.old (numbers_of (declaration declared)) }
+    ensures kept { IfOk result (λ kept. kept_declaration kept ≡ declaration_at (place_in placer.old.file) (declaration declared.entry)) }
+    ensures moved { OnOk result (placer.new ≡ gone placer.old (numbers_of (declaration declared.entry))) }
+{
+    let names = kept_names(alloc, declared.names)?;
+    let at = placer.place(declared.at);
+    let source = kept_source(declared.source, placer);
+    Ok(KeptDeclaration {
+        kind: declared.kind,
+        names,
+        at,
+        is_described: declared.is_described,
+        is_typed: declared.is_typed,
+        is_versioned: declared.is_versioned,
+        source,
+    })
+}
+
+/// Declarations as they are kept.
+pub fn kept_declarations(
+    alloc: Global,
+    declarations: &[Declared<'_>],
+    mut placer: Placer<'_, '_>,
+) -> Result<Vec<KeptDeclaration>, AllocError>
+    requires { CanGo placer (flat_map (λ d. numbers_of (declaration d)) declarations.now) }
+    ensures { IfOk result (λ kept. map kept_declaration kept.items ≡ map (λ d. declaration_at (place_in placer.entry.file) (declaration d)) declarations.now) }
+{
+    let mut kept = Vec::new(alloc);
+    for declared in declarations {
+        kept.push(kept_declaration(alloc, *declared, &mut placer)?)?;
+    }
+    Ok(kept)
+}

@@ -1,0 +1,50 @@
+//! What is kept of the files of a module: places, names and flags, and no source.
+
+use crate::declaration_kind::DeclarationKind;
+use crate::module_source::ModuleSource;
+use crate::rule_set::RuleSet;
+use hcl_scan::Position;
+
+/// The place of a token: the number of its file, its own, and where it begins.
+#[derive(Clone, Copy)]
+pub struct TokenPlace {
+    pub file: u32,
+    pub token: usize,
+    pub at: Position,
+}
+
+/// A line comment that begins with `//` or silences a rule.
+#[derive(Clone, Copy)]
+pub struct KeptComment {
+    pub at: TokenPlace,
+    pub has_slashes: bool,
+    pub silences: RuleSet,
+}
+
+/// Up to two labels, or more, which declare nothing.
+#[derive(Drop)]
+pub enum KeptNames {
+    None,
+    One(String),
+    Two(String, String),
+    More,
+}
+
+/// The source of a module, and the place of its opening quote.
+#[derive(Clone, Copy)]
+pub struct KeptSource {
+    pub source: ModuleSource,
+    pub at: TokenPlace,
+}
+
+/// A declaration, and the place of the block's kind or of the attribute's name.
+#[derive(Drop)]
+pub struct KeptDeclaration {
+    pub kind: DeclarationKind,
+    pub names: KeptNames,
+    pub at: TokenPlace,
+    pub is_described: bool,
+    pub is_typed: bool,
+    pub is_versioned: bool,
+    pub source: Option<KeptSource>,
+}

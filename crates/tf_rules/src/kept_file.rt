@@ -1,0 +1,48 @@
+//! What is kept of one file, references aside.
+
+ghost use Rattle.std.specs.Prelude.{◌≡◌, IfOk};
+ghost use Rattle.hcl_syntax.specs.Items.{outline};
+ghost use Rattle.tf_rules.specs.Findings.{facts_of};
+ghost use Rattle.tf_rules.specs.Issues.{place_in, tokens_of};
+ghost use Rattle.tf_rules.specs.Kept.{facts_at};
+ghost use Rattle.tf_rules.specs.Inner.KeptFacts.{kept_facts};
+
+use crate::file_facts::file_facts;
+use crate::keeping::{kept_comments, kept_declarations, places};
+use crate::kept::{KeptComment, KeptDeclaration, TokenPlace};
+use crate::placer::Placer;
+use hcl_syntax::{Accepted, Outline};
+use std::alloc::{AllocError, Global};
+
+/// What is kept of one file, references aside.
+#[derive(Drop)]
+pub struct KeptFile {
+    pub comments: Vec<KeptComment>,
+    pub indexes: Vec<TokenPlace>,
+    pub interpolations: Vec<TokenPlace>,
+    pub declarations: Vec<KeptDeclaration>,
+}
+
+/// What is kept of the file of this number, by its outline. Each list takes one walk through the file.
+pub fn kept_file(
+    alloc: Global,
+    number: u32,
+    accepted: &Accepted<'_, '_>,
+    items: &Outline,
+) -> Result<KeptFile, AllocError>
+    requires { items.now ≡ outline accepted.now.tokens }
+    ensures { IfOk result (λ kept. kept_facts kept ≡ facts_at (place_in (record { number = number; source = accepted.now })) (facts_of (tokens_of (record { number = number; source = accepted.now })))) }
+{
+    let tokens = accepted.tokens();
+    let found = file_facts(alloc, accepted, items)?;
+    let comments = kept_comments(alloc, &found.comments, Placer::new(number, tokens))?;
+    let indexes = places(alloc, &found.indexes, Placer::new(number, tokens))?;
+    let interpolations = places(alloc, &found.interpolations, Placer::new(number, tokens))?;
+    let declarations = kept_declarations(alloc, &found.declarations, Placer::new(number, tokens))?;
+    Ok(KeptFile {
+        comments,
+        indexes,
+        interpolations,
+        declarations,
+    })
+}
