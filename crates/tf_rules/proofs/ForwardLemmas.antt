@@ -192,6 +192,9 @@ module _ (tokens : List Lexeme) where
   all_numbered : Rises 0 ts (length tokens)
   all_numbered = let e : 0 + length tokens ≡ length tokens = omega arith in subst (λ (to : ℕ). Rises 0 ts to) e (rises_numbered 0 tokens)
 
+  pub declarations_rise : Rise 0 (flat_map numbers_of (declarations ts)) (length tokens)
+  declarations_rise = (all_rise 0 (length tokens) (outline tokens) (outline_climbs tokens)).items
+
   -- ---- the walk goes to these
 
   module _ (text : List ℕ) (scanned : Scans text tokens) where
@@ -217,4 +220,4 @@ module _ (tokens : List Lexeme) where
     interpolations_forward = patterns_forward is_wrapped
 
     pub declarations_forward : Forward tokens 0 (flat_map numbers_of (declarations ts))
-    declarations_forward = goes_all (flat_map numbers_of (declarations ts)) ((all_rise 0 (length tokens) (outline tokens) (outline_climbs tokens)).items)
+    declarations_forward = goes_all (flat_map numbers_of (declarations ts)) declarations_rise

@@ -25,3 +25,4 @@ pub mod CommentLemmas
 pub mod ForwardLemmas
 pub mod KeepingLemmas
 pub mod KeptFileLemmas
+pub mod GrowthLemmas

@@ -6,6 +6,9 @@ ghost use Rattle.tf_rules.specs.Answers.{IsAnswer, Rising};
 ghost use Rattle.tf_rules.specs.Issues.{File, asked_of};
 ghost use Rattle.tf_rules.specs.Kept.{kept_of, nothing, with_file};
 
+#[cfg(test)]
+mod facts_tests;
+
 use crate::issue::Issue;
 use crate::kept::{KeptComment, KeptDeclaration, TokenPlace};
 use crate::kept_file::kept_file;
