@@ -31,3 +31,4 @@ pub mod DistinctLemmas
 pub mod ForwardLemmas
 pub mod KeepingLemmas
 pub mod KeptFileLemmas
+pub mod GrowthLemmas

@@ -12,6 +12,7 @@ pub mod Findings
 pub mod Ordered
 pub mod Issues
 pub mod Kept
+pub mod Growth
 pub mod Answers
 pub mod Agreement
 pub mod OwnBlocks

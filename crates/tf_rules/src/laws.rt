@@ -1,6 +1,6 @@
 //! What is proved of the definitions alone. No program calls these functions: their contracts are the laws.
 
-ghost use Rattle.std.specs.Prelude.{◌≡◌, ◌++◌, ◌∷◌, ◌≤◌, ◌<◌, [], ℕ, List, length};
+ghost use Rattle.std.specs.Prelude.{◌≡◌, ◌++◌, ◌∷◌, ◌+◌, ◌≤◌, ◌<◌, [], ℕ, List, length};
 ghost use Rattle.std.specs.List.{AllZip};
 ghost use Rattle.tf_rules.specs.Issues.{Asked, File, Issue, IsReport, issues};
 ghost use Rattle.tf_rules.specs.Agreement.{SameTokens, told_all};
@@ -10,11 +10,20 @@ ghost use Rattle.hcl_syntax.specs.Numbered.{numbered};
 ghost use Rattle.hcl_syntax.specs.Verdict.{start_of};
 ghost use Rattle.tf_rules.specs.OwnBlocks.{Apart};
 ghost use Rattle.tf_rules.specs.References.{own_blocks};
-ghost use Rattle.tf_rules.specs.Kept.{kept_of, with_file, issues_of_kept};
+ghost use Rattle.tf_rules.specs.Growth.{declared, entries};
+ghost use Rattle.tf_rules.specs.Kept.{Kept, kept_of, with_file, issues_of_kept};
 
 /// What is kept of files and one more is a function of what is kept of the files, and of that one.
 pub fn kept_of_more()
     ensures { (files : List File) (file : File) → kept_of (files ++ file ∷ []) ≡ with_file (kept_of files) file }
+{}
+
+/// Of one file more no more is kept than it has tokens: of comments, patterns and references together, and of
+/// declarations. Declarations are counted for themselves, since a declared name and a reference can begin at one token
+/// where the grammar does not forbid it.
+pub fn little_is_kept()
+    ensures entries { (kept : Kept) (file : File) → entries (with_file kept file) ≤ entries kept + length file.source.tokens }
+    ensures declared { (kept : Kept) (file : File) → declared (with_file kept file) ≤ declared kept + length file.source.tokens }
 {}
 
 /// The issues of files are a function of what is kept of them.
