@@ -7,7 +7,7 @@ import sys
 import tempfile
 
 import inputs
-from measure import MAX, best, in_ms, table
+from measure import MAX, MIB, best, in_ms, table
 
 TOP = pathlib.Path(__file__).resolve().parent.parent
 TIMES = 10
@@ -36,20 +36,21 @@ def main(name, cases):
         # it isn't in the style, as most of these inputs aren't: what is formatted is walked once less
         ordinary = inputs.messy(MAX)
         texts = [make(MAX) for _, make in cases]
+        small = [make(MIB) for _, make in cases]
         jobs = [job(ordinary, 'ordinary.tf')]
-        for number, ((label, make), text) in enumerate(zip(cases, texts)):
-            assert len(text) <= MAX, label
-            jobs += [job(text, '%02d.tf' % number), job(make(MAX // 2), '%02d-half.tf' % number)]
+        for number, ((label, _), text, less) in enumerate(zip(cases, texts, small)):
+            assert len(text) <= MAX and len(less) <= MIB, label
+            jobs += [job(text, '%02d.tf' % number), job(less, '%02d-small.tf' % number)]
         (usual, status), *found = best(jobs, TIMES, LIMIT)
-        rows = [['ordinary configuration', format(len(ordinary), ','), shown(status), in_ms(usual), '1.0', '']]
+        rows = [['ordinary configuration', format(len(ordinary), ','), shown(status), '', in_ms(usual), '1.0', '']]
         high = []
-        for (label, _), text, (taken, status), (half, _) in zip(cases, texts, found[::2], found[1::2]):
+        for (label, _), text, (taken, status), (less, _) in zip(cases, texts, found[::2], found[1::2]):
             ratio = taken / usual
-            rows.append([label, format(len(text), ','), shown(status), in_ms(taken), '%.1f' % ratio,
-                         '%.1f' % (taken / half)])
+            rows.append([label, format(len(text), ','), shown(status), in_ms(less), in_ms(taken), '%.1f' % ratio,
+                         '%.1f' % (taken / less)])
             if given.limit and ratio > given.limit or status is None or status not in (0, 2):
                 high.append(label)
-        print(table(['input', 'bytes', 'status', 'time', 'ratio', 'growth'], rows))
+        print(table(['input', 'bytes', 'status', '1 MiB', '4 MiB', 'ratio', 'growth'], rows))
     for label in high:
         print('too slow, or an unexpected status: %s' % label)
     return 1 if high else 0

@@ -2,12 +2,10 @@
 
 Ordinary configuration comes in three manners: `tidy` is in the style already, `messy` has the same words with
 other blanks, `dense` is mostly signs. Hostile inputs are made so that both they and their print have at most
-1,048,576 bytes.
+the given number of bytes.
 """
 
 import random
-
-from measure import MAX
 
 
 def _align(pairs, indent):
@@ -95,13 +93,13 @@ def dense(size):
     return _fill(int(size * 0.68), piece)                # the print is longer
 
 
-def _named(piece, printed):
+def _named(size, piece, printed):
     """`piece(name)` for one name after the other, as often as input and print have room.
 
     The names differ, since HashiCorp's parser refuses a name that comes twice. They are all of one length.
     `printed` is how much longer the print of a piece is.
     """
-    text, left = [], MAX
+    text, left = [], size
     for n in range(36 ** 3 * 26):
         name = chr(97 + n // 36 ** 3) + ''.join('0123456789abcdefghijklmnopqrstuvwxyz'[n // 36 ** i % 36]
                                                  for i in (2, 1, 0))
@@ -113,25 +111,25 @@ def _named(piece, printed):
     return b''.join(text)
 
 
-def long_line():
-    return b'a=[' + b'b,' * ((MAX - 16) // 3) + b']\n'
+def long_line(size):
+    return b'a=[' + b'b,' * ((size - 16) // 3) + b']\n'
 
 
-def short_lines():
-    return _named(lambda name: name + b'=1\n', 2)
+def short_lines(size):
+    return _named(size, lambda name: name + b'=1\n', 2)
 
 
-def comment_runs():
-    return _named(lambda name: name + b'=1#x\n' + b'long_name_' + name + b'=22#yy\n', 17)
+def comment_runs(size):
+    return _named(size, lambda name: name + b'=1#x\n' + b'long_name_' + name + b'=22#yy\n', 17)
 
 
-def groups_on_a_line():
-    return _named(lambda name: name + b'=' + b'(' * 256 + b'1' + b')' * 256 + b'\n', 2)
+def groups_on_a_line(size):
+    return _named(size, lambda name: name + b'=' + b'(' * 256 + b'1' + b')' * 256 + b'\n', 2)
 
 
-def groups_on_lines():
+def groups_on_lines(size):
     deep = 256
-    return _named(lambda name: name + b'=' + b'(\n' * deep + b'1\n' + b')\n' * deep,
+    return _named(size, lambda name: name + b'=' + b'(\n' * deep + b'1\n' + b')\n' * deep,
                   2 + 2 * 2 * sum(range(deep)) + 2 * deep)
 
 

@@ -11,7 +11,8 @@ import signal
 import subprocess
 import time
 
-MAX = 1048576           # the largest file, and the largest result
+MIB = 1048576
+MAX = 4 * MIB           # the largest file, and the largest result
 
 
 def _spawn(words, path):

@@ -16,3 +16,6 @@ pub mod RescanLemmas
 pub mod PlaceLemmas
 pub mod LoadLemmas
 pub mod NotedKindLemmas
+pub mod OlderScans
+pub mod OlderRuns
+pub mod OlderPrints

@@ -6,4 +6,5 @@ pub mod Gaps
 pub mod Print
 pub mod Reprinted
 pub mod Examples
+pub mod Older
 pub mod Inner

@@ -5,6 +5,9 @@ ghost use Rattle.std.specs.Prelude.{◌≡◌, ◌≤◌, ℕ, List, length};
 ghost use Rattle.hcl_scan.specs.Lexemes.{Lexeme};
 ghost use Rattle.hcl_scan.specs.Scans.{Scans};
 ghost use Rattle.hcl_layout.specs.Gaps.{gaps};
+ghost use Rattle.hcl_layout.specs.Older.Prints.{was_print};
+ghost use Rattle.hcl_layout.specs.Older.Rows.{WasAccepted};
+ghost use Rattle.hcl_layout.specs.Older.Tokens.{WasScanned};
 ghost use Rattle.hcl_layout.specs.Print.{print};
 ghost use Rattle.hcl_layout.specs.Reprinted.{printed_tokens};
 ghost use Rattle.hcl_syntax.specs.Classes.{lookaheads};
@@ -32,4 +35,10 @@ pub fn print_kept()
 pub fn idempotent()
     ensures { (text : List ℕ) (ts : List Lexeme) → IsText text → Scans text ts → IsAccepted ts → length (print ts) ≤ max_source
         → IsText (print ts) × Scans (print ts) (printed_tokens ts) × IsAccepted (printed_tokens ts) × (print (printed_tokens ts) ≡ print ts) }
+{}
+
+/// A text that was accepted by the tables before names with `::` has the same tokens by those of
+/// now, is accepted, and has the same print.
+pub fn older_files()
+    ensures { (text : List ℕ) (ts : List Lexeme) → WasScanned text ts → WasAccepted ts → Scans text ts × IsAccepted ts × (was_print ts ≡ print ts) }
 {}
