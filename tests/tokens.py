@@ -6,7 +6,7 @@ tokens of expressions are left out, except inside heredocs, where they are token
 
 import re
 
-MARKS = sorted('... => && || == != <= >= ( [ { ) ] . , ? : = ! - + * / % < >'.split(), key=len, reverse=True)
+MARKS = sorted('... => :: && || == != <= >= ( [ { ) ] . , ? : = ! - + * / % < >'.split(), key=len, reverse=True)
 NUMBER = re.compile(r'[0-9]+(\.[0-9]+)?([eE][+-]?[0-9]+)?')
 DIGITS = re.compile(r'[0-9]+')
 ESCAPE = re.compile(r'\\([nrt"\\]|u[0-9a-fA-F]{4}|U[0-9a-fA-F]{8})')

@@ -1,21 +1,25 @@
 -- What was scanned by the tables before is scanned to the same tokens, where no colon stands behind another: at two
 -- colons in the text, the older tables read one, and behind it the other.
-use Rattle.std.proofs.Common.{◌≡◌, ◌≢◌, ℕ, suc, ◌+◌, ◌<◌, ◌&&◌, ◌||◌, ◌==◌, not, Bool, true, false, cond, List, [], ◌∷◌, ◌++◌, length, drop, get_or, ◌⊎◌, inl, inr, ⊎_elim, refl, sym, ap, subst, ◌∙◌, arith, length-append}
-use Rattle.std.specs.List.{prefix_len}
+use Rattle.std.proofs.Common.{◌≡◌, ◌≢◌, ℕ, suc, ◌+◌, ◌<◌, ◌&&◌, ◌||◌, ◌==◌, not, Bool, true, false, cond, List, [], ◌∷◌, ◌++◌, length, drop, get_or, ◌⊎◌, inl, inr, ⊎_elim, refl, sym, ap, subst, ◌∙◌, arith, append_assoc}
+use Rattle.std.specs.Char.{is_ascii_digit}
+use Rattle.std.specs.List.{list_all, prefix_len}
+use Rattle.std.proofs.lemmas.List.{append-nil}
 use Rattle.std.proofs.lemmas.Bool.Decides.{nat_tests}
 use Rattle.hcl_scan.specs.Lexemes.{Lexeme, Opener, in_heredoc, moved}
-use Rattle.hcl_scan.specs.Spelling.{marks, IsMark, IsSpelling, IsExpressionText, context, Template, Expression, is_blank}
+use Rattle.hcl_scan.specs.Spelling.{marks, IsMark, IsSpelling, IsExpressionText, context, Template, Expression, is_blank, starts}
 use Rattle.hcl_scan.specs.Scans.{State, begin, ahead, gap_in, has_gaps_in, IsLongest, Shows, Reads, Closes, Next, Run, IsComplete, Scans}
 use Rattle.hcl_scan.specs.SideBySide.{is_coloned}
-use Rattle.hcl_scan.specs.Inner.Leads.{lead_bytes}
 use Rattle.hcl_scan.specs.declared.token.Kind.{Kind}
 use Rattle.hcl_scan.specs.declared.token.Kind.TheVariants as kind
 use Rattle.hcl_scan.proofs.Booleans.{and_true}
+use Rattle.hcl_scan.proofs.Comments.{or_cases, starts_split}
 use Rattle.hcl_scan.proofs.Contexts.{not_both}
-use Rattle.hcl_scan.proofs.Leads.{leads, some, sign_mark}
+use Rattle.hcl_scan.proofs.Numerals.{digit_head}
+use Rattle.hcl_scan.proofs.Leads.{some}
 use Rattle.hcl_scan.proofs.Sides.{Side, expression, template, side}
 use Rattle.hcl_scan.proofs.Templates.{Way, lit, interp, control, quote}
-use Rattle.hcl_scan.proofs.Ways.{ways, mark_passes}
+use Rattle.hcl_scan.proofs.Words.{begins_word, ident_word}
+use Rattle.hcl_scan.proofs.Ways.{Ways, ways, newline, line_comment, inline_comment, blanks, ident, digits, number, heredoc, seq_close, brace_close, slash, mark, mark_passes}
 use Rattle.hcl_syntax.specs.Kinds.{is_colon, is_colon_colon}
 use Rattle.hcl_layout.specs.Older.Tokens.{WasSpelling, WasLongest, WasRead, WasNext, WasRun, WasScanned}
 
@@ -54,12 +58,40 @@ front_byte : (text bs : List ℕ) → 0 < length text → get_or (text ++ bs) 0 
 front_byte [] bs h = absurd (omega arith)
 front_byte (b ∷ text) bs h = refl
 
+differs : (text : List ℕ) (c : ℕ) → get_or text 0 0 ≡ c → get_or text 0 0 ≡ 58 → (c == 58) ≡ false → ⊥
+differs text c e f n = let k : true ≡ false = ap (λ x. x == 58) (sym f ∙ e) ∙ n in cc
+
+blank_byte : (text : List ℕ) → 0 < length text → list_all is_blank text ≡ true → is_blank (get_or text 0 0) ≡ true
+blank_byte [] some h = absurd (omega arith)
+blank_byte (b ∷ text) some h = (and_true (is_blank b) (list_all is_blank text) h).0
+
+no_digit : (text : List ℕ) → is_ascii_digit (get_or text 0 0) ≡ true → get_or text 0 0 ≡ 58 → ⊥
+no_digit text h f = let k : true ≡ false = sym h ∙ ap is_ascii_digit f in cc
+
+-- a token of an expression that begins so is a Colon or a ColonColon
+colon_ways : (opens : List Opener) (dot : Bool) (k : Kind) (text rest : List ℕ) → Ways opens dot k text rest → get_or text 0 0 ≡ 58 → is_coloned k ≡ true
+colon_ways opens dot k text rest (newline e (inl x)) f = absurd (differs text 10 (ap (λ l. get_or l 0 0) x) f refl)
+colon_ways opens dot k text rest (newline e (inr x)) f = absurd (differs text 13 (ap (λ l. get_or l 0 0) x) f refl)
+colon_ways opens dot k text rest (line_comment e x) f = absurd (⊎_elim
+    (λ a. differs text 35 (ap (λ l. get_or l 0 0) (starts_split text (35 ∷ []) a).1) f refl)
+    (λ b. differs text 47 (ap (λ l. get_or l 0 0) (starts_split text (47 ∷ 47 ∷ []) b).1) f refl)
+    (or_cases (starts text (35 ∷ [])) (starts text (47 ∷ 47 ∷ [])) x.0))
+colon_ways opens dot k text rest (inline_comment e x) f = absurd (differs text 47 (ap (λ l. get_or l 0 0) x.1) f refl)
+colon_ways opens dot k text rest (blanks e h x) f = absurd (let c : true ≡ false = sym (blank_byte text x.0 x.1) ∙ ap is_blank f in cc)
+colon_ways opens dot k text rest (ident e x) f = absurd (let w = ident_word text x in let c : true ≡ false = sym w.begins ∙ ap begins_word (sym (ap (λ l. get_or l 0 0) w.whole) ∙ f) in cc)
+colon_ways opens dot k text rest (digits e h x) f = absurd (no_digit text (ap (λ l. is_ascii_digit (get_or l 0 0)) (sym (append-nil text)) ∙ digit_head text [] x) f)
+colon_ways opens dot k text rest (number e h x) f = absurd (no_digit text (ap (λ l. is_ascii_digit (get_or l 0 0)) (x.6 ∙ append_assoc x.0 x.1 x.2) ∙ digit_head x.0 (x.1 ++ x.2) x.3) f)
+colon_ways opens dot k text rest (heredoc e x) f = absurd (differs text 60 (ap (λ l. get_or l 0 0) x.6) f refl)
+colon_ways opens dot k text rest (seq_close e h (inl x)) f = absurd (differs text 125 (ap (λ l. get_or l 0 0) x) f refl)
+colon_ways opens dot k text rest (seq_close e h (inr x)) f = absurd (differs text 126 (ap (λ l. get_or l 0 0) x) f refl)
+colon_ways opens dot k text rest (brace_close e h x) f = absurd (differs text 125 (ap (λ l. get_or l 0 0) x) f refl)
+colon_ways opens dot k text rest (slash e x h) f = absurd (differs text 47 (ap (λ l. get_or l 0 0) x) f refl)
+colon_ways opens dot k text rest (mark x) f = (λ i. not (sym f i == 58) || is_coloned k) ∙ colon_marks text k x
+
 colon_expression : (opens : List Opener) (dot : Bool) (k : Kind) (text rest tail : List ℕ) → IsExpressionText opens dot k text rest → text ++ rest ≡ 58 ∷ tail → is_coloned k ≡ true
 colon_expression opens dot k text rest tail is e =
     let w = ways opens dot k text rest is in
-    let b : get_or text 0 0 ≡ 58 = sym (front_byte text rest (some opens dot k text rest w)) ∙ ap (λ l. get_or l 0 0) e in
-    let m = sign_mark opens dot k text rest (sym (leads opens dot k text rest w) ∙ ap (λ x. lead_bytes x (get_or text 1 0)) b) w in
-    (λ i. not (sym b i == 58) || is_coloned k) ∙ colon_marks text k m
+    colon_ways opens dot k text rest w (sym (front_byte text rest (some opens dot k text rest w)) ∙ ap (λ l. get_or l 0 0) e)
 
 long_there : (opens : List Opener) (dot : Bool) (k : Kind) (text rest : List ℕ) → context opens ≡ Expression → IsSpelling opens dot k text rest → 0 < length text
 long_there opens dot k text rest c is = by (side opens dot k text rest is)
