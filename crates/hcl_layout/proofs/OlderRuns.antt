@@ -20,8 +20,8 @@ use Rattle.hcl_syntax.specs.declared.expected.Section.TheVariants.{InIf, InElse,
 use Rattle.hcl_syntax.specs.declared.expected.Terminal.{Terminal}
 use Rattle.hcl_syntax.specs.declared.expected.Terminal.TheVariants.{Separator}
 use Rattle.hcl_syntax.specs.declared.refusal.Refusal.{Refusal}
-use Rattle.hcl_syntax.specs.Grammar.{Symbol, the, file, rest, labels, label_literal, start, body, eol, expr, after_ident, path, after, step, index, tuple, tuple_next, tuple_item, tuple_if, names, object, separator, object_next, object_item, group, object_if, args, arg_next, parts, directive, inside, section_directive, Marked, ◌at◌, Row, none, nothing, reads, opens, closes, row_of, row, fits, expr_row}
-use Rattle.hcl_syntax.specs.Predictor.{ending, Turn, on, stop, taken, turn, next, run}
+use Rattle.hcl_syntax.specs.Grammar.{Symbol, the, file, rest, labels, label_literal, start, body, eol, expr, after_ident, path, after, step, index, tuple, tuple_next, tuple_item, tuple_if, names, object, separator, object_next, object_item, group, object_if, args, arg_next, parts, directive, inside, section_directive, Marked, ◌at◌, Action, none, nothing, reads, opens, closes, row_of, row, fits, expr_row}
+use Rattle.hcl_syntax.specs.Predictor.{ending, Effect, on, stop, taken, effect, next, run}
 use Rattle.hcl_syntax.specs.Relation.{Step, dropped, read, opened, closed, gone, Run, at_end, step as one_step, refused}
 use Rattle.hcl_syntax.specs.Verdict.{IsAccepted}
 use Rattle.hcl_syntax.proofs.RelationLemmas.{answers}
@@ -41,24 +41,24 @@ class_older _ text h = refl
 classes_older : (n : ℕ) (ts : List Lexeme) → Older ts → OlderClasses (lookaheads_from n ts)
 classes_older n [] o = tt
 classes_older n (t ∷ ts) o = elim (is_trivia (class_of t)) as (λ b. OlderClasses (cond b (lookaheads_from (n + 1) ts) (record { class = class_of t; number = n } ∷ lookaheads_from (n + 1) ts))) [
-  true ↦ classes_older (n + 1) ts o.1
+  | true ↦ classes_older (n + 1) ts o.1
   | false ↦ (class_older t.kind t.text o.0, classes_older (n + 1) ts o.1)
 ]
 
-turn_same : (count : ℕ) (ss : List Marked) (t : Lookahead) → is_path_sign t.class ≡ false → was_turn count ss t ≡ turn count ss t
+turn_same : (count : ℕ) (ss : List Marked) (t : Lookahead) → is_path_sign t.class ≡ false → was_turn count ss t ≡ effect count ss t
 turn_same count [] t e = refl
 turn_same count (s at m ∷ ss) t e =
     ap (λ b. cond (drops m t.class) (on count (s at m ∷ ss)) (taken count (cond b none (row s m t)) ss (was_turn count ss t) t)) e
     ∙ ap (λ u. cond (drops m t.class) (on count (s at m ∷ ss)) (taken count (row s m t) ss u t)) (turn_same count ss t e)
 
-next_same : (u : Turn) (f g : ℕ → List Marked → Option Refusal) → ((o : ℕ) (ss : List Marked) → f o ss ≡ g o ss) → next u f ≡ next u g
+next_same : (u : Effect) (f g : ℕ → List Marked → Option Refusal) → ((o : ℕ) (ss : List Marked) → f o ss ≡ g o ss) → next u f ≡ next u g
 next_same (on o ss) f g h = h o ss
 next_same (stop r) f g h = refl
 
 run_same : (count : ℕ) (ss : List Marked) (ts : List Lookahead) → OlderClasses ts → was_run count ss ts ≡ run count ss ts
 unfolding run
 run_same count ss [] o = refl
-run_same count ss (t ∷ ts) o = ap (λ u. next u (λ n rest. was_run n rest ts)) (turn_same count ss t o.0) ∙ next_same (turn count ss t) (λ n rest. was_run n rest ts) (λ n rest. run n rest ts) (λ n rest. run_same n rest ts o.1)
+run_same count ss (t ∷ ts) o = ap (λ u. next u (λ n rest. was_run n rest ts)) (turn_same count ss t o.0) ∙ next_same (effect count ss t) (λ n rest. was_run n rest ts) (λ n rest. run n rest ts) (λ n rest. run_same n rest ts o.1)
 
 pub accepted_too : (ts : List Lexeme) → Older ts → WasAccepted ts → IsAccepted ts
 accepted_too ts o was = sym (run_same 0 (file at Seen ∷ []) (lookaheads ts) (classes_older 0 ts o)) ∙ was
@@ -149,7 +149,7 @@ paired-append (s at m ∷ xs) ys h k =
     let p = and_true (not (waits_colon s) || begins_expr xs) (paired xs) h in
     both (not (waits_colon s) || begins_expr (xs ++ ys)) (paired (xs ++ ys)) (implied (waits_colon s) (begins_expr xs) (begins_expr (xs ++ ys)) (begins-append xs ys) p.0) (paired-append xs ys p.1 k)
 
-abbrev row_paired : Row → Bool
+abbrev row_paired : Action → Bool
 row_paired none = true
 row_paired nothing = true
 row_paired (reads xs) = paired xs
@@ -196,17 +196,17 @@ rows_paired (section_directive InElse k) m n c = each (λ c. row_paired (row_of 
 rows_paired (section_directive InFor k) m n c = each (λ c. row_paired (row_of (section_directive InFor k) m n c)) refl c
 
 -- ---- who reads a colon
-abbrev is_read : Row → Bool
+abbrev is_read : Action → Bool
 is_read none = false
 is_read nothing = false
 is_read _ = true
 
-abbrev is_empty : Row → Bool
+abbrev is_empty : Action → Bool
 is_empty (reads []) = true
 is_empty _ = false
 
 -- the row for a colon reads nothing more, and is that of a symbol that waits for it
-abbrev colon_test : Symbol → Row → Bool
+abbrev colon_test : Symbol → Action → Bool
 colon_test s r = not (is_read r) || (waits_colon s && is_empty r)
 
 terminal_colon : (e : Terminal) (m : Newlines) (n : ℕ) → colon_test (the e) (row_of (the e) m n class.Colon) ≡ true
@@ -245,7 +245,7 @@ colon_read s m t xs h e =
     let same : row_of s m t.number class.Colon ≡ reads xs = ap (λ (c : Class). row_of s m t.number c) (sym (colon_class_is t.class h)) ∙ e in
     read_waits s xs (ap (colon_test s) (sym same) ∙ colon_rows s m t.number)
 
-colon_other : (s : Symbol) (m : Newlines) (t : Lookahead) (r : Row) → is_colon_class t.class ≡ true → row s m t ≡ r → is_read r ≡ true → is_empty r ≡ false → ⊥
+colon_other : (s : Symbol) (m : Newlines) (t : Lookahead) (r : Action) → is_colon_class t.class ≡ true → row s m t ≡ r → is_read r ≡ true → is_empty r ≡ false → ⊥
 colon_other s m t r h e i f =
     let same : row_of s m t.number class.Colon ≡ r = ap (λ (c : Class). row_of s m t.number c) (sym (colon_class_is t.class h)) ∙ e in
     let test : colon_test s r ≡ true = ap (colon_test s) (sym same) ∙ colon_rows s m t.number in

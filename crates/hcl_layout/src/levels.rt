@@ -65,4 +65,3 @@ pub fn kept_level(levels: &[u32; DEPTHS], before: u32, now: u32) -> u32
 {
     levels[now as usize]
 }
-

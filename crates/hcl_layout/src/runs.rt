@@ -18,12 +18,12 @@
 ghost use Rattle.std.specs.Prelude.{◌*◌, ◌≡◌, ◌<◌, ◌≤◌, ◌+◌, ◌-◌, ◌^◌, ℕ, length, take, drop, Some, None, ◌∷◌, IfSome};
 ghost use Rattle.hcl_syntax.specs.Balanced.{max_open};
 ghost use Rattle.hcl_layout.specs.Columns.{widest};
-ghost use Rattle.hcl_layout.specs.Cells.{assign_cell, trailing_comment};
+ghost use Rattle.hcl_layout.specs.Cells.{trailing_comment};
 ghost use Rattle.hcl_layout.specs.Inner.Depths.{depth_after, fresh, levels_behind};
 ghost use Rattle.hcl_layout.specs.Gaps.{align, plain_gaps, width as width_of};
 ghost use Rattle.hcl_layout.specs.Inner.LineGaps.{len_with_blanks, gaps_in};
 ghost use Rattle.hcl_layout.specs.Lines.{lines};
-ghost use Rattle.hcl_layout.specs.Inner.Stream.{assign_column, assigned_line, assign_widths, next_of, comment_column, comment_widths, plain};
+ghost use Rattle.hcl_layout.specs.Inner.Stream.{assign_column, assigned_line, assign_widths, next_of, comment_column, comment_widths};
 ghost use Rattle.hcl_layout.specs.Inner.Survey.{IsLine, text_at};
 ghost use Rattle.hcl_layout.specs.Inner.Walks.{Stands};
 

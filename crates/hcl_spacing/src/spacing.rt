@@ -8,9 +8,9 @@ ghost use Rattle.hcl_spacing.specs.Spacing.{begins_with_colon as begins_with_col
 ghost use Rattle.hcl_spacing.specs.Inner.KindPairs.{asked_space as asked_space_of, pair_space as pair_space_of, space_behind_operand as space_behind_operand_of, stands_close as stands_close_of};
 
 use crate::kind::{
-    awaits_operand, closes_group, is_brace_close, is_brace_open, is_bracket_open, is_colon_colon, is_comma,
-    is_dot, is_ellipsis, is_ident, is_newline, is_opener, is_operator, is_paren_open, is_seq_close,
-    opens_sequence,
+    awaits_operand, closes_group, is_brace_close, is_brace_open, is_bracket_open, is_colon_colon,
+    is_comma, is_dot, is_ellipsis, is_ident, is_newline, is_opener, is_operator, is_paren_open,
+    is_seq_close, opens_sequence,
 };
 use hcl_scan::{Kind, Token};
 
@@ -74,12 +74,7 @@ fn stands_close(kind: Kind) -> bool
 {
     matches!(
         kind,
-        Kind::Dot
-            | Kind::ColonColon
-            | Kind::Comma
-            | Kind::Ellipsis
-            | Kind::Lit
-            | Kind::QuoteClose
+        Kind::Dot | Kind::ColonColon | Kind::Comma | Kind::Ellipsis | Kind::Lit | Kind::QuoteClose
     )
 }
 
@@ -151,8 +146,7 @@ fn asked_space(before: Option<Token<'_>>, subject: Token<'_>, after: Token<'_>) 
         Kind::Not => begins_with_equals(after.text),
         // "All else": a `:` has one blank, also where it would join another
         Kind::Colon => {
-            begins_with_colon(after.text)
-                || !(stands_close(after.kind) || closes_group(after.kind))
+            begins_with_colon(after.text) || !(stands_close(after.kind) || closes_group(after.kind))
         }
         // "Minus" has none after it where it is a sign: where an expression begins
         Kind::Minus => !(stands_close(after.kind) || is_opening(before)),

@@ -10,17 +10,17 @@ use Rattle.hcl_syntax.specs.declared.expected.Newlines.TheVariants.{Seen}
 use Rattle.hcl_syntax.specs.declared.refusal.Refusal.{Refusal}
 use Rattle.hcl_syntax.specs.declared.refusal.Refusal.TheVariants.{UnexpectedToken}
 use Rattle.hcl_syntax.specs.Classes.{drops, lookaheads}
-use Rattle.hcl_syntax.specs.Grammar.{Symbol, Marked, ◌at◌, file, Row, none, row}
-use Rattle.hcl_syntax.specs.Predictor.{ending, Turn, on, stop, taken, next}
+use Rattle.hcl_syntax.specs.Grammar.{Symbol, Marked, ◌at◌, file, Action, none, row}
+use Rattle.hcl_syntax.specs.Predictor.{ending, Effect, on, stop, taken, next}
 
 abbrev pub is_path_sign : Class → Bool
 is_path_sign ColonColon = true
 is_path_sign _ = false
 
-abbrev pub was_row : Symbol → Newlines → Lookahead → Row
+abbrev pub was_row : Symbol → Newlines → Lookahead → Action
 was_row s m t = if is_path_sign t.class then none else row s m t
 
-abbrev pub was_turn : ℕ → List Marked → Lookahead → Turn
+abbrev pub was_turn : ℕ → List Marked → Lookahead → Effect
 was_turn count [] t = stop (UnexpectedToken t.number)
 was_turn count (s at m ∷ ss) t = if drops m t.class then on count (s at m ∷ ss) else taken count (was_row s m t) ss (was_turn count ss t) t
 
