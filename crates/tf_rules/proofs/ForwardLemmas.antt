@@ -192,8 +192,20 @@ module _ (tokens : List Lexeme) where
   all_numbered : Rises 0 ts (length tokens)
   all_numbered = let e : 0 + length tokens ≡ length tokens = omega arith in subst (λ (to : ℕ). Rises 0 ts to) e (rises_numbered 0 tokens)
 
-  pub declarations_rise : Rise 0 (flat_map numbers_of (declarations ts)) (length tokens)
-  declarations_rise = (all_rise 0 (length tokens) (outline tokens) (outline_climbs tokens)).items
+  pub comments_in_order : Rise 0 (map (λ (c : Comment ℕ). c.at) (comments ts)) (length tokens)
+  comments_in_order = comments_rise 0 (length tokens) ts all_numbered
+
+  patterns_in_order : (test : List Numbered → Bool) → Rise 0 (numbers_where test (significant ts)) (length tokens)
+  patterns_in_order test = where_rise test 0 (length tokens) (significant ts) (rises_filter (λ t. not (is_passed_over t.kind)) 0 (length tokens) ts all_numbered)
+
+  pub indexes_in_order : Rise 0 (legacy_indexes ts) (length tokens)
+  indexes_in_order = patterns_in_order is_index
+
+  pub interpolations_in_order : Rise 0 (wrapped_interpolations ts) (length tokens)
+  interpolations_in_order = patterns_in_order is_wrapped
+
+  pub declarations_in_order : Rise 0 (flat_map numbers_of (declarations ts)) (length tokens)
+  declarations_in_order = (all_rise 0 (length tokens) (outline tokens) (outline_climbs tokens)).items
 
   -- ---- the walk goes to these
 
@@ -208,16 +220,13 @@ module _ (tokens : List Lexeme) where
     goes_all ns r = goes 0 0 ns (λ j low high. omega arith) r
 
     pub comments_forward : Forward tokens 0 (map (λ (c : Comment ℕ). c.at) (comments ts))
-    comments_forward = goes_all (comment_numbers ts) (comments_rise 0 (length tokens) ts all_numbered)
-
-    patterns_forward : (test : List Numbered → Bool) → Forward tokens 0 (numbers_where test (significant ts))
-    patterns_forward test = goes_all (numbers_where test (significant ts)) (where_rise test 0 (length tokens) (significant ts) (rises_filter (λ t. not (is_passed_over t.kind)) 0 (length tokens) ts all_numbered))
+    comments_forward = goes_all (comment_numbers ts) comments_in_order
 
     pub indexes_forward : Forward tokens 0 (legacy_indexes ts)
-    indexes_forward = patterns_forward is_index
+    indexes_forward = goes_all (legacy_indexes ts) indexes_in_order
 
     pub interpolations_forward : Forward tokens 0 (wrapped_interpolations ts)
-    interpolations_forward = patterns_forward is_wrapped
+    interpolations_forward = goes_all (wrapped_interpolations ts) interpolations_in_order
 
     pub declarations_forward : Forward tokens 0 (flat_map numbers_of (declarations ts))
-    declarations_forward = goes_all (flat_map numbers_of (declarations ts)) declarations_rise
+    declarations_forward = goes_all (flat_map numbers_of (declarations ts)) declarations_in_order

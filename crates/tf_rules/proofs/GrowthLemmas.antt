@@ -18,7 +18,7 @@ use Rattle.tf_rules.specs.Patterns.{begins_with_close, behind_closer, is_index, 
 use Rattle.tf_rules.specs.References.{Own, by_name, is_dot, is_own, name_behind, own_blocks, reference_at, references, references_from, unless_own}
 use Rattle.tf_rules.specs.Silencing.{has_slashes, silenced_rules}
 use Rattle.tf_rules.specs.Inner.Placing.{numbers_of, quotes}
-use Rattle.tf_rules.proofs.ForwardLemmas.{Rise, declarations_rise}
+use Rattle.tf_rules.proofs.ForwardLemmas.{Rise, declarations_in_order}
 
 abbrev bit : Bool → ℕ
 bit true = 1
@@ -167,7 +167,7 @@ declared_grow kept file =
     omega (
       arith,
       each_at ds,
-      rise_few 0 (length file.source.tokens) (flat_map numbers_of ds) (declarations_rise file.source.tokens),
+      rise_few 0 (length file.source.tokens) (flat_map numbers_of ds) (declarations_in_order file.source.tokens),
       length-append kept.facts.declarations (map (declaration_at (place_in file)) ds),
       length-map ds (declaration_at (place_in file)),
     )

@@ -114,7 +114,7 @@ by_rule asked files rule =
     ∙ map-flat_map (issue_at rule) (found_in asked.naming used rule) files
     ∙ flat_map_same (λ file. map (issue_at rule) (found_in asked.naming used rule file)) (issues_in asked used rule) (issues_found asked used rule) files)
 
-reported_is : (asked : Asked) (files : List File) → reported asked files ≡ reported_of_kept asked (kept_of files)
+pub reported_is : (asked : Asked) (files : List File) → reported asked files ≡ reported_of_kept asked (kept_of files)
 reported_is asked files =
     flat_map_same (λ rule. flat_map (issues_in asked (all_references files) rule) files)
     (λ rule. map (issue_at rule) (findings asked.naming (kept_of files).references (kept_of files).facts rule)) (by_rule asked files) asked.rules

@@ -22,6 +22,12 @@ pub mod ValueLemmas
 pub mod DeclarationLemmas
 pub mod OwnerLemmas
 pub mod CommentLemmas
+pub mod EntryLemmas
+pub mod SetLemmas
+pub mod SortLemmas
+pub mod SilencedLemmas
+pub mod RisingLemmas
+pub mod DistinctLemmas
 pub mod ForwardLemmas
 pub mod KeepingLemmas
 pub mod KeptFileLemmas

@@ -31,7 +31,7 @@ fn holds_one(set: RuleSet, rules: &[Rule]) -> bool
 }
 
 /// Whether there is a rule in a set.
-fn is_any(set: RuleSet) -> bool
+pub fn is_any(set: RuleSet) -> bool
     ensures { result ≡ is_any (rules_of set) }
 {
     holds_one(set, &ALL_RULES)

@@ -1,19 +1,29 @@
 //! What is kept of the files of a module, and the issues that it gives.
 
-ghost use Rattle.std.specs.Prelude.{◌≡◌, ◌≤◌, ◌+◌, ◌++◌, List, IfOk, OnOk, OnErr};
+ghost use Rattle.std.specs.Prelude.{◌≡◌, ◌≤◌, ◌+◌, ◌++◌, [], List, filter, map, IfOk, OnOk, OnErr, if◌then◌else◌};
+ghost use Rattle.std.specs.List.{flat_map};
 ghost use Rattle.std.specs.Vec.{vec_capacity, vec_len};
 ghost use Rattle.tf_rules.specs.Answers.{IsAnswer, Rising};
+ghost use Rattle.tf_rules.specs.Findings.{findings};
 ghost use Rattle.tf_rules.specs.Issues.{File, asked_of};
-ghost use Rattle.tf_rules.specs.Kept.{kept_of, nothing, with_file};
+ghost use Rattle.tf_rules.specs.Kept.{issue_at, kept_of, nothing, with_file};
+ghost use Rattle.tf_rules.specs.RuleSets.{holds};
+ghost use Rattle.tf_rules.specs.Inner.Entries.{issues_of};
 
 #[cfg(test)]
 mod facts_tests;
 
+use crate::entry::Entry;
+use crate::findings::{put_comments, put_declarations, put_places};
 use crate::issue::Issue;
 use crate::kept::{KeptComment, KeptDeclaration, TokenPlace};
 use crate::kept_file::kept_file;
+use crate::naming::Naming;
+use crate::order::in_order;
 use crate::owners::add_references_of;
+use crate::rule::{ALL_RULES, Rule};
 use crate::settings::Settings;
+use crate::silenced::{shown, silenced_lines};
 use crate::text_set::TextSet;
 use hcl_syntax::{Accepted, outline};
 use std::alloc::{AllocError, Global};
@@ -93,10 +103,75 @@ impl Facts {
         Ok(())
     }
 
+    /// Puts what a rule reports, silenced or not, behind these entries.
+    fn put_reported(
+        &self,
+        naming: Naming,
+        rule: Rule,
+        entries: &mut Vec<Entry>,
+    ) -> Result<(), AllocError>
+        ensures { OnOk result (issues_of entries.new.items ≡ issues_of entries.old.items ++ map (issue_at rule) (findings naming self.now.references self.now.facts rule)) }
+    {
+        match rule {
+            Rule::CommentSyntax => put_comments(self.alloc, &self.comments, entries),
+            Rule::DeprecatedIndex => put_places(
+                self.alloc,
+                rule,
+                "list items should be accessed using square brackets",
+                &self.indexes,
+                entries,
+            ),
+            Rule::DeprecatedInterpolation => put_places(
+                self.alloc,
+                rule,
+                "interpolation-only expressions are deprecated",
+                &self.interpolations,
+                entries,
+            ),
+            _ => put_declarations(
+                self.alloc,
+                naming,
+                &self.references,
+                rule,
+                &self.declarations,
+                entries,
+            ),
+        }
+    }
+
+    /// Puts what a rule reports behind these entries, where it is asked for.
+    fn put_asked(
+        &self,
+        settings: &Settings,
+        rule: Rule,
+        entries: &mut Vec<Entry>,
+    ) -> Result<(), AllocError>
+        ensures { OnOk result (issues_of entries.new.items ≡ issues_of entries.old.items ++ (if holds settings.now.rules rule then map (issue_at rule) (findings settings.now.naming self.now.references self.now.facts rule) else [])) }
+    {
+        if !settings.rules.holds(rule) {
+            return Ok(());
+        }
+        self.put_reported(settings.naming, rule, entries)
+    }
+
+    /// All that those of these rules report that are asked for, silenced or not, rule by rule.
+    fn reported(&self, settings: &Settings, rules: &[Rule]) -> Result<Vec<Entry>, AllocError>
+        ensures { IfOk result (λ entries. issues_of entries.items ≡ flat_map (λ rule. map (issue_at rule) (findings settings.now.naming self.now.references self.now.facts rule)) (filter (holds settings.now.rules) rules.now)) }
+    {
+        let mut entries = Vec::new(self.alloc);
+        for rule in rules {
+            self.put_asked(settings, *rule, &mut entries)?;
+        }
+        Ok(entries)
+    }
+
     /// The issues of the files, by file, then token, then the name of the rule.
     pub fn issues(&self, settings: &Settings) -> Result<Vec<Issue>, AllocError>
         ensures { (files : List File) → self.now ≡ kept_of files → Rising files → IfOk result (λ issues. IsAnswer (asked_of settings.now) files issues.items) }
     {
-        Err(AllocError)
+        let entries = self.reported(settings, &ALL_RULES)?;
+        let lines = silenced_lines(self.alloc, &self.comments)?;
+        let sorted = in_order(entries)?;
+        shown(self.alloc, sorted, &lines)
     }
 }

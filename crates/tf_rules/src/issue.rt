@@ -1,6 +1,7 @@
 //! What is reported of a module.
 
 ghost use Rattle.std.specs.Prelude.{◌≡◌};
+ghost use Rattle.std.specs.String.{string_bytes};
 
 use crate::rule::Rule;
 use hcl_scan::Position;
@@ -22,6 +23,13 @@ impl Model for Message {
 }
 
 impl Message {
+    /// The message of this text.
+    pub(crate) fn new(text: String) -> Message
+        ensures { result ≡ string_bytes text }
+    {
+        Message { text }
+    }
+
     /// The message's text.
     pub fn as_str(&self) -> &str
         ensures { result.now ≡ self.now }

@@ -1,6 +1,6 @@
-//! Ten rules for the files of a Terraform module: what they are called, and the namings that one of them goes by.
+//! Ten rules for the files of a Terraform module. [`Facts`] keeps what they need of each file, and lists what they report.
 //!
-//! What the rules report is defined in `specs`, with laws in the module [`laws`]; the calls that look for it are still to come.
+//! What the rules report is defined in `specs`, with laws in the module [`laws`].
 #![tactic(auto)]
 
 mod block;
@@ -9,8 +9,11 @@ mod comment;
 mod cut;
 mod declaration;
 mod declaration_kind;
+mod entry;
 mod facts;
 mod file_facts;
+mod finding;
+mod findings;
 mod found;
 mod issue;
 mod keeping;
@@ -20,6 +23,7 @@ pub mod laws;
 mod module_source;
 mod names;
 mod naming;
+mod order;
 mod own_block;
 mod owners;
 #[cfg(test)]
@@ -35,6 +39,7 @@ mod rule_set;
 mod rule_tests;
 mod seen;
 mod settings;
+mod silenced;
 mod silencing;
 mod source;
 mod text_set;

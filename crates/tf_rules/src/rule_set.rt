@@ -12,6 +12,12 @@ pub struct RuleSet {
     held: [bool; 10],
 }
 
+fn either(one: bool, other: bool) -> bool
+    ensures { result ≡ (one || other) }
+{
+    one || other
+}
+
 impl RuleSet {
     /// No rule.
     pub fn none() -> RuleSet
@@ -45,6 +51,17 @@ impl RuleSet {
         let mut held = self.held;
         held[rule.rank()] = true;
         RuleSet { held }
+    }
+
+    /// The rules of both sets.
+    pub(crate) fn with_all(self, other: RuleSet) -> RuleSet
+        ensures { (rule : Rule) → holds result rule ≡ (holds self rule || holds other rule) }
+    {
+        let mut joined = self.held;
+        for number in 0..10 {
+            joined[number] = either(self.held[number], other.held[number]);
+        }
+        RuleSet { held: joined }
     }
 
     /// Whether the rule is in the set.

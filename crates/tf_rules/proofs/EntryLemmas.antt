@@ -1,0 +1,44 @@
+-- Issues put one behind the other.
+use Rattle.std.proofs.Common.{◌≡◌, ◌∙◌, ap, sym, refl, ℕ, ◌+◌, ◌<◌, ◌≤◌, Bool, true, false, cond, List, [], ◌∷◌, ◌++◌, append_assoc, map, take, length, get_or}
+use Rattle.std.specs.Prelude.{filter}
+use Rattle.std.specs.List.{flat_map}
+use Rattle.std.proofs.lemmas.Grind.{flat_map-append}
+use Rattle.std.proofs.lemmas.List.{append-nil, take_all, take_more}
+use Rattle.std.proofs.lemmas.List.Folds.{flat_map-map}
+use Rattle.tf_rules.proofs.FindingLemmas.{map-flat_map}
+
+-- ---- a loop that puts a list for each element
+
+module _ {A B : Type 0} (f : A → List B) (xs : List A) where
+  one_more : (i : ℕ) (x : A) → i < length xs → x ≡ get_or xs i x → flat_map f (take (i + 1) xs) ≡ flat_map f (take i xs) ++ f x
+  one_more i x less at =
+      ap (flat_map f) (take_more xs i x less ∙ ap (λ y. take i xs ++ y ∷ []) (sym at))
+      ∙ flat_map-append f (take i xs) (x ∷ [])
+      ∙ ap (λ r. flat_map f (take i xs) ++ r) (append-nil (f x))
+
+  pub put_more : (i : ℕ) (x : A) (base old new : List B) → i < length xs → x ≡ get_or xs i x → old ≡ base ++ flat_map f (take i xs) → new ≡ old ++ f x → new ≡ base ++ flat_map f (take (i + 1) xs)
+  put_more i x base old new less at so_far more =
+      more
+      ∙ ap (λ r. r ++ f x) so_far
+      ∙ append_assoc base (flat_map f (take i xs)) (f x)
+      ∙ ap (λ r. base ++ r) (sym (one_more i x less at))
+
+  pub put_all : (i : ℕ) (base new : List B) → length xs ≤ i → new ≡ base ++ flat_map f (take i xs) → new ≡ base ++ flat_map f xs
+  put_all i base new past so_far = so_far ∙ ap (λ ys. base ++ flat_map f ys) (take_all i xs past)
+
+-- ---- the list that was put
+
+pub put_map : {A B C D : Type 0} (g : B → List C) (k : A → B) (h : C → D) (xs : List A) → flat_map (λ x. map h (g (k x))) xs ≡ map h (flat_map g (map k xs))
+put_map g k h xs = sym (ap (map h) (flat_map-map g k xs) ∙ map-flat_map h (λ x. g (k x)) xs)
+
+pub put_each : {A B C : Type 0} (g : B → C) (k : A → B) (xs : List A) → flat_map (λ x. g (k x) ∷ []) xs ≡ map g (map k xs)
+put_each g k [] = refl
+put_each g k (x ∷ xs) = ap (λ r. g (k x) ∷ r) (put_each g k xs)
+
+pub put_passing : {A B : Type 0} (p : A → Bool) (f : A → List B) (xs : List A) → flat_map (λ x. cond (p x) (f x) []) xs ≡ flat_map f (filter p xs)
+put_passing p f [] = refl
+put_passing p f (x ∷ xs) = by (p x) (put_passing p f xs)
+  where
+    by : (b : Bool) → flat_map (λ y. cond (p y) (f y) []) xs ≡ flat_map f (filter p xs) → cond b (f x) [] ++ flat_map (λ y. cond (p y) (f y) []) xs ≡ flat_map f (cond b (x ∷ filter p xs) (filter p xs))
+    by true h = ap (λ r. f x ++ r) h
+    by false h = h

@@ -1,0 +1,11 @@
+use Rattle.std.proofs.Common.{◌≡◌, ◌∷◌, [], List, filter, map, not}
+use Rattle.std.specs.List.{flat_map}
+use Rattle.tf_rules.specs.Answers.{shown}
+use Rattle.tf_rules.specs.Comments.{Comment}
+use Rattle.tf_rules.specs.Issues.{Place, is_silenced}
+use Rattle.tf_rules.specs.Inner.Entries.{issues_of}
+use Rattle.tf_rules.specs.Inner.SilencedLines.{AreSilenced}
+use Rattle.tf_rules.proofs.silenced.shown.Given as goal
+
+abbrev pub invariant-loop-entry : goal.invariant-loop-entry
+invariant-loop-entry l = (comments : List (Comment Place)) → AreSilenced l.lines comments → l.issues.items ≡ map shown (filter (λ i. not (is_silenced comments i)) (issues_of l.yielded))

@@ -1,0 +1,29 @@
+-- Which rules are silenced on which lines, as the code keeps it.
+use Rattle.std.specs.Prelude.{◌≡◌, ◌==◌, ◌&&◌, ℕ, Bool, false, List, Option, Some, None, nat_eq}
+use Rattle.std.specs.List.{list_any}
+use Rattle.indexmap.specs.IndexMap.{IndexMap, get}
+use Rattle.tf_rules.specs.Comments.{Comment}
+use Rattle.tf_rules.specs.Issues.{Place}
+use Rattle.tf_rules.specs.Rules.{is_rule}
+use Rattle.tf_rules.specs.RuleSets.{holds}
+use Rattle.tf_rules.specs.declared.rule.Rule.{Rule}
+use Rattle.tf_rules.specs.declared.rule_set.RuleSet.{RuleSet}
+
+abbrev pub held : Option RuleSet → Rule → Bool
+held None rule = false
+held (Some set) rule = holds set rule
+
+abbrev pub same_line : ℕ × ℕ → ℕ × ℕ → Bool
+same_line a b = nat_eq a.0 b.0 && nat_eq a.1 b.1
+
+-- by the number of the file and the line
+abbrev pub silenced_at : {S : Type 0} → IndexMap (ℕ × ℕ) RuleSet S → ℕ → ℕ → Rule → Bool
+silenced_at lines file line rule = held (get same_line lines (file, line)) rule
+
+-- the comment stands on the line and silences the rule
+abbrev pub is_on : ℕ → ℕ → Rule → Comment Place → Bool
+is_on file line rule c = (c.at.file == file) && (c.at.at.line == line) && list_any (is_rule rule) c.silences
+
+-- the lines are those of these comments
+abbrev pub AreSilenced : {S : Type 0} → IndexMap (ℕ × ℕ) RuleSet S → List (Comment Place) → Type 0
+AreSilenced lines comments = (file line : ℕ) (rule : Rule) → silenced_at lines file line rule ≡ list_any (is_on file line rule) comments
