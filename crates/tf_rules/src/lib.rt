@@ -1,6 +1,6 @@
-//! Ten rules for the files of a Terraform module: what they are called, and the namings that one of them goes by.
+//! Ten rules for the files of a Terraform module. [`Facts`] keeps what they need of each file, and lists what they report.
 //!
-//! What the rules report is defined in `specs`, with laws in the module [`laws`]; the calls that look for it are still to come.
+//! What the rules report is defined in `specs`, with laws in the module [`laws`].
 #![tactic(auto)]
 
 mod block;
