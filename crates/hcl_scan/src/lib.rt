@@ -36,8 +36,8 @@ mod tokens;
 mod turn;
 
 pub use hcl_source::{
-    ByteSink, ByteSource, Failed, Fault, FaultKind, FromRead, LoadError, MAX_SOURCE, Position,
-    Source, ToWrite, WriteFault, write_fully,
+    ByteSink, ByteSource, Failed, Fault, FaultKind, FromRead, LoadError, MAX_SOURCE, MemorySink,
+    MemorySource, Position, SINK_ROOM, Source, ToWrite, WriteFault, write_fully,
 };
 pub use token::{Kind, ScanError, Token};
 pub use tokens::{Tokens, scan};

@@ -1,4 +1,5 @@
 pub mod Devices
+pub mod Memory
 pub mod Texts
 pub mod Places
 pub mod Load

@@ -10,10 +10,14 @@ mod device;
 mod device_tests;
 mod fault;
 pub mod laws;
+mod memory;
+#[cfg(test)]
+mod memory_tests;
 mod source;
 #[cfg(test)]
 mod tests;
 
 pub use device::{ByteSink, ByteSource, Failed, FromRead, ToWrite, WriteFault, write_fully};
 pub use fault::{Fault, FaultKind, LoadError, Position};
+pub use memory::{MemorySink, MemorySource, SINK_ROOM};
 pub use source::{MAX_SOURCE, Source, line_start};

@@ -3,6 +3,8 @@
 
 #[cfg(test)]
 mod call_tests;
+#[cfg(test)]
+mod failure_tests;
 mod laws;
 mod options;
 #[cfg(test)]

@@ -1,0 +1,250 @@
+//! Devices in memory, for tests of what stands on devices.
+
+ghost use Rattle.std.specs.Prelude.{◌≡◌, ◌<◌, ◌≤◌, ◌==◌, ◌&&◌, ◌++◌, [], Some, None, true, false, length, take, drop, IfOk, OnOk, OnErr, is_err};
+ghost use Rattle.hcl_source.specs.Memory.{sink_room, is_due, one_less, given, accepted, write_fails};
+
+use crate::device::{ByteSink, ByteSource, Failed};
+use std::marker::Model;
+
+/// The most bytes that a `MemorySink` takes.
+pub const SINK_ROOM: usize = 4_096;
+
+/// No good call is left before the one that fails.
+fn is_due(good: Option<usize>) -> bool
+    ensures { result ≡ is_due good }
+{
+    match good {
+        None => false,
+        Some(good) => good == 0,
+    }
+}
+
+/// The good calls that are left behind one of them.
+fn one_less(good: Option<usize>) -> Option<usize>
+    ensures { result ≡ one_less good }
+{
+    match good {
+        None => None,
+        Some(good) => Some(good.saturating_sub(1)),
+    }
+}
+
+/// A source that gives at most so many bytes a call, and that fails at one call where it is told
+/// to. A call that fails moves nothing.
+#[derive(Debug, Drop)]
+pub struct MemorySource<'a> {
+    rest: &'a [u8],
+    most: usize,
+    good_reads: Option<usize>,
+    has_failed: bool,
+}
+
+impl<'a> Model for MemorySource<'a> {
+    ghost use Rattle.std.specs.Prelude.{◌<◌};
+    ghost use Rattle.hcl_source.specs.Memory.{Giving};
+
+    ghost Value = { Giving };
+
+    ghost view = { λ s. record { rest = s.rest.now; most = s.most; good_reads = s.good_reads; has_failed = s.has_failed } };
+
+    ghost invariant = { λ s. 0 < s.most };
+}
+
+impl<'a> MemorySource<'a> {
+    /// A source of these bytes that doesn't fail.
+    pub fn new(bytes: &'a [u8], most: usize) -> Self
+        requires { 0 < most }
+        ensures { result ≡ record { rest = bytes.now; most = most; good_reads = None; has_failed = false } }
+    {
+        MemorySource {
+            rest: bytes,
+            most,
+            good_reads: None,
+            has_failed: false,
+        }
+    }
+
+    /// The same source, but the read behind so many fails.
+    pub fn failing_after(self, reads: usize) -> Self
+        ensures { result ≡ record self.entry { good_reads = Some reads } }
+    {
+        MemorySource {
+            rest: self.rest,
+            most: self.most,
+            good_reads: Some(reads),
+            has_failed: self.has_failed,
+        }
+    }
+
+    /// The bytes that are left.
+    pub fn rest(&self) -> &'a [u8]
+        ensures { result.now ≡ self.now.rest }
+    {
+        self.rest
+    }
+
+    /// Fills the buffer from its front with as many bytes as a call gives, or fails.
+    pub fn give(&mut self, buffer: &mut [u8]) -> Result<usize, Failed>
+        requires { self.old.has_failed ≡ false }
+        ensures fails { is_err result ≡ is_due self.old.good_reads }
+        ensures count { IfOk result (λ n. n ≡ given self.old (length buffer.old)) }
+        ensures bytes { IfOk result (λ n. buffer.new ≡ take n self.old.rest ++ drop n buffer.old) }
+        ensures ok { IfOk result (λ n. self.new ≡ record self.old { rest = drop n self.old.rest; good_reads = one_less self.old.good_reads }) }
+        ensures end { IfOk result (λ n. n ≡ 0 → 0 < length buffer.old → self.old.rest ≡ []) }
+        ensures err { OnErr result (self.new ≡ record self.old { has_failed = true }) }
+        ensures unmoved { OnErr result (buffer.new ≡ buffer.old) }
+    {
+        if is_due(self.good_reads) {
+            self.has_failed = true;
+            return Err(Failed);
+        }
+        let count = self.most.min(buffer.len()).min(self.rest.len());
+        let (front, rest) = self.rest.split_at(count);
+        buffer[..count].copy_from_slice(front);
+        self.rest = rest;
+        self.good_reads = one_less(self.good_reads);
+        Ok(count)
+    }
+}
+
+impl<'a> ByteSource for MemorySource<'a> {
+    ghost left = { λ s. Some s.rest };
+
+    ghost failed = { λ s. s.has_failed };
+
+    fn read(&mut self, buffer: &mut [u8]) -> Result<usize, Failed> {
+        self.give(buffer)
+    }
+
+    fn has_failed(&self) -> bool {
+        self.has_failed
+    }
+}
+
+/// A sink with room for `SINK_ROOM` bytes, which doesn't grow. It takes at most so many bytes a
+/// call, and it fails where it can take none of some, at one write where it is told to, and at the
+/// first flush where it is told to. A call that fails moves nothing.
+#[derive(Debug, Drop)]
+pub struct MemorySink {
+    buffer: [u8; SINK_ROOM],
+    len: usize,
+    most: usize,
+    good_writes: Option<usize>,
+    flush_fails: bool,
+    has_failed: bool,
+    is_flushed: bool,
+}
+
+impl Model for MemorySink {
+    ghost use Rattle.std.specs.Prelude.{◌≤◌, take};
+    ghost use Rattle.hcl_source.specs.Memory.{Taking, sink_room};
+
+    ghost Value = { Taking };
+
+    ghost view = { λ s. record { bytes = take s.len s.buffer; most = s.most; good_writes = s.good_writes; flush_fails = s.flush_fails; has_failed = s.has_failed; is_flushed = s.is_flushed } };
+
+    ghost invariant = { λ s. s.len ≤ sink_room };
+}
+
+impl MemorySink {
+    /// An empty sink that fails only where it can take none of some bytes.
+    pub fn new(most: usize) -> Self
+        ensures { result ≡ record { bytes = []; most = most; good_writes = None; flush_fails = false; has_failed = false; is_flushed = true } }
+    {
+        MemorySink {
+            buffer: [0; SINK_ROOM],
+            len: 0,
+            most,
+            good_writes: None,
+            flush_fails: false,
+            has_failed: false,
+            is_flushed: true,
+        }
+    }
+
+    /// The same sink, but the write behind so many fails.
+    pub fn failing_after(mut self, writes: usize) -> Self
+        ensures { result ≡ record self { good_writes = Some writes } }
+    {
+        self.good_writes = Some(writes);
+        self
+    }
+
+    /// The same sink, but the first flush fails.
+    pub fn failing_flush(mut self) -> Self
+        ensures { result ≡ record self { flush_fails = true } }
+    {
+        self.flush_fails = true;
+        self
+    }
+
+    /// The bytes that were taken.
+    pub fn bytes(&self) -> &[u8]
+        ensures value { result.now ≡ self.now.bytes }
+        ensures small { length result.now ≤ sink_room }
+    {
+        &self.buffer[..self.len]
+    }
+
+    /// Whether all that was taken has been flushed.
+    pub fn is_flushed(&self) -> bool
+        ensures { result ≡ self.now.is_flushed }
+    {
+        self.is_flushed
+    }
+
+    /// Takes as many of the bytes from their front as a call takes, or fails.
+    pub fn accept(&mut self, bytes: &[u8]) -> Result<usize, Failed>
+        requires { self.old.has_failed ≡ false }
+        ensures fails { is_err result ≡ write_fails self.old bytes.now }
+        ensures count { IfOk result (λ n. n ≡ accepted self.old bytes.now) }
+        ensures ok { IfOk result (λ n. self.new ≡ record self.old { bytes = self.old.bytes ++ take n bytes.now; good_writes = one_less self.old.good_writes; is_flushed = self.old.is_flushed && n == 0 }) }
+        ensures err { OnErr result (self.new ≡ record self.old { has_failed = true }) }
+    {
+        let count = self.most.min(bytes.len()).min(SINK_ROOM - self.len);
+        if is_due(self.good_writes) || (!bytes.is_empty() && count == 0) {
+            self.has_failed = true;
+            return Err(Failed);
+        }
+        self.buffer[self.len..self.len + count].copy_from_slice(&bytes[..count]);
+        self.len += count;
+        self.good_writes = one_less(self.good_writes);
+        self.is_flushed = self.is_flushed && count == 0;
+        Ok(count)
+    }
+
+    /// Flushes what was taken, or fails.
+    pub fn hand_on(&mut self) -> Result<(), Failed>
+        requires { self.old.has_failed ≡ false }
+        ensures fails { is_err result ≡ self.old.flush_fails }
+        ensures ok { OnOk result (self.new ≡ record self.old { is_flushed = true }) }
+        ensures err { OnErr result (self.new ≡ record self.old { has_failed = true }) }
+    {
+        if self.flush_fails {
+            self.has_failed = true;
+            return Err(Failed);
+        }
+        self.is_flushed = true;
+        Ok(())
+    }
+}
+
+impl ByteSink for MemorySink {
+    ghost taken = { λ s. Some s.bytes };
+
+    ghost failed = { λ s. s.has_failed };
+
+    ghost flushed = { λ s. s.is_flushed };
+
+    fn write(&mut self, bytes: &[u8]) -> Result<usize, Failed> {
+        self.accept(bytes)
+    }
+
+    fn flush(&mut self) -> Result<(), Failed> {
+        self.hand_on()
+    }
+
+    fn has_failed(&self) -> bool {
+        self.has_failed
+    }
+}
