@@ -13,10 +13,10 @@ use Rattle.hcl_scan.specs.Scans.{Shows, hides, IsLongest, IsMarkerLine, IsFirstM
 use Rattle.hcl_scan.specs.Faults.{too_deep, no_marker_line}
 use Rattle.hcl_scan.specs.Inner.Openings.{opener_of, openers_of, offsets_in, hidden_of, opened_by, opened_on, is_heredoc_open}
 use Rattle.hcl_scan.specs.Inner.Scanners.{state_of, IsSound, IsNext, IsStopped, Moves, fits_in}
-use Rattle.hcl_scan.specs.declared.entry.Entry.{Entry}
-use Rattle.hcl_scan.specs.declared.opened.By.{By}
-use Rattle.hcl_scan.specs.declared.opened.By.TheVariants as by
-use Rattle.hcl_scan.specs.declared.opened.Opened.{Opened}
+use Rattle.hcl_scan.specs.declared.token.Entry.{Entry}
+use Rattle.hcl_scan.specs.declared.stack.Opener as kept
+use Rattle.hcl_scan.specs.declared.stack.Opener.TheVariants as by
+use Rattle.hcl_scan.specs.declared.stack.Opened.{Opened}
 use Rattle.hcl_scan.specs.declared.scanner.Scanner.{Scanner}
 use Rattle.hcl_source.specs.declared.fault.FaultKind.TheVariants.{TooDeep, UnterminatedHeredoc}
 use Rattle.hcl_scan.specs.declared.token.Kind.{Kind}
@@ -141,7 +141,7 @@ module _ (s : Scanner) (e : Entry) (sound : IsSound s) (is : IsNext s e) (opens 
       closer_boundary = part_boundary s.text.now (e.end + line) s.end n closer_within_so sound.within sound.end
           (ascii_there hidden n (omega (arith, closer_within_so, hidden_len)) (after_marker (drop n hidden) (ap (λ k. ends_line (skip_blanks (drop k hidden))) len_is ∙ (both (starts (skip_blanks hidden) marker) (ends_line (skip_blanks (drop (closer_len marker hidden) hidden))) marked).1)))
 
-      abbrev opener : By
+      abbrev opener : kept.Opener
       opener = by.Heredoc (e.end + line + n) s.end
 
       pub opens_heredoc : (stack : List Opened) → stack ≡ opened_on opener e.start s.stack → Moves s e (record { text = s.text; at = e.end; end = e.end + line; after_dot = false; stack = stack })
@@ -189,7 +189,7 @@ deep s e is opener full moves = record {
   boundary = is.start.boundary;
 }
 
-pub deep_opener : (s : Scanner) (e : Entry) (is : IsNext s e) (opener : By) → length s.stack ≡ 256 → opened_by e.kind ≡ Some opener → IsStopped s (record { kind = TooDeep; at = e.start })
+pub deep_opener : (s : Scanner) (e : Entry) (is : IsNext s e) (opener : kept.Opener) → length s.stack ≡ 256 → opened_by e.kind ≡ Some opener → IsStopped s (record { kind = TooDeep; at = e.start })
 deep_opener s e is opener full opens = deep s e is (opener_of opener) full (sym (opens_so e.kind opener (openers_of s.stack) opens).0)
 
 pub deep_heredoc : (s : Scanner) (e : Entry) (is : IsNext s e) → length s.stack ≡ 256 → is_heredoc_open e.kind ≡ true → IsStopped s (record { kind = TooDeep; at = e.start })

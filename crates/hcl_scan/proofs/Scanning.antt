@@ -1,20 +1,26 @@
 -- The scan as a whole: a run grows by the tokens read, and where it ends in a fault this is the fault of the text.
-use Rattle.std.proofs.Common.{◌≡◌, ℕ, List, [], ◌∷◌, ◌++◌, length, sym, ap, subst, ◌∙◌, arith}
-use Rattle.std.specs.Prelude.{All}
+use Rattle.std.proofs.Common.{◌≡◌, ℕ, List, [], ◌∷◌, ◌++◌, length, Option, Some, None, sym, ap, subst, ◌∙◌, arith}
+use Rattle.std.specs.Prelude.{All, MatchOption}
 use Rattle.std.specs.Str.{IsCharBoundary}
 use Rattle.std.proofs.lemmas.List.{map_push}
 use Rattle.std.proofs.lemmas.List.Elements.{All-push}
 use Rattle.hcl_scan.specs.Lexemes.{Lexeme}
-use Rattle.hcl_scan.specs.Scans.{Run, Next, begin}
+use Rattle.hcl_scan.specs.Scans.{Run, Next, Scans, IsComplete, begin}
 use Rattle.hcl_scan.specs.Faults.{IsScanFault}
 use Rattle.hcl_scan.specs.Inner.Scanners.{state_of, lexeme_of, lexemes_of, IsEntry, IsStopped, Moves}
-use Rattle.hcl_scan.specs.Inner.Stops.{IsFaultOf}
-use Rattle.hcl_scan.specs.declared.entry.Entry.{Entry}
+use Rattle.hcl_scan.specs.declared.token.Entry.{Entry}
 use Rattle.hcl_scan.specs.declared.scanner.Scanner.{Scanner}
-use Rattle.hcl_scan.specs.declared.stopped.Stopped.{Stopped}
+use Rattle.hcl_scan.specs.declared.scanner.Stopped.{Stopped}
 use Rattle.hcl_scan.proofs.Runs.{OneKind, Nonempty, no_fault}
 use Rattle.hcl_scan.proofs.AllPlaces.{one_kind, nonempty, lacks_stuck, Run-push}
 use Rattle.hcl_scan.proofs.ExpressionLaws.{one_expression, some_expression}
+
+-- what the scanner came to
+pub token_read : (found : Option Entry) (s next : Scanner) (e : Entry) → found ≡ Some e → MatchOption found (IsComplete (state_of s)) (λ x. Moves s x next) → Moves s e next
+token_read found s next e is h = subst (λ (f : Option Entry). MatchOption f (IsComplete (state_of s)) (λ x. Moves s x next)) is h
+
+pub all_read : (found : Option Entry) (s next : Scanner) → found ≡ None → MatchOption found (IsComplete (state_of s)) (λ x. Moves s x next) → IsComplete (state_of s)
+all_read found s next is h = subst (λ (f : Option Entry). MatchOption f (IsComplete (state_of s)) (λ x. Moves s x next)) is h
 
 pub none_yet : (text : List ℕ) (es : List Entry) → es ≡ [] → All (IsEntry text) es
 none_yet text es is = subst (λ (l : List Entry). All (IsEntry text) l) (sym is) (λ k d h. absurd (omega arith))
@@ -37,6 +43,12 @@ module _ (text : List ℕ) (es new : List Entry) (s next : Scanner) (e : Entry) 
 
   pub less_left : length next.text.now ≡ length s.text.now
   less_left = ap (λ t. length t.now) moved.same_text
+
+-- it is the fault of the text, which has no tokens
+pub record IsFaultOf (text : List ℕ) (fault : Stopped) : Type 0 where
+  pub scan_fault : IsScanFault text fault.kind fault.at
+  pub none : (ts : List Lexeme) → ¬ Scans text ts
+  pub boundary : IsCharBoundary text fault.at
 
 pub fault_of : (text : List ℕ) (ts : List Lexeme) (s : Scanner) (fault : Stopped) → s.text.now ≡ text → Run (begin text) ts (state_of s) → IsStopped s fault → IsFaultOf text fault
 fault_of text ts s fault same run stopped =

@@ -4,7 +4,7 @@ use Rattle.hcl_scan.specs.Lexemes.{Opener, closes_sequence}
 use Rattle.hcl_scan.specs.Spelling.{marks, IsMark, IsHeredocOpen, IsExpressionText, IsTextIn, IsSpelling, Context, Template, Expression, context}
 use Rattle.hcl_scan.specs.Inner.Openings.{opened_by, opener_of}
 use Rattle.hcl_scan.specs.Inner.Scanners.{fits_in}
-use Rattle.hcl_scan.specs.declared.opened.By.{By}
+use Rattle.hcl_scan.specs.declared.stack.Opener as kept
 use Rattle.hcl_scan.specs.declared.token.Kind.{Kind}
 use Rattle.hcl_scan.specs.declared.token.Kind.TheVariants.{Lit, InterpOpen, ControlOpen, QuoteClose, HeredocClose, HeredocOpen, QuoteOpen, ParenOpen, BracketOpen, BraceOpen, SeqClose}
 use Rattle.hcl_scan.proofs.Starts.{both}
@@ -51,14 +51,14 @@ side_in (Template quoted) opens dot kind text rest e h = template quoted e (ways
 pub side : (opens : List Opener) (dot : Bool) (kind : Kind) (text rest : List ℕ) → IsSpelling opens dot kind text rest → Side opens dot kind text rest
 side opens dot kind text rest h = side_in (context opens) opens dot kind text rest refl h
 
-abbrev all_fit_in : Context → Option By → Bool
+abbrev all_fit_in : Context → Option kept.Opener → Bool
 all_fit_in c None = true
 all_fit_in c (Some opener) = fits_in (opener_of opener) c
 
-abbrev all_fit : Option By → Bool
+abbrev all_fit : Option kept.Opener → Bool
 all_fit o = all_fit_in Expression o
 
-in_expression : (kind : Kind) (opener : By) → in_expressions kind ≡ true → opened_by kind ≡ Some opener → fits_in (opener_of opener) Expression ≡ true
+in_expression : (kind : Kind) (opener : kept.Opener) → in_expressions kind ≡ true → opened_by kind ≡ Some opener → fits_in (opener_of opener) Expression ≡ true
 in_expression kind opener k o = sym (ap (λ x. all_fit x) o) ∙ by kind k
   where
     by : (kind : Kind) → in_expressions kind ≡ true → all_fit (opened_by kind) ≡ true
@@ -70,7 +70,7 @@ in_expression kind opener k o = sym (ap (λ x. all_fit x) o) ∙ by kind k
     by BraceOpen k = refl
     by _ k = refl
 
-in_template : (quoted : Bool) (opener : By) → opened_by InterpOpen ≡ Some opener → fits_in (opener_of opener) (Template quoted) ≡ true
+in_template : (quoted : Bool) (opener : kept.Opener) → opened_by InterpOpen ≡ Some opener → fits_in (opener_of opener) (Template quoted) ≡ true
 in_template quoted opener o = sym (ap (λ x. all_fit_in (Template quoted) x) o)
 
 module _ (opens : List Opener) (dot : Bool) (text rest : List ℕ) where
@@ -101,7 +101,7 @@ module _ (opens : List Opener) (dot : Bool) (text rest : List ℕ) where
   pub closable : (kind : Kind) → IsSpelling opens dot kind text rest → Closable kind opens
   closable kind h = record { sequence = sequence_so kind (side opens dot kind text rest h); quote = quote_so kind (side opens dot kind text rest h) }
 
-  pub fits : (kind : Kind) (opener : By) → IsSpelling opens dot kind text rest → opened_by kind ≡ Some opener → fits_in (opener_of opener) (context opens) ≡ true
+  pub fits : (kind : Kind) (opener : kept.Opener) → IsSpelling opens dot kind text rest → opened_by kind ≡ Some opener → fits_in (opener_of opener) (context opens) ≡ true
   fits kind opener h o = by (side opens dot kind text rest h)
     where
       by : Side opens dot kind text rest → fits_in (opener_of opener) (context opens) ≡ true

@@ -7,14 +7,14 @@ use Rattle.hcl_scan.specs.Spelling.{Context, Template, Expression, context, cont
 use Rattle.hcl_scan.specs.Scans.{Hidden, offsets_of, owed, owes}
 use Rattle.hcl_scan.specs.Inner.Openings.{opener_of, openers_of, offsets_in, hidden_of, hidden_under, popped_groups, popped_if, same_opener, closed, closes_on, top_closes, opened_by}
 use Rattle.hcl_scan.specs.Inner.Scanners.{fits_in, AreEndsBy, IsStack}
-use Rattle.hcl_scan.specs.declared.opened.By.{By}
-use Rattle.hcl_scan.specs.declared.opened.By.TheVariants as by
-use Rattle.hcl_scan.specs.declared.opened.Opened.{Opened}
+use Rattle.hcl_scan.specs.declared.stack.Opener as kept
+use Rattle.hcl_scan.specs.declared.stack.Opener.TheVariants as by
+use Rattle.hcl_scan.specs.declared.stack.Opened.{Opened}
 use Rattle.hcl_scan.specs.declared.token.Kind.{Kind}
 use Rattle.hcl_scan.specs.declared.token.Kind.TheVariants.{QuoteOpen, HeredocOpen, HeredocClose, InterpOpen, ControlOpen, ParenOpen, BracketOpen, BraceOpen, ParenClose, BracketClose, BraceClose, SeqClose, QuoteClose}
 
 -- what is seen ends within the text
-within_by : (text : List ℕ) (end : ℕ) (opener : By) (around : ℕ → Type 0) → ((e : ℕ) → around e → e ≤ length text) → AreEndsBy text end opener around → end ≤ length text
+within_by : (text : List ℕ) (end : ℕ) (opener : kept.Opener) (around : ℕ → Type 0) → ((e : ℕ) → around e → e ≤ length text) → AreEndsBy text end opener around → end ≤ length text
 within_by text end (by.Heredoc closer_end outer_end) around more h = omega (arith, h.0, h.1, more outer_end h.4)
 within_by text end _ around more h = more end h
 
@@ -23,7 +23,7 @@ stack_within text [] end h = omega (arith, h)
 stack_within text (o ∷ stack) end h = within_by text end o.by (IsStack text stack) (λ e. stack_within text stack e) h.3
 
 -- and before the text only inside a heredoc
-inside_by : (text : List ℕ) (end : ℕ) (opener : By) (around : ℕ → Type 0) (below : Bool) → ((e : ℕ) → around e → e ≤ length text) → ((e : ℕ) → around e → below ≡ nat_lt e (length text)) → AreEndsBy text end opener around → (is_heredoc (opener_of opener) || below) ≡ nat_lt end (length text)
+inside_by : (text : List ℕ) (end : ℕ) (opener : kept.Opener) (around : ℕ → Type 0) (below : Bool) → ((e : ℕ) → around e → e ≤ length text) → ((e : ℕ) → around e → below ≡ nat_lt e (length text)) → AreEndsBy text end opener around → (is_heredoc (opener_of opener) || below) ≡ nat_lt end (length text)
 inside_by text end (by.Heredoc closer_end outer_end) around below more is h = let lt : end < length text = omega (arith, h.0, h.1, more outer_end h.4) in grind (arith, nat_tests)
 inside_by text end by.Quote around below more is h = is end h
 inside_by text end by.Sequence around below more is h = is end h
@@ -43,7 +43,7 @@ pub top_is : (text : List ℕ) (stack : List Opened) (end : ℕ) → IsStack tex
 top_is text [] end h = refl
 top_is text (o ∷ stack) end h = h.0
 
-closes_by : (opener : By) (opens : List Opener) (around : Bool) → around ≡ closes_sequence opens → closes_on opener around ≡ closes_sequence (opener_of opener ∷ opens)
+closes_by : (opener : kept.Opener) (opens : List Opener) (around : Bool) → around ≡ closes_sequence opens → closes_on opener around ≡ closes_sequence (opener_of opener ∷ opens)
 closes_by by.Quote opens around e = refl
 closes_by (by.Heredoc c o) opens around e = refl
 closes_by by.Sequence opens around e = refl
@@ -51,7 +51,7 @@ closes_by by.Brace opens around e = refl
 closes_by by.Bracket opens around e = e
 closes_by by.Paren opens around e = e
 
-pub closes_is : (text : List ℕ) (stack : List Opened) (end : ℕ) (opener : By) → IsStack text stack end → closes_on opener (top_closes stack) ≡ closes_sequence (opener_of opener ∷ openers_of stack)
+pub closes_is : (text : List ℕ) (stack : List Opened) (end : ℕ) (opener : kept.Opener) → IsStack text stack end → closes_on opener (top_closes stack) ≡ closes_sequence (opener_of opener ∷ openers_of stack)
 closes_is text stack end opener h = closes_by opener (openers_of stack) (top_closes stack) (top_is text stack end h)
 
 -- ENTRIES THAT ARE NO HEREDOCS ARE DROPPED
@@ -66,11 +66,11 @@ pub record Drops (old new : List Opened) : Type 0 where
 drops_none : (stack : List Opened) → Drops stack stack
 drops_none stack = record { count = 0; within = omega arith; is = refl; less = omega arith; hidden = λ text end. refl; stack = λ text end h. h }
 
-hidden_by : (text : List ℕ) (end : ℕ) (opener : By) (above : ℕ → List Hidden) → is_heredoc (opener_of opener) ≡ false → above end ≡ hidden_under text end opener above
+hidden_by : (text : List ℕ) (end : ℕ) (opener : kept.Opener) (above : ℕ → List Hidden) → is_heredoc (opener_of opener) ≡ false → above end ≡ hidden_under text end opener above
 hidden_by text end (by.Heredoc c o) above h = absurd (cc)
 hidden_by text end _ above h = refl
 
-ends_by : (text : List ℕ) (end : ℕ) (opener : By) (around : ℕ → Type 0) → is_heredoc (opener_of opener) ≡ false → AreEndsBy text end opener around → around end
+ends_by : (text : List ℕ) (end : ℕ) (opener : kept.Opener) (around : ℕ → Type 0) → is_heredoc (opener_of opener) ≡ false → AreEndsBy text end opener around → around end
 ends_by text end (by.Heredoc c o) around e h = absurd (cc)
 ends_by text end _ around e h = h
 
@@ -250,7 +250,7 @@ push_offsets at opener opens offsets = ap (λ v. if v then at ∷ offsets else d
     less n = grind (arith, nat_tests)
 
 -- WHAT OPENS
-pub opens_so : (kind : Kind) (opener : By) (opens : List Opener) → opened_by kind ≡ Some opener → (opener_of opener ∷ opens ≡ moved kind opens) × (is_heredoc (opener_of opener) ≡ false)
+pub opens_so : (kind : Kind) (opener : kept.Opener) (opens : List Opener) → opened_by kind ≡ Some opener → (opener_of opener ∷ opens ≡ moved kind opens) × (is_heredoc (opener_of opener) ≡ false)
 opens_so QuoteOpen opener opens h = let e : by.Quote ≡ opener = cc in (ap (λ o. opener_of o ∷ opens) (sym e), ap (λ o. is_heredoc (opener_of o)) (sym e))
 opens_so InterpOpen opener opens h = let e : by.Sequence ≡ opener = cc in (ap (λ o. opener_of o ∷ opens) (sym e), ap (λ o. is_heredoc (opener_of o)) (sym e))
 opens_so ControlOpen opener opens h = let e : by.Sequence ≡ opener = cc in (ap (λ o. opener_of o ∷ opens) (sym e), ap (λ o. is_heredoc (opener_of o)) (sym e))
@@ -259,11 +259,11 @@ opens_so BracketOpen opener opens h = let e : by.Bracket ≡ opener = cc in (ap 
 opens_so BraceOpen opener opens h = let e : by.Brace ≡ opener = cc in (ap (λ o. opener_of o ∷ opens) (sym e), ap (λ o. is_heredoc (opener_of o)) (sym e))
 opens_so _ opener opens h = absurd (cc)
 
-pub ends_of : (text : List ℕ) (end : ℕ) (opener : By) (around : ℕ → Type 0) → is_heredoc (opener_of opener) ≡ false → around end → AreEndsBy text end opener around
+pub ends_of : (text : List ℕ) (end : ℕ) (opener : kept.Opener) (around : ℕ → Type 0) → is_heredoc (opener_of opener) ≡ false → around end → AreEndsBy text end opener around
 ends_of text end (by.Heredoc c o) around e h = absurd (cc)
 ends_of text end _ around e h = h
 
-pub hidden_on : (text : List ℕ) (end : ℕ) (opener : By) (above : ℕ → List Hidden) → is_heredoc (opener_of opener) ≡ false → hidden_under text end opener above ≡ above end
+pub hidden_on : (text : List ℕ) (end : ℕ) (opener : kept.Opener) (above : ℕ → List Hidden) → is_heredoc (opener_of opener) ≡ false → hidden_under text end opener above ≡ above end
 hidden_on text end (by.Heredoc c o) above h = absurd (cc)
 hidden_on text end _ above h = refl
 
@@ -282,7 +282,7 @@ owed_on Brace opens true e fits more h = absurd (cc)
 owed_on Bracket opens true e fits more h = absurd (cc)
 owed_on Paren opens true e fits more h = absurd (cc)
 
-pub some_around : (text : List ℕ) (end : ℕ) (opener : By) (stack : List Opened) → AreEndsBy text end opener (IsStack text stack) → (e : ℕ) × IsStack text stack e
+pub some_around : (text : List ℕ) (end : ℕ) (opener : kept.Opener) (stack : List Opened) → AreEndsBy text end opener (IsStack text stack) → (e : ℕ) × IsStack text stack e
 some_around text end (by.Heredoc c o) stack h = (o, h.4)
 some_around text end by.Quote stack h = (end, h)
 some_around text end by.Sequence stack h = (end, h)

@@ -14,7 +14,7 @@ use Rattle.hcl_scan.specs.Inner.Leads.{lead_of, lead_bytes, slash_lead}
 use Rattle.hcl_scan.specs.SideBySide.{may_begin_ident}
 use Rattle.hcl_scan.specs.declared.expression.Lead.{Lead}
 use Rattle.hcl_scan.specs.declared.expression.Lead.TheVariants.{LineEnd, Space, Letter, Digit, HashOrSlashes, SlashStar, OneSlash, LessLess, Closer, Sign}
-use Rattle.hcl_scan.specs.declared.found.Found.{Found}
+use Rattle.hcl_scan.specs.declared.token.Found.{Found}
 use Rattle.hcl_scan.specs.declared.token.Kind.{Kind}
 use Rattle.hcl_scan.specs.declared.token.Kind.TheVariants.{Newline, LineComment, InlineComment, Blank, Ident, Number, HeredocOpen, SeqClose, BraceClose, Slash, Less}
 use Rattle.hcl_scan.proofs.Ways.{ways}

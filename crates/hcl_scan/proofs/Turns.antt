@@ -14,11 +14,11 @@ use Rattle.hcl_scan.specs.Faults.{no_token, at_end, no_token_fault, fault_offset
 use Rattle.hcl_scan.specs.Inner.Found.{Finds}
 use Rattle.hcl_scan.specs.Inner.Openings.{opener_of, openers_of, offsets_in, hidden_of, quoted_in, template_top, option_and, innermost_owed, opened_by, opened_on, closed, is_heredoc_open}
 use Rattle.hcl_scan.specs.Inner.Scanners.{state_of, IsStack, IsSound, IsEntry, IsStart, IsNext, IsStopped, Moves}
-use Rattle.hcl_scan.specs.declared.entry.Entry.{Entry}
-use Rattle.hcl_scan.specs.declared.found.Found.{Found}
-use Rattle.hcl_scan.specs.declared.opened.By.{By}
-use Rattle.hcl_scan.specs.declared.opened.By.TheVariants as by
-use Rattle.hcl_scan.specs.declared.opened.Opened.{Opened}
+use Rattle.hcl_scan.specs.declared.token.Entry.{Entry}
+use Rattle.hcl_scan.specs.declared.token.Found.{Found}
+use Rattle.hcl_scan.specs.declared.stack.Opener as kept
+use Rattle.hcl_scan.specs.declared.stack.Opener.TheVariants as by
+use Rattle.hcl_scan.specs.declared.stack.Opened.{Opened}
 use Rattle.hcl_scan.specs.declared.scanner.Scanner.{Scanner}
 use Rattle.hcl_source.specs.declared.fault.FaultKind.{FaultKind}
 use Rattle.hcl_source.specs.declared.fault.FaultKind.TheVariants.{InvalidCharacter, UnterminatedComment, UnterminatedTemplate}
@@ -77,12 +77,12 @@ module _ (s : Scanner) (e : Entry) (sound : IsSound s) (is : IsNext s e) where
       subst (λ (z : List Opened). Moves s e (record { text = s.text; at = e.end; end = s.end; after_dot = dot; stack = z })) (sym stack_is)
       (moves (closed e.kind s.stack) dot dot_is kind_is opens_are (drops_offsets e.start s.stack (closed e.kind s.stack) d) (d.hidden s.text.now s.end) (d.stack s.text.now s.end sound.stack) (omega (arith, d.less, sound.depth)))
 
-  opener_no_dot : (kind : Kind) (opener : By) → opened_by kind ≡ Some opener → (false ≡ is_dot kind) × (kind ≢ HeredocOpen)
+  opener_no_dot : (kind : Kind) (opener : kept.Opener) → opened_by kind ≡ Some opener → (false ≡ is_dot kind) × (kind ≢ HeredocOpen)
   opener_no_dot Dot opener h = absurd (cc)
   opener_no_dot HeredocOpen opener h = absurd (cc)
   opener_no_dot _ opener h = (refl, λ k. cc)
 
-  pub reads_opener : (opener : By) (stack : List Opened) → opened_by e.kind ≡ Some opener → length s.stack < 256 → stack ≡ opened_on opener e.start s.stack → Moves s e (record { text = s.text; at = e.end; end = s.end; after_dot = false; stack = stack })
+  pub reads_opener : (opener : kept.Opener) (stack : List Opened) → opened_by e.kind ≡ Some opener → length s.stack < 256 → stack ≡ opened_on opener e.start s.stack → Moves s e (record { text = s.text; at = e.end; end = s.end; after_dot = false; stack = stack })
   reads_opener opener stack opens_is room stack_is =
       let spelled = is.longest.spelled in
       let so = opens_so e.kind opener (openers_of s.stack) opens_is in
@@ -265,7 +265,7 @@ template_found None opens dot quoted seen part here same h = tt
 template_found (Some f) opens dot quoted seen part here same h = subst (λ l. Finds opens dot l f.kind f.len) same (h opens dot here)
 
 -- what is owed is a template's sequence where it is no quote
-owed_template_by : (opener : By) → owes (opener_of opener) ≡ true → (opener_of opener ≡ Heredoc → ⊥) → (opener ≡ by.Quote → ⊥) → end_fault (Some (opener_of opener)) ≡ Some UnterminatedTemplate
+owed_template_by : (opener : kept.Opener) → owes (opener_of opener) ≡ true → (opener_of opener ≡ Heredoc → ⊥) → (opener ≡ by.Quote → ⊥) → end_fault (Some (opener_of opener)) ≡ Some UnterminatedTemplate
 owed_template_by by.Quote o no_heredoc no_quote = absurd (no_quote refl)
 owed_template_by (by.Heredoc c u) o no_heredoc no_quote = absurd (no_heredoc refl)
 owed_template_by by.Sequence o no_heredoc no_quote = refl

@@ -5,4 +5,3 @@ pub mod Leads
 pub mod Marks
 pub mod Openings
 pub mod Scanners
-pub mod Stops

@@ -7,14 +7,23 @@ ghost use Rattle.hcl_scan.specs.Inner.Found.{FindsAt, HasNoneAt, IsLongestFront,
 ghost use Rattle.hcl_scan.specs.Inner.Leads.{lead_of, lead_bytes, slash_lead};
 ghost use Rattle.hcl_scan.specs.declared.expression.Lead.TheVariants.{LessLess};
 
-use crate::bytes::byte_at;
 use crate::comment::inline_comment_len;
-use crate::found::{Found, Place};
 use crate::ident::{heredoc_open_len, ident_len};
 use crate::mark::longest_mark;
 use crate::number::{digits_len, number_len};
-use crate::space::{blanks_len, line_len, newline_len};
-use crate::token::Kind;
+use crate::text::{blanks_len, byte_at, line_len, newline_len};
+use crate::token::{Found, Kind};
+
+/// What the next token of an expression depends on, besides the text.
+#[derive(Clone, Copy, Debug)]
+pub struct Place {
+    /// The token before is a Dot.
+    pub after_dot: bool,
+    /// Some heredoc is open.
+    pub inside_heredoc: bool,
+    /// A `}` closes a sequence.
+    pub closes_sequence: bool,
+}
 
 /// What tokens the first two bytes may begin.
 #[derive(Clone, Copy)]

@@ -1,8 +1,7 @@
 //! What is found at the front of an expression.
 
-use crate::expression::next_in_expression;
-use crate::found::{Found, Place};
-use crate::token::Kind;
+use crate::expression::{Place, next_in_expression};
+use crate::token::{Found, Kind};
 use std::test::Fail;
 
 const PLAIN: Place = Place {

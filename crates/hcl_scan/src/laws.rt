@@ -17,7 +17,6 @@ ghost use Rattle.hcl_source.specs.declared.fault.FaultKind.{FaultKind};
 ghost use Rattle.hcl_scan.specs.declared.token.Kind.{Kind};
 
 use crate::scanner::Scanner;
-use crate::turn::Turn;
 
 pub use hcl_source::laws::{fault_or_text, one_load_fault, text_or_fault};
 
@@ -28,10 +27,10 @@ pub fn list_or_fault(text: &str)
 {
     let mut scanner = Scanner::new(text);
     loop {
-        match scanner.turn() {
-            Turn::Token(_) => {}
-            Turn::Complete => return,
-            Turn::Fault(_) => return,
+        match scanner.next_token() {
+            Ok(Some(_)) => {}
+            Ok(None) => return,
+            Err(_) => return,
         }
     }
 }

@@ -5,7 +5,7 @@ ghost use Rattle.hcl_scan.specs.Spelling.{marks};
 ghost use Rattle.hcl_scan.specs.Inner.Found.{IsLongestMark, HasNoMark};
 ghost use Rattle.hcl_scan.specs.Inner.Marks.{first_mark};
 
-use crate::bytes::byte_at;
+use crate::text::byte_at;
 use crate::token::Kind;
 
 /// The first of the marks, longer ones first, that stands at the front, and its length in bytes.

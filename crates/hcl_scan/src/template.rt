@@ -7,9 +7,8 @@ ghost use Rattle.hcl_scan.specs.Spelling.{Template, context, starts};
 ghost use Rattle.hcl_scan.specs.Inner.Found.{Finds};
 ghost use Rattle.hcl_scan.specs.Scans.{HasNone};
 
-use crate::found::Found;
 use crate::lit::lit_len;
-use crate::token::Kind;
+use crate::token::{Found, Kind};
 
 /// How many bytes the opener of a sequence has, which is there: the longer one where it fits.
 fn sequence_open_len(seen: &[u8]) -> usize

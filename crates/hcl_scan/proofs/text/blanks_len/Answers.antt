@@ -1,7 +1,7 @@
 use Rattle.std.proofs.Common.{arith}
 use Rattle.hcl_scan.specs.Spelling.{is_blank}
 use Rattle.hcl_scan.proofs.Fronts.{run_found, run_none}
-use Rattle.hcl_scan.proofs.space.blanks_len.Goals as goal
+use Rattle.hcl_scan.proofs.text.blanks_len.Goals as goal
 
 pub returns-then-count-eq0-clause-none : goal.returns-then-count-eq0-clause-none
 returns-then-count-eq0-clause-none c = run_none is_blank c.args.seen.now (omega arith)

@@ -1,10 +1,17 @@
-//! Newlines and blanks.
+//! What stands at the front of a text: a byte, a line, a newline, blanks.
 
-ghost use Rattle.std.specs.Prelude.{◌≡◌, ◌==◌, ◌≤◌, length, IfSome, IfNone};
+ghost use Rattle.std.specs.Prelude.{◌≡◌, ◌==◌, ◌≤◌, length, get_or, IfSome, IfNone};
 ghost use Rattle.std.specs.List.{prefix_len, position_or_len};
 ghost use Rattle.hcl_scan.specs.Spelling.{is_blank, IsNewline, IsBlanks};
 ghost use Rattle.hcl_scan.specs.Inner.Found.{IsLongestFront, HasNoFront};
 ghost use Rattle.hcl_scan.specs.Scans.{skip_blanks};
+
+/// The byte at the index, or 0 behind the end.
+pub(crate) fn byte_at(text: &[u8], index: usize) -> u8
+    ensures { result ≡ get_or text.now index 0 }
+{
+    if index < text.len() { text[index] } else { 0 }
+}
 
 /// How many bytes the newline at the front has.
 pub(crate) fn newline_len(seen: &[u8]) -> Option<usize>
