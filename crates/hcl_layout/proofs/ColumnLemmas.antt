@@ -1,6 +1,6 @@
 -- One column serves a whole run.
-use Rattle.std.proofs.Common.{◌≡◌, ℕ, List, [], ◌∷◌, Option, Some, None, max, ap, ap₂, arith, refl}
-use Rattle.hcl_layout.specs.Columns.{ahead, columns_from}
+use Rattle.std.proofs.Common.{◌≡◌, ℕ, List, [], ◌∷◌, Option, Some, None, max, ap, ap₂, arith, length, refl}
+use Rattle.hcl_layout.specs.Columns.{columns_after, widest}
 use Rattle.hcl_layout.specs.Inner.Stream.{next_of}
 
 -- the columns from here on, by the column of the line before
@@ -12,12 +12,22 @@ abbrev some : ℕ → Option ℕ
 some n = Some n
 
 mutual
-  in_run : (behind column : ℕ) (xs : List (Option ℕ)) → max behind (ahead xs) ≡ column → columns_from behind xs ≡ columns_at (Some column) xs
-  in_run behind column [] e = refl
-  in_run behind column (None ∷ rest) e = ap (λ l. None ∷ l) (before_run rest)
-  in_run behind column (Some width ∷ rest) e = ap₂ (λ c l. some c ∷ l) e (in_run (max behind width) column rest (omega (arith, e)))
+  in_run : (before : List (Option ℕ)) (column : ℕ) (xs : List (Option ℕ)) → max (widest before) (widest xs) ≡ column → columns_after before xs ≡ columns_at (Some column) xs
+  in_run before column [] e = refl
+  in_run before column (None ∷ rest) e = ap (λ l. None ∷ l) (outside (None ∷ before) rest refl)
+  in_run before column (Some width ∷ rest) e = ap₂ (λ c l. some c ∷ l) e (in_run (Some width ∷ before) column rest (omega (arith, e)))
 
-  pub before_run : (xs : List (Option ℕ)) → columns_from 0 xs ≡ columns_at None xs
-  before_run [] = refl
-  before_run (None ∷ rest) = ap (λ l. None ∷ l) (before_run rest)
-  before_run (Some width ∷ rest) = ap₂ (λ c l. some c ∷ l) (omega arith) (in_run (max 0 width) (max width (ahead rest)) rest (omega arith))
+  outside : (before xs : List (Option ℕ)) → widest before ≡ 0 → columns_after before xs ≡ columns_at None xs
+  outside before [] e = refl
+  outside before (None ∷ rest) e = ap (λ l. None ∷ l) (outside (None ∷ before) rest refl)
+  outside before (Some width ∷ rest) e = ap₂ (λ c l. some c ∷ l) (omega (arith, e)) (in_run (Some width ∷ before) (max width (widest rest)) rest (omega (arith, e)))
+
+-- outside a run the lines before don't count
+pub before_run : (xs : List (Option ℕ)) → columns_after [] xs ≡ columns_at None xs
+before_run xs = outside [] xs refl
+
+-- a column for each line
+pub columns_len : (before ws : List (Option ℕ)) → length (columns_after before ws) ≡ length ws
+columns_len before [] = refl
+columns_len before (None ∷ ws) = omega (arith, columns_len (None ∷ before) ws)
+columns_len before (Some w ∷ ws) = omega (arith, columns_len (Some w ∷ before) ws)

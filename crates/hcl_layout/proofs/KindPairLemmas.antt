@@ -5,19 +5,21 @@ use Rattle.std.specs.List.{list_all}
 use Rattle.std.specs.Str.{bytes_eq}
 use Rattle.hcl_scan.specs.Lexemes.{Lexeme}
 use Rattle.hcl_scan.specs.declared.token.Kind.{Kind}
-use Rattle.hcl_layout.specs.Lines.{is_newline}
-use Rattle.hcl_layout.specs.Spacing.{begins_with_equals, closes_group, ends_operand, is_brace_close, is_brace_open, is_bracket_open, is_comma, is_dot, is_ellipsis, is_ident, is_lit, is_minus, is_not, is_number, is_opening, is_paren_open, is_quote_close, is_quote_open, is_seq_close, opens_sequence, spaced, stands_before}
+use Rattle.hcl_syntax.specs.Kinds.{is_newline}
+use Rattle.hcl_syntax.specs.Kinds.{is_brace_close, is_brace_open, is_bracket_open, is_colon, is_colon_colon, is_comma, is_dot, is_ellipsis, is_ident, is_lit, is_minus, is_not, is_number, is_paren_open, is_quote_close, is_quote_open, is_seq_close}
+use Rattle.hcl_layout.specs.Spacing.{begins_with_colon, begins_with_equals, closes_group, ends_operand, is_opening, opens_sequence, spaced, stands_before}
 use Rattle.hcl_layout.specs.Inner.KindPairs.{asked, asked_space, pair_space}
-use Rattle.hcl_layout.proofs.EachKind.{each, kinds}
+use Rattle.hcl_layout.proofs.KindLemmas.{each, kinds}
 
 -- The table, behind its first row, by the kinds and by what it asks of the texts and of the token before: whether the
--- second begins with `=`, whether it is `~}`, whether the first is `in`, whether an Ident or a Dot stands before, and
+-- second begins with `=` or `:`, whether it is `~}`, whether the first is `in`, whether an Ident or a Dot stands before, and
 -- whether an expression begins there.
-abbrev pub table_by_kinds : Kind → Kind → Bool → Bool → Bool → Bool → Bool → Bool → Bool
-table_by_kinds l r equals tilde word name dot opening =
-    if (is_dot l && (is_dot r || is_ellipsis r)) || (is_number l && not dot && is_dot r) || (is_not l && equals) || (opens_sequence l && is_seq_close r && tilde) then true
+abbrev pub table_by_kinds : Kind → Kind → Bool → Bool → Bool → Bool → Bool → Bool → Bool → Bool
+table_by_kinds l r equals colon tilde word name dot opening =
+    if (is_dot l && (is_dot r || is_ellipsis r)) || (is_number l && not dot && is_dot r) || (is_not l && equals) || (opens_sequence l && is_seq_close r && tilde) || (is_colon l && colon) then true
     else if is_ident l && is_paren_open r then false
     else if is_dot l || is_dot r then false
+    else if is_colon_colon l || is_colon_colon r then false
     else if is_comma r || is_ellipsis r then false
     else if is_comma l then true
     else if is_quote_open l || is_lit l || is_lit r || is_quote_close r then false
@@ -53,22 +55,23 @@ abbrev same : Bool → Bool → Bool
 same true b = b
 same false b = not b
 
-abbrev holds : Kind → Kind → Bool → Bool → Bool → Bool → Bool → Bool → Bool
-holds l r a b c d e f = is_newline r || same (answered (pair_space l r) (asked l r a b c d e f)) (table_by_kinds l r a b c d e f)
+abbrev holds : Kind → Kind → Bool → Bool → Bool → Bool → Bool → Bool → Bool → Bool
+holds l r a b c d e f g = is_newline r || same (answered (pair_space l r) (asked l r a b c d e f g)) (table_by_kinds l r a b c d e f g)
 
-tried : list_all (λ l. list_all (λ r. both (λ a. both (λ b. both (λ c. both (λ d. both (λ e. both (λ f. holds l r a b c d e f))))))) kinds) kinds ≡ true
+tried : list_all (λ l. list_all (λ r. both (λ a. both (λ b. both (λ c. both (λ d. both (λ e. both (λ f. both (λ g. holds l r a b c d e f g)))))))) kinds) kinds ≡ true
 tried = refl
 
-every : (l r : Kind) (a b c d e f : Bool) → holds l r a b c d e f ≡ true
-every l r a b c d e f =
-    both_is (λ f. holds l r a b c d e f)
-    (both_is (λ e. both (λ f. holds l r a b c d e f))
-    (both_is (λ d. both (λ e. both (λ f. holds l r a b c d e f)))
-    (both_is (λ c. both (λ d. both (λ e. both (λ f. holds l r a b c d e f))))
-    (both_is (λ b. both (λ c. both (λ d. both (λ e. both (λ f. holds l r a b c d e f)))))
-    (both_is (λ a. both (λ b. both (λ c. both (λ d. both (λ e. both (λ f. holds l r a b c d e f))))))
-    (each (λ r. both (λ a. both (λ b. both (λ c. both (λ d. both (λ e. both (λ f. holds l r a b c d e f)))))))
-    (each (λ l. list_all (λ r. both (λ a. both (λ b. both (λ c. both (λ d. both (λ e. both (λ f. holds l r a b c d e f))))))) kinds) tried l) r) a) b) c) d) e) f
+every : (l r : Kind) (a b c d e f g : Bool) → holds l r a b c d e f g ≡ true
+every l r a b c d e f g =
+    both_is (λ g. holds l r a b c d e f g)
+    (both_is (λ f. both (λ g. holds l r a b c d e f g))
+    (both_is (λ e. both (λ f. both (λ g. holds l r a b c d e f g)))
+    (both_is (λ d. both (λ e. both (λ f. both (λ g. holds l r a b c d e f g))))
+    (both_is (λ c. both (λ d. both (λ e. both (λ f. both (λ g. holds l r a b c d e f g)))))
+    (both_is (λ b. both (λ c. both (λ d. both (λ e. both (λ f. both (λ g. holds l r a b c d e f g))))))
+    (both_is (λ a. both (λ b. both (λ c. both (λ d. both (λ e. both (λ f. both (λ g. holds l r a b c d e f g)))))))
+    (each (λ r. both (λ a. both (λ b. both (λ c. both (λ d. both (λ e. both (λ f. both (λ g. holds l r a b c d e f g))))))))
+    (each (λ l. list_all (λ r. both (λ a. both (λ b. both (λ c. both (λ d. both (λ e. both (λ f. both (λ g. holds l r a b c d e f g)))))))) kinds) tried l) r) a) b) c) d) e) f) g
 
 same_is : (a b : Bool) → same a b ≡ true → a ≡ b
 same_is true b h = sym h
@@ -85,13 +88,14 @@ by_kinds before subject after e f =
     let l = subject.kind in
     let r = after.kind in
     let a = begins_with_equals after.text in
+    let z = begins_with_colon after.text in
     let b = bytes_eq after.text (codes "~}") in
     let c = bytes_eq subject.text (codes "in") in
     let d = stands_before is_ident before in
     let g = stands_before is_dot before in
     let h = is_opening before in
-    let tested = second (is_newline r) (same (answered (pair_space l r) (asked l r a b c d g h)) (table_by_kinds l r a b c d g h)) e (every l r a b c d g h) in
-    rw (e, f) (same_is (answered (pair_space l r) (asked l r a b c d g h)) (table_by_kinds l r a b c d g h) tested)
+    let tested = second (is_newline r) (same (answered (pair_space l r) (asked l r a z b c d g h)) (table_by_kinds l r a z b c d g h)) e (every l r a z b c d g h) in
+    rw (e, f) (same_is (answered (pair_space l r) (asked l r a z b c d g h)) (table_by_kinds l r a z b c d g h) tested)
 
 pub given : (space : Bool) (subject after : Lexeme) → is_newline after.kind ≡ false → after.inside_heredoc ≡ false → pair_space subject.kind after.kind ≡ Some space → (before : Option Lexeme) → space ≡ spaced before subject after
 given space subject after e f g before = sym (ap (λ o. answered o (asked_space before subject after)) g) ∙ by_kinds before subject after e f

@@ -1,23 +1,24 @@
 -- What is left to print, piece by piece.
-use Rattle.std.proofs.Common.{◌≡◌, ◌∙◌, ◌+◌, ◌-◌, ◌++◌, ◌<◌, ◌≤◌, ◌==◌, ◌^◌, ℕ, suc, zero, Bool, true, false, List, [], ◌∷◌, Option, Some, None, length, ap, ap₂, refl, sym, arith, take, drop, replicate}
+use Rattle.std.proofs.Common.{◌*◌, ◌≡◌, ◌∙◌, ◌+◌, ◌-◌, ◌++◌, ◌<◌, ◌≤◌, ◌==◌, ◌^◌, ℕ, suc, zero, Bool, true, false, List, [], ◌∷◌, Option, Some, None, length, ap, ap₂, refl, sym, arith, take, drop, replicate}
 use Rattle.std.specs.Prelude.{IfSome, if◌then◌else◌, nat_lt, slice_get}
 use Rattle.std.proofs.lemmas.Bool.Decides.{nat_tests}
+use Rattle.hcl_syntax.specs.Balanced.{max_open}
 use Rattle.hcl_layout.specs.Inner.Left.{behind}
 use Rattle.std.specs.List.{flat_map}
 use Rattle.hcl_scan.specs.Lexemes.{Lexeme}
-use Rattle.hcl_layout.specs.Inner.Depths.{Balanced, fresh}
+use Rattle.hcl_layout.specs.Inner.Depths.{BalancedFrom, fresh}
 use Rattle.hcl_layout.specs.Gaps.{clusters, gaps, width}
-use Rattle.hcl_layout.specs.Inner.LineGaps.{bulk, cell_gap, gap_of, gaps_from, gaps_in, plain_gap}
+use Rattle.hcl_layout.specs.Inner.LineGaps.{len_with_blanks, cell_gap, gap_of, gaps_from, gaps_in, plain_gap}
 use Rattle.hcl_layout.specs.Lines.{lines}
 use Rattle.hcl_layout.specs.Print.{printed}
 use Rattle.hcl_layout.specs.Inner.Stream.{commented}
-use Rattle.hcl_layout.specs.declared.line.Cell.{Cell}
-use Rattle.hcl_layout.specs.declared.line.LineGaps.{LineGaps}
+use Rattle.hcl_layout.specs.declared.gap.Cell.{Cell}
+use Rattle.hcl_layout.specs.declared.gap.LineGaps.{LineGaps}
 use Rattle.hcl_layout.proofs.LineLemmas.{blank, indented, width_next}
 use Rattle.hcl_layout.proofs.StreamLemmas.{gaps_all}
 use Rattle.hcl_layout.proofs.SurveyLemmas.{drop_at}
 
-pub start_all : (ts : List Lexeme) (d : ℕ) (levels : List ℕ) (column : Option ℕ) → Balanced 0 ts → d ≡ 0 → levels ≡ fresh → column ≡ None
+pub start_all : (ts : List Lexeme) (d : ℕ) (levels : List ℕ) (column : Option ℕ) → BalancedFrom 0 ts → d ≡ 0 → levels ≡ fresh → column ≡ None
     → flat_map (λ g. g) (commented d levels column None (lines ts)) ≡ gaps ts
 start_all ts d levels column p e f g =
     ap₂ (λ (x : ℕ) (y : List ℕ). flat_map (λ g. g) (commented x y column None (lines ts))) e f
@@ -85,7 +86,7 @@ piece_left ts next start end set rest t gap e lt le g =
     ∙ ap (λ k. (replicate gap 32 ++ t.text) ++ printed (gaps_from set k s (Some t) (take (end - (next + 1)) left) ++ rest) left) place
     ∙ ap₂ (λ (n : ℕ) (u : Option Lexeme). (replicate gap 32 ++ t.text) ++ printed (gaps_from set ((next + 1) - start) (behind ts start n) u (take (end - (next + 1)) left) ++ rest) left) last (sym (printed_behind ts start next t e le))
 
-plain_small : (level : ℕ) (b s : Option Lexeme) (t : Lexeme) → level ≤ 256 → plain_gap level b s t ≤ 512
+plain_small : (level : ℕ) (b s : Option Lexeme) (t : Lexeme) → level ≤ max_open → plain_gap level b s t ≤ 2 * max_open
 plain_small level b None t low = omega (arith, indented level t)
 plain_small level b (Some s) t low = omega (arith, blank b s t)
 
@@ -101,16 +102,16 @@ wider : (c : Option Cell) → IfSome c (λ x. x.gap ≤ 2 ^ 33) → IfSome c (λ
 wider None p = tt
 wider (Some c) p = omega (arith, p)
 
-pub gap_small : (set : LineGaps) (k : ℕ) (b s : Option Lexeme) (t : Lexeme) → set.level ≤ 256 → IfSome set.assign (λ c. c.gap ≤ 2 ^ 33) → IfSome set.comment (λ c. c.gap ≤ 2 ^ 34) → gap_of set k b s t ≤ 2 ^ 34
+pub gap_small : (set : LineGaps) (k : ℕ) (b s : Option Lexeme) (t : Lexeme) → set.level ≤ max_open → IfSome set.assign (λ c. c.gap ≤ 2 ^ 33) → IfSome set.comment (λ c. c.gap ≤ 2 ^ 34) → gap_of set k b s t ≤ 2 ^ 34
 gap_small set k b s t low p q =
     cell_small set.comment k (cell_gap set.assign k (plain_gap set.level b s t)) q
     (cell_small set.assign k (plain_gap set.level b s t) (wider set.assign p) (omega (arith, plain_small set.level b s t low)))
 
-pub text_bulk : (ts : List Lexeme) (i : ℕ) (t : Lexeme) → slice_get ts i ≡ Some t → length t.text ≤ bulk ts
-text_bulk [] zero t e = cc
-text_bulk [] (suc i) t e = cc
-text_bulk (u ∷ ts) zero t e = let same : u ≡ t = one u t e in omega (arith, ap (λ (x : Lexeme). length x.text) same)
+pub text_len_with_blanks : (ts : List Lexeme) (i : ℕ) (t : Lexeme) → slice_get ts i ≡ Some t → length t.text ≤ len_with_blanks ts
+text_len_with_blanks [] zero t e = cc
+text_len_with_blanks [] (suc i) t e = cc
+text_len_with_blanks (u ∷ ts) zero t e = let same : u ≡ t = one u t e in omega (arith, ap (λ (x : Lexeme). length x.text) same)
   where
     one : (x y : Lexeme) → Some x ≡ Some y → x ≡ y
     one x y e = cc
-text_bulk (u ∷ ts) (suc i) t e = omega (arith, text_bulk ts i t e)
+text_len_with_blanks (u ∷ ts) (suc i) t e = omega (arith, text_len_with_blanks ts i t e)

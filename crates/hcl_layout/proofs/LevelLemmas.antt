@@ -4,8 +4,9 @@ use Rattle.std.specs.Prelude.{◌&&◌, filter, if◌then◌else◌, nat_lt, sli
 use Rattle.std.proofs.Common.{length-set}
 use Rattle.std.proofs.lemmas.List.{get_or-set_other}
 use Rattle.std.proofs.lemmas.Grind.{get_or-set_at}
-use Rattle.hcl_layout.specs.Levels.{Net, is_above, level, levels_after, none, plus, stays_above}
-use Rattle.hcl_layout.specs.Inner.Depths.{Sound, raised, turned}
+use Rattle.hcl_syntax.specs.Balanced.{max_open}
+use Rattle.hcl_layout.specs.Levels.{Net, is_above, level, levels_after, no_net, plus, stays_above}
+use Rattle.hcl_layout.specs.Inner.Depths.{Sound, raised, levels_behind}
 
 -- ---- the groups that are open, one after another
 
@@ -21,7 +22,7 @@ total sum (n ∷ rest) = total (plus sum n) rest
 -- where the groups that are open after the lines began
 abbrev pub open_groups : Net → List Net → List Net
 open_groups sum [] = []
-open_groups sum (n ∷ rest) = if stays_above none (n ∷ rest) then sum ∷ open_groups (plus sum n) rest else open_groups (plus sum n) rest
+open_groups sum (n ∷ rest) = if stays_above no_net (n ∷ rest) then sum ∷ open_groups (plus sum n) rest else open_groups (plus sum n) rest
 
 abbrev net : ℕ → ℕ → Net
 net o c = record { opens = o; closes = c }
@@ -29,7 +30,7 @@ net o c = record { opens = o; closes = c }
 plus_assoc : (a b c : Net) → plus (plus a b) c ≡ plus a (plus b c)
 plus_assoc a b c = ap₂ net (add_assoc a.opens b.opens c.opens) (add_assoc a.closes b.closes c.closes)
 
-plus_none : (a : Net) → plus none a ≡ a
+plus_none : (a : Net) → plus no_net a ≡ a
 plus_none a = ap₂ net (omega arith) (omega arith)
 
 and_assoc : (a b c : Bool) → (a && (b && c)) ≡ ((a && b) && c)
@@ -55,12 +56,12 @@ above_base base s = grind arith
 
 -- the group of x is open still where it was, and the depth is above where it began
 open_here : (sum x : Net) (xs : List Net) (n : Net)
-    → stays_above none (x ∷ (xs ++ n ∷ [])) ≡ (stays_above none (x ∷ xs) && is_deeper (plus (total (plus sum x) xs) n) sum)
+    → stays_above no_net (x ∷ (xs ++ n ∷ [])) ≡ (stays_above no_net (x ∷ xs) && is_deeper (plus (total (plus sum x) xs) n) sum)
 open_here sum x xs n =
-    let from_sum : plus sum (plus (total none (x ∷ xs)) n) ≡ plus (total (plus sum x) xs) n =
-    sym (plus_assoc sum (total none (x ∷ xs)) n) ∙ ap (λ s. plus s n) (sym (relative sum xs (plus none x)) ∙ ap (λ y. total (plus sum y) xs) (plus_none x)) in
-    stays-more none (x ∷ xs) n
-    ∙ ap (λ b. stays_above none (x ∷ xs) && b) (above_base sum (plus (total none (x ∷ xs)) n) ∙ ap (λ s. is_deeper s sum) from_sum)
+    let from_sum : plus sum (plus (total no_net (x ∷ xs)) n) ≡ plus (total (plus sum x) xs) n =
+    sym (plus_assoc sum (total no_net (x ∷ xs)) n) ∙ ap (λ s. plus s n) (sym (relative sum xs (plus no_net x)) ∙ ap (λ y. total (plus sum y) xs) (plus_none x)) in
+    stays-more no_net (x ∷ xs) n
+    ∙ ap (λ b. stays_above no_net (x ∷ xs) && b) (above_base sum (plus (total no_net (x ∷ xs)) n) ∙ ap (λ s. is_deeper s sum) from_sum)
 
 if_filter : (s : Bool) (p : Net → Bool) (b : Net) (groups more : List Net)
     → (if s && p b then b ∷ (filter p groups ++ more) else (filter p groups ++ more)) ≡ filter p (if s then b ∷ groups else groups) ++ more
@@ -82,20 +83,20 @@ if_count true p b groups = go (p b) refl
 
 open-more : (sum : Net) (xs : List Net) (n : Net)
     → open_groups sum (xs ++ n ∷ []) ≡ filter (λ g. is_deeper (plus (total sum xs) n) g) (open_groups sum xs) ++ (if is_above n then total sum xs ∷ [] else [])
-open-more sum [] n = rw (and_true (is_above (plus none n))) (ap (λ m. if is_above m then sum ∷ [] else []) (plus_none n))
+open-more sum [] n = rw (and_true (is_above (plus no_net n))) (ap (λ m. if is_above m then sum ∷ [] else []) (plus_none n))
 open-more sum (x ∷ xs) n =
     let p : Net → Bool = λ g. is_deeper (plus (total (plus sum x) xs) n) g in
     let groups = open_groups (plus sum x) xs in
     let more : List Net = if is_above n then total (plus sum x) xs ∷ [] else [] in
     ap₂ (λ (t : Bool) (l : List Net). if t then sum ∷ l else l) (open_here sum x xs n) (open-more (plus sum x) xs n)
-    ∙ if_filter (stays_above none (x ∷ xs)) p sum groups more
+    ∙ if_filter (stays_above no_net (x ∷ xs)) p sum groups more
 
 level-open : (sum : Net) (xs : List Net) (n : Net) → level xs n ≡ length (filter (λ g. is_deeper (plus (total sum xs) n) g) (open_groups sum xs))
 level-open sum [] n = refl
 level-open sum (x ∷ xs) n =
     let p : Net → Bool = λ g. is_deeper (plus (total (plus sum x) xs) n) g in
     ap₂ (λ (t : Bool) (k : ℕ). (if t then 1 else 0) + k) (open_here sum x xs n) (level-open (plus sum x) xs n)
-    ∙ if_count (stays_above none (x ∷ xs)) p sum (open_groups (plus sum x) xs)
+    ∙ if_count (stays_above no_net (x ∷ xs)) p sum (open_groups (plus sum x) xs)
 
 total-more : (sum : Net) (xs : List Net) (n : Net) → total sum (xs ++ n ∷ []) ≡ plus (total sum xs) n
 total-more sum [] n = refl
@@ -110,12 +111,12 @@ abbrev pub levels_from : Net → List Net → List Net → List ℕ
 levels_from sum groups [] = []
 levels_from sum groups (n ∷ rest) = length (filter (λ g. is_deeper (plus sum n) g) groups) ∷ levels_from (plus sum n) (groups_then sum groups n) rest
 
-pub levels_of_state : (before rest : List Net) → levels_after before rest ≡ levels_from (total none before) (open_groups none before) rest
+pub levels_of_state : (before rest : List Net) → levels_after before rest ≡ levels_from (total no_net before) (open_groups no_net before) rest
 levels_of_state before [] = refl
 levels_of_state before (n ∷ rest) =
-    ap₂ (λ (k : ℕ) (l : List ℕ). k ∷ l) (level-open none before n)
+    ap₂ (λ (k : ℕ) (l : List ℕ). k ∷ l) (level-open no_net before n)
     (levels_of_state (before ++ n ∷ []) rest
-    ∙ ap₂ (λ (s : Net) (g : List Net). levels_from s g rest) (total-more none before n) (open-more none before n))
+    ∙ ap₂ (λ (s : Net) (g : List Net). levels_from s g rest) (total-more no_net before n) (open-more no_net before n))
 
 -- ---- the same by depths
 
@@ -129,7 +130,7 @@ count m groups = length (filter (λ g. is_deeper m g) groups)
 
 -- the groups are counted by depth, and all began above the depth at hand
 pub record Counted (d : ℕ) (groups : List Net) (levels : List ℕ) : Type 0 where
-  pub room : length levels ≡ 257
+  pub room : length levels ≡ (max_open + 1)
   pub below : (k : ℕ) (m : Net) → Is k m → k ≤ d → count m groups ≡ get_or levels k 0
   pub all : (k : ℕ) (m : Net) → Is k m → d ≤ k → filter (λ g. is_deeper m g) groups ≡ groups
 
@@ -182,30 +183,30 @@ raised_within levels top from (suc n) k le lt room =
     go r true e = r (grind arith)
     go r false e = raised_before (slice_set levels from top) top (from + 1) n k (grind arith) ∙ get_or-set_at levels from k top 0 (grind arith) (omega arith)
 
-pub turned_length : (d e : ℕ) (levels : List ℕ) → length (turned d e levels) ≡ length levels
-turned_length d e levels = raised_length levels (get_or levels d 0 + 1) (d + 1) (e - d)
+pub levels_behind_length : (d e : ℕ) (levels : List ℕ) → length (levels_behind d e levels) ≡ length levels
+levels_behind_length d e levels = raised_length levels (get_or levels d 0 + 1) (d + 1) (e - d)
 
-pub turned_before : (d e : ℕ) (levels : List ℕ) (k : ℕ) → k ≤ d → get_or (turned d e levels) k 0 ≡ get_or levels k 0
-turned_before d e levels k le = raised_before levels (get_or levels d 0 + 1) (d + 1) (e - d) k (omega arith)
+pub levels_behind_before : (d e : ℕ) (levels : List ℕ) (k : ℕ) → k ≤ d → get_or (levels_behind d e levels) k 0 ≡ get_or levels k 0
+levels_behind_before d e levels k le = raised_before levels (get_or levels d 0 + 1) (d + 1) (e - d) k (omega arith)
 
-pub turned_above : (d e : ℕ) (levels : List ℕ) (k : ℕ) → d < k → k ≤ e → e < length levels → get_or (turned d e levels) k 0 ≡ get_or levels d 0 + 1
-turned_above d e levels k lt le room = raised_within levels (get_or levels d 0 + 1) (d + 1) (e - d) k (omega arith) (omega arith) (omega arith)
+pub levels_behind_above : (d e : ℕ) (levels : List ℕ) (k : ℕ) → d < k → k ≤ e → e < length levels → get_or (levels_behind d e levels) k 0 ≡ get_or levels d 0 + 1
+levels_behind_above d e levels k lt le room = raised_within levels (get_or levels d 0 + 1) (d + 1) (e - d) k (omega arith) (omega arith) (omega arith)
 
 pub raised_more : (levels : List ℕ) (top from to : ℕ) → from < to → raised levels top from (to - from) ≡ raised (slice_set levels from top) top (from + 1) (to - (from + 1))
 raised_more levels top from to lt =
     let one : to - from ≡ suc (to - (from + 1)) = omega arith in
     ap (raised levels top from) one
 
-pub turned_sound : (d e : ℕ) (levels new : List ℕ) → d < e → e ≤ 256 → Sound d levels → new ≡ turned d e levels → Sound e new
-turned_sound d e levels new lt low p q = (ap length q ∙ turned_length d e levels ∙ p.0, λ k le. go k le (nat_lt d k) refl)
+pub levels_behind_sound : (d e : ℕ) (levels new : List ℕ) → d < e → e ≤ max_open → Sound d levels → new ≡ levels_behind d e levels → Sound e new
+levels_behind_sound d e levels new lt low p q = (ap length q ∙ levels_behind_length d e levels ∙ p.0, λ k le. go k le (nat_lt d k) refl)
   where
     go : (k : ℕ) → k ≤ e → (v : Bool) → nat_lt d k ≡ v → get_or new k 0 ≤ k
     go k le true v =
-        omega (arith, ap (λ l. get_or {A = ℕ} l k 0) q, turned_above d e levels k (grind arith) le (omega (arith, p.0)), p.1 d (omega arith), lt_of v)
+        omega (arith, ap (λ l. get_or {A = ℕ} l k 0) q, levels_behind_above d e levels k (grind arith) le (omega (arith, p.0)), p.1 d (omega arith), lt_of v)
       where
         lt_of : nat_lt d k ≡ true → d < k
         lt_of w = grind arith
-    go k le false v = omega (arith, ap (λ l. get_or {A = ℕ} l k 0) q, turned_before d e levels k (le_of v), p.1 k (le_of v))
+    go k le false v = omega (arith, ap (λ l. get_or {A = ℕ} l k 0) q, levels_behind_before d e levels k (le_of v), p.1 k (le_of v))
       where
         le_of : nat_lt d k ≡ false → k ≤ d
         le_of w = grind arith

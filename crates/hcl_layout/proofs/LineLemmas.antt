@@ -3,11 +3,12 @@ use Rattle.std.proofs.Common.{◌≡◌, ◌∙◌, ◌+◌, ◌-◌, ◌*◌, �
 use Rattle.std.specs.Prelude.{if◌then◌else◌, slice_get, slice_set, nat_eq, ◌||◌}
 use Rattle.hcl_scan.specs.Lexemes.{Lexeme}
 use Rattle.hcl_layout.specs.Gaps.{blanks, clusters, gaps_after, indent, plain_gaps, width}
-use Rattle.hcl_layout.specs.Inner.LineGaps.{bulk, cell_gap, gap_of, gaps_from, gaps_in, plain_gap, set_cell}
-use Rattle.hcl_layout.specs.Lines.{Line, is_newline}
+use Rattle.hcl_layout.specs.Inner.LineGaps.{len_with_blanks, cell_gap, gap_of, gaps_from, gaps_in, plain_gap, set_cell}
+use Rattle.hcl_syntax.specs.Kinds.{is_newline}
+use Rattle.hcl_layout.specs.Lines.{Line}
 use Rattle.hcl_layout.specs.Spacing.{spaced}
-use Rattle.hcl_layout.specs.declared.line.Cell.{Cell}
-use Rattle.hcl_layout.specs.declared.line.LineGaps.{LineGaps}
+use Rattle.hcl_layout.specs.declared.gap.Cell.{Cell}
+use Rattle.hcl_layout.specs.declared.gap.LineGaps.{LineGaps}
 use Rattle.hcl_layout.proofs.ClusterLemmas.{clusters_few}
 use Rattle.hcl_layout.proofs.SurveyLemmas.{drop_at}
 
@@ -71,7 +72,7 @@ blank b s a = go (spaced b s a)
     go true = omega arith
     go false = omega arith
 
-after_small : (line : Line) (i : ℕ) (b : Option Lexeme) (t : Lexeme) → width i (gaps_after b t line) line ≤ bulk line
+after_small : (line : Line) (i : ℕ) (b : Option Lexeme) (t : Lexeme) → width i (gaps_after b t line) line ≤ len_with_blanks line
 after_small line zero b t = omega arith
 after_small [] (suc i) b t = omega arith
 after_small (u ∷ line) (suc i) b t = omega (arith, blank b t u, clusters_few u.text, after_small line i (Some t) u)
@@ -83,7 +84,7 @@ indented level t = go (is_newline t.kind || t.inside_heredoc)
     go true = omega arith
     go false = omega arith
 
-pub width_small : (level i : ℕ) (line : Line) → width i (plain_gaps level line) line ≤ 2 * level + bulk line
+pub width_small : (level i : ℕ) (line : Line) → width i (plain_gaps level line) line ≤ 2 * level + len_with_blanks line
 width_small level zero line = omega arith
 width_small level (suc i) [] = omega arith
 width_small level (suc i) (t ∷ line) = omega (arith, indented level t, clusters_few t.text, after_small line i None t)

@@ -4,7 +4,7 @@ use Rattle.hcl_scan.specs.Lexemes.{Lexeme, marker_of}
 use Rattle.hcl_scan.specs.Scans.{Closes, Hidden, Next, Reads, Run, Scans, Shows, State, ahead, begin, gap_len, closer_len}
 use Rattle.hcl_scan.specs.declared.token.Kind.{Kind}
 use Rattle.hcl_scan.specs.declared.token.Kind.TheVariants as kind
-use Rattle.hcl_layout.specs.Inner.LineGaps.{bulk}
+use Rattle.hcl_layout.specs.Inner.LineGaps.{len_with_blanks}
 
 cut_length : (n : ℕ) (xs : List ℕ) → length (take n xs) + length (drop n xs) ≡ length xs
 cut_length zero xs = omega arith
@@ -45,6 +45,7 @@ shows_length kind.Comma text rest hidden seen behind p = goes_on rest hidden see
 shows_length kind.Ellipsis text rest hidden seen behind p = goes_on rest hidden seen behind p
 shows_length kind.Question text rest hidden seen behind p = goes_on rest hidden seen behind p
 shows_length kind.Colon text rest hidden seen behind p = goes_on rest hidden seen behind p
+shows_length kind.ColonColon text rest hidden seen behind p = goes_on rest hidden seen behind p
 shows_length kind.Assign text rest hidden seen behind p = goes_on rest hidden seen behind p
 shows_length kind.Arrow text rest hidden seen behind p = goes_on rest hidden seen behind p
 shows_length kind.Not text rest hidden seen behind p = goes_on rest hidden seen behind p
@@ -78,9 +79,9 @@ closes_length s t next p = omega (arith, ap left_length p.next_is, ap hidden_len
 next_length : (s : State) (t : Lexeme) (next : State) → Next s t next → length t.text + left_length next ≤ left_length s
 next_length s t next p = ⊎_elim (reads_length s t next) (closes_length s t next) p
 
-run_length : (ts : List Lexeme) (s end : State) → Run s ts end → bulk ts ≤ length ts + left_length s
+run_length : (ts : List Lexeme) (s end : State) → Run s ts end → len_with_blanks ts ≤ length ts + left_length s
 run_length [] s end p = omega arith
 run_length (t ∷ ts) s end p = omega (arith, next_length s t p.0 p.1, run_length ts p.0 end p.2)
 
-pub scanned_bulk : (text : List ℕ) (ts : List Lexeme) → Scans text ts → bulk ts ≤ length ts + length text
-scanned_bulk text ts p = omega (arith, run_length ts (begin text) p.0 p.1)
+pub scanned_len_with_blanks : (text : List ℕ) (ts : List Lexeme) → Scans text ts → len_with_blanks ts ≤ length ts + length text
+scanned_len_with_blanks text ts p = omega (arith, run_length ts (begin text) p.0 p.1)

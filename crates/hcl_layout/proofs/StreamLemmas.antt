@@ -7,14 +7,15 @@ use Rattle.std.proofs.lemmas.List.Elements.{filter-append}
 use Rattle.hcl_scan.specs.Lexemes.{Lexeme}
 use Rattle.hcl_scan.specs.declared.token.Kind.{Kind}
 use Rattle.hcl_layout.specs.Cells.{assign_cell, running_comment, trailing_comment}
-use Rattle.hcl_layout.specs.Inner.Depths.{Balanced, Steps, deepen, depth_after, fresh, level_at, turned}
+use Rattle.hcl_layout.specs.Inner.Depths.{net_of_kind, BalancedFrom, Steps, deepen, depth_after, fresh, level_at, levels_behind}
 use Rattle.hcl_layout.specs.Gaps.{aligned, aligned_by, align, gaps, indented, line_gaps, plain_gaps, zip_with}
-use Rattle.hcl_layout.specs.Levels.{Net, is_above, is_closer, is_opener, levels, net_of, net_of_kind, none, plus}
+use Rattle.hcl_syntax.specs.Balanced.{is_closer, is_opener, max_open}
+use Rattle.hcl_layout.specs.Levels.{Net, is_above, levels, net_of, no_net, plus}
 use Rattle.hcl_layout.specs.Lines.{Line, ends_line, lines, onto}
 use Rattle.hcl_layout.specs.Inner.Stream.{assign_column, assign_widths, assigned, comment_column, comment_widths, commented, leveled, plain}
-use Rattle.hcl_layout.proofs.KindLemmas.{disjoint}
+use Rattle.hcl_layout.proofs.BalanceLemmas.{disjoint}
 use Rattle.hcl_layout.proofs.ColumnLemmas.{columns_at, before_run}
-use Rattle.hcl_layout.proofs.LevelLemmas.{Counted, Is, above_is, count, deeper_is, filter_higher, filter_lower, groups_then, is_deeper, levels_from, levels_of_state, turned_above, turned_before, turned_length}
+use Rattle.hcl_layout.proofs.LevelLemmas.{Counted, Is, above_is, count, deeper_is, filter_higher, filter_lower, groups_then, is_deeper, levels_from, levels_of_state, levels_behind_above, levels_behind_before, levels_behind_length}
 
 -- ---- depths of nets
 
@@ -34,7 +35,7 @@ plus_assoc a b c = ap₂ net (add_assoc a.opens b.opens c.opens) (add_assoc a.cl
     net : ℕ → ℕ → Net
     net o k = record { opens = o; closes = k }
 
-pub after_is : (l : Line) (d : ℕ) (s : Net) → Is d s → Balanced d l → Is (depth_after d l) (plus s (net_of l))
+pub after_is : (l : Line) (d : ℕ) (s : Net) → Is d s → BalancedFrom d l → Is (depth_after d l) (plus s (net_of l))
 after_is [] d s p q = omega arith
 after_is (t ∷ l) d s p q =
     subst (λ n. Is (depth_after (deepen d t.kind) l) n) (plus_assoc s (net_of_kind t.kind) (net_of l))
@@ -42,20 +43,20 @@ after_is (t ∷ l) d s p q =
 
 -- ---- line after line
 
--- the depth stays within 256
+-- no more are open than may be
 abbrev pub Low : ℕ → List Line → Type 0
-Low d [] = d ≤ 256
-Low d (l ∷ ls) = (d ≤ 256) × Low (depth_after d l) ls
+Low d [] = d ≤ max_open
+Low d (l ∷ ls) = (d ≤ max_open) × Low (depth_after d l) ls
 
 abbrev pub BalancedLines : ℕ → List Line → Type 0
 BalancedLines d [] = Unit {0}
-BalancedLines d (l ∷ ls) = Balanced d l × BalancedLines (depth_after d l) ls
+BalancedLines d (l ∷ ls) = BalancedFrom d l × BalancedLines (depth_after d l) ls
 
 onto_balanced : (t : Lexeme) (d : ℕ) (ls : List Line) → Steps d t.kind → BalancedLines (deepen d t.kind) ls → BalancedLines d (onto t ls)
 onto_balanced t d [] p q = ((p, tt), tt)
 onto_balanced t d (l ∷ ls) p q = ((p, q.0), q.1)
 
-pub balanced_lines : (ts : List Lexeme) (d : ℕ) → Balanced d ts → BalancedLines d (lines ts)
+pub balanced_lines : (ts : List Lexeme) (d : ℕ) → BalancedFrom d ts → BalancedLines d (lines ts)
 balanced_lines [] d p = tt
 balanced_lines (t ∷ ts) d p = go (balanced_lines ts (deepen d t.kind) p.1) (ends_line t) refl
   where
@@ -63,16 +64,16 @@ balanced_lines (t ∷ ts) d p = go (balanced_lines ts (deepen d t.kind) p.1) (en
     go r true e = rw e ((p.0, tt), r)
     go r false e = rw e (onto_balanced t d (lines ts) p.0 r)
 
--- the depth goes no further than 256
-step_low : (o c : Bool) (d : ℕ) → (IsTrue o → d < 256) → d ≤ 256 → (if o then d + 1 else (if c then d - 1 else d)) ≤ 256
+-- nor will more be open
+step_low : (o c : Bool) (d : ℕ) → (IsTrue o → d < max_open) → d ≤ max_open → (if o then d + 1 else (if c then d - 1 else d)) ≤ max_open
 step_low true c d p q = omega (arith, p refl)
 step_low false true d p q = omega arith
 step_low false false d p q = q
 
-pub deepen_low : (k : Kind) (d : ℕ) → Steps d k → d ≤ 256 → deepen d k ≤ 256
+pub deepen_low : (k : Kind) (d : ℕ) → Steps d k → d ≤ max_open → deepen d k ≤ max_open
 deepen_low k d p q = step_low (is_opener k) (is_closer k) d p.0 q
 
-pub after_low : (l : Line) (d : ℕ) → Balanced d l → d ≤ 256 → depth_after d l ≤ 256
+pub after_low : (l : Line) (d : ℕ) → BalancedFrom d l → d ≤ max_open → depth_after d l ≤ max_open
 after_low [] d p q = q
 after_low (t ∷ l) d p q = after_low l (deepen d t.kind) p.1 (deepen_low t.kind d p.0 q)
 
@@ -83,19 +84,19 @@ count_more : (m sum : Net) (groups : List Net) (b : Bool) → is_deeper m sum �
 count_more m sum groups true e = ap length (filter-append (λ g. is_deeper m g) groups (sum ∷ [])) ∙ length-append (filter (λ g. is_deeper m g) groups) (filter (λ g. is_deeper m g) (sum ∷ [])) ∙ rw e refl
 count_more m sum groups false e = ap length (filter-append (λ g. is_deeper m g) groups (sum ∷ [])) ∙ length-append (filter (λ g. is_deeper m g) groups) (filter (λ g. is_deeper m g) (sum ∷ [])) ∙ rw e refl
 
-deeper_below : (d e : ℕ) (sum : Net) (groups : List Net) (levels : List ℕ) → Is d sum → d < e → e ≤ 256 → Counted d groups levels
-    → (k : ℕ) (m : Net) → Is k m → k ≤ e → count m (groups ++ sum ∷ []) ≡ get_or (turned d e levels) k 0
+deeper_below : (d e : ℕ) (sum : Net) (groups : List Net) (levels : List ℕ) → Is d sum → d < e → e ≤ max_open → Counted d groups levels
+    → (k : ℕ) (m : Net) → Is k m → k ≤ e → count m (groups ++ sum ∷ []) ≡ get_or (levels_behind d e levels) k 0
 deeper_below d e sum groups levels p lt low c k m q le = go (nat_lt d k) refl
   where
-    go : (v : Bool) → nat_lt d k ≡ v → count m (groups ++ sum ∷ []) ≡ get_or (turned d e levels) k 0
+    go : (v : Bool) → nat_lt d k ≡ v → count m (groups ++ sum ∷ []) ≡ get_or (levels_behind d e levels) k 0
     go true v =
         let above : d < k = grind arith in
         let all : count m groups ≡ length groups = ap length (c.all k m q (omega arith)) in
         let here : length groups ≡ get_or levels d 0 = sym (ap length (c.all d sum p (omega arith))) ∙ c.below d sum p (omega arith) in
-        count_more m sum groups true (deeper_is k d m sum q p ∙ v) ∙ ap (λ x. x + 1) (all ∙ here) ∙ sym (turned_above d e levels k above le (omega (arith, c.room)))
+        count_more m sum groups true (deeper_is k d m sum q p ∙ v) ∙ ap (λ x. x + 1) (all ∙ here) ∙ sym (levels_behind_above d e levels k above le (omega (arith, c.room)))
     go false v =
         let low : k ≤ d = grind arith in
-        count_more m sum groups false (deeper_is k d m sum q p ∙ v) ∙ add-zero _ ∙ c.below k m q low ∙ sym (turned_before d e levels k low)
+        count_more m sum groups false (deeper_is k d m sum q p ∙ v) ∙ add-zero _ ∙ c.below k m q low ∙ sym (levels_behind_before d e levels k low)
 
 deeper_all : (d e : ℕ) (sum : Net) (groups : List Net) (levels : List ℕ) → Is d sum → d < e → Counted d groups levels
     → (k : ℕ) (m : Net) → Is k m → e ≤ k → filter (λ g. is_deeper m g) (groups ++ sum ∷ []) ≡ groups ++ sum ∷ []
@@ -106,27 +107,27 @@ deeper_all d e sum groups levels p lt c k m q le =
     filter-append (λ g. is_deeper m g) groups (sum ∷ []) ∙ ap₂ (λ (a b : List Net). a ++ b) (c.all k m q (omega arith)) one
 
 -- one line more
-counted_then : (d e : ℕ) (sum n : Net) (groups : List Net) (levels : List ℕ) → Is d sum → Is e (plus sum n) → e ≤ 256 → Counted d groups levels
-    → Counted e (groups_then sum groups n) (turned d e levels)
+counted_then : (d e : ℕ) (sum n : Net) (groups : List Net) (levels : List ℕ) → Is d sum → Is e (plus sum n) → e ≤ max_open → Counted d groups levels
+    → Counted e (groups_then sum groups n) (levels_behind d e levels)
 counted_then d e sum n groups levels p q low c = go (nat_lt d e) refl
   where
-    go : (v : Bool) → nat_lt d e ≡ v → Counted e (groups_then sum groups n) (turned d e levels)
+    go : (v : Bool) → nat_lt d e ≡ v → Counted e (groups_then sum groups n) (levels_behind d e levels)
     go true v =
         let lt : d < e = grind arith in
         let same : filter (λ g. is_deeper (plus sum n) g) groups ≡ groups = c.all e (plus sum n) q (omega arith) in
         let above : is_above n ≡ true = above_is d e sum n p q ∙ v in
         let now : groups_then sum groups n ≡ groups ++ sum ∷ [] = ap₂ (λ (l : List Net) (b : Bool). l ++ (if b then sum ∷ [] else [])) same above in
-        subst (λ g. Counted e g (turned d e levels)) (sym now)
-        (record { room = turned_length d e levels ∙ c.room; below = deeper_below d e sum groups levels p lt low c; all = deeper_all d e sum groups levels p lt c })
+        subst (λ g. Counted e g (levels_behind d e levels)) (sym now)
+        (record { room = levels_behind_length d e levels ∙ c.room; below = deeper_below d e sum groups levels p lt low c; all = deeper_all d e sum groups levels p lt c })
     go false v =
         let le : e ≤ d = grind arith in
         let above : is_above n ≡ false = above_is d e sum n p q ∙ v in
         let kept : List Net = filter (λ g. is_deeper (plus sum n) g) groups in
         let now : groups_then sum groups n ≡ kept = ap (λ (b : Bool). kept ++ (if b then sum ∷ [] else [])) above ∙ append-nil kept in
-        subst (λ g. Counted e g (turned d e levels)) (sym now)
+        subst (λ g. Counted e g (levels_behind d e levels)) (sym now)
         (record {
-          room = turned_length d e levels ∙ c.room;
-          below = λ k m r low. ap length (filter_lower k e m (plus sum n) groups r q low) ∙ c.below k m r (omega arith) ∙ sym (turned_before d e levels k (omega arith));
+          room = levels_behind_length d e levels ∙ c.room;
+          below = λ k m r low. ap length (filter_lower k e m (plus sum n) groups r q low) ∙ c.below k m r (omega arith) ∙ sym (levels_behind_before d e levels k (omega arith));
           all = λ k m r high. filter_higher k e m (plus sum n) groups r q high;
         })
 
@@ -142,14 +143,14 @@ level_is d e sum now groups levels p q c = go (nat_lt d e) refl
         let least : min d e ≡ e = grind arith in
         c.below e now q (grind arith) ∙ ap (λ k. get_or levels k 0) (sym least)
 
-leveled_is : (ls : List Line) (d : ℕ) (s : Net) (groups : List Net) (levels : List ℕ) → Is d s → Counted d groups levels → d ≤ 256 → BalancedLines d ls
+leveled_is : (ls : List Line) (d : ℕ) (s : Net) (groups : List Net) (levels : List ℕ) → Is d s → Counted d groups levels → d ≤ max_open → BalancedLines d ls
     → zip_with plain_gaps (levels_from s groups (map net_of ls)) ls ≡ leveled d levels ls
 leveled_is [] d s groups levels p c low r = refl
 leveled_is (l ∷ ls) d s groups levels p c low r =
     let now : Is (depth_after d l) (plus s (net_of l)) = after_is l d s p r.0 in
-    let low' : depth_after d l ≤ 256 = after_low l d r.0 low in
+    let low' : depth_after d l ≤ max_open = after_low l d r.0 low in
     ap₂ (λ (k : ℕ) (r : List (List ℕ)). plain_gaps k l ∷ r) (level_is d (depth_after d l) s (plus s (net_of l)) groups levels p now c)
-    (leveled_is ls (depth_after d l) (plus s (net_of l)) (groups_then s groups (net_of l)) (turned d (depth_after d l) levels) now
+    (leveled_is ls (depth_after d l) (plus s (net_of l)) (groups_then s groups (net_of l)) (levels_behind d (depth_after d l) levels) now
     (counted_then d (depth_after d l) s (net_of l) groups levels p now low' c) low' r.1)
 
 zeros_get : (n k : ℕ) → get_or {A = ℕ} (replicate n 0) k 0 ≡ zero
@@ -160,7 +161,7 @@ zeros_get (suc n) (suc k) = zeros_get n k
 pub leveled_all : (ls : List Line) → BalancedLines 0 ls → indented ls ≡ leveled 0 fresh ls
 leveled_all ls p =
     ap (λ k. zip_with plain_gaps k ls) (levels_of_state [] (map net_of ls))
-    ∙ leveled_is ls 0 none [] fresh refl (record { room = length-replicate {A = ℕ} 257 0; below = λ k m r low. sym (zeros_get 257 k); all = λ k m r high. refl }) (omega arith) p
+    ∙ leveled_is ls 0 no_net [] fresh refl (record { room = length-replicate {A = ℕ} (max_open + 1) 0; below = λ k m r low. sym (zeros_get (max_open + 1) k); all = λ k m r high. refl }) (omega arith) p
 
 -- ---- runs
 
@@ -169,14 +170,14 @@ assigned_is : (ls : List Line) (d : ℕ) (levels : List ℕ) (column : Option �
 assigned_is [] d levels column = refl
 assigned_is (l ∷ ls) d levels column =
     ap (λ r. align assign_cell (plain d levels l) l (assign_column d levels column (l ∷ ls)) ∷ r)
-    (assigned_is ls (depth_after d l) (turned d (depth_after d l) levels) (assign_column d levels column (l ∷ ls)))
+    (assigned_is ls (depth_after d l) (levels_behind d (depth_after d l) levels) (assign_column d levels column (l ∷ ls)))
 
 commented_is : (ls : List Line) (d : ℕ) (levels : List ℕ) (column comment : Option ℕ)
     → aligned_by trailing_comment (assigned d levels column ls) ls (columns_at comment (comment_widths d levels column ls)) ≡ commented d levels column comment ls
 commented_is [] d levels column comment = refl
 commented_is (l ∷ ls) d levels column comment =
     ap (λ r. align trailing_comment (align assign_cell (plain d levels l) l (assign_column d levels column (l ∷ ls))) l (comment_column d levels column comment (l ∷ ls)) ∷ r)
-    (commented_is ls (depth_after d l) (turned d (depth_after d l) levels) (assign_column d levels column (l ∷ ls)) (comment_column d levels column comment (l ∷ ls)))
+    (commented_is ls (depth_after d l) (levels_behind d (depth_after d l) levels) (assign_column d levels column (l ∷ ls)) (comment_column d levels column comment (l ∷ ls)))
 
 assigned_all : (ls : List Line) → BalancedLines 0 ls → aligned assign_cell assign_cell (indented ls) ls ≡ assigned 0 fresh None ls
 assigned_all ls p =
@@ -191,5 +192,5 @@ commented_all ls p =
     ∙ commented_is ls 0 fresh None None
 
 -- the gaps of the text are those that are left at its beginning
-pub gaps_all : (ts : List Lexeme) → Balanced 0 ts → gaps ts ≡ flat_map (λ g. g) (commented 0 fresh None None (lines ts))
+pub gaps_all : (ts : List Lexeme) → BalancedFrom 0 ts → gaps ts ≡ flat_map (λ g. g) (commented 0 fresh None None (lines ts))
 gaps_all ts p = ap (flat_map (λ g. g)) (commented_all (lines ts) (balanced_lines ts 0 p))

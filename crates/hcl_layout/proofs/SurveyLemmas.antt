@@ -6,13 +6,14 @@ use Rattle.std.proofs.Math.ListN.{drop_of_length-le}
 use Rattle.std.proofs.lemmas.Grind.{common_steps}
 use Rattle.std.proofs.lemmas.Option.{get_or_from_slice_get, slice_get_within}
 use Rattle.hcl_scan.specs.Lexemes.{Lexeme}
-use Rattle.hcl_layout.specs.Cells.{assign_cell, has_torn, if_level, is_level, is_sign, is_torn, is_trailing, place_from, running_comment, trailing_comment, until}
-use Rattle.hcl_layout.specs.Inner.Depths.{Balanced, Steps, deepen, depth_after}
+use Rattle.hcl_syntax.specs.Balanced.{max_open}
+use Rattle.hcl_layout.specs.Cells.{assign_cell, has_multiline, if_level, is_level, is_assignment, is_multiline, is_trailing, found_from, running_comment, trailing_comment, until}
+use Rattle.hcl_layout.specs.Inner.Depths.{BalancedFrom, Steps, deepen, depth_after}
 use Rattle.hcl_layout.specs.Levels.{Net, net_of}
 use Rattle.hcl_layout.specs.Lines.{Line, ends_line, lines, onto}
 use Rattle.hcl_layout.specs.Inner.Survey.{IsLine, assign_of, cell_if, first_noted, going, noted, running_of, surveyed, takes_sign}
-use Rattle.hcl_layout.specs.declared.survey.Survey.{Survey}
-use Rattle.hcl_layout.specs.declared.survey.LineFacts.{LineFacts}
+use Rattle.hcl_layout.specs.declared.line.Survey.{Survey}
+use Rattle.hcl_layout.specs.declared.line.LineFacts.{LineFacts}
 use Rattle.hcl_layout.proofs.StreamLemmas.{after_is, after_low, deepen_low}
 
 -- the token at a place, and what is behind it
@@ -94,13 +95,13 @@ or_assoc : (a b c : Bool) → ((a || b) || c) ≡ (a || (b || c))
 or_assoc true b c = refl
 or_assoc false b c = refl
 
-fold_torn : (l : Line) (s : Survey) → (fold s l).torn ≡ (s.torn || list_any is_torn l)
-fold_torn [] s = go s.torn
+fold_multiline : (l : Line) (s : Survey) → (fold s l).multiline ≡ (s.multiline || list_any is_multiline l)
+fold_multiline [] s = go s.multiline
   where
     go : (b : Bool) → b ≡ (b || false)
     go true = refl
     go false = refl
-fold_torn (t ∷ l) s = fold_torn l (noted s t) ∙ or_assoc s.torn (is_torn t) (list_any is_torn l)
+fold_multiline (t ∷ l) s = fold_multiline l (noted s t) ∙ or_assoc s.multiline (is_multiline t) (list_any is_multiline l)
 
 -- behind the trailing comment nothing changes
 record Same (s r : Survey) : Type 0 where
@@ -121,15 +122,15 @@ stays (t ∷ l) s i e =
 
 -- the comment, and the depth of what is before it
 found : (l : Line) (s : Survey) → s.comment ≡ None → s.body_depth ≡ s.depth
-    → ((fold s l).comment ≡ place_from is_trailing s.len l) × ((fold s l).body_depth ≡ depth_after s.depth (until is_trailing l))
+    → ((fold s l).comment ≡ found_from is_trailing s.len l) × ((fold s l).body_depth ≡ depth_after s.depth (until is_trailing l))
 found [] s e f = (e, f)
 found (t ∷ l) s e f =
     go (λ c. stays l (noted s t) s.len c) (λ c d. found l (noted s t) c d) (is_trailing t) refl
   where
     go : ((noted s t).comment ≡ Some s.len → Same (noted s t) (fold (noted s t) l))
-        → ((noted s t).comment ≡ None → (noted s t).body_depth ≡ (noted s t).depth → ((fold (noted s t) l).comment ≡ place_from is_trailing (s.len + 1) l) × ((fold (noted s t) l).body_depth ≡ depth_after (deepen s.depth t.kind) (until is_trailing l)))
+        → ((noted s t).comment ≡ None → (noted s t).body_depth ≡ (noted s t).depth → ((fold (noted s t) l).comment ≡ found_from is_trailing (s.len + 1) l) × ((fold (noted s t) l).body_depth ≡ depth_after (deepen s.depth t.kind) (until is_trailing l)))
         → (v : Bool) → is_trailing t ≡ v
-        → ((fold s (t ∷ l)).comment ≡ place_from is_trailing s.len (t ∷ l)) × ((fold s (t ∷ l)).body_depth ≡ depth_after s.depth (until is_trailing (t ∷ l)))
+        → ((fold s (t ∷ l)).comment ≡ found_from is_trailing s.len (t ∷ l)) × ((fold s (t ∷ l)).body_depth ≡ depth_after s.depth (until is_trailing (t ∷ l)))
     go a b true v =
         let here : (noted s t).comment ≡ Some s.len = rw (e, v) refl in
         let body : (noted s t).body_depth ≡ s.depth = rw (e, v) f in
@@ -143,19 +144,19 @@ found (t ∷ l) s e f =
 some_same : (a b : ℕ) → Some a ≡ Some b → a ≡ b
 some_same a b e = cc
 
-pub place_within : (test : Lexeme → Bool) (i : ℕ) (line : Line) (j : ℕ) → place_from test i line ≡ Some j → (i ≤ j) × (j < i + length line)
+pub place_within : (test : Lexeme → Bool) (i : ℕ) (line : Line) (j : ℕ) → found_from test i line ≡ Some j → (i ≤ j) × (j < i + length line)
 place_within test i [] j p = cc
 place_within test i (t ∷ line) j p = go (place_within test (i + 1) line j) (test t) refl
   where
-    go : (place_from test (i + 1) line ≡ Some j → (i + 1 ≤ j) × (j < (i + 1) + length line)) → (v : Bool) → test t ≡ v → (i ≤ j) × (j < i + length (t ∷ line))
+    go : (found_from test (i + 1) line ≡ Some j → (i + 1 ≤ j) × (j < (i + 1) + length line)) → (v : Bool) → test t ≡ v → (i ≤ j) × (j < i + length (t ∷ line))
     go r true e = let h : Some i ≡ Some j = rw e at p in grind arith
-    go r false e = let h : place_from test (i + 1) line ≡ Some j = rw e at p in (omega (arith, (r h).0), omega (arith, (r h).1))
+    go r false e = let h : found_from test (i + 1) line ≡ Some j = rw e at p in (omega (arith, (r h).0), omega (arith, (r h).1))
 
 -- a sign that was found stays
 kept : (l : Line) (s : Survey) (i : ℕ) → s.sign ≡ Some i → ((fold s l).sign ≡ Some i) × ((fold s l).sign_depth ≡ s.sign_depth)
 kept [] s i e = (e, refl)
 kept (t ∷ l) s i e =
-    let no : takes_sign s t ≡ false = rw e (never (not (is_some s.comment)) (not (is_trailing t)) (is_sign t)) in
+    let no : takes_sign s t ≡ false = rw e (never (not (is_some s.comment)) (not (is_trailing t)) (is_assignment t)) in
     let sign : (noted s t).sign ≡ Some i = rw no e in
     let depth : (noted s t).sign_depth ≡ s.sign_depth = rw no refl in
     let more = kept l (noted s t) i sign in
@@ -168,11 +169,11 @@ kept (t ∷ l) s i e =
 
 -- the sign is the first before the trailing comment
 signed : (l : Line) (s : Survey) → s.comment ≡ None → s.sign ≡ None
-    → ((fold s l).sign ≡ place_from is_sign s.len (until is_trailing l))
-    × ((i : ℕ) → place_from is_sign s.len (until is_trailing l) ≡ Some (s.len + i) → (fold s l).sign_depth ≡ depth_after s.depth (take i (until is_trailing l)))
+    → ((fold s l).sign ≡ found_from is_assignment s.len (until is_trailing l))
+    × ((i : ℕ) → found_from is_assignment s.len (until is_trailing l) ≡ Some (s.len + i) → (fold s l).sign_depth ≡ depth_after s.depth (take i (until is_trailing l)))
 signed [] s e f = (f, λ i p. cc)
 signed (t ∷ l) s e f =
-    go (λ c. stays l (noted s t) s.len c) (λ c. kept l (noted s t) s.len c) (λ c d. signed l (noted s t) c d) (is_trailing t) refl (is_sign t) refl
+    go (λ c. stays l (noted s t) s.len c) (λ c. kept l (noted s t) s.len c) (λ c d. signed l (noted s t) c d) (is_trailing t) refl (is_assignment t) refl
   where
     b : Line
     b = until is_trailing l
@@ -180,10 +181,10 @@ signed (t ∷ l) s e f =
     go : ((noted s t).comment ≡ Some s.len → Same (noted s t) (fold (noted s t) l))
         → ((noted s t).sign ≡ Some s.len → ((fold (noted s t) l).sign ≡ Some s.len) × ((fold (noted s t) l).sign_depth ≡ (noted s t).sign_depth))
         → ((noted s t).comment ≡ None → (noted s t).sign ≡ None
-        → ((fold (noted s t) l).sign ≡ place_from is_sign (s.len + 1) b) × ((i : ℕ) → place_from is_sign (s.len + 1) b ≡ Some ((s.len + 1) + i) → (fold (noted s t) l).sign_depth ≡ depth_after (deepen s.depth t.kind) (take i b)))
-        → (v : Bool) → is_trailing t ≡ v → (w : Bool) → is_sign t ≡ w
-        → ((fold s (t ∷ l)).sign ≡ place_from is_sign s.len (until is_trailing (t ∷ l)))
-        × ((i : ℕ) → place_from is_sign s.len (until is_trailing (t ∷ l)) ≡ Some (s.len + i) → (fold s (t ∷ l)).sign_depth ≡ depth_after s.depth (take i (until is_trailing (t ∷ l))))
+        → ((fold (noted s t) l).sign ≡ found_from is_assignment (s.len + 1) b) × ((i : ℕ) → found_from is_assignment (s.len + 1) b ≡ Some ((s.len + 1) + i) → (fold (noted s t) l).sign_depth ≡ depth_after (deepen s.depth t.kind) (take i b)))
+        → (v : Bool) → is_trailing t ≡ v → (w : Bool) → is_assignment t ≡ w
+        → ((fold s (t ∷ l)).sign ≡ found_from is_assignment s.len (until is_trailing (t ∷ l)))
+        × ((i : ℕ) → found_from is_assignment s.len (until is_trailing (t ∷ l)) ≡ Some (s.len + i) → (fold s (t ∷ l)).sign_depth ≡ depth_after s.depth (take i (until is_trailing (t ∷ l))))
     go x y z true v w q =
         let here : (noted s t).comment ≡ Some s.len = rw (e, v) refl in
         let sign : (noted s t).sign ≡ None = rw (e, v) f in
@@ -200,23 +201,23 @@ signed (t ∷ l) s e f =
         let here : (noted s t).comment ≡ None = rw (e, v) refl in
         let sign : (noted s t).sign ≡ None = rw (e, v, f, q) refl in
         let more = z here sign in
-        let later : (i : ℕ) → place_from is_sign (s.len + 1) b ≡ Some (s.len + i) → (fold s (t ∷ l)).sign_depth ≡ depth_after s.depth (take i (t ∷ b)) =
+        let later : (i : ℕ) → found_from is_assignment (s.len + 1) b ≡ Some (s.len + i) → (fold s (t ∷ l)).sign_depth ≡ depth_after s.depth (take i (t ∷ b)) =
         λ i p. later_by i p more.1 in
         rw (v, q) (more.0, later)
       where
-        later_by : (i : ℕ) → place_from is_sign (s.len + 1) b ≡ Some (s.len + i)
-            → ((j : ℕ) → place_from is_sign (s.len + 1) b ≡ Some ((s.len + 1) + j) → (fold (noted s t) l).sign_depth ≡ depth_after (deepen s.depth t.kind) (take j b))
+        later_by : (i : ℕ) → found_from is_assignment (s.len + 1) b ≡ Some (s.len + i)
+            → ((j : ℕ) → found_from is_assignment (s.len + 1) b ≡ Some ((s.len + 1) + j) → (fold (noted s t) l).sign_depth ≡ depth_after (deepen s.depth t.kind) (take j b))
             → (fold s (t ∷ l)).sign_depth ≡ depth_after s.depth (take i (t ∷ b))
-        later_by zero p r = absurd (omega (arith, place_within is_sign (s.len + 1) b (s.len + 0) p))
+        later_by zero p r = absurd (omega (arith, place_within is_assignment (s.len + 1) b (s.len + 0) p))
         later_by (suc i) p r = r i (p ∙ ap (λ (k : ℕ). Some k) (omega arith))
 
 -- ---- the facts of a line
 
-until_balanced : (l : Line) (d : ℕ) → Balanced d l → Balanced d (until is_trailing l)
+until_balanced : (l : Line) (d : ℕ) → BalancedFrom d l → BalancedFrom d (until is_trailing l)
 until_balanced [] d p = tt
 until_balanced (t ∷ l) d p = go (until_balanced l (deepen d t.kind) p.1) (is_trailing t) refl
   where
-    go : Balanced (deepen d t.kind) (until is_trailing l) → (v : Bool) → is_trailing t ≡ v → Balanced d (until is_trailing (t ∷ l))
+    go : BalancedFrom (deepen d t.kind) (until is_trailing l) → (v : Bool) → is_trailing t ≡ v → BalancedFrom d (until is_trailing (t ∷ l))
     go r true e = rw e tt
     go r false e = rw e (p.0, r)
 
@@ -225,18 +226,18 @@ depth_cut zero d l = refl
 depth_cut (suc n) d [] = refl
 depth_cut (suc n) d (t ∷ l) = depth_cut n (deepen d t.kind) l
 
-pub balanced_take : (n d : ℕ) (ts : List Lexeme) → Balanced d ts → Balanced d (take n ts)
+pub balanced_take : (n d : ℕ) (ts : List Lexeme) → BalancedFrom d ts → BalancedFrom d (take n ts)
 balanced_take zero d ts p = tt
 balanced_take (suc n) d [] p = tt
 balanced_take (suc n) d (t ∷ ts) p = (p.0, balanced_take n (deepen d t.kind) ts p.1)
 
-pub balanced_drop : (n d : ℕ) (ts : List Lexeme) → Balanced d ts → Balanced (depth_after d (take n ts)) (drop n ts)
+pub balanced_drop : (n d : ℕ) (ts : List Lexeme) → BalancedFrom d ts → BalancedFrom (depth_after d (take n ts)) (drop n ts)
 balanced_drop zero d ts p = p
 balanced_drop (suc n) d [] p = tt
 balanced_drop (suc n) d (t ∷ ts) p = balanced_drop n (deepen d t.kind) ts p.1
 
 -- what is behind a place closes what it opens where the depths are the same
-level_same : (n d : ℕ) (l : Line) → Balanced d l → is_level (net_of (drop n l)) ≡ (depth_after d (take n l) == depth_after d l)
+level_same : (n d : ℕ) (l : Line) → BalancedFrom d l → is_level (net_of (drop n l)) ≡ (depth_after d (take n l) == depth_after d l)
 level_same n d l p =
     let before : ℕ = depth_after d (take n l) in
     let net : Net = net_of (drop n l) in
@@ -256,32 +257,32 @@ cell_same line (Some i) b p = rw (p i refl) (go b)
     go true = refl
     go false = refl
 
-cell_torn : (a : Bool) (x y : Option ℕ) (b : Bool) → x ≡ cell_if b y → cell_if (not a && b) y ≡ (if a then None else x)
-cell_torn true x y b e = none y
+cell_multiline : (a : Bool) (x y : Option ℕ) (b : Bool) → x ≡ cell_if b y → cell_if (not a && b) y ≡ (if a then None else x)
+cell_multiline true x y b e = none y
   where
     none : (y : Option ℕ) → cell_if false y ≡ None
     none y = refl
-cell_torn false x y b e = sym e
+cell_multiline false x y b e = sym e
 
 -- the assign cell of the line that begins with the token
-cell_is : (l : Line) (d : ℕ) (t : Lexeme) → Balanced d (t ∷ l) → assign_of (fold (first_noted d t) l) ≡ assign_cell (t ∷ l)
+cell_is : (l : Line) (d : ℕ) (t : Lexeme) → BalancedFrom d (t ∷ l) → assign_of (fold (first_noted d t) l) ≡ assign_cell (t ∷ l)
 cell_is l d t p =
     let s : Survey = first_noted d t in
     let b : Line = until is_trailing l in
     let depth = found l s refl refl in
     let sign = signed l s refl refl in
-    let whole : Balanced d (t ∷ b) = (p.0, until_balanced l (deepen d t.kind) p.1) in
-    let level : (i : ℕ) → place_from is_sign 1 b ≡ Some i → is_level (net_of (drop i (t ∷ b))) ≡ ((fold s l).sign_depth == (fold s l).body_depth) =
+    let whole : BalancedFrom d (t ∷ b) = (p.0, until_balanced l (deepen d t.kind) p.1) in
+    let level : (i : ℕ) → found_from is_assignment 1 b ≡ Some i → is_level (net_of (drop i (t ∷ b))) ≡ ((fold s l).sign_depth == (fold s l).body_depth) =
     λ i e. level_at_sign i e depth.1 sign.1 whole in
-    cell_torn (fold s l).torn (if_level (t ∷ b) (place_from is_sign 1 b)) (fold s l).sign ((fold s l).sign_depth == (fold s l).body_depth)
-    (cell_same (t ∷ b) (place_from is_sign 1 b) ((fold s l).sign_depth == (fold s l).body_depth) level ∙ ap (cell_if ((fold s l).sign_depth == (fold s l).body_depth)) (sym sign.0))
-    ∙ ap (λ (v : Bool). if v then None else if_level (t ∷ b) (place_from is_sign 1 b)) (fold_torn l s)
+    cell_multiline (fold s l).multiline (if_level (t ∷ b) (found_from is_assignment 1 b)) (fold s l).sign ((fold s l).sign_depth == (fold s l).body_depth)
+    (cell_same (t ∷ b) (found_from is_assignment 1 b) ((fold s l).sign_depth == (fold s l).body_depth) level ∙ ap (cell_if ((fold s l).sign_depth == (fold s l).body_depth)) (sym sign.0))
+    ∙ ap (λ (v : Bool). if v then None else if_level (t ∷ b) (found_from is_assignment 1 b)) (fold_multiline l s)
   where
-    level_at_sign : (i : ℕ) → place_from is_sign 1 (until is_trailing l) ≡ Some i → (fold (first_noted d t) l).body_depth ≡ depth_after (deepen d t.kind) (until is_trailing l)
-        → ((j : ℕ) → place_from is_sign 1 (until is_trailing l) ≡ Some (1 + j) → (fold (first_noted d t) l).sign_depth ≡ depth_after (deepen d t.kind) (take j (until is_trailing l)))
-        → Balanced d (t ∷ until is_trailing l)
+    level_at_sign : (i : ℕ) → found_from is_assignment 1 (until is_trailing l) ≡ Some i → (fold (first_noted d t) l).body_depth ≡ depth_after (deepen d t.kind) (until is_trailing l)
+        → ((j : ℕ) → found_from is_assignment 1 (until is_trailing l) ≡ Some (1 + j) → (fold (first_noted d t) l).sign_depth ≡ depth_after (deepen d t.kind) (take j (until is_trailing l)))
+        → BalancedFrom d (t ∷ until is_trailing l)
         → is_level (net_of (drop i (t ∷ until is_trailing l))) ≡ ((fold (first_noted d t) l).sign_depth == (fold (first_noted d t) l).body_depth)
-    level_at_sign zero e p q r = absurd (omega (arith, place_within is_sign 1 (until is_trailing l) 0 e))
+    level_at_sign zero e p q r = absurd (omega (arith, place_within is_assignment 1 (until is_trailing l) 0 e))
     level_at_sign (suc i) e p q r =
         level_same (suc i) d (t ∷ until is_trailing l) r ∙ ap₂ nat_eq (sym (q i (e ∙ ap (λ (k : ℕ). Some k) (omega arith)))) (sym p)
 
@@ -292,7 +293,7 @@ running_is a x y e = ap (λ (z : Option ℕ). if a then None else z) e
 abbrev pub facts_of : Survey → LineFacts
 facts_of s = record { len = s.len; depth = s.depth; assign = assign_of s; comment = s.comment; running = running_of s }
 
-pub is_line : (ts : List Lexeme) (at d : ℕ) (t : Lexeme) (s : Survey) → slice_get ts at ≡ Some t → Balanced d (drop at ts) → d ≤ 256
+pub is_line : (ts : List Lexeme) (at d : ℕ) (t : Lexeme) (s : Survey) → slice_get ts at ≡ Some t → BalancedFrom d (drop at ts) → d ≤ max_open
     → s ≡ surveyed (first_noted d t) t (drop (at + 1) ts) → IsLine ts at d (facts_of s)
 is_line ts at d t s e p low q =
     let rest : List Lexeme = drop (at + 1) ts in
@@ -307,21 +308,21 @@ is_line ts at d t s e p low q =
     let all : length rest ≡ length ts - (at + 1) = grind (arith, common_steps) in
     let line : take s.len (drop at ts) ≡ t ∷ l = ap₂ take len cut ∙ ap (λ x. t ∷ x) (tail_take rest t) in
     let behind : drop (at + s.len) ts ≡ left_of t rest = ap (λ k. drop (at + k) ts) len ∙ there at n ∙ left_drop rest t in
-    let balanced : Balanced d (t ∷ l) = subst (Balanced d) line (balanced_take s.len d (drop at ts) p) in
+    let balanced : BalancedFrom d (t ∷ l) = subst (BalancedFrom d) line (balanced_take s.len d (drop at ts) p) in
     let depth : s.depth ≡ depth_after d (t ∷ l) = ap (λ (x : Survey). x.depth) same ∙ fold_depth l (first_noted d t) in
     let comment : s.comment ≡ trailing_comment (t ∷ l) = ap (λ (x : Survey). x.comment) same ∙ (found l (first_noted d t) refl refl).0 in
-    let torn : s.torn ≡ has_torn (t ∷ l) = ap (λ (x : Survey). x.torn) same ∙ fold_torn l (first_noted d t) in
+    let multiline : s.multiline ≡ has_multiline (t ∷ l) = ap (λ (x : Survey). x.multiline) same ∙ fold_multiline l (first_noted d t) in
     record {
       some = omega arith;
       within = omega arith;
       cut = ap lines cut ∙ lines_tail rest t ∙ ap₂ (λ (a : Line) (b : List Lexeme). a ∷ lines b) (sym line) (sym behind);
       depth = depth ∙ ap (depth_after d) (sym line);
-      low = subst (λ k. k ≤ 256) (sym depth) (after_low (t ∷ l) d balanced low);
-      rest = subst (λ k. Balanced k (drop (at + s.len) ts)) (ap (depth_after d) line ∙ sym depth)
-          (subst (Balanced (depth_after d (take s.len (drop at ts)))) (further at s.len) (balanced_drop s.len d (drop at ts) p));
+      low = subst (λ k. k ≤ max_open) (sym depth) (after_low (t ∷ l) d balanced low);
+      rest = subst (λ k. BalancedFrom k (drop (at + s.len) ts)) (ap (depth_after d) line ∙ sym depth)
+          (subst (BalancedFrom (depth_after d (take s.len (drop at ts)))) (further at s.len) (balanced_drop s.len d (drop at ts) p));
       assign = ap assign_of same ∙ cell_is l d t balanced ∙ ap assign_cell (sym line);
       comment = comment ∙ ap trailing_comment (sym line);
-      running = ap₂ (λ (a : Bool) (x : Option ℕ). if a then None else x) torn comment ∙ ap running_comment (sym line);
+      running = ap₂ (λ (a : Bool) (x : Option ℕ). if a then None else x) multiline comment ∙ ap running_comment (sym line);
     }
   where
     there : (i k : ℕ) → drop (i + suc k) ts ≡ drop k (drop (i + 1) ts)
@@ -333,13 +334,13 @@ is_line ts at d t s e p low q =
 -- ---- the walk, step by step
 
 -- what a token may do at the front of balanced tokens
-pub steps_at : (ts : List Lexeme) (i d : ℕ) (t : Lexeme) → slice_get ts i ≡ Some t → Balanced d (drop i ts) → Steps d t.kind
-steps_at ts i d t e p = (subst (Balanced d) (drop_at ts i t e) p).0
+pub steps_at : (ts : List Lexeme) (i d : ℕ) (t : Lexeme) → slice_get ts i ≡ Some t → BalancedFrom d (drop i ts) → Steps d t.kind
+steps_at ts i d t e p = (subst (BalancedFrom d) (drop_at ts i t e) p).0
 
-pub rest_at : (ts : List Lexeme) (i d : ℕ) (t : Lexeme) → slice_get ts i ≡ Some t → Balanced d (drop i ts) → Balanced (deepen d t.kind) (drop (i + 1) ts)
-rest_at ts i d t e p = (subst (Balanced d) (drop_at ts i t e) p).1
+pub rest_at : (ts : List Lexeme) (i d : ℕ) (t : Lexeme) → slice_get ts i ≡ Some t → BalancedFrom d (drop i ts) → BalancedFrom (deepen d t.kind) (drop (i + 1) ts)
+rest_at ts i d t e p = (subst (BalancedFrom d) (drop_at ts i t e) p).1
 
-pub low_at : (ts : List Lexeme) (i d : ℕ) (t : Lexeme) → slice_get ts i ≡ Some t → Balanced d (drop i ts) → d ≤ 256 → deepen d t.kind ≤ 256
+pub low_at : (ts : List Lexeme) (i d : ℕ) (t : Lexeme) → slice_get ts i ≡ Some t → BalancedFrom d (drop i ts) → d ≤ max_open → deepen d t.kind ≤ max_open
 low_at ts i d t e p low = deepen_low t.kind d (steps_at ts i d t e p) low
 
 pub surveyed_going : (ts : List Lexeme) (s : Survey) (last : Lexeme) → ends_line last ≡ false → surveyed s last ts ≡ going s ts

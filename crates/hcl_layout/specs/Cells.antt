@@ -1,40 +1,27 @@
 -- What of a line is aligned with the lines beside it: its trailing comment, and its assign cell, which begins at an
 -- assignment sign. Cells are told by their place in the line.
 -- Our own choice, in the style of `terraform fmt`.
-use Rattle.std.specs.Prelude.{◌+◌, ◌==◌, ◌&&◌, ℕ, Bool, true, false, not, [], ◌∷◌, Option, Some, None, if◌then◌else◌, drop}
+use Rattle.std.specs.Prelude.{◌+◌, ◌==◌, ◌&&◌, ℕ, Bool, not, [], ◌∷◌, Option, Some, None, if◌then◌else◌, drop}
 use Rattle.std.specs.List.{list_any}
 use Rattle.hcl_scan.specs.Lexemes.{Lexeme}
-use Rattle.hcl_scan.specs.declared.token.Kind.{Kind}
-use Rattle.hcl_scan.specs.declared.token.Kind.TheVariants as kind
+use Rattle.hcl_syntax.specs.Kinds.{is_assign, is_inline_comment, is_line_comment}
 use Rattle.hcl_layout.specs.Lines.{Line}
 use Rattle.hcl_layout.specs.Levels.{Net, net_of}
 
-abbrev pub is_line_comment : Kind → Bool
-is_line_comment kind.LineComment = true
-is_line_comment _ = false
-
-abbrev pub is_inline_comment : Kind → Bool
-is_inline_comment kind.InlineComment = true
-is_inline_comment _ = false
-
-abbrev pub is_assign : Kind → Bool
-is_assign kind.Assign = true
-is_assign _ = false
-
 -- the place of the first token that passes the test, counted from a number on
-abbrev pub place_from : (Lexeme → Bool) → ℕ → Line → Option ℕ
-place_from test i [] = None
-place_from test i (t ∷ line) = if test t then Some i else place_from test (i + 1) line
+abbrev pub found_from : (Lexeme → Bool) → ℕ → Line → Option ℕ
+found_from test i [] = None
+found_from test i (t ∷ line) = if test t then Some i else found_from test (i + 1) line
 
 -- the same among all tokens but the line's first
-abbrev pub place : (Lexeme → Bool) → Line → Option ℕ
-place test line = place_from test 1 (drop 1 line)
+abbrev pub found : (Lexeme → Bool) → Line → Option ℕ
+found test line = found_from test 1 (drop 1 line)
 
 abbrev pub is_trailing : Lexeme → Bool
 is_trailing t = is_line_comment t.kind && not t.inside_heredoc
 
 abbrev pub trailing_comment : Line → Option ℕ
-trailing_comment = place is_trailing
+trailing_comment = found is_trailing
 
 -- what stands before the first token that passes the test
 abbrev pub until : (Lexeme → Bool) → Line → Line
@@ -46,15 +33,15 @@ abbrev pub body : Line → Line
 body [] = []
 body (t ∷ line) = t ∷ until is_trailing line
 
-abbrev pub is_sign : Lexeme → Bool
-is_sign t = is_assign t.kind && not t.inside_heredoc
+abbrev pub is_assignment : Lexeme → Bool
+is_assignment t = is_assign t.kind && not t.inside_heredoc
 
 -- an inline comment that holds a newline, so that the line goes on below it
-abbrev pub is_torn : Lexeme → Bool
-is_torn t = is_inline_comment t.kind && not t.inside_heredoc && list_any (λ b. b == 10) t.text
+abbrev pub is_multiline : Lexeme → Bool
+is_multiline t = is_inline_comment t.kind && not t.inside_heredoc && list_any (λ b. b == 10) t.text
 
-abbrev pub has_torn : Line → Bool
-has_torn = list_any is_torn
+abbrev pub has_multiline : Line → Bool
+has_multiline = list_any is_multiline
 
 abbrev pub is_level : Net → Bool
 is_level n = n.opens == n.closes
@@ -66,8 +53,8 @@ if_level line (Some i) = if is_level (net_of (drop i line)) then Some i else Non
 
 -- the line's first assignment sign, as a cell; a later sign never begins one
 abbrev pub assign_cell : Line → Option ℕ
-assign_cell line = if has_torn line then None else if_level (body line) (place is_sign (body line))
+assign_cell line = if has_multiline line then None else if_level (body line) (found is_assignment (body line))
 
 -- the trailing comment, where the line takes part in runs of comments
 abbrev pub running_comment : Line → Option ℕ
-running_comment line = if has_torn line then None else trailing_comment line
+running_comment line = if has_multiline line then None else trailing_comment line

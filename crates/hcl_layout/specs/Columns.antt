@@ -3,18 +3,18 @@
 -- Our own choice, in the style of `terraform fmt`.
 use Rattle.std.specs.Prelude.{ℕ, List, [], ◌∷◌, Option, Some, None, max}
 
--- the greatest width from here to the end of the run
-abbrev pub ahead : List (Option ℕ) → ℕ
-ahead [] = 0
-ahead (None ∷ rest) = 0
-ahead (Some width ∷ rest) = max width (ahead rest)
+-- the greatest width from here up to a line without the cell
+abbrev pub widest : List (Option ℕ) → ℕ
+widest [] = 0
+widest (None ∷ rest) = 0
+widest (Some width ∷ rest) = max width (widest rest)
 
--- for each line that has the cell the greatest width of its run, the lines with the cell before and after it without
--- a break; `behind` is the greatest of those before
-abbrev pub columns_from : ℕ → List (Option ℕ) → List (Option ℕ)
-columns_from behind [] = []
-columns_from behind (None ∷ rest) = None ∷ columns_from 0 rest
-columns_from behind (Some width ∷ rest) = Some (max behind (ahead (Some width ∷ rest))) ∷ columns_from (max behind width) rest
+-- for each line that has the cell the greatest width of the run that holds it: of the lines from it on, and of those
+-- before it, of which the nearest is the first
+abbrev pub columns_after : List (Option ℕ) → List (Option ℕ) → List (Option ℕ)
+columns_after before [] = []
+columns_after before (None ∷ rest) = None ∷ columns_after (None ∷ before) rest
+columns_after before (Some width ∷ rest) = Some (max (widest before) (widest (Some width ∷ rest))) ∷ columns_after (Some width ∷ before) rest
 
 abbrev pub columns : List (Option ℕ) → List (Option ℕ)
-columns = columns_from 0
+columns = columns_after []

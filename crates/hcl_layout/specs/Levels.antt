@@ -2,8 +2,7 @@
 -- more openers than closers, and is open as long as the lines from there on have more openers than closers.
 -- Our own choice, in the style of `terraform fmt`: two openers on one line indent by one level.
 use Rattle.std.specs.Prelude.{◌+◌, ◌&&◌, ℕ, Bool, true, false, List, [], ◌∷◌, ◌++◌, nat_lt, if◌then◌else◌}
-use Rattle.hcl_scan.specs.declared.token.Kind.{Kind}
-use Rattle.hcl_scan.specs.declared.token.Kind.TheVariants as kind
+use Rattle.hcl_syntax.specs.Balanced.{closers, openers}
 use Rattle.hcl_layout.specs.Lines.{Line}
 
 -- so many openers and closers
@@ -11,34 +10,15 @@ pub record Net : Type 0 where
   pub opens : ℕ
   pub closes : ℕ
 
-abbrev pub none : Net
-none = record { opens = 0; closes = 0 }
+abbrev pub no_net : Net
+no_net = record { opens = 0; closes = 0 }
 
 abbrev pub plus : Net → Net → Net
 plus a b = record { opens = a.opens + b.opens; closes = a.closes + b.closes }
 
-abbrev pub is_opener : Kind → Bool
-is_opener kind.ParenOpen = true
-is_opener kind.BracketOpen = true
-is_opener kind.BraceOpen = true
-is_opener kind.InterpOpen = true
-is_opener kind.ControlOpen = true
-is_opener _ = false
-
-abbrev pub is_closer : Kind → Bool
-is_closer kind.ParenClose = true
-is_closer kind.BracketClose = true
-is_closer kind.BraceClose = true
-is_closer kind.SeqClose = true
-is_closer _ = false
-
-abbrev pub net_of_kind : Kind → Net
-net_of_kind k = record { opens = if is_opener k then 1 else 0; closes = if is_closer k then 1 else 0 }
-
 -- the openers and the closers of a line
 abbrev pub net_of : Line → Net
-net_of [] = none
-net_of (t ∷ line) = plus (net_of_kind t.kind) (net_of line)
+net_of line = record { opens = openers line; closes = closers line }
 
 -- more openers than closers
 abbrev pub is_above : Net → Bool
@@ -53,7 +33,7 @@ stays_above sum (n ∷ rest) = is_above (plus sum n) && stays_above (plus sum n)
 -- what it was before them, up to n
 abbrev pub level : List Net → Net → ℕ
 level [] n = 0
-level (m ∷ rest) n = (if stays_above none (m ∷ (rest ++ n ∷ [])) then 1 else 0) + level rest n
+level (m ∷ rest) n = (if stays_above no_net (m ∷ (rest ++ n ∷ [])) then 1 else 0) + level rest n
 
 -- the levels of all lines, each after those before it
 abbrev pub levels_after : List Net → List Net → List ℕ

@@ -1,17 +1,12 @@
 -- Lines, as the layout sees them: a token list split after each newline that stands outside heredocs. A text
 -- without a last newline ends in a line without one.
 -- Our own choice: a heredoc's body is kept as it is, so it belongs to the line on which it began.
-use Rattle.std.specs.Prelude.{◌&&◌, Bool, true, false, not, List, [], ◌∷◌, if◌then◌else◌}
+use Rattle.std.specs.Prelude.{◌&&◌, Bool, not, List, [], ◌∷◌, if◌then◌else◌}
 use Rattle.hcl_scan.specs.Lexemes.{Lexeme}
-use Rattle.hcl_scan.specs.declared.token.Kind.{Kind}
-use Rattle.hcl_scan.specs.declared.token.Kind.TheVariants as kind
+use Rattle.hcl_syntax.specs.Kinds.{is_newline}
 
 abbrev pub Line : Type 0
 Line = List Lexeme
-
-abbrev pub is_newline : Kind → Bool
-is_newline kind.Newline = true
-is_newline _ = false
 
 abbrev pub ends_line : Lexeme → Bool
 ends_line t = is_newline t.kind && not t.inside_heredoc

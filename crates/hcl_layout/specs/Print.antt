@@ -1,4 +1,4 @@
--- What is printed of a token list: the gaps, as spaces, and the texts in turn. Blanks before a newline and at the end
+-- What is printed of a token list: the gaps, as spaces, and the texts in next_level. Blanks before a newline and at the end
 -- vanish; all else is kept as it is.
 use Rattle.std.specs.Prelude.{ℕ, List, [], ◌∷◌, ◌++◌, replicate}
 use Rattle.hcl_scan.specs.Lexemes.{Lexeme}

@@ -5,74 +5,14 @@ use Rattle.std.specs.Str.{bytes_eq}
 use Rattle.hcl_scan.specs.Lexemes.{Lexeme}
 use Rattle.hcl_scan.specs.declared.token.Kind.{Kind}
 use Rattle.hcl_scan.specs.declared.token.Kind.TheVariants as kind
-use Rattle.hcl_layout.specs.Levels.{is_opener}
-use Rattle.hcl_layout.specs.Lines.{is_newline}
-
-abbrev pub is_dot : Kind → Bool
-is_dot kind.Dot = true
-is_dot _ = false
-
-abbrev pub is_ellipsis : Kind → Bool
-is_ellipsis kind.Ellipsis = true
-is_ellipsis _ = false
-
-abbrev pub is_comma : Kind → Bool
-is_comma kind.Comma = true
-is_comma _ = false
-
-abbrev pub is_not : Kind → Bool
-is_not kind.Not = true
-is_not _ = false
-
-abbrev pub is_minus : Kind → Bool
-is_minus kind.Minus = true
-is_minus _ = false
-
-abbrev pub is_ident : Kind → Bool
-is_ident kind.Ident = true
-is_ident _ = false
-
-abbrev pub is_number : Kind → Bool
-is_number kind.Number = true
-is_number _ = false
-
-abbrev pub is_paren_open : Kind → Bool
-is_paren_open kind.ParenOpen = true
-is_paren_open _ = false
-
-abbrev pub is_bracket_open : Kind → Bool
-is_bracket_open kind.BracketOpen = true
-is_bracket_open _ = false
-
-abbrev pub is_brace_open : Kind → Bool
-is_brace_open kind.BraceOpen = true
-is_brace_open _ = false
-
-abbrev pub is_brace_close : Kind → Bool
-is_brace_close kind.BraceClose = true
-is_brace_close _ = false
-
-abbrev pub is_seq_close : Kind → Bool
-is_seq_close kind.SeqClose = true
-is_seq_close _ = false
+use Rattle.hcl_syntax.specs.Balanced.{is_opener}
+use Rattle.hcl_syntax.specs.Kinds.{is_newline, is_ident, is_number, is_paren_open, is_bracket_open, is_brace_open, is_brace_close, is_seq_close, is_quote_open, is_lit, is_quote_close, is_dot, is_colon, is_colon_colon, is_comma, is_ellipsis, is_not, is_minus}
 
 -- `${` and `%{`
 abbrev pub opens_sequence : Kind → Bool
 opens_sequence kind.InterpOpen = true
 opens_sequence kind.ControlOpen = true
 opens_sequence _ = false
-
-abbrev pub is_quote_open : Kind → Bool
-is_quote_open kind.QuoteOpen = true
-is_quote_open _ = false
-
-abbrev pub is_lit : Kind → Bool
-is_lit kind.Lit = true
-is_lit _ = false
-
-abbrev pub is_quote_close : Kind → Bool
-is_quote_close kind.QuoteClose = true
-is_quote_close _ = false
 
 -- what closes a paren, a bracket or a sequence
 abbrev pub closes_group : Kind → Bool
@@ -122,6 +62,10 @@ abbrev pub begins_with_equals : List ℕ → Bool
 begins_with_equals [] = false
 begins_with_equals (b ∷ text) = b == 61
 
+abbrev pub begins_with_colon : List ℕ → Bool
+begins_with_colon [] = false
+begins_with_colon (b ∷ text) = b == 58
+
 -- the token before is of such a kind
 abbrev pub stands_before : (Kind → Bool) → Option Lexeme → Bool
 stands_before test None = false
@@ -139,6 +83,7 @@ would_join before subject after =
     || (is_number subject.kind && not (stands_before is_dot before) && is_dot after.kind)
     || (is_not subject.kind && begins_with_equals after.text)
     || (opens_sequence subject.kind && is_seq_close after.kind && bytes_eq after.text (codes "~}"))
+    || (is_colon subject.kind && begins_with_colon after.text)
 
 -- the word `in`, behind the last name that a `for` declares
 abbrev pub is_in : Option Lexeme → Lexeme → Bool
@@ -151,6 +96,7 @@ spaced before subject after =
     else if would_join before subject after then true
     else if is_ident subject.kind && is_paren_open after.kind then false
     else if is_dot subject.kind || is_dot after.kind then false
+    else if is_colon_colon subject.kind || is_colon_colon after.kind then false
     else if is_comma after.kind || is_ellipsis after.kind then false
     else if is_comma subject.kind then true
     else if is_quote_open subject.kind || is_lit subject.kind || is_lit after.kind || is_quote_close after.kind then false

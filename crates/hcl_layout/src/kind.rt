@@ -1,10 +1,11 @@
 //! Kinds of tokens, as the layout groups them.
 
 ghost use Rattle.std.specs.Prelude.{◌≡◌};
-ghost use Rattle.hcl_layout.specs.Cells.{is_assign as is_assign_of, is_inline_comment as is_inline_comment_of, is_line_comment as is_line_comment_of};
-ghost use Rattle.hcl_layout.specs.Levels.{is_closer as is_closer_of, is_opener as is_opener_of};
-ghost use Rattle.hcl_layout.specs.Lines.{is_newline as is_newline_of};
-ghost use Rattle.hcl_layout.specs.Spacing.{is_dot as is_dot_of, is_ellipsis as is_ellipsis_of, is_comma as is_comma_of, is_ident as is_ident_of, is_paren_open as is_paren_open_of, is_bracket_open as is_bracket_open_of, is_brace_open as is_brace_open_of, is_brace_close as is_brace_close_of, is_seq_close as is_seq_close_of, opens_sequence as opens_sequence_of, closes_group as closes_group_of, is_operator as is_operator_of, awaits_operand as awaits_operand_of};
+ghost use Rattle.hcl_syntax.specs.Kinds.{is_assign as is_assign_of, is_inline_comment as is_inline_comment_of, is_line_comment as is_line_comment_of};
+ghost use Rattle.hcl_syntax.specs.Balanced.{is_closer as is_closer_of, is_opener as is_opener_of};
+ghost use Rattle.hcl_syntax.specs.Kinds.{is_newline as is_newline_of};
+ghost use Rattle.hcl_syntax.specs.Kinds.{is_dot as is_dot_of, is_ellipsis as is_ellipsis_of, is_colon_colon as is_colon_colon_of, is_comma as is_comma_of, is_ident as is_ident_of, is_paren_open as is_paren_open_of, is_bracket_open as is_bracket_open_of, is_brace_open as is_brace_open_of, is_brace_close as is_brace_close_of, is_seq_close as is_seq_close_of};
+ghost use Rattle.hcl_layout.specs.Spacing.{opens_sequence as opens_sequence_of, closes_group as closes_group_of, is_operator as is_operator_of, awaits_operand as awaits_operand_of};
 
 use hcl_scan::Kind;
 
@@ -18,6 +19,13 @@ pub fn is_ellipsis(kind: Kind) -> bool
     ensures { result ≡ is_ellipsis_of kind }
 {
     matches!(kind, Kind::Ellipsis)
+}
+
+/// `::`.
+pub fn is_colon_colon(kind: Kind) -> bool
+    ensures { result ≡ is_colon_colon_of kind }
+{
+    matches!(kind, Kind::ColonColon)
 }
 
 pub fn is_comma(kind: Kind) -> bool

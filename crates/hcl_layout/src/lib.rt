@@ -7,14 +7,15 @@
 #![tactic(auto)]
 
 mod buffer;
-mod gaps;
+mod gap;
 mod kind;
 pub mod laws;
+mod levels;
 mod line;
+mod pieces;
 mod print;
+mod runs;
 mod spacing;
-mod survey;
-mod walk;
 mod writer;
 
 pub use print::{is_formatted, printed_len};

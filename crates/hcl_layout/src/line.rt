@@ -1,191 +1,275 @@
-//! The gaps of one line, and the widths before its cells.
-ghost use Rattle.std.specs.Prelude.{◌≡◌, ◌<◌, ◌≤◌, ◌+◌, ◌-◌, ◌^◌, true, Some, length, take, drop, option_map, slice_get};
-ghost use Rattle.unicode_segmentation.specs.Grapheme.{graphemes};
+//! One line, in one walk: where it ends, how deep, and which cells it has.
+ghost use Rattle.std.specs.Prelude.{◌≡◌, false, ◌<◌, ◌≤◌, ◌+◌, ◌^◌, ◌==◌, length, drop, slice_get, Some};
+ghost use Rattle.std.specs.List.{list_any};
 ghost use Rattle.hcl_scan.specs.Lexemes.{Lexeme};
 ghost use Rattle.hcl_scan.specs.Scanned.{lexeme};
-ghost use Rattle.hcl_layout.specs.Gaps.{indent as indent_of, width as width_of};
-ghost use Rattle.hcl_layout.specs.Inner.Simple.{is_simple as is_simple_of};
-ghost use Rattle.hcl_layout.specs.Inner.Left.{behind};
-ghost use Rattle.hcl_layout.specs.Inner.LineGaps.{bulk, cell_gap as cell_gap_of, gaps_in, plain_gap as plain_gap_of, plain_of};
+ghost use Rattle.hcl_syntax.specs.Balanced.{max_open};
+ghost use Rattle.hcl_layout.specs.Lines.{ends_line};
+ghost use Rattle.hcl_layout.specs.Cells.{is_assignment as is_assignment_of, is_multiline as is_multiline_of, is_trailing as is_trailing_of};
+ghost use Rattle.hcl_layout.specs.Inner.Depths.{BalancedFrom, Steps, deepen};
+ghost use Rattle.hcl_layout.specs.Inner.Survey.{IsLine, assign_of, changes, first_noted, is_noted as is_noted_of, noted, running_of, surveyed};
 
-use crate::kind::is_newline;
-use crate::spacing::{space_between, space_by_kinds};
-use hcl_scan::{Token, Tokens};
-use unicode_segmentation::UnicodeSegmentation;
+use crate::kind::{
+    is_assign, is_closer, is_inline_comment, is_line_comment, is_newline, is_opener,
+};
+use hcl_scan::{Kind, Token, Tokens};
 
-/// A cell: its place in the line, and the gap before it.
+/// What is known behind a token of a line.
 #[derive(Clone, Copy)]
-pub struct Cell {
-    pub place: usize,
-    pub gap: u64,
+pub struct Survey {
+    /// So many tokens were passed.
+    pub len: usize,
+    pub depth: u32,
+    /// There was an inline comment that holds a newline.
+    pub multiline: bool,
+    /// The place of the trailing comment.
+    pub comment: Option<usize>,
+    /// The depth behind what stands before the trailing comment.
+    pub body_depth: u32,
+    /// The place of the first assignment sign.
+    pub sign: Option<usize>,
+    /// The depth before that sign.
+    pub sign_depth: u32,
 }
 
-/// What the gaps of a line go by.
+/// What a line is: its tokens, the depth behind it, and the places of its cells.
 #[derive(Clone, Copy)]
-pub struct LineGaps {
-    pub level: u32,
-    pub assign: Option<Cell>,
-    pub comment: Option<Cell>,
+pub struct LineFacts {
+    pub len: usize,
+    pub depth: u32,
+    pub assign: Option<usize>,
+    pub comment: Option<usize>,
+    /// The trailing comment, where the line takes part in runs of comments.
+    pub running: Option<usize>,
 }
 
-/// The gaps of a line whose cells are not set.
-pub fn plain_line(level: u32) -> LineGaps
-    ensures { result ≡ plain_of level }
+/// Whether a line ends with the token.
+#[inline(always)]
+fn is_line_end(token: Token<'_>) -> bool
+    ensures { result ≡ ends_line (lexeme token.entry) }
 {
-    LineGaps {
-        level,
-        assign: None,
+    is_newline(token.kind) && !token.inside_heredoc
+}
+
+#[inline(always)]
+fn is_trailing(token: Token<'_>) -> bool
+    ensures { result ≡ is_trailing_of (lexeme token.entry) }
+{
+    is_line_comment(token.kind) && !token.inside_heredoc
+}
+
+#[inline(always)]
+fn is_assignment(token: Token<'_>) -> bool
+    ensures { result ≡ is_assignment_of (lexeme token.entry) }
+{
+    is_assign(token.kind) && !token.inside_heredoc
+}
+
+#[inline(always)]
+fn holds_newline(text: &str) -> bool
+    ensures { result ≡ list_any (λ b. b == 10) text.now }
+{
+    text.as_bytes().iter().any(|b| *b == b'\n')
+}
+
+#[inline(always)]
+fn is_multiline(token: Token<'_>) -> bool
+    ensures { result ≡ is_multiline_of (lexeme token.entry) }
+{
+    is_inline_comment(token.kind) && !token.inside_heredoc && holds_newline(token.text)
+}
+
+/// The depth behind a token.
+#[inline(always)]
+fn deepened(depth: u32, kind: Kind) -> u32
+    requires steps { Steps depth kind }
+    requires fits { depth ≤ max_open }
+    ensures { result ≡ deepen depth kind }
+{
+    if is_opener(kind) {
+        return depth + 1;
+    }
+    if is_closer(kind) {
+        return depth - 1;
+    }
+    depth
+}
+
+/// Behind the first token of a line.
+#[inline(always)]
+fn first_survey(depth: u32, token: Token<'_>) -> Survey
+    requires steps { Steps depth token.kind }
+    requires fits { depth ≤ max_open }
+    ensures { result ≡ first_noted depth (lexeme token.entry) }
+{
+    let depth = deepened(depth, token.kind);
+    Survey {
+        len: 1,
+        depth,
+        multiline: is_multiline(token),
         comment: None,
+        body_depth: depth,
+        sign: None,
+        sign_depth: 0,
     }
 }
 
+/// Whether a token of the kind may end the line, changes the depth, or may be or tear a cell. Most do none of these. It
+/// is one test, and not one for each group of kinds, since it is asked of every token.
 #[inline(always)]
-fn indent(level: u32, token: Token<'_>) -> u64
-    requires { level ≤ 256 }
-    ensures { result ≡ indent_of level (lexeme token.entry) }
+fn is_noted(kind: Kind) -> bool
+    ensures { result ≡ is_noted_of kind }
 {
-    if is_newline(token.kind) || token.inside_heredoc {
-        return 0;
-    }
-    2 * u64::from(level)
+    matches!(
+        kind,
+        Kind::Newline
+            | Kind::ParenOpen
+            | Kind::BracketOpen
+            | Kind::BraceOpen
+            | Kind::InterpOpen
+            | Kind::ControlOpen
+            | Kind::ParenClose
+            | Kind::BracketClose
+            | Kind::SeqClose
+            | Kind::BraceClose
+            | Kind::Assign
+            | Kind::LineComment
+            | Kind::InlineComment
+    )
 }
 
-/// The gap before a token, by the level and the spacing alone.
+impl Survey {
+    /// Behind one token more, of a kind that changes nothing.
+    #[inline(always)]
+    fn passed(self) -> Survey
+        requires room { self.len + 1 < 2 ^ 64 }
+        ensures { (t : Lexeme) → changes t.kind ≡ false → result ≡ noted self t }
+    {
+        let len = self.len + 1;
+        if self.comment.is_some() {
+            return Survey { len, ..self };
+        }
+        Survey {
+            len,
+            body_depth: self.depth,
+            ..self
+        }
+    }
+
+    /// Behind one token more.
+    #[inline(always)]
+    fn with(self, token: Token<'_>) -> Survey
+        requires steps { Steps self.depth token.kind }
+        requires fits { self.depth ≤ max_open }
+        requires room { self.len + 1 < 2 ^ 64 }
+        ensures { result ≡ noted self (lexeme token.entry) }
+    {
+        let depth = deepened(self.depth, token.kind);
+        let len = self.len + 1;
+        let multiline = self.multiline || is_multiline(token);
+        if self.comment.is_some() {
+            return Survey {
+                len,
+                depth,
+                multiline,
+                ..self
+            };
+        }
+        if is_trailing(token) {
+            let comment = Some(self.len);
+            return Survey {
+                len,
+                depth,
+                multiline,
+                comment,
+                ..self
+            };
+        }
+        if self.sign.is_none() && is_assignment(token) {
+            return Survey {
+                len,
+                depth,
+                multiline,
+                body_depth: depth,
+                sign: Some(self.len),
+                sign_depth: self.depth,
+                ..self
+            };
+        }
+        Survey {
+            len,
+            depth,
+            multiline,
+            body_depth: depth,
+            ..self
+        }
+    }
+
+    /// The place of the sign, where it begins a cell.
+    #[inline(always)]
+    fn assign(self) -> Option<usize>
+        ensures { result ≡ assign_of self }
+    {
+        if !self.multiline && self.sign_depth == self.body_depth {
+            return self.sign;
+        }
+        None
+    }
+
+    /// The trailing comment, where the line takes part in runs.
+    #[inline(always)]
+    fn running(self) -> Option<usize>
+        ensures { result ≡ running_of self }
+    {
+        if self.multiline {
+            return None;
+        }
+        self.comment
+    }
+}
+
+/// The tokens of a line, from the one at a place on, each noted.
 #[inline(always)]
-fn plain_gap(
-    level: u32,
-    before: Option<Token<'_>>,
-    subject: Option<Token<'_>>,
-    token: Token<'_>,
-) -> u64
-    requires { level ≤ 256 }
-    ensures value { result ≡ plain_gap_of level (option_map lexeme before.entry) (option_map lexeme subject.entry) (lexeme token.entry) }
-    ensures small { result ≤ 512 }
-{
-    let Some(subject) = subject else {
-        return indent(level, token);
-    };
-    if space_between(before, subject, token) {
-        return 1;
-    }
-    0
-}
-
-/// The token before a place, where it is of the line that begins at `start`.
-#[inline(always)]
-fn token_behind<'s>(tokens: &Tokens<'s>, start: usize, at: usize) -> Option<Token<'s>>
-    requires { at ≤ length tokens.now.tokens }
-    ensures { option_map lexeme result ≡ behind tokens.now.tokens start at }
-{
-    if start < at {
-        return Some(tokens.get(at - 1));
-    }
-    None
-}
-
-/// The gap before the token at a place of the line that begins at `start`, by the level and the spacing alone. It is a
-/// call that looks up all tokens itself, so that its caller builds none that it seldom needs.
-#[inline(never)]
-fn looked_up_gap(tokens: &Tokens<'_>, level: u32, start: usize, at: usize) -> u64
+fn read_line(tokens: &Tokens<'_>, at: usize, depth: u32) -> Survey
     requires within { at < length tokens.now.tokens }
-    requires level { level ≤ 256 }
-    ensures { (t : Lexeme) → slice_get tokens.now.tokens at ≡ Some t → result ≡ plain_gap_of level (behind tokens.now.tokens start (at - 1)) (behind tokens.now.tokens start at) t }
+    requires balanced { BalancedFrom depth (drop at tokens.now.tokens) }
+    requires fits { depth ≤ max_open }
+    ensures { (t : Lexeme) → slice_get tokens.now.tokens at ≡ Some t → result ≡ surveyed (first_noted depth t) t (drop (at + 1) tokens.now.tokens) }
 {
-    let token = tokens.get(at);
-    let subject = token_behind(tokens, start, at);
-    let before = token_behind(tokens, start, at.saturating_sub(1));
-    plain_gap(level, before, subject, token)
+    let count = tokens.len();
+    let first = tokens.get(at);
+    let mut line = first_survey(depth, first);
+    if is_line_end(first) {
+        return line;
+    }
+    while at + line.len < count {
+        let token = tokens.get(at + line.len);
+        if !is_noted(token.kind) {
+            line = line.passed();
+            continue;
+        }
+        if is_line_end(token) {
+            return line.passed();
+        }
+        line = line.with(token);
+    }
+    line
 }
 
-/// The same, where nearly always the kinds of the token and of the one before it tell the gap.
+/// The line that begins at a place, where the depth is known.
 #[inline(always)]
-pub fn plain_gap_at(
-    tokens: &Tokens<'_>,
-    level: u32,
-    start: usize,
-    at: usize,
-    token: Token<'_>,
-) -> u64
-    requires there { slice_get tokens.now.tokens at ≡ Some (lexeme token) }
+pub fn line_at(tokens: &Tokens<'_>, at: usize, depth: u32) -> LineFacts
     requires within { at < length tokens.now.tokens }
-    requires level { level ≤ 256 }
-    ensures { result ≡ plain_gap_of level (behind tokens.now.tokens start (at - 1)) (behind tokens.now.tokens start at) (lexeme token.entry) }
+    requires balanced { BalancedFrom depth (drop at tokens.now.tokens) }
+    requires fits { depth ≤ max_open }
+    ensures { IsLine tokens.now.tokens at depth result }
 {
-    let Some(subject) = token_behind(tokens, start, at) else {
-        return indent(level, token);
-    };
-    match space_by_kinds(subject, token) {
-        Some(space) => u64::from(space),
-        None => looked_up_gap(tokens, level, start, at),
+    let line = read_line(tokens, at, depth);
+    LineFacts {
+        len: line.len,
+        depth: line.depth,
+        assign: line.assign(),
+        comment: line.comment,
+        running: line.running(),
     }
-}
-
-/// The gap of the cell at its place, and else the other.
-#[inline(always)]
-fn cell_gap(cell: Option<Cell>, place: usize, otherwise: u64) -> u64
-    ensures { result ≡ cell_gap_of cell place otherwise }
-{
-    let Some(cell) = cell else {
-        return otherwise;
-    };
-    if cell.place == place {
-        return cell.gap;
-    }
-    otherwise
-}
-
-/// The gap at a place of a line: that of its cell there, and else the plain one.
-#[inline(always)]
-pub fn gap_by_cells(gaps: LineGaps, place: usize, plain: u64) -> u64
-    ensures { result ≡ cell_gap_of gaps.comment place (cell_gap_of gaps.assign place plain) }
-{
-    cell_gap(gaps.comment, place, cell_gap(gaps.assign, place, plain))
-}
-
-/// Whether the bytes are ASCII without CR, so that each is a grapheme cluster.
-#[inline(always)]
-fn is_simple(bytes: &[u8]) -> bool
-    ensures { result ≡ is_simple_of bytes.now }
-{
-    bytes.iter().all(|b| *b < 128 && *b != b'\r')
-}
-
-/// How many extended grapheme clusters a text has.
-#[inline(never)]
-fn count_clusters(text: &str) -> u64
-    ensures count { result ≡ length (graphemes true text.now) }
-    ensures within { result ≤ length text.now }
-{
-    text.graphemes(true).count() as u64
-}
-
-/// The same, with a short way for most texts. What counts the others is a call, so that its callers stay short.
-#[inline(always)]
-fn clusters(text: &str) -> u64
-    ensures count { result ≡ length (graphemes true text.now) }
-    ensures within { result ≤ length text.now }
-{
-    if is_simple(text.as_bytes()) {
-        return text.len() as u64;
-    }
-    count_clusters(text)
-}
-
-/// The width before the token at a place of the line that begins at a token.
-pub fn width(tokens: &Tokens<'_>, at: usize, len: usize, place: usize, gaps: LineGaps) -> u64
-    requires within { at + len ≤ length tokens.now.tokens }
-    requires there { place ≤ len }
-    requires level { gaps.level ≤ 256 }
-    requires small { bulk tokens.now.tokens < 2 ^ 32 }
-    requires fits { width_of place (gaps_in gaps (take len (drop at tokens.now.tokens))) (take len (drop at tokens.now.tokens)) < 2 ^ 64 }
-    ensures { result ≡ width_of place (gaps_in gaps (take len (drop at tokens.now.tokens))) (take len (drop at tokens.now.tokens)) }
-{
-    let mut columns = 0;
-    for k in 0..place {
-        let token = tokens.get(at + k);
-        let plain = plain_gap_at(tokens, gaps.level, at, at + k, token);
-        let gap = gap_by_cells(gaps, k, plain);
-        columns += gap + clusters(token.text);
-    }
-    columns
 }

@@ -2,10 +2,10 @@
 ghost use Rattle.std.specs.Prelude.{◌≡◌, ◌≢◌, ◌↔◌, ◌≤◌, ◌^◌, ◌++◌, ◌==◌, ◌&&◌, ℕ, List, IsTrue, length, drop, take, nat_eq, nat_le, IfSome, MatchOption};
 ghost use Rattle.std.specs.List.{list_all, starts_with};
 ghost use Rattle.hcl_layout.specs.Inner.Left.{IsFrom, bytes_of};
-ghost use Rattle.hcl_layout.specs.Inner.LineGaps.{bulk};
+ghost use Rattle.hcl_layout.specs.Inner.LineGaps.{len_with_blanks};
 ghost use Rattle.hcl_layout.specs.Print.{print};
 
-use crate::gaps::{Piece, next_piece, start};
+use crate::pieces::{Piece, next_piece, start};
 use hcl_scan::Tokens;
 use hcl_syntax::Accepted;
 
@@ -13,8 +13,8 @@ use hcl_syntax::Accepted;
 /// that is made of the print.
 pub fn source_of<'s>(tokens: &Tokens<'s>) -> &'s [u8]
     ensures text { result.now ≡ tokens.now.text }
-    ensures few { length tokens.now.tokens ≤ 2 ^ 20 }
-    ensures small { bulk tokens.now.tokens ≤ 2 ^ 21 }
+    ensures few { length tokens.now.tokens ≤ 2 ^ 22 }
+    ensures small { len_with_blanks tokens.now.tokens ≤ 2 ^ 23 }
 {
     // its contract says that there are no more tokens than bytes
     let _count = tokens.len();
@@ -27,9 +27,9 @@ pub fn printed_len(accepted: &Accepted<'_, '_>) -> u64
 {
     let tokens = accepted.tokens();
     let _source = source_of(tokens);
-    let mut gaps = start();
+    let mut pieces = start();
     let mut len = 0;
-    while let Some(piece) = next_piece(&mut gaps, tokens) {
+    while let Some(piece) = next_piece(&mut pieces, tokens) {
         len += piece.gap + piece.text.len() as u64;
     }
     len
@@ -94,9 +94,9 @@ pub fn is_formatted(accepted: &Accepted<'_, '_>) -> bool
 {
     let tokens = accepted.tokens();
     let bytes = source_of(tokens);
-    let mut gaps = start();
+    let mut pieces = start();
     let mut at = 0;
-    while let Some(piece) = next_piece(&mut gaps, tokens) {
+    while let Some(piece) = next_piece(&mut pieces, tokens) {
         let Some(end) = piece_end(bytes, at, piece) else {
             return false;
         };

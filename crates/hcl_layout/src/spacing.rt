@@ -2,12 +2,13 @@
 ghost use Rattle.std.specs.Prelude.{◌≡◌, IfNone, IfSome, Option, option_map};
 ghost use Rattle.hcl_scan.specs.Lexemes.{Lexeme};
 ghost use Rattle.hcl_scan.specs.Scanned.{lexeme};
-ghost use Rattle.hcl_layout.specs.Spacing.{begins_with_equals as begins_with_equals_of, is_dot as is_dot_of, is_ident as is_ident_of, is_opening as is_opening_of, spaced, stands_before};
+ghost use Rattle.hcl_syntax.specs.Kinds.{is_dot as is_dot_of, is_ident as is_ident_of};
+ghost use Rattle.hcl_layout.specs.Spacing.{begins_with_colon as begins_with_colon_of, begins_with_equals as begins_with_equals_of, is_opening as is_opening_of, spaced, stands_before};
 ghost use Rattle.hcl_layout.specs.Inner.KindPairs.{asked_space as asked_space_of, pair_space as pair_space_of, space_behind_operand as space_behind_operand_of, stands_close as stands_close_of};
 
 use crate::kind::{
-    awaits_operand, closes_group, is_brace_close, is_brace_open, is_bracket_open, is_comma, is_dot,
-    is_ellipsis, is_ident, is_newline, is_opener, is_operator, is_paren_open, is_seq_close,
+    awaits_operand, closes_group, is_brace_close, is_brace_open, is_bracket_open, is_colon_colon, is_comma,
+    is_dot, is_ellipsis, is_ident, is_newline, is_opener, is_operator, is_paren_open, is_seq_close,
     opens_sequence,
 };
 use hcl_scan::{Kind, Token};
@@ -20,6 +21,16 @@ fn begins_with_equals(text: &str) -> bool
         return false;
     };
     *first == b'='
+}
+
+#[inline(always)]
+fn begins_with_colon(text: &str) -> bool
+    ensures { result ≡ begins_with_colon_of text.now }
+{
+    let Some(first) = text.as_bytes().first() else {
+        return false;
+    };
+    *first == b':'
 }
 
 /// Whether the token before is a Dot.
@@ -62,7 +73,12 @@ fn stands_close(kind: Kind) -> bool
 {
     matches!(
         kind,
-        Kind::Dot | Kind::Comma | Kind::Ellipsis | Kind::Lit | Kind::QuoteClose
+        Kind::Dot
+            | Kind::ColonColon
+            | Kind::Comma
+            | Kind::Ellipsis
+            | Kind::Lit
+            | Kind::QuoteClose
     )
 }
 
@@ -75,16 +91,18 @@ fn space_behind_operand(right: Kind) -> bool
 }
 
 /// What two kinds tell alone, the second no Newline and outside heredocs. Nearly always they do, so this is a table by
-/// the first of them, and not the rows of the definition in turn, of which most tokens pass all.
+/// the first of them, and not the rows of the definition in next_level, of which most tokens pass all.
 #[inline(always)]
 fn pair_space(left: Kind, right: Kind) -> Option<bool>
     ensures { result ≡ pair_space_of left right }
 {
     match left {
-        Kind::Not | Kind::Minus => None,
-        Kind::QuoteOpen | Kind::Lit => Some(false),
+        Kind::Not | Kind::Minus | Kind::Colon => None,
+        Kind::QuoteOpen | Kind::Lit | Kind::ColonColon => Some(false),
         Kind::Dot => Some(is_dot(right) || is_ellipsis(right)),
-        Kind::Comma => Some(!(is_dot(right) || is_comma(right) || is_ellipsis(right))),
+        Kind::Comma => Some(
+            !(is_dot(right) || is_colon_colon(right) || is_comma(right) || is_ellipsis(right)),
+        ),
         Kind::ParenOpen | Kind::BracketOpen => Some(is_brace_close(right)),
         Kind::BraceOpen => Some(!(stands_close(right) || is_brace_close(right))),
         Kind::InterpOpen | Kind::ControlOpen if is_seq_close(right) => None,
@@ -105,14 +123,18 @@ fn pair_space(left: Kind, right: Kind) -> Option<bool>
     }
 }
 
-/// What the texts tell and the token before, where the kinds don't: whether a `!` would join `=`, a number a dot, or
-/// the opening of a sequence the `~` that closes it, whether a minus is a sign, and whether a name is the word `in`.
+/// What the texts tell and the token before, where the kinds don't: whether a `!` would join `=`, a `:` another, a
+/// number a dot, or the opening of a sequence the `~` that closes it, whether a minus is a sign, and whether a name is the word `in`.
 #[inline(always)]
 fn asked_space(before: Option<Token<'_>>, subject: Token<'_>, after: Token<'_>) -> bool
     ensures { result ≡ asked_space_of (option_map lexeme before.entry) (lexeme subject.entry) (lexeme after.entry) }
 {
     match subject.kind {
         Kind::Not => begins_with_equals(after.text),
+        Kind::Colon => {
+            begins_with_colon(after.text)
+                || !(stands_close(after.kind) || closes_group(after.kind))
+        }
         Kind::Minus => !(stands_close(after.kind) || is_opening(before)),
         Kind::Number => !is_behind_dot(before),
         Kind::Ident => subject.text == "in" && is_behind_ident(before),

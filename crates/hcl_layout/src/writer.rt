@@ -2,11 +2,11 @@
 ghost use Rattle.std.specs.Prelude.{◌≡◌, ◌<◌, ◌≤◌, ◌+◌, ◌^◌, ◌++◌, ℕ, List, Option, false, length, take, replicate, is_err, IfErr, OnOk};
 ghost use Rattle.std.specs.Io.KnownBytes.{Appends};
 ghost use Rattle.hcl_layout.specs.Inner.Left.{bytes_of};
-ghost use Rattle.hcl_layout.specs.Inner.Out.{Out, Stopped, held};
+ghost use Rattle.hcl_layout.specs.Inner.Out.{Fails, Out, Puts, Stopped, held};
 ghost use Rattle.hcl_layout.specs.Print.{print};
 
 use crate::buffer::Buffer;
-use crate::gaps::{Piece, next_piece, start};
+use crate::pieces::{Piece, next_piece, start};
 use crate::print::source_of;
 use hcl_scan::{ByteSink, WriteFault, write_fully};
 use hcl_syntax::Accepted;
@@ -75,8 +75,8 @@ fn send_past<W: ByteSink>(to: &mut W, buffer: &mut Buffer, text: &[u8]) -> Resul
     requires fresh { W.failed to.old ≡ false }
     requires empty { buffer.old.len ≡ 0 }
     requires room { buffer.old.sent + length text.now < 2 ^ 63 }
-    ensures ok { OnOk result ((base : Option (List ℕ)) (front : List ℕ) → Out base (W.taken to.old) buffer.old front → Out base (W.taken to.new) buffer.new (front ++ text.now)) }
-    ensures err { IfErr result (λ fault. (base : Option (List ℕ)) (front : List ℕ) → Out base (W.taken to.old) buffer.old front → Stopped base (W.taken to.new) (front ++ text.now) fault) }
+    ensures ok { OnOk result (Puts (W.taken to.old) (W.taken to.new) buffer.old buffer.new text.now) }
+    ensures err { IfErr result (Fails (W.taken to.old) (W.taken to.new) buffer.old text.now) }
     ensures failed { W.failed to.new ≡ is_err result }
     ensures count { OnOk result (buffer.new.sent + buffer.new.len ≡ buffer.old.sent + buffer.old.len + length text.now) }
 {
@@ -94,8 +94,8 @@ fn send_past<W: ByteSink>(to: &mut W, buffer: &mut Buffer, text: &[u8]) -> Resul
 fn put<W: ByteSink>(to: &mut W, buffer: &mut Buffer, text: &[u8]) -> Result<(), WriteFault>
     requires fresh { W.failed to.old ≡ false }
     requires room { buffer.old.sent + buffer.old.len + length text.now < 2 ^ 63 }
-    ensures ok { OnOk result ((base : Option (List ℕ)) (front : List ℕ) → Out base (W.taken to.old) buffer.old front → Out base (W.taken to.new) buffer.new (front ++ text.now)) }
-    ensures err { IfErr result (λ fault. (base : Option (List ℕ)) (front : List ℕ) → Out base (W.taken to.old) buffer.old front → Stopped base (W.taken to.new) (front ++ text.now) fault) }
+    ensures ok { OnOk result (Puts (W.taken to.old) (W.taken to.new) buffer.old buffer.new text.now) }
+    ensures err { IfErr result (Fails (W.taken to.old) (W.taken to.new) buffer.old text.now) }
     ensures failed { W.failed to.new ≡ is_err result }
     ensures count { OnOk result (buffer.new.sent + buffer.new.len ≡ buffer.old.sent + buffer.old.len + length text.now) }
 {
@@ -118,8 +118,8 @@ fn put<W: ByteSink>(to: &mut W, buffer: &mut Buffer, text: &[u8]) -> Result<(), 
 fn put_blanks<W: ByteSink>(to: &mut W, buffer: &mut Buffer, gap: u64) -> Result<(), WriteFault>
     requires fresh { W.failed to.old ≡ false }
     requires room { buffer.old.sent + buffer.old.len + gap < 2 ^ 63 }
-    ensures ok { OnOk result ((base : Option (List ℕ)) (front : List ℕ) → Out base (W.taken to.old) buffer.old front → Out base (W.taken to.new) buffer.new (front ++ replicate gap 32)) }
-    ensures err { IfErr result (λ fault. (base : Option (List ℕ)) (front : List ℕ) → Out base (W.taken to.old) buffer.old front → Stopped base (W.taken to.new) (front ++ replicate gap 32) fault) }
+    ensures ok { OnOk result (Puts (W.taken to.old) (W.taken to.new) buffer.old buffer.new (replicate gap 32)) }
+    ensures err { IfErr result (Fails (W.taken to.old) (W.taken to.new) buffer.old (replicate gap 32)) }
     ensures failed { W.failed to.new ≡ is_err result }
     ensures count { OnOk result (buffer.new.sent + buffer.new.len ≡ buffer.old.sent + buffer.old.len + gap) }
 {
@@ -145,8 +145,8 @@ fn put_piece<W: ByteSink>(
 ) -> Result<(), WriteFault>
     requires fresh { W.failed to.old ≡ false }
     requires room { buffer.old.sent + buffer.old.len + piece.gap + length piece.text.now < 2 ^ 63 }
-    ensures ok { OnOk result ((base : Option (List ℕ)) (front : List ℕ) → Out base (W.taken to.old) buffer.old front → Out base (W.taken to.new) buffer.new (front ++ bytes_of piece.entry)) }
-    ensures err { IfErr result (λ fault. (base : Option (List ℕ)) (front : List ℕ) → Out base (W.taken to.old) buffer.old front → Stopped base (W.taken to.new) (front ++ bytes_of piece.entry) fault) }
+    ensures ok { OnOk result (Puts (W.taken to.old) (W.taken to.new) buffer.old buffer.new (bytes_of piece.entry)) }
+    ensures err { IfErr result (Fails (W.taken to.old) (W.taken to.new) buffer.old (bytes_of piece.entry)) }
     ensures failed { W.failed to.new ≡ is_err result }
     ensures count { OnOk result (buffer.new.sent + buffer.new.len ≡ buffer.old.sent + buffer.old.len + piece.entry.gap + length piece.entry.text.now) }
 {
@@ -167,9 +167,9 @@ pub fn emit<W: ByteSink>(accepted: &Accepted<'_, '_>, to: &mut W) -> Result<(), 
 {
     let tokens = accepted.tokens();
     let _source = source_of(tokens);
-    let mut gaps = start();
+    let mut pieces = start();
     let mut buffer = Buffer::new();
-    while let Some(piece) = next_piece(&mut gaps, tokens) {
+    while let Some(piece) = next_piece(&mut pieces, tokens) {
         if let Err(fault) = put_piece(to, &mut buffer, piece) {
             return Err(fault);
         }

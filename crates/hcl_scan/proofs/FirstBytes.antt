@@ -6,7 +6,7 @@ use Rattle.std.proofs.lemmas.Bool.Decides.{nat_tests}
 use Rattle.hcl_scan.specs.Lexemes.{Opener, in_heredoc}
 use Rattle.hcl_scan.specs.Spelling.{marks, IsMark, IsDigits, starts}
 use Rattle.hcl_scan.specs.Neighbours.{is_number}
-use Rattle.hcl_scan.specs.SideBySide.{begins_as, is_ident, is_minus, is_pointed, is_equals, is_greater, is_less, is_slashed, is_star, is_seq_close, may_begin_ident}
+use Rattle.hcl_scan.specs.SideBySide.{begins_as, is_ident, is_minus, is_pointed, is_coloned, is_equals, is_greater, is_less, is_slashed, is_star, is_seq_close, may_begin_ident}
 use Rattle.hcl_scan.specs.declared.token.Kind.{Kind}
 use Rattle.hcl_scan.specs.declared.token.Kind.TheVariants.{Ident, Number}
 use Rattle.hcl_scan.proofs.Ways.{Ways, newline, line_comment, inline_comment, blanks, ident, digits, number, heredoc, seq_close, brace_close, slash, mark, mark_passes}
@@ -53,6 +53,7 @@ pub record Says (kind : Kind) (b : ℕ) : Type 0 where
   pub digit : is_ascii_digit b ≡ true → is_number kind ≡ true
   pub minus : (b == 45) ≡ true → is_minus kind ≡ true
   pub point : (b == 46) ≡ true → is_pointed kind ≡ true
+  pub colons : (b == 58) ≡ true → is_coloned kind ≡ true
   pub equals : (b == 61) ≡ true → is_equals kind ≡ true
   pub greater : (b == 62) ≡ true → is_greater kind ≡ true
   pub less : (b == 60) ≡ true → is_less kind ≡ true
@@ -66,6 +67,7 @@ says kind b h = record {
   digit = λ d. let l : may_begin_ident b ≡ false = grind (arith, nat_tests) in rw (l, d) at h;
   minus = λ e. row 45 e;
   point = λ e. row 46 e;
+  colons = λ e. row 58 e;
   equals = λ e. row 61 e;
   greater = λ e. row 62 e;
   less = λ e. row 60 e;

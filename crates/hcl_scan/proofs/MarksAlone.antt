@@ -9,7 +9,7 @@ use Rattle.hcl_scan.specs.Lexemes.{Opener, in_heredoc}
 use Rattle.hcl_scan.specs.Spelling.{marks, IsMark, IsNumber, starts}
 use Rattle.hcl_scan.specs.Neighbours.{grows}
 use Rattle.hcl_scan.specs.declared.token.Kind.{Kind}
-use Rattle.hcl_scan.specs.declared.token.Kind.TheVariants.{Ident, Number, Dot, Not, Assign, Less, Greater, Slash, InterpOpen, ControlOpen}
+use Rattle.hcl_scan.specs.declared.token.Kind.TheVariants.{Ident, Number, Dot, Colon, Not, Assign, Less, Greater, Slash, InterpOpen, ControlOpen}
 use Rattle.hcl_scan.proofs.Booleans.{and_true}
 use Rattle.hcl_scan.proofs.Starts.{starts_so}
 use Rattle.hcl_scan.proofs.Numerals.{digit_head}
@@ -151,6 +151,7 @@ pub blank_grows : (kind : Kind) → grows kind 32 ≡ false
 blank_grows Ident = refl
 blank_grows Number = refl
 blank_grows Dot = refl
+blank_grows Colon = refl
 blank_grows Not = refl
 blank_grows Assign = refl
 blank_grows Less = refl

@@ -12,7 +12,7 @@ use Rattle.hcl_scan.specs.Neighbours.{grows, is_number, joins, joins_text, stays
 use Rattle.hcl_scan.specs.Regapped.{tokens_of, text_of, is_template, touches, AllFit}
 use Rattle.hcl_scan.specs.declared.expression.Lead.TheVariants.{Sign as SignLead}
 use Rattle.hcl_scan.specs.declared.token.Kind.{Kind}
-use Rattle.hcl_scan.specs.declared.token.Kind.TheVariants.{LineComment, Ident, Number, Dot, Not, Assign, Less, Greater, Slash, Lit, InterpOpen, ControlOpen, QuoteClose, HeredocClose}
+use Rattle.hcl_scan.specs.declared.token.Kind.TheVariants.{LineComment, Ident, Number, Dot, Colon, Not, Assign, Less, Greater, Slash, Lit, InterpOpen, ControlOpen, QuoteClose, HeredocClose}
 use Rattle.hcl_scan.proofs.Booleans.{and_true, not_true}
 use Rattle.hcl_scan.proofs.Contexts.{not_both}
 use Rattle.hcl_scan.proofs.Ways.{Ways, ways, mark_passes}
@@ -26,6 +26,7 @@ abbrev pub grower : Kind → Bool
 grower Ident = true
 grower Number = true
 grower Dot = true
+grower Colon = true
 grower Not = true
 grower Assign = true
 grower Less = true
@@ -50,6 +51,7 @@ grown_place : (opens : List Opener) (dot : Bool) (kind : Kind) (text rest : List
 grown_place opens dot Ident text rest g s = (in_place opens dot Ident text rest refl s, refl)
 grown_place opens dot Number text rest g s = (in_place opens dot Number text rest refl s, refl)
 grown_place opens dot Dot text rest g s = (in_place opens dot Dot text rest refl s, refl)
+grown_place opens dot Colon text rest g s = (in_place opens dot Colon text rest refl s, refl)
 grown_place opens dot Not text rest g s = (in_place opens dot Not text rest refl s, refl)
 grown_place opens dot Assign text rest g s = (in_place opens dot Assign text rest refl s, refl)
 grown_place opens dot Less text rest g s = (in_place opens dot Less text rest refl s, refl)
@@ -137,6 +139,7 @@ zero_grows : (kind : Kind) → grows kind 0 ≡ false
 zero_grows Ident = refl
 zero_grows Number = refl
 zero_grows Dot = refl
+zero_grows Colon = refl
 zero_grows Not = refl
 zero_grows Assign = refl
 zero_grows Less = refl

@@ -8,7 +8,7 @@ use Rattle.hcl_scan.specs.Scans.{State, gap_in, has_gaps_in, owed, IsLongest, Sh
 use Rattle.hcl_scan.specs.Neighbours.{same_close, stays}
 use Rattle.hcl_scan.specs.Regapped.{tokens_of, text_of, touches, fits, AllFit}
 use Rattle.hcl_scan.specs.declared.token.Kind.{Kind}
-use Rattle.hcl_scan.specs.declared.token.Kind.TheVariants.{LineComment, Ident, Number, Dot, Not, Assign, Less, Greater, Slash, Lit, InterpOpen, ControlOpen}
+use Rattle.hcl_scan.specs.declared.token.Kind.TheVariants.{LineComment, Ident, Number, Dot, Colon, Not, Assign, Less, Greater, Slash, Lit, InterpOpen, ControlOpen}
 use Rattle.hcl_scan.proofs.Contexts.{is_quoted, not_both, heredoc_on_top, quote_owed}
 use Rattle.hcl_scan.proofs.Sides.{Side, expression, template, side}
 use Rattle.hcl_scan.proofs.Templates.{Way, lit, interp, control, quote, way_template}
@@ -32,6 +32,7 @@ sort_of Lit = literal refl
 sort_of Ident = growing refl
 sort_of Number = growing refl
 sort_of Dot = growing refl
+sort_of Colon = growing refl
 sort_of Not = growing refl
 sort_of Assign = growing refl
 sort_of Less = growing refl

@@ -44,20 +44,20 @@ at_place (m ∷ ms) (suc n) other h = inr (at_place ms n other (below n (length 
     below : (a b : ℕ) → nat_lt (suc a) (suc b) ≡ true → nat_lt a b ≡ true
     below a b h = grind (arith, nat_tests)
 
-mark_at : (n : ℕ) → nat_lt n 26 ≡ true → IsMark marks (get_or marks n ([], Dot)).0 (get_or marks n ([], Dot)).1
+mark_at : (n : ℕ) → nat_lt n 27 ≡ true → IsMark marks (get_or marks n ([], Dot)).0 (get_or marks n ([], Dot)).1
 unfolding marks
 mark_at n h = at_place marks n ([], Dot) h
 
-table_at : (n : ℕ) → nat_lt n 26 ≡ true → IsMark ordered_marks (get_or ordered_marks n ([], Dot)).0 (get_or ordered_marks n ([], Dot)).1
+table_at : (n : ℕ) → nat_lt n 27 ≡ true → IsMark ordered_marks (get_or ordered_marks n ([], Dot)).0 (get_or ordered_marks n ([], Dot)).1
 table_at n h = at_place ordered_marks n ([], Dot) h
 
 in_marks : Each (IsMark marks) ordered_marks
 unfolding marks
-in_marks = (mark_at 8 refl, (mark_at 12 refl, (mark_at 18 refl, (mark_at 19 refl, (mark_at 20 refl, (mark_at 21 refl, (mark_at 24 refl, (mark_at 25 refl, (mark_at 11 refl, (mark_at 0 refl, (mark_at 6 refl, (mark_at 7 refl, (mark_at 3 refl, (mark_at 2 refl, (mark_at 5 refl, (mark_at 1 refl, (mark_at 4 refl, (mark_at 10 refl, (mark_at 9 refl, (mark_at 13 refl, (mark_at 14 refl, (mark_at 15 refl, (mark_at 16 refl, (mark_at 17 refl, (mark_at 22 refl, (mark_at 23 refl, tt))))))))))))))))))))))))))
+in_marks = (mark_at 8 refl, (mark_at 13 refl, (mark_at 19 refl, (mark_at 20 refl, (mark_at 21 refl, (mark_at 22 refl, (mark_at 25 refl, (mark_at 26 refl, (mark_at 11 refl, (mark_at 12 refl, (mark_at 0 refl, (mark_at 6 refl, (mark_at 7 refl, (mark_at 3 refl, (mark_at 2 refl, (mark_at 5 refl, (mark_at 1 refl, (mark_at 4 refl, (mark_at 10 refl, (mark_at 9 refl, (mark_at 14 refl, (mark_at 15 refl, (mark_at 16 refl, (mark_at 17 refl, (mark_at 18 refl, (mark_at 23 refl, (mark_at 24 refl, tt)))))))))))))))))))))))))))
 
 in_table : Each (IsMark ordered_marks) marks
 unfolding marks
-in_table = (table_at 9 refl, (table_at 15 refl, (table_at 13 refl, (table_at 12 refl, (table_at 16 refl, (table_at 14 refl, (table_at 10 refl, (table_at 11 refl, (table_at 0 refl, (table_at 18 refl, (table_at 17 refl, (table_at 8 refl, (table_at 1 refl, (table_at 19 refl, (table_at 20 refl, (table_at 21 refl, (table_at 22 refl, (table_at 23 refl, (table_at 2 refl, (table_at 3 refl, (table_at 4 refl, (table_at 5 refl, (table_at 24 refl, (table_at 25 refl, (table_at 6 refl, (table_at 7 refl, tt))))))))))))))))))))))))))
+in_table = (table_at 10 refl, (table_at 16 refl, (table_at 14 refl, (table_at 13 refl, (table_at 17 refl, (table_at 15 refl, (table_at 11 refl, (table_at 12 refl, (table_at 0 refl, (table_at 19 refl, (table_at 18 refl, (table_at 8 refl, (table_at 9 refl, (table_at 1 refl, (table_at 20 refl, (table_at 21 refl, (table_at 22 refl, (table_at 23 refl, (table_at 24 refl, (table_at 2 refl, (table_at 3 refl, (table_at 4 refl, (table_at 5 refl, (table_at 25 refl, (table_at 26 refl, (table_at 6 refl, (table_at 7 refl, tt)))))))))))))))))))))))))))
 
 table_found : (seen : List ℕ) (kind : Kind) (n : ℕ) → IsLongestMark ordered_marks seen kind n → IsLongestMark marks seen kind n
 table_found seen kind n m = record {

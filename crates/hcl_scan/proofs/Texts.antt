@@ -296,7 +296,7 @@ less_byte b second h = same b 60 (pick_less (may_begin_ident b) _ _ _ _ (b == 47
 
 less_mark : IsMark marks (60 ∷ []) Less
 unfolding marks
-less_mark = inr (inr (inr (inr (inr (inr (inr (inr (inr (inr (inr (inr (inr (inr (inr (inr (inr (inr (inr (inr (inr (inr (inl (refl, refl)))))))))))))))))))))))
+less_mark = inr (inr (inr (inr (inr (inr (inr (inr (inr (inr (inr (inr (inr (inr (inr (inr (inr (inr (inr (inr (inr (inr (inr (inl (refl, refl))))))))))))))))))))))))
 
 pub less_found : (dot inside closes : Bool) (seen : List ℕ) → lead_of seen ≡ LessLess → HasNoFront IsHeredocOpen seen → FindsAt dot inside closes seen Less 1
 unfolding finds NoLonger

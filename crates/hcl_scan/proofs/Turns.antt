@@ -94,7 +94,7 @@ module _ (s : Scanner) (e : Entry) (sound : IsSound s) (is : IsNext s e) where
       (omega (arith, room)))
 
 -- AT THE FRONT
-pub sound_new : (s : Scanner) → length s.text.now ≤ 1048576 → IsUtf8 s.text.now → s.at ≡ 0 → s.end ≡ length s.text.now → s.stack ≡ [] → IsSound s
+pub sound_new : (s : Scanner) → length s.text.now ≤ 4194304 → IsUtf8 s.text.now → s.at ≡ 0 → s.end ≡ length s.text.now → s.stack ≡ [] → IsSound s
 sound_new s small utf8 at end stack = record {
   small = small;
   order = omega (arith, at);
@@ -159,7 +159,7 @@ next_is s start n kind inside sound is found boundary inside_is =
           (subst (λ r. IsLongest (openers_of s.stack) s.after_dot (slice_range text start s.end) kind (take n (slice_range text start s.end)) r) (sym (back_of text start s.end n within)) found.longest);
     }
 
-pub next_fits : (s : Scanner) (start n : ℕ) (kind : Kind) → IsSound s → IsStart s start → Finds (openers_of s.stack) s.after_dot (slice_range s.text.now start s.end) kind n → start + n ≤ 1048576
+pub next_fits : (s : Scanner) (start n : ℕ) (kind : Kind) → IsSound s → IsStart s start → Finds (openers_of s.stack) s.after_dot (slice_range s.text.now start s.end) kind n → start + n ≤ 4194304
 next_fits s start n kind sound is found = omega (arith, found.within, slice_len s.text.now start s.end is.within sound.within, sound.within, sound.small)
 
 -- NO TOKEN BEGINS THERE

@@ -7,7 +7,7 @@ use Rattle.std.specs.Char.{is_ascii_digit, is_ascii_alphanumeric}
 use Rattle.hcl_scan.specs.Scans.{is_dot}
 use Rattle.hcl_scan.specs.Spelling.{starts}
 use Rattle.hcl_scan.specs.declared.token.Kind.{Kind}
-use Rattle.hcl_scan.specs.declared.token.Kind.TheVariants.{LineComment, Ident, Number, Dot, Assign, Not, Slash, Less, Greater, Lit, InterpOpen, ControlOpen}
+use Rattle.hcl_scan.specs.declared.token.Kind.TheVariants.{LineComment, Ident, Number, Dot, Colon, Assign, Not, Slash, Less, Greater, Lit, InterpOpen, ControlOpen}
 
 -- THE TABLE: behind a token of this kind, a text that begins with this byte may go on it
 abbrev pub grows : Kind → ℕ → Bool
@@ -17,6 +17,8 @@ grows Ident b = is_ascii_alphanumeric b || (b == 95) || (b == 45) || nat_le 128 
 grows Number b = is_ascii_digit b || (b == 101) || (b == 69)
 -- `.` and `.`, or `...`: three points are one mark
 grows Dot b = b == 46
+-- `::`
+grows Colon b = b == 58
 -- `!=`
 grows Not b = b == 61
 -- `==` and `=>`

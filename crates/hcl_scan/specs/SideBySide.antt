@@ -6,7 +6,7 @@ use Rattle.hcl_scan.specs.Lexemes.{Lexeme}
 use Rattle.hcl_scan.specs.Neighbours.{is_number}
 use Rattle.hcl_scan.specs.Regapped.{is_template}
 use Rattle.hcl_scan.specs.declared.token.Kind.{Kind}
-use Rattle.hcl_scan.specs.declared.token.Kind.TheVariants.{Newline, LineComment, InlineComment, Ident, HeredocOpen, QuoteOpen, SeqClose, Dot, Ellipsis, Assign, Arrow, Minus, Star, Slash, Equal, Less, Greater, LessEqual, GreaterEqual, Lit, HeredocClose}
+use Rattle.hcl_scan.specs.declared.token.Kind.TheVariants.{Newline, LineComment, InlineComment, Ident, HeredocOpen, QuoteOpen, SeqClose, Dot, Ellipsis, Colon, ColonColon, Assign, Arrow, Minus, Star, Slash, Equal, Less, Greater, LessEqual, GreaterEqual, Lit, HeredocClose}
 
 -- an identifier may begin with the byte; beyond ASCII its character decides
 abbrev pub may_begin_ident : ℕ → Bool
@@ -33,6 +33,12 @@ abbrev pub is_pointed : Kind → Bool
 is_pointed Dot = true
 is_pointed Ellipsis = true
 is_pointed _ = false
+
+-- with `:`
+abbrev pub is_coloned : Kind → Bool
+is_coloned Colon = true
+is_coloned ColonColon = true
+is_coloned _ = false
 
 -- with `=`
 abbrev pub is_equals : Kind → Bool
@@ -68,6 +74,7 @@ begins_as kind b =
     else if is_ascii_digit b then is_number kind
     else if b == 45 then is_minus kind
     else if b == 46 then is_pointed kind
+    else if b == 58 then is_coloned kind
     else if b == 61 then is_equals kind
     else if b == 62 then is_greater kind
     else if b == 60 then is_less kind

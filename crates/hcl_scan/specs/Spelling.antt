@@ -7,7 +7,7 @@ use Rattle.std.specs.Str.{all_scalars}
 use Rattle.unicode_ident.specs.Ident.{is_xid_start, is_xid_continue}
 use Rattle.hcl_scan.specs.Lexemes.{Opener, in_heredoc, closes_sequence, Quote, Heredoc}
 use Rattle.hcl_scan.specs.declared.token.Kind.{Kind}
-use Rattle.hcl_scan.specs.declared.token.Kind.TheVariants.{Newline, LineComment, InlineComment, Blank, Ident, Number, HeredocOpen, QuoteOpen, ParenOpen, BracketOpen, BraceOpen, ParenClose, BracketClose, SeqClose, BraceClose, Dot, Comma, Ellipsis, Question, Colon, Assign, Arrow, Not, Minus, Plus, Star, Slash, Percent, And, Or, Equal, NotEqual, Less, Greater, LessEqual, GreaterEqual, Lit, InterpOpen, ControlOpen, QuoteClose}
+use Rattle.hcl_scan.specs.declared.token.Kind.TheVariants.{Newline, LineComment, InlineComment, Blank, Ident, Number, HeredocOpen, QuoteOpen, ParenOpen, BracketOpen, BraceOpen, ParenClose, BracketClose, SeqClose, BraceClose, Dot, Comma, Ellipsis, Question, Colon, ColonColon, Assign, Arrow, Not, Minus, Plus, Star, Slash, Percent, And, Or, Equal, NotEqual, Less, Greater, LessEqual, GreaterEqual, Lit, InterpOpen, ControlOpen, QuoteClose}
 
 abbrev pub starts : List ℕ → List ℕ → Bool
 starts text [] = true
@@ -21,7 +21,7 @@ is_blank b = (b == 32) || (b == 9)
 unfoldable pub marks : List (List ℕ × Kind)
 marks =
     (codes "\"", QuoteOpen) ∷ (codes "(", ParenOpen) ∷ (codes "[", BracketOpen) ∷ (codes "{", BraceOpen) ∷ (codes ")", ParenClose) ∷ (codes "]", BracketClose)
-    ∷ (codes ".", Dot) ∷ (codes ",", Comma) ∷ (codes "...", Ellipsis) ∷ (codes "?", Question) ∷ (codes ":", Colon) ∷ (codes "=", Assign) ∷ (codes "=>", Arrow)
+    ∷ (codes ".", Dot) ∷ (codes ",", Comma) ∷ (codes "...", Ellipsis) ∷ (codes "?", Question) ∷ (codes ":", Colon) ∷ (codes "::", ColonColon) ∷ (codes "=", Assign) ∷ (codes "=>", Arrow)
     ∷ (codes "!", Not) ∷ (codes "-", Minus) ∷ (codes "+", Plus) ∷ (codes "*", Star) ∷ (codes "%", Percent)
     ∷ (codes "&&", And) ∷ (codes "||", Or) ∷ (codes "==", Equal) ∷ (codes "!=", NotEqual)
     ∷ (codes "<", Less) ∷ (codes ">", Greater) ∷ (codes "<=", LessEqual) ∷ (codes ">=", GreaterEqual) ∷ []

@@ -108,6 +108,8 @@ fn marks(rt: HostRuntime) -> Result<(), Fail> {
     assert!(rt; finds("&&", PLAIN, Kind::And, 2));
     assert!(rt; finds("...", PLAIN, Kind::Ellipsis, 3));
     assert!(rt; finds("..", PLAIN, Kind::Dot, 1));
+    assert!(rt; finds("::", PLAIN, Kind::ColonColon, 2));
+    assert!(rt; finds(": :", PLAIN, Kind::Colon, 1));
     assert!(rt; finds("=>", PLAIN, Kind::Arrow, 2));
     assert!(rt; finds("==", PLAIN, Kind::Equal, 2));
     assert!(rt; finds("=", PLAIN, Kind::Assign, 1));

@@ -25,6 +25,7 @@ fn first_mark(seen: &[u8]) -> Option<(Kind, usize)>
         (b']', _) => Some((Kind::BracketClose, 1)),
         (b'(', _) => Some((Kind::ParenOpen, 1)),
         (b')', _) => Some((Kind::ParenClose, 1)),
+        (b':', b':') => Some((Kind::ColonColon, 2)),
         (b':', _) => Some((Kind::Colon, 1)),
         (b'?', _) => Some((Kind::Question, 1)),
         (b'!', b'=') => Some((Kind::NotEqual, 2)),

@@ -79,7 +79,7 @@ fn no_expression(seen: &[u8]) -> FaultKind
 impl<'s> Scanner<'s> {
     /// At the front of a text.
     pub fn new(text: &'s str) -> Scanner<'s>
-        requires { length text.now ≤ 1_048_576 }
+        requires { length text.now ≤ 4_194_304 }
         ensures text { result.text ≡ text.entry }
         ensures sound { IsSound result }
         ensures state { state_of result ≡ begin text.now }

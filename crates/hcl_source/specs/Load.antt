@@ -13,7 +13,7 @@ use Rattle.hcl_source.specs.declared.fault.FaultKind.TheVariants.{TooLarge, Inva
 
 -- the most bytes that a source has
 abbrev pub max_source : ℕ
-max_source = 1_048_576
+max_source = 4_194_304
 
 -- the bytes begin with a byte order mark, U+FEFF in UTF-8
 abbrev pub has_mark : List ℕ → Bool

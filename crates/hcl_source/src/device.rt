@@ -210,7 +210,7 @@ pub(crate) fn read_up_to<R: ByteSource>(
     limit: usize,
 ) -> Result<Vec<u8>, ReadError>
     requires ready { R.failed source.old ≡ false }
-    requires small { limit ≤ 1_048_576 }
+    requires small { limit ≤ 4_194_304 }
     ensures given { IfOk result (λ v. Consumes (R.left source.old) (R.left source.new) v.items) }
     ensures taken { (bytes : List ℕ) × Consumes (R.left source.old) (R.left source.new) bytes × (length bytes ≤ limit + 1) }
     ensures len { IfOk result (λ v. vec_len v ≤ limit + 1) }

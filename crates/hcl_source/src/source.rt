@@ -15,7 +15,7 @@ use std::marker::Model;
 use unicode_segmentation::UnicodeSegmentation;
 
 /// The most bytes that a source has.
-pub const MAX_SOURCE: usize = 1_048_576;
+pub const MAX_SOURCE: usize = 4_194_304;
 
 /// UTF-8 text of at most `MAX_SOURCE` bytes that does not begin with a byte order mark.
 #[derive(Debug, Drop)]

@@ -57,12 +57,12 @@ fn refuses_what_is_no_source(rt: HostRuntime) -> Result<(), Fail> {
         FaultKind::ByteOrderMark,
         place(1, 1),
     );
-    let large = vec![in alloc; b'\n'; 1_048_577]?;
+    let large = vec![in alloc; b'\n'; 4_194_305]?;
     check_load(&rt, alloc, &large, FaultKind::TooLarge, place(1, 1));
-    let largest = vec![in alloc; b'\n'; 1_048_576]?;
+    let largest = vec![in alloc; b'\n'; 4_194_304]?;
     assert_eq!(rt;
         Source::from_bytes(alloc, &largest)?.text().len(),
-        1_048_576
+        4_194_304
     );
     Ok(())
 }

@@ -7,7 +7,7 @@ use Rattle.hcl_scan.specs.declared.token.Kind.TheVariants.{ParenOpen, ParenClose
 use Rattle.hcl_scan.proofs.Runs.{scan_bounded}
 use Rattle.hcl_syntax.specs.Classes.{class_at}
 use Rattle.hcl_syntax.specs.Verdict.{IsAccepted}
-use Rattle.hcl_syntax.specs.Balanced.{opening, closing, openers, closers, IsWithin, IsBalanced}
+use Rattle.hcl_syntax.specs.Balanced.{max_open, opening, closing, openers, closers, IsWithin, IsBalanced}
 use Rattle.hcl_syntax.proofs.Owed.{Shift}
 use Rattle.hcl_syntax.proofs.Moves.{Shifts, accepted-shifts}
 
@@ -48,7 +48,7 @@ all-shifted (t ∷ ps) a b h = ap (λ l. opened l ps) (shifted t.kind t.text a h
 within : (text : List ℕ) (front back : List Lexeme) → Scans text (front ++ back) → IsAccepted (front ++ back) → IsWithin front
 within text front back scans accepted =
     let w = accepted-shifts front back accepted in
-    let room : length w.0 ≤ 256 = subst (λ l. length l ≤ 256) (all-shifted front [] w.0 w.1) (scan_bounded text front back scans) in
+    let room : length w.0 ≤ max_open = subst (λ l. length l ≤ max_open) (all-shifted front [] w.0 w.1) (scan_bounded text front back scans) in
     record {
       opened_first = omega (arith, all-counted front [] w.0 w.1);
       few_open = omega (arith, all-counted front [] w.0 w.1, groups-few w.0, room);

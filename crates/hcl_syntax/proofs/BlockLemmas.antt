@@ -5,8 +5,8 @@ use borrow.Author.Tests.{ltb-true, ltb-false}
 use Rattle.hcl_scan.specs.Lexemes.{Lexeme}
 use Rattle.hcl_syntax.specs.Numbered.{Numbered, numbered_from, uncommented, is_comment}
 use Rattle.hcl_syntax.specs.Items.{behind_brace, block_end, body, labels}
-use Rattle.hcl_syntax.specs.Pieces.{between, words}
-use Rattle.hcl_syntax.specs.Bodies.{PutsBlock}
+use Rattle.hcl_syntax.specs.Inner.Pieces.{between, words}
+use Rattle.hcl_syntax.specs.Inner.Bodies.{PutsBlock}
 use Rattle.hcl_syntax.specs.declared.item.Item.{Item}
 use Rattle.hcl_syntax.specs.declared.item.Item.TheVariants as item
 use Rattle.hcl_syntax.proofs.WordLemmas.{number_of}

@@ -4,7 +4,7 @@ use Rattle.std.specs.Prelude.{◌&&◌, filter, nat_lt}
 use Rattle.std.specs.List.{flat_map}
 use Rattle.hcl_syntax.specs.Numbered.{Numbered, is_newline, is_assign, is_brace_open, end_of}
 use Rattle.hcl_syntax.specs.Items.{deepen, is_closed, onto, pieces, behind_brace, block_end, body, block, item_of, items, labels}
-use Rattle.hcl_syntax.specs.Pieces.{items_at}
+use Rattle.hcl_syntax.specs.Inner.Pieces.{items_at}
 use Rattle.hcl_syntax.specs.declared.item.Item.{Item}
 use Rattle.hcl_syntax.specs.declared.item.Item.TheVariants as item
 

@@ -10,7 +10,7 @@ use Rattle.hcl_scan.specs.declared.token.Kind.{Kind}
 use Rattle.hcl_scan.specs.declared.token.Kind.TheVariants as kind
 use Rattle.hcl_syntax.specs.Numbered.{Numbered, numbered_from, uncommented, is_newline, is_comment}
 use Rattle.hcl_syntax.specs.Items.{deepen, is_closed, onto, pieces}
-use Rattle.hcl_syntax.specs.Pieces.{words, first_len, newline_from}
+use Rattle.hcl_syntax.specs.Inner.Pieces.{words, first_len, newline_from}
 use Rattle.hcl_syntax.specs.declared.item.Item.{Item}
 use Rattle.hcl_syntax.proofs.WordLemmas.{number_of, words_none}
 

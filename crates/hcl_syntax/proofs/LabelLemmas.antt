@@ -7,7 +7,7 @@ use Rattle.hcl_scan.specs.declared.token.Kind.{Kind}
 use Rattle.hcl_scan.specs.declared.token.Kind.TheVariants as kind
 use Rattle.hcl_syntax.specs.Numbered.{Numbered, is_comment, is_brace_open}
 use Rattle.hcl_syntax.specs.Items.{label_at, labels}
-use Rattle.hcl_syntax.specs.Pieces.{words}
+use Rattle.hcl_syntax.specs.Inner.Pieces.{words}
 use Rattle.hcl_syntax.specs.declared.item.Item.{Item}
 use Rattle.hcl_syntax.proofs.WordLemmas.{number_of, words_none, words_step, words_here, open_word}
 

@@ -6,7 +6,8 @@ use Rattle.hcl_syntax.specs.Classes.{class_of, lookaheads_from}
 use Rattle.hcl_syntax.specs.declared.class.Lookahead.{Lookahead}
 use Rattle.hcl_syntax.specs.declared.class.Class.{Class}
 use Rattle.hcl_syntax.specs.declared.expected.Newlines.{Newlines}
-use Rattle.hcl_syntax.specs.Lookaheads.{shown, is_trivia, drops, after_first}
+use Rattle.hcl_syntax.specs.Classes.{is_trivia, drops}
+use Rattle.hcl_syntax.specs.Inner.Cursors.{shown, after_first}
 
 pub length-lookaheads : (n : ℕ) (ts : List Lexeme) → length (lookaheads_from n ts) ≤ length ts
 length-lookaheads n [] = omega arith

@@ -8,11 +8,12 @@ use Rattle.hcl_syntax.specs.declared.expected.Newlines.{Newlines}
 use Rattle.hcl_syntax.specs.declared.expected.Newlines.TheVariants.{Seen, Dropped}
 use Rattle.hcl_syntax.specs.declared.refusal.Refusal.{Refusal}
 use Rattle.hcl_syntax.specs.declared.refusal.Refusal.TheVariants.{UnexpectedToken, UnexpectedEnd, TooDeep}
-use Rattle.hcl_syntax.specs.Lookaheads.{drops, is_trivia}
+use Rattle.hcl_syntax.specs.Classes.{drops, is_trivia}
 use Rattle.hcl_syntax.specs.Classes.{class_of, lookaheads_from, lookaheads}
 use Rattle.hcl_syntax.specs.Grammar.{Symbol, directive, section_directive, Marked, ◌at◌, Row, none, nothing, reads, opens, closes, row, ends}
-use Rattle.hcl_syntax.specs.Predictor.{Turn, on, stop, turn, taken, next, run, ending, refusal_of}
-use Rattle.hcl_syntax.specs.Verdict.{Names, IsAccepted}
+use Rattle.hcl_syntax.specs.Predictor.{max_directives, Turn, on, stop, turn, taken, next, run, ending, refusal_of}
+use Rattle.hcl_syntax.specs.Verdict.{IsAccepted}
+use Rattle.hcl_syntax.specs.Inner.Parsing.{Names}
 use Rattle.hcl_syntax.proofs.Owed.{owes, owes_all, Shift, HaveNumbers, RowMoves}
 use Rattle.hcl_syntax.proofs.Rows.{owes_all-append, numbers-append, shift-above, moves-row}
 
@@ -50,7 +51,7 @@ taken-moves : (P : ℕ → Type 0) (count : ℕ) (r : Row) (a : List Opener) (ss
 taken-moves P count none a ss passed t h p k q = p
 taken-moves P count nothing a ss passed t h p k q = subst (λ l. TurnMoves P passed (l ++ owes_all ss) t.class) h q
 taken-moves P count (reads xs) a ss passed t h p k q = (shift-behind t.class a xs ss h.0, numbers-append P xs ss h.1 k)
-taken-moves P count (opens n xs) a ss passed t h p k q = elim (nat_lt count 256) as (λ b. TurnMoves P (cond b (on (count + 1) (xs ++ ss)) (stop (TooDeep n))) (a ++ owes_all ss) t.class)
+taken-moves P count (opens n xs) a ss passed t h p k q = elim (nat_lt count max_directives) as (λ b. TurnMoves P (cond b (on (count + 1) (xs ++ ss)) (stop (TooDeep n))) (a ++ owes_all ss) t.class)
     [ true ↦ (shift-behind t.class a xs ss h.0, numbers-append P xs ss h.1 k) | false ↦ h.2 ]
 taken-moves P count (closes xs) a ss passed t h p k q = (shift-behind t.class a xs ss h.0, numbers-append P xs ss h.1 k)
 

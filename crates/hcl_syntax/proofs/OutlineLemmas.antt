@@ -5,8 +5,8 @@ use Rattle.std.proofs.lemmas.List.{append-nil}
 use Rattle.hcl_scan.specs.Lexemes.{Lexeme}
 use Rattle.hcl_syntax.specs.Numbered.{Numbered, numbered, numbered_from, uncommented, is_comment}
 use Rattle.hcl_syntax.specs.Items.{pieces, item_of, outline}
-use Rattle.hcl_syntax.specs.Pieces.{words, newline_from, items_at}
-use Rattle.hcl_syntax.specs.Bodies.{PutsPiece}
+use Rattle.hcl_syntax.specs.Inner.Pieces.{words, newline_from, items_at}
+use Rattle.hcl_syntax.specs.Inner.Bodies.{PutsPiece}
 use Rattle.hcl_syntax.specs.declared.pieces.Body.{Body}
 use Rattle.hcl_syntax.specs.declared.item.Item.{Item}
 use Rattle.hcl_syntax.proofs.WordLemmas.{number_of, words_none}

@@ -9,7 +9,7 @@ use Rattle.hcl_scan.specs.declared.token.Kind.TheVariants as kind
 use Rattle.hcl_syntax.specs.Numbered.{is_newline}
 use Rattle.hcl_syntax.specs.Items.{deepen, is_closed}
 use Rattle.hcl_syntax.specs.declared.nesting.Nesting.TheVariants as nesting
-use Rattle.hcl_syntax.specs.Pieces.{AreEnds, first_len, newline_from, nesting_of, IsAhead}
+use Rattle.hcl_syntax.specs.Inner.Pieces.{AreEnds, first_len, newline_from, nesting_of, IsAhead}
 use Rattle.hcl_syntax.proofs.WordLemmas.{drop_at}
 
 -- what a kind does to the depth

@@ -4,8 +4,8 @@ use Rattle.std.proofs.lemmas.List.{append-nil}
 use Rattle.hcl_scan.specs.Lexemes.{Lexeme}
 use Rattle.hcl_syntax.specs.Numbered.{Numbered, is_assign, end_of}
 use Rattle.hcl_syntax.specs.Items.{block, item_of}
-use Rattle.hcl_syntax.specs.Pieces.{IsFirst, words}
-use Rattle.hcl_syntax.specs.Bodies.{PutsBlock, PutsPiece}
+use Rattle.hcl_syntax.specs.Inner.Pieces.{IsFirst, words}
+use Rattle.hcl_syntax.specs.Inner.Bodies.{PutsBlock, PutsPiece}
 use Rattle.hcl_syntax.specs.declared.pieces.Body.{Body}
 use Rattle.hcl_syntax.specs.declared.words.Word.{Word}
 use Rattle.hcl_syntax.specs.declared.item.Item.{Item}

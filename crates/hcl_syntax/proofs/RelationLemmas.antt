@@ -5,19 +5,19 @@ use Rattle.hcl_syntax.specs.declared.class.Lookahead.{Lookahead}
 use Rattle.hcl_syntax.specs.declared.expected.Newlines.{Newlines}
 use Rattle.hcl_syntax.specs.declared.refusal.Refusal.{Refusal}
 use Rattle.hcl_syntax.specs.declared.refusal.Refusal.TheVariants.{UnexpectedToken, UnexpectedEnd, TooDeep}
-use Rattle.hcl_syntax.specs.Lookaheads.{drops}
+use Rattle.hcl_syntax.specs.Classes.{drops}
 use Rattle.hcl_syntax.specs.Grammar.{Symbol, Marked, ◌at◌, Row, none, nothing, reads, opens, closes, row, ends}
-use Rattle.hcl_syntax.specs.Predictor.{ending, on, stop, opening, taken, turn, next, run}
+use Rattle.hcl_syntax.specs.Predictor.{max_directives, ending, on, stop, opening, taken, turn, next, run}
 use Rattle.hcl_syntax.specs.Relation.{Step, dropped, read, opened, closed, gone, Refuses, nothing_waited_for, no_row, too_deep, behind, Ending, complete, wanting, ended, Run, at_end, step, refused}
 
 turn-row : (count : ℕ) (s : Symbol) (m : Newlines) (ss : List Marked) (t : Lookahead) (r : Row) → drops m t.class ≡ false → row s m t ≡ r → turn count (s at m ∷ ss) t ≡ taken count r ss (turn count ss t) t
 turn-row count s m ss t r d e = ap (λ b. cond b (on count (s at m ∷ ss)) (taken count (row s m t) ss (turn count ss t) t)) d ∙ ap (λ x. taken count x ss (turn count ss t) t) e
 
-opening-on : (count n : ℕ) (xs : List Marked) → count < 256 → opening count n xs ≡ on (count + 1) xs
-opening-on count n xs few = ap (λ b. cond b (on (count + 1) xs) (stop (TooDeep n))) (lt-ltb count 256 few)
+opening-on : (count n : ℕ) (xs : List Marked) → count < max_directives → opening count n xs ≡ on (count + 1) xs
+opening-on count n xs few = ap (λ b. cond b (on (count + 1) xs) (stop (TooDeep n))) (lt-ltb count max_directives few)
 
-opening-stop : (count n : ℕ) (xs : List Marked) → 256 ≤ count → opening count n xs ≡ stop (TooDeep n)
-opening-stop count n xs many = ap (λ b. cond b (on (count + 1) xs) (stop (TooDeep n))) (le-ltb count 256 many)
+opening-stop : (count n : ℕ) (xs : List Marked) → max_directives ≤ count → opening count n xs ≡ stop (TooDeep n)
+opening-stop count n xs many = ap (λ b. cond b (on (count + 1) xs) (stop (TooDeep n))) (le-ltb count max_directives many)
 
 step-turn : (count : ℕ) (ss : List Marked) (t : Lookahead) (later : ℕ) (us : List Marked) → Step count ss t later us → turn count ss t ≡ on later us
 step-turn count ss t later us (dropped c s m vs u d) = ap (λ b. cond b (on c (s at m ∷ vs)) (taken c (row s m u) vs (turn c vs u) u)) d
@@ -53,9 +53,9 @@ moves-row count s m ss t none d e k = inr (UnexpectedToken t.number, no_row coun
 moves-row count s m ss t nothing d e (inl k) = inl (k.0, k.1, gone count s m ss t k.0 k.1 d e k.2)
 moves-row count s m ss t nothing d e (inr k) = inr (k.0, behind count s m ss t k.0 d e k.1)
 moves-row count s m ss t (reads xs) d e k = inl (count, xs ++ ss, read count s m xs ss t d e)
-moves-row count s m ss t (opens n xs) d e k = opens-by count n s m xs ss t d e (cases_lt count 256)
+moves-row count s m ss t (opens n xs) d e k = opens-by count n s m xs ss t d e (cases_lt count max_directives)
   where
-    opens-by : (count n : ℕ) (s : Symbol) (m : Newlines) (xs ss : List Marked) (t : Lookahead) → drops m t.class ≡ false → row s m t ≡ opens n xs → (count < 256) ⊎ (256 ≤ count) → Moves count (s at m ∷ ss) t
+    opens-by : (count n : ℕ) (s : Symbol) (m : Newlines) (xs ss : List Marked) (t : Lookahead) → drops m t.class ≡ false → row s m t ≡ opens n xs → (count < max_directives) ⊎ (max_directives ≤ count) → Moves count (s at m ∷ ss) t
     opens-by count n s m xs ss t d e (inl few) = inl (count + 1, xs ++ ss, opened count n s m xs ss t d e few)
     opens-by count n s m xs ss t d e (inr many) = inr (TooDeep n, too_deep count n s m xs ss t d e many)
 moves-row count s m ss t (closes xs) d e k = inl (count - 1, xs ++ ss, closed count s m xs ss t d e)

@@ -2,7 +2,7 @@
 use Rattle.std.proofs.Common.{◌≡◌, ℕ, true, List, [], ◌∷◌, ◌++◌, refl, subst, sym, ap, ◌∙◌, append_assoc}
 use Rattle.hcl_scan.specs.Lexemes.{Opener, Sequence, Brace, Bracket, Paren}
 use Rattle.hcl_syntax.specs.declared.class.Class.{Class}
-use Rattle.hcl_syntax.specs.declared.class.Class.TheVariants.{Newline, Ident, Number, HeredocOpen, HeredocClose, QuoteOpen, QuoteClose, Lit, InterpOpen, ControlOpen, SeqClose, ParenOpen, ParenClose, BracketOpen, BracketClose, BraceOpen, BraceClose, Dot, Comma, Ellipsis, Question, Colon, Assign, Arrow, Not, Minus, Star, Binary}
+use Rattle.hcl_syntax.specs.declared.class.Class.TheVariants.{Newline, Ident, Number, HeredocOpen, HeredocClose, QuoteOpen, QuoteClose, Lit, InterpOpen, ControlOpen, SeqClose, ParenOpen, ParenClose, BracketOpen, BracketClose, BraceOpen, BraceClose, Dot, Comma, Ellipsis, Question, Colon, ColonColon, Assign, Arrow, Not, Minus, Star, Binary}
 use Rattle.hcl_syntax.specs.declared.class.Word.TheVariants.{For, In, If}
 use Rattle.hcl_syntax.specs.declared.expected.Newlines.{Newlines}
 use Rattle.hcl_syntax.specs.declared.expected.Terminal.{Terminal}
@@ -11,7 +11,7 @@ use Rattle.hcl_syntax.specs.declared.expected.Section.{Section}
 use Rattle.hcl_syntax.specs.declared.expected.Section.TheVariants.{InIf, InElse, InFor}
 use Rattle.hcl_syntax.specs.declared.expected.Turning.{Turning}
 use Rattle.hcl_syntax.specs.declared.expected.Turning.TheVariants.{Onward, Closing, Inner}
-use Rattle.hcl_syntax.specs.Grammar.{Symbol, the, file, rest, labels, label_literal, start, body, eol, expr, after_ident, after, step, index, tuple, tuple_next, tuple_item, tuple_if, names, object, separator, object_next, object_item, group, object_if, args, arg_next, parts, directive, inside, section_directive, Marked, ◌at◌, Row, none, nothing, reads, opens, closes, ◌then◌, row_of, terminal_row, file_row, rest_row, labels_row, label_literal_row, start_row, body_row, eol_row, expr_row, after_ident_row, after_row, step_row, index_row, tuple_row, tuple_next_row, tuple_item_row, tuple_if_row, names_row, object_row, separator_row, object_next_row, object_item_row, group_row, object_if_row, args_row, arg_next_row, parts_row, directive_row, turning, turning_row, inside_row}
+use Rattle.hcl_syntax.specs.Grammar.{Symbol, the, file, rest, labels, label_literal, start, body, eol, expr, after_ident, path, after, step, index, tuple, tuple_next, tuple_item, tuple_if, names, object, separator, object_next, object_item, group, object_if, args, arg_next, parts, directive, inside, section_directive, Marked, ◌at◌, Row, none, nothing, reads, opens, closes, ◌then◌, row_of, terminal_row, file_row, rest_row, labels_row, label_literal_row, start_row, body_row, eol_row, expr_row, after_ident_row, path_row, after_row, step_row, index_row, tuple_row, tuple_next_row, tuple_item_row, tuple_if_row, names_row, object_row, separator_row, object_next_row, object_item_row, group_row, object_if_row, args_row, arg_next_row, parts_row, directive_row, turning, turning_row, inside_row}
 use Rattle.hcl_syntax.proofs.Owed.{awaits, owes, owes_all, Shift, HaveNumbers, RowMoves}
 
 pub owes_all-append : (xs ys : List Marked) → owes_all (xs ++ ys) ≡ owes_all xs ++ owes_all ys
@@ -110,7 +110,13 @@ moves-after P m _ = refl
 
 moves-after_ident : (P : ℕ → Type 0) (m : Newlines) (c : Class) → RowMoves P (after_ident_row m c) ([]) c
 moves-after_ident P m ParenOpen = (refl, tt)
+moves-after_ident P m ColonColon = (refl, tt)
 moves-after_ident P m c = moves-after P m c
+
+moves-path : (P : ℕ → Type 0) (m : Newlines) (c : Class) → RowMoves P (path_row m c) ([]) c
+moves-path P m ColonColon = (refl, tt)
+moves-path P m ParenOpen = (refl, tt)
+moves-path P m _ = tt
 
 moves-step : (P : ℕ → Type 0) (c : Class) → RowMoves P (step_row c) ([]) c
 moves-step P (Ident w) = (refl, tt)
@@ -247,6 +253,7 @@ moves-row P body m n c p h = moves-body P m c
 moves-row P eol m n c p h = moves-eol P c
 moves-row P expr m n c p h = moves-expr P m c
 moves-row P after_ident m n c p h = moves-after_ident P m c
+moves-row P path m n c p h = moves-path P m c
 moves-row P after m n c p h = moves-after P m c
 moves-row P step m n c p h = moves-step P c
 moves-row P index m n c p h = moves-index P m c

@@ -7,7 +7,7 @@ use Rattle.hcl_scan.specs.declared.token.Kind.{Kind}
 use Rattle.hcl_scan.specs.declared.token.Kind.TheVariants as kind
 use Rattle.hcl_syntax.specs.Numbered.{Numbered, is_comment, is_quote_close, is_brace_open, is_brace_close, end_of}
 use Rattle.hcl_syntax.specs.Items.{closing_quote, behind_brace, block_end}
-use Rattle.hcl_syntax.specs.Pieces.{words}
+use Rattle.hcl_syntax.specs.Inner.Pieces.{words}
 use Rattle.hcl_syntax.proofs.WordLemmas.{number_of, words_parts, words_step, words_past, words_here, open_word}
 
 close_word : (k : Kind) → is_quote_close k ≡ true → is_comment k ≡ false

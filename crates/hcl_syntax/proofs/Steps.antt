@@ -8,11 +8,12 @@ use Rattle.hcl_syntax.specs.declared.refusal.Refusal.{Refusal}
 use Rattle.hcl_syntax.specs.declared.refusal.Refusal.TheVariants.{UnexpectedToken, UnexpectedEnd, TooDeep}
 use Rattle.hcl_syntax.specs.declared.expected.Newlines.{Newlines}
 use Rattle.hcl_syntax.specs.declared.expected.Newlines.TheVariants.{Seen, Dropped}
-use Rattle.hcl_syntax.specs.Lookaheads.{is_newline, shown, drops, first, after_first, Looks}
+use Rattle.hcl_syntax.specs.Classes.{drops}
+use Rattle.hcl_syntax.specs.Inner.Cursors.{shown, first, after_first, Looks}
 use Rattle.hcl_syntax.proofs.LookaheadLemmas.{shown-shown}
 use Rattle.hcl_syntax.specs.declared.class.Word.{Word}
 use Rattle.hcl_syntax.specs.Grammar.{Symbol, Marked, ◌at◌, Row, ◌then◌, none, nothing, reads, opens, closes, row, ends, the, fits, expr, expr_row, args_row, arg_next, tuple_row, tuple_item_row, tuple_next, tuple_if, tuple_if_row, object, object_row, object_item, object_item_row, object_next, object_if, object_if_row, group, group_row, separator, names, index_row, names_row, terminal_row, rest, rest_row, labels_row, file_row, body_row, eol, file, body, directive, directive_row, inside, turning, turning_row, section_directive_row}
-use Rattle.hcl_syntax.specs.Predictor.{ending, Turn, on, stop, opening, taken, turn, next, run}
+use Rattle.hcl_syntax.specs.Predictor.{max_directives, ending, Turn, on, stop, opening, taken, turn, next, run}
 use Rattle.hcl_syntax.specs.Inner.Parsing.{outcome, Leads, bodies, Ends, waits}
 use Rattle.hcl_syntax.specs.declared.class.Word.TheVariants.{For, In, If}
 use Rattle.hcl_syntax.specs.declared.expected.Section.{Section}
@@ -235,17 +236,17 @@ names-else m _ h = refl
 
 -- A directive opens and ends.
 pub opening-row : {A : Type 0} {count : ℕ} {s : Symbol} {m : Newlines} {p : ℕ} {xs : List Marked} {old left new : List Lookahead} {t : Lookahead} {r : Result A Refusal} →
-    Looks m old t left → row s m t ≡ opens p xs → count < 256 → Ends count xs left r new → Leads count (s at m ∷ []) old r [] new
+    Looks m old t left → row s m t ≡ opens p xs → count < max_directives → Ends count xs left r new → Leads count (s at m ∷ []) old r [] new
 opening-row {count = count} {s = s} {m = m} {p = p} {xs = xs} {left = left} {t = t} l e few h = record {
   same = λ behind. run-looks count s m behind l ∙ ap (λ r. next (taken count r behind (turn count behind t) t) (λ o rest. run o rest left)) e
-      ∙ ap (λ b. next (cond b (on (count + 1) (xs ++ behind)) (stop (TooDeep p))) (λ o rest. run o rest left)) (lt-ltb count 256 few) ∙ h.same behind;
+      ∙ ap (λ b. next (cond b (on (count + 1) (xs ++ behind)) (stop (TooDeep p))) (λ o rest. run o rest left)) (lt-ltb count max_directives few) ∙ h.same behind;
 }
 
 pub too-deep : {A : Type 0} {count : ℕ} {s : Symbol} {m : Newlines} {p : ℕ} {xs ys : List Marked} {old left new : List Lookahead} {t : Lookahead} →
-    Looks m old t left → row s m t ≡ opens p xs → 256 ≤ count → Leads {A = A} count (s at m ∷ []) old (Err (TooDeep p)) ys new
+    Looks m old t left → row s m t ≡ opens p xs → max_directives ≤ count → Leads {A = A} count (s at m ∷ []) old (Err (TooDeep p)) ys new
 too-deep {count = count} {s = s} {m = m} {p = p} {xs = xs} {left = left} {t = t} l e many = record {
   same = λ behind. run-looks count s m behind l ∙ ap (λ r. next (taken count r behind (turn count behind t) t) (λ o rest. run o rest left)) e
-      ∙ ap (λ b. next (cond b (on (count + 1) (xs ++ behind)) (stop (TooDeep p))) (λ o rest. run o rest left)) (le-ltb count 256 many);
+      ∙ ap (λ b. next (cond b (on (count + 1) (xs ++ behind)) (stop (TooDeep p))) (λ o rest. run o rest left)) (le-ltb count max_directives many);
 }
 
 pub closing : {A : Type 0} {count : ℕ} {s : Symbol} {m : Newlines} {xs : List Marked} {old left new : List Lookahead} {t : Lookahead} {r : Result A Refusal} →
@@ -381,23 +382,23 @@ group-plain m _ h = refl
 
 -- Objects: a symbol that reads newlines and stays passes over them.
 abbrev PassesNewlines : Symbol → Type 0
-PassesNewlines s = (t : Lookahead) → is_newline t.class ≡ true → row s Seen t ≡ reads (s at Seen ∷ [])
+PassesNewlines s = (t : Lookahead) → drops Dropped t.class ≡ true → row s Seen t ≡ reads (s at Seen ∷ [])
 
 pub object-passes : PassesNewlines object
 object-passes t e = object-passes-at t.class e
   where
-    object-passes-at : (c : Class) → is_newline c ≡ true → object_row Seen c ≡ reads (object at Seen ∷ [])
+    object-passes-at : (c : Class) → drops Dropped c ≡ true → object_row Seen c ≡ reads (object at Seen ∷ [])
     object-passes-at Newline h = refl
     object-passes-at _ h = cc
 
 pub item-passes : PassesNewlines object_item
 item-passes t e = item-passes-at t.class e
   where
-    item-passes-at : (c : Class) → is_newline c ≡ true → object_item_row Seen c ≡ reads (object_item at Seen ∷ [])
+    item-passes-at : (c : Class) → drops Dropped c ≡ true → object_item_row Seen c ≡ reads (object_item at Seen ∷ [])
     item-passes-at Newline h = refl
     item-passes-at _ h = cc
 
-passes-by : (count : ℕ) (s : Symbol) (ss : List Marked) (t : Lookahead) (ts : List Lookahead) (b : Bool) → is_newline t.class ≡ b → PassesNewlines s →
+passes-by : (count : ℕ) (s : Symbol) (ss : List Marked) (t : Lookahead) (ts : List Lookahead) (b : Bool) → drops Dropped t.class ≡ b → PassesNewlines s →
     run count (s at Seen ∷ ss) ts ≡ run count (s at Seen ∷ ss) (shown Dropped ts) →
     run count (s at Seen ∷ ss) (t ∷ ts) ≡ run count (s at Seen ∷ ss) (cond b (shown Dropped ts) (t ∷ ts))
 passes-by count s ss t ts true e p h = run-row count s Seen ss t ts refl ∙ ap (λ r. next (taken count r ss (turn count ss t) t) (λ o rest. run o rest ts)) (p t e) ∙ h
@@ -405,7 +406,7 @@ passes-by count s ss t ts false e p h = refl
 
 passes : (count : ℕ) (s : Symbol) (ss : List Marked) (ts : List Lookahead) → PassesNewlines s → run count (s at Seen ∷ ss) ts ≡ run count (s at Seen ∷ ss) (shown Dropped ts)
 passes count s ss [] p = refl
-passes count s ss (t ∷ ts) p = passes-by count s ss t ts (is_newline t.class) refl p (passes count s ss ts p)
+passes count s ss (t ∷ ts) p = passes-by count s ss t ts (drops Dropped t.class) refl p (passes count s ss ts p)
 
 pub passing : {A : Type 0} {a : A} {count : ℕ} {s : Symbol} {xs : List Marked} (old : List Lookahead) → PassesNewlines s → Leads count (s at Seen ∷ xs) old (Ok a) (s at Seen ∷ xs) (shown Dropped old)
 passing {count = count} {s = s} {xs = xs} old p = record { same = λ behind. passes count s (xs ++ behind) old p }
@@ -422,7 +423,7 @@ pub object-for : (m : Newlines) (c : Class) → fits ForWord c ≡ true → obje
 object-for m (Ident For) h = refl
 object-for m _ h = cc
 
-pub object-listed : (m : Newlines) (c : Class) → fits ForWord c ≡ false → is_newline c ≡ false → object_row m c ≡ object_item_row m c
+pub object-listed : (m : Newlines) (c : Class) → fits ForWord c ≡ false → drops Dropped c ≡ false → object_row m c ≡ object_item_row m c
 object-listed m (Ident For) h k = cc
 object-listed m Newline h k = cc
 object-listed m BraceClose h k = refl
@@ -432,7 +433,7 @@ pub item-end : (m : Newlines) (c : Class) → fits EndBrace c ≡ true → objec
 item-end m BraceClose h = refl
 item-end m _ h = cc
 
-pub item-else : (m : Newlines) (c : Class) → fits EndBrace c ≡ false → is_newline c ≡ false → object_item_row m c ≡ (expr_row m c then (separator at m ∷ expr at m ∷ object_next at m ∷ []))
+pub item-else : (m : Newlines) (c : Class) → fits EndBrace c ≡ false → drops Dropped c ≡ false → object_item_row m c ≡ (expr_row m c then (separator at m ∷ expr at m ∷ object_next at m ∷ []))
 item-else m BraceClose h k = cc
 item-else m Newline h k = cc
 item-else m _ h k = refl
@@ -444,13 +445,13 @@ past-reading {old = old} p l e h = onward (passing {a = tt {0}} old p) (reading 
 seen-first : (old new : List Lookahead) → new ≡ shown Dropped old → new ≡ shown Seen (shown Dropped old)
 seen-first old new e = e ∙ sym (seen-all (shown Dropped old))
 
-not-newline : (old new : List Lookahead) (t : Lookahead) → new ≡ shown Dropped old → Some t ≡ first new → is_newline t.class ≡ false
+not-newline : (old new : List Lookahead) (t : Lookahead) → new ≡ shown Dropped old → Some t ≡ first new → drops Dropped t.class ≡ false
 not-newline old new t e f = kept Dropped old t (f ∙ ap first e)
 
 pub past-alike : {A : Type 0} {a : A} {count : ℕ} {s s' : Symbol} {old mid : List Lookahead} → PassesNewlines s → ends s ≡ ends s' →
-    ((t : Lookahead) → Some t ≡ first mid → is_newline t.class ≡ false → row s Seen t ≡ row s' Seen t) → mid ≡ shown Dropped old → Leads count (s at Seen ∷ []) old (Ok a) (s' at Seen ∷ []) mid
+    ((t : Lookahead) → Some t ≡ first mid → drops Dropped t.class ≡ false → row s Seen t ≡ row s' Seen t) → mid ≡ shown Dropped old → Leads count (s at Seen ∷ []) old (Ok a) (s' at Seen ∷ []) mid
 past-alike {old = old} {mid = mid} p e f shows = onward (passing {a = tt {0}} old p) (alike e (λ t g. f t g (not-newline old mid t shows g)) (seen-first old mid shows))
 
 pub past-begins : {A : Type 0} {count : ℕ} {s : Symbol} {ys zs : List Marked} {old mid new : List Lookahead} {r : Result A Refusal} → PassesNewlines s → ends s ≡ false →
-    ((t : Lookahead) → Some t ≡ first mid → is_newline t.class ≡ false → row s Seen t ≡ (row expr Seen t then ys)) → mid ≡ shown Dropped old → Leads count (expr at Seen ∷ ys) mid r zs new → Leads count (s at Seen ∷ []) old r zs new
+    ((t : Lookahead) → Some t ≡ first mid → drops Dropped t.class ≡ false → row s Seen t ≡ (row expr Seen t then ys)) → mid ≡ shown Dropped old → Leads count (expr at Seen ∷ ys) mid r zs new → Leads count (s at Seen ∷ []) old r zs new
 past-begins {old = old} {mid = mid} p e f shows h = onward (passing {a = tt {0}} old p) (begins {s' = expr} e refl (expr-stays Seen) (λ t g. f t g (not-newline old mid t shows g)) (seen-first old mid shows) h)

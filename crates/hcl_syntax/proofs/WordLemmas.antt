@@ -8,7 +8,7 @@ use Rattle.hcl_scan.specs.Lexemes.{Lexeme}
 use Rattle.hcl_scan.specs.declared.token.Kind.{Kind}
 use Rattle.hcl_scan.specs.declared.token.Kind.TheVariants as kind
 use Rattle.hcl_syntax.specs.Numbered.{Numbered, numbered, numbered_from, uncommented, is_comment, is_brace_open}
-use Rattle.hcl_syntax.specs.Pieces.{between, words}
+use Rattle.hcl_syntax.specs.Inner.Pieces.{between, words}
 
 pub drop_at : {X : Type 0} (ts : List X) (n : ℕ) (t : X) → slice_get ts n ≡ Some t → drop n ts ≡ t ∷ drop (n + 1) ts
 drop_at ts n t e =

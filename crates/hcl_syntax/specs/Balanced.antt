@@ -1,24 +1,32 @@
 -- Openers and closers in token lists: what a layout may rest on when it indents by them. An opener is `(`, `[`, `{`,
--- `${` or `%{`; quotes and heredocs don't count.
-use Rattle.std.specs.Prelude.{◌≡◌, ◌≤◌, ◌+◌, ℕ, List, [], ◌∷◌, ◌++◌}
+-- `${` or `%{`, and a closer its counterpart (HCL Native Syntax Specification, "Operators and Delimiters" and
+-- "Templates"); quotes and heredocs don't count. That 256 are open at most is the scan's bound, and our own choice.
+use Rattle.std.specs.Prelude.{◌≡◌, ◌≤◌, ◌+◌, ℕ, Bool, true, false, List, [], ◌∷◌, ◌++◌, if◌then◌else◌}
 use Rattle.hcl_scan.specs.Lexemes.{Lexeme}
 use Rattle.hcl_scan.specs.declared.token.Kind.{Kind}
 use Rattle.hcl_scan.specs.declared.token.Kind.TheVariants.{ParenOpen, BracketOpen, BraceOpen, InterpOpen, ControlOpen, ParenClose, BracketClose, SeqClose, BraceClose}
 
+abbrev pub is_opener : Kind → Bool
+is_opener ParenOpen = true
+is_opener BracketOpen = true
+is_opener BraceOpen = true
+is_opener InterpOpen = true
+is_opener ControlOpen = true
+is_opener _ = false
+
+abbrev pub is_closer : Kind → Bool
+is_closer ParenClose = true
+is_closer BracketClose = true
+is_closer BraceClose = true
+is_closer SeqClose = true
+is_closer _ = false
+
+-- each counts as one
 abbrev pub opening : Kind → ℕ
-opening ParenOpen = 1
-opening BracketOpen = 1
-opening BraceOpen = 1
-opening InterpOpen = 1
-opening ControlOpen = 1
-opening _ = 0
+opening k = if is_opener k then 1 else 0
 
 abbrev pub closing : Kind → ℕ
-closing ParenClose = 1
-closing BracketClose = 1
-closing BraceClose = 1
-closing SeqClose = 1
-closing _ = 0
+closing k = if is_closer k then 1 else 0
 
 -- how many openers are in the list
 abbrev pub openers : List Lexeme → ℕ
@@ -30,10 +38,14 @@ abbrev pub closers : List Lexeme → ℕ
 closers [] = 0
 closers (t ∷ ts) = closing t.kind + closers ts
 
--- from 0 to 256 more openers than closers
+-- so many may be open
+abbrev pub max_open : ℕ
+max_open = 256
+
+-- no more closers than openers, and at most so many more openers
 pub record IsWithin (tokens : List Lexeme) : Type 0 where
   pub opened_first : closers tokens ≤ openers tokens
-  pub few_open : openers tokens ≤ closers tokens + 256
+  pub few_open : openers tokens ≤ closers tokens + max_open
 
 -- THE LAW: it is so in each front of the list
 abbrev pub IsBalanced : List Lexeme → Type 0

@@ -1,7 +1,10 @@
--- The grammar's own classes of tokens, and what it sees of a token list. `for`, `in`, `if`, `else`, `endif` and `endfor`
--- are identifiers that have a meaning of their own in some places, and a number of digits alone may follow a dot (HCL
--- Native Syntax Specification, on identifiers, for-expressions, template directives and the legacy index).
-use Rattle.std.specs.Prelude.{ℕ, ◌+◌, List, [], ◌∷◌, codes, if◌then◌else◌}
+-- The grammar's own classes of tokens, and what it sees of a token list. Comments, and the blanks that are tokens in
+-- heredocs, are passed over; between the delimiters of parentheses, brackets and template sequences newlines are too (HCL
+-- Native Syntax Specification, on comments, and on newlines in "Collection Values", "Functions and Function Calls" and
+-- "Templates"). `for`, `in`, `if`, `else`, `endif` and `endfor`
+-- are identifiers that have a meaning of their own in some places, and a number of digits alone may follow a dot (the
+-- same, on identifiers, for-expressions, template directives and the legacy index).
+use Rattle.std.specs.Prelude.{ℕ, ◌+◌, Bool, true, false, List, [], ◌∷◌, codes, if◌then◌else◌}
 use Rattle.std.specs.List.{list_all}
 use Rattle.std.specs.Str.{bytes_eq}
 use Rattle.std.specs.Char.{is_ascii_digit}
@@ -11,9 +14,10 @@ use Rattle.hcl_scan.specs.declared.token.Kind.TheVariants as kind
 use Rattle.hcl_syntax.specs.declared.class.Word.{Word}
 use Rattle.hcl_syntax.specs.declared.class.Word.TheVariants.{Plain, For, In, If, Else, Endif, Endfor}
 use Rattle.hcl_syntax.specs.declared.class.Class.{Class}
-use Rattle.hcl_syntax.specs.declared.class.Class.TheVariants.{Trivia, Newline, Ident, Number, HeredocOpen, HeredocClose, QuoteOpen, QuoteClose, Lit, InterpOpen, ControlOpen, SeqClose, ParenOpen, ParenClose, BracketOpen, BracketClose, BraceOpen, BraceClose, Dot, Comma, Ellipsis, Question, Colon, Assign, Arrow, Not, Minus, Star, Binary}
+use Rattle.hcl_syntax.specs.declared.class.Class.TheVariants.{Trivia, Newline, Ident, Number, HeredocOpen, HeredocClose, QuoteOpen, QuoteClose, Lit, InterpOpen, ControlOpen, SeqClose, ParenOpen, ParenClose, BracketOpen, BracketClose, BraceOpen, BraceClose, Dot, Comma, Ellipsis, Question, Colon, ColonColon, Assign, Arrow, Not, Minus, Star, Binary}
 use Rattle.hcl_syntax.specs.declared.class.Lookahead.{Lookahead}
-use Rattle.hcl_syntax.specs.Lookaheads.{is_trivia}
+use Rattle.hcl_syntax.specs.declared.expected.Newlines.{Newlines}
+use Rattle.hcl_syntax.specs.declared.expected.Newlines.TheVariants.{Dropped}
 
 abbrev pub word_of : List ℕ → Word
 word_of text =
@@ -47,6 +51,7 @@ class_at kind.Comma text = Comma
 class_at kind.Ellipsis text = Ellipsis
 class_at kind.Question text = Question
 class_at kind.Colon text = Colon
+class_at kind.ColonColon text = ColonColon
 class_at kind.Assign text = Assign
 class_at kind.Arrow text = Arrow
 class_at kind.Not text = Not
@@ -71,6 +76,15 @@ class_at kind.HeredocClose text = HeredocClose
 
 abbrev pub class_of : Lexeme → Class
 class_of t = class_at t.kind t.text
+
+abbrev pub is_trivia : Class → Bool
+is_trivia Trivia = true
+is_trivia _ = false
+
+-- whether a newline is passed over as well
+abbrev pub drops : Newlines → Class → Bool
+drops Dropped Newline = true
+drops _ _ = false
 
 -- what the grammar sees of a list whose first token has this number
 abbrev pub lookaheads_from : ℕ → List Lexeme → List Lookahead

@@ -2,11 +2,11 @@
 use Rattle.std.specs.Prelude.{◌≡◌, ℕ, ◌+◌, true, false, List, [], ◌∷◌, Option, Some, None, if◌then◌else◌, refl}
 use Rattle.hcl_syntax.specs.declared.class.Lookahead.{Lookahead}
 use Rattle.hcl_syntax.specs.declared.class.Class.{Class}
-use Rattle.hcl_syntax.specs.declared.class.Class.TheVariants.{Newline, Trivia, Ident, Number, HeredocOpen, HeredocClose, QuoteOpen, QuoteClose, Lit, InterpOpen, ControlOpen, SeqClose, ParenOpen, ParenClose, BracketOpen, BracketClose, BraceOpen, BraceClose, Dot, Comma, Ellipsis, Question, Colon, Assign, Arrow, Not, Minus, Star}
+use Rattle.hcl_syntax.specs.declared.class.Class.TheVariants.{Newline, Trivia, Ident, Number, HeredocOpen, HeredocClose, QuoteOpen, QuoteClose, Lit, InterpOpen, ControlOpen, SeqClose, ParenOpen, ParenClose, BracketOpen, BracketClose, BraceOpen, BraceClose, Dot, Comma, Ellipsis, Question, Colon, ColonColon, Assign, Arrow, Not, Minus, Star}
 use Rattle.hcl_syntax.specs.declared.class.Word.TheVariants.{Plain, For, In, If, Else, Endif}
 use Rattle.hcl_syntax.specs.declared.refusal.Refusal.{Refusal}
 use Rattle.hcl_syntax.specs.declared.refusal.Refusal.TheVariants.{UnexpectedToken, UnexpectedEnd}
-use Rattle.hcl_syntax.specs.Lookaheads.{is_trivia}
+use Rattle.hcl_syntax.specs.Classes.{is_trivia}
 use Rattle.hcl_syntax.specs.Predictor.{run, refusal_of}
 
 abbrev numbered : ℕ → List Class → List Lookahead
@@ -80,6 +80,16 @@ two_commas = refl
 in_parens : refusal (Ident Plain ∷ Assign ∷ Ident Plain ∷ ParenOpen ∷ Newline ∷ Ident Plain ∷ Comma ∷ Ident Plain ∷ Ellipsis ∷ ParenClose ∷ []) ≡ None
 unfolding run
 in_parens = refl
+
+-- a = p::q::f()
+path : refusal (Ident Plain ∷ Assign ∷ Ident Plain ∷ ColonColon ∷ Ident Plain ∷ ColonColon ∷ Ident Plain ∷ ParenOpen ∷ ParenClose ∷ []) ≡ None
+unfolding run
+path = refl
+
+-- a = b::c
+path_alone : refusal (Ident Plain ∷ Assign ∷ Ident Plain ∷ ColonColon ∷ Ident Plain ∷ Newline ∷ []) ≡ Some (UnexpectedToken 5)
+unfolding run
+path_alone = refl
 
 -- a = { (newline) b = c (newline) "d" : e, f = g }
 object_lines : refusal (Ident Plain ∷ Assign ∷ BraceOpen ∷ Newline ∷ Ident Plain ∷ Assign ∷ Ident Plain ∷ Newline ∷ QuoteOpen ∷ Lit ∷ QuoteClose ∷ Colon ∷ Ident Plain ∷ Comma ∷ Ident Plain ∷ Assign ∷ Ident Plain ∷ BraceClose ∷ []) ≡ None

@@ -5,7 +5,7 @@
 use Rattle.std.specs.Prelude.{ℕ, Bool, true, false, List, [], ◌∷◌, ◌++◌, if◌then◌else◌}
 use Rattle.hcl_syntax.specs.declared.class.Lookahead.{Lookahead}
 use Rattle.hcl_syntax.specs.declared.class.Class.{Class}
-use Rattle.hcl_syntax.specs.declared.class.Class.TheVariants.{Newline, Ident, Number, HeredocOpen, HeredocClose, QuoteOpen, QuoteClose, Lit, InterpOpen, ControlOpen, SeqClose, ParenOpen, ParenClose, BracketOpen, BracketClose, BraceOpen, BraceClose, Dot, Comma, Ellipsis, Question, Colon, Assign, Arrow, Not, Minus, Star, Binary}
+use Rattle.hcl_syntax.specs.declared.class.Class.TheVariants.{Newline, Ident, Number, HeredocOpen, HeredocClose, QuoteOpen, QuoteClose, Lit, InterpOpen, ControlOpen, SeqClose, ParenOpen, ParenClose, BracketOpen, BracketClose, BraceOpen, BraceClose, Dot, Comma, Ellipsis, Question, Colon, ColonColon, Assign, Arrow, Not, Minus, Star, Binary}
 use Rattle.hcl_syntax.specs.declared.class.Word.TheVariants.{For, In, If, Else, Endif, Endfor}
 use Rattle.hcl_syntax.specs.declared.expected.Newlines.{Newlines}
 use Rattle.hcl_syntax.specs.declared.expected.Newlines.TheVariants.{Seen, Dropped}
@@ -20,7 +20,7 @@ use Rattle.hcl_syntax.specs.declared.expected.Turning.TheVariants.{Onward, Closi
 pub data Symbol : Type 0 where
   the : Terminal → Symbol
   file rest labels label_literal start body eol : Symbol
-  expr after_ident after step index : Symbol
+  expr after_ident path after step index : Symbol
   tuple tuple_next tuple_item tuple_if names : Symbol
   object separator object_next object_item group object_if : Symbol
   args arg_next parts : Symbol
@@ -138,7 +138,14 @@ after_row m _ = nothing
 
 abbrev pub after_ident_row : Newlines → Class → Row
 after_ident_row m ParenOpen = reads (args at Dropped ∷ after at m ∷ [])
+after_ident_row m ColonColon = reads (the Name at m ∷ path at m ∷ [])
 after_ident_row m c = after_row m c
+
+-- a name with `::` goes on or is called
+abbrev pub path_row : Newlines → Class → Row
+path_row m ColonColon = reads (the Name at m ∷ path at m ∷ [])
+path_row m ParenOpen = reads (args at Dropped ∷ after at m ∷ [])
+path_row m _ = none
 
 abbrev pub step_row : Class → Row
 step_row (Ident w) = reads []
@@ -272,6 +279,7 @@ row_of body m n c = body_row m c
 row_of eol m n c = eol_row c
 row_of expr m n c = expr_row m c
 row_of after_ident m n c = after_ident_row m c
+row_of path m n c = path_row m c
 row_of after m n c = after_row m c
 row_of step m n c = step_row c
 row_of index m n c = index_row m c

@@ -1,2 +1,5 @@
 -- Words for the code's own parts, which its inner contracts use. Nobody has to believe them.
+pub mod Cursors
 pub mod Parsing
+pub mod Pieces
+pub mod Bodies

@@ -1,10 +1,12 @@
--- The predictor: what the table of the grammar makes of a whole list of tokens.
+-- The predictor: what the table of the grammar makes of a whole list of tokens, one token after another, by the symbols
+-- that are still waited for. It works as a table-driven parser with one token of lookahead does in textbooks; that at most
+-- 256 directives are open is our own choice.
 use Rattle.std.specs.Prelude.{ℕ, ◌+◌, ◌-◌, nat_lt, List, [], ◌∷◌, ◌++◌, Option, Some, None, if◌then◌else◌}
 use Rattle.hcl_syntax.specs.declared.class.Lookahead.{Lookahead}
 use Rattle.hcl_syntax.specs.declared.expected.Newlines.TheVariants.{Seen}
 use Rattle.hcl_syntax.specs.declared.refusal.Refusal.{Refusal}
 use Rattle.hcl_syntax.specs.declared.refusal.Refusal.TheVariants.{UnexpectedToken, UnexpectedEnd, TooDeep}
-use Rattle.hcl_syntax.specs.Lookaheads.{drops}
+use Rattle.hcl_syntax.specs.Classes.{drops}
 use Rattle.hcl_syntax.specs.Grammar.{Marked, ◌at◌, file, Row, none, nothing, reads, opens, closes, row, ends}
 
 -- why the end of input is refused in a state, or none
@@ -17,9 +19,13 @@ pub data Turn : Type 0 where
   on : ℕ → List Marked → Turn
   stop : Refusal → Turn
 
--- a directive opens, unless 256 are open
+-- so many directives may be open
+abbrev pub max_directives : ℕ
+max_directives = 256
+
+-- a directive opens, unless so many are open
 abbrev pub opening : ℕ → ℕ → List Marked → Turn
-opening count n ss = if nat_lt count 256 then on (count + 1) ss else stop (TooDeep n)
+opening count n ss = if nat_lt count max_directives then on (count + 1) ss else stop (TooDeep n)
 
 -- what the row of the first symbol does, where the others give passed
 abbrev pub taken : ℕ → Row → List Marked → Turn → Lookahead → Turn

@@ -5,7 +5,8 @@ use Rattle.hcl_syntax.specs.declared.class.Lookahead.{Lookahead}
 use Rattle.hcl_syntax.specs.declared.expected.Newlines.{Newlines}
 use Rattle.hcl_syntax.specs.declared.refusal.Refusal.{Refusal}
 use Rattle.hcl_syntax.specs.declared.refusal.Refusal.TheVariants.{UnexpectedToken, UnexpectedEnd, TooDeep}
-use Rattle.hcl_syntax.specs.Lookaheads.{drops}
+use Rattle.hcl_syntax.specs.Classes.{drops}
+use Rattle.hcl_syntax.specs.Predictor.{max_directives}
 use Rattle.hcl_syntax.specs.Grammar.{Symbol, Marked, ◌at◌, none, nothing, reads, opens, closes, row, ends}
 
 -- the state after a token
@@ -15,7 +16,7 @@ pub data Step : ℕ → List Marked → Lookahead → ℕ → List Marked → Ty
   -- the row of the first symbol reads the token
   read : (count : ℕ) (s : Symbol) (m : Newlines) (xs ss : List Marked) (t : Lookahead) → drops m t.class ≡ false → row s m t ≡ reads xs → Step count (s at m ∷ ss) t count (xs ++ ss)
   -- a directive opens
-  opened : (count n : ℕ) (s : Symbol) (m : Newlines) (xs ss : List Marked) (t : Lookahead) → drops m t.class ≡ false → row s m t ≡ opens n xs → count < 256 → Step count (s at m ∷ ss) t (count + 1) (xs ++ ss)
+  opened : (count n : ℕ) (s : Symbol) (m : Newlines) (xs ss : List Marked) (t : Lookahead) → drops m t.class ≡ false → row s m t ≡ opens n xs → count < max_directives → Step count (s at m ∷ ss) t (count + 1) (xs ++ ss)
   -- a directive ends
   closed : (count : ℕ) (s : Symbol) (m : Newlines) (xs ss : List Marked) (t : Lookahead) → drops m t.class ≡ false → row s m t ≡ closes xs → Step count (s at m ∷ ss) t (count - 1) (xs ++ ss)
   -- the first symbol goes away, and the token is for those behind it
@@ -25,7 +26,7 @@ pub data Step : ℕ → List Marked → Lookahead → ℕ → List Marked → Ty
 pub data Refuses : ℕ → List Marked → Lookahead → Refusal → Type 0 where
   nothing_waited_for : (count : ℕ) (t : Lookahead) → Refuses count [] t (UnexpectedToken t.number)
   no_row : (count : ℕ) (s : Symbol) (m : Newlines) (ss : List Marked) (t : Lookahead) → drops m t.class ≡ false → row s m t ≡ none → Refuses count (s at m ∷ ss) t (UnexpectedToken t.number)
-  too_deep : (count n : ℕ) (s : Symbol) (m : Newlines) (xs ss : List Marked) (t : Lookahead) → drops m t.class ≡ false → row s m t ≡ opens n xs → 256 ≤ count → Refuses count (s at m ∷ ss) t (TooDeep n)
+  too_deep : (count n : ℕ) (s : Symbol) (m : Newlines) (xs ss : List Marked) (t : Lookahead) → drops m t.class ≡ false → row s m t ≡ opens n xs → max_directives ≤ count → Refuses count (s at m ∷ ss) t (TooDeep n)
   behind : (count : ℕ) (s : Symbol) (m : Newlines) (ss : List Marked) (t : Lookahead) (r : Refusal) → drops m t.class ≡ false → row s m t ≡ nothing → Refuses count ss t r → Refuses count (s at m ∷ ss) t r
 
 -- what the end of input makes of a state

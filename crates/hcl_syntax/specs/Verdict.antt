@@ -1,7 +1,7 @@
 -- Which token lists are files, and the one fault of those that are none. Tokens are refused at the first token that has
 -- no row in the grammar's table, or at the end of the text where that has none. Our own choice is the bound on open
 -- directives, with its fault at the `%{` of the first that is too many.
-use Rattle.std.specs.Prelude.{◌≡◌, ◌<◌, ℕ, List, Option, Some, None, Result, Ok, Err, map, length, get_or}
+use Rattle.std.specs.Prelude.{◌≡◌, ℕ, List, Option, Some, None, Result, Ok, Err, map, length, get_or}
 use Rattle.hcl_scan.specs.Lexemes.{Lexeme}
 use Rattle.hcl_scan.specs.Scanned.{Scanned}
 use Rattle.hcl_source.specs.Places.{place}
@@ -33,9 +33,3 @@ verdict_by s (Some r) = Err (fault_at s r)
 -- the tokens of a source, where they are a file, and else their one fault
 abbrev pub verdict : Scanned → Result Scanned Fault
 verdict s = verdict_by s (refusal_of (lookaheads s.tokens))
-
--- a refusal names one of so many tokens, or the end
-abbrev pub Names : Refusal → ℕ → Type 0
-Names (UnexpectedToken n) count = n < count
-Names UnexpectedEnd count = Unit {0}
-Names (TooDeep n) count = n < count

@@ -39,6 +39,7 @@ pub enum Class {
     Ellipsis,
     Question,
     Colon,
+    ColonColon,
     Assign,
     Arrow,
     Not,

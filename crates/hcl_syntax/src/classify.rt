@@ -4,7 +4,7 @@ ghost use Rattle.std.specs.Prelude.{◌≡◌, ◌<◌, ◌+◌, ◌∷◌, leng
 ghost use Rattle.std.specs.Char.{is_ascii_digit};
 ghost use Rattle.std.specs.List.{list_all};
 ghost use Rattle.hcl_syntax.specs.Classes.{word_of, class_at, lookaheads_from};
-ghost use Rattle.hcl_syntax.specs.Lookaheads.{is_trivia};
+ghost use Rattle.hcl_syntax.specs.Classes.{is_trivia};
 
 use crate::class::{Class, Lookahead, Word};
 use hcl_scan::{Kind, Tokens};
@@ -52,6 +52,7 @@ fn class_at(kind: Kind, text: &str) -> Class
         Kind::Ellipsis => Class::Ellipsis,
         Kind::Question => Class::Question,
         Kind::Colon => Class::Colon,
+        Kind::ColonColon => Class::ColonColon,
         Kind::Assign => Class::Assign,
         Kind::Arrow => Class::Arrow,
         Kind::Not => Class::Not,

@@ -2,7 +2,7 @@
 
 ghost use Rattle.std.specs.Prelude.{◌≡◌, ◌+◌, ◌<◌, ◌≤◌, ◌^◌, drop, length, IsSome};
 ghost use Rattle.hcl_syntax.specs.Classes.{lookaheads, lookaheads_from};
-ghost use Rattle.hcl_syntax.specs.Lookaheads.{shown, first, after_first, is_shown};
+ghost use Rattle.hcl_syntax.specs.Inner.Cursors.{shown, first, after_first, is_shown};
 
 use crate::class::{Class, Lookahead};
 use crate::classify::lookahead;

@@ -3,9 +3,9 @@
 
 ghost use Rattle.std.specs.Prelude.{◌≡◌, ◌+◌, ◌<◌, ◌≤◌, ◌^◌, ℕ, List, [], ◌∷◌, length, Some, None, Ok, OnOk, IfOk, IfSome, false};
 ghost use Rattle.std.specs.Bool.{OnTrue, OnFalse};
-ghost use Rattle.hcl_syntax.specs.Lookaheads.{shown, first};
-ghost use Rattle.hcl_syntax.specs.Grammar.{◌at◌, the, expr, after, after_ident, index, args, tuple, tuple_item, tuple_if, object, object_item, group, object_if, separator, names};
-ghost use Rattle.hcl_syntax.specs.Inner.Parsing.{Leads, Parses, after_follow, is_sign};
+ghost use Rattle.hcl_syntax.specs.Inner.Cursors.{shown, first};
+ghost use Rattle.hcl_syntax.specs.Grammar.{◌at◌, the, expr, after, after_ident, path, index, args, tuple, tuple_item, tuple_if, object, object_item, group, object_if, separator, names};
+ghost use Rattle.hcl_syntax.specs.Inner.Parsing.{Leads, Parses, after_follow, is_prefix};
 ghost use Rattle.hcl_syntax.specs.declared.expected.Terminal.TheVariants.{Name, Separator, FatArrow, EndBracket, EndBrace};
 ghost use Rattle.hcl_syntax.specs.declared.expected.Newlines.TheVariants.{Seen, Dropped};
 
@@ -20,7 +20,7 @@ impl<'t, 's> Cursor<'t, 's> {
         ensures leads { (count : ℕ) → Leads count (expr at newlines ∷ []) self.old (Ok (tt {0})) (expr at newlines ∷ []) self.new }
         ensures left { self.new ≡ shown newlines self.new }
         ensures found { result ≡ first self.new }
-        ensures plain { IfSome result (λ t. is_sign t.class ≡ false) }
+        ensures plain { IfSome result (λ t. is_prefix t.class ≡ false) }
         ensures shorter { length self.new ≤ length self.old }
     {
         loop {
@@ -91,7 +91,33 @@ impl<'t, 's> Cursor<'t, 's> {
                 self.bump();
                 self.args(directives)
             }
+            Class::ColonColon => {
+                self.bump();
+                self.path(newlines)?;
+                self.args(directives)
+            }
             _ => Ok(()),
+        }
+    }
+
+    /// The further names of a function behind its first `::`, and the parenthesis of its call.
+    fn path(&mut self, newlines: Newlines) -> Result<(), Refusal>
+        ensures leads { (count : ℕ) → Leads count (the Name at newlines ∷ path at newlines ∷ []) self.old result (args at Dropped ∷ after at newlines ∷ []) self.new }
+        ensures shorter { OnOk result (length self.new ≤ length self.old) }
+    {
+        loop {
+            self.expect(newlines, Terminal::Name)?;
+            let Some(token) = self.look(newlines) else {
+                return Err(Refusal::UnexpectedEnd);
+            };
+            match token.class {
+                Class::ColonColon => self.bump(),
+                Class::ParenOpen => {
+                    self.bump();
+                    return Ok(());
+                }
+                _ => return Err(Refusal::UnexpectedToken(token.number)),
+            }
         }
     }
 

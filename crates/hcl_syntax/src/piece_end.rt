@@ -1,7 +1,7 @@
 //! Where items end: for each token the first newline outside all openers.
 
 ghost use Rattle.std.specs.Prelude.{◌≡◌, ◌<◌, ◌+◌, length, get_or, reverse, IfOk, OnOk};
-ghost use Rattle.hcl_syntax.specs.Pieces.{AreEnds, nesting_of, IsAhead};
+ghost use Rattle.hcl_syntax.specs.Inner.Pieces.{AreEnds, nesting_of, IsAhead};
 
 use crate::nesting::Nesting;
 use hcl_scan::{Kind, Tokens};

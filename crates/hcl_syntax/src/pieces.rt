@@ -1,8 +1,8 @@
 //! The items of tokens, put out piece by piece.
 
 ghost use Rattle.std.specs.Prelude.{◌≡◌, ◌<◌, ◌≤◌, ◌+◌, ◌++◌, length, IfOk, OnOk};
-ghost use Rattle.hcl_syntax.specs.Pieces.{AreEnds, items_at, words};
-ghost use Rattle.hcl_syntax.specs.Bodies.{PutsBlock, PutsPiece};
+ghost use Rattle.hcl_syntax.specs.Inner.Pieces.{AreEnds, items_at, words};
+ghost use Rattle.hcl_syntax.specs.Inner.Bodies.{PutsBlock, PutsPiece};
 ghost use Rattle.hcl_syntax.specs.Items.{label_at, labels};
 
 use crate::item::{Item, Label};

@@ -3,6 +3,7 @@
 ghost use Rattle.std.specs.Prelude.{◌≡◌, ◌+◌, ◌<◌, ◌≤◌, [], ◌∷◌, length, Some, None, Ok, OnOk};
 ghost use Rattle.hcl_syntax.specs.Grammar.{◌at◌, the, expr, parts, directive, inside, turning};
 ghost use Rattle.hcl_syntax.specs.Inner.Parsing.{Leads, Parses, Ends};
+ghost use Rattle.hcl_syntax.specs.Predictor.{max_directives};
 ghost use Rattle.hcl_syntax.specs.declared.expected.Terminal.TheVariants.{EndSequence};
 ghost use Rattle.hcl_syntax.specs.declared.expected.Newlines.TheVariants.{Dropped};
 
@@ -12,7 +13,7 @@ use crate::expected::{Newlines, Section, Terminal, Turning};
 use crate::refusal::Refusal;
 
 /// How many directives may be open.
-const MAX_OPEN: usize = 256;
+const MAX_DIRECTIVES: usize = 256;
 
 /// What a word does in a directive.
 fn turning(section: Section, class: Class) -> Turning
@@ -75,7 +76,7 @@ impl<'t, 's> Cursor<'t, 's> {
         match token.class {
             Class::Ident(word) => match word {
                 Word::If => {
-                    if directives >= MAX_OPEN {
+                    if directives >= MAX_DIRECTIVES {
                         return Err(Refusal::TooDeep(number));
                     }
                     self.bump();
@@ -83,7 +84,7 @@ impl<'t, 's> Cursor<'t, 's> {
                     self.section(Section::InIf, directives)
                 }
                 Word::For => {
-                    if directives >= MAX_OPEN {
+                    if directives >= MAX_DIRECTIVES {
                         return Err(Refusal::TooDeep(number));
                     }
                     self.bump();
@@ -100,7 +101,7 @@ impl<'t, 's> Cursor<'t, 's> {
     /// The template in a directive, through the directive's end.
     #[cycle(parser)]
     fn section(&mut self, section: Section, directives: usize) -> Result<(), Refusal>
-        requires { directives < 256 }
+        requires { directives < max_directives }
         ensures ends { Ends directives (inside section at Dropped ∷ []) self.old result self.new }
         ensures shorter { OnOk result (length self.new < length self.old) }
     {

@@ -101,6 +101,10 @@ fn takes_calls(rt: HostRuntime) -> Result<(), Fail> {
         "a = f(b, c,)\n",
         "a = f(\n  b,\n  c...\n)\n",
         "a = f(g(h)[0].i)\n",
+        "a = p::f()\n",
+        "a = p :: x::f(b)[0].c\n",
+        "a = [\n  p\n  ::\n  f\n  (b)\n]\n",
+        "a = b ? p::f(1) : p::g(2)\n",
     ] {
         takes(&rt, rt.alloc(), text)?;
     }
@@ -310,6 +314,45 @@ fn refuses_calls(rt: HostRuntime) -> Result<(), Fail> {
             rt.alloc(),
             text,
             FaultKind::UnexpectedToken,
+            line,
+            column,
+        )?;
+    }
+    Ok(())
+}
+
+#[test]
+fn refuses_paths(rt: HostRuntime) -> Result<(), Fail> {
+    for (text, line, column) in [
+        ("a=b::c\n", 1, 7),
+        ("a=b::c.d\n", 1, 7),
+        ("a=b::c[0]\n", 1, 7),
+        ("a=b::1()\n", 1, 6),
+        ("a=b::\nc()\n", 1, 6),
+        ("a=b?c: :d\n", 1, 8),
+        ("a=b?c::d\n", 1, 9),
+        ("a=::b()\n", 1, 3),
+        ("a=b()::c()\n", 1, 6),
+        ("a=b.c::d()\n", 1, 6),
+        ("a={b::c=1}\n", 1, 8),
+        ("a={b::1}\n", 1, 7),
+        ("a::b=1\n", 1, 2),
+    ] {
+        refuses(
+            &rt,
+            rt.alloc(),
+            text,
+            FaultKind::UnexpectedToken,
+            line,
+            column,
+        )?;
+    }
+    for (text, line, column) in [("a=b::", 1, 6), ("a=b::c", 1, 7)] {
+        refuses(
+            &rt,
+            rt.alloc(),
+            text,
+            FaultKind::UnexpectedEnd,
             line,
             column,
         )?;

@@ -1,7 +1,7 @@
 //! Tokens that are no comments, and what is looked for among them.
 
 ghost use Rattle.std.specs.Prelude.{◌≡◌, ◌≤◌, [], filter, length, MatchOption};
-ghost use Rattle.hcl_syntax.specs.Pieces.{IsFirst, words};
+ghost use Rattle.hcl_syntax.specs.Inner.Pieces.{IsFirst, words};
 ghost use Rattle.hcl_syntax.specs.Items.{behind_brace, block_end, closing_quote};
 ghost use Rattle.hcl_syntax.specs.Numbered.{end_of, is_assign, is_brace_close, is_brace_open, is_comment, is_quote_close};
 

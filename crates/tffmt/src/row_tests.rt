@@ -67,6 +67,14 @@ fn prints_expressions(rt: HostRuntime) {
             b"l=[for k,v in m:\"${k}=${v}\" if v!=null]\n",
             b"l = [for k, v in m : \"${k}=${v}\" if v != null]\n",
         ),
+        (
+            b"a=provider :: x::f( 1 )\n",
+            b"a = provider::x::f(1)\n",
+        ),
+        (
+            b"v=c?p::f(1):p::g(2)\n",
+            b"v = c ? p::f(1) : p::g(2)\n",
+        ),
     ] {
         gives(&rt, rt.alloc(), input, print);
     }
@@ -193,6 +201,12 @@ fn refuses_grammar_faults(rt: HostRuntime) {
             b"a=\"%{ if b }x\"\n",
             b"tffmt: error: 1:14: unexpected token\n",
         ),
+        (b"a=b::c\n", b"tffmt: error: 1:7: unexpected token\n"),
+        (b"a=b::", b"tffmt: error: 1:6: unexpected end\n"),
+        (
+            b"a=b?c: :d\n",
+            b"tffmt: error: 1:8: unexpected token\n",
+        ),
     ] {
         gives_fault(&rt, rt.alloc(), input, line);
     }
@@ -251,13 +265,15 @@ fn limits_directives(rt: HostRuntime) -> Result<(), Fail> {
     Ok(())
 }
 
-// An input may have 1,048,576 bytes.
+// An input may have 4,194,304 bytes.
 #[test]
 fn sizes_of_inputs(rt: HostRuntime) -> Result<(), Fail> {
     let alloc = rt.alloc();
-    let largest = repeated(alloc, [(b"\n".as_slice(), 1_048_576)].as_slice())?;
-    gives(&rt, alloc, largest.as_slice(), largest.as_slice());
-    let large = repeated(alloc, [(b"\n".as_slice(), 1_048_577)].as_slice())?;
+    for count in [1_048_577, 4_194_304] {
+        let input = repeated(alloc, [(b"\n".as_slice(), count)].as_slice())?;
+        gives(&rt, alloc, input.as_slice(), input.as_slice());
+    }
+    let large = repeated(alloc, [(b"\n".as_slice(), 4_194_305)].as_slice())?;
     let line = b"tffmt: error: 1:1: source too large\n".as_slice();
     gives_fault(&rt, alloc, large.as_slice(), line);
     Ok(())
@@ -274,7 +290,7 @@ fn after_a_long_name<'a>(
     repeated(alloc, parts.as_slice())
 }
 
-// So may a print: 1,042 short lines beside a long name fit, and one more does not.
+// So may a print: 4,172 short lines beside a long name fit, and one more does not.
 #[test]
 fn sizes_of_prints(rt: HostRuntime) -> Result<(), Fail> {
     let alloc = rt.alloc();
@@ -282,10 +298,12 @@ fn sizes_of_prints(rt: HostRuntime) -> Result<(), Fail> {
         alloc,
         [(b"a".as_slice(), 1), (b" ", 1000), (b"= 1\n", 1)].as_slice(),
     )?;
-    let input = after_a_long_name(alloc, b"=1\n", b"a=1\n", 1042)?;
-    let print = after_a_long_name(alloc, b" = 1\n", aligned.as_slice(), 1042)?;
-    gives(&rt, alloc, input.as_slice(), print.as_slice());
-    let input = after_a_long_name(alloc, b"=1\n", b"a=1\n", 1043)?;
+    for count in [1043, 4172] {
+        let input = after_a_long_name(alloc, b"=1\n", b"a=1\n", count)?;
+        let print = after_a_long_name(alloc, b" = 1\n", aligned.as_slice(), count)?;
+        gives(&rt, alloc, input.as_slice(), print.as_slice());
+    }
+    let input = after_a_long_name(alloc, b"=1\n", b"a=1\n", 4173)?;
     let line = b"tffmt: error: 1:1: result too large\n".as_slice();
     gives_fault(&rt, alloc, input.as_slice(), line);
     Ok(())

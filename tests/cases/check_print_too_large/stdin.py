@@ -1,3 +1,3 @@
 import sys
 
-sys.stdout.buffer.write(b'b' * 1000 + b'=1\n' * 1 + b'a=1\n' * 1043)
+sys.stdout.buffer.write(b'b' * 1000 + b'=1\n' * 1 + b'a=1\n' * 4173)

@@ -1,1 +1,1 @@
-import sys; sys.stdout.buffer.write(b"\n" * 1048576)
+import sys; sys.stdout.buffer.write(b"\n" * 4194304)

@@ -5,11 +5,13 @@ use Rattle.std.specs.Str.{bytes_eq}
 use Rattle.hcl_scan.specs.Lexemes.{Lexeme}
 use Rattle.hcl_scan.specs.declared.token.Kind.{Kind}
 use Rattle.hcl_scan.specs.declared.token.Kind.TheVariants as kind
-use Rattle.hcl_layout.specs.Spacing.{begins_with_equals, closes_group, is_brace_close, is_brace_open, is_bracket_open, is_comma, is_dot, is_ellipsis, is_ident, is_opening, is_paren_open, is_seq_close, opens_sequence, stands_before}
+use Rattle.hcl_syntax.specs.Kinds.{is_brace_close, is_brace_open, is_bracket_open, is_colon_colon, is_comma, is_dot, is_ellipsis, is_ident, is_paren_open, is_seq_close}
+use Rattle.hcl_layout.specs.Spacing.{begins_with_colon, begins_with_equals, closes_group, is_opening, opens_sequence, stands_before}
 
 -- what stands close behind whatever it doesn't join
 abbrev pub stands_close : Kind → Bool
 stands_close kind.Dot = true
+stands_close kind.ColonColon = true
 stands_close kind.Comma = true
 stands_close kind.Ellipsis = true
 stands_close kind.Lit = true
@@ -24,10 +26,12 @@ space_behind_operand r = not (stands_close r || closes_group r || is_bracket_ope
 abbrev pub pair_space : Kind → Kind → Option Bool
 pair_space kind.Not r = None
 pair_space kind.Minus r = None
+pair_space kind.Colon r = None
+pair_space kind.ColonColon r = Some false
 pair_space kind.QuoteOpen r = Some false
 pair_space kind.Lit r = Some false
 pair_space kind.Dot r = Some (is_dot r || is_ellipsis r)
-pair_space kind.Comma r = Some (not (is_dot r || is_comma r || is_ellipsis r))
+pair_space kind.Comma r = Some (not (is_dot r || is_colon_colon r || is_comma r || is_ellipsis r))
 pair_space kind.ParenOpen r = Some (is_brace_close r)
 pair_space kind.BracketOpen r = Some (is_brace_close r)
 pair_space kind.BraceOpen r = Some (not (stands_close r || is_brace_close r))
@@ -43,15 +47,16 @@ pair_space kind.BracketClose r = Some (space_behind_operand r)
 pair_space _ r = Some (not (stands_close r || closes_group r))
 
 -- the answer where the kinds don't give it, by what the table asks of the texts and of the token before: whether the
--- second begins with `=`, whether it is `~}`, whether the first is `in`, whether an Ident or a Dot stands before, and
--- whether an expression begins behind that
-abbrev pub asked : Kind → Kind → Bool → Bool → Bool → Bool → Bool → Bool → Bool
-asked kind.Not r equals tilde word name dot opening = equals
-asked kind.Minus r equals tilde word name dot opening = not (stands_close r || opening)
-asked kind.Number r equals tilde word name dot opening = not dot
-asked kind.Ident r equals tilde word name dot opening = word && name
-asked _ r equals tilde word name dot opening = tilde
+-- second begins with `=` or `:`, whether it is `~}`, whether the first is `in`, whether an Ident or a Dot stands before,
+-- and whether an expression begins behind that
+abbrev pub asked : Kind → Kind → Bool → Bool → Bool → Bool → Bool → Bool → Bool → Bool
+asked kind.Not r equals colon tilde word name dot opening = equals
+asked kind.Colon r equals colon tilde word name dot opening = colon || not (stands_close r || closes_group r)
+asked kind.Minus r equals colon tilde word name dot opening = not (stands_close r || opening)
+asked kind.Number r equals colon tilde word name dot opening = not dot
+asked kind.Ident r equals colon tilde word name dot opening = word && name
+asked _ r equals colon tilde word name dot opening = tilde
 
 abbrev pub asked_space : Option Lexeme → Lexeme → Lexeme → Bool
 asked_space before subject after =
-    asked subject.kind after.kind (begins_with_equals after.text) (bytes_eq after.text (codes "~}")) (bytes_eq subject.text (codes "in")) (stands_before is_ident before) (stands_before is_dot before) (is_opening before)
+    asked subject.kind after.kind (begins_with_equals after.text) (begins_with_colon after.text) (bytes_eq after.text (codes "~}")) (bytes_eq subject.text (codes "in")) (stands_before is_ident before) (stands_before is_dot before) (is_opening before)

@@ -2,30 +2,31 @@
 use Rattle.std.specs.Prelude.{◌≡◌, ◌-◌, ◌<◌, ◌≤◌, ◌^◌, ◌++◌, ℕ, List, Option, None, IfSome, take, drop, length, nat_lt, replicate, slice_get, if◌then◌else◌}
 use Rattle.std.specs.List.{flat_map}
 use Rattle.hcl_scan.specs.Lexemes.{Lexeme}
+use Rattle.hcl_syntax.specs.Balanced.{max_open}
 use Rattle.hcl_layout.specs.Inner.LineGaps.{gaps_from}
 use Rattle.hcl_layout.specs.Lines.{Line, lines}
 use Rattle.hcl_layout.specs.Print.{printed}
 use Rattle.hcl_layout.specs.Inner.Stream.{commented}
 use Rattle.hcl_layout.specs.Inner.Walks.{Stands}
-use Rattle.hcl_layout.specs.declared.gaps.Gaps.{Gaps}
-use Rattle.hcl_layout.specs.declared.gaps.Piece.{Piece}
+use Rattle.hcl_layout.specs.declared.pieces.Pieces.{Pieces}
+use Rattle.hcl_layout.specs.declared.pieces.Piece.{Piece}
 
 -- the rest of the line at hand
-abbrev pub line_left : List Lexeme → Gaps → Line
+abbrev pub line_left : List Lexeme → Pieces → Line
 line_left ts s = take (s.end - s.next) (drop s.next ts)
 
 -- the gaps of the lines behind it
-abbrev pub rest_gaps : List Lexeme → Gaps → List ℕ
+abbrev pub rest_gaps : List Lexeme → Pieces → List ℕ
 rest_gaps ts s = flat_map (λ g. g) (commented s.walk.depth s.walk.levels s.walk.column s.comment (lines (drop s.end ts)))
 
 -- the token before a place, where it is of the line that begins at `start`
 abbrev pub behind : List Lexeme → ℕ → ℕ → Option Lexeme
 behind ts start at = if nat_lt start at then slice_get ts (at - 1) else None
 
-abbrev pub gaps_left : List Lexeme → Gaps → List ℕ
-gaps_left ts s = gaps_from s.set (s.next - s.start) (behind ts s.start (s.next - 1)) (behind ts s.start s.next) (line_left ts s) ++ rest_gaps ts s
+abbrev pub gaps_left : List Lexeme → Pieces → List ℕ
+gaps_left ts s = gaps_from s.gaps (s.next - s.start) (behind ts s.start (s.next - 1)) (behind ts s.start s.next) (line_left ts s) ++ rest_gaps ts s
 
-abbrev pub to_print : List Lexeme → Gaps → List ℕ
+abbrev pub to_print : List Lexeme → Pieces → List ℕ
 to_print ts s = printed (gaps_left ts s) (drop s.next ts)
 
 abbrev pub bytes_of : Piece → List ℕ
@@ -35,13 +36,13 @@ bytes_of p = replicate p.gap 32 ++ p.text.now
 abbrev pub IsFrom : List ℕ → ℕ → List ℕ → Type 0
 IsFrom source start text = text ≡ take (length text) (drop start source)
 
-pub record Ready (ts : List Lexeme) (s : Gaps) : Type 0 where
+pub record Ready (ts : List Lexeme) (s : Pieces) : Type 0 where
   pub order : s.next ≤ s.end
   pub within : s.end ≤ length ts
   pub began : s.start ≤ s.next
-  pub level : s.set.level ≤ 256
-  pub assign : IfSome s.set.assign (λ c. c.gap ≤ 2 ^ 33)
-  pub cell : IfSome s.set.comment (λ c. c.gap ≤ 2 ^ 34)
+  pub level : s.gaps.level ≤ max_open
+  pub assign : IfSome s.gaps.assign (λ c. c.gap ≤ 2 ^ 33)
+  pub cell : IfSome s.gaps.comment (λ c. c.gap ≤ 2 ^ 34)
   pub stands : Stands ts s.end s.walk.depth s.walk.levels
   pub fits : IfSome s.walk.column (λ c. c < 2 ^ 33)
   pub narrow : IfSome s.comment (λ c. c < 2 ^ 34)

@@ -3,8 +3,8 @@ use Rattle.std.specs.Prelude.{◌+◌, ◌==◌, ℕ, List, [], ◌∷◌, Optio
 use Rattle.hcl_scan.specs.Lexemes.{Lexeme}
 use Rattle.hcl_layout.specs.Lines.{Line}
 use Rattle.hcl_layout.specs.Gaps.{blanks, indent}
-use Rattle.hcl_layout.specs.declared.line.Cell.{Cell}
-use Rattle.hcl_layout.specs.declared.line.LineGaps.{LineGaps}
+use Rattle.hcl_layout.specs.declared.gap.Cell.{Cell}
+use Rattle.hcl_layout.specs.declared.gap.LineGaps.{LineGaps}
 
 -- the gap of the cell at its place, and else the other
 abbrev pub cell_gap : Option Cell → ℕ → ℕ → ℕ
@@ -32,9 +32,9 @@ set_cell None gaps = gaps
 set_cell (Some c) gaps = slice_set gaps c.place c.gap
 
 -- what the texts and a blank for each take
-abbrev pub bulk : List Lexeme → ℕ
-bulk [] = 0
-bulk (t ∷ ts) = 1 + length t.text + bulk ts
+abbrev pub len_with_blanks : List Lexeme → ℕ
+len_with_blanks [] = 0
+len_with_blanks (t ∷ ts) = 1 + length t.text + len_with_blanks ts
 
 -- no cell
 abbrev pub plain_of : ℕ → LineGaps

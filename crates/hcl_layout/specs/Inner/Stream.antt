@@ -4,9 +4,9 @@
 use Rattle.std.specs.Prelude.{ℕ, List, [], ◌∷◌, Option, Some, None}
 use Rattle.hcl_layout.specs.Lines.{Line}
 use Rattle.hcl_layout.specs.Cells.{assign_cell, running_comment, trailing_comment}
-use Rattle.hcl_layout.specs.Columns.{ahead}
+use Rattle.hcl_layout.specs.Columns.{widest}
 use Rattle.hcl_layout.specs.Gaps.{align, plain_gaps, widths}
-use Rattle.hcl_layout.specs.Inner.Depths.{depth_after, level_at, turned}
+use Rattle.hcl_layout.specs.Inner.Depths.{depth_after, level_at, levels_behind}
 
 -- ---- runs
 
@@ -14,7 +14,7 @@ use Rattle.hcl_layout.specs.Inner.Depths.{depth_after, level_at, turned}
 abbrev pub next_of : Option ℕ → List (Option ℕ) → Option ℕ
 next_of column [] = None
 next_of column (None ∷ rest) = None
-next_of None (Some width ∷ rest) = Some (ahead (Some width ∷ rest))
+next_of None (Some width ∷ rest) = Some (widest (Some width ∷ rest))
 next_of (Some column) (Some width ∷ rest) = Some column
 
 -- the first line, by its level and the spacing alone
@@ -23,7 +23,7 @@ plain d levels l = plain_gaps (level_at d (depth_after d l) levels) l
 
 abbrev pub leveled : ℕ → List ℕ → List Line → List (List ℕ)
 leveled d levels [] = []
-leveled d levels (l ∷ ls) = plain d levels l ∷ leveled (depth_after d l) (turned d (depth_after d l) levels) ls
+leveled d levels (l ∷ ls) = plain d levels l ∷ leveled (depth_after d l) (levels_behind d (depth_after d l) levels) ls
 
 abbrev pub assign_widths : ℕ → List ℕ → List Line → List (Option ℕ)
 assign_widths d levels ls = widths assign_cell (leveled d levels ls) ls
@@ -36,7 +36,7 @@ abbrev pub assigned : ℕ → List ℕ → Option ℕ → List Line → List (Li
 assigned d levels column [] = []
 assigned d levels column (l ∷ ls) =
     align assign_cell (plain d levels l) l (assign_column d levels column (l ∷ ls))
-    ∷ assigned (depth_after d l) (turned d (depth_after d l) levels) (assign_column d levels column (l ∷ ls)) ls
+    ∷ assigned (depth_after d l) (levels_behind d (depth_after d l) levels) (assign_column d levels column (l ∷ ls)) ls
 
 abbrev pub comment_widths : ℕ → List ℕ → Option ℕ → List Line → List (Option ℕ)
 comment_widths d levels column ls = widths running_comment (assigned d levels column ls) ls
@@ -48,4 +48,4 @@ abbrev pub commented : ℕ → List ℕ → Option ℕ → Option ℕ → List L
 commented d levels column comment [] = []
 commented d levels column comment (l ∷ ls) =
     align trailing_comment (align assign_cell (plain d levels l) l (assign_column d levels column (l ∷ ls))) l (comment_column d levels column comment (l ∷ ls))
-    ∷ commented (depth_after d l) (turned d (depth_after d l) levels) (assign_column d levels column (l ∷ ls)) (comment_column d levels column comment (l ∷ ls)) ls
+    ∷ commented (depth_after d l) (levels_behind d (depth_after d l) levels) (assign_column d levels column (l ∷ ls)) (comment_column d levels column comment (l ∷ ls)) ls

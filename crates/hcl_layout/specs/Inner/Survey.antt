@@ -4,11 +4,12 @@ use Rattle.hcl_scan.specs.Lexemes.{Lexeme}
 use Rattle.hcl_scan.specs.declared.token.Kind.{Kind}
 use Rattle.hcl_scan.specs.declared.token.Kind.TheVariants as kind
 use Rattle.hcl_layout.specs.Lines.{Line, ends_line, lines}
-use Rattle.hcl_layout.specs.Cells.{assign_cell, is_assign, is_inline_comment, is_line_comment, is_sign, is_torn, is_trailing, running_comment, trailing_comment}
-use Rattle.hcl_layout.specs.Levels.{is_closer, is_opener}
-use Rattle.hcl_layout.specs.Inner.Depths.{Balanced, deepen, depth_after}
-use Rattle.hcl_layout.specs.declared.survey.Survey.{Survey}
-use Rattle.hcl_layout.specs.declared.survey.LineFacts.{LineFacts}
+use Rattle.hcl_syntax.specs.Kinds.{is_assign, is_inline_comment, is_line_comment}
+use Rattle.hcl_layout.specs.Cells.{assign_cell, is_assignment, is_multiline, is_trailing, running_comment, trailing_comment}
+use Rattle.hcl_syntax.specs.Balanced.{is_closer, is_opener, max_open}
+use Rattle.hcl_layout.specs.Inner.Depths.{BalancedFrom, deepen, depth_after}
+use Rattle.hcl_layout.specs.declared.line.Survey.{Survey}
+use Rattle.hcl_layout.specs.declared.line.LineFacts.{LineFacts}
 
 -- a token of the kind changes the depth, or may be or tear a cell
 abbrev pub changes : Kind → Bool
@@ -33,18 +34,18 @@ is_noted _ = false
 
 -- behind the line's first token
 abbrev pub first_noted : ℕ → Lexeme → Survey
-first_noted d t = record { len = 1; depth = deepen d t.kind; torn = is_torn t; comment = None; body_depth = deepen d t.kind; sign = None; sign_depth = 0 }
+first_noted d t = record { len = 1; depth = deepen d t.kind; multiline = is_multiline t; comment = None; body_depth = deepen d t.kind; sign = None; sign_depth = 0 }
 
 -- the token is the first sign before the trailing comment
 abbrev pub takes_sign : Survey → Lexeme → Bool
-takes_sign s t = not (is_some s.comment) && not (is_trailing t) && not (is_some s.sign) && is_sign t
+takes_sign s t = not (is_some s.comment) && not (is_trailing t) && not (is_some s.sign) && is_assignment t
 
 -- behind one token more
 abbrev pub noted : Survey → Lexeme → Survey
 noted s t = record {
   len = s.len + 1;
   depth = deepen s.depth t.kind;
-  torn = s.torn || is_torn t;
+  multiline = s.multiline || is_multiline t;
   comment = if is_some s.comment || not (is_trailing t) then s.comment else Some s.len;
   body_depth = if is_some s.comment || is_trailing t then s.body_depth else deepen s.depth t.kind;
   sign = if takes_sign s t then Some s.len else s.sign;
@@ -67,10 +68,10 @@ cell_if true sign = sign
 cell_if false sign = None
 
 abbrev pub assign_of : Survey → Option ℕ
-assign_of s = cell_if (not s.torn && (s.sign_depth == s.body_depth)) s.sign
+assign_of s = cell_if (not s.multiline && (s.sign_depth == s.body_depth)) s.sign
 
 abbrev pub running_of : Survey → Option ℕ
-running_of s = if s.torn then None else s.comment
+running_of s = if s.multiline then None else s.comment
 
 -- the line of these facts
 abbrev pub text_at : List Lexeme → ℕ → LineFacts → Line
@@ -82,8 +83,8 @@ pub record IsLine (ts : List Lexeme) (at d : ℕ) (f : LineFacts) : Type 0 where
   pub within : at + f.len ≤ length ts
   pub cut : lines (drop at ts) ≡ take f.len (drop at ts) ∷ lines (drop (at + f.len) ts)
   pub depth : f.depth ≡ depth_after d (take f.len (drop at ts))
-  pub low : f.depth ≤ 256
-  pub rest : Balanced f.depth (drop (at + f.len) ts)
+  pub low : f.depth ≤ max_open
+  pub rest : BalancedFrom f.depth (drop (at + f.len) ts)
   pub assign : f.assign ≡ assign_cell (take f.len (drop at ts))
   pub comment : f.comment ≡ trailing_comment (take f.len (drop at ts))
   pub running : f.running ≡ running_comment (take f.len (drop at ts))

@@ -1,10 +1,11 @@
 -- Where a walk along the lines stands.
 use Rattle.std.specs.Prelude.{◌≤◌, ℕ, List, drop}
 use Rattle.hcl_scan.specs.Lexemes.{Lexeme}
-use Rattle.hcl_layout.specs.Inner.Depths.{Balanced, Sound}
+use Rattle.hcl_syntax.specs.Balanced.{max_open}
+use Rattle.hcl_layout.specs.Inner.Depths.{BalancedFrom, Sound}
 
 -- what is left is balanced from the depth at hand on, and the levels fit it
 pub record Stands (ts : List Lexeme) (at d : ℕ) (levels : List ℕ) : Type 0 where
-  pub balanced : Balanced d (drop at ts)
-  pub low : d ≤ 256
+  pub balanced : BalancedFrom d (drop at ts)
+  pub low : d ≤ max_open
   pub sound : Sound d levels

@@ -36,7 +36,7 @@ IsStack text [] end = end ≡ length text
 IsStack text (o ∷ stack) end = (o.closes_sequence ≡ closes_sequence (openers_of (o ∷ stack))) × IsTrue (fits_in (opener_of o.by) (context (openers_of stack))) × IsCharBoundary text o.at × AreEndsBy text end o.by (IsStack text stack)
 
 pub record IsSound (s : Scanner) : Type 0 where
-  pub small : length s.text.now ≤ 1048576
+  pub small : length s.text.now ≤ 4194304
   pub order : s.at ≤ s.end
   pub within : s.end ≤ length s.text.now
   pub start : IsCharBoundary s.text.now s.at

@@ -1,5 +1,5 @@
 -- What a part of a recursive descent does, in terms of the predictor: our own words for the contracts of the parser.
-use Rattle.std.specs.Prelude.{◌≡◌, ℕ, zero, suc, ◌+◌, Bool, true, false, List, [], ◌∷◌, ◌++◌, Option, Some, Result, Ok, Err}
+use Rattle.std.specs.Prelude.{◌≡◌, ◌<◌, ℕ, zero, suc, ◌+◌, Bool, true, false, List, [], ◌∷◌, ◌++◌, Option, Some, Result, Ok, Err}
 use Rattle.hcl_syntax.specs.declared.class.Lookahead.{Lookahead}
 use Rattle.hcl_syntax.specs.declared.class.Class.{Class}
 use Rattle.hcl_syntax.specs.declared.class.Class.TheVariants.{Not, Minus}
@@ -10,7 +10,8 @@ use Rattle.hcl_syntax.specs.declared.expected.Terminal.TheVariants.{Separator, E
 use Rattle.hcl_syntax.specs.declared.expected.Follow.{Follow}
 use Rattle.hcl_syntax.specs.declared.expected.Follow.TheVariants.{Operator, Choice, Other}
 use Rattle.hcl_syntax.specs.declared.refusal.Refusal.{Refusal}
-use Rattle.hcl_syntax.specs.Lookaheads.{shown, first, Looks}
+use Rattle.hcl_syntax.specs.declared.refusal.Refusal.TheVariants.{UnexpectedToken, UnexpectedEnd, TooDeep}
+use Rattle.hcl_syntax.specs.Inner.Cursors.{shown, first, Looks}
 use Rattle.hcl_syntax.specs.Grammar.{Marked, ◌at◌, the, file, body, eol, expr, fits}
 use Rattle.hcl_syntax.specs.Predictor.{run}
 
@@ -58,10 +59,11 @@ pub record Lacks (m : Newlines) (e : Terminal) (old new : List Lookahead) : Type
   pub shows : new ≡ shown m old
   pub unfit : (t : Lookahead) → Some t ≡ first new → fits e t.class ≡ false
 
-abbrev pub is_sign : Class → Bool
-is_sign Minus = true
-is_sign Not = true
-is_sign _ = false
+-- a sign before an operand
+abbrev pub is_prefix : Class → Bool
+is_prefix Minus = true
+is_prefix Not = true
+is_prefix _ = false
 
 -- what stands behind a body's items
 abbrev pub body_symbols : Bool → List Marked
@@ -76,3 +78,9 @@ after_item (Err e) = []
 abbrev pub bodies : ℕ → List Marked
 bodies zero = file at Seen ∷ []
 bodies (suc n) = body at Seen ∷ the EndBrace at Seen ∷ eol at Seen ∷ bodies n
+
+-- a refusal names one of so many tokens, or the end
+abbrev pub Names : Refusal → ℕ → Type 0
+Names (UnexpectedToken n) count = n < count
+Names UnexpectedEnd count = Unit {0}
+Names (TooDeep n) count = n < count

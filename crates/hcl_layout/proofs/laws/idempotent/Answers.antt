@@ -1,8 +1,8 @@
 use Rattle.std.proofs.Common.{ap, ◌∙◌}
 use Rattle.hcl_syntax.specs.Predictor.{refusal_of}
-use Rattle.hcl_layout.proofs.PrintScans.{scans_again}
-use Rattle.hcl_layout.proofs.PlacesForgotten.{print_again, seen_again}
-use Rattle.hcl_layout.proofs.PrintLoads.{loads_again}
+use Rattle.hcl_layout.proofs.RescanLemmas.{scans_again}
+use Rattle.hcl_layout.proofs.PlaceLemmas.{print_again, seen_again}
+use Rattle.hcl_layout.proofs.LoadLemmas.{loads_again}
 use Rattle.hcl_layout.proofs.laws.idempotent.Goals as goal
 
 pub returns : goal.returns

@@ -5,7 +5,8 @@ use Rattle.hcl_scan.specs.Lexemes.{Lexeme}
 use Rattle.hcl_layout.specs.Lines.{Line, ends_line, lines, onto}
 use Rattle.hcl_layout.specs.Levels.{Net, level, levels_after, net_of}
 use Rattle.hcl_layout.specs.Cells.{assign_cell, running_comment, trailing_comment}
-use Rattle.hcl_layout.specs.Columns.{columns, columns_from}
+use Rattle.hcl_layout.specs.Columns.{columns}
+use Rattle.hcl_layout.proofs.ColumnLemmas.{columns_len}
 use Rattle.hcl_layout.specs.Gaps.{aligned, aligned_by, gap_to, gaps_after, indented, line_gaps, plain_gaps, set_gap, width, widths, zip_with}
 use Rattle.hcl_layout.proofs.laws.one_gap_each.Goals as goal
 
@@ -39,11 +40,6 @@ align_length : (cell : Option ℕ) (gs : List ℕ) (line : Line) (column : Optio
 align_length None gs line column = refl
 align_length (Some i) gs line column = set_length gs i (gap_to column (width i gs line))
 
-columns_length : (behind : ℕ) (ws : List (Option ℕ)) → length (columns_from behind ws) ≡ length ws
-columns_length behind [] = refl
-columns_length behind (None ∷ ws) = omega (arith, columns_length 0 ws)
-columns_length behind (Some w ∷ ws) = omega (arith, columns_length (max behind w) ws)
-
 zip_length : (f : List ℕ → Line → Option ℕ) (gs : List (List ℕ)) (ls : List Line) → Fit gs ls → length (zip_with f gs ls) ≡ length ls
 zip_length f [] [] s = refl
 zip_length f [] (l ∷ ls) s = absurd s
@@ -58,7 +54,7 @@ aligned_fit cell (g ∷ gs) (l ∷ ls) [] e s = absurd (omega (arith, e))
 aligned_fit cell (g ∷ gs) (l ∷ ls) (c ∷ cs) e s = (align_length (cell l) g l c ∙ s.0, aligned_fit cell gs ls cs (omega (arith, e)) s.1)
 
 all_aligned : (cell running : Line → Option ℕ) (gs : List (List ℕ)) (ls : List Line) → Fit gs ls → Fit (aligned cell running gs ls) ls
-all_aligned cell running gs ls s = aligned_fit cell gs ls (columns (widths running gs ls)) (columns_length 0 (widths running gs ls) ∙ zip_length _ gs ls s) s
+all_aligned cell running gs ls s = aligned_fit cell gs ls (columns (widths running gs ls)) (columns_len [] (widths running gs ls) ∙ zip_length _ gs ls s) s
 
 lines_fit : (ls : List Line) → Fit (line_gaps ls) ls
 lines_fit ls = all_aligned trailing_comment running_comment (aligned assign_cell assign_cell (indented ls) ls) ls (all_aligned assign_cell assign_cell (indented ls) ls (indented_fit [] ls))

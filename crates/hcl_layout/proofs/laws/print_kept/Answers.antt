@@ -1,4 +1,4 @@
-use Rattle.hcl_layout.proofs.PlacesForgotten.{print_again, seen_again}
+use Rattle.hcl_layout.proofs.PlaceLemmas.{print_again, seen_again}
 use Rattle.hcl_layout.proofs.laws.print_kept.Goals as goal
 
 pub returns-clause-again : goal.returns-clause-again

@@ -1,4 +1,4 @@
-use Rattle.hcl_layout.proofs.PrintScans.{scans_again}
+use Rattle.hcl_layout.proofs.RescanLemmas.{scans_again}
 use Rattle.hcl_layout.proofs.laws.rescan.Goals as goal
 
 pub returns : goal.returns

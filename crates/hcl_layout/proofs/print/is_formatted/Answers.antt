@@ -2,7 +2,7 @@ use Rattle.std.proofs.Common.{◌≡◌, ℕ, List, arith, length, refl, subst, 
 use Rattle.std.specs.Prelude.{◌↔◌, IsTrue, nat_eq}
 use Rattle.hcl_scan.specs.Scanned.{Scanned}
 use Rattle.hcl_syntax.specs.Balanced.{IsBalanced}
-use Rattle.hcl_layout.specs.Inner.Depths.{Balanced}
+use Rattle.hcl_layout.specs.Inner.Depths.{BalancedFrom}
 use Rattle.hcl_layout.specs.Inner.Left.{bytes_of, to_print}
 use Rattle.hcl_layout.specs.Print.{print}
 use Rattle.hcl_layout.proofs.BalanceLemmas.{balanced_from}
@@ -12,11 +12,11 @@ use Rattle.hcl_layout.proofs.print.is_formatted.Goals as goal
 pub loop-piece-init : goal.loop-piece-init
 loop-piece-init c =
     let ts = c.tokens-tokens.result.now.tokens in
-    let balanced : Balanced 0 ts = balanced_from ts (subst (λ (s : Scanned). IsBalanced s.tokens) (sym c.tokens-tokens.ensures.tokens) c.tokens-tokens.ensures.balanced) in
+    let balanced : BalancedFrom 0 ts = balanced_from ts (subst (λ (s : Scanned). IsBalanced s.tokens) (sym c.tokens-tokens.ensures.tokens) c.tokens-tokens.ensures.balanced) in
     record {
-      ready = c.start-gaps.ensures.ready ts balanced;
-      same = agrees_all (print ts) c.source_of-bytes.result.now (to_print ts c.start-gaps.result) (c.start-gaps.ensures.all ts balanced);
-      within = omega (arith, c.start-gaps.ensures.first);
+      ready = c.start-pieces.ensures.ready ts balanced;
+      same = agrees_all (print ts) c.source_of-bytes.result.now (to_print ts c.start-pieces.result) (c.start-pieces.ensures.all ts balanced);
+      within = omega (arith, c.start-pieces.ensures.first);
       inside = omega arith;
     }
 
@@ -25,7 +25,7 @@ loop-piece-preserved c =
     let ts = c.tokens-tokens.result.now.tokens in
     record {
       ready = c.next_piece.ensures.ready;
-      same = agrees_more (print ts) c.source_of-bytes.result.now (bytes_of c.in-Some.piece) (to_print ts c.loop-piece.gaps) (to_print ts c.next_piece.new.gaps) c.loop-piece.at c.in-Some-piece_end.end
+      same = agrees_more (print ts) c.source_of-bytes.result.now (bytes_of c.in-Some.piece) (to_print ts c.loop-piece.pieces) (to_print ts c.next_piece.new.pieces) c.loop-piece.at c.in-Some-piece_end.end
           c.in-Some.ensures.left c.in-Some-piece_end.ensures.found c.loop-piece.invariant.same;
       within = c.next_piece.ensures.within;
       inside = c.in-Some-piece_end.ensures.within;
@@ -38,4 +38,4 @@ returns c =
     let at = c.loop-piece.at in
     subst (λ (s : Scanned). IsTrue (nat_eq at (length bytes)) ↔ (print s.tokens ≡ s.text)) c.tokens-tokens.ensures.tokens
     (subst (λ (x : List ℕ). IsTrue (nat_eq at (length bytes)) ↔ (print ts ≡ x)) c.source_of-bytes.ensures.text
-    (agrees_end (print ts) bytes (to_print ts c.loop-piece.gaps) at (nat_eq at (length bytes)) c.in_default.ensures.left c.loop-piece.invariant.inside refl c.loop-piece.invariant.same))
+    (agrees_end (print ts) bytes (to_print ts c.loop-piece.pieces) at (nat_eq at (length bytes)) c.in_default.ensures.left c.loop-piece.invariant.inside refl c.loop-piece.invariant.same))

@@ -1,17 +1,17 @@
 use Rattle.std.proofs.Common.{arith, ap, length, subst, sym}
 use Rattle.hcl_scan.specs.Scanned.{Scanned}
 use Rattle.hcl_syntax.specs.Balanced.{IsBalanced}
-use Rattle.hcl_layout.specs.Inner.Depths.{Balanced}
+use Rattle.hcl_layout.specs.Inner.Depths.{BalancedFrom}
 use Rattle.hcl_layout.proofs.BalanceLemmas.{balanced_from}
 use Rattle.hcl_layout.proofs.print.printed_len.Goals as goal
 
 pub loop-piece-init : goal.loop-piece-init
 loop-piece-init c =
     let ts = c.tokens-tokens.result.now.tokens in
-    let balanced : Balanced 0 ts = balanced_from ts (subst (λ (s : Scanned). IsBalanced s.tokens) (sym c.tokens-tokens.ensures.tokens) c.tokens-tokens.ensures.balanced) in
+    let balanced : BalancedFrom 0 ts = balanced_from ts (subst (λ (s : Scanned). IsBalanced s.tokens) (sym c.tokens-tokens.ensures.tokens) c.tokens-tokens.ensures.balanced) in
     record {
-      ready = c.start-gaps.ensures.ready ts balanced;
-      whole = omega (arith, ap length (c.start-gaps.ensures.all ts balanced));
-      within = omega (arith, c.start-gaps.ensures.first);
-      small = omega (arith, c.start-gaps.ensures.first);
+      ready = c.start-pieces.ensures.ready ts balanced;
+      whole = omega (arith, ap length (c.start-pieces.ensures.all ts balanced));
+      within = omega (arith, c.start-pieces.ensures.first);
+      small = omega (arith, c.start-pieces.ensures.first);
     }

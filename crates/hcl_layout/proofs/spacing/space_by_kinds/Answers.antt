@@ -3,7 +3,7 @@ use Rattle.std.specs.Prelude.{IfNone, IfSome}
 use Rattle.hcl_scan.specs.Lexemes.{Lexeme}
 use Rattle.hcl_scan.specs.Scanned.{lexeme}
 use Rattle.hcl_layout.specs.Inner.KindPairs.{asked_space, pair_space}
-use Rattle.hcl_layout.specs.Lines.{is_newline}
+use Rattle.hcl_syntax.specs.Kinds.{is_newline}
 use Rattle.hcl_layout.specs.Spacing.{spaced}
 use Rattle.hcl_layout.proofs.KindPairLemmas.{asked_is, given}
 use Rattle.hcl_layout.proofs.spacing.space_by_kinds.Goals as goal

@@ -6,12 +6,12 @@ use Rattle.hcl_layout.proofs.writer.emit.Given as goal
 
 abbrev pub invariant-loop-piece : goal.invariant-loop-piece
 invariant-loop-piece g l = record {
-  ready : Ready l.tokens.tokens l.gaps;
+  ready : Ready l.tokens.tokens l.pieces;
   fresh : g.W.ByteSink.failed l.to ≡ false;
-  out : (front : List ℕ) × (print l.tokens.tokens ≡ front ++ to_print l.tokens.tokens l.gaps) × Out (g.W.ByteSink.taken l.initial.to) (g.W.ByteSink.taken l.to) l.buffer front;
-  within : l.gaps.next ≤ length l.tokens.tokens;
-  small : l.buffer.sent + l.buffer.len ≤ l.gaps.next * 2 ^ 35;
+  out : (front : List ℕ) × (print l.tokens.tokens ≡ front ++ to_print l.tokens.tokens l.pieces) × Out (g.W.ByteSink.taken l.initial.to) (g.W.ByteSink.taken l.to) l.buffer front;
+  within : l.pieces.next ≤ length l.tokens.tokens;
+  small : l.buffer.sent + l.buffer.len ≤ l.pieces.next * 2 ^ 35;
 }
 
 abbrev pub decreases-loop-piece : goal.decreases-loop-piece
-decreases-loop-piece g l = length l.tokens.tokens - l.gaps.next
+decreases-loop-piece g l = length l.tokens.tokens - l.pieces.next

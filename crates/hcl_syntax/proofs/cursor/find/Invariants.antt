@@ -1,6 +1,6 @@
 use Rattle.std.proofs.Common.{length, drop, ◌-◌, ◌≡◌, ◌≤◌}
 use Rattle.hcl_syntax.specs.Classes.{lookaheads_from}
-use Rattle.hcl_syntax.specs.Lookaheads.{shown}
+use Rattle.hcl_syntax.specs.Inner.Cursors.{shown}
 use Rattle.hcl_syntax.proofs.cursor.find.Given as goal
 
 abbrev pub invariant-loop-number : goal.invariant-loop-number

@@ -1,5 +1,5 @@
 use Rattle.std.proofs.Common.{◌≡◌}
-use Rattle.hcl_syntax.specs.Pieces.{words}
+use Rattle.hcl_syntax.specs.Inner.Pieces.{words}
 use Rattle.hcl_syntax.specs.Items.{behind_brace}
 use Rattle.hcl_syntax.proofs.words.behind_brace.Given as goal
 

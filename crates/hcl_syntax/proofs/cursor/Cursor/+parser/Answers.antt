@@ -50,6 +50,13 @@ call-returns-in_default-clause-leads n c = alike refl (λ t e. absurd (no-token 
 pub call-returns-in-ParenOpen-clause-leads : goal.call-returns-in-ParenOpen-clause-leads
 call-returns-in-ParenOpen-clause-leads n c = reading (looks _ _ _ _ _ c.look.ensures.left c.in-Some.ensures.found c.bump.ensures.left) (search rules) (beside (after at c.args.newlines ∷ []) c.args-in-ParenOpen.ensures.parses)
 
+pub call-returns-in_err-path-in-ColonColon-clause-leads : goal.call-returns-in_err-path-in-ColonColon-clause-leads
+call-returns-in_err-path-in-ColonColon-clause-leads n c = quits _ c.from_residual.ensures.1 (reading (looks _ _ _ _ _ c.look.ensures.left c.in-Some.ensures.found c.bump-in-ColonColon.ensures.left) (search rules) (c.in_err-path-in-ColonColon.ensures.leads _))
+
+pub call-returns-in_ok-path-in-ColonColon-clause-leads : goal.call-returns-in_ok-path-in-ColonColon-clause-leads
+call-returns-in_ok-path-in-ColonColon-clause-leads n c =
+    reading (looks _ _ _ _ _ c.look.ensures.left c.in-Some.ensures.found c.bump-in-ColonColon.ensures.left) (search rules) (onward (c.in_ok-path-in-ColonColon.ensures.leads _) (beside (after at c.args.newlines ∷ []) c.args-in-ColonColon.ensures.parses))
+
 pub call-returns-in_default-class : goal.call-returns-in_default-class
 call-returns-in_default-class n c = record {
   leads = alike refl (λ t e. subst (λ x. row after_ident c.args.newlines x ≡ row after c.args.newlines x) (same-token _ _ t c.in-Some.ensures.found e) (search rules)) c.look.ensures.left;
@@ -235,11 +242,11 @@ directive-returns-in_default-class n c = record { parses = refusing (looks _ _ _
 pub directive-returns-in_default-word : goal.directive-returns-in_default-word
 directive-returns-in_default-word n c = record { parses = refusing (looks _ _ _ _ _ c.look.ensures.left c.in-Some.ensures.found refl) (search rules); shorter = tt }
 
-pub directive-returns-then-directives-ge-MAX_OPEN-clause-parses : goal.directive-returns-then-directives-ge-MAX_OPEN-clause-parses
-directive-returns-then-directives-ge-MAX_OPEN-clause-parses n c = too-deep {xs = expr at Dropped ∷ the EndSequence at Dropped ∷ inside InIf at Dropped ∷ []} (looks _ _ _ _ _ c.look.ensures.left c.in-Some.ensures.found refl) (search rules) (omega arith)
+pub directive-returns-then-directives-ge-MAX_DIRECTIVES-clause-parses : goal.directive-returns-then-directives-ge-MAX_DIRECTIVES-clause-parses
+directive-returns-then-directives-ge-MAX_DIRECTIVES-clause-parses n c = too-deep {xs = expr at Dropped ∷ the EndSequence at Dropped ∷ inside InIf at Dropped ∷ []} (looks _ _ _ _ _ c.look.ensures.left c.in-Some.ensures.found refl) (search rules) (omega arith)
 
-pub directive-returns-then-directives-ge-MAX_OPEN-2-clause-parses : goal.directive-returns-then-directives-ge-MAX_OPEN-2-clause-parses
-directive-returns-then-directives-ge-MAX_OPEN-2-clause-parses n c = too-deep {xs = the Name at Dropped ∷ names at Dropped ∷ expr at Dropped ∷ the EndSequence at Dropped ∷ inside InFor at Dropped ∷ []} (looks _ _ _ _ _ c.look.ensures.left c.in-Some.ensures.found refl) (search rules) (omega arith)
+pub directive-returns-then-directives-ge-MAX_DIRECTIVES-2-clause-parses : goal.directive-returns-then-directives-ge-MAX_DIRECTIVES-2-clause-parses
+directive-returns-then-directives-ge-MAX_DIRECTIVES-2-clause-parses n c = too-deep {xs = the Name at Dropped ∷ names at Dropped ∷ expr at Dropped ∷ the EndSequence at Dropped ∷ inside InFor at Dropped ∷ []} (looks _ _ _ _ _ c.look.ensures.left c.in-Some.ensures.found refl) (search rules) (omega arith)
 
 pub directive-returns-in_err-sequence-in-If-clause-parses : goal.directive-returns-in_err-sequence-in-If-clause-parses
 directive-returns-in_err-sequence-in-If-clause-parses n c = opening-row {p = c.args.number} (looks _ _ _ _ _ c.look.ensures.left c.in-Some.ensures.found c.bump.ensures.left) (search rules) (omega arith)

@@ -1,5 +1,5 @@
 use Rattle.std.proofs.Common.{arith, ap, length}
-use Rattle.hcl_syntax.specs.Lookaheads.{shown}
+use Rattle.hcl_syntax.specs.Inner.Cursors.{shown}
 use Rattle.hcl_syntax.proofs.LookaheadLemmas.{length-shown}
 use Rattle.hcl_syntax.proofs.cursor.Cursor.look.Goals as goal
 

@@ -1,0 +1,268 @@
+-- Neighbours that the scan's table says would join are parted by one blank: most pairs by the last row of the spacing
+-- table, and those that a row before it would put together by the row that names them.
+use Rattle.std.proofs.Common.{◌≡◌, ℕ, ◌&&◌, ◌||◌, ◌==◌, not, Bool, true, false, List, [], ◌∷◌, get_or, Option, ◌⊎◌, inl, inr, refl, sym, ap, ◌∙◌, arith, codes}
+use Rattle.std.specs.Prelude.{nat_le}
+use Rattle.std.specs.Char.{is_ascii_digit}
+use Rattle.std.specs.Int.{is_in_range}
+use Rattle.std.specs.Str.{bytes_eq}
+use Rattle.std.proofs.lemmas.Bool.Decides.{nat_tests}
+use Rattle.hcl_scan.specs.Lexemes.{Lexeme}
+use Rattle.hcl_scan.specs.Scans as scans
+use Rattle.hcl_scan.specs.SideBySide.{may_begin_ident}
+use Rattle.hcl_scan.specs.Neighbours as neighbours
+use Rattle.hcl_scan.specs.SideBySide as beside
+use Rattle.hcl_scan.specs.declared.token.Kind.{Kind}
+use Rattle.hcl_scan.specs.declared.token.Kind.TheVariants as kind
+use Rattle.hcl_scan.proofs.Booleans.{and_true, or_true, not_true}
+use Rattle.hcl_scan.proofs.Comments.{or_cases}
+use Rattle.hcl_scan.proofs.FirstBytes.{Says, says}
+use Rattle.hcl_syntax.specs.Kinds.{is_newline}
+use Rattle.hcl_syntax.specs.Kinds.{is_colon, is_dot, is_ellipsis, is_not, is_number, is_seq_close}
+use Rattle.hcl_layout.specs.Spacing.{opens_sequence, begins_with_colon, begins_with_equals, stands_before, spaced}
+use Rattle.hcl_layout.proofs.SpacingLemmas.{plain_pair, by_kinds, by_joining}
+
+-- the kinds whose texts may go on one of this kind, by the first byte
+word_byte : (b : ℕ) → neighbours.grows kind.Ident b ≡ true → (may_begin_ident b ≡ true) ⊎ (is_ascii_digit b ≡ true) ⊎ ((b == 45) ≡ true)
+word_byte b h = by (is_ascii_digit b) (is_in_range 65 90 b) (is_in_range 97 122 b) (b == 95) (b == 45) (nat_le 128 b) h
+  where
+    by : (d p l u m n : Bool) → ((((d || p) || l) || u) || m || n) ≡ true → ((((p || l) || u) || n) ≡ true) ⊎ (d ≡ true) ⊎ (m ≡ true)
+    by true p l u m n k = inr (inl refl)
+    by false true l u m n k = inl refl
+    by false false true u m n k = inl refl
+    by false false false true m n k = inl refl
+    by false false false false true n k = inr (inr refl)
+    by false false false false false n k = inl k
+
+e_byte : (b : ℕ) → neighbours.grows kind.Number b ≡ true → (may_begin_ident b ≡ true) ⊎ (is_ascii_digit b ≡ true)
+e_byte b h = by (is_ascii_digit b) refl h
+  where
+    letter : (b : ℕ) → ((b == 101) || (b == 69)) ≡ true → may_begin_ident b ≡ true
+    letter b k = grind (arith, nat_tests)
+
+    by : (d : Bool) → is_ascii_digit b ≡ d → (d || (b == 101) || (b == 69)) ≡ true → (may_begin_ident b ≡ true) ⊎ (is_ascii_digit b ≡ true)
+    by true e k = inr e
+    by false e k = inl (letter b k)
+
+pair_ident : (k : Kind) → (beside.is_ident k ≡ true) ⊎ (neighbours.is_number k ≡ true) ⊎ (beside.is_minus k ≡ true) → plain_pair kind.Ident k ≡ true
+pair_ident kind.Ident h = refl
+pair_ident kind.Number h = refl
+pair_ident kind.Minus h = refl
+pair_ident _ (inl h) = absurd (cc)
+pair_ident _ (inr (inl h)) = absurd (cc)
+pair_ident _ (inr (inr h)) = absurd (cc)
+
+pair_number : (k : Kind) → (beside.is_ident k ≡ true) ⊎ (neighbours.is_number k ≡ true) → plain_pair kind.Number k ≡ true
+pair_number kind.Ident h = refl
+pair_number kind.Number h = refl
+pair_number _ (inl h) = absurd (cc)
+pair_number _ (inr h) = absurd (cc)
+
+pair_assign : (k : Kind) → (beside.is_equals k ≡ true) ⊎ (beside.is_greater k ≡ true) → plain_pair kind.Assign k ≡ true
+pair_assign kind.Assign h = refl
+pair_assign kind.Arrow h = refl
+pair_assign kind.Equal h = refl
+pair_assign kind.Greater h = refl
+pair_assign kind.GreaterEqual h = refl
+pair_assign _ (inl h) = absurd (cc)
+pair_assign _ (inr h) = absurd (cc)
+
+pair_less : (k : Kind) → (beside.is_less k ≡ true) ⊎ (beside.is_equals k ≡ true) → plain_pair kind.Less k ≡ true
+pair_less kind.Assign h = refl
+pair_less kind.Arrow h = refl
+pair_less kind.Equal h = refl
+pair_less kind.Less h = refl
+pair_less kind.LessEqual h = refl
+pair_less kind.HeredocOpen h = refl
+pair_less _ (inl h) = absurd (cc)
+pair_less _ (inr h) = absurd (cc)
+
+pair_greater : (k : Kind) → beside.is_equals k ≡ true → plain_pair kind.Greater k ≡ true
+pair_greater kind.Assign h = refl
+pair_greater kind.Arrow h = refl
+pair_greater kind.Equal h = refl
+pair_greater _ h = absurd (cc)
+
+pair_slash : (k : Kind) → (beside.is_slashed k ≡ true) ⊎ (beside.is_star k ≡ true) → plain_pair kind.Slash k ≡ true
+pair_slash kind.Slash h = refl
+pair_slash kind.LineComment h = refl
+pair_slash kind.InlineComment h = refl
+pair_slash kind.Star h = refl
+pair_slash _ (inl h) = absurd (cc)
+pair_slash _ (inr h) = absurd (cc)
+
+pair_dot : (k : Kind) → beside.is_pointed k ≡ true → (is_dot k || is_ellipsis k) ≡ true
+pair_dot kind.Dot h = refl
+pair_dot kind.Ellipsis h = refl
+pair_dot _ h = absurd (cc)
+
+pointed_on : (k : Kind) → beside.is_pointed k ≡ true → is_newline k ≡ false
+pointed_on kind.Newline h = absurd (cc)
+pointed_on _ h = refl
+
+equals_on : (k : Kind) → beside.is_equals k ≡ true → is_newline k ≡ false
+equals_on kind.Newline h = absurd (cc)
+equals_on _ h = refl
+
+coloned_on : (k : Kind) → beside.is_coloned k ≡ true → is_newline k ≡ false
+coloned_on kind.Newline h = absurd (cc)
+coloned_on _ h = refl
+
+dot_on : (k : Kind) → scans.is_dot k ≡ true → is_newline k ≡ false
+dot_on kind.Newline h = absurd (cc)
+dot_on _ h = refl
+
+seq_close_is : (k : Kind) → beside.is_seq_close k ≡ true → k ≡ kind.SeqClose
+seq_close_is kind.SeqClose h = refl
+seq_close_is _ h = absurd (cc)
+
+equals_first : (text : List ℕ) → (get_or text 0 0 == 61) ≡ true → begins_with_equals text ≡ true
+equals_first [] h = absurd (cc)
+equals_first (b ∷ text) h = h
+
+colon_first : (text : List ℕ) → (get_or text 0 0 == 58) ≡ true → begins_with_colon text ≡ true
+colon_first [] h = absurd (cc)
+colon_first (b ∷ text) h = h
+
+-- row 2, part by part
+abbrev parts_of_two : Bool → Bool → Bool → Bool → Bool → Bool
+parts_of_two a b c d f = a || b || c || d || f
+
+by_first : (a b c d f : Bool) → a ≡ true → parts_of_two a b c d f ≡ true
+by_first a b c d f h = λ i. h i || b || c || d || f
+
+by_second : (a b c d f : Bool) → b ≡ true → parts_of_two a b c d f ≡ true
+by_second a b c d f h = (λ i. a || h i || c || d || f) ∙ (λ i. or_true a i || c || d || f)
+
+by_third : (a b c d f : Bool) → c ≡ true → parts_of_two a b c d f ≡ true
+by_third a b c d f h = (λ i. a || b || h i || d || f) ∙ (λ i. or_true (a || b) i || d || f)
+
+by_fourth : (a b c d f : Bool) → d ≡ true → parts_of_two a b c d f ≡ true
+by_fourth a b c d f h = (λ i. a || b || c || h i || f) ∙ (λ i. or_true (a || b || c) i || f)
+
+by_fifth : (a b c d f : Bool) → f ≡ true → parts_of_two a b c d f ≡ true
+by_fifth a b c d f h = (λ i. a || b || c || d || h i) ∙ or_true (a || b || c || d)
+
+pub same_dot : (k : Kind) → scans.is_dot k ≡ is_dot k
+same_dot kind.Dot = refl
+same_dot _ = refl
+
+module _ (before : Option Lexeme) (u t : Lexeme) (dot : Bool) (outside_all : t.inside_heredoc ≡ false) (point : dot ≡ false → stands_before is_dot before ≡ false)
+    (begins : beside.begins_as t.kind (get_or t.text 0 0) ≡ true) (tilde : t.kind ≡ kind.SeqClose → (t.text ≡ codes "}") ⊎ (t.text ≡ codes "~}")) where
+  abbrev b : ℕ
+  b = get_or t.text 0 0
+
+  s : Says t.kind b
+  s = says t.kind b begins
+
+  pair : (k : Kind) → u.kind ≡ k → plain_pair k t.kind ≡ true → spaced before u t ≡ true
+  pair k e h = by_kinds before u t outside_all (ap (λ (z : Kind). plain_pair z t.kind) e ∙ h)
+
+  -- the parts of row 2
+  abbrev dots : Bool
+  dots = is_dot u.kind && (is_dot t.kind || is_ellipsis t.kind)
+
+  abbrev point_behind : Bool
+  point_behind = is_number u.kind && not (stands_before is_dot before) && is_dot t.kind
+
+  abbrev not_equals : Bool
+  not_equals = is_not u.kind && begins_with_equals t.text
+
+  abbrev closed_by_tilde : Bool
+  closed_by_tilde = opens_sequence u.kind && is_seq_close t.kind && bytes_eq t.text (codes "~}")
+
+  abbrev colons : Bool
+  colons = is_colon u.kind && begins_with_colon t.text
+
+  two : is_newline t.kind ≡ false → parts_of_two dots point_behind not_equals closed_by_tilde colons ≡ true → spaced before u t ≡ true
+  two n h = by_joining before u t (λ i. n i || outside_all i) h
+
+  tilde_text : (t.text ≡ codes "}") ⊎ (t.text ≡ codes "~}") → (b == 126) ≡ true → bytes_eq t.text (codes "~}") ≡ true
+  tilde_text (inl e) h = absurd (let f : false ≡ true = sym (ap (λ l. get_or l 0 0 == 126) e) ∙ h in cc)
+  tilde_text (inr e) h = ap (λ l. bytes_eq l (codes "~}")) e
+
+  sequence : opens_sequence u.kind ≡ true → (b == 126) ≡ true → spaced before u t ≡ true
+  sequence e h =
+      let k = seq_close_is t.kind (s.tilde h) in
+      two (ap is_newline k) (by_fourth dots point_behind not_equals _ colons (λ i. e i && is_seq_close (k i) && tilde_text (tilde k) h i))
+
+  abbrev Grown : Kind → Type 0
+  Grown k = u.kind ≡ k → neighbours.joins dot k t.kind t.text ≡ true → spaced before u t ≡ true
+
+  plain : (g : Bool) → (g || false) ≡ true → g ≡ true
+  plain true k = refl
+  plain false k = k
+
+  grown_ident : Grown kind.Ident
+  grown_ident e h = pair kind.Ident e (pair_ident t.kind (by (word_byte b (plain (neighbours.grows kind.Ident b) h))))
+    where
+      by : (may_begin_ident b ≡ true) ⊎ (is_ascii_digit b ≡ true) ⊎ ((b == 45) ≡ true) → (beside.is_ident t.kind ≡ true) ⊎ (neighbours.is_number t.kind ≡ true) ⊎ (beside.is_minus t.kind ≡ true)
+      by (inl x) = inl (s.letter x)
+      by (inr (inl x)) = inr (inl (s.digit x))
+      by (inr (inr x)) = inr (inr (s.minus x))
+
+  grown_number : Grown kind.Number
+  grown_number e h = by (or_cases (neighbours.grows kind.Number b) (true && not dot && scans.is_dot t.kind) h)
+    where
+      digits : (may_begin_ident b ≡ true) ⊎ (is_ascii_digit b ≡ true) → (beside.is_ident t.kind ≡ true) ⊎ (neighbours.is_number t.kind ≡ true)
+      digits (inl x) = inl (s.letter x)
+      digits (inr x) = inr (s.digit x)
+
+      by : (neighbours.grows kind.Number b ≡ true) ⊎ ((not dot && scans.is_dot t.kind) ≡ true) → spaced before u t ≡ true
+      by (inl x) = pair kind.Number e (pair_number t.kind (digits (e_byte b x)))
+      by (inr x) =
+          let p = and_true (not dot) (scans.is_dot t.kind) x in
+          let q = point (not_true dot p.0) in
+          two (dot_on t.kind p.1) (by_second dots _ not_equals closed_by_tilde colons
+          (λ i. is_number (e i) && not (q i) && (sym (same_dot t.kind) ∙ p.1) i))
+
+  grown_dot : Grown kind.Dot
+  grown_dot e h = let p = pair_dot t.kind (s.point (plain (b == 46) h)) in
+      two (pointed_on t.kind (s.point (plain (b == 46) h))) (by_first _ point_behind not_equals closed_by_tilde colons (λ i. is_dot (e i) && p i))
+
+  grown_not : Grown kind.Not
+  grown_not e h = let p = equals_first t.text (plain (b == 61) h) in
+      two (equals_on t.kind (s.equals (plain (b == 61) h))) (by_third dots point_behind _ closed_by_tilde colons (λ i. is_not (e i) && p i))
+
+  grown_colon : Grown kind.Colon
+  grown_colon e h = let p = colon_first t.text (plain (b == 58) h) in
+      two (coloned_on t.kind (s.colons (plain (b == 58) h))) (by_fifth dots point_behind not_equals closed_by_tilde _ (λ i. is_colon (e i) && p i))
+
+  either : (p q : Bool) (P Q : Type 0) → (p ≡ true → P) → (q ≡ true → Q) → ((p || q) || false) ≡ true → P ⊎ Q
+  either true q P Q f g h = inl (f refl)
+  either false true P Q f g h = inr (g refl)
+  either false false P Q f g h = absurd (cc)
+
+  grown_assign : Grown kind.Assign
+  grown_assign e h = pair kind.Assign e (pair_assign t.kind (either (b == 61) (b == 62) _ _ s.equals s.greater h))
+
+  grown_less : Grown kind.Less
+  grown_less e h = pair kind.Less e (pair_less t.kind (either (b == 60) (b == 61) _ _ s.less s.equals h))
+
+  grown_greater : Grown kind.Greater
+  grown_greater e h = pair kind.Greater e (pair_greater t.kind (s.equals (plain (b == 61) h)))
+
+  grown_slash : Grown kind.Slash
+  grown_slash e h = pair kind.Slash e (pair_slash t.kind (either (b == 47) (b == 42) _ _ s.slashed s.star h))
+
+  grown_interp : Grown kind.InterpOpen
+  grown_interp e h = sequence (ap opens_sequence e) (plain (b == 126) h)
+
+  grown_control : Grown kind.ControlOpen
+  grown_control e h = sequence (ap opens_sequence e) (plain (b == 126) h)
+
+  by_kind : (k : Kind) → Grown k
+  by_kind kind.Ident = grown_ident
+  by_kind kind.Number = grown_number
+  by_kind kind.Dot = grown_dot
+  by_kind kind.Colon = grown_colon
+  by_kind kind.Not = grown_not
+  by_kind kind.Assign = grown_assign
+  by_kind kind.Less = grown_less
+  by_kind kind.Greater = grown_greater
+  by_kind kind.Slash = grown_slash
+  by_kind kind.InterpOpen = grown_interp
+  by_kind kind.ControlOpen = grown_control
+  by_kind _ = λ e h. absurd (cc)
+
+  pub joined_apart : neighbours.joins dot u.kind t.kind t.text ≡ true → spaced before u t ≡ true
+  joined_apart h = by_kind u.kind refl h

@@ -1,0 +1,26 @@
+-- A token of a kind that isn't noted ends no line, neither opens nor closes, and is no comment and no sign: tried for
+-- each kind.
+use Rattle.std.proofs.Common.{◌≡◌, ◌&&◌, ◌||◌, Bool, true, false, not, ap, refl}
+use Rattle.hcl_scan.specs.Lexemes.{Lexeme}
+use Rattle.hcl_scan.specs.declared.token.Kind.{Kind}
+use Rattle.hcl_syntax.specs.Kinds.{is_newline}
+use Rattle.hcl_layout.specs.Lines.{ends_line}
+use Rattle.hcl_layout.specs.Inner.Survey.{changes, is_noted}
+use Rattle.hcl_layout.proofs.KindLemmas.{each}
+
+passes : (a b : Bool) → (a || not b) ≡ true → a ≡ false → b ≡ false
+passes a true h e = cc
+passes a false h e = refl
+
+pub unnoted : (k : Kind) → is_noted k ≡ false → changes k ≡ false
+unnoted k e = passes (is_noted k) (changes k) (each (λ j. is_noted j || not (changes j)) refl k) e
+
+pub unnoted_goes_on : (t : Lexeme) → is_noted t.kind ≡ false → ends_line t ≡ false
+unnoted_goes_on t e = rw (passes (is_noted t.kind) (is_newline t.kind) (each (λ j. is_noted j || not (is_newline j)) refl t.kind) e) refl
+
+pub end_passed : (t : Lexeme) → ends_line t ≡ true → changes t.kind ≡ false
+end_passed t e = go (is_newline t.kind) refl e
+  where
+    go : (v : Bool) → is_newline t.kind ≡ v → (v && not t.inside_heredoc) ≡ true → changes t.kind ≡ false
+    go true q h = passes (not (is_newline t.kind)) (changes t.kind) (each (λ j. not (is_newline j) || not (changes j)) refl t.kind) (ap not q)
+    go false q h = cc

@@ -1,0 +1,110 @@
+-- Reading a run ahead, line by line.
+use Rattle.std.proofs.Common.{◌*◌, ◌≡◌, ◌∙◌, ◌+◌, ◌-◌, ◌<◌, ◌≤◌, ◌^◌, ℕ, suc, zero, Bool, true, false, List, [], ◌∷◌, Option, Some, None, length, ap, refl, sym, arith, take, drop, length-take}
+use Rattle.std.specs.Prelude.{slice_set, if◌then◌else◌}
+use Rattle.hcl_scan.specs.Lexemes.{Lexeme}
+use Rattle.hcl_syntax.specs.Balanced.{max_open}
+use Rattle.hcl_layout.specs.Cells.{assign_cell, body, has_multiline, if_level, is_level, is_assignment, is_trailing, found_from, running_comment, trailing_comment, until}
+use Rattle.hcl_layout.specs.Gaps.{align, gap_to, plain_gaps, width}
+use Rattle.hcl_layout.specs.Levels.{net_of}
+use Rattle.hcl_layout.specs.Inner.LineGaps.{len_with_blanks, gaps_in, plain_of, set_cell}
+use Rattle.hcl_layout.specs.Lines.{Line}
+use Rattle.hcl_layout.specs.declared.gap.Cell.{Cell}
+use Rattle.hcl_layout.proofs.LineLemmas.{gaps_in_is, width_set, width_small}
+use Rattle.hcl_layout.proofs.SurveyLemmas.{place_within}
+
+-- ---- sizes
+
+pub length_len_with_blanks : (ts : List Lexeme) → length ts ≤ len_with_blanks ts
+length_len_with_blanks [] = omega arith
+length_len_with_blanks (t ∷ ts) = omega (arith, length_len_with_blanks ts)
+
+len_with_blanks_cut : (n : ℕ) (ts : List Lexeme) → len_with_blanks (take n ts) + len_with_blanks (drop n ts) ≡ len_with_blanks ts
+len_with_blanks_cut zero ts = omega arith
+len_with_blanks_cut (suc n) [] = refl
+len_with_blanks_cut (suc n) (t ∷ ts) = omega (arith, len_with_blanks_cut n ts)
+
+pub len_with_blanks_line : (ts : List Lexeme) (at n : ℕ) → len_with_blanks (take n (drop at ts)) ≤ len_with_blanks ts
+len_with_blanks_line ts at n = omega (arith, len_with_blanks_cut n (drop at ts), len_with_blanks_cut at ts)
+
+pub plain_in : (level : ℕ) (line : Line) → gaps_in (plain_of level) line ≡ plain_gaps level line
+plain_in level line = gaps_in_is (plain_of level) line
+
+pub plain_low : (ts : List Lexeme) (at n level i : ℕ) → level ≤ max_open → width i (plain_gaps level (take n (drop at ts))) (take n (drop at ts)) ≤ 2 * max_open + len_with_blanks ts
+plain_low ts at n level i low = omega (arith, width_small level i (take n (drop at ts)), len_with_blanks_line ts at n, low)
+
+-- ---- places
+
+until_short : (test : Lexeme → Bool) (line : Line) → length (until test line) ≤ length line
+until_short test [] = omega arith
+until_short test (t ∷ line) = go (until_short test line) (test t) refl
+  where
+    go : length (until test line) ≤ length line → (v : Bool) → test t ≡ v → length (until test (t ∷ line)) ≤ length (t ∷ line)
+    go r true e = rw e (omega arith)
+    go r false e = rw e (omega arith)
+
+level_some : (line : Line) (sign : Option ℕ) (i : ℕ) → if_level line sign ≡ Some i → sign ≡ Some i
+level_some line None i e = e
+level_some line (Some j) i e = go (is_level (net_of (drop j line))) refl
+  where
+    go : (v : Bool) → is_level (net_of (drop j line)) ≡ v → Some j ≡ Some i
+    go true v = rw v at e
+    go false v = let h : None ≡ Some i = rw v at e in cc
+
+multiline_some : (a : Bool) (x : Option ℕ) (i : ℕ) → (if a then None else x) ≡ Some i → x ≡ Some i
+multiline_some true x i e = cc
+multiline_some false x i e = e
+
+assign_within : (line : Line) (i : ℕ) → assign_cell line ≡ Some i → i < length line
+assign_within [] i e = let h : None ≡ Some i = multiline_some (has_multiline []) None i e in cc
+assign_within (t ∷ line) i e =
+    let sign : found_from is_assignment 1 (until is_trailing line) ≡ Some i =
+    level_some (t ∷ until is_trailing line) (found_from is_assignment 1 (until is_trailing line)) i (multiline_some (has_multiline (t ∷ line)) (if_level (body (t ∷ line)) (found_from is_assignment 1 (until is_trailing line))) i e) in
+    omega (arith, (place_within is_assignment 1 (until is_trailing line) i sign).1, until_short is_trailing line)
+
+comment_within : (line : Line) (i : ℕ) → trailing_comment line ≡ Some i → i < length line
+comment_within [] i e = cc
+comment_within (t ∷ line) i e = omega (arith, (place_within is_trailing 1 line i e).1)
+
+line_short : (ts : List Lexeme) (at n i : ℕ) → i < length (take n (drop at ts)) → i < n
+line_short ts at n i lt = omega (arith, length-take n (drop at ts))
+
+pub assign_there : (ts : List Lexeme) (at n i : ℕ) (cell : Option ℕ) → cell ≡ assign_cell (take n (drop at ts)) → Some i ≡ cell → i ≤ n
+assign_there ts at n i cell e f = omega (arith, line_short ts at n i (assign_within (take n (drop at ts)) i (sym (f ∙ e))))
+
+pub comment_there : (ts : List Lexeme) (at n i : ℕ) (cell : Option ℕ) → cell ≡ trailing_comment (take n (drop at ts)) → Some i ≡ cell → i ≤ n
+comment_there ts at n i cell e f = omega (arith, line_short ts at n i (comment_within (take n (drop at ts)) i (sym (f ∙ e))))
+
+pub running_there : (ts : List Lexeme) (at n i : ℕ) (cell : Option ℕ) → cell ≡ running_comment (take n (drop at ts)) → Some i ≡ cell → i ≤ n
+running_there ts at n i cell e f =
+    let comment : trailing_comment (take n (drop at ts)) ≡ Some i = multiline_some (has_multiline (take n (drop at ts))) (trailing_comment (take n (drop at ts))) i (sym (f ∙ e)) in
+    omega (arith, line_short ts at n i (comment_within (take n (drop at ts)) i comment))
+
+-- ---- the gaps of a line with its cells
+
+pub aligned_none : (gaps : List ℕ) (l : Line) (column : Option ℕ) → assign_cell l ≡ None → gaps ≡ align assign_cell gaps l column
+aligned_none gaps l column e = rw e refl
+
+pub aligned_some : (gaps : List ℕ) (l : Line) (column i gap : ℕ) → assign_cell l ≡ Some i → gap ≡ column - width i gaps l + 1 → slice_set gaps i gap ≡ align assign_cell gaps l (Some column)
+aligned_some gaps l column i gap e f = rw (e, f) refl
+
+pub assigned_in : (level i gap : ℕ) (line : Line) → gaps_in (record { level = level; assign = Some (record { place = i; gap = gap }); comment = None }) line ≡ slice_set (plain_gaps level line) i gap
+assigned_in level i gap line = gaps_in_is (record { level = level; assign = Some (record { place = i; gap = gap }); comment = None }) line
+
+pub narrow_plain : (ts : List Lexeme) (at n level : ℕ) → level ≤ max_open → len_with_blanks ts < 2 ^ 32 → (k : ℕ) → width k (gaps_in (plain_of level) (take n (drop at ts))) (take n (drop at ts)) < 2 ^ 34
+narrow_plain ts at n level low small k =
+    omega (arith, ap (λ g. width k g (take n (drop at ts))) (plain_in level (take n (drop at ts))), plain_low ts at n level k low, small)
+
+pub narrow_set : (ts : List Lexeme) (at n level i gap : ℕ) → level ≤ max_open → len_with_blanks ts < 2 ^ 32 → gap ≤ 2 ^ 33
+    → (k : ℕ) → width k (gaps_in (record { level = level; assign = Some (record { place = i; gap = gap }); comment = None }) (take n (drop at ts))) (take n (drop at ts)) < 2 ^ 34
+narrow_set ts at n level i gap low small tight k =
+    let line : Line = take n (drop at ts) in
+    omega (arith, ap (λ g. width k g line) (assigned_in level i gap line), width_set (plain_gaps level line) line i k gap, plain_low ts at n level k low, small, tight)
+
+pub commented_in : (level : ℕ) (assign comment : Option Cell) (i gap : ℕ) (line : Line) → comment ≡ None
+    → gaps_in (record { level = level; assign = assign; comment = Some (record { place = i; gap = gap }) }) line ≡ slice_set (gaps_in (record { level = level; assign = assign; comment = comment }) line) i gap
+commented_in level assign comment i gap line e =
+    gaps_in_is (record { level = level; assign = assign; comment = Some (record { place = i; gap = gap }) }) line
+    ∙ ap (λ (l : List ℕ). slice_set l i gap) (sym (gaps_in_is (record { level = level; assign = assign; comment = comment }) line ∙ ap (λ (o : Option Cell). set_cell o (set_cell assign (plain_gaps level line))) e))
+
+pub comment_cell : (gaps : List ℕ) (l : Line) (column : Option ℕ) (i gap : ℕ) → trailing_comment l ≡ Some i → gap ≡ gap_to column (width i gaps l) → slice_set gaps i gap ≡ align trailing_comment gaps l column
+comment_cell gaps l column i gap e f = rw (e, f) refl

@@ -1,9 +1,0 @@
-use Rattle.std.proofs.Common.{ap}
-use Rattle.hcl_layout.specs.Print.{printed}
-use Rattle.hcl_layout.proofs.LeftLemmas.{start_all}
-use Rattle.hcl_layout.proofs.gaps.start.Goals as goal
-
-pub returns-clause-all : goal.returns-clause-all
-returns-clause-all c ts p =
-    let w = c.start_walk.result in
-    ap (λ g. printed g ts) (start_all ts w.depth w.levels w.column p c.start_walk.ensures.depth c.start_walk.ensures.levels c.start_walk.ensures.column)

@@ -1,0 +1,192 @@
+//! The gaps of one line, and the widths before its cells.
+ghost use Rattle.std.specs.Prelude.{◌*◌, ◌≡◌, ◌<◌, ◌≤◌, ◌+◌, ◌-◌, ◌^◌, true, Some, length, take, drop, option_map, slice_get};
+ghost use Rattle.unicode_segmentation.specs.Grapheme.{graphemes};
+ghost use Rattle.hcl_scan.specs.Lexemes.{Lexeme};
+ghost use Rattle.hcl_scan.specs.Scanned.{lexeme};
+ghost use Rattle.hcl_syntax.specs.Balanced.{max_open};
+ghost use Rattle.hcl_layout.specs.Gaps.{indent as indent_of, width as width_of};
+ghost use Rattle.hcl_layout.specs.Inner.Simple.{is_simple as is_simple_of};
+ghost use Rattle.hcl_layout.specs.Inner.Left.{behind};
+ghost use Rattle.hcl_layout.specs.Inner.LineGaps.{len_with_blanks, cell_gap as cell_gap_of, gaps_in, plain_gap as plain_gap_of, plain_of};
+
+use crate::kind::is_newline;
+use crate::spacing::{space_between, space_by_kinds};
+use hcl_scan::{Token, Tokens};
+use unicode_segmentation::UnicodeSegmentation;
+
+/// A cell: its place in the line, and the gap before it.
+#[derive(Clone, Copy)]
+pub struct Cell {
+    pub place: usize,
+    pub gap: u64,
+}
+
+/// What the gaps of a line go by.
+#[derive(Clone, Copy)]
+pub struct LineGaps {
+    pub level: u32,
+    pub assign: Option<Cell>,
+    pub comment: Option<Cell>,
+}
+
+/// The gaps of a line whose cells are not set.
+pub fn plain_line(level: u32) -> LineGaps
+    ensures { result ≡ plain_of level }
+{
+    LineGaps {
+        level,
+        assign: None,
+        comment: None,
+    }
+}
+
+#[inline(always)]
+fn indent(level: u32, token: Token<'_>) -> u64
+    requires { level ≤ max_open }
+    ensures { result ≡ indent_of level (lexeme token.entry) }
+{
+    if is_newline(token.kind) || token.inside_heredoc {
+        return 0;
+    }
+    2 * u64::from(level)
+}
+
+/// The gap before a token, by the level and the spacing alone.
+#[inline(always)]
+fn plain_gap(
+    level: u32,
+    before: Option<Token<'_>>,
+    subject: Option<Token<'_>>,
+    token: Token<'_>,
+) -> u64
+    requires { level ≤ max_open }
+    ensures value { result ≡ plain_gap_of level (option_map lexeme before.entry) (option_map lexeme subject.entry) (lexeme token.entry) }
+    ensures small { result ≤ 2 * max_open }
+{
+    let Some(subject) = subject else {
+        return indent(level, token);
+    };
+    if space_between(before, subject, token) {
+        return 1;
+    }
+    0
+}
+
+/// The token before a place, where it is of the line that begins at `start`.
+#[inline(always)]
+fn token_behind<'s>(tokens: &Tokens<'s>, start: usize, at: usize) -> Option<Token<'s>>
+    requires { at ≤ length tokens.now.tokens }
+    ensures { option_map lexeme result ≡ behind tokens.now.tokens start at }
+{
+    if start < at {
+        return Some(tokens.get(at - 1));
+    }
+    None
+}
+
+/// The gap before the token at a place of the line that begins at `start`, by the level and the spacing alone. It is a
+/// call that looks up all tokens itself, so that its caller builds none that it seldom needs.
+#[inline(never)]
+fn looked_up_gap(tokens: &Tokens<'_>, level: u32, start: usize, at: usize) -> u64
+    requires within { at < length tokens.now.tokens }
+    requires level { level ≤ max_open }
+    ensures { (t : Lexeme) → slice_get tokens.now.tokens at ≡ Some t → result ≡ plain_gap_of level (behind tokens.now.tokens start (at - 1)) (behind tokens.now.tokens start at) t }
+{
+    let token = tokens.get(at);
+    let subject = token_behind(tokens, start, at);
+    let before = token_behind(tokens, start, at.saturating_sub(1));
+    plain_gap(level, before, subject, token)
+}
+
+/// The same, where nearly always the kinds of the token and of the one before it tell the gap.
+#[inline(always)]
+pub fn plain_gap_at(
+    tokens: &Tokens<'_>,
+    level: u32,
+    start: usize,
+    at: usize,
+    token: Token<'_>,
+) -> u64
+    requires there { slice_get tokens.now.tokens at ≡ Some (lexeme token) }
+    requires within { at < length tokens.now.tokens }
+    requires level { level ≤ max_open }
+    ensures { result ≡ plain_gap_of level (behind tokens.now.tokens start (at - 1)) (behind tokens.now.tokens start at) (lexeme token.entry) }
+{
+    let Some(subject) = token_behind(tokens, start, at) else {
+        return indent(level, token);
+    };
+    match space_by_kinds(subject, token) {
+        Some(space) => u64::from(space),
+        None => looked_up_gap(tokens, level, start, at),
+    }
+}
+
+/// The gap of the cell at its place, and else the other.
+#[inline(always)]
+fn cell_gap(cell: Option<Cell>, place: usize, otherwise: u64) -> u64
+    ensures { result ≡ cell_gap_of cell place otherwise }
+{
+    let Some(cell) = cell else {
+        return otherwise;
+    };
+    if cell.place == place {
+        return cell.gap;
+    }
+    otherwise
+}
+
+/// The gap at a place of a line: that of its cell there, and else the plain one.
+#[inline(always)]
+pub fn gap_by_cells(gaps: LineGaps, place: usize, plain: u64) -> u64
+    ensures { result ≡ cell_gap_of gaps.comment place (cell_gap_of gaps.assign place plain) }
+{
+    cell_gap(gaps.comment, place, cell_gap(gaps.assign, place, plain))
+}
+
+/// Whether the bytes are ASCII without CR, so that each is a grapheme cluster.
+#[inline(always)]
+fn is_simple(bytes: &[u8]) -> bool
+    ensures { result ≡ is_simple_of bytes.now }
+{
+    bytes.iter().all(|b| *b < 128 && *b != b'\r')
+}
+
+/// How many extended grapheme clusters a text has.
+#[inline(never)]
+fn count_clusters(text: &str) -> u64
+    ensures count { result ≡ length (graphemes true text.now) }
+    ensures within { result ≤ length text.now }
+{
+    text.graphemes(true).count() as u64
+}
+
+/// The same, with a short way for most texts. What counts the others is a call, so that its callers stay short.
+#[inline(always)]
+fn clusters(text: &str) -> u64
+    ensures count { result ≡ length (graphemes true text.now) }
+    ensures within { result ≤ length text.now }
+{
+    if is_simple(text.as_bytes()) {
+        return text.len() as u64;
+    }
+    count_clusters(text)
+}
+
+/// The width before the token at a place of the line that begins at a token.
+pub fn width(tokens: &Tokens<'_>, at: usize, len: usize, place: usize, gaps: LineGaps) -> u64
+    requires within { at + len ≤ length tokens.now.tokens }
+    requires there { place ≤ len }
+    requires level { gaps.level ≤ max_open }
+    requires small { len_with_blanks tokens.now.tokens < 2 ^ 32 }
+    requires fits { width_of place (gaps_in gaps (take len (drop at tokens.now.tokens))) (take len (drop at tokens.now.tokens)) < 2 ^ 64 }
+    ensures { result ≡ width_of place (gaps_in gaps (take len (drop at tokens.now.tokens))) (take len (drop at tokens.now.tokens)) }
+{
+    let mut columns = 0;
+    for k in 0..place {
+        let token = tokens.get(at + k);
+        let plain = plain_gap_at(tokens, gaps.level, at, at + k, token);
+        let gap = gap_by_cells(gaps, k, plain);
+        columns += gap + clusters(token.text);
+    }
+    columns
+}

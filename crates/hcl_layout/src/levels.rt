@@ -1,0 +1,53 @@
+//! Levels, by depth.
+ghost use Rattle.std.specs.Prelude.{◌≡◌, ◌≤◌, ◌+◌, ◌*◌, ◌-◌};
+ghost use Rattle.hcl_syntax.specs.Balanced.{max_open};
+ghost use Rattle.hcl_layout.specs.Inner.Depths.{Sound, level_at, levels_behind, raised};
+
+/// The depths at which a line can end: from 0 to as many openers as may be open.
+pub const DEPTHS: usize = 257;
+
+/// Sets the level of depths that stand next to one another.
+#[inline(always)]
+fn raise(levels: &mut [u32; DEPTHS], level: u32, from: u32, to: u32)
+    requires order { from ≤ to }
+    requires within { to ≤ max_open + 1 }
+    ensures { levels.new ≡ raised levels.old level from (to - from) }
+{
+    for depth in from..to {
+        levels[depth as usize] = level;
+    }
+}
+
+/// The level of a line, by the depths before and behind it. The levels are then those behind it.
+#[inline(always)]
+pub fn next_level(levels: &mut [u32; DEPTHS], before: u32, now: u32) -> u32
+    requires before { before ≤ max_open }
+    requires now { now ≤ max_open }
+    requires sound { Sound before levels.old }
+    ensures level { result ≡ level_at before now levels.old }
+    ensures levels { levels.new ≡ levels_behind before now levels.old }
+    ensures small { result ≤ max_open }
+    ensures sound { Sound now levels.new }
+{
+    let level = levels[before.min(now) as usize];
+    if before < now {
+        let own = levels[before as usize] + 1;
+        raise(levels, own, before + 1, now + 1);
+    }
+    level
+}
+
+/// The level of a line that ends no deeper than it begins, and so leaves the levels as they are.
+#[inline(always)]
+pub fn kept_level(levels: &[u32; DEPTHS], before: u32, now: u32) -> u32
+    requires order { now ≤ before }
+    requires before { before ≤ max_open }
+    requires sound { Sound before levels.now }
+    ensures level { result ≡ level_at before now levels.now }
+    ensures levels { levels.now ≡ levels_behind before now levels.now }
+    ensures small { result ≤ max_open }
+    ensures sound { Sound now levels.now }
+{
+    levels[now as usize]
+}
+

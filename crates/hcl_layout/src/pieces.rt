@@ -1,0 +1,117 @@
+//! The pieces of the print, one after another: each token with the gap before it.
+ghost use Rattle.std.specs.Prelude.{◌≡◌, ◌<◌, ◌≤◌, ◌+◌, ◌*◌, ◌^◌, ◌++◌, ◌∷◌, [], List, length, IfSome, MatchOption};
+ghost use Rattle.hcl_scan.specs.Lexemes.{Lexeme};
+ghost use Rattle.hcl_layout.specs.Inner.Depths.{BalancedFrom};
+ghost use Rattle.hcl_layout.specs.Inner.Left.{IsFrom, Ready, bytes_of, gaps_left, rest_gaps, to_print};
+ghost use Rattle.hcl_layout.specs.Inner.LineGaps.{len_with_blanks};
+ghost use Rattle.hcl_layout.specs.Print.{print};
+
+use crate::gap::{LineGaps, gap_by_cells, plain_gap_at, plain_line};
+use crate::line::line_at;
+use crate::runs::{Walk, comment_column_at, commented_line, start_walk};
+use hcl_scan::Tokens;
+
+/// Where the next piece stands: the number of its token, where its line begins and ends, the
+/// line's gaps, and what is known of the lines up to its end.
+#[derive(Clone, Copy)]
+pub struct Pieces {
+    pub next: usize,
+    pub start: usize,
+    pub end: usize,
+    pub gaps: LineGaps,
+    pub walk: Walk,
+    pub comment: Option<u64>,
+}
+
+/// A token's text, which begins at a byte offset of the source, and so many blanks before it.
+#[derive(Clone, Copy)]
+pub struct Piece<'s> {
+    pub gap: u64,
+    pub text: &'s str,
+    pub start: usize,
+}
+
+/// Before the first token.
+pub fn start() -> Pieces
+    ensures ready { (ts : List Lexeme) → BalancedFrom 0 ts → Ready ts result }
+    ensures all { (ts : List Lexeme) → BalancedFrom 0 ts → to_print ts result ≡ print ts }
+    ensures first { result.next ≡ 0 }
+{
+    Pieces {
+        next: 0,
+        start: 0,
+        end: 0,
+        gaps: plain_line(0),
+        walk: start_walk(),
+        comment: None,
+    }
+}
+
+/// Goes on to the next line.
+fn enter_line(pieces: &mut Pieces, tokens: &Tokens<'_>)
+    requires ready { Ready tokens.now.tokens pieces.old }
+    requires done { pieces.old.next ≡ pieces.old.end }
+    requires within { pieces.old.end < length tokens.now.tokens }
+    requires small { len_with_blanks tokens.now.tokens < 2 ^ 32 }
+    ensures ready { Ready tokens.now.tokens pieces.new }
+    ensures left { gaps_left tokens.now.tokens pieces.new ≡ rest_gaps tokens.now.tokens pieces.old }
+    ensures same { pieces.new.next ≡ pieces.old.next }
+    ensures some { pieces.new.next < pieces.new.end }
+{
+    let at = pieces.end;
+    let line = line_at(tokens, at, pieces.walk.depth);
+    let comment = comment_column_at(&pieces.walk, pieces.comment, tokens, at, line);
+    let gaps = pieces.walk.pass(tokens, at, line);
+    pieces.gaps = commented_line(tokens, at, line, gaps, comment);
+    pieces.start = at;
+    pieces.end = at + line.len;
+    pieces.comment = comment;
+}
+
+/// The piece at hand.
+#[inline(always)]
+fn take_piece<'s>(pieces: &mut Pieces, tokens: &Tokens<'s>) -> Piece<'s>
+    requires ready { Ready tokens.now.tokens pieces.old }
+    requires some { pieces.old.next < pieces.old.end }
+    requires small { len_with_blanks tokens.now.tokens < 2 ^ 32 }
+    ensures ready { Ready tokens.now.tokens pieces.new }
+    ensures left { to_print tokens.now.tokens pieces.old ≡ bytes_of result ++ to_print tokens.now.tokens pieces.new }
+    ensures next { pieces.new.next ≡ pieces.old.next + 1 }
+    ensures gap { result.gap ≤ 2 ^ 34 }
+    ensures text { length result.text.now < 2 ^ 32 }
+    ensures source { IsFrom tokens.now.text result.start result.text.now }
+{
+    let (start, at) = (pieces.start, pieces.next);
+    let token = tokens.get(at);
+    let plain = plain_gap_at(tokens, pieces.gaps.level, start, at, token);
+    let gap = gap_by_cells(pieces.gaps, at - start, plain);
+    pieces.next = at + 1;
+    Piece {
+        gap,
+        text: token.text,
+        start: token.start,
+    }
+}
+
+/// The next piece.
+#[inline(always)]
+pub fn next_piece<'s>(pieces: &mut Pieces, tokens: &Tokens<'s>) -> Option<Piece<'s>>
+    requires ready { Ready tokens.now.tokens pieces.old }
+    requires small { len_with_blanks tokens.now.tokens < 2 ^ 32 }
+    ensures ready { Ready tokens.now.tokens pieces.new }
+    ensures left { MatchOption result (to_print tokens.now.tokens pieces.old ≡ []) (λ p. to_print tokens.now.tokens pieces.old ≡ bytes_of p ++ to_print tokens.now.tokens pieces.new) }
+    ensures next { IfSome result (λ p. pieces.new.next ≡ pieces.old.next + 1) }
+    ensures within { pieces.new.next ≤ length tokens.now.tokens }
+    ensures gap { IfSome result (λ p. p.gap ≤ 2 ^ 34) }
+    ensures text { IfSome result (λ p. length p.text.now < 2 ^ 32) }
+    ensures source { IfSome result (λ p. IsFrom tokens.now.text p.start p.text.now) }
+{
+    if pieces.next < pieces.end {
+        return Some(take_piece(pieces, tokens));
+    }
+    if pieces.end == tokens.len() {
+        return None;
+    }
+    enter_line(pieces, tokens);
+    Some(take_piece(pieces, tokens))
+}

@@ -1,0 +1,266 @@
+//! The lines, one after another, with the columns of the runs in which they stand.
+ghost use Rattle.std.specs.Prelude.{◌*◌, ◌≡◌, ◌<◌, ◌≤◌, ◌+◌, ◌-◌, ◌^◌, ℕ, length, take, drop, Some, None, ◌∷◌, IfSome};
+ghost use Rattle.hcl_syntax.specs.Balanced.{max_open};
+ghost use Rattle.hcl_layout.specs.Columns.{widest};
+ghost use Rattle.hcl_layout.specs.Cells.{assign_cell, trailing_comment};
+ghost use Rattle.hcl_layout.specs.Inner.Depths.{depth_after, fresh, levels_behind};
+ghost use Rattle.hcl_layout.specs.Gaps.{align, plain_gaps, width as width_of};
+ghost use Rattle.hcl_layout.specs.Inner.LineGaps.{len_with_blanks, gaps_in};
+ghost use Rattle.hcl_layout.specs.Lines.{lines};
+ghost use Rattle.hcl_layout.specs.Inner.Stream.{assign_column, assign_widths, next_of, comment_column, comment_widths, plain};
+ghost use Rattle.hcl_layout.specs.Inner.Survey.{IsLine, text_at};
+ghost use Rattle.hcl_layout.specs.Inner.Walks.{Stands};
+
+use crate::gap::{Cell, LineGaps, plain_line, width};
+use crate::levels::{DEPTHS, kept_level, next_level};
+use crate::line::{LineFacts, line_at};
+use hcl_scan::Tokens;
+
+/// What is known of the lines that were passed: the depth, the levels by depth, and the column of
+/// the last line's run of assign cells.
+#[derive(Clone, Copy)]
+pub struct Walk {
+    pub depth: u32,
+    pub levels: [u32; DEPTHS],
+    pub column: Option<u64>,
+}
+
+/// What is known before the first line.
+pub fn start_walk() -> Walk
+    ensures depth { result.depth ≡ 0 }
+    ensures levels { result.levels ≡ fresh }
+    ensures column { result.column ≡ None }
+{
+    Walk {
+        depth: 0,
+        levels: [0; DEPTHS],
+        column: None,
+    }
+}
+
+/// The width before a place of a line, by the level and the spacing alone.
+#[inline(always)]
+fn plain_width(tokens: &Tokens<'_>, at: usize, len: usize, place: usize, level: u32) -> u64
+    requires within { at + len ≤ length tokens.now.tokens }
+    requires there { place ≤ len }
+    requires level { level ≤ max_open }
+    requires small { len_with_blanks tokens.now.tokens < 2 ^ 32 }
+    ensures value { result ≡ width_of place (plain_gaps level (take len (drop at tokens.now.tokens))) (take len (drop at tokens.now.tokens)) }
+    ensures small { result ≤ 2 * max_open + len_with_blanks tokens.now.tokens }
+{
+    width(tokens, at, len, place, plain_line(level))
+}
+
+/// The greatest width before the assign cells of the run that begins at a place, over a copy of the levels, which its
+/// lines may change.
+#[inline(never)]
+fn assign_ahead_deepening(
+    from_depth: u32,
+    from_levels: &[u32; DEPTHS],
+    tokens: &Tokens<'_>,
+    from: usize,
+) -> u64
+    requires within { from ≤ length tokens.now.tokens }
+    requires stands { Stands tokens.now.tokens from from_depth from_levels.now }
+    requires small { len_with_blanks tokens.now.tokens < 2 ^ 32 }
+    ensures value { result ≡ widest (assign_widths from_depth from_levels.now (lines (drop from tokens.now.tokens))) }
+    ensures small { result ≤ 2 * max_open + len_with_blanks tokens.now.tokens }
+{
+    let count = tokens.len();
+    let mut depth = from_depth;
+    let mut levels = *from_levels;
+    let mut at = from;
+    let mut greatest = 0;
+    while at < count {
+        let line = line_at(tokens, at, depth);
+        let Some(place) = line.assign else {
+            return greatest;
+        };
+        let level = next_level(&mut levels, depth, line.depth);
+        let width = plain_width(tokens, at, line.len, place, level);
+        greatest = greatest.max(width);
+        depth = line.depth;
+        at += line.len;
+    }
+    greatest
+}
+
+/// The greatest width before the assign cells of the run that begins at a place. Hardly a run has a line that ends
+/// deeper than it begins, so the levels, which are a KiB, are copied from the first such line on.
+#[inline(never)]
+fn assign_ahead(walk: &Walk, tokens: &Tokens<'_>, from: usize) -> u64
+    requires within { from ≤ length tokens.now.tokens }
+    requires stands { Stands tokens.now.tokens from walk.now.depth walk.now.levels }
+    requires small { len_with_blanks tokens.now.tokens < 2 ^ 32 }
+    ensures value { result ≡ widest (assign_widths walk.now.depth walk.now.levels (lines (drop from tokens.now.tokens))) }
+    ensures small { result ≤ 2 * max_open + len_with_blanks tokens.now.tokens }
+{
+    let count = tokens.len();
+    let mut depth = walk.depth;
+    let mut at = from;
+    let mut greatest = 0;
+    while at < count {
+        let line = line_at(tokens, at, depth);
+        let Some(place) = line.assign else {
+            return greatest;
+        };
+        if depth < line.depth {
+            return greatest.max(assign_ahead_deepening(depth, &walk.levels, tokens, at));
+        }
+        let level = kept_level(&walk.levels, depth, line.depth);
+        let width = plain_width(tokens, at, line.len, place, level);
+        greatest = greatest.max(width);
+        depth = line.depth;
+        at += line.len;
+    }
+    greatest
+}
+
+/// The column of an assign cell of that width: that of the line before it, where the run goes on,
+/// or else the greatest width of the run that it begins. `next` is where the line after it begins.
+#[inline(always)]
+fn run_column(walk: &Walk, tokens: &Tokens<'_>, next: usize, own: u64) -> u64
+    requires within { next ≤ length tokens.now.tokens }
+    requires stands { Stands tokens.now.tokens next walk.now.depth walk.now.levels }
+    requires small { len_with_blanks tokens.now.tokens < 2 ^ 32 }
+    requires fits { IfSome walk.now.column (λ c. c < 2 ^ 33) }
+    requires own { own ≤ 2 * max_open + len_with_blanks tokens.now.tokens }
+    ensures value { Some result ≡ next_of walk.now.column (Some own ∷ assign_widths walk.now.depth walk.now.levels (lines (drop next tokens.now.tokens))) }
+    ensures fits { result < 2 ^ 33 }
+{
+    match walk.column {
+        Some(column) => column,
+        None => own.max(assign_ahead(walk, tokens, next)),
+    }
+}
+
+impl Walk {
+    /// Passes the line at a place, and gives its gaps with the assign cell in its column.
+    #[inline(always)]
+    pub fn pass(&mut self, tokens: &Tokens<'_>, at: usize, line: LineFacts) -> LineGaps
+        requires within { at < length tokens.now.tokens }
+        requires stands { Stands tokens.now.tokens at self.old.depth self.old.levels }
+        requires line { IsLine tokens.now.tokens at self.old.depth line }
+        requires small { len_with_blanks tokens.now.tokens < 2 ^ 32 }
+        requires fits { IfSome self.old.column (λ c. c < 2 ^ 33) }
+        ensures gaps { gaps_in result (text_at tokens.now.tokens at line) ≡ align assign_cell (plain self.old.depth self.old.levels (text_at tokens.now.tokens at line)) (text_at tokens.now.tokens at line) (assign_column self.old.depth self.old.levels self.old.column (lines (drop at tokens.now.tokens))) }
+        ensures level { result.level ≤ max_open }
+        ensures comment { result.comment ≡ None }
+        ensures assign { IfSome result.assign (λ c. c.gap ≤ 2 ^ 33) }
+        ensures narrow { (k : ℕ) → width_of k (gaps_in result (text_at tokens.now.tokens at line)) (text_at tokens.now.tokens at line) < 2 ^ 34 }
+        ensures depth { self.new.depth ≡ depth_after self.old.depth (text_at tokens.now.tokens at line) }
+        ensures levels { self.new.levels ≡ levels_behind self.old.depth (depth_after self.old.depth (text_at tokens.now.tokens at line)) self.old.levels }
+        ensures column { self.new.column ≡ assign_column self.old.depth self.old.levels self.old.column (lines (drop at tokens.now.tokens)) }
+        ensures stands { Stands tokens.now.tokens (at + line.len) self.new.depth self.new.levels }
+        ensures fits { IfSome self.new.column (λ c. c < 2 ^ 33) }
+    {
+        let before = self.depth;
+        let level = next_level(&mut self.levels, before, line.depth);
+        self.depth = line.depth;
+        let Some(place) = line.assign else {
+            self.column = None;
+            return plain_line(level);
+        };
+        let own = plain_width(tokens, at, line.len, place, level);
+        let column = run_column(self, tokens, at + line.len, own);
+        self.column = Some(column);
+        let gap = column.saturating_sub(own) + 1;
+        LineGaps {
+            level,
+            assign: Some(Cell { place, gap }),
+            comment: None,
+        }
+    }
+}
+
+/// The greatest width before the trailing comments of the run that begins at a place.
+#[inline(never)]
+fn comment_ahead(walk: &Walk, tokens: &Tokens<'_>, from: usize) -> u64
+    requires within { from ≤ length tokens.now.tokens }
+    requires stands { Stands tokens.now.tokens from walk.now.depth walk.now.levels }
+    requires small { len_with_blanks tokens.now.tokens < 2 ^ 32 }
+    requires fits { IfSome walk.now.column (λ c. c < 2 ^ 33) }
+    ensures value { result ≡ widest (comment_widths walk.now.depth walk.now.levels walk.now.column (lines (drop from tokens.now.tokens))) }
+    ensures small { result < 2 ^ 34 }
+{
+    let count = tokens.len();
+    let mut ahead = *walk;
+    let mut at = from;
+    let mut greatest = 0;
+    while at < count {
+        let line = line_at(tokens, at, ahead.depth);
+        let Some(place) = line.running else {
+            return greatest;
+        };
+        let gaps = ahead.pass(tokens, at, line);
+        let width = width(tokens, at, line.len, place, gaps);
+        greatest = greatest.max(width);
+        at += line.len;
+    }
+    greatest
+}
+
+/// The column of the trailing comment of the line at a place, by that of the line before.
+pub fn comment_column_at(
+    walk: &Walk,
+    comment: Option<u64>,
+    tokens: &Tokens<'_>,
+    at: usize,
+    line: LineFacts,
+) -> Option<u64>
+    requires within { at < length tokens.now.tokens }
+    requires stands { Stands tokens.now.tokens at walk.now.depth walk.now.levels }
+    requires line { IsLine tokens.now.tokens at walk.now.depth line }
+    requires small { len_with_blanks tokens.now.tokens < 2 ^ 32 }
+    requires column { IfSome walk.now.column (λ c. c < 2 ^ 33) }
+    requires fits { IfSome comment (λ c. c < 2 ^ 34) }
+    ensures value { result ≡ comment_column walk.now.depth walk.now.levels walk.now.column comment (lines (drop at tokens.now.tokens)) }
+    ensures fits { IfSome result (λ c. c < 2 ^ 34) }
+{
+    let Some(_place) = line.running else {
+        return None;
+    };
+    let Some(comment) = comment else {
+        return Some(comment_ahead(walk, tokens, at));
+    };
+    Some(comment)
+}
+
+/// The gaps of a line with its trailing comment in the column of its run, if it stands in one.
+pub fn commented_line(
+    tokens: &Tokens<'_>,
+    at: usize,
+    line: LineFacts,
+    gaps: LineGaps,
+    comment: Option<u64>,
+) -> LineGaps
+    requires within { at + line.len ≤ length tokens.now.tokens }
+    requires cell { line.comment ≡ trailing_comment (text_at tokens.now.tokens at line) }
+    requires level { gaps.level ≤ max_open }
+    requires plain { gaps.comment ≡ None }
+    requires small { len_with_blanks tokens.now.tokens < 2 ^ 32 }
+    requires narrow { (k : ℕ) → width_of k (gaps_in gaps (text_at tokens.now.tokens at line)) (text_at tokens.now.tokens at line) < 2 ^ 34 }
+    requires fits { IfSome comment (λ c. c < 2 ^ 34) }
+    ensures gaps { gaps_in result (text_at tokens.now.tokens at line) ≡ align trailing_comment (gaps_in gaps (text_at tokens.now.tokens at line)) (text_at tokens.now.tokens at line) comment }
+    ensures level { result.level ≡ gaps.level }
+    ensures assign { result.assign ≡ gaps.assign }
+    ensures comment { IfSome result.comment (λ c. c.gap ≤ 2 ^ 34) }
+{
+    let Some(place) = line.comment else {
+        return gaps;
+    };
+    let Some(column) = comment else {
+        let cell = Cell { place, gap: 1 };
+        return LineGaps {
+            comment: Some(cell),
+            ..gaps
+        };
+    };
+    let own = width(tokens, at, line.len, place, gaps);
+    let gap = column.saturating_sub(own) + 1;
+    let cell = Cell { place, gap };
+    LineGaps {
+        comment: Some(cell),
+        ..gaps
+    }
+}

@@ -1,0 +1,21 @@
+-- What is put out of a piece before the items of its body.
+use Rattle.std.specs.Prelude.{◌≡◌, ◌<◌, ◌≤◌, ◌+◌, ℕ, List, [], ◌++◌}
+use Rattle.hcl_scan.specs.Lexemes.{Lexeme}
+use Rattle.hcl_syntax.specs.Numbered.{Numbered}
+use Rattle.hcl_syntax.specs.Items.{block, item_of}
+use Rattle.hcl_syntax.specs.Inner.Pieces.{words}
+use Rattle.hcl_syntax.specs.declared.pieces.Body.{Body}
+use Rattle.hcl_syntax.specs.declared.item.Item.{Item}
+
+-- with the items of its body behind, it is the item of the piece, whatever the items of bodies are
+pub record PutsPiece (tokens : List Lexeme) (level from to : ℕ) (old new : List Item) (body : Body) : Type 0 where
+  pub is : (inner : List Numbered → List Item) → inner [] ≡ [] → new ++ inner (words tokens body.first body.end) ≡ old ++ item_of inner level (words tokens from to)
+  pub within : body.end ≤ to
+  pub deeper : body.first < body.end → from < body.first
+
+-- the same of a block, by its kind
+pub record PutsBlock (tokens : List Lexeme) (level kind to : ℕ) (old new : List Item) (body : Body) : Type 0 where
+  pub is : (inner : List Numbered → List Item) (head : Numbered) → head.number ≡ kind
+      → new ++ inner (words tokens body.first body.end) ≡ old ++ block inner level head (words tokens (kind + 1) to)
+  pub within : body.end ≤ to
+  pub deeper : kind < body.first
