@@ -1,6 +1,6 @@
 -- One kind for each text and no empty text, for all places from expressions and templates; and a reading that lacks something can't go on.
 use Rattle.std.proofs.Common.{◌≡◌, ℕ, ◌<◌, Bool, List, [], ◌∷◌, ◌++◌, length, get_or, None, ◌⊎◌, inl, inr, ⊎_elim, refl, sym, ap, subst, ◌∙◌, arith, length-drop}
-use Rattle.hcl_scan.specs.Lexemes.{Lexeme, Opener, marker_of, moved}
+use Rattle.hcl_scan.specs.Lexemes.{Lexeme, Opener, marker_of, moved, max_open}
 use Rattle.hcl_scan.specs.Spelling.{IsExpressionText, IsTextIn, Context, Template, Expression, context, element_len, IsLit}
 use Rattle.hcl_scan.specs.Scans.{State, gap_len, owed, ahead, IsLongest, IsMarkerLine, Shows, Reads, Next, Run}
 use Rattle.hcl_scan.specs.Faults.{Lacks, at_end, no_token, too_deep, no_marker_line, end_fault}
@@ -67,7 +67,7 @@ nonempty some opens dot kind text rest h = some_in some (context opens) opens do
 
 -- WHERE SOMETHING IS LACKING nothing is read
 module _ (one : OneKind) (some : Nonempty) where
-  deep_reads : (s : State) (k : Kind) (text rest : List ℕ) → IsLongest s.opens s.after_dot (ahead s) k text rest → 256 < length (moved k s.opens) → (t : Lexeme) (next : State) → Reads s t next → ⊥
+  deep_reads : (s : State) (k : Kind) (text rest : List ℕ) → IsLongest s.opens s.after_dot (ahead s) k text rest → max_open < length (moved k s.opens) → (t : Lexeme) (next : State) → Reads s t next → ⊥
   deep_reads s k text rest x deep t next r =
       let same = one_longest one s.opens s.after_dot (ahead s) k t.kind text t.text rest r.rest x r.longest in
       omega (arith, deep, r.room, ap length r.opens, ap (λ (z : Kind). length (moved z s.opens)) same.kind_is)

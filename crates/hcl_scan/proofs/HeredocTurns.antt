@@ -7,7 +7,7 @@ use Rattle.std.proofs.lemmas.Bool.{cases_order}
 use Rattle.std.proofs.lemmas.Bool.Decides.{nat_tests}
 use Rattle.std.proofs.lemmas.List.{length-map}
 use Rattle.std.proofs.lemmas.List.Sums.{prefix_len-le-length}
-use Rattle.hcl_scan.specs.Lexemes.{Opener, Heredoc, marker_of, moved}
+use Rattle.hcl_scan.specs.Lexemes.{Opener, Heredoc, marker_of, moved, max_open}
 use Rattle.hcl_scan.specs.Spelling.{is_blank, starts, context, Expression, IsHeredocOpen}
 use Rattle.hcl_scan.specs.Scans.{Shows, hides, IsLongest, IsMarkerLine, IsFirstMarkerLine, closer_len, is_marker_line, skip_blanks, ends_line, ahead, is_dot}
 use Rattle.hcl_scan.specs.Faults.{too_deep, no_marker_line}
@@ -91,7 +91,7 @@ module _ (s : Scanner) (e : Entry) (sound : IsSound s) (is : IsNext s e) (opens 
   longest_so = subst (λ (k : Kind). IsLongest (openers_of s.stack) s.after_dot (ahead (state_of s)) k word rest) kind_is (subst (λ l. IsLongest (openers_of s.stack) s.after_dot l e.kind word rest) (ahead_is s e.start is.start) is.longest)
 
   -- its marker line is missing
-  pub no_line : length s.stack < 256 → ((n : ℕ) → ¬ IsMarkerLine (marker_of word) rest n) → IsStopped s (record { kind = UnterminatedHeredoc; at = e.start })
+  pub no_line : length s.stack < max_open → ((n : ℕ) → ¬ IsMarkerLine (marker_of word) rest n) → IsStopped s (record { kind = UnterminatedHeredoc; at = e.start })
   no_line room none = record {
     lacks = no_marker_line word rest longest_so (omega (arith, room, length-map s.stack (λ (o : Opened). opener_of o.by))) none refl;
     at = is.start.gap;
@@ -99,7 +99,7 @@ module _ (s : Scanner) (e : Entry) (sound : IsSound s) (is : IsNext s e) (opens 
   }
 
   -- its marker line is found
-  module _ (line : ℕ) (utf8 : IsUtf8 rest) (room : length s.stack < 256) (first : IsFirstMarkerLine (marker_of word) rest line) where
+  module _ (line : ℕ) (utf8 : IsUtf8 rest) (room : length s.stack < max_open) (first : IsFirstMarkerLine (marker_of word) rest line) where
     abbrev marker : List ℕ
     marker = marker_of word
 
@@ -180,7 +180,7 @@ module _ (s : Scanner) (e : Entry) (sound : IsSound s) (is : IsNext s e) (opens 
               λ i. record { closer = closer i; after = after i } ∷ hidden_of s.text.now s.stack s.end
 
 -- TOO DEEP
-pub deep : (s : Scanner) (e : Entry) (is : IsNext s e) (opener : Opener) → length s.stack ≡ 256 → moved e.kind (openers_of s.stack) ≡ opener ∷ openers_of s.stack → IsStopped s (record { kind = TooDeep; at = e.start })
+pub deep : (s : Scanner) (e : Entry) (is : IsNext s e) (opener : Opener) → length s.stack ≡ max_open → moved e.kind (openers_of s.stack) ≡ opener ∷ openers_of s.stack → IsStopped s (record { kind = TooDeep; at = e.start })
 deep s e is opener full moves = record {
   lacks = too_deep e.kind (slice_range s.text.now e.start e.end) (slice_range s.text.now e.end s.end)
       (subst (λ l. IsLongest (openers_of s.stack) s.after_dot l e.kind (slice_range s.text.now e.start e.end) (slice_range s.text.now e.end s.end)) (ahead_is s e.start is.start) is.longest)
@@ -189,15 +189,15 @@ deep s e is opener full moves = record {
   boundary = is.start.boundary;
 }
 
-pub deep_opener : (s : Scanner) (e : Entry) (is : IsNext s e) (opener : kept.Opener) → length s.stack ≡ 256 → opened_by e.kind ≡ Some opener → IsStopped s (record { kind = TooDeep; at = e.start })
+pub deep_opener : (s : Scanner) (e : Entry) (is : IsNext s e) (opener : kept.Opener) → length s.stack ≡ max_open → opened_by e.kind ≡ Some opener → IsStopped s (record { kind = TooDeep; at = e.start })
 deep_opener s e is opener full opens = deep s e is (opener_of opener) full (sym (opens_so e.kind opener (openers_of s.stack) opens).0)
 
-pub deep_heredoc : (s : Scanner) (e : Entry) (is : IsNext s e) → length s.stack ≡ 256 → is_heredoc_open e.kind ≡ true → IsStopped s (record { kind = TooDeep; at = e.start })
+pub deep_heredoc : (s : Scanner) (e : Entry) (is : IsNext s e) → length s.stack ≡ max_open → is_heredoc_open e.kind ≡ true → IsStopped s (record { kind = TooDeep; at = e.start })
 deep_heredoc s e is full opens = deep s e is Heredoc full (ap (λ (k : Kind). moved k (openers_of s.stack)) (heredoc_kind e.kind opens))
 
 -- whether the stack is full
-pub is_full : (n : ℕ) → (n == 256) ≡ true → n ≡ 256
+pub is_full : (n : ℕ) → (n == max_open) ≡ true → n ≡ max_open
 is_full n h = grind (arith, nat_tests)
 
-pub has_room : (n : ℕ) → n ≤ 256 → (n == 256) ≡ false → n < 256
+pub has_room : (n : ℕ) → n ≤ max_open → (n == max_open) ≡ false → n < max_open
 has_room n le h = grind (arith, nat_tests)

@@ -1,6 +1,6 @@
 -- Inside an outermost heredoc the tokens don't depend on what stands behind it.
 use Rattle.std.proofs.Common.{◌≡◌, ℕ, ◌+◌, ◌<◌, Bool, true, false, List, [], ◌∷◌, length, drop, ◌≤◌, inl, inr, refl, sym, ap, subst, ◌∙◌, arith}
-use Rattle.hcl_scan.specs.Lexemes.{Lexeme, Opener, in_heredoc, marker_of, moved}
+use Rattle.hcl_scan.specs.Lexemes.{Lexeme, Opener, in_heredoc, marker_of, moved, max_open}
 use Rattle.hcl_scan.specs.Scans.{State, Hidden, hides, is_dot, gap_len, gap_in, ahead, offsets_of, IsLongest, Shows, Reads, Closes, Next}
 use Rattle.hcl_scan.specs.InHeredocs.{behind_last, SameInside, ReadsToo}
 use Rattle.hcl_scan.proofs.Showing.{Shown, opening, plain, shown, plain_shows, open_shows}
@@ -43,7 +43,7 @@ module _ (other : List ℕ) (s twin : State) (t : Lexeme) (next : State) (same :
           at = refl;
           opens = refl;
           offsets = refl;
-          room = subst (λ (o : List Opener). length o ≤ 256) (sym opens_is) r.room;
+          room = subst (λ (o : List Opener). length o ≤ max_open) (sym opens_is) r.room;
           after_dot = refl;
           shows = shows;
         });

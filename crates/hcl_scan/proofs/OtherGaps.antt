@@ -3,7 +3,7 @@
 -- where the bytes are the same and only what stands behind it is another.
 use Rattle.std.proofs.Common.{◌≡◌, ℕ, ◌+◌, ◌≤◌, Bool, true, false, List, [], ◌∷◌, ◌++◌, length, take, drop, replicate, ⊎_elim, refl, sym, ap, subst, ◌∙◌, arith, length-append, append_assoc}
 use Rattle.std.proofs.lemmas.List.{take-append-drop}
-use Rattle.hcl_scan.specs.Lexemes.{Lexeme, Opener, Heredoc, marker_of, moved, in_heredoc}
+use Rattle.hcl_scan.specs.Lexemes.{Lexeme, Opener, Heredoc, marker_of, moved, in_heredoc, max_open}
 use Rattle.hcl_scan.specs.Spelling.{IsSpelling, context, Expression}
 use Rattle.hcl_scan.specs.Scans.{State, Hidden, hides, is_dot, gap_len, offsets_of, owed, begin, skip_blanks, ends_line, closer_len, IsLongest, IsFirstMarkerLine, Shows, Reads, Closes, Run, Scans, IsComplete}
 use Rattle.hcl_scan.specs.Regapped.{tokens_of, text_of, placed, AllFit}
@@ -117,8 +117,8 @@ module _ (p : ℕ × Lexeme) (ps : List (ℕ × Lexeme)) (outside : Outside ps) 
           longest = subst (λ l. IsLongest s.opens s.after_dot l t.kind t.text (text_of ps)) (sym (drop_blanks p.0 (t.text ++ text_of ps)))
               (follows s t next end ps r none run.2 done (subst (λ d. AllFit d t.kind ps) (sym dot_is) parts.1))
 
-          room : length (moved t.kind s.opens) ≤ 256
-          room = subst (λ (o : List Opener). length o ≤ 256) r.opens r.room
+          room : length (moved t.kind s.opens) ≤ max_open
+          room = subst (λ (o : List Opener). length o ≤ max_open) r.opens r.room
 
           push : (seen' : List ℕ) (hidden' : List Hidden) → Shows t.kind t.text (text_of ps) [] seen' hidden' → Again (record { at = at'; opens = next.opens; offsets = offsets'; after_dot = next.after_dot; seen = seen'; hidden = hidden' }) (placed at' ps) → goal
           push seen' hidden' shows again = push_reads at s.opens offsets s.after_dot seen [] p.0 t (text_of ps) seen' hidden' (placed at' ps)
@@ -166,8 +166,8 @@ module _ (p : ℕ × Lexeme) (ps : List (ℕ × Lexeme)) (outside : Outside ps) 
         longest : IsLongest s.opens s.after_dot (drop p.0 s.seen) t.kind t.text r.rest
         longest = subst (λ n. IsLongest s.opens s.after_dot (drop n s.seen) t.kind t.text r.rest) (no_len ∙ sym gap) r.longest
 
-        room : length (moved t.kind s.opens) ≤ 256
-        room = subst (λ (o : List Opener). length o ≤ 256) r.opens r.room
+        room : length (moved t.kind s.opens) ≤ max_open
+        room = subst (λ (o : List Opener). length o ≤ max_open) r.opens r.room
 
         offsets' : List ℕ
         offsets' = offsets_of (at + p.0) s.opens (moved t.kind s.opens) offsets

@@ -2,7 +2,7 @@
 use Rattle.std.proofs.Common.{◌≡◌, ℕ, ◌+◌, ◌≤◌, ◌||◌, ◌==◌, not, Bool, true, false, cond, IsTrue, List, [], ◌∷◌, length, drop, inl, inr, refl, sym, ap, subst, ◌∙◌, arith}
 use Rattle.std.proofs.lemmas.Bool.Decides.{nat_tests}
 use Rattle.std.specs.List.{prefix_len}
-use Rattle.hcl_scan.specs.Lexemes.{Lexeme, Opener, Heredoc, moved, in_heredoc}
+use Rattle.hcl_scan.specs.Lexemes.{Lexeme, Opener, Heredoc, moved, in_heredoc, max_open}
 use Rattle.hcl_scan.specs.Spelling.{is_blank, context, Context, Template, Expression}
 use Rattle.hcl_scan.specs.Scans.{State, Hidden, is_dot, gap_in, has_gaps_in, offsets_of, IsLongest, Shows, Run, IsComplete}
 use Rattle.hcl_scan.specs.Regapped.{is_template, touches, fits}
@@ -46,7 +46,7 @@ module _ (at : ℕ) (opens : List Opener) (offsets : List ℕ) (dot : Bool) (see
   abbrev pub went : State
   went = record { at = at + gap + length t.text; opens = moved t.kind opens; offsets = offsets_of (at + gap) opens (moved t.kind opens) offsets; after_dot = is_dot t.kind; seen = seen'; hidden = hidden' }
 
-  pub push_reads : (ts : List Lexeme) → gap_in opens seen ≡ gap → IsLongest opens dot (drop gap seen) t.kind t.text rest → t.inside_heredoc ≡ in_heredoc opens → length (moved t.kind opens) ≤ 256 → Shows t.kind t.text rest hidden seen' hidden' → Again went ts → Again (record { at = at; opens = opens; offsets = offsets; after_dot = dot; seen = seen; hidden = hidden }) (moved_on t (at + gap) ∷ ts)
+  pub push_reads : (ts : List Lexeme) → gap_in opens seen ≡ gap → IsLongest opens dot (drop gap seen) t.kind t.text rest → t.inside_heredoc ≡ in_heredoc opens → length (moved t.kind opens) ≤ max_open → Shows t.kind t.text rest hidden seen' hidden' → Again went ts → Again (record { at = at; opens = opens; offsets = offsets; after_dot = dot; seen = seen; hidden = hidden }) (moved_on t (at + gap) ∷ ts)
   push_reads ts gap_is longest inside room shows again = (
     again.0,
     (

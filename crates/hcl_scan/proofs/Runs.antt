@@ -2,7 +2,7 @@
 use Rattle.std.proofs.Common.{◌≡◌, ℕ, ◌+◌, ◌<◌, ◌≤◌, Bool, false, List, [], ◌∷◌, ◌++◌, length, take, drop, inl, inr, ⊎_elim, refl, sym, ap, subst, ◌∙◌, arith, length-append, length-drop, Some}
 use Rattle.std.proofs.lemmas.Bool.{cases_order}
 use Rattle.std.proofs.Math.Seq.{take-append_seam, drop-append_seam}
-use Rattle.hcl_scan.specs.Lexemes.{Lexeme, Opener, marker_of, moved, opened}
+use Rattle.hcl_scan.specs.Lexemes.{Lexeme, Opener, marker_of, moved, opened, max_open}
 use Rattle.hcl_scan.specs.Spelling.{IsSpelling}
 use Rattle.hcl_scan.specs.Scans.{State, Hidden, hides, is_dot, gap_len, offsets_of, owed, begin, ahead, IsLongest, IsFirstMarkerLine, Shows, Reads, Closes, Next, Run, Scans, IsComplete}
 use Rattle.hcl_scan.specs.Faults.{Lacks, at_end, no_token, too_deep, no_marker_line, end_fault, fault_offset, IsScanFault}
@@ -185,15 +185,15 @@ pub opens_after : (s : State) (ts : List Lexeme) (end : State) → Run s ts end 
 opens_after s [] end run = ap (λ (z : State). z.opens) (sym run)
 opens_after s (t ∷ ts) end run = opens_after run.0 ts end run.2 ∙ ap (λ o. opened o ts) (opens_next s t run.0 run.1)
 
-room_next : (s : State) (t : Lexeme) (next : State) → length s.opens ≤ 256 → Next s t next → length next.opens ≤ 256
+room_next : (s : State) (t : Lexeme) (next : State) → length s.opens ≤ max_open → Next s t next → length next.opens ≤ max_open
 room_next s t next room (inl x) = x.room
 room_next s t next room (inr y) = omega (arith, room, ap length y.top, ap (λ (z : State). length z.opens) y.next_is)
 
--- at every prefix at most 256 entries are open
-pub bounded : (s : State) (us vs : List Lexeme) (end : State) → length s.opens ≤ 256 → Run s (us ++ vs) end → length (opened s.opens us) ≤ 256
+-- at every prefix at most max_open entries are open
+pub bounded : (s : State) (us vs : List Lexeme) (end : State) → length s.opens ≤ max_open → Run s (us ++ vs) end → length (opened s.opens us) ≤ max_open
 bounded s [] vs end room run = room
 bounded s (u ∷ us) vs end room run =
-    subst (λ o. length (opened o us) ≤ 256) (opens_next s u run.0 run.1) (bounded run.0 us vs end (room_next s u run.0 room run.1) run.2)
+    subst (λ o. length (opened o us) ≤ max_open) (opens_next s u run.0 run.1) (bounded run.0 us vs end (room_next s u run.0 room run.1) run.2)
 
-pub scan_bounded : (text : List ℕ) (us vs : List Lexeme) → Scans text (us ++ vs) → length (opened [] us) ≤ 256
+pub scan_bounded : (text : List ℕ) (us vs : List Lexeme) → Scans text (us ++ vs) → length (opened [] us) ≤ max_open
 scan_bounded text us vs scans = bounded (begin text) us vs scans.0 (omega arith) scans.1

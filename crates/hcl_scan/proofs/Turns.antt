@@ -7,7 +7,8 @@ use Rattle.std.proofs.lemmas.Str.{IsCharBoundary-start, IsCharBoundary-end}
 use Rattle.std.proofs.lemmas.Bool.Decides.{nat_tests}
 use Rattle.std.proofs.lemmas.List.{length-map}
 use Rattle.std.proofs.lemmas.List.Sums.{prefix_len-le-length}
-use Rattle.hcl_scan.specs.Lexemes.{Opener, in_heredoc, moved, Heredoc, Quote, Sequence, Brace, Bracket, Paren}
+use Rattle.hcl_source.specs.Load.{max_source}
+use Rattle.hcl_scan.specs.Lexemes.{Opener, in_heredoc, moved, Heredoc, Quote, Sequence, Brace, Bracket, Paren, max_open}
 use Rattle.hcl_scan.specs.Spelling.{is_blank, Context, Template, Expression, context, context_in}
 use Rattle.hcl_scan.specs.Scans.{State, Hidden, Shows, IsLongest, gap_len, ahead, is_dot, offsets_of, owed, owes, has_gaps_in, HasNone}
 use Rattle.hcl_scan.specs.Faults.{no_token, at_end, no_token_fault, fault_offset, owed_offset, end_fault}
@@ -45,7 +46,7 @@ module _ (s : Scanner) (e : Entry) (sound : IsSound s) (is : IsNext s e) where
   pub entry_is : IsEntry s.text.now e
   entry_is = record { order = omega (arith, is.order); start = is.start.boundary; end = is.boundary }
 
-  pub moves : (stack : List Opened) (dot : Bool) → dot ≡ is_dot e.kind → e.kind ≢ HeredocOpen → openers_of stack ≡ moved e.kind (openers_of s.stack) → offsets_in stack ≡ offsets_of e.start (openers_of s.stack) (openers_of stack) (offsets_in s.stack) → hidden_of s.text.now stack s.end ≡ hidden_of s.text.now s.stack s.end → IsStack s.text.now stack s.end → length stack ≤ 256 → Moves s e (record { text = s.text; at = e.end; end = s.end; after_dot = dot; stack = stack })
+  pub moves : (stack : List Opened) (dot : Bool) → dot ≡ is_dot e.kind → e.kind ≢ HeredocOpen → openers_of stack ≡ moved e.kind (openers_of s.stack) → offsets_in stack ≡ offsets_of e.start (openers_of s.stack) (openers_of stack) (offsets_in s.stack) → hidden_of s.text.now stack s.end ≡ hidden_of s.text.now s.stack s.end → IsStack s.text.now stack s.end → length stack ≤ max_open → Moves s e (record { text = s.text; at = e.end; end = s.end; after_dot = dot; stack = stack })
   moves stack dot dot_is kind_is opens_are offsets_are hidden_is stack_is room = record {
     same_text = refl;
     entry = entry_is;
@@ -82,7 +83,7 @@ module _ (s : Scanner) (e : Entry) (sound : IsSound s) (is : IsNext s e) where
   opener_no_dot HeredocOpen opener h = absurd (cc)
   opener_no_dot _ opener h = (refl, λ k. cc)
 
-  pub reads_opener : (opener : kept.Opener) (stack : List Opened) → opened_by e.kind ≡ Some opener → length s.stack < 256 → stack ≡ opened_on opener e.start s.stack → Moves s e (record { text = s.text; at = e.end; end = s.end; after_dot = false; stack = stack })
+  pub reads_opener : (opener : kept.Opener) (stack : List Opened) → opened_by e.kind ≡ Some opener → length s.stack < max_open → stack ≡ opened_on opener e.start s.stack → Moves s e (record { text = s.text; at = e.end; end = s.end; after_dot = false; stack = stack })
   reads_opener opener stack opens_is room stack_is =
       let spelled = is.longest.spelled in
       let so = opens_so e.kind opener (openers_of s.stack) opens_is in
@@ -94,7 +95,7 @@ module _ (s : Scanner) (e : Entry) (sound : IsSound s) (is : IsNext s e) where
       (omega (arith, room)))
 
 -- AT THE FRONT
-pub sound_new : (s : Scanner) → length s.text.now ≤ 4194304 → IsUtf8 s.text.now → s.at ≡ 0 → s.end ≡ length s.text.now → s.stack ≡ [] → IsSound s
+pub sound_new : (s : Scanner) → length s.text.now ≤ max_source → IsUtf8 s.text.now → s.at ≡ 0 → s.end ≡ length s.text.now → s.stack ≡ [] → IsSound s
 sound_new s small utf8 at end stack = record {
   small = small;
   order = omega (arith, at);
@@ -159,7 +160,7 @@ next_is s start n kind inside sound is found boundary inside_is =
           (subst (λ r. IsLongest (openers_of s.stack) s.after_dot (slice_range text start s.end) kind (take n (slice_range text start s.end)) r) (sym (back_of text start s.end n within)) found.longest);
     }
 
-pub next_fits : (s : Scanner) (start n : ℕ) (kind : Kind) → IsSound s → IsStart s start → Finds (openers_of s.stack) s.after_dot (slice_range s.text.now start s.end) kind n → start + n ≤ 4194304
+pub next_fits : (s : Scanner) (start n : ℕ) (kind : Kind) → IsSound s → IsStart s start → Finds (openers_of s.stack) s.after_dot (slice_range s.text.now start s.end) kind n → start + n ≤ max_source
 next_fits s start n kind sound is found = omega (arith, found.within, slice_len s.text.now start s.end is.within sound.within, sound.within, sound.small)
 
 -- NO TOKEN BEGINS THERE

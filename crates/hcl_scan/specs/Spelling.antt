@@ -1,4 +1,6 @@
--- The texts of each kind.
+-- The texts of each kind: a set of whole texts for each kind and context (HCL Native Syntax Specification, "Lexical
+-- Elements" and "Templates"; identifiers by UAX 31, with `-`). For the last sign of a literal and for a slash it depends
+-- on what follows.
 use Rattle.std.specs.Prelude.{◌≡◌, ℕ, zero, suc, ◌-◌, ◌<◌, ◌==◌, ◌||◌, ◌&&◌, Bool, true, false, IsTrue, IsFalse, List, [], ◌∷◌, ◌++◌, length, drop, if◌then◌else◌, codes, encode_utf8_all, Option, Some, None, ◌⊎◌}
 use Rattle.std.specs.Option.{option_map_or}
 use Rattle.std.specs.Char.{is_ascii_digit, is_ascii_hexdigit}

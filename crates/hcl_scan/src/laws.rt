@@ -3,7 +3,7 @@
 
 ghost use Rattle.std.specs.Prelude.{◌≡◌, ◌⊎◌, ◌<◌, ◌≤◌, ◌++◌, ℕ, Bool, true, false, IsTrue, IsFalse, IsUtf8, IfSome, IfNone, List, [], ◌∷◌, length, take, drop};
 ghost use Rattle.hcl_scan.specs.Spelling.{IsSpelling};
-ghost use Rattle.hcl_scan.specs.Lexemes.{Lexeme, Opener, opened, in_heredoc, marker_of};
+ghost use Rattle.hcl_scan.specs.Lexemes.{Lexeme, Opener, opened, in_heredoc, marker_of, max_open};
 ghost use Rattle.hcl_scan.specs.Scans.{Scans, State, Next, Run, IsLongest, IsFirstMarkerLine, Hidden, hides, ends_line, skip_blanks};
 ghost use Rattle.hcl_scan.specs.Neighbours.{stays};
 ghost use Rattle.hcl_scan.specs.Regapped.{AllFit, placed, text_of, tokens_of};
@@ -56,9 +56,9 @@ pub fn context_of_list()
     ensures { (s : State) (ts : List Lexeme) (end : State) → Run s ts end → end.opens ≡ opened s.opens ts }
 {}
 
-/// After each front of a text's list of tokens at most 256 things are open.
+/// After each front of a text's list of tokens at most `max_open` things are open.
 pub fn bounded()
-    ensures { (text : List ℕ) (front back : List Lexeme) → Scans text (front ++ back) → length (opened [] front) ≤ 256 }
+    ensures { (text : List ℕ) (front back : List Lexeme) → Scans text (front ++ back) → length (opened [] front) ≤ max_open }
 {}
 
 /// At one place a text has one kind, and no token is empty.

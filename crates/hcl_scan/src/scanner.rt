@@ -2,6 +2,7 @@
 
 ghost use Rattle.std.specs.Prelude.{◌≡◌, ◌<◌, ◌≤◌, ◌≢◌, ◌∷◌, [], List, true, false, None, Some, length, slice_range, IfSome, IfNone, IfOk, IfErr, OnOk, MatchOption};
 ghost use Rattle.std.specs.Str.{IsCharBoundary};
+ghost use Rattle.hcl_source.specs.Load.{max_source};
 ghost use Rattle.hcl_scan.specs.Lexemes.{in_heredoc};
 ghost use Rattle.hcl_scan.specs.Spelling.{context, Template, Expression};
 ghost use Rattle.hcl_scan.specs.Scans.{ahead, begin, is_dot, HasNone, IsComplete};
@@ -79,7 +80,7 @@ fn no_expression(seen: &[u8]) -> FaultKind
 impl<'s> Scanner<'s> {
     /// At the front of a text.
     pub fn new(text: &'s str) -> Scanner<'s>
-        requires { length text.now ≤ 4_194_304 }
+        requires { length text.now ≤ max_source }
         ensures text { result.text ≡ text.entry }
         ensures sound { IsSound result }
         ensures state { state_of result ≡ begin text.now }

@@ -1,6 +1,7 @@
 //! What is open while a text is scanned.
 
 ghost use Rattle.std.specs.Prelude.{◌≡◌, ◌==◌, ◌<◌, ◌≤◌, ◌∷◌, [], length, drop, MatchOption};
+ghost use Rattle.hcl_scan.specs.Lexemes.{max_open};
 ghost use Rattle.hcl_scan.specs.Spelling.{context, context_in};
 ghost use Rattle.hcl_scan.specs.Scans.{owes};
 ghost use Rattle.hcl_scan.specs.Inner.Openings.{opener_of, openers_of, is_group_by, popped_groups, same_opener, popped_if, closes_on, top_closes, opened_on, closed, quoted_in, template_top, innermost_owed};
@@ -40,10 +41,13 @@ impl Default for Opened {
     }
 }
 
-/// At most 256 openers, the innermost on top.
+/// How much may be open at once.
+pub const MAX_OPEN: usize = 256;
+
+/// At most `MAX_OPEN` openers, the innermost on top.
 #[derive(Drop)]
 pub struct Stack {
-    entries: ArrayVec<Opened, 256>,
+    entries: ArrayVec<Opened, MAX_OPEN>,
 }
 
 impl Model for Stack {
@@ -115,14 +119,14 @@ impl Stack {
     }
 
     pub fn is_full(&self) -> bool
-        ensures full { result ≡ (length self.now == 256) }
-        ensures small { length self.now ≤ 256 }
+        ensures full { result ≡ (length self.now == max_open) }
+        ensures small { length self.now ≤ max_open }
     {
         self.entries.is_full()
     }
 
     pub fn push(&mut self, opened: Opened)
-        requires { length self.old < 256 }
+        requires { length self.old < max_open }
         ensures { self.new ≡ opened ∷ self.old }
     {
         self.entries.push(opened);
@@ -179,7 +183,7 @@ impl Stack {
 
     /// Puts what opens here on top.
     pub fn open(&mut self, by: Opener, at: u32)
-        requires { length self.old < 256 }
+        requires { length self.old < max_open }
         ensures { self.new ≡ opened_on by at self.old }
     {
         let closes_sequence = closes_on(by, self.closes_sequence());

@@ -2,7 +2,8 @@
 -- Our own choice of representation: offsets into one text in place of its parts.
 use Rattle.std.specs.Prelude.{◌≡◌, ℕ, ◌+◌, ◌<◌, ◌≤◌, Bool, true, false, IsTrue, List, [], ◌∷◌, length, slice_range, map}
 use Rattle.std.specs.Str.{IsCharBoundary}
-use Rattle.hcl_scan.specs.Lexemes.{Lexeme, Opener, Sequence, in_heredoc, closes_sequence}
+use Rattle.hcl_source.specs.Load.{max_source}
+use Rattle.hcl_scan.specs.Lexemes.{Lexeme, Opener, Sequence, in_heredoc, closes_sequence, max_open}
 use Rattle.hcl_scan.specs.Spelling.{Context, Template, Expression, context}
 use Rattle.hcl_scan.specs.Scans.{State, Next, IsLongest, IsComplete, gap_len}
 use Rattle.hcl_scan.specs.Faults.{Lacks, fault_offset}
@@ -36,13 +37,13 @@ IsStack text [] end = end ≡ length text
 IsStack text (o ∷ stack) end = (o.closes_sequence ≡ closes_sequence (openers_of (o ∷ stack))) × IsTrue (fits_in (opener_of o.by) (context (openers_of stack))) × IsCharBoundary text o.at × AreEndsBy text end o.by (IsStack text stack)
 
 pub record IsSound (s : Scanner) : Type 0 where
-  pub small : length s.text.now ≤ 4194304
+  pub small : length s.text.now ≤ max_source
   pub order : s.at ≤ s.end
   pub within : s.end ≤ length s.text.now
   pub start : IsCharBoundary s.text.now s.at
   pub end : IsCharBoundary s.text.now s.end
   pub stack : IsStack s.text.now s.stack s.end
-  pub depth : length s.stack ≤ 256
+  pub depth : length s.stack ≤ max_open
 
 -- the token of an entry
 abbrev pub lexeme_of : List ℕ → Entry → Lexeme
