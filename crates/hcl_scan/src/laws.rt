@@ -11,7 +11,7 @@ ghost use Rattle.hcl_scan.specs.SideBySide.{AreTexts, Besides};
 ghost use Rattle.hcl_scan.specs.InHeredocs.{ReadsToo, SameInside};
 ghost use Rattle.hcl_scan.specs.declared.token.Kind.TheVariants.{Newline, HeredocOpen};
 ghost use Rattle.hcl_scan.specs.Faults.{IsScanFault};
-ghost use Rattle.hcl_source.specs.Load.{max_source, IsText, IsLoadFault, has_mark};
+ghost use Rattle.hcl_source.specs.Load.{max_source, IsText, IsLoadFault, has_byte_order_mark};
 ghost use Rattle.hcl_source.specs.declared.fault.Fault.{Fault};
 ghost use Rattle.hcl_source.specs.declared.fault.FaultKind.{FaultKind};
 ghost use Rattle.hcl_scan.specs.declared.token.Kind.{Kind};
@@ -96,7 +96,7 @@ pub fn other_gaps()
 /// The tokens of a text that is UTF-8 are UTF-8, and the first begins with no byte order mark.
 pub fn texts()
     ensures utf8 { (text : List ℕ) (ts : List Lexeme) → IsUtf8 text → Scans text ts → AreTexts ts }
-    ensures unmarked { (text : List ℕ) (t : Lexeme) (ts : List Lexeme) (more : List ℕ) → Scans text (t ∷ ts) → IsFalse (has_mark (t.text ++ more)) }
+    ensures unmarked { (text : List ℕ) (t : Lexeme) (ts : List Lexeme) (more : List ℕ) → Scans text (t ∷ ts) → IsFalse (has_byte_order_mark (t.text ++ more)) }
 {}
 
 /// Inside an outermost heredoc the tokens are the same, whatever text stands behind it.

@@ -12,11 +12,11 @@ mod expression_tests;
 mod heredoc;
 mod ident;
 pub mod laws;
-mod lit;
-mod mark;
+mod literal;
 mod number;
 #[cfg(test)]
 mod pair_tests;
+mod punctuation;
 mod scanner;
 mod stack;
 mod template;

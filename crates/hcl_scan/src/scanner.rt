@@ -12,7 +12,7 @@ ghost use Rattle.hcl_scan.specs.Inner.Openings.{openers_of, opened_by, is_heredo
 ghost use Rattle.hcl_scan.specs.declared.stack.Opened.{Opened};
 ghost use Rattle.hcl_scan.specs.Inner.Scanners.{state_of, IsSound, IsStart, IsNext, IsStopped, Moves};
 
-use crate::expression::{Place, next_in_expression};
+use crate::expression::{Surroundings, next_in_expression};
 use crate::heredoc::{closer_len, marker_line, marker_of};
 use crate::stack::{Opener, Stack};
 use crate::template::next_in_template;
@@ -129,7 +129,7 @@ impl<'s> Scanner<'s> {
             Some(quoted) => next_in_template(seen.as_bytes(), quoted),
             None => next_in_expression(
                 seen,
-                Place {
+                Surroundings {
                     after_dot: self.after_dot,
                     inside_heredoc: self.inside_heredoc(),
                     closes_sequence: self.stack.closes_sequence(),

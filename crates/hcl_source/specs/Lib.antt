@@ -1,4 +1,4 @@
 pub mod Devices
-pub mod Texts
+pub mod FaultTexts
 pub mod Places
 pub mod Load

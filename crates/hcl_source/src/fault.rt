@@ -1,7 +1,7 @@
 //! What a text is refused for, and where.
 
 ghost use Rattle.std.specs.Prelude.{◌≡◌};
-ghost use Rattle.hcl_source.specs.Texts.{fault_text};
+ghost use Rattle.hcl_source.specs.FaultTexts.{fault_text};
 
 use thiserror::Error;
 

@@ -1,9 +1,9 @@
 pub mod LookaheadLemmas
-pub mod Steps
-pub mod Owed
-pub mod Rows
-pub mod Moves
-pub mod Balance
+pub mod StepLemmas
+pub mod OwedLemmas
+pub mod RowLemmas
+pub mod MoveLemmas
+pub mod BalanceLemmas
 pub mod RelationLemmas
 pub mod WordLemmas
 pub mod SoughtLemmas

@@ -4,8 +4,8 @@ use Rattle.hcl_scan.specs.Scans.{Next, Run, begin}
 use Rattle.hcl_scan.specs.Inner.Scanners.{state_of, lexeme_of, Moves}
 use Rattle.hcl_scan.specs.declared.token.Entry.{Entry}
 use Rattle.hcl_scan.specs.declared.scanner.Scanner.{Scanner}
-use Rattle.hcl_scan.proofs.AllPlaces.{Run-push}
-use Rattle.hcl_scan.proofs.Scanning.{all_read, token_read, fault_of}
+use Rattle.hcl_scan.proofs.AllContextLemmas.{Run-push}
+use Rattle.hcl_scan.proofs.ScanLemmas.{all_read, token_read, fault_of}
 use Rattle.hcl_scan.proofs.laws.list_or_fault.Goals as goal
 
 abbrev Read : List ℕ → Scanner → Type 0

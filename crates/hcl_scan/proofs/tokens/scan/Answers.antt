@@ -1,6 +1,6 @@
 use Rattle.std.proofs.Common.{arith}
 use Rattle.hcl_scan.specs.Inner.Scanners.{lexemes_of}
-use Rattle.hcl_scan.proofs.Scanning.{token_read, more_parts, same_still, more_run, fault_of}
+use Rattle.hcl_scan.proofs.ScanLemmas.{token_read, more_parts, same_still, more_run, fault_of}
 use Rattle.hcl_scan.proofs.tokens.scan.Goals as goal
 
 pub loop-entry-preserved : goal.loop-entry-preserved

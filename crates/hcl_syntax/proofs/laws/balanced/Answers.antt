@@ -1,4 +1,4 @@
-use Rattle.hcl_syntax.proofs.Balance.{balance}
+use Rattle.hcl_syntax.proofs.BalanceLemmas.{balance}
 use Rattle.hcl_syntax.proofs.laws.balanced.Goals as goal
 
 pub returns : goal.returns

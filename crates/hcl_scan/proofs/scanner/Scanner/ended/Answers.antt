@@ -2,7 +2,7 @@ use Rattle.std.proofs.Common.{Some, refl, sym, ap, ◌∙◌}
 use Rattle.hcl_scan.specs.Inner.Openings.{opener_of}
 use Rattle.hcl_scan.specs.Faults.{end_fault}
 use Rattle.hcl_source.specs.declared.fault.FaultKind.TheVariants.{UnterminatedQuote, UnterminatedTemplate}
-use Rattle.hcl_scan.proofs.Turns.{owed_none, owed_some, owed_stops, owed_template}
+use Rattle.hcl_scan.proofs.StepLemmas.{owed_none, owed_some, owed_stops, owed_template}
 use Rattle.hcl_scan.proofs.scanner.Scanner.ended.Goals as goal
 
 pub returns-in_default-clause-complete : goal.returns-in_default-clause-complete

@@ -1,7 +1,7 @@
 use Rattle.std.proofs.Common.{◌≡◌, ◌<◌, ℕ, List, length, drop, slice_range, sym, ap, subst, ◌∙◌, IsUtf8}
 use Rattle.hcl_scan.specs.Lexemes.{marker_of}
 use Rattle.hcl_scan.specs.Scans.{IsMarkerLine, IsFirstMarkerLine, closer_len}
-use Rattle.hcl_scan.proofs.HeredocTurns.{deep_heredoc, is_full, has_room, marker_some, no_line, opens_heredoc}
+use Rattle.hcl_scan.proofs.HeredocStepLemmas.{deep_heredoc, is_full, has_room, marker_some, no_line, opens_heredoc}
 use Rattle.hcl_scan.proofs.scanner.Scanner.read_heredoc.Goals as goal
 
 pub returns-then-is_full-clause-stopped : goal.returns-then-is_full-clause-stopped

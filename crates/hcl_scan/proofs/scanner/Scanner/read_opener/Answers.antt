@@ -1,6 +1,6 @@
 use Rattle.std.proofs.Common.{length, sym, ◌∙◌}
-use Rattle.hcl_scan.proofs.Turns.{reads_opener}
-use Rattle.hcl_scan.proofs.HeredocTurns.{deep_opener, is_full, has_room}
+use Rattle.hcl_scan.proofs.StepLemmas.{reads_opener}
+use Rattle.hcl_scan.proofs.HeredocStepLemmas.{deep_opener, is_full, has_room}
 use Rattle.hcl_scan.proofs.scanner.Scanner.read_opener.Goals as goal
 
 pub returns-then-is_full-clause-stopped : goal.returns-then-is_full-clause-stopped

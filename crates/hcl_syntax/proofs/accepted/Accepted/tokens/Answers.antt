@@ -1,6 +1,6 @@
 use Rattle.std.proofs.Common.{subst}
 use Rattle.hcl_syntax.specs.Balanced.{IsBalanced}
-use Rattle.hcl_syntax.proofs.Balance.{balance}
+use Rattle.hcl_syntax.proofs.BalanceLemmas.{balance}
 use Rattle.hcl_syntax.proofs.accepted.Accepted.tokens.Goals as goal
 
 pub returns-clause-balanced : goal.returns-clause-balanced

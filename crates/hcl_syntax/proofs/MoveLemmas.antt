@@ -1,0 +1,136 @@
+-- What the predictor owes over whole runs, and which tokens its refusals name.
+use Rattle.std.proofs.Common.{◌≡◌, ℕ, ◌+◌, ◌<◌, ◌≤◌, nat_lt, Bool, true, false, cond, List, [], ◌∷◌, ◌++◌, length, Some, None, arith, refl, subst, sym}
+use Rattle.hcl_scan.specs.Lexemes.{Lexeme, Opener}
+use Rattle.hcl_syntax.specs.declared.class.Class.{Class}
+use Rattle.hcl_syntax.specs.declared.class.Class.TheVariants.{Newline, Trivia}
+use Rattle.hcl_syntax.specs.declared.class.Lookahead.{Lookahead}
+use Rattle.hcl_syntax.specs.declared.expected.Newlines.{Newlines}
+use Rattle.hcl_syntax.specs.declared.expected.Newlines.TheVariants.{Seen, Dropped}
+use Rattle.hcl_syntax.specs.declared.refusal.Refusal.{Refusal}
+use Rattle.hcl_syntax.specs.declared.refusal.Refusal.TheVariants.{UnexpectedToken, UnexpectedEnd, TooDeep}
+use Rattle.hcl_syntax.specs.Classes.{drops, is_trivia}
+use Rattle.hcl_syntax.specs.Classes.{class_of, lookaheads_from, lookaheads}
+use Rattle.hcl_syntax.specs.Grammar.{Symbol, directive, section_directive, Marked, ◌at◌, Row, none, nothing, reads, opens, closes, row, ends}
+use Rattle.hcl_syntax.specs.Predictor.{max_directives, Turn, on, stop, turn, taken, next, run, ending, refusal_of}
+use Rattle.hcl_syntax.specs.Verdict.{IsAccepted}
+use Rattle.hcl_syntax.specs.Inner.Parsing.{Names}
+use Rattle.hcl_syntax.proofs.OwedLemmas.{owes, owes_all, Shift, HaveNumbers, RowMoves}
+use Rattle.hcl_syntax.proofs.RowLemmas.{owes_all-append, numbers-append, shift-above, moves-row}
+
+-- P holds of the number that a refusal names, where it names one
+abbrev pub Named : (ℕ → Type 0) → Refusal → Type 0
+Named P (UnexpectedToken n) = P n
+Named P UnexpectedEnd = Unit {0}
+Named P (TooDeep n) = P n
+
+abbrev TurnMoves : (ℕ → Type 0) → Turn → List Opener → Class → Type 0
+TurnMoves P (on o ss) a c = Shift c a (owes_all ss) × HaveNumbers P ss
+TurnMoves P (stop r) a c = Named P r
+
+-- the first symbol alone, and those behind it
+first-number : (P : ℕ → Type 0) (s : Symbol) (m : Newlines) (ss : List Marked) → HaveNumbers P (s at m ∷ ss) → HaveNumbers P (s at m ∷ [])
+first-number P (directive n) m ss h = (h.0, tt)
+first-number P (section_directive e n) m ss h = (h.0, tt)
+first-number P s m ss h = tt
+
+more-numbers : (P : ℕ → Type 0) (s : Symbol) (m : Newlines) (ss : List Marked) → HaveNumbers P (s at m ∷ ss) → HaveNumbers P ss
+more-numbers P (directive n) m ss h = h.1
+more-numbers P (section_directive e n) m ss h = h.1
+more-numbers P s m ss h = h
+
+shift-dropped : (m : Newlines) (c : Class) (a : List Opener) → drops m c ≡ true → Shift c a a
+shift-dropped Seen c a h = cc
+shift-dropped Dropped Newline a h = refl
+shift-dropped Dropped _ a h = cc
+
+shift-behind : (c : Class) (a : List Opener) (xs ss : List Marked) → Shift c a (owes_all xs) → Shift c (a ++ owes_all ss) (owes_all (xs ++ ss))
+shift-behind c a xs ss h = subst (λ l. Shift c (a ++ owes_all ss) l) (sym (owes_all-append xs ss)) (shift-above c a (owes_all xs) (owes_all ss) h)
+
+taken-moves : (P : ℕ → Type 0) (count : ℕ) (r : Row) (a : List Opener) (ss : List Marked) (passed : Turn) (t : Lookahead) → RowMoves P r a t.class → P t.number → HaveNumbers P ss →
+    TurnMoves P passed (owes_all ss) t.class → TurnMoves P (taken count r ss passed t) (a ++ owes_all ss) t.class
+taken-moves P count none a ss passed t h p k q = p
+taken-moves P count nothing a ss passed t h p k q = subst (λ l. TurnMoves P passed (l ++ owes_all ss) t.class) h q
+taken-moves P count (reads xs) a ss passed t h p k q = (shift-behind t.class a xs ss h.0, numbers-append P xs ss h.1 k)
+taken-moves P count (opens n xs) a ss passed t h p k q = elim (nat_lt count max_directives) as (λ b. TurnMoves P (cond b (on (count + 1) (xs ++ ss)) (stop (TooDeep n))) (a ++ owes_all ss) t.class)
+    [ true ↦ (shift-behind t.class a xs ss h.0, numbers-append P xs ss h.1 k) | false ↦ h.2 ]
+taken-moves P count (closes xs) a ss passed t h p k q = (shift-behind t.class a xs ss h.0, numbers-append P xs ss h.1 k)
+
+turn-by : (P : ℕ → Type 0) (count : ℕ) (s : Symbol) (m : Newlines) (ss : List Marked) (t : Lookahead) (b : Bool) → drops m t.class ≡ b → P t.number → HaveNumbers P (s at m ∷ ss) →
+    TurnMoves P (turn count ss t) (owes_all ss) t.class → TurnMoves P (cond b (on count (s at m ∷ ss)) (taken count (row s m t) ss (turn count ss t) t)) (owes s ++ owes_all ss) t.class
+turn-by P count s m ss t true e p h q = (shift-dropped m t.class (owes s ++ owes_all ss) e, h)
+turn-by P count s m ss t false e p h q = taken-moves P count (row s m t) (owes s) ss (turn count ss t) t (moves-row P s m t.number t.class p (first-number P s m ss h)) p (more-numbers P s m ss h) q
+
+pub turn-moves : (P : ℕ → Type 0) (count : ℕ) (ss : List Marked) (t : Lookahead) → P t.number → HaveNumbers P ss → TurnMoves P (turn count ss t) (owes_all ss) t.class
+turn-moves P count [] t p h = p
+turn-moves P count (s at m ∷ ss) t p h = turn-by P count s m ss t (drops m t.class) refl p h (turn-moves P count ss t p (more-numbers P s m ss h))
+
+-- Refusals name a token of the list.
+abbrev AllNumbered : (ℕ → Type 0) → List Lookahead → Type 0
+AllNumbered P [] = Unit {0}
+AllNumbered P (t ∷ ts) = P t.number × AllNumbered P ts
+
+ending-named : (P : ℕ → Type 0) (ss : List Marked) (r : Refusal) → ending ss ≡ Some r → Named P r
+ending-named P [] r h = cc
+ending-named P (s at m ∷ ss) r h = at-end P s ss r (ends s) h (λ k. ending-named P ss r k)
+  where
+    at-end : (P : ℕ → Type 0) (s : Symbol) (ss : List Marked) (r : Refusal) (b : Bool) → cond b (ending ss) (Some UnexpectedEnd) ≡ Some r → (ending ss ≡ Some r → Named P r) → Named P r
+    at-end P s ss r true h k = k h
+    at-end P s ss r false h k = let e : UnexpectedEnd ≡ r = cc in subst (λ x. Named P x) e tt
+
+next-named : (P : ℕ → Type 0) (w : Turn) (a : List Opener) (t : Lookahead) (ts : List Lookahead) (r : Refusal) → TurnMoves P w a t.class → next w (λ o rest. run o rest ts) ≡ Some r →
+    ((o : ℕ) (ss : List Marked) → HaveNumbers P ss → run o ss ts ≡ Some r → Named P r) → Named P r
+next-named P (on o ss) a t ts r q h k = k o ss q.1 h
+next-named P (stop f) a t ts r q h k = let e : f ≡ r = cc in subst (λ x. Named P x) e q
+
+run-named : (P : ℕ → Type 0) (count : ℕ) (ss : List Marked) (ts : List Lookahead) (r : Refusal) → HaveNumbers P ss → AllNumbered P ts → run count ss ts ≡ Some r → Named P r
+unfolding run
+run-named P count ss [] r h k e = ending-named P ss r e
+run-named P count ss (t ∷ ts) r h k e = next-named P (turn count ss t) (owes_all ss) t ts r (turn-moves P count ss t k.0 h) e (λ o us q f. run-named P o us ts r q k.1 f)
+
+all-numbered : (total n : ℕ) (ts : List Lexeme) → n + length ts ≤ total → AllNumbered (λ i. i < total) (lookaheads_from n ts)
+all-numbered total n [] h = tt
+all-numbered total n (t ∷ ts) h = numbered-by total n t ts (is_trivia (class_of t)) (omega arith) (all-numbered total (n + 1) ts (omega arith))
+  where
+    numbered-by : (total n : ℕ) (t : Lexeme) (ts : List Lexeme) (b : Bool) → n < total → AllNumbered (λ i. i < total) (lookaheads_from (n + 1) ts) →
+        AllNumbered (λ i. i < total) (cond b (lookaheads_from (n + 1) ts) (record { class = class_of t; number = n } ∷ lookaheads_from (n + 1) ts))
+    numbered-by total n t ts true h k = k
+    numbered-by total n t ts false h k = (h, k)
+
+named-is : (total : ℕ) (r : Refusal) → Named (λ i. i < total) r → Names r total
+named-is total (UnexpectedToken n) h = h
+named-is total UnexpectedEnd h = h
+named-is total (TooDeep n) h = h
+
+pub refusal-names : (ts : List Lexeme) (r : Refusal) → refusal_of (lookaheads ts) ≡ Some r → Names r (length ts)
+refusal-names ts r e = named-is (length ts) r (run-named (λ i. i < length ts) 0 _ (lookaheads ts) r tt (all-numbered (length ts) 0 ts (omega arith)) e)
+
+-- What the tokens of a front do to what is open.
+abbrev pub Shifts : List Lexeme → List Opener → List Opener → Type 0
+Shifts [] a b = a ≡ b
+Shifts (t ∷ ts) a b = (mid : List Opener) × Shift (class_of t) a mid × Shifts ts mid b
+
+shift-trivia : (c : Class) (a : List Opener) → is_trivia c ≡ true → Shift c a a
+shift-trivia Trivia a h = refl
+shift-trivia _ a h = cc
+
+abbrev Fronts : List Lexeme → List Marked → Type 0
+Fronts ps ss = (b : List Opener) × Shifts ps (owes_all ss) b
+
+next-shifts : (w : Turn) (a : List Opener) (n : ℕ) (t : Lexeme) (ps qs : List Lexeme) → TurnMoves (λ i. Unit {0}) w a (class_of t) → next w (λ o rest. run o rest (lookaheads_from (n + 1) (ps ++ qs))) ≡ None →
+    ((o : ℕ) (ss : List Marked) → HaveNumbers (λ i. Unit {0}) ss → run o ss (lookaheads_from (n + 1) (ps ++ qs)) ≡ None → Fronts ps ss) → (b : List Opener) × Shifts (t ∷ ps) a b
+next-shifts (on o ss) a n t ps qs q e k = let w = k o ss q.1 e in (w.0, (owes_all ss, q.0, w.1))
+next-shifts (stop f) a n t ps qs q e k = absurd (let h : Some f ≡ None = e in cc)
+
+shifts-by : (count : ℕ) (ss : List Marked) (n : ℕ) (t : Lexeme) (ps qs : List Lexeme) (b : Bool) → is_trivia (class_of t) ≡ b → HaveNumbers (λ i. Unit {0}) ss →
+    run count ss (cond b (lookaheads_from (n + 1) (ps ++ qs)) (record { class = class_of t; number = n } ∷ lookaheads_from (n + 1) (ps ++ qs))) ≡ None →
+    ((o : ℕ) (us : List Marked) → HaveNumbers (λ i. Unit {0}) us → run o us (lookaheads_from (n + 1) (ps ++ qs)) ≡ None → Fronts ps us) → (b : List Opener) × Shifts (t ∷ ps) (owes_all ss) b
+unfolding run
+shifts-by count ss n t ps qs true is h e k = let w = k count ss h e in (w.0, (owes_all ss, shift-trivia (class_of t) (owes_all ss) is, w.1))
+shifts-by count ss n t ps qs false is h e k = next-shifts (turn count ss (record { class = class_of t; number = n })) (owes_all ss) n t ps qs (turn-moves (λ i. Unit {0}) count ss (record { class = class_of t; number = n }) tt h) e k
+
+run-shifts : (count : ℕ) (ss : List Marked) (n : ℕ) (ps qs : List Lexeme) → HaveNumbers (λ i. Unit {0}) ss → run count ss (lookaheads_from n (ps ++ qs)) ≡ None → Fronts ps ss
+run-shifts count ss n [] qs h e = (owes_all ss, refl)
+run-shifts count ss n (t ∷ ps) qs h e = shifts-by count ss n t ps qs (is_trivia (class_of t)) refl h e (λ o us q f. run-shifts o us (n + 1) ps qs q f)
+
+pub accepted-shifts : (ps qs : List Lexeme) → IsAccepted (ps ++ qs) → (b : List Opener) × Shifts ps [] b
+accepted-shifts ps qs e = run-shifts 0 _ 0 ps qs tt e
