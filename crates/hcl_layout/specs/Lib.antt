@@ -6,4 +6,5 @@ pub mod Columns
 pub mod Gaps
 pub mod Print
 pub mod Reprinted
+pub mod Examples
 pub mod Inner

@@ -1,4 +1,19 @@
-//! Levels, by depth.
+//! Levels, by depth: how far a line is indented.
+//!
+//! The depth is how many openers are open. A line that ends deeper than it began starts one level, however many openers it
+//! has, and all depths that it reaches have that level from then on. A line stands at the level of the least deep of its two
+//! ends.
+//!
+//! ```text
+//!                  depth behind    level    levels of the depths 0, 1, 2, 3 behind it
+//!                       0                   0
+//! rules = [{            2            0      0 1 1
+//!   port = 80           2            1      0 1 1
+//!   tags = {            3            1      0 1 1 2
+//!     a = 1             3            2      0 1 1 2
+//!   }                   2            1      0 1 1
+//! }]                    0            0      0
+//! ```
 ghost use Rattle.std.specs.Prelude.{◌≡◌, ◌≤◌, ◌+◌, ◌*◌, ◌-◌};
 ghost use Rattle.hcl_syntax.specs.Balanced.{max_open};
 ghost use Rattle.hcl_layout.specs.Inner.Depths.{Sound, level_at, levels_behind, raised};

@@ -1,4 +1,14 @@
 //! The pieces of the print, one after another: each token with the gap before it.
+//!
+//! ```text
+//! source     name="web"# one
+//! tokens     name   =   "   web   "   # one   newline
+//! gaps       0      1   1   0     0   1       0
+//! print      name = "web" # one
+//! ```
+//!
+//! The line at hand has been surveyed, so its level and the gaps of its cells are known; the other gaps come from the table
+//! of spacing, token by token. At the end of the line the next one is surveyed.
 ghost use Rattle.std.specs.Prelude.{◌≡◌, ◌<◌, ◌≤◌, ◌+◌, ◌*◌, ◌^◌, ◌++◌, ◌∷◌, [], List, length, IfSome, MatchOption};
 ghost use Rattle.hcl_scan.specs.Lexemes.{Lexeme};
 ghost use Rattle.hcl_layout.specs.Inner.Depths.{BalancedFrom};

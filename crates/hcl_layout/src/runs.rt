@@ -1,4 +1,20 @@
 //! The lines, one after another, with the columns of the runs in which they stand.
+//!
+//! A run is what a block of adjacent cells is to a tab writer: the lines next to one another that have the cell, which is an
+//! assignment sign or a comment at the line's end. Its column is the greatest width before the cell.
+//!
+//! ```text
+//!                              width    column    gap before the sign
+//! name           = "web"         4        14       14 - 4 + 1
+//! instance_count = 2            14        14       14 - 14 + 1
+//! zone           = "a"           4        14       14 - 4 + 1
+//!                                -         -
+//! x = 1                          1         1       1 - 1 + 1
+//! ```
+//!
+//! A tab writer keeps the lines of a block until it ends. Here nothing is kept: at the first line of a run the lines ahead
+//! are measured up to its end, and the lines behind the first take the column of the line before. The comments' widths
+//! are measured with the assignment signs in their columns, so both runs are looked ahead at their first lines.
 ghost use Rattle.std.specs.Prelude.{◌*◌, ◌≡◌, ◌<◌, ◌≤◌, ◌+◌, ◌-◌, ◌^◌, ℕ, length, take, drop, Some, None, ◌∷◌, IfSome};
 ghost use Rattle.hcl_syntax.specs.Balanced.{max_open};
 ghost use Rattle.hcl_layout.specs.Columns.{widest};

@@ -1,4 +1,5 @@
-//! One blank or none between two neighbours on a line.
+//! One blank or none between two neighbours on a line. The words in quotation marks are headings of `docs/STYLE.md`, "Between
+//! two words of a line", where each rule stands with its examples.
 ghost use Rattle.std.specs.Prelude.{◌≡◌, IfNone, IfSome, Option, option_map};
 ghost use Rattle.hcl_scan.specs.Lexemes.{Lexeme};
 ghost use Rattle.hcl_scan.specs.Scanned.{lexeme};
@@ -66,7 +67,7 @@ fn is_opening(before: Option<Token<'_>>) -> bool
     is_opener(before.kind) || is_operator(before.kind) || awaits_operand(before.kind)
 }
 
-/// Whether the token stands close behind whatever it doesn't join.
+/// Whether the token stands close behind whatever it doesn't join: by "Dots", "Two colons", "Commas" and "Quotes".
 #[inline(always)]
 fn stands_close(kind: Kind) -> bool
     ensures { result ≡ stands_close_of kind }
@@ -91,34 +92,50 @@ fn space_behind_operand(right: Kind) -> bool
 }
 
 /// What two kinds tell alone, the second no Newline and outside heredocs. Nearly always they do, so this is a table by
-/// the first of them, and not the rows of the definition in next_level, of which most tokens pass all.
+/// the first of them, and not the rows of the definition in turn, of which most tokens pass all.
 #[inline(always)]
 fn pair_space(left: Kind, right: Kind) -> Option<bool>
     ensures { result ≡ pair_space_of left right }
 {
     match left {
+        // "Not", "Minus": a sign stands at its operand. What comes before tells a sign, and a `!` may not join a `=`, nor
+        // a `:` another
         Kind::Not | Kind::Minus | Kind::Colon => None,
+        // "Quotes": what is added there would be text; "Two colons": a name is one thing to its reader
         Kind::QuoteOpen | Kind::Lit | Kind::ColonColon => Some(false),
+        // "Dots": so are attributes of attributes; but two dots would be read as another mark
         Kind::Dot => Some(is_dot(right) || is_ellipsis(right)),
+        // "Commas": they part what stands behind them from the rest, but not from a comma or dots
         Kind::Comma => Some(
             !(is_dot(right) || is_colon_colon(right) || is_comma(right) || is_ellipsis(right)),
         ),
+        // "Brackets, parentheses": they hug what they hold; "Braces": a closing brace never does
         Kind::ParenOpen | Kind::BracketOpen => Some(is_brace_close(right)),
+        // "Braces": a blank on the inner side, and none in an empty pair
         Kind::BraceOpen => Some(!(stands_close(right) || is_brace_close(right))),
+        // "A number and a dot": an opener would join the `~` of the closer
         Kind::InterpOpen | Kind::ControlOpen if is_seq_close(right) => None,
+        // "Brackets, parentheses, `${ }` and `%{ }`" hug what they hold; "Braces": but for a brace, since `${{` reads badly
         Kind::InterpOpen | Kind::ControlOpen => Some(is_brace_open(right) || is_brace_close(right)),
+        // "Quotes and templates": what is added between a sequence and the next would be text
         Kind::SeqClose => Some(
             !(stands_close(right) || closes_group(right) || opens_sequence(right)),
         ),
+        // "Braces": `}}` reads badly at the end of a template
         Kind::BraceClose if is_seq_close(right) => Some(true),
+        // "A number and a dot" could be read as one number, unless a dot stands before both
         Kind::Number if is_dot(right) => None,
+        // "`in`" has a blank after it, while an index hugs a name, and a closer what it holds
         Kind::Ident if is_bracket_open(right) || closes_group(right) => None,
+        // "Calls": the name hugs its parenthesis
         Kind::Ident => Some(!(stands_close(right) || is_paren_open(right))),
+        // "Indexes": `[` hugs what is indexed
         Kind::BraceClose
         | Kind::Number
         | Kind::QuoteClose
         | Kind::ParenClose
         | Kind::BracketClose => Some(space_behind_operand(right)),
+        // "All else" has one blank, but before a closer and what stands close
         _ => Some(!(stands_close(right) || closes_group(right))),
     }
 }
@@ -130,14 +147,20 @@ fn asked_space(before: Option<Token<'_>>, subject: Token<'_>, after: Token<'_>) 
     ensures { result ≡ asked_space_of (option_map lexeme before.entry) (lexeme subject.entry) (lexeme after.entry) }
 {
     match subject.kind {
+        // "Not" has no blank after it, unless the two would be read as `!=`
         Kind::Not => begins_with_equals(after.text),
+        // "All else": a `:` has one blank, also where it would join another
         Kind::Colon => {
             begins_with_colon(after.text)
                 || !(stands_close(after.kind) || closes_group(after.kind))
         }
+        // "Minus" has none after it where it is a sign: where an expression begins
         Kind::Minus => !(stands_close(after.kind) || is_opening(before)),
+        // "A number and a dot": behind a dot the number is a step, and joins no other dot
         Kind::Number => !is_behind_dot(before),
+        // "`in`" after a name, as in a `for`
         Kind::Ident => subject.text == "in" && is_behind_ident(before),
+        // "A number and a dot": `${~` would be another opener
         _ => after.text == "~}",
     }
 }
@@ -149,6 +172,7 @@ pub fn space_by_kinds(subject: Token<'_>, after: Token<'_>) -> Option<bool>
     ensures given { IfSome result (λ space. (before : Option Lexeme) → space ≡ spaced before (lexeme subject.entry) (lexeme after.entry)) }
     ensures asked { IfNone result ((before : Option Lexeme) → asked_space_of before (lexeme subject.entry) (lexeme after.entry) ≡ spaced before (lexeme subject.entry) (lexeme after.entry)) }
 {
+    // "Blanks at the ends of lines" vanish, and "Heredocs" are kept byte for byte
     if is_newline(after.kind) || after.inside_heredoc {
         return Some(false);
     }

@@ -10,8 +10,8 @@ use Rattle.hcl_syntax.specs.declared.refusal.Refusal.{Refusal}
 use Rattle.hcl_syntax.specs.declared.refusal.Refusal.TheVariants.{UnexpectedToken, UnexpectedEnd, TooDeep}
 use Rattle.hcl_syntax.specs.Classes.{drops, is_trivia}
 use Rattle.hcl_syntax.specs.Classes.{class_of, lookaheads_from, lookaheads}
-use Rattle.hcl_syntax.specs.Grammar.{Symbol, directive, section_directive, Marked, ◌at◌, Row, none, nothing, reads, opens, closes, row, ends}
-use Rattle.hcl_syntax.specs.Predictor.{max_directives, Turn, on, stop, turn, taken, next, run, ending, refusal_of}
+use Rattle.hcl_syntax.specs.Grammar.{Symbol, directive, section_directive, Marked, ◌at◌, Action, none, nothing, reads, opens, closes, row, ends}
+use Rattle.hcl_syntax.specs.Predictor.{max_directives, Effect, on, stop, effect, taken, next, run, ending, refusal_of}
 use Rattle.hcl_syntax.specs.Verdict.{IsAccepted}
 use Rattle.hcl_syntax.specs.Inner.Parsing.{Names}
 use Rattle.hcl_syntax.proofs.OwedLemmas.{owes, owes_all, Shift, HaveNumbers, RowMoves}
@@ -23,9 +23,9 @@ Named P (UnexpectedToken n) = P n
 Named P UnexpectedEnd = Unit {0}
 Named P (TooDeep n) = P n
 
-abbrev TurnMoves : (ℕ → Type 0) → Turn → List Opener → Class → Type 0
-TurnMoves P (on o ss) a c = Shift c a (owes_all ss) × HaveNumbers P ss
-TurnMoves P (stop r) a c = Named P r
+abbrev EffectMoves : (ℕ → Type 0) → Effect → List Opener → Class → Type 0
+EffectMoves P (on o ss) a c = Shift c a (owes_all ss) × HaveNumbers P ss
+EffectMoves P (stop r) a c = Named P r
 
 -- the first symbol alone, and those behind it
 first-number : (P : ℕ → Type 0) (s : Symbol) (m : Newlines) (ss : List Marked) → HaveNumbers P (s at m ∷ ss) → HaveNumbers P (s at m ∷ [])
@@ -46,23 +46,23 @@ shift-dropped Dropped _ a h = cc
 shift-behind : (c : Class) (a : List Opener) (xs ss : List Marked) → Shift c a (owes_all xs) → Shift c (a ++ owes_all ss) (owes_all (xs ++ ss))
 shift-behind c a xs ss h = subst (λ l. Shift c (a ++ owes_all ss) l) (sym (owes_all-append xs ss)) (shift-above c a (owes_all xs) (owes_all ss) h)
 
-taken-moves : (P : ℕ → Type 0) (count : ℕ) (r : Row) (a : List Opener) (ss : List Marked) (passed : Turn) (t : Lookahead) → RowMoves P r a t.class → P t.number → HaveNumbers P ss →
-    TurnMoves P passed (owes_all ss) t.class → TurnMoves P (taken count r ss passed t) (a ++ owes_all ss) t.class
+taken-moves : (P : ℕ → Type 0) (count : ℕ) (r : Action) (a : List Opener) (ss : List Marked) (passed : Effect) (t : Lookahead) → RowMoves P r a t.class → P t.number → HaveNumbers P ss →
+    EffectMoves P passed (owes_all ss) t.class → EffectMoves P (taken count r ss passed t) (a ++ owes_all ss) t.class
 taken-moves P count none a ss passed t h p k q = p
-taken-moves P count nothing a ss passed t h p k q = subst (λ l. TurnMoves P passed (l ++ owes_all ss) t.class) h q
+taken-moves P count nothing a ss passed t h p k q = subst (λ l. EffectMoves P passed (l ++ owes_all ss) t.class) h q
 taken-moves P count (reads xs) a ss passed t h p k q = (shift-behind t.class a xs ss h.0, numbers-append P xs ss h.1 k)
-taken-moves P count (opens n xs) a ss passed t h p k q = elim (nat_lt count max_directives) as (λ b. TurnMoves P (cond b (on (count + 1) (xs ++ ss)) (stop (TooDeep n))) (a ++ owes_all ss) t.class)
+taken-moves P count (opens n xs) a ss passed t h p k q = elim (nat_lt count max_directives) as (λ b. EffectMoves P (cond b (on (count + 1) (xs ++ ss)) (stop (TooDeep n))) (a ++ owes_all ss) t.class)
     [ true ↦ (shift-behind t.class a xs ss h.0, numbers-append P xs ss h.1 k) | false ↦ h.2 ]
 taken-moves P count (closes xs) a ss passed t h p k q = (shift-behind t.class a xs ss h.0, numbers-append P xs ss h.1 k)
 
-turn-by : (P : ℕ → Type 0) (count : ℕ) (s : Symbol) (m : Newlines) (ss : List Marked) (t : Lookahead) (b : Bool) → drops m t.class ≡ b → P t.number → HaveNumbers P (s at m ∷ ss) →
-    TurnMoves P (turn count ss t) (owes_all ss) t.class → TurnMoves P (cond b (on count (s at m ∷ ss)) (taken count (row s m t) ss (turn count ss t) t)) (owes s ++ owes_all ss) t.class
-turn-by P count s m ss t true e p h q = (shift-dropped m t.class (owes s ++ owes_all ss) e, h)
-turn-by P count s m ss t false e p h q = taken-moves P count (row s m t) (owes s) ss (turn count ss t) t (moves-row P s m t.number t.class p (first-number P s m ss h)) p (more-numbers P s m ss h) q
+effect-by : (P : ℕ → Type 0) (count : ℕ) (s : Symbol) (m : Newlines) (ss : List Marked) (t : Lookahead) (b : Bool) → drops m t.class ≡ b → P t.number → HaveNumbers P (s at m ∷ ss) →
+    EffectMoves P (effect count ss t) (owes_all ss) t.class → EffectMoves P (cond b (on count (s at m ∷ ss)) (taken count (row s m t) ss (effect count ss t) t)) (owes s ++ owes_all ss) t.class
+effect-by P count s m ss t true e p h q = (shift-dropped m t.class (owes s ++ owes_all ss) e, h)
+effect-by P count s m ss t false e p h q = taken-moves P count (row s m t) (owes s) ss (effect count ss t) t (moves-row P s m t.number t.class p (first-number P s m ss h)) p (more-numbers P s m ss h) q
 
-pub turn-moves : (P : ℕ → Type 0) (count : ℕ) (ss : List Marked) (t : Lookahead) → P t.number → HaveNumbers P ss → TurnMoves P (turn count ss t) (owes_all ss) t.class
-turn-moves P count [] t p h = p
-turn-moves P count (s at m ∷ ss) t p h = turn-by P count s m ss t (drops m t.class) refl p h (turn-moves P count ss t p (more-numbers P s m ss h))
+pub effect-moves : (P : ℕ → Type 0) (count : ℕ) (ss : List Marked) (t : Lookahead) → P t.number → HaveNumbers P ss → EffectMoves P (effect count ss t) (owes_all ss) t.class
+effect-moves P count [] t p h = p
+effect-moves P count (s at m ∷ ss) t p h = effect-by P count s m ss t (drops m t.class) refl p h (effect-moves P count ss t p (more-numbers P s m ss h))
 
 -- Refusals name a token of the list.
 abbrev AllNumbered : (ℕ → Type 0) → List Lookahead → Type 0
@@ -77,7 +77,7 @@ ending-named P (s at m ∷ ss) r h = at-end P s ss r (ends s) h (λ k. ending-na
     at-end P s ss r true h k = k h
     at-end P s ss r false h k = let e : UnexpectedEnd ≡ r = cc in subst (λ x. Named P x) e tt
 
-next-named : (P : ℕ → Type 0) (w : Turn) (a : List Opener) (t : Lookahead) (ts : List Lookahead) (r : Refusal) → TurnMoves P w a t.class → next w (λ o rest. run o rest ts) ≡ Some r →
+next-named : (P : ℕ → Type 0) (w : Effect) (a : List Opener) (t : Lookahead) (ts : List Lookahead) (r : Refusal) → EffectMoves P w a t.class → next w (λ o rest. run o rest ts) ≡ Some r →
     ((o : ℕ) (ss : List Marked) → HaveNumbers P ss → run o ss ts ≡ Some r → Named P r) → Named P r
 next-named P (on o ss) a t ts r q h k = k o ss q.1 h
 next-named P (stop f) a t ts r q h k = let e : f ≡ r = cc in subst (λ x. Named P x) e q
@@ -85,7 +85,7 @@ next-named P (stop f) a t ts r q h k = let e : f ≡ r = cc in subst (λ x. Name
 run-named : (P : ℕ → Type 0) (count : ℕ) (ss : List Marked) (ts : List Lookahead) (r : Refusal) → HaveNumbers P ss → AllNumbered P ts → run count ss ts ≡ Some r → Named P r
 unfolding run
 run-named P count ss [] r h k e = ending-named P ss r e
-run-named P count ss (t ∷ ts) r h k e = next-named P (turn count ss t) (owes_all ss) t ts r (turn-moves P count ss t k.0 h) e (λ o us q f. run-named P o us ts r q k.1 f)
+run-named P count ss (t ∷ ts) r h k e = next-named P (effect count ss t) (owes_all ss) t ts r (effect-moves P count ss t k.0 h) e (λ o us q f. run-named P o us ts r q k.1 f)
 
 all-numbered : (total n : ℕ) (ts : List Lexeme) → n + length ts ≤ total → AllNumbered (λ i. i < total) (lookaheads_from n ts)
 all-numbered total n [] h = tt
@@ -116,7 +116,7 @@ shift-trivia _ a h = cc
 abbrev Fronts : List Lexeme → List Marked → Type 0
 Fronts ps ss = (b : List Opener) × Shifts ps (owes_all ss) b
 
-next-shifts : (w : Turn) (a : List Opener) (n : ℕ) (t : Lexeme) (ps qs : List Lexeme) → TurnMoves (λ i. Unit {0}) w a (class_of t) → next w (λ o rest. run o rest (lookaheads_from (n + 1) (ps ++ qs))) ≡ None →
+next-shifts : (w : Effect) (a : List Opener) (n : ℕ) (t : Lexeme) (ps qs : List Lexeme) → EffectMoves (λ i. Unit {0}) w a (class_of t) → next w (λ o rest. run o rest (lookaheads_from (n + 1) (ps ++ qs))) ≡ None →
     ((o : ℕ) (ss : List Marked) → HaveNumbers (λ i. Unit {0}) ss → run o ss (lookaheads_from (n + 1) (ps ++ qs)) ≡ None → Fronts ps ss) → (b : List Opener) × Shifts (t ∷ ps) a b
 next-shifts (on o ss) a n t ps qs q e k = let w = k o ss q.1 e in (w.0, (owes_all ss, q.0, w.1))
 next-shifts (stop f) a n t ps qs q e k = absurd (let h : Some f ≡ None = e in cc)
@@ -126,7 +126,7 @@ shifts-by : (count : ℕ) (ss : List Marked) (n : ℕ) (t : Lexeme) (ps qs : Lis
     ((o : ℕ) (us : List Marked) → HaveNumbers (λ i. Unit {0}) us → run o us (lookaheads_from (n + 1) (ps ++ qs)) ≡ None → Fronts ps us) → (b : List Opener) × Shifts (t ∷ ps) (owes_all ss) b
 unfolding run
 shifts-by count ss n t ps qs true is h e k = let w = k count ss h e in (w.0, (owes_all ss, shift-trivia (class_of t) (owes_all ss) is, w.1))
-shifts-by count ss n t ps qs false is h e k = next-shifts (turn count ss (record { class = class_of t; number = n })) (owes_all ss) n t ps qs (turn-moves (λ i. Unit {0}) count ss (record { class = class_of t; number = n }) tt h) e k
+shifts-by count ss n t ps qs false is h e k = next-shifts (effect count ss (record { class = class_of t; number = n })) (owes_all ss) n t ps qs (effect-moves (λ i. Unit {0}) count ss (record { class = class_of t; number = n }) tt h) e k
 
 run-shifts : (count : ℕ) (ss : List Marked) (n : ℕ) (ps qs : List Lexeme) → HaveNumbers (λ i. Unit {0}) ss → run count ss (lookaheads_from n (ps ++ qs)) ≡ None → Fronts ps ss
 run-shifts count ss n [] qs h e = (owes_all ss, refl)

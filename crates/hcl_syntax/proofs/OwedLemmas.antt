@@ -6,7 +6,7 @@ use Rattle.hcl_syntax.specs.declared.class.Class.{Class}
 use Rattle.hcl_syntax.specs.declared.class.Class.TheVariants.{HeredocOpen, HeredocClose, QuoteOpen, QuoteClose, InterpOpen, ControlOpen, SeqClose, ParenOpen, ParenClose, BracketOpen, BracketClose, BraceOpen, BraceClose}
 use Rattle.hcl_syntax.specs.declared.expected.Terminal.{Terminal}
 use Rattle.hcl_syntax.specs.declared.expected.Terminal.TheVariants.{EndParen, EndBracket, EndBrace, EndSequence, EndQuote, EndHeredoc}
-use Rattle.hcl_syntax.specs.Grammar.{Symbol, the, start, index, tuple, tuple_next, tuple_item, tuple_if, object, object_next, object_item, group, object_if, args, arg_next, directive, section_directive, Marked, ◌at◌, Row, none, nothing, reads, opens, closes}
+use Rattle.hcl_syntax.specs.Grammar.{Symbol, the, start, index, tuple, tuple_next, tuple_item, tuple_if, object, object_next, object_item, group, object_if, args, arg_next, directive, section_directive, Marked, ◌at◌, Action, none, nothing, reads, opens, closes}
 
 abbrev pub awaits : Terminal → List Opener
 awaits EndParen = Paren ∷ []
@@ -65,7 +65,7 @@ HaveNumbers P (section_directive e n at m ∷ ss) = P n × HaveNumbers P ss
 HaveNumbers P (s at m ∷ ss) = HaveNumbers P ss
 
 -- what a row does for a symbol that owes a, at a token of the class
-abbrev pub RowMoves : (ℕ → Type 0) → Row → List Opener → Class → Type 0
+abbrev pub RowMoves : (ℕ → Type 0) → Action → List Opener → Class → Type 0
 RowMoves P none a c = Unit {0}
 RowMoves P nothing a c = [] ≡ a
 RowMoves P (reads xs) a c = Shift c a (owes_all xs) × HaveNumbers P xs

@@ -6,12 +6,12 @@ use Rattle.hcl_syntax.specs.declared.expected.Newlines.{Newlines}
 use Rattle.hcl_syntax.specs.declared.refusal.Refusal.{Refusal}
 use Rattle.hcl_syntax.specs.declared.refusal.Refusal.TheVariants.{UnexpectedToken, UnexpectedEnd, TooDeep}
 use Rattle.hcl_syntax.specs.Classes.{drops}
-use Rattle.hcl_syntax.specs.Grammar.{Symbol, Marked, ◌at◌, Row, none, nothing, reads, opens, closes, row, ends}
-use Rattle.hcl_syntax.specs.Predictor.{max_directives, ending, on, stop, opening, taken, turn, next, run}
+use Rattle.hcl_syntax.specs.Grammar.{Symbol, Marked, ◌at◌, Action, none, nothing, reads, opens, closes, row, ends}
+use Rattle.hcl_syntax.specs.Predictor.{max_directives, ending, on, stop, opening, taken, effect, next, run}
 use Rattle.hcl_syntax.specs.Relation.{Step, dropped, read, opened, closed, gone, Refuses, nothing_waited_for, no_row, too_deep, behind, Ending, complete, wanting, ended, Run, at_end, step, refused}
 
-turn-row : (count : ℕ) (s : Symbol) (m : Newlines) (ss : List Marked) (t : Lookahead) (r : Row) → drops m t.class ≡ false → row s m t ≡ r → turn count (s at m ∷ ss) t ≡ taken count r ss (turn count ss t) t
-turn-row count s m ss t r d e = ap (λ b. cond b (on count (s at m ∷ ss)) (taken count (row s m t) ss (turn count ss t) t)) d ∙ ap (λ x. taken count x ss (turn count ss t) t) e
+effect-row : (count : ℕ) (s : Symbol) (m : Newlines) (ss : List Marked) (t : Lookahead) (r : Action) → drops m t.class ≡ false → row s m t ≡ r → effect count (s at m ∷ ss) t ≡ taken count r ss (effect count ss t) t
+effect-row count s m ss t r d e = ap (λ b. cond b (on count (s at m ∷ ss)) (taken count (row s m t) ss (effect count ss t) t)) d ∙ ap (λ x. taken count x ss (effect count ss t) t) e
 
 opening-on : (count n : ℕ) (xs : List Marked) → count < max_directives → opening count n xs ≡ on (count + 1) xs
 opening-on count n xs few = ap (λ b. cond b (on (count + 1) xs) (stop (TooDeep n))) (lt-ltb count max_directives few)
@@ -19,18 +19,18 @@ opening-on count n xs few = ap (λ b. cond b (on (count + 1) xs) (stop (TooDeep 
 opening-stop : (count n : ℕ) (xs : List Marked) → max_directives ≤ count → opening count n xs ≡ stop (TooDeep n)
 opening-stop count n xs many = ap (λ b. cond b (on (count + 1) xs) (stop (TooDeep n))) (le-ltb count max_directives many)
 
-step-turn : (count : ℕ) (ss : List Marked) (t : Lookahead) (later : ℕ) (us : List Marked) → Step count ss t later us → turn count ss t ≡ on later us
-step-turn count ss t later us (dropped c s m vs u d) = ap (λ b. cond b (on c (s at m ∷ vs)) (taken c (row s m u) vs (turn c vs u) u)) d
-step-turn count ss t later us (read c s m xs vs u d e) = turn-row c s m vs u (reads xs) d e
-step-turn count ss t later us (opened c n s m xs vs u d e few) = turn-row c s m vs u (opens n xs) d e ∙ opening-on c n (xs ++ vs) few
-step-turn count ss t later us (closed c s m xs vs u d e) = turn-row c s m vs u (closes xs) d e
-step-turn count ss t later us (gone c s m vs u l ws d e h) = turn-row c s m vs u nothing d e ∙ step-turn c vs u l ws h
+step-effect : (count : ℕ) (ss : List Marked) (t : Lookahead) (later : ℕ) (us : List Marked) → Step count ss t later us → effect count ss t ≡ on later us
+step-effect count ss t later us (dropped c s m vs u d) = ap (λ b. cond b (on c (s at m ∷ vs)) (taken c (row s m u) vs (effect c vs u) u)) d
+step-effect count ss t later us (read c s m xs vs u d e) = effect-row c s m vs u (reads xs) d e
+step-effect count ss t later us (opened c n s m xs vs u d e few) = effect-row c s m vs u (opens n xs) d e ∙ opening-on c n (xs ++ vs) few
+step-effect count ss t later us (closed c s m xs vs u d e) = effect-row c s m vs u (closes xs) d e
+step-effect count ss t later us (gone c s m vs u l ws d e h) = effect-row c s m vs u nothing d e ∙ step-effect c vs u l ws h
 
-refuses-turn : (count : ℕ) (ss : List Marked) (t : Lookahead) (r : Refusal) → Refuses count ss t r → turn count ss t ≡ stop r
-refuses-turn count ss t r (nothing_waited_for c u) = refl
-refuses-turn count ss t r (no_row c s m vs u d e) = turn-row c s m vs u none d e
-refuses-turn count ss t r (too_deep c n s m xs vs u d e many) = turn-row c s m vs u (opens n xs) d e ∙ opening-stop c n (xs ++ vs) many
-refuses-turn count ss t r (behind c s m vs u f d e h) = turn-row c s m vs u nothing d e ∙ refuses-turn c vs u f h
+refuses-effect : (count : ℕ) (ss : List Marked) (t : Lookahead) (r : Refusal) → Refuses count ss t r → effect count ss t ≡ stop r
+refuses-effect count ss t r (nothing_waited_for c u) = refl
+refuses-effect count ss t r (no_row c s m vs u d e) = effect-row c s m vs u none d e
+refuses-effect count ss t r (too_deep c n s m xs vs u d e many) = effect-row c s m vs u (opens n xs) d e ∙ opening-stop c n (xs ++ vs) many
+refuses-effect count ss t r (behind c s m vs u f d e h) = effect-row c s m vs u nothing d e ∙ refuses-effect c vs u f h
 
 ending-is : (ss : List Marked) (o : Option Refusal) → Ending ss o → ending ss ≡ o
 ending-is ss o complete = refl
@@ -41,14 +41,14 @@ ending-is ss o (ended s m us p e h) = ap (λ b. cond b (ending us) (Some Unexpec
 pub computes : (count : ℕ) (ss : List Marked) (ts : List Lookahead) (o : Option Refusal) → Run count ss ts o → run count ss ts ≡ o
 unfolding run
 computes count ss ts o (at_end c us p h) = ending-is us p h
-computes count ss ts o (step c us t vs later ws p h k) = ap (λ w. next w (λ q rest. run q rest vs)) (step-turn c us t later ws h) ∙ computes later ws vs p k
-computes count ss ts o (refused c us t vs r h) = ap (λ w. next w (λ q rest. run q rest vs)) (refuses-turn c us t r h)
+computes count ss ts o (step c us t vs later ws p h k) = ap (λ w. next w (λ q rest. run q rest vs)) (step-effect c us t later ws h) ∙ computes later ws vs p k
+computes count ss ts o (refused c us t vs r h) = ap (λ w. next w (λ q rest. run q rest vs)) (refuses-effect c us t r h)
 
 -- Each state and token has a step, or is refused.
 abbrev Moves : ℕ → List Marked → Lookahead → Type 0
 Moves count ss t = ((later : ℕ) × (us : List Marked) × Step count ss t later us) ⊎ ((r : Refusal) × Refuses count ss t r)
 
-moves-row : (count : ℕ) (s : Symbol) (m : Newlines) (ss : List Marked) (t : Lookahead) (r : Row) → drops m t.class ≡ false → row s m t ≡ r → Moves count ss t → Moves count (s at m ∷ ss) t
+moves-row : (count : ℕ) (s : Symbol) (m : Newlines) (ss : List Marked) (t : Lookahead) (r : Action) → drops m t.class ≡ false → row s m t ≡ r → Moves count ss t → Moves count (s at m ∷ ss) t
 moves-row count s m ss t none d e k = inr (UnexpectedToken t.number, no_row count s m ss t d e)
 moves-row count s m ss t nothing d e (inl k) = inl (k.0, k.1, gone count s m ss t k.0 k.1 d e k.2)
 moves-row count s m ss t nothing d e (inr k) = inr (k.0, behind count s m ss t k.0 d e k.1)

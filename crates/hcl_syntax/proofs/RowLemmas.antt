@@ -3,15 +3,13 @@ use Rattle.std.proofs.Common.{◌≡◌, ℕ, true, List, [], ◌∷◌, ◌++�
 use Rattle.hcl_scan.specs.Lexemes.{Opener, Sequence, Brace, Bracket, Paren}
 use Rattle.hcl_syntax.specs.declared.class.Class.{Class}
 use Rattle.hcl_syntax.specs.declared.class.Class.TheVariants.{Newline, Ident, Number, HeredocOpen, HeredocClose, QuoteOpen, QuoteClose, Lit, InterpOpen, ControlOpen, SeqClose, ParenOpen, ParenClose, BracketOpen, BracketClose, BraceOpen, BraceClose, Dot, Comma, Ellipsis, Question, Colon, ColonColon, Assign, Arrow, Not, Minus, Star, Binary}
-use Rattle.hcl_syntax.specs.declared.class.Word.TheVariants.{For, In, If}
+use Rattle.hcl_syntax.specs.declared.class.Word.TheVariants.{For, In, If, Else, Endif, Endfor}
 use Rattle.hcl_syntax.specs.declared.expected.Newlines.{Newlines}
 use Rattle.hcl_syntax.specs.declared.expected.Terminal.{Terminal}
 use Rattle.hcl_syntax.specs.declared.expected.Terminal.TheVariants.{Name, InWord, IfWord, ForWord, Equals, Separator, FatArrow, CommaSign, Ellipses, Asterisk, EndParen, EndBracket, EndBrace, EndSequence, EndQuote, EndHeredoc}
 use Rattle.hcl_syntax.specs.declared.expected.Section.{Section}
 use Rattle.hcl_syntax.specs.declared.expected.Section.TheVariants.{InIf, InElse, InFor}
-use Rattle.hcl_syntax.specs.declared.expected.Turning.{Turning}
-use Rattle.hcl_syntax.specs.declared.expected.Turning.TheVariants.{Onward, Closing, Inner}
-use Rattle.hcl_syntax.specs.Grammar.{Symbol, the, file, rest, labels, label_literal, start, body, eol, expr, after_ident, path, after, step, index, tuple, tuple_next, tuple_item, tuple_if, names, object, separator, object_next, object_item, group, object_if, args, arg_next, parts, directive, inside, section_directive, Marked, ◌at◌, Row, none, nothing, reads, opens, closes, ◌then◌, row_of, terminal_row, file_row, rest_row, labels_row, label_literal_row, start_row, body_row, eol_row, expr_row, after_ident_row, path_row, after_row, step_row, index_row, tuple_row, tuple_next_row, tuple_item_row, tuple_if_row, names_row, object_row, separator_row, object_next_row, object_item_row, group_row, object_if_row, args_row, arg_next_row, parts_row, directive_row, turning, turning_row, inside_row}
+use Rattle.hcl_syntax.specs.Grammar.{Symbol, the, file, rest, labels, label_literal, start, body, eol, expr, after_ident, path, after, step, index, tuple, tuple_next, tuple_item, tuple_if, names, object, separator, object_next, object_item, group, object_if, args, arg_next, parts, directive, inside, section_directive, Marked, ◌at◌, Action, none, nothing, reads, opens, closes, ◌then◌, row_of, terminal_row, file_row, rest_row, labels_row, label_literal_row, start_row, body_row, eol_row, expr_row, after_ident_row, path_row, after_row, step_row, index_row, tuple_row, tuple_next_row, tuple_item_row, tuple_if_row, names_row, object_row, separator_row, object_next_row, object_item_row, group_row, object_if_row, args_row, arg_next_row, parts_row, directive_row, section_directive_row, inside_row}
 use Rattle.hcl_syntax.proofs.OwedLemmas.{awaits, owes, owes_all, Shift, HaveNumbers, RowMoves}
 
 pub owes_all-append : (xs ys : List Marked) → owes_all (xs ++ ys) ≡ owes_all xs ++ owes_all ys
@@ -44,7 +42,7 @@ shift-above c a b z h = ap (λ l. l ++ z) h
 shift-all : (c : Class) (a : List Opener) (xs ys : List Marked) → Shift c a (owes_all xs) → Shift c (a ++ owes_all ys) (owes_all (xs ++ ys))
 shift-all c a xs ys h = subst (λ l. Shift c (a ++ owes_all ys) l) (sym (owes_all-append xs ys)) (shift-above c a (owes_all xs) (owes_all ys) h)
 
-pub moves-then : (P : ℕ → Type 0) (r : Row) (a : List Opener) (c : Class) (ys : List Marked) → RowMoves P r a c → HaveNumbers P ys → RowMoves P (r then ys) (a ++ owes_all ys) c
+pub moves-then : (P : ℕ → Type 0) (r : Action) (a : List Opener) (c : Class) (ys : List Marked) → RowMoves P r a c → HaveNumbers P ys → RowMoves P (r then ys) (a ++ owes_all ys) c
 moves-then P none a c ys h k = tt
 moves-then P nothing a c ys h k = tt
 moves-then P (reads xs) a c ys h k = (shift-all c a xs ys h.0, numbers-append P xs ys h.1 k)
@@ -206,16 +204,12 @@ moves-directive P m n (Ident If) p = (refl, tt, p)
 moves-directive P m n (Ident For) p = (refl, tt, p)
 moves-directive P m n _ p = tt
 
-moves-turning : (P : ℕ → Type 0) (w : Turning) (e : Section) (m : Newlines) (n : ℕ) (c : Class) → w ≡ turning e c → P n → RowMoves P (turning_row w e m n c) (Sequence ∷ []) c
-moves-turning P Inner e m n c h p = moves-then P (directive_row m n c) (Sequence ∷ []) c (inside e at m ∷ []) (moves-directive P m n c p) tt
-moves-turning P Onward e m n (Ident w) h p = (refl, tt)
-moves-turning P Closing e m n (Ident w) h p = (refl, tt)
-moves-turning P Onward InIf m n _ h p = cc
-moves-turning P Onward InElse m n _ h p = cc
-moves-turning P Onward InFor m n _ h p = cc
-moves-turning P Closing InIf m n _ h p = cc
-moves-turning P Closing InElse m n _ h p = cc
-moves-turning P Closing InFor m n _ h p = cc
+moves-section : (P : ℕ → Type 0) (e : Section) (m : Newlines) (n : ℕ) (c : Class) → P n → RowMoves P (section_directive_row e m n c) (Sequence ∷ []) c
+moves-section P InIf m n (Ident Else) p = (refl, tt)
+moves-section P InIf m n (Ident Endif) p = (refl, tt)
+moves-section P InElse m n (Ident Endif) p = (refl, tt)
+moves-section P InFor m n (Ident Endfor) p = (refl, tt)
+moves-section P e m n c p = moves-then P (directive_row m n c) (Sequence ∷ []) c (inside e at m ∷ []) (moves-directive P m n c p) tt
 
 moves-inside : (P : ℕ → Type 0) (e : Section) (m : Newlines) (n : ℕ) (c : Class) → P n → RowMoves P (inside_row e m n c) ([]) c
 moves-inside P e m n Lit p = (refl, tt)
@@ -273,4 +267,4 @@ moves-row P arg_next m n c p h = moves-arg_next P m c
 moves-row P parts m n c p h = moves-parts P m n c p
 moves-row P (directive k) m n c p h = moves-directive P m k c h.0
 moves-row P (inside e) m n c p h = moves-inside P e m n c p
-moves-row P (section_directive e k) m n c p h = moves-turning P (turning e c) e m k c refl h.0
+moves-row P (section_directive e k) m n c p h = moves-section P e m k c h.0

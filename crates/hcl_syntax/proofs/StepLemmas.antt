@@ -12,27 +12,27 @@ use Rattle.hcl_syntax.specs.Classes.{drops}
 use Rattle.hcl_syntax.specs.Inner.Cursors.{shown, first, after_first, Looks}
 use Rattle.hcl_syntax.proofs.LookaheadLemmas.{shown-shown}
 use Rattle.hcl_syntax.specs.declared.class.Word.{Word}
-use Rattle.hcl_syntax.specs.Grammar.{Symbol, Marked, ◌at◌, Row, ◌then◌, none, nothing, reads, opens, closes, row, ends, the, fits, expr, expr_row, args_row, arg_next, tuple_row, tuple_item_row, tuple_next, tuple_if, tuple_if_row, object, object_row, object_item, object_item_row, object_next, object_if, object_if_row, group, group_row, separator, names, index_row, names_row, terminal_row, rest, rest_row, labels_row, file_row, body_row, eol, file, body, directive, directive_row, inside, turning, turning_row, section_directive_row}
-use Rattle.hcl_syntax.specs.Predictor.{max_directives, ending, Turn, on, stop, opening, taken, turn, next, run}
-use Rattle.hcl_syntax.specs.Inner.Parsing.{outcome, Leads, bodies, Ends, waits}
-use Rattle.hcl_syntax.specs.declared.class.Word.TheVariants.{For, In, If}
+use Rattle.hcl_syntax.specs.Grammar.{Symbol, Marked, ◌at◌, Action, ◌then◌, none, nothing, reads, opens, closes, row, ends, the, fits, expr, expr_row, args_row, arg_next, tuple_row, tuple_item_row, tuple_next, tuple_if, tuple_if_row, object, object_row, object_item, object_item_row, object_next, object_if, object_if_row, group, group_row, separator, names, index_row, names_row, terminal_row, rest, rest_row, labels_row, file_row, body_row, eol, file, body, directive, directive_row, inside, section_directive_row}
+use Rattle.hcl_syntax.specs.Predictor.{max_directives, ending, Effect, on, stop, opening, taken, effect, next, run}
+use Rattle.hcl_syntax.specs.Inner.Parsing.{turning, turning_row, outcome, Advances, bodies, Ends, waits}
+use Rattle.hcl_syntax.specs.declared.class.Word.TheVariants.{For, In, If, Else, Endif, Endfor}
 use Rattle.hcl_syntax.specs.declared.expected.Section.{Section}
-use Rattle.hcl_syntax.specs.declared.expected.Section.TheVariants.{InElse}
+use Rattle.hcl_syntax.specs.declared.expected.Section.TheVariants.{InIf, InElse, InFor}
 use Rattle.hcl_syntax.specs.declared.expected.Turning.{Turning}
 use Rattle.hcl_syntax.specs.declared.expected.Turning.TheVariants.{Onward, Closing, Inner}
 use Rattle.hcl_syntax.specs.declared.expected.Terminal.{Terminal}
 
 pub run-row : (count : ℕ) (s : Symbol) (m : Newlines) (ss : List Marked) (t : Lookahead) (ts : List Lookahead) → drops m t.class ≡ false →
-    run count (s at m ∷ ss) (t ∷ ts) ≡ next (taken count (row s m t) ss (turn count ss t) t) (λ o rest. run o rest ts)
+    run count (s at m ∷ ss) (t ∷ ts) ≡ next (taken count (row s m t) ss (effect count ss t) t) (λ o rest. run o rest ts)
 unfolding run
-run-row count s m ss t ts shown = ap (λ b. next (cond b (on count (s at m ∷ ss)) (taken count (row s m t) ss (turn count ss t) t)) (λ o rest. run o rest ts)) shown
+run-row count s m ss t ts shown = ap (λ b. next (cond b (on count (s at m ∷ ss)) (taken count (row s m t) ss (effect count ss t) t)) (λ o rest. run o rest ts)) shown
 
 -- a symbol that drops newlines passes over them
 shown-by : (count : ℕ) (s : Symbol) (m : Newlines) (ss : List Marked) (t : Lookahead) (ts : List Lookahead) (b : Bool) → drops m t.class ≡ b →
     run count (s at m ∷ ss) ts ≡ run count (s at m ∷ ss) (shown m ts) →
     run count (s at m ∷ ss) (t ∷ ts) ≡ run count (s at m ∷ ss) (cond b (shown m ts) (t ∷ ts))
 unfolding run
-shown-by count s m ss t ts true e h = ap (λ b. next (cond b (on count (s at m ∷ ss)) (taken count (row s m t) ss (turn count ss t) t)) (λ o rest. run o rest ts)) e ∙ h
+shown-by count s m ss t ts true e h = ap (λ b. next (cond b (on count (s at m ∷ ss)) (taken count (row s m t) ss (effect count ss t) t)) (λ o rest. run o rest ts)) e ∙ h
 shown-by count s m ss t ts false e h = refl
 
 pub run-shown : (count : ℕ) (s : Symbol) (m : Newlines) (ss : List Marked) (ts : List Lookahead) → run count (s at m ∷ ss) ts ≡ run count (s at m ∷ ss) (shown m ts)
@@ -58,27 +58,27 @@ looks m old new left t shows found bumped =
     record { is = list-first (shown m old) t f ∙ (cc); kept = kept m old t f }
 
 run-looks : (count : ℕ) (s : Symbol) (m : Newlines) (ss : List Marked) {old : List Lookahead} {t : Lookahead} {ts : List Lookahead} → Looks m old t ts →
-    run count (s at m ∷ ss) old ≡ next (taken count (row s m t) ss (turn count ss t) t) (λ o rest. run o rest ts)
+    run count (s at m ∷ ss) old ≡ next (taken count (row s m t) ss (effect count ss t) t) (λ o rest. run o rest ts)
 run-looks count s m ss looks = run-shown count s m ss _ ∙ ap (λ l. run count (s at m ∷ ss) l) looks.is ∙ run-row count s m ss _ _ looks.kept
 
 -- The row of the first symbol reads the token.
 pub reading : {A : Type 0} {count : ℕ} {s : Symbol} {m : Newlines} {xs ys : List Marked} {old left new : List Lookahead} {t : Lookahead} {r : Result A Refusal} →
-    Looks m old t left → row s m t ≡ reads xs → Leads count xs left r ys new → Leads count (s at m ∷ []) old r ys new
-reading {count = count} {s = s} {m = m} {left = left} {t = t} l e h = record { same = λ behind. run-looks count s m behind l ∙ ap (λ r. next (taken count r behind (turn count behind t) t) (λ o rest. run o rest left)) e ∙ h.same behind }
+    Looks m old t left → row s m t ≡ reads xs → Advances count xs left r ys new → Advances count (s at m ∷ []) old r ys new
+reading {count = count} {s = s} {m = m} {left = left} {t = t} l e h = record { same = λ behind. run-looks count s m behind l ∙ ap (λ r. next (taken count r behind (effect count behind t) t) (λ o rest. run o rest left)) e ∙ h.same behind }
 
 -- The row takes the symbol away.
-run-same : (count : ℕ) (ss : List Marked) (t : Lookahead) (ts : List Lookahead) → next (turn count ss t) (λ o rest. run o rest ts) ≡ run count ss (t ∷ ts)
+run-same : (count : ℕ) (ss : List Marked) (t : Lookahead) (ts : List Lookahead) → next (effect count ss t) (λ o rest. run o rest ts) ≡ run count ss (t ∷ ts)
 unfolding run
 run-same count ss t ts = refl
 
 pub vanishing : {A : Type 0} {a : A} {count : ℕ} {s : Symbol} {m : Newlines} {old left new : List Lookahead} {t : Lookahead} →
-    Looks m old t left → row s m t ≡ nothing → new ≡ shown m old → Leads count (s at m ∷ []) old (Ok a) [] new
-vanishing {count = count} {s = s} {m = m} {left = left} {t = t} l e shows = record { same = λ behind. run-looks count s m behind l ∙ ap (λ r. next (taken count r behind (turn count behind t) t) (λ o rest. run o rest left)) e ∙ run-same count behind t left ∙ ap (λ ts. run count behind ts) (sym l.is ∙ sym shows) }
+    Looks m old t left → row s m t ≡ nothing → new ≡ shown m old → Advances count (s at m ∷ []) old (Ok a) [] new
+vanishing {count = count} {s = s} {m = m} {left = left} {t = t} l e shows = record { same = λ behind. run-looks count s m behind l ∙ ap (λ r. next (taken count r behind (effect count behind t) t) (λ o rest. run o rest left)) e ∙ run-same count behind t left ∙ ap (λ ts. run count behind ts) (sym l.is ∙ sym shows) }
 
 -- There is no row.
 pub refusing : {A : Type 0} {count : ℕ} {s : Symbol} {m : Newlines} {ys : List Marked} {old left new : List Lookahead} {t : Lookahead} →
-    Looks m old t left → row s m t ≡ none → Leads {A = A} count (s at m ∷ []) old (Err (UnexpectedToken t.number)) ys new
-refusing {count = count} {s = s} {m = m} {left = left} {t = t} l e = record { same = λ behind. run-looks count s m behind l ∙ ap (λ r. next (taken count r behind (turn count behind t) t) (λ o rest. run o rest left)) e }
+    Looks m old t left → row s m t ≡ none → Advances {A = A} count (s at m ∷ []) old (Err (UnexpectedToken t.number)) ys new
+refusing {count = count} {s = s} {m = m} {left = left} {t = t} l e = record { same = λ behind. run-looks count s m behind l ∙ ap (λ r. next (taken count r behind (effect count behind t) t) (λ o rest. run o rest left)) e }
 
 -- The end of input.
 run-end : (count : ℕ) (ss : List Marked) → run count ss [] ≡ ending ss
@@ -90,36 +90,36 @@ nothing-left [] l e f = e
 nothing-left (t ∷ ts) l e f = cc
 
 pub refusing-end : {A : Type 0} {count : ℕ} {s : Symbol} {m : Newlines} {ys : List Marked} {old new : List Lookahead} →
-    new ≡ shown m old → None ≡ first new → ends s ≡ false → Leads {A = A} count (s at m ∷ []) old (Err UnexpectedEnd) ys new
+    new ≡ shown m old → None ≡ first new → ends s ≡ false → Advances {A = A} count (s at m ∷ []) old (Err UnexpectedEnd) ys new
 refusing-end {count = count} {s = s} {m = m} {old = old} {new = new} look found e = let shows : [] ≡ shown m old = nothing-left new _ look found in record { same = λ behind. run-shown count s m behind _ ∙ ap (λ l. run count (s at m ∷ behind) l) (sym shows) ∙ run-end count (s at m ∷ behind) ∙ ap (λ b. cond b (ending behind) (Some UnexpectedEnd)) e }
 
 pub vanishing-end : {A : Type 0} {a : A} {count : ℕ} {s : Symbol} {m : Newlines} {old new : List Lookahead} →
-    new ≡ shown m old → None ≡ first new → ends s ≡ true → Leads count (s at m ∷ []) old (Ok a) [] new
+    new ≡ shown m old → None ≡ first new → ends s ≡ true → Advances count (s at m ∷ []) old (Ok a) [] new
 vanishing-end {count = count} {s = s} {m = m} {old = old} {new = new} look found e = let shows : [] ≡ shown m old = nothing-left new _ look found in record { same = λ behind. run-shown count s m behind _ ∙ ap (λ l. run count (s at m ∷ behind) l) (sym shows) ∙ run-end count (s at m ∷ behind) ∙ ap (λ b. cond b (ending behind) (Some UnexpectedEnd)) e ∙ sym (run-end count behind) ∙ ap (λ l. run count behind l) (shows ∙ sym look) }
 
-pub done : {A : Type 0} {a : A} {count : ℕ} {xs : List Marked} {old : List Lookahead} → Leads count xs old (Ok a) xs old
+pub done : {A : Type 0} {a : A} {count : ℕ} {xs : List Marked} {old : List Lookahead} → Advances count xs old (Ok a) xs old
 done = record { same = λ behind. refl }
 
 -- Two stretches.
 pub onward : {A B : Type 0} {a : A} {count : ℕ} {xs ys zs : List Marked} {old mid new : List Lookahead} {r : Result B Refusal} →
-    Leads count xs old (Ok a) ys mid → Leads count ys mid r zs new → Leads count xs old r zs new
+    Advances count xs old (Ok a) ys mid → Advances count ys mid r zs new → Advances count xs old r zs new
 onward h k = record { same = λ behind. h.same behind ∙ k.same behind }
 
 -- The same with more behind it.
 pub beside : {A : Type 0} {count : ℕ} {xs ys : List Marked} {old new : List Lookahead} {r : Result A Refusal} (zs : List Marked) →
-    Leads count xs old r ys new → Leads count (xs ++ zs) old r (ys ++ zs) new
+    Advances count xs old r ys new → Advances count (xs ++ zs) old r (ys ++ zs) new
 beside {count = count} {xs = xs} {ys = ys} {old = old} {new = new} {r = r} zs h = record { same = λ behind. ap (λ l. run count l old) (append_assoc xs zs behind) ∙ h.same (zs ++ behind) ∙ ap (λ l. outcome r (run count l new)) (sym (append_assoc ys zs behind)) }
 
 -- Newlines are passed over.
-pub dropping : {A : Type 0} {a : A} {count : ℕ} {s : Symbol} {m : Newlines} {xs : List Marked} {old new : List Lookahead} → new ≡ shown m old → Leads count (s at m ∷ xs) old (Ok a) (s at m ∷ xs) new
+pub dropping : {A : Type 0} {a : A} {count : ℕ} {s : Symbol} {m : Newlines} {xs : List Marked} {old new : List Lookahead} → new ≡ shown m old → Advances count (s at m ∷ xs) old (Ok a) (s at m ∷ xs) new
 dropping {count = count} {s = s} {m = m} {xs = xs} shows = record { same = λ behind. run-shown count s m (xs ++ behind) _ ∙ ap (λ l. run count (s at m ∷ (xs ++ behind)) l) (sym shows) }
 
 -- What is left after a fault doesn't matter, nor what would have been returned.
-pub failed : {A B : Type 0} {count : ℕ} {xs ys zs : List Marked} {old mid new : List Lookahead} {f : Refusal} → Leads {A = A} count xs old (Err f) ys mid → Leads {A = B} count xs old (Err f) zs new
+pub failed : {A B : Type 0} {count : ℕ} {xs ys zs : List Marked} {old mid new : List Lookahead} {f : Refusal} → Advances {A = A} count xs old (Err f) ys mid → Advances {A = B} count xs old (Err f) zs new
 failed h = record { same = h.same }
 
 -- The exit of a `?`.
-pub quits : {A B : Type 0} {count : ℕ} {xs ys zs : List Marked} {old mid new : List Lookahead} {f : Refusal} (r : Result B Refusal) → IsErrAnd r (λ e. e ≡ f) → Leads {A = A} count xs old (Err f) ys mid → Leads {A = B} count xs old r zs new
+pub quits : {A B : Type 0} {count : ℕ} {xs ys zs : List Marked} {old mid new : List Lookahead} {f : Refusal} (r : Result B Refusal) → IsErrAnd r (λ e. e ≡ f) → Advances {A = A} count xs old (Err f) ys mid → Advances {A = B} count xs old r zs new
 quits (Ok b) q h = absurd q
 quits (Err e) q h = record { same = λ behind. h.same behind ∙ ap (λ x. Some x) (sym q) }
 
@@ -130,7 +130,7 @@ pub row-unfit : (e : Terminal) (m : Newlines) (t : Lookahead) (b : Bool) → b �
 row-unfit e m t b f h = ap (λ b. cond b (reads []) none) (sym f ∙ h)
 
 -- whether a row takes its symbol away and leaves the token
-abbrev vanishes : Row → Bool
+abbrev vanishes : Action → Bool
 vanishes nothing = true
 vanishes _ = false
 
@@ -152,7 +152,7 @@ directive-stays p m t = directive-stays-at p m t.class
     directive-stays-at p m (Ident For) = refl
     directive-stays-at p m _ = refl
 
-taken-then : (count : ℕ) (r : Row) (ys behind : List Marked) (p q : Turn) (t : Lookahead) → vanishes r ≡ false → taken count (r then ys) behind p t ≡ taken count r (ys ++ behind) q t
+taken-then : (count : ℕ) (r : Action) (ys behind : List Marked) (p q : Effect) (t : Lookahead) → vanishes r ≡ false → taken count (r then ys) behind p t ≡ taken count r (ys ++ behind) q t
 taken-then count none ys behind p q t h = refl
 taken-then count nothing ys behind p q t h = cc
 taken-then count (reads xs) ys behind p q t h = ap (λ l. on count l) (append_assoc xs ys behind)
@@ -166,12 +166,12 @@ unfolding run
 begins-at count s s' m ys behind old [] e e' v f shows = run-shown count s m behind old ∙ ap (λ l. run count (s at m ∷ behind) l) (sym shows) ∙ ap (λ b. cond b (ending behind) (Some UnexpectedEnd)) e ∙ sym (ap (λ b. cond b (ending (ys ++ behind)) (Some UnexpectedEnd)) e')
 begins-at count s s' m ys behind old (t ∷ ts) e e' v f shows =
     let l : Looks m old t ts = looks m old (t ∷ ts) ts t shows refl refl in
-    run-looks count s m behind l ∙ ap (λ r. next (taken count r behind (turn count behind t) t) (λ o rest. run o rest ts)) (f t refl)
-    ∙ ap (λ x. next x (λ o rest. run o rest ts)) (taken-then count (row s' m t) ys behind (turn count behind t) (turn count (ys ++ behind) t) t (v t))
+    run-looks count s m behind l ∙ ap (λ r. next (taken count r behind (effect count behind t) t) (λ o rest. run o rest ts)) (f t refl)
+    ∙ ap (λ x. next x (λ o rest. run o rest ts)) (taken-then count (row s' m t) ys behind (effect count behind t) (effect count (ys ++ behind) t) t (v t))
     ∙ sym (run-row count s' m (ys ++ behind) t ts l.kept)
 
 pub begins : {A : Type 0} {count : ℕ} {s s' : Symbol} {m : Newlines} {ys zs : List Marked} {old mid new : List Lookahead} {r : Result A Refusal} → ends s ≡ false → ends s' ≡ false → ((t : Lookahead) → vanishes (row s' m t) ≡ false) →
-    ((t : Lookahead) → Some t ≡ first mid → row s m t ≡ (row s' m t then ys)) → mid ≡ shown m old → Leads count (s' at m ∷ ys) mid r zs new → Leads count (s at m ∷ []) old r zs new
+    ((t : Lookahead) → Some t ≡ first mid → row s m t ≡ (row s' m t then ys)) → mid ≡ shown m old → Advances count (s' at m ∷ ys) mid r zs new → Advances count (s at m ∷ []) old r zs new
 begins {count = count} {s = s} {s' = s'} {m = m} {ys = ys} {old = old} {mid = mid} e e' v f shows h = record { same = λ behind. begins-at count s s' m ys behind old mid e e' v f shows ∙ h.same behind }
 
 -- A symbol that another stands for.
@@ -181,11 +181,11 @@ unfolding run
 alike-at count s s' m behind old [] e f shows = run-shown count s m behind old ∙ ap (λ l. run count (s at m ∷ behind) l) (sym shows) ∙ ap (λ b. cond b (ending behind) (Some UnexpectedEnd)) e
 alike-at count s s' m behind old (t ∷ ts) e f shows =
     let l : Looks m old t ts = looks m old (t ∷ ts) ts t shows refl refl in
-    run-looks count s m behind l ∙ ap (λ r. next (taken count r behind (turn count behind t) t) (λ o rest. run o rest ts)) (f t refl)
+    run-looks count s m behind l ∙ ap (λ r. next (taken count r behind (effect count behind t) t) (λ o rest. run o rest ts)) (f t refl)
     ∙ sym (run-row count s' m behind t ts l.kept)
 
 pub alike : {A : Type 0} {a : A} {count : ℕ} {s s' : Symbol} {m : Newlines} {old mid : List Lookahead} → ends s ≡ ends s' →
-    ((t : Lookahead) → Some t ≡ first mid → row s m t ≡ row s' m t) → mid ≡ shown m old → Leads count (s at m ∷ []) old (Ok a) (s' at m ∷ []) mid
+    ((t : Lookahead) → Some t ≡ first mid → row s m t ≡ row s' m t) → mid ≡ shown m old → Advances count (s at m ∷ []) old (Ok a) (s' at m ∷ []) mid
 alike {count = count} {s = s} {s' = s'} {m = m} {old = old} {mid = mid} e f shows = record { same = λ behind. alike-at count s s' m behind old mid e f shows }
 
 -- A read terminal.
@@ -221,8 +221,8 @@ pub waits-up : (m : Newlines) (n : ℕ) → waits m (n + 1) [] ≡ the Separator
 waits-up m n = let e : n + 1 ≡ suc n = omega arith in ap (λ k. waits m k []) e
 
 -- from equal symbols
-pub renamed : {A : Type 0} {count : ℕ} {xs ys zs : List Marked} {old new : List Lookahead} {r : Result A Refusal} → ys ≡ zs → Leads count xs old r ys new → Leads count xs old r zs new
-renamed {count = count} {xs = xs} {old = old} {new = new} {r = r} e h = subst (λ l. Leads count xs old r l new) e h
+pub renamed : {A : Type 0} {count : ℕ} {xs ys zs : List Marked} {old new : List Lookahead} {r : Result A Refusal} → ys ≡ zs → Advances count xs old r ys new → Advances count xs old r zs new
+renamed {count = count} {xs = xs} {old = old} {new = new} {r = r} e h = subst (λ l. Advances count xs old r l new) e h
 
 pub names-in : (m : Newlines) (k : Class) → fits InWord k ≡ true → names_row m k ≡ reads []
 names-in m (Ident In) h = refl
@@ -236,46 +236,54 @@ names-else m _ h = refl
 
 -- A directive opens and ends.
 pub opening-row : {A : Type 0} {count : ℕ} {s : Symbol} {m : Newlines} {p : ℕ} {xs : List Marked} {old left new : List Lookahead} {t : Lookahead} {r : Result A Refusal} →
-    Looks m old t left → row s m t ≡ opens p xs → count < max_directives → Ends count xs left r new → Leads count (s at m ∷ []) old r [] new
+    Looks m old t left → row s m t ≡ opens p xs → count < max_directives → Ends count xs left r new → Advances count (s at m ∷ []) old r [] new
 opening-row {count = count} {s = s} {m = m} {p = p} {xs = xs} {left = left} {t = t} l e few h = record {
-  same = λ behind. run-looks count s m behind l ∙ ap (λ r. next (taken count r behind (turn count behind t) t) (λ o rest. run o rest left)) e
+  same = λ behind. run-looks count s m behind l ∙ ap (λ r. next (taken count r behind (effect count behind t) t) (λ o rest. run o rest left)) e
       ∙ ap (λ b. next (cond b (on (count + 1) (xs ++ behind)) (stop (TooDeep p))) (λ o rest. run o rest left)) (lt-ltb count max_directives few) ∙ h.same behind;
 }
 
 pub too-deep : {A : Type 0} {count : ℕ} {s : Symbol} {m : Newlines} {p : ℕ} {xs ys : List Marked} {old left new : List Lookahead} {t : Lookahead} →
-    Looks m old t left → row s m t ≡ opens p xs → max_directives ≤ count → Leads {A = A} count (s at m ∷ []) old (Err (TooDeep p)) ys new
+    Looks m old t left → row s m t ≡ opens p xs → max_directives ≤ count → Advances {A = A} count (s at m ∷ []) old (Err (TooDeep p)) ys new
 too-deep {count = count} {s = s} {m = m} {p = p} {xs = xs} {left = left} {t = t} l e many = record {
-  same = λ behind. run-looks count s m behind l ∙ ap (λ r. next (taken count r behind (turn count behind t) t) (λ o rest. run o rest left)) e
+  same = λ behind. run-looks count s m behind l ∙ ap (λ r. next (taken count r behind (effect count behind t) t) (λ o rest. run o rest left)) e
       ∙ ap (λ b. next (cond b (on (count + 1) (xs ++ behind)) (stop (TooDeep p))) (λ o rest. run o rest left)) (le-ltb count max_directives many);
 }
 
 pub closing : {A : Type 0} {count : ℕ} {s : Symbol} {m : Newlines} {xs : List Marked} {old left new : List Lookahead} {t : Lookahead} {r : Result A Refusal} →
-    Looks m old t left → row s m t ≡ closes xs → Leads count xs left r [] new → Ends count (s at m ∷ []) old r new
+    Looks m old t left → row s m t ≡ closes xs → Advances count xs left r [] new → Ends count (s at m ∷ []) old r new
 closing {count = count} {s = s} {m = m} {xs = xs} {left = left} {t = t} l e h = record {
-  same = λ behind. run-looks (count + 1) s m behind l ∙ ap (λ r. next (taken (count + 1) r behind (turn (count + 1) behind t) t) (λ o rest. run o rest left)) e
+  same = λ behind. run-looks (count + 1) s m behind l ∙ ap (λ r. next (taken (count + 1) r behind (effect (count + 1) behind t) t) (λ o rest. run o rest left)) e
       ∙ ap (λ n. run n (xs ++ behind) left) (omega arith) ∙ h.same behind;
 }
 
 pub end-onward : {A B : Type 0} {a : A} {count : ℕ} {xs ys : List Marked} {old mid new : List Lookahead} {r : Result B Refusal} →
-    Leads (count + 1) xs old (Ok a) ys mid → Ends count ys mid r new → Ends count xs old r new
+    Advances (count + 1) xs old (Ok a) ys mid → Ends count ys mid r new → Ends count xs old r new
 end-onward h k = record { same = λ behind. h.same behind ∙ k.same behind }
 
 pub end-fails : {A B : Type 0} {count : ℕ} {xs ys : List Marked} {old mid new : List Lookahead} {f : Refusal} →
-    Leads {A = A} (count + 1) xs old (Err f) ys mid → Ends {A = B} count xs old (Err f) new
+    Advances {A = A} (count + 1) xs old (Err f) ys mid → Ends {A = B} count xs old (Err f) new
 end-fails h = record { same = h.same }
 
-pub end-quits : {A B : Type 0} {count : ℕ} {xs ys : List Marked} {old mid new : List Lookahead} {f : Refusal} (r : Result B Refusal) → IsErrAnd r (λ e. e ≡ f) → Leads {A = A} (count + 1) xs old (Err f) ys mid → Ends {A = B} count xs old r new
+pub end-quits : {A B : Type 0} {count : ℕ} {xs ys : List Marked} {old mid new : List Lookahead} {f : Refusal} (r : Result B Refusal) → IsErrAnd r (λ e. e ≡ f) → Advances {A = A} (count + 1) xs old (Err f) ys mid → Ends {A = B} count xs old r new
 end-quits (Ok b) q h = absurd q
 end-quits (Err e) q h = record { same = λ behind. h.same behind ∙ ap (λ x. Some x) (sym q) }
 
+-- the row by what the word does
+by-turning : (e : Section) (m : Newlines) (p : ℕ) (k : Class) → section_directive_row e m p k ≡ turning_row (turning e k) e m p k
+by-turning InIf m p (Ident Else) = refl
+by-turning InIf m p (Ident Endif) = refl
+by-turning InElse m p (Ident Endif) = refl
+by-turning InFor m p (Ident Endfor) = refl
+by-turning e m p k = refl
+
 pub turning-onward : (e : Section) (m : Newlines) (p : ℕ) (k : Class) (w : Turning) → w ≡ turning e k → w ≡ Onward → section_directive_row e m p k ≡ reads (the EndSequence at m ∷ inside InElse at m ∷ [])
-turning-onward e m p k w h i = ap (λ x. turning_row x e m p k) (sym h ∙ i)
+turning-onward e m p k w h i = by-turning e m p k ∙ ap (λ x. turning_row x e m p k) (sym h ∙ i)
 
 pub turning-closing : (e : Section) (m : Newlines) (p : ℕ) (k : Class) (w : Turning) → w ≡ turning e k → w ≡ Closing → section_directive_row e m p k ≡ closes (the EndSequence at m ∷ [])
-turning-closing e m p k w h i = ap (λ x. turning_row x e m p k) (sym h ∙ i)
+turning-closing e m p k w h i = by-turning e m p k ∙ ap (λ x. turning_row x e m p k) (sym h ∙ i)
 
 pub turning-inner : (e : Section) (m : Newlines) (p : ℕ) (k : Class) (w : Turning) → w ≡ turning e k → w ≡ Inner → section_directive_row e m p k ≡ (directive_row m p k then (inside e at m ∷ []))
-turning-inner e m p k w h i = ap (λ x. turning_row x e m p k) (sym h ∙ i)
+turning-inner e m p k w h i = by-turning e m p k ∙ ap (λ x. turning_row x e m p k) (sym h ∙ i)
 
 pub no-token : (o : Option Lookahead) (t : Lookahead) → None ≡ o → Some t ≡ o → ⊥
 no-token o t e f = cc
@@ -291,19 +299,19 @@ pub rest-else : (m : Newlines) (k : Class) → fits Equals k ≡ false → rest_
 rest-else m Assign h = cc
 rest-else m _ h = refl
 
-pub bodies-newline : {A : Type 0} {a : A} (n : ℕ) {old left : List Lookahead} {t : Lookahead} → Looks Seen old t left → t.class ≡ Newline → Leads 0 (bodies n) old (Ok a) (bodies n) left
+pub bodies-newline : {A : Type 0} {a : A} (n : ℕ) {old left : List Lookahead} {t : Lookahead} → Looks Seen old t left → t.class ≡ Newline → Advances 0 (bodies n) old (Ok a) (bodies n) left
 bodies-newline zero l e = reading l (ap (file_row Seen) e) done
 bodies-newline (suc n) l e = beside (the EndBrace at Seen ∷ eol at Seen ∷ bodies n) (reading l (ap (body_row Seen) e) done)
 
-pub bodies-item : {A : Type 0} {a : A} (n : ℕ) (w : Word) {old left : List Lookahead} {t : Lookahead} → Looks Seen old t left → t.class ≡ Ident w → Leads 0 (bodies n) old (Ok a) (rest at Seen ∷ bodies n) left
+pub bodies-item : {A : Type 0} {a : A} (n : ℕ) (w : Word) {old left : List Lookahead} {t : Lookahead} → Looks Seen old t left → t.class ≡ Ident w → Advances 0 (bodies n) old (Ok a) (rest at Seen ∷ bodies n) left
 bodies-item zero w l e = reading l (ap (file_row Seen) e) done
 bodies-item (suc n) w l e = beside (the EndBrace at Seen ∷ eol at Seen ∷ bodies n) (reading {xs = rest at Seen ∷ body at Seen ∷ []} l (ap (body_row Seen) e) done)
 
-pub bodies-refuse : {A : Type 0} (n : ℕ) {ys : List Marked} {old left new : List Lookahead} {t : Lookahead} → Looks Seen old t left → file_row Seen t.class ≡ none → body_row Seen t.class ≡ none → Leads {A = A} 0 (bodies n) old (Err (UnexpectedToken t.number)) ys new
+pub bodies-refuse : {A : Type 0} (n : ℕ) {ys : List Marked} {old left new : List Lookahead} {t : Lookahead} → Looks Seen old t left → file_row Seen t.class ≡ none → body_row Seen t.class ≡ none → Advances {A = A} 0 (bodies n) old (Err (UnexpectedToken t.number)) ys new
 bodies-refuse zero l e f = refusing l e
 bodies-refuse {A = A} (suc n) {new = new} l e f = failed (beside (the EndBrace at Seen ∷ eol at Seen ∷ bodies n) (refusing {A = A} {s = body} {ys = []} {new = new} l f))
 
-pub bodies-close : {A : Type 0} {a : A} (n : ℕ) {old left : List Lookahead} {t : Lookahead} → n ≢ 0 → Looks Seen old t left → t.class ≡ BraceClose → Leads 0 (bodies n) old (Ok a) (eol at Seen ∷ bodies (n - 1)) left
+pub bodies-close : {A : Type 0} {a : A} (n : ℕ) {old left : List Lookahead} {t : Lookahead} → n ≢ 0 → Looks Seen old t left → t.class ≡ BraceClose → Advances 0 (bodies n) old (Ok a) (eol at Seen ∷ bodies (n - 1)) left
 bodies-close zero h l e = absurd (h refl)
 bodies-close {A = A} {a = a} (suc n) {old = old} {left = left} {t = t} h l e =
     let back : suc n - 1 ≡ n = omega arith in
@@ -314,30 +322,30 @@ bodies-close {A = A} {a = a} (suc n) {old = old} {left = left} {t = t} h l e =
     again : {old : List Lookahead} {t : Lookahead} {ts : List Lookahead} → Looks Seen old t ts → Looks Seen (shown Seen old) t ts
     again {old = old} l = record { is = sym (shown-shown Seen old) ∙ l.is; kept = l.kept }
 
-pub bodies-end : {A : Type 0} (n : ℕ) {ys : List Marked} {old new : List Lookahead} → n ≢ 0 → new ≡ shown Seen old → None ≡ first new → Leads {A = A} 0 (bodies n) old (Err UnexpectedEnd) ys new
+pub bodies-end : {A : Type 0} (n : ℕ) {ys : List Marked} {old new : List Lookahead} → n ≢ 0 → new ≡ shown Seen old → None ≡ first new → Advances {A = A} 0 (bodies n) old (Err UnexpectedEnd) ys new
 bodies-end zero h s f = absurd (h refl)
 bodies-end {A = A} (suc n) {new = new} h s f = failed (beside (the EndBrace at Seen ∷ eol at Seen ∷ bodies n) (refusing-end {A = A} {s = body} {ys = []} {new = new} s f refl))
 
-pub bodies-done : {A : Type 0} {a : A} (n : ℕ) {old new : List Lookahead} → n ≡ 0 → new ≡ shown Seen old → None ≡ first new → Leads 0 (bodies n) old (Ok a) [] new
+pub bodies-done : {A : Type 0} {a : A} (n : ℕ) {old new : List Lookahead} → n ≡ 0 → new ≡ shown Seen old → None ≡ first new → Advances 0 (bodies n) old (Ok a) [] new
 bodies-done zero h s f = vanishing-end s f refl
 bodies-done (suc n) h s f = cc
 
 -- a whole file's answer
-pub whole-fault : {A : Type 0} {f : Refusal} {old new : List Lookahead} {ys : List Marked} → Leads {A = A} 0 (file at Seen ∷ []) old (Err f) ys new → run 0 (file at Seen ∷ []) old ≡ Some f
+pub whole-fault : {A : Type 0} {f : Refusal} {old new : List Lookahead} {ys : List Marked} → Advances {A = A} 0 (file at Seen ∷ []) old (Err f) ys new → run 0 (file at Seen ∷ []) old ≡ Some f
 whole-fault h = h.same []
 
 no-first : (l : List Lookahead) → None ≡ first l → l ≡ []
 no-first [] e = refl
 no-first (t ∷ ts) e = cc
 
-pub whole : {A : Type 0} {a : A} {old new : List Lookahead} → Leads 0 (file at Seen ∷ []) old (Ok a) [] new → None ≡ first new → run 0 (file at Seen ∷ []) old ≡ None
+pub whole : {A : Type 0} {a : A} {old new : List Lookahead} → Advances 0 (file at Seen ∷ []) old (Ok a) [] new → None ≡ first new → run 0 (file at Seen ∷ []) old ≡ None
 whole {new = new} h e = h.same [] ∙ ap (λ l. run 0 [] l) (no-first new e) ∙ run-end 0 []
 
-pub refuse-close : {A : Type 0} (n : ℕ) {ys : List Marked} {old left new : List Lookahead} {t : Lookahead} → n ≡ 0 → Looks Seen old t left → t.class ≡ BraceClose → Leads {A = A} 0 (bodies n) old (Err (UnexpectedToken t.number)) ys new
+pub refuse-close : {A : Type 0} (n : ℕ) {ys : List Marked} {old left new : List Lookahead} {t : Lookahead} → n ≡ 0 → Looks Seen old t left → t.class ≡ BraceClose → Advances {A = A} 0 (bodies n) old (Err (UnexpectedToken t.number)) ys new
 refuse-close zero h l e = refusing l (ap (file_row Seen) e)
 refuse-close (suc n) h l e = cc
 
-pub whole-quits : {A B : Type 0} {f : Refusal} {old new : List Lookahead} {ys : List Marked} (r : Result B Refusal) → IsErrAnd r (λ e. e ≡ f) → Leads {A = A} 0 (file at Seen ∷ []) old (Err f) ys new → run 0 (file at Seen ∷ []) old ≡ outcome r None
+pub whole-quits : {A B : Type 0} {f : Refusal} {old new : List Lookahead} {ys : List Marked} (r : Result B Refusal) → IsErrAnd r (λ e. e ≡ f) → Advances {A = A} 0 (file at Seen ∷ []) old (Err f) ys new → run 0 (file at Seen ∷ []) old ≡ outcome r None
 whole-quits (Ok b) q h = absurd q
 whole-quits (Err e) q h = h.same [] ∙ ap (λ x. Some x) (sym q)
 
@@ -401,14 +409,14 @@ item-passes t e = item-passes-at t.class e
 passes-by : (count : ℕ) (s : Symbol) (ss : List Marked) (t : Lookahead) (ts : List Lookahead) (b : Bool) → drops Dropped t.class ≡ b → PassesNewlines s →
     run count (s at Seen ∷ ss) ts ≡ run count (s at Seen ∷ ss) (shown Dropped ts) →
     run count (s at Seen ∷ ss) (t ∷ ts) ≡ run count (s at Seen ∷ ss) (cond b (shown Dropped ts) (t ∷ ts))
-passes-by count s ss t ts true e p h = run-row count s Seen ss t ts refl ∙ ap (λ r. next (taken count r ss (turn count ss t) t) (λ o rest. run o rest ts)) (p t e) ∙ h
+passes-by count s ss t ts true e p h = run-row count s Seen ss t ts refl ∙ ap (λ r. next (taken count r ss (effect count ss t) t) (λ o rest. run o rest ts)) (p t e) ∙ h
 passes-by count s ss t ts false e p h = refl
 
 passes : (count : ℕ) (s : Symbol) (ss : List Marked) (ts : List Lookahead) → PassesNewlines s → run count (s at Seen ∷ ss) ts ≡ run count (s at Seen ∷ ss) (shown Dropped ts)
 passes count s ss [] p = refl
 passes count s ss (t ∷ ts) p = passes-by count s ss t ts (drops Dropped t.class) refl p (passes count s ss ts p)
 
-pub passing : {A : Type 0} {a : A} {count : ℕ} {s : Symbol} {xs : List Marked} (old : List Lookahead) → PassesNewlines s → Leads count (s at Seen ∷ xs) old (Ok a) (s at Seen ∷ xs) (shown Dropped old)
+pub passing : {A : Type 0} {a : A} {count : ℕ} {s : Symbol} {xs : List Marked} (old : List Lookahead) → PassesNewlines s → Advances count (s at Seen ∷ xs) old (Ok a) (s at Seen ∷ xs) (shown Dropped old)
 passing {count = count} {s = s} {xs = xs} old p = record { same = λ behind. passes count s (xs ++ behind) old p }
 
 -- where all is seen, what is left is what was
@@ -439,7 +447,7 @@ item-else m Newline h k = cc
 item-else m _ h k = refl
 
 pub past-reading : {A : Type 0} {count : ℕ} {s : Symbol} {xs ys : List Marked} {old left new : List Lookahead} {t : Lookahead} {r : Result A Refusal} →
-    PassesNewlines s → Looks Dropped old t left → row s Seen t ≡ reads xs → Leads count xs left r ys new → Leads count (s at Seen ∷ []) old r ys new
+    PassesNewlines s → Looks Dropped old t left → row s Seen t ≡ reads xs → Advances count xs left r ys new → Advances count (s at Seen ∷ []) old r ys new
 past-reading {old = old} p l e h = onward (passing {a = tt {0}} old p) (reading (looks-past l) e h)
 
 seen-first : (old new : List Lookahead) → new ≡ shown Dropped old → new ≡ shown Seen (shown Dropped old)
@@ -449,9 +457,9 @@ not-newline : (old new : List Lookahead) (t : Lookahead) → new ≡ shown Dropp
 not-newline old new t e f = kept Dropped old t (f ∙ ap first e)
 
 pub past-alike : {A : Type 0} {a : A} {count : ℕ} {s s' : Symbol} {old mid : List Lookahead} → PassesNewlines s → ends s ≡ ends s' →
-    ((t : Lookahead) → Some t ≡ first mid → drops Dropped t.class ≡ false → row s Seen t ≡ row s' Seen t) → mid ≡ shown Dropped old → Leads count (s at Seen ∷ []) old (Ok a) (s' at Seen ∷ []) mid
+    ((t : Lookahead) → Some t ≡ first mid → drops Dropped t.class ≡ false → row s Seen t ≡ row s' Seen t) → mid ≡ shown Dropped old → Advances count (s at Seen ∷ []) old (Ok a) (s' at Seen ∷ []) mid
 past-alike {old = old} {mid = mid} p e f shows = onward (passing {a = tt {0}} old p) (alike e (λ t g. f t g (not-newline old mid t shows g)) (seen-first old mid shows))
 
 pub past-begins : {A : Type 0} {count : ℕ} {s : Symbol} {ys zs : List Marked} {old mid new : List Lookahead} {r : Result A Refusal} → PassesNewlines s → ends s ≡ false →
-    ((t : Lookahead) → Some t ≡ first mid → drops Dropped t.class ≡ false → row s Seen t ≡ (row expr Seen t then ys)) → mid ≡ shown Dropped old → Leads count (expr at Seen ∷ ys) mid r zs new → Leads count (s at Seen ∷ []) old r zs new
+    ((t : Lookahead) → Some t ≡ first mid → drops Dropped t.class ≡ false → row s Seen t ≡ (row expr Seen t then ys)) → mid ≡ shown Dropped old → Advances count (expr at Seen ∷ ys) mid r zs new → Advances count (s at Seen ∷ []) old r zs new
 past-begins {old = old} {mid = mid} p e f shows h = onward (passing {a = tt {0}} old p) (begins {s' = expr} e refl (expr-stays Seen) (λ t g. f t g (not-newline old mid t shows g)) (seen-first old mid shows) h)

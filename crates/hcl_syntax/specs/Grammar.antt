@@ -13,8 +13,6 @@ use Rattle.hcl_syntax.specs.declared.expected.Terminal.{Terminal}
 use Rattle.hcl_syntax.specs.declared.expected.Terminal.TheVariants.{Name, InWord, IfWord, ForWord, Equals, Separator, FatArrow, CommaSign, Ellipses, Asterisk, EndParen, EndBracket, EndBrace, EndSequence, EndQuote, EndHeredoc}
 use Rattle.hcl_syntax.specs.declared.expected.Section.{Section}
 use Rattle.hcl_syntax.specs.declared.expected.Section.TheVariants.{InIf, InElse, InFor}
-use Rattle.hcl_syntax.specs.declared.expected.Turning.{Turning}
-use Rattle.hcl_syntax.specs.declared.expected.Turning.TheVariants.{Onward, Closing, Inner}
 
 -- What a state can wait for. A directive's symbol has the number of its `%{`.
 pub data Symbol : Type 0 where
@@ -36,16 +34,16 @@ pub data Marked : Type 0 where
 -- What the row of a symbol does with a token: there is none; the symbol goes away and the token stays; the token is
 -- read, and these symbols replace the first. Two kinds of row count: one opens a directive, whose `%{` has the number,
 -- and one closes the innermost.
-pub data Row : Type 0 where
-  none : Row
-  nothing : Row
-  reads : List Marked → Row
-  opens : ℕ → List Marked → Row
-  closes : List Marked → Row
+pub data Action : Type 0 where
+  none : Action
+  nothing : Action
+  reads : List Marked → Action
+  opens : ℕ → List Marked → Action
+  closes : List Marked → Action
 
 -- the row of a symbol that another begins, with these symbols behind it
 infixl 5 ◌then◌
-abbrev pub ◌then◌ : Row → List Marked → Row
+abbrev pub ◌then◌ : Action → List Marked → Action
 none then ss = none
 nothing then ss = none
 (reads xs) then ss = reads (xs ++ ss)
@@ -72,50 +70,50 @@ fits EndQuote QuoteClose = true
 fits EndHeredoc HeredocClose = true
 fits _ _ = false
 
-abbrev pub terminal_row : Terminal → Class → Row
+abbrev pub terminal_row : Terminal → Class → Action
 terminal_row e c = if fits e c then reads [] else none
 
 -- Files, attributes and blocks. A block's body stands on lines of its own, or is one attribute on one line.
 
-abbrev pub file_row : Newlines → Class → Row
+abbrev pub file_row : Newlines → Class → Action
 file_row m Newline = reads (file at m ∷ [])
 file_row m (Ident w) = reads (rest at m ∷ file at m ∷ [])
 file_row m _ = none
 
-abbrev pub labels_row : Newlines → Class → Row
+abbrev pub labels_row : Newlines → Class → Action
 labels_row m (Ident w) = reads (labels at m ∷ [])
 labels_row m QuoteOpen = reads (label_literal at m ∷ the EndQuote at m ∷ labels at m ∷ [])
 labels_row m BraceOpen = reads (start at m ∷ [])
 labels_row m _ = none
 
-abbrev pub rest_row : Newlines → Class → Row
+abbrev pub rest_row : Newlines → Class → Action
 rest_row m Assign = reads (expr at Seen ∷ eol at m ∷ [])
 rest_row m c = labels_row m c
 
-abbrev pub label_literal_row : Newlines → Class → Row
+abbrev pub label_literal_row : Newlines → Class → Action
 label_literal_row m Lit = reads []
 label_literal_row m QuoteClose = nothing
 label_literal_row m _ = none
 
-abbrev pub start_row : Newlines → Class → Row
+abbrev pub start_row : Newlines → Class → Action
 start_row m Newline = reads (body at m ∷ the EndBrace at m ∷ eol at m ∷ [])
 start_row m (Ident w) = reads (the Equals at m ∷ expr at Seen ∷ the EndBrace at m ∷ eol at m ∷ [])
 start_row m BraceClose = reads (eol at m ∷ [])
 start_row m _ = none
 
-abbrev pub body_row : Newlines → Class → Row
+abbrev pub body_row : Newlines → Class → Action
 body_row m Newline = reads (body at m ∷ [])
 body_row m (Ident w) = reads (rest at m ∷ body at m ∷ [])
 body_row m BraceClose = nothing
 body_row m _ = none
 
-abbrev pub eol_row : Class → Row
+abbrev pub eol_row : Class → Action
 eol_row Newline = reads []
 eol_row _ = none
 
 -- Expressions. What follows an operand is read by `after`: steps, an index, an operator, a choice.
 
-abbrev pub expr_row : Newlines → Class → Row
+abbrev pub expr_row : Newlines → Class → Action
 expr_row m Minus = reads (expr at m ∷ [])
 expr_row m Not = reads (expr at m ∷ [])
 expr_row m (Number d) = reads (after at m ∷ [])
@@ -127,7 +125,7 @@ expr_row m BracketOpen = reads (tuple at Dropped ∷ after at m ∷ [])
 expr_row m BraceOpen = reads (object at Seen ∷ after at m ∷ [])
 expr_row m _ = none
 
-abbrev pub after_row : Newlines → Class → Row
+abbrev pub after_row : Newlines → Class → Action
 after_row m Dot = reads (step at m ∷ after at m ∷ [])
 after_row m BracketOpen = reads (index at Dropped ∷ after at m ∷ [])
 after_row m Minus = reads (expr at m ∷ [])
@@ -136,91 +134,91 @@ after_row m Binary = reads (expr at m ∷ [])
 after_row m Question = reads (expr at m ∷ the Separator at m ∷ expr at m ∷ [])
 after_row m _ = nothing
 
-abbrev pub after_ident_row : Newlines → Class → Row
+abbrev pub after_ident_row : Newlines → Class → Action
 after_ident_row m ParenOpen = reads (args at Dropped ∷ after at m ∷ [])
 after_ident_row m ColonColon = reads (the Name at m ∷ path at m ∷ [])
 after_ident_row m c = after_row m c
 
 -- a name with `::` goes on or is called
-abbrev pub path_row : Newlines → Class → Row
+abbrev pub path_row : Newlines → Class → Action
 path_row m ColonColon = reads (the Name at m ∷ path at m ∷ [])
 path_row m ParenOpen = reads (args at Dropped ∷ after at m ∷ [])
 path_row m _ = none
 
-abbrev pub step_row : Class → Row
+abbrev pub step_row : Class → Action
 step_row (Ident w) = reads []
 step_row (Number true) = reads []
 step_row Star = reads []
 step_row _ = none
 
-abbrev pub index_row : Newlines → Class → Row
+abbrev pub index_row : Newlines → Class → Action
 index_row m Star = reads (the EndBracket at m ∷ [])
 index_row m c = expr_row m c then (the EndBracket at m ∷ [])
 
 -- Tuples and objects. A `for` first always begins a for-expression.
 
-abbrev pub names_row : Newlines → Class → Row
+abbrev pub names_row : Newlines → Class → Action
 names_row m Comma = reads (the Name at m ∷ the InWord at m ∷ [])
 names_row m (Ident In) = reads []
 names_row m _ = none
 
-abbrev pub tuple_row : Newlines → Class → Row
+abbrev pub tuple_row : Newlines → Class → Action
 tuple_row m (Ident For) = reads (the Name at m ∷ names at m ∷ expr at m ∷ the Separator at m ∷ expr at m ∷ tuple_if at m ∷ [])
 tuple_row m BracketClose = reads []
 tuple_row m c = expr_row m c then (tuple_next at m ∷ [])
 
-abbrev pub tuple_next_row : Newlines → Class → Row
+abbrev pub tuple_next_row : Newlines → Class → Action
 tuple_next_row m Comma = reads (tuple_item at m ∷ [])
 tuple_next_row m BracketClose = reads []
 tuple_next_row m _ = none
 
-abbrev pub tuple_item_row : Newlines → Class → Row
+abbrev pub tuple_item_row : Newlines → Class → Action
 tuple_item_row m BracketClose = reads []
 tuple_item_row m c = expr_row m c then (tuple_next at m ∷ [])
 
-abbrev pub tuple_if_row : Newlines → Class → Row
+abbrev pub tuple_if_row : Newlines → Class → Action
 tuple_if_row m (Ident If) = reads (expr at m ∷ the EndBracket at m ∷ [])
 tuple_if_row m BracketClose = reads []
 tuple_if_row m _ = none
 
-abbrev pub object_row : Newlines → Class → Row
+abbrev pub object_row : Newlines → Class → Action
 object_row m Newline = reads (object at m ∷ [])
 object_row m (Ident For) = reads (the Name at Dropped ∷ names at Dropped ∷ expr at Dropped ∷ the Separator at Dropped ∷ expr at Dropped ∷ the FatArrow at Dropped ∷ expr at Dropped ∷ group at Dropped ∷ [])
 object_row m BraceClose = reads []
 object_row m c = expr_row m c then (separator at m ∷ expr at m ∷ object_next at m ∷ [])
 
-abbrev pub separator_row : Class → Row
+abbrev pub separator_row : Class → Action
 separator_row Assign = reads []
 separator_row Colon = reads []
 separator_row _ = none
 
-abbrev pub object_next_row : Newlines → Class → Row
+abbrev pub object_next_row : Newlines → Class → Action
 object_next_row m Comma = reads (object_item at m ∷ [])
 object_next_row m Newline = reads (object_item at m ∷ [])
 object_next_row m BraceClose = reads []
 object_next_row m _ = none
 
-abbrev pub object_item_row : Newlines → Class → Row
+abbrev pub object_item_row : Newlines → Class → Action
 object_item_row m Newline = reads (object_item at m ∷ [])
 object_item_row m BraceClose = reads []
 object_item_row m c = expr_row m c then (separator at m ∷ expr at m ∷ object_next at m ∷ [])
 
-abbrev pub object_if_row : Newlines → Class → Row
+abbrev pub object_if_row : Newlines → Class → Action
 object_if_row m (Ident If) = reads (expr at m ∷ the EndBrace at m ∷ [])
 object_if_row m BraceClose = reads []
 object_if_row m _ = none
 
-abbrev pub group_row : Newlines → Class → Row
+abbrev pub group_row : Newlines → Class → Action
 group_row m Ellipsis = reads (object_if at m ∷ [])
 group_row m c = object_if_row m c
 
 -- the arguments of a call
 
-abbrev pub args_row : Newlines → Class → Row
+abbrev pub args_row : Newlines → Class → Action
 args_row m ParenClose = reads []
 args_row m c = expr_row m c then (arg_next at m ∷ [])
 
-abbrev pub arg_next_row : Newlines → Class → Row
+abbrev pub arg_next_row : Newlines → Class → Action
 arg_next_row m Comma = reads (args at m ∷ [])
 arg_next_row m Ellipsis = reads (the EndParen at m ∷ [])
 arg_next_row m ParenClose = reads []
@@ -228,47 +226,34 @@ arg_next_row m _ = none
 
 -- Templates. `parts` is a template outside directives, and `inside` one in a section of a directive.
 
--- the rows that all templates share, with the row for a `%{` and that for other tokens
-abbrev pub text_row : Newlines → Symbol → Row → Row → Class → Row
-text_row m same control other Lit = reads (same at m ∷ [])
-text_row m same control other InterpOpen = reads (expr at Dropped ∷ the EndSequence at Dropped ∷ same at m ∷ [])
-text_row m same control other ControlOpen = control
-text_row m same control other _ = other
+abbrev pub parts_row : Newlines → ℕ → Class → Action
+parts_row m n Lit = reads (parts at m ∷ [])
+parts_row m n InterpOpen = reads (expr at Dropped ∷ the EndSequence at Dropped ∷ parts at m ∷ [])
+parts_row m n ControlOpen = reads (directive n at Dropped ∷ parts at m ∷ [])
+parts_row m n QuoteClose = nothing
+parts_row m n HeredocClose = nothing
+parts_row m n _ = none
 
-abbrev pub parts_end_row : Class → Row
-parts_end_row QuoteClose = nothing
-parts_end_row HeredocClose = nothing
-parts_end_row _ = none
-
-abbrev pub parts_row : Newlines → ℕ → Class → Row
-parts_row m n c = text_row m parts (reads (directive n at Dropped ∷ parts at m ∷ [])) (parts_end_row c) c
-
-abbrev pub directive_row : Newlines → ℕ → Class → Row
+abbrev pub directive_row : Newlines → ℕ → Class → Action
 directive_row m n (Ident If) = opens n (expr at m ∷ the EndSequence at m ∷ inside InIf at m ∷ [])
 directive_row m n (Ident For) = opens n (the Name at m ∷ names at m ∷ expr at m ∷ the EndSequence at m ∷ inside InFor at m ∷ [])
 directive_row m n _ = none
 
--- what a word does in a directive
-abbrev pub turning : Section → Class → Turning
-turning InIf (Ident Else) = Onward
-turning InIf (Ident Endif) = Closing
-turning InElse (Ident Endif) = Closing
-turning InFor (Ident Endfor) = Closing
-turning _ _ = Inner
+abbrev pub section_directive_row : Section → Newlines → ℕ → Class → Action
+section_directive_row InIf m n (Ident Else) = reads (the EndSequence at m ∷ inside InElse at m ∷ [])
+section_directive_row InIf m n (Ident Endif) = closes (the EndSequence at m ∷ [])
+section_directive_row InElse m n (Ident Endif) = closes (the EndSequence at m ∷ [])
+section_directive_row InFor m n (Ident Endfor) = closes (the EndSequence at m ∷ [])
+section_directive_row e m n c = directive_row m n c then (inside e at m ∷ [])
 
-abbrev pub turning_row : Turning → Section → Newlines → ℕ → Class → Row
-turning_row Onward e m n c = reads (the EndSequence at m ∷ inside InElse at m ∷ [])
-turning_row Closing e m n c = closes (the EndSequence at m ∷ [])
-turning_row Inner e m n c = directive_row m n c then (inside e at m ∷ [])
-
-abbrev pub section_directive_row : Section → Newlines → ℕ → Class → Row
-section_directive_row e m n c = turning_row (turning e c) e m n c
-
-abbrev pub inside_row : Section → Newlines → ℕ → Class → Row
-inside_row e m n c = text_row m (inside e) (reads (section_directive e n at m ∷ [])) none c
+abbrev pub inside_row : Section → Newlines → ℕ → Class → Action
+inside_row e m n Lit = reads (inside e at m ∷ [])
+inside_row e m n InterpOpen = reads (expr at Dropped ∷ the EndSequence at Dropped ∷ inside e at m ∷ [])
+inside_row e m n ControlOpen = reads (section_directive e n at m ∷ [])
+inside_row e m n _ = none
 
 -- THE TABLE: the row of a symbol with this mark, for a token of this number and class
-abbrev pub row_of : Symbol → Newlines → ℕ → Class → Row
+abbrev pub row_of : Symbol → Newlines → ℕ → Class → Action
 row_of (the e) m n c = terminal_row e c
 row_of file m n c = file_row m c
 row_of rest m n c = rest_row m c
@@ -301,7 +286,7 @@ row_of (directive k) m n c = directive_row m k c
 row_of (inside e) m n c = inside_row e m n c
 row_of (section_directive e k) m n c = section_directive_row e m k c
 
-abbrev pub row : Symbol → Newlines → Lookahead → Row
+abbrev pub row : Symbol → Newlines → Lookahead → Action
 row s m t = row_of s m t.number t.class
 
 -- whether the end of input takes the symbol away

@@ -7,7 +7,7 @@ use Rattle.hcl_syntax.specs.declared.expected.Newlines.TheVariants.{Seen}
 use Rattle.hcl_syntax.specs.declared.refusal.Refusal.{Refusal}
 use Rattle.hcl_syntax.specs.declared.refusal.Refusal.TheVariants.{UnexpectedToken, UnexpectedEnd, TooDeep}
 use Rattle.hcl_syntax.specs.Classes.{drops}
-use Rattle.hcl_syntax.specs.Grammar.{Marked, ◌at◌, file, Row, none, nothing, reads, opens, closes, row, ends}
+use Rattle.hcl_syntax.specs.Grammar.{Marked, ◌at◌, file, Action, none, nothing, reads, opens, closes, row, ends}
 
 -- why the end of input is refused in a state, or none
 abbrev pub ending : List Marked → Option Refusal
@@ -15,20 +15,20 @@ ending [] = None
 ending (s at m ∷ ss) = if ends s then ending ss else Some UnexpectedEnd
 
 -- What a token leads to: the number of open directives and the symbols after it, or a refusal.
-pub data Turn : Type 0 where
-  on : ℕ → List Marked → Turn
-  stop : Refusal → Turn
+pub data Effect : Type 0 where
+  on : ℕ → List Marked → Effect
+  stop : Refusal → Effect
 
 -- so many directives may be open
 abbrev pub max_directives : ℕ
 max_directives = 256
 
 -- a directive opens, unless so many are open
-abbrev pub opening : ℕ → ℕ → List Marked → Turn
+abbrev pub opening : ℕ → ℕ → List Marked → Effect
 opening count n ss = if nat_lt count max_directives then on (count + 1) ss else stop (TooDeep n)
 
 -- what the row of the first symbol does, where the others give passed
-abbrev pub taken : ℕ → Row → List Marked → Turn → Lookahead → Turn
+abbrev pub taken : ℕ → Action → List Marked → Effect → Lookahead → Effect
 taken count none ss passed t = stop (UnexpectedToken t.number)
 taken count nothing ss passed t = passed
 taken count (reads xs) ss passed t = on count (xs ++ ss)
@@ -36,11 +36,11 @@ taken count (opens n xs) ss passed t = opening count n (xs ++ ss)
 taken count (closes xs) ss passed t = on (count - 1) (xs ++ ss)
 
 -- one token
-abbrev pub turn : ℕ → List Marked → Lookahead → Turn
-turn count [] t = stop (UnexpectedToken t.number)
-turn count (s at m ∷ ss) t = if drops m t.class then on count (s at m ∷ ss) else taken count (row s m t) ss (turn count ss t) t
+abbrev pub effect : ℕ → List Marked → Lookahead → Effect
+effect count [] t = stop (UnexpectedToken t.number)
+effect count (s at m ∷ ss) t = if drops m t.class then on count (s at m ∷ ss) else taken count (row s m t) ss (effect count ss t) t
 
-abbrev pub next : Turn → (ℕ → List Marked → Option Refusal) → Option Refusal
+abbrev pub next : Effect → (ℕ → List Marked → Option Refusal) → Option Refusal
 next (on count ss) go = go count ss
 next (stop f) go = Some f
 
@@ -48,7 +48,7 @@ next (stop f) go = Some f
 -- symbols.
 unfoldable pub run : ℕ → List Marked → List Lookahead → Option Refusal
 run count ss [] = ending ss
-run count ss (t ∷ ts) = next (turn count ss t) (λ o rest. run o rest ts)
+run count ss (t ∷ ts) = next (effect count ss t) (λ o rest. run o rest ts)
 
 -- why the tokens are no file, or none
 abbrev pub refusal_of : List Lookahead → Option Refusal

@@ -5,7 +5,7 @@ ghost use Rattle.std.specs.Bool.{OnTrue, OnFalse};
 ghost use Rattle.hcl_syntax.specs.Classes.{lookaheads, lookaheads_from};
 ghost use Rattle.hcl_syntax.specs.Grammar.{fits, ◌at◌, the};
 ghost use Rattle.hcl_syntax.specs.Inner.Cursors.{shown, first, after_first, is_shown};
-ghost use Rattle.hcl_syntax.specs.Inner.Parsing.{Leads, Parses, Took, Lacks};
+ghost use Rattle.hcl_syntax.specs.Inner.Parsing.{Parses, Took, Lacks};
 
 use crate::class::{Class, Lookahead, Word, lookahead};
 use crate::expected::{Newlines, Terminal};

@@ -5,7 +5,7 @@ ghost use Rattle.std.specs.Prelude.{◌≡◌, ◌+◌, ◌<◌, ◌≤◌, ◌^
 ghost use Rattle.std.specs.Bool.{OnTrue, OnFalse};
 ghost use Rattle.hcl_syntax.specs.Inner.Cursors.{shown, first};
 ghost use Rattle.hcl_syntax.specs.Grammar.{◌at◌, the, expr, after, after_ident, path, index, args, tuple, tuple_item, tuple_if, object, object_item, group, object_if, separator, names, step};
-ghost use Rattle.hcl_syntax.specs.Inner.Parsing.{Leads, Parses, after_follow, is_prefix};
+ghost use Rattle.hcl_syntax.specs.Inner.Parsing.{Advances, Parses, after_follow, is_prefix};
 ghost use Rattle.hcl_syntax.specs.declared.expected.Terminal.TheVariants.{Name, Separator, FatArrow, EndBracket, EndBrace};
 ghost use Rattle.hcl_syntax.specs.declared.expected.Newlines.TheVariants.{Seen, Dropped};
 
@@ -17,7 +17,7 @@ use crate::refusal::Refusal;
 impl<'t, 's> Cursor<'t, 's> {
     /// Passes over the signs before an operand, and looks at the token behind them.
     fn start(&mut self, newlines: Newlines) -> Option<Lookahead>
-        ensures leads { (count : ℕ) → Leads count (expr at newlines ∷ []) self.old (Ok (tt {0})) (expr at newlines ∷ []) self.new }
+        ensures leads { (count : ℕ) → Advances count (expr at newlines ∷ []) self.old (Ok (tt {0})) (expr at newlines ∷ []) self.new }
         ensures left { self.new ≡ shown newlines self.new }
         ensures found { result ≡ first self.new }
         ensures plain { IfSome result (λ t. is_prefix t.class ≡ false) }
@@ -35,7 +35,7 @@ impl<'t, 's> Cursor<'t, 's> {
     /// An expression up to where its first operand ends.
     #[cycle(parser)]
     fn operand(&mut self, newlines: Newlines, directives: usize) -> Result<(), Refusal>
-        ensures leads { Leads directives (expr at newlines ∷ []) self.old result (after at newlines ∷ []) self.new }
+        ensures leads { Advances directives (expr at newlines ∷ []) self.old result (after at newlines ∷ []) self.new }
         ensures shorter { OnOk result (length self.new < length self.old) }
     {
         let Some(token) = self.start(newlines) else {
@@ -80,7 +80,7 @@ impl<'t, 's> Cursor<'t, 's> {
     /// What may follow an identifier.
     #[cycle(parser)]
     fn call(&mut self, newlines: Newlines, directives: usize) -> Result<(), Refusal>
-        ensures leads { Leads directives (after_ident at newlines ∷ []) self.old result (after at newlines ∷ []) self.new }
+        ensures leads { Advances directives (after_ident at newlines ∷ []) self.old result (after at newlines ∷ []) self.new }
         ensures shorter { OnOk result (length self.new ≤ length self.old) }
     {
         let Some(token) = self.look(newlines) else {
@@ -102,7 +102,7 @@ impl<'t, 's> Cursor<'t, 's> {
 
     /// The further names of a function behind its first `::`, and the parenthesis of its call.
     fn path(&mut self, newlines: Newlines) -> Result<(), Refusal>
-        ensures leads { (count : ℕ) → Leads count (the Name at newlines ∷ path at newlines ∷ []) self.old result (args at Dropped ∷ after at newlines ∷ []) self.new }
+        ensures leads { (count : ℕ) → Advances count (the Name at newlines ∷ path at newlines ∷ []) self.old result (args at Dropped ∷ after at newlines ∷ []) self.new }
         ensures shorter { OnOk result (length self.new ≤ length self.old) }
     {
         loop {
@@ -124,7 +124,7 @@ impl<'t, 's> Cursor<'t, 's> {
     /// What follows an operand, up to where another operand has to stand.
     #[cycle(parser)]
     fn follow(&mut self, newlines: Newlines, directives: usize) -> Result<Follow, Refusal>
-        ensures leads { Leads directives (after at newlines ∷ []) self.old result (after_follow newlines result) self.new }
+        ensures leads { Advances directives (after at newlines ∷ []) self.old result (after_follow newlines result) self.new }
         ensures shorter { OnOk result (length self.new ≤ length self.old) }
         ensures waiting { IfOk result (λ f. f ≡ Follow.Choice → length self.new < length self.old) }
     {
@@ -344,7 +344,7 @@ impl<'t, 's> Cursor<'t, 's> {
 
     /// The `...` of a for-expression in braces, where it has one.
     fn grouping(&mut self)
-        ensures leads { (count : ℕ) → Leads count (group at Dropped ∷ []) self.old (Ok (tt {0})) (object_if at Dropped ∷ []) self.new }
+        ensures leads { (count : ℕ) → Advances count (group at Dropped ∷ []) self.old (Ok (tt {0})) (object_if at Dropped ∷ []) self.new }
         ensures shorter { length self.new ≤ length self.old }
     {
         if self.takes(Newlines::Dropped, Terminal::Ellipses) {

@@ -2,7 +2,7 @@
 ghost use Rattle.std.specs.Prelude.{◌≡◌, ◌+◌, ◌<◌, ◌≤◌, ◌^◌, ℕ, List, [], ◌∷◌, length, Some, None, Ok, OnOk};
 ghost use Rattle.hcl_syntax.specs.Grammar.{◌at◌, the, eol, labels, label_literal, start, rest, expr, file};
 ghost use Rattle.hcl_syntax.specs.Predictor.{run};
-ghost use Rattle.hcl_syntax.specs.Inner.Parsing.{Leads, Parses, outcome, after_item};
+ghost use Rattle.hcl_syntax.specs.Inner.Parsing.{Advances, Parses, outcome, after_item};
 ghost use Rattle.hcl_syntax.specs.declared.expected.Terminal.TheVariants.{EndQuote, Equals, EndBrace};
 ghost use Rattle.hcl_syntax.specs.declared.expected.Newlines.TheVariants.{Seen};
 
@@ -35,7 +35,7 @@ impl<'t, 's> Cursor<'t, 's> {
 
     /// The labels of a block and its opening brace.
     fn labels(&mut self) -> Result<(), Refusal>
-        ensures leads { Leads 0 (labels at Seen ∷ []) self.old result (start at Seen ∷ []) self.new }
+        ensures leads { Advances 0 (labels at Seen ∷ []) self.old result (start at Seen ∷ []) self.new }
         ensures shorter { OnOk result (length self.new ≤ length self.old) }
     {
         loop {
@@ -59,7 +59,7 @@ impl<'t, 's> Cursor<'t, 's> {
 
     /// What follows a block's opening brace. The answer is whether its body goes on over lines.
     fn block(&mut self) -> Result<bool, Refusal>
-        ensures leads { Leads 0 (start at Seen ∷ []) self.old result (after_item result) self.new }
+        ensures leads { Advances 0 (start at Seen ∷ []) self.old result (after_item result) self.new }
         ensures shorter { OnOk result (length self.new ≤ length self.old) }
     {
         let Some(token) = self.look(Newlines::Seen) else {
@@ -97,7 +97,7 @@ impl<'t, 's> Cursor<'t, 's> {
 
     /// An attribute or a block behind its first identifier.
     fn item(&mut self) -> Result<bool, Refusal>
-        ensures leads { Leads 0 (rest at Seen ∷ []) self.old result (after_item result) self.new }
+        ensures leads { Advances 0 (rest at Seen ∷ []) self.old result (after_item result) self.new }
         ensures shorter { OnOk result (length self.new ≤ length self.old) }
     {
         if self.takes(Newlines::Seen, Terminal::Equals) {

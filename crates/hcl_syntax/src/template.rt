@@ -1,8 +1,8 @@
 //! Templates and their directives.
 
 ghost use Rattle.std.specs.Prelude.{◌≡◌, ◌+◌, ◌<◌, ◌≤◌, [], ◌∷◌, length, Some, None, Ok, OnOk};
-ghost use Rattle.hcl_syntax.specs.Grammar.{◌at◌, the, expr, parts, directive, inside, turning};
-ghost use Rattle.hcl_syntax.specs.Inner.Parsing.{Leads, Parses, Ends};
+ghost use Rattle.hcl_syntax.specs.Grammar.{◌at◌, the, expr, parts, directive, inside};
+ghost use Rattle.hcl_syntax.specs.Inner.Parsing.{Advances, Parses, Ends, turning};
 ghost use Rattle.hcl_syntax.specs.Predictor.{max_directives};
 ghost use Rattle.hcl_syntax.specs.declared.expected.Terminal.TheVariants.{EndSequence};
 ghost use Rattle.hcl_syntax.specs.declared.expected.Newlines.TheVariants.{Dropped};

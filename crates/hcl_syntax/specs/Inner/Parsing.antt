@@ -2,17 +2,22 @@
 use Rattle.std.specs.Prelude.{◌≡◌, ◌<◌, ℕ, zero, suc, ◌+◌, Bool, true, false, List, [], ◌∷◌, ◌++◌, Option, Some, Result, Ok, Err}
 use Rattle.hcl_syntax.specs.declared.class.Lookahead.{Lookahead}
 use Rattle.hcl_syntax.specs.declared.class.Class.{Class}
-use Rattle.hcl_syntax.specs.declared.class.Class.TheVariants.{Not, Minus}
+use Rattle.hcl_syntax.specs.declared.class.Class.TheVariants.{Ident, Not, Minus}
+use Rattle.hcl_syntax.specs.declared.class.Word.TheVariants.{Else, Endif, Endfor}
+use Rattle.hcl_syntax.specs.declared.expected.Section.{Section}
+use Rattle.hcl_syntax.specs.declared.expected.Section.TheVariants.{InIf, InElse, InFor}
+use Rattle.hcl_syntax.specs.declared.expected.Turning.{Turning}
+use Rattle.hcl_syntax.specs.declared.expected.Turning.TheVariants.{Onward, Closing, Inner}
 use Rattle.hcl_syntax.specs.declared.expected.Newlines.{Newlines}
 use Rattle.hcl_syntax.specs.declared.expected.Newlines.TheVariants.{Seen}
 use Rattle.hcl_syntax.specs.declared.expected.Terminal.{Terminal}
-use Rattle.hcl_syntax.specs.declared.expected.Terminal.TheVariants.{Separator, EndBrace}
+use Rattle.hcl_syntax.specs.declared.expected.Terminal.TheVariants.{Separator, EndBrace, EndSequence}
 use Rattle.hcl_syntax.specs.declared.expected.Follow.{Follow}
 use Rattle.hcl_syntax.specs.declared.expected.Follow.TheVariants.{Operator, Choice, Other}
 use Rattle.hcl_syntax.specs.declared.refusal.Refusal.{Refusal}
 use Rattle.hcl_syntax.specs.declared.refusal.Refusal.TheVariants.{UnexpectedToken, UnexpectedEnd, TooDeep}
 use Rattle.hcl_syntax.specs.Inner.Cursors.{shown, first, Looks}
-use Rattle.hcl_syntax.specs.Grammar.{Marked, ◌at◌, the, file, body, eol, expr, fits}
+use Rattle.hcl_syntax.specs.Grammar.{Marked, Action, ◌at◌, ◌then◌, reads, closes, inside, directive_row, the, file, body, eol, expr, fits}
 use Rattle.hcl_syntax.specs.Predictor.{run}
 
 -- the refusal that was met, or else what comes of the rest
@@ -22,7 +27,7 @@ outcome (Err f) o = Some f
 
 -- With the symbols xs first, whatever comes behind them, the predictor comes from the old tokens to the new ones with
 -- ys in their place, or ends with the refusal.
-pub record Leads {A : Type 0} (count : ℕ) (xs : List Marked) (old : List Lookahead) (result : Result A Refusal) (ys : List Marked) (new : List Lookahead) : Type 0 where
+pub record Advances {A : Type 0} (count : ℕ) (xs : List Marked) (old : List Lookahead) (result : Result A Refusal) (ys : List Marked) (new : List Lookahead) : Type 0 where
   pub same : (behind : List Marked) → run count (xs ++ behind) old ≡ outcome result (run count (ys ++ behind) new)
 
 -- The same with the symbols gone and one directive fewer open.
@@ -31,7 +36,7 @@ pub record Ends {A : Type 0} (count : ℕ) (xs : List Marked) (old : List Lookah
 
 -- The same with the symbols gone.
 abbrev pub Parses : ℕ → List Marked → List Lookahead → Result (Unit {0}) Refusal → List Lookahead → Type 0
-Parses count xs old result new = Leads count xs old result [] new
+Parses count xs old result new = Advances count xs old result [] new
 
 -- n times `:` and an expression
 abbrev pub waits : Newlines → ℕ → List Marked → List Marked
@@ -84,3 +89,17 @@ abbrev pub Names : Refusal → ℕ → Type 0
 Names (UnexpectedToken n) count = n < count
 Names UnexpectedEnd count = Unit {0}
 Names (TooDeep n) count = n < count
+
+-- what a word does in a directive
+abbrev pub turning : Section → Class → Turning
+turning InIf (Ident Else) = Onward
+turning InIf (Ident Endif) = Closing
+turning InElse (Ident Endif) = Closing
+turning InFor (Ident Endfor) = Closing
+turning _ _ = Inner
+
+-- the row of a directive in a section, by what its word does
+abbrev pub turning_row : Turning → Section → Newlines → ℕ → Class → Action
+turning_row Onward e m n c = reads (the EndSequence at m ∷ inside InElse at m ∷ [])
+turning_row Closing e m n c = closes (the EndSequence at m ∷ [])
+turning_row Inner e m n c = directive_row m n c then (inside e at m ∷ [])

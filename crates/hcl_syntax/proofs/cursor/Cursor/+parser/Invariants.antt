@@ -1,6 +1,6 @@
 use Rattle.std.proofs.Common.{◌+◌, ◌<◌, ◌≤◌, ◌^◌, [], ◌∷◌, length, Ok, ◌*◌}
 use Rattle.hcl_syntax.specs.Grammar.{◌at◌, expr, after, args, tuple_item, object_item, parts, inside}
-use Rattle.hcl_syntax.specs.Inner.Parsing.{Leads, waits}
+use Rattle.hcl_syntax.specs.Inner.Parsing.{Advances, waits}
 use Rattle.hcl_syntax.specs.declared.expected.Newlines.TheVariants.{Seen, Dropped}
 use Rattle.hcl_syntax.proofs.cursor.Cursor.+parser.Given as goal
 
@@ -36,7 +36,7 @@ decreases-section l = 8 * length l.self.now
 
 abbrev pub invariant-section-loop-token : goal.invariant-section-loop-token
 invariant-section-loop-token l = record {
-  leads : Leads (l.directives + 1) (inside l.fn.section at Dropped ∷ []) l.fn.self (Ok (tt {0})) (inside l.section at Dropped ∷ []) l.self;
+  leads : Advances (l.directives + 1) (inside l.fn.section at Dropped ∷ []) l.fn.self (Ok (tt {0})) (inside l.section at Dropped ∷ []) l.self;
   shorter : length l.self ≤ length l.fn.self;
 }
 
@@ -48,7 +48,7 @@ decreases-tuple_items l = 8 * length l.self.now + 2
 
 abbrev pub invariant-args-loop-directives : goal.invariant-args-loop-directives
 invariant-args-loop-directives l = record {
-  leads : Leads l.directives (args at Dropped ∷ []) l.fn.self (Ok (tt {0})) (args at Dropped ∷ []) l.self;
+  leads : Advances l.directives (args at Dropped ∷ []) l.fn.self (Ok (tt {0})) (args at Dropped ∷ []) l.self;
   shorter : length l.self ≤ length l.fn.self;
 }
 
@@ -57,7 +57,7 @@ decreases-args-loop-directives l = length l.self
 
 abbrev pub invariant-expr-loop-self : goal.invariant-expr-loop-self
 invariant-expr-loop-self l = record {
-  leads : Leads l.directives (expr at l.newlines ∷ []) l.fn.self (Ok (tt {0})) (expr at l.newlines ∷ waits l.newlines l.waiting []) l.self;
+  leads : Advances l.directives (expr at l.newlines ∷ []) l.fn.self (Ok (tt {0})) (expr at l.newlines ∷ waits l.newlines l.waiting []) l.self;
   shorter : l.waiting + length l.self ≤ length l.fn.self;
   room : length l.fn.self < 2 ^ 64;
 }
@@ -67,7 +67,7 @@ decreases-expr-loop-self l = length l.self
 
 abbrev pub invariant-parts-loop-token : goal.invariant-parts-loop-token
 invariant-parts-loop-token l = record {
-  leads : Leads l.directives (parts at l.newlines ∷ []) l.fn.self (Ok (tt {0})) (parts at l.newlines ∷ []) l.self;
+  leads : Advances l.directives (parts at l.newlines ∷ []) l.fn.self (Ok (tt {0})) (parts at l.newlines ∷ []) l.self;
   shorter : length l.self ≤ length l.fn.self;
 }
 
@@ -76,7 +76,7 @@ decreases-parts-loop-token l = length l.self
 
 abbrev pub invariant-follow-loop-token : goal.invariant-follow-loop-token
 invariant-follow-loop-token l = record {
-  leads : Leads l.directives (after at l.newlines ∷ []) l.fn.self (Ok (tt {0})) (after at l.newlines ∷ []) l.self;
+  leads : Advances l.directives (after at l.newlines ∷ []) l.fn.self (Ok (tt {0})) (after at l.newlines ∷ []) l.self;
   shorter : length l.self ≤ length l.fn.self;
 }
 
@@ -85,7 +85,7 @@ decreases-follow-loop-token l = length l.self
 
 abbrev pub invariant-tuple_items-loop-directives : goal.invariant-tuple_items-loop-directives
 invariant-tuple_items-loop-directives l = record {
-  leads : Leads l.directives (tuple_item at Dropped ∷ []) l.fn.self (Ok (tt {0})) (tuple_item at Dropped ∷ []) l.self;
+  leads : Advances l.directives (tuple_item at Dropped ∷ []) l.fn.self (Ok (tt {0})) (tuple_item at Dropped ∷ []) l.self;
   shorter : length l.self ≤ length l.fn.self;
 }
 
@@ -109,7 +109,7 @@ decreases-entries l = 8 * length l.self.now + 3
 
 abbrev pub invariant-entries-loop-directives : goal.invariant-entries-loop-directives
 invariant-entries-loop-directives l = record {
-  leads : Leads l.directives (object_item at Seen ∷ []) l.fn.self (Ok (tt {0})) (object_item at Seen ∷ []) l.self;
+  leads : Advances l.directives (object_item at Seen ∷ []) l.fn.self (Ok (tt {0})) (object_item at Seen ∷ []) l.self;
   shorter : length l.self ≤ length l.fn.self;
 }
 

@@ -1,12 +1,12 @@
 use Rattle.std.proofs.Common.{[], ◌∷◌, length, Ok, ◌≤◌, ◌<◌, ◌+◌, ◌^◌}
 use Rattle.hcl_syntax.specs.Grammar.{◌at◌, file}
-use Rattle.hcl_syntax.specs.Inner.Parsing.{Leads, bodies}
+use Rattle.hcl_syntax.specs.Inner.Parsing.{Advances, bodies}
 use Rattle.hcl_syntax.specs.declared.expected.Newlines.TheVariants.{Seen}
 use Rattle.hcl_syntax.proofs.cursor.Cursor.file.Given as goal
 
 abbrev pub invariant-loop-token : goal.invariant-loop-token
 invariant-loop-token l = record {
-  leads : Leads 0 (file at Seen ∷ []) l.fn.self (Ok (tt {0})) (bodies l.levels) l.self;
+  leads : Advances 0 (file at Seen ∷ []) l.fn.self (Ok (tt {0})) (bodies l.levels) l.self;
   shorter : l.levels + length l.self ≤ length l.fn.self;
   room : length l.fn.self < 2 ^ 64;
 }

@@ -1,12 +1,12 @@
 use Rattle.std.proofs.Common.{[], ◌∷◌, length, Ok, ◌≤◌}
 use Rattle.hcl_syntax.specs.Grammar.{◌at◌, labels}
-use Rattle.hcl_syntax.specs.Inner.Parsing.{Leads}
+use Rattle.hcl_syntax.specs.Inner.Parsing.{Advances}
 use Rattle.hcl_syntax.specs.declared.expected.Newlines.TheVariants.{Seen}
 use Rattle.hcl_syntax.proofs.cursor.Cursor.labels.Given as goal
 
 abbrev pub invariant-loop-token : goal.invariant-loop-token
 invariant-loop-token l = record {
-  leads : Leads 0 (labels at Seen ∷ []) l.fn.self (Ok (tt {0})) (labels at Seen ∷ []) l.self;
+  leads : Advances 0 (labels at Seen ∷ []) l.fn.self (Ok (tt {0})) (labels at Seen ∷ []) l.self;
   shorter : length l.self ≤ length l.fn.self;
 }
 

@@ -1,12 +1,12 @@
 use Rattle.std.proofs.Common.{ℕ, [], ◌∷◌, length, Ok, ◌≤◌}
 use Rattle.hcl_syntax.specs.declared.expected.Terminal.TheVariants.{Name}
 use Rattle.hcl_syntax.specs.Grammar.{◌at◌, the, path}
-use Rattle.hcl_syntax.specs.Inner.Parsing.{Leads}
+use Rattle.hcl_syntax.specs.Inner.Parsing.{Advances}
 use Rattle.hcl_syntax.proofs.cursor.Cursor.path.Given as goal
 
 abbrev pub invariant-loop-self : goal.invariant-loop-self
 invariant-loop-self l = record {
-  leads : (count : ℕ) → Leads count (the Name at l.newlines ∷ path at l.newlines ∷ []) l.fn.self (Ok (tt {0})) (the Name at l.newlines ∷ path at l.newlines ∷ []) l.self;
+  leads : (count : ℕ) → Advances count (the Name at l.newlines ∷ path at l.newlines ∷ []) l.fn.self (Ok (tt {0})) (the Name at l.newlines ∷ path at l.newlines ∷ []) l.self;
   shorter : length l.self ≤ length l.fn.self;
 }
 
