@@ -9,8 +9,8 @@ ghost use Rattle.hcl_scan.specs.declared.expression.Lead.TheVariants.{LessLess};
 
 use crate::comment::inline_comment_len;
 use crate::ident::{heredoc_open_len, ident_len};
-use crate::punctuation::longest_punctuation;
 use crate::number::{digits_len, number_len};
+use crate::punctuation::longest_punctuation;
 use crate::text::{blanks_len, byte_at, line_len, newline_len};
 use crate::token::{Found, Kind};
 

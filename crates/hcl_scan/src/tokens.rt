@@ -5,9 +5,9 @@ ghost use Rattle.std.specs.Str.{IsCharBoundary};
 ghost use Rattle.hcl_scan.specs.Scans.{Scans};
 ghost use Rattle.hcl_scan.specs.Scanned.{lexeme, IsScanError};
 
-use hcl_source::{Fault, Source};
 use crate::scanner::Scanner;
 use crate::token::{Entry, ScanError, Token};
+use hcl_source::{Fault, Source};
 use std::alloc::Global;
 use std::marker::Model;
 

@@ -1,8 +1,8 @@
 //! Calls with ample memory, compared with answers worked out by hand.
 
 use crate::{
-    ByteSink, ByteSource, FaultKind, FromRead, LoadError, MAX_SOURCE, Position, Source, ToWrite, line_start,
-    write_fully,
+    ByteSink, ByteSource, FaultKind, FromRead, LoadError, MAX_SOURCE, Position, Source, ToWrite,
+    line_start, write_fully,
 };
 use std::process::Abort;
 use std::test::Fail;

@@ -133,7 +133,7 @@ fn class_at(kind: Kind, text: &str) -> Class
 
 /// What the grammar sees of the token of this number.
 #[inline(always)]
-pub fn lookahead(tokens: &Tokens, number: usize) -> Lookahead
+pub fn lookahead_at(tokens: &Tokens, number: usize) -> Lookahead
     requires { number < length tokens.now.tokens }
     ensures { lookaheads_from number (drop number tokens.now.tokens) ≡ (if is_trivia result.class then lookaheads_from (number + 1) (drop (number + 1) tokens.now.tokens) else result ∷ lookaheads_from (number + 1) (drop (number + 1) tokens.now.tokens)) }
 {

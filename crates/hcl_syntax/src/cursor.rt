@@ -7,7 +7,7 @@ ghost use Rattle.hcl_syntax.specs.Grammar.{fits, ◌at◌, the};
 ghost use Rattle.hcl_syntax.specs.Inner.Cursors.{shown, first, after_first, is_shown};
 ghost use Rattle.hcl_syntax.specs.Inner.Parsing.{Parses, Took, Lacks};
 
-use crate::class::{Class, Lookahead, Word, lookahead};
+use crate::class::{Class, Lookahead, Word, lookahead_at};
 use crate::expected::{Newlines, Terminal};
 use crate::refusal::Refusal;
 use hcl_scan::Tokens;
@@ -80,7 +80,7 @@ fn find(tokens: &Tokens, from: usize, newlines: Newlines) -> (usize, Option<Look
 {
     let mut number = from;
     while number < tokens.len() {
-        let token = lookahead(tokens, number);
+        let token = lookahead_at(tokens, number);
         if is_shown(newlines, token.class) {
             return (number, Some(token));
         }
@@ -98,7 +98,7 @@ fn past(tokens: &Tokens, from: usize) -> usize
 {
     let mut number = from;
     while number < tokens.len() {
-        let token = lookahead(tokens, number);
+        let token = lookahead_at(tokens, number);
         number += 1;
         if is_shown(Newlines::Seen, token.class) {
             return number;

@@ -5,7 +5,7 @@ use Rattle.std.specs.Str.{IsCharBoundary}
 use Rattle.hcl_source.specs.Load.{max_source}
 use Rattle.hcl_scan.specs.Lexemes.{Lexeme, Opener, Sequence, in_heredoc, closes_sequence, max_open}
 use Rattle.hcl_scan.specs.Spelling.{Context, Template, Expression, context}
-use Rattle.hcl_scan.specs.Scans.{State, Next, IsLongest, IsComplete, gap_len}
+use Rattle.hcl_scan.specs.Scans.{State, Next, IsLongest, gap_len}
 use Rattle.hcl_scan.specs.Faults.{Lacks, fault_offset}
 use Rattle.hcl_scan.specs.Inner.Openings.{opener_of, openers_of, offsets_in, hidden_of}
 use Rattle.hcl_scan.specs.declared.token.Entry.{Entry}
