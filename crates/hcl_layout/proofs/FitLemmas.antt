@@ -9,9 +9,9 @@ use Rattle.hcl_scan.specs.Regapped as regapped
 use Rattle.hcl_scan.specs.SideBySide.{Beside, opens_template}
 use Rattle.hcl_scan.specs.declared.token.Kind.{Kind}
 use Rattle.hcl_scan.specs.declared.token.Kind.TheVariants as kind
-use Rattle.hcl_scan.proofs.Booleans.{or_true}
-use Rattle.hcl_scan.proofs.OtherSteps.{touching}
-use Rattle.hcl_scan.proofs.GapsRead.{template_touches}
+use Rattle.hcl_scan.proofs.BooleanLemmas.{or_true}
+use Rattle.hcl_scan.proofs.OtherStepLemmas.{touching}
+use Rattle.hcl_scan.proofs.GapLemmas.{template_touches}
 use Rattle.hcl_syntax.specs.Kinds.{is_newline}
 use Rattle.hcl_syntax.specs.Kinds.{is_dot}
 use Rattle.hcl_spacing.specs.Spacing.{stands_before, spaced}

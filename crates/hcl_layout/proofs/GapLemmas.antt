@@ -3,7 +3,7 @@
 use Rattle.std.proofs.Common.{◌≡◌, ℕ, zero, suc, ◌+◌, ◌<◌, ◌||◌, Bool, true, false, List, [], ◌∷◌, ◌++◌, length, drop, Option, Some, None, ◌⊎◌, inl, inr, refl, sym, ap, subst, ◌∙◌, arith, max, ◌*◌}
 use Rattle.std.specs.Prelude.{if◌then◌else◌, slice_set, map}
 use Rattle.hcl_scan.specs.Lexemes.{Lexeme}
-use Rattle.hcl_scan.proofs.Booleans.{or_true}
+use Rattle.hcl_scan.proofs.BooleanLemmas.{or_true}
 use Rattle.hcl_syntax.specs.Kinds.{is_newline}
 use Rattle.hcl_layout.specs.Lines.{Line}
 use Rattle.hcl_layout.specs.Levels.{Net, level, levels_after, net_of}

@@ -4,11 +4,11 @@ use Rattle.std.proofs.lemmas.Str.{IsUtf8-append, IsUtf8-nil}
 use Rattle.std.specs.Prelude.{encode_utf8_all}
 use lib.Utf8.{encode}
 use Rattle.hcl_scan.specs.Lexemes.{Lexeme}
-use Rattle.hcl_source.specs.Load.{IsText, has_mark, max_source}
+use Rattle.hcl_source.specs.Load.{IsText, has_byte_order_mark, max_source}
 use Rattle.hcl_scan.specs.Scans.{Scans}
 use Rattle.hcl_scan.specs.SideBySide.{AreTexts}
-use Rattle.hcl_scan.proofs.TokenTexts.{texts_are}
-use Rattle.hcl_scan.proofs.ByteOrderMarks.{unmarked}
+use Rattle.hcl_scan.proofs.TokenTextLemmas.{texts_are}
+use Rattle.hcl_scan.proofs.ByteOrderMarkLemmas.{unmarked}
 use Rattle.hcl_layout.specs.Gaps.{gaps}
 use Rattle.hcl_layout.specs.Print.{print, printed}
 
@@ -25,7 +25,7 @@ printed_utf8 [] ts are = IsUtf8-nil
 printed_utf8 (g ∷ gs) [] are = IsUtf8-nil
 printed_utf8 (g ∷ gs) (t ∷ ts) are = IsUtf8-append (replicate g 32 ++ t.text) (printed gs ts) (IsUtf8-append (replicate g 32) t.text (blanks_utf8 g) are.0) (printed_utf8 gs ts are.1)
 
-first_plain : (text : List ℕ) (gs : List ℕ) (ts : List Lexeme) → Scans text ts → has_mark (printed gs ts) ≡ false
+first_plain : (text : List ℕ) (gs : List ℕ) (ts : List Lexeme) → Scans text ts → has_byte_order_mark (printed gs ts) ≡ false
 first_plain text [] ts scans = refl
 first_plain text (g ∷ gs) [] scans = refl
 first_plain text (zero ∷ gs) (t ∷ ts) scans = unmarked text t ts (printed gs ts) scans

@@ -7,7 +7,7 @@ use Rattle.hcl_scan.specs.Regapped.{is_template}
 use Rattle.hcl_scan.specs.SideBySide.{Beside, Besides, opens_template, is_coloned}
 use Rattle.hcl_scan.specs.declared.token.Kind.{Kind}
 use Rattle.hcl_scan.specs.declared.token.Kind.TheVariants as kind
-use Rattle.hcl_scan.proofs.FirstBytes.{says}
+use Rattle.hcl_scan.proofs.FirstByteLemmas.{says}
 use Rattle.hcl_layout.specs.Lines.{Line, ends_line, lines, onto}
 use Rattle.hcl_layout.specs.Levels.{levels, net_of}
 use Rattle.hcl_layout.specs.Cells.{assign_cell, running_comment, trailing_comment}

@@ -7,7 +7,7 @@ use Rattle.std.proofs.lemmas.Bool.Decides.{nat_tests}
 use Rattle.hcl_scan.specs.Lexemes.{Lexeme}
 use Rattle.hcl_scan.specs.declared.token.Kind.{Kind}
 use Rattle.hcl_scan.specs.declared.token.Kind.TheVariants as kind
-use Rattle.hcl_scan.proofs.Booleans.{and_true}
+use Rattle.hcl_scan.proofs.BooleanLemmas.{and_true}
 use Rattle.hcl_syntax.specs.Classes.{class_at, class_of, drops, is_trivia, lookaheads, lookaheads_from}
 use Rattle.hcl_syntax.specs.declared.class.Class.{Class}
 use Rattle.hcl_syntax.specs.declared.class.Class.TheVariants as class

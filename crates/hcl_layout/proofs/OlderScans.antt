@@ -6,20 +6,20 @@ use Rattle.std.specs.List.{list_all, prefix_len}
 use Rattle.std.proofs.lemmas.List.{append-nil}
 use Rattle.std.proofs.lemmas.Bool.Decides.{nat_tests}
 use Rattle.hcl_scan.specs.Lexemes.{Lexeme, Opener, in_heredoc, moved}
-use Rattle.hcl_scan.specs.Spelling.{marks, IsMark, IsSpelling, IsExpressionText, context, Template, Expression, is_blank, starts}
+use Rattle.hcl_scan.specs.Spelling.{punctuation, IsPunctuation, IsSpelling, IsExpressionText, context, Template, Expression, is_blank, starts}
 use Rattle.hcl_scan.specs.Scans.{State, begin, ahead, gap_in, has_gaps_in, IsLongest, Shows, Reads, Closes, Next, Run, IsComplete, Scans}
 use Rattle.hcl_scan.specs.SideBySide.{is_coloned}
 use Rattle.hcl_scan.specs.declared.token.Kind.{Kind}
 use Rattle.hcl_scan.specs.declared.token.Kind.TheVariants as kind
-use Rattle.hcl_scan.proofs.Booleans.{and_true}
-use Rattle.hcl_scan.proofs.Comments.{or_cases, starts_split}
-use Rattle.hcl_scan.proofs.Contexts.{not_both}
-use Rattle.hcl_scan.proofs.Numerals.{digit_head}
-use Rattle.hcl_scan.proofs.Leads.{some}
-use Rattle.hcl_scan.proofs.Sides.{Side, expression, template, side}
-use Rattle.hcl_scan.proofs.Templates.{Way, lit, interp, control, quote}
-use Rattle.hcl_scan.proofs.Words.{begins_word, ident_word}
-use Rattle.hcl_scan.proofs.Ways.{Ways, ways, newline, line_comment, inline_comment, blanks, ident, digits, number, heredoc, seq_close, brace_close, slash, mark, mark_passes}
+use Rattle.hcl_scan.proofs.BooleanLemmas.{and_true}
+use Rattle.hcl_scan.proofs.CommentLemmas.{or_cases, starts_split}
+use Rattle.hcl_scan.proofs.ContextLemmas.{not_both}
+use Rattle.hcl_scan.proofs.NumeralLemmas.{digit_head}
+use Rattle.hcl_scan.proofs.LeadLemmas.{some}
+use Rattle.hcl_scan.proofs.KindPlaceLemmas.{Side, expression, template, side}
+use Rattle.hcl_scan.proofs.TemplateLemmas.{Way, lit, interp, control, quote}
+use Rattle.hcl_scan.proofs.WordLemmas.{begins_word, ident_word}
+use Rattle.hcl_scan.proofs.WayLemmas.{Ways, ways, newline, line_comment, inline_comment, blanks, ident, digits, number, heredoc, seq_close, brace_close, slash, mark, mark_passes}
 use Rattle.hcl_syntax.specs.Kinds.{is_colon, is_colon_colon}
 use Rattle.hcl_layout.specs.Older.Tokens.{WasSpelling, WasLongest, WasRead, WasNext, WasRun, WasScanned}
 
@@ -50,7 +50,7 @@ coloned_is _ h n = absurd (cc)
 abbrev colon_test : List ℕ → Kind → Bool
 colon_test t k = not (get_or t 0 0 == 58) || is_coloned k
 
-colon_marks : (text : List ℕ) (k : Kind) → IsMark marks text k → colon_test text k ≡ true
+colon_marks : (text : List ℕ) (k : Kind) → IsPunctuation punctuation text k → colon_test text k ≡ true
 unfolding marks
 colon_marks text k is = mark_passes (λ t k. colon_test t k) marks text k refl is
 
@@ -116,7 +116,7 @@ are_two _ = false
 abbrev two_test : List ℕ → Kind → Bool
 two_test t k = not (is_colon_colon k) || are_two t
 
-two_marks : (text : List ℕ) (k : Kind) → IsMark marks text k → two_test text k ≡ true
+two_marks : (text : List ℕ) (k : Kind) → IsPunctuation punctuation text k → two_test text k ≡ true
 unfolding marks
 two_marks text k is = mark_passes (λ t k. two_test t k) marks text k refl is
 

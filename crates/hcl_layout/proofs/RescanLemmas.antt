@@ -9,8 +9,8 @@ use Rattle.hcl_scan.specs.Regapped.{AllFit, tokens_of, text_of}
 use Rattle.hcl_scan.specs.SideBySide.{Besides}
 use Rattle.hcl_scan.specs.declared.token.Kind.{Kind}
 use Rattle.hcl_scan.specs.declared.token.Kind.TheVariants as kind
-use Rattle.hcl_scan.proofs.OtherGaps.{other_gaps}
-use Rattle.hcl_scan.proofs.SideBySide.{besides}
+use Rattle.hcl_scan.proofs.OtherGapLemmas.{other_gaps}
+use Rattle.hcl_scan.proofs.SideBySideLemmas.{besides}
 use Rattle.hcl_syntax.specs.Kinds.{is_newline}
 use Rattle.hcl_layout.specs.Lines.{Line, lines, onto, ends_line}
 use Rattle.hcl_layout.specs.Gaps.{gaps, line_gaps}

@@ -7,9 +7,9 @@ use Rattle.std.proofs.lemmas.List.{length-map}
 use Rattle.hcl_scan.specs.Lexemes.{Lexeme}
 use Rattle.hcl_source.specs.Places.{line_of}
 use Rattle.hcl_scan.specs.Scans.{Scans}
-use Rattle.hcl_scan.proofs.LineLemmas.{line_is}
-use Rattle.hcl_scan.proofs.Runs.{one_scan}
-use Rattle.hcl_scan.proofs.SpellingLaws.{one_kind, nonempty}
+use Rattle.hcl_scan.proofs.TokenLineLemmas.{line_is}
+use Rattle.hcl_scan.proofs.RunLemmas.{one_scan}
+use Rattle.hcl_scan.proofs.SpellingLemmas.{one_kind, nonempty}
 use Rattle.hcl_syntax.specs.Numbered.{Numbered, numbered, numbered_from}
 use Rattle.hcl_syntax.specs.Verdict.{start_of}
 use Rattle.hcl_layout.specs.Print.{print}

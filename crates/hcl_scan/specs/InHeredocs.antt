@@ -1,4 +1,5 @@
--- Two readings that stand inside the same heredocs, where other text stands behind the outermost of them.
+-- Two readings that stand inside the same heredocs, where other text stands behind the outermost of them. It follows
+-- from the scan: the law `heredoc_kept`.
 use Rattle.std.specs.Prelude.{◌≡◌, ℕ, List, [], ◌∷◌}
 use Rattle.hcl_scan.specs.Lexemes.{Lexeme}
 use Rattle.hcl_scan.specs.Scans.{Hidden, Next, State}

@@ -2,7 +2,6 @@
 pub mod Entries
 pub mod Found
 pub mod Leads
-pub mod Marks
 pub mod Openings
+pub mod Punctuation
 pub mod Scanners
-pub mod Stops

@@ -1,5 +1,6 @@
 -- Tokens, and what they open and close. What is open decides how the text goes on: a quote and a heredoc hold
--- literal text, all else holds an expression.
+-- literal text, all else holds an expression (HCL Native Syntax Specification, "Lexical Elements" and "Templates").
+-- How much may be open at once is our own choice.
 use Rattle.std.specs.Prelude.{ℕ, ◌==◌, ◌||◌, Bool, true, false, List, [], ◌∷◌, drop, if◌then◌else◌, nat_eq, codes}
 use Rattle.std.specs.List.{starts_with, before_first, list_any}
 use Rattle.hcl_scan.specs.declared.token.Kind.{Kind}
@@ -94,3 +95,7 @@ moved _ opens = opens
 abbrev pub opened : List Opener → List Lexeme → List Opener
 opened opens [] = opens
 opened opens (t ∷ ts) = opened (moved t.kind opens) ts
+
+-- so much may be open at once
+abbrev pub max_open : ℕ
+max_open = 256

@@ -1,5 +1,5 @@
 -- A text made of tokens and blanks: each token with the number of spaces before it, and which numbers leave the tokens
--- as they are. Nothing here knows why a blank is put.
+-- as they are. Nothing here knows why a blank is put. That the numbers leave them so is the law `other_gaps`.
 use Rattle.std.specs.Prelude.{ℕ, ◌+◌, ◌==◌, ◌||◌, not, Bool, true, false, IsTrue, List, [], ◌∷◌, ◌++◌, length, if◌then◌else◌, replicate, map}
 use Rattle.hcl_scan.specs.Lexemes.{Lexeme}
 use Rattle.hcl_scan.specs.Scans.{is_dot}

@@ -1,4 +1,4 @@
--- What contracts see of the tokens of a source, and of the errors of a scan.
+-- What contracts see of the tokens of a source, and of the errors of a scan: our own types.
 use Rattle.std.specs.Prelude.{◌≡◌, ℕ, List}
 use Rattle.hcl_scan.specs.Lexemes.{Lexeme}
 use Rattle.hcl_source.specs.Places.{place}

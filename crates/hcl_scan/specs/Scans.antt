@@ -3,7 +3,7 @@
 -- since the specification leaves it open: the first later line that is the marker, blanks at both ends aside.
 use Rattle.std.specs.Prelude.{◌≡◌, ℕ, ◌+◌, ◌-◌, ◌<◌, ◌≤◌, ◌||◌, ◌&&◌, not, Bool, true, false, IsTrue, List, [], ◌∷◌, ◌++◌, length, drop, take, if◌then◌else◌, nat_lt, codes, get_or, Option, Some, None, ◌⊎◌}
 use Rattle.std.specs.List.{prefix_len}
-use Rattle.hcl_scan.specs.Lexemes.{Lexeme, Opener, Heredoc, Brace, Bracket, Paren, marker_of, in_heredoc, moved}
+use Rattle.hcl_scan.specs.Lexemes.{Lexeme, Opener, Heredoc, Brace, Bracket, Paren, marker_of, in_heredoc, moved, max_open}
 use Rattle.hcl_scan.specs.Spelling.{IsSpelling, is_blank, starts, context, Context, Template, Expression}
 use Rattle.hcl_scan.specs.declared.token.Kind.{Kind}
 use Rattle.hcl_scan.specs.declared.token.Kind.TheVariants.{Dot, HeredocOpen, HeredocClose}
@@ -104,7 +104,7 @@ pub record Reads (s : State) (t : Lexeme) (next : State) : Type 0 where
   pub at : next.at ≡ t.start + length t.text
   pub opens : next.opens ≡ moved t.kind s.opens
   pub offsets : next.offsets ≡ offsets_of t.start s.opens next.opens s.offsets
-  pub room : length next.opens ≤ 256
+  pub room : length next.opens ≤ max_open
   pub after_dot : next.after_dot ≡ is_dot t.kind
   pub shows : Shows t.kind t.text rest s.hidden next.seen next.hidden
 

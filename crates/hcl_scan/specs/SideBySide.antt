@@ -1,5 +1,5 @@
 -- What a scan says of tokens that stand side by side, by the kind before and the first byte, so that whoever puts
--- blanks between them need not know how a text is read.
+-- blanks between them need not know how a text is read. It follows from the scan: the law `side_by_side`.
 use Rattle.std.specs.Prelude.{◌||◌, ◌≡◌, ℕ, ◌==◌, Bool, true, false, List, [], ◌∷◌, get_or, nat_le, codes, if◌then◌else◌, ◌⊎◌, IsUtf8}
 use Rattle.std.specs.Char.{is_ascii_digit, is_ascii_alphabetic}
 use Rattle.hcl_scan.specs.Lexemes.{Lexeme}

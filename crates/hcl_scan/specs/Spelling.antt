@@ -1,4 +1,6 @@
--- The texts of each kind.
+-- The texts of each kind: a set of whole texts for each kind and context (HCL Native Syntax Specification, "Lexical
+-- Elements" and "Templates"; identifiers by UAX 31, with `-`). For the last sign of a literal and for a slash it depends
+-- on what follows.
 use Rattle.std.specs.Prelude.{◌≡◌, ℕ, zero, suc, ◌-◌, ◌<◌, ◌==◌, ◌||◌, ◌&&◌, Bool, true, false, IsTrue, IsFalse, List, [], ◌∷◌, ◌++◌, length, drop, if◌then◌else◌, codes, encode_utf8_all, Option, Some, None, ◌⊎◌}
 use Rattle.std.specs.Option.{option_map_or}
 use Rattle.std.specs.Char.{is_ascii_digit, is_ascii_hexdigit}
@@ -18,8 +20,8 @@ abbrev pub is_blank : ℕ → Bool
 is_blank b = (b == 32) || (b == 9)
 
 -- the marks of expressions, each with its one kind; `/` and `}` are below
-unfoldable pub marks : List (List ℕ × Kind)
-marks =
+unfoldable pub punctuation : List (List ℕ × Kind)
+punctuation =
     (codes "\"", QuoteOpen) ∷ (codes "(", ParenOpen) ∷ (codes "[", BracketOpen) ∷ (codes "{", BraceOpen) ∷ (codes ")", ParenClose) ∷ (codes "]", BracketClose)
     ∷ (codes ".", Dot) ∷ (codes ",", Comma) ∷ (codes "...", Ellipsis) ∷ (codes "?", Question) ∷ (codes ":", Colon) ∷ (codes "::", ColonColon) ∷ (codes "=", Assign) ∷ (codes "=>", Arrow)
     ∷ (codes "!", Not) ∷ (codes "-", Minus) ∷ (codes "+", Plus) ∷ (codes "*", Star) ∷ (codes "%", Percent)
@@ -27,9 +29,9 @@ marks =
     ∷ (codes "<", Less) ∷ (codes ">", Greater) ∷ (codes "<=", LessEqual) ∷ (codes ">=", GreaterEqual) ∷ []
 
 -- the text is a mark of this kind
-abbrev pub IsMark : List (List ℕ × Kind) → List ℕ → Kind → Type 0
-IsMark [] text kind = ⊥
-IsMark (m ∷ ms) text kind = ((m.0 ≡ text) × (m.1 ≡ kind)) ⊎ IsMark ms text kind
+abbrev pub IsPunctuation : List (List ℕ × Kind) → List ℕ → Kind → Type 0
+IsPunctuation [] text kind = ⊥
+IsPunctuation (m ∷ ms) text kind = ((m.0 ≡ text) × (m.1 ≡ kind)) ⊎ IsPunctuation ms text kind
 
 abbrev pub IsNewline : List ℕ → Type 0
 IsNewline text = (text ≡ 10 ∷ []) ⊎ (text ≡ 13 ∷ 10 ∷ [])
@@ -95,7 +97,7 @@ IsExpressionText opens after_dot SeqClose text rest = IsTrue (closes_sequence op
 IsExpressionText opens after_dot BraceClose text rest = IsFalse (closes_sequence opens) × (text ≡ codes "}")
 -- a `/*` that never ends is no two marks
 IsExpressionText opens after_dot Slash text rest = (text ≡ codes "/") × IsFalse (starts rest (codes "*"))
-IsExpressionText opens after_dot kind text rest = IsMark marks text kind
+IsExpressionText opens after_dot kind text rest = IsPunctuation punctuation text kind
 
 abbrev pub hex_digits_after : ℕ → List ℕ → Bool
 hex_digits_after zero text = true
@@ -111,8 +113,8 @@ escape_len text =
     else None))
 
 -- a `$` or a `%`
-abbrev pub is_sign : ℕ → Bool
-is_sign b = (b == 36) || (b == 37)
+abbrev pub is_dollar_or_percent : ℕ → Bool
+is_dollar_or_percent b = (b == 36) || (b == 37)
 
 -- what ends literal text in quotes, where `after` is what follows the byte
 abbrev pub ends_quoted : ℕ → List ℕ → Bool
@@ -123,7 +125,7 @@ abbrev pub element_len : Bool → List ℕ → Option ℕ
 element_len quoted [] = None
 element_len quoted (b ∷ after) =
     if starts (b ∷ after) (codes "$${") || starts (b ∷ after) (codes "%%{") then Some 3
-    else (if is_sign b then (if starts after (codes "{") then None else Some 1)
+    else (if is_dollar_or_percent b then (if starts after (codes "{") then None else Some 1)
     else (if quoted && ends_quoted b after then escape_len (b ∷ after)
     else Some 1))
 
@@ -134,12 +136,12 @@ are_elements quoted (suc left) [] rest = false
 are_elements quoted zero (b ∷ text) rest = option_map_or (λ n. are_elements quoted (n - 1) text rest) (element_len quoted (b ∷ text ++ rest)) false
 are_elements quoted (suc left) (b ∷ text) rest = are_elements quoted left text rest
 
-abbrev pub IsLit : Bool → List ℕ → List ℕ → Type 0
-IsLit quoted text rest = (0 < length text) × IsTrue (are_elements quoted 0 text rest)
+abbrev pub IsLiteral : Bool → List ℕ → List ℕ → Type 0
+IsLiteral quoted text rest = (0 < length text) × IsTrue (are_elements quoted 0 text rest)
 
 -- a text of this kind in a template, before `rest`
 abbrev pub IsTemplateText : Bool → Kind → List ℕ → List ℕ → Type 0
-IsTemplateText quoted Lit text rest = IsLit quoted text rest
+IsTemplateText quoted Lit text rest = IsLiteral quoted text rest
 IsTemplateText quoted InterpOpen text rest = (text ≡ codes "${") ⊎ (text ≡ codes "${~")
 IsTemplateText quoted ControlOpen text rest = (text ≡ codes "%{") ⊎ (text ≡ codes "%{~")
 IsTemplateText true QuoteClose text rest = text ≡ codes "\""

@@ -2,19 +2,28 @@
 
 ghost use Rattle.std.specs.Prelude.{◌≡◌, ℕ, Bool, Some, None, IfSome, IfNone};
 ghost use Rattle.std.specs.Str.{IsCharBoundary};
-ghost use Rattle.hcl_scan.specs.Spelling.{marks};
-ghost use Rattle.hcl_scan.specs.Inner.Found.{FindsAt, HasNoneAt, IsLongestFront, HasNoFront, IsLongestMark, HasNoMark, BlankText, NumberText, CloserText, closer_kind};
+ghost use Rattle.hcl_scan.specs.Spelling.{punctuation};
+ghost use Rattle.hcl_scan.specs.Inner.Found.{FindsAt, HasNoneAt, IsLongestFront, HasNoFront, IsLongestPunctuation, HasNoPunctuation, BlankText, NumberText, CloserText, closer_kind};
 ghost use Rattle.hcl_scan.specs.Inner.Leads.{lead_of, lead_bytes, slash_lead};
 ghost use Rattle.hcl_scan.specs.declared.expression.Lead.TheVariants.{LessLess};
 
-use crate::bytes::byte_at;
 use crate::comment::inline_comment_len;
-use crate::found::{Found, Place};
 use crate::ident::{heredoc_open_len, ident_len};
-use crate::mark::longest_mark;
 use crate::number::{digits_len, number_len};
-use crate::space::{blanks_len, line_len, newline_len};
-use crate::token::Kind;
+use crate::punctuation::longest_punctuation;
+use crate::text::{blanks_len, byte_at, line_len, newline_len};
+use crate::token::{Found, Kind};
+
+/// What the next token of an expression depends on, besides the text.
+#[derive(Clone, Copy, Debug)]
+pub struct Surroundings {
+    /// The token before is a Dot.
+    pub after_dot: bool,
+    /// Some heredoc is open.
+    pub inside_heredoc: bool,
+    /// A `}` closes a sequence.
+    pub closes_sequence: bool,
+}
 
 /// What tokens the first two bytes may begin.
 #[derive(Clone, Copy)]
@@ -143,27 +152,27 @@ fn opener_or_less(seen: &str) -> Found
 }
 
 fn mark(seen: &[u8]) -> Option<Found>
-    ensures found { IfSome result (λ f. IsLongestMark marks seen.now f.kind f.len) }
-    ensures none { IfNone result (HasNoMark marks seen.now) }
+    ensures found { IfSome result (λ f. IsLongestPunctuation punctuation seen.now f.kind f.len) }
+    ensures none { IfNone result (HasNoPunctuation punctuation seen.now) }
 {
-    match longest_mark(seen) {
+    match longest_punctuation(seen) {
         Some((kind, len)) => Some(Found { kind, len }),
         None => None,
     }
 }
 
 /// The longest token at the front of what is seen, where an expression is read. `seen` is what stands behind the gap.
-pub(crate) fn next_in_expression(seen: &str, place: Place) -> Option<Found>
-    ensures found { IfSome result (λ f. FindsAt place.after_dot place.inside_heredoc place.closes_sequence seen.now f.kind f.len) }
+pub(crate) fn next_in_expression(seen: &str, around: Surroundings) -> Option<Found>
+    ensures found { IfSome result (λ f. FindsAt around.after_dot around.inside_heredoc around.closes_sequence seen.now f.kind f.len) }
     ensures boundary { IfSome result (λ f. IsCharBoundary seen.now f.len) }
-    ensures none { IfNone result (HasNoneAt place.after_dot place.inside_heredoc place.closes_sequence seen.now) }
+    ensures none { IfNone result (HasNoneAt around.after_dot around.inside_heredoc around.closes_sequence seen.now) }
 {
     let bytes = seen.as_bytes();
     match lead_of(bytes) {
         Lead::LineEnd => found_as(Kind::Newline, newline_len(bytes)),
-        Lead::Space => found_as(Kind::Blank, blank_len(bytes, place.inside_heredoc)),
+        Lead::Space => found_as(Kind::Blank, blank_len(bytes, around.inside_heredoc)),
         Lead::Letter => found_as(Kind::Ident, ident_len(seen)),
-        Lead::Digit => found_as(Kind::Number, numeral_len(bytes, place.after_dot)),
+        Lead::Digit => found_as(Kind::Number, numeral_len(bytes, around.after_dot)),
         Lead::HashOrSlashes => Some(Found {
             kind: Kind::LineComment,
             len: line_len(bytes),
@@ -175,8 +184,8 @@ pub(crate) fn next_in_expression(seen: &str, place: Place) -> Option<Found>
         }),
         Lead::LessLess => Some(opener_or_less(seen)),
         Lead::Closer => found_as(
-            closer_kind(place.closes_sequence),
-            closer_len(bytes, place.closes_sequence),
+            closer_kind(around.closes_sequence),
+            closer_len(bytes, around.closes_sequence),
         ),
         Lead::Sign => mark(bytes),
     }

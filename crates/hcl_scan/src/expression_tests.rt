@@ -1,34 +1,33 @@
 //! What is found at the front of an expression.
 
-use crate::expression::next_in_expression;
-use crate::found::{Found, Place};
-use crate::token::Kind;
+use crate::expression::{Surroundings, next_in_expression};
+use crate::token::{Found, Kind};
 use std::test::Fail;
 
-const PLAIN: Place = Place {
+const PLAIN: Surroundings = Surroundings {
     after_dot: false,
     inside_heredoc: false,
     closes_sequence: false,
 };
 
-const BEHIND_DOT: Place = Place {
+const BEHIND_DOT: Surroundings = Surroundings {
     after_dot: true,
     inside_heredoc: false,
     closes_sequence: false,
 };
 
-const IN_HEREDOC: Place = Place {
+const IN_HEREDOC: Surroundings = Surroundings {
     after_dot: false,
     inside_heredoc: true,
     closes_sequence: true,
 };
 
-fn finds(seen: &str, place: Place, kind: Kind, len: usize) -> bool {
-    next_in_expression(seen, place) == Some(Found { kind, len })
+fn finds(seen: &str, around: Surroundings, kind: Kind, len: usize) -> bool {
+    next_in_expression(seen, around) == Some(Found { kind, len })
 }
 
-fn finds_none(seen: &str, place: Place) -> bool {
-    next_in_expression(seen, place).is_none()
+fn finds_none(seen: &str, around: Surroundings) -> bool {
+    next_in_expression(seen, around).is_none()
 }
 
 #[test]
@@ -104,7 +103,7 @@ fn closers_and_space(rt: HostRuntime) -> Result<(), Fail> {
 }
 
 #[test]
-fn marks(rt: HostRuntime) -> Result<(), Fail> {
+fn punctuation(rt: HostRuntime) -> Result<(), Fail> {
     assert!(rt; finds_none("&", PLAIN));
     assert!(rt; finds("&&", PLAIN, Kind::And, 2));
     assert!(rt; finds("...", PLAIN, Kind::Ellipsis, 3));

@@ -7,8 +7,7 @@ ghost use Rattle.std.specs.Str.{IsCharBoundary};
 ghost use Rattle.hcl_scan.specs.Spelling.{continues_ident, starts_ident, IsIdent, IsHeredocOpen};
 ghost use Rattle.hcl_scan.specs.Inner.Found.{IsLongestFront, HasNoFront, AreContinuing, BeginsWith, BeginsWithout, FirstChar, IsMarker, continues_ascii, heredoc_mark_len};
 
-use crate::bytes::byte_at;
-use crate::space::newline_len;
+use crate::text::{byte_at, newline_len};
 
 fn continues_ident(c: char) -> bool
     ensures { result ≡ continues_ident c }

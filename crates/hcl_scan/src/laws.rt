@@ -4,7 +4,7 @@
 ghost use Rattle.std.specs.Prelude.{◌≡◌, ◌⊎◌, ◌<◌, ◌≤◌, ◌+◌, ◌==◌, ◌++◌, ℕ, Bool, true, false, IsTrue, IsFalse, IsUtf8, IfSome, IfNone, List, [], ◌∷◌, length, take, drop, count_by};
 ghost use Rattle.std.specs.List.{flat_map};
 ghost use Rattle.hcl_scan.specs.Spelling.{IsSpelling};
-ghost use Rattle.hcl_scan.specs.Lexemes.{Lexeme, Opener, opened, in_heredoc, marker_of};
+ghost use Rattle.hcl_scan.specs.Lexemes.{Lexeme, Opener, opened, in_heredoc, marker_of, max_open};
 ghost use Rattle.hcl_scan.specs.Scans.{Scans, State, Next, Run, IsLongest, IsFirstMarkerLine, Hidden, hides, ends_line, skip_blanks};
 ghost use Rattle.hcl_scan.specs.Neighbours.{stays};
 ghost use Rattle.hcl_scan.specs.Regapped.{AllFit, placed, text_of, tokens_of};
@@ -13,14 +13,12 @@ ghost use Rattle.hcl_scan.specs.InHeredocs.{ReadsToo, SameInside};
 ghost use Rattle.hcl_scan.specs.declared.token.Kind.TheVariants.{Newline, HeredocOpen};
 ghost use Rattle.hcl_scan.specs.Faults.{IsScanFault};
 ghost use Rattle.hcl_source.specs.Places.{line_of};
-ghost use Rattle.hcl_source.specs.Load.{max_source, IsText, IsLoadFault, has_mark};
+ghost use Rattle.hcl_source.specs.Load.{max_source, IsText, IsLoadFault, has_byte_order_mark};
 ghost use Rattle.hcl_source.specs.declared.fault.Fault.{Fault};
 ghost use Rattle.hcl_source.specs.declared.fault.FaultKind.{FaultKind};
 ghost use Rattle.hcl_scan.specs.declared.token.Kind.{Kind};
 
 use crate::scanner::Scanner;
-use crate::turn::Turn;
-
 pub use hcl_source::laws::{fault_or_text, one_load_fault, text_or_fault};
 
 /// A text is a list of tokens or has a scan fault. The body shows it: it scans, and keeps nothing.
@@ -30,10 +28,10 @@ pub fn list_or_fault(text: &str)
 {
     let mut scanner = Scanner::new(text);
     loop {
-        match scanner.turn() {
-            Turn::Token(_) => {}
-            Turn::Complete => return,
-            Turn::Fault(_) => return,
+        match scanner.next_token() {
+            Ok(Some(_)) => {}
+            Ok(None) => return,
+            Err(_) => return,
         }
     }
 }
@@ -59,9 +57,9 @@ pub fn context_of_list()
     ensures { (s : State) (ts : List Lexeme) (end : State) → Run s ts end → end.opens ≡ opened s.opens ts }
 {}
 
-/// After each front of a text's list of tokens at most 256 things are open.
+/// After each front of a text's list of tokens at most `max_open` things are open.
 pub fn bounded()
-    ensures { (text : List ℕ) (front back : List Lexeme) → Scans text (front ++ back) → length (opened [] front) ≤ 256 }
+    ensures { (text : List ℕ) (front back : List Lexeme) → Scans text (front ++ back) → length (opened [] front) ≤ max_open }
 {}
 
 /// At one place a text has one kind, and no token is empty.
@@ -99,7 +97,7 @@ pub fn other_gaps()
 /// The tokens of a text that is UTF-8 are UTF-8, and the first begins with no byte order mark.
 pub fn texts()
     ensures utf8 { (text : List ℕ) (ts : List Lexeme) → IsUtf8 text → Scans text ts → AreTexts ts }
-    ensures unmarked { (text : List ℕ) (t : Lexeme) (ts : List Lexeme) (more : List ℕ) → Scans text (t ∷ ts) → IsFalse (has_mark (t.text ++ more)) }
+    ensures unmarked { (text : List ℕ) (t : Lexeme) (ts : List Lexeme) (more : List ℕ) → Scans text (t ∷ ts) → IsFalse (has_byte_order_mark (t.text ++ more)) }
 {}
 
 /// Inside an outermost heredoc the tokens are the same, whatever text stands behind it.

@@ -5,35 +5,28 @@
 //! The module [`laws`] holds what is proved of the definitions alone.
 #![tactic(auto)]
 
-mod bytes;
 mod comment;
-mod entry;
 mod expression;
 #[cfg(test)]
 mod expression_tests;
-mod found;
 mod heredoc;
 mod ident;
 pub mod laws;
-mod lit;
-mod mark;
+mod literal;
 mod number;
-mod opened;
 #[cfg(test)]
 mod pair_tests;
+mod punctuation;
 mod scanner;
-mod space;
 mod stack;
-mod stop;
-mod stopped;
 mod template;
 #[cfg(test)]
 mod tests;
+mod text;
 mod token;
 #[cfg(test)]
 mod token_tests;
 mod tokens;
-mod turn;
 
 pub use hcl_source::{
     ByteSink, ByteSource, Failed, Fault, FaultKind, FromRead, LoadError, MAX_SOURCE, MemorySink,

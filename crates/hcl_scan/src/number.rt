@@ -6,7 +6,7 @@ ghost use Rattle.std.specs.Char.{is_ascii_digit};
 ghost use Rattle.hcl_scan.specs.Spelling.{IsDigits, IsFraction, IsSign, IsExponent, IsNumber};
 ghost use Rattle.hcl_scan.specs.Inner.Found.{IsLongestFront, HasNoFront};
 
-use crate::bytes::byte_at;
+use crate::text::byte_at;
 
 fn count_digits(seen: &[u8]) -> usize
     ensures count { result ≡ prefix_len is_ascii_digit seen.now }

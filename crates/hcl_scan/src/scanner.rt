@@ -1,28 +1,31 @@
 //! One token after the other.
 
-ghost use Rattle.std.specs.Prelude.{◌≡◌, ◌<◌, ◌≤◌, ◌≢◌, ◌∷◌, [], List, true, false, None, Some, length, slice_range, IfSome, IfNone};
+ghost use Rattle.std.specs.Prelude.{◌≡◌, ◌<◌, ◌≤◌, ◌≢◌, ◌∷◌, [], List, true, false, None, Some, length, slice_range, IfSome, IfNone, IfOk, IfErr, OnOk, MatchOption};
 ghost use Rattle.std.specs.Str.{IsCharBoundary};
+ghost use Rattle.hcl_source.specs.Load.{max_source};
 ghost use Rattle.hcl_scan.specs.Lexemes.{in_heredoc};
 ghost use Rattle.hcl_scan.specs.Spelling.{context, Template, Expression};
-ghost use Rattle.hcl_scan.specs.Scans.{ahead, begin, is_dot, HasNone};
+ghost use Rattle.hcl_scan.specs.Scans.{ahead, begin, is_dot, HasNone, IsComplete};
 ghost use Rattle.hcl_scan.specs.Faults.{no_token_fault};
 ghost use Rattle.hcl_scan.specs.Inner.Found.{Finds};
 ghost use Rattle.hcl_scan.specs.Inner.Openings.{openers_of, opened_by, is_heredoc_open};
-ghost use Rattle.hcl_scan.specs.declared.opened.Opened.{Opened};
-ghost use Rattle.hcl_scan.specs.Inner.Scanners.{state_of, IsSound, IsStart, IsNext, IsStopped, Moves, IsTurn};
+ghost use Rattle.hcl_scan.specs.declared.stack.Opened.{Opened};
+ghost use Rattle.hcl_scan.specs.Inner.Scanners.{state_of, IsSound, IsStart, IsNext, IsStopped, Moves};
 
-use crate::entry::Entry;
-use crate::expression::next_in_expression;
-use hcl_source::FaultKind;
-use crate::found::{Found, Place};
+use crate::expression::{Surroundings, next_in_expression};
 use crate::heredoc::{closer_len, marker_line, marker_of};
-use crate::opened::By;
-use crate::space::count_blanks;
-use crate::stack::Stack;
-use crate::stopped::Stopped;
+use crate::stack::{Opener, Stack};
 use crate::template::next_in_template;
-use crate::token::Kind;
-use crate::turn::Turn;
+use crate::text::count_blanks;
+use crate::token::{Entry, Found, Kind};
+use hcl_source::FaultKind;
+
+/// A fault, and the offset at which it stands.
+#[derive(Clone, Copy, Debug)]
+pub struct Stopped {
+    pub kind: FaultKind,
+    pub at: usize,
+}
 
 /// Where a scan stands. What is seen is the text from `at` up to `end`.
 #[derive(Drop)]
@@ -38,15 +41,15 @@ pub struct Scanner<'s> {
 }
 
 /// What a token of this kind opens, heredocs aside.
-fn opener(kind: Kind) -> Option<By>
+fn opener(kind: Kind) -> Option<Opener>
     ensures { result ≡ opened_by kind }
 {
     match kind {
-        Kind::QuoteOpen => Some(By::Quote),
-        Kind::InterpOpen | Kind::ControlOpen => Some(By::Sequence),
-        Kind::ParenOpen => Some(By::Paren),
-        Kind::BracketOpen => Some(By::Bracket),
-        Kind::BraceOpen => Some(By::Brace),
+        Kind::QuoteOpen => Some(Opener::Quote),
+        Kind::InterpOpen | Kind::ControlOpen => Some(Opener::Sequence),
+        Kind::ParenOpen => Some(Opener::Paren),
+        Kind::BracketOpen => Some(Opener::Bracket),
+        Kind::BraceOpen => Some(Opener::Brace),
         _ => None,
     }
 }
@@ -77,7 +80,7 @@ fn no_expression(seen: &[u8]) -> FaultKind
 impl<'s> Scanner<'s> {
     /// At the front of a text.
     pub fn new(text: &'s str) -> Scanner<'s>
-        requires { length text.now ≤ 4_194_304 }
+        requires { length text.now ≤ max_source }
         ensures text { result.text ≡ text.entry }
         ensures sound { IsSound result }
         ensures state { state_of result ≡ begin text.now }
@@ -126,7 +129,7 @@ impl<'s> Scanner<'s> {
             Some(quoted) => next_in_template(seen.as_bytes(), quoted),
             None => next_in_expression(
                 seen,
-                Place {
+                Surroundings {
                     after_dot: self.after_dot,
                     inside_heredoc: self.inside_heredoc(),
                     closes_sequence: self.stack.closes_sequence(),
@@ -163,22 +166,23 @@ impl<'s> Scanner<'s> {
     }
 
     /// Where all that is seen was read, and no heredoc ends: whether something is owed.
-    fn ended(&mut self) -> Turn
+    fn ended(&mut self) -> Result<Option<Entry>, Stopped>
         requires sound { IsSound self.old }
         requires read { ahead (state_of self.old) ≡ [] }
         requires no_heredoc { context (openers_of self.old.stack) ≢ Template false }
-        ensures { IsTurn self.old result self.new }
+        ensures complete { IfOk result (λ found. (found ≡ None) × IsComplete (state_of self.old)) }
+        ensures stopped { IfErr result (IsStopped self.old) }
     {
         let Some(owed) = self.stack.pop_owed() else {
-            return Turn::Complete;
+            return Ok(None);
         };
         let at = owed.at as usize;
         match owed.by {
-            By::Quote => Turn::Fault(Stopped {
+            Opener::Quote => Err(Stopped {
                 kind: FaultKind::UnterminatedQuote,
                 at,
             }),
-            _ => Turn::Fault(Stopped {
+            _ => Err(Stopped {
                 kind: FaultKind::UnterminatedTemplate,
                 at,
             }),
@@ -186,28 +190,28 @@ impl<'s> Scanner<'s> {
     }
 
     /// Reads what closes something, or neither opens nor closes.
-    fn read_plain(&mut self, entry: Entry) -> Turn
+    fn read_plain(&mut self, entry: Entry)
         requires sound { IsSound self.old }
         requires next { IsNext self.old entry }
         requires plain { opened_by entry.kind ≡ None }
         requires no_heredoc { is_heredoc_open entry.kind ≡ false }
-        ensures { IsTurn self.old result self.new }
+        ensures { Moves self.old entry self.new }
     {
         self.stack.close(entry.kind);
         self.at = entry.end as usize;
         self.after_dot = is_dot(entry.kind);
-        Turn::Token(entry)
     }
 
     /// Reads what opens something, heredocs aside.
-    fn read_opener(&mut self, entry: Entry, by: By) -> Turn
+    fn read_opener(&mut self, entry: Entry, by: Opener) -> Result<(), Stopped>
         requires sound { IsSound self.old }
         requires next { IsNext self.old entry }
         requires opens { opened_by entry.kind ≡ Some by }
-        ensures { IsTurn self.old result self.new }
+        ensures read { OnOk result (Moves self.old entry self.new) }
+        ensures stopped { IfErr result (IsStopped self.old) }
     {
         if self.stack.is_full() {
-            return Turn::Fault(Stopped {
+            return Err(Stopped {
                 kind: FaultKind::TooDeep,
                 at: entry.start as usize,
             });
@@ -215,20 +219,21 @@ impl<'s> Scanner<'s> {
         self.stack.open(by, entry.start);
         self.at = entry.end as usize;
         self.after_dot = false;
-        Turn::Token(entry)
+        Ok(())
     }
 
     /// Reads what opens a heredoc, and looks for its marker line.
-    fn read_heredoc(&mut self, entry: Entry) -> Turn
+    fn read_heredoc(&mut self, entry: Entry) -> Result<(), Stopped>
         requires sound { IsSound self.old }
         requires next { IsNext self.old entry }
         requires heredoc { is_heredoc_open entry.kind ≡ true }
-        ensures { IsTurn self.old result self.new }
+        ensures read { OnOk result (Moves self.old entry self.new) }
+        ensures stopped { IfErr result (IsStopped self.old) }
     {
         let start = entry.start as usize;
         let at = entry.end as usize;
         if self.stack.is_full() {
-            return Turn::Fault(Stopped {
+            return Err(Stopped {
                 kind: FaultKind::TooDeep,
                 at: start,
             });
@@ -236,14 +241,14 @@ impl<'s> Scanner<'s> {
         let marker = marker_of(self.text[start..at].as_bytes());
         let rest = self.text[at..self.end].as_bytes();
         let Some(line) = marker_line(rest, marker) else {
-            return Turn::Fault(Stopped {
+            return Err(Stopped {
                 kind: FaultKind::UnterminatedHeredoc,
                 at: start,
             });
         };
         let (_, hidden) = rest.split_at(line);
         let end = at + line;
-        let by = By::Heredoc {
+        let by = Opener::Heredoc {
             closer_end: (end + closer_len(hidden, marker)) as u32,
             outer_end: self.end as u32,
         };
@@ -251,15 +256,15 @@ impl<'s> Scanner<'s> {
         self.at = at;
         self.end = end;
         self.after_dot = false;
-        Turn::Token(entry)
+        Ok(())
     }
 
     /// Reads the closing marker of the heredoc on top.
-    fn close_heredoc(&mut self, closer_end: u32, outer_end: u32) -> Turn
+    fn close_heredoc(&mut self, closer_end: u32, outer_end: u32) -> Entry
         requires sound { IsSound self.old }
         requires read { self.old.at ≡ self.old.end }
-        requires top { (o : Opened) × (below : List Opened) × (self.old.stack ≡ o ∷ below) × (o.by ≡ By.Heredoc closer_end outer_end) }
-        ensures { IsTurn self.old result self.new }
+        requires top { (o : Opened) × (below : List Opened) × (self.old.stack ≡ o ∷ below) × (o.by ≡ Opener.Heredoc closer_end outer_end) }
+        ensures { Moves self.old result self.new }
     {
         let entry = Entry {
             start: self.at as u32,
@@ -271,65 +276,70 @@ impl<'s> Scanner<'s> {
         self.at = closer_end as usize;
         self.end = outer_end as usize;
         self.after_dot = false;
-        Turn::Token(entry)
+        entry
     }
 
     /// Reads the longest token that comes next.
-    fn read(&mut self, entry: Entry) -> Turn
+    fn read(&mut self, entry: Entry) -> Result<(), Stopped>
         requires sound { IsSound self.old }
         requires next { IsNext self.old entry }
-        ensures { IsTurn self.old result self.new }
+        ensures read { OnOk result (Moves self.old entry self.new) }
+        ensures stopped { IfErr result (IsStopped self.old) }
     {
-        match opener(entry.kind) {
-            Some(by) => self.read_opener(entry, by),
-            None => {
-                if is_heredoc_open(entry.kind) {
-                    self.read_heredoc(entry)
-                } else {
-                    self.read_plain(entry)
-                }
-            }
+        if let Some(by) = opener(entry.kind) {
+            return self.read_opener(entry, by);
         }
+        if is_heredoc_open(entry.kind) {
+            return self.read_heredoc(entry);
+        }
+        self.read_plain(entry);
+        Ok(())
     }
 
     /// Reads the token that begins here.
-    fn token(&mut self, start: usize) -> Turn
+    fn token(&mut self, start: usize) -> Result<Entry, Stopped>
         requires sound { IsSound self.old }
         requires start { IsStart self.old start }
         requires some { start < self.old.end }
-        ensures { IsTurn self.old result self.new }
+        ensures read { IfOk result (λ entry. Moves self.old entry self.new) }
+        ensures stopped { IfErr result (IsStopped self.old) }
     {
-        match self.find(start) {
-            Some(found) => {
-                let entry = Entry {
-                    start: start as u32,
-                    end: (start + found.len) as u32,
-                    kind: found.kind,
-                    inside_heredoc: self.inside_heredoc(),
-                };
-                self.read(entry)
-            }
-            None => Turn::Fault(self.no_token(start)),
+        let Some(found) = self.find(start) else {
+            return Err(self.no_token(start));
+        };
+        let entry = Entry {
+            start: start as u32,
+            end: (start + found.len) as u32,
+            kind: found.kind,
+            inside_heredoc: self.inside_heredoc(),
+        };
+        match self.read(entry) {
+            Ok(()) => Ok(entry),
+            Err(stopped) => Err(stopped),
         }
     }
 
-    /// Reads a token, or says why none is left.
-    pub fn turn(&mut self) -> Turn
+    /// Reads a token, or gives `None` where all was read and nothing is owed.
+    pub fn next_token(&mut self) -> Result<Option<Entry>, Stopped>
         requires { IsSound self.old }
-        ensures { IsTurn self.old result self.new }
+        ensures read { IfOk result (λ found. MatchOption found (IsComplete (state_of self.old)) (λ entry. Moves self.old entry self.new)) }
+        ensures stopped { IfErr result (IsStopped self.old) }
     {
         let start = self.start();
         if start < self.end {
-            return self.token(start);
+            return match self.token(start) {
+                Ok(entry) => Ok(Some(entry)),
+                Err(stopped) => Err(stopped),
+            };
         }
         let Some(top) = self.stack.top() else {
             return self.ended();
         };
         match top.by {
-            By::Heredoc {
+            Opener::Heredoc {
                 closer_end,
                 outer_end,
-            } => self.close_heredoc(closer_end, outer_end),
+            } => Ok(Some(self.close_heredoc(closer_end, outer_end))),
             _ => self.ended(),
         }
     }

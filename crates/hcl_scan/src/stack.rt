@@ -1,34 +1,58 @@
-//! The stack of what is open.
+//! What is open while a text is scanned.
 
 ghost use Rattle.std.specs.Prelude.{◌≡◌, ◌==◌, ◌<◌, ◌≤◌, ◌∷◌, [], length, drop, MatchOption};
+ghost use Rattle.hcl_scan.specs.Lexemes.{max_open};
 ghost use Rattle.hcl_scan.specs.Spelling.{context, context_in};
 ghost use Rattle.hcl_scan.specs.Scans.{owes};
 ghost use Rattle.hcl_scan.specs.Inner.Openings.{opener_of, openers_of, is_group_by, popped_groups, same_opener, popped_if, closes_on, top_closes, opened_on, closed, quoted_in, template_top, innermost_owed};
 
-use crate::opened::{By, Opened};
 use crate::token::Kind;
 use arrayvec::ArrayVec;
 use std::marker::Model;
 
+/// What opens. A heredoc is kept by where its closing marker ends, and where what was seen around it
+/// ends.
+#[derive(Clone, Copy, Debug, PartialEq, Eq)]
+pub enum Opener {
+    Quote,
+    Heredoc { closer_end: u32, outer_end: u32 },
+    Sequence,
+    Brace,
+    Bracket,
+    Paren,
+}
+
+/// What was opened, and where.
+#[derive(Clone, Copy, Debug, PartialEq, Eq)]
+pub struct Opened {
+    pub by: Opener,
+    pub at: u32,
+    /// Whether a `}` closes a sequence while this is the innermost.
+    pub closes_sequence: bool,
+}
+
 impl Default for Opened {
     fn default() -> Self {
         Opened {
-            by: By::Quote,
+            by: Opener::Quote,
             at: 0,
             closes_sequence: false,
         }
     }
 }
 
-/// At most 256 openers, the innermost on top.
+/// How much may be open at once.
+pub const MAX_OPEN: usize = 256;
+
+/// At most `MAX_OPEN` openers, the innermost on top.
 #[derive(Drop)]
 pub struct Stack {
-    entries: ArrayVec<Opened, 256>,
+    entries: ArrayVec<Opened, MAX_OPEN>,
 }
 
 impl Model for Stack {
     ghost use Rattle.std.specs.Prelude.{List, reverse};
-    ghost use Rattle.hcl_scan.specs.declared.opened.Opened.{Opened};
+    ghost use Rattle.hcl_scan.specs.declared.stack.Opened.{Opened};
 
     ghost Value = { List Opened };
 
@@ -36,52 +60,52 @@ impl Model for Stack {
 }
 
 /// Whether these are the same opener.
-fn is_same(by: By, other: By) -> bool
+fn is_same(by: Opener, other: Opener) -> bool
     ensures { result ≡ same_opener (opener_of by) (opener_of other) }
 {
     match by {
-        By::Quote => matches!(other, By::Quote),
-        By::Heredoc { .. } => matches!(other, By::Heredoc { .. }),
-        By::Sequence => matches!(other, By::Sequence),
-        By::Brace => matches!(other, By::Brace),
-        By::Bracket => matches!(other, By::Bracket),
-        By::Paren => matches!(other, By::Paren),
+        Opener::Quote => matches!(other, Opener::Quote),
+        Opener::Heredoc { .. } => matches!(other, Opener::Heredoc { .. }),
+        Opener::Sequence => matches!(other, Opener::Sequence),
+        Opener::Brace => matches!(other, Opener::Brace),
+        Opener::Bracket => matches!(other, Opener::Bracket),
+        Opener::Paren => matches!(other, Opener::Paren),
     }
 }
 
 /// Where this opens a template, whether it is in quotes.
-fn template_by(by: By) -> Option<bool>
+fn template_by(by: Opener) -> Option<bool>
     ensures { result ≡ quoted_in (context_in (opener_of by)) }
 {
     match by {
-        By::Quote => Some(true),
-        By::Heredoc { .. } => Some(false),
+        Opener::Quote => Some(true),
+        Opener::Heredoc { .. } => Some(false),
         _ => None,
     }
 }
 
 /// Whether a `}` closes a sequence in what this opens, where it does so around it.
-fn closes_on(by: By, around: bool) -> bool
+fn closes_on(by: Opener, around: bool) -> bool
     ensures { result ≡ closes_on by around }
 {
     match by {
-        By::Sequence => true,
-        By::Paren | By::Bracket => around,
+        Opener::Sequence => true,
+        Opener::Paren | Opener::Bracket => around,
         _ => false,
     }
 }
 
-fn is_group(by: By) -> bool
+fn is_group(by: Opener) -> bool
     ensures { result ≡ is_group_by by }
 {
-    matches!(by, By::Paren | By::Bracket)
+    matches!(by, Opener::Paren | Opener::Bracket)
 }
 
 /// What only expressions need isn't owed at the end.
-fn owes(by: By) -> bool
+fn owes(by: Opener) -> bool
     ensures { result ≡ owes (opener_of by) }
 {
-    !matches!(by, By::Brace | By::Bracket | By::Paren)
+    !matches!(by, Opener::Brace | Opener::Bracket | Opener::Paren)
 }
 
 impl Stack {
@@ -95,14 +119,14 @@ impl Stack {
     }
 
     pub fn is_full(&self) -> bool
-        ensures full { result ≡ (length self.now == 256) }
-        ensures small { length self.now ≤ 256 }
+        ensures full { result ≡ (length self.now == max_open) }
+        ensures small { length self.now ≤ max_open }
     {
         self.entries.is_full()
     }
 
     pub fn push(&mut self, opened: Opened)
-        requires { length self.old < 256 }
+        requires { length self.old < max_open }
         ensures { self.new ≡ opened ∷ self.old }
     {
         self.entries.push(opened);
@@ -158,8 +182,8 @@ impl Stack {
     }
 
     /// Puts what opens here on top.
-    pub fn open(&mut self, by: By, at: u32)
-        requires { length self.old < 256 }
+    pub fn open(&mut self, by: Opener, at: u32)
+        requires { length self.old < max_open }
         ensures { self.new ≡ opened_on by at self.old }
     {
         let closes_sequence = closes_on(by, self.closes_sequence());
@@ -175,11 +199,11 @@ impl Stack {
         ensures { self.new ≡ closed kind self.old }
     {
         match kind {
-            Kind::ParenClose => self.pop_if(By::Paren),
-            Kind::BracketClose => self.pop_if(By::Bracket),
+            Kind::ParenClose => self.pop_if(Opener::Paren),
+            Kind::BracketClose => self.pop_if(Opener::Bracket),
             Kind::BraceClose => {
                 self.pop_groups();
-                self.pop_if(By::Brace);
+                self.pop_if(Opener::Brace);
             }
             Kind::SeqClose => {
                 self.pop_groups();
@@ -205,7 +229,7 @@ impl Stack {
     }
 
     /// Drops the top if it was opened so.
-    fn pop_if(&mut self, by: By)
+    fn pop_if(&mut self, by: Opener)
         ensures { self.new ≡ popped_if (opener_of by) self.old }
     {
         let Some(top) = self.top() else {

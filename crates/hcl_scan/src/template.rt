@@ -7,9 +7,8 @@ ghost use Rattle.hcl_scan.specs.Spelling.{Template, context, starts};
 ghost use Rattle.hcl_scan.specs.Inner.Found.{Finds};
 ghost use Rattle.hcl_scan.specs.Scans.{HasNone};
 
-use crate::found::Found;
-use crate::lit::lit_len;
-use crate::token::Kind;
+use crate::literal::literal_len;
+use crate::token::{Found, Kind};
 
 /// How many bytes the opener of a sequence has, which is there: the longer one where it fits.
 fn sequence_open_len(seen: &[u8]) -> usize
@@ -26,7 +25,7 @@ pub fn next_in_template(seen: &[u8], quoted: bool) -> Option<Found>
     ensures none { IfNone result ((opens : List Opener) (after_dot : Bool) → context opens ≡ Template quoted → HasNone opens after_dot seen.now) }
     ensures boundary { IsUtf8 seen.now → IfSome result (λ f. IsCharBoundary seen.now f.len) }
 {
-    let len = lit_len(seen, quoted);
+    let len = literal_len(seen, quoted);
     if len > 0 {
         return Some(Found {
             kind: Kind::Lit,

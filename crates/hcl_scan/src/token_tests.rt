@@ -1,34 +1,34 @@
 //! Texts, and their tokens or their fault. The expected values were worked out apart from this code.
 
-use crate::stop::Stop;
-use crate::tokens::entries;
+use crate::{ScanError, Source, scan};
 use std::alloc::{AllocError, Global};
 use std::test::Fail;
 
 /// The tokens of a text by kind and place, those inside heredocs with a `!`, or its fault.
-fn shown(alloc: Global, text: &str) -> Result<String, AllocError> {
+fn shown(alloc: Global, text: &str) -> Result<String, Fail> {
     let mut line = String::new(alloc);
-    if text.len() > 4_194_304 {
-        return Ok(line);
-    }
-    match entries(alloc, text) {
-        Ok(entries) => {
-            for entry in &entries {
+    let source = Source::from_bytes(alloc, text.as_bytes())?;
+    match scan(alloc, &source) {
+        Ok(tokens) => {
+            for i in 0..tokens.len() {
+                let token = tokens.get(i);
                 if !line.is_empty() {
                     line.push_str(" ")?;
                 }
-                if entry.inside_heredoc {
+                if token.inside_heredoc {
                     line.push_str("!")?;
                 }
-                let token = format!(in alloc; "{:?} {}-{}", entry.kind, entry.start, entry.end)?;
-                line.push_str(token.as_str())?;
+                let end = token.start.saturating_add(token.text.len());
+                let shown = format!(in alloc; "{:?} {}-{}", token.kind, token.start, end)?;
+                line.push_str(shown.as_str())?;
             }
         }
-        Err(Stop::Fault(fault)) => {
-            let stopped = format!(in alloc; "{:?} at {}", fault.kind, fault.at)?;
+        Err(ScanError::Fault(fault)) => {
+            let at = fault.at;
+            let stopped = format!(in alloc; "{:?} at {}:{}", fault.kind, at.line, at.column)?;
             line.push_str(stopped.as_str())?;
         }
-        Err(Stop::OutOfMemory) => line.push_str("out of memory")?,
+        Err(ScanError::OutOfMemory) => line.push_str("out of memory")?,
     }
     Ok(line)
 }
@@ -107,7 +107,7 @@ fn heredocs(rt: HostRuntime) -> Result<(), Fail> {
             "a = <<-X\n  ${<<Y\n  z\n Y \t\n}\n\tX\t q\n  X \n b",
             "Ident 0-1 Assign 2-3 HeredocOpen 4-9 !Lit 9-11 !InterpOpen 11-13 !HeredocOpen 13-17 !Lit 17-21 !HeredocClose 21-23 !Blank 23-25 !Newline 25-26 !SeqClose 26-27 !Lit 27-34 !HeredocClose 34-37 Newline 38-39 Ident 40-41",
         ),
-        ("<<E\n${<<E\na\nE\n}\nE\n", "UnterminatedHeredoc at 6"),
+        ("<<E\n${<<E\na\nE\n}\nE\n", "UnterminatedHeredoc at 2:3"),
         (
             "<<EE\nE\nEE \nEE",
             "HeredocOpen 0-5 !Lit 5-7 !HeredocClose 7-9 Newline 10-11 Ident 11-13",
@@ -161,24 +161,24 @@ fn closers(rt: HostRuntime) -> Result<(), Fail> {
 #[test]
 fn faults(rt: HostRuntime) -> Result<(), Fail> {
     let rows = [
-        ("\"${x\"", "UnterminatedQuote at 4"),
-        ("\"b\n", "UnterminatedQuote at 0"),
-        ("\"b", "UnterminatedQuote at 0"),
-        ("\"\\u12\"", "InvalidEscape at 1"),
-        ("\"\\u123\"", "InvalidEscape at 1"),
-        ("\"\\U0001F60\"", "InvalidEscape at 1"),
-        ("\"\t\\q\"", "InvalidEscape at 2"),
-        ("\"a\r\n\"", "UnterminatedQuote at 0"),
-        ("~}", "InvalidCharacter at 0"),
-        ("a}b~}c", "InvalidCharacter at 3"),
-        ("\"${/*}\"", "UnterminatedComment at 3"),
-        ("<<E\nE\r", "UnterminatedHeredoc at 0"),
-        ("<<E\n", "UnterminatedHeredoc at 0"),
-        ("<<E\n${<<F\nE\nF\n", "UnterminatedHeredoc at 6"),
-        ("<<E\n${\"\nE\n\"}\nE\n", "UnterminatedQuote at 6"),
-        ("<<E\n${(\nE\n", "UnterminatedTemplate at 4"),
-        ("\"${a", "UnterminatedTemplate at 1"),
-        ("\"${\"b", "UnterminatedQuote at 3"),
+        ("\"${x\"", "UnterminatedQuote at 1:5"),
+        ("\"b\n", "UnterminatedQuote at 1:1"),
+        ("\"b", "UnterminatedQuote at 1:1"),
+        ("\"\\u12\"", "InvalidEscape at 1:2"),
+        ("\"\\u123\"", "InvalidEscape at 1:2"),
+        ("\"\\U0001F60\"", "InvalidEscape at 1:2"),
+        ("\"\t\\q\"", "InvalidEscape at 1:3"),
+        ("\"a\r\n\"", "UnterminatedQuote at 1:1"),
+        ("~}", "InvalidCharacter at 1:1"),
+        ("a}b~}c", "InvalidCharacter at 1:4"),
+        ("\"${/*}\"", "UnterminatedComment at 1:4"),
+        ("<<E\nE\r", "UnterminatedHeredoc at 1:1"),
+        ("<<E\n", "UnterminatedHeredoc at 1:1"),
+        ("<<E\n${<<F\nE\nF\n", "UnterminatedHeredoc at 2:3"),
+        ("<<E\n${\"\nE\n\"}\nE\n", "UnterminatedQuote at 2:3"),
+        ("<<E\n${(\nE\n", "UnterminatedTemplate at 2:1"),
+        ("\"${a", "UnterminatedTemplate at 1:2"),
+        ("\"${\"b", "UnterminatedQuote at 1:4"),
     ];
     for (text, tokens) in rows {
         let line = shown(rt.alloc(), text)?;
@@ -191,11 +191,11 @@ fn faults(rt: HostRuntime) -> Result<(), Fail> {
 #[test]
 fn too_deep(rt: HostRuntime) -> Result<(), Fail> {
     let rows = [
-        ("(", 257, "", "TooDeep at 256"),
-        ("(", 256, "\"", "TooDeep at 256"),
-        ("(", 256, "<<E\n", "TooDeep at 256"),
-        ("\"${", 128, "\"", "TooDeep at 384"),
-        ("\"${", 128, "${", "InvalidCharacter at 384"),
+        ("(", 257, "", "TooDeep at 1:257"),
+        ("(", 256, "\"", "TooDeep at 1:257"),
+        ("(", 256, "<<E\n", "TooDeep at 1:257"),
+        ("\"${", 128, "\"", "TooDeep at 1:385"),
+        ("\"${", 128, "${", "InvalidCharacter at 1:385"),
     ];
     for (opener, count, rest, fault) in rows {
         let text = nested(rt.alloc(), opener, count, rest)?;
@@ -231,9 +231,9 @@ fn comments_and_numbers(rt: HostRuntime) -> Result<(), Fail> {
             "<<E\n${a # c\n}\nE",
             "HeredocOpen 0-4 !InterpOpen 4-6 !Ident 6-7 !Blank 7-8 !LineComment 8-11 !Newline 11-12 !SeqClose 12-13 !Lit 13-14 !HeredocClose 14-15",
         ),
-        ("<<E\n${a # c\nE\n", "UnterminatedTemplate at 4"),
-        ("<<E\n${a /* c\nE\n*/}\nE", "UnterminatedComment at 8"),
-        ("<<E\n${a // c", "UnterminatedHeredoc at 0"),
+        ("<<E\n${a # c\nE\n", "UnterminatedTemplate at 2:1"),
+        ("<<E\n${a /* c\nE\n*/}\nE", "UnterminatedComment at 2:5"),
+        ("<<E\n${a // c", "UnterminatedHeredoc at 1:1"),
         ("l.0.1", "Ident 0-1 Dot 1-2 Number 2-3 Dot 3-4 Number 4-5"),
         ("1 .5", "Number 0-1 Dot 2-3 Number 3-4"),
         ("1.5", "Number 0-3"),

@@ -1,43 +1,15 @@
 //! The tokens of a source.
 
-ghost use Rattle.std.specs.Prelude.{◌≡◌, ◌≤◌, ◌<◌, ◌==◌, drop, length, slice_get, take, All, IfOk, IfErr};
+ghost use Rattle.std.specs.Prelude.{◌≡◌, ◌≤◌, ◌<◌, ◌==◌, drop, length, slice_get, take, IfOk, IfErr};
 ghost use Rattle.std.specs.Str.{IsCharBoundary};
-ghost use Rattle.std.specs.Vec.{vec_len};
 ghost use Rattle.hcl_scan.specs.Scans.{Scans};
-ghost use Rattle.hcl_scan.specs.Inner.Scanners.{lexemes_of, IsEntry};
-ghost use Rattle.hcl_scan.specs.Inner.Stops.{IsStop};
 ghost use Rattle.hcl_scan.specs.Scanned.{lexeme, IsScanError};
 
-use crate::entry::Entry;
-use hcl_source::{Fault, Source};
 use crate::scanner::Scanner;
-use crate::stop::Stop;
-use crate::token::{ScanError, Token};
-use crate::turn::Turn;
+use crate::token::{Entry, ScanError, Token};
+use hcl_source::{Fault, Source};
 use std::alloc::Global;
 use std::marker::Model;
-
-/// The tokens of a text, or the one fault of a text that has none, with its byte offset.
-pub(crate) fn entries(alloc: Global, text: &str) -> Result<Vec<Entry>, Stop>
-    requires { length text.now ≤ 4_194_304 }
-    ensures parts { IfOk result (λ es. All (IsEntry text.now) es.items) }
-    ensures within { IfOk result (λ es. vec_len es ≤ length text.now) }
-    ensures ok { IfOk result (λ es. Scans text.now (lexemes_of text.now es.items)) }
-    ensures err { IfErr result (λ stop. IsStop text.now stop) }
-{
-    let mut entries = Vec::new(alloc);
-    let mut scanner = Scanner::new(text);
-    loop {
-        match scanner.turn() {
-            Turn::Token(entry) => match entries.push(entry) {
-                Ok(()) => {}
-                Err(_) => return Err(Stop::OutOfMemory),
-            },
-            Turn::Complete => return Ok(entries),
-            Turn::Fault(fault) => return Err(Stop::Fault(fault)),
-        }
-    }
-}
 
 /// The tokens of a source. Only [`scan`] makes one, so they are always the tokens of that source.
 #[derive(Debug, Drop)]
@@ -109,15 +81,26 @@ pub fn scan<'s>(alloc: Global, source: &'s Source) -> Result<Tokens<'s>, ScanErr
     ensures tokens { IfOk result (λ t. Scans source.now t.tokens) }
     ensures err { IfErr result (IsScanError source.now) }
 {
-    match entries(alloc, source.text()) {
-        Ok(entries) => Ok(Tokens {
-            origin: source,
-            entries,
-        }),
-        Err(Stop::Fault(stopped)) => Err(ScanError::Fault(Fault {
-            kind: stopped.kind,
-            at: source.position(stopped.at),
-        })),
-        Err(Stop::OutOfMemory) => Err(ScanError::OutOfMemory),
+    let mut entries = Vec::new(alloc);
+    let mut scanner = Scanner::new(source.text());
+    loop {
+        match scanner.next_token() {
+            Ok(Some(entry)) => match entries.push(entry) {
+                Ok(()) => {}
+                Err(_) => return Err(ScanError::OutOfMemory),
+            },
+            Ok(None) => {
+                return Ok(Tokens {
+                    origin: source,
+                    entries,
+                });
+            }
+            Err(stopped) => {
+                return Err(ScanError::Fault(Fault {
+                    kind: stopped.kind,
+                    at: source.position(stopped.at),
+                }));
+            }
+        }
     }
 }

@@ -1,4 +1,4 @@
--- Answers of devices.
+-- What answers of devices say: our own words for our own devices.
 use Rattle.std.specs.Prelude.{ℕ, ◌<◌, Bool, true, false, Result, Ok, Err}
 use Rattle.hcl_source.specs.declared.device.ReadError.{ReadError}
 use Rattle.hcl_source.specs.declared.device.ReadError.TheVariants.{Failed}

@@ -1,5 +1,5 @@
 pub mod Devices
 pub mod Memory
-pub mod Texts
+pub mod FaultTexts
 pub mod Places
 pub mod Load

@@ -16,20 +16,20 @@ abbrev pub max_source : ℕ
 max_source = 4_194_304
 
 -- the bytes begin with a byte order mark, U+FEFF in UTF-8
-abbrev pub has_mark : List ℕ → Bool
-has_mark bytes = starts_with nat_eq bytes (0xEF ∷ 0xBB ∷ 0xBF ∷ [])
+abbrev pub has_byte_order_mark : List ℕ → Bool
+has_byte_order_mark bytes = starts_with nat_eq bytes (0xEF ∷ 0xBB ∷ 0xBF ∷ [])
 
 -- what a source is
 pub record IsText (bytes : List ℕ) : Type 0 where
   pub small : length bytes ≤ max_source
   pub utf8 : IsUtf8 bytes
-  pub unmarked : IsFalse (has_mark bytes)
+  pub unmarked : IsFalse (has_byte_order_mark bytes)
 
 -- a fault of this kind stands at this offset of bytes that are no source
 abbrev pub IsLoadFaultAt : List ℕ → FaultKind → ℕ → Type 0
 IsLoadFaultAt bytes TooLarge at = (max_source < length bytes) × (at ≡ 0)
 IsLoadFaultAt bytes InvalidUtf8 at = (length bytes ≤ max_source) × IsValidUpTo bytes at
-IsLoadFaultAt bytes ByteOrderMark at = (length bytes ≤ max_source) × IsUtf8 bytes × IsTrue (has_mark bytes) × (at ≡ 0)
+IsLoadFaultAt bytes ByteOrderMark at = (length bytes ≤ max_source) × IsUtf8 bytes × IsTrue (has_byte_order_mark bytes) × (at ≡ 0)
 IsLoadFaultAt bytes _ at = ⊥
 
 -- THE FAULT that bytes are refused for

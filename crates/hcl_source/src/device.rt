@@ -4,6 +4,7 @@ ghost use Rattle.std.specs.Prelude.{◌≡◌, ℕ, ◌<◌, ◌≤◌, ◌+◌,
 ghost use Rattle.std.specs.Io.KnownBytes.{Keeps, Appends, WriteAppends, Consumes, ReadConsumes, IsAtEnd};
 ghost use Rattle.std.specs.Io.{ReadsAtMost};
 ghost use Rattle.std.specs.Vec.{vec_len};
+ghost use Rattle.hcl_source.specs.Load.{max_source};
 ghost use Rattle.hcl_source.specs.Devices.{is_read_failed, TookSome};
 
 use std::alloc::Global;
@@ -210,7 +211,7 @@ pub(crate) fn read_up_to<R: ByteSource>(
     limit: usize,
 ) -> Result<Vec<u8>, ReadError>
     requires ready { R.failed source.old ≡ false }
-    requires small { limit ≤ 4_194_304 }
+    requires small { limit ≤ max_source }
     ensures given { IfOk result (λ v. Consumes (R.left source.old) (R.left source.new) v.items) }
     ensures taken { (bytes : List ℕ) × Consumes (R.left source.old) (R.left source.new) bytes × (length bytes ≤ limit + 1) }
     ensures len { IfOk result (λ v. vec_len v ≤ limit + 1) }

@@ -1,7 +1,7 @@
 //! What a text is refused for, and where.
 
 ghost use Rattle.std.specs.Prelude.{◌≡◌};
-ghost use Rattle.hcl_source.specs.Texts.{fault_text};
+ghost use Rattle.hcl_source.specs.FaultTexts.{fault_text};
 
 use thiserror::Error;
 
@@ -34,7 +34,7 @@ pub enum FaultKind {
     UnterminatedTemplate,
     /// A backslash that begins no escape, at the backslash.
     InvalidEscape,
-    /// An opener past 256 open ones, at the opener.
+    /// An opener where as many are open as may be (256), at the opener.
     TooDeep,
     /// A token that the grammar has no place for, at the token.
     UnexpectedToken,

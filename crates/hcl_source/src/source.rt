@@ -6,7 +6,7 @@ ghost use Rattle.std.specs.Str.{IsCharBoundary, IsValidUpTo};
 ghost use Rattle.std.specs.Io.KnownBytes.{Consumes};
 ghost use Rattle.unicode_segmentation.specs.Grapheme.{graphemes};
 ghost use Rattle.hcl_source.specs.Places.{place};
-ghost use Rattle.hcl_source.specs.Load.{max_source, has_mark, IsText, IsLoadFault, IsLoadError, Loads, is_failed_load};
+ghost use Rattle.hcl_source.specs.Load.{max_source, has_byte_order_mark, IsText, IsLoadFault, IsLoadError, Loads, is_failed_load};
 
 use crate::device::{ByteSource, ReadError, read_up_to};
 use crate::fault::{Fault, FaultKind, LoadError, Position};
@@ -93,8 +93,8 @@ fn invalid_utf8(bytes: &[u8], valid: usize) -> Fault
     }
 }
 
-fn has_mark(bytes: &[u8]) -> bool
-    ensures { result ≡ has_mark bytes.now }
+fn has_byte_order_mark(bytes: &[u8]) -> bool
+    ensures { result ≡ has_byte_order_mark bytes.now }
 {
     bytes.starts_with(&[0xEF, 0xBB, 0xBF])
 }
@@ -113,7 +113,7 @@ pub(crate) fn load_fault(bytes: &[u8]) -> Option<Fault>
     if let Err(error) = simdutf8::compat::from_utf8(bytes) {
         return Some(invalid_utf8(bytes, error.valid_up_to()));
     }
-    if has_mark(bytes) {
+    if has_byte_order_mark(bytes) {
         return Some(Fault {
             kind: FaultKind::ByteOrderMark,
             at: start,

@@ -1,8 +1,8 @@
 //! Calls with ample memory, compared with answers worked out by hand.
 
 use crate::{
-    ByteSink, ByteSource, FaultKind, FromRead, LoadError, Position, Source, ToWrite, line_start,
-    write_fully,
+    ByteSink, ByteSource, FaultKind, FromRead, LoadError, MAX_SOURCE, Position, Source, ToWrite,
+    line_start, write_fully,
 };
 use std::process::Abort;
 use std::test::Fail;
@@ -57,12 +57,12 @@ fn refuses_what_is_no_source(rt: HostRuntime) -> Result<(), Fail> {
         FaultKind::ByteOrderMark,
         place(1, 1),
     );
-    let large = vec![in alloc; b'\n'; 4_194_305]?;
+    let large = vec![in alloc; b'\n'; MAX_SOURCE + 1]?;
     check_load(&rt, alloc, &large, FaultKind::TooLarge, place(1, 1));
-    let largest = vec![in alloc; b'\n'; 4_194_304]?;
+    let largest = vec![in alloc; b'\n'; MAX_SOURCE]?;
     assert_eq!(rt;
         Source::from_bytes(alloc, &largest)?.text().len(),
-        4_194_304
+        MAX_SOURCE
     );
     Ok(())
 }

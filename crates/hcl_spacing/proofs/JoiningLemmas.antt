@@ -13,9 +13,9 @@ use Rattle.hcl_scan.specs.Neighbours as neighbours
 use Rattle.hcl_scan.specs.SideBySide as beside
 use Rattle.hcl_scan.specs.declared.token.Kind.{Kind}
 use Rattle.hcl_scan.specs.declared.token.Kind.TheVariants as kind
-use Rattle.hcl_scan.proofs.Booleans.{and_true, or_true, not_true}
-use Rattle.hcl_scan.proofs.Comments.{or_cases}
-use Rattle.hcl_scan.proofs.FirstBytes.{Says, says}
+use Rattle.hcl_scan.proofs.BooleanLemmas.{and_true, or_true, not_true}
+use Rattle.hcl_scan.proofs.CommentLemmas.{or_cases}
+use Rattle.hcl_scan.proofs.FirstByteLemmas.{Says, says}
 use Rattle.hcl_syntax.specs.Kinds.{is_newline}
 use Rattle.hcl_syntax.specs.Kinds.{is_colon, is_dot, is_ellipsis, is_not, is_number, is_seq_close}
 use Rattle.hcl_spacing.specs.Spacing.{opens_sequence, begins_with_colon, begins_with_equals, stands_before, spaced}

@@ -7,7 +7,7 @@ use Rattle.hcl_scan.specs.Regapped as regapped
 use Rattle.hcl_scan.specs.SideBySide as beside
 use Rattle.hcl_scan.specs.declared.token.Kind.{Kind}
 use Rattle.hcl_scan.specs.declared.token.Kind.TheVariants as kind
-use Rattle.hcl_scan.proofs.Booleans.{and_true, not_true}
+use Rattle.hcl_scan.proofs.BooleanLemmas.{and_true, not_true}
 use Rattle.hcl_syntax.specs.Kinds.{is_newline}
 use Rattle.hcl_syntax.specs.Kinds.{is_dot, is_ellipsis, is_colon_colon, is_comma, is_not, is_minus, is_ident, is_paren_open, is_bracket_open, is_brace_open, is_brace_close, is_seq_close, is_quote_open, is_lit, is_quote_close}
 use Rattle.hcl_spacing.specs.Spacing.{opens_sequence, closes_group, ends_operand, is_opening, would_join, is_in, spaced}

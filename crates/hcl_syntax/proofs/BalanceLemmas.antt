@@ -4,7 +4,7 @@ use Rattle.hcl_scan.specs.Lexemes.{Lexeme, Opener, Quote, Heredoc, moved, opened
 use Rattle.hcl_scan.specs.Scans.{Scans}
 use Rattle.hcl_scan.specs.declared.token.Kind.{Kind}
 use Rattle.hcl_scan.specs.declared.token.Kind.TheVariants.{ParenOpen, ParenClose, BracketClose, SeqClose, BraceClose, QuoteClose, HeredocClose}
-use Rattle.hcl_scan.proofs.Runs.{scan_bounded}
+use Rattle.hcl_scan.proofs.RunLemmas.{scan_bounded}
 use Rattle.hcl_syntax.specs.Classes.{class_at}
 use Rattle.hcl_syntax.specs.Verdict.{IsAccepted}
 use Rattle.hcl_syntax.specs.Balanced.{max_open, opening, closing, openers, closers, IsWithin, IsBalanced}

@@ -3,6 +3,7 @@
 -- "Templates"); quotes and heredocs don't count. That 256 are open at most is the scan's bound, and our own choice.
 use Rattle.std.specs.Prelude.{◌≡◌, ◌≤◌, ◌+◌, ℕ, Bool, true, false, List, [], ◌∷◌, ◌++◌, if◌then◌else◌}
 use Rattle.hcl_scan.specs.Lexemes.{Lexeme}
+pub use Rattle.hcl_scan.specs.Lexemes.{max_open}
 use Rattle.hcl_scan.specs.declared.token.Kind.{Kind}
 use Rattle.hcl_scan.specs.declared.token.Kind.TheVariants.{ParenOpen, BracketOpen, BraceOpen, InterpOpen, ControlOpen, ParenClose, BracketClose, SeqClose, BraceClose}
 
@@ -37,10 +38,6 @@ openers (t ∷ ts) = opening t.kind + openers ts
 abbrev pub closers : List Lexeme → ℕ
 closers [] = 0
 closers (t ∷ ts) = closing t.kind + closers ts
-
--- so many may be open
-abbrev pub max_open : ℕ
-max_open = 256
 
 -- no more closers than openers, and at most so many more openers
 pub record IsWithin (tokens : List Lexeme) : Type 0 where

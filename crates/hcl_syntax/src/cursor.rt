@@ -1,12 +1,15 @@
-//! A place in a token list.
+//! A place in a token list, and the single tokens that are waited for there.
 
-ghost use Rattle.std.specs.Prelude.{◌≡◌, ◌+◌, ◌<◌, ◌≤◌, ◌^◌, drop, length, IsSome};
+ghost use Rattle.std.specs.Prelude.{◌≡◌, ◌+◌, ◌<◌, ◌≤◌, ◌^◌, ℕ, [], ◌∷◌, drop, length, Some, None, IsSome, OnOk};
+ghost use Rattle.std.specs.Bool.{OnTrue, OnFalse};
 ghost use Rattle.hcl_syntax.specs.Classes.{lookaheads, lookaheads_from};
+ghost use Rattle.hcl_syntax.specs.Grammar.{fits, ◌at◌, the};
 ghost use Rattle.hcl_syntax.specs.Inner.Cursors.{shown, first, after_first, is_shown};
+ghost use Rattle.hcl_syntax.specs.Inner.Parsing.{Parses, Took, Lacks};
 
-use crate::class::{Class, Lookahead};
-use crate::classify::lookahead;
-use crate::expected::Newlines;
+use crate::class::{Class, Lookahead, Word, lookahead_at};
+use crate::expected::{Newlines, Terminal};
+use crate::refusal::Refusal;
 use hcl_scan::Tokens;
 use std::marker::Model;
 
@@ -41,6 +44,32 @@ fn is_shown(newlines: Newlines, class: Class) -> bool
     }
 }
 
+/// Whether a token of the class is what the terminal waits for.
+#[inline(always)]
+fn fits(terminal: Terminal, class: Class) -> bool
+    ensures { result ≡ fits terminal class }
+{
+    match (terminal, class) {
+        (Terminal::Name, Class::Ident(_)) => true,
+        (Terminal::InWord, Class::Ident(Word::In)) => true,
+        (Terminal::IfWord, Class::Ident(Word::If)) => true,
+        (Terminal::ForWord, Class::Ident(Word::For)) => true,
+        (Terminal::Equals, Class::Assign) => true,
+        (Terminal::Separator, Class::Colon) => true,
+        (Terminal::FatArrow, Class::Arrow) => true,
+        (Terminal::CommaSign, Class::Comma) => true,
+        (Terminal::Ellipses, Class::Ellipsis) => true,
+        (Terminal::Asterisk, Class::Star) => true,
+        (Terminal::EndParen, Class::ParenClose) => true,
+        (Terminal::EndBracket, Class::BracketClose) => true,
+        (Terminal::EndBrace, Class::BraceClose) => true,
+        (Terminal::EndSequence, Class::SeqClose) => true,
+        (Terminal::EndQuote, Class::QuoteClose) => true,
+        (Terminal::EndHeredoc, Class::HeredocClose) => true,
+        _ => false,
+    }
+}
+
 /// The number of the first token that is shown, from a number on, or how many tokens there are, and the token.
 #[inline(always)]
 fn find(tokens: &Tokens, from: usize, newlines: Newlines) -> (usize, Option<Lookahead>)
@@ -51,7 +80,7 @@ fn find(tokens: &Tokens, from: usize, newlines: Newlines) -> (usize, Option<Look
 {
     let mut number = from;
     while number < tokens.len() {
-        let token = lookahead(tokens, number);
+        let token = lookahead_at(tokens, number);
         if is_shown(newlines, token.class) {
             return (number, Some(token));
         }
@@ -69,7 +98,7 @@ fn past(tokens: &Tokens, from: usize) -> usize
 {
     let mut number = from;
     while number < tokens.len() {
-        let token = lookahead(tokens, number);
+        let token = lookahead_at(tokens, number);
         number += 1;
         if is_shown(Newlines::Seen, token.class) {
             return number;
@@ -114,5 +143,41 @@ impl<'t, 's> Cursor<'t, 's> {
         ensures shorter { length self.old ≡ length self.new + 1 }
     {
         self.next = past(self.tokens, self.next);
+    }
+
+    /// Reads the next token, which has to be what the terminal waits for. It is inlined, as `look` is.
+    #[inline(always)]
+    pub fn expect(&mut self, newlines: Newlines, terminal: Terminal) -> Result<(), Refusal>
+        ensures parses { (count : ℕ) → Parses count (the terminal at newlines ∷ []) self.old result self.new }
+        ensures shorter { OnOk result (length self.new < length self.old) }
+    {
+        match self.look(newlines) {
+            None => Err(Refusal::UnexpectedEnd),
+            Some(token) => if fits(terminal, token.class) {
+                self.bump();
+                Ok(())
+            } else {
+                Err(Refusal::UnexpectedToken(token.number))
+            },
+        }
+    }
+
+    /// Reads the next token where it is what the terminal waits for. It is inlined, as `look` is.
+    #[inline(always)]
+    pub fn takes(&mut self, newlines: Newlines, terminal: Terminal) -> bool
+        ensures yes { OnTrue result (Took newlines terminal self.old self.new) }
+        ensures no { OnFalse result (Lacks newlines terminal self.old self.new) }
+        ensures shorter { length self.new ≤ length self.old }
+        ensures shorter_yes { OnTrue result (length self.new < length self.old) }
+    {
+        match self.look(newlines) {
+            None => false,
+            Some(token) => if fits(terminal, token.class) {
+                self.bump();
+                true
+            } else {
+                false
+            },
+        }
     }
 }

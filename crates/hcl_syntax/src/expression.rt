@@ -4,7 +4,7 @@
 ghost use Rattle.std.specs.Prelude.{◌≡◌, ◌+◌, ◌<◌, ◌≤◌, ◌^◌, ℕ, List, [], ◌∷◌, length, Some, None, Ok, OnOk, IfOk, IfSome, false};
 ghost use Rattle.std.specs.Bool.{OnTrue, OnFalse};
 ghost use Rattle.hcl_syntax.specs.Inner.Cursors.{shown, first};
-ghost use Rattle.hcl_syntax.specs.Grammar.{◌at◌, the, expr, after, after_ident, path, index, args, tuple, tuple_item, tuple_if, object, object_item, group, object_if, separator, names};
+ghost use Rattle.hcl_syntax.specs.Grammar.{◌at◌, the, expr, after, after_ident, path, index, args, tuple, tuple_item, tuple_if, object, object_item, group, object_if, separator, names, step};
 ghost use Rattle.hcl_syntax.specs.Inner.Parsing.{Advances, Parses, after_follow, is_prefix};
 ghost use Rattle.hcl_syntax.specs.declared.expected.Terminal.TheVariants.{Name, Separator, FatArrow, EndBracket, EndBrace};
 ghost use Rattle.hcl_syntax.specs.declared.expected.Newlines.TheVariants.{Seen, Dropped};
@@ -363,5 +363,67 @@ impl<'t, 's> Cursor<'t, 's> {
             return self.expect(Newlines::Dropped, Terminal::EndBrace);
         }
         self.expect(Newlines::Dropped, Terminal::EndBrace)
+    }
+
+    /// The names of a `for`, and its `in`.
+    pub fn names(&mut self) -> Result<(), Refusal>
+        ensures parses { (count : ℕ) → Parses count (the Name at Dropped ∷ names at Dropped ∷ []) self.old result self.new }
+        ensures shorter { OnOk result (length self.new < length self.old) }
+    {
+        self.expect(Newlines::Dropped, Terminal::Name)?;
+        self.more_names()
+    }
+
+    /// What follows the first name of a `for`.
+    fn more_names(&mut self) -> Result<(), Refusal>
+        ensures parses { (count : ℕ) → Parses count (names at Dropped ∷ []) self.old result self.new }
+        ensures shorter { OnOk result (length self.new < length self.old) }
+    {
+        if self.takes(Newlines::Dropped, Terminal::InWord) {
+            return Ok(());
+        }
+        self.expect(Newlines::Dropped, Terminal::CommaSign)?;
+        self.expect(Newlines::Dropped, Terminal::Name)?;
+        self.expect(Newlines::Dropped, Terminal::InWord)
+    }
+
+    /// What stands behind a dot.
+    pub fn step(&mut self, newlines: Newlines) -> Result<(), Refusal>
+        ensures parses { (count : ℕ) → Parses count (step at newlines ∷ []) self.old result self.new }
+        ensures shorter { OnOk result (length self.new < length self.old) }
+    {
+        match self.look(newlines) {
+            None => Err(Refusal::UnexpectedEnd),
+            Some(token) => match token.class {
+                Class::Ident(_) | Class::Star => {
+                    self.bump();
+                    Ok(())
+                }
+                Class::Number(digits) => if digits {
+                    self.bump();
+                    Ok(())
+                } else {
+                    Err(Refusal::UnexpectedToken(token.number))
+                },
+                _ => Err(Refusal::UnexpectedToken(token.number)),
+            },
+        }
+    }
+
+    /// What parts a key of an object from its value.
+    pub fn separator(&mut self) -> Result<(), Refusal>
+        ensures parses { (count : ℕ) → Parses count (separator at Seen ∷ []) self.old result self.new }
+        ensures shorter { OnOk result (length self.new < length self.old) }
+    {
+        match self.look(Newlines::Seen) {
+            None => Err(Refusal::UnexpectedEnd),
+            Some(token) => match token.class {
+                Class::Assign | Class::Colon => {
+                    self.bump();
+                    Ok(())
+                }
+                _ => Err(Refusal::UnexpectedToken(token.number)),
+            },
+        }
     }
 }

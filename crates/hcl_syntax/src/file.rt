@@ -143,4 +143,21 @@ impl<'t, 's> Cursor<'t, 's> {
             }
         }
     }
+
+    /// The end of a line, or of the input.
+    pub fn end_of_line(&mut self) -> Result<(), Refusal>
+        ensures parses { Parses 0 (eol at Seen ∷ []) self.old result self.new }
+        ensures shorter { OnOk result (length self.new ≤ length self.old) }
+    {
+        let Some(end) = self.look(Newlines::Seen) else {
+            return Ok(());
+        };
+        match end.class {
+            Class::Newline => {
+                self.bump();
+                Ok(())
+            }
+            _ => Err(Refusal::UnexpectedToken(end.number)),
+        }
+    }
 }

@@ -6,7 +6,6 @@
 
 mod accepted;
 mod class;
-mod classify;
 mod cursor;
 mod expected;
 mod expression;
@@ -23,7 +22,6 @@ mod piece_end;
 mod pieces;
 mod refusal;
 mod template;
-mod terminal;
 #[cfg(test)]
 mod tests;
 mod words;

@@ -12,9 +12,9 @@ use Rattle.hcl_source.specs.Load.{max_source, IsText, IsLoadFault, Loads, is_fai
 use Rattle.hcl_source.specs.declared.fault.LoadError.{LoadError}
 use Rattle.hcl_source.specs.declared.fault.LoadError.TheVariants as error
 use Rattle.hcl_source.specs.declared.fault.Fault.{Fault}
-use Rattle.hcl_source.proofs.Loads.{one_load_fault, text_or_fault, too_large_too}
-use Rattle.hcl_scan.proofs.Runs.{one_scan, one_fault, no_fault}
-use Rattle.hcl_scan.proofs.SpellingLaws.{one_kind, nonempty}
+use Rattle.hcl_source.proofs.LoadLemmas.{one_load_fault, text_or_fault, too_large_too}
+use Rattle.hcl_scan.proofs.RunLemmas.{one_scan, one_fault, no_fault}
+use Rattle.hcl_scan.proofs.SpellingLemmas.{one_kind, nonempty}
 use Rattle.tffmt.specs.Rows.{Row, Shows, Gives, IsRow, OfInput, OrOutOfMemory}
 use Rattle.tffmt.specs.Answer.{refused, too_large, row_of_file, row_by, IsTextAnswer, IsFileAnswer, IsAnswerBy, IsAnswer}
 use Rattle.tffmt.specs.Line.{options_of}

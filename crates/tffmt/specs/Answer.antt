@@ -1,7 +1,7 @@
 -- What `tffmt` answers to a line of words and an input.
 use Rattle.std.specs.Prelude.{◌≡◌, ◌⊎◌, ℕ, List, [], ◌++◌, Result, Ok, Err, codes, decimal, length, nat_lt, if◌then◌else◌}
 use Rattle.std.specs.Str.{bytes_eq}
-use Rattle.hcl_source.specs.Texts.{fault_text}
+use Rattle.hcl_source.specs.FaultTexts.{fault_text}
 use Rattle.hcl_source.specs.Places.{place}
 use Rattle.hcl_source.specs.Load.{max_source, IsText, IsLoadFault}
 use Rattle.hcl_scan.specs.Lexemes.{Lexeme}

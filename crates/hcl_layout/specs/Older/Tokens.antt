@@ -2,7 +2,7 @@
 -- else was as it is now, so only what goes by the spelling of a kind is written once more (`Spelling` and `Scans` of
 -- `hcl_scan`).
 use Rattle.std.specs.Prelude.{◌≡◌, ◌≢◌, ◌+◌, ◌<◌, ◌≤◌, ℕ, Bool, List, [], ◌∷◌, ◌++◌, length, ◌⊎◌}
-use Rattle.hcl_scan.specs.Lexemes.{Lexeme, Opener, in_heredoc, moved}
+use Rattle.hcl_scan.specs.Lexemes.{Lexeme, Opener, in_heredoc, moved, max_open}
 use Rattle.hcl_scan.specs.Spelling.{IsSpelling}
 use Rattle.hcl_scan.specs.Scans.{State, begin, ahead, gap_len, offsets_of, is_dot, Shows, Closes, IsComplete}
 use Rattle.hcl_scan.specs.declared.token.Kind.{Kind}
@@ -24,7 +24,7 @@ pub record WasRead (s : State) (t : Lexeme) (next : State) : Type 0 where
   pub at : next.at ≡ t.start + length t.text
   pub opens : next.opens ≡ moved t.kind s.opens
   pub offsets : next.offsets ≡ offsets_of t.start s.opens next.opens s.offsets
-  pub room : length next.opens ≤ 256
+  pub room : length next.opens ≤ max_open
   pub after_dot : next.after_dot ≡ is_dot t.kind
   pub shows : Shows t.kind t.text rest s.hidden next.seen next.hidden
 

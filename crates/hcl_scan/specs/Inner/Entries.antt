@@ -2,7 +2,7 @@
 use Rattle.std.specs.Prelude.{ℕ, ◌≤◌, List, length, All}
 use Rattle.hcl_scan.specs.Scans.{Scans}
 use Rattle.hcl_scan.specs.Inner.Scanners.{lexemes_of, IsEntry}
-use Rattle.hcl_scan.specs.declared.entry.Entry.{Entry}
+use Rattle.hcl_scan.specs.declared.token.Entry.{Entry}
 
 -- the entries are the tokens of the text
 pub record AreTokens (text : List ℕ) (es : List Entry) : Type 0 where

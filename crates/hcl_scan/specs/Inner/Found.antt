@@ -4,7 +4,7 @@ use Rattle.std.specs.Prelude.{◌≡◌, ℕ, ◌+◌, ◌<◌, ◌≤◌, ◌==
 use Rattle.std.specs.Char.{is_ascii_alphanumeric}
 use Rattle.std.specs.List.{list_all}
 use Rattle.hcl_scan.specs.Lexemes.{Opener, in_heredoc, closes_sequence}
-use Rattle.hcl_scan.specs.Spelling.{IsMark, IsBlanks, IsDigits, IsNumber, IsIdent, IsNewline, starts, continues_ident, context, Expression}
+use Rattle.hcl_scan.specs.Spelling.{IsPunctuation, IsBlanks, IsDigits, IsNumber, IsIdent, IsNewline, starts, continues_ident, context, Expression}
 use Rattle.hcl_scan.specs.Scans.{IsLongest, HasNone}
 use Rattle.hcl_scan.specs.declared.token.Kind.{Kind}
 use Rattle.hcl_scan.specs.declared.token.Kind.TheVariants.{SeqClose, BraceClose}
@@ -16,16 +16,16 @@ pub record Finds (opens : List Opener) (after_dot : Bool) (seen : List ℕ) (kin
   pub longest : IsLongest opens after_dot seen kind (take n seen) (drop n seen)
 
 -- what is open leaves an expression, in a heredoc or not, in which a `}` closes a sequence or not
-pub record IsPlace (opens : List Opener) (inside closes : Bool) : Type 0 where
+pub record AreSurroundings (opens : List Opener) (inside closes : Bool) : Type 0 where
   pub expression : context opens ≡ Expression
   pub heredoc : in_heredoc opens ≡ inside
   pub sequence : closes_sequence opens ≡ closes
 
 abbrev pub FindsAt : Bool → Bool → Bool → List ℕ → Kind → ℕ → Type 0
-FindsAt after_dot inside closes seen kind n = (opens : List Opener) → IsPlace opens inside closes → Finds opens after_dot seen kind n
+FindsAt after_dot inside closes seen kind n = (opens : List Opener) → AreSurroundings opens inside closes → Finds opens after_dot seen kind n
 
 abbrev pub HasNoneAt : Bool → Bool → Bool → List ℕ → Type 0
-HasNoneAt after_dot inside closes seen = (opens : List Opener) → IsPlace opens inside closes → HasNone opens after_dot seen
+HasNoneAt after_dot inside closes seen = (opens : List Opener) → AreSurroundings opens inside closes → HasNone opens after_dot seen
 
 -- the first n bytes have this form, and no more do
 pub record IsLongestFront (form : List ℕ → Type 0) (seen : List ℕ) (n : ℕ) : Type 0 where
@@ -54,13 +54,13 @@ closer_kind true = SeqClose
 closer_kind false = BraceClose
 
 -- the text of a mark of this kind is at the front, and no longer one
-pub record IsLongestMark (table : List (List ℕ × Kind)) (seen : List ℕ) (kind : Kind) (n : ℕ) : Type 0 where
+pub record IsLongestPunctuation (table : List (List ℕ × Kind)) (seen : List ℕ) (kind : Kind) (n : ℕ) : Type 0 where
   pub within : n ≤ length seen
-  pub formed : IsMark table (take n seen) kind
-  pub longest : (other : Kind) (longer left : List ℕ) → longer ++ left ≡ seen → IsMark table longer other → length longer ≤ n
+  pub formed : IsPunctuation table (take n seen) kind
+  pub longest : (other : Kind) (longer left : List ℕ) → longer ++ left ≡ seen → IsPunctuation table longer other → length longer ≤ n
 
-abbrev pub HasNoMark : List (List ℕ × Kind) → List ℕ → Type 0
-HasNoMark table seen = (kind : Kind) (text rest : List ℕ) → text ++ rest ≡ seen → ¬ IsMark table text kind
+abbrev pub HasNoPunctuation : List (List ℕ × Kind) → List ℕ → Type 0
+HasNoPunctuation table seen = (kind : Kind) (text rest : List ℕ) → text ++ rest ≡ seen → ¬ IsPunctuation table text kind
 
 -- the first character passes the test
 pub record BeginsWith (test : ℕ → Bool) (text : List ℕ) : Type 0 where

@@ -5,13 +5,13 @@ use Rattle.hcl_scan.specs.Lexemes as lexemes
 use Rattle.hcl_scan.specs.Lexemes.{is_group}
 use Rattle.hcl_scan.specs.Spelling.{Context, Template, Expression, context_in}
 use Rattle.hcl_scan.specs.Scans.{Hidden, owes}
-use Rattle.hcl_scan.specs.declared.opened.By.{By}
-use Rattle.hcl_scan.specs.declared.opened.By.TheVariants.{Quote, Heredoc, Sequence, Brace, Bracket, Paren}
-use Rattle.hcl_scan.specs.declared.opened.Opened.{Opened}
+use Rattle.hcl_scan.specs.declared.stack.Opener.{Opener}
+use Rattle.hcl_scan.specs.declared.stack.Opener.TheVariants.{Quote, Heredoc, Sequence, Brace, Bracket, Paren}
+use Rattle.hcl_scan.specs.declared.stack.Opened.{Opened}
 use Rattle.hcl_scan.specs.declared.token.Kind.{Kind}
 use Rattle.hcl_scan.specs.declared.token.Kind.TheVariants.{QuoteOpen, HeredocOpen, InterpOpen, ControlOpen, ParenOpen, BracketOpen, BraceOpen, ParenClose, BracketClose, BraceClose, SeqClose, QuoteClose}
 
-abbrev pub opener_of : By → lexemes.Opener
+abbrev pub opener_of : Opener → lexemes.Opener
 opener_of Quote = lexemes.Quote
 opener_of (Heredoc closer_end outer_end) = lexemes.Heredoc
 opener_of Sequence = lexemes.Sequence
@@ -28,7 +28,7 @@ abbrev pub offsets_in : List Opened → List ℕ
 offsets_in stack = map (λ o. o.at) stack
 
 -- what is hidden where what is seen ends at `end`
-abbrev pub hidden_under : List ℕ → ℕ → By → (ℕ → List Hidden) → List Hidden
+abbrev pub hidden_under : List ℕ → ℕ → Opener → (ℕ → List Hidden) → List Hidden
 hidden_under text end (Heredoc closer_end outer_end) above = record { closer = slice_range text end closer_end; after = slice_range text closer_end outer_end } ∷ above outer_end
 hidden_under text end _ above = above end
 
@@ -36,7 +36,7 @@ abbrev pub hidden_of : List ℕ → List Opened → ℕ → List Hidden
 hidden_of text [] end = []
 hidden_of text (o ∷ stack) end = hidden_under text end o.by (hidden_of text stack)
 
-abbrev pub is_group_by : By → Bool
+abbrev pub is_group_by : Opener → Bool
 is_group_by by = is_group (opener_of by)
 
 -- without the parens and brackets on top
@@ -68,7 +68,7 @@ closed QuoteClose stack = drop 1 stack
 closed _ stack = stack
 
 -- a `}` closes a sequence in what this opens, where it does so around it or not
-abbrev pub closes_on : By → Bool → Bool
+abbrev pub closes_on : Opener → Bool → Bool
 closes_on Sequence around = true
 closes_on Paren around = around
 closes_on Bracket around = around
@@ -79,7 +79,7 @@ top_closes [] = false
 top_closes (o ∷ stack) = o.closes_sequence
 
 -- with what opens at this offset on top
-abbrev pub opened_on : By → ℕ → List Opened → List Opened
+abbrev pub opened_on : Opener → ℕ → List Opened → List Opened
 opened_on by at stack = record { by = by; at = at; closes_sequence = closes_on by (top_closes stack) } ∷ stack
 
 -- the innermost quote, heredoc or sequence
@@ -93,7 +93,7 @@ quoted_in (Template quoted) = Some quoted
 quoted_in Expression = None
 
 -- what a token of this kind opens, heredocs aside
-abbrev pub opened_by : Kind → Option By
+abbrev pub opened_by : Kind → Option Opener
 opened_by QuoteOpen = Some Quote
 opened_by InterpOpen = Some Sequence
 opened_by ControlOpen = Some Sequence

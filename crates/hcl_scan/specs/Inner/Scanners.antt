@@ -1,20 +1,19 @@
--- Where the scanner stands, as a state of the reading, and what a turn of it comes to: a token read, all read, or the fault.
+-- Where the scanner stands, as a state of the reading, and what it comes to next: a token, or the fault.
 -- Our own choice of representation: offsets into one text in place of its parts.
 use Rattle.std.specs.Prelude.{◌≡◌, ℕ, ◌+◌, ◌<◌, ◌≤◌, Bool, true, false, IsTrue, List, [], ◌∷◌, length, slice_range, map}
 use Rattle.std.specs.Str.{IsCharBoundary}
-use Rattle.hcl_scan.specs.Lexemes.{Lexeme, Opener, Sequence, in_heredoc, closes_sequence}
+use Rattle.hcl_source.specs.Load.{max_source}
+use Rattle.hcl_scan.specs.Lexemes.{Lexeme, Opener, Sequence, in_heredoc, closes_sequence, max_open}
 use Rattle.hcl_scan.specs.Spelling.{Context, Template, Expression, context}
-use Rattle.hcl_scan.specs.Scans.{State, Next, IsLongest, IsComplete, gap_len}
+use Rattle.hcl_scan.specs.Scans.{State, Next, IsLongest, gap_len}
 use Rattle.hcl_scan.specs.Faults.{Lacks, fault_offset}
 use Rattle.hcl_scan.specs.Inner.Openings.{opener_of, openers_of, offsets_in, hidden_of}
-use Rattle.hcl_scan.specs.declared.entry.Entry.{Entry}
-use Rattle.hcl_scan.specs.declared.opened.By.{By}
-use Rattle.hcl_scan.specs.declared.opened.By.TheVariants.{Heredoc}
-use Rattle.hcl_scan.specs.declared.opened.Opened.{Opened}
+use Rattle.hcl_scan.specs.declared.token.Entry.{Entry}
+use Rattle.hcl_scan.specs.declared.stack.Opener as kept
+use Rattle.hcl_scan.specs.declared.stack.Opener.TheVariants.{Heredoc}
+use Rattle.hcl_scan.specs.declared.stack.Opened.{Opened}
 use Rattle.hcl_scan.specs.declared.scanner.Scanner.{Scanner}
-use Rattle.hcl_scan.specs.declared.stopped.Stopped.{Stopped}
-use Rattle.hcl_scan.specs.declared.turn.Turn.{Turn}
-use Rattle.hcl_scan.specs.declared.turn.Turn.TheVariants as turn
+use Rattle.hcl_scan.specs.declared.scanner.Stopped.{Stopped}
 
 -- the state of the reading
 abbrev pub state_of : Scanner → State
@@ -28,7 +27,7 @@ fits_in _ (Template quoted) = false
 fits_in _ Expression = true
 
 -- what is seen inside a heredoc ends before its closing marker, and what is seen around it behind
-abbrev pub AreEndsBy : List ℕ → ℕ → By → (ℕ → Type 0) → Type 0
+abbrev pub AreEndsBy : List ℕ → ℕ → kept.Opener → (ℕ → Type 0) → Type 0
 AreEndsBy text end (Heredoc closer_end outer_end) around = (end < closer_end) × (closer_end ≤ outer_end) × IsCharBoundary text closer_end × IsCharBoundary text outer_end × around outer_end
 AreEndsBy text end _ around = around end
 
@@ -38,13 +37,13 @@ IsStack text [] end = end ≡ length text
 IsStack text (o ∷ stack) end = (o.closes_sequence ≡ closes_sequence (openers_of (o ∷ stack))) × IsTrue (fits_in (opener_of o.by) (context (openers_of stack))) × IsCharBoundary text o.at × AreEndsBy text end o.by (IsStack text stack)
 
 pub record IsSound (s : Scanner) : Type 0 where
-  pub small : length s.text.now ≤ 4194304
+  pub small : length s.text.now ≤ max_source
   pub order : s.at ≤ s.end
   pub within : s.end ≤ length s.text.now
   pub start : IsCharBoundary s.text.now s.at
   pub end : IsCharBoundary s.text.now s.end
   pub stack : IsStack s.text.now s.stack s.end
-  pub depth : length s.stack ≤ 256
+  pub depth : length s.stack ≤ max_open
 
 -- the token of an entry
 abbrev pub lexeme_of : List ℕ → Entry → Lexeme
@@ -87,9 +86,3 @@ pub record IsStopped (s : Scanner) (fault : Stopped) : Type 0 where
   pub lacks : Lacks (state_of s) fault.kind
   pub at : fault.at ≡ fault_offset (state_of s) fault.kind
   pub boundary : IsCharBoundary s.text.now fault.at
-
--- what a turn comes to
-abbrev pub IsTurn : Scanner → Turn → Scanner → Type 0
-IsTurn s (turn.Token e) next = Moves s e next
-IsTurn s turn.Complete next = IsComplete (state_of s)
-IsTurn s (turn.Fault fault) next = IsStopped s fault

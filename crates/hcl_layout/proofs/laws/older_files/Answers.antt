@@ -1,4 +1,4 @@
-use Rattle.hcl_scan.proofs.SideBySide.{besides}
+use Rattle.hcl_scan.proofs.SideBySideLemmas.{besides}
 use Rattle.hcl_layout.proofs.OlderScans.{scanned_older, scanned_too}
 use Rattle.hcl_layout.proofs.OlderRuns.{accepted_apart, accepted_too}
 use Rattle.hcl_layout.proofs.OlderPrints.{print_same}

@@ -1,7 +1,7 @@
 use Rattle.std.proofs.Common.{◌≡◌, ◌&&◌, true, drop, sym, ap, ◌∙◌}
 use Rattle.hcl_scan.specs.Spelling.{starts}
 use Rattle.hcl_scan.specs.Scans.{skip_blanks, ends_line, closer_len}
-use Rattle.hcl_scan.proofs.Starts.{starts_same}
+use Rattle.hcl_scan.proofs.StartLemmas.{starts_same}
 use Rattle.hcl_scan.proofs.heredoc.is_marker_line.Goals as goal
 
 pub returns-then-not-starts_with : goal.returns-then-not-starts_with

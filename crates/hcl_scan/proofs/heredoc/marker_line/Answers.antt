@@ -1,8 +1,8 @@
 use Rattle.std.proofs.Common.{◌≡◌, ℕ, ◌+◌, ◌-◌, ◌<◌, ◌≤◌, ◌==◌, List, length, drop, get_or, sym, ap, ◌∙◌, arith, length-drop}
 use Rattle.std.specs.List.{position_or_len}
 use Rattle.hcl_scan.specs.Scans.{is_marker_line}
-use Rattle.hcl_scan.proofs.Lines.{none_in_line, next_line}
-use Rattle.hcl_scan.proofs.Candidates.{none_before, none_from}
+use Rattle.hcl_scan.proofs.LineLemmas.{none_in_line, next_line}
+use Rattle.hcl_scan.proofs.CandidateLemmas.{none_before, none_from}
 use Rattle.hcl_scan.proofs.heredoc.marker_line.Goals as goal
 
 lf_at : (text : List ℕ) (at line : ℕ) → get_or text (at + line) 0 ≡ 10 → get_or text (at + line + 1 - 1) 0 ≡ 10

@@ -1,6 +1,6 @@
 use Rattle.std.proofs.Common.{ℕ, IfNone, subst, ◌+◌, ◌-◌, ◌≤◌, take, get_or, sym, ap, ◌∙◌, arith}
 use Rattle.hcl_scan.specs.Scans.{IsMarkerLine}
-use Rattle.hcl_scan.proofs.Candidates.{no_place, skipped, lf_of}
+use Rattle.hcl_scan.proofs.CandidateLemmas.{no_place, skipped, lf_of}
 use Rattle.hcl_scan.proofs.heredoc.next_candidate.Goals as goal
 
 pub returns-in_err-place-clause-none : goal.returns-in_err-place-clause-none

@@ -1,5 +1,5 @@
 use Rattle.std.proofs.Common.{sym, ◌∙◌}
-use Rattle.hcl_scan.proofs.Idents.{starts_found, starts_none}
+use Rattle.hcl_scan.proofs.IdentLemmas.{starts_found, starts_none}
 use Rattle.hcl_scan.proofs.ident.begins_ident.Goals as goal
 
 pub returns-then-bytes-lt128-clause-yes : goal.returns-then-bytes-lt128-clause-yes

@@ -1,6 +1,6 @@
 use Rattle.std.proofs.Common.{sym, ◌∙◌}
 use Rattle.hcl_scan.specs.Spelling.{continues_ident}
-use Rattle.hcl_scan.proofs.Idents.{char_found}
+use Rattle.hcl_scan.proofs.IdentLemmas.{char_found}
 use Rattle.hcl_scan.proofs.ident.continuing_char.Goals as goal
 
 pub returns-then-continues_ident-clause-found : goal.returns-then-continues_ident-clause-found

@@ -1,5 +1,5 @@
 use Rattle.std.proofs.Common.{arith}
-use Rattle.hcl_scan.proofs.Idents.{continued_ascii, continued_more, continued_falls, ascii_stops}
+use Rattle.hcl_scan.proofs.IdentLemmas.{continued_ascii, continued_more, continued_falls, ascii_stops}
 use Rattle.hcl_scan.proofs.ident.continuing_len.Goals as goal
 
 pub returns-then-byte_at-lt128-clause-boundary : goal.returns-then-byte_at-lt128-clause-boundary

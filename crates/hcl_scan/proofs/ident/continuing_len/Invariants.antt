@@ -1,5 +1,5 @@
 use Rattle.std.proofs.Common.{◌-◌, length}
-use Rattle.hcl_scan.proofs.Idents.{Continued}
+use Rattle.hcl_scan.proofs.IdentLemmas.{Continued}
 use Rattle.hcl_scan.proofs.ident.continuing_len.Given as goal
 
 abbrev pub invariant-loop-n : goal.invariant-loop-n

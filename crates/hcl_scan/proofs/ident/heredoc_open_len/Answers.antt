@@ -1,6 +1,6 @@
 use Rattle.std.proofs.Common.{◌≡◌, ℕ, ◌<◌, ap, ◌∙◌, arith}
 use Rattle.hcl_scan.specs.Inner.Found.{heredoc_mark_len}
-use Rattle.hcl_scan.proofs.Openers.{mark_boundary, opener_found, opener_none}
+use Rattle.hcl_scan.proofs.HeredocOpenerLemmas.{mark_boundary, opener_found, opener_none}
 use Rattle.hcl_scan.proofs.ident.heredoc_open_len.Goals as goal
 
 some_of : (n : ℕ) → (n ≡ 0 → ⊥) → 0 < n

@@ -1,4 +1,4 @@
-use Rattle.hcl_scan.proofs.Idents.{ident_found, ident_none}
+use Rattle.hcl_scan.proofs.IdentLemmas.{ident_found, ident_none}
 use Rattle.hcl_scan.proofs.ident.ident_len.Goals as goal
 
 pub returns-then-begins_ident-clause-found : goal.returns-then-begins_ident-clause-found

@@ -1,5 +1,5 @@
 use Rattle.std.proofs.Common.{ap, ◌∙◌, drop}
-use Rattle.hcl_scan.proofs.Openers.{marker_found, marker_none}
+use Rattle.hcl_scan.proofs.HeredocOpenerLemmas.{marker_found, marker_none}
 use Rattle.hcl_scan.proofs.ident.marker_len.Goals as goal
 
 pub returns-in-Some-newline_len-clause-found : goal.returns-in-Some-newline_len-clause-found

@@ -1,5 +1,5 @@
-use Rattle.hcl_scan.proofs.Runs.{no_fault}
-use Rattle.hcl_scan.proofs.SpellingLaws.{one_kind, nonempty}
+use Rattle.hcl_scan.proofs.RunLemmas.{no_fault}
+use Rattle.hcl_scan.proofs.SpellingLemmas.{one_kind, nonempty}
 use Rattle.hcl_scan.proofs.laws.fault_or_list.Goals as goal
 
 pub returns : goal.returns

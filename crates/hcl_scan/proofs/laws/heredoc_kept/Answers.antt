@@ -1,4 +1,4 @@
-use Rattle.hcl_scan.proofs.InHeredocs.{read_inside}
+use Rattle.hcl_scan.proofs.InHeredocLemmas.{read_inside}
 use Rattle.hcl_scan.proofs.laws.heredoc_kept.Goals as goal
 
 pub returns : goal.returns

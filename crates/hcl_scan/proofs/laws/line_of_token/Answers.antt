@@ -1,4 +1,4 @@
-use Rattle.hcl_scan.proofs.LineLemmas.{line_is}
+use Rattle.hcl_scan.proofs.TokenLineLemmas.{line_is}
 use Rattle.hcl_scan.proofs.laws.line_of_token.Goals as goal
 
 pub returns : goal.returns

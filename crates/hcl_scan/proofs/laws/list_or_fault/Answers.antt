@@ -1,11 +1,11 @@
-use Rattle.std.proofs.Common.{◌≡◌, ℕ, List, [], ◌∷◌, ◌++◌, length, ap, sym, subst, ◌∙◌, inl, inr, arith}
+use Rattle.std.proofs.Common.{◌≡◌, ℕ, List, [], ◌∷◌, ◌++◌, ap, sym, subst, ◌∙◌, inl, inr}
 use Rattle.hcl_scan.specs.Lexemes.{Lexeme}
 use Rattle.hcl_scan.specs.Scans.{Next, Run, begin}
 use Rattle.hcl_scan.specs.Inner.Scanners.{state_of, lexeme_of, Moves}
-use Rattle.hcl_scan.specs.declared.entry.Entry.{Entry}
+use Rattle.hcl_scan.specs.declared.token.Entry.{Entry}
 use Rattle.hcl_scan.specs.declared.scanner.Scanner.{Scanner}
-use Rattle.hcl_scan.proofs.AllPlaces.{Run-push}
-use Rattle.hcl_scan.proofs.Scanning.{fault_of}
+use Rattle.hcl_scan.proofs.AllContextLemmas.{Run-push}
+use Rattle.hcl_scan.proofs.ScanLemmas.{all_read, token_read, fault_of}
 use Rattle.hcl_scan.proofs.laws.list_or_fault.Goals as goal
 
 abbrev Read : List ℕ → Scanner → Type 0
@@ -29,25 +29,22 @@ loop-init c = record {
   read = ([], sym c.new-scanner.ensures.state);
 }
 
-pub turn-requires : goal.turn-requires
-turn-requires c = c.loop.invariant.sound
-
-pub loop-smaller : goal.loop-smaller
-loop-smaller c =
-    let left = ap (λ t. length t) (still c.args.text.now c.loop.scanner c.turn.new.self c.in-Token.field-0 c.loop.invariant.same_text c.in-Token.ensures ∙ sym c.loop.invariant.same_text) in
-    omega (arith, left, c.in-Token.ensures.further, c.in-Token.ensures.sound.order, c.in-Token.ensures.sound.within)
+pub next_token-requires : goal.next_token-requires
+next_token-requires c = c.loop.invariant.sound
 
 pub loop-preserved : goal.loop-preserved
-loop-preserved c = record {
-  same_text = still c.args.text.now c.loop.scanner c.turn.new.self c.in-Token.field-0 c.loop.invariant.same_text c.in-Token.ensures;
-  sound = c.in-Token.ensures.sound;
-  read = read_on c.args.text.now c.loop.scanner c.turn.new.self c.in-Token.field-0 c.loop.invariant.same_text c.in-Token.ensures c.loop.invariant.read;
-}
+loop-preserved c =
+    let moved = token_read c.in-Ok-Some.field-0 c.loop.scanner c.next_token.new.self c.in-Ok-Some.field-0-0 c.in-Ok-Some.field-0-is c.in-Ok-Some.ensures.read in
+    record {
+      same_text = still c.args.text.now c.loop.scanner c.next_token.new.self c.in-Ok-Some.field-0-0 c.loop.invariant.same_text moved;
+      sound = moved.sound;
+      read = read_on c.args.text.now c.loop.scanner c.next_token.new.self c.in-Ok-Some.field-0-0 c.loop.invariant.same_text moved c.loop.invariant.read;
+    }
 
-pub returns-in-Complete : goal.returns-in-Complete
-returns-in-Complete c = inl (c.loop.invariant.read.0, (state_of c.loop.scanner, c.loop.invariant.read.1, c.in-Complete.ensures))
+pub returns-in-Ok-None : goal.returns-in-Ok-None
+returns-in-Ok-None c = inl (c.loop.invariant.read.0, (state_of c.loop.scanner, c.loop.invariant.read.1, all_read c.in-Ok-None.field-0 c.loop.scanner c.next_token.new.self c.in-Ok-None.field-0-is c.in-Ok-None.ensures.read))
 
-pub returns-in-Fault : goal.returns-in-Fault
-returns-in-Fault c =
-    let fault = fault_of c.args.text.now c.loop.invariant.read.0 c.loop.scanner c.in-Fault.field-0 c.loop.invariant.same_text c.loop.invariant.read.1 c.in-Fault.ensures in
-    inr (c.in-Fault.field-0.kind, c.in-Fault.field-0.at, fault.scan_fault)
+pub returns-in-Err : goal.returns-in-Err
+returns-in-Err c =
+    let fault = fault_of c.args.text.now c.loop.invariant.read.0 c.loop.scanner c.in-Err.field-0 c.loop.invariant.same_text c.loop.invariant.read.1 c.in-Err.ensures.stopped in
+    inr (c.in-Err.field-0.kind, c.in-Err.field-0.at, fault.scan_fault)

@@ -1,4 +1,4 @@
-use Rattle.hcl_scan.proofs.NeighboursKept.{kept}
+use Rattle.hcl_scan.proofs.NeighbourLemmas.{kept}
 use Rattle.hcl_scan.proofs.laws.neighbours.Goals as goal
 
 pub returns : goal.returns

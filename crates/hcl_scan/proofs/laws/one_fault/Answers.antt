@@ -1,5 +1,5 @@
-use Rattle.hcl_scan.proofs.Runs.{one_fault}
-use Rattle.hcl_scan.proofs.SpellingLaws.{one_kind, nonempty}
+use Rattle.hcl_scan.proofs.RunLemmas.{one_fault}
+use Rattle.hcl_scan.proofs.SpellingLemmas.{one_kind, nonempty}
 use Rattle.hcl_scan.proofs.laws.one_fault.Goals as goal
 
 pub returns : goal.returns

@@ -1,5 +1,5 @@
-use Rattle.hcl_scan.proofs.Runs.{OneKind, Nonempty}
-use Rattle.hcl_scan.proofs.SpellingLaws.{one_kind, nonempty}
+use Rattle.hcl_scan.proofs.RunLemmas.{OneKind, Nonempty}
+use Rattle.hcl_scan.proofs.SpellingLemmas.{one_kind, nonempty}
 use Rattle.hcl_scan.proofs.laws.one_kind.Goals as goal
 
 pub returns-clause-one_kind : goal.returns-clause-one_kind

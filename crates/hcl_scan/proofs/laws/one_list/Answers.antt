@@ -1,5 +1,5 @@
-use Rattle.hcl_scan.proofs.Runs.{one_scan}
-use Rattle.hcl_scan.proofs.SpellingLaws.{one_kind, nonempty}
+use Rattle.hcl_scan.proofs.RunLemmas.{one_scan}
+use Rattle.hcl_scan.proofs.SpellingLemmas.{one_kind, nonempty}
 use Rattle.hcl_scan.proofs.laws.one_list.Goals as goal
 
 pub returns : goal.returns

@@ -1,4 +1,4 @@
-use Rattle.hcl_scan.proofs.OtherGaps.{other_gaps}
+use Rattle.hcl_scan.proofs.OtherGapLemmas.{other_gaps}
 use Rattle.hcl_scan.proofs.laws.other_gaps.Goals as goal
 
 pub returns : goal.returns

@@ -1,4 +1,4 @@
-use Rattle.hcl_scan.proofs.SideBySide.{besides}
+use Rattle.hcl_scan.proofs.SideBySideLemmas.{besides}
 use Rattle.hcl_scan.proofs.laws.side_by_side.Goals as goal
 
 pub returns : goal.returns

@@ -1,5 +1,5 @@
-use Rattle.hcl_scan.proofs.TokenTexts.{texts_are}
-use Rattle.hcl_scan.proofs.ByteOrderMarks.{unmarked}
+use Rattle.hcl_scan.proofs.TokenTextLemmas.{texts_are}
+use Rattle.hcl_scan.proofs.ByteOrderMarkLemmas.{unmarked}
 use Rattle.hcl_scan.proofs.laws.texts.Goals as goal
 
 pub returns-clause-utf8 : goal.returns-clause-utf8

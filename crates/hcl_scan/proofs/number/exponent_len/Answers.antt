@@ -1,5 +1,5 @@
 use Rattle.std.proofs.Common.{◌≡◌, ◌∙◌, sym, ap, true, get_or, ◌==◌, ◌||◌}
-use Rattle.hcl_scan.proofs.Numerals.{exponent_at}
+use Rattle.hcl_scan.proofs.NumeralLemmas.{exponent_at}
 use Rattle.hcl_scan.proofs.number.exponent_len.Goals as goal
 
 pub returns-in-Some : goal.returns-in-Some

@@ -1,4 +1,4 @@
-use Rattle.hcl_scan.proofs.Numerals.{number_at}
+use Rattle.hcl_scan.proofs.NumeralLemmas.{number_at}
 use Rattle.hcl_scan.proofs.number.number_len.Goals as goal
 
 pub returns-clause-found : goal.returns-clause-found

@@ -1,8 +1,8 @@
 use Rattle.std.proofs.Common.{◌≡◌, ℕ, Bool, true, false, List, drop, None, arith, sym, ap, subst, ◌∙◌, codes}
 use Rattle.hcl_scan.specs.Spelling.{element_len, starts}
 use Rattle.hcl_scan.specs.Inner.Found.{Finds}
-use Rattle.hcl_scan.proofs.Templates.{lit_found, interp_found, control_found, quote_found, nothing_found, lit_boundary, quote_boundary, sequence_boundary}
-use Rattle.hcl_scan.proofs.Starts.{starts_same}
+use Rattle.hcl_scan.proofs.TemplateLemmas.{lit_found, interp_found, control_found, quote_found, nothing_found, lit_boundary, quote_boundary, sequence_boundary}
+use Rattle.hcl_scan.proofs.StartLemmas.{starts_same}
 use Rattle.hcl_scan.specs.declared.token.Kind.TheVariants.{InterpOpen, ControlOpen}
 use Rattle.hcl_scan.proofs.template.next_in_template.Goals as goal
 use Rattle.hcl_scan.proofs.template.next_in_template.Goals.{else-quoted-via-then-quoted+else-starts_with-3, else-quoted-via-else-quoted}
@@ -11,10 +11,10 @@ clash : (b : Bool) → b ≡ true → b ≡ false → ⊥
 clash b y n = cc
 
 pub returns-then-len-gt0-clause-found : goal.returns-then-len-gt0-clause-found
-returns-then-len-gt0-clause-found c = λ opens dot here. lit_found c.args.quoted opens dot here c.args.seen.now c.lit_len-len.result c.lit_len-len.ensures.within c.if-len-gt0.true c.lit_len-len.ensures.elements c.lit_len-len.ensures.ends
+returns-then-len-gt0-clause-found c = λ opens dot here. lit_found c.args.quoted opens dot here c.args.seen.now c.literal_len-len.result c.literal_len-len.ensures.within c.if-len-gt0.true c.literal_len-len.ensures.elements c.literal_len-len.ensures.ends
 
 pub returns-then-len-gt0-clause-boundary : goal.returns-then-len-gt0-clause-boundary
-returns-then-len-gt0-clause-boundary c = λ utf8. lit_boundary c.args.quoted c.args.seen.now c.lit_len-len.result c.lit_len-len.ensures.within c.lit_len-len.ensures.ends
+returns-then-len-gt0-clause-boundary c = λ utf8. lit_boundary c.args.quoted c.args.seen.now c.literal_len-len.result c.literal_len-len.ensures.within c.literal_len-len.ensures.ends
 
 pub returns-then-starts_with-clause-found : goal.returns-then-starts_with-clause-found
 returns-then-starts_with-clause-found c =
@@ -57,8 +57,8 @@ returns-clause-none c =
     let seen : List ℕ = c.args.seen.now in
     let no_interp : starts seen (codes "${") ≡ false = sym (starts_same seen (codes "${")) ∙ sym c.starts_with.ensures.value ∙ c.if-starts_with.false in
     let no_control : starts seen (codes "%{") ≡ false = sym (starts_same seen (codes "%{")) ∙ sym c.starts_with-2.ensures.value ∙ c.if-starts_with-2.false in
-    let nothing : c.lit_len-len.result ≡ 0 = omega (arith, c.if-len-gt0.false) in
-    let none : element_len c.args.quoted seen ≡ None = ap (λ n. element_len c.args.quoted (drop n seen)) (sym nothing) ∙ c.lit_len-len.ensures.ends in
+    let nothing : c.literal_len-len.result ≡ 0 = omega (arith, c.if-len-gt0.false) in
+    let none : element_len c.args.quoted seen ≡ None = ap (λ n. element_len c.args.quoted (drop n seen)) (sym nothing) ∙ c.literal_len-len.ensures.ends in
     let no_quote : c.args.quoted ≡ true → starts seen (codes "\"") ≡ false =
     elim c.else-quoted.branch [
       | else-quoted-via-then-quoted+else-starts_with-3 w ↦ λ q. sym (starts_same seen (codes "\"")) ∙ sym w.starts_with-then-quoted.ensures.value ∙ w.if-starts_with-3.false

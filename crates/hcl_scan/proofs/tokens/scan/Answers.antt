@@ -1,16 +1,20 @@
-use Rattle.std.proofs.Common.{◌≡◌, ℕ, List, subst}
-use Rattle.hcl_source.specs.Places.{place}
-use Rattle.hcl_scan.specs.Inner.Stops.{IsFaultOf, IsStop}
-use Rattle.hcl_scan.specs.Scanned.{IsScanError}
-use Rattle.hcl_scan.specs.declared.stopped.Stopped.{Stopped}
-use Rattle.hcl_source.specs.declared.fault.Position.{Position}
-use Rattle.hcl_scan.specs.declared.token.ScanError.TheVariants as error
+use Rattle.std.proofs.Common.{arith}
+use Rattle.hcl_scan.specs.Inner.Scanners.{lexemes_of}
+use Rattle.hcl_scan.proofs.ScanLemmas.{token_read, more_parts, same_still, more_run, fault_of}
 use Rattle.hcl_scan.proofs.tokens.scan.Goals as goal
 
-error_of : (text : List ℕ) (stopped : Stopped) (p : Position) → IsFaultOf text stopped → p ≡ place text stopped.at → IsScanError text (error.Fault (record { kind = stopped.kind; at = p }))
-error_of text stopped p stop is = (stopped.at, stop.scan_fault, is, stop.none)
+pub loop-entry-preserved : goal.loop-entry-preserved
+loop-entry-preserved c =
+    let moved = token_read c.in-Ok-Some.field-0 c.loop-entry.scanner c.next_token.new.self c.in-Ok-Some.entry c.in-Ok-Some.field-0-is c.in-Ok-Some.ensures.read in
+    record {
+      same_text = same_still c.args.source.now c.loop-entry.entries.items c.push.new.self.items c.loop-entry.scanner c.next_token.new.self c.in-Ok-Some.entry c.loop-entry.invariant.same_text moved c.in-Ok.ensures.items;
+      sound = moved.sound;
+      within = omega (arith, c.in-Ok.ensures.len, c.loop-entry.invariant.within, moved.further);
+      parts = more_parts c.args.source.now c.loop-entry.entries.items c.push.new.self.items c.loop-entry.scanner c.next_token.new.self c.in-Ok-Some.entry c.loop-entry.invariant.same_text moved c.in-Ok.ensures.items c.loop-entry.invariant.parts;
+      read = more_run c.args.source.now c.loop-entry.entries.items c.push.new.self.items c.loop-entry.scanner c.next_token.new.self c.in-Ok-Some.entry c.loop-entry.invariant.same_text moved c.in-Ok.ensures.items c.loop-entry.invariant.read;
+    }
 
-pub returns-in-Err-Fault-clause-err : goal.returns-in-Err-Fault-clause-err
-returns-in-Err-Fault-clause-err c =
-    error_of c.args.source.now c.in-Err-Fault.stopped c.position.result
-    (subst (λ l. IsFaultOf l c.in-Err-Fault.stopped) c.text.ensures.value (subst (IsStop c.text.result.now) c.in-Err-Fault.field-0-is c.in-Err-Fault.ensures.err)) c.position.ensures
+pub returns-in-Err-clause-err : goal.returns-in-Err-clause-err
+returns-in-Err-clause-err c =
+    let fault = fault_of c.args.source.now (lexemes_of c.args.source.now c.loop-entry.entries.items) c.loop-entry.scanner c.in-Err.stopped c.loop-entry.invariant.same_text c.loop-entry.invariant.read c.in-Err.ensures.stopped in
+    (c.in-Err.stopped.at, fault.scan_fault, c.position.ensures, fault.none)

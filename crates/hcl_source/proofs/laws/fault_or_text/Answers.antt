@@ -1,4 +1,4 @@
-use Rattle.hcl_source.proofs.Loads.{text_or_fault}
+use Rattle.hcl_source.proofs.LoadLemmas.{text_or_fault}
 use Rattle.hcl_source.proofs.laws.fault_or_text.Goals as goal
 
 pub returns : goal.returns

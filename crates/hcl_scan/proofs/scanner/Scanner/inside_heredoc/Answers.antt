@@ -1,5 +1,5 @@
 use Rattle.std.proofs.Common.{sym}
-use Rattle.hcl_scan.proofs.Stacks.{inside_is}
+use Rattle.hcl_scan.proofs.StackLemmas.{inside_is}
 use Rattle.hcl_scan.proofs.scanner.Scanner.inside_heredoc.Goals as goal
 
 pub returns : goal.returns

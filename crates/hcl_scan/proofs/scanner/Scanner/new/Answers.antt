@@ -1,5 +1,5 @@
 use Rattle.std.proofs.Common.{refl}
-use Rattle.hcl_scan.proofs.Turns.{sound_new}
+use Rattle.hcl_scan.proofs.StepLemmas.{sound_new}
 use Rattle.hcl_scan.proofs.scanner.Scanner.new.Goals as goal
 
 pub returns-clause-sound : goal.returns-clause-sound

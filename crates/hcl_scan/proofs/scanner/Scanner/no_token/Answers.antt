@@ -3,7 +3,7 @@ use Rattle.hcl_scan.specs.Spelling.{context, starts, Expression}
 use Rattle.hcl_scan.specs.Inner.Openings.{openers_of}
 use Rattle.hcl_scan.specs.Inner.Scanners.{state_of}
 use Rattle.hcl_scan.specs.Faults.{no_token_fault, fault_offset}
-use Rattle.hcl_scan.proofs.Turns.{no_token_here, template_none, expression_offset}
+use Rattle.hcl_scan.proofs.StepLemmas.{no_token_here, template_none, expression_offset}
 use Rattle.hcl_scan.proofs.scanner.Scanner.no_token.Goals as goal
 
 pub returns-in_default : goal.returns-in_default

@@ -1,19 +1,19 @@
 use Rattle.std.proofs.Common.{◌≡◌, ◌<◌, ℕ, List, length, drop, slice_range, sym, ap, subst, ◌∙◌, IsUtf8}
 use Rattle.hcl_scan.specs.Lexemes.{marker_of}
 use Rattle.hcl_scan.specs.Scans.{IsMarkerLine, IsFirstMarkerLine, closer_len}
-use Rattle.hcl_scan.proofs.HeredocTurns.{deep_heredoc, is_full, has_room, marker_some, no_line, opens_heredoc}
+use Rattle.hcl_scan.proofs.HeredocStepLemmas.{deep_heredoc, is_full, has_room, marker_some, no_line, opens_heredoc}
 use Rattle.hcl_scan.proofs.scanner.Scanner.read_heredoc.Goals as goal
 
-pub returns-then-is_full : goal.returns-then-is_full
-returns-then-is_full c = deep_heredoc c.args.self.now c.args.entry c.requires.next (is_full (length c.args.self.now.stack) (sym c.is_full.ensures.full ∙ c.if-is_full.true)) c.requires.heredoc
+pub returns-then-is_full-clause-stopped : goal.returns-then-is_full-clause-stopped
+returns-then-is_full-clause-stopped c = deep_heredoc c.args.self.now c.args.entry c.requires.next (is_full (length c.args.self.now.stack) (sym c.is_full.ensures.full ∙ c.if-is_full.true)) c.requires.heredoc
 
 pub marker_line-requires : goal.marker_line-requires
 marker_line-requires c =
     subst (λ l. 0 < length l) (sym (c.marker_of-marker.ensures ∙ ap marker_of (c.as_bytes.ensures.value ∙ c.range.ensures.value)))
     (marker_some c.args.self.now c.args.entry c.requires.sound c.requires.next c.requires.heredoc)
 
-pub returns-in_default : goal.returns-in_default
-returns-in_default c =
+pub returns-in_default-clause-stopped : goal.returns-in_default-clause-stopped
+returns-in_default-clause-stopped c =
     let marker_is = c.marker_of-marker.ensures ∙ ap marker_of (c.as_bytes.ensures.value ∙ c.range.ensures.value) in
     let rest_is = c.as_bytes-rest.ensures.value ∙ c.range-2.ensures.value in
     no_line c.args.self.now c.args.entry c.requires.sound c.requires.next c.requires.heredoc
@@ -21,8 +21,8 @@ returns-in_default c =
     (λ n. subst (λ r. ¬ IsMarkerLine (marker_of (slice_range c.args.self.now.text.now c.args.entry.start c.args.entry.end)) r n) rest_is
     (subst (λ m. ¬ IsMarkerLine m c.as_bytes-rest.result.now n) marker_is (c.in_default.ensures.none n)))
 
-pub returns : goal.returns
-returns c =
+pub returns-clause-read : goal.returns-clause-read
+returns-clause-read c =
     let word : List ℕ = slice_range c.args.self.now.text.now c.args.entry.start c.args.entry.end in
     let rest : List ℕ = slice_range c.args.self.now.text.now c.args.entry.end c.args.self.now.end in
     let marker_is : c.marker_of-marker.result.now ≡ marker_of word = c.marker_of-marker.ensures ∙ ap marker_of (c.as_bytes.ensures.value ∙ c.range.ensures.value) in

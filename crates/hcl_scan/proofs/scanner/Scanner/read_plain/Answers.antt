@@ -1,4 +1,4 @@
-use Rattle.hcl_scan.proofs.Turns.{reads_plain}
+use Rattle.hcl_scan.proofs.StepLemmas.{reads_plain}
 use Rattle.hcl_scan.proofs.scanner.Scanner.read_plain.Goals as goal
 
 pub returns : goal.returns

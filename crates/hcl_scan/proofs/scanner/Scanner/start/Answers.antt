@@ -2,7 +2,7 @@ use Rattle.std.proofs.Common.{sym, ◌∙◌}
 use Rattle.hcl_scan.specs.Lexemes.{in_heredoc}
 use Rattle.hcl_scan.specs.Spelling.{context}
 use Rattle.hcl_scan.specs.Inner.Openings.{openers_of}
-use Rattle.hcl_scan.proofs.Turns.{start_gap, gaps_plain}
+use Rattle.hcl_scan.proofs.StepLemmas.{start_gap, gaps_plain}
 use Rattle.hcl_scan.proofs.scanner.Scanner.start.Goals as goal
 
 pub returns-in-None : goal.returns-in-None

@@ -1,4 +1,4 @@
-use Rattle.hcl_scan.proofs.Turns.{next_is}
+use Rattle.hcl_scan.proofs.StepLemmas.{next_is}
 use Rattle.hcl_scan.proofs.scanner.Scanner.token.Goals as goal
 
 pub read-requires-clause-next : goal.read-requires-clause-next

@@ -1,0 +1,69 @@
+-- The scan as a whole: a run grows by the tokens read, and where it ends in a fault this is the fault of the text.
+use Rattle.std.proofs.Common.{◌≡◌, ℕ, List, [], ◌∷◌, ◌++◌, length, Option, Some, None, sym, ap, subst, ◌∙◌, arith}
+use Rattle.std.specs.Prelude.{All, MatchOption}
+use Rattle.std.specs.Str.{IsCharBoundary}
+use Rattle.std.proofs.lemmas.List.{map_push}
+use Rattle.std.proofs.lemmas.List.Elements.{All-push}
+use Rattle.hcl_scan.specs.Lexemes.{Lexeme}
+use Rattle.hcl_scan.specs.Scans.{Run, Next, Scans, IsComplete, begin}
+use Rattle.hcl_scan.specs.Faults.{IsScanFault}
+use Rattle.hcl_scan.specs.Inner.Scanners.{state_of, lexeme_of, lexemes_of, IsEntry, IsStopped, Moves}
+use Rattle.hcl_scan.specs.declared.token.Entry.{Entry}
+use Rattle.hcl_scan.specs.declared.scanner.Scanner.{Scanner}
+use Rattle.hcl_scan.specs.declared.scanner.Stopped.{Stopped}
+use Rattle.hcl_scan.proofs.RunLemmas.{OneKind, Nonempty, no_fault}
+use Rattle.hcl_scan.proofs.AllContextLemmas.{one_kind, nonempty, lacks_stuck, Run-push}
+use Rattle.hcl_scan.proofs.ExpressionLawLemmas.{one_expression, some_expression}
+
+-- what the scanner came to
+pub token_read : (found : Option Entry) (s next : Scanner) (e : Entry) → found ≡ Some e → MatchOption found (IsComplete (state_of s)) (λ x. Moves s x next) → Moves s e next
+token_read found s next e is h = subst (λ (f : Option Entry). MatchOption f (IsComplete (state_of s)) (λ x. Moves s x next)) is h
+
+pub all_read : (found : Option Entry) (s next : Scanner) → found ≡ None → MatchOption found (IsComplete (state_of s)) (λ x. Moves s x next) → IsComplete (state_of s)
+all_read found s next is h = subst (λ (f : Option Entry). MatchOption f (IsComplete (state_of s)) (λ x. Moves s x next)) is h
+
+pub none_yet : (text : List ℕ) (es : List Entry) → es ≡ [] → All (IsEntry text) es
+none_yet text es is = subst (λ (l : List Entry). All (IsEntry text) l) (sym is) (λ k d h. absurd (omega arith))
+
+pub starts_run : (text : List ℕ) (es : List Entry) (s : Scanner) → es ≡ [] → state_of s ≡ begin text → Run (begin text) (lexemes_of text es) (state_of s)
+starts_run text es s none is = subst (λ (l : List Entry). Run (begin text) (lexemes_of text l) (state_of s)) (sym none) (sym is)
+
+module _ (text : List ℕ) (es new : List Entry) (s next : Scanner) (e : Entry) (same : s.text.now ≡ text) (moved : Moves s e next) (new_is : new ≡ es ++ e ∷ []) where
+  pub more_parts : All (IsEntry text) es → All (IsEntry text) new
+  more_parts parts = subst (λ (l : List Entry). All (IsEntry text) l) (sym new_is) (All-push (IsEntry text) es e parts (subst (λ t. IsEntry t e) same moved.entry))
+
+  pub same_still : next.text.now ≡ text
+  same_still = ap (λ t. t.now) moved.same_text ∙ same
+
+  pub more_run : Run (begin text) (lexemes_of text es) (state_of s) → Run (begin text) (lexemes_of text new) (state_of next)
+  more_run run =
+      let tokens_are : lexemes_of text new ≡ lexemes_of text es ++ lexeme_of text e ∷ [] = ap (lexemes_of text) new_is ∙ map_push (lexeme_of text) es e in
+      let one : Next (state_of s) (lexeme_of text e) (state_of next) = subst (λ t. Next (state_of s) (lexeme_of t e) (state_of next)) same moved.read in
+      subst (λ (ts : List Lexeme). Run (begin text) ts (state_of next)) (sym tokens_are) (Run-push (begin text) (lexemes_of text es) (state_of s) (lexeme_of text e) (state_of next) run one)
+
+  pub less_left : length next.text.now ≡ length s.text.now
+  less_left = ap (λ t. length t.now) moved.same_text
+
+-- it is the fault of the text, which has no tokens
+pub record IsFaultOf (text : List ℕ) (fault : Stopped) : Type 0 where
+  pub scan_fault : IsScanFault text fault.kind fault.at
+  pub none : (ts : List Lexeme) → ¬ Scans text ts
+  pub boundary : IsCharBoundary text fault.at
+
+pub fault_of : (text : List ℕ) (ts : List Lexeme) (s : Scanner) (fault : Stopped) → s.text.now ≡ text → Run (begin text) ts (state_of s) → IsStopped s fault → IsFaultOf text fault
+fault_of text ts s fault same run stopped =
+    let one : OneKind = one_kind one_expression in
+    let some : Nonempty = nonempty some_expression in
+    let scan_fault : IsScanFault text fault.kind fault.at = record {
+      tokens = ts;
+      end = state_of s;
+      read = run;
+      longest = lacks_stuck one some (state_of s) fault.kind stopped.lacks;
+      lacks = stopped.lacks;
+      at_is = stopped.at;
+    } in
+    record {
+      scan_fault = scan_fault;
+      none = λ us scans. no_fault one some text us fault.kind fault.at scans scan_fault;
+      boundary = subst (λ t. IsCharBoundary t fault.at) same stopped.boundary;
+    }

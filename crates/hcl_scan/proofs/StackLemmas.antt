@@ -1,0 +1,297 @@
+-- The scanner's stack against what is open.
+use Rattle.std.proofs.Common.{◌≡◌, ◌≢◌, ℕ, suc, ◌+◌, ◌-◌, ◌<◌, ◌≤◌, ◌||◌, Bool, true, false, IsTrue, List, [], ◌∷◌, length, drop, if◌then◌else◌, Some, None, refl, sym, ap, subst, ◌∙◌, arith, nat_lt}
+use Rattle.std.proofs.lemmas.List.{length-map, drop-map, drop-drop}
+use Rattle.std.proofs.lemmas.Bool.Decides.{nat_tests}
+use Rattle.hcl_scan.specs.Lexemes.{Opener, Quote, Heredoc, Sequence, Brace, Bracket, Paren, is_heredoc, is_group, is_paren, is_bracket, is_brace, is_sequence, in_heredoc, below_groups, closes_sequence, pop_if, tops_with, moved}
+use Rattle.hcl_scan.specs.Spelling.{Context, Template, Expression, context, context_in}
+use Rattle.hcl_scan.specs.Scans.{Hidden, offsets_of, owed, owes}
+use Rattle.hcl_scan.specs.Inner.Openings.{opener_of, openers_of, offsets_in, hidden_of, hidden_under, popped_groups, popped_if, same_opener, closed, closes_on, top_closes, opened_by}
+use Rattle.hcl_scan.specs.Inner.Scanners.{fits_in, AreEndsBy, IsStack}
+use Rattle.hcl_scan.specs.declared.stack.Opener as kept
+use Rattle.hcl_scan.specs.declared.stack.Opener.TheVariants as by
+use Rattle.hcl_scan.specs.declared.stack.Opened.{Opened}
+use Rattle.hcl_scan.specs.declared.token.Kind.{Kind}
+use Rattle.hcl_scan.specs.declared.token.Kind.TheVariants.{QuoteOpen, HeredocOpen, HeredocClose, InterpOpen, ControlOpen, ParenOpen, BracketOpen, BraceOpen, ParenClose, BracketClose, BraceClose, SeqClose, QuoteClose}
+
+-- what is seen ends within the text
+within_by : (text : List ℕ) (end : ℕ) (opener : kept.Opener) (around : ℕ → Type 0) → ((e : ℕ) → around e → e ≤ length text) → AreEndsBy text end opener around → end ≤ length text
+within_by text end (by.Heredoc closer_end outer_end) around more h = omega (arith, h.0, h.1, more outer_end h.4)
+within_by text end _ around more h = more end h
+
+pub stack_within : (text : List ℕ) (stack : List Opened) (end : ℕ) → IsStack text stack end → end ≤ length text
+stack_within text [] end h = omega (arith, h)
+stack_within text (o ∷ stack) end h = within_by text end o.by (IsStack text stack) (λ e. stack_within text stack e) h.3
+
+-- and before the text only inside a heredoc
+inside_by : (text : List ℕ) (end : ℕ) (opener : kept.Opener) (around : ℕ → Type 0) (below : Bool) → ((e : ℕ) → around e → e ≤ length text) → ((e : ℕ) → around e → below ≡ nat_lt e (length text)) → AreEndsBy text end opener around → (is_heredoc (opener_of opener) || below) ≡ nat_lt end (length text)
+inside_by text end (by.Heredoc closer_end outer_end) around below more is h = let lt : end < length text = omega (arith, h.0, h.1, more outer_end h.4) in grind (arith, nat_tests)
+inside_by text end by.Quote around below more is h = is end h
+inside_by text end by.Sequence around below more is h = is end h
+inside_by text end by.Brace around below more is h = is end h
+inside_by text end by.Bracket around below more is h = is end h
+inside_by text end by.Paren around below more is h = is end h
+
+pub inside_is : (text : List ℕ) (stack : List Opened) (end : ℕ) → IsStack text stack end → in_heredoc (openers_of stack) ≡ nat_lt end (length text)
+inside_is text [] end h = by_number end (length text) h
+  where
+    by_number : (a b : ℕ) → a ≡ b → false ≡ nat_lt a b
+    by_number a b e = grind (arith, nat_tests)
+inside_is text (o ∷ stack) end h = inside_by text end o.by (IsStack text stack) (in_heredoc (openers_of stack)) (λ e. stack_within text stack e) (λ e. inside_is text stack e) h.3
+
+-- a `}` closes a sequence as the top says
+pub top_is : (text : List ℕ) (stack : List Opened) (end : ℕ) → IsStack text stack end → top_closes stack ≡ closes_sequence (openers_of stack)
+top_is text [] end h = refl
+top_is text (o ∷ stack) end h = h.0
+
+closes_by : (opener : kept.Opener) (opens : List Opener) (around : Bool) → around ≡ closes_sequence opens → closes_on opener around ≡ closes_sequence (opener_of opener ∷ opens)
+closes_by by.Quote opens around e = refl
+closes_by (by.Heredoc c o) opens around e = refl
+closes_by by.Sequence opens around e = refl
+closes_by by.Brace opens around e = refl
+closes_by by.Bracket opens around e = e
+closes_by by.Paren opens around e = e
+
+pub closes_is : (text : List ℕ) (stack : List Opened) (end : ℕ) (opener : kept.Opener) → IsStack text stack end → closes_on opener (top_closes stack) ≡ closes_sequence (opener_of opener ∷ openers_of stack)
+closes_is text stack end opener h = closes_by opener (openers_of stack) (top_closes stack) (top_is text stack end h)
+
+-- ENTRIES THAT ARE NO HEREDOCS ARE DROPPED
+pub record Drops (old new : List Opened) : Type 0 where
+  pub count : ℕ
+  pub within : count ≤ length old
+  pub is : new ≡ drop count old
+  pub less : length new + count ≡ length old
+  pub hidden : (text : List ℕ) (end : ℕ) → hidden_of text new end ≡ hidden_of text old end
+  pub stack : (text : List ℕ) (end : ℕ) → IsStack text old end → IsStack text new end
+
+drops_none : (stack : List Opened) → Drops stack stack
+drops_none stack = record { count = 0; within = omega arith; is = refl; less = omega arith; hidden = λ text end. refl; stack = λ text end h. h }
+
+hidden_by : (text : List ℕ) (end : ℕ) (opener : kept.Opener) (above : ℕ → List Hidden) → is_heredoc (opener_of opener) ≡ false → above end ≡ hidden_under text end opener above
+hidden_by text end (by.Heredoc c o) above h = absurd (cc)
+hidden_by text end _ above h = refl
+
+ends_by : (text : List ℕ) (end : ℕ) (opener : kept.Opener) (around : ℕ → Type 0) → is_heredoc (opener_of opener) ≡ false → AreEndsBy text end opener around → around end
+ends_by text end (by.Heredoc c o) around e h = absurd (cc)
+ends_by text end _ around e h = h
+
+drops_one : (o : Opened) (stack new : List Opened) → is_heredoc (opener_of o.by) ≡ false → Drops stack new → Drops (o ∷ stack) new
+drops_one o stack new plain d = record {
+  count = suc d.count;
+  within = omega (arith, d.within);
+  is = d.is;
+  less = omega (arith, d.less);
+  hidden = λ text end. d.hidden text end ∙ hidden_by text end o.by (hidden_of text stack) plain;
+  stack = λ text end h. d.stack text end (ends_by text end o.by (IsStack text stack) plain h.3);
+}
+
+drops_more : (a b c : List Opened) → Drops a b → Drops b c → Drops a c
+drops_more a b c x y = record {
+  count = x.count + y.count;
+  within = omega (arith, x.within, y.within, x.less);
+  is = y.is ∙ ap (drop y.count) x.is ∙ drop-drop y.count x.count a;
+  less = omega (arith, x.less, y.less);
+  hidden = λ text end. y.hidden text end ∙ x.hidden text end;
+  stack = λ text end h. y.stack text end (x.stack text end h);
+}
+
+group_plain : (opener : Opener) → is_group opener ≡ true → is_heredoc opener ≡ false
+group_plain Heredoc h = absurd (cc)
+group_plain _ h = refl
+
+groups_if : (o : Opened) (stack : List Opened) (v : Bool) → is_group (opener_of o.by) ≡ v → Drops stack (popped_groups stack) → Drops (o ∷ stack) (if v then popped_groups stack else o ∷ stack)
+groups_if o stack true e d = drops_one o stack (popped_groups stack) (group_plain (opener_of o.by) e) d
+groups_if o stack false e d = drops_none (o ∷ stack)
+
+drops_groups : (stack : List Opened) → Drops stack (popped_groups stack)
+drops_groups [] = drops_none []
+drops_groups (o ∷ stack) = groups_if o stack (is_group (opener_of o.by)) refl (drops_groups stack)
+
+same_plain : (opener other : Opener) → is_heredoc other ≡ false → same_opener opener other ≡ true → is_heredoc opener ≡ false
+same_plain Heredoc Heredoc p h = p
+same_plain Heredoc Quote p h = absurd (cc)
+same_plain Heredoc Sequence p h = absurd (cc)
+same_plain Heredoc Brace p h = absurd (cc)
+same_plain Heredoc Bracket p h = absurd (cc)
+same_plain Heredoc Paren p h = absurd (cc)
+same_plain _ other p h = refl
+
+pops_if : (o : Opened) (stack : List Opened) (other : Opener) (v : Bool) → is_heredoc other ≡ false → same_opener (opener_of o.by) other ≡ v → Drops (o ∷ stack) (if v then stack else o ∷ stack)
+pops_if o stack other true p e = drops_one o stack stack (same_plain (opener_of o.by) other p e) (drops_none stack)
+pops_if o stack other false p e = drops_none (o ∷ stack)
+
+drops_if : (other : Opener) (stack : List Opened) → is_heredoc other ≡ false → Drops stack (popped_if other stack)
+drops_if other [] p = drops_none []
+drops_if other (o ∷ stack) p = pops_if o stack other (same_opener (opener_of o.by) other) p refl
+
+-- the top of a stack, where it is known
+drops_top : (stack : List Opened) → tops_with is_heredoc (openers_of stack) ≡ false → Drops stack (drop 1 stack)
+drops_top [] h = drops_none []
+drops_top (o ∷ stack) h = drops_one o stack stack h (drops_none stack)
+
+-- the same is done to what is open
+groups_are_if : (o : Opened) (stack : List Opened) (v : Bool) → openers_of (popped_groups stack) ≡ below_groups (openers_of stack) → openers_of (if v then popped_groups stack else o ∷ stack) ≡ (if v then below_groups (openers_of stack) else opener_of o.by ∷ openers_of stack)
+groups_are_if o stack true e = e
+groups_are_if o stack false e = refl
+
+groups_are : (stack : List Opened) → openers_of (popped_groups stack) ≡ below_groups (openers_of stack)
+groups_are [] = refl
+groups_are (o ∷ stack) = groups_are_if o stack (is_group (opener_of o.by)) (groups_are stack)
+
+if_is : (o : Opened) (stack : List Opened) (v : Bool) → openers_of (if v then stack else o ∷ stack) ≡ (if v then openers_of stack else opener_of o.by ∷ openers_of stack)
+if_is o stack true = refl
+if_is o stack false = refl
+
+popped_is : (is : Opener → Bool) (other : Opener) → ((opener : Opener) → same_opener opener other ≡ is opener) → (stack : List Opened) → openers_of (popped_if other stack) ≡ pop_if is (openers_of stack)
+popped_is is other same [] = refl
+popped_is is other same (o ∷ stack) = if_is o stack (same_opener (opener_of o.by) other) ∙ ap (λ v. if v then openers_of stack else opener_of o.by ∷ openers_of stack) (same (opener_of o.by))
+
+top_is_drop : (stack : List Opened) → openers_of (drop 1 stack) ≡ drop 1 (openers_of stack)
+top_is_drop [] = refl
+top_is_drop (o ∷ stack) = refl
+
+is_paren_same : (opener : Opener) → same_opener opener Paren ≡ is_paren opener
+is_paren_same Paren = refl
+is_paren_same Quote = refl
+is_paren_same Heredoc = refl
+is_paren_same Sequence = refl
+is_paren_same Brace = refl
+is_paren_same Bracket = refl
+
+is_bracket_same : (opener : Opener) → same_opener opener Bracket ≡ is_bracket opener
+is_bracket_same Paren = refl
+is_bracket_same Quote = refl
+is_bracket_same Heredoc = refl
+is_bracket_same Sequence = refl
+is_bracket_same Brace = refl
+is_bracket_same Bracket = refl
+
+is_brace_same : (opener : Opener) → same_opener opener Brace ≡ is_brace opener
+is_brace_same Paren = refl
+is_brace_same Quote = refl
+is_brace_same Heredoc = refl
+is_brace_same Sequence = refl
+is_brace_same Brace = refl
+is_brace_same Bracket = refl
+
+-- a kind that opens nothing and isn't a heredoc's close
+pub closed_is : (kind : Kind) (stack : List Opened) → opened_by kind ≡ None → kind ≢ HeredocOpen → kind ≢ HeredocClose → openers_of (closed kind stack) ≡ moved kind (openers_of stack)
+closed_is ParenClose stack none no_open no_close = popped_is is_paren Paren is_paren_same stack
+closed_is BracketClose stack none no_open no_close = popped_is is_bracket Bracket is_bracket_same stack
+closed_is BraceClose stack none no_open no_close = popped_is is_brace Brace is_brace_same (popped_groups stack) ∙ ap (pop_if is_brace) (groups_are stack)
+closed_is SeqClose stack none no_open no_close = top_is_drop (popped_groups stack) ∙ ap (drop 1) (groups_are stack)
+closed_is QuoteClose stack none no_open no_close = top_is_drop stack
+closed_is HeredocOpen stack none no_open no_close = absurd (no_open refl)
+closed_is HeredocClose stack none no_open no_close = absurd (no_close refl)
+closed_is QuoteOpen stack none no_open no_close = absurd (cc)
+closed_is InterpOpen stack none no_open no_close = absurd (cc)
+closed_is ControlOpen stack none no_open no_close = absurd (cc)
+closed_is ParenOpen stack none no_open no_close = absurd (cc)
+closed_is BracketOpen stack none no_open no_close = absurd (cc)
+closed_is BraceOpen stack none no_open no_close = absurd (cc)
+closed_is _ stack none no_open no_close = refl
+
+sequence_plain : (opens : List Opener) → tops_with is_sequence opens ≡ true → tops_with is_heredoc opens ≡ false
+sequence_plain [] h = refl
+sequence_plain (Heredoc ∷ opens) h = absurd (cc)
+sequence_plain (Quote ∷ opens) h = refl
+sequence_plain (Sequence ∷ opens) h = refl
+sequence_plain (Brace ∷ opens) h = refl
+sequence_plain (Bracket ∷ opens) h = refl
+sequence_plain (Paren ∷ opens) h = refl
+
+quote_plain : (opens : List Opener) → context opens ≡ Template true → tops_with is_heredoc opens ≡ false
+quote_plain [] h = refl
+quote_plain (Heredoc ∷ opens) h = absurd (wrong h)
+  where
+    quoted : Context → Bool
+    quoted (Template q) = q
+    quoted Expression = true
+
+    wrong : Template false ≡ Template true → ⊥
+    wrong e = cc
+quote_plain (Quote ∷ opens) h = refl
+quote_plain (Sequence ∷ opens) h = refl
+quote_plain (Brace ∷ opens) h = refl
+quote_plain (Bracket ∷ opens) h = refl
+quote_plain (Paren ∷ opens) h = refl
+
+-- what must hold where a token of this kind closes
+pub record Closable (kind : Kind) (opens : List Opener) : Type 0 where
+  pub sequence : kind ≡ SeqClose → closes_sequence opens ≡ true
+  pub quote : kind ≡ QuoteClose → context opens ≡ Template true
+
+pub closed_drops : (kind : Kind) (stack : List Opened) → Closable kind (openers_of stack) → Drops stack (closed kind stack)
+closed_drops ParenClose stack h = drops_if Paren stack refl
+closed_drops BracketClose stack h = drops_if Bracket stack refl
+closed_drops BraceClose stack h = drops_more stack (popped_groups stack) (popped_if Brace (popped_groups stack)) (drops_groups stack) (drops_if Brace (popped_groups stack) refl)
+closed_drops SeqClose stack h = drops_more stack (popped_groups stack) (drop 1 (popped_groups stack)) (drops_groups stack) (drops_top (popped_groups stack) (ap (tops_with is_heredoc) (groups_are stack) ∙ sequence_plain (below_groups (openers_of stack)) (h.sequence refl)))
+closed_drops QuoteClose stack h = drops_top stack (quote_plain (openers_of stack) (h.quote refl))
+closed_drops _ stack h = drops_none stack
+
+-- offsets go with what is open
+offsets_by : (at a b k : ℕ) (offsets : List ℕ) → b + k ≡ a → drop k offsets ≡ (if nat_lt a b then at ∷ offsets else drop (a - b) offsets)
+offsets_by at a b k offsets e =
+    let no : nat_lt a b ≡ false = not_less a b (omega (arith, e)) in
+    let d : a - b ≡ k = omega (arith, e) in
+    sym (ap (λ v. if v then at ∷ offsets else drop (a - b) offsets) no ∙ ap (λ n. drop n offsets) d)
+  where
+    not_less : (a b : ℕ) → b ≤ a → nat_lt a b ≡ false
+    not_less a b le = grind (arith, nat_tests)
+
+pub drops_offsets : (at : ℕ) (old new : List Opened) → Drops old new → offsets_in new ≡ offsets_of at (openers_of old) (openers_of new) (offsets_in old)
+drops_offsets at old new d =
+    ap offsets_in d.is ∙ sym (drop-map (λ (o : Opened). o.at) d.count old)
+    ∙ offsets_by at (length (openers_of old)) (length (openers_of new)) d.count (offsets_in old) (omega (arith, d.less, length-map old (λ (o : Opened). opener_of o.by), length-map new (λ (o : Opened). opener_of o.by)))
+
+pub push_offsets : (at : ℕ) (opener : Opener) (opens : List Opener) (offsets : List ℕ) → at ∷ offsets ≡ offsets_of at opens (opener ∷ opens) offsets
+push_offsets at opener opens offsets = ap (λ v. if v then at ∷ offsets else drop (length opens - suc (length opens)) offsets) (less (length opens))
+  where
+    less : (n : ℕ) → true ≡ nat_lt n (suc n)
+    less n = grind (arith, nat_tests)
+
+-- WHAT OPENS
+pub opens_so : (kind : Kind) (opener : kept.Opener) (opens : List Opener) → opened_by kind ≡ Some opener → (opener_of opener ∷ opens ≡ moved kind opens) × (is_heredoc (opener_of opener) ≡ false)
+opens_so QuoteOpen opener opens h = let e : by.Quote ≡ opener = cc in (ap (λ o. opener_of o ∷ opens) (sym e), ap (λ o. is_heredoc (opener_of o)) (sym e))
+opens_so InterpOpen opener opens h = let e : by.Sequence ≡ opener = cc in (ap (λ o. opener_of o ∷ opens) (sym e), ap (λ o. is_heredoc (opener_of o)) (sym e))
+opens_so ControlOpen opener opens h = let e : by.Sequence ≡ opener = cc in (ap (λ o. opener_of o ∷ opens) (sym e), ap (λ o. is_heredoc (opener_of o)) (sym e))
+opens_so ParenOpen opener opens h = let e : by.Paren ≡ opener = cc in (ap (λ o. opener_of o ∷ opens) (sym e), ap (λ o. is_heredoc (opener_of o)) (sym e))
+opens_so BracketOpen opener opens h = let e : by.Bracket ≡ opener = cc in (ap (λ o. opener_of o ∷ opens) (sym e), ap (λ o. is_heredoc (opener_of o)) (sym e))
+opens_so BraceOpen opener opens h = let e : by.Brace ≡ opener = cc in (ap (λ o. opener_of o ∷ opens) (sym e), ap (λ o. is_heredoc (opener_of o)) (sym e))
+opens_so _ opener opens h = absurd (cc)
+
+pub ends_of : (text : List ℕ) (end : ℕ) (opener : kept.Opener) (around : ℕ → Type 0) → is_heredoc (opener_of opener) ≡ false → around end → AreEndsBy text end opener around
+ends_of text end (by.Heredoc c o) around e h = absurd (cc)
+ends_of text end _ around e h = h
+
+pub hidden_on : (text : List ℕ) (end : ℕ) (opener : kept.Opener) (above : ℕ → List Hidden) → is_heredoc (opener_of opener) ≡ false → hidden_under text end opener above ≡ above end
+hidden_on text end (by.Heredoc c o) above h = absurd (cc)
+hidden_on text end _ above h = refl
+
+-- a heredoc is owed only at once, since expressions are opened only in sequences
+owed_on : (opener : Opener) (opens : List Opener) (v : Bool) → owes opener ≡ v → IsTrue (fits_in opener (context opens)) → (owed opens ≡ Some Heredoc → context opens ≡ Template false) → (if v then Some opener else owed opens) ≡ Some Heredoc → context_in opener ≡ Template false
+owed_on Heredoc opens true e fits more h = refl
+owed_on Quote opens true e fits more h = absurd (cc)
+owed_on Sequence opens true e fits more h = absurd (cc)
+owed_on Brace opens false e fits more h = absurd (subst (λ c. IsTrue (fits_in Brace c) → ⊥) (sym (more h)) (λ f. cc) fits)
+owed_on Bracket opens false e fits more h = absurd (subst (λ c. IsTrue (fits_in Bracket c) → ⊥) (sym (more h)) (λ f. cc) fits)
+owed_on Paren opens false e fits more h = absurd (subst (λ c. IsTrue (fits_in Paren c) → ⊥) (sym (more h)) (λ f. cc) fits)
+owed_on Heredoc opens false e fits more h = absurd (cc)
+owed_on Quote opens false e fits more h = absurd (cc)
+owed_on Sequence opens false e fits more h = absurd (cc)
+owed_on Brace opens true e fits more h = absurd (cc)
+owed_on Bracket opens true e fits more h = absurd (cc)
+owed_on Paren opens true e fits more h = absurd (cc)
+
+pub some_around : (text : List ℕ) (end : ℕ) (opener : kept.Opener) (stack : List Opened) → AreEndsBy text end opener (IsStack text stack) → (e : ℕ) × IsStack text stack e
+some_around text end (by.Heredoc c o) stack h = (o, h.4)
+some_around text end by.Quote stack h = (end, h)
+some_around text end by.Sequence stack h = (end, h)
+some_around text end by.Brace stack h = (end, h)
+some_around text end by.Bracket stack h = (end, h)
+some_around text end by.Paren stack h = (end, h)
+
+pub owed_heredoc : (text : List ℕ) (stack : List Opened) (end : ℕ) → IsStack text stack end → owed (openers_of stack) ≡ Some Heredoc → context (openers_of stack) ≡ Template false
+owed_heredoc text [] end h is = absurd (cc)
+owed_heredoc text (o ∷ stack) end h is =
+    let around = some_around text end o.by stack h.3 in
+    owed_on (opener_of o.by) (openers_of stack) (owes (opener_of o.by)) refl h.1 (owed_heredoc text stack around.0 around.1) is

@@ -1,0 +1,279 @@
+-- What a turn of the scanner does, as a step of the reading.
+use Rattle.std.proofs.Common.{◌≡◌, ◌≢◌, ℕ, ◌+◌, ◌<◌, ◌≤◌, not, Bool, true, false, List, [], ◌∷◌, length, take, slice_range, if◌then◌else◌, Option, Some, None, inl, refl, sym, ap, subst, ◌∙◌, arith, IsUtf8}
+use Rattle.std.specs.Prelude.{IfSome}
+use Rattle.std.specs.List.{prefix_len}
+use Rattle.std.specs.Str.{IsCharBoundary}
+use Rattle.std.proofs.lemmas.Str.{IsCharBoundary-start, IsCharBoundary-end}
+use Rattle.std.proofs.lemmas.Bool.Decides.{nat_tests}
+use Rattle.std.proofs.lemmas.List.{length-map}
+use Rattle.std.proofs.lemmas.List.Sums.{prefix_len-le-length}
+use Rattle.hcl_source.specs.Load.{max_source}
+use Rattle.hcl_scan.specs.Lexemes.{Opener, in_heredoc, moved, Heredoc, Quote, Sequence, Brace, Bracket, Paren, max_open}
+use Rattle.hcl_scan.specs.Spelling.{is_blank, Context, Template, Expression, context, context_in}
+use Rattle.hcl_scan.specs.Scans.{State, Hidden, Shows, IsLongest, gap_len, ahead, is_dot, offsets_of, owed, owes, has_gaps_in, HasNone}
+use Rattle.hcl_scan.specs.Faults.{no_token, at_end, no_token_fault, fault_offset, owed_offset, end_fault}
+use Rattle.hcl_scan.specs.Inner.Found.{Finds}
+use Rattle.hcl_scan.specs.Inner.Openings.{opener_of, openers_of, offsets_in, hidden_of, quoted_in, template_top, option_and, innermost_owed, opened_by, opened_on, closed, is_heredoc_open}
+use Rattle.hcl_scan.specs.Inner.Scanners.{state_of, IsStack, IsSound, IsEntry, IsStart, IsNext, IsStopped, Moves}
+use Rattle.hcl_scan.specs.declared.token.Entry.{Entry}
+use Rattle.hcl_scan.specs.declared.token.Found.{Found}
+use Rattle.hcl_scan.specs.declared.stack.Opener as kept
+use Rattle.hcl_scan.specs.declared.stack.Opener.TheVariants as by
+use Rattle.hcl_scan.specs.declared.stack.Opened.{Opened}
+use Rattle.hcl_scan.specs.declared.scanner.Scanner.{Scanner}
+use Rattle.hcl_source.specs.declared.fault.FaultKind.{FaultKind}
+use Rattle.hcl_source.specs.declared.fault.FaultKind.TheVariants.{InvalidCharacter, UnterminatedComment, UnterminatedTemplate}
+use Rattle.hcl_scan.specs.declared.token.Kind.{Kind}
+use Rattle.hcl_scan.specs.declared.token.Kind.TheVariants.{HeredocOpen, Dot}
+use Rattle.hcl_scan.proofs.CutLemmas.{run_cut}
+use Rattle.hcl_scan.proofs.SliceLemmas.{front_of, back_of, slice_len, part_boundary}
+use Rattle.hcl_scan.proofs.StackLemmas.{closed_is, closed_drops, drops_offsets, push_offsets, opens_so, ends_of, hidden_on, closes_is, some_around, owed_heredoc}
+use Rattle.hcl_scan.proofs.KindPlaceLemmas.{no_close, closable, fits}
+
+-- what is ahead where a token begins
+pub ahead_is : (s : Scanner) (start : ℕ) → IsStart s start → slice_range s.text.now start s.end ≡ ahead (state_of s)
+ahead_is s start is = ap (λ n. slice_range s.text.now n s.end) is.gap ∙ back_of s.text.now s.at s.end (gap_len (state_of s)) (omega (arith, is.gap, is.within))
+
+plain_shows : (kind : Kind) (text rest : List ℕ) (hidden : List Hidden) → kind ≢ HeredocOpen → Shows kind text rest hidden rest hidden
+plain_shows HeredocOpen text rest hidden h = absurd (h refl)
+plain_shows _ text rest hidden h = (refl, refl)
+
+-- A TOKEN THAT OPENS NO HEREDOC is read
+module _ (s : Scanner) (e : Entry) (sound : IsSound s) (is : IsNext s e) where
+  pub text_len : e.end ≡ e.start + length (slice_range s.text.now e.start e.end)
+  text_len = omega (arith, slice_len s.text.now e.start e.end (omega (arith, is.order)) (omega (arith, is.within, sound.within)))
+
+  pub entry_is : IsEntry s.text.now e
+  entry_is = record { order = omega (arith, is.order); start = is.start.boundary; end = is.boundary }
+
+  pub moves : (stack : List Opened) (dot : Bool) → dot ≡ is_dot e.kind → e.kind ≢ HeredocOpen → openers_of stack ≡ moved e.kind (openers_of s.stack) → offsets_in stack ≡ offsets_of e.start (openers_of s.stack) (openers_of stack) (offsets_in s.stack) → hidden_of s.text.now stack s.end ≡ hidden_of s.text.now s.stack s.end → IsStack s.text.now stack s.end → length stack ≤ max_open → Moves s e (record { text = s.text; at = e.end; end = s.end; after_dot = dot; stack = stack })
+  moves stack dot dot_is kind_is opens_are offsets_are hidden_is stack_is room = record {
+    same_text = refl;
+    entry = entry_is;
+    read = inl (record {
+      rest = slice_range s.text.now e.end s.end;
+      longest = subst (λ l. IsLongest (openers_of s.stack) s.after_dot l e.kind (slice_range s.text.now e.start e.end) (slice_range s.text.now e.end s.end)) (ahead_is s e.start is.start) is.longest;
+      start = is.start.gap;
+      inside = is.inside;
+      at = text_len;
+      opens = opens_are;
+      offsets = offsets_are;
+      room = omega (arith, room, length-map stack (λ (o : Opened). opener_of o.by));
+      after_dot = dot_is;
+      shows = subst (λ h. Shows e.kind (slice_range s.text.now e.start e.end) (slice_range s.text.now e.end s.end) (hidden_of s.text.now s.stack s.end) (slice_range s.text.now e.end s.end) h) (sym hidden_is) (plain_shows e.kind (slice_range s.text.now e.start e.end) (slice_range s.text.now e.end s.end) (hidden_of s.text.now s.stack s.end) kind_is);
+    });
+    sound = record { small = sound.small; order = is.within; within = sound.within; start = is.boundary; end = sound.end; stack = stack_is; depth = room };
+    further = omega (arith, is.start.gap, is.order);
+  }
+
+  differ : true ≡ false → ⊥
+  differ h = cc
+
+  pub reads_plain : (stack : List Opened) (dot : Bool) → dot ≡ is_dot e.kind → opened_by e.kind ≡ None → is_heredoc_open e.kind ≡ false → stack ≡ closed e.kind s.stack → Moves s e (record { text = s.text; at = e.end; end = s.end; after_dot = dot; stack = stack })
+  reads_plain stack dot dot_is plain no_heredoc stack_is =
+      let kind_is : e.kind ≢ HeredocOpen = λ k. absurd (differ (sym (ap is_heredoc_open k) ∙ no_heredoc)) in
+      let spelled = is.longest.spelled in
+      let d = closed_drops e.kind s.stack (closable (openers_of s.stack) s.after_dot (slice_range s.text.now e.start e.end) (slice_range s.text.now e.end s.end) e.kind spelled) in
+      let opens_are = closed_is e.kind s.stack plain kind_is (no_close (openers_of s.stack) s.after_dot (slice_range s.text.now e.start e.end) (slice_range s.text.now e.end s.end) e.kind spelled) in
+      subst (λ (z : List Opened). Moves s e (record { text = s.text; at = e.end; end = s.end; after_dot = dot; stack = z })) (sym stack_is)
+      (moves (closed e.kind s.stack) dot dot_is kind_is opens_are (drops_offsets e.start s.stack (closed e.kind s.stack) d) (d.hidden s.text.now s.end) (d.stack s.text.now s.end sound.stack) (omega (arith, d.less, sound.depth)))
+
+  opener_no_dot : (kind : Kind) (opener : kept.Opener) → opened_by kind ≡ Some opener → (false ≡ is_dot kind) × (kind ≢ HeredocOpen)
+  opener_no_dot Dot opener h = absurd (cc)
+  opener_no_dot HeredocOpen opener h = absurd (cc)
+  opener_no_dot _ opener h = (refl, λ k. cc)
+
+  pub reads_opener : (opener : kept.Opener) (stack : List Opened) → opened_by e.kind ≡ Some opener → length s.stack < max_open → stack ≡ opened_on opener e.start s.stack → Moves s e (record { text = s.text; at = e.end; end = s.end; after_dot = false; stack = stack })
+  reads_opener opener stack opens_is room stack_is =
+      let spelled = is.longest.spelled in
+      let so = opens_so e.kind opener (openers_of s.stack) opens_is in
+      let no = opener_no_dot e.kind opener opens_is in
+      let fitting = fits (openers_of s.stack) s.after_dot (slice_range s.text.now e.start e.end) (slice_range s.text.now e.end s.end) e.kind opener spelled opens_is in
+      subst (λ (z : List Opened). Moves s e (record { text = s.text; at = e.end; end = s.end; after_dot = false; stack = z })) (sym stack_is)
+      (moves (opened_on opener e.start s.stack) false no.0 no.1 so.0 (push_offsets e.start (opener_of opener) (openers_of s.stack) (offsets_in s.stack)) (hidden_on s.text.now s.end opener (hidden_of s.text.now s.stack) so.1)
+      (closes_is s.text.now s.stack s.end opener sound.stack, fitting, is.start.boundary, ends_of s.text.now s.end opener (IsStack s.text.now s.stack) so.1 sound.stack)
+      (omega (arith, room)))
+
+-- AT THE FRONT
+pub sound_new : (s : Scanner) → length s.text.now ≤ max_source → IsUtf8 s.text.now → s.at ≡ 0 → s.end ≡ length s.text.now → s.stack ≡ [] → IsSound s
+sound_new s small utf8 at end stack = record {
+  small = small;
+  order = omega (arith, at);
+  within = omega (arith, end);
+  start = subst (IsCharBoundary s.text.now) (sym at) (IsCharBoundary-start s.text.now utf8);
+  end = subst (IsCharBoundary s.text.now) (sym end) (IsCharBoundary-end s.text.now);
+  stack = subst (λ (z : List Opened). IsStack s.text.now z s.end) (sym stack) end;
+  depth = omega (arith, ap length stack);
+}
+
+-- WHERE A TOKEN BEGINS
+pub blank_ascii : (b : ℕ) → is_blank b ≡ true → b < 128
+blank_ascii b h = grind (arith, nat_tests)
+
+pub quoted_none : (c : Context) → quoted_in c ≡ None → c ≡ Expression
+quoted_none Expression h = refl
+quoted_none (Template quoted) h = absurd (cc)
+
+pub quoted_some : (c : Context) (quoted : Bool) → quoted_in c ≡ Some quoted → c ≡ Template quoted
+quoted_some Expression quoted h = absurd (cc)
+quoted_some (Template q) quoted h = let e : q ≡ quoted = cc in ap Template e
+
+pub start_plain : (s : Scanner) → IsSound s → has_gaps_in (context (openers_of s.stack)) (in_heredoc (openers_of s.stack)) ≡ false → IsStart s s.at
+start_plain s sound none =
+    let g : gap_len (state_of s) ≡ 0 = ap (λ v. if v then prefix_len is_blank (slice_range s.text.now s.at s.end) else 0) none in
+    record { gap = omega (arith, g); within = sound.order; boundary = sound.start }
+
+pub start_gap : (s : Scanner) (n : ℕ) (seen : List ℕ) → IsSound s → IsUtf8 seen → seen ≡ slice_range s.text.now s.at s.end → n ≡ prefix_len is_blank seen → has_gaps_in (context (openers_of s.stack)) (in_heredoc (openers_of s.stack)) ≡ true → IsStart s (s.at + n)
+start_gap s n seen sound utf8 seen_is n_is gaps =
+    let g : gap_len (state_of s) ≡ n = ap (λ v. if v then prefix_len is_blank (slice_range s.text.now s.at s.end) else 0) gaps ∙ sym (n_is ∙ ap (prefix_len is_blank) seen_is) in
+    let len = slice_len s.text.now s.at s.end sound.order sound.within in
+    let le : prefix_len is_blank seen ≤ length seen = prefix_len-le-length is_blank seen in
+    let within : s.at + n ≤ s.end = omega (arith, n_is, le, ap length seen_is, len) in
+    let inner : IsCharBoundary (slice_range s.text.now s.at s.end) n = subst (λ l. IsCharBoundary l n) seen_is (subst (IsCharBoundary seen) (sym n_is) (run_cut is_blank blank_ascii seen utf8)) in
+    record { gap = ap (λ k. s.at + k) (sym g); within = within; boundary = part_boundary s.text.now s.at s.end n within sound.within sound.end inner }
+
+pub no_gaps_inside : (c : Context) (inside : Bool) → inside ≡ true → has_gaps_in c inside ≡ false
+no_gaps_inside (Template q) inside h = refl
+no_gaps_inside Expression inside h = ap not h
+
+pub no_gaps_template : (c : Context) (inside quoted : Bool) → quoted_in c ≡ Some quoted → has_gaps_in c inside ≡ false
+no_gaps_template (Template q) inside quoted h = refl
+no_gaps_template Expression inside quoted h = absurd (cc)
+
+pub gaps_plain : (c : Context) (inside : Bool) → quoted_in c ≡ None → inside ≡ false → has_gaps_in c inside ≡ true
+gaps_plain (Template q) inside h k = absurd (cc)
+gaps_plain Expression inside h k = ap not k
+
+-- THE TOKEN THAT BEGINS THERE
+pub next_is : (s : Scanner) (start n : ℕ) (kind : Kind) (inside : Bool) → IsSound s → IsStart s start → Finds (openers_of s.stack) s.after_dot (slice_range s.text.now start s.end) kind n → IsCharBoundary (slice_range s.text.now start s.end) n → inside ≡ in_heredoc (openers_of s.stack) → IsNext s (record { start = start; end = start + n; kind = kind; inside_heredoc = inside })
+next_is s start n kind inside sound is found boundary inside_is =
+    let text : List ℕ = s.text.now in
+    let len = slice_len text start s.end is.within sound.within in
+    let within : start + n ≤ s.end = omega (arith, found.within, len) in
+    record {
+      start = is;
+      order = omega (arith, found.some);
+      within = within;
+      boundary = part_boundary text start s.end n within sound.within sound.end boundary;
+      inside = inside_is;
+      longest = subst (λ t. IsLongest (openers_of s.stack) s.after_dot (slice_range text start s.end) kind t (slice_range text (start + n) s.end)) (sym (front_of text start s.end n within))
+          (subst (λ r. IsLongest (openers_of s.stack) s.after_dot (slice_range text start s.end) kind (take n (slice_range text start s.end)) r) (sym (back_of text start s.end n within)) found.longest);
+    }
+
+pub next_fits : (s : Scanner) (start n : ℕ) (kind : Kind) → IsSound s → IsStart s start → Finds (openers_of s.stack) s.after_dot (slice_range s.text.now start s.end) kind n → start + n ≤ max_source
+next_fits s start n kind sound is found = omega (arith, found.within, slice_len s.text.now start s.end is.within sound.within, sound.within, sound.small)
+
+-- NO TOKEN BEGINS THERE
+module _ (s : Scanner) (start : ℕ) (sound : IsSound s) (is : IsStart s start) where
+  some_ahead : start < s.end → 0 < length (ahead (state_of s))
+  some_ahead lt = subst (λ l. 0 < length l) (ahead_is s start is) (omega (arith, lt, slice_len s.text.now start s.end is.within sound.within))
+
+  pub no_token_here : (kind : FaultKind) (at : ℕ) → start < s.end → HasNone (openers_of s.stack) s.after_dot (slice_range s.text.now start s.end) → kind ≡ no_token_fault (context (openers_of s.stack)) (slice_range s.text.now start s.end) → at ≡ fault_offset (state_of s) kind → IsCharBoundary s.text.now at → IsStopped s (record { kind = kind; at = at })
+  no_token_here kind at lt none kind_is at_is boundary = record {
+    lacks = no_token (some_ahead lt) (subst (λ l. HasNone (openers_of s.stack) s.after_dot l) (ahead_is s start is) none) (kind_is ∙ ap (no_token_fault (context (openers_of s.stack))) (ahead_is s start is));
+    at = at_is;
+    boundary = boundary;
+  }
+
+option_none : (c : Context) (o : Opened) → option_and (quoted_in c) o ≡ None → c ≡ Expression
+option_none Expression o h = refl
+option_none (Template q) o h = absurd (cc)
+
+pub template_none : (stack : List Opened) → template_top stack ≡ None → context (openers_of stack) ≡ Expression
+template_none [] h = refl
+template_none (o ∷ stack) h = option_none (context_in (opener_of o.by)) o h
+
+pub expression_offset : (s : State) (v : Bool) → s.at + gap_len s ≡ fault_offset s (if v then UnterminatedComment else InvalidCharacter)
+expression_offset s true = refl
+expression_offset s false = refl
+
+-- where a template is on top, its place is the one that is owed
+owed_if : (opener : Opener) (at : ℕ) (opens : List Opener) (offsets : List ℕ) (quoted : Bool) → context_in opener ≡ Template quoted → at ≡ owed_offset (opener ∷ opens) (at ∷ offsets)
+owed_if Quote at opens offsets quoted h = refl
+owed_if Heredoc at opens offsets quoted h = refl
+owed_if Sequence at opens offsets quoted h = absurd (cc)
+owed_if Brace at opens offsets quoted h = absurd (cc)
+owed_if Bracket at opens offsets quoted h = absurd (cc)
+owed_if Paren at opens offsets quoted h = absurd (cc)
+
+option_some : (c : Context) (o top : Opened) → option_and (quoted_in c) o ≡ Some top → (o ≡ top) × ((quoted : Bool) × (c ≡ Template quoted))
+option_some Expression o top h = absurd (cc)
+option_some (Template q) o top h = let e : o ≡ top = cc in (e, (q, refl))
+
+pub record TemplateTop (text : List ℕ) (stack : List Opened) (top : Opened) : Type 0 where
+  pub quoted : Bool
+  pub here : context (openers_of stack) ≡ Template quoted
+  pub at : top.at ≡ owed_offset (openers_of stack) (offsets_in stack)
+  pub boundary : IsCharBoundary text top.at
+
+pub template_some : (text : List ℕ) (stack : List Opened) (end : ℕ) (top : Opened) → IsStack text stack end → template_top stack ≡ Some top → TemplateTop text stack top
+template_some text [] end top sound h = absurd (cc)
+template_some text (o ∷ stack) end top sound h =
+    let so = option_some (context_in (opener_of o.by)) o top h in
+    let at : top.at ≡ o.at = ap (λ (z : Opened). z.at) (sym so.0) in
+    record {
+      quoted = so.1.0;
+      here = so.1.1;
+      at = at ∙ owed_if (opener_of o.by) o.at (openers_of stack) (offsets_in stack) so.1.0 so.1.1;
+      boundary = subst (IsCharBoundary text) (sym at) sound.2;
+    }
+
+-- WHERE ALL WAS READ
+owed_none_by : (o : Opened) (stack : List Opened) (v : Bool) → (innermost_owed stack ≡ None → owed (openers_of stack) ≡ None) → (if v then Some o else innermost_owed stack) ≡ None → (if v then Some (opener_of o.by) else owed (openers_of stack)) ≡ None
+owed_none_by o stack true more h = absurd (cc)
+owed_none_by o stack false more h = more h
+
+pub owed_none : (stack : List Opened) → innermost_owed stack ≡ None → owed (openers_of stack) ≡ None
+owed_none [] h = refl
+owed_none (o ∷ stack) h = owed_none_by o stack (owes (opener_of o.by)) (owed_none stack) h
+
+pub record OwedTop (text : List ℕ) (stack : List Opened) (top : Opened) : Type 0 where
+  pub opener : owed (openers_of stack) ≡ Some (opener_of top.by)
+  pub at : top.at ≡ owed_offset (openers_of stack) (offsets_in stack)
+  pub boundary : IsCharBoundary text top.at
+  pub owes_so : owes (opener_of top.by) ≡ true
+
+pub owed_some : (text : List ℕ) (stack : List Opened) (end : ℕ) (top : Opened) → IsStack text stack end → innermost_owed stack ≡ Some top → OwedTop text stack top
+owed_some text [] end top sound h = absurd (cc)
+owed_some text (o ∷ stack) end top sound h =
+    let around = some_around text end o.by stack sound.3 in
+    by (owes (opener_of o.by)) refl (λ more. owed_some text stack around.0 top around.1 more) h
+  where
+    by : (v : Bool) → owes (opener_of o.by) ≡ v → (innermost_owed stack ≡ Some top → OwedTop text stack top) → (if v then Some o else innermost_owed stack) ≡ Some top → OwedTop text (o ∷ stack) top
+    by true e more h =
+        let same : o ≡ top = cc in
+        let at : top.at ≡ o.at = ap (λ (z : Opened). z.at) (sym same) in
+        record {
+          opener = ap (λ v. if v then Some (opener_of o.by) else owed (openers_of stack)) e ∙ ap (λ (z : Opened). Some (opener_of z.by)) same;
+          at = at ∙ sym (ap (λ v. if v then o.at else owed_offset (openers_of stack) (offsets_in stack)) e);
+          boundary = subst (IsCharBoundary text) (sym at) sound.2;
+          owes_so = ap (λ (z : Opened). owes (opener_of z.by)) (sym same) ∙ e;
+        }
+    by false e more h =
+        let m = more h in
+        record {
+          opener = ap (λ v. if v then Some (opener_of o.by) else owed (openers_of stack)) e ∙ m.opener;
+          at = m.at ∙ sym (ap (λ v. if v then o.at else owed_offset (openers_of stack) (offsets_in stack)) e);
+          boundary = m.boundary;
+          owes_so = m.owes_so;
+        }
+
+pub owed_stops : (s : Scanner) (kind : FaultKind) (at : ℕ) → ahead (state_of s) ≡ [] → end_fault (owed (openers_of s.stack)) ≡ Some kind → at ≡ fault_offset (state_of s) kind → IsCharBoundary s.text.now at → IsStopped s (record { kind = kind; at = at })
+owed_stops s kind at read kind_is at_is boundary = record { lacks = at_end read kind_is; at = at_is; boundary = boundary }
+
+pub template_found : (found : Option Found) (opens : List Opener) (dot quoted : Bool) (seen part : List ℕ) → context opens ≡ Template quoted → seen ≡ part → IfSome found (λ f. (opens : List Opener) (dot : Bool) → context opens ≡ Template quoted → Finds opens dot seen f.kind f.len) → IfSome found (λ f. Finds opens dot part f.kind f.len)
+template_found None opens dot quoted seen part here same h = tt
+template_found (Some f) opens dot quoted seen part here same h = subst (λ l. Finds opens dot l f.kind f.len) same (h opens dot here)
+
+-- what is owed is a template's sequence where it is no quote
+owed_template_by : (opener : kept.Opener) → owes (opener_of opener) ≡ true → (opener_of opener ≡ Heredoc → ⊥) → (opener ≡ by.Quote → ⊥) → end_fault (Some (opener_of opener)) ≡ Some UnterminatedTemplate
+owed_template_by by.Quote o no_heredoc no_quote = absurd (no_quote refl)
+owed_template_by (by.Heredoc c u) o no_heredoc no_quote = absurd (no_heredoc refl)
+owed_template_by by.Sequence o no_heredoc no_quote = refl
+owed_template_by by.Brace o no_heredoc no_quote = absurd (cc)
+owed_template_by by.Bracket o no_heredoc no_quote = absurd (cc)
+owed_template_by by.Paren o no_heredoc no_quote = absurd (cc)
+
+pub owed_template : (text : List ℕ) (stack : List Opened) (end : ℕ) (top : Opened) → IsStack text stack end → (context (openers_of stack) ≡ Template false → ⊥) → (top.by ≡ by.Quote → ⊥) → OwedTop text stack top → end_fault (owed (openers_of stack)) ≡ Some UnterminatedTemplate
+owed_template text stack end top sound no_heredoc no_quote is =
+    ap end_fault is.opener ∙ owed_template_by top.by is.owes_so (λ e. no_heredoc (owed_heredoc text stack end sound (is.opener ∙ ap (λ o. Some o) e))) no_quote

@@ -1,0 +1,127 @@
+//! Literal text of templates.
+
+ghost use Rattle.std.specs.Prelude.{◌≡◌, ◌==◌, ◌≤◌, not, ◌||◌, ◌&&◌, ◌∷◌, codes, take, drop, length, None, IsTrue};
+ghost use Rattle.std.specs.List.{list_all};
+ghost use Rattle.std.specs.Char.{is_ascii_hexdigit};
+ghost use Rattle.hcl_scan.specs.Spelling.{escape_len, element_len, are_elements, ends_quoted, hex_digits_after, is_dollar_or_percent, starts};
+
+fn are_hex(bytes: &[u8]) -> bool
+    ensures { result ≡ list_all is_ascii_hexdigit bytes.now }
+{
+    bytes.iter().all(|b| b.is_ascii_hexdigit())
+}
+
+/// Whether so many hexadecimal digits stand at the front.
+fn hex_digits(bytes: &[u8], count: usize) -> bool
+    ensures { result ≡ hex_digits_after count bytes.now }
+{
+    if bytes.len() < count {
+        return false;
+    }
+    let (digits, _) = bytes.split_at(count);
+    are_hex(digits)
+}
+
+/// Whether an escape of a backslash and one character stands at the front.
+fn is_short_escape(seen: &[u8]) -> bool
+    ensures { result ≡ (starts seen.now (codes "\\n") || starts seen.now (codes "\\r") || starts seen.now (codes "\\t") || starts seen.now (codes "\\\"") || starts seen.now (codes "\\\\")) }
+{
+    seen.starts_with(b"\\n")
+        || seen.starts_with(b"\\r")
+        || seen.starts_with(b"\\t")
+        || seen.starts_with(b"\\\"")
+        || seen.starts_with(b"\\\\")
+}
+
+/// Whether an escape with so many hexadecimal digits stands at the front, where `mark` is its backslash and letter.
+fn is_code_escape(seen: &[u8], mark: &[u8], count: usize) -> bool
+    requires { length mark.now ≡ 2 }
+    ensures { result ≡ (starts seen.now mark.now && hex_digits_after count (drop 2 seen.now)) }
+{
+    if !seen.starts_with(mark) {
+        return false;
+    }
+    let (_, after) = seen.split_at(2);
+    hex_digits(after, count)
+}
+
+/// How many bytes the escape at the front has.
+fn escape_len(seen: &[u8]) -> Option<usize>
+    ensures { result ≡ escape_len seen.now }
+{
+    if is_short_escape(seen) {
+        Some(2)
+    } else if is_code_escape(seen, b"\\u", 4) {
+        Some(6)
+    } else if is_code_escape(seen, b"\\U", 8) {
+        Some(10)
+    } else {
+        None
+    }
+}
+
+fn ends_quoted(b: u8, after: &[u8]) -> bool
+    ensures { result ≡ ends_quoted b after.now }
+{
+    b == b'"' || b == b'\\' || b == b'\n' || (b == b'\r' && after.starts_with(b"\n"))
+}
+
+fn is_dollar_or_percent(b: u8) -> bool
+    ensures { result ≡ is_dollar_or_percent b }
+{
+    b == b'$' || b == b'%'
+}
+
+/// Whether `$${` or `%%{` stands at the front.
+fn is_doubled_sign(seen: &[u8]) -> bool
+    ensures { result ≡ (starts seen.now (codes "$${") || starts seen.now (codes "%%{")) }
+{
+    seen.starts_with(b"$${") || seen.starts_with(b"%%{")
+}
+
+/// Whether the byte is an element of literal text by itself, wherever it stands. Most are, so this is asked first.
+fn is_ordinary(b: u8) -> bool
+    ensures { result ≡ not (is_dollar_or_percent b || (b == 34) || (b == 92) || (b == 10) || (b == 13)) }
+{
+    !matches!(b, b'$' | b'%' | b'"' | b'\\' | b'\n' | b'\r')
+}
+
+/// How many bytes the element of literal text at the front has, which begins with `b` before `after`.
+fn element_len(seen: &[u8], b: u8, after: &[u8], quoted: bool) -> Option<usize>
+    requires { seen.now ≡ b ∷ after.now }
+    ensures { result ≡ element_len quoted seen.now }
+{
+    if is_ordinary(b) {
+        Some(1)
+    } else if is_doubled_sign(seen) {
+        Some(3)
+    } else if is_dollar_or_percent(b) {
+        if after.starts_with(b"{") {
+            None
+        } else {
+            Some(1)
+        }
+    } else if quoted && ends_quoted(b, after) {
+        escape_len(seen)
+    } else {
+        Some(1)
+    }
+}
+
+/// How many bytes of literal text stand at the front.
+pub fn literal_len(seen: &[u8], quoted: bool) -> usize
+    ensures within { result ≤ length seen.now }
+    ensures elements { IsTrue (are_elements quoted 0 (take result seen.now) (drop result seen.now)) }
+    ensures ends { element_len quoted (drop result seen.now) ≡ None }
+{
+    let mut len = 0;
+    while len < seen.len() {
+        let (_, rest) = seen.split_at(len);
+        let (_, after) = seen.split_at(len + 1);
+        match element_len(rest, seen[len], after, quoted) {
+            Some(n) => len += n,
+            None => return len,
+        }
+    }
+    len
+}

@@ -1,0 +1,64 @@
+//! What stands at the front of a text: a byte, a line, a newline, blanks.
+
+ghost use Rattle.std.specs.Prelude.{◌≡◌, ◌==◌, ◌≤◌, length, get_or, IfSome, IfNone};
+ghost use Rattle.std.specs.List.{prefix_len, position_or_len};
+ghost use Rattle.hcl_scan.specs.Spelling.{is_blank, IsNewline, IsBlanks};
+ghost use Rattle.hcl_scan.specs.Inner.Found.{IsLongestFront, HasNoFront};
+ghost use Rattle.hcl_scan.specs.Scans.{skip_blanks};
+
+/// The byte at the index, or 0 behind the end.
+pub(crate) fn byte_at(text: &[u8], index: usize) -> u8
+    ensures { result ≡ get_or text.now index 0 }
+{
+    if index < text.len() { text[index] } else { 0 }
+}
+
+/// How many bytes the newline at the front has.
+pub(crate) fn newline_len(seen: &[u8]) -> Option<usize>
+    ensures found { IfSome result (IsLongestFront IsNewline seen.now) }
+    ensures none { IfNone result (HasNoFront IsNewline seen.now) }
+{
+    if seen.starts_with(b"\n") {
+        return Some(1);
+    }
+    if seen.starts_with(b"\r\n") {
+        Some(2)
+    } else {
+        None
+    }
+}
+
+/// How many bytes stand before the first LF, or before the end.
+pub(crate) fn line_len(seen: &[u8]) -> usize
+    ensures count { result ≡ position_or_len (λ b. b == 10) seen.now }
+    ensures within { result ≤ length seen.now }
+{
+    seen.iter().take_while(|b| **b != b'\n').count()
+}
+
+/// How many spaces and tabs stand at the front.
+pub fn count_blanks(seen: &[u8]) -> usize
+    ensures count { result ≡ prefix_len is_blank seen.now }
+    ensures within { result ≤ length seen.now }
+{
+    seen.iter()
+        .take_while(|b| **b == b' ' || **b == b'\t')
+        .count()
+}
+
+/// What follows the blanks at the front.
+pub fn skip_blanks(text: &[u8]) -> &[u8]
+    ensures { result.now ≡ skip_blanks text.now }
+{
+    let (_, after) = text.split_at(count_blanks(text));
+    after
+}
+
+/// How many bytes the blanks at the front have, if there are some.
+pub(crate) fn blanks_len(seen: &[u8]) -> Option<usize>
+    ensures found { IfSome result (IsLongestFront IsBlanks seen.now) }
+    ensures none { IfNone result (HasNoFront IsBlanks seen.now) }
+{
+    let count = count_blanks(seen);
+    if count == 0 { None } else { Some(count) }
+}
