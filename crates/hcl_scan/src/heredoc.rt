@@ -6,8 +6,8 @@ ghost use Rattle.hcl_scan.specs.Lexemes.{is_newline_byte, marker_of};
 ghost use Rattle.hcl_scan.specs.Spelling.{starts};
 ghost use Rattle.hcl_scan.specs.Scans.{skip_blanks, ends_line, closer_len, is_marker_line, IsMarkerLine, IsFirstMarkerLine};
 
-use hcl_source::line_start;
 use crate::space::{count_blanks, line_len, skip_blanks};
+use hcl_source::line_start;
 use memchr::memmem::Finder;
 
 /// How many bytes stand before the first LF or CR, or before the end.

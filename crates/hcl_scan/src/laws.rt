@@ -18,7 +18,6 @@ ghost use Rattle.hcl_scan.specs.declared.token.Kind.{Kind};
 
 use crate::scanner::Scanner;
 use crate::turn::Turn;
-
 pub use hcl_source::laws::{fault_or_text, one_load_fault, text_or_fault};
 
 /// A text is a list of tokens or has a scan fault. The body shows it: it scans, and keeps nothing.

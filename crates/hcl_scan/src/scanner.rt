@@ -13,7 +13,6 @@ ghost use Rattle.hcl_scan.specs.Inner.Scanners.{state_of, IsSound, IsStart, IsNe
 
 use crate::entry::Entry;
 use crate::expression::next_in_expression;
-use hcl_source::FaultKind;
 use crate::found::{Found, Place};
 use crate::heredoc::{closer_len, marker_line, marker_of};
 use crate::opened::By;
@@ -23,6 +22,7 @@ use crate::stopped::Stopped;
 use crate::template::next_in_template;
 use crate::token::Kind;
 use crate::turn::Turn;
+use hcl_source::FaultKind;
 
 /// Where a scan stands. What is seen is the text from `at` up to `end`.
 #[derive(Drop)]

@@ -9,11 +9,11 @@ ghost use Rattle.hcl_scan.specs.Inner.Stops.{IsStop};
 ghost use Rattle.hcl_scan.specs.Scanned.{lexeme, IsScanError};
 
 use crate::entry::Entry;
-use hcl_source::{Fault, Source};
 use crate::scanner::Scanner;
 use crate::stop::Stop;
 use crate::token::{ScanError, Token};
 use crate::turn::Turn;
+use hcl_source::{Fault, Source};
 use std::alloc::Global;
 use std::marker::Model;
 
