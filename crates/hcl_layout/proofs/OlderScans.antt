@@ -51,8 +51,8 @@ abbrev colon_test : List ℕ → Kind → Bool
 colon_test t k = not (get_or t 0 0 == 58) || is_coloned k
 
 colon_marks : (text : List ℕ) (k : Kind) → IsPunctuation punctuation text k → colon_test text k ≡ true
-unfolding marks
-colon_marks text k is = mark_passes (λ t k. colon_test t k) marks text k refl is
+unfolding punctuation
+colon_marks text k is = mark_passes (λ t k. colon_test t k) punctuation text k refl is
 
 front_byte : (text bs : List ℕ) → 0 < length text → get_or (text ++ bs) 0 0 ≡ get_or text 0 0
 front_byte [] bs h = absurd (omega arith)
@@ -117,8 +117,8 @@ abbrev two_test : List ℕ → Kind → Bool
 two_test t k = not (is_colon_colon k) || are_two t
 
 two_marks : (text : List ℕ) (k : Kind) → IsPunctuation punctuation text k → two_test text k ≡ true
-unfolding marks
-two_marks text k is = mark_passes (λ t k. two_test t k) marks text k refl is
+unfolding punctuation
+two_marks text k is = mark_passes (λ t k. two_test t k) punctuation text k refl is
 
 two_is : (text : List ℕ) → are_two text ≡ true → text ≡ 58 ∷ 58 ∷ []
 two_is [] h = absurd (cc)

@@ -67,14 +67,8 @@ fn prints_expressions(rt: HostRuntime) {
             b"l=[for k,v in m:\"${k}=${v}\" if v!=null]\n",
             b"l = [for k, v in m : \"${k}=${v}\" if v != null]\n",
         ),
-        (
-            b"a=provider :: x::f( 1 )\n",
-            b"a = provider::x::f(1)\n",
-        ),
-        (
-            b"v=c?p::f(1):p::g(2)\n",
-            b"v = c ? p::f(1) : p::g(2)\n",
-        ),
+        (b"a=provider :: x::f( 1 )\n", b"a = provider::x::f(1)\n"),
+        (b"v=c?p::f(1):p::g(2)\n", b"v = c ? p::f(1) : p::g(2)\n"),
     ] {
         gives(&rt, rt.alloc(), input, print);
     }
@@ -203,10 +197,7 @@ fn refuses_grammar_faults(rt: HostRuntime) {
         ),
         (b"a=b::c\n", b"tffmt: error: 1:7: unexpected token\n"),
         (b"a=b::", b"tffmt: error: 1:6: unexpected end\n"),
-        (
-            b"a=b?c: :d\n",
-            b"tffmt: error: 1:8: unexpected token\n",
-        ),
+        (b"a=b?c: :d\n", b"tffmt: error: 1:8: unexpected token\n"),
     ] {
         gives_fault(&rt, rt.alloc(), input, line);
     }
