@@ -117,17 +117,17 @@ is_before a b first apart = by_file (cases_order (key_of (issue_of a)).file (key
     by_rank f t (inr (inl h)) = inr (f, inr (t, h))
     by_rank f t (inr (inr h)) =
         absurd (behind Less (
-          ap (λ o. ordering_then (ordering_then o (nat_cmp y.token x.token)) (nat_cmp y.rank x.rank)) (cmp_equal y.file x.file (sym f))
-          ∙ ap (λ o. ordering_then o (nat_cmp y.rank x.rank)) (cmp_equal y.token x.token (sym t))
-          ∙ cmp_less y.rank x.rank h) refl)
+        ap (λ o. ordering_then (ordering_then o (nat_cmp y.token x.token)) (nat_cmp y.rank x.rank)) (cmp_equal y.file x.file (sym f))
+        ∙ ap (λ o. ordering_then o (nat_cmp y.rank x.rank)) (cmp_equal y.token x.token (sym t))
+        ∙ cmp_less y.rank x.rank h) refl)
 
     by_token : x.file ≡ y.file → (x.token ≡ y.token) ⊎ ((x.token < y.token) ⊎ (y.token < x.token)) → Precedes x y
     by_token f (inl e) = by_rank f e (cases_order x.rank y.rank)
     by_token f (inr (inl h)) = inr (f, inl h)
     by_token f (inr (inr h)) =
         absurd (behind Less (
-          ap (λ o. ordering_then (ordering_then o (nat_cmp y.token x.token)) (nat_cmp y.rank x.rank)) (cmp_equal y.file x.file (sym f))
-          ∙ ap (λ o. ordering_then o (nat_cmp y.rank x.rank)) (cmp_less y.token x.token h)) refl)
+        ap (λ o. ordering_then (ordering_then o (nat_cmp y.token x.token)) (nat_cmp y.rank x.rank)) (cmp_equal y.file x.file (sym f))
+        ∙ ap (λ o. ordering_then o (nat_cmp y.rank x.rank)) (cmp_less y.token x.token h)) refl)
 
     by_file : (x.file ≡ y.file) ⊎ ((x.file < y.file) ⊎ (y.file < x.file)) → Precedes x y
     by_file (inl e) = by_token e (cases_order x.token y.token)

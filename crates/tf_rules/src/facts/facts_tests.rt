@@ -86,6 +86,8 @@ fn keeps_files(rt: HostRuntime) -> Result<(), Fail> {
     add(alloc, &mut facts, 7, SECOND)??;
     counts(&rt, &facts, [2, 1, 1, 4, 1]);
     has_first(&rt, &facts);
+    assert!(&rt; facts.comments.len() > 1 && facts.declarations.len() > 3);
+    assert!(&rt; facts.indexes.len() > 0 && facts.interpolations.len() > 0);
     is_at(&rt, facts.comments[1].at, 7, 2, 19);
     assert!(&rt; facts.comments[1].silences.holds(Rule::ModuleVersion));
     is_at(&rt, facts.indexes[0], 7, 2, 13);
