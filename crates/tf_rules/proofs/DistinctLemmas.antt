@@ -1,5 +1,5 @@
 -- The keys of all that rules report are apart.
-use Rattle.std.proofs.Common.{◌≡◌, ap, sym, refl, subst, ℕ, ◌+◌, ◌<◌, ◌≤◌, Bool, true, false, cond, List, [], ◌∷◌, ◌++◌, map, filter, length, inl, inr, arith}
+use Rattle.std.proofs.Common.{◌≡◌, ap, sym, refl, subst, ℕ, ◌+◌, ◌<◌, ◌≤◌, Bool, true, false, List, [], ◌∷◌, ◌++◌, map, filter, length, inl, inr, arith}
 use Rattle.std.specs.Prelude.{◌⊎◌, ◌==◌, ◌&&◌, Option, Some, None, codes}
 use Rattle.std.specs.List.{flat_map}
 use Rattle.std.proofs.lemmas.Bool.{and_left, and_right, ne_eqb}
@@ -153,7 +153,7 @@ module _ (asked : Asked) (used : List (List ℕ)) where
   of_file rule file =
       map_ascends (λ a b. a.at < b.at) Differ (issue_in file rule)
       (λ a b less.
-        and_left ((file.number == file.number) && (a.at == b.at)) (rank rule == rank rule) (and_right (file.number == file.number) (a.at == b.at) (ne_eqb a.at b.at (λ e. omega (arith, e, less)))))
+      and_left ((file.number == file.number) && (a.at == b.at)) (rank rule == rank rule) (and_right (file.number == file.number) (a.at == b.at) (ne_eqb a.at b.at (λ e. omega (arith, e, less)))))
       (findings asked.naming used (facts_of (tokens_of file)) rule)
       (up_ascends found_at 0 (length file.source.tokens) (findings asked.naming used (facts_of (tokens_of file)) rule) (findings_up asked.naming used file.source.tokens rule))
 
@@ -183,7 +183,9 @@ module _ (asked : Asked) (used : List (List ℕ)) where
 rules_ascend : (p : Rule → Bool) → Ascends (λ r s. rank r < rank s) (filter p all_rules)
 rules_ascend p =
     up_ascends rank 0 10 (filter p all_rules) (up_filter rank p 0 10 all_rules (
-      omega arith, (omega arith, (omega arith, (omega arith, (omega arith, (omega arith, (omega arith, (omega arith, (omega arith, (omega arith, omega arith)))))))))))
+      omega arith,
+      (omega arith, (omega arith, (omega arith, (omega arith, (omega arith, (omega arith, (omega arith, (omega arith, (omega arith, omega arith))))))))),
+    ))
 
 -- THE LAW
 pub reported_apart : (settings : Settings) (files : List File) → Rising files → Ascends Differ (reported (asked_of settings) files)

@@ -1,12 +1,11 @@
 -- Sorted issues whose keys are apart ascend, and are the ordered list.
-use Rattle.std.proofs.Common.{◌≡◌, ◌∙◌, ◌<◌, ◌≤◌, ◌+◌, ap, sym, refl, subst, true≢false, ℕ, suc, zero, Bool, true, false, cond, List, [], ◌∷◌, map, filter, length, inl, inr, arith, get_or}
+use Rattle.std.proofs.Common.{◌≡◌, ◌∙◌, ◌<◌, ◌≤◌, ◌+◌, ap, sym, refl, subst, true≢false, ℕ, suc, zero, Bool, true, false, cond, List, [], ◌∷◌, filter, length, inl, inr, arith, get_or}
 use Rattle.std.specs.Prelude.{◌⊎◌, ◌==◌, ◌&&◌, IsPermutation, IsSorted}
 use Rattle.std.specs.List.{Contains, sum_by}
 use Rattle.std.specs.Ordering.{is_lt, nat_cmp, ordering_then}
 use Rattle.std.specs.declared.cmp.Ordering.{Ordering}
 use Rattle.std.specs.declared.cmp.Ordering.TheVariants.{Less, Equal, Greater}
-use Rattle.std.proofs.lemmas.Bool.{and_parts, and_from, cases_order, eqb-true, eq-eqb, ne_eqb, lt-ltb, le-ltb}
-use Rattle.std.proofs.lemmas.List.Elements.{Contains-get_or, Contains-append_right}
+use Rattle.std.proofs.lemmas.Bool.{and_parts, and_from, cases_order, eqb-true, eq-eqb, lt-ltb, le-ltb}
 use Rattle.std.proofs.lemmas.List.Sorted.{Contains-permutation, IsPermutation-map, IsPermutation-sym, sum_by-IsPermutation}
 use Rattle.std.proofs.lemmas.List.Sums.{sum_by-cons}
 use Rattle.tf_rules.specs.Ordered.{Member, SameMembers, BeforeAll, Ascends}
@@ -117,17 +116,17 @@ is_before a b first apart = by_file (cases_order (key_of (issue_of a)).file (key
     by_rank f t (inr (inl h)) = inr (f, inr (t, h))
     by_rank f t (inr (inr h)) =
         absurd (behind Less (
-          ap (λ o. ordering_then (ordering_then o (nat_cmp y.token x.token)) (nat_cmp y.rank x.rank)) (cmp_equal y.file x.file (sym f))
-          ∙ ap (λ o. ordering_then o (nat_cmp y.rank x.rank)) (cmp_equal y.token x.token (sym t))
-          ∙ cmp_less y.rank x.rank h) refl)
+        ap (λ o. ordering_then (ordering_then o (nat_cmp y.token x.token)) (nat_cmp y.rank x.rank)) (cmp_equal y.file x.file (sym f))
+        ∙ ap (λ o. ordering_then o (nat_cmp y.rank x.rank)) (cmp_equal y.token x.token (sym t))
+        ∙ cmp_less y.rank x.rank h) refl)
 
     by_token : x.file ≡ y.file → (x.token ≡ y.token) ⊎ ((x.token < y.token) ⊎ (y.token < x.token)) → Precedes x y
     by_token f (inl e) = by_rank f e (cases_order x.rank y.rank)
     by_token f (inr (inl h)) = inr (f, inl h)
     by_token f (inr (inr h)) =
         absurd (behind Less (
-          ap (λ o. ordering_then (ordering_then o (nat_cmp y.token x.token)) (nat_cmp y.rank x.rank)) (cmp_equal y.file x.file (sym f))
-          ∙ ap (λ o. ordering_then o (nat_cmp y.rank x.rank)) (cmp_less y.token x.token h)) refl)
+        ap (λ o. ordering_then (ordering_then o (nat_cmp y.token x.token)) (nat_cmp y.rank x.rank)) (cmp_equal y.file x.file (sym f))
+        ∙ ap (λ o. ordering_then o (nat_cmp y.rank x.rank)) (cmp_less y.token x.token h)) refl)
 
     by_file : (x.file ≡ y.file) ⊎ ((x.file < y.file) ⊎ (y.file < x.file)) → Precedes x y
     by_file (inl e) = by_token e (cases_order x.token y.token)

@@ -46,11 +46,7 @@ fn last(names: &KeptNames) -> &str
 }
 
 /// `KIND "NAME"` and what follows.
-fn about(
-    alloc: Global,
-    declaration: &KeptDeclaration,
-    rest: &str,
-) -> Result<Message, AllocError>
+fn about(alloc: Global, declaration: &KeptDeclaration, rest: &str) -> Result<Message, AllocError>
     ensures { IfOk result (λ message. message ≡ about (kept_declaration declaration.now) rest.now) }
 {
     let kind = kind_text(declaration.kind);
@@ -58,7 +54,6 @@ fn about(
     let text = format!(in alloc; "{kind} \"{name}\"{rest}")?;
     Ok(Message::new(text))
 }
-
 
 fn is_output(kind: DeclarationKind) -> bool
     ensures { result ≡ is_kind DeclarationKind.Output kind }
@@ -120,10 +115,7 @@ fn unpinned_by(
     }
 }
 
-fn unpinned(
-    alloc: Global,
-    declaration: &KeptDeclaration,
-) -> Result<Option<Finding>, AllocError>
+fn unpinned(alloc: Global, declaration: &KeptDeclaration) -> Result<Option<Finding>, AllocError>
     ensures { IfOk result (λ found. told found ≡ unpinned (kept_declaration declaration.now) (option_map kept_source declaration.now.source)) }
 {
     match declaration.source {
@@ -164,11 +156,7 @@ fn misnamed(
 }
 
 /// Whether there is no reference to the data of this type and name.
-fn is_unused_data(
-    alloc: Global,
-    used: &TextSet,
-    names: &KeptNames,
-) -> Result<bool, AllocError>
+fn is_unused_data(alloc: Global, used: &TextSet, names: &KeptNames) -> Result<bool, AllocError>
     ensures { IfOk result (λ unused. unused ≡ is_unused used.now (uses_of DeclarationKind.Data (kept_names names.now))) }
 {
     match names {

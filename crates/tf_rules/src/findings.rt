@@ -17,11 +17,7 @@ use crate::text_set::TextSet;
 use std::alloc::{AllocError, Global};
 
 /// Puts what was found last, where something was.
-fn put(
-    entries: &mut Vec<Entry>,
-    rule: Rule,
-    found: Option<Finding>,
-) -> Result<(), AllocError>
+fn put(entries: &mut Vec<Entry>, rule: Rule, found: Option<Finding>) -> Result<(), AllocError>
     ensures { OnOk result (issues_of entries.new.items ≡ issues_of entries.old.items ++ map (issue_at rule) (told found)) }
 {
     let Some(found) = found else {

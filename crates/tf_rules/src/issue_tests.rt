@@ -43,8 +43,7 @@ fn report(
         let severity = issue.rule.severity().text();
         let message = issue.message.as_str();
         let name = issue.rule.name();
-        let told =
-            format!(in alloc; "{file}:{line}:{column}: {severity} - {message} ({name})\n")?;
+        let told = format!(in alloc; "{file}:{line}:{column}: {severity} - {message} ({name})\n")?;
         report.push_str(told.as_str())?;
     }
     Ok(report)
@@ -132,7 +131,9 @@ fn reports_by_some_rules(rt: HostRuntime) -> Result<(), Fail> {
 }
 
 static TYPED: &str = "variable \"n\" { type = string }\n";
-static OWN: &str = "variable \"n\" {\n  type = string\n  validation {\n    condition = var.n != \"\"\n  }\n}\n";
+
+static OWN: &str =
+    "variable \"n\" {\n  type = string\n  validation {\n    condition = var.n != \"\"\n  }\n}\n";
 
 #[test]
 fn uses_count_in_all_files(rt: HostRuntime) -> Result<(), Fail> {
@@ -153,12 +154,7 @@ fn uses_count_in_all_files(rt: HostRuntime) -> Result<(), Fail> {
 }
 
 /// That a module with this source has these issues.
-fn source_reports(
-    rt: &impl Abort,
-    alloc: Global,
-    source: &str,
-    wanted: &str,
-) -> Result<(), Fail> {
+fn source_reports(rt: &impl Abort, alloc: Global, source: &str, wanted: &str) -> Result<(), Fail> {
     let text = format!(in alloc; "module \"m\" {{\n  source = \"{source}\"\n}}\n")?;
     let settings = asking(RuleSet::recommended());
     reports(rt, alloc, &[text.as_str()], settings, wanted)
@@ -203,7 +199,9 @@ fn comments_silence_issues(rt: HostRuntime) -> Result<(), Fail> {
     reports(
         &rt,
         alloc,
-        &["# tflint-ignore: terraform_typed_variables, terraform_unused_declarations # later\nvariable \"n\" {}\n"],
+        &[
+            "# tflint-ignore: terraform_typed_variables, terraform_unused_declarations # later\nvariable \"n\" {}\n",
+        ],
         settings,
         "",
     )?;

@@ -52,12 +52,7 @@ fn silence_by(lines: &mut SilencedLines, comment: KeptComment) -> Result<(), All
     if !is_any(comment.silences) {
         return Ok(());
     }
-    silence(
-        lines,
-        comment.at.file,
-        comment.at.at.line,
-        comment.silences,
-    )?;
+    silence(lines, comment.at.file, comment.at.at.line, comment.silences)?;
     Ok(())
 }
 
@@ -87,11 +82,7 @@ fn is_silenced(lines: &SilencedLines, entry: &Entry) -> bool
 }
 
 /// Puts an issue last as it is shown, where it isn't silenced.
-fn put_shown(
-    entry: Entry,
-    lines: &SilencedLines,
-    issues: &mut Vec<Issue>,
-) -> Result<(), AllocError>
+fn put_shown(entry: Entry, lines: &SilencedLines, issues: &mut Vec<Issue>) -> Result<(), AllocError>
     ensures { (comments : List (Comment Place)) → AreSilenced lines.now comments
         → OnOk result (issues.new.items ≡ issues.old.items ++ map shown (filter (λ i. not (is_silenced comments i)) (issue_of entry ∷ []))) }
 {

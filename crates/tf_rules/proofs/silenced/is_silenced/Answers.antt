@@ -11,8 +11,8 @@ pub returns-then-holds : goal.returns-then-holds
 returns-then-holds c = λ comments are.
     let e = c.args.entry.now in
     sym (silenced_both comments (issue_of e)
-      ∙ or_left (list_any (is_on e.at.file e.at.at.line e.rule) comments) (list_any (is_under e.at.file e.at.at.line e.rule) comments)
-      (sym (are e.at.file e.at.at.line e.rule) ∙ sym (c.rules_on.ensures e.rule) ∙ sym c.holds.ensures ∙ c.if-holds.true))
+    ∙ or_left (list_any (is_on e.at.file e.at.at.line e.rule) comments) (list_any (is_under e.at.file e.at.at.line e.rule) comments)
+    (sym (are e.at.file e.at.at.line e.rule) ∙ sym (c.rules_on.ensures e.rule) ∙ sym c.holds.ensures ∙ c.if-holds.true))
 
 pub returns : goal.returns
 returns c = λ comments are.
