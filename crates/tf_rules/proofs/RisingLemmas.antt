@@ -1,5 +1,5 @@
 -- Lists whose members rise by a number, from one on to before another.
-use Rattle.std.proofs.Common.{◌≡◌, ℕ, ◌+◌, ◌<◌, ◌≤◌, Bool, true, false, cond, List, [], ◌∷◌, ◌++◌, map, filter, arith}
+use Rattle.std.proofs.Common.{ℕ, ◌+◌, ◌<◌, ◌≤◌, Bool, true, false, cond, List, [], ◌∷◌, ◌++◌, map, filter, arith}
 use Rattle.std.specs.List.{flat_map}
 use Rattle.tf_rules.specs.Ordered.{BeforeAll, Ascends}
 

@@ -1,12 +1,11 @@
 -- Sorted issues whose keys are apart ascend, and are the ordered list.
-use Rattle.std.proofs.Common.{◌≡◌, ◌∙◌, ◌<◌, ◌≤◌, ◌+◌, ap, sym, refl, subst, true≢false, ℕ, suc, zero, Bool, true, false, cond, List, [], ◌∷◌, map, filter, length, inl, inr, arith, get_or}
+use Rattle.std.proofs.Common.{◌≡◌, ◌∙◌, ◌<◌, ◌≤◌, ◌+◌, ap, sym, refl, subst, true≢false, ℕ, suc, zero, Bool, true, false, cond, List, [], ◌∷◌, filter, length, inl, inr, arith, get_or}
 use Rattle.std.specs.Prelude.{◌⊎◌, ◌==◌, ◌&&◌, IsPermutation, IsSorted}
 use Rattle.std.specs.List.{Contains, sum_by}
 use Rattle.std.specs.Ordering.{is_lt, nat_cmp, ordering_then}
 use Rattle.std.specs.declared.cmp.Ordering.{Ordering}
 use Rattle.std.specs.declared.cmp.Ordering.TheVariants.{Less, Equal, Greater}
-use Rattle.std.proofs.lemmas.Bool.{and_parts, and_from, cases_order, eqb-true, eq-eqb, ne_eqb, lt-ltb, le-ltb}
-use Rattle.std.proofs.lemmas.List.Elements.{Contains-get_or, Contains-append_right}
+use Rattle.std.proofs.lemmas.Bool.{and_parts, and_from, cases_order, eqb-true, eq-eqb, lt-ltb, le-ltb}
 use Rattle.std.proofs.lemmas.List.Sorted.{Contains-permutation, IsPermutation-map, IsPermutation-sym, sum_by-IsPermutation}
 use Rattle.std.proofs.lemmas.List.Sums.{sum_by-cons}
 use Rattle.tf_rules.specs.Ordered.{Member, SameMembers, BeforeAll, Ascends}

@@ -1,6 +1,7 @@
-//! Ten rules for the files of a Terraform module. [`Facts`] keeps what they need of each file, and lists what they report.
+//! Ten rules for the files of a Terraform module.
 //!
-//! What the rules report is defined in `specs`, with laws in the module [`laws`].
+//! [`Facts`] keeps what the rules need of each file, and lists the issues of all. What the rules report is defined in
+//! `specs`, with laws in the module [`laws`].
 #![tactic(auto)]
 
 mod block;
@@ -16,6 +17,8 @@ mod finding;
 mod findings;
 mod found;
 mod issue;
+#[cfg(test)]
+mod issue_tests;
 mod keeping;
 mod kept;
 mod kept_file;

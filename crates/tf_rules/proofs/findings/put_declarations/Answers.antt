@@ -1,7 +1,7 @@
-use Rattle.std.proofs.Common.{◌≡◌, ◌∙◌, ap, arith, map, ◌++◌}
+use Rattle.std.proofs.Common.{◌∙◌, ap, arith, map, ◌++◌}
 use Rattle.tf_rules.specs.Findings.{finding}
 use Rattle.tf_rules.specs.Kept.{issue_at}
-use Rattle.tf_rules.specs.Inner.Entries.{issues_of, told}
+use Rattle.tf_rules.specs.Inner.Entries.{issues_of}
 use Rattle.tf_rules.specs.Inner.KeptViews.{kept_declaration}
 use Rattle.tf_rules.proofs.EntryLemmas.{put_all, put_map, put_more}
 use Rattle.tf_rules.proofs.findings.put_declarations.Goals as goal

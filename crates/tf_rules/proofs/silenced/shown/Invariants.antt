@@ -1,5 +1,4 @@
-use Rattle.std.proofs.Common.{◌≡◌, ◌∷◌, [], List, filter, map, not}
-use Rattle.std.specs.List.{flat_map}
+use Rattle.std.proofs.Common.{◌≡◌, List, filter, map, not}
 use Rattle.tf_rules.specs.Answers.{shown}
 use Rattle.tf_rules.specs.Comments.{Comment}
 use Rattle.tf_rules.specs.Issues.{Place, is_silenced}

@@ -1,4 +1,4 @@
-use Rattle.std.proofs.Common.{◌≡◌, ◌∙◌, ap, arith, map, take}
+use Rattle.std.proofs.Common.{◌∙◌, ap, arith, map, take}
 use Rattle.std.specs.List.{list_any}
 use Rattle.tf_rules.specs.Inner.KeptViews.{kept_comment}
 use Rattle.tf_rules.specs.Inner.SilencedLines.{is_on}

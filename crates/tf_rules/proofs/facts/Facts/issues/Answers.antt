@@ -3,7 +3,7 @@ use Rattle.std.proofs.lemmas.Result.{IfOk-weaker}
 use Rattle.tf_rules.specs.Answers.{IsAnswer, shown}
 use Rattle.tf_rules.specs.Comments.{Comment}
 use Rattle.tf_rules.specs.Issues.{Asked, Issue, Place, asked_of, is_silenced, issues, reported}
-use Rattle.tf_rules.specs.Kept.{Kept, issues_of_kept, kept_of, reported_of_kept}
+use Rattle.tf_rules.specs.Kept.{Kept, issues_of_kept, reported_of_kept}
 use Rattle.tf_rules.specs.Ordered.{Ascends}
 use Rattle.tf_rules.specs.Inner.Entries.{issues_of}
 use Rattle.tf_rules.specs.Inner.KeptViews.{kept_comment}

@@ -1,4 +1,4 @@
-use Rattle.std.proofs.Common.{◌≡◌, ◌∙◌, ap, arith, map, cond, []}
+use Rattle.std.proofs.Common.{◌∙◌, ap, arith, map, cond, []}
 use Rattle.std.specs.List.{flat_map}
 use Rattle.std.proofs.lemmas.List.{take_all}
 use Rattle.tf_rules.specs.Findings.{findings}
