@@ -19,7 +19,7 @@ use Rattle.hcl_scan.proofs.GapLemmas.{drop_blanks, gaps, lines}
 use Rattle.hcl_scan.proofs.NextTokenLemmas.{follows}
 
 -- what is still to come of a text
-abbrev behind : List Hidden → List ℕ → List ℕ
+abbrev pub behind : List Hidden → List ℕ → List ℕ
 behind [] z = z
 behind (h ∷ hs) z = h.closer ++ (h.after ++ behind hs z)
 
@@ -48,7 +48,7 @@ join_seen : (text more rest seen tail : List ℕ) → text ++ rest ≡ seen → 
 join_seen text more rest seen tail whole e = ap (λ l. text ++ l) e ∙ sym (append_assoc text rest tail) ∙ ap (λ l. l ++ tail) whole
 
 -- the same where a heredoc was opened
-join_hidden : (marker rest : List ℕ) (n : ℕ) (tail : List ℕ) → let h : Hidden = hides marker (drop n rest) in take n rest ++ (h.closer ++ (h.after ++ tail)) ≡ rest ++ tail
+pub join_hidden : (marker rest : List ℕ) (n : ℕ) (tail : List ℕ) → let h : Hidden = hides marker (drop n rest) in take n rest ++ (h.closer ++ (h.after ++ tail)) ≡ rest ++ tail
 join_hidden marker rest n tail =
     let k : ℕ = closer_len marker (drop n rest) in
     ap (λ l. take n rest ++ l) (sym (append_assoc (take k (drop n rest)) (drop k (drop n rest)) tail) ∙ ap (λ l. l ++ tail) (take-append-drop k (drop n rest)))

@@ -10,10 +10,11 @@ use Rattle.std.proofs.lemmas.List.Sums.{sum_by-append, sum_by-cons}
 use Rattle.std.proofs.lemmas.Bool.Decides.{nat_tests}
 use Rattle.hcl_scan.specs.Lexemes.{Lexeme, Opener, marker_of, in_heredoc}
 use Rattle.hcl_scan.specs.Spelling.{context, is_blank}
-use Rattle.hcl_scan.specs.Scans.{State, Hidden, hides, has_gaps_in, gap_in, gap_len, ahead, closer_len, begin, Reads, Closes, Next, Run, Scans}
+use Rattle.hcl_scan.specs.Scans.{State, has_gaps_in, gap_in, gap_len, ahead, begin, Reads, Closes, Next, Run, Scans}
 use Rattle.hcl_source.specs.Places.{line_of}
 use Rattle.hcl_scan.proofs.BooleanLemmas.{and_true}
 use Rattle.hcl_scan.proofs.FrontLemmas.{run_passes}
+use Rattle.hcl_scan.proofs.OtherGapLemmas.{behind, join_hidden}
 use Rattle.hcl_scan.proofs.ShownLemmas.{Shown, opening, plain, shown}
 
 -- how many lines end in these bytes
@@ -45,14 +46,9 @@ gap_taken opens seen = by (has_gaps_in (context opens) (in_heredoc opens))
     by false = (ap ends (take_none seen), ap length (take_none seen))
 
 -- ---- one token
--- what is hidden, the innermost first
-abbrev behind : List Hidden → List ℕ
-behind [] = []
-behind (h ∷ hs) = h.closer ++ (h.after ++ behind hs)
-
 -- what is still to come of a text
 abbrev coming : State → List ℕ
-coming s = s.seen ++ behind s.hidden
+coming s = s.seen ++ behind s.hidden []
 
 -- a gap that ends no line, the token, and what comes then
 record Step (s : State) (t : Lexeme) (next : State) : Type 0 where
@@ -62,20 +58,13 @@ record Step (s : State) (t : Lexeme) (next : State) : Type 0 where
   start : t.start ≡ s.at + length gap
   at : next.at ≡ t.start + length t.text
 
--- a heredoc was opened: its marker line and what follows are hidden
-join_hidden : (marker rest : List ℕ) (n : ℕ) (tail : List ℕ) → take n rest ++ ((hides marker (drop n rest)).closer ++ ((hides marker (drop n rest)).after ++ tail)) ≡ rest ++ tail
-join_hidden marker rest n tail =
-    let k : ℕ = closer_len marker (drop n rest) in
-    ap (λ l. take n rest ++ l) (sym (append_assoc (take k (drop n rest)) (drop k (drop n rest)) tail) ∙ ap (λ l. l ++ tail) (take-append-drop k (drop n rest)))
-    ∙ sym (append_assoc (take n rest) (drop n rest) tail) ∙ ap (λ l. l ++ tail) (take-append-drop n rest)
-
 reads_step : (s : State) (t : Lexeme) (next : State) → Reads s t next → Step s t next
 reads_step s t next r = record {
   gap = take (gap_len s) s.seen;
   none_end = taken.0;
-  whole = ap (λ l. l ++ behind s.hidden) (sym (take-append-drop (gap_len s) s.seen))
-      ∙ append_assoc (take (gap_len s) s.seen) (ahead s) (behind s.hidden)
-      ∙ ap (λ l. take (gap_len s) s.seen ++ l) (ap (λ l. l ++ behind s.hidden) (sym r.longest.whole) ∙ append_assoc t.text r.rest (behind s.hidden) ∙ ap (λ l. t.text ++ l) (sym then));
+  whole = ap (λ l. l ++ behind s.hidden []) (sym (take-append-drop (gap_len s) s.seen))
+      ∙ append_assoc (take (gap_len s) s.seen) (ahead s) (behind s.hidden [])
+      ∙ ap (λ l. take (gap_len s) s.seen ++ l) (ap (λ l. l ++ behind s.hidden []) (sym r.longest.whole) ∙ append_assoc t.text r.rest (behind s.hidden []) ∙ ap (λ l. t.text ++ l) (sym then));
   start = r.start ∙ ap (λ n. s.at + n) (sym taken.1);
   at = r.at;
 }
@@ -83,24 +72,24 @@ reads_step s t next r = record {
     taken : (ends (take (gap_len s) s.seen) ≡ 0) × (length (take (gap_len s) s.seen) ≡ gap_len s)
     taken = gap_taken s.opens s.seen
 
-    by : Shown t.kind t.text r.rest s.hidden next.seen next.hidden → coming next ≡ r.rest ++ behind s.hidden
-    by (plain k e e') = ap (λ l. l ++ behind next.hidden) e ∙ ap (λ h. r.rest ++ behind h) e'
-    by (opening k n first e e') = ap (λ l. l ++ behind next.hidden) e ∙ ap (λ h. take n r.rest ++ behind h) e' ∙ join_hidden (marker_of t.text) r.rest n (behind s.hidden)
+    by : Shown t.kind t.text r.rest s.hidden next.seen next.hidden → coming next ≡ r.rest ++ behind s.hidden []
+    by (plain k e e') = ap (λ l. l ++ behind next.hidden []) e ∙ ap (λ h. r.rest ++ behind h []) e'
+    by (opening k n first e e') = ap (λ l. l ++ behind next.hidden []) e ∙ ap (λ h. take n r.rest ++ behind h []) e' ∙ join_hidden (marker_of t.text) r.rest n (behind s.hidden [])
 
-    then : coming next ≡ r.rest ++ behind s.hidden
+    then : coming next ≡ r.rest ++ behind s.hidden []
     then = by (shown t.kind t.text r.rest s.hidden next.seen next.hidden r.shows)
 
 closes_step : (s : State) (t : Lexeme) (next : State) → Closes s t next → Step s t next
 closes_step s t next c = record {
   gap = [];
   none_end = refl;
-  whole = ap (λ l. l ++ behind s.hidden) c.read ∙ ap behind c.line ∙ ap (λ l. t.text ++ l) (sym then);
+  whole = ap (λ l. l ++ behind s.hidden []) c.read ∙ ap (λ h. behind h []) c.line ∙ ap (λ l. t.text ++ l) (sym then);
   start = c.start ∙ omega arith;
   at = ap (λ (n : State). n.at) c.next_is ∙ ap (λ n. n + length t.text) (sym c.start);
 }
   where
-    then : coming next ≡ c.rest ++ behind c.above
-    then = ap (λ (n : State). n.seen ++ behind n.hidden) c.next_is
+    then : coming next ≡ c.rest ++ behind c.above []
+    then = ap (λ (n : State). n.seen ++ behind n.hidden []) c.next_is
 
 step : (s : State) (t : Lexeme) (next : State) → Next s t next → Step s t next
 step s t next (inl r) = reads_step s t next r
