@@ -14,9 +14,9 @@ use Rattle.hcl_syntax.specs.Verdict.{verdict, verdict_by}
 use Rattle.hcl_syntax.specs.declared.refusal.Refusal.{Refusal}
 use Rattle.hcl_layout.specs.Print.{print}
 use Rattle.hcl_layout.specs.Reprinted.{printed_tokens}
-use Rattle.hcl_layout.proofs.PrintScans.{scans_again}
-use Rattle.hcl_layout.proofs.PlacesForgotten.{print_again, seen_again}
-use Rattle.hcl_layout.proofs.PrintLoads.{loads_again}
+use Rattle.hcl_layout.proofs.RescanLemmas.{scans_again}
+use Rattle.hcl_layout.proofs.PlaceLemmas.{print_again, seen_again}
+use Rattle.hcl_layout.proofs.LoadLemmas.{loads_again}
 use Rattle.tffmt.specs.Rows.{Row}
 use Rattle.tffmt.specs.Answer.{refused, too_large, row_of_file, row_by, IsFileAnswer, IsAnswerBy, IsAnswer}
 use Rattle.tffmt.specs.Line.{options_of}
