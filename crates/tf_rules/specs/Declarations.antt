@@ -6,7 +6,8 @@ use Rattle.std.specs.List.{list_any}
 use Rattle.std.specs.Str.{bytes_eq}
 use Rattle.hcl_syntax.specs.Numbered.{Numbered, is_comment, is_newline, is_quote_open, is_quote_close}
 use Rattle.hcl_syntax.specs.Items.{items_of, is_closed}
-use Rattle.hcl_syntax.specs.Labels.{is_lit, text_of, label_text}
+use Rattle.hcl_syntax.specs.Kinds.{is_lit}
+use Rattle.hcl_syntax.specs.Labels.{text_of, label_text}
 use Rattle.hcl_syntax.specs.declared.item.Item.{Item}
 use Rattle.hcl_syntax.specs.declared.item.Item.TheVariants as item
 use Rattle.tf_rules.specs.Sources.{Source, source_of}

@@ -2,7 +2,7 @@
 
 ghost use Rattle.std.specs.Prelude.{◌≡◌, ◌≤◌, ◌&&◌, not, [], length, MatchOption};
 ghost use Rattle.std.specs.Option.{option_map};
-ghost use Rattle.hcl_syntax.specs.Labels.{is_lit};
+ghost use Rattle.hcl_syntax.specs.Kinds.{is_lit};
 ghost use Rattle.hcl_syntax.specs.Numbered.{is_comment, is_newline, is_quote_close, is_quote_open};
 ghost use Rattle.tf_rules.specs.Declarations.{plain_text};
 ghost use Rattle.tf_rules.specs.Inner.Values.{IsFirstValue, plain, values};
