@@ -7,7 +7,7 @@ use Rattle.command_line.specs.Rows.{Program, Row, End, Shows, ShowsOne, OrOutOfM
 use Rattle.command_line.proofs.Endings.{shows_as}
 use Rattle.hcl_scan.specs.Scanned.{Scanned}
 use Rattle.tf_rules.specs.Answers as rules
-use Rattle.tf_rules.specs.Issues.{File}
+use Rattle.tf_rules.specs.Kept.{Kept}
 use Rattle.tf_rules.specs.Ordered.{Ascends, BeforeAll}
 use Rattle.tf_rules.specs.declared.issue.Issue.{Issue}
 use Rattle.tfrules.specs.Answer.{IsAnswerBy, IsRefused, linter, names_of, usage_line}
@@ -29,32 +29,29 @@ memory_shown p P end e s = (out_of_memory linter, inl refl, subst (λ (q : Progr
 
 -- ---- the files behind the one at which a run stopped
 
-told_or : Option (List ℕ) → List ℕ
+abbrev told_or : Option (List ℕ) → List ℕ
 told_or None = []
 told_or (Some bytes) = bytes
 
 tells_or : (t : Option (List ℕ)) → Tells t (told_or t)
-unfolding told_or
 tells_or None = tt
 tells_or (Some bytes) = refl
 
 module _ (told : List ℕ → Option (List ℕ)) where
-  unread : List (List ℕ) → List NamedFile
+  abbrev unread : List (List ℕ) → List NamedFile
   unread [] = []
   unread (n ∷ ns) = record { name = n; bytes = told_or (told n) } ∷ unread ns
 
   unread_names : (ns : List (List ℕ)) → names_of (unread ns) ≡ ns
-  unfolding unread
   unread_names [] = refl
   unread_names (n ∷ ns) = ap (λ l. n ∷ l) (unread_names ns)
 
   unread_files : (ns : List (List ℕ)) → AreFiles told (unread ns)
-  unfolding unread
   unread_files [] = All-nil (λ (file : NamedFile). Tells (told file.name) file.bytes)
   unread_files (n ∷ ns) = All-cons (λ (file : NamedFile). Tells (told file.name) file.bytes) (record { name = n; bytes = told_or (told n) }) (unread ns) (tells_or (told n)) (unread_files ns)
 
   -- a run that stopped at a refused file shows the answer
-  refused_first : (asking : Asking) (front behind : List (List ℕ)) (name bytes : List ℕ) (size : ℕ) (kept : _) (row : Row) → asking.files ≡ front ++ name ∷ behind → Reached told front size kept → Tells (told name) bytes
+  refused_first : (asking : Asking) (front behind : List (List ℕ)) (name bytes : List ℕ) (size : ℕ) (kept : Kept) (row : Row) → asking.files ≡ front ++ name ∷ behind → Reached told front size kept → Tells (told name) bytes
       → IsRefused size (record { name = name; bytes = bytes }) row → IsRowBy told (Ok asking) false false row
   refused_first asking front behind name bytes size kept row split p tells refusal =
       let file : NamedFile = record { name = name; bytes = bytes } in
@@ -84,7 +81,7 @@ module _ (told : List ℕ → Option (List ℕ)) where
   stopped_row asking o r name why row s (inl e) = inl e
   stopped_row asking o r name why row s (inr is) = stop_rows asking o r name why row s is
 
-  pub reported_row : (asking : Asking) (o r : Bool) (size : ℕ) (kept : _) (issues : List Issue) → AreFine o r → (p : Reached told asking.files size kept) → rules.IsAnswer asking.asked (numbered_files 0 p.sources) issues
+  pub reported_row : (asking : Asking) (o r : Bool) (size : ℕ) (kept : Kept) (issues : List Issue) → AreFine o r → (p : Reached told asking.files size kept) → rules.IsAnswer asking.asked (numbered_files 0 p.sources) issues
       → IsRowBy told (Ok asking) o r (report_row asking issues)
   reported_row asking o r size kept issues fine p found =
       subst (λ b. IsRowBy told (Ok asking) b r (report_row asking issues)) (sym fine.0) (subst (λ b. IsRowBy told (Ok asking) false b (report_row asking issues)) (sym fine.1)

@@ -1,5 +1,5 @@
 -- The files of a run, one behind the other.
-use Rattle.std.proofs.Common.{◌≡◌, ◌∙◌, ◌⊎◌, ◌≤◌, ◌<◌, ◌+◌, ◌++◌, ℕ, Bool, true, false, List, [], ◌∷◌, Option, Some, None, refl, sym, ap, ap₂, subst, inl, inr, length, map, take, drop, get_or, arith, append-nil, ⊎_elim}
+use Rattle.std.proofs.Common.{◌≡◌, ◌∙◌, ◌⊎◌, ◌≤◌, ◌<◌, ◌+◌, ◌++◌, ℕ, suc, Bool, true, false, List, [], ◌∷◌, Option, Some, None, refl, sym, ap, ap₂, subst, inl, inr, length, map, take, drop, get_or, arith, append-nil, ⊎_elim}
 use Rattle.std.specs.Prelude.{Result, Ok, Err, All, ◌||◌, sum_by}
 use Rattle.std.specs.List.{AllZip}
 use Rattle.std.specs.Io.KnownBytes.{Consumes, IsAtEnd}
@@ -89,7 +89,7 @@ zip_length : (files : List NamedFile) (sources : List Scanned) → AllZip IsAcce
 zip_length [] [] h = refl
 zip_length [] (y ∷ ys) h = absurd h
 zip_length (x ∷ xs) [] h = absurd h
-zip_length (x ∷ xs) (y ∷ ys) h = ap (λ n. n + 1) (zip_length xs ys h)
+zip_length (x ∷ xs) (y ∷ ys) h = ap suc (zip_length xs ys h.1)
 
 numbered_more : (n : ℕ) (sources : List Scanned) (s : Scanned) → numbered_files n (sources ++ s ∷ []) ≡ numbered_files n sources ++ record { number = n + length sources; source = s } ∷ []
 numbered_more n [] s = let same : n ≡ n + 0 = omega arith in ap (λ (k : ℕ). record { number = k; source = s } ∷ []) same

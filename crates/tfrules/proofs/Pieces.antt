@@ -76,3 +76,6 @@ flushed_behind a b c f u s t same p k = subst (TookBy f (record { before = a; af
     by : (g : Bool) → Appends a c s → TookBy g (record { before = a; after = c; failed = f; flushed = u }) s
     by false p = p
     by true p = let within : length s ≤ length s = omega arith in (length s, within, subst (Appends a c) (sym (take_all (length s) s within)) p)
+
+pub retold : (a b : Option (List ℕ)) (f u : Bool) (s t : List ℕ) → s ≡ t → TookBy f (record { before = a; after = b; failed = f; flushed = u }) s → TookBy f (record { before = a; after = b; failed = f; flushed = u }) t
+retold a b f u s t e p = subst (TookBy f (record { before = a; after = b; failed = f; flushed = u })) e p

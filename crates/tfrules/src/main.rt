@@ -9,6 +9,8 @@ mod report;
 mod run;
 mod stop;
 mod system_files;
+#[cfg(test)]
+mod tests;
 mod usage;
 
 use crate::system_files::SystemFiles;
