@@ -1,4 +1,4 @@
-# `make` proves the crates and builds the program as bin/tffmt; `make test` runs the whole gate; `make install PREFIX=FOLDER`
+# `make` proves the crates and builds the programs as bin/tffmt and bin/tfrules; `make test` runs the whole gate; `make install PREFIX=FOLDER`
 # puts the program, the scripts round it, their man pages, completions and examples below the folder.
 .PHONY: all test install uninstall clean
 
@@ -13,18 +13,20 @@ BASH = $(DESTDIR)$(PREFIX)/share/bash-completion/completions
 ZSH = $(DESTDIR)$(PREFIX)/share/zsh/site-functions
 FISH = $(DESTDIR)$(PREFIX)/share/fish/vendor_completions.d
 
-all: bin/tffmt
+all: bin/tffmt bin/tfrules
 
 bin/tffmt: $(shell find crates -name out -prune -o -type f -print) crates.txt
 	./tools/prove
 
+bin/tfrules: bin/tffmt
+
 test:
 	./tests/gate
 
-install: bin/tffmt
+install: bin/tffmt bin/tfrules
 	install -d "$(BIN)" "$(MAN)" "$(DOC)/examples/ci" "$(DOC)/examples/editors/vscode" \
 	  "$(DOC)/examples/editors/jetbrains" "$(BASH)" "$(ZSH)" "$(FISH)"
-	install -m 755 bin/tffmt contrib/tffmt-all contrib/tffmt-hook "$(BIN)"
+	install -m 755 bin/tffmt bin/tfrules contrib/tffmt-all contrib/tffmt-hook "$(BIN)"
 	install -m 644 man/tffmt.1 man/tffmt-all.1 man/tffmt-hook.1 "$(MAN)"
 	install -m 644 VERSION CHANGELOG.md docs/STYLE.md "$(DOC)"
 	install -m 644 contrib/pre-commit-config.yaml contrib/treefmt.toml "$(DOC)/examples"
@@ -40,7 +42,7 @@ install: bin/tffmt
 uninstall:
 	for name in $(COMMANDS); do \
 	  rm -f "$(BIN)/$$name" "$(MAN)/$$name.1" "$(BASH)/$$name" "$(FISH)/$$name.fish" || exit 1; done
-	rm -f "$(ZSH)/_tffmt"
+	rm -f "$(BIN)/tfrules" "$(ZSH)/_tffmt"
 	rm -rf "$(DOC)"
 
 clean:

@@ -1,7 +1,7 @@
 -- An input has one answer at most, and a run in which nothing failed gives it.
 use Rattle.std.proofs.Common.{cond, ◌≡◌, ◌∙◌, ℕ, ◌≤◌, ◌<◌, ◌++◌, Bool, true, false, List, [], Option, Some, None, refl, sym, ap, subst, inl, inr, ◌⊎◌, ⊎_elim, length, arith, append-nil}
 use Rattle.std.specs.Io.KnownBytes.{Consumes, IsAtEnd}
-use Rattle.std.specs.Prelude.{Result, Ok, Err, nat_lt}
+use Rattle.std.specs.Prelude.{Result, Ok, Err, nat_lt, ◌||◌}
 use Rattle.std.specs.Str.{bytes_eq}
 use Rattle.std.proofs.lemmas.Bool.Decides.{nat_tests}
 use Rattle.hcl_layout.specs.Print.{print}
@@ -15,7 +15,8 @@ use Rattle.hcl_source.specs.declared.fault.Fault.{Fault}
 use Rattle.hcl_source.proofs.LoadLemmas.{one_load_fault, text_or_fault, too_large_too}
 use Rattle.hcl_scan.proofs.RunLemmas.{one_scan, one_fault, no_fault}
 use Rattle.hcl_scan.proofs.SpellingLemmas.{one_kind, nonempty}
-use Rattle.tffmt.specs.Rows.{Row, Shows, Gives, IsRow, OfInput, OrOutOfMemory}
+use Rattle.command_line.specs.Rows.{Row, End, Shows, OrOutOfMemory}
+use Rattle.tffmt.specs.Rows.{IsRow, OfInput, formatter}
 use Rattle.tffmt.specs.Answer.{refused, too_large, row_of_file, row_by, IsTextAnswer, IsFileAnswer, IsAnswerBy, IsAnswer}
 use Rattle.tffmt.specs.Line.{options_of}
 use Rattle.tffmt.specs.declared.options.FmtOptions.{FmtOptions}
@@ -72,43 +73,37 @@ fault_of_input options (Some xs) (Some ys) bytes fault taken done x =
 
 -- ---- a run in which nothing failed and memory was there
 
-module _ (answer : List ℕ → Row → Type 0) where
-  abbrev Answered : Option (List ℕ) → Bool → Bool → Option (List ℕ) → Option (List ℕ) → Option (List ℕ) → Option (List ℕ) → ℕ → Type 0
-  Answered left u v out out' err err' status = OfInput left (λ input. (row : Row) × answer input row × Gives row u v out out' err err' status)
+module _ (answer : List ℕ → Row → Type 0) (end : End) where
+  abbrev Answered : Option (List ℕ) → Type 0
+  Answered left = OfInput left (λ input. (row : Row) × answer input row × Shows formatter row end)
 
-  given : (row : Row) (u v : Bool) (out out' err err' : Option (List ℕ)) (status : ℕ) → Shows row false false u v out out' err err' status → Gives row u v out out' err err' status
-  given row u v out out' err err' status s = record { output = s.output; message = s.message; exit = s.exit; flush = s.flush refl; unflushed = s.unflushed refl }
+  by_row : (left : Option (List ℕ)) (row : Row) → OfInput left (λ input. answer input row) → Shows formatter row end → Answered left
+  by_row None row a s = (a.0, (row, a.1, s))
+  by_row (Some input) row a s = (row, a, s)
 
-  by_row : (left : Option (List ℕ)) (row : Row) (u v : Bool) (out out' err err' : Option (List ℕ)) (status : ℕ) → OfInput left (λ input. answer input row) → Gives row u v out out' err err' status → Answered left u v out out' err err' status
-  by_row None row u v out out' err err' status a g = (a.0, (row, a.1, g))
-  by_row (Some input) row u v out out' err err' status a g = (row, a, g)
+  or_memory : (left : Option (List ℕ)) (row : Row) → OrOutOfMemory formatter (λ r. OfInput left (λ input. answer input r)) row → Shows formatter row end
+      → (end.out.failed || end.err.failed) ≡ false → (end.status ≡ 4 → ⊥) → Answered left
+  or_memory left row (inl e) s fine four = absurd (four (s.exit ∙ ap (λ b. cond b 4 row.status) fine ∙ ap (λ (r : Row). r.status) e))
+  or_memory left row (inr a) s fine four = by_row left row a s
 
-  or_memory : (left : Option (List ℕ)) (row : Row) (u v : Bool) (out out' err err' : Option (List ℕ)) (status : ℕ)
-      → OrOutOfMemory (λ r. OfInput left (λ input. answer input r)) row → Shows row false false u v out out' err err' status → (status ≡ 4 → ⊥) → Answered left u v out out' err err' status
-  or_memory left row u v out out' err err' status (inl e) s four = absurd (four (s.exit ∙ ap (λ (r : Row). r.status) e))
-  or_memory left row u v out out' err err' status (inr a) s four = by_row left row u v out out' err err' status a (given row u v out out' err err' status s)
-
-  pub answered : (left : Option (List ℕ)) (r o e u v : Bool) (out out' err err' : Option (List ℕ)) (status : ℕ)
-      → (row : Row) × IsRow answer r left row × Shows row o e u v out out' err err' status
-      → r ≡ false → o ≡ false → e ≡ false → (status ≡ 4 → ⊥) → Answered left u v out out' err err' status
-  answered left r o e u v out out' err err' status w p q s four =
-      or_memory left w.0 u v out out' err err' status (subst (λ b. IsRow answer b left w.0) p w.1)
-      (subst (λ b. Shows w.0 false b u v out out' err err' status) s (subst (λ b. Shows w.0 b e u v out out' err err' status) q w.2)) four
+  pub answered : (left : Option (List ℕ)) (r : Bool) → (row : Row) × IsRow answer r left row × Shows formatter row end
+      → r ≡ false → end.out.failed ≡ false → end.err.failed ≡ false → (end.status ≡ 4 → ⊥) → Answered left
+  answered left r w p q s four = or_memory left w.0 (subst (λ b. IsRow answer b left w.0) p w.1) w.2 (ap (λ b. b || end.err.failed) q ∙ s) four
 
 -- ---- the row of what was read
 
 module _ (options : FmtOptions) where
-  row_at : (failed : Bool) (left : Option (List ℕ)) (row : Row) → failed ≡ false → OrOutOfMemory (λ r. OfInput left (λ input. IsFileAnswer options input r)) row → IsRow (IsFileAnswer options) failed left row
+  row_at : (failed : Bool) (left : Option (List ℕ)) (row : Row) → failed ≡ false → OrOutOfMemory formatter (λ r. OfInput left (λ input. IsFileAnswer options input r)) row → IsRow (IsFileAnswer options) failed left row
   row_at failed left row e h = subst (λ b. IsRow (IsFileAnswer options) b left row) (sym e) h
 
   pub row_of_text : (failed : Bool) (left left' : Option (List ℕ)) (source bytes : List ℕ) (row : Row) → failed ≡ false → Consumes left left' bytes → source ≡ bytes → IsText bytes → IsAtEnd left'
-      → OrOutOfMemory (IsTextAnswer options source) row → IsRow (IsFileAnswer options) failed left row
+      → OrOutOfMemory formatter (IsTextAnswer options source) row → IsRow (IsFileAnswer options) failed left row
   row_of_text failed left left' source bytes row e taken is text done (inl m) = row_at failed left row e (inl m)
   row_of_text failed left left' source bytes row e taken is text done (inr a) =
       row_at failed left row e (inr (whole_input left left' bytes (λ input. IsFileAnswer options input row) taken done (inr (text, subst (λ l. IsTextAnswer options l row) is a))))
 
   pub row_of_fault : (failed : Bool) (left left' : Option (List ℕ)) (bytes : List ℕ) (fault : Fault) (row : Row) → failed ≡ false → Consumes left left' bytes → IsLoadFault bytes fault → (length bytes ≤ max_source → IsAtEnd left')
-      → OrOutOfMemory (λ r. r ≡ refused fault) row → IsRow (IsFileAnswer options) failed left row
+      → OrOutOfMemory formatter (λ r. r ≡ refused fault) row → IsRow (IsFileAnswer options) failed left row
   row_of_fault failed left left' bytes fault row e taken x done (inl m) = row_at failed left row e (inl m)
   row_of_fault failed left left' bytes fault row e taken x done (inr is) =
       row_at failed left row e (inr (subst (λ (r : Row). OfInput left (λ input. IsFileAnswer options input r)) (sym is) (fault_of_input options left left' bytes fault taken done x)))
@@ -131,7 +126,7 @@ row_of_options r options failed left row (inr e) w = subst (λ (x : Result FmtOp
 lt_true : (a b : ℕ) → a < b → nat_lt a b ≡ true
 lt_true a b h = grind (arith, nat_tests)
 
-pub row_too_large : (options : FmtOptions) (s : Scanned) (row : Row) → max_source < length (print s.tokens) → OrOutOfMemory (λ r. r ≡ refused too_large) row → OrOutOfMemory (λ r. r ≡ row_of_file options s) row
+pub row_too_large : (options : FmtOptions) (s : Scanned) (row : Row) → max_source < length (print s.tokens) → OrOutOfMemory formatter (λ r. r ≡ refused too_large) row → OrOutOfMemory formatter (λ r. r ≡ row_of_file options s) row
 row_too_large options s row more (inl m) = inl m
 row_too_large options s row more (inr is) = inr (is ∙ sym (too_large_row (lt_true max_source (length (print s.tokens)) more)))
   where

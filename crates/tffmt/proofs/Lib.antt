@@ -1,3 +1,2 @@
-pub mod Failed
 pub mod Answers
 pub mod PrintAgain

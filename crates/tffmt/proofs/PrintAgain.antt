@@ -17,7 +17,7 @@ use Rattle.hcl_layout.specs.Reprinted.{printed_tokens}
 use Rattle.hcl_layout.proofs.RescanLemmas.{scans_again}
 use Rattle.hcl_layout.proofs.PlaceLemmas.{print_again, seen_again}
 use Rattle.hcl_layout.proofs.LoadLemmas.{loads_again}
-use Rattle.tffmt.specs.Rows.{Row}
+use Rattle.command_line.specs.Rows.{Row}
 use Rattle.tffmt.specs.Answer.{refused, too_large, row_of_file, row_by, IsFileAnswer, IsAnswerBy, IsAnswer}
 use Rattle.tffmt.specs.Line.{options_of}
 use Rattle.tffmt.specs.PrintAgain.{AskForPrint, AskForCheck, printed, formatted}

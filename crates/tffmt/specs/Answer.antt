@@ -1,7 +1,6 @@
 -- What `tffmt` answers to a line of words and an input.
-use Rattle.std.specs.Prelude.{◌≡◌, ◌⊎◌, ℕ, List, [], ◌++◌, Result, Ok, Err, codes, decimal, length, nat_lt, if◌then◌else◌}
+use Rattle.std.specs.Prelude.{◌≡◌, ◌⊎◌, ℕ, List, [], Result, Ok, Err, codes, length, nat_lt, if◌then◌else◌}
 use Rattle.std.specs.Str.{bytes_eq}
-use Rattle.hcl_source.specs.FaultTexts.{fault_text}
 use Rattle.hcl_source.specs.Places.{place}
 use Rattle.hcl_source.specs.Load.{max_source, IsText, IsLoadFault}
 use Rattle.hcl_scan.specs.Lexemes.{Lexeme}
@@ -13,7 +12,8 @@ use Rattle.hcl_source.specs.declared.fault.FaultKind.{FaultKind}
 use Rattle.hcl_source.specs.declared.fault.FaultKind.TheVariants.{ResultTooLarge}
 use Rattle.hcl_syntax.specs.Verdict.{verdict}
 use Rattle.hcl_layout.specs.Print.{print}
-use Rattle.tffmt.specs.Rows.{Row, line}
+use Rattle.command_line.specs.Rows.{Row, line, error, fault_words}
+use Rattle.tffmt.specs.Rows.{formatter}
 use Rattle.tffmt.specs.Line.{options_of}
 use Rattle.tffmt.specs.declared.options.FmtOptions.{FmtOptions}
 use Rattle.tffmt.specs.declared.options.Usage.{Usage}
@@ -21,7 +21,7 @@ use Rattle.tffmt.specs.declared.options.Usage.TheVariants as usage
 
 -- `tffmt: error: LINE:COLUMN: TEXT`
 abbrev pub fault_line : Fault → List ℕ
-fault_line fault = codes "tffmt: error: " ++ (decimal fault.at.line ++ (codes ":" ++ (decimal fault.at.column ++ (codes ": " ++ line (fault_text fault.kind)))))
+fault_line fault = error formatter (fault_words fault)
 
 -- the row of a refused file: nothing but its one fault line
 abbrev pub refused : Fault → Row

@@ -1,7 +1,7 @@
 -- What is said of a print that is given as input again: words that ask for a print, words that ask for a check, and the
 -- rows that these then have.
 use Rattle.std.specs.Prelude.{◌≡◌, ℕ, true, false, List, [], Ok}
-use Rattle.tffmt.specs.Rows.{Row}
+use Rattle.command_line.specs.Rows.{Row}
 use Rattle.tffmt.specs.Line.{options_of}
 
 -- the words are taken, and ask for no help and no check

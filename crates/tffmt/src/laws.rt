@@ -2,7 +2,7 @@
 //! the laws.
 
 ghost use Rattle.std.specs.Prelude.{◌≡◌, ℕ, List, map};
-ghost use Rattle.tffmt.specs.Rows.{Row};
+ghost use Rattle.command_line.specs.Rows.{Row};
 ghost use Rattle.tffmt.specs.Answer.{IsAnswer};
 ghost use Rattle.tffmt.specs.PrintAgain.{AskForCheck, AskForPrint, formatted, printed};
 

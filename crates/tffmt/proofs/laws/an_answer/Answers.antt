@@ -13,7 +13,7 @@ use Rattle.hcl_source.specs.Places.{place}
 use Rattle.hcl_scan.specs.Scans.{Scans}
 use Rattle.hcl_source.specs.declared.fault.FaultKind.{FaultKind}
 use Rattle.hcl_syntax.specs.Verdict.{verdict}
-use Rattle.tffmt.specs.Rows.{Row}
+use Rattle.command_line.specs.Rows.{Row}
 use Rattle.tffmt.specs.Line.{line_of, options_of, tffmt, usage_of_kind}
 use Rattle.tffmt.specs.Answer.{IsAnswerBy, IsFileAnswer, IsTextAnswer, refused, row_by, usage_line}
 use Rattle.tffmt.specs.declared.options.FmtOptions.{FmtOptions}

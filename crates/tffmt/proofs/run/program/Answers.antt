@@ -1,7 +1,16 @@
 use Rattle.std.proofs.Common.{map}
 use Rattle.tffmt.specs.Answer.{IsAnswer}
-use Rattle.tffmt.proofs.Answers.{answered}
+use Rattle.tffmt.specs.Line.{options_of}
+use Rattle.tffmt.proofs.Answers.{answered, row_of_options}
 use Rattle.tffmt.proofs.run.program.Goals as goal
 
-pub returns-clause-answer : goal.returns-clause-answer
-returns-clause-answer g c = answered (IsAnswer (map (λ word. word.now) c.args.words.now)) _ _ _ _ _ _ _ _ _ _ _ c.start.ensures.row
+pub returns-in-Ok-clause-row : goal.returns-in-Ok-clause-row
+returns-in-Ok-clause-row g c =
+    let w = c.run.ensures in
+    (w.0, row_of_options (options_of (map (λ word. word.now) c.args.words.now)) c.in-Ok.options _ _ w.0 c.in-Ok.ensures w.1, w.2)
+
+pub returns-in-Ok-clause-answer : goal.returns-in-Ok-clause-answer
+returns-in-Ok-clause-answer g c =
+    let w = c.run.ensures in
+    answered (IsAnswer (map (λ word. word.now) c.args.words.now)) _ _ _
+    (w.0, row_of_options (options_of (map (λ word. word.now) c.args.words.now)) c.in-Ok.options _ _ w.0 c.in-Ok.ensures w.1, w.2)

@@ -1,0 +1,92 @@
+-- How a run ends: what it is to show, and what stands where a device failed. Both programs end so. They differ in the name
+-- by which they call themselves, and in the status where a device failed or memory ran out. Our own choice.
+use Rattle.std.specs.Prelude.{◌≡◌, ◌⊎◌, ◌||◌, ◌≤◌, ◌<◌, ℕ, Bool, true, false, List, [], ◌∷◌, ◌++◌, Option, codes, decimal, length, take, if◌then◌else◌}
+use Rattle.std.specs.Io.KnownBytes.{Appends}
+use Rattle.hcl_source.specs.FaultTexts.{fault_text}
+use Rattle.hcl_source.specs.declared.fault.Fault.{Fault}
+
+-- what tells a program from the other
+pub record Program : Type 0 where
+  pub name : List ℕ
+  pub failure : ℕ  -- its status where a device failed or memory ran out
+
+-- what a run is to write to standard output and to standard error, and its exit status
+pub record Row : Type 0 where
+  pub out : List ℕ
+  pub err : List ℕ
+  pub status : ℕ
+
+abbrev pub line : List ℕ → List ℕ
+line text = text ++ 10 ∷ []
+
+-- `NAME: error: ` and what follows
+abbrev pub error : Program → List ℕ → List ℕ
+error program rest = program.name ++ (codes ": error: " ++ rest)
+
+-- `NAME: error: TEXT`
+abbrev pub error_line : Program → List ℕ → List ℕ
+error_line program text = error program (line text)
+
+-- `LINE:COLUMN: TEXT`, to the end of the line
+abbrev pub fault_words : Fault → List ℕ
+fault_words fault = decimal fault.at.line ++ (codes ":" ++ (decimal fault.at.column ++ (codes ": " ++ line (fault_text fault.kind))))
+
+abbrev pub write_failed : Program → List ℕ
+write_failed program = error_line program (codes "write failed")
+
+-- nothing but an error
+abbrev pub fails_with : Program → List ℕ → Row
+fails_with program text = record { out = []; err = error_line program text; status = program.failure }
+
+abbrev pub out_of_memory : Program → Row
+out_of_memory program = fails_with program (codes "out of memory")
+
+-- ---- devices
+
+-- a writer before and after a run
+pub record Writer : Type 0 where
+  pub before : Option (List ℕ)  -- the bytes that it had taken, where it tells them
+  pub after : Option (List ℕ)
+  pub failed : Bool  -- a call of it failed
+  pub flushed : Bool  -- all that it took has been flushed
+
+abbrev pub writer : {D : Type 0} → (D → Option (List ℕ)) → (D → Bool) → (D → Bool) → D → D → Writer
+writer taken failed flushed old new = record { before = taken old; after = taken new; failed = failed new; flushed = flushed new }
+
+-- the two writers of a run, and its exit status
+pub record End : Type 0 where
+  pub out : Writer
+  pub err : Writer
+  pub status : ℕ
+
+-- a writer took the text, or where it failed a part of it from its front
+abbrev pub TookBy : Bool → Writer → List ℕ → Type 0
+TookBy false w text = Appends w.before w.after text
+TookBy true w text = (n : ℕ) × (n ≤ length text) × Appends w.before w.after (take n text)
+
+abbrev pub Took : Writer → List ℕ → Type 0
+Took w text = TookBy w.failed w text
+
+-- what goes to standard error
+abbrev pub told : Program → Bool → Row → List ℕ
+told program out_failed row = if out_failed then write_failed program else row.err
+
+-- A run that is to show the row ends so: each writer took its text, standard error that of the failed write
+-- where standard output failed, and the status is that of a failure where a writer failed. Standard output is flushed
+-- behind its text, and standard error isn't. Where there is no text a writer is not called, so it can't fail.
+pub record Shows (program : Program) (row : Row) (end : End) : Type 0 where
+  pub output : Took end.out row.out
+  pub message : Took end.err (told program end.out.failed row)
+  pub exit : end.status ≡ (if end.out.failed || end.err.failed then program.failure else row.status)
+  pub flush : end.out.failed ≡ false → 0 < length row.out → end.out.flushed ≡ true
+  pub unflushed : end.err.failed ≡ false → 0 < length (told program end.out.failed row) → end.err.flushed ≡ false
+  pub no_output : length row.out ≡ 0 → end.out.failed ≡ false
+  pub no_message : length (told program end.out.failed row) ≡ 0 → end.err.failed ≡ false
+
+-- a run shows a row of which this holds
+abbrev pub ShowsOne : Program → (Row → Type 0) → End → Type 0
+ShowsOne program P end = (row : Row) × P row × Shows program row end
+
+-- the row for want of memory, or one of which this holds
+abbrev pub OrOutOfMemory : Program → (Row → Type 0) → Row → Type 0
+OrOutOfMemory program P row = (row ≡ out_of_memory program) ⊎ P row

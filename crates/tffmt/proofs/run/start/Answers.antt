@@ -1,9 +1,0 @@
-use Rattle.std.proofs.Common.{map}
-use Rattle.tffmt.specs.Line.{options_of}
-use Rattle.tffmt.proofs.Answers.{row_of_options}
-use Rattle.tffmt.proofs.run.start.Goals as goal
-
-pub returns-in-Ok-clause-row : goal.returns-in-Ok-clause-row
-returns-in-Ok-clause-row g c =
-    let w = c.run.ensures in
-    (w.0, row_of_options (options_of (map (λ word. word.now) c.args.words.now)) c.in-Ok.options _ _ w.0 c.in-Ok.ensures w.1, w.2)

@@ -1,0 +1,6 @@
+pub mod Line
+pub mod Files
+pub mod Report
+pub mod Answer
+pub mod Rows
+pub mod Inner

@@ -1,0 +1,43 @@
+//! What the files of a module are read from.
+
+ghost use Rattle.std.specs.Prelude.{◌≡◌, ◌||◌, ℕ, Bool, false, List, Option, IfOk, is_err};
+
+use hcl_scan::ByteSource;
+
+/// A file can't be opened.
+#[derive(Clone, Copy, Debug, PartialEq, Eq)]
+pub struct OpenFault;
+
+/// Files by their names.
+pub trait ModuleFiles {
+    type Reader: ByteSource + Drop;
+
+    /// The bytes of the file of a name, where the device tells them.
+    ghost told: { Self → List ℕ → Option (List ℕ) };
+
+    /// An opening has failed.
+    ghost open_failed: { Self → Bool };
+
+    /// A reader in which a read has failed was given back.
+    ghost read_failed: { Self → Bool };
+
+    /// A reader of the file of this name, from its start.
+    fn reader(&mut self, name: &str) -> Result<Self::Reader, OpenFault>
+        requires opened { open_failed self.old ≡ false }
+        requires read { read_failed self.old ≡ false }
+        ensures fresh { IfOk result (λ r. Self.Reader.failed r ≡ false) }
+        ensures bytes { IfOk result (λ r. Self.Reader.left r ≡ told self.old name.now) }
+        ensures told { (other : List ℕ) → told self.new other ≡ told self.old other }
+        ensures open_failed { open_failed self.new ≡ is_err result }
+        ensures read_failed { read_failed self.new ≡ false };
+
+    /// Takes a reader back after its last read.
+    fn give_back(&mut self, reader: Self::Reader)
+        ensures told { (other : List ℕ) → told self.new other ≡ told self.old other }
+        ensures open_failed { open_failed self.new ≡ open_failed self.old }
+        ensures read_failed { read_failed self.new ≡ (read_failed self.old || Self.Reader.failed reader) };
+
+    /// Whether an opening has failed or a failed reader was given back so far.
+    fn has_failed(&self) -> bool
+        ensures { result ≡ (open_failed self.now || read_failed self.now) };
+}

@@ -1,0 +1,6 @@
+// old
+variable "n" {}
+locals {
+  Bad = "${var.n}"
+  u   = aws.x.0
+}

@@ -1,0 +1,3 @@
+module "m" {
+  source = "app/x/y/aws"
+}

@@ -1,0 +1,3 @@
+module "m" {
+  source = "hg::http://e.com/r?ref=v1"
+}

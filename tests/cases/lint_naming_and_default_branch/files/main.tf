@@ -1,0 +1,3 @@
+module "M" {
+  source = "github.com/a/b?ref=main"
+}

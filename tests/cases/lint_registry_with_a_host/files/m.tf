@@ -1,0 +1,3 @@
+module "m" {
+  source = "app.terraform.io/x/y/aws"
+}

@@ -1,0 +1,2 @@
+# tflint-ignore: nope
+variable "n" {}

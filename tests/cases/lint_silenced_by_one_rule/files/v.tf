@@ -1,0 +1,2 @@
+# tflint-ignore: terraform_typed_variables
+variable "n" {}

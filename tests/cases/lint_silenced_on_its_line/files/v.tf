@@ -1,0 +1,1 @@
+variable "n" {} // tflint-ignore: all

@@ -1,0 +1,3 @@
+# tflint-ignore: all
+
+variable "n" {}

@@ -1,0 +1,5 @@
+output "o" {
+  value = <<EOT
+${var.n}
+EOT
+}

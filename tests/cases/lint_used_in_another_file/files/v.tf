@@ -1,0 +1,6 @@
+variable "n" {
+  type = string
+  validation {
+    condition = var.n != ""
+  }
+}
