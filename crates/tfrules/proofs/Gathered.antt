@@ -118,12 +118,12 @@ reached_more told names i size more name here old new lt named same p a =
       files = p.files ++ file ∷ [];
       named = map-append (λ (f : NamedFile). f.name) p.files (file ∷ []) ∙ ap₂ (λ (l : List (List ℕ)) (x : List ℕ). l ++ x ∷ []) p.named named ∙ sym (take_more names i [] lt);
       are = All-append (λ (f : NamedFile). Tells (told f.name) f.bytes) p.files (file ∷ []) p.are
-      (All-cons (λ (f : NamedFile). Tells (told f.name) f.bytes) file [] (subst (λ t. Tells t a.bytes) same a.is) (All-nil (λ (f : NamedFile). Tells (told f.name) f.bytes)));
+          (All-cons (λ (f : NamedFile). Tells (told f.name) f.bytes) file [] (subst (λ t. Tells t a.bytes) same a.is) (All-nil (λ (f : NamedFile). Tells (told f.name) f.bytes)));
       sources = p.sources ++ a.source ∷ [];
       accepted = record { each = all_zip_push p.files p.sources file a.source p.accepted.each (a.text, a.outcome); fit = subst (λ n. n ≤ max_module) (sym sum) a.fits };
       size_is = sym sum;
       kept_is = a.kept ∙ ap (λ k. with_file k (record { number = i; source = a.source })) p.kept_is ∙ sym (kept_of_more (numbered_files 0 p.sources) (record { number = i; source = a.source }))
-      ∙ ap kept_of (ap (λ (k : ℕ). numbered_files 0 p.sources ++ record { number = k; source = a.source } ∷ []) (sym count ∙ zip_length p.files p.sources p.accepted.each ∙ zero_more (length p.sources)) ∙ sym (numbered_more 0 p.sources a.source));
+          ∙ ap kept_of (ap (λ (k : ℕ). numbered_files 0 p.sources ++ record { number = k; source = a.source } ∷ []) (sym count ∙ zip_length p.files p.sources p.accepted.each ∙ zero_more (length p.sources)) ∙ sym (numbered_more 0 p.sources a.source));
     }
   where
     zero_more : (n : ℕ) → n ≡ 0 + n

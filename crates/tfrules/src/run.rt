@@ -21,7 +21,8 @@ use hcl_scan::{ByteSink, Fault};
 use std::alloc::{AllocError, Global};
 use tf_rules::{Facts, Issue};
 
-static USAGE: &str = "usage: tfrules [--rules LIST] [--naming snake_case|mixed_snake_case] [--minimum-failure-severity error|warning|notice] [--force] [--help] FILE...\n";
+static USAGE: &str =
+    "usage: tfrules [--rules LIST] [--naming snake_case|mixed_snake_case] [--minimum-failure-severity error|warning|notice] [--force] [--help] FILE...\n";
 
 /// This program as its messages have it.
 fn linter() -> Program

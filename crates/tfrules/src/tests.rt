@@ -118,7 +118,8 @@ pub fn check(
     assert_eq!(rt; module.given_back, calls.1);
 }
 
-static USAGE: &[u8] = b"usage: tfrules [--rules LIST] [--naming snake_case|mixed_snake_case] [--minimum-failure-severity error|warning|notice] [--force] [--help] FILE...\n";
+static USAGE: &[u8] =
+    b"usage: tfrules [--rules LIST] [--naming snake_case|mixed_snake_case] [--minimum-failure-severity error|warning|notice] [--force] [--help] FILE...\n";
 
 const NO_FILES: [(&str, &[u8]); 0] = [];
 
@@ -189,22 +190,24 @@ fn a_name_that_comes_again_is_read_once(rt: HostRuntime) {
 fn issues_give_a_report_and_a_status(rt: HostRuntime) {
     let text = b"module \"m\" {\n  source = \"hashicorp/consul/aws\"\n}\n";
     let files: [(&str, &[u8]); 1] = [("main.tf", text)];
-    let report = b"1 issue(s) found:\n\nmain.tf:1:1: Warning - module \"m\" has no version (terraform_module_version)\n".as_slice();
+    let report =
+        b"1 issue(s) found:\n\nmain.tf:1:1: Warning - module \"m\" has no version (terraform_module_version)\n".as_slice();
     for (words, status) in [
         (["tfrules", "main.tf"].as_slice(), 2),
         (["tfrules", "--force", "main.tf"].as_slice(), 0),
         (
-            [
-                "tfrules",
-                "--minimum-failure-severity",
-                "error",
-                "main.tf",
-            ]
-            .as_slice(),
+            ["tfrules", "--minimum-failure-severity", "error", "main.tf"].as_slice(),
             0,
         ),
     ] {
         let module = (files.as_slice(), "");
-        check(&rt, rt.alloc(), words, module, (report, b"", status), (1, 1));
+        check(
+            &rt,
+            rt.alloc(),
+            words,
+            module,
+            (report, b"", status),
+            (1, 1),
+        );
     }
 }

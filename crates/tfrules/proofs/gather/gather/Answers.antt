@@ -11,9 +11,12 @@ pub loop-number-preserved : goal.loop-number-preserved
 loop-number-preserved g c =
     let lt : c.loop-number.number < length c.args.names.now = omega (arith, c.len-number-end.ensures.len, c.loop-number-test.true) in
     let kept = c.loop-number.invariant in
-    let a = c.in-Ok.ensures.adds in
-    (a.0, λ other. c.in-Ok.ensures.told other ∙ kept.1 other, a.1.fits,
-    reached_more _ c.args.names.now c.loop-number.number c.loop-number.size c.in-Ok.all c.get-name.result.now _ _ _ lt c.get-name.ensures (kept.1 c.get-name.result.now) kept.3 a.1)
+    let a = c.in-Ok.ensures.adds in (
+      a.0,
+      λ other. c.in-Ok.ensures.told other ∙ kept.1 other,
+      a.1.fits,
+      reached_more _ c.args.names.now c.loop-number.number c.loop-number.size c.in-Ok.all c.get-name.result.now _ _ _ lt c.get-name.ensures (kept.1 c.get-name.result.now) kept.3 a.1,
+    )
 
 pub returns-in-Err : goal.returns-in-Err
 returns-in-Err g c =

@@ -10,6 +10,8 @@ returns-in-Err-clause-took g c =
     (took_part _ _ _ _ c.as_bytes.result.now c.in-Err.fault.written c.in-Err.ensures.failed within c.in-Err.ensures.err) c.loop-piece.invariant.1
 
 pub loop-piece-preserved : goal.loop-piece-preserved
-loop-piece-preserved g c =
-    (c.in_default.ensures.failed, goes_on _ _ _ c.as_bytes.result.now _ _ _ (piece_here c.args.pieces.now c.loop-piece.piece-index _ c.as_bytes.result.now c.loop-piece-test.true c.as_bytes.ensures.value)
-    c.in_default.ensures.ok c.loop-piece.invariant.1)
+loop-piece-preserved g c = (
+  c.in_default.ensures.failed,
+  goes_on _ _ _ c.as_bytes.result.now _ _ _ (piece_here c.args.pieces.now c.loop-piece.piece-index _ c.as_bytes.result.now c.loop-piece-test.true c.as_bytes.ensures.value)
+      c.in_default.ensures.ok c.loop-piece.invariant.1,
+)

@@ -11,9 +11,12 @@ returns-in-Ok-clause-row g c =
     (w.0, options_row (g.M.ModuleFiles.told c.args.files.now) (options_of (map (λ word. word.now) c.args.words.now)) c.in-Ok.options _ _ w.0 c.in-Ok.ensures w.1, w.2)
 
 pub returns-in-Err-clause-row : goal.returns-in-Err-clause-row
-returns-in-Err-clause-row g c =
-    (usage_row c.in-Err.usage, usage_shown (g.M.ModuleFiles.told c.args.files.now) (options_of (map (λ word. word.now) c.args.words.now)) c.in-Err.usage _ _ c.requires.opened c.requires.read
-    (usage_or c.in-Err.usage _ c.in-Err.ensures), c.tell_usage.ensures)
+returns-in-Err-clause-row g c = (
+  usage_row c.in-Err.usage,
+  usage_shown (g.M.ModuleFiles.told c.args.files.now) (options_of (map (λ word. word.now) c.args.words.now)) c.in-Err.usage _ _ c.requires.opened c.requires.read
+      (usage_or c.in-Err.usage _ c.in-Err.ensures),
+  c.tell_usage.ensures,
+)
 
 pub returns-in-Ok-clause-unopened : goal.returns-in-Ok-clause-unopened
 returns-in-Ok-clause-unopened g c = unopened_by_options (options_of (map (λ word. word.now) c.args.words.now)) c.in-Ok.options _ c.in-Ok.ensures

@@ -14,8 +14,9 @@ returns-in-Err g c =
 pub returns-in-Ok-issues : goal.returns-in-Ok-issues
 returns-in-Ok-issues g c =
     let gathered = c.in_default-gather.ensures in
-    let found = c.in-Ok-issues.ensures (numbered_files 0 gathered.1.1.sources) gathered.1.1.kept_is (rising 0 gathered.1.1.sources) in
-    (report_row (asking_of c.args.options.now) c.as_slice.result.now,
-    inr (reported_row (g.M.ModuleFiles.told c.args.files.now) (asking_of c.args.options.now) _ _ _ _ c.as_slice.result.now gathered.0 gathered.1.1
-    (subst (rules.IsAnswer (asking_of c.args.options.now).asked (numbered_files 0 gathered.1.1.sources)) (sym c.as_slice.ensures.value) found)),
-    c.show.ensures)
+    let found = c.in-Ok-issues.ensures (numbered_files 0 gathered.1.1.sources) gathered.1.1.kept_is (rising 0 gathered.1.1.sources) in (
+      report_row (asking_of c.args.options.now) c.as_slice.result.now,
+      inr (reported_row (g.M.ModuleFiles.told c.args.files.now) (asking_of c.args.options.now) _ _ _ _ c.as_slice.result.now gathered.0 gathered.1.1
+          (subst (rules.IsAnswer (asking_of c.args.options.now).asked (numbered_files 0 gathered.1.1.sources)) (sym c.as_slice.ensures.value) found)),
+      c.show.ensures,
+    )
