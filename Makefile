@@ -1,11 +1,11 @@
 # `make` proves the crates and builds the programs as bin/tffmt and bin/tfrules; `make test` runs the whole gate; `make install PREFIX=FOLDER`
-# puts the program, the scripts round it, their man pages, completions and examples below the folder.
+# puts the programs, the scripts round it, their man pages, completions and examples below the folder.
 .PHONY: all test install uninstall clean
 
 PREFIX = /usr/local
 DESTDIR =
 
-COMMANDS = tffmt tffmt-all tffmt-hook
+COMMANDS = tffmt tfrules tffmt-all tffmt-hook
 BIN = $(DESTDIR)$(PREFIX)/bin
 MAN = $(DESTDIR)$(PREFIX)/share/man/man1
 DOC = $(DESTDIR)$(PREFIX)/share/doc/tffmt
@@ -27,8 +27,8 @@ install: bin/tffmt bin/tfrules
 	install -d "$(BIN)" "$(MAN)" "$(DOC)/examples/ci" "$(DOC)/examples/editors/vscode" \
 	  "$(DOC)/examples/editors/jetbrains" "$(BASH)" "$(ZSH)" "$(FISH)"
 	install -m 755 bin/tffmt bin/tfrules contrib/tffmt-all contrib/tffmt-hook "$(BIN)"
-	install -m 644 man/tffmt.1 man/tffmt-all.1 man/tffmt-hook.1 "$(MAN)"
-	install -m 644 VERSION CHANGELOG.md docs/STYLE.md "$(DOC)"
+	install -m 644 man/tffmt.1 man/tfrules.1 man/tffmt-all.1 man/tffmt-hook.1 "$(MAN)"
+	install -m 644 VERSION CHANGELOG.md docs/STYLE.md docs/RULES.md "$(DOC)"
 	install -m 644 contrib/pre-commit-config.yaml contrib/treefmt.toml "$(DOC)/examples"
 	install -m 644 contrib/ci/* "$(DOC)/examples/ci"
 	install -m 644 contrib/editors/*.* "$(DOC)/examples/editors"
@@ -42,7 +42,7 @@ install: bin/tffmt bin/tfrules
 uninstall:
 	for name in $(COMMANDS); do \
 	  rm -f "$(BIN)/$$name" "$(MAN)/$$name.1" "$(BASH)/$$name" "$(FISH)/$$name.fish" || exit 1; done
-	rm -f "$(BIN)/tfrules" "$(ZSH)/_tffmt"
+	rm -f "$(ZSH)/_tffmt"
 	rm -rf "$(DOC)"
 
 clean:

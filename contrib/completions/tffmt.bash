@@ -1,22 +1,32 @@
-# Completion of tffmt, tffmt-all and tffmt-hook for bash. `make install` puts it where bash-completion finds it;
+# Completion of tffmt, tfrules, tffmt-all and tffmt-hook for bash. `make install` puts it where bash-completion finds it;
 # without that, source it in ~/.bashrc.
 
 _tffmt() {
-  local word=${COMP_WORDS[COMP_CWORD]} before=${COMP_WORDS[COMP_CWORD - 1]} options i found
+  local word=${COMP_WORDS[COMP_CWORD]} before=${COMP_WORDS[COMP_CWORD - 1]} options values i found
   COMPREPLY=()
   case ${1##*/} in
     tffmt) options='--check --help' ;;
+    tfrules) options='--rules --naming --minimum-failure-severity --force --help' ;;
     tffmt-all) options='--check --diff --list --jobs --null --help' ;;
     tffmt-hook) options='--install --help' ;;
   esac
   for ((i = 1; i < COMP_CWORD; i++)); do
     [[ ${COMP_WORDS[i]} != -- ]] || options=
   done
-  if [[ $word == -* && -n $options ]]; then
+  case ${1##*/}:$before in
+    tfrules:--rules) values='default all' ;;
+    tfrules:--naming) values='snake_case mixed_snake_case' ;;
+    tfrules:--minimum-failure-severity) values='error warning notice' ;;
+  esac
+  if [[ -n $values ]]; then
+    while IFS= read -r found; do
+      COMPREPLY+=("$found")
+    done < <(compgen -W "$values" -- "$word")
+  elif [[ $word == -* && -n $options ]]; then
     while IFS= read -r found; do
       COMPREPLY+=("$found")
     done < <(compgen -W "$options" -- "$word")
-  elif [[ ${1##*/} == tffmt-all && $before != -j && $before != --jobs ]]; then
+  elif [[ ${1##*/} == tfrules || ${1##*/} == tffmt-all && $before != -j && $before != --jobs ]]; then
     compopt -o filenames 2>/dev/null
     while IFS= read -r found; do
       case $found in
@@ -27,4 +37,4 @@ _tffmt() {
   fi
 }
 
-complete -F _tffmt tffmt tffmt-all tffmt-hook
+complete -F _tffmt tffmt tfrules tffmt-all tffmt-hook

@@ -1,7 +1,13 @@
-# Completion of tffmt, tffmt-all and tffmt-hook for fish.
+# Completion of tffmt, tfrules, tffmt-all and tffmt-hook for fish.
 
 complete -c tffmt -f -l check -d 'Say by the status whether standard input is formatted'
 complete -c tffmt -f -s h -l help -d 'Print the usage line'
+
+complete -c tfrules -x -l rules -a 'default all' -d 'The rules that are looked at'
+complete -c tfrules -x -l naming -a 'snake_case mixed_snake_case' -d 'How names are to be written'
+complete -c tfrules -x -l minimum-failure-severity -a 'error warning notice' -d 'Fail only where an issue is as severe'
+complete -c tfrules -l force -d 'Do not fail because of issues'
+complete -c tfrules -f -s h -l help -d 'Print the usage line'
 
 complete -c tffmt-all -l check -d 'Report each file that is not formatted'
 complete -c tffmt-all -l diff -d 'Show what would change'

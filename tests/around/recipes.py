@@ -11,7 +11,7 @@ import xml.etree.ElementTree
 from editors import on_terminal
 from harness import BAD, GOOD, OTHER, TOP, lines, put
 
-PAGES = ['tffmt', 'tffmt-all', 'tffmt-hook']
+PAGES = ['tffmt', 'tfrules', 'tffmt-all', 'tffmt-hook']
 
 
 # --- completions -----------------------------------------------------------------------------------------------
@@ -156,7 +156,7 @@ def installing(group):
     wanted = ['bin/' + name for name in PAGES] + ['share/man/man1/%s.1' % name for name in PAGES]
     wanted += ['share/bash-completion/completions/' + name for name in PAGES]
     wanted += ['share/fish/vendor_completions.d/%s.fish' % name for name in PAGES] + ['share/zsh/site-functions/_tffmt']
-    wanted += ['share/doc/tffmt/' + name for name in ('VERSION', 'CHANGELOG.md', 'STYLE.md')]
+    wanted += ['share/doc/tffmt/' + name for name in ('VERSION', 'CHANGELOG.md', 'STYLE.md', 'RULES.md')]
     examples = ['pre-commit-config.yaml', 'treefmt.toml'] + [
         str(p.relative_to(TOP / 'contrib')) for folder in ('ci', 'editors') for p in (TOP / 'contrib' / folder).rglob('*')
         if not p.is_dir()]

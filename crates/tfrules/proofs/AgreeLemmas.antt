@@ -9,18 +9,18 @@ use Rattle.hcl_source.specs.declared.fault.Fault.{Fault}
 use Rattle.hcl_scan.specs.Lexemes.{Lexeme}
 use Rattle.hcl_scan.specs.Scanned.{Scanned}
 use Rattle.hcl_scan.specs.Scans.{Scans}
-use Rattle.hcl_scan.proofs.Runs.{one_scan}
-use Rattle.hcl_scan.proofs.SpellingLaws.{one_kind, nonempty}
+use Rattle.hcl_scan.proofs.RunLemmas.{one_scan}
+use Rattle.hcl_scan.proofs.SpellingLemmas.{one_kind, nonempty}
 use Rattle.hcl_syntax.specs.declared.refusal.Refusal.{Refusal}
 use Rattle.hcl_syntax.specs.Predictor.{refusal_of}
 use Rattle.hcl_syntax.specs.Classes.{lookaheads}
 use Rattle.hcl_syntax.specs.Verdict.{IsAccepted, fault_at, start_of, verdict_by}
 use Rattle.hcl_layout.specs.Print.{print}
 use Rattle.hcl_layout.specs.Reprinted.{printed_tokens}
-use Rattle.hcl_layout.proofs.PlacesForgotten.{seen_again}
-use Rattle.hcl_layout.proofs.PrintLoads.{loads_again}
-use Rattle.hcl_layout.proofs.PrintScans.{scans_again}
-use Rattle.hcl_layout.proofs.SameLines.{lines_again, numbered_again}
+use Rattle.hcl_layout.proofs.PlaceLemmas.{seen_again}
+use Rattle.hcl_layout.proofs.LoadLemmas.{loads_again}
+use Rattle.hcl_layout.proofs.RescanLemmas.{scans_again}
+use Rattle.hcl_layout.proofs.SameLineLemmas.{lines_again, numbered_again}
 use Rattle.tf_rules.specs.Agreement.{SameTokens}
 use Rattle.tf_rules.specs.Agreement as rules
 use Rattle.tf_rules.specs.Issues.{File}

@@ -5,3 +5,4 @@ pub mod Rules
 pub mod Words
 pub mod Gathered
 pub mod Ends
+pub mod AgreeLemmas

@@ -3,6 +3,7 @@
 
 mod file_names;
 mod gather;
+mod laws;
 mod module_files;
 mod options;
 mod report;
