@@ -71,7 +71,7 @@ same_tokens n file formatted source other is a b =
       number = refl;
       tokens = sym (numbered_again file.bytes source.tokens other.tokens first.scanned again);
       lines = λ k. ap (λ l. line_of l (start_of source.tokens k)) first.text ∙ sym (lines_again file.bytes source.tokens other.tokens first.scanned again k)
-      ∙ ap (λ l. line_of l (start_of other.tokens k)) (sym (second.text ∙ printed));
+          ∙ ap (λ l. line_of l (start_of other.tokens k)) (sym (second.text ∙ printed));
     }
 
 -- the print of an accepted file is accepted
@@ -81,8 +81,7 @@ accepted_print file formatted source is a small =
     let first = is_accepted file source a in
     let same : is.tokens ≡ source.tokens = one_scan one_kind nonempty file.bytes is.tokens source.tokens is.scanned first.scanned in
     let printed : formatted.bytes ≡ print source.tokens = is.printed ∙ ap print same in
-    let again : Scanned = record { text = formatted.bytes; tokens = printed_tokens source.tokens } in
-    (
+    let again : Scanned = record { text = formatted.bytes; tokens = printed_tokens source.tokens } in (
       subst IsText (sym printed) (loads_again file.bytes source.tokens a.0 first.scanned (subst (λ l. length l ≤ max_source) printed small)),
       inr (
         printed_tokens source.tokens,
