@@ -296,25 +296,6 @@ fn each_call_for_the_words_fails(rt: HostRuntime) {
     fail_each(&rt, rt.alloc(), bad, SINK_ROOM, (0, 0, 0, 1), 1);
 }
 
-// A read takes at most 16,384 bytes, and no more than one byte past the limit.
-#[test]
-fn each_read_of_what_is_too_large_fails(rt: HostRuntime) -> Result<(), Fail> {
-    let mut input = Vec::new(rt.alloc());
-    for _ in 0..200_000 {
-        input.extend_from_slice(b"a=1\n")?;
-    }
-    let line = b"tffmt: error: 1:1: result too large\n".as_slice();
-    let row = row_of(&PRINT, &input, (b"", line, 2));
-    fail_each(&rt, rt.alloc(), row, 16_384, (50, 0, 0, 1), 101);
-    for _ in 0..62_145 {
-        input.extend_from_slice(b"a=1\n")?;
-    }
-    let line = b"tffmt: error: 1:1: source too large\n".as_slice();
-    let row = row_of(&PRINT, &input, (b"", line, 2));
-    fail_each(&rt, rt.alloc(), row, 16_384, (65, 0, 0, 1), 131);
-    Ok(())
-}
-
 #[test]
 fn a_device_fails(rt: HostRuntime) {
     let a = b"a=1\n".as_slice();
