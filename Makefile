@@ -1,11 +1,12 @@
-# `make` proves the crates and builds the programs as bin/tffmt and bin/tfrules; `make test` runs the whole gate; `make install PREFIX=FOLDER`
-# puts the programs, the scripts round it, their man pages, completions and examples below the folder.
+# `make` proves the crates and builds the programs as bin/tffmt and bin/tfrules; `make test` runs the whole gate;
+# `make install PREFIX=FOLDER` puts the programs, the scripts round them, their man pages, completions and examples
+# below the folder.
 .PHONY: all test install uninstall clean
 
 PREFIX = /usr/local
 DESTDIR =
 
-COMMANDS = tffmt tfrules tffmt-all tffmt-hook
+COMMANDS = tffmt tfrules tffmt-all tffmt-hook tfrules-modules
 BIN = $(DESTDIR)$(PREFIX)/bin
 MAN = $(DESTDIR)$(PREFIX)/share/man/man1
 DOC = $(DESTDIR)$(PREFIX)/share/doc/tffmt
@@ -26,8 +27,8 @@ test:
 install: bin/tffmt bin/tfrules
 	install -d "$(BIN)" "$(MAN)" "$(DOC)/examples/ci" "$(DOC)/examples/editors/vscode" \
 	  "$(DOC)/examples/editors/jetbrains" "$(BASH)" "$(ZSH)" "$(FISH)"
-	install -m 755 bin/tffmt bin/tfrules contrib/tffmt-all contrib/tffmt-hook "$(BIN)"
-	install -m 644 man/tffmt.1 man/tfrules.1 man/tffmt-all.1 man/tffmt-hook.1 "$(MAN)"
+	install -m 755 bin/tffmt bin/tfrules contrib/tffmt-all contrib/tffmt-hook contrib/tfrules-modules "$(BIN)"
+	install -m 644 man/tffmt.1 man/tfrules.1 man/tffmt-all.1 man/tffmt-hook.1 man/tfrules-modules.1 "$(MAN)"
 	install -m 644 VERSION CHANGELOG.md docs/STYLE.md docs/RULES.md "$(DOC)"
 	install -m 644 contrib/pre-commit-config.yaml contrib/treefmt.toml "$(DOC)/examples"
 	install -m 644 contrib/ci/* "$(DOC)/examples/ci"

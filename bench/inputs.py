@@ -46,9 +46,9 @@ def _piece(draw, n):
     return lines
 
 
-def _fill(size, piece):
-    """As many whole pieces as fit."""
-    text, n = [], 0
+def _fill(size, piece, first=0):
+    """As many whole pieces as fit, from this number on."""
+    text, n = [], first
     left = size
     while True:
         more = piece(n)
@@ -64,7 +64,7 @@ def tidy(size):
     return _fill(size, lambda n: ''.join(l.lstrip('\0') + '\n' for l in _piece(draw, n)).encode())
 
 
-def messy(size):
+def messy(size, first=0):
     draw = random.Random(1)
     other = random.Random(2)
 
@@ -83,7 +83,7 @@ def messy(size):
             end = '' if '#' in line or '<<' in line else other.choice(['', '', '  '])
             lines.append(' ' * other.randrange(5) + line + end if line else line)
         return ''.join(l + '\n' for l in lines).encode()
-    return _fill(min(size, int(size * 0.95)), piece)     # the print may be a little longer
+    return _fill(min(size, int(size * 0.95)), piece, first)      # the print may be a little longer
 
 
 def dense(size):

@@ -5,6 +5,8 @@
    REFUSED=KIND  which calls are counted: those for `memory` (where it isn't set), `open`, `read` or `write`
    FROM_THEN=1   all such calls from the Nth on are refused
    NO_WORDS=1    the program gets no words, not even its name
+   HELD_FD=FD    before each opening since `main` began, a line is written there: the bytes of memory that are held, and the
+                 most that were since the opening before
 
    It is for glibc, whose own allocator it calls by its other names. */
 
@@ -12,8 +14,10 @@
 #include <dlfcn.h>
 #include <errno.h>
 #include <fcntl.h>
+#include <malloc.h>
 #include <stdarg.h>
 #include <stddef.h>
+#include <stdio.h>
 #include <stdlib.h>
 #include <string.h>
 #include <unistd.h>
@@ -22,6 +26,7 @@ extern void *__libc_malloc(size_t);
 extern void *__libc_calloc(size_t, size_t);
 extern void *__libc_realloc(void *, size_t);
 extern void *__libc_memalign(size_t, size_t);
+extern void __libc_free(void *);
 
 enum kind { MEMORY, OPEN, READ, WRITE };
 
@@ -35,6 +40,8 @@ static write_function *real_write;
 static enum kind counted = MEMORY;
 static long refused, requests;
 static int from_then, descriptor = -1;
+static long held, most_held;
+static int held_descriptor = -1;
 
 static int is_refused(enum kind kind, int reason) {
     if (refused == 0 || kind != counted || ++requests < refused || (requests > refused && !from_then))
@@ -45,13 +52,39 @@ static int is_refused(enum kind kind, int reason) {
     return 1;
 }
 
-void *malloc(size_t size) { return is_refused(MEMORY, ENOMEM) ? NULL : __libc_malloc(size); }
+static void *counted_in(void *made) {
+    held += (long)malloc_usable_size(made);
+    if (held > most_held)
+        most_held = held;
+    return made;
+}
 
-void *calloc(size_t count, size_t size) { return is_refused(MEMORY, ENOMEM) ? NULL : __libc_calloc(count, size); }
+static void counted_out(void *kept) { held -= (long)malloc_usable_size(kept); }
 
-void *realloc(void *kept, size_t size) { return is_refused(MEMORY, ENOMEM) ? NULL : __libc_realloc(kept, size); }
+void *malloc(size_t size) { return is_refused(MEMORY, ENOMEM) ? NULL : counted_in(__libc_malloc(size)); }
 
-void *memalign(size_t align, size_t size) { return is_refused(MEMORY, ENOMEM) ? NULL : __libc_memalign(align, size); }
+void *calloc(size_t count, size_t size) {
+    return is_refused(MEMORY, ENOMEM) ? NULL : counted_in(__libc_calloc(count, size));
+}
+
+void *realloc(void *kept, size_t size) {
+    if (is_refused(MEMORY, ENOMEM))
+        return NULL;
+    size_t before = malloc_usable_size(kept);
+    void *made = __libc_realloc(kept, size);
+    if (made || size == 0)
+        held -= (long)before;
+    return counted_in(made);
+}
+
+void *memalign(size_t align, size_t size) {
+    return is_refused(MEMORY, ENOMEM) ? NULL : counted_in(__libc_memalign(align, size));
+}
+
+void free(void *kept) {
+    counted_out(kept);
+    __libc_free(kept);
+}
 
 void *aligned_alloc(size_t align, size_t size) { return memalign(align, size); }
 
@@ -68,12 +101,22 @@ static void find_real(void) {
     }
 }
 
+static void tell_held(void) {
+    char line[64];
+    int length = snprintf(line, sizeof line, "%ld %ld\n", held, most_held);
+    if (real_write(held_descriptor, line, (size_t)length) != length)
+        abort();
+    most_held = held;
+}
+
 int open(const char *path, int flags, ...) {
     va_list rest;
     va_start(rest, flags);
     mode_t mode = flags & O_CREAT ? va_arg(rest, mode_t) : 0;
     va_end(rest);
     find_real();
+    if (held_descriptor >= 0)
+        tell_held();
     return is_refused(OPEN, EACCES) ? -1 : real_open(path, flags, mode);
 }
 
@@ -95,7 +138,7 @@ static main_function *real_main;
 
 static int begin(int argc, char **argv, char **environment) {
     static const char *const names[] = {"memory", "open", "read", "write"};
-    const char *number = getenv("REFUSE"), *told = getenv("REFUSE_FD"), *name = getenv("REFUSED");
+    const char *number = getenv("REFUSE"), *told = getenv("REFUSE_FD"), *name = getenv("REFUSED"), *held_fd = getenv("HELD_FD");
     find_real();
     for (int kind = MEMORY; name && kind <= WRITE; kind++)
         if (strcmp(name, names[kind]) == 0)
@@ -105,6 +148,8 @@ static int begin(int argc, char **argv, char **environment) {
         descriptor = atoi(told);
         refused = atol(number);
     }
+    if (held_fd)
+        held_descriptor = atoi(held_fd);
     return real_main(argc, argv, environment);
 }
 

@@ -1,5 +1,5 @@
-# Completion of tffmt, tfrules, tffmt-all and tffmt-hook for bash. `make install` puts it where bash-completion finds it;
-# without that, source it in ~/.bashrc.
+# Completion of tffmt, tfrules, tffmt-all, tffmt-hook and tfrules-modules for bash. `make install` puts it where
+# bash-completion finds it; without that, source it in ~/.bashrc.
 
 _tffmt() {
   local word=${COMP_WORDS[COMP_CWORD]} before=${COMP_WORDS[COMP_CWORD - 1]} options values i found
@@ -9,14 +9,15 @@ _tffmt() {
     tfrules) options='--rules --naming --minimum-failure-severity --force --help' ;;
     tffmt-all) options='--check --diff --list --jobs --null --help' ;;
     tffmt-hook) options='--install --help' ;;
+    tfrules-modules) options='--rules --naming --minimum-failure-severity --force --null --help' ;;
   esac
   for ((i = 1; i < COMP_CWORD; i++)); do
     [[ ${COMP_WORDS[i]} != -- ]] || options=
   done
   case ${1##*/}:$before in
-    tfrules:--rules) values='default all' ;;
-    tfrules:--naming) values='snake_case mixed_snake_case' ;;
-    tfrules:--minimum-failure-severity) values='error warning notice' ;;
+    tfrules*:--rules) values='default all' ;;
+    tfrules*:--naming) values='snake_case mixed_snake_case' ;;
+    tfrules*:--minimum-failure-severity) values='error warning notice' ;;
   esac
   if [[ -n $values ]]; then
     while IFS= read -r found; do
@@ -26,7 +27,7 @@ _tffmt() {
     while IFS= read -r found; do
       COMPREPLY+=("$found")
     done < <(compgen -W "$options" -- "$word")
-  elif [[ ${1##*/} == tfrules || ${1##*/} == tffmt-all && $before != -j && $before != --jobs ]]; then
+  elif [[ ${1##*/} == tfrules* || ${1##*/} == tffmt-all && $before != -j && $before != --jobs ]]; then
     compopt -o filenames 2>/dev/null
     while IFS= read -r found; do
       case $found in
@@ -37,4 +38,4 @@ _tffmt() {
   fi
 }
 
-complete -F _tffmt tffmt tfrules tffmt-all tffmt-hook
+complete -F _tffmt tffmt tfrules tffmt-all tffmt-hook tfrules-modules

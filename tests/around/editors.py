@@ -1,6 +1,7 @@
 """contrib/editors in the real editors, on a terminal of our own."""
 
 import fcntl
+import json
 import os
 import pty
 import re
@@ -186,4 +187,135 @@ def batch(group):
     group.check('a text of all kinds', (here / 'mixed.tf').read_bytes(), wanted)
     warnings = group.call('emacs', '-Q', '--batch', '--eval', '(setq byte-compile-dest-file-function (lambda (_) "%s"))'
                           % (here / 'x.elc'), '-f', 'batch-byte-compile', group.contrib / 'editors' / 'tffmt.el', cwd=here)
+    group.check('compiles without a warning', (warnings[0], warnings[2]), (0, b''))
+
+
+# --- what tfrules finds, in the editors --------------------------------------------------------------------------
+
+# A module with a find of each severity that there is, in a folder with a blank in its name.
+MODULE = {'a b/m.tf': b'variable "one" { type = string }\nvariable "Two" { type = string }\nx = var.Two\n',
+          'a b/o.tf': b'output "o" {\n  value = var.Two\n}\n\nvariable "t" {}\ny = var.t\n'}
+OTHERS = {'a b/m.tf': b'x =\n', 'a b/o.tf': b''}
+RULES = ['--rules', 'terraform_unused_declarations,terraform_naming_convention,terraform_typed_variables']
+FOUND = [('a b/m.tf', 1, 1, 'W', 'variable "one" is declared but not used', 'terraform_unused_declarations'),
+         ('a b/m.tf', 2, 1, 'N', 'variable name "Two" must match snake_case', 'terraform_naming_convention'),
+         ('a b/o.tf', 5, 1, 'W', 'variable "t" has no type', 'terraform_typed_variables')]
+
+
+def run_linting_vim(group):
+    """The quickfix list, in Vim and in Neovim."""
+    editor = group.name.split()[0]
+    if not group.has(editor, checks=4):
+        return
+    place = group.folder('runtime/compiler')
+    (place / 'tfrules.vim').write_text((group.contrib / 'editors' / 'tfrules.vim').read_text())
+    script = """set runtimepath^=%s
+let g:tfrules_program = '%s'
+compiler tfrules
+silent make! %s
+call writefile([json_encode(map(getqflist(), {_, it -> [it.bufnr ? bufname(it.bufnr) : '', it.lnum, it.col, it.type, it.text]}))], 'list')
+qall!
+"""
+
+    def made(files, words='', program=group.contrib / 'tfrules-modules'):
+        here = group.fresh()
+        put(here, files)
+        (here / 'test.vim').write_text(script % (group.top / 'runtime', program, words))
+        words = ['vim', '-u', 'NONE', '-N', '-i', 'NONE', '-es'] if editor == 'vim' else [
+            'nvim', '-u', 'NONE', '-i', 'NONE', '--headless']
+        done = group.call(*words, 'a b/m.tf', '-S', 'test.vim', cwd=here)
+        return json.loads((here / 'list').read_text()) if (here / 'list').exists() else done
+
+    group.check('the list has the report of the module', made(MODULE, ' '.join(RULES)), [
+        [file, line, column, kind, '%s (%s)' % (text, rule)] for file, line, column, kind, text, rule in FOUND])
+    group.check('and a refusal', made(OTHERS), [['a b/m.tf', 1, 4, 'e', 'unexpected token']])
+    group.check('no issue, an empty list', made({'a b/m.tf': b'x = 1\n'}), [])
+    spaced = group.fresh() / 'a b'
+    spaced.symlink_to(group.contrib / 'tfrules-modules')
+    group.check('a program with a blank in its path', made(OTHERS, program=spaced)[0][4], 'unexpected token')
+    group.check('what is said of a whole module is shown', [it[4] for it in made(
+        dict({'a b/%03d.tf' % i: b'' for i in range(257)}, **MODULE))], ['tfrules-modules: a b: more than 256 files'])
+
+
+DIAGNOSED = """
+vim.g.tfrules_command = { "%s", "--rules", "%s" }
+vim.cmd("luafile %s/editors/tfrules.lua")
+local function told()
+  local list = {}
+  for _, it in ipairs(vim.diagnostic.get(0)) do
+    table.insert(list, { it.lnum + 1, it.col + 1, it.severity, it.message, it.code or "" })
+  end
+  return list
+end
+vim.cmd([[edit a\\ b/m.tf]])
+vim.wait(5000, function() return #told() == %d end, 20)
+vim.fn.writefile({ vim.fn.json_encode(told()) }, "list")
+vim.fn.setline(1, "x = 1")
+vim.fn.setline(2, "")
+vim.fn.setline(3, "")
+vim.cmd("write")
+vim.wait(5000, function() return #told() == 0 end, 20)
+vim.fn.writefile({ vim.fn.json_encode(told()) }, "after")
+vim.cmd("qall!")
+"""
+
+
+def run_diagnostics(group):
+    """Neovim's diagnostics."""
+    if not group.has('nvim', checks=3):
+        return
+    for name, files, wanted in (
+            ('the report of the file at hand', MODULE, [
+                [1, 1, 2, FOUND[0][4], FOUND[0][5]], [2, 1, 3, FOUND[1][4], FOUND[1][5]]]),
+            ('a refusal', OTHERS, [[1, 4, 1, 'unexpected token', '']])):
+        here = group.fresh()
+        put(here, files)
+        (here / 'test.lua').write_text(DIAGNOSED % (group.contrib / 'tfrules-modules', RULES[1], group.contrib, len(wanted)))
+        done = group.call('nvim', '-u', 'NONE', '-i', 'NONE', '--headless', '-c', 'luafile test.lua', '-c', 'qall!', cwd=here)
+        told = [json.loads((here / kept).read_text()) if (here / kept).exists() else done for kept in ('list', 'after')]
+        group.check(name + ', and nothing once it is mended', told, [wanted, []])
+    here = group.fresh()
+    put(here, OTHERS)
+    (here / 'test.lua').write_text((DIAGNOSED % ('no-such-program', '', group.contrib, 0)))
+    done = group.call('nvim', '-u', 'NONE', '-i', 'NONE', '--headless', '-c', 'luafile test.lua', '-c', 'qall!', cwd=here)
+    group.holds('without the program', b'no-such-program: not found' in done[2], done)
+
+
+FLYMAKE = """
+(load "%s/editors/tfrules.el" nil t)
+(setq tfrules-command '("%s" "--rules" "%s") make-backup-files nil)
+(defun told ()
+  (flymake-start)
+  (while (process-live-p tfrules--process) (accept-process-output nil 0.05))
+  (accept-process-output nil 0.2)
+  (dolist (it (flymake-diagnostics))
+    (goto-char (flymake-diagnostic-beg it))
+    (princ (format "%%d:%%d %%s %%s\n" (line-number-at-pos) (1+ (current-column)) (flymake-diagnostic-type it)
+                   (flymake-diagnostic-text it)))))
+(find-file "a b/m.tf")
+(tfrules-mode 1)
+(told)
+(erase-buffer)
+(save-buffer)
+(princ "mended\n")
+(told)
+"""
+
+
+def run_flymake(group):
+    """Flymake in Emacs."""
+    if not group.has('emacs', checks=3):
+        return
+    for name, files, wanted in (
+            ('the report of the file at hand', MODULE, ['1:1 :warning %s (%s)' % FOUND[0][4:], '2:1 :note %s (%s)' % FOUND[1][4:]]),
+            ('a refusal', OTHERS, ['1:1 :error unexpected token'])):
+        here = group.fresh()
+        put(here, files)
+        (here / 'test.el').write_text(FLYMAKE % (group.contrib, group.contrib / 'tfrules-modules', RULES[1]))
+        status, out, err = group.call('emacs', '-Q', '--batch', '-l', 'test.el', cwd=here)
+        group.check(name + ', and nothing once it is mended', (sorted(out.decode().splitlines()), status),
+                    (sorted(wanted + ['mended']), 0))
+    here = group.fresh()
+    warnings = group.call('emacs', '-Q', '--batch', '--eval', '(setq byte-compile-dest-file-function (lambda (_) "%s"))'
+                          % (here / 'x.elc'), '-f', 'batch-byte-compile', group.contrib / 'editors' / 'tfrules.el', cwd=here)
     group.check('compiles without a warning', (warnings[0], warnings[2]), (0, b''))

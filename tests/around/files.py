@@ -35,9 +35,9 @@ def contents(top):
 
 
 class Script:
-    """tffmt-all under one shell, which is also the `sh` that it calls; busybox brings its own find and the like."""
+    """A script under one shell, which is also the `sh` that it calls; busybox brings its own find and the like."""
 
-    def __init__(self, group, shell):
+    def __init__(self, group, shell, name='tffmt-all'):
         self.group = group
         folder = group.fresh()
         (folder / 'sh').symlink_to(shutil.which(shell))
@@ -45,7 +45,7 @@ class Script:
             for tool in set(group.call(shell, '--list', cwd='/')[1].decode().split()) - {'sh', 'mount', 'unshare', 'tail'}:
                 (folder / tool).symlink_to(shutil.which(shell))
         self.path = group.before_path(folder)
-        self.words = ['sh', group.contrib / 'tffmt-all']
+        self.words = ['sh', group.contrib / name]
 
     def __call__(self, *words, cwd, **more):
         more.setdefault('PATH', self.path)

@@ -2,6 +2,7 @@
 
 import os
 import pathlib
+import re
 import shutil
 
 from harness import BAD, GOOD, OTHER, REFUSED, TOP, lines, put
@@ -46,7 +47,7 @@ def said(*each):
 def run(group):
     if group.has('git', checks=40):
         for part in (first_commit, later_commits, alone, odd_names, without_program, failing_tools, filters, installing,
-                     other_hooks, command_line):
+                     other_hooks, with_the_linter, command_line):
             part(group)
         group.check('nothing is left in the temporary folder', list(group.folder('tmp').iterdir()), [])
 
@@ -216,6 +217,27 @@ def other_hooks(group):
     group.check('an earlier version is replaced', (here.install()[0], theirs.read_text()), (0, here.hook.read_text()))
 
 
+def with_the_linter(group):
+    """The README's hook, which lints the modules of the staged files too."""
+    text = (TOP / 'README.md').read_text(encoding='utf-8')
+    script = next(block for block in re.findall(r'```sh\n(.*?)```', text, re.S) if 'tffmt-hook || exit' in block)
+    here = Repository(group)
+    hook = here.top / '.git' / 'hooks' / 'pre-commit'
+    hook.write_text('#!/bin/sh\n' + script)
+    hook.chmod(0o755)
+    path = group.before_path(group.contrib)
+    here.stage({'m/a b.tf': b'variable "n" { type = string }\n', 'm/u.tf': b'x = var.n\n', 'text.txt': OTHER})
+    group.check('a hook with the linter passes', here.commit(PATH=path), (True, b''))
+    here.stage({'m/a b.tf': b'variable "n" { type = number }\n'})
+    group.check('with one file of a module staged', here.commit(PATH=path), (True, b''))
+    here.stage({'m/u.tf': b'x=var.n\n'})
+    group.check('and refuses a file that is not formatted', here.commit(PATH=path), (False, said('m/u.tf: not formatted', FORMAT)))
+    here.stage({'m/u.tf': b'x = 1\n'})
+    done = here.git('commit', '-q', '-m', 'x', PATH=path)
+    group.holds('and an issue', done[0] == 1 and b'm/a b.tf:1:1: Warning - variable "n" is declared but not used' in done[1] + done[2],
+                done)
+
+
 def command_line(group):
     here = Repository(group)
     status, out, err = group.call(here.hook, '--help', cwd=here.top)
@@ -230,7 +252,7 @@ def command_line(group):
 
 def run_framework(group):
     """The hooks for pre-commit, from a repository of this folder's files."""
-    if not all([group.has('git', checks=0), group.has('pre-commit', checks=8)]):
+    if not all([group.has('git', checks=0), group.has('pre-commit', checks=11)]):
         return
     source = Repository(group)
     shutil.copy(str(TOP / '.pre-commit-hooks.yaml'), str(source.top))
@@ -240,7 +262,8 @@ def run_framework(group):
     revision = source.git('rev-parse', 'HEAD')[1].decode().strip()
     home = str(group.fresh())
     # this test's own Python may hide that of pre-commit
-    path = '%s:/usr/bin:/bin' % group.script('tffmt', 'exec %s "$@"\n' % group.program).parent
+    path = '%s:%s:/usr/bin:/bin' % tuple(group.script(name, 'exec %s "$@"\n' % program).parent for name, program in (
+        ('tffmt', group.program), ('tfrules', group.linter)))
 
     def framework(here, identity, *words):
         (here.top / '.pre-commit-config.yaml').write_text(
@@ -249,7 +272,8 @@ def run_framework(group):
 
     def call(here, *words):
         here.git('add', '.pre-commit-config.yaml')
-        status, out, _ = group.call('pre-commit', *words, cwd=here.top, PATH=path, TFFMT='tffmt', PRE_COMMIT_HOME=home)
+        status, out, _ = group.call('pre-commit', *words, cwd=here.top, PATH=path, TFFMT='tffmt', TFRULES='tfrules',
+                                    PRE_COMMIT_HOME=home)
         return status, out.decode('utf-8', 'replace')
 
     here = Repository(group)
@@ -268,10 +292,24 @@ def run_framework(group):
     here.stage({'bad.tf': BAD})
     status, _, err = here.git('commit', '-q', '-m', 'x', PATH=path, TFFMT='tffmt', PRE_COMMIT_HOME=home)
     group.holds('a refused file refuses the commit', status == 1 and b'bad.tf:1:3: unexpected token' in err, err)
-    # the example for an installed tffmt-all
+    # a module whose files use one another, of which one was changed
+    here = Repository(group)
+    here.stage({'m/a b.tf': b'variable "n" { type = string }\n', 'm/-u.tf': b'x = var.n\n', 'o/a.tf': b''})
+    framework(here, 'tfrules', 'run', '--all-files')
+    here.git('commit', '-q', '-m', 'x', '--no-verify')
+    here.stage({'m/a b.tf': b'variable "n" { type = number }\n'})
+    group.check('tfrules lints the whole module', framework(here, 'tfrules', 'run')[0], 0)
+    here.stage({'m/-u.tf': b'x = 1\n'})
+    status, out = framework(here, 'tfrules', 'run')
+    group.check('and sees what a changed file uses no more', (status, [line for line in out.splitlines() if 'm/' in line]),
+                (1, ['m/a b.tf:1:1: Warning - variable "n" is declared but not used (terraform_unused_declarations)']))
+    # the example for installed programs
     here = Repository(group)
     here.stage({'a.tf': OTHER, 'b.txt': OTHER})
     shutil.copy(str(group.contrib / 'pre-commit-config.yaml'), str(here.top / '.pre-commit-config.yaml'))
     path = '%s:%s' % (group.contrib, path)
     given = [call(here, 'run', '--all-files')[0] for _ in range(2)]
     group.check('the example formats, and passes then', (given, (here.top / 'a.tf').read_bytes()), ([1, 0], GOOD))
+    here.stage({'v.tf': b'variable "n" {}\n'})
+    status, out = call(here, 'run', '--all-files')
+    group.holds('the example lints', status == 1 and 'v.tf:1:1: Warning - variable "n" has no type' in out, out)

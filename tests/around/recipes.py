@@ -11,7 +11,8 @@ import xml.etree.ElementTree
 from editors import on_terminal
 from harness import BAD, GOOD, OTHER, TOP, lines, put
 
-PAGES = ['tffmt', 'tfrules', 'tffmt-all', 'tffmt-hook']
+PAGES = ['tffmt', 'tfrules', 'tffmt-all', 'tffmt-hook', 'tfrules-modules']
+SCRIPTS = PAGES[2:]
 
 
 # --- completions -----------------------------------------------------------------------------------------------
@@ -21,7 +22,7 @@ def completions(group):
     here = group.fresh()
     put(here, {'good.tf': GOOD, 'text.txt': GOOD, 'in/x.tf': GOOD})
     path = group.before_path(group.script('tffmt', 'exit 0\n').parent, group.contrib)
-    if group.has('bash', checks=5):
+    if group.has('bash', checks=8):
         def bash(line):
             words = line.split(' ')
             script = ('source "$1"; COMP_WORDS=(%s); COMP_CWORD=%d; _tffmt %s; printf "%%s\\n" "${COMPREPLY[@]}"'
@@ -32,19 +33,24 @@ def completions(group):
         group.check('bash: one option', (bash('tffmt --c'), bash('tffmt-hook --i')), ([b'--check'], [b'--install']))
         group.check('bash: files and folders', bash('tffmt-all --check '), [b'good.tf', b'in'])
         group.check('bash: no option behind --', bash('tffmt-all -- --'), [])
+        for name in ('tfrules', 'tfrules-modules'):
+            group.check('bash: ' + name, (bash(name + ' --f'), bash(name + ' --rules a'), bash(name + ' g')),
+                        ([b'--force'], [b'all'], [b'good.tf']))
+        group.check('bash: its own option', (bash('tfrules-modules --nu'), bash('tfrules --nu')), ([b'--null'], []))
         said = on_terminal(group, ['bash', '--norc', '-i'], here, PATH=path, PS1='> ', keys=[
             (b'> ', b'source "%s"; echo rea""dy\n' % os.fsencode(str(folder / 'tffmt.bash'))),
             (b'ready.*> ', b'tffmt-hook --in\t'), (b'--install', b'\x15exit\n')])
         group.holds('bash: on a terminal', b'tffmt-hook --install' in said, said)
-    if group.has('zsh', checks=4):
+    if group.has('zsh', checks=5):
         setup = b'fpath=("%s" $fpath); autoload -U compinit; compinit -u -D; print rea""dy\n' % os.fsencode(str(folder))
         for typed, wanted in ((b'tffmt-all --ch\t', b'tffmt-all --check'), (b'tffmt-hook --in\t', b'tffmt-hook --install'),
-                              (b'tffmt --c\t', b'tffmt --check'), (b'tffmt-all goo\t', b'tffmt-all good.tf')):
+                              (b'tffmt --c\t', b'tffmt --check'), (b'tffmt-all goo\t', b'tffmt-all good.tf'),
+                              (b'tfrules-modules --nu\t', b'tfrules-modules --null')):
             said = on_terminal(group, ['zsh', '-f', '-i'], here, PATH=path, PS1='> ', keys=[
                 (b'> ', setup), (b'ready.*> ', typed), (b'', b'\x15exit\n')])
             shown = re.sub(rb'\x1b\[[0-9;?]*[a-zA-Z]|.\x08', b'', said)
             group.holds('zsh: ' + typed.decode().strip(), wanted in shown, said)
-    if group.has('fish', checks=3):
+    if group.has('fish', checks=4):
         def fish(line):
             done = group.call('fish', '--no-config', '-c', 'source "%s"; complete -C "%s"' % (folder / 'tffmt.fish', line),
                               cwd=here)
@@ -53,12 +59,14 @@ def completions(group):
                     [b'--check', b'--diff', b'--help', b'--jobs', b'--list', b'--null'])
         group.check('fish: one option', (fish('tffmt --c'), fish('tffmt-hook --i')), ([b'--check'], [b'--install']))
         group.check('fish: files', fish('tffmt-all g'), [b'good.tf'])
+        group.check('fish: the linter', (fish('tfrules-modules --nu'), fish('tfrules --rules a')), ([b'--null'], [b'all']))
 
 
 # --- recipes ---------------------------------------------------------------------------------------------------
 
 def recipes(group):
     contrib = group.contrib
+    lint_matchers(group)
     matcher = json.loads((contrib / 'ci' / 'tffmt-matcher.json').read_text())
     tasks = json.loads((contrib / 'editors' / 'vscode' / 'tasks.json').read_text())
     json.loads((contrib / 'editors' / 'vscode' / 'settings.json').read_text())
@@ -78,17 +86,18 @@ def recipes(group):
         group.check('the matchers of %s read the reports' % name, found, [
             {'file': 'a b:1/bad.tf', 'line': '1', 'column': '3', 'message': 'unexpected token'},
             {'file': 'other.tf', 'message': 'not formatted'}])
-    for name, mark, status in (('github.yml', '- run:', 2), ('gitlab.yml', '    - tffmt', 2)):
+    for name, before in (('github.yml', 1), ('gitlab.yml', 0)):
         text = (contrib / 'ci' / name).read_text()
-        steps = [line.strip()[2:].replace('run: ', '') for line in text.splitlines() if line.strip().startswith(mark.strip())]
+        steps = re.findall(r'^ +- (?:run: )?((?:echo|tffmt|tfrules).*)$', text, re.M)
         done = [group.call('sh', '-e', '-c', step, cwd=here, PATH=path)[0] for step in steps]
-        group.check('the steps of ' + name, done, [0] * (len(steps) - 1) + [status])
-        group.check('pass on formatted files ' + name,
-                    group.call('sh', '-e', '-c', steps[-1], cwd=group.fresh(), PATH=path)[0], 0)
+        group.check('the steps of ' + name, done, [0] * before + [2] + [0] * before + [1])
+        group.check('pass on formatted files ' + name, [
+            group.call('sh', '-e', '-c', step, cwd=group.fresh(), PATH=path)[0] for step in steps], [0] * len(steps))
     suffixes = {'tf', 'tfvars', 'tofu', 'tftest.hcl', 'tfmock.hcl'}
-    gitlab = set(re.findall(r'\*\*/\*\.([a-z.]+)', (contrib / 'ci' / 'gitlab.yml').read_text()))
+    jobs = (contrib / 'ci' / 'gitlab.yml').read_text().split('\ntfrules:\n')
+    gitlab = [set(re.findall(r'\*\*/\*\.([a-z.]+)', job)) for job in jobs]
     treefmt = set(re.findall(r'"\*\.([a-z.]+)"', (contrib / 'treefmt.toml').read_text()))
-    group.check('the kinds of files', (gitlab, treefmt), (suffixes, suffixes))
+    group.check('the kinds of files', (gitlab, treefmt), ([suffixes, {'tf', 'tofu'}], suffixes))
     python = next((p for p in ('/usr/bin/python3', 'python3')
                    if subprocess.run([p, '-c', 'import yaml'], stderr=subprocess.DEVNULL).returncode == 0), None)
     if python is None:
@@ -100,10 +109,33 @@ def recipes(group):
                                                              cwd=here, stdin=name.read_bytes()), (0, b'', b''))
 
 
+def lint_matchers(group):
+    """The matchers read a report, and what is said of files that are refused or can't be opened."""
+    contrib = group.contrib
+    matcher = json.loads((contrib / 'ci' / 'tfrules-matcher.json').read_text())
+    tasks = json.loads((contrib / 'editors' / 'vscode' / 'tasks.json').read_text())
+    here = group.fresh()
+    put(here, {'a b:1/m.tf': b'variable "n" {}\n', 'bad/m.tf': BAD, 'gone/m.tf': b'->nowhere'})
+    done = group.call('tfrules-modules', '--rules', 'terraform_typed_variables,terraform_documented_variables', cwd=here,
+                      PATH=group.before_path(group.contrib))
+    group.check('what is found, the status', done[0], 1)
+    for name, problems in (('GitHub', [p['pattern'][0] for p in matcher['problemMatcher']]),
+                           ('VS Code', [p['pattern'] for p in tasks['tasks'][1]['problemMatcher']])):
+        found = [{key: match.group(number) for key, number in pattern.items() if isinstance(number, int)}
+                 for line in (done[1] + done[2]).decode().splitlines()
+                 for match, pattern in [(re.match(p['regexp'], line), p) for p in problems] if match]
+        place = {'file': 'a b:1/m.tf', 'line': '1', 'column': '1'}
+        group.check('the matchers of %s read the reports of tfrules' % name, found, [
+            dict(place, severity='Notice', message='variable "n" has no description', code='terraform_documented_variables'),
+            dict(place, severity='Warning', message='variable "n" has no type', code='terraform_typed_variables'),
+            {'file': 'bad/m.tf', 'line': '1', 'column': '3', 'message': 'unexpected token'},
+            {'file': 'gone/m.tf', 'message': 'cannot be opened'}])
+
+
 def scripts(group):
-    if group.has('shellcheck', checks=5):
+    if group.has('shellcheck', checks=7):
         for shell in ('dash', 'bash'):
-            for name in ('tffmt-all', 'tffmt-hook'):
+            for name in SCRIPTS:
                 group.check('shellcheck of %s for %s' % (name, shell), group.call(
                     'shellcheck', '-s', shell, group.contrib / name, cwd=group.top), (0, b'', b''))
         group.check('shellcheck of the completion', group.call(

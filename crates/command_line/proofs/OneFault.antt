@@ -11,7 +11,8 @@ use Rattle.clap.specs.Lexer.{long_of, short_of}
 use Rattle.clap.specs.Matches.{count_text}
 use Rattle.clap.specs.Facts.{explicit_source, parser_of_value, unwrap_or_range}
 use Rattle.clap.specs.Takes.{is_given}
-use Rattle.clap.specs.Walk.{Held, Names, Row, Rule, Step, Text, Waiting, Walk, action_of, arg_by_id, arg_by_index, arg_by_long, arg_by_short, attached_value, count_of, finished, has_row, is_empty, is_pending, most_values, nothing_held, reacted, settled, subcommand_met, takes_several, takes_values, values_or_missing, walk, walk_from, walked, with_default, word_met, idle, option, positional, next, trailing, subcommand, value}
+use Rattle.clap.specs.Walk.{Held, Names, Rule, Step, Text, Waiting, Walk, action_of, arg_by_id, arg_by_index, arg_by_long, arg_by_short, attached_value, count_of, finished, has_row, is_empty, is_pending, most_values, nothing_held, reacted, settled, subcommand_met, takes_several, takes_values, values_or_missing, walk, walk_from, walked, with_default, word_met, idle, option, positional, next, trailing, subcommand, value}
+use Rattle.clap.specs.Walk as clap
 use Rattle.clap.specs.Simple.{App, Shape, argument_words, built}
 use Rattle.clap.specs.Faults.{action_fault, bundle_fault, bundle_step_fault, check_fault, count_fault, default_fault, defaults_fault, fault_of, flag_word_fault, flags_fault, given_default_fault, level_fault, long_fault, option_fault, other_fault, positional_fault, react_fault, repeat_fault, set_fault, settle_fault, short_fault, step_fault, stray_fault, turn_fault, use_fault, values_fault, walk_fault, word_fault}
 use Rattle.clap.specs.declared.builder.value_parser.ValueParser.{ValueParser}
@@ -70,15 +71,15 @@ one_request HelpShort = tt
 one_request HelpLong = tt
 one_request Version = tt
 
-one_set : (again : Bool) (a : Rule) (values : List Text) (rows : List Row) → One (set_fault again a values rows)
+one_set : (again : Bool) (a : Rule) (values : List Text) (rows : List clap.Row) → One (set_fault again a values rows)
 one_set again a values rows = one_else (repeat_fault again a.id rows) (values_fault a values)
     (one_if (has_row a.id rows && not again) _ _ tt tt) (one_values a.ignore_case (parser_of_value a.parser) values)
 
-one_count : (a : Rule) (values : List Text) (rows : List Row) → One (count_fault a values rows)
+one_count : (a : Rule) (values : List Text) (rows : List clap.Row) → One (count_fault a values rows)
 one_count a [] rows = one_value a.ignore_case (parser_of_value a.parser) _
 one_count a (v ∷ vs) rows = one_values a.ignore_case (parser_of_value a.parser) (v ∷ vs)
 
-one_action : (x : ArgAction) (again : Bool) (a : Rule) (values : List Text) (rows : List Row) → One (action_fault x again a values rows)
+one_action : (x : ArgAction) (again : Bool) (a : Rule) (values : List Text) (rows : List clap.Row) → One (action_fault x again a values rows)
 one_action Set again a values rows = one_set again a values rows
 one_action SetTrue again a values rows = one_set again a values rows
 one_action SetFalse again a values rows = one_set again a values rows
@@ -86,7 +87,7 @@ one_action Append again a values rows = one_values a.ignore_case (parser_of_valu
 one_action Count again a values rows = one_count a values rows
 one_action other again a values rows = one_request other
 
-one_use : (again : Bool) (a : Rule) (values : List Text) (rows : List Row) → One (use_fault again a values rows)
+one_use : (again : Bool) (a : Rule) (values : List Text) (rows : List clap.Row) → One (use_fault again a values rows)
 one_use again a values rows = one_else (range_kinds (unwrap_or_range a.range).start_inclusive (most_values a) (length values)) _
     (one_range (unwrap_or_range a.range).start_inclusive (most_values a) (length values))
     (one_action (action_of a) again a (values_or_missing a values) rows)
@@ -160,12 +161,12 @@ one_walk s w [] leaf = tt
 one_walk s w (word ∷ rest) leaf = one_else (turn_fault s [] w word) (walk_fault s [] (walked s.rules [] w word) rest)
     (one_turn s w word leaf) (one_walk s (walked s.rules [] w word) rest leaf)
 
-one_default : (rows : List Row) (a : Rule) → One (default_fault rows a)
+one_default : (rows : List clap.Row) (a : Rule) → One (default_fault rows a)
 one_default rows a = one_if (has_row a.id rows || is_empty a.defaults) _ _ tt
     (one_else (request_kinds (action_of a)) (values_fault a a.defaults) (one_request (action_of a))
     (one_values a.ignore_case (parser_of_value a.parser) a.defaults))
 
-one_defaults : (rows : List Row) (c : List Rule) → One (defaults_fault rows c)
+one_defaults : (rows : List clap.Row) (c : List Rule) → One (defaults_fault rows c)
 unfolding defaults_fault
 one_defaults rows [] = tt
 one_defaults rows (a ∷ rest) = one_else (default_fault rows a) (defaults_fault (with_default rows a) rest) (one_default rows a)

@@ -1,7 +1,8 @@
 -- No more grapheme clusters than bytes, and as many in a text that is ASCII without CR.
-use Rattle.std.proofs.Common.{get_or, not, ◌≡◌, ◌∙◌, ◌+◌, ◌-◌, ◌*◌, ◌≤◌, ◌<◌, ◌==◌, ◌&&◌, ap, ap₂, sym, refl, true≢false, ℕ, suc, zero, Bool, true, false, List, [], ◌∷◌, length, arith}
-use Rattle.std.specs.Prelude.{encode_utf8_all, ◌++◌, nat_lt, unwrap_or}
-use Rattle.hcl_layout.specs.Inner.Simple.{is_simple}
+use Rattle.std.proofs.Common.{get_or, not, ◌≡◌, ◌∙◌, ◌+◌, ◌-◌, ◌*◌, ◌≤◌, ◌<◌, ◌==◌, ◌&&◌, ap, ap₂, sym, refl, true≢false, ℕ, suc, zero, Bool, true, false, List, [], ◌∷◌, length, arith, drop, take, add-one, drop-cons}
+use Rattle.std.specs.Prelude.{encode_utf8_all, ◌++◌, nat_eq, nat_lt, slice_index_or, unwrap_or}
+use Rattle.hcl_layout.specs.Inner.Simple.{IsFrom, is_simple}
+use Rattle.std.proofs.Math.ListN.{drop_of_length-le}
 use Rattle.std.proofs.lemmas.List.{length-map}
 use Rattle.std.proofs.lemmas.Str.{chars-IsAscii}
 use Rattle.std.proofs.lemmas.Bool.Decides.{nat_tests}
@@ -181,3 +182,40 @@ clusters_simple [] e = clusters_none
 clusters_simple (b ∷ text) e =
     let parts = simple_parts b text e in
     clusters_cut (b ∷ text) (chars-IsAscii (b ∷ text) (λ i. simple_ascii (b ∷ text) i e)) ∙ simple_cut text b [] parts.0 parts.1 parts.2
+
+-- a part of a text that is simple
+simple_drop : (n : ℕ) (text : List ℕ) → is_simple text ≡ true → is_simple (drop n text) ≡ true
+simple_drop zero text e = e
+simple_drop (suc n) [] e = e
+simple_drop (suc n) (b ∷ text) e = simple_drop n text (simple_parts b text e).2
+
+simple_take : (n : ℕ) (text : List ℕ) → is_simple text ≡ true → is_simple (take n text) ≡ true
+simple_take zero text e = refl
+simple_take (suc n) [] e = e
+simple_take (suc n) (b ∷ text) e =
+    let parts = simple_parts b text e in
+    let below : nat_lt b 128 ≡ true = grind (arith, nat_tests, parts.0) in
+    rw (below, parts.1) (simple_take n text parts.2)
+
+pub clusters_part : (source : List ℕ) (start : ℕ) (text : List ℕ) → IsFrom source start text → is_simple source ≡ true → length (graphemes true text) ≡ length text
+clusters_part source start text p e = clusters_simple text (ap is_simple p.0 ∙ simple_take (length text) (drop start source) (simple_drop start source e))
+
+-- ---- byte by byte
+
+and_then : (v a b c : Bool) → (v && ((a && b) && c)) ≡ (((v && a) && b) && c)
+and_then true a b c = refl
+and_then false a b c = refl
+
+pub simple_next : (bytes : List ℕ) (i : ℕ) (v : Bool) → i < length bytes → is_simple bytes ≡ (v && is_simple (drop i bytes))
+    → is_simple bytes ≡ (((v && nat_lt (slice_index_or bytes i 0) 128) && not (nat_eq (slice_index_or bytes i 0) 13)) && is_simple (drop (i + 1) bytes))
+simple_next bytes i v lt e =
+    let b : ℕ = slice_index_or bytes i 0 in
+    let here : drop i bytes ≡ b ∷ drop (i + 1) bytes = rw add-one (drop-cons bytes i 0 lt) in
+    e ∙ ap (λ l. v && is_simple l) here ∙ and_then v (nat_lt b 128) (not (nat_eq b 13)) (is_simple (drop (i + 1) bytes))
+
+pub simple_end : (bytes : List ℕ) (i : ℕ) (v : Bool) → length bytes ≤ i → is_simple bytes ≡ (v && is_simple (drop i bytes)) → v ≡ is_simple bytes
+simple_end bytes i v le e = sym (e ∙ ap (λ l. v && is_simple l) (drop_of_length-le bytes le) ∙ and_true v)
+  where
+    and_true : (w : Bool) → (w && true) ≡ w
+    and_true true = refl
+    and_true false = refl

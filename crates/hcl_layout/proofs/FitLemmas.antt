@@ -3,7 +3,6 @@ use Rattle.std.proofs.Common.{◌≡◌, ℕ, zero, suc, ◌&&◌, ◌||◌, ◌
 use Rattle.std.specs.Prelude.{if◌then◌else◌}
 use Rattle.std.proofs.lemmas.Bool.Decides.{nat_tests}
 use Rattle.hcl_scan.specs.Lexemes.{Lexeme}
-use Rattle.hcl_scan.specs.Scans as scans
 use Rattle.hcl_scan.specs.Neighbours as neighbours
 use Rattle.hcl_scan.specs.Regapped as regapped
 use Rattle.hcl_scan.specs.SideBySide.{Beside, opens_template}
@@ -12,14 +11,12 @@ use Rattle.hcl_scan.specs.declared.token.Kind.TheVariants as kind
 use Rattle.hcl_scan.proofs.BooleanLemmas.{or_true}
 use Rattle.hcl_scan.proofs.OtherStepLemmas.{touching}
 use Rattle.hcl_scan.proofs.GapLemmas.{template_touches}
-use Rattle.hcl_syntax.specs.Kinds.{is_newline}
-use Rattle.hcl_syntax.specs.Kinds.{is_dot}
+use Rattle.hcl_scan.specs.Kinds.{is_assign, is_dot, is_line_comment, is_newline}
 use Rattle.hcl_spacing.specs.Spacing.{stands_before, spaced}
-use Rattle.hcl_syntax.specs.Kinds.{is_assign, is_line_comment}
 use Rattle.hcl_layout.specs.Gaps.{blanks}
 use Rattle.hcl_spacing.proofs.SpacingLemmas as rows
 use Rattle.hcl_spacing.proofs.SpacingLemmas.{row_one}
-use Rattle.hcl_spacing.proofs.JoiningLemmas.{joined_apart, same_dot}
+use Rattle.hcl_spacing.proofs.JoiningLemmas.{joined_apart}
 use Rattle.hcl_layout.proofs.GapLemmas.{is_cell, GapFor}
 
 -- ---- one gap
@@ -110,19 +107,19 @@ module _ (before u : Option Lexeme) (dot : Bool) (k : Kind) (g : ℕ) (t : Lexem
       let j' : neighbours.joins dot u.kind t.kind t.text ≡ true = subst (λ (y : Kind). neighbours.joins dot y t.kind t.text ≡ true) c.0 j in
       omega (arith, one_blank before u t (joined_apart before u t dot e c.1 (beside.begins e h) (beside.tilde e) j'), x, z)
 
-  pub fits_here : regapped.fits dot k t g ≡ true
+  pub fits_here : regapped.gap_fits dot k t g ≡ true
   fits_here = by (t.inside_heredoc) refl
     where
-      outside : t.inside_heredoc ≡ false → (v : Bool) → regapped.is_template t.kind ≡ v → (w : Bool) → is_comment k ≡ w → regapped.fits dot k t g ≡ true
+      outside : t.inside_heredoc ≡ false → (v : Bool) → regapped.is_template t.kind ≡ v → (w : Bool) → is_comment k ≡ w → regapped.gap_fits dot k t g ≡ true
       outside e true h w i = zero_fits (regapped.touches k t) g _ (template_touches k t h) (template_zero u coherent gap e h)
       outside e false h true i = let c = comment_touches k t i in zero_fits (regapped.touches k t) g _ c.0 (comment_zero u coherent gap e c.1)
       outside e false h false i = free_fits (regapped.touches k t) g _ (free_touches k t i h e) (apart u coherent gap e h)
 
-      by : (v : Bool) → t.inside_heredoc ≡ v → regapped.fits dot k t g ≡ true
+      by : (v : Bool) → t.inside_heredoc ≡ v → regapped.gap_fits dot k t g ≡ true
       by true e = zero_fits (regapped.touches k t) g _ (touching k t e) (inside_zero u gap e)
       by false e = outside e (regapped.is_template t.kind) refl (is_comment k) refl
 
 -- one token further
-pub coherent_on : (before u : Option Lexeme) (dot : Bool) (k : Kind) (t : Lexeme) → Coherent before u dot k → Coherent u (Some t) (scans.is_dot k) t.kind
+pub coherent_on : (before u : Option Lexeme) (dot : Bool) (k : Kind) (t : Lexeme) → Coherent before u dot k → Coherent u (Some t) (is_dot k) t.kind
 coherent_on before None dot k t c = (refl, λ e. refl)
-coherent_on before (Some u) dot k t c = (refl, λ e. sym (same_dot u.kind) ∙ ap scans.is_dot (sym c.0) ∙ e)
+coherent_on before (Some u) dot k t c = (refl, λ e. ap is_dot (sym c.0) ∙ e)

@@ -71,6 +71,14 @@ piece_found xs at gap text e f =
     let there : drop (length text) (drop gap (drop at xs)) ≡ drop (at + gap + length text) xs = grind (arith, common_steps) in
     e ∙ ap (λ l. replicate gap 32 ++ l) (f ∙ ap (λ l. text ++ l) there) ∙ sym (append_assoc (replicate gap 32) text (drop (at + gap + length text) xs))
 
+-- a piece of the source, behind so many blanks there
+pub piece_there : (xs : List ℕ) (at gap start : ℕ) (text : List ℕ) → at + gap ≡ start → text ≡ take (length text) (drop start xs) → drop at xs ≡ replicate gap 32 ++ drop gap (drop at xs)
+    → drop at xs ≡ (replicate gap 32 ++ text) ++ drop (start + length text) xs
+piece_there xs at gap start text e s b =
+    let here : drop gap (drop at xs) ≡ drop start xs = behind gap at (drop at xs) xs refl ∙ ap (λ k. drop k xs) e in
+    let front : drop start xs ≡ text ++ drop (length text) (drop start xs) = sym (take-append-drop (length text) (drop start xs)) ∙ ap (λ l. l ++ drop (length text) (drop start xs)) (sym s) in
+    piece_found xs at gap text b (subst (λ l. l ≡ text ++ drop (length text) l) (sym here) front) ∙ ap (λ k. (replicate gap 32 ++ text) ++ drop (k + length text) xs) e
+
 pub other_piece : (xs : List ℕ) (gap : ℕ) (text rest : List ℕ) → xs ≡ replicate gap 32 ++ drop gap xs → starts_with nat_eq (drop gap xs) text ≡ false → xs ≢ (replicate gap 32 ++ text) ++ rest
 other_piece xs gap text rest e f g =
     let whole : xs ≡ replicate gap 32 ++ (text ++ rest) = g ∙ append_assoc (replicate gap 32) text rest in

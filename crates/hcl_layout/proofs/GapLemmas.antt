@@ -4,7 +4,7 @@ use Rattle.std.proofs.Common.{◌≡◌, ℕ, zero, suc, ◌+◌, ◌<◌, ◌||
 use Rattle.std.specs.Prelude.{if◌then◌else◌, slice_set, map}
 use Rattle.hcl_scan.specs.Lexemes.{Lexeme}
 use Rattle.hcl_scan.proofs.BooleanLemmas.{or_true}
-use Rattle.hcl_syntax.specs.Kinds.{is_newline}
+use Rattle.hcl_scan.specs.Kinds.{is_newline}
 use Rattle.hcl_layout.specs.Lines.{Line}
 use Rattle.hcl_layout.specs.Levels.{Net, level, levels_after, net_of}
 use Rattle.hcl_layout.specs.Cells.{is_assignment, is_trailing, has_multiline, body, until, found, found_from, if_level, is_level, assign_cell, running_comment, trailing_comment}

@@ -1,5 +1,5 @@
 -- What is left to print, piece by piece.
-use Rattle.std.proofs.Common.{◌*◌, ◌≡◌, ◌∙◌, ◌+◌, ◌-◌, ◌++◌, ◌<◌, ◌≤◌, ◌==◌, ◌^◌, ℕ, suc, zero, Bool, true, false, List, [], ◌∷◌, Option, Some, None, length, ap, ap₂, refl, sym, arith, take, drop, replicate}
+use Rattle.std.proofs.Common.{◌*◌, ◌≡◌, ◌∙◌, ◌+◌, ◌-◌, ◌++◌, ◌<◌, ◌≤◌, ◌==◌, ◌^◌, ℕ, suc, zero, Bool, true, false, List, [], ◌∷◌, Option, Some, None, length, ap, ap₂, refl, sym, arith, subst, take, drop, replicate}
 use Rattle.std.specs.Prelude.{IfSome, if◌then◌else◌, nat_lt, slice_get}
 use Rattle.std.proofs.lemmas.Bool.Decides.{nat_tests}
 use Rattle.hcl_syntax.specs.Balanced.{max_open}
@@ -16,7 +16,7 @@ use Rattle.hcl_layout.specs.declared.gap.Cell.{Cell}
 use Rattle.hcl_layout.specs.declared.gap.LineGaps.{LineGaps}
 use Rattle.hcl_layout.proofs.LineLemmas.{blank, indented, width_next}
 use Rattle.hcl_layout.proofs.StreamLemmas.{gaps_all}
-use Rattle.hcl_layout.proofs.SurveyLemmas.{drop_at}
+use Rattle.hcl_layout.proofs.SurveyLemmas.{drop_at, token_at}
 
 pub start_all : (ts : List Lexeme) (d : ℕ) (levels : List ℕ) (column : Option ℕ) → BalancedFrom 0 ts → d ≡ 0 → levels ≡ fresh → column ≡ None
     → flat_map (λ g. g) (commented d levels column None (lines ts)) ≡ gaps ts
@@ -69,6 +69,30 @@ width_front g ts at len i =
   where
     zero_plus : (n : ℕ) → 0 + n ≡ n
     zero_plus n = omega arith
+
+suc_is : (k : ℕ) → k + 1 ≡ suc k
+suc_is k = omega arith
+
+width_none : (n : ℕ) (gs : List ℕ) (line : List Lexeme) → n ≡ 0 → width n gs line ≡ 0
+width_none n gs line e = rw e refl
+
+-- the width before a place, and on from there
+pub width_known : (g : LineGaps) (ts : List Lexeme) (at len k i : ℕ) → at + len ≤ length ts → k ≤ i → i ≤ len
+    → width k (gaps_in g (take len (drop at ts))) (take len (drop at ts))
+    + width (i - k) (gaps_from g k (behind ts at ((at + k) - 1)) (behind ts at (at + k)) (take (len - k) (drop (at + k) ts))) (take (len - k) (drop (at + k) ts))
+    ≡ width i (gaps_in g (take len (drop at ts))) (take len (drop at ts))
+width_known g ts at len zero i room le within = width_front g ts at len i
+width_known g ts at len (suc k) i room le within =
+    let here = token_at ts (at + k) (omega (arith, room, le, within)) in
+    let line : List Lexeme = take len (drop at ts) in
+    let further : List Lexeme = take (len - (k + 1)) (drop (at + (k + 1)) ts) in
+    let all = width_known g ts at len k i room (omega (arith, le)) within in
+    let one = width_known g ts at len k (k + 1) room (omega arith) (omega (arith, le, within)) in
+    let last = width_behind g ts at len k (k + 1) here.0 here.1 (omega (arith, le, within)) (omega arith) in
+    let none = width_none ((k + 1) - (k + 1)) (gaps_from g (k + 1) (behind ts at ((at + (k + 1)) - 1)) (behind ts at (at + (k + 1))) further) further (omega arith) in
+    let next = width_behind g ts at len k i here.0 here.1 within (omega (arith, le)) in
+    subst (λ n. width n (gaps_in g line) line + width (i - n) (gaps_from g n (behind ts at ((at + n) - 1)) (behind ts at (at + n)) (take (len - n) (drop (at + n) ts))) (take (len - n) (drop (at + n) ts)) ≡ width i (gaps_in g line) line)
+    (suc_is k) (omega (arith, all, one, last, none, next))
 
 pub piece_left : (ts : List Lexeme) (next start end : ℕ) (set : LineGaps) (rest : List ℕ) (t : Lexeme) (gap : ℕ) → slice_get ts next ≡ Some t → next < end → start ≤ next
     → gap ≡ gap_of set (next - start) (behind ts start (next - 1)) (behind ts start next) t

@@ -4,7 +4,7 @@ use Rattle.std.specs.Prelude.{if◌then◌else◌, slice_get, slice_set, nat_eq,
 use Rattle.hcl_scan.specs.Lexemes.{Lexeme}
 use Rattle.hcl_layout.specs.Gaps.{blanks, clusters, gaps_after, indent, plain_gaps, width}
 use Rattle.hcl_layout.specs.Inner.LineGaps.{len_with_blanks, cell_gap, gap_of, gaps_from, gaps_in, plain_gap, set_cell}
-use Rattle.hcl_syntax.specs.Kinds.{is_newline}
+use Rattle.hcl_scan.specs.Kinds.{is_newline}
 use Rattle.hcl_layout.specs.Lines.{Line}
 use Rattle.hcl_spacing.specs.Spacing.{spaced}
 use Rattle.hcl_layout.specs.declared.gap.Cell.{Cell}
@@ -96,6 +96,12 @@ width_set (g ∷ gs) [] zero (suc k) gap = omega arith
 width_set (g ∷ gs) [] (suc i) (suc k) gap = omega arith
 width_set (g ∷ gs) (t ∷ line) zero (suc k) gap = omega arith
 width_set (g ∷ gs) (t ∷ line) (suc i) (suc k) gap = omega (arith, width_set gs line i k gap)
+
+pub width_before : (gs : List ℕ) (line : Line) (i gap : ℕ) → width i (slice_set gs i gap) line ≡ width i gs line
+width_before gs line zero gap = refl
+width_before [] line (suc i) gap = refl
+width_before (g ∷ gs) [] (suc i) gap = refl
+width_before (g ∷ gs) (t ∷ line) (suc i) gap = ap (λ w. g + clusters t + w) (width_before gs line i gap)
 
 -- ---- one token more of a line
 

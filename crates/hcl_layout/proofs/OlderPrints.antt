@@ -13,7 +13,7 @@ use Rattle.hcl_layout.specs.Levels.{levels, net_of}
 use Rattle.hcl_layout.specs.Cells.{assign_cell, running_comment, trailing_comment}
 use Rattle.hcl_layout.specs.Gaps.{aligned, blanks, gaps_after, indent, indented, line_gaps, plain_gaps, zip_with}
 use Rattle.hcl_layout.specs.Print.{print, printed}
-use Rattle.hcl_syntax.specs.Kinds.{is_brace_close, is_brace_open, is_bracket_open, is_colon, is_colon_colon, is_comma, is_dot, is_ellipsis, is_ident, is_lit, is_minus, is_newline, is_not, is_paren_open, is_quote_close, is_quote_open, is_seq_close}
+use Rattle.hcl_scan.specs.Kinds.{is_brace_close, is_brace_open, is_bracket_open, is_colon, is_colon_colon, is_comma, is_dot, is_ellipsis, is_ident, is_lit, is_minus, is_newline, is_not, is_paren_open, is_quote_close, is_quote_open, is_seq_close}
 use Rattle.hcl_spacing.specs.Spacing.{begins_with_colon, closes_group, ends_operand, is_in, is_opening, opens_sequence, spaced, would_join}
 use Rattle.hcl_layout.specs.Older.Prints.{were_gaps_after, were_line_gaps, were_plain_gaps, was_print, was_spaced, would_have_joined}
 use Rattle.hcl_spacing.proofs.SpacingLemmas.{row_one}

@@ -25,7 +25,7 @@ use Rattle.hcl_syntax.specs.Predictor.{ending, Effect, on, stop, taken, effect, 
 use Rattle.hcl_syntax.specs.Relation.{Step, dropped, read, opened, closed, gone, Run, at_end, step as one_step, refused}
 use Rattle.hcl_syntax.specs.Verdict.{IsAccepted}
 use Rattle.hcl_syntax.proofs.RelationLemmas.{answers}
-use Rattle.hcl_syntax.specs.Kinds.{is_colon}
+use Rattle.hcl_scan.specs.Kinds.{is_colon}
 use Rattle.hcl_layout.specs.Older.Rows.{is_path_sign, was_row, was_turn, was_run, WasAccepted}
 use Rattle.hcl_layout.proofs.OlderScans.{Apart, Older, starts_colon}
 

@@ -7,7 +7,7 @@ use Rattle.std.proofs.lemmas.List.{append-nil}
 use Rattle.std.proofs.lemmas.Bool.Decides.{nat_tests}
 use Rattle.hcl_scan.specs.Lexemes.{Lexeme, Opener, in_heredoc, moved}
 use Rattle.hcl_scan.specs.Spelling.{punctuation, IsPunctuation, IsSpelling, IsExpressionText, context, Template, Expression, is_blank, starts}
-use Rattle.hcl_scan.specs.Scans.{State, begin, ahead, gap_in, has_gaps_in, IsLongest, Shows, Reads, Closes, Next, Run, IsComplete, Scans}
+use Rattle.hcl_scan.specs.Scans.{State, begin, ahead, gap_in, has_gaps_in, IsLongest, Leaves, Reads, Closes, Next, Run, IsComplete, Scans}
 use Rattle.hcl_scan.specs.SideBySide.{is_coloned}
 use Rattle.hcl_scan.specs.declared.token.Kind.{Kind}
 use Rattle.hcl_scan.specs.declared.token.Kind.TheVariants as kind
@@ -20,7 +20,7 @@ use Rattle.hcl_scan.proofs.KindPlaceLemmas.{Side, expression, template, side}
 use Rattle.hcl_scan.proofs.TemplateLemmas.{Way, lit, interp, control, quote}
 use Rattle.hcl_scan.proofs.WordLemmas.{begins_word, ident_word}
 use Rattle.hcl_scan.proofs.WayLemmas.{Ways, ways, newline, line_comment, inline_comment, blanks, ident, digits, number, heredoc, seq_close, brace_close, slash, mark, mark_passes}
-use Rattle.hcl_syntax.specs.Kinds.{is_colon, is_colon_colon}
+use Rattle.hcl_scan.specs.Kinds.{is_colon, is_colon_colon}
 use Rattle.hcl_layout.specs.Older.Tokens.{WasSpelling, WasLongest, WasRead, WasNext, WasRun, WasScanned}
 
 abbrev pub starts_colon : List Lexeme → Bool
@@ -173,7 +173,7 @@ module _ (s : State) (t : Lexeme) (next end : State) (ts : List Lexeme) (r : Was
       opens_same = r.opens ∙ ap (λ (z : Kind). moved z s.opens) colon
 
       seen_is : next.seen ≡ 58 ∷ left
-      seen_is = (subst (λ (z : Kind). Shows z t.text r.rest s.hidden next.seen next.hidden) colon r.shows).0 ∙ one_byte t.text r.rest 58 58 left whole long few
+      seen_is = (subst (λ (z : Kind). Leaves z t.text r.rest s.hidden next.seen next.hidden) colon r.leaves).0 ∙ one_byte t.text r.rest 58 58 left whole long few
 
       ahead_is : ahead next ≡ 58 ∷ left
       ahead_is = no_gap next.opens next.seen left seen_is
@@ -211,7 +211,7 @@ module _ (s : State) (t : Lexeme) (next end : State) (ts : List Lexeme) (r : Was
     offsets = r.offsets;
     room = r.room;
     after_dot = r.after_dot;
-    shows = r.shows;
+    leaves = r.leaves;
   }
 
 -- ---- a whole list

@@ -1,12 +1,14 @@
 -- Bytes that go out one after another, through a buffer.
-use Rattle.std.proofs.Common.{◌≡◌, ◌∙◌, ◌++◌, ◌+◌, ◌-◌, ◌<◌, ◌≤◌, ℕ, suc, zero, List, [], ◌∷◌, Option, Some, None, ap, arith, sym, subst, length, take, append_assoc, replicate, length-append}
-use Rattle.std.proofs.Math.Seq.{take-append-add}
+use Rattle.std.proofs.Common.{◌≡◌, ◌∙◌, ◌++◌, ◌+◌, ◌-◌, ◌<◌, ◌≤◌, ℕ, suc, zero, List, [], ◌∷◌, Option, Some, None, ap, arith, sym, subst, refl, length, drop, take, append_assoc, replicate, length-append}
+use Rattle.std.proofs.Math.Seq.{take-add, take-append-add, take-append_seam}
 use Rattle.std.proofs.lemmas.List.{append-nil, length-take-le, take-append-le}
 use Rattle.std.specs.Prelude.{IfErr, OnOk, Result, Ok, Err}
 use Rattle.std.specs.Io.KnownBytes.{Appends}
 use Rattle.hcl_source.specs.declared.device.WriteFault.{WriteFault}
-use Rattle.hcl_layout.specs.Inner.Out.{Out, Stopped, held}
+use Rattle.hcl_layout.specs.Inner.Out.{Out, Stopped, held, stretched}
 use Rattle.hcl_layout.specs.declared.buffer.Buffer.{Buffer}
+use Rattle.hcl_layout.specs.declared.buffer.Stretch.{Stretch}
+use Rattle.hcl_layout.proofs.FormatLemmas.{behind}
 
 pub Appends-then : (a b c : Option (List ℕ)) (xs ys : List ℕ) → Appends a b xs → Appends b c ys → Appends a c (xs ++ ys)
 Appends-then None b c xs ys p q = tt
@@ -83,6 +85,10 @@ pub err_by : (r : Result (Unit {0}) WriteFault) (P Q : WriteFault → Type 0) �
 err_by (Ok u) P Q f p = tt
 err_by (Err fault) P Q f p = f fault p
 
+pub ok_to : (r : Result (Unit {0}) WriteFault) (P Q : Type 0) → (P → Q) → OnOk r P → OnOk r Q
+ok_to (Ok u) P Q f p = f p
+ok_to (Err fault) P Q f p = tt
+
 pub ok_by : (r : Result (Unit {0}) WriteFault) (P Q R : Type 0) → (P → R → Q) → OnOk r P → OnOk r R → OnOk r Q
 ok_by (Ok u) P Q R f p q = f p q
 ok_by (Err fault) P Q R f p q = tt
@@ -102,13 +108,31 @@ stopped_blanks base new front k gap fault lt p =
     ∙ ap (λ l. front ++ l) (blanks_cut k n ∙ ap (λ j. replicate {A = ℕ} j 32) all) in
     subst (λ l. Stopped base new l fault) whole (stopped_more base new ((front ++ replicate k 32) ++ (32 ∷ [])) (replicate n 32) fault p)
 
--- a piece more of what is printed
-pub print_more : (whole front piece rest rest' : List ℕ) → whole ≡ front ++ rest → rest ≡ piece ++ rest' → whole ≡ (front ++ piece) ++ rest'
-print_more whole front piece rest rest' e f = e ∙ ap (λ l. front ++ l) f ∙ sym (append_assoc front piece rest')
+-- ---- a stretch of the source waits
 
-pub stopped_print : (base new : Option (List ℕ)) (whole front piece rest rest' : List ℕ) (fault : WriteFault) → whole ≡ front ++ rest → rest ≡ piece ++ rest' → Stopped base new (front ++ piece) fault → Stopped base new whole fault
-stopped_print base new whole front piece rest rest' fault e f p =
-    subst (λ l. Stopped base new l fault) (sym (print_more whole front piece rest rest' e f)) (stopped_more base new (front ++ piece) rest' fault p)
+-- what waits goes on with the next piece
+pub grown : (source : List ℕ) (s : Stretch) (piece : List ℕ) (end : ℕ) → s.start ≤ s.end → end ≡ s.end + length piece → drop s.end source ≡ piece ++ drop end source
+    → stretched source (record { gap = s.gap; start = s.start; end = end }) ≡ stretched source s ++ piece
+grown source s piece end le e f =
+    let left : List ℕ = drop s.start source in
+    let n : ℕ = s.end - s.start in
+    let long : end - s.start ≡ n + length piece = omega (arith, e) in
+    let all : s.start + n ≡ s.end = omega arith in
+    let more : take (length piece) (drop n left) ≡ piece = ap (take (length piece)) (behind n s.start left source refl ∙ ap (λ k. drop k source) all ∙ f) ∙ take-append_seam piece (drop end source) in
+    ap (λ k. replicate s.gap 32 ++ take k left) long
+    ∙ ap (λ l. replicate s.gap 32 ++ l) (take-add n (length piece) left ∙ ap (λ l. take n left ++ l) more)
+    ∙ sym (append_assoc (replicate s.gap 32) (take n left) piece)
 
-pub print_end : (whole front rest : List ℕ) → whole ≡ front ++ rest → rest ≡ [] → front ≡ whole
-print_end whole front rest e f = sym (e ∙ ap (λ l. front ++ l) f ∙ append-nil front)
+pub print_grown : (whole front a b piece rest rest' : List ℕ) → whole ≡ front ++ (a ++ rest) → rest ≡ piece ++ rest' → b ≡ a ++ piece → whole ≡ front ++ (b ++ rest')
+print_grown whole front a b piece rest rest' e f g =
+    e ∙ ap (λ l. front ++ l) (ap (λ l. a ++ l) f ∙ sym (append_assoc a piece rest') ∙ ap (λ l. l ++ rest') (sym g))
+
+-- what waits was put, and the next piece waits
+pub print_put : (whole front a b piece rest rest' : List ℕ) → whole ≡ front ++ (a ++ rest) → rest ≡ piece ++ rest' → b ≡ piece → whole ≡ (front ++ a) ++ (b ++ rest')
+print_put whole front a b piece rest rest' e f g = e ∙ sym (append_assoc front a rest) ∙ ap (λ l. (front ++ a) ++ l) (f ∙ ap (λ l. l ++ rest') (sym g))
+
+pub stopped_print : (base new : Option (List ℕ)) (whole front a rest : List ℕ) (fault : WriteFault) → whole ≡ front ++ (a ++ rest) → Stopped base new (front ++ a) fault → Stopped base new whole fault
+stopped_print base new whole front a rest fault e p = subst (λ l. Stopped base new l fault) (sym (e ∙ sym (append_assoc front a rest))) (stopped_more base new (front ++ a) rest fault p)
+
+pub print_end : (whole front a rest : List ℕ) → whole ≡ front ++ (a ++ rest) → rest ≡ [] → front ++ a ≡ whole
+print_end whole front a rest e f = sym (e ∙ ap (λ l. front ++ l) (ap (λ l. a ++ l) f ∙ append-nil a))

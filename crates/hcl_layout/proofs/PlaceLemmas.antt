@@ -3,7 +3,7 @@ use Rattle.std.proofs.Common.{◌≡◌, ◌∙◌, ℕ, zero, suc, ◌+◌, ◌
 use Rattle.std.specs.Prelude.{if◌then◌else◌, map, option_map, slice_set, replicate}
 use Rattle.std.specs.List.{flat_map}
 use Rattle.hcl_scan.specs.Lexemes.{Lexeme}
-use Rattle.hcl_scan.specs.Regapped.{tokens_of, placed}
+use Rattle.hcl_scan.specs.Regapped.{without_gaps, placed}
 use Rattle.hcl_syntax.specs.declared.class.Lookahead.{Lookahead}
 use Rattle.hcl_syntax.specs.Classes.{class_of, lookaheads, lookaheads_from}
 use Rattle.hcl_syntax.specs.Classes.{is_trivia}
@@ -152,7 +152,7 @@ line_gaps_forgot ls =
 gaps_forgot : (ts : List Lexeme) → gaps (forgot ts) ≡ gaps ts
 gaps_forgot ts = ap (λ ls. flat_map (λ g. g) (line_gaps ls)) (lines_forgot ts) ∙ ap (λ gs. flat_map (λ g. g) gs) (line_gaps_forgot (lines ts))
 
-placed_forgot : (at : ℕ) (ps : List (ℕ × Lexeme)) → forgot (placed at ps) ≡ forgot (tokens_of ps)
+placed_forgot : (at : ℕ) (ps : List (ℕ × Lexeme)) → forgot (placed at ps) ≡ forgot (without_gaps ps)
 placed_forgot at [] = refl
 placed_forgot at (p ∷ ps) = ap (λ y. forget p.1 ∷ y) (placed_forgot (at + p.0 + length p.1.text) ps)
 

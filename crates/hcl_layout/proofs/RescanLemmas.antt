@@ -4,14 +4,13 @@ use Rattle.std.specs.Prelude.{if◌then◌else◌}
 use Rattle.std.specs.List.{flat_map}
 use Rattle.hcl_scan.specs.Lexemes.{Lexeme}
 use Rattle.hcl_scan.specs.Scans.{Scans}
-use Rattle.hcl_scan.specs.Scans as scans
-use Rattle.hcl_scan.specs.Regapped.{AllFit, tokens_of, text_of}
+use Rattle.hcl_scan.specs.Regapped.{AllFit, without_gaps, text_with_gaps}
 use Rattle.hcl_scan.specs.SideBySide.{Besides}
 use Rattle.hcl_scan.specs.declared.token.Kind.{Kind}
 use Rattle.hcl_scan.specs.declared.token.Kind.TheVariants as kind
 use Rattle.hcl_scan.proofs.OtherGapLemmas.{other_gaps}
 use Rattle.hcl_scan.proofs.SideBySideLemmas.{besides}
-use Rattle.hcl_syntax.specs.Kinds.{is_newline}
+use Rattle.hcl_scan.specs.Kinds.{is_dot, is_newline}
 use Rattle.hcl_layout.specs.Lines.{Line, lines, onto, ends_line}
 use Rattle.hcl_layout.specs.Gaps.{gaps, line_gaps}
 use Rattle.hcl_layout.specs.Print.{print, printed}
@@ -66,13 +65,13 @@ fits_cons t ts rec true e ls is before u dot k g gs c s more b = by g (subst (λ
     by (x ∷ []) s =
         let q = cut gs (lines ts) (subst (λ l. AllSpread gs (more_lines l)) is more) in (
           fits_here before u dot k x t c s.0 b.0,
-          subst (λ l. AllFit (scans.is_dot k) t.kind (with_gaps l ts)) (sym q.whole) (rec None None (scans.is_dot k) t.kind q.front q.back (newline_is t.kind (not t.inside_heredoc) e) q.first q.more b.1),
+          subst (λ l. AllFit (is_dot k) t.kind (with_gaps l ts)) (sym q.whole) (rec None None (is_dot k) t.kind q.front q.back (newline_is t.kind (not t.inside_heredoc) e) q.first q.more b.1),
         )
 fits_cons t ts rec false e ls is before u dot k g gs c s more b = by g (subst (λ l. Spread before u g (first_line l)) (is ∙ onto_first t (lines ts)) s)
   where
     by : (g : List ℕ) → Spread before u g (t ∷ first_line (lines ts)) → AllFit dot k (with_gaps (g ++ all_gaps gs) (t ∷ ts))
     by [] s = absurd s
-    by (x ∷ g) s = (fits_here before u dot k x t c s.0 b.0, rec u (Some t) (scans.is_dot k) t.kind g gs (coherent_on before u dot k t c) s.1 (subst (λ l. AllSpread gs (more_lines l)) (is ∙ onto_first t (lines ts)) more) b.1)
+    by (x ∷ g) s = (fits_here before u dot k x t c s.0 b.0, rec u (Some t) (is_dot k) t.kind g gs (coherent_on before u dot k t c) s.1 (subst (λ l. AllSpread gs (more_lines l)) (is ∙ onto_first t (lines ts)) more) b.1)
 
 fits_all : (ts : List Lexeme) → Fits ts
 fits_all [] before u dot k [] [] c s more b = tt
@@ -93,21 +92,21 @@ spread_len before u (x ∷ g) [] s = absurd s
 spread_len before u (x ∷ g) (t ∷ l) s = ap suc (spread_len u (Some t) g l s.1)
 
 abbrev Long : List Lexeme → Type 0
-Long ts = (before u : Option Lexeme) (g : List ℕ) (gs : List (List ℕ)) → Spread before u g (first_line (lines ts)) → AllSpread gs (more_lines (lines ts)) → tokens_of (with_gaps (g ++ all_gaps gs) ts) ≡ ts
+Long ts = (before u : Option Lexeme) (g : List ℕ) (gs : List (List ℕ)) → Spread before u g (first_line (lines ts)) → AllSpread gs (more_lines (lines ts)) → without_gaps (with_gaps (g ++ all_gaps gs) ts) ≡ ts
 
 long_cons : (t : Lexeme) (ts : List Lexeme) → Long ts → (v : Bool) → (ls : List Line) → ls ≡ (if v then (t ∷ []) ∷ lines ts else onto t (lines ts)) →
-    (before u : Option Lexeme) (g : List ℕ) (gs : List (List ℕ)) → Spread before u g (first_line ls) → AllSpread gs (more_lines ls) → tokens_of (with_gaps (g ++ all_gaps gs) (t ∷ ts)) ≡ t ∷ ts
+    (before u : Option Lexeme) (g : List ℕ) (gs : List (List ℕ)) → Spread before u g (first_line ls) → AllSpread gs (more_lines ls) → without_gaps (with_gaps (g ++ all_gaps gs) (t ∷ ts)) ≡ t ∷ ts
 long_cons t ts rec true ls is before u g gs s more = by g (subst (λ l. Spread before u g (first_line l)) is s)
   where
-    by : (g : List ℕ) → Spread before u g (t ∷ []) → tokens_of (with_gaps (g ++ all_gaps gs) (t ∷ ts)) ≡ t ∷ ts
+    by : (g : List ℕ) → Spread before u g (t ∷ []) → without_gaps (with_gaps (g ++ all_gaps gs) (t ∷ ts)) ≡ t ∷ ts
     by [] s = absurd s
     by (x ∷ y ∷ g) s = absurd s.1
     by (x ∷ []) s =
         let q = cut gs (lines ts) (subst (λ l. AllSpread gs (more_lines l)) is more) in
-        ap (λ l. t ∷ l) (ap (λ l. tokens_of (with_gaps l ts)) q.whole ∙ rec None None q.front q.back q.first q.more)
+        ap (λ l. t ∷ l) (ap (λ l. without_gaps (with_gaps l ts)) q.whole ∙ rec None None q.front q.back q.first q.more)
 long_cons t ts rec false ls is before u g gs s more = by g (subst (λ l. Spread before u g (first_line l)) (is ∙ onto_first t (lines ts)) s)
   where
-    by : (g : List ℕ) → Spread before u g (t ∷ first_line (lines ts)) → tokens_of (with_gaps (g ++ all_gaps gs) (t ∷ ts)) ≡ t ∷ ts
+    by : (g : List ℕ) → Spread before u g (t ∷ first_line (lines ts)) → without_gaps (with_gaps (g ++ all_gaps gs) (t ∷ ts)) ≡ t ∷ ts
     by [] s = absurd s
     by (x ∷ g) s = ap (λ l. t ∷ l) (rec u (Some t) g gs s.1 (subst (λ l. AllSpread gs (more_lines l)) (is ∙ onto_first t (lines ts)) more))
 
@@ -117,11 +116,11 @@ long_all [] before u [] (g ∷ gs) s more = absurd more
 long_all [] before u (x ∷ g) gs s more = absurd s
 long_all (t ∷ ts) before u g gs s more = long_cons t ts (long_all ts) (ends_line t) (lines (t ∷ ts)) refl before u g gs s more
 
-pub tokens_are : (ts : List Lexeme) → tokens_of (with_gaps (gaps ts) ts) ≡ ts
-tokens_are ts = let q = cut (line_gaps (lines ts)) (lines ts) (spread_lines (lines ts)) in ap (λ l. tokens_of (with_gaps l ts)) q.whole ∙ long_all ts None None q.front q.back q.first q.more
+pub tokens_are : (ts : List Lexeme) → without_gaps (with_gaps (gaps ts) ts) ≡ ts
+tokens_are ts = let q = cut (line_gaps (lines ts)) (lines ts) (spread_lines (lines ts)) in ap (λ l. without_gaps (with_gaps l ts)) q.whole ∙ long_all ts None None q.front q.back q.first q.more
 
 -- ---- the print
-text_is : (gs : List ℕ) (ts : List Lexeme) → text_of (with_gaps gs ts) ≡ printed gs ts
+text_is : (gs : List ℕ) (ts : List Lexeme) → text_with_gaps (with_gaps gs ts) ≡ printed gs ts
 text_is [] ts = refl
 text_is (g ∷ gs) [] = refl
 text_is (g ∷ gs) (t ∷ ts) = ap (λ l. replicate g 32 ++ (t.text ++ l)) (text_is gs ts) ∙ sym (append_assoc (replicate g 32) t.text (printed gs ts))

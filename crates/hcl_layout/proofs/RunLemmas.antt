@@ -6,10 +6,10 @@ use Rattle.hcl_syntax.specs.Balanced.{max_open}
 use Rattle.hcl_layout.specs.Cells.{assign_cell, body, has_multiline, if_level, is_level, is_assignment, is_trailing, found_from, running_comment, trailing_comment, until}
 use Rattle.hcl_layout.specs.Gaps.{align, gap_to, plain_gaps, width}
 use Rattle.hcl_layout.specs.Levels.{net_of}
-use Rattle.hcl_layout.specs.Inner.LineGaps.{len_with_blanks, gaps_in, plain_of, set_cell}
+use Rattle.hcl_layout.specs.Inner.LineGaps.{IsKnown, len_with_blanks, gaps_in, plain_of, set_cell}
 use Rattle.hcl_layout.specs.Lines.{Line}
 use Rattle.hcl_layout.specs.declared.gap.Cell.{Cell}
-use Rattle.hcl_layout.proofs.LineLemmas.{gaps_in_is, width_set, width_small}
+use Rattle.hcl_layout.proofs.LineLemmas.{gaps_in_is, width_before, width_set, width_small}
 use Rattle.hcl_layout.proofs.SurveyLemmas.{place_within}
 
 -- ---- sizes
@@ -54,16 +54,34 @@ multiline_some : (a : Bool) (x : Option ℕ) (i : ℕ) → (if a then None else 
 multiline_some true x i e = cc
 multiline_some false x i e = e
 
-assign_within : (line : Line) (i : ℕ) → assign_cell line ≡ Some i → i < length line
-assign_within [] i e = let h : None ≡ Some i = multiline_some (has_multiline []) None i e in cc
-assign_within (t ∷ line) i e =
-    let sign : found_from is_assignment 1 (until is_trailing line) ≡ Some i =
-    level_some (t ∷ until is_trailing line) (found_from is_assignment 1 (until is_trailing line)) i (multiline_some (has_multiline (t ∷ line)) (if_level (body (t ∷ line)) (found_from is_assignment 1 (until is_trailing line))) i e) in
-    omega (arith, (place_within is_assignment 1 (until is_trailing line) i sign).1, until_short is_trailing line)
-
 comment_within : (line : Line) (i : ℕ) → trailing_comment line ≡ Some i → i < length line
 comment_within [] i e = cc
 comment_within (t ∷ line) i e = omega (arith, (place_within is_trailing 1 line i e).1)
+
+until_found : (test : Lexeme → Bool) (k : ℕ) (line : Line) (j : ℕ) → found_from test k line ≡ Some j → j ≡ k + length (until test line)
+until_found test k [] j e = cc
+until_found test k (t ∷ line) j e = go (λ h. until_found test (k + 1) line j h) (test t) refl
+  where
+    here : (a b : ℕ) → Some a ≡ Some b → a ≡ b
+    here a b h = cc
+
+    go : (found_from test (k + 1) line ≡ Some j → j ≡ (k + 1) + length (until test line)) → (v : Bool) → test t ≡ v → j ≡ k + length (until test (t ∷ line))
+    go r true v = let h : Some k ≡ Some j = rw v at e in rw v (omega (arith, here k j h))
+    go r false v = let h : found_from test (k + 1) line ≡ Some j = rw v at e in rw v (omega (arith, r h))
+
+assign_sign : (t : Lexeme) (line : Line) (i : ℕ) → assign_cell (t ∷ line) ≡ Some i → found_from is_assignment 1 (until is_trailing line) ≡ Some i
+assign_sign t line i e =
+    level_some (t ∷ until is_trailing line) (found_from is_assignment 1 (until is_trailing line)) i (multiline_some (has_multiline (t ∷ line)) (if_level (body (t ∷ line)) (found_from is_assignment 1 (until is_trailing line))) i e)
+
+assign_within : (line : Line) (i : ℕ) → assign_cell line ≡ Some i → i < length line
+assign_within [] i e = let h : None ≡ Some i = multiline_some (has_multiline []) None i e in cc
+assign_within (t ∷ line) i e =
+    omega (arith, (place_within is_assignment 1 (until is_trailing line) i (assign_sign t line i e)).1, until_short is_trailing line)
+
+-- the assign cell stands before the trailing comment
+pub assign_before : (line : Line) (i j : ℕ) → assign_cell line ≡ Some i → trailing_comment line ≡ Some j → i ≤ j
+assign_before [] i j e f = let h : None ≡ Some i = multiline_some (has_multiline []) None i e in cc
+assign_before (t ∷ line) i j e f = omega (arith, (place_within is_assignment 1 (until is_trailing line) i (assign_sign t line i e)).1, until_found is_trailing 1 line j f)
 
 line_short : (ts : List Lexeme) (at n i : ℕ) → i < length (take n (drop at ts)) → i < n
 line_short ts at n i lt = omega (arith, length-take n (drop at ts))
@@ -87,23 +105,27 @@ aligned_none gaps l column e = rw e refl
 pub aligned_some : (gaps : List ℕ) (l : Line) (column i gap : ℕ) → assign_cell l ≡ Some i → gap ≡ column - width i gaps l + 1 → slice_set gaps i gap ≡ align assign_cell gaps l (Some column)
 aligned_some gaps l column i gap e f = rw (e, f) refl
 
-pub assigned_in : (level i gap : ℕ) (line : Line) → gaps_in (record { level = level; assign = Some (record { place = i; gap = gap }); comment = None }) line ≡ slice_set (plain_gaps level line) i gap
-assigned_in level i gap line = gaps_in_is (record { level = level; assign = Some (record { place = i; gap = gap }); comment = None }) line
+pub assigned_in : (level i own gap : ℕ) (line : Line) → gaps_in (record { level = level; assign = Some (record { place = i; width = own; gap = gap }); comment = None }) line ≡ slice_set (plain_gaps level line) i gap
+assigned_in level i own gap line = gaps_in_is (record { level = level; assign = Some (record { place = i; width = own; gap = gap }); comment = None }) line
+
+-- the width kept with an assign cell
+pub known_set : (level i own gap : ℕ) (line : Line) → own ≡ width i (plain_gaps level line) line → IsKnown (record { level = level; assign = Some (record { place = i; width = own; gap = gap }); comment = None }) line
+known_set level i own gap line e = e ∙ sym (ap (λ g. width i g line) (assigned_in level i own gap line) ∙ width_before (plain_gaps level line) line i gap)
 
 pub narrow_plain : (ts : List Lexeme) (at n level : ℕ) → level ≤ max_open → len_with_blanks ts < 2 ^ 32 → (k : ℕ) → width k (gaps_in (plain_of level) (take n (drop at ts))) (take n (drop at ts)) < 2 ^ 34
 narrow_plain ts at n level low small k =
     omega (arith, ap (λ g. width k g (take n (drop at ts))) (plain_in level (take n (drop at ts))), plain_low ts at n level k low, small)
 
-pub narrow_set : (ts : List Lexeme) (at n level i gap : ℕ) → level ≤ max_open → len_with_blanks ts < 2 ^ 32 → gap ≤ 2 ^ 33
-    → (k : ℕ) → width k (gaps_in (record { level = level; assign = Some (record { place = i; gap = gap }); comment = None }) (take n (drop at ts))) (take n (drop at ts)) < 2 ^ 34
-narrow_set ts at n level i gap low small tight k =
+pub narrow_set : (ts : List Lexeme) (at n level i own gap : ℕ) → level ≤ max_open → len_with_blanks ts < 2 ^ 32 → gap ≤ 2 ^ 33
+    → (k : ℕ) → width k (gaps_in (record { level = level; assign = Some (record { place = i; width = own; gap = gap }); comment = None }) (take n (drop at ts))) (take n (drop at ts)) < 2 ^ 34
+narrow_set ts at n level i own gap low small tight k =
     let line : Line = take n (drop at ts) in
-    omega (arith, ap (λ g. width k g line) (assigned_in level i gap line), width_set (plain_gaps level line) line i k gap, plain_low ts at n level k low, small, tight)
+    omega (arith, ap (λ g. width k g line) (assigned_in level i own gap line), width_set (plain_gaps level line) line i k gap, plain_low ts at n level k low, small, tight)
 
-pub commented_in : (level : ℕ) (assign comment : Option Cell) (i gap : ℕ) (line : Line) → comment ≡ None
-    → gaps_in (record { level = level; assign = assign; comment = Some (record { place = i; gap = gap }) }) line ≡ slice_set (gaps_in (record { level = level; assign = assign; comment = comment }) line) i gap
-commented_in level assign comment i gap line e =
-    gaps_in_is (record { level = level; assign = assign; comment = Some (record { place = i; gap = gap }) }) line
+pub commented_in : (level : ℕ) (assign comment : Option Cell) (i own gap : ℕ) (line : Line) → comment ≡ None
+    → gaps_in (record { level = level; assign = assign; comment = Some (record { place = i; width = own; gap = gap }) }) line ≡ slice_set (gaps_in (record { level = level; assign = assign; comment = comment }) line) i gap
+commented_in level assign comment i own gap line e =
+    gaps_in_is (record { level = level; assign = assign; comment = Some (record { place = i; width = own; gap = gap }) }) line
     ∙ ap (λ (l : List ℕ). slice_set l i gap) (sym (gaps_in_is (record { level = level; assign = assign; comment = comment }) line ∙ ap (λ (o : Option Cell). set_cell o (set_cell assign (plain_gaps level line))) e))
 
 pub comment_cell : (gaps : List ℕ) (l : Line) (column : Option ℕ) (i gap : ℕ) → trailing_comment l ≡ Some i → gap ≡ gap_to column (width i gaps l) → slice_set gaps i gap ≡ align trailing_comment gaps l column

@@ -1,7 +1,7 @@
 -- The texts of scanned tokens are parts of the source, one behind another, so they are no longer than it.
 use Rattle.std.proofs.Common.{◌≡◌, ◌∙◌, ◌+◌, ◌≤◌, ℕ, suc, zero, List, [], ◌∷◌, length, ap, refl, sym, arith, take, drop, length-append, length-drop, ⊎_elim}
 use Rattle.hcl_scan.specs.Lexemes.{Lexeme, marker_of}
-use Rattle.hcl_scan.specs.Scans.{Closes, Hidden, Next, Reads, Run, Scans, Shows, State, ahead, begin, gap_len, closer_len}
+use Rattle.hcl_scan.specs.Scans.{Closes, Hidden, Next, Reads, Run, Scans, Leaves, State, ahead, begin, gap_len, closer_len}
 use Rattle.hcl_scan.specs.declared.token.Kind.{Kind}
 use Rattle.hcl_scan.specs.declared.token.Kind.TheVariants as kind
 use Rattle.hcl_layout.specs.Inner.LineGaps.{len_with_blanks}
@@ -22,7 +22,7 @@ left_length s = length s.seen + hidden_length s.hidden
 goes_on : (rest : List ℕ) (hidden : List Hidden) (seen : List ℕ) (behind : List Hidden) → (seen ≡ rest) × (behind ≡ hidden) → length seen + hidden_length behind ≡ length rest + hidden_length hidden
 goes_on rest hidden seen behind p = omega (arith, ap length p.0, ap hidden_length p.1)
 
-shows_length : (k : Kind) (text rest : List ℕ) (hidden : List Hidden) (seen : List ℕ) (behind : List Hidden) → Shows k text rest hidden seen behind
+shows_length : (k : Kind) (text rest : List ℕ) (hidden : List Hidden) (seen : List ℕ) (behind : List Hidden) → Leaves k text rest hidden seen behind
     → length seen + hidden_length behind ≡ length rest + hidden_length hidden
 shows_length kind.Newline text rest hidden seen behind p = goes_on rest hidden seen behind p
 shows_length kind.LineComment text rest hidden seen behind p = goes_on rest hidden seen behind p
@@ -71,7 +71,7 @@ shows_length kind.HeredocClose text rest hidden seen behind p = goes_on rest hid
 reads_length : (s : State) (t : Lexeme) (next : State) → Reads s t next → length t.text + left_length next ≤ left_length s
 reads_length s t next p =
     let whole : length t.text + length p.rest ≡ length (ahead s) = sym (length-append t.text p.rest) ∙ ap length p.longest.whole in
-    omega (arith, whole, length-drop (gap_len s) s.seen, shows_length t.kind t.text p.rest s.hidden next.seen next.hidden p.shows)
+    omega (arith, whole, length-drop (gap_len s) s.seen, shows_length t.kind t.text p.rest s.hidden next.seen next.hidden p.leaves)
 
 closes_length : (s : State) (t : Lexeme) (next : State) → Closes s t next → length t.text + left_length next ≤ left_length s
 closes_length s t next p = omega (arith, ap left_length p.next_is, ap hidden_length p.line)

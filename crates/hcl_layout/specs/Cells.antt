@@ -4,7 +4,7 @@
 use Rattle.std.specs.Prelude.{◌+◌, ◌==◌, ◌&&◌, ℕ, Bool, not, [], ◌∷◌, Option, Some, None, if◌then◌else◌, drop}
 use Rattle.std.specs.List.{list_any}
 use Rattle.hcl_scan.specs.Lexemes.{Lexeme}
-use Rattle.hcl_syntax.specs.Kinds.{is_assign, is_inline_comment, is_line_comment}
+use Rattle.hcl_scan.specs.Kinds.{is_assign, is_inline_comment, is_line_comment}
 use Rattle.hcl_layout.specs.Lines.{Line}
 use Rattle.hcl_layout.specs.Levels.{Net, net_of}
 

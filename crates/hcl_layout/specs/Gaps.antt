@@ -6,7 +6,7 @@ use Rattle.std.specs.Prelude.{◌+◌, ◌-◌, ◌*◌, ◌||◌, ℕ, true, su
 use Rattle.std.specs.List.{flat_map}
 use Rattle.unicode_segmentation.specs.Grapheme.{graphemes}
 use Rattle.hcl_scan.specs.Lexemes.{Lexeme}
-use Rattle.hcl_syntax.specs.Kinds.{is_newline}
+use Rattle.hcl_scan.specs.Kinds.{is_newline}
 use Rattle.hcl_layout.specs.Lines.{Line, lines}
 use Rattle.hcl_layout.specs.Levels.{levels, net_of}
 use Rattle.hcl_spacing.specs.Spacing.{spaced}

@@ -3,7 +3,7 @@
 -- Our own choice: a heredoc's body is kept as it is, so it belongs to the line on which it began.
 use Rattle.std.specs.Prelude.{◌&&◌, Bool, not, List, [], ◌∷◌, if◌then◌else◌}
 use Rattle.hcl_scan.specs.Lexemes.{Lexeme}
-use Rattle.hcl_syntax.specs.Kinds.{is_newline}
+use Rattle.hcl_scan.specs.Kinds.{is_newline}
 
 abbrev pub Line : Type 0
 Line = List Lexeme

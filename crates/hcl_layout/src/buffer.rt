@@ -1,4 +1,4 @@
-//! Bytes that wait to be written.
+//! What waits to be written.
 ghost use Rattle.std.specs.Prelude.{◌≤◌};
 
 /// What waits to be written: the first `len` bytes. So many bytes were sent before them.
@@ -8,4 +8,12 @@ pub struct Buffer {
     pub len: usize,
     pub sent: u64,
     ghost within: { len ≤ 8192 },
+}
+
+/// What is printed as it stands in the source: the bytes from `start` to `end`, with so many blanks before them.
+#[derive(Clone, Copy)]
+pub struct Stretch {
+    pub gap: u64,
+    pub start: usize,
+    pub end: usize,
 }

@@ -1,23 +1,22 @@
 //! The gaps of one line, and the widths before its cells.
-ghost use Rattle.std.specs.Prelude.{◌*◌, ◌≡◌, ◌<◌, ◌≤◌, ◌+◌, ◌-◌, ◌^◌, true, Some, length, take, drop, option_map, slice_get};
-ghost use Rattle.unicode_segmentation.specs.Grapheme.{graphemes};
+ghost use Rattle.std.specs.Prelude.{◌*◌, ◌≡◌, ◌<◌, ◌≤◌, ◌+◌, ◌-◌, ◌^◌, true, None, Some, length, take, drop, option_map, slice_get};
 ghost use Rattle.hcl_scan.specs.Lexemes.{Lexeme};
 ghost use Rattle.hcl_scan.specs.Scanned.{lexeme};
 ghost use Rattle.hcl_syntax.specs.Balanced.{max_open};
-ghost use Rattle.hcl_layout.specs.Gaps.{indent as indent_of, width as width_of};
-ghost use Rattle.hcl_layout.specs.Inner.Simple.{is_simple as is_simple_of};
+ghost use Rattle.hcl_layout.specs.Gaps.{indent as indent_of, plain_gaps, width as width_of};
 ghost use Rattle.hcl_layout.specs.Inner.Left.{behind};
-ghost use Rattle.hcl_layout.specs.Inner.LineGaps.{len_with_blanks, cell_gap as cell_gap_of, gaps_in, plain_gap as plain_gap_of, plain_of};
+ghost use Rattle.hcl_layout.specs.Inner.LineGaps.{IsKnown, known_place, known_width, len_with_blanks, cell_gap as cell_gap_of, gaps_in, plain_gap as plain_gap_of, plain_of};
 
 use crate::kind::is_newline;
-use hcl_scan::{Token, Tokens};
+use crate::measured::Measured;
+use hcl_scan::Token;
 use hcl_spacing::{space_between, space_by_kinds};
-use unicode_segmentation::UnicodeSegmentation;
 
-/// A cell: its place in the line, and the gap before it.
+/// A cell: its place in the line, the width before it, and the gap that then sets it into its column.
 #[derive(Clone, Copy)]
 pub struct Cell {
     pub place: usize,
+    pub width: u64,
     pub gap: u64,
 }
 
@@ -37,6 +36,17 @@ pub fn plain_line(level: u32) -> LineGaps
         level,
         assign: None,
         comment: None,
+    }
+}
+
+/// The gaps with a trailing comment at a place.
+#[inline(always)]
+pub fn with_comment(gaps: LineGaps, place: usize, width: u64, gap: u64) -> LineGaps
+    ensures { result ≡ record { level = gaps.level; assign = gaps.assign; comment = Some (record { place = place; width = width; gap = gap }) } }
+{
+    LineGaps {
+        comment: Some(Cell { place, width, gap }),
+        ..gaps
     }
 }
 
@@ -74,7 +84,7 @@ fn plain_gap(
 
 /// The token before a place, where it is of the line that begins at `start`.
 #[inline(always)]
-fn token_behind<'s>(tokens: &Tokens<'s>, start: usize, at: usize) -> Option<Token<'s>>
+fn token_behind<'s>(tokens: &Measured<'_, 's>, start: usize, at: usize) -> Option<Token<'s>>
     requires { at ≤ length tokens.now.tokens }
     ensures { option_map lexeme result ≡ behind tokens.now.tokens start at }
 {
@@ -87,7 +97,7 @@ fn token_behind<'s>(tokens: &Tokens<'s>, start: usize, at: usize) -> Option<Toke
 /// The gap before the token at a place of the line that begins at `start`, by the level and the spacing alone. It is a
 /// call that looks up all tokens itself, so that its caller builds none that it seldom needs.
 #[inline(never)]
-fn looked_up_gap(tokens: &Tokens<'_>, level: u32, start: usize, at: usize) -> u64
+fn looked_up_gap(tokens: &Measured<'_, '_>, level: u32, start: usize, at: usize) -> u64
     requires within { at < length tokens.now.tokens }
     requires level { level ≤ max_open }
     ensures { (t : Lexeme) → slice_get tokens.now.tokens at ≡ Some t → result ≡ plain_gap_of level (behind tokens.now.tokens start (at - 1)) (behind tokens.now.tokens start at) t }
@@ -98,10 +108,10 @@ fn looked_up_gap(tokens: &Tokens<'_>, level: u32, start: usize, at: usize) -> u6
     plain_gap(level, before, subject, token)
 }
 
-/// The same, where nearly always the kinds of the token and of the one before it tell the gap.
+/// The same, where nearly always the token and the one before it tell the gap.
 #[inline(always)]
 pub fn plain_gap_at(
-    tokens: &Tokens<'_>,
+    tokens: &Measured<'_, '_>,
     level: u32,
     start: usize,
     at: usize,
@@ -143,50 +153,62 @@ pub fn gap_by_cells(gaps: LineGaps, place: usize, plain: u64) -> u64
     cell_gap(gaps.comment, place, cell_gap(gaps.assign, place, plain))
 }
 
-/// Whether the bytes are ASCII without CR, so that each is a grapheme cluster.
+/// The width before the token at a place of the line that begins at a token, by the level and the spacing alone.
 #[inline(always)]
-fn is_simple(bytes: &[u8]) -> bool
-    ensures { result ≡ is_simple_of bytes.now }
-{
-    bytes.iter().all(|b| *b < 128 && *b != b'\r')
-}
-
-/// How many extended grapheme clusters a text has.
-#[inline(never)]
-fn count_clusters(text: &str) -> u64
-    ensures count { result ≡ length (graphemes true text.now) }
-    ensures within { result ≤ length text.now }
-{
-    text.graphemes(true).count() as u64
-}
-
-/// The same, with a short way for most texts. What counts the others is a call, so that its callers stay short.
-#[inline(always)]
-fn clusters(text: &str) -> u64
-    ensures count { result ≡ length (graphemes true text.now) }
-    ensures within { result ≤ length text.now }
-{
-    if is_simple(text.as_bytes()) {
-        return text.len() as u64;
-    }
-    count_clusters(text)
-}
-
-/// The width before the token at a place of the line that begins at a token.
-pub fn width(tokens: &Tokens<'_>, at: usize, len: usize, place: usize, gaps: LineGaps) -> u64
+pub fn plain_width(
+    tokens: &Measured<'_, '_>,
+    at: usize,
+    len: usize,
+    place: usize,
+    level: u32,
+) -> u64
     requires within { at + len ≤ length tokens.now.tokens }
     requires there { place ≤ len }
-    requires level { gaps.level ≤ max_open }
+    requires level { level ≤ max_open }
     requires small { len_with_blanks tokens.now.tokens < 2 ^ 32 }
-    requires fits { width_of place (gaps_in gaps (take len (drop at tokens.now.tokens))) (take len (drop at tokens.now.tokens)) < 2 ^ 64 }
-    ensures { result ≡ width_of place (gaps_in gaps (take len (drop at tokens.now.tokens))) (take len (drop at tokens.now.tokens)) }
+    ensures value { result ≡ width_of place (plain_gaps level (take len (drop at tokens.now.tokens))) (take len (drop at tokens.now.tokens)) }
+    ensures small { result ≤ 2 * max_open + len_with_blanks tokens.now.tokens }
 {
     let mut columns = 0;
     for k in 0..place {
         let token = tokens.get(at + k);
+        columns += plain_gap_at(tokens, level, at, at + k, token) + tokens.columns(token);
+    }
+    columns
+}
+
+/// The place of the assign cell and the width before it, where a line has one, and else its beginning.
+#[inline(always)]
+fn known(gaps: LineGaps) -> (usize, u64)
+    ensures place { result.0 ≡ known_place gaps.assign }
+    ensures width { result.1 ≡ known_width gaps.assign }
+{
+    let Some(cell) = gaps.assign else {
+        return (0, 0);
+    };
+    (cell.place, cell.width)
+}
+
+/// The width before the token at a place of the line that begins at a token, on from the assign cell. Its comment isn't
+/// set yet.
+#[inline(always)]
+pub fn width(tokens: &Measured<'_, '_>, at: usize, len: usize, place: usize, gaps: LineGaps) -> u64
+    requires within { at + len ≤ length tokens.now.tokens }
+    requires there { place ≤ len }
+    requires level { gaps.level ≤ max_open }
+    requires plain { gaps.comment ≡ None }
+    requires order { known_place gaps.assign ≤ place }
+    requires known { IsKnown gaps (take len (drop at tokens.now.tokens)) }
+    requires small { len_with_blanks tokens.now.tokens < 2 ^ 32 }
+    requires fits { width_of place (gaps_in gaps (take len (drop at tokens.now.tokens))) (take len (drop at tokens.now.tokens)) < 2 ^ 64 }
+    ensures { result ≡ width_of place (gaps_in gaps (take len (drop at tokens.now.tokens))) (take len (drop at tokens.now.tokens)) }
+{
+    let (from, mut columns) = known(gaps);
+    for k in from..place {
+        let token = tokens.get(at + k);
         let plain = plain_gap_at(tokens, gaps.level, at, at + k, token);
-        let gap = gap_by_cells(gaps, k, plain);
-        columns += gap + clusters(token.text);
+        let gap = cell_gap(gaps.assign, k, plain);
+        columns += gap + tokens.columns(token);
     }
     columns
 }

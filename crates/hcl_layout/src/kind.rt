@@ -2,7 +2,7 @@
 
 ghost use Rattle.std.specs.Prelude.{◌≡◌};
 ghost use Rattle.hcl_syntax.specs.Balanced.{is_opener as is_opener_of, is_closer as is_closer_of};
-ghost use Rattle.hcl_syntax.specs.Kinds.{is_newline as is_newline_of, is_line_comment as is_line_comment_of, is_inline_comment as is_inline_comment_of, is_assign as is_assign_of};
+ghost use Rattle.hcl_scan.specs.Kinds.{is_newline as is_newline_of, is_line_comment as is_line_comment_of, is_inline_comment as is_inline_comment_of, is_assign as is_assign_of};
 
 use hcl_scan::Kind;
 

@@ -4,6 +4,18 @@
 //! token with the gap before it, and take no memory: of the lines passed they know the depth, the
 //! levels by depth, and the columns of the two runs in which the last line stands. A run is read ahead
 //! once, at its first line.
+//!
+//! ```text
+//! line             level   before =   before #   gaps before its pieces   printed
+//! locals {           0                           0 1 0                    locals {
+//! a=1# one           1         3         10      2 4 1 3 0                  a    = 1   # one
+//! long="x"# two      1         6         12      2 1 1 0 0 1 0              long = "x" # two
+//! }                  0                           0 0                      }
+//! ```
+//!
+//! The two lines that have an assign cell are a run, and so are the two that have a comment at their end. The column of a
+//! run is its greatest width, 6 and 12 here, and the gap before a cell goes from the width before it to one blank behind
+//! the column: 6 - 3 + 1 and 12 - 10 + 1 in the second line. The other gaps are those of the indent and of the spacing.
 #![tactic(auto)]
 
 mod buffer;
@@ -12,6 +24,7 @@ mod kind;
 pub mod laws;
 mod levels;
 mod line;
+mod measured;
 mod pieces;
 mod print;
 mod runs;

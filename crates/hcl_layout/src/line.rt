@@ -7,12 +7,13 @@ ghost use Rattle.hcl_syntax.specs.Balanced.{max_open};
 ghost use Rattle.hcl_layout.specs.Lines.{ends_line};
 ghost use Rattle.hcl_layout.specs.Cells.{is_assignment as is_assignment_of, is_multiline as is_multiline_of, is_trailing as is_trailing_of};
 ghost use Rattle.hcl_layout.specs.Inner.Depths.{BalancedFrom, Steps, deepen};
-ghost use Rattle.hcl_layout.specs.Inner.Survey.{IsLine, assign_of, changes, first_noted, is_noted as is_noted_of, noted, running_of, surveyed};
+ghost use Rattle.hcl_layout.specs.Inner.Survey.{IsLine, assign_of, changes, first_noted, going, is_noted as is_noted_of, noted, running_of, surveyed};
 
 use crate::kind::{
     is_assign, is_closer, is_inline_comment, is_line_comment, is_newline, is_opener,
 };
-use hcl_scan::{Kind, Token, Tokens};
+use crate::measured::Measured;
+use hcl_scan::{Kind, Token};
 
 /// What is known behind a token of a line.
 #[derive(Clone, Copy)]
@@ -95,6 +96,22 @@ fn deepened(depth: u32, kind: Kind) -> u32
     depth
 }
 
+/// Behind the first token of a line, of a kind that changes nothing.
+#[inline(always)]
+fn bare_survey(depth: u32) -> Survey
+    ensures { (t : Lexeme) → changes t.kind ≡ false → result ≡ first_noted depth t }
+{
+    Survey {
+        len: 1,
+        depth,
+        multiline: false,
+        comment: None,
+        body_depth: depth,
+        sign: None,
+        sign_depth: 0,
+    }
+}
+
 /// Behind the first token of a line.
 #[inline(always)]
 fn first_survey(depth: u32, token: Token<'_>) -> Survey
@@ -102,6 +119,9 @@ fn first_survey(depth: u32, token: Token<'_>) -> Survey
     requires fits { depth ≤ max_open }
     ensures { result ≡ first_noted depth (lexeme token.entry) }
 {
+    if !is_noted(token.kind) {
+        return bare_survey(depth);
+    }
     let depth = deepened(depth, token.kind);
     Survey {
         len: 1,
@@ -228,9 +248,30 @@ impl Survey {
     }
 }
 
-/// The tokens of a line, from the one at a place on, each noted.
+/// Behind the rest of the line of which so many tokens were passed.
 #[inline(always)]
-fn read_line(tokens: &Tokens<'_>, at: usize, depth: u32) -> Survey
+fn read_rest(tokens: &Measured<'_, '_>, at: usize, passed: Survey) -> Survey
+    requires within { at + passed.len ≤ length tokens.now.tokens }
+    requires balanced { BalancedFrom passed.depth (drop (at + passed.len) tokens.now.tokens) }
+    requires fits { passed.depth ≤ max_open }
+    ensures { result ≡ going passed (drop (at + passed.len) tokens.now.tokens) }
+{
+    let count = tokens.len();
+    let mut line = passed;
+    while at + line.len < count {
+        let token = tokens.get(at + line.len);
+        line = line.with(token);
+        if is_line_end(token) {
+            return line;
+        }
+    }
+    line
+}
+
+/// The tokens of a line, from the one at a place on, each noted. What stands behind a trailing comment, as a rule the
+/// newline alone, is read apart, so that up to there less has to be kept.
+#[inline(always)]
+fn read_line(tokens: &Measured<'_, '_>, at: usize, depth: u32) -> Survey
     requires within { at < length tokens.now.tokens }
     requires balanced { BalancedFrom depth (drop at tokens.now.tokens) }
     requires fits { depth ≤ max_open }
@@ -252,13 +293,16 @@ fn read_line(tokens: &Tokens<'_>, at: usize, depth: u32) -> Survey
             return line.passed();
         }
         line = line.with(token);
+        if line.comment.is_some() {
+            return read_rest(tokens, at, line);
+        }
     }
     line
 }
 
 /// The line that begins at a place, where the depth is known.
 #[inline(always)]
-pub fn line_at(tokens: &Tokens<'_>, at: usize, depth: u32) -> LineFacts
+pub fn line_at(tokens: &Measured<'_, '_>, at: usize, depth: u32) -> LineFacts
     requires within { at < length tokens.now.tokens }
     requires balanced { BalancedFrom depth (drop at tokens.now.tokens) }
     requires fits { depth ≤ max_open }

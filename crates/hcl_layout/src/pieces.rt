@@ -12,14 +12,15 @@
 ghost use Rattle.std.specs.Prelude.{◌≡◌, ◌<◌, ◌≤◌, ◌+◌, ◌*◌, ◌^◌, ◌++◌, ◌∷◌, [], List, length, IfSome, MatchOption};
 ghost use Rattle.hcl_scan.specs.Lexemes.{Lexeme};
 ghost use Rattle.hcl_layout.specs.Inner.Depths.{BalancedFrom};
-ghost use Rattle.hcl_layout.specs.Inner.Left.{IsFrom, Ready, bytes_of, gaps_left, rest_gaps, to_print};
+ghost use Rattle.hcl_layout.specs.Inner.Left.{Ready, bytes_of, gaps_left, rest_gaps, to_print};
 ghost use Rattle.hcl_layout.specs.Inner.LineGaps.{len_with_blanks};
+ghost use Rattle.hcl_layout.specs.Inner.Simple.{IsFrom};
 ghost use Rattle.hcl_layout.specs.Print.{print};
 
 use crate::gap::{LineGaps, gap_by_cells, plain_gap_at, plain_line};
 use crate::line::line_at;
-use crate::runs::{Walk, comment_column_at, commented_line, start_walk};
-use hcl_scan::Tokens;
+use crate::measured::Measured;
+use crate::runs::{Walk, start_walk};
 
 /// Where the next piece stands: the number of its token, where its line begins and ends, the
 /// line's gaps, and what is known of the lines up to its end.
@@ -58,7 +59,7 @@ pub fn start() -> Pieces
 }
 
 /// Goes on to the next line.
-fn enter_line(pieces: &mut Pieces, tokens: &Tokens<'_>)
+fn enter_line(pieces: &mut Pieces, tokens: &Measured<'_, '_>)
     requires ready { Ready tokens.now.tokens pieces.old }
     requires done { pieces.old.next ≡ pieces.old.end }
     requires within { pieces.old.end < length tokens.now.tokens }
@@ -70,9 +71,8 @@ fn enter_line(pieces: &mut Pieces, tokens: &Tokens<'_>)
 {
     let at = pieces.end;
     let line = line_at(tokens, at, pieces.walk.depth);
-    let comment = comment_column_at(&pieces.walk, pieces.comment, tokens, at, line);
-    let gaps = pieces.walk.pass(tokens, at, line);
-    pieces.gaps = commented_line(tokens, at, line, gaps, comment);
+    let (gaps, comment) = pieces.walk.pass_commented(pieces.comment, tokens, at, line);
+    pieces.gaps = gaps;
     pieces.start = at;
     pieces.end = at + line.len;
     pieces.comment = comment;
@@ -80,7 +80,7 @@ fn enter_line(pieces: &mut Pieces, tokens: &Tokens<'_>)
 
 /// The piece at hand.
 #[inline(always)]
-fn take_piece<'s>(pieces: &mut Pieces, tokens: &Tokens<'s>) -> Piece<'s>
+fn take_piece<'s>(pieces: &mut Pieces, tokens: &Measured<'_, 's>) -> Piece<'s>
     requires ready { Ready tokens.now.tokens pieces.old }
     requires some { pieces.old.next < pieces.old.end }
     requires small { len_with_blanks tokens.now.tokens < 2 ^ 32 }
@@ -105,7 +105,7 @@ fn take_piece<'s>(pieces: &mut Pieces, tokens: &Tokens<'s>) -> Piece<'s>
 
 /// The next piece.
 #[inline(always)]
-pub fn next_piece<'s>(pieces: &mut Pieces, tokens: &Tokens<'s>) -> Option<Piece<'s>>
+pub fn next_piece<'s>(pieces: &mut Pieces, tokens: &Measured<'_, 's>) -> Option<Piece<'s>>
     requires ready { Ready tokens.now.tokens pieces.old }
     requires small { len_with_blanks tokens.now.tokens < 2 ^ 32 }
     ensures ready { Ready tokens.now.tokens pieces.new }

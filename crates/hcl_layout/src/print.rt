@@ -1,35 +1,23 @@
 //! How long the print is, and whether the source is its own print.
-ghost use Rattle.std.specs.Prelude.{◌≡◌, ◌≢◌, ◌↔◌, ◌≤◌, ◌^◌, ◌++◌, ◌==◌, ◌&&◌, ℕ, List, IsTrue, length, drop, take, nat_eq, nat_le, IfSome, MatchOption};
+ghost use Rattle.std.specs.Prelude.{◌≡◌, ◌≢◌, ◌↔◌, ◌<◌, ◌≤◌, ◌^◌, ◌++◌, ◌==◌, ◌&&◌, ℕ, List, IsTrue, length, drop, take, nat_eq, nat_le, IfSome, MatchOption};
 ghost use Rattle.std.specs.List.{list_all, starts_with};
-ghost use Rattle.hcl_layout.specs.Inner.Left.{IsFrom, bytes_of};
-ghost use Rattle.hcl_layout.specs.Inner.LineGaps.{len_with_blanks};
+ghost use Rattle.hcl_layout.specs.Inner.Left.{bytes_of};
+ghost use Rattle.hcl_layout.specs.Inner.Simple.{IsFrom};
 ghost use Rattle.hcl_layout.specs.Print.{print};
 
+use crate::measured::Measured;
 use crate::pieces::{Piece, next_piece, start};
-use hcl_scan::Tokens;
 use hcl_syntax::Accepted;
-
-/// The bytes of the source. Its size bounds the number of tokens and their texts, and so every sum
-/// that is made of the print.
-pub fn source_of<'s>(tokens: &Tokens<'s>) -> &'s [u8]
-    ensures text { result.now ≡ tokens.now.text }
-    ensures few { length tokens.now.tokens ≤ 2 ^ 22 }
-    ensures small { len_with_blanks tokens.now.tokens ≤ 2 ^ 23 }
-{
-    // its contract says that there are no more tokens than bytes
-    let _count = tokens.len();
-    tokens.source().text().as_bytes()
-}
 
 /// The length of the print, in bytes.
 pub fn printed_len(accepted: &Accepted<'_, '_>) -> u64
     ensures { result ≡ length (print accepted.now.tokens) }
 {
-    let tokens = accepted.tokens();
-    let _source = source_of(tokens);
+    let tokens = Measured::new(accepted);
+    let _source = tokens.source();
     let mut pieces = start();
     let mut len = 0;
-    while let Some(piece) = next_piece(&mut pieces, tokens) {
+    while let Some(piece) = next_piece(&mut pieces, &tokens) {
         len += piece.gap + piece.text.len() as u64;
     }
     len
@@ -44,7 +32,7 @@ fn is_blank(bytes: &[u8]) -> bool
 
 /// Whether so many spaces stand at the front.
 #[inline(always)]
-fn begins_blank(bytes: &[u8], gap: u64) -> bool
+pub fn begins_blank(bytes: &[u8], gap: u64) -> bool
     ensures { result ≡ (nat_le gap (length bytes.now) && list_all (λ b. b == 32) (take gap bytes.now)) }
 {
     if gap > bytes.len() as u64 {
@@ -92,11 +80,11 @@ fn piece_end(bytes: &[u8], at: usize, piece: Piece<'_>) -> Option<usize>
 pub fn is_formatted(accepted: &Accepted<'_, '_>) -> bool
     ensures { IsTrue result ↔ (print accepted.now.tokens ≡ accepted.now.text) }
 {
-    let tokens = accepted.tokens();
-    let bytes = source_of(tokens);
+    let tokens = Measured::new(accepted);
+    let bytes = tokens.source();
     let mut pieces = start();
     let mut at = 0;
-    while let Some(piece) = next_piece(&mut pieces, tokens) {
+    while let Some(piece) = next_piece(&mut pieces, &tokens) {
         let Some(end) = piece_end(bytes, at, piece) else {
             return false;
         };

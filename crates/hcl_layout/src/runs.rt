@@ -18,19 +18,19 @@
 ghost use Rattle.std.specs.Prelude.{◌*◌, ◌≡◌, ◌<◌, ◌≤◌, ◌+◌, ◌-◌, ◌^◌, ℕ, length, take, drop, Some, None, ◌∷◌, IfSome};
 ghost use Rattle.hcl_syntax.specs.Balanced.{max_open};
 ghost use Rattle.hcl_layout.specs.Columns.{widest};
-ghost use Rattle.hcl_layout.specs.Cells.{trailing_comment};
+ghost use Rattle.hcl_layout.specs.Cells.{running_comment, trailing_comment};
 ghost use Rattle.hcl_layout.specs.Inner.Depths.{depth_after, fresh, levels_behind};
 ghost use Rattle.hcl_layout.specs.Gaps.{align, plain_gaps, width as width_of};
-ghost use Rattle.hcl_layout.specs.Inner.LineGaps.{len_with_blanks, gaps_in};
+ghost use Rattle.hcl_layout.specs.Inner.LineGaps.{IsKnown, gaps_in, known_place, len_with_blanks};
 ghost use Rattle.hcl_layout.specs.Lines.{lines};
-ghost use Rattle.hcl_layout.specs.Inner.Stream.{assign_column, assigned_line, assign_widths, next_of, comment_column, comment_widths};
+ghost use Rattle.hcl_layout.specs.Inner.Stream.{assign_column, assigned_line, assign_widths, next_of, column_behind, comment_column, comment_widths};
 ghost use Rattle.hcl_layout.specs.Inner.Survey.{IsLine, text_at};
 ghost use Rattle.hcl_layout.specs.Inner.Walks.{Stands};
 
-use crate::gap::{Cell, LineGaps, plain_line, width};
+use crate::gap::{Cell, LineGaps, plain_line, plain_width, width, with_comment};
 use crate::levels::{DEPTHS, kept_level, next_level};
 use crate::line::{LineFacts, line_at};
-use hcl_scan::Tokens;
+use crate::measured::Measured;
 
 /// What is known of the lines that were passed: the depth, the levels by depth, and the column of
 /// the last line's run of assign cells.
@@ -54,26 +54,13 @@ pub fn start_walk() -> Walk
     }
 }
 
-/// The width before a place of a line, by the level and the spacing alone.
-#[inline(always)]
-fn plain_width(tokens: &Tokens<'_>, at: usize, len: usize, place: usize, level: u32) -> u64
-    requires within { at + len ≤ length tokens.now.tokens }
-    requires there { place ≤ len }
-    requires level { level ≤ max_open }
-    requires small { len_with_blanks tokens.now.tokens < 2 ^ 32 }
-    ensures value { result ≡ width_of place (plain_gaps level (take len (drop at tokens.now.tokens))) (take len (drop at tokens.now.tokens)) }
-    ensures small { result ≤ 2 * max_open + len_with_blanks tokens.now.tokens }
-{
-    width(tokens, at, len, place, plain_line(level))
-}
-
 /// The greatest width before the assign cells of the run that begins at a place, over a copy of the levels, which its
 /// lines may change.
 #[inline(never)]
 fn assign_ahead_deepening(
     from_depth: u32,
     from_levels: &[u32; DEPTHS],
-    tokens: &Tokens<'_>,
+    tokens: &Measured<'_, '_>,
     from: usize,
 ) -> u64
     requires within { from ≤ length tokens.now.tokens }
@@ -104,7 +91,7 @@ fn assign_ahead_deepening(
 /// The greatest width before the assign cells of the run that begins at a place. Hardly a run has a line that ends
 /// deeper than it begins, so the levels, which are a KiB, are copied from the first such line on.
 #[inline(never)]
-fn assign_ahead(walk: &Walk, tokens: &Tokens<'_>, from: usize) -> u64
+fn assign_ahead(walk: &Walk, tokens: &Measured<'_, '_>, from: usize) -> u64
     requires within { from ≤ length tokens.now.tokens }
     requires stands { Stands tokens.now.tokens from walk.now.depth walk.now.levels }
     requires small { len_with_blanks tokens.now.tokens < 2 ^ 32 }
@@ -135,7 +122,7 @@ fn assign_ahead(walk: &Walk, tokens: &Tokens<'_>, from: usize) -> u64
 /// The column of an assign cell of that width: that of the line before it, where the run goes on,
 /// or else the greatest width of the run that it begins. `next` is where the line after it begins.
 #[inline(always)]
-fn run_column(walk: &Walk, tokens: &Tokens<'_>, next: usize, own: u64) -> u64
+fn run_column(walk: &Walk, tokens: &Measured<'_, '_>, next: usize, own: u64) -> u64
     requires within { next ≤ length tokens.now.tokens }
     requires stands { Stands tokens.now.tokens next walk.now.depth walk.now.levels }
     requires small { len_with_blanks tokens.now.tokens < 2 ^ 32 }
@@ -153,7 +140,7 @@ fn run_column(walk: &Walk, tokens: &Tokens<'_>, next: usize, own: u64) -> u64
 impl Walk {
     /// Passes the line at a place, and gives its gaps with the assign cell in its column.
     #[inline(always)]
-    pub fn pass(&mut self, tokens: &Tokens<'_>, at: usize, line: LineFacts) -> LineGaps
+    pub fn pass(&mut self, tokens: &Measured<'_, '_>, at: usize, line: LineFacts) -> LineGaps
         requires within { at < length tokens.now.tokens }
         requires stands { Stands tokens.now.tokens at self.old.depth self.old.levels }
         requires line { IsLine tokens.now.tokens at self.old.depth line }
@@ -163,6 +150,8 @@ impl Walk {
         ensures level { result.level ≤ max_open }
         ensures comment { result.comment ≡ None }
         ensures assign { IfSome result.assign (λ c. c.gap ≤ 2 ^ 33) }
+        ensures known { IsKnown result (text_at tokens.now.tokens at line) }
+        ensures order { (i : ℕ) → trailing_comment (text_at tokens.now.tokens at line) ≡ Some i → known_place result.assign ≤ i }
         ensures narrow { (k : ℕ) → width_of k (gaps_in result (text_at tokens.now.tokens at line)) (text_at tokens.now.tokens at line) < 2 ^ 34 }
         ensures depth { self.new.depth ≡ depth_after self.old.depth (text_at tokens.now.tokens at line) }
         ensures levels { self.new.levels ≡ levels_behind self.old.depth (depth_after self.old.depth (text_at tokens.now.tokens at line)) self.old.levels }
@@ -183,7 +172,11 @@ impl Walk {
         let gap = column.saturating_sub(own) + 1;
         LineGaps {
             level,
-            assign: Some(Cell { place, gap }),
+            assign: Some(Cell {
+                place,
+                width: own,
+                gap,
+            }),
             comment: None,
         }
     }
@@ -191,7 +184,7 @@ impl Walk {
 
 /// The greatest width before the trailing comments of the run that begins at a place.
 #[inline(never)]
-fn comment_ahead(walk: &Walk, tokens: &Tokens<'_>, from: usize) -> u64
+fn comment_ahead(walk: &Walk, tokens: &Measured<'_, '_>, from: usize) -> u64
     requires within { from ≤ length tokens.now.tokens }
     requires stands { Stands tokens.now.tokens from walk.now.depth walk.now.levels }
     requires small { len_with_blanks tokens.now.tokens < 2 ^ 32 }
@@ -216,67 +209,103 @@ fn comment_ahead(walk: &Walk, tokens: &Tokens<'_>, from: usize) -> u64
     greatest
 }
 
-/// The column of the trailing comment of the line at a place, by that of the line before.
-pub fn comment_column_at(
+/// The column of a trailing comment behind that width: that of the line before it, where the run goes on, or else the
+/// greatest width of the run that it begins. `next` is where the line after it begins.
+#[inline(always)]
+fn comment_run_column(
     walk: &Walk,
     comment: Option<u64>,
-    tokens: &Tokens<'_>,
-    at: usize,
-    line: LineFacts,
-) -> Option<u64>
-    requires within { at < length tokens.now.tokens }
-    requires stands { Stands tokens.now.tokens at walk.now.depth walk.now.levels }
-    requires line { IsLine tokens.now.tokens at walk.now.depth line }
+    tokens: &Measured<'_, '_>,
+    next: usize,
+    own: u64,
+) -> u64
+    requires within { next ≤ length tokens.now.tokens }
+    requires stands { Stands tokens.now.tokens next walk.now.depth walk.now.levels }
     requires small { len_with_blanks tokens.now.tokens < 2 ^ 32 }
     requires column { IfSome walk.now.column (λ c. c < 2 ^ 33) }
     requires fits { IfSome comment (λ c. c < 2 ^ 34) }
-    ensures value { result ≡ comment_column walk.now.depth walk.now.levels walk.now.column comment (lines (drop at tokens.now.tokens)) }
-    ensures fits { IfSome result (λ c. c < 2 ^ 34) }
+    requires own { own < 2 ^ 34 }
+    ensures value { Some result ≡ next_of comment (Some own ∷ comment_widths walk.now.depth walk.now.levels walk.now.column (lines (drop next tokens.now.tokens))) }
+    ensures fits { result < 2 ^ 34 }
 {
-    let Some(_place) = line.running else {
-        return None;
-    };
-    let Some(comment) = comment else {
-        return Some(comment_ahead(walk, tokens, at));
-    };
-    Some(comment)
+    match comment {
+        Some(column) => column,
+        None => own.max(comment_ahead(walk, tokens, next)),
+    }
 }
 
-/// The gaps of a line with its trailing comment in the column of its run, if it stands in one.
-pub fn commented_line(
-    tokens: &Tokens<'_>,
+/// The gaps of a line that the walk has passed, with its trailing comment in the column of its run, if it stands in one;
+/// and that column. `comment` is the column of the line before.
+#[inline(always)]
+fn commented_line(
+    walk: &Walk,
+    comment: Option<u64>,
+    tokens: &Measured<'_, '_>,
     at: usize,
     line: LineFacts,
     gaps: LineGaps,
-    comment: Option<u64>,
-) -> LineGaps
+) -> (LineGaps, Option<u64>)
     requires within { at + line.len ≤ length tokens.now.tokens }
+    requires stands { Stands tokens.now.tokens (at + line.len) walk.now.depth walk.now.levels }
     requires cell { line.comment ≡ trailing_comment (text_at tokens.now.tokens at line) }
+    requires running { line.running ≡ running_comment (text_at tokens.now.tokens at line) }
     requires level { gaps.level ≤ max_open }
     requires plain { gaps.comment ≡ None }
+    requires known { IsKnown gaps (text_at tokens.now.tokens at line) }
+    requires order { (i : ℕ) → trailing_comment (text_at tokens.now.tokens at line) ≡ Some i → known_place gaps.assign ≤ i }
     requires small { len_with_blanks tokens.now.tokens < 2 ^ 32 }
     requires narrow { (k : ℕ) → width_of k (gaps_in gaps (text_at tokens.now.tokens at line)) (text_at tokens.now.tokens at line) < 2 ^ 34 }
+    requires column { IfSome walk.now.column (λ c. c < 2 ^ 33) }
     requires fits { IfSome comment (λ c. c < 2 ^ 34) }
-    ensures gaps { gaps_in result (text_at tokens.now.tokens at line) ≡ align trailing_comment (gaps_in gaps (text_at tokens.now.tokens at line)) (text_at tokens.now.tokens at line) comment }
-    ensures level { result.level ≡ gaps.level }
-    ensures assign { result.assign ≡ gaps.assign }
-    ensures comment { IfSome result.comment (λ c. c.gap ≤ 2 ^ 34) }
+    ensures column { result.1 ≡ column_behind (gaps_in gaps (text_at tokens.now.tokens at line)) (text_at tokens.now.tokens at line) comment (comment_widths walk.now.depth walk.now.levels walk.now.column (lines (drop (at + line.len) tokens.now.tokens))) }
+    ensures gaps { gaps_in result.0 (text_at tokens.now.tokens at line) ≡ align trailing_comment (gaps_in gaps (text_at tokens.now.tokens at line)) (text_at tokens.now.tokens at line) result.1 }
+    ensures level { result.0.level ≡ gaps.level }
+    ensures assign { result.0.assign ≡ gaps.assign }
+    ensures comment { IfSome result.0.comment (λ c. c.gap ≤ 2 ^ 34) }
+    ensures fits { IfSome result.1 (λ c. c < 2 ^ 34) }
 {
     let Some(place) = line.comment else {
-        return gaps;
-    };
-    let Some(column) = comment else {
-        let cell = Cell { place, gap: 1 };
-        return LineGaps {
-            comment: Some(cell),
-            ..gaps
-        };
+        return (gaps, None);
     };
     let own = width(tokens, at, line.len, place, gaps);
+    let Some(_running) = line.running else {
+        return (with_comment(gaps, place, own, 1), None);
+    };
+    let column = comment_run_column(walk, comment, tokens, at + line.len, own);
     let gap = column.saturating_sub(own) + 1;
-    let cell = Cell { place, gap };
-    LineGaps {
-        comment: Some(cell),
-        ..gaps
+    (with_comment(gaps, place, own, gap), Some(column))
+}
+
+impl Walk {
+    /// Passes the line at a place, and gives its gaps with both cells in their columns, and the column of its comment.
+    /// `comment` is the column of the comment of the line before.
+    #[inline(always)]
+    pub fn pass_commented(
+        &mut self,
+        comment: Option<u64>,
+        tokens: &Measured<'_, '_>,
+        at: usize,
+        line: LineFacts,
+    ) -> (LineGaps, Option<u64>)
+        requires within { at < length tokens.now.tokens }
+        requires stands { Stands tokens.now.tokens at self.old.depth self.old.levels }
+        requires line { IsLine tokens.now.tokens at self.old.depth line }
+        requires small { len_with_blanks tokens.now.tokens < 2 ^ 32 }
+        requires fits { IfSome self.old.column (λ c. c < 2 ^ 33) }
+        requires narrow { IfSome comment (λ c. c < 2 ^ 34) }
+        ensures gaps { gaps_in result.0 (text_at tokens.now.tokens at line) ≡ align trailing_comment (assigned_line self.old.depth self.old.levels self.old.column (text_at tokens.now.tokens at line) (lines (drop at tokens.now.tokens))) (text_at tokens.now.tokens at line) result.1 }
+        ensures comment { result.1 ≡ comment_column self.old.depth self.old.levels self.old.column comment (lines (drop at tokens.now.tokens)) }
+        ensures level { result.0.level ≤ max_open }
+        ensures assign { IfSome result.0.assign (λ c. c.gap ≤ 2 ^ 33) }
+        ensures cell { IfSome result.0.comment (λ c. c.gap ≤ 2 ^ 34) }
+        ensures narrow { IfSome result.1 (λ c. c < 2 ^ 34) }
+        ensures depth { self.new.depth ≡ depth_after self.old.depth (text_at tokens.now.tokens at line) }
+        ensures levels { self.new.levels ≡ levels_behind self.old.depth (depth_after self.old.depth (text_at tokens.now.tokens at line)) self.old.levels }
+        ensures column { self.new.column ≡ assign_column self.old.depth self.old.levels self.old.column (lines (drop at tokens.now.tokens)) }
+        ensures stands { Stands tokens.now.tokens (at + line.len) self.new.depth self.new.levels }
+        ensures fits { IfSome self.new.column (λ c. c < 2 ^ 33) }
+    {
+        let gaps = self.pass(tokens, at, line);
+        commented_line(self, comment, tokens, at, line, gaps)
     }
 }

@@ -1,13 +1,15 @@
 //! The print, written.
-ghost use Rattle.std.specs.Prelude.{◌≡◌, ◌<◌, ◌≤◌, ◌+◌, ◌^◌, ◌++◌, ℕ, List, Option, false, length, take, replicate, is_err, IfErr, OnOk};
+ghost use Rattle.std.specs.Prelude.{◌≡◌, ◌<◌, ◌≤◌, ◌+◌, ◌-◌, ◌^◌, ◌++◌, ℕ, List, Option, IsTrue, false, length, drop, take, replicate, is_err, IfErr, OnOk};
 ghost use Rattle.std.specs.Io.KnownBytes.{Appends};
 ghost use Rattle.hcl_layout.specs.Inner.Left.{bytes_of};
-ghost use Rattle.hcl_layout.specs.Inner.Out.{Fails, Out, Puts, Stopped, held};
+ghost use Rattle.hcl_layout.specs.Inner.Out.{Fails, Lies, Out, Puts, Stopped, held, stretched};
+ghost use Rattle.hcl_layout.specs.Inner.Simple.{IsFrom};
 ghost use Rattle.hcl_layout.specs.Print.{print};
 
-use crate::buffer::Buffer;
+use crate::buffer::{Buffer, Stretch};
+use crate::measured::Measured;
 use crate::pieces::{Piece, next_piece, start};
-use crate::print::source_of;
+use crate::print::begins_blank;
 use hcl_scan::{ByteSink, WriteFault, write_fully};
 use hcl_syntax::Accepted;
 
@@ -136,24 +138,98 @@ fn put_blanks<W: ByteSink>(to: &mut W, buffer: &mut Buffer, gap: u64) -> Result<
     Ok(())
 }
 
-/// Writes a piece.
+/// Writes a text, and so many spaces before it.
 #[inline(always)]
-fn put_piece<W: ByteSink>(
+fn put_text<W: ByteSink>(
     to: &mut W,
     buffer: &mut Buffer,
-    piece: Piece<'_>,
+    gap: u64,
+    text: &[u8],
 ) -> Result<(), WriteFault>
     requires fresh { W.failed to.old ≡ false }
-    requires room { buffer.old.sent + buffer.old.len + piece.gap + length piece.text.now < 2 ^ 63 }
-    ensures ok { OnOk result (Puts (W.taken to.old) (W.taken to.new) buffer.old buffer.new (bytes_of piece.entry)) }
-    ensures err { IfErr result (Fails (W.taken to.old) (W.taken to.new) buffer.old (bytes_of piece.entry)) }
+    requires room { buffer.old.sent + buffer.old.len + gap + length text.now < 2 ^ 63 }
+    ensures ok { OnOk result (Puts (W.taken to.old) (W.taken to.new) buffer.old buffer.new (replicate gap 32 ++ text.now)) }
+    ensures err { IfErr result (Fails (W.taken to.old) (W.taken to.new) buffer.old (replicate gap 32 ++ text.now)) }
     ensures failed { W.failed to.new ≡ is_err result }
-    ensures count { OnOk result (buffer.new.sent + buffer.new.len ≡ buffer.old.sent + buffer.old.len + piece.entry.gap + length piece.entry.text.now) }
+    ensures count { OnOk result (buffer.new.sent + buffer.new.len ≡ buffer.old.sent + buffer.old.len + gap + length text.now) }
 {
-    if let Err(fault) = put_blanks(to, buffer, piece.gap) {
+    if let Err(fault) = put_blanks(to, buffer, gap) {
         return Err(fault);
     }
-    put(to, buffer, piece.text.as_bytes())
+    put(to, buffer, text)
+}
+
+/// Writes a stretch of the source.
+#[inline(always)]
+fn put_stretch<W: ByteSink>(
+    to: &mut W,
+    buffer: &mut Buffer,
+    source: &[u8],
+    stretch: Stretch,
+) -> Result<(), WriteFault>
+    requires fresh { W.failed to.old ≡ false }
+    requires lies { Lies source.now stretch }
+    requires room { buffer.old.sent + buffer.old.len + stretch.gap + (stretch.end - stretch.start) < 2 ^ 63 }
+    ensures ok { OnOk result (Puts (W.taken to.old) (W.taken to.new) buffer.old buffer.new (stretched source.now stretch)) }
+    ensures err { IfErr result (Fails (W.taken to.old) (W.taken to.new) buffer.old (stretched source.now stretch)) }
+    ensures failed { W.failed to.new ≡ is_err result }
+    ensures count { OnOk result (buffer.new.sent + buffer.new.len ≡ buffer.old.sent + buffer.old.len + stretch.gap + (stretch.end - stretch.start)) }
+{
+    put_text(to, buffer, stretch.gap, &source[stretch.start..stretch.end])
+}
+
+/// Writes the last stretch, and all that waits.
+fn finish<W: ByteSink>(
+    to: &mut W,
+    buffer: &mut Buffer,
+    source: &[u8],
+    stretch: Stretch,
+) -> Result<(), WriteFault>
+    requires fresh { W.failed to.old ≡ false }
+    requires lies { Lies source.now stretch }
+    requires room { buffer.old.sent + buffer.old.len + stretch.gap + (stretch.end - stretch.start) < 2 ^ 62 }
+    ensures ok { OnOk result ((base : Option (List ℕ)) (front : List ℕ) → Out base (W.taken to.old) buffer.old front → Appends base (W.taken to.new) (front ++ stretched source.now stretch)) }
+    ensures err { IfErr result (Fails (W.taken to.old) (W.taken to.new) buffer.old (stretched source.now stretch)) }
+    ensures failed { W.failed to.new ≡ is_err result }
+{
+    if let Err(fault) = put_stretch(to, buffer, source, stretch) {
+        return Err(fault);
+    }
+    send(to, buffer)
+}
+
+/// A piece by itself.
+#[inline(always)]
+fn stretch_of(source: &[u8], piece: Piece<'_>) -> Stretch
+    requires source { IsFrom source.now piece.start piece.text.now }
+    ensures same { stretched source.now result ≡ bytes_of piece.entry }
+    ensures lies { Lies source.now result }
+    ensures gap { result.gap ≡ piece.entry.gap }
+    ensures end { result.end ≡ piece.entry.start + length piece.entry.text.now }
+    ensures len { result.end ≡ result.start + length piece.entry.text.now }
+{
+    Stretch {
+        gap: piece.gap,
+        start: piece.start,
+        end: piece.start + piece.text.len(),
+    }
+}
+
+/// Whether the source has so many blanks from the place on where the text before a piece ends, and then the piece.
+#[inline(always)]
+fn goes_on(source: &[u8], at: usize, piece: Piece<'_>) -> bool
+    requires within { at ≤ length source.now }
+    requires source { IsFrom source.now piece.start piece.text.now }
+    requires gap { piece.gap ≤ 2 ^ 34 }
+    requires small { length source.now < 2 ^ 32 }
+    ensures goes { IsTrue result → drop at source.now ≡ bytes_of piece.entry ++ drop (piece.entry.start + length piece.entry.text.now) source.now }
+    ensures end { IsTrue result → at + piece.entry.gap ≡ piece.entry.start }
+{
+    if at as u64 + piece.gap != piece.start as u64 {
+        return false;
+    }
+    let (_, left) = source.split_at(at);
+    begins_blank(left, piece.gap)
 }
 
 /// Writes the print of accepted tokens to a sink that hasn't failed, in pieces of some KiB. A fault
@@ -165,14 +241,25 @@ pub fn emit<W: ByteSink>(accepted: &Accepted<'_, '_>, to: &mut W) -> Result<(), 
     ensures written { IfErr result (λ fault. fault.written < length (print accepted.now.tokens)) }
     ensures failed { W.failed to.new ≡ is_err result }
 {
-    let tokens = accepted.tokens();
-    let _source = source_of(tokens);
+    let tokens = Measured::new(accepted);
+    let source = tokens.source();
     let mut pieces = start();
     let mut buffer = Buffer::new();
-    while let Some(piece) = next_piece(&mut pieces, tokens) {
-        if let Err(fault) = put_piece(to, &mut buffer, piece) {
+    let mut waiting = Stretch {
+        gap: 0,
+        start: 0,
+        end: 0,
+    };
+    while let Some(piece) = next_piece(&mut pieces, &tokens) {
+        let alone = stretch_of(source, piece);
+        if goes_on(source, waiting.end, piece) {
+            waiting.end = alone.end;
+            continue;
+        }
+        if let Err(fault) = put_stretch(to, &mut buffer, source, waiting) {
             return Err(fault);
         }
+        waiting = alone;
     }
-    send(to, &mut buffer)
+    finish(to, &mut buffer, source, waiting)
 }

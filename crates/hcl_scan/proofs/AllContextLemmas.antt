@@ -2,7 +2,7 @@
 use Rattle.std.proofs.Common.{◌≡◌, ℕ, ◌<◌, Bool, List, [], ◌∷◌, ◌++◌, length, get_or, None, ◌⊎◌, inl, inr, ⊎_elim, refl, sym, ap, subst, ◌∙◌, arith, length-drop}
 use Rattle.hcl_scan.specs.Lexemes.{Lexeme, Opener, marker_of, moved, max_open}
 use Rattle.hcl_scan.specs.Spelling.{IsExpressionText, IsTextIn, Context, Template, Expression, context, element_len, IsLiteral}
-use Rattle.hcl_scan.specs.Scans.{State, gap_len, owed, ahead, IsLongest, IsMarkerLine, Shows, Reads, Next, Run}
+use Rattle.hcl_scan.specs.Scans.{State, gap_len, owed, ahead, IsLongest, IsMarkerLine, Leaves, Reads, Next, Run}
 use Rattle.hcl_scan.specs.Faults.{Lacks, at_end, no_token, too_deep, no_marker_line, end_fault}
 use Rattle.hcl_source.specs.declared.fault.FaultKind.{FaultKind}
 use Rattle.hcl_scan.specs.declared.token.Kind.{Kind}
@@ -75,7 +75,7 @@ module _ (one : OneKind) (some : Nonempty) where
   no_marker_reads : (s : State) (text rest : List ℕ) → IsLongest s.opens s.after_dot (ahead s) HeredocOpen text rest → ((n : ℕ) → ¬ IsMarkerLine (marker_of text) rest n) → (t : Lexeme) (next : State) → Reads s t next → ⊥
   no_marker_reads s text rest x none t next r =
       let same = one_longest one s.opens s.after_dot (ahead s) HeredocOpen t.kind text t.text rest r.rest x r.longest in
-      let shown : Shows HeredocOpen text rest s.hidden next.seen next.hidden = subst (λ (p : Kind × List ℕ × List ℕ). Shows p.0 p.1 p.2 s.hidden next.seen next.hidden) (sym (λ i. (same.kind_is i, same.text_is i, same.rest_is i))) r.shows in
+      let shown : Leaves HeredocOpen text rest s.hidden next.seen next.hidden = subst (λ (p : Kind × List ℕ × List ℕ). Leaves p.0 p.1 p.2 s.hidden next.seen next.hidden) (sym (λ i. (same.kind_is i, same.text_is i, same.rest_is i))) r.leaves in
       none shown.0 shown.1.here
 
   empty_ahead : (s : State) → s.seen ≡ [] → length (ahead s) ≡ 0

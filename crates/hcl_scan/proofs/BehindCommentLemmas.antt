@@ -4,9 +4,9 @@ use Rattle.std.specs.List.{list_any, prefix_len}
 use Rattle.std.proofs.lemmas.Bool.Decides.{nat_tests}
 use Rattle.hcl_scan.specs.Lexemes.{Lexeme, Opener, in_heredoc, moved}
 use Rattle.hcl_scan.specs.Spelling.{IsLineComment, IsTextIn, context, Expression, starts, is_blank}
-use Rattle.hcl_scan.specs.Scans.{State, gap_in, has_gaps_in, ahead, IsLongest, Shows, Reads, Run}
+use Rattle.hcl_scan.specs.Scans.{State, gap_in, has_gaps_in, ahead, IsLongest, Leaves, Reads, Run}
 use Rattle.hcl_scan.specs.Neighbours.{ends_comment, joins}
-use Rattle.hcl_scan.specs.Regapped.{tokens_of, text_of, fits, AllFit}
+use Rattle.hcl_scan.specs.Regapped.{without_gaps, text_with_gaps, gap_fits, AllFit}
 use Rattle.hcl_scan.specs.declared.token.Kind.{Kind}
 use Rattle.hcl_scan.specs.declared.token.Kind.TheVariants.{LineComment}
 use Rattle.hcl_scan.proofs.BooleanLemmas.{and_true, or_true}
@@ -81,11 +81,11 @@ front_lf : (text more other : List ℕ) → 0 < length text → ends_comment (te
 front_lf [] more other some h = absurd (omega arith)
 front_lf (b ∷ text) more other some h = h
 
-pub comment_on : (s : State) (t : Lexeme) (next end : State) (r : Reads s t next) → in_heredoc s.opens ≡ false → t.kind ≡ LineComment → (ps : List (ℕ × Lexeme)) → Run next (tokens_of ps) end → AllFit s.after_dot t.kind ps → ends_comment (text_of ps) ≡ true
+pub comment_on : (s : State) (t : Lexeme) (next end : State) (r : Reads s t next) → in_heredoc s.opens ≡ false → t.kind ≡ LineComment → (ps : List (ℕ × Lexeme)) → Run next (without_gaps ps) end → AllFit s.after_dot t.kind ps → ends_comment (text_with_gaps ps) ≡ true
 comment_on s t next end r plain k [] run parts = refl
 comment_on s t next end r plain k (p ∷ ps) run parts =
-    ap (λ n. ends_comment (replicate n 32 ++ (p.1.text ++ text_of ps))) gap
-    ∙ front_lf p.1.text x.rest (text_of ps) long (ap ends_comment (x.whole ∙ ahead_is) ∙ rest_ends)
+    ap (λ n. ends_comment (replicate n 32 ++ (p.1.text ++ text_with_gaps ps))) gap
+    ∙ front_lf p.1.text x.rest (text_with_gaps ps) long (ap ends_comment (x.whole ∙ ahead_is) ∙ rest_ends)
   where
     longest : IsLongest s.opens s.after_dot (t.text ++ r.rest) LineComment t.text r.rest
     longest = subst (λ (z : Kind). IsLongest s.opens s.after_dot (t.text ++ r.rest) z t.text r.rest) k (subst (λ l. IsLongest s.opens s.after_dot l t.kind t.text r.rest) (sym r.longest.whole) r.longest)
@@ -100,7 +100,7 @@ comment_on s t next end r plain k (p ∷ ps) run parts =
     opens_same = r.opens ∙ ap (λ (z : Kind). moved z s.opens) k
 
     seen_is : next.seen ≡ r.rest
-    seen_is = (subst (λ (z : Kind). Shows z t.text r.rest s.hidden next.seen next.hidden) k r.shows).0
+    seen_is = (subst (λ (z : Kind). Leaves z t.text r.rest s.hidden next.seen next.hidden) k r.leaves).0
 
     x : ReadPlain next p.1
     x = read_plain next p.1 run.0 (ap context opens_same ∙ spelled.0) (ap in_heredoc opens_same ∙ plain) run.1
@@ -112,4 +112,4 @@ comment_on s t next end r plain k (p ∷ ps) run parts =
     ahead_is = line_gap next.opens next.seen (omega (arith, long, ap length x.whole, length-append p.1.text x.rest)) (ap ends_comment seen_is ∙ rest_ends) ∙ seen_is
 
     gap : p.0 ≡ 0
-    gap = zero_gap true p.0 (not (p.0 == 0) || not (joins s.after_dot LineComment p.1.kind p.1.text)) refl (subst (λ (z : Kind). fits s.after_dot z p.1 p.0 ≡ true) k parts.0)
+    gap = zero_gap true p.0 (not (p.0 == 0) || not (joins s.after_dot LineComment p.1.kind p.1.text)) refl (subst (λ (z : Kind). gap_fits s.after_dot z p.1 p.0 ≡ true) k parts.0)

@@ -6,7 +6,7 @@ use Rattle.std.proofs.lemmas.Bool.{cases_order}
 use Rattle.std.proofs.lemmas.Bool.Decides.{nat_tests}
 use Rattle.memchr.specs.Find.{OccursAt}
 use Rattle.hcl_scan.specs.Spelling.{starts, is_blank}
-use Rattle.hcl_scan.specs.Scans.{IsMarkerLine, skip_blanks, ends_line, closer_len}
+use Rattle.hcl_scan.specs.Scans.{IsMarkerLine, skip_blanks, at_line_end, closer_len}
 use Rattle.hcl_scan.proofs.StartLemmas.{both}
 use Rattle.hcl_scan.proofs.LiteralLemmas.{starts_len}
 
@@ -25,7 +25,7 @@ module _ (marker text rest : List ℕ) (at : ℕ) (rest_is : rest ≡ drop at te
   front = prefix_len is_blank (drop m text)
 
   begun : starts (drop front (drop m text)) marker ≡ true
-  begun = (both (starts (skip_blanks (drop m text)) marker) (ends_line (skip_blanks (drop (closer_len marker (drop m text)) (drop m text)))) is.marked).0
+  begun = (both (starts (skip_blanks (drop m text)) marker) (at_line_end (skip_blanks (drop (closer_len marker (drop m text)) (drop m text)))) is.marked).0
 
   within : m + front + length marker ≤ length text
   within = omega (arith, starts_len (drop front (drop m text)) marker begun, length-drop front (drop m text), length-drop m text, is.within, prefix_len-le-length is_blank (drop m text))

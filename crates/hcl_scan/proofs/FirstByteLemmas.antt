@@ -5,8 +5,8 @@ use Rattle.std.specs.Char.{is_ascii_digit}
 use Rattle.std.proofs.lemmas.Bool.Decides.{nat_tests}
 use Rattle.hcl_scan.specs.Lexemes.{Opener, in_heredoc}
 use Rattle.hcl_scan.specs.Spelling.{punctuation, IsPunctuation, IsDigits, starts}
-use Rattle.hcl_scan.specs.Neighbours.{is_number}
-use Rattle.hcl_scan.specs.SideBySide.{begins_as, is_ident, is_minus, is_pointed, is_coloned, is_equals, is_greater, is_less, is_slashed, is_star, is_seq_close, may_begin_ident}
+use Rattle.hcl_scan.specs.Kinds.{is_ident, is_minus, is_number, is_seq_close, is_star}
+use Rattle.hcl_scan.specs.SideBySide.{begins_as, is_pointed, is_coloned, is_equals, is_greater, is_less, is_slashed, may_begin_ident}
 use Rattle.hcl_scan.specs.declared.token.Kind.{Kind}
 use Rattle.hcl_scan.specs.declared.token.Kind.TheVariants.{Ident, Number}
 use Rattle.hcl_scan.proofs.WayLemmas.{Ways, newline, line_comment, inline_comment, blanks, ident, digits, number, heredoc, seq_close, brace_close, slash, mark, mark_passes}

@@ -5,9 +5,9 @@ use Rattle.std.specs.List.{prefix_len}
 use Rattle.std.proofs.lemmas.Bool.Decides.{nat_tests}
 use Rattle.hcl_scan.specs.Lexemes.{Lexeme, Opener, in_heredoc}
 use Rattle.hcl_scan.specs.Spelling.{IsNewline, IsTextIn, IsExpressionText, is_blank, starts, context, Context, Template, Expression}
-use Rattle.hcl_scan.specs.Scans.{State, gap_in, gap_len, has_gaps_in, skip_blanks, ends_line, Reads, Closes, Run, IsComplete}
+use Rattle.hcl_scan.specs.Scans.{State, gap_in, gap_len, has_gaps_in, skip_blanks, at_line_end, Reads, Closes, Run, IsComplete}
 use Rattle.hcl_scan.specs.Inner.Leads.{lead_of}
-use Rattle.hcl_scan.specs.Regapped.{tokens_of, text_of, is_template, touches, fits}
+use Rattle.hcl_scan.specs.Regapped.{without_gaps, text_with_gaps, is_template, touches, gap_fits}
 use Rattle.hcl_scan.specs.declared.expression.Lead.TheVariants.{LineEnd}
 use Rattle.hcl_scan.specs.declared.token.Kind.{Kind}
 use Rattle.hcl_scan.specs.declared.token.Kind.TheVariants.{LineComment}
@@ -45,7 +45,7 @@ pub template_touches : (before : Kind) (t : Lexeme) → is_template t.kind ≡ t
 template_touches LineComment t h = refl
 template_touches _ t h = ap (λ v. v || t.inside_heredoc) h
 
-gaps_in : (c : Context) (opens : List Opener) (after_dot dot : Bool) (before : Kind) (gap : ℕ) (t : Lexeme) (rest more : List ℕ) → IsTextIn c opens after_dot t.kind t.text rest → in_heredoc opens ≡ false → IsTrue (fits dot before t gap) →
+gaps_in : (c : Context) (opens : List Opener) (after_dot dot : Bool) (before : Kind) (gap : ℕ) (t : Lexeme) (rest more : List ℕ) → IsTextIn c opens after_dot t.kind t.text rest → in_heredoc opens ≡ false → IsTrue (gap_fits dot before t gap) →
     cond (has_gaps_in c (in_heredoc opens)) (prefix_len is_blank (replicate gap 32 ++ (t.text ++ more))) 0 ≡ gap
 gaps_in (Template quoted) opens after_dot dot before gap t rest more is plain fit =
     sym (zero_gap (touches before t) gap _ (template_touches before t (way_template quoted t.kind t.text rest (templates.ways quoted t.kind t.text rest is))) fit)
@@ -54,34 +54,34 @@ gaps_in Expression opens after_dot dot before gap t rest more is plain fit =
     ∙ gap_before gap t.text more (some opens after_dot t.kind t.text rest (ways opens after_dot t.kind t.text rest is)) (not_blank opens after_dot t.kind t.text rest plain is)
 
 -- THE GAP that is read is the gap that was put
-pub gaps : (s : State) (t : Lexeme) (next : State) (dot : Bool) (before : Kind) (gap : ℕ) (more : List ℕ) → Reads s t next → in_heredoc s.opens ≡ false → IsTrue (fits dot before t gap) → gap_in s.opens (replicate gap 32 ++ (t.text ++ more)) ≡ gap
+pub gaps : (s : State) (t : Lexeme) (next : State) (dot : Bool) (before : Kind) (gap : ℕ) (more : List ℕ) → Reads s t next → in_heredoc s.opens ≡ false → IsTrue (gap_fits dot before t gap) → gap_in s.opens (replicate gap 32 ++ (t.text ++ more)) ≡ gap
 gaps s t next dot before gap more r plain fit = gaps_in (context s.opens) s.opens s.after_dot dot before gap t r.rest more r.longest.spelled plain fit
 
 -- what begins with a newline is one
-ends_lead : (text rest : List ℕ) → 0 < length text → ends_line (text ++ rest) ≡ true → lead_of text ≡ LineEnd
+ends_lead : (text rest : List ℕ) → 0 < length text → at_line_end (text ++ rest) ≡ true → lead_of text ≡ LineEnd
 ends_lead [] rest some h = absurd (omega arith)
 ends_lead (b ∷ text) rest some h = newline_leads b (get_or (b ∷ text) 1 0) (by (starts (text ++ rest) []) (starts (text ++ rest) (10 ∷ [])) h)
   where
     by : (x y : Bool) → (((b == 10) && x) || ((b == 13) && y)) ≡ true → ((b == 10) || (b == 13)) ≡ true
     by x y h = grind (arith, nat_tests)
 
-ends_after : (gap : ℕ) (text more : List ℕ) → IsNewline text → ends_line (skip_blanks (replicate gap 32 ++ (text ++ more))) ≡ true
-ends_after gap text more (inl e) = ap (λ l. ends_line (skip_blanks (replicate gap 32 ++ (l ++ more)))) e ∙ ap (λ n. ends_line (drop n (replicate gap 32 ++ 10 ∷ more))) (gap_is gap 10 more refl) ∙ ap ends_line (drop_blanks gap (10 ∷ more))
-ends_after gap text more (inr e) = ap (λ l. ends_line (skip_blanks (replicate gap 32 ++ (l ++ more)))) e ∙ ap (λ n. ends_line (drop n (replicate gap 32 ++ 13 ∷ 10 ∷ more))) (gap_is gap 13 (10 ∷ more) refl) ∙ ap ends_line (drop_blanks gap (13 ∷ 10 ∷ more))
+ends_after : (gap : ℕ) (text more : List ℕ) → IsNewline text → at_line_end (skip_blanks (replicate gap 32 ++ (text ++ more))) ≡ true
+ends_after gap text more (inl e) = ap (λ l. at_line_end (skip_blanks (replicate gap 32 ++ (l ++ more)))) e ∙ ap (λ n. at_line_end (drop n (replicate gap 32 ++ 10 ∷ more))) (gap_is gap 10 more refl) ∙ ap at_line_end (drop_blanks gap (10 ∷ more))
+ends_after gap text more (inr e) = ap (λ l. at_line_end (skip_blanks (replicate gap 32 ++ (l ++ more)))) e ∙ ap (λ n. at_line_end (drop n (replicate gap 32 ++ 13 ∷ 10 ∷ more))) (gap_is gap 13 (10 ∷ more) refl) ∙ ap at_line_end (drop_blanks gap (13 ∷ 10 ∷ more))
 
 -- BEHIND A MARKER LINE comes a newline, or the end
-pub lines : (s end : State) (ps : List (ℕ × Lexeme)) → context s.opens ≡ Expression → in_heredoc s.opens ≡ false → ends_line (skip_blanks s.seen) ≡ true → Run s (tokens_of ps) end → IsComplete end → ends_line (skip_blanks (text_of ps)) ≡ true
+pub lines : (s end : State) (ps : List (ℕ × Lexeme)) → context s.opens ≡ Expression → in_heredoc s.opens ≡ false → at_line_end (skip_blanks s.seen) ≡ true → Run s (without_gaps ps) end → IsComplete end → at_line_end (skip_blanks (text_with_gaps ps)) ≡ true
 lines s end [] c plain ends run done = refl
 lines s end (p ∷ ps) c plain ends run done = ⊎_elim reads closes run.1
   where
-    closes : Closes s p.1 run.0 → ends_line (skip_blanks (text_of (p ∷ ps))) ≡ true
+    closes : Closes s p.1 run.0 → at_line_end (skip_blanks (text_with_gaps (p ∷ ps))) ≡ true
     closes x = let e : in_heredoc s.opens ≡ true = ap in_heredoc x.top in absurd (cc)
 
-    reads : Reads s p.1 run.0 → ends_line (skip_blanks (text_of (p ∷ ps))) ≡ true
+    reads : Reads s p.1 run.0 → at_line_end (skip_blanks (text_with_gaps (p ∷ ps))) ≡ true
     reads r =
         let spelled : IsExpressionText s.opens s.after_dot p.1.kind p.1.text r.rest = subst (λ (z : Context). IsTextIn z s.opens s.after_dot p.1.kind p.1.text r.rest) c r.longest.spelled in
         let w = ways s.opens s.after_dot p.1.kind p.1.text r.rest spelled in
         let len : gap_len s ≡ prefix_len is_blank s.seen = (λ i. cond (has_gaps_in (c i) (plain i)) (prefix_len is_blank s.seen) 0) in
         let front : p.1.text ++ r.rest ≡ skip_blanks s.seen = r.longest.whole ∙ ap (λ n. drop n s.seen) len in
-        let k = line_kind p.1.kind (sym (leads s.opens s.after_dot p.1.kind p.1.text r.rest w) ∙ ends_lead p.1.text r.rest (some s.opens s.after_dot p.1.kind p.1.text r.rest w) (ap ends_line front ∙ ends)) in
-        ends_after p.0 p.1.text (text_of ps) (subst (λ (z : Kind). IsExpressionText s.opens s.after_dot z p.1.text r.rest) k spelled)
+        let k = line_kind p.1.kind (sym (leads s.opens s.after_dot p.1.kind p.1.text r.rest w) ∙ ends_lead p.1.text r.rest (some s.opens s.after_dot p.1.kind p.1.text r.rest w) (ap at_line_end front ∙ ends)) in
+        ends_after p.0 p.1.text (text_with_gaps ps) (subst (λ (z : Kind). IsExpressionText s.opens s.after_dot z p.1.text r.rest) k spelled)

@@ -5,7 +5,7 @@ use Rattle.std.specs.Prelude.{nat_eq}
 use Rattle.std.proofs.Math.Numerals.{one-add}
 use Rattle.std.proofs.lemmas.Bool.Decides.{nat_tests}
 use Rattle.hcl_scan.specs.Lexemes.{Opener, marker_of, is_newline_byte}
-use Rattle.hcl_scan.specs.Scans.{Hidden, hides, skip_blanks, ends_line, IsFirstMarkerLine}
+use Rattle.hcl_scan.specs.Scans.{Hidden, hides, skip_blanks, at_line_end, IsFirstMarkerLine}
 use Rattle.hcl_scan.specs.Spelling.{IsSpelling, IsHeredocOpen, IsTextIn, context, Context, Template, Expression}
 use Rattle.hcl_scan.proofs.FrontLemmas.{run_passes}
 use Rattle.hcl_scan.proofs.WordLemmas.{ident_word, all_to, begins_word}
@@ -48,7 +48,7 @@ heredoc_in (Template true) opens dot text rest h = absurd h
 heredoc_in (Template false) opens dot text rest h = absurd h
 
 -- THE LAW
-pub marker_line_stays : (opens : List Opener) (dot : Bool) (text rest after : List ℕ) (n : ℕ) → IsSpelling opens dot HeredocOpen text rest → IsFirstMarkerLine (marker_of text) rest n → ends_line (skip_blanks after) ≡ true →
+pub marker_line_stays : (opens : List Opener) (dot : Bool) (text rest after : List ℕ) (n : ℕ) → IsSpelling opens dot HeredocOpen text rest → IsFirstMarkerLine (marker_of text) rest n → at_line_end (skip_blanks after) ≡ true →
     let h : Hidden = hides (marker_of text) (drop n rest) in
     let z : List ℕ = take n rest ++ (h.closer ++ after) in
     IsFirstMarkerLine (marker_of text) z n × (take n z ≡ take n rest) × (hides (marker_of text) (drop n z) ≡ record { closer = h.closer; after = after })

@@ -9,7 +9,8 @@ use Rattle.std.proofs.lemmas.List.{length-map}
 use Rattle.std.proofs.lemmas.List.Sums.{prefix_len-le-length}
 use Rattle.hcl_scan.specs.Lexemes.{Opener, Heredoc, marker_of, moved, max_open}
 use Rattle.hcl_scan.specs.Spelling.{is_blank, starts, context, Expression, IsHeredocOpen}
-use Rattle.hcl_scan.specs.Scans.{Shows, hides, IsLongest, IsMarkerLine, IsFirstMarkerLine, closer_len, is_marker_line, skip_blanks, ends_line, ahead, is_dot}
+use Rattle.hcl_scan.specs.Kinds.{is_dot}
+use Rattle.hcl_scan.specs.Scans.{Leaves, hides, IsLongest, IsMarkerLine, IsFirstMarkerLine, closer_len, is_marker_line, skip_blanks, at_line_end, ahead}
 use Rattle.hcl_scan.specs.Faults.{too_deep, no_marker_line}
 use Rattle.hcl_scan.specs.Inner.Openings.{opener_of, openers_of, offsets_in, hidden_of, opened_by, opened_on, is_heredoc_open}
 use Rattle.hcl_scan.specs.Inner.Scanners.{state_of, IsSound, IsNext, IsStopped, Moves, fits_in}
@@ -43,11 +44,11 @@ ascii_there xs n within (inr small) =
 newline_ascii : (b : ℕ) (s : Bool) → ((b == 10) && true || ((b == 13) && s)) ≡ true → b < 128
 newline_ascii b s h = grind (arith, nat_tests)
 
-line_ascii : (b : ℕ) (rest : List ℕ) (v : Bool) → is_blank b ≡ v → ends_line (drop (cond v (1 + prefix_len is_blank rest) 0) (b ∷ rest)) ≡ true → b < 128
+line_ascii : (b : ℕ) (rest : List ℕ) (v : Bool) → is_blank b ≡ v → at_line_end (drop (cond v (1 + prefix_len is_blank rest) 0) (b ∷ rest)) ≡ true → b < 128
 line_ascii b rest true e h = blank_ascii b e
 line_ascii b rest false e h = newline_ascii b (starts rest (10 ∷ [])) h
 
-pub after_marker : (rest : List ℕ) → ends_line (skip_blanks rest) ≡ true → (rest ≡ []) ⊎ (get_or rest 0 0 < 128)
+pub after_marker : (rest : List ℕ) → at_line_end (skip_blanks rest) ≡ true → (rest ≡ []) ⊎ (get_or rest 0 0 < 128)
 after_marker [] h = inl refl
 after_marker (b ∷ rest) h = inr (line_ascii b rest (is_blank b) refl h)
 
@@ -64,7 +65,7 @@ line_boundary marker rest n utf8 is =
 
 pub closer_within : (marker line : List ℕ) → is_marker_line marker line ≡ true → closer_len marker line ≤ length line
 closer_within marker line is =
-    let b = both (starts (skip_blanks line) marker) (ends_line (skip_blanks (drop (closer_len marker line) line))) is in
+    let b = both (starts (skip_blanks line) marker) (at_line_end (skip_blanks (drop (closer_len marker line) line))) is in
     let le : prefix_len is_blank line ≤ length line = prefix_len-le-length is_blank line in
     omega (arith, starts_len (skip_blanks line) marker b.0, length-drop (prefix_len is_blank line) line, le)
 
@@ -119,7 +120,7 @@ module _ (s : Scanner) (e : Entry) (sound : IsSound s) (is : IsNext s e) (opens 
     marked = ap (is_marker_line marker) hidden_is ∙ first.here.marked
 
     pub line_starts : starts (skip_blanks (drop line rest)) marker ≡ true
-    line_starts = (both (starts (skip_blanks (drop line rest)) marker) (ends_line (skip_blanks (drop (closer_len marker (drop line rest)) (drop line rest)))) first.here.marked).0
+    line_starts = (both (starts (skip_blanks (drop line rest)) marker) (at_line_end (skip_blanks (drop (closer_len marker (drop line rest)) (drop line rest)))) first.here.marked).0
 
     hidden_len : length hidden + (e.end + line) ≡ s.end
     hidden_len = slice_len s.text.now (e.end + line) s.end line_within sound.within
@@ -139,7 +140,7 @@ module _ (s : Scanner) (e : Entry) (sound : IsSound s) (is : IsNext s e) (opens 
 
       closer_boundary : IsCharBoundary s.text.now (e.end + line + n)
       closer_boundary = part_boundary s.text.now (e.end + line) s.end n closer_within_so sound.within sound.end
-          (ascii_there hidden n (omega (arith, closer_within_so, hidden_len)) (after_marker (drop n hidden) (ap (λ k. ends_line (skip_blanks (drop k hidden))) len_is ∙ (both (starts (skip_blanks hidden) marker) (ends_line (skip_blanks (drop (closer_len marker hidden) hidden))) marked).1)))
+          (ascii_there hidden n (omega (arith, closer_within_so, hidden_len)) (after_marker (drop n hidden) (ap (λ k. at_line_end (skip_blanks (drop k hidden))) len_is ∙ (both (starts (skip_blanks hidden) marker) (at_line_end (skip_blanks (drop (closer_len marker hidden) hidden))) marked).1)))
 
       abbrev opener : kept.Opener
       opener = by.Heredoc (e.end + line + n) s.end
@@ -158,7 +159,7 @@ module _ (s : Scanner) (e : Entry) (sound : IsSound s) (is : IsNext s e) (opens 
           offsets = push_offsets e.start Heredoc (openers_of s.stack) (offsets_in s.stack);
           room = omega (arith, room, length-map s.stack (λ (o : Opened). opener_of o.by));
           after_dot = ap is_dot (sym kind_is);
-          shows = subst (λ (k : Kind). Shows k word rest (hidden_of s.text.now s.stack s.end) (slice_range s.text.now e.end (e.end + line)) (hidden_of s.text.now (opened_on opener e.start s.stack) (e.end + line))) (sym kind_is)
+          leaves = subst (λ (k : Kind). Leaves k word rest (hidden_of s.text.now s.stack s.end) (slice_range s.text.now e.end (e.end + line)) (hidden_of s.text.now (opened_on opener e.start s.stack) (e.end + line))) (sym kind_is)
               (line, first, front_of s.text.now e.end s.end line line_within, hides_so);
         });
         sound = record {

@@ -6,10 +6,11 @@ use Rattle.std.proofs.lemmas.List.{get_or_append_left}
 use Rattle.std.proofs.lemmas.Bool.Decides.{nat_tests}
 use Rattle.hcl_scan.specs.Lexemes.{Lexeme, Opener, in_heredoc, moved}
 use Rattle.hcl_scan.specs.Spelling.{punctuation, IsPunctuation, IsExpressionText, context, Expression}
-use Rattle.hcl_scan.specs.Scans.{State, is_dot, ahead, Reads, Closes, Next, Run}
+use Rattle.hcl_scan.specs.Kinds.{is_dot, is_number}
+use Rattle.hcl_scan.specs.Scans.{State, ahead, Reads, Closes, Next, Run}
 use Rattle.hcl_scan.specs.Inner.Leads.{lead_of, lead_bytes}
-use Rattle.hcl_scan.specs.Neighbours.{grows, is_number, joins, joins_text, stays}
-use Rattle.hcl_scan.specs.Regapped.{tokens_of, text_of, is_template, touches, AllFit}
+use Rattle.hcl_scan.specs.Neighbours.{grows, joins, joins_text, stays}
+use Rattle.hcl_scan.specs.Regapped.{without_gaps, text_with_gaps, is_template, touches, AllFit}
 use Rattle.hcl_scan.specs.declared.expression.Lead.TheVariants.{Sign as SignLead}
 use Rattle.hcl_scan.specs.declared.token.Kind.{Kind}
 use Rattle.hcl_scan.specs.declared.token.Kind.TheVariants.{LineComment, Ident, Number, Dot, Colon, Not, Assign, Less, Greater, Slash, Lit, InterpOpen, ControlOpen, QuoteClose, HeredocClose}
@@ -178,7 +179,7 @@ of_joins dot Lit rest other g h = absurd (cc)
 of_joins dot kind rest other g h = h
 
 module _ (s : State) (t : Lexeme) (next end : State) (r : Reads s t next) (plain : in_heredoc s.opens ≡ false) where
-  pub growing_on : grower t.kind ≡ true → (ps : List (ℕ × Lexeme)) → Run next (tokens_of ps) end → AllFit s.after_dot t.kind ps → not (joins_text s.after_dot t.kind (text_of ps)) ≡ true
+  pub growing_on : grower t.kind ≡ true → (ps : List (ℕ × Lexeme)) → Run next (without_gaps ps) end → AllFit s.after_dot t.kind ps → not (joins_text s.after_dot t.kind (text_with_gaps ps)) ≡ true
   growing_on g [] run parts = no_join (grows t.kind 0) (is_number t.kind) (not s.after_dot) false (is_ascii_digit 0) (zero_grows t.kind) refl
   growing_on g (p ∷ ps) run parts = by p.0 refl
     where
@@ -194,9 +195,9 @@ module _ (s : State) (t : Lexeme) (next end : State) (r : Reads s t next) (plain
       long : 0 < length p.1.text
       long = some next.opens next.after_dot p.1.kind p.1.text x.rest (ways next.opens next.after_dot p.1.kind p.1.text x.rest x.is)
 
-      by : (gap : ℕ) → p.0 ≡ gap → not (joins_text s.after_dot t.kind (replicate p.0 32 ++ (p.1.text ++ text_of ps))) ≡ true
-      by zero e = ap (λ n. not (joins_text s.after_dot t.kind (replicate n 32 ++ (p.1.text ++ text_of ps)))) e
-          ∙ keeps_front t.kind s.after_dot p.1.text (text_of ps) p.1.kind long (fits_free (touches t.kind p.1) p.0 (joins s.after_dot t.kind p.1.kind p.1.text) free parts.0 e)
-          (no_fraction next.opens next.after_dot p.1.kind p.1.text x.rest (text_of ps) x.is)
-      by (suc gap) e = ap (λ n. not (joins_text s.after_dot t.kind (replicate n 32 ++ (p.1.text ++ text_of ps)))) e
+      by : (gap : ℕ) → p.0 ≡ gap → not (joins_text s.after_dot t.kind (replicate p.0 32 ++ (p.1.text ++ text_with_gaps ps))) ≡ true
+      by zero e = ap (λ n. not (joins_text s.after_dot t.kind (replicate n 32 ++ (p.1.text ++ text_with_gaps ps)))) e
+          ∙ keeps_front t.kind s.after_dot p.1.text (text_with_gaps ps) p.1.kind long (fits_free (touches t.kind p.1) p.0 (joins s.after_dot t.kind p.1.kind p.1.text) free parts.0 e)
+          (no_fraction next.opens next.after_dot p.1.kind p.1.text x.rest (text_with_gaps ps) x.is)
+      by (suc gap) e = ap (λ n. not (joins_text s.after_dot t.kind (replicate n 32 ++ (p.1.text ++ text_with_gaps ps)))) e
           ∙ no_join (grows t.kind 32) (is_number t.kind) (not s.after_dot) false _ (blank_grows t.kind) refl

@@ -1,7 +1,8 @@
 -- Inside an outermost heredoc the tokens don't depend on what stands behind it.
 use Rattle.std.proofs.Common.{◌≡◌, ℕ, ◌+◌, ◌<◌, Bool, true, false, List, [], ◌∷◌, length, drop, ◌≤◌, inl, inr, refl, sym, ap, subst, ◌∙◌, arith}
 use Rattle.hcl_scan.specs.Lexemes.{Lexeme, Opener, in_heredoc, marker_of, moved, max_open}
-use Rattle.hcl_scan.specs.Scans.{State, Hidden, hides, is_dot, gap_len, gap_in, ahead, offsets_of, IsLongest, Shows, Reads, Closes, Next}
+use Rattle.hcl_scan.specs.Kinds.{is_dot}
+use Rattle.hcl_scan.specs.Scans.{State, Hidden, hides, gap_len, gap_in, ahead, offsets_of, IsLongest, Leaves, Reads, Closes, Next}
 use Rattle.hcl_scan.specs.InHeredocs.{behind_last, SameInside, ReadsToo}
 use Rattle.hcl_scan.proofs.ShownLemmas.{Shown, opening, plain, shown, plain_shows, open_shows}
 use Rattle.hcl_scan.proofs.OtherStepLemmas.{gap_in_heredoc}
@@ -15,7 +16,7 @@ went twin t seen hidden = record { at = twin.at + length t.text; opens = moved t
 
 module _ (other : List ℕ) (s twin : State) (t : Lexeme) (next : State) (same : SameInside other s twin) (some : 0 < length s.hidden) where
   reads_too : in_heredoc s.opens ≡ true → Reads s t next → ReadsToo other twin t next
-  reads_too inside r = by (shown t.kind t.text r.rest s.hidden next.seen next.hidden r.shows)
+  reads_too inside r = by (shown t.kind t.text r.rest s.hidden next.seen next.hidden r.leaves)
     where
       none : gap_in s.opens s.seen ≡ 0
       none = gap_in_heredoc s.opens s.seen inside
@@ -32,7 +33,7 @@ module _ (other : List ℕ) (s twin : State) (t : Lexeme) (next : State) (same :
       opens_is : moved t.kind twin.opens ≡ next.opens
       opens_is = ap (moved t.kind) same.opens ∙ sym r.opens
 
-      with_state : (seen : List ℕ) (hidden : List Hidden) → Shows t.kind t.text r.rest twin.hidden seen hidden → seen ≡ next.seen → hidden ≡ behind_last other next.hidden → ReadsToo other twin t next
+      with_state : (seen : List ℕ) (hidden : List Hidden) → Leaves t.kind t.text r.rest twin.hidden seen hidden → seen ≡ next.seen → hidden ≡ behind_last other next.hidden → ReadsToo other twin t next
       with_state seen hidden shows e f = record {
         state = went twin t seen hidden;
         read = inl (record {
@@ -45,7 +46,7 @@ module _ (other : List ℕ) (s twin : State) (t : Lexeme) (next : State) (same :
           offsets = refl;
           room = subst (λ (o : List Opener). length o ≤ max_open) (sym opens_is) r.room;
           after_dot = refl;
-          shows = shows;
+          leaves = shows;
         });
         same = record { opens = opens_is; after_dot = sym r.after_dot; seen = e; hidden = f };
       }

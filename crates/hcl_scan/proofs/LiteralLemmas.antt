@@ -29,15 +29,15 @@ hexes_are zero text h = refl
 hexes_are (suc n) [] h = absurd (omega arith)
 hexes_are (suc n) (b ∷ text) h = ap (λ v. is_ascii_hexdigit b && v) (hexes_are n text (omega arith))
 
-abbrev pub Fits : List ℕ → ℕ → Type 0
-Fits text n = (0 < n) × (n ≤ length text)
+abbrev pub IsPart : List ℕ → ℕ → Type 0
+IsPart text n = (0 < n) × (n ≤ length text)
 
 -- an option that holds a number that fits, if any
-abbrev pub AllFit : List ℕ → Option ℕ → Type 0
-AllFit text None = Unit {0}
-AllFit text (Some n) = Fits text n
+abbrev pub IsPartIfSome : List ℕ → Option ℕ → Type 0
+IsPartIfSome text None = Unit {0}
+IsPartIfSome text (Some n) = IsPart text n
 
-escape_by : (text : List ℕ) (p u v : Bool) → (p ≡ true → 2 ≤ length text) → (u ≡ true → 6 ≤ length text) → (v ≡ true → 10 ≤ length text) → AllFit text (if p then Some 2 else (if u then Some 6 else (if v then Some 10 else None)))
+escape_by : (text : List ℕ) (p u v : Bool) → (p ≡ true → 2 ≤ length text) → (u ≡ true → 6 ≤ length text) → (v ≡ true → 10 ≤ length text) → IsPartIfSome text (if p then Some 2 else (if u then Some 6 else (if v then Some 10 else None)))
 escape_by text true u v x y z = (omega arith, x refl)
 escape_by text false true v x y z = (omega arith, y refl)
 escape_by text false false true x y z = (omega arith, z refl)
@@ -53,25 +53,25 @@ long_front text front n two h =
     let hex = hexes_len n (drop 2 text) (both (starts text front) (hex_digits_after n (drop 2 text)) h).1 in
     omega (arith, some, hex, two, length-drop 2 text)
 
-pub escape_fits : (text : List ℕ) → AllFit text (escape_len text)
+pub escape_fits : (text : List ℕ) → IsPartIfSome text (escape_len text)
 escape_fits text = escape_by text (starts text (codes "\\n") || starts text (codes "\\r") || starts text (codes "\\t") || starts text (codes "\\\"") || starts text (codes "\\\\"))
     (starts text (codes "\\u") && hex_digits_after 4 (drop 2 text)) (starts text (codes "\\U") && hex_digits_after 8 (drop 2 text))
     (λ h. either _ _ (λ k. either _ _ (λ l. either _ _ (λ m. either _ _ (λ p. starts_len text (codes "\\n") p) (λ p. starts_len text (codes "\\r") p) m) (λ p. starts_len text (codes "\\t") p) l) (λ p. starts_len text (codes "\\\"") p) k) (λ p. starts_len text (codes "\\\\") p) h)
     (λ h. long_front text (codes "\\u") 4 refl h) (λ h. long_front text (codes "\\U") 8 refl h)
 
-element_by : (text : List ℕ) (d s o q : Bool) (e : Option ℕ) → 0 < length text → (d ≡ true → 3 ≤ length text) → AllFit text e → AllFit text (if d then Some 3 else (if s then (if o then None else Some 1) else (if q then e else Some 1)))
+element_by : (text : List ℕ) (d s o q : Bool) (e : Option ℕ) → 0 < length text → (d ≡ true → 3 ≤ length text) → IsPartIfSome text e → IsPartIfSome text (if d then Some 3 else (if s then (if o then None else Some 1) else (if q then e else Some 1)))
 element_by text true s o q e some x y = (omega arith, x refl)
 element_by text false true true q e some x y = tt
 element_by text false true false q e some x y = (omega arith, omega arith)
 element_by text false false o true e some x y = y
 element_by text false false o false e some x y = (omega arith, omega arith)
 
-pub element_fits : (quoted : Bool) (text : List ℕ) → AllFit text (element_len quoted text)
+pub element_fits : (quoted : Bool) (text : List ℕ) → IsPartIfSome text (element_len quoted text)
 element_fits quoted [] = tt
 element_fits quoted (b ∷ after) = element_by (b ∷ after) (starts (b ∷ after) (codes "$${") || starts (b ∷ after) (codes "%%{")) (is_dollar_or_percent b) (starts after (codes "{")) (quoted && ends_quoted b after) (escape_len (b ∷ after)) (omega arith)
     (λ h. either _ _ (λ p. starts_len (b ∷ after) (codes "$${") p) (λ p. starts_len (b ∷ after) (codes "%%{") p) h)
     (escape_fits (b ∷ after))
 
 -- so many bytes, where one is there
-pub element_is : (quoted : Bool) (text : List ℕ) (n : ℕ) → element_len quoted text ≡ Some n → Fits text n
-element_is quoted text n h = subst (λ o. AllFit text o) h (element_fits quoted text)
+pub element_is : (quoted : Bool) (text : List ℕ) (n : ℕ) → element_len quoted text ≡ Some n → IsPart text n
+element_is quoted text n h = subst (λ o. IsPartIfSome text o) h (element_fits quoted text)

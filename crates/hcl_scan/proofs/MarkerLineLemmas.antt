@@ -7,7 +7,7 @@ use Rattle.std.proofs.lemmas.List.{take-append-drop, drop-drop, drop-append-le, 
 use Rattle.std.proofs.lemmas.List.Sums.{prefix_len_passes, prefix_len_stops, prefix_len_is, prefix_len-le-length}
 use Rattle.std.proofs.Math.Seq.{take-append_seam, drop-append_seam}
 use Rattle.hcl_scan.specs.Spelling.{is_blank, starts}
-use Rattle.hcl_scan.specs.Scans.{hides, skip_blanks, ends_line, closer_len, is_marker_line, IsFirstMarkerLine}
+use Rattle.hcl_scan.specs.Scans.{hides, skip_blanks, at_line_end, closer_len, is_marker_line, IsFirstMarkerLine}
 use Rattle.hcl_scan.proofs.BooleanLemmas.{and_true}
 use Rattle.hcl_scan.proofs.CommentLemmas.{starts_split}
 use Rattle.hcl_scan.proofs.StartLemmas.{starts_so}
@@ -29,19 +29,19 @@ either true = inl refl
 either false = inr refl
 
 -- the end of a line depends on that line alone
-line_end : (pre x y : List ℕ) → ends_line (skip_blanks (pre ++ 10 ∷ x)) ≡ ends_line (skip_blanks (pre ++ 10 ∷ y))
+line_end : (pre x y : List ℕ) → at_line_end (skip_blanks (pre ++ 10 ∷ x)) ≡ at_line_end (skip_blanks (pre ++ 10 ∷ y))
 line_end [] x y = refl
 line_end (b ∷ pre) x y = ⊎_elim
-    (λ h. ap ends_line (skip_blank b (pre ++ 10 ∷ x) h) ∙ line_end pre x y ∙ ap ends_line (sym (skip_blank b (pre ++ 10 ∷ y) h)))
-    (λ h. ap ends_line (skip_none b (pre ++ 10 ∷ x) h) ∙ same pre ∙ ap ends_line (sym (skip_none b (pre ++ 10 ∷ y) h)))
+    (λ h. ap at_line_end (skip_blank b (pre ++ 10 ∷ x) h) ∙ line_end pre x y ∙ ap at_line_end (sym (skip_blank b (pre ++ 10 ∷ y) h)))
+    (λ h. ap at_line_end (skip_none b (pre ++ 10 ∷ x) h) ∙ same pre ∙ ap at_line_end (sym (skip_none b (pre ++ 10 ∷ y) h)))
     (either (is_blank b))
   where
-    same : (pre : List ℕ) → ends_line (b ∷ (pre ++ 10 ∷ x)) ≡ ends_line (b ∷ (pre ++ 10 ∷ y))
+    same : (pre : List ℕ) → at_line_end (b ∷ (pre ++ 10 ∷ x)) ≡ at_line_end (b ∷ (pre ++ 10 ∷ y))
     same [] = refl
     same (c ∷ pre) = refl
 
 abbrev marked : List ℕ → List ℕ → Bool
-marked m l = starts l m && ends_line (skip_blanks (drop (length m) l))
+marked m l = starts l m && at_line_end (skip_blanks (drop (length m) l))
 
 drop_length : (c b : ℕ) (m l : List ℕ) → drop (length (c ∷ m)) (b ∷ l) ≡ drop (length m) l
 drop_length c b m l = let e : length (c ∷ m) ≡ 1 + length m = omega arith in ap (λ n. drop n (b ∷ l)) e ∙ drop_more (length m) b l
@@ -57,12 +57,12 @@ marked_only : (m pre x y : List ℕ) → is_lf_free m ≡ true → marked m (pre
 marked_only [] pre x y free = line_end pre x y
 marked_only (c ∷ m) [] x y free =
     let e = not_lf c (and_true (not (c == 10)) (is_lf_free m) free).0 in
-    (λ i. (e i && starts x m) && ends_line (skip_blanks (drop (length (c ∷ m)) (10 ∷ x)))) ∙ sym (λ i. (e i && starts y m) && ends_line (skip_blanks (drop (length (c ∷ m)) (10 ∷ y))))
+    (λ i. (e i && starts x m) && at_line_end (skip_blanks (drop (length (c ∷ m)) (10 ∷ x)))) ∙ sym (λ i. (e i && starts y m) && at_line_end (skip_blanks (drop (length (c ∷ m)) (10 ∷ y))))
 marked_only (c ∷ m) (b ∷ pre) x y free =
     let rec = marked_only m pre x y (and_true (not (c == 10)) (is_lf_free m) free).1 in
-    (λ i. ((b == c) && starts (pre ++ 10 ∷ x) m) && ends_line (skip_blanks (drop_length c b m (pre ++ 10 ∷ x) i)))
-    ∙ same_and (b == c) (starts (pre ++ 10 ∷ x) m) (ends_line (skip_blanks (drop (length m) (pre ++ 10 ∷ x)))) (starts (pre ++ 10 ∷ y) m) (ends_line (skip_blanks (drop (length m) (pre ++ 10 ∷ y)))) rec
-    ∙ sym (λ i. ((b == c) && starts (pre ++ 10 ∷ y) m) && ends_line (skip_blanks (drop_length c b m (pre ++ 10 ∷ y) i)))
+    (λ i. ((b == c) && starts (pre ++ 10 ∷ x) m) && at_line_end (skip_blanks (drop_length c b m (pre ++ 10 ∷ x) i)))
+    ∙ same_and (b == c) (starts (pre ++ 10 ∷ x) m) (at_line_end (skip_blanks (drop (length m) (pre ++ 10 ∷ x)))) (starts (pre ++ 10 ∷ y) m) (at_line_end (skip_blanks (drop (length m) (pre ++ 10 ∷ y)))) rec
+    ∙ sym (λ i. ((b == c) && starts (pre ++ 10 ∷ y) m) && at_line_end (skip_blanks (drop_length c b m (pre ++ 10 ∷ y) i)))
 
 -- whether a line is a marker's depends on that line alone
 skipped_only : (m pre x y : List ℕ) → is_lf_free m ≡ true → marked m (skip_blanks (pre ++ 10 ∷ x)) ≡ marked m (skip_blanks (pre ++ 10 ∷ y))
@@ -73,7 +73,7 @@ skipped_only m (b ∷ pre) x y free = ⊎_elim
     (either (is_blank b))
 
 marked_is : (m t : List ℕ) → is_marker_line m t ≡ marked m (skip_blanks t)
-marked_is m t = ap (λ l. starts (skip_blanks t) m && ends_line (skip_blanks l)) (split_drop (prefix_len is_blank t) (length m) t)
+marked_is m t = ap (λ l. starts (skip_blanks t) m && at_line_end (skip_blanks l)) (split_drop (prefix_len is_blank t) (length m) t)
   where
     split_drop : (a b : ℕ) (l : List ℕ) → drop (a + b) l ≡ drop b (drop a l)
     split_drop a b l = sym (drop-drop b a l)
@@ -86,9 +86,9 @@ record Stands (m t after : List ℕ) : Type 0 where
   marked : is_marker_line m (take (closer_len m t) t ++ after) ≡ true
   hidden : hides m (take (closer_len m t) t ++ after) ≡ record { closer = take (closer_len m t) t; after = after }
 
-stands : (m t after : List ℕ) → 0 < length m → is_marker_line m t ≡ true → ends_line (skip_blanks after) ≡ true → Stands m t after
+stands : (m t after : List ℕ) → 0 < length m → is_marker_line m t ≡ true → at_line_end (skip_blanks after) ≡ true → Stands m t after
 stands m t after some line ends = record {
-  marked = (λ i. starts (skipped i) m && ends_line (skip_blanks (drop (len_is i) xs))) ∙ (λ i. starts_so m after i && ends_line (skip_blanks (drop_all i))) ∙ ends;
+  marked = (λ i. starts (skipped i) m && at_line_end (skip_blanks (drop (len_is i) xs))) ∙ (λ i. starts_so m after i && at_line_end (skip_blanks (drop_all i))) ∙ ends;
   hidden = λ i. record { closer = (ap (λ n. take n xs) len_is ∙ take_all) i; after = (ap (λ n. drop n xs) len_is ∙ drop_all) i };
 }
   where
@@ -99,7 +99,7 @@ stands m t after some line ends = record {
     xs = take (q + length m) t ++ after
 
     split : (r : List ℕ) × (skip_blanks t ≡ m ++ r)
-    split = starts_split (skip_blanks t) m (and_true (starts (skip_blanks t) m) (ends_line (skip_blanks (drop (closer_len m t) t))) line).0
+    split = starts_split (skip_blanks t) m (and_true (starts (skip_blanks t) m) (at_line_end (skip_blanks (drop (closer_len m t) t))) line).0
 
     len_t : q + length m ≤ length t
     len_t = omega (arith, ap length split.1, length-append m split.0, length-drop q t, prefix_len-le-length is_blank t, some)
@@ -142,7 +142,7 @@ last_split u n len is = sym (take-append-drop n u) ∙ ap (λ l. take n u ++ l) 
     one (b ∷ c ∷ l) len is = absurd (omega (arith, len))
 
 -- the first marker line stays the first, with other text behind it
-module _ (m rest after : List ℕ) (n : ℕ) (some : 0 < length m) (free : is_lf_free m ≡ true) (first : IsFirstMarkerLine m rest n) (ends : ends_line (skip_blanks after) ≡ true) where
+module _ (m rest after : List ℕ) (n : ℕ) (some : 0 < length m) (free : is_lf_free m ≡ true) (first : IsFirstMarkerLine m rest n) (ends : at_line_end (skip_blanks after) ≡ true) where
   abbrev closer : List ℕ
   closer = take (closer_len m (drop n rest)) (drop n rest)
 

@@ -6,7 +6,8 @@ use Rattle.std.specs.Char.{is_ascii_digit}
 use Rattle.hcl_scan.specs.Lexemes.{Opener, in_heredoc}
 use Rattle.hcl_scan.specs.Spelling.{IsExpressionText, IsSpelling, IsTextIn, IsLiteral, context, Context, Template, Expression, starts, are_elements, element_len}
 use Rattle.hcl_scan.specs.Scans.{IsLongest}
-use Rattle.hcl_scan.specs.Neighbours.{grows, is_number, joins_text, same_close, stays}
+use Rattle.hcl_scan.specs.Kinds.{is_number}
+use Rattle.hcl_scan.specs.Neighbours.{grows, joins_text, same_close, stays}
 use Rattle.hcl_scan.specs.declared.token.Kind.{Kind}
 use Rattle.hcl_scan.specs.declared.token.Kind.TheVariants.{Newline, LineComment, InlineComment, Blank, Ident, Number, HeredocOpen, SeqClose, BraceClose, Slash, Lit, InterpOpen, ControlOpen, QuoteClose}
 use Rattle.hcl_scan.proofs.BooleanLemmas.{and_true, none_of, not_true}

@@ -4,9 +4,9 @@ use Rattle.std.proofs.Common.{◌≡◌, ℕ, ◌&&◌, ◌||◌, Bool, true, fa
 use Rattle.std.specs.List.{prefix_len}
 use Rattle.hcl_scan.specs.Lexemes.{Lexeme, Opener, in_heredoc, moved}
 use Rattle.hcl_scan.specs.Spelling.{IsTextIn, IsLiteral, context, Template, starts, is_blank, are_elements}
-use Rattle.hcl_scan.specs.Scans.{State, gap_in, has_gaps_in, owed, IsLongest, Shows, Reads, Closes, Run, IsComplete}
+use Rattle.hcl_scan.specs.Scans.{State, gap_in, has_gaps_in, owed, IsLongest, Leaves, Reads, Closes, Run, IsComplete}
 use Rattle.hcl_scan.specs.Neighbours.{same_close, stays}
-use Rattle.hcl_scan.specs.Regapped.{tokens_of, text_of, touches, fits, AllFit}
+use Rattle.hcl_scan.specs.Regapped.{without_gaps, text_with_gaps, touches, gap_fits, AllFit}
 use Rattle.hcl_scan.specs.declared.token.Kind.{Kind}
 use Rattle.hcl_scan.specs.declared.token.Kind.TheVariants.{LineComment, Ident, Number, Dot, Colon, Not, Assign, Less, Greater, Slash, Lit, InterpOpen, ControlOpen}
 use Rattle.hcl_scan.proofs.ContextLemmas.{is_quoted, not_both, heredoc_on_top, quote_owed}
@@ -76,7 +76,7 @@ lit_of kind text rest k (quote l q h) = absurd (cc)
 template_ahead : (opens : List Opener) (seen : List ℕ) → context opens ≡ Template true → drop (gap_in opens seen) seen ≡ seen
 template_ahead opens seen e = ap (λ c. drop (cond (has_gaps_in c (in_heredoc opens)) (prefix_len is_blank seen) 0) seen) e
 
-literal_on : (s : State) (t : Lexeme) (next end : State) (r : Reads s t next) → in_heredoc s.opens ≡ false → t.kind ≡ Lit → (ps : List (ℕ × Lexeme)) → Run next (tokens_of ps) end → IsComplete end → AllFit s.after_dot t.kind ps → same_close r.rest (text_of ps) ≡ true
+literal_on : (s : State) (t : Lexeme) (next end : State) (r : Reads s t next) → in_heredoc s.opens ≡ false → t.kind ≡ Lit → (ps : List (ℕ × Lexeme)) → Run next (without_gaps ps) end → IsComplete end → AllFit s.after_dot t.kind ps → same_close r.rest (text_with_gaps ps) ≡ true
 literal_on s t next end r plain k ps run done parts = by ps run parts
   where
     longest : IsLongest s.opens s.after_dot (t.text ++ r.rest) Lit t.text r.rest
@@ -89,23 +89,23 @@ literal_on s t next end r plain k ps run done parts = by ps run parts
     opens_same = r.opens ∙ ap (λ (z : Kind). moved z s.opens) k
 
     seen_is : next.seen ≡ r.rest
-    seen_is = (subst (λ (z : Kind). Shows z t.text r.rest s.hidden next.seen next.hidden) k r.shows).0
+    seen_is = (subst (λ (z : Kind). Leaves z t.text r.rest s.hidden next.seen next.hidden) k r.leaves).0
 
     here : context next.opens ≡ Template true
     here = ap context opens_same ∙ spelled.0
 
-    by : (ps : List (ℕ × Lexeme)) → Run next (tokens_of ps) end → AllFit s.after_dot t.kind ps → same_close r.rest (text_of ps) ≡ true
+    by : (ps : List (ℕ × Lexeme)) → Run next (without_gaps ps) end → AllFit s.after_dot t.kind ps → same_close r.rest (text_with_gaps ps) ≡ true
     by [] run parts = absurd (let o = sym (quote_owed next.opens here) ∙ ap (λ (z : State). owed z.opens) run ∙ done.1 in cc)
     by (p ∷ ps) run parts = ⊎_elim reads closes run.1
       where
-        closes : Closes next p.1 run.0 → same_close r.rest (text_of (p ∷ ps)) ≡ true
+        closes : Closes next p.1 run.0 → same_close r.rest (text_with_gaps (p ∷ ps)) ≡ true
         closes c = absurd (let e : in_heredoc next.opens ≡ true = ap in_heredoc c.top in let f : in_heredoc next.opens ≡ false = ap in_heredoc opens_same ∙ plain in cc)
 
-        reads : Reads next p.1 run.0 → same_close r.rest (text_of (p ∷ ps)) ≡ true
+        reads : Reads next p.1 run.0 → same_close r.rest (text_with_gaps (p ∷ ps)) ≡ true
         reads x =
             let w = template_of next.opens next.after_dot p.1.kind p.1.text x.rest here (side next.opens next.after_dot p.1.kind p.1.text x.rest x.longest.spelled) in
             let rest_is : p.1.text ++ x.rest ≡ r.rest = x.longest.whole ∙ template_ahead next.opens next.seen here ∙ seen_is in
-            let fit : fits s.after_dot Lit p.1 p.0 ≡ true = subst (λ (z : Kind). fits s.after_dot z p.1 p.0 ≡ true) k parts.0 in
+            let fit : gap_fits s.after_dot Lit p.1 p.0 ≡ true = subst (λ (z : Kind). gap_fits s.after_dot z p.1 p.0 ≡ true) k parts.0 in
             let gap : p.0 ≡ 0 = zero_gap (touches Lit p.1) p.0 _ (template_touches Lit p.1 (way_template true p.1.kind p.1.text x.rest w)) fit in
             ⊎_elim
             (λ l.
@@ -113,16 +113,16 @@ literal_on s t next end r plain k ps run done parts = by ps run parts
             let both : IsLiteral true (t.text ++ p.1.text) x.rest = (omega (arith, length-append t.text p.1.text, m.0), are_elements-append true 0 t.text p.1.text x.rest (subst (λ z. are_elements true 0 t.text z ≡ true) (sym rest_is) spelled.1.1) m.1) in
             absurd (longest.longest Lit (t.text ++ p.1.text) x.rest (append_assoc t.text p.1.text x.rest ∙ ap (λ z. t.text ++ z) rest_is) (omega (arith, length-append t.text p.1.text, m.0))
             (subst (λ c. IsTextIn c s.opens s.after_dot Lit (t.text ++ p.1.text) x.rest) (sym spelled.0) both)))
-            (λ e. ap (λ n. same_close r.rest (replicate n 32 ++ (p.1.text ++ text_of ps))) gap ∙ ap (λ z. same_close z (p.1.text ++ text_of ps)) (sym rest_is) ∙ e)
-            (close_with p.1.kind p.1.text x.rest (text_of ps) w)
+            (λ e. ap (λ n. same_close r.rest (replicate n 32 ++ (p.1.text ++ text_with_gaps ps))) gap ∙ ap (λ z. same_close z (p.1.text ++ text_with_gaps ps)) (sym rest_is) ∙ e)
+            (close_with p.1.kind p.1.text x.rest (text_with_gaps ps) w)
 
 -- THE LAW, for all kinds
-pub follows : (s : State) (t : Lexeme) (next end : State) (ps : List (ℕ × Lexeme)) → (r : Reads s t next) → in_heredoc s.opens ≡ false → Run next (tokens_of ps) end → IsComplete end → AllFit s.after_dot t.kind ps →
-    IsLongest s.opens s.after_dot (t.text ++ text_of ps) t.kind t.text (text_of ps)
-follows s t next end ps r plain run done parts = kept s.opens s.after_dot t.kind t.text r.rest (text_of ps) plain r.longest.spelled (by (sort_of t.kind))
+pub follows : (s : State) (t : Lexeme) (next end : State) (ps : List (ℕ × Lexeme)) → (r : Reads s t next) → in_heredoc s.opens ≡ false → Run next (without_gaps ps) end → IsComplete end → AllFit s.after_dot t.kind ps →
+    IsLongest s.opens s.after_dot (t.text ++ text_with_gaps ps) t.kind t.text (text_with_gaps ps)
+follows s t next end ps r plain run done parts = kept s.opens s.after_dot t.kind t.text r.rest (text_with_gaps ps) plain r.longest.spelled (by (sort_of t.kind))
   where
-    by : Sort t.kind → stays s.after_dot t.kind r.rest (text_of ps) ≡ true
-    by (comment k) = subst (λ (z : Kind). stays s.after_dot z r.rest (text_of ps) ≡ true) (sym k) (comment_on s t next end r plain k ps run parts)
-    by (literal k) = subst (λ (z : Kind). stays s.after_dot z r.rest (text_of ps) ≡ true) (sym k) (literal_on s t next end r plain k ps run done parts)
-    by (growing g) = of_joins s.after_dot t.kind r.rest (text_of ps) g (growing_on s t next end r plain g ps run parts)
-    by (settled h) = h s.after_dot r.rest (text_of ps)
+    by : Sort t.kind → stays s.after_dot t.kind r.rest (text_with_gaps ps) ≡ true
+    by (comment k) = subst (λ (z : Kind). stays s.after_dot z r.rest (text_with_gaps ps) ≡ true) (sym k) (comment_on s t next end r plain k ps run parts)
+    by (literal k) = subst (λ (z : Kind). stays s.after_dot z r.rest (text_with_gaps ps) ≡ true) (sym k) (literal_on s t next end r plain k ps run done parts)
+    by (growing g) = of_joins s.after_dot t.kind r.rest (text_with_gaps ps) g (growing_on s t next end r plain g ps run parts)
+    by (settled h) = h s.after_dot r.rest (text_with_gaps ps)

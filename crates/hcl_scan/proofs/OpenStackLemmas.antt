@@ -153,7 +153,7 @@ pub stacks : (s : State) (t : Lexeme) (next : State) → Next s t next → Sound
 stacks s t next step sound = ⊎_elim reads closes step
   where
     reads : Reads s t next → Sound next.opens next.hidden
-    reads r = by (shown t.kind t.text r.rest s.hidden next.seen next.hidden r.shows)
+    reads r = by (shown t.kind t.text r.rest s.hidden next.seen next.hidden r.leaves)
       where
         by : Shown t.kind t.text r.rest s.hidden next.seen next.hidden → Sound next.opens next.hidden
         by (plain k e e') =

@@ -5,8 +5,9 @@ use Rattle.std.proofs.Common.{◌≡◌, ℕ, ◌+◌, ◌≤◌, Bool, true, fa
 use Rattle.std.proofs.lemmas.List.{take-append-drop}
 use Rattle.hcl_scan.specs.Lexemes.{Lexeme, Opener, Heredoc, marker_of, moved, in_heredoc, max_open}
 use Rattle.hcl_scan.specs.Spelling.{IsSpelling, context, Expression}
-use Rattle.hcl_scan.specs.Scans.{State, Hidden, hides, is_dot, gap_len, offsets_of, owed, begin, skip_blanks, ends_line, closer_len, IsLongest, IsFirstMarkerLine, Shows, Reads, Closes, Run, Scans, IsComplete}
-use Rattle.hcl_scan.specs.Regapped.{tokens_of, text_of, placed, AllFit}
+use Rattle.hcl_scan.specs.Kinds.{is_dot}
+use Rattle.hcl_scan.specs.Scans.{State, Hidden, hides, gap_len, offsets_of, owed, begin, skip_blanks, at_line_end, closer_len, IsLongest, IsFirstMarkerLine, Leaves, Reads, Closes, Run, Scans, IsComplete}
+use Rattle.hcl_scan.specs.Regapped.{without_gaps, text_with_gaps, placed, AllFit}
 use Rattle.hcl_scan.specs.declared.token.Kind.{Kind}
 use Rattle.hcl_scan.specs.declared.token.Kind.TheVariants.{Newline}
 use Rattle.hcl_scan.proofs.BooleanLemmas.{and_true}
@@ -25,18 +26,18 @@ behind (h ∷ hs) z = h.closer ++ (h.after ++ behind hs z)
 
 -- where the texts are read again, outside of heredocs and inside
 abbrev Outside : List (ℕ × Lexeme) → Type 0
-Outside ps = (s end : State) (dot : Bool) (before : Kind) (at : ℕ) (offsets : List ℕ) → Run s (tokens_of ps) end → IsComplete end → s.hidden ≡ [] → Sound s.opens s.hidden → s.after_dot ≡ is_dot before → AllFit dot before ps →
-    Again (record { at = at; opens = s.opens; offsets = offsets; after_dot = s.after_dot; seen = text_of ps; hidden = [] }) (placed at ps)
+Outside ps = (s end : State) (dot : Bool) (before : Kind) (at : ℕ) (offsets : List ℕ) → Run s (without_gaps ps) end → IsComplete end → s.hidden ≡ [] → Sound s.opens s.hidden → s.after_dot ≡ is_dot before → AllFit dot before ps →
+    Again (record { at = at; opens = s.opens; offsets = offsets; after_dot = s.after_dot; seen = text_with_gaps ps; hidden = [] }) (placed at ps)
 
 -- what the text holds behind the outermost heredoc
 pub record Within (s : State) (hs : List Hidden) (last : Hidden) (ps : List (ℕ × Lexeme)) (at : ℕ) (offsets : List ℕ) : Type 0 where
   pub after : List ℕ
-  pub whole : text_of ps ≡ s.seen ++ behind hs (last.closer ++ after)
-  pub ends : ends_line (skip_blanks after) ≡ true
+  pub whole : text_with_gaps ps ≡ s.seen ++ behind hs (last.closer ++ after)
+  pub ends : at_line_end (skip_blanks after) ≡ true
   pub again : Again (record { at = at; opens = s.opens; offsets = offsets; after_dot = s.after_dot; seen = s.seen; hidden = hs ++ record { closer = last.closer; after = after } ∷ [] }) (placed at ps)
 
 abbrev Inside : List (ℕ × Lexeme) → Type 0
-Inside ps = (s end : State) (dot : Bool) (before : Kind) (at : ℕ) (offsets : List ℕ) (hs : List Hidden) (last : Hidden) → Run s (tokens_of ps) end → IsComplete end → s.hidden ≡ hs ++ last ∷ [] → Sound s.opens s.hidden → ends_line (skip_blanks last.after) ≡ true → s.after_dot ≡ is_dot before → AllFit dot before ps →
+Inside ps = (s end : State) (dot : Bool) (before : Kind) (at : ℕ) (offsets : List ℕ) (hs : List Hidden) (last : Hidden) → Run s (without_gaps ps) end → IsComplete end → s.hidden ≡ hs ++ last ∷ [] → Sound s.opens s.hidden → at_line_end (skip_blanks last.after) ≡ true → s.after_dot ≡ is_dot before → AllFit dot before ps →
     Within s hs last ps at offsets
 
 -- what a gap of no blanks leaves
@@ -90,7 +91,7 @@ module _ (p : ℕ × Lexeme) (ps : List (ℕ × Lexeme)) (outside : Outside ps) 
       t = p.1
 
       goal : Type 0
-      goal = Again (record { at = at; opens = s.opens; offsets = offsets; after_dot = s.after_dot; seen = text_of (p ∷ ps); hidden = [] }) (placed at (p ∷ ps))
+      goal = Again (record { at = at; opens = s.opens; offsets = offsets; after_dot = s.after_dot; seen = text_with_gaps (p ∷ ps); hidden = [] }) (placed at (p ∷ ps))
 
       none : in_heredoc s.opens ≡ false
       none = no_heredoc s.opens (sound.counted ∙ ap length no_hidden)
@@ -102,7 +103,7 @@ module _ (p : ℕ × Lexeme) (ps : List (ℕ × Lexeme)) (outside : Outside ps) 
       closes c = let e : in_heredoc s.opens ≡ true = ap in_heredoc c.top in absurd (cc)
 
       reads : Reads s t next → goal
-      reads r = by (shown t.kind t.text r.rest s.hidden next.seen next.hidden r.shows)
+      reads r = by (shown t.kind t.text r.rest s.hidden next.seen next.hidden r.leaves)
         where
           at' : ℕ
           at' = at + p.0 + length t.text
@@ -111,39 +112,39 @@ module _ (p : ℕ × Lexeme) (ps : List (ℕ × Lexeme)) (outside : Outside ps) 
           offsets' = offsets_of (at + p.0) s.opens (moved t.kind s.opens) offsets
 
           seen : List ℕ
-          seen = text_of (p ∷ ps)
+          seen = text_with_gaps (p ∷ ps)
 
-          longest : IsLongest s.opens s.after_dot (drop p.0 seen) t.kind t.text (text_of ps)
-          longest = subst (λ l. IsLongest s.opens s.after_dot l t.kind t.text (text_of ps)) (sym (drop_blanks p.0 (t.text ++ text_of ps)))
+          longest : IsLongest s.opens s.after_dot (drop p.0 seen) t.kind t.text (text_with_gaps ps)
+          longest = subst (λ l. IsLongest s.opens s.after_dot l t.kind t.text (text_with_gaps ps)) (sym (drop_blanks p.0 (t.text ++ text_with_gaps ps)))
               (follows s t next end ps r none run.2 done (subst (λ d. AllFit d t.kind ps) (sym dot_is) parts.1))
 
           room : length (moved t.kind s.opens) ≤ max_open
           room = subst (λ (o : List Opener). length o ≤ max_open) r.opens r.room
 
-          push : (seen' : List ℕ) (hidden' : List Hidden) → Shows t.kind t.text (text_of ps) [] seen' hidden' → Again (record { at = at'; opens = next.opens; offsets = offsets'; after_dot = next.after_dot; seen = seen'; hidden = hidden' }) (placed at' ps) → goal
-          push seen' hidden' shows again = push_reads at s.opens offsets s.after_dot seen [] p.0 t (text_of ps) seen' hidden' (placed at' ps)
-              (gaps s t next dot before p.0 (text_of ps) r none parts.0) longest r.inside room shows
+          push : (seen' : List ℕ) (hidden' : List Hidden) → Leaves t.kind t.text (text_with_gaps ps) [] seen' hidden' → Again (record { at = at'; opens = next.opens; offsets = offsets'; after_dot = next.after_dot; seen = seen'; hidden = hidden' }) (placed at' ps) → goal
+          push seen' hidden' shows again = push_reads at s.opens offsets s.after_dot seen [] p.0 t (text_with_gaps ps) seen' hidden' (placed at' ps)
+              (gaps s t next dot before p.0 (text_with_gaps ps) r none parts.0) longest r.inside room shows
               (subst (λ (z : List Opener × Bool). Again (record { at = at'; opens = z.0; offsets = offsets'; after_dot = z.1; seen = seen'; hidden = hidden' }) (placed at' ps)) (λ i. (r.opens i, r.after_dot i)) again)
 
           by : Shown t.kind t.text r.rest s.hidden next.seen next.hidden → goal
-          by (plain k e e') = push (text_of ps) [] (plain_shows t.kind t.text (text_of ps) [] k)
+          by (plain k e e') = push (text_with_gaps ps) [] (plain_shows t.kind t.text (text_with_gaps ps) [] k)
               (outside next end (is_dot before) t.kind at' offsets' run.2 done (e' ∙ no_hidden) sound' r.after_dot parts.1)
           by (opening k n first e e') =
               let h : Hidden = hides (marker_of t.text) (drop n r.rest) in
               let w = inside next end (is_dot before) t.kind at' offsets' [] h run.2 done (e' ∙ ap (λ l. h ∷ l) no_hidden) sound' (and_true _ _ first.here.marked).1 r.after_dot parts.1 in
               let m = marker_line_stays s.opens s.after_dot t.text r.rest w.after n (subst (λ (z : Kind). IsSpelling s.opens s.after_dot z t.text r.rest) k r.longest.spelled) first w.ends in
-              let z_is : take n r.rest ++ (h.closer ++ w.after) ≡ text_of ps = sym (w.whole ∙ ap (λ l. l ++ (h.closer ++ w.after)) e) in
+              let z_is : take n r.rest ++ (h.closer ++ w.after) ≡ text_with_gaps ps = sym (w.whole ∙ ap (λ l. l ++ (h.closer ++ w.after)) e) in
               let first' = subst (λ l. IsFirstMarkerLine (marker_of t.text) l n) z_is m.0 in
-              let seen_is : next.seen ≡ take n (text_of ps) = e ∙ sym m.1 ∙ ap (take n) z_is in
-              let hidden_is : record { closer = h.closer; after = w.after } ≡ hides (marker_of t.text) (drop n (text_of ps)) = sym m.2 ∙ ap (λ l. hides (marker_of t.text) (drop n l)) z_is in
-              push next.seen (record { closer = h.closer; after = w.after } ∷ []) (open_shows t.kind t.text (text_of ps) [] _ _ k n first' seen_is (ap (λ (x : Hidden). x ∷ []) hidden_is)) w.again
+              let seen_is : next.seen ≡ take n (text_with_gaps ps) = e ∙ sym m.1 ∙ ap (take n) z_is in
+              let hidden_is : record { closer = h.closer; after = w.after } ≡ hides (marker_of t.text) (drop n (text_with_gaps ps)) = sym m.2 ∙ ap (λ l. hides (marker_of t.text) (drop n l)) z_is in
+              push next.seen (record { closer = h.closer; after = w.after } ∷ []) (open_shows t.kind t.text (text_with_gaps ps) [] _ _ k n first' seen_is (ap (λ (x : Hidden). x ∷ []) hidden_is)) w.again
 
-  module _ (s end : State) (dot : Bool) (before : Kind) (at : ℕ) (offsets : List ℕ) (last : Hidden) (run : Run s (tokens_of (p ∷ ps)) end) (done : IsComplete end) (sound : Sound s.opens s.hidden) (ends : ends_line (skip_blanks last.after) ≡ true) (parts : AllFit dot before (p ∷ ps)) where
+  module _ (s end : State) (dot : Bool) (before : Kind) (at : ℕ) (offsets : List ℕ) (last : Hidden) (run : Run s (without_gaps (p ∷ ps)) end) (done : IsComplete end) (sound : Sound s.opens s.hidden) (ends : at_line_end (skip_blanks last.after) ≡ true) (parts : AllFit dot before (p ∷ ps)) where
     abbrev at' : ℕ
     at' = at + p.0 + length p.1.text
 
     inside_reads : (hs : List Hidden) → s.hidden ≡ hs ++ last ∷ [] → Sound run.0.opens run.0.hidden → Reads s p.1 run.0 → Within s hs last (p ∷ ps) at offsets
-    inside_reads hs hidden sound' r = by (shown t.kind t.text r.rest s.hidden next.seen next.hidden r.shows)
+    inside_reads hs hidden sound' r = by (shown t.kind t.text r.rest s.hidden next.seen next.hidden r.leaves)
       where
         next : State
         next = run.0
@@ -172,7 +173,7 @@ module _ (p : ℕ × Lexeme) (ps : List (ℕ × Lexeme)) (outside : Outside ps) 
         offsets' : List ℕ
         offsets' = offsets_of (at + p.0) s.opens (moved t.kind s.opens) offsets
 
-        push : (seen' : List ℕ) (hidden hidden' : List Hidden) → Shows t.kind t.text r.rest hidden seen' hidden' → Again (record { at = at'; opens = next.opens; offsets = offsets'; after_dot = next.after_dot; seen = seen'; hidden = hidden' }) (placed at' ps) → Again (record { at = at; opens = s.opens; offsets = offsets; after_dot = s.after_dot; seen = s.seen; hidden = hidden }) (placed at (p ∷ ps))
+        push : (seen' : List ℕ) (hidden hidden' : List Hidden) → Leaves t.kind t.text r.rest hidden seen' hidden' → Again (record { at = at'; opens = next.opens; offsets = offsets'; after_dot = next.after_dot; seen = seen'; hidden = hidden' }) (placed at' ps) → Again (record { at = at; opens = s.opens; offsets = offsets; after_dot = s.after_dot; seen = s.seen; hidden = hidden }) (placed at (p ∷ ps))
         push seen' hidden hidden' shows again = push_reads at s.opens offsets s.after_dot s.seen hidden p.0 t r.rest seen' hidden' (placed at' ps)
             (no_len ∙ sym gap) longest r.inside room shows
             (subst (λ (z : List Opener × Bool). Again (record { at = at'; opens = z.0; offsets = offsets'; after_dot = z.1; seen = seen'; hidden = hidden' }) (placed at' ps)) (λ i. (r.opens i, r.after_dot i)) again)
@@ -183,9 +184,9 @@ module _ (p : ℕ × Lexeme) (ps : List (ℕ × Lexeme)) (outside : Outside ps) 
             let h' : Hidden = record { closer = last.closer; after = w.after } in
             record {
               after = w.after;
-              whole = no_blanks p.0 (t.text ++ text_of ps) gap ∙ join_seen t.text (text_of ps) r.rest s.seen (behind hs (last.closer ++ w.after)) whole (w.whole ∙ ap (λ l. l ++ behind hs (last.closer ++ w.after)) e);
+              whole = no_blanks p.0 (t.text ++ text_with_gaps ps) gap ∙ join_seen t.text (text_with_gaps ps) r.rest s.seen (behind hs (last.closer ++ w.after)) whole (w.whole ∙ ap (λ l. l ++ behind hs (last.closer ++ w.after)) e);
               ends = w.ends;
-              again = push next.seen (hs ++ h' ∷ []) (hs ++ h' ∷ []) (subst (λ l. Shows t.kind t.text r.rest (hs ++ h' ∷ []) l (hs ++ h' ∷ [])) (sym e) (plain_shows t.kind t.text r.rest (hs ++ h' ∷ []) k)) w.again;
+              again = push next.seen (hs ++ h' ∷ []) (hs ++ h' ∷ []) (subst (λ l. Leaves t.kind t.text r.rest (hs ++ h' ∷ []) l (hs ++ h' ∷ [])) (sym e) (plain_shows t.kind t.text r.rest (hs ++ h' ∷ []) k)) w.again;
             }
         by (opening k n first e e') =
             let h : Hidden = hides (marker_of t.text) (drop n r.rest) in
@@ -194,7 +195,7 @@ module _ (p : ℕ × Lexeme) (ps : List (ℕ × Lexeme)) (outside : Outside ps) 
             let tail : List ℕ = behind hs (last.closer ++ w.after) in
             record {
               after = w.after;
-              whole = no_blanks p.0 (t.text ++ text_of ps) gap ∙ join_seen t.text (text_of ps) r.rest s.seen tail whole (w.whole ∙ ap (λ l. l ++ (h.closer ++ (h.after ++ tail))) e ∙ join_hidden (marker_of t.text) r.rest n tail);
+              whole = no_blanks p.0 (t.text ++ text_with_gaps ps) gap ∙ join_seen t.text (text_with_gaps ps) r.rest s.seen tail whole (w.whole ∙ ap (λ l. l ++ (h.closer ++ (h.after ++ tail))) e ∙ join_hidden (marker_of t.text) r.rest n tail);
               ends = w.ends;
               again = push next.seen (hs ++ h' ∷ []) (h ∷ (hs ++ h' ∷ [])) (open_shows t.kind t.text r.rest (hs ++ h' ∷ []) _ _ k n first e refl) w.again;
             }
@@ -203,8 +204,8 @@ module _ (p : ℕ × Lexeme) (ps : List (ℕ × Lexeme)) (outside : Outside ps) 
       abbrev next : State
       next = record { at = s.at + length p.1.text; opens = c.below; offsets = drop 1 s.offsets; after_dot = false; seen = c.rest; hidden = c.above }
 
-      run_on : Run next (tokens_of ps) end
-      run_on = subst (λ (z : State). Run z (tokens_of ps) end) c.next_is run.2
+      run_on : Run next (without_gaps ps) end
+      run_on = subst (λ (z : State). Run z (without_gaps ps) end) c.next_is run.2
 
       sound_on : Sound c.below c.above
       sound_on = subst (λ (z : State). Sound z.opens z.hidden) c.next_is sound'
@@ -226,12 +227,12 @@ module _ (p : ℕ × Lexeme) (ps : List (ℕ × Lexeme)) (outside : Outside ps) 
           let in_expression : context c.below ≡ Expression = expression_is (context c.below) (and_true _ _ grounded).0 in
           let outside_all : in_heredoc c.below ≡ false = no_heredoc c.below (sound_on.counted ∙ ap length above) in
           let again = outside next end (is_dot before) p.1.kind at' (drop 1 offsets) run_on done above sound_on not_dot parts.1 in
-          let pushed = push_closes at p.0 s.opens c.below offsets s.after_dot s.seen (text_of ps) [] p.1 (placed at' ps) c.top c.read no_gap_here c.kind c.inside again in
+          let pushed = push_closes at p.0 s.opens c.below offsets s.after_dot s.seen (text_with_gaps ps) [] p.1 (placed at' ps) c.top c.read no_gap_here c.kind c.inside again in
           record {
-            after = text_of ps;
-            whole = no_blanks p.0 (p.1.text ++ text_of ps) no_gap_here ∙ joined s.seen p.1.text last.closer c.read (sym closer) (text_of ps);
-            ends = lines next end ps in_expression outside_all (ap (λ l. ends_line (skip_blanks l)) (sym after) ∙ ends) run_on done;
-            again = subst (λ l. Again (record { at = at; opens = s.opens; offsets = offsets; after_dot = s.after_dot; seen = s.seen; hidden = record { closer = l; after = text_of ps } ∷ [] }) (placed at (p ∷ ps))) (sym closer) pushed;
+            after = text_with_gaps ps;
+            whole = no_blanks p.0 (p.1.text ++ text_with_gaps ps) no_gap_here ∙ joined s.seen p.1.text last.closer c.read (sym closer) (text_with_gaps ps);
+            ends = lines next end ps in_expression outside_all (ap (λ l. at_line_end (skip_blanks l)) (sym after) ∙ ends) run_on done;
+            again = subst (λ l. Again (record { at = at; opens = s.opens; offsets = offsets; after_dot = s.after_dot; seen = s.seen; hidden = record { closer = l; after = text_with_gaps ps } ∷ [] }) (placed at (p ∷ ps))) (sym closer) pushed;
           }
       inside_closes (h ∷ hs) hidden =
           let both : h ∷ (hs ++ last ∷ []) ≡ record { closer = p.1.text; after = c.rest } ∷ c.above = sym hidden ∙ c.line in
@@ -244,7 +245,7 @@ module _ (p : ℕ × Lexeme) (ps : List (ℕ × Lexeme)) (outside : Outside ps) 
           let pushed = push_closes at p.0 s.opens c.below offsets s.after_dot s.seen c.rest (hs ++ h' ∷ []) p.1 (placed at' ps) c.top c.read no_gap_here c.kind c.inside w.again in
           record {
             after = w.after;
-            whole = no_blanks p.0 (p.1.text ++ text_of ps) no_gap_here ∙ ap (λ l. p.1.text ++ l) w.whole ∙ ap (λ l. p.1.text ++ (l ++ tail)) (sym after) ∙ joined s.seen p.1.text h.closer c.read (sym closer) (h.after ++ tail);
+            whole = no_blanks p.0 (p.1.text ++ text_with_gaps ps) no_gap_here ∙ ap (λ l. p.1.text ++ l) w.whole ∙ ap (λ l. p.1.text ++ (l ++ tail)) (sym after) ∙ joined s.seen p.1.text h.closer c.read (sym closer) (h.after ++ tail);
             ends = w.ends;
             again = subst (λ (x : Hidden). Again (record { at = at; opens = s.opens; offsets = offsets; after_dot = s.after_dot; seen = s.seen; hidden = x ∷ (hs ++ h' ∷ []) }) (placed at (p ∷ ps))) (λ i. record { closer = sym closer i; after = sym after i }) pushed;
           }
@@ -260,5 +261,5 @@ both [] = (outside_end, inside_end)
 both (p ∷ ps) = let rec = both ps in (outside_step p ps rec.0 rec.1, inside_step p ps rec.0 rec.1)
 
 -- THE LAW
-pub other_gaps : (text : List ℕ) (ps : List (ℕ × Lexeme)) → Scans text (tokens_of ps) → AllFit false Newline ps → Scans (text_of ps) (placed 0 ps)
+pub other_gaps : (text : List ℕ) (ps : List (ℕ × Lexeme)) → Scans text (without_gaps ps) → AllFit false Newline ps → Scans (text_with_gaps ps) (placed 0 ps)
 other_gaps text ps scans parts = (both ps).0 (begin text) scans.0 false Newline 0 [] scans.1 scans.2 refl (record { counted = refl; grounded = refl }) refl parts

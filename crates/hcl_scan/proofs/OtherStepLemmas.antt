@@ -4,8 +4,9 @@ use Rattle.std.proofs.lemmas.Bool.Decides.{nat_tests}
 use Rattle.std.specs.List.{prefix_len}
 use Rattle.hcl_scan.specs.Lexemes.{Lexeme, Opener, Heredoc, moved, in_heredoc, max_open}
 use Rattle.hcl_scan.specs.Spelling.{is_blank, context, Context, Template, Expression}
-use Rattle.hcl_scan.specs.Scans.{State, Hidden, is_dot, gap_in, has_gaps_in, offsets_of, IsLongest, Shows, Run, IsComplete}
-use Rattle.hcl_scan.specs.Regapped.{is_template, touches, fits}
+use Rattle.hcl_scan.specs.Kinds.{is_dot}
+use Rattle.hcl_scan.specs.Scans.{State, Hidden, gap_in, has_gaps_in, offsets_of, IsLongest, Leaves, Run, IsComplete}
+use Rattle.hcl_scan.specs.Regapped.{is_template, touches, gap_fits}
 use Rattle.hcl_scan.specs.declared.token.Kind.{Kind}
 use Rattle.hcl_scan.specs.declared.token.Kind.TheVariants.{HeredocClose, LineComment}
 use Rattle.hcl_scan.proofs.BooleanLemmas.{or_true}
@@ -23,7 +24,7 @@ pub touching : (before : Kind) (t : Lexeme) → t.inside_heredoc ≡ true → to
 touching LineComment t h = refl
 touching _ t h = ap (λ b. is_template t.kind || b) h ∙ or_true (is_template t.kind)
 
-pub no_gap : (dot : Bool) (before : Kind) (t : Lexeme) (gap : ℕ) → t.inside_heredoc ≡ true → IsTrue (fits dot before t gap) → gap ≡ 0
+pub no_gap : (dot : Bool) (before : Kind) (t : Lexeme) (gap : ℕ) → t.inside_heredoc ≡ true → IsTrue (gap_fits dot before t gap) → gap ≡ 0
 no_gap dot before t gap h k = zero_gap (touches before t) gap _ (touching before t h) k
 
 no_gaps_in : (c : Context) (inside : Bool) (n : ℕ) → inside ≡ true → cond (has_gaps_in c inside) n 0 ≡ 0
@@ -46,7 +47,7 @@ module _ (at : ℕ) (opens : List Opener) (offsets : List ℕ) (dot : Bool) (see
   abbrev pub went : State
   went = record { at = at + gap + length t.text; opens = moved t.kind opens; offsets = offsets_of (at + gap) opens (moved t.kind opens) offsets; after_dot = is_dot t.kind; seen = seen'; hidden = hidden' }
 
-  pub push_reads : (ts : List Lexeme) → gap_in opens seen ≡ gap → IsLongest opens dot (drop gap seen) t.kind t.text rest → t.inside_heredoc ≡ in_heredoc opens → length (moved t.kind opens) ≤ max_open → Shows t.kind t.text rest hidden seen' hidden' → Again went ts → Again (record { at = at; opens = opens; offsets = offsets; after_dot = dot; seen = seen; hidden = hidden }) (moved_on t (at + gap) ∷ ts)
+  pub push_reads : (ts : List Lexeme) → gap_in opens seen ≡ gap → IsLongest opens dot (drop gap seen) t.kind t.text rest → t.inside_heredoc ≡ in_heredoc opens → length (moved t.kind opens) ≤ max_open → Leaves t.kind t.text rest hidden seen' hidden' → Again went ts → Again (record { at = at; opens = opens; offsets = offsets; after_dot = dot; seen = seen; hidden = hidden }) (moved_on t (at + gap) ∷ ts)
   push_reads ts gap_is longest inside room shows again = (
     again.0,
     (
@@ -61,7 +62,7 @@ module _ (at : ℕ) (opens : List Opener) (offsets : List ℕ) (dot : Bool) (see
         offsets = refl;
         room = room;
         after_dot = refl;
-        shows = shows;
+        leaves = shows;
       }),
       again.1,
     ),

@@ -32,12 +32,12 @@ each_mark P [] text kind all is = absurd is
 each_mark P (m ∷ ms) text kind all (inl is) = subst (P text) is.1 (subst (λ t. P t m.1) is.0 all.0)
 each_mark P (m ∷ ms) text kind all (inr is) = each_mark P ms text kind all.1 is
 
-none : (n : ℕ) → nat_lt n 0 ≡ true → ⊥
-none n h = grind (arith, nat_tests)
+none_below_zero : (n : ℕ) → nat_lt n 0 ≡ true → ⊥
+none_below_zero n h = grind (arith, nat_tests)
 
 -- the mark at a place in a table, given as a number
 at_place : (ms : List (List ℕ × Kind)) (n : ℕ) (other : List ℕ × Kind) → nat_lt n (length ms) ≡ true → IsPunctuation ms (get_or ms n other).0 (get_or ms n other).1
-at_place [] n other h = absurd (none n h)
+at_place [] n other h = absurd (none_below_zero n h)
 at_place (m ∷ ms) zero other h = inl (refl, refl)
 at_place (m ∷ ms) (suc n) other h = inr (at_place ms n other (below n (length ms) h))
   where

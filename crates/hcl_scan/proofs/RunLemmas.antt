@@ -4,7 +4,8 @@ use Rattle.std.proofs.lemmas.Bool.{cases_order}
 use Rattle.std.proofs.Math.Seq.{take-append_seam, drop-append_seam}
 use Rattle.hcl_scan.specs.Lexemes.{Lexeme, Opener, marker_of, moved, opened, max_open}
 use Rattle.hcl_scan.specs.Spelling.{IsSpelling}
-use Rattle.hcl_scan.specs.Scans.{State, Hidden, hides, is_dot, gap_len, offsets_of, owed, begin, ahead, IsLongest, IsFirstMarkerLine, Shows, Reads, Closes, Next, Run, Scans, IsComplete}
+use Rattle.hcl_scan.specs.Kinds.{is_dot}
+use Rattle.hcl_scan.specs.Scans.{State, Hidden, hides, gap_len, offsets_of, owed, begin, ahead, IsLongest, IsFirstMarkerLine, Leaves, Reads, Closes, Next, Run, Scans, IsComplete}
 use Rattle.hcl_scan.specs.Faults.{Lacks, at_end, no_token, too_deep, no_marker_line, end_fault, fault_offset, IsScanFault}
 use Rattle.hcl_source.specs.declared.fault.FaultKind.{FaultKind}
 use Rattle.hcl_scan.specs.declared.token.Kind.{Kind}
@@ -44,7 +45,7 @@ one_longest one opens dot seen kind other text text' rest rest' a b =
 first_is_one : (marker text : List ℕ) (n m : ℕ) → IsFirstMarkerLine marker text n → IsFirstMarkerLine marker text m → n ≡ m
 first_is_one marker text n m a b = ⊎_elim (λ e. e) (λ less. absurd (⊎_elim (λ lt. b.first n lt a.here) (λ gt. a.first m gt b.here) less)) (cases_order n m)
 
-one_shown : (kind : Kind) (text rest : List ℕ) (hidden : List Hidden) (seen seen' : List ℕ) (hidden' hidden'' : List Hidden) → Shows kind text rest hidden seen hidden' → Shows kind text rest hidden seen' hidden'' → (seen ≡ seen') × (hidden' ≡ hidden'')
+one_shown : (kind : Kind) (text rest : List ℕ) (hidden : List Hidden) (seen seen' : List ℕ) (hidden' hidden'' : List Hidden) → Leaves kind text rest hidden seen hidden' → Leaves kind text rest hidden seen' hidden'' → (seen ≡ seen') × (hidden' ≡ hidden'')
 one_shown HeredocOpen text rest hidden seen seen' hidden' hidden'' a b =
     let e = first_is_one (marker_of text) rest a.0 b.0 a.1 b.1 in
     (a.2 ∙ ap (λ n. take n rest) e ∙ sym b.2, a.3 ∙ ap (λ n. hides (marker_of text) (drop n rest) ∷ hidden) e ∙ sym b.3)
@@ -63,8 +64,8 @@ one_reads one s t u a b x y =
     let opens : a.opens ≡ b.opens = x.opens ∙ ap (λ (z : Lexeme). moved z.kind s.opens) token ∙ sym y.opens in
     let offsets : a.offsets ≡ b.offsets = x.offsets ∙ (λ i. offsets_of (starts_at i) s.opens (opens i) s.offsets) ∙ sym y.offsets in
     let dot : a.after_dot ≡ b.after_dot = x.after_dot ∙ ap (λ (z : Lexeme). is_dot z.kind) token ∙ sym y.after_dot in
-    let there : Shows u.kind u.text y.rest s.hidden a.seen a.hidden = subst (λ (p : Kind × List ℕ × List ℕ). Shows p.0 p.1 p.2 s.hidden a.seen a.hidden) (λ i. (same.kind_is i, same.text_is i, same.rest_is i)) x.shows in
-    let shown = one_shown u.kind u.text y.rest s.hidden a.seen b.seen a.hidden b.hidden there y.shows in
+    let there : Leaves u.kind u.text y.rest s.hidden a.seen a.hidden = subst (λ (p : Kind × List ℕ × List ℕ). Leaves p.0 p.1 p.2 s.hidden a.seen a.hidden) (λ i. (same.kind_is i, same.text_is i, same.rest_is i)) x.leaves in
+    let shown = one_shown u.kind u.text y.rest s.hidden a.seen b.seen a.hidden b.hidden there y.leaves in
     (token, λ i. record { at = at i; opens = opens i; offsets = offsets i; after_dot = dot i; seen = shown.0 i; hidden = shown.1 i })
 
 abbrev closer_in : List Hidden → List ℕ

@@ -1,17 +1,17 @@
 -- The scan as a whole: a run grows by the tokens read, and where it ends in a fault this is the fault of the text.
 use Rattle.std.proofs.Common.{◌≡◌, ℕ, List, [], ◌∷◌, ◌++◌, length, Option, Some, None, sym, ap, subst, ◌∙◌, arith}
 use Rattle.std.specs.Prelude.{All, MatchOption}
-use Rattle.std.specs.Str.{IsCharBoundary}
 use Rattle.std.proofs.lemmas.List.{map_push}
 use Rattle.std.proofs.lemmas.List.Elements.{All-push}
 use Rattle.hcl_scan.specs.Lexemes.{Lexeme}
 use Rattle.hcl_scan.specs.Scans.{Run, Next, Scans, IsComplete, begin}
 use Rattle.hcl_scan.specs.Faults.{IsScanFault}
 use Rattle.hcl_scan.specs.Inner.Scanners.{state_of, lexeme_of, lexemes_of, IsEntry, IsStopped, Moves}
+use Rattle.hcl_source.specs.declared.fault.FaultKind.{FaultKind}
 use Rattle.hcl_scan.specs.declared.token.Entry.{Entry}
 use Rattle.hcl_scan.specs.declared.scanner.Scanner.{Scanner}
 use Rattle.hcl_scan.specs.declared.scanner.Stopped.{Stopped}
-use Rattle.hcl_scan.proofs.RunLemmas.{OneKind, Nonempty, no_fault}
+use Rattle.hcl_scan.proofs.RunLemmas.{no_fault}
 use Rattle.hcl_scan.proofs.AllContextLemmas.{one_kind, nonempty, lacks_stuck, Run-push}
 use Rattle.hcl_scan.proofs.ExpressionLawLemmas.{one_expression, some_expression}
 
@@ -44,26 +44,17 @@ module _ (text : List ℕ) (es new : List Entry) (s next : Scanner) (e : Entry) 
   pub less_left : length next.text.now ≡ length s.text.now
   less_left = ap (λ t. length t.now) moved.same_text
 
--- it is the fault of the text, which has no tokens
-pub record IsFaultOf (text : List ℕ) (fault : Stopped) : Type 0 where
-  pub scan_fault : IsScanFault text fault.kind fault.at
-  pub none : (ts : List Lexeme) → ¬ Scans text ts
-  pub boundary : IsCharBoundary text fault.at
+-- it is the fault of the text
+pub scan_fault : (text : List ℕ) (ts : List Lexeme) (s : Scanner) (fault : Stopped) → s.text.now ≡ text → Run (begin text) ts (state_of s) → IsStopped s fault → IsScanFault text fault.kind fault.at
+scan_fault text ts s fault same run stopped = record {
+  tokens = ts;
+  end = state_of s;
+  read = run;
+  longest = lacks_stuck (one_kind one_expression) (nonempty some_expression) (state_of s) fault.kind stopped.lacks;
+  lacks = stopped.lacks;
+  at_is = stopped.at;
+}
 
-pub fault_of : (text : List ℕ) (ts : List Lexeme) (s : Scanner) (fault : Stopped) → s.text.now ≡ text → Run (begin text) ts (state_of s) → IsStopped s fault → IsFaultOf text fault
-fault_of text ts s fault same run stopped =
-    let one : OneKind = one_kind one_expression in
-    let some : Nonempty = nonempty some_expression in
-    let scan_fault : IsScanFault text fault.kind fault.at = record {
-      tokens = ts;
-      end = state_of s;
-      read = run;
-      longest = lacks_stuck one some (state_of s) fault.kind stopped.lacks;
-      lacks = stopped.lacks;
-      at_is = stopped.at;
-    } in
-    record {
-      scan_fault = scan_fault;
-      none = λ us scans. no_fault one some text us fault.kind fault.at scans scan_fault;
-      boundary = subst (λ t. IsCharBoundary t fault.at) same stopped.boundary;
-    }
+-- a text with a fault has no tokens
+pub no_tokens : (text : List ℕ) (kind : FaultKind) (at : ℕ) → IsScanFault text kind at → (ts : List Lexeme) → ¬ Scans text ts
+no_tokens text kind at fault ts scans = no_fault (one_kind one_expression) (nonempty some_expression) text ts kind at scans fault

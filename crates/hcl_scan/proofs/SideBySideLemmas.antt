@@ -2,7 +2,7 @@
 use Rattle.std.proofs.Common.{◌≡◌, ℕ, ◌<◌, ◌||◌, ◌==◌, Bool, true, false, cond, List, [], ◌∷◌, ◌++◌, length, drop, get_or, inl, inr, refl, sym, ap, subst, ◌∙◌, arith, length-append}
 use Rattle.hcl_scan.specs.Lexemes.{Lexeme, Opener, Quote, Heredoc, Sequence, Brace, Bracket, Paren, in_heredoc, moved, pop_if, below_groups, is_paren, is_bracket, is_brace}
 use Rattle.hcl_scan.specs.Spelling.{IsExpressionText, context, Template, Expression}
-use Rattle.hcl_scan.specs.Scans.{State, ahead, begin, IsLongest, Shows, Reads, Closes, Next, Run, Scans}
+use Rattle.hcl_scan.specs.Scans.{State, ahead, begin, IsLongest, Leaves, Reads, Closes, Next, Run, Scans}
 use Rattle.hcl_scan.specs.Inner.Leads.{lead_of}
 use Rattle.hcl_scan.specs.declared.expression.Lead.TheVariants.{LineEnd}
 use Rattle.hcl_scan.specs.declared.token.Kind.{Kind}
@@ -41,12 +41,12 @@ below_context (Sequence ∷ os) e g = e
 below_context (Brace ∷ os) e g = e
 
 -- where a token of an expression leads
-data Leads (kind : Kind) (opens : List Opener) : Type 0 where
-  on : opens_template kind ≡ true → Leads kind opens
-  into : in_heredoc (moved kind opens) ≡ true → Leads kind opens
-  stay : context (moved kind opens) ≡ Expression → Leads kind opens
+data LeadsTo (kind : Kind) (opens : List Opener) : Type 0 where
+  on : opens_template kind ≡ true → LeadsTo kind opens
+  into : in_heredoc (moved kind opens) ≡ true → LeadsTo kind opens
+  stay : context (moved kind opens) ≡ Expression → LeadsTo kind opens
 
-leads_on : (kind : Kind) (opens : List Opener) → context opens ≡ Expression → is_grounded opens ≡ true → in_expressions kind ≡ true → Leads kind opens
+leads_on : (kind : Kind) (opens : List Opener) → context opens ≡ Expression → is_grounded opens ≡ true → in_expressions kind ≡ true → LeadsTo kind opens
 leads_on QuoteOpen opens e g k = on refl
 leads_on SeqClose opens e g k = on refl
 leads_on HeredocOpen opens e g k = into refl
@@ -75,7 +75,7 @@ quote_leaves (Paren ∷ os) e g = absurd (not_both Expression true refl e)
 template_after : (opens : List Opener) (dot : Bool) (kind : Kind) (text rest : List ℕ) → is_grounded opens ≡ true → Side opens dot kind text rest → in_heredoc (moved kind opens) ≡ false → (quoted : Bool) → context (moved kind opens) ≡ Template quoted → opens_template kind ≡ true
 template_after opens dot kind text rest g (expression e k h) plain quoted c = by (leads_on kind opens e g k)
   where
-    by : Leads kind opens → opens_template kind ≡ true
+    by : LeadsTo kind opens → opens_template kind ≡ true
     by (on x) = x
     by (into x) = absurd (cc)
     by (stay x) = absurd (not_both (context (moved kind opens)) quoted x c)
@@ -142,7 +142,7 @@ module _ (before : Kind) (s : State) (t : Lexeme) (next : State) (stood : Stood 
         let longest : IsLongest s.opens s.after_dot (t.text ++ r.rest) LineComment t.text r.rest = subst (λ (z : Kind). IsLongest s.opens s.after_dot (t.text ++ r.rest) z t.text r.rest) k (subst (λ l. IsLongest s.opens s.after_dot l t.kind t.text r.rest) (sym r.longest.whole) r.longest) in
         let spelled = comment_spelled s.opens s.after_dot t.text r.rest (side s.opens s.after_dot LineComment t.text r.rest longest.spelled) in
         let same : next.opens ≡ s.opens = r.opens ∙ ap (λ (z : Kind). moved z s.opens) k in
-        let seen_is : next.seen ≡ r.rest = (subst (λ (z : Kind). Shows z t.text r.rest s.hidden next.seen next.hidden) k r.shows).0 in
+        let seen_is : next.seen ≡ r.rest = (subst (λ (z : Kind). Leaves z t.text r.rest s.hidden next.seen next.hidden) k r.leaves).0 in
         (ap context same ∙ spelled.0, ap ends_comment seen_is ∙ comment_ends s.opens s.after_dot t.text r.rest spelled.0 spelled.1 longest);
     template = λ plain quoted c. template_after s.opens s.after_dot t.kind t.text r.rest stood.sound.grounded (side s.opens s.after_dot t.kind t.text r.rest r.longest.spelled)
         (ap in_heredoc (sym r.opens) ∙ plain) quoted (ap context (sym r.opens) ∙ c);

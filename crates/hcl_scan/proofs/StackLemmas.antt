@@ -1,5 +1,5 @@
 -- The scanner's stack against what is open.
-use Rattle.std.proofs.Common.{◌≡◌, ◌≢◌, ℕ, suc, ◌+◌, ◌-◌, ◌<◌, ◌≤◌, ◌||◌, Bool, true, false, IsTrue, List, [], ◌∷◌, length, drop, if◌then◌else◌, Some, None, refl, sym, ap, subst, ◌∙◌, arith, nat_lt}
+use Rattle.std.proofs.Common.{◌≡◌, ◌≢◌, ℕ, suc, ◌+◌, ◌-◌, ◌<◌, ◌≤◌, ◌||◌, Bool, true, false, IsTrue, List, [], ◌∷◌, length, drop, length-drop, if◌then◌else◌, Some, None, refl, sym, ap, subst, ◌∙◌, arith, nat_lt}
 use Rattle.std.proofs.lemmas.List.{length-map, drop-map, drop-drop}
 use Rattle.std.proofs.lemmas.Bool.Decides.{nat_tests}
 use Rattle.hcl_scan.specs.Lexemes.{Opener, Quote, Heredoc, Sequence, Brace, Bracket, Paren, is_heredoc, is_group, is_paren, is_bracket, is_brace, is_sequence, in_heredoc, below_groups, closes_sequence, pop_if, tops_with, moved}
@@ -173,22 +173,111 @@ is_brace_same Sequence = refl
 is_brace_same Brace = refl
 is_brace_same Bracket = refl
 
--- a kind that opens nothing and isn't a heredoc's close
-pub closed_is : (kind : Kind) (stack : List Opened) → opened_by kind ≡ None → kind ≢ HeredocOpen → kind ≢ HeredocClose → openers_of (closed kind stack) ≡ moved kind (openers_of stack)
-closed_is ParenClose stack none no_open no_close = popped_is is_paren Paren is_paren_same stack
-closed_is BracketClose stack none no_open no_close = popped_is is_bracket Bracket is_bracket_same stack
-closed_is BraceClose stack none no_open no_close = popped_is is_brace Brace is_brace_same (popped_groups stack) ∙ ap (pop_if is_brace) (groups_are stack)
-closed_is SeqClose stack none no_open no_close = top_is_drop (popped_groups stack) ∙ ap (drop 1) (groups_are stack)
-closed_is QuoteClose stack none no_open no_close = top_is_drop stack
-closed_is HeredocOpen stack none no_open no_close = absurd (no_open refl)
-closed_is HeredocClose stack none no_open no_close = absurd (no_close refl)
-closed_is QuoteOpen stack none no_open no_close = absurd (cc)
-closed_is InterpOpen stack none no_open no_close = absurd (cc)
-closed_is ControlOpen stack none no_open no_close = absurd (cc)
-closed_is ParenOpen stack none no_open no_close = absurd (cc)
-closed_is BracketOpen stack none no_open no_close = absurd (cc)
-closed_is BraceOpen stack none no_open no_close = absurd (cc)
-closed_is _ stack none no_open no_close = refl
+-- what is dropped for a kind, opener by opener, as the code does it
+abbrev pub dropped : Kind → List Opened → List Opened
+dropped ParenClose stack = popped_if Paren stack
+dropped BracketClose stack = popped_if Bracket stack
+dropped BraceClose stack = popped_if Brace (popped_groups stack)
+dropped SeqClose stack = drop 1 (popped_groups stack)
+dropped QuoteClose stack = drop 1 stack
+dropped HeredocClose stack = drop 1 stack
+dropped _ stack = stack
+
+-- of a kind that opens nothing
+pub dropped_is : (kind : Kind) (stack : List Opened) → opened_by kind ≡ None → kind ≢ HeredocOpen → openers_of (dropped kind stack) ≡ moved kind (openers_of stack)
+dropped_is ParenClose stack none no_open = popped_is is_paren Paren is_paren_same stack
+dropped_is BracketClose stack none no_open = popped_is is_bracket Bracket is_bracket_same stack
+dropped_is BraceClose stack none no_open = popped_is is_brace Brace is_brace_same (popped_groups stack) ∙ ap (pop_if is_brace) (groups_are stack)
+dropped_is SeqClose stack none no_open = top_is_drop (popped_groups stack) ∙ ap (drop 1) (groups_are stack)
+dropped_is QuoteClose stack none no_open = top_is_drop stack
+dropped_is HeredocClose stack none no_open = top_is_drop stack
+dropped_is HeredocOpen stack none no_open = absurd (no_open refl)
+dropped_is QuoteOpen stack none no_open = absurd (cc)
+dropped_is InterpOpen stack none no_open = absurd (cc)
+dropped_is ControlOpen stack none no_open = absurd (cc)
+dropped_is ParenOpen stack none no_open = absurd (cc)
+dropped_is BracketOpen stack none no_open = absurd (cc)
+dropped_is BraceOpen stack none no_open = absurd (cc)
+dropped_is _ stack none no_open = refl
+
+-- so many are dropped from the top
+record IsBack (old new : List Opened) : Type 0 where
+  count : ℕ
+  within : count ≤ length old
+  is : new ≡ drop count old
+
+back_none : (stack : List Opened) → IsBack stack stack
+back_none stack = record { count = 0; within = omega arith; is = refl }
+
+back_one : (o : Opened) (stack new : List Opened) → IsBack stack new → IsBack (o ∷ stack) new
+back_one o stack new b = record { count = suc b.count; within = omega (arith, b.within); is = b.is }
+
+back_more : (old mid new : List Opened) → IsBack old mid → IsBack mid new → IsBack old new
+back_more old mid new x y = record {
+  count = x.count + y.count;
+  within = omega (arith, x.within, y.within, ap length x.is, length-drop x.count old);
+  is = y.is ∙ ap (drop y.count) x.is ∙ drop-drop y.count x.count old;
+}
+
+back_groups_if : (o : Opened) (stack : List Opened) (v : Bool) → IsBack stack (popped_groups stack) → IsBack (o ∷ stack) (if v then popped_groups stack else o ∷ stack)
+back_groups_if o stack true b = back_one o stack (popped_groups stack) b
+back_groups_if o stack false b = back_none (o ∷ stack)
+
+back_groups : (stack : List Opened) → IsBack stack (popped_groups stack)
+back_groups [] = back_none []
+back_groups (o ∷ stack) = back_groups_if o stack (is_group (opener_of o.by)) (back_groups stack)
+
+back_if_same : (o : Opened) (stack : List Opened) (v : Bool) → IsBack (o ∷ stack) (if v then stack else o ∷ stack)
+back_if_same o stack true = back_one o stack stack (back_none stack)
+back_if_same o stack false = back_none (o ∷ stack)
+
+back_if : (other : Opener) (stack : List Opened) → IsBack stack (popped_if other stack)
+back_if other [] = back_none []
+back_if other (o ∷ stack) = back_if_same o stack (same_opener (opener_of o.by) other)
+
+back_top : (stack : List Opened) → IsBack stack (drop 1 stack)
+back_top [] = back_none []
+back_top (o ∷ stack) = back_one o stack stack (back_none stack)
+
+-- how many are left tells which
+by_count : (old new : List Opened) (left : ℕ) → IsBack old new → length new ≡ left → new ≡ drop (length old - left) old
+by_count old new left b e =
+    let n : length old - left ≡ b.count = omega (arith, b.within, e, ap length b.is, length-drop b.count old) in
+    b.is ∙ ap (λ k. drop k old) (sym n)
+
+module _ (stack : List Opened) where
+  -- by what is open behind it
+  leaves_open : (new : List Opened) (opens : List Opener) → IsBack stack new → openers_of new ≡ opens → new ≡ drop (length stack - length opens) stack
+  leaves_open new opens b e = by_count stack new (length opens) b (sym (length-map new (λ (o : Opened). opener_of o.by)) ∙ ap length e)
+
+  -- what opens drops nothing
+  opens_more : (opener : Opener) → stack ≡ drop (length stack - length (opener ∷ openers_of stack)) stack
+  opens_more opener =
+      let n : length stack - length (opener ∷ openers_of stack) ≡ 0 = omega (arith, length-map stack (λ (o : Opened). opener_of o.by)) in
+      ap (λ k. drop k stack) (sym n)
+
+  pub dropped_so : (kind : Kind) → dropped kind stack ≡ closed kind stack
+  dropped_so ParenClose = leaves_open (dropped ParenClose stack) (moved ParenClose (openers_of stack)) (back_if Paren stack) (dropped_is ParenClose stack refl (λ k. cc))
+  dropped_so BracketClose = leaves_open (dropped BracketClose stack) (moved BracketClose (openers_of stack)) (back_if Bracket stack) (dropped_is BracketClose stack refl (λ k. cc))
+  dropped_so BraceClose =
+      leaves_open (dropped BraceClose stack) (moved BraceClose (openers_of stack)) (back_more stack (popped_groups stack) (dropped BraceClose stack) (back_groups stack) (back_if Brace (popped_groups stack)))
+      (dropped_is BraceClose stack refl (λ k. cc))
+  dropped_so SeqClose =
+      leaves_open (dropped SeqClose stack) (moved SeqClose (openers_of stack)) (back_more stack (popped_groups stack) (dropped SeqClose stack) (back_groups stack) (back_top (popped_groups stack)))
+      (dropped_is SeqClose stack refl (λ k. cc))
+  dropped_so QuoteClose = leaves_open (dropped QuoteClose stack) (moved QuoteClose (openers_of stack)) (back_top stack) (dropped_is QuoteClose stack refl (λ k. cc))
+  dropped_so HeredocClose = leaves_open (dropped HeredocClose stack) (moved HeredocClose (openers_of stack)) (back_top stack) (dropped_is HeredocClose stack refl (λ k. cc))
+  dropped_so HeredocOpen = opens_more Heredoc
+  dropped_so QuoteOpen = opens_more Quote
+  dropped_so InterpOpen = opens_more Sequence
+  dropped_so ControlOpen = opens_more Sequence
+  dropped_so ParenOpen = opens_more Paren
+  dropped_so BracketOpen = opens_more Bracket
+  dropped_so BraceOpen = opens_more Brace
+  dropped_so _ = leaves_open stack (openers_of stack) (back_none stack) refl
+
+pub closed_is : (kind : Kind) (stack : List Opened) → opened_by kind ≡ None → kind ≢ HeredocOpen → openers_of (closed kind stack) ≡ moved kind (openers_of stack)
+closed_is kind stack none no_open = ap openers_of (sym (dropped_so stack kind)) ∙ dropped_is kind stack none no_open
 
 sequence_plain : (opens : List Opener) → tops_with is_sequence opens ≡ true → tops_with is_heredoc opens ≡ false
 sequence_plain [] h = refl
@@ -220,13 +309,17 @@ pub record Closable (kind : Kind) (opens : List Opener) : Type 0 where
   pub sequence : kind ≡ SeqClose → closes_sequence opens ≡ true
   pub quote : kind ≡ QuoteClose → context opens ≡ Template true
 
-pub closed_drops : (kind : Kind) (stack : List Opened) → Closable kind (openers_of stack) → Drops stack (closed kind stack)
-closed_drops ParenClose stack h = drops_if Paren stack refl
-closed_drops BracketClose stack h = drops_if Bracket stack refl
-closed_drops BraceClose stack h = drops_more stack (popped_groups stack) (popped_if Brace (popped_groups stack)) (drops_groups stack) (drops_if Brace (popped_groups stack) refl)
-closed_drops SeqClose stack h = drops_more stack (popped_groups stack) (drop 1 (popped_groups stack)) (drops_groups stack) (drops_top (popped_groups stack) (ap (tops_with is_heredoc) (groups_are stack) ∙ sequence_plain (below_groups (openers_of stack)) (h.sequence refl)))
-closed_drops QuoteClose stack h = drops_top stack (quote_plain (openers_of stack) (h.quote refl))
-closed_drops _ stack h = drops_none stack
+dropped_drops : (kind : Kind) (stack : List Opened) → kind ≢ HeredocClose → Closable kind (openers_of stack) → Drops stack (dropped kind stack)
+dropped_drops ParenClose stack no_close h = drops_if Paren stack refl
+dropped_drops BracketClose stack no_close h = drops_if Bracket stack refl
+dropped_drops BraceClose stack no_close h = drops_more stack (popped_groups stack) (popped_if Brace (popped_groups stack)) (drops_groups stack) (drops_if Brace (popped_groups stack) refl)
+dropped_drops SeqClose stack no_close h = drops_more stack (popped_groups stack) (drop 1 (popped_groups stack)) (drops_groups stack) (drops_top (popped_groups stack) (ap (tops_with is_heredoc) (groups_are stack) ∙ sequence_plain (below_groups (openers_of stack)) (h.sequence refl)))
+dropped_drops QuoteClose stack no_close h = drops_top stack (quote_plain (openers_of stack) (h.quote refl))
+dropped_drops HeredocClose stack no_close h = absurd (no_close refl)
+dropped_drops _ stack no_close h = drops_none stack
+
+pub closed_drops : (kind : Kind) (stack : List Opened) → kind ≢ HeredocClose → Closable kind (openers_of stack) → Drops stack (closed kind stack)
+closed_drops kind stack no_close h = subst (λ (z : List Opened). Drops stack z) (dropped_so stack kind) (dropped_drops kind stack no_close h)
 
 -- offsets go with what is open
 offsets_by : (at a b k : ℕ) (offsets : List ℕ) → b + k ≡ a → drop k offsets ≡ (if nat_lt a b then at ∷ offsets else drop (a - b) offsets)

@@ -10,7 +10,8 @@ use Rattle.std.proofs.lemmas.List.Sums.{prefix_len-le-length}
 use Rattle.hcl_source.specs.Load.{max_source}
 use Rattle.hcl_scan.specs.Lexemes.{Opener, in_heredoc, moved, Heredoc, Quote, Sequence, Brace, Bracket, Paren, max_open}
 use Rattle.hcl_scan.specs.Spelling.{is_blank, Context, Template, Expression, context, context_in}
-use Rattle.hcl_scan.specs.Scans.{State, Hidden, Shows, IsLongest, gap_len, ahead, is_dot, offsets_of, owed, owes, has_gaps_in, HasNone}
+use Rattle.hcl_scan.specs.Kinds.{is_dot}
+use Rattle.hcl_scan.specs.Scans.{State, Hidden, Leaves, IsLongest, gap_len, ahead, offsets_of, owed, owes, has_gaps_in, HasNone}
 use Rattle.hcl_scan.specs.Faults.{no_token, at_end, no_token_fault, fault_offset, owed_offset, end_fault}
 use Rattle.hcl_scan.specs.Inner.Found.{Finds}
 use Rattle.hcl_scan.specs.Inner.Openings.{opener_of, openers_of, offsets_in, hidden_of, quoted_in, template_top, option_and, innermost_owed, opened_by, opened_on, closed, is_heredoc_open}
@@ -34,7 +35,7 @@ use Rattle.hcl_scan.proofs.KindPlaceLemmas.{no_close, closable, fits}
 pub ahead_is : (s : Scanner) (start : ℕ) → IsStart s start → slice_range s.text.now start s.end ≡ ahead (state_of s)
 ahead_is s start is = ap (λ n. slice_range s.text.now n s.end) is.gap ∙ back_of s.text.now s.at s.end (gap_len (state_of s)) (omega (arith, is.gap, is.within))
 
-plain_shows : (kind : Kind) (text rest : List ℕ) (hidden : List Hidden) → kind ≢ HeredocOpen → Shows kind text rest hidden rest hidden
+plain_shows : (kind : Kind) (text rest : List ℕ) (hidden : List Hidden) → kind ≢ HeredocOpen → Leaves kind text rest hidden rest hidden
 plain_shows HeredocOpen text rest hidden h = absurd (h refl)
 plain_shows _ text rest hidden h = (refl, refl)
 
@@ -60,7 +61,7 @@ module _ (s : Scanner) (e : Entry) (sound : IsSound s) (is : IsNext s e) where
       offsets = offsets_are;
       room = omega (arith, room, length-map stack (λ (o : Opened). opener_of o.by));
       after_dot = dot_is;
-      shows = subst (λ h. Shows e.kind (slice_range s.text.now e.start e.end) (slice_range s.text.now e.end s.end) (hidden_of s.text.now s.stack s.end) (slice_range s.text.now e.end s.end) h) (sym hidden_is) (plain_shows e.kind (slice_range s.text.now e.start e.end) (slice_range s.text.now e.end s.end) (hidden_of s.text.now s.stack s.end) kind_is);
+      leaves = subst (λ h. Leaves e.kind (slice_range s.text.now e.start e.end) (slice_range s.text.now e.end s.end) (hidden_of s.text.now s.stack s.end) (slice_range s.text.now e.end s.end) h) (sym hidden_is) (plain_shows e.kind (slice_range s.text.now e.start e.end) (slice_range s.text.now e.end s.end) (hidden_of s.text.now s.stack s.end) kind_is);
     });
     sound = record { small = sound.small; order = is.within; within = sound.within; start = is.boundary; end = sound.end; stack = stack_is; depth = room };
     further = omega (arith, is.start.gap, is.order);
@@ -73,8 +74,9 @@ module _ (s : Scanner) (e : Entry) (sound : IsSound s) (is : IsNext s e) where
   reads_plain stack dot dot_is plain no_heredoc stack_is =
       let kind_is : e.kind ≢ HeredocOpen = λ k. absurd (differ (sym (ap is_heredoc_open k) ∙ no_heredoc)) in
       let spelled = is.longest.spelled in
-      let d = closed_drops e.kind s.stack (closable (openers_of s.stack) s.after_dot (slice_range s.text.now e.start e.end) (slice_range s.text.now e.end s.end) e.kind spelled) in
-      let opens_are = closed_is e.kind s.stack plain kind_is (no_close (openers_of s.stack) s.after_dot (slice_range s.text.now e.start e.end) (slice_range s.text.now e.end s.end) e.kind spelled) in
+      let closes_none = no_close (openers_of s.stack) s.after_dot (slice_range s.text.now e.start e.end) (slice_range s.text.now e.end s.end) e.kind spelled in
+      let d = closed_drops e.kind s.stack closes_none (closable (openers_of s.stack) s.after_dot (slice_range s.text.now e.start e.end) (slice_range s.text.now e.end s.end) e.kind spelled) in
+      let opens_are = closed_is e.kind s.stack plain kind_is in
       subst (λ (z : List Opened). Moves s e (record { text = s.text; at = e.end; end = s.end; after_dot = dot; stack = z })) (sym stack_is)
       (moves (closed e.kind s.stack) dot dot_is kind_is opens_are (drops_offsets e.start s.stack (closed e.kind s.stack) d) (d.hidden s.text.now s.end) (d.stack s.text.now s.end sound.stack) (omega (arith, d.less, sound.depth)))
 

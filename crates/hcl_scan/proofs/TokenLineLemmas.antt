@@ -1,6 +1,6 @@
 -- The line of a token. What is still to come of a text is a gap, the token and the rest; a gap ends no line, so the
 -- lines that end before a token are those that end in the tokens before it.
-use Rattle.std.proofs.Common.{◌≡◌, ℕ, ◌+◌, ◌==◌, Bool, true, false, cond, List, [], ◌∷◌, ◌++◌, length, take, drop, inl, inr, refl, sym, ap, ◌∙◌, arith, length-append, append_assoc, append-nil}
+use Rattle.std.proofs.Common.{◌≡◌, ℕ, ◌+◌, ◌==◌, Bool, true, false, cond, List, [], ◌∷◌, ◌++◌, length, take, inl, inr, refl, sym, ap, ◌∙◌, arith, length-append, append_assoc, append-nil}
 use Rattle.std.specs.Prelude.{count_by}
 use Rattle.std.specs.List.{flat_map, list_all, prefix_len}
 use Rattle.std.proofs.Math.Seq.{take-append_seam}
@@ -77,7 +77,7 @@ reads_step s t next r = record {
     by (opening k n first e e') = ap (λ l. l ++ behind next.hidden []) e ∙ ap (λ h. take n r.rest ++ behind h []) e' ∙ join_hidden (marker_of t.text) r.rest n (behind s.hidden [])
 
     then : coming next ≡ r.rest ++ behind s.hidden []
-    then = by (shown t.kind t.text r.rest s.hidden next.seen next.hidden r.shows)
+    then = by (shown t.kind t.text r.rest s.hidden next.seen next.hidden r.leaves)
 
 closes_step : (s : State) (t : Lexeme) (next : State) → Closes s t next → Step s t next
 closes_step s t next c = record {

@@ -8,7 +8,7 @@ use Rattle.std.proofs.lemmas.List.{get_or-append-add}
 use Rattle.std.proofs.lemmas.Bool.Decides.{nat_tests}
 use Rattle.hcl_scan.specs.Lexemes.{Lexeme, Opener, in_heredoc, marker_of}
 use Rattle.hcl_scan.specs.Spelling.{IsTextIn, IsLiteral, context, Template, Expression, is_blank, are_elements, element_len, starts}
-use Rattle.hcl_scan.specs.Scans.{State, Hidden, hides, gap_in, has_gaps_in, ahead, begin, skip_blanks, ends_line, closer_len, IsLongest, IsFirstMarkerLine, Next, Run, Scans}
+use Rattle.hcl_scan.specs.Scans.{State, Hidden, hides, gap_in, has_gaps_in, ahead, begin, skip_blanks, at_line_end, closer_len, IsLongest, IsFirstMarkerLine, Next, Run, Scans}
 use Rattle.hcl_scan.specs.Neighbours.{ends_comment}
 use Rattle.hcl_scan.specs.SideBySide.{AreTexts}
 use Rattle.hcl_scan.specs.declared.token.Kind.{Kind}
@@ -126,12 +126,12 @@ hidden_clean marker rest n utf8 first =
     let line : List ℕ = drop n rest in
     let at = line_boundary marker rest n utf8 first.here in
     let utf8_line = IsUtf8-drop rest n utf8 at in
-    let ends = (and_true (starts (skip_blanks line) marker) (ends_line (skip_blanks (drop (closer_len marker line) line))) first.here.marked).1 in
+    let ends = (and_true (starts (skip_blanks line) marker) (at_line_end (skip_blanks (drop (closer_len marker line) line))) first.here.marked).1 in
     let cut = ascii_there line (closer_len marker line) (closer_within marker line first.here.marked) (after_marker (drop (closer_len marker line) line) ends) in
     (IsUtf8-take rest n utf8 at, IsUtf8-take line (closer_len marker line) utf8_line cut, IsUtf8-drop line (closer_len marker line) utf8_line cut)
 
 one_clean : (s : State) (t : Lexeme) (next : State) → Clean s → Next s t next → IsUtf8 t.text × Clean next
-one_clean s t next clean (inl r) = (text_utf8, by (shown t.kind t.text r.rest s.hidden next.seen next.hidden r.shows))
+one_clean s t next clean (inl r) = (text_utf8, by (shown t.kind t.text r.rest s.hidden next.seen next.hidden r.leaves))
   where
     front : IsUtf8 (ahead s)
     front = gap_cut s.opens s.seen clean.seen

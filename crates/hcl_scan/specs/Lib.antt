@@ -1,3 +1,4 @@
+pub mod Kinds
 pub mod Lexemes
 pub mod Spelling
 pub mod Scans

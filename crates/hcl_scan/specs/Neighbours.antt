@@ -4,7 +4,7 @@
 -- `neighbours`.
 use Rattle.std.specs.Prelude.{ℕ, ◌==◌, ◌||◌, ◌&&◌, not, Bool, true, false, List, [], ◌∷◌, nat_le, get_or, codes}
 use Rattle.std.specs.Char.{is_ascii_digit, is_ascii_alphanumeric}
-use Rattle.hcl_scan.specs.Scans.{is_dot}
+use Rattle.hcl_scan.specs.Kinds.{is_dot, is_number}
 use Rattle.hcl_scan.specs.Spelling.{starts}
 use Rattle.hcl_scan.specs.declared.token.Kind.{Kind}
 use Rattle.hcl_scan.specs.declared.token.Kind.TheVariants.{LineComment, Ident, Number, Dot, Colon, Assign, Not, Slash, Less, Greater, Lit, InterpOpen, ControlOpen}
@@ -34,10 +34,6 @@ grows InterpOpen b = b == 126
 grows ControlOpen b = b == 126
 -- all other marks, closers and comments are whole, whatever follows
 grows _ b = false
-
-abbrev pub is_number : Kind → Bool
-is_number Number = true
-is_number _ = false
 
 -- the next token may join the one before it, `after_dot` telling whether a Dot stands before that: a Dot may begin
 -- the fraction of a number that stands behind none (`1` and `.`, but not the second step of `l.0.1`)

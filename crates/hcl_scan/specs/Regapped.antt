@@ -1,20 +1,21 @@
 -- A text made of tokens and blanks: each token with the number of spaces before it, and which numbers leave the tokens
--- as they are. Nothing here knows why a blank is put. That the numbers leave them so is the law `other_gaps`.
+-- as they are. Nothing here knows why a blank is put. Our own words; that the numbers leave the tokens so is the law
+-- `other_gaps`.
 use Rattle.std.specs.Prelude.{ℕ, ◌+◌, ◌==◌, ◌||◌, not, Bool, true, false, IsTrue, List, [], ◌∷◌, ◌++◌, length, if◌then◌else◌, replicate, map}
 use Rattle.hcl_scan.specs.Lexemes.{Lexeme}
-use Rattle.hcl_scan.specs.Scans.{is_dot}
+use Rattle.hcl_scan.specs.Kinds.{is_dot}
 use Rattle.hcl_scan.specs.Neighbours.{joins}
 use Rattle.hcl_scan.specs.declared.token.Kind.{Kind}
 use Rattle.hcl_scan.specs.declared.token.Kind.TheVariants.{LineComment, Lit, InterpOpen, ControlOpen, QuoteClose, HeredocClose}
 
 -- the tokens without the gaps
-abbrev pub tokens_of : List (ℕ × Lexeme) → List Lexeme
-tokens_of ps = map (λ p. p.1) ps
+abbrev pub without_gaps : List (ℕ × Lexeme) → List Lexeme
+without_gaps ps = map (λ p. p.1) ps
 
 -- the gaps, as spaces, and the texts in turn
-abbrev pub text_of : List (ℕ × Lexeme) → List ℕ
-text_of [] = []
-text_of (p ∷ ps) = replicate p.0 32 ++ (p.1.text ++ text_of ps)
+abbrev pub text_with_gaps : List (ℕ × Lexeme) → List ℕ
+text_with_gaps [] = []
+text_with_gaps (p ∷ ps) = replicate p.0 32 ++ (p.1.text ++ text_with_gaps ps)
 
 -- the tokens where they stand in that text, its first byte being at an offset
 abbrev pub placed : ℕ → List (ℕ × Lexeme) → List Lexeme
@@ -37,10 +38,10 @@ touches LineComment t = true
 touches _ t = is_template t.kind || t.inside_heredoc
 
 -- so many blanks may stand between a token of this kind and the next
-abbrev pub fits : Bool → Kind → Lexeme → ℕ → Bool
-fits after_dot before t gap = if touches before t then gap == 0 else (not (gap == 0) || not (joins after_dot before t.kind t.text))
+abbrev pub gap_fits : Bool → Kind → Lexeme → ℕ → Bool
+gap_fits after_dot before t gap = if touches before t then gap == 0 else (not (gap == 0) || not (joins after_dot before t.kind t.text))
 
 -- every gap fits, behind a token of this kind
 abbrev pub AllFit : Bool → Kind → List (ℕ × Lexeme) → Type 0
 AllFit after_dot before [] = Unit {0}
-AllFit after_dot before (p ∷ ps) = IsTrue (fits after_dot before p.1 p.0) × AllFit (is_dot before) p.1.kind ps
+AllFit after_dot before (p ∷ ps) = IsTrue (gap_fits after_dot before p.1 p.0) × AllFit (is_dot before) p.1.kind ps

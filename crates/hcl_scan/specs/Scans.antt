@@ -3,10 +3,11 @@
 -- since the specification leaves it open: the first later line that is the marker, blanks at both ends aside.
 use Rattle.std.specs.Prelude.{◌≡◌, ℕ, ◌+◌, ◌-◌, ◌<◌, ◌≤◌, ◌||◌, ◌&&◌, not, Bool, true, false, IsTrue, List, [], ◌∷◌, ◌++◌, length, drop, take, if◌then◌else◌, nat_lt, codes, get_or, Option, Some, None, ◌⊎◌}
 use Rattle.std.specs.List.{prefix_len}
+use Rattle.hcl_scan.specs.Kinds.{is_dot}
 use Rattle.hcl_scan.specs.Lexemes.{Lexeme, Opener, Heredoc, Brace, Bracket, Paren, marker_of, in_heredoc, moved, max_open}
 use Rattle.hcl_scan.specs.Spelling.{IsSpelling, is_blank, starts, context, Context, Template, Expression}
 use Rattle.hcl_scan.specs.declared.token.Kind.{Kind}
-use Rattle.hcl_scan.specs.declared.token.Kind.TheVariants.{Dot, HeredocOpen, HeredocClose}
+use Rattle.hcl_scan.specs.declared.token.Kind.TheVariants.{HeredocOpen, HeredocClose}
 
 -- what a heredoc hides: its closing marker's token, and what follows that
 pub record Hidden : Type 0 where
@@ -49,9 +50,9 @@ abbrev pub skip_blanks : List ℕ → List ℕ
 skip_blanks text = drop (prefix_len is_blank text) text
 
 -- a newline or the end of what is seen comes first
-abbrev pub ends_line : List ℕ → Bool
-ends_line [] = true
-ends_line (b ∷ text) = starts (b ∷ text) (codes "\n") || starts (b ∷ text) (codes "\r\n")
+abbrev pub at_line_end : List ℕ → Bool
+at_line_end [] = true
+at_line_end (b ∷ text) = starts (b ∷ text) (codes "\n") || starts (b ∷ text) (codes "\r\n")
 
 -- how many bytes of a marker line are its blanks and its marker
 abbrev pub closer_len : List ℕ → List ℕ → ℕ
@@ -59,7 +60,7 @@ closer_len marker line = prefix_len is_blank line + length marker
 
 -- the first line of the text is the marker, blanks at both ends aside
 abbrev pub is_marker_line : List ℕ → List ℕ → Bool
-is_marker_line marker text = starts (skip_blanks text) marker && ends_line (skip_blanks (drop (closer_len marker text) text))
+is_marker_line marker text = starts (skip_blanks text) marker && at_line_end (skip_blanks (drop (closer_len marker text) text))
 
 -- a marker line begins after n bytes of the text, itself the start of a line
 pub record IsMarkerLine (marker text : List ℕ) (n : ℕ) : Type 0 where
@@ -82,18 +83,14 @@ pub record IsLongest (opens : List Opener) (after_dot : Bool) (seen : List ℕ) 
 abbrev pub HasNone : List Opener → Bool → List ℕ → Type 0
 HasNone opens after_dot seen = (kind : Kind) (text rest : List ℕ) → text ++ rest ≡ seen → ¬ IsSpelling opens after_dot kind text rest
 
-abbrev pub is_dot : Kind → Bool
-is_dot Dot = true
-is_dot _ = false
-
 -- what is hidden behind a marker line
 abbrev pub hides : List ℕ → List ℕ → Hidden
 hides marker line = record { closer = take (closer_len marker line) line; after = drop (closer_len marker line) line }
 
 -- what is seen and hidden after a token, `rest` being what was seen after it
-abbrev pub Shows : Kind → List ℕ → List ℕ → List Hidden → List ℕ → List Hidden → Type 0
-Shows HeredocOpen text rest hidden seen' hidden' = (n : ℕ) × IsFirstMarkerLine (marker_of text) rest n × (seen' ≡ take n rest) × (hidden' ≡ hides (marker_of text) (drop n rest) ∷ hidden)
-Shows _ text rest hidden seen' hidden' = (seen' ≡ rest) × (hidden' ≡ hidden)
+abbrev pub Leaves : Kind → List ℕ → List ℕ → List Hidden → List ℕ → List Hidden → Type 0
+Leaves HeredocOpen text rest hidden seen' hidden' = (n : ℕ) × IsFirstMarkerLine (marker_of text) rest n × (seen' ≡ take n rest) × (hidden' ≡ hides (marker_of text) (drop n rest) ∷ hidden)
+Leaves _ text rest hidden seen' hidden' = (seen' ≡ rest) × (hidden' ≡ hidden)
 
 -- a token is read where it is the longest spelling
 pub record Reads (s : State) (t : Lexeme) (next : State) : Type 0 where
@@ -106,7 +103,7 @@ pub record Reads (s : State) (t : Lexeme) (next : State) : Type 0 where
   pub offsets : next.offsets ≡ offsets_of t.start s.opens next.opens s.offsets
   pub room : length next.opens ≤ max_open
   pub after_dot : next.after_dot ≡ is_dot t.kind
-  pub shows : Shows t.kind t.text rest s.hidden next.seen next.hidden
+  pub leaves : Leaves t.kind t.text rest s.hidden next.seen next.hidden
 
 -- a heredoc is closed where all that is seen of it has been read
 pub record Closes (s : State) (t : Lexeme) (next : State) : Type 0 where

@@ -3,30 +3,14 @@
 use Rattle.std.specs.Prelude.{◌||◌, ◌≡◌, ℕ, ◌==◌, Bool, true, false, List, [], ◌∷◌, get_or, nat_le, codes, if◌then◌else◌, ◌⊎◌, IsUtf8}
 use Rattle.std.specs.Char.{is_ascii_digit, is_ascii_alphabetic}
 use Rattle.hcl_scan.specs.Lexemes.{Lexeme}
-use Rattle.hcl_scan.specs.Neighbours.{is_number}
+use Rattle.hcl_scan.specs.Kinds.{is_ident, is_minus, is_number, is_seq_close, is_star}
 use Rattle.hcl_scan.specs.Regapped.{is_template}
 use Rattle.hcl_scan.specs.declared.token.Kind.{Kind}
-use Rattle.hcl_scan.specs.declared.token.Kind.TheVariants.{Newline, LineComment, InlineComment, Ident, HeredocOpen, QuoteOpen, SeqClose, Dot, Ellipsis, Colon, ColonColon, Assign, Arrow, Minus, Star, Slash, Equal, Less, Greater, LessEqual, GreaterEqual, Lit, HeredocClose}
+use Rattle.hcl_scan.specs.declared.token.Kind.TheVariants.{Newline, LineComment, InlineComment, HeredocOpen, QuoteOpen, SeqClose, Dot, Ellipsis, Colon, ColonColon, Assign, Arrow, Slash, Equal, Less, Greater, LessEqual, GreaterEqual, Lit, HeredocClose}
 
 -- an identifier may begin with the byte; beyond ASCII its character decides
 abbrev pub may_begin_ident : ℕ → Bool
 may_begin_ident b = is_ascii_alphabetic b || (b == 95) || nat_le 128 b
-
-abbrev pub is_ident : Kind → Bool
-is_ident Ident = true
-is_ident _ = false
-
-abbrev pub is_minus : Kind → Bool
-is_minus Minus = true
-is_minus _ = false
-
-abbrev pub is_star : Kind → Bool
-is_star Star = true
-is_star _ = false
-
-abbrev pub is_seq_close : Kind → Bool
-is_seq_close SeqClose = true
-is_seq_close _ = false
 
 -- the kinds whose texts begin with `.`
 abbrev pub is_pointed : Kind → Bool

@@ -64,7 +64,7 @@ IsSign text = (text ≡ []) ⊎ (text ≡ codes "+") ⊎ (text ≡ codes "-")
 
 abbrev pub IsExponent : List ℕ → Type 0
 IsExponent text = (text ≡ [])
-    ⊎ ((mark sign digits : List ℕ) × ((mark ≡ codes "e") ⊎ (mark ≡ codes "E")) × IsSign sign × IsDigits digits × (text ≡ mark ++ sign ++ digits))
+    ⊎ ((letter sign digits : List ℕ) × ((letter ≡ codes "e") ⊎ (letter ≡ codes "E")) × IsSign sign × IsDigits digits × (text ≡ letter ++ sign ++ digits))
 
 abbrev pub IsNumber : List ℕ → Type 0
 IsNumber text = (whole fraction exponent : List ℕ) × IsDigits whole × IsFraction fraction × IsExponent exponent × (text ≡ whole ++ fraction ++ exponent)

@@ -151,7 +151,7 @@ fn opener_or_less(seen: &str) -> Found
     }
 }
 
-fn mark(seen: &[u8]) -> Option<Found>
+fn found_punctuation(seen: &[u8]) -> Option<Found>
     ensures found { IfSome result (λ f. IsLongestPunctuation punctuation seen.now f.kind f.len) }
     ensures none { IfNone result (HasNoPunctuation punctuation seen.now) }
 {
@@ -187,6 +187,6 @@ pub(crate) fn next_in_expression(seen: &str, around: Surroundings) -> Option<Fou
             closer_kind(around.closes_sequence),
             closer_len(bytes, around.closes_sequence),
         ),
-        Lead::Sign => mark(bytes),
+        Lead::Sign => found_punctuation(bytes),
     }
 }

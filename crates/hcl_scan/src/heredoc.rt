@@ -4,7 +4,7 @@ ghost use Rattle.std.specs.Prelude.{◌≡◌, ◌<◌, ◌≤◌, ◌-◌, ◌^
 ghost use Rattle.std.specs.List.{position_or_len, starts_with};
 ghost use Rattle.hcl_scan.specs.Lexemes.{is_newline_byte, marker_of};
 ghost use Rattle.hcl_scan.specs.Spelling.{starts};
-ghost use Rattle.hcl_scan.specs.Scans.{skip_blanks, ends_line, closer_len, is_marker_line, IsMarkerLine, IsFirstMarkerLine};
+ghost use Rattle.hcl_scan.specs.Scans.{skip_blanks, at_line_end, closer_len, is_marker_line, IsMarkerLine, IsFirstMarkerLine};
 
 use crate::text::{count_blanks, line_len, skip_blanks};
 use hcl_source::line_start;
@@ -43,8 +43,8 @@ pub fn marker_of(opener: &[u8]) -> &[u8]
     marker
 }
 
-fn ends_line(text: &[u8]) -> bool
-    ensures { result ≡ ends_line text.now }
+fn at_line_end(text: &[u8]) -> bool
+    ensures { result ≡ at_line_end text.now }
 {
     text.is_empty() || text.starts_with(b"\n") || text.starts_with(b"\r\n")
 }
@@ -57,7 +57,7 @@ fn is_marker_line(text: &[u8], marker: &[u8]) -> bool
         return false;
     }
     let (_, after) = text.split_at(closer_len(text, marker));
-    ends_line(skip_blanks(after))
+    at_line_end(skip_blanks(after))
 }
 
 /// Where the next line begins that can be the marker: one that has the marker in it.

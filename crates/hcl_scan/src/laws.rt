@@ -5,9 +5,9 @@ ghost use Rattle.std.specs.Prelude.{◌≡◌, ◌⊎◌, ◌<◌, ◌≤◌, �
 ghost use Rattle.std.specs.List.{flat_map};
 ghost use Rattle.hcl_scan.specs.Spelling.{IsSpelling};
 ghost use Rattle.hcl_scan.specs.Lexemes.{Lexeme, Opener, opened, in_heredoc, marker_of, max_open};
-ghost use Rattle.hcl_scan.specs.Scans.{Scans, State, Next, Run, IsLongest, IsFirstMarkerLine, Hidden, hides, ends_line, skip_blanks};
+ghost use Rattle.hcl_scan.specs.Scans.{Scans, State, Next, Run, IsLongest, IsFirstMarkerLine, Hidden, hides, at_line_end, skip_blanks};
 ghost use Rattle.hcl_scan.specs.Neighbours.{stays};
-ghost use Rattle.hcl_scan.specs.Regapped.{AllFit, placed, text_of, tokens_of};
+ghost use Rattle.hcl_scan.specs.Regapped.{AllFit, placed, text_with_gaps, without_gaps};
 ghost use Rattle.hcl_scan.specs.SideBySide.{AreTexts, Besides};
 ghost use Rattle.hcl_scan.specs.InHeredocs.{ReadsToo, SameInside};
 ghost use Rattle.hcl_scan.specs.declared.token.Kind.TheVariants.{Newline, HeredocOpen};
@@ -43,8 +43,8 @@ pub fn one_list()
 
 /// A text has at most one fault, of one kind at one place.
 pub fn one_fault()
-    ensures { (text : List ℕ) (kind other : FaultKind) (at place : ℕ) → IsScanFault text kind at
-        → IsScanFault text other place → (kind ≡ other) × (at ≡ place) }
+    ensures { (text : List ℕ) (kind other : FaultKind) (at there : ℕ) → IsScanFault text kind at
+        → IsScanFault text other there → (kind ≡ other) × (at ≡ there) }
 {}
 
 /// A text that has a fault is no list of tokens.
@@ -80,7 +80,7 @@ pub fn neighbours()
 /// What stands behind the marker line of a heredoc doesn't move it, as long as it ends the line.
 pub fn marker_line_kept()
     ensures { (opens : List Opener) (after_dot : Bool) (text rest after : List ℕ) (n : ℕ) → IsSpelling opens after_dot HeredocOpen text rest
-        → IsFirstMarkerLine (marker_of text) rest n → IsTrue (ends_line (skip_blanks after))
+        → IsFirstMarkerLine (marker_of text) rest n → IsTrue (at_line_end (skip_blanks after))
         → IsFirstMarkerLine (marker_of text) (take n rest ++ ((hides (marker_of text) (drop n rest)).closer ++ after)) n }
 {}
 
@@ -91,7 +91,7 @@ pub fn side_by_side()
 
 /// The same tokens with other gaps between them, where these fit, are scanned again.
 pub fn other_gaps()
-    ensures { (text : List ℕ) (ps : List (ℕ × Lexeme)) → Scans text (tokens_of ps) → AllFit false Newline ps → Scans (text_of ps) (placed 0 ps) }
+    ensures { (text : List ℕ) (ps : List (ℕ × Lexeme)) → Scans text (without_gaps ps) → AllFit false Newline ps → Scans (text_with_gaps ps) (placed 0 ps) }
 {}
 
 /// The tokens of a text that is UTF-8 are UTF-8, and the first begins with no byte order mark.

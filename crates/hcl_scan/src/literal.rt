@@ -33,12 +33,12 @@ fn is_short_escape(seen: &[u8]) -> bool
         || seen.starts_with(b"\\\\")
 }
 
-/// Whether an escape with so many hexadecimal digits stands at the front, where `mark` is its backslash and letter.
-fn is_code_escape(seen: &[u8], mark: &[u8], count: usize) -> bool
-    requires { length mark.now ≡ 2 }
-    ensures { result ≡ (starts seen.now mark.now && hex_digits_after count (drop 2 seen.now)) }
+/// Whether an escape with so many hexadecimal digits stands at the front, where `front` is its backslash and letter.
+fn is_code_escape(seen: &[u8], front: &[u8], count: usize) -> bool
+    requires { length front.now ≡ 2 }
+    ensures { result ≡ (starts seen.now front.now && hex_digits_after count (drop 2 seen.now)) }
 {
-    if !seen.starts_with(mark) {
+    if !seen.starts_with(front) {
         return false;
     }
     let (_, after) = seen.split_at(2);

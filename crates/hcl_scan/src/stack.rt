@@ -209,7 +209,7 @@ impl Stack {
                 self.pop_groups();
                 let _ = self.pop();
             }
-            Kind::QuoteClose => {
+            Kind::QuoteClose | Kind::HeredocClose => {
                 let _ = self.pop();
             }
             _ => {}

@@ -1,5 +1,5 @@
--- Lines and columns. Lines are ended by LF; columns count extended grapheme clusters (UAX 29), so a tab
--- is one column and so is a letter with its combining marks.
+-- Lines and columns: our own choice, as editors count them. Lines are ended by LF; columns count extended grapheme
+-- clusters (UAX 29), so a tab is one column and so is a letter with its combining marks.
 use Rattle.std.specs.Prelude.{ℕ, ◌+◌, ◌==◌, true, List, take, length, count_by}
 use Rattle.std.specs.List.{after_last}
 use Rattle.unicode_segmentation.specs.Grapheme.{graphemes}

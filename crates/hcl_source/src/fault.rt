@@ -34,7 +34,7 @@ pub enum FaultKind {
     UnterminatedTemplate,
     /// A backslash that begins no escape, at the backslash.
     InvalidEscape,
-    /// An opener where as many are open as may be (256), at the opener.
+    /// An opener where as many are open as may be, at the opener.
     TooDeep,
     /// A token that the grammar has no place for, at the token.
     UnexpectedToken,

@@ -7,7 +7,6 @@ use Rattle.std.specs.Int.{is_in_range}
 use Rattle.std.specs.Str.{bytes_eq}
 use Rattle.std.proofs.lemmas.Bool.Decides.{nat_tests}
 use Rattle.hcl_scan.specs.Lexemes.{Lexeme}
-use Rattle.hcl_scan.specs.Scans as scans
 use Rattle.hcl_scan.specs.SideBySide.{may_begin_ident}
 use Rattle.hcl_scan.specs.Neighbours as neighbours
 use Rattle.hcl_scan.specs.SideBySide as beside
@@ -16,8 +15,7 @@ use Rattle.hcl_scan.specs.declared.token.Kind.TheVariants as kind
 use Rattle.hcl_scan.proofs.BooleanLemmas.{and_true, or_true, not_true}
 use Rattle.hcl_scan.proofs.CommentLemmas.{or_cases}
 use Rattle.hcl_scan.proofs.FirstByteLemmas.{Says, says}
-use Rattle.hcl_syntax.specs.Kinds.{is_newline}
-use Rattle.hcl_syntax.specs.Kinds.{is_colon, is_dot, is_ellipsis, is_not, is_number, is_seq_close}
+use Rattle.hcl_scan.specs.Kinds.{is_colon, is_dot, is_ellipsis, is_ident, is_minus, is_newline, is_not, is_number, is_seq_close, is_star}
 use Rattle.hcl_spacing.specs.Spacing.{opens_sequence, begins_with_colon, begins_with_equals, stands_before, spaced}
 use Rattle.hcl_spacing.proofs.SpacingLemmas.{plain_pair, by_kinds, by_joining}
 
@@ -43,7 +41,7 @@ e_byte b h = by (is_ascii_digit b) refl h
     by true e k = inr e
     by false e k = inl (letter b k)
 
-pair_ident : (k : Kind) → (beside.is_ident k ≡ true) ⊎ (neighbours.is_number k ≡ true) ⊎ (beside.is_minus k ≡ true) → plain_pair kind.Ident k ≡ true
+pair_ident : (k : Kind) → (is_ident k ≡ true) ⊎ (is_number k ≡ true) ⊎ (is_minus k ≡ true) → plain_pair kind.Ident k ≡ true
 pair_ident kind.Ident h = refl
 pair_ident kind.Number h = refl
 pair_ident kind.Minus h = refl
@@ -51,7 +49,7 @@ pair_ident _ (inl h) = absurd (cc)
 pair_ident _ (inr (inl h)) = absurd (cc)
 pair_ident _ (inr (inr h)) = absurd (cc)
 
-pair_number : (k : Kind) → (beside.is_ident k ≡ true) ⊎ (neighbours.is_number k ≡ true) → plain_pair kind.Number k ≡ true
+pair_number : (k : Kind) → (is_ident k ≡ true) ⊎ (is_number k ≡ true) → plain_pair kind.Number k ≡ true
 pair_number kind.Ident h = refl
 pair_number kind.Number h = refl
 pair_number _ (inl h) = absurd (cc)
@@ -82,7 +80,7 @@ pair_greater kind.Arrow h = refl
 pair_greater kind.Equal h = refl
 pair_greater _ h = absurd (cc)
 
-pair_slash : (k : Kind) → (beside.is_slashed k ≡ true) ⊎ (beside.is_star k ≡ true) → plain_pair kind.Slash k ≡ true
+pair_slash : (k : Kind) → (beside.is_slashed k ≡ true) ⊎ (is_star k ≡ true) → plain_pair kind.Slash k ≡ true
 pair_slash kind.Slash h = refl
 pair_slash kind.LineComment h = refl
 pair_slash kind.InlineComment h = refl
@@ -107,11 +105,11 @@ coloned_on : (k : Kind) → beside.is_coloned k ≡ true → is_newline k ≡ fa
 coloned_on kind.Newline h = absurd (cc)
 coloned_on _ h = refl
 
-dot_on : (k : Kind) → scans.is_dot k ≡ true → is_newline k ≡ false
+dot_on : (k : Kind) → is_dot k ≡ true → is_newline k ≡ false
 dot_on kind.Newline h = absurd (cc)
 dot_on _ h = refl
 
-seq_close_is : (k : Kind) → beside.is_seq_close k ≡ true → k ≡ kind.SeqClose
+seq_close_is : (k : Kind) → is_seq_close k ≡ true → k ≡ kind.SeqClose
 seq_close_is kind.SeqClose h = refl
 seq_close_is _ h = absurd (cc)
 
@@ -141,10 +139,6 @@ by_fourth a b c d f h = (λ i. a || b || c || h i || f) ∙ (λ i. or_true (a ||
 
 by_fifth : (a b c d f : Bool) → f ≡ true → parts_of_two a b c d f ≡ true
 by_fifth a b c d f h = (λ i. a || b || c || d || h i) ∙ or_true (a || b || c || d)
-
-pub same_dot : (k : Kind) → scans.is_dot k ≡ is_dot k
-same_dot kind.Dot = refl
-same_dot _ = refl
 
 module _ (before : Option Lexeme) (u t : Lexeme) (dot : Bool) (outside_all : t.inside_heredoc ≡ false) (point : dot ≡ false → stands_before is_dot before ≡ false)
     (begins : beside.begins_as t.kind (get_or t.text 0 0) ≡ true) (tilde : t.kind ≡ kind.SeqClose → (t.text ≡ codes "}") ⊎ (t.text ≡ codes "~}")) where
@@ -195,25 +189,25 @@ module _ (before : Option Lexeme) (u t : Lexeme) (dot : Bool) (outside_all : t.i
   grown_ident : Grown kind.Ident
   grown_ident e h = pair kind.Ident e (pair_ident t.kind (by (word_byte b (plain (neighbours.grows kind.Ident b) h))))
     where
-      by : (may_begin_ident b ≡ true) ⊎ (is_ascii_digit b ≡ true) ⊎ ((b == 45) ≡ true) → (beside.is_ident t.kind ≡ true) ⊎ (neighbours.is_number t.kind ≡ true) ⊎ (beside.is_minus t.kind ≡ true)
+      by : (may_begin_ident b ≡ true) ⊎ (is_ascii_digit b ≡ true) ⊎ ((b == 45) ≡ true) → (is_ident t.kind ≡ true) ⊎ (is_number t.kind ≡ true) ⊎ (is_minus t.kind ≡ true)
       by (inl x) = inl (s.letter x)
       by (inr (inl x)) = inr (inl (s.digit x))
       by (inr (inr x)) = inr (inr (s.minus x))
 
   grown_number : Grown kind.Number
-  grown_number e h = by (or_cases (neighbours.grows kind.Number b) (true && not dot && scans.is_dot t.kind) h)
+  grown_number e h = by (or_cases (neighbours.grows kind.Number b) (true && not dot && is_dot t.kind) h)
     where
-      digits : (may_begin_ident b ≡ true) ⊎ (is_ascii_digit b ≡ true) → (beside.is_ident t.kind ≡ true) ⊎ (neighbours.is_number t.kind ≡ true)
+      digits : (may_begin_ident b ≡ true) ⊎ (is_ascii_digit b ≡ true) → (is_ident t.kind ≡ true) ⊎ (is_number t.kind ≡ true)
       digits (inl x) = inl (s.letter x)
       digits (inr x) = inr (s.digit x)
 
-      by : (neighbours.grows kind.Number b ≡ true) ⊎ ((not dot && scans.is_dot t.kind) ≡ true) → spaced before u t ≡ true
+      by : (neighbours.grows kind.Number b ≡ true) ⊎ ((not dot && is_dot t.kind) ≡ true) → spaced before u t ≡ true
       by (inl x) = pair kind.Number e (pair_number t.kind (digits (e_byte b x)))
       by (inr x) =
-          let p = and_true (not dot) (scans.is_dot t.kind) x in
+          let p = and_true (not dot) (is_dot t.kind) x in
           let q = point (not_true dot p.0) in
           two (dot_on t.kind p.1) (by_second dots _ not_equals closed_by_tilde colons
-          (λ i. is_number (e i) && not (q i) && (sym (same_dot t.kind) ∙ p.1) i))
+          (λ i. is_number (e i) && not (q i) && p.1 i))
 
   grown_dot : Grown kind.Dot
   grown_dot e h = let p = pair_dot t.kind (s.point (plain (b == 46) h)) in

@@ -16,11 +16,11 @@ all_parts P k ks h = go (P k) refl h
     go true e h = (e, h)
     go false e h = cc
 
-none : (n : ℕ) → nat_lt n 0 ≡ true → ⊥
-none n h = grind (arith, nat_tests)
+none_below_zero : (n : ℕ) → nat_lt n 0 ≡ true → ⊥
+none_below_zero n h = grind (arith, nat_tests)
 
 at_place : (P : Kind → Bool) (ks : List Kind) (n : ℕ) → list_all P ks ≡ true → nat_lt n (length ks) ≡ true → P (get_or ks n kind.Dot) ≡ true
-at_place P [] n h e = absurd (none n e)
+at_place P [] n h e = absurd (none_below_zero n e)
 at_place P (k ∷ ks) zero h e = (all_parts P k ks h).0
 at_place P (k ∷ ks) (suc n) h e = at_place P ks n (all_parts P k ks h).1 (below n (length ks) e)
   where

@@ -1,13 +1,13 @@
 -- The table of spacing by pairs of kinds is the table of spacing: tried for all pairs, with all answers of the texts.
 use Rattle.std.proofs.Common.{◌≡◌, ◌∙◌, ◌&&◌, ◌||◌, not, Bool, true, false, Option, Some, None, ap, refl, sym}
-use Rattle.std.specs.Prelude.{codes, if◌then◌else◌}
+use Rattle.std.specs.Prelude.{codes, if◌then◌else◌, is_some}
 use Rattle.std.specs.List.{list_all}
 use Rattle.std.specs.Str.{bytes_eq}
 use Rattle.hcl_scan.specs.Lexemes.{Lexeme}
 use Rattle.hcl_scan.specs.declared.token.Kind.{Kind}
-use Rattle.hcl_syntax.specs.Kinds.{is_newline}
-use Rattle.hcl_syntax.specs.Kinds.{is_brace_close, is_brace_open, is_bracket_open, is_colon, is_colon_colon, is_comma, is_dot, is_ellipsis, is_ident, is_lit, is_minus, is_not, is_number, is_paren_open, is_quote_close, is_quote_open, is_seq_close}
-use Rattle.hcl_spacing.specs.Spacing.{begins_with_colon, begins_with_equals, closes_group, ends_operand, is_opening, opens_sequence, spaced, stands_before}
+use Rattle.hcl_scan.specs.Kinds.{is_newline}
+use Rattle.hcl_scan.specs.Kinds.{is_brace_close, is_brace_open, is_bracket_open, is_colon, is_colon_colon, is_comma, is_dot, is_ellipsis, is_ident, is_lit, is_minus, is_not, is_number, is_paren_open, is_quote_close, is_quote_open, is_seq_close}
+use Rattle.hcl_spacing.specs.Spacing.{asks_more, begins_with_colon, begins_with_equals, closes_group, ends_operand, is_opening, opens_sequence, spaced, stands_before}
 use Rattle.hcl_spacing.specs.Inner.KindPairs.{asked, asked_space, pair_space}
 use Rattle.hcl_spacing.proofs.KindLemmas.{each, kinds}
 
@@ -102,3 +102,13 @@ given space subject after e f g before = sym (ap (λ o. answered o (asked_space 
 
 pub asked_is : (before : Option Lexeme) (subject after : Lexeme) → is_newline after.kind ≡ false → after.inside_heredoc ≡ false → pair_space subject.kind after.kind ≡ None → asked_space before subject after ≡ spaced before subject after
 asked_is before subject after e f g = sym (ap (λ o. answered o (asked_space before subject after)) g) ∙ by_kinds before subject after e f
+
+-- where the kinds don't tell, the table asks for more
+abbrev tells : Kind → Kind → Bool
+tells l r = is_some (pair_space l r) || asks_more l r
+
+all_tell : list_all (λ l. list_all (λ r. tells l r) kinds) kinds ≡ true
+all_tell = refl
+
+pub untold : (l r : Kind) → pair_space l r ≡ None → asks_more l r ≡ true
+untold l r e = second (is_some (pair_space l r)) (asks_more l r) (ap is_some e) (each (λ r. tells l r) (each (λ l. list_all (λ r. tells l r) kinds) all_tell l) r)

@@ -8,8 +8,8 @@ use Rattle.hcl_scan.specs.SideBySide as beside
 use Rattle.hcl_scan.specs.declared.token.Kind.{Kind}
 use Rattle.hcl_scan.specs.declared.token.Kind.TheVariants as kind
 use Rattle.hcl_scan.proofs.BooleanLemmas.{and_true, not_true}
-use Rattle.hcl_syntax.specs.Kinds.{is_newline}
-use Rattle.hcl_syntax.specs.Kinds.{is_dot, is_ellipsis, is_colon_colon, is_comma, is_not, is_minus, is_ident, is_paren_open, is_bracket_open, is_brace_open, is_brace_close, is_seq_close, is_quote_open, is_lit, is_quote_close}
+use Rattle.hcl_scan.specs.Kinds.{is_newline}
+use Rattle.hcl_scan.specs.Kinds.{is_dot, is_ellipsis, is_colon_colon, is_comma, is_not, is_minus, is_ident, is_paren_open, is_bracket_open, is_brace_open, is_brace_close, is_seq_close, is_quote_open, is_lit, is_quote_close}
 use Rattle.hcl_spacing.specs.Spacing.{opens_sequence, closes_group, ends_operand, is_opening, would_join, is_in, spaced}
 
 -- ---- rows by kinds alone
@@ -73,11 +73,11 @@ of_kind k u = record { kind = k; text = u.text; start = u.start; inside_heredoc 
 abbrev outside : Kind → Lexeme → Lexeme
 outside k t = record { kind = k; text = t.text; start = t.start; inside_heredoc = false }
 
-abbrev is_closer : Kind → Bool
-is_closer kind.HeredocClose = true
-is_closer _ = false
+abbrev is_heredoc_close : Kind → Bool
+is_heredoc_close kind.HeredocClose = true
+is_heredoc_close _ = false
 
-behind_quote : (before : Option Lexeme) (u t : Lexeme) (k : Kind) → regapped.is_template k ≡ true → is_closer k ≡ false → spaced before (of_kind kind.QuoteOpen u) (outside k t) ≡ false
+behind_quote : (before : Option Lexeme) (u t : Lexeme) (k : Kind) → regapped.is_template k ≡ true → is_heredoc_close k ≡ false → spaced before (of_kind kind.QuoteOpen u) (outside k t) ≡ false
 behind_quote before u t kind.Lit h c = refl
 behind_quote before u t kind.InterpOpen h c = refl
 behind_quote before u t kind.ControlOpen h c = refl
@@ -85,7 +85,7 @@ behind_quote before u t kind.QuoteClose h c = refl
 behind_quote before u t kind.HeredocClose h c = absurd (cc)
 behind_quote before u t _ h c = absurd (cc)
 
-behind_lit : (before : Option Lexeme) (u t : Lexeme) (k : Kind) → regapped.is_template k ≡ true → is_closer k ≡ false → spaced before (of_kind kind.Lit u) (outside k t) ≡ false
+behind_lit : (before : Option Lexeme) (u t : Lexeme) (k : Kind) → regapped.is_template k ≡ true → is_heredoc_close k ≡ false → spaced before (of_kind kind.Lit u) (outside k t) ≡ false
 behind_lit before u t kind.Lit h c = refl
 behind_lit before u t kind.InterpOpen h c = refl
 behind_lit before u t kind.ControlOpen h c = refl
@@ -93,7 +93,7 @@ behind_lit before u t kind.QuoteClose h c = refl
 behind_lit before u t kind.HeredocClose h c = absurd (cc)
 behind_lit before u t _ h c = absurd (cc)
 
-behind_sequence : (before : Option Lexeme) (u t : Lexeme) (k : Kind) → regapped.is_template k ≡ true → is_closer k ≡ false → spaced before (of_kind kind.SeqClose u) (outside k t) ≡ false
+behind_sequence : (before : Option Lexeme) (u t : Lexeme) (k : Kind) → regapped.is_template k ≡ true → is_heredoc_close k ≡ false → spaced before (of_kind kind.SeqClose u) (outside k t) ≡ false
 behind_sequence before u t kind.Lit h c = refl
 behind_sequence before u t kind.InterpOpen h c = refl
 behind_sequence before u t kind.ControlOpen h c = refl
@@ -101,16 +101,16 @@ behind_sequence before u t kind.QuoteClose h c = refl
 behind_sequence before u t kind.HeredocClose h c = absurd (cc)
 behind_sequence before u t _ h c = absurd (cc)
 
-template_rows : (before : Option Lexeme) (u t : Lexeme) (k k' : Kind) → beside.opens_template k ≡ true → regapped.is_template k' ≡ true → is_closer k' ≡ false → spaced before (of_kind k u) (outside k' t) ≡ false
+template_rows : (before : Option Lexeme) (u t : Lexeme) (k k' : Kind) → beside.opens_template k ≡ true → regapped.is_template k' ≡ true → is_heredoc_close k' ≡ false → spaced before (of_kind k u) (outside k' t) ≡ false
 template_rows before u t kind.QuoteOpen k' h i c = behind_quote before u t k' i c
 template_rows before u t kind.Lit k' h i c = behind_lit before u t k' i c
 template_rows before u t kind.SeqClose k' h i c = behind_sequence before u t k' i c
 template_rows before u t _ k' h i c = absurd (cc)
 
-not_closer : (k : Kind) (inside : Bool) → inside ≡ false → (k ≡ kind.HeredocClose → inside ≡ true) → is_closer k ≡ false
-not_closer kind.HeredocClose inside e f = absurd (let g = f refl in cc)
-not_closer _ inside e f = refl
+not_heredoc_close : (k : Kind) (inside : Bool) → inside ≡ false → (k ≡ kind.HeredocClose → inside ≡ true) → is_heredoc_close k ≡ false
+not_heredoc_close kind.HeredocClose inside e f = absurd (let g = f refl in cc)
+not_heredoc_close _ inside e f = refl
 
 pub template_touches : (before : Option Lexeme) (u t : Lexeme) → t.inside_heredoc ≡ false → beside.opens_template u.kind ≡ true → regapped.is_template t.kind ≡ true → (t.kind ≡ kind.HeredocClose → t.inside_heredoc ≡ true) → spaced before u t ≡ false
 template_touches before u t e h i f =
-    (λ j. spaced before u (record { kind = t.kind; text = t.text; start = t.start; inside_heredoc = e j })) ∙ template_rows before u t u.kind t.kind h i (not_closer t.kind t.inside_heredoc e f)
+    (λ j. spaced before u (record { kind = t.kind; text = t.text; start = t.start; inside_heredoc = e j })) ∙ template_rows before u t u.kind t.kind h i (not_heredoc_close t.kind t.inside_heredoc e f)

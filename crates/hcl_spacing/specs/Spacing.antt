@@ -6,7 +6,7 @@ use Rattle.hcl_scan.specs.Lexemes.{Lexeme}
 use Rattle.hcl_scan.specs.declared.token.Kind.{Kind}
 use Rattle.hcl_scan.specs.declared.token.Kind.TheVariants as kind
 use Rattle.hcl_syntax.specs.Balanced.{is_opener}
-use Rattle.hcl_syntax.specs.Kinds.{is_newline, is_ident, is_number, is_paren_open, is_bracket_open, is_brace_open, is_brace_close, is_seq_close, is_quote_open, is_lit, is_quote_close, is_dot, is_colon, is_colon_colon, is_comma, is_ellipsis, is_not, is_minus}
+use Rattle.hcl_scan.specs.Kinds.{is_newline, is_ident, is_number, is_paren_open, is_bracket_open, is_brace_open, is_brace_close, is_seq_close, is_quote_open, is_lit, is_quote_close, is_dot, is_colon, is_colon_colon, is_comma, is_ellipsis, is_not, is_minus}
 
 -- `${` and `%{`
 abbrev pub opens_sequence : Kind → Bool
@@ -110,3 +110,11 @@ spaced before subject after =
     else if is_seq_close subject.kind && opens_sequence after.kind then false
     else if is_paren_open subject.kind || is_bracket_open subject.kind || opens_sequence subject.kind then false
     else not (closes_group after.kind)
+
+-- the kinds of two neighbours don't tell the answer: the table asks for their texts, or for what stands before
+abbrev pub asks_more : Kind → Kind → Bool
+asks_more subject after =
+    is_not subject || is_minus subject || is_colon subject
+    || (is_number subject && is_dot after)
+    || (is_ident subject && (is_bracket_open after || closes_group after))
+    || (opens_sequence subject && is_seq_close after)

@@ -2,8 +2,8 @@
 
 ghost use Rattle.std.specs.Prelude.{◌≡◌};
 ghost use Rattle.hcl_syntax.specs.Balanced.{is_opener as is_opener_of};
-ghost use Rattle.hcl_syntax.specs.Kinds.{is_dot as is_dot_of, is_ellipsis as is_ellipsis_of, is_colon_colon as is_colon_colon_of, is_comma as is_comma_of, is_ident as is_ident_of, is_paren_open as is_paren_open_of};
-ghost use Rattle.hcl_syntax.specs.Kinds.{is_bracket_open as is_bracket_open_of, is_brace_open as is_brace_open_of, is_brace_close as is_brace_close_of, is_seq_close as is_seq_close_of, is_newline as is_newline_of};
+ghost use Rattle.hcl_scan.specs.Kinds.{is_dot as is_dot_of, is_ellipsis as is_ellipsis_of, is_colon_colon as is_colon_colon_of, is_comma as is_comma_of, is_ident as is_ident_of, is_paren_open as is_paren_open_of};
+ghost use Rattle.hcl_scan.specs.Kinds.{is_bracket_open as is_bracket_open_of, is_brace_open as is_brace_open_of, is_brace_close as is_brace_close_of, is_seq_close as is_seq_close_of, is_newline as is_newline_of};
 ghost use Rattle.hcl_spacing.specs.Spacing.{opens_sequence as opens_sequence_of, closes_group as closes_group_of, is_operator as is_operator_of, awaits_operand as awaits_operand_of};
 
 use hcl_scan::Kind;

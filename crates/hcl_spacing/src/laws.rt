@@ -5,7 +5,7 @@ ghost use Rattle.hcl_scan.specs.Lexemes.{Lexeme};
 ghost use Rattle.hcl_scan.specs.Neighbours.{joins};
 ghost use Rattle.hcl_scan.specs.Regapped.{is_template};
 ghost use Rattle.hcl_scan.specs.SideBySide.{Beside};
-ghost use Rattle.hcl_syntax.specs.Kinds.{is_dot, is_newline};
+ghost use Rattle.hcl_scan.specs.Kinds.{is_dot, is_newline};
 ghost use Rattle.hcl_spacing.specs.Spacing.{spaced, stands_before};
 
 /// Outside heredocs and templates neighbours are parted that a scan would read otherwise if they stood together.

@@ -1,10 +1,10 @@
 //! One blank or none between two neighbours on a line. The words in quotation marks are headings of `docs/STYLE.md`, "Between
 //! two words of a line", where each rule stands with its examples.
-ghost use Rattle.std.specs.Prelude.{◌≡◌, IfNone, IfSome, Option, option_map};
+ghost use Rattle.std.specs.Prelude.{◌≡◌, IfNone, IfSome, Option, option_map, true};
 ghost use Rattle.hcl_scan.specs.Lexemes.{Lexeme};
 ghost use Rattle.hcl_scan.specs.Scanned.{lexeme};
-ghost use Rattle.hcl_syntax.specs.Kinds.{is_dot as is_dot_of, is_ident as is_ident_of};
-ghost use Rattle.hcl_spacing.specs.Spacing.{begins_with_colon as begins_with_colon_of, begins_with_equals as begins_with_equals_of, is_opening as is_opening_of, spaced, stands_before};
+ghost use Rattle.hcl_scan.specs.Kinds.{is_dot as is_dot_of, is_ident as is_ident_of};
+ghost use Rattle.hcl_spacing.specs.Spacing.{asks_more, begins_with_colon as begins_with_colon_of, begins_with_equals as begins_with_equals_of, is_opening as is_opening_of, spaced, stands_before};
 ghost use Rattle.hcl_spacing.specs.Inner.KindPairs.{asked_space as asked_space_of, pair_space as pair_space_of, space_behind_operand as space_behind_operand_of, stands_close as stands_close_of};
 
 use crate::kind::{
@@ -163,6 +163,7 @@ fn asked_space(before: Option<Token<'_>>, subject: Token<'_>, after: Token<'_>) 
 #[inline(always)]
 fn kinds_space(subject: Token<'_>, after: Token<'_>) -> Option<bool>
     ensures given { IfSome result (λ space. (before : Option Lexeme) → space ≡ spaced before (lexeme subject.entry) (lexeme after.entry)) }
+    ensures untold { IfNone result (asks_more subject.entry.kind after.entry.kind ≡ true) }
     ensures asked { IfNone result ((before : Option Lexeme) → asked_space_of before (lexeme subject.entry) (lexeme after.entry) ≡ spaced before (lexeme subject.entry) (lexeme after.entry)) }
 {
     // "Blanks at the ends of lines" vanish, and "Heredocs" are kept byte for byte
@@ -176,7 +177,8 @@ fn kinds_space(subject: Token<'_>, after: Token<'_>) -> Option<bool>
 /// texts are and whatever stands before them.
 #[inline(always)]
 pub fn space_by_kinds(subject: Token<'_>, after: Token<'_>) -> Option<bool>
-    ensures { IfSome result (λ space. (before : Option Lexeme) → space ≡ spaced before (lexeme subject.entry) (lexeme after.entry)) }
+    ensures told { IfSome result (λ space. (before : Option Lexeme) → space ≡ spaced before (lexeme subject.entry) (lexeme after.entry)) }
+    ensures untold { IfNone result (asks_more subject.entry.kind after.entry.kind ≡ true) }
 {
     kinds_space(subject, after)
 }

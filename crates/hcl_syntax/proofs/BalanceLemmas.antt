@@ -12,7 +12,7 @@ use Rattle.hcl_syntax.proofs.OwedLemmas.{Shift}
 use Rattle.hcl_syntax.proofs.MoveLemmas.{Shifts, accepted-shifts}
 
 -- how many of what is open are no quotes and heredocs
-abbrev groups : List Opener → ℕ
+abbrev pub groups : List Opener → ℕ
 groups [] = 0
 groups (Quote ∷ os) = groups os
 groups (Heredoc ∷ os) = groups os
@@ -24,11 +24,11 @@ groups-few (Quote ∷ os) = omega (arith, groups-few os)
 groups-few (Heredoc ∷ os) = omega (arith, groups-few os)
 groups-few (o ∷ os) = omega (arith, groups-few os)
 
-counted : (k : Kind) (text : List ℕ) (a b : List Opener) → Shift (class_at k text) a b → opening k + groups a ≡ closing k + groups b
+pub counted : (k : Kind) (text : List ℕ) (a b : List Opener) → Shift (class_at k text) a b → opening k + groups a ≡ closing k + groups b
 counted ParenOpen text a b h = omega (arith, ap groups h)
 counted k text a b h = omega (arith, ap groups h)
 
-shifted : (k : Kind) (text : List ℕ) (a b : List Opener) → Shift (class_at k text) a b → moved k a ≡ b
+pub shifted : (k : Kind) (text : List ℕ) (a b : List Opener) → Shift (class_at k text) a b → moved k a ≡ b
 shifted ParenClose text a b h = ap (λ l. moved ParenClose l) h
 shifted BracketClose text a b h = ap (λ l. moved BracketClose l) h
 shifted BraceClose text a b h = ap (λ l. moved BraceClose l) h

@@ -16,3 +16,9 @@ pub mod PieceLemmas
 pub mod OutlineLemmas
 pub mod ItemOrderLemmas
 pub mod TopBlockLemmas
+pub mod InnerLemmas
+pub mod TurnLemmas
+pub mod NameLemmas
+pub mod PieceTurnLemmas
+pub mod ReadingLemmas
+pub mod PlainLabelLemmas

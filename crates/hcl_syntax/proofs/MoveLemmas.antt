@@ -23,7 +23,7 @@ Named P (UnexpectedToken n) = P n
 Named P UnexpectedEnd = Unit {0}
 Named P (TooDeep n) = P n
 
-abbrev EffectMoves : (ℕ → Type 0) → Effect → List Opener → Class → Type 0
+abbrev pub EffectMoves : (ℕ → Type 0) → Effect → List Opener → Class → Type 0
 EffectMoves P (on o ss) a c = Shift c a (owes_all ss) × HaveNumbers P ss
 EffectMoves P (stop r) a c = Named P r
 

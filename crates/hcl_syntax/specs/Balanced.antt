@@ -1,6 +1,6 @@
 -- Openers and closers in token lists: what a layout may rest on when it indents by them. An opener is `(`, `[`, `{`,
 -- `${` or `%{`, and a closer its counterpart (HCL Native Syntax Specification, "Operators and Delimiters" and
--- "Templates"); quotes and heredocs don't count. That 256 are open at most is the scan's bound, and our own choice.
+-- "Templates"); quotes and heredocs don't count. That `max_open` are open at most is the scan's bound, and our own choice.
 use Rattle.std.specs.Prelude.{◌≡◌, ◌≤◌, ◌+◌, ℕ, Bool, true, false, List, [], ◌∷◌, ◌++◌, if◌then◌else◌}
 use Rattle.hcl_scan.specs.Lexemes.{Lexeme}
 pub use Rattle.hcl_scan.specs.Lexemes.{max_open}

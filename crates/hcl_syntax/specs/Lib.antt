@@ -4,7 +4,6 @@ pub mod Predictor
 pub mod Relation
 pub mod Verdict
 pub mod Balanced
-pub mod Kinds
 pub mod Numbered
 pub mod Items
 pub mod Labels

@@ -1,6 +1,6 @@
 -- The predictor: what the table of the grammar makes of a whole list of tokens, one token after another, by the symbols
 -- that are still waited for. It works as a table-driven parser with one token of lookahead does in textbooks; that at most
--- 256 directives are open is our own choice.
+-- `max_directives` are open is our own choice.
 use Rattle.std.specs.Prelude.{ℕ, ◌+◌, ◌-◌, nat_lt, List, [], ◌∷◌, ◌++◌, Option, Some, None, if◌then◌else◌}
 use Rattle.hcl_syntax.specs.declared.class.Lookahead.{Lookahead}
 use Rattle.hcl_syntax.specs.declared.expected.Newlines.TheVariants.{Seen}

@@ -1,6 +1,6 @@
 //! What is proved of the definitions alone. No program calls these functions: their contracts are the laws.
 
-ghost use Rattle.std.specs.Prelude.{◌≡◌, ℕ, List, [], ◌∷◌, Option, length};
+ghost use Rattle.std.specs.Prelude.{◌≡◌, ◌<◌, ℕ, List, [], ◌∷◌, Option, Some, length, slice_get};
 ghost use Rattle.hcl_scan.specs.Lexemes.{Lexeme};
 ghost use Rattle.hcl_scan.specs.Scans.{Scans};
 ghost use Rattle.hcl_syntax.specs.declared.class.Lookahead.{Lookahead};
@@ -13,6 +13,10 @@ ghost use Rattle.hcl_syntax.specs.Verdict.{IsAccepted};
 ghost use Rattle.hcl_syntax.specs.Balanced.{IsBalanced};
 ghost use Rattle.hcl_syntax.specs.ItemOrder.{Climbs, TopsApart};
 ghost use Rattle.hcl_syntax.specs.Items.{outline};
+ghost use Rattle.hcl_syntax.specs.Labels.{IsAsWritten, label_text, quoted};
+ghost use Rattle.hcl_syntax.specs.Numbered.{numbered};
+ghost use Rattle.hcl_syntax.specs.declared.item.Item.TheVariants as item;
+ghost use Rattle.hcl_syntax.specs.declared.item.Label.{Label};
 
 /// In each front of the tokens of a file there are 0 to 256 more openers than closers.
 pub fn balanced()
@@ -38,4 +42,10 @@ pub fn climbs()
 /// Each top-level block begins behind the end of the one before it.
 pub fn tops_apart()
     ensures { (tokens : List Lexeme) → TopsApart 0 (outline tokens) (length tokens) }
+{}
+
+/// Between the quotes of a label of a file stands nothing, or one literal, which is its text as written.
+pub fn one_literal()
+    ensures { (text : List ℕ) (tokens : List Lexeme) → Scans text tokens → IsAccepted tokens
+        → (i : ℕ) (l : Label) → slice_get (outline tokens) i ≡ Some (item.Label l) → l.first < l.last → IsAsWritten (quoted (numbered tokens) l) (label_text (numbered tokens) l) }
 {}

@@ -6,14 +6,15 @@ use Rattle.std.specs.Str.{bytes_eq}
 use Rattle.std.proofs.lemmas.List.{map-append}
 use Rattle.std.proofs.lemmas.Grind.{flat_map-append}
 use Rattle.std.proofs.lemmas.List.Folds.{flat_map-map}
-use Rattle.tf_rules.specs.Sources.{Source, Other, NotPinned, DefaultBranch, Registry}
-use Rattle.tf_rules.specs.Declarations.{Declaration, SourceAt}
-use Rattle.tf_rules.specs.Findings.{Facts, Finding, findings, finding, says_if, says_of, slashed, about, unpinned, unpinned_by, is_registry, is_unused, uses_of, kind_text, both_quoted}
-use Rattle.tf_rules.specs.Comments.{Comment}
+use Rattle.tf_facts.specs.Sources.{Source, Other, NotPinned, DefaultBranch, Registry}
+use Rattle.tf_facts.specs.Declarations.{Declaration, SourceAt}
+use Rattle.tf_facts.specs.Facts.{Facts}
+use Rattle.tf_rules.specs.Findings.{Finding, findings, finding, says_if, says_of, slashed, about, unpinned, unpinned_by, is_registry, is_unused, uses_of, kind_text, both_quoted}
+use Rattle.tf_facts.specs.Comments.{Comment}
 use Rattle.tf_rules.specs.Issues.{comment_at}
 use Rattle.tf_rules.specs.Kept.{source_at, declaration_at, facts_at, both}
-use Rattle.tf_rules.specs.declared.rule.Rule.{Rule}
-use Rattle.tf_rules.specs.declared.rule.Rule.TheVariants.{CommentSyntax, DeprecatedIndex, DeprecatedInterpolation, DocumentedOutputs, DocumentedVariables, ModulePinnedSource, ModuleVersion, NamingConvention, TypedVariables, UnusedDeclarations}
+use Rattle.tf_facts.specs.declared.rule.Rule.{Rule}
+use Rattle.tf_facts.specs.declared.rule.Rule.TheVariants.{CommentSyntax, DeprecatedIndex, DeprecatedInterpolation, DocumentedOutputs, DocumentedVariables, ModulePinnedSource, ModuleVersion, NamingConvention, TypedVariables, UnusedDeclarations}
 use Rattle.tf_rules.specs.declared.naming.Naming.{Naming}
 
 -- ---- lists

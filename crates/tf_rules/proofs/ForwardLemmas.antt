@@ -15,10 +15,10 @@ use Rattle.hcl_syntax.specs.declared.item.Item.{Item}
 use Rattle.hcl_syntax.specs.declared.item.Item.TheVariants as item
 use Rattle.hcl_syntax.proofs.ItemOrderLemmas.{Rises, outline_climbs, rises_filter, rises_numbered, rises_wide}
 use Rattle.hcl_syntax.proofs.WordLemmas.{numbered_at}
-use Rattle.tf_rules.specs.Comments.{Comment, comments, is_any, is_line_comment}
-use Rattle.tf_rules.specs.Declarations.{Attribute, Declaration, Declarer, attributes_in, by_declarer, declarer, declarations, is_empty, is_module, labels_in, module_source, of_block, of_items, of_local, plain_text, source_at, source_of_attribute, value_of, has, with_attribute}
-use Rattle.tf_rules.specs.Patterns.{legacy_indexes, numbers_where, wrapped_interpolations, is_index, is_wrapped}
-use Rattle.tf_rules.specs.Silencing.{has_slashes, silenced_rules}
+use Rattle.tf_facts.specs.Comments.{Comment, comments, is_any, is_line_comment}
+use Rattle.tf_facts.specs.Declarations.{Attribute, Declaration, Declarer, attributes_in, by_declarer, declarer, declarations, is_empty, is_module, labels_in, module_source, of_block, of_items, of_local, plain_text, source_at, source_of_attribute, value_of, has, with_attribute}
+use Rattle.tf_facts.specs.Patterns.{legacy_indexes, numbers_where, wrapped_interpolations, is_index, is_wrapped}
+use Rattle.tf_facts.specs.Silencing.{has_slashes, silenced_rules}
 use Rattle.tf_rules.specs.Inner.Placing.{Forward, numbers_of, quotes}
 use Rattle.tf_rules.proofs.StartLemmas.{starts_rise}
 

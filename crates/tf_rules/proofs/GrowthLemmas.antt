@@ -1,54 +1,40 @@
--- No more is kept of a file than it has tokens: comments, patterns and references are told by tokens of their own.
-use Rattle.std.proofs.Common.{◌≡◌, ◌∙◌, ap, sym, refl, true≢false, ℕ, suc, ◌+◌, ◌≤◌, Bool, true, false, cond, List, [], ◌∷◌, ◌++◌, map, drop, length, arith}
-use Rattle.std.specs.Prelude.{◌&&◌, ◌||◌, Option, Some, None, filter, not}
+-- No more entries are kept of a file than it has tokens: each is told by a token of its own.
+use Rattle.std.proofs.Common.{◌≡◌, ap, sym, refl, true≢false, ℕ, suc, ◌+◌, ◌≤◌, Bool, true, false, cond, List, [], ◌∷◌, ◌++◌, map, drop, length, arith}
+use Rattle.std.specs.Prelude.{◌&&◌, ◌||◌, Option, Some, None, not}
 use Rattle.std.specs.List.{flat_map, list_any}
 use Rattle.std.specs.Str.{bytes_eq}
 use Rattle.std.proofs.lemmas.List.{length-append, length-map}
+use Rattle.std.proofs.lemmas.Grind.{flat_map-append}
 use Rattle.indexmap.specs.IndexSet.{insert_all, insert_key}
 use Rattle.hcl_scan.specs.Lexemes.{Lexeme}
 use Rattle.hcl_scan.specs.declared.token.Kind.{Kind}
 use Rattle.hcl_scan.specs.declared.token.Kind.TheVariants as kind
-use Rattle.hcl_syntax.specs.Numbered.{Numbered, numbered, numbered_from, significant, is_ident, is_passed_over, is_quote_open}
-use Rattle.tf_rules.specs.Comments.{Comment, comments, is_any, is_line_comment}
-use Rattle.tf_rules.specs.Declarations.{Declaration, declarations}
-use Rattle.tf_rules.specs.Growth.{declared, entries}
+use Rattle.hcl_syntax.specs.Numbered.{Numbered, numbered_from, significant, is_ident, is_passed_over, is_quote_open}
+use Rattle.tf_facts.specs.Comments.{Comment, comments, is_any, is_line_comment}
+use Rattle.tf_facts.specs.Declarations.{Declaration, SourceAt, declarations}
+use Rattle.tf_rules.specs.Growth.{entries, places_of, source_places}
 use Rattle.tf_rules.specs.Issues.{File, comment_at, place_in, tokens_of}
-use Rattle.tf_rules.specs.Kept.{Kept, declaration_at, with_file}
-use Rattle.tf_rules.specs.Patterns.{begins_with_close, behind_closer, is_index, is_interpolation, is_number, is_wrapped, legacy_indexes, numbers_where, wrapped_interpolations}
-use Rattle.tf_rules.specs.References.{Own, by_name, is_dot, is_own, name_behind, own_blocks, reference_at, references, references_from, unless_own}
-use Rattle.tf_rules.specs.Silencing.{has_slashes, silenced_rules}
-use Rattle.tf_rules.specs.Inner.Placing.{numbers_of, quotes}
-use Rattle.tf_rules.proofs.ForwardLemmas.{Rise, declarations_in_order}
+use Rattle.tf_rules.specs.Kept.{Kept, declaration_at, source_at, with_file}
+use Rattle.tf_facts.specs.Patterns.{begins_with_close, behind_closer, is_index, is_interpolation, is_number, is_wrapped, legacy_indexes, numbers_where, wrapped_interpolations}
+use Rattle.tf_facts.specs.References.{Own, by_name, is_dot, is_own, name_behind, own_blocks, reference_at, references, references_from, unless_own}
+use Rattle.tf_facts.specs.Silencing.{has_slashes, silenced_rules}
+use Rattle.tf_rules.proofs.ItemCostLemmas.{is_telling, places, places_few, tally, tally_filter}
+use Rattle.tf_rules.proofs.ItemWeightLemmas.{bit}
 
-abbrev bit : Bool → ℕ
-bit true = 1
-bit false = 0
-
--- how many tokens are of these kinds
-abbrev tally : (Kind → Bool) → List Numbered → ℕ
-tally p [] = 0
-tally p (t ∷ ts) = bit (p t.kind) + tally p ts
-
-tally_filter : (p : Kind → Bool) (q : Numbered → Bool) (ts : List Numbered) → tally p (filter q ts) ≤ tally p ts
-tally_filter p q [] = omega arith
-tally_filter p q (t ∷ ts) = by (q t) (tally_filter p q ts)
-  where
-    by : (b : Bool) → tally p (filter q ts) ≤ tally p ts → tally p (cond b (t ∷ filter q ts) (filter q ts)) ≤ bit (p t.kind) + tally p ts
-    by true h = omega (arith, h)
-    by false h = omega (arith, h)
-
-one_kind : (k : Kind) → bit (is_line_comment k) + (bit (is_dot k) + (bit (is_quote_open k) + bit (is_ident k))) ≤ 1
+one_kind : (k : Kind) → bit (is_line_comment k) + (bit (is_dot k) + (bit (is_interpolation k) + bit (is_telling k))) ≤ 1
 one_kind kind.LineComment = omega arith
 one_kind kind.Dot = omega arith
-one_kind kind.QuoteOpen = omega arith
+one_kind kind.InterpOpen = omega arith
+one_kind kind.Assign = omega arith
 one_kind kind.Ident = omega arith
+one_kind kind.QuoteOpen = omega arith
 one_kind _ = omega arith
 
-kinds_few : (ts : List Numbered) → tally is_line_comment ts + (tally is_dot ts + (tally is_quote_open ts + tally is_ident ts)) ≤ length ts
+kinds_few : (ts : List Numbered) → tally is_line_comment ts + (tally is_dot ts + (tally is_interpolation ts + tally is_telling ts)) ≤ length ts
 kinds_few [] = omega arith
 kinds_few (t ∷ ts) = omega (arith, one_kind t.kind, kinds_few ts)
 
--- ---- one by one
+-- ---- comments
 
 comments_few : (ts : List Numbered) → length (comments ts) ≤ tally is_line_comment ts
 comments_few [] = omega arith
@@ -62,22 +48,36 @@ comments_few (t ∷ ts) = by (is_line_comment t.kind) (has_slashes t.text || is_
     by true false h = omega (arith, h)
     by false b h = omega (arith, h)
 
-where_few : (test : List Numbered → Bool) (p : Kind → Bool) → ((t : Numbered) (rest : List Numbered) → p t.kind ≡ false → test (t ∷ rest) ≡ false) → (ts : List Numbered) → length (numbers_where test ts) ≤ tally p ts
-where_few test p none [] = omega arith
-where_few test p none (t ∷ ts) = by (test (t ∷ ts)) (p t.kind) (none t ts) (where_few test p none ts)
+-- ---- interpolations, by what stands behind their quotes
+
+abbrev interpolates : List Numbered → Bool
+interpolates [] = false
+interpolates (t ∷ ts) = is_interpolation t.kind
+
+wrapped_by : (t : Numbered) (ts : List Numbered) → interpolates ts ≡ false → is_wrapped (t ∷ ts) ≡ false
+wrapped_by t [] e = refl
+wrapped_by t (i ∷ rest) e = by (is_quote_open t.kind) (is_interpolation i.kind) e
   where
-    by : (a b : Bool) → (b ≡ false → a ≡ false) → length (numbers_where test ts) ≤ tally p ts → length (cond a (t.number ∷ []) [] ++ numbers_where test ts) ≤ bit b + tally p ts
+    by : (a b : Bool) → b ≡ false → (a && b && begins_with_close (behind_closer 0 rest)) ≡ false
+    by true b h = ap (λ c. c && begins_with_close (behind_closer 0 rest)) h
+    by false b h = refl
+
+wrapped_few : (ts : List Numbered) → length (numbers_where is_wrapped ts) + bit (interpolates ts) ≤ tally is_interpolation ts
+wrapped_few [] = omega arith
+wrapped_few (t ∷ ts) = by (is_wrapped (t ∷ ts)) (interpolates ts) (wrapped_by t ts) (wrapped_few ts)
+  where
+    by : (a b : Bool) → (b ≡ false → a ≡ false) → length (numbers_where is_wrapped ts) + bit b ≤ tally is_interpolation ts
+        → length (cond a (t.number ∷ []) [] ++ numbers_where is_wrapped ts) + bit (is_interpolation t.kind) ≤ bit (is_interpolation t.kind) + tally is_interpolation ts
     by true true n h = omega (arith, h)
     by true false n h = absurd (true≢false (n refl))
     by false b n h = omega (arith, h)
 
-no_index : (t : Numbered) (rest : List Numbered) → is_dot t.kind ≡ false → is_index (t ∷ rest) ≡ false
-no_index t [] e = refl
-no_index t (n ∷ rest) e = ap (λ b. b && is_number n.kind) e
+-- ---- references and indexes, by their dots
 
-no_wrapped : (t : Numbered) (rest : List Numbered) → is_quote_open t.kind ≡ false → is_wrapped (t ∷ rest) ≡ false
-no_wrapped t [] e = refl
-no_wrapped t (i ∷ rest) e = ap (λ b. b && is_interpolation i.kind && begins_with_close (behind_closer 0 rest)) e
+abbrev names_next : List Numbered → Bool
+names_next [] = false
+names_next (d ∷ []) = false
+names_next (d ∷ n ∷ rest) = is_dot d.kind && is_ident n.kind
 
 own_few : (own : List Own) (n : ℕ) (o : Option (List ℕ)) → length (unless_own own n o) ≤ 1
 own_few own n None = omega arith
@@ -87,37 +87,130 @@ own_few own n (Some text) = by (is_own own n text)
     by true = omega arith
     by false = omega arith
 
-begun_few : (own : List Own) (t : Numbered) (ts : List Numbered) → length (unless_own own t.number (reference_at (t ∷ ts))) ≤ bit (is_ident t.kind)
-begun_few own t ts = by (is_ident t.kind) refl
+unnamed : (ts : List Numbered) → names_next ts ≡ false → name_behind ts ≡ None
+unnamed [] e = refl
+unnamed (d ∷ []) e = refl
+unnamed (d ∷ n ∷ rest) e = ap (λ b. cond b (Some n) None) e
+
+-- a reference begins with an identifier, and a dot and a name come next
+none_begun : (own : List Own) (t : Numbered) (ts : List Numbered) → (is_ident t.kind && names_next ts) ≡ false → length (unless_own own t.number (reference_at (t ∷ ts))) ≡ 0
+none_begun own t ts e = ap (λ o. length (unless_own own t.number o)) (by (is_ident t.kind) (names_next ts) (unnamed ts) e)
   where
-    by : (b : Bool) → is_ident t.kind ≡ b → length (unless_own own t.number (reference_at (t ∷ ts))) ≤ bit b
+    by : (a b : Bool) → (b ≡ false → name_behind ts ≡ None) → (a && b) ≡ false → cond a (by_name t.text (name_behind ts) (drop 2 ts)) None ≡ None
+    by true b u h = ap (λ o. by_name t.text o (drop 2 ts)) (u h)
+    by false b u h = refl
+
+begun_few : (own : List Own) (t : Numbered) (ts : List Numbered) → length (unless_own own t.number (reference_at (t ∷ ts))) ≤ bit (is_ident t.kind && names_next ts)
+begun_few own t ts = by (is_ident t.kind && names_next ts) refl
+  where
+    by : (b : Bool) → (is_ident t.kind && names_next ts) ≡ b → length (unless_own own t.number (reference_at (t ∷ ts))) ≤ bit b
     by true e = own_few own t.number (reference_at (t ∷ ts))
-    by false e =
-        let none : reference_at (t ∷ ts) ≡ None = ap (λ b. cond b (by_name t.text (name_behind ts) (drop 2 ts)) None) e in
-        let same : length (unless_own own t.number (reference_at (t ∷ ts))) ≡ 0 = ap (λ o. length (unless_own own t.number o)) none in
-        omega (arith, same)
+    by false e = omega (arith, none_begun own t ts e)
 
-references_few : (own : List Own) (after_dot : Bool) (ts : List Numbered) → length (references_from own after_dot ts) ≤ tally is_ident ts
-references_few own after_dot [] = omega arith
-references_few own after_dot (t ∷ ts) = by after_dot (begun_few own t ts) (references_few own (is_dot t.kind) ts)
+-- how many references and indexes there are, where a dot stands before or not
+abbrev dotted : List Own → Bool → List Numbered → ℕ
+dotted own after ts = length (numbers_where is_index ts) + length (references_from own after ts)
+
+-- a dot before a name is no index, and no reference begins at it
+abbrev AreDotted : List Own → List Numbered → Type 0
+AreDotted own ts = ((after : Bool) → dotted own after ts + 0 ≤ tally is_dot ts) × (names_next ts ≡ true → dotted own false ts + 1 ≤ tally is_dot ts)
+
+index_few : (t : Numbered) (ts : List Numbered) → bit (is_index (t ∷ ts)) + bit (is_ident t.kind && names_next ts) ≤ bit (is_dot t.kind) + bit (names_next ts)
+index_few t [] = by (is_ident t.kind)
   where
-    by : (b : Bool) → length (unless_own own t.number (reference_at (t ∷ ts))) ≤ bit (is_ident t.kind) → length (references_from own (is_dot t.kind) ts) ≤ tally is_ident ts
-        → length (cond b [] (unless_own own t.number (reference_at (t ∷ ts))) ++ references_from own (is_dot t.kind) ts) ≤ bit (is_ident t.kind) + tally is_ident ts
-    by true one h = omega (arith, h)
-    by false one h = omega (arith, one, h, length-append (unless_own own t.number (reference_at (t ∷ ts))) (references_from own (is_dot t.kind) ts))
+    by : (a : Bool) → 0 + bit (a && false) ≤ bit (is_dot t.kind) + 0
+    by true = omega arith
+    by false = omega arith
+index_few t (n ∷ rest) = by (is_dot t.kind) (is_number n.kind) (is_ident t.kind) (names_next (n ∷ rest)) (apart t.kind)
+  where
+    apart : (k : Kind) → is_dot k ≡ true → is_ident k ≡ false
+    apart kind.Dot e = refl
+    apart _ e = absurd (true≢false (sym e))
 
-few : (ts : List Numbered) → length (comments ts) + (length (legacy_indexes ts) + (length (wrapped_interpolations ts) + length (references ts))) ≤ length ts
+    by : (d m i b : Bool) → (d ≡ true → i ≡ false) → bit (d && m) + bit (i && b) ≤ bit d + bit b
+    by true true true b h = absurd (true≢false (h refl))
+    by true true false b h = omega arith
+    by true false true b h = absurd (true≢false (h refl))
+    by true false false b h = omega arith
+    by false m true true h = omega arith
+    by false m true false h = omega arith
+    by false m false b h = omega arith
+
+named_dot : (t : Numbered) (ts : List Numbered) → names_next (t ∷ ts) ≡ true → (is_dot t.kind ≡ true) × (is_index (t ∷ ts) ≡ false) × (is_ident t.kind ≡ false)
+named_dot t [] e = absurd (true≢false (sym e))
+named_dot t (n ∷ rest) e = by t.kind n.kind e
+  where
+    number : (k : Kind) → is_ident k ≡ true → is_number k ≡ false
+    number kind.Ident h = refl
+    number _ h = absurd (true≢false (sym h))
+
+    by : (k l : Kind) → (is_dot k && is_ident l) ≡ true → (is_dot k ≡ true) × ((is_dot k && is_number l) ≡ false) × (is_ident k ≡ false)
+    by kind.Dot l h = (refl, number l h, refl)
+    by _ l h = absurd (true≢false (sym h))
+
+numbers_here : (t : Numbered) (ts : List Numbered) → length (numbers_where is_index (t ∷ ts)) ≡ bit (is_index (t ∷ ts)) + length (numbers_where is_index ts)
+numbers_here t ts = by (is_index (t ∷ ts))
+  where
+    by : (b : Bool) → length (cond b (t.number ∷ []) [] ++ numbers_where is_index ts) ≡ bit b + length (numbers_where is_index ts)
+    by true = omega arith
+    by false = omega arith
+
+references_here : (own : List Own) (after : Bool) (t : Numbered) (ts : List Numbered)
+    → length (references_from own after (t ∷ ts)) ≤ length (unless_own own t.number (reference_at (t ∷ ts))) + length (references_from own (is_dot t.kind) ts)
+references_here own true t ts = omega arith
+references_here own false t ts = omega (arith, length-append (unless_own own t.number (reference_at (t ∷ ts))) (references_from own (is_dot t.kind) ts))
+
+module _ (own : List Own) (t : Numbered) (ts : List Numbered) (more : AreDotted own ts) where
+  left : (b : Bool) → names_next ts ≡ b → is_dot t.kind ≡ false → dotted own (is_dot t.kind) ts + bit b ≤ tally is_dot ts
+  left true e d = let h = more.1 e in omega (arith, h, ap (λ a. length (references_from own a ts)) d)
+  left false e d = more.0 (is_dot t.kind)
+
+  no_word : (k : Kind) → is_dot k ≡ true → bit (is_ident k && names_next ts) ≡ 0
+  no_word kind.Dot h = refl
+  no_word _ h = absurd (true≢false (sym h))
+
+  at_most : (c : Bool) → bit c ≤ 1
+  at_most true = omega arith
+  at_most false = omega arith
+
+  any_by : (after b : Bool) → is_dot t.kind ≡ b → dotted own after (t ∷ ts) + 0 ≤ bit (is_dot t.kind) + tally is_dot ts
+  any_by after true d =
+      let none = no_word t.kind d in
+      let one : bit (is_dot t.kind) ≡ 1 = ap bit d in
+      let m = more.0 (is_dot t.kind) in
+      omega (arith, numbers_here t ts, at_most (is_index (t ∷ ts)), references_here own after t ts, begun_few own t ts, none, one, m)
+  any_by after false d =
+      let l = left (names_next ts) refl d in
+      let none : bit (is_dot t.kind) ≡ 0 = ap bit d in
+      omega (arith, numbers_here t ts, index_few t ts, references_here own after t ts, begun_few own t ts, none, l)
+
+  first : names_next (t ∷ ts) ≡ true → dotted own false (t ∷ ts) + 1 ≤ bit (is_dot t.kind) + tally is_dot ts
+  first e =
+      let d = named_dot t ts e in
+      let one : bit (is_dot t.kind) ≡ 1 = ap bit d.0 in
+      let none : bit (is_index (t ∷ ts)) ≡ 0 = ap bit d.1 in
+      let word : bit (is_ident t.kind && names_next ts) ≡ 0 = ap (λ b. bit (b && names_next ts)) d.2 in
+      let m = more.0 (is_dot t.kind) in
+      omega (arith, numbers_here t ts, none, one, references_here own false t ts, begun_few own t ts, word, m)
+
+dots_few : (own : List Own) (ts : List Numbered) → AreDotted own ts
+dots_few own [] = ((λ after. omega arith), (λ e. absurd (true≢false (sym e))))
+dots_few own (t ∷ ts) = let more = dots_few own ts in ((λ after. any_by own t ts more after (is_dot t.kind) refl), first own t ts more)
+
+-- ---- all of them
+
+few : (ts : List Numbered) → length (comments ts) + (length (legacy_indexes ts) + (length (wrapped_interpolations ts) + (places (declarations ts) + length (references ts)))) ≤ length ts
 few ts =
+    let dots = (dots_few (own_blocks ts) (significant ts)).0 false in
     omega (
       arith,
       kinds_few ts,
       comments_few ts,
-      where_few is_index is_dot no_index (significant ts),
-      where_few is_wrapped is_quote_open no_wrapped (significant ts),
-      references_few (own_blocks ts) false (significant ts),
+      dots,
+      wrapped_few (significant ts),
+      places_few ts,
       tally_filter is_dot (λ t. not (is_passed_over t.kind)) ts,
-      tally_filter is_quote_open (λ t. not (is_passed_over t.kind)) ts,
-      tally_filter is_ident (λ t. not (is_passed_over t.kind)) ts,
+      tally_filter is_interpolation (λ t. not (is_passed_over t.kind)) ts,
     )
 
 -- ---- what is kept
@@ -137,6 +230,22 @@ all_inserted_few : (ks xs : List (List ℕ)) → length (insert_all bytes_eq ks 
 all_inserted_few ks [] = omega arith
 all_inserted_few ks (x ∷ xs) = omega (arith, inserted_few ks x, all_inserted_few (insert_key bytes_eq ks x) xs)
 
+module _ {P Q : Type 0} (f : P → Q) where
+  source_same : (o : Option (SourceAt P)) → length (source_places (source_at f o)) ≡ length (source_places o)
+  source_same None = refl
+  source_same (Some s) = refl
+
+  places_same : (ds : List (Declaration P)) → length (flat_map places_of (map (declaration_at f) ds)) ≡ length (flat_map places_of ds)
+  places_same [] = refl
+  places_same (d ∷ ds) =
+      omega (
+        arith,
+        length-append (source_places (source_at f d.source)) (flat_map places_of (map (declaration_at f) ds)),
+        length-append (source_places d.source) (flat_map places_of ds),
+        source_same d.source,
+        places_same ds,
+      )
+
 pub entries_grow : (kept : Kept) (file : File) → entries (with_file kept file) ≤ entries kept + length file.source.tokens
 entries_grow kept file =
     let ts = tokens_of file in
@@ -150,24 +259,8 @@ entries_grow kept file =
       length-map (legacy_indexes ts) (place_in file),
       length-append kept.facts.interpolations (map (place_in file) (wrapped_interpolations ts)),
       length-map (wrapped_interpolations ts) (place_in file),
+      ap length (flat_map-append places_of kept.facts.declarations (map (declaration_at (place_in file)) (declarations ts))),
+      length-append (flat_map places_of kept.facts.declarations) (flat_map places_of (map (declaration_at (place_in file)) (declarations ts))),
+      places_same (place_in file) (declarations ts),
       all_inserted_few kept.references (references ts),
-    )
-
-rise_few : (from to : ℕ) (ns : List ℕ) → Rise from ns to → from + length ns ≤ to
-rise_few from to [] h = omega (arith, h)
-rise_few from to (n ∷ ns) h = omega (arith, h.0, rise_few (n + 1) to ns h.1)
-
-each_at : (ds : List (Declaration ℕ)) → length ds ≤ length (flat_map numbers_of ds)
-each_at [] = omega arith
-each_at (d ∷ ds) = omega (arith, each_at ds, length-append (quotes d.source) (flat_map numbers_of ds))
-
-pub declared_grow : (kept : Kept) (file : File) → declared (with_file kept file) ≤ declared kept + length file.source.tokens
-declared_grow kept file =
-    let ds = declarations (tokens_of file) in
-    omega (
-      arith,
-      each_at ds,
-      rise_few 0 (length file.source.tokens) (flat_map numbers_of ds) (declarations_in_order file.source.tokens),
-      length-append kept.facts.declarations (map (declaration_at (place_in file)) ds),
-      length-map ds (declaration_at (place_in file)),
     )

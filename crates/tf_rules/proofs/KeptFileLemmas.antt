@@ -3,19 +3,18 @@ use Rattle.std.proofs.Common.{◌≡◌, ◌∙◌, ap, sym, subst, ℕ, List, m
 use Rattle.std.specs.List.{flat_map}
 use Rattle.std.proofs.lemmas.List.Folds.{flat_map-map}
 use Rattle.hcl_scan.specs.Scans.{Scans}
-use Rattle.tf_rules.specs.Comments.{Comment}
-use Rattle.tf_rules.specs.Declarations.{Declaration}
-use Rattle.tf_rules.specs.Findings.{Facts, facts_of}
+use Rattle.tf_facts.specs.Comments.{Comment}
+use Rattle.tf_facts.specs.Declarations.{Declaration}
+use Rattle.tf_facts.specs.Facts.{Facts, facts_of}
 use Rattle.tf_rules.specs.Issues.{File, Place, comment_at, place_in, tokens_of}
 use Rattle.tf_rules.specs.Kept.{declaration_at, facts_at}
-use Rattle.tf_rules.specs.Inner.FactViews.{facts}
-use Rattle.tf_rules.specs.Inner.FoundViews.{comment, declaration}
+use Rattle.tf_facts.specs.Found.{facts, comment, declaration}
 use Rattle.tf_rules.specs.Inner.KeptFacts.{kept_facts}
 use Rattle.tf_rules.specs.Inner.KeptViews.{kept_comment, kept_declaration, place_of}
 use Rattle.tf_rules.specs.Inner.Placing.{Placing, CanGo, Forward, numbers_of}
-use Rattle.tf_rules.specs.declared.file_facts.FileFacts.{FileFacts}
-use Rattle.tf_rules.specs.declared.found.Declared.{Declared}
-use Rattle.tf_rules.specs.declared.found.FoundComment.{FoundComment}
+use Rattle.tf_facts.specs.declared.file_facts.FileFacts.{FileFacts}
+use Rattle.tf_facts.specs.declared.found.Declared.{Declared}
+use Rattle.tf_facts.specs.declared.found.FoundComment.{FoundComment}
 use Rattle.tf_rules.specs.declared.kept_file.KeptFile.{KeptFile}
 use Rattle.tf_rules.proofs.FindingLemmas.{map-map}
 use Rattle.tf_rules.proofs.ForwardLemmas.{comments_forward, declarations_forward, indexes_forward, interpolations_forward}

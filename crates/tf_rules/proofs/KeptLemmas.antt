@@ -8,14 +8,15 @@ use Rattle.std.proofs.lemmas.List.Folds.{list_any-append}
 use Rattle.std.proofs.lemmas.List.Sums.{fold-append}
 use Rattle.std.proofs.lemmas.Slice.Eq.{bytes_eq-Decides}
 use Rattle.indexmap.specs.IndexSet.{insert_all, insert_key}
-use Rattle.tf_rules.specs.References.{references}
-use Rattle.tf_rules.specs.Comments.{Comment, comments}
-use Rattle.tf_rules.specs.Findings.{Finding, facts_of, findings}
+use Rattle.tf_facts.specs.References.{references}
+use Rattle.tf_facts.specs.Comments.{Comment, comments}
+use Rattle.tf_rules.specs.Findings.{Finding, findings}
+use Rattle.tf_facts.specs.Facts.{facts_of}
 use Rattle.tf_rules.specs.Issues.{Asked, File, Place, tokens_of, place_in, all_references, all_comments, comment_at, is_silenced, issues_in, reported, issues}
 use Rattle.tf_rules.specs.Kept.{Kept, nothing, with_file, kept_of, facts_at, issue_at, reported_of_kept, issues_of_kept}
 use Rattle.tf_rules.proofs.FindingLemmas.{map-map, map-flat_map, flat_map_same, finding_at, findings-at, findings-both, SameTexts, findings_same}
-use Rattle.tf_rules.specs.declared.rule.Rule.{Rule}
-use Rattle.tf_rules.specs.declared.rule.Rule.TheVariants.{CommentSyntax, DeprecatedIndex, DeprecatedInterpolation, DocumentedOutputs, DocumentedVariables, ModulePinnedSource, ModuleVersion, NamingConvention, TypedVariables, UnusedDeclarations}
+use Rattle.tf_facts.specs.declared.rule.Rule.{Rule}
+use Rattle.tf_facts.specs.declared.rule.Rule.TheVariants.{CommentSyntax, DeprecatedIndex, DeprecatedInterpolation, DocumentedOutputs, DocumentedVariables, ModulePinnedSource, ModuleVersion, NamingConvention, TypedVariables, UnusedDeclarations}
 use Rattle.tf_rules.specs.declared.naming.Naming.{Naming}
 
 pub kept_of_more : (files : List File) (file : File) → kept_of (files ++ file ∷ []) ≡ with_file (kept_of files) file

@@ -5,16 +5,16 @@ use Rattle.std.specs.List.{list_any}
 use Rattle.std.proofs.lemmas.Bool.{and_left, and_right, cases_eq, eq-eqb, ne_eqb, or_from}
 use Rattle.std.proofs.lemmas.List.{map-append, take_more}
 use Rattle.std.proofs.lemmas.List.Folds.{list_any-append}
-use Rattle.tf_rules.specs.Comments.{Comment, is_any}
+use Rattle.tf_facts.specs.Comments.{Comment, is_any}
 use Rattle.tf_rules.specs.Issues.{Issue, Place, covers, is_silenced}
-use Rattle.tf_rules.specs.Rules.{all_rules, is_rule}
-use Rattle.tf_rules.specs.RuleSets.{holds, rules_of}
+use Rattle.tf_facts.specs.Rules.{all_rules, is_rule}
+use Rattle.tf_facts.specs.RuleSets.{holds, rules_of}
 use Rattle.tf_rules.specs.Inner.KeptViews.{kept_comment}
 use Rattle.tf_rules.specs.Inner.SilencedLines.{held, is_on}
 use Rattle.tf_rules.specs.declared.kept.KeptComment.{KeptComment}
-use Rattle.tf_rules.specs.declared.rule.Rule.{Rule}
-use Rattle.tf_rules.specs.declared.rule.Rule.TheVariants.{CommentSyntax, DeprecatedIndex, DeprecatedInterpolation, DocumentedOutputs, DocumentedVariables, ModulePinnedSource, ModuleVersion, NamingConvention, TypedVariables, UnusedDeclarations}
-use Rattle.tf_rules.specs.declared.rule_set.RuleSet.{RuleSet}
+use Rattle.tf_facts.specs.declared.rule.Rule.{Rule}
+use Rattle.tf_facts.specs.declared.rule.Rule.TheVariants.{CommentSyntax, DeprecatedIndex, DeprecatedInterpolation, DocumentedOutputs, DocumentedVariables, ModulePinnedSource, ModuleVersion, NamingConvention, TypedVariables, UnusedDeclarations}
+use Rattle.tf_facts.specs.declared.rule_set.RuleSet.{RuleSet}
 
 or_false : (b : Bool) → (b || false) ≡ b
 or_false true = refl

@@ -3,34 +3,22 @@
 use Rattle.std.specs.Prelude.{ℕ, ◌++◌, ◌&&◌, Bool, true, false, not, List, [], ◌∷◌, Option, Some, None, codes, map, if◌then◌else◌}
 use Rattle.std.specs.List.{list_any, flat_map}
 use Rattle.std.specs.Str.{bytes_eq}
-use Rattle.hcl_syntax.specs.Numbered.{Numbered}
 use Rattle.tf_rules.specs.Naming.{fits, naming_text}
-use Rattle.tf_rules.specs.Sources.{Source, Other, NotPinned, DefaultBranch, Registry}
-use Rattle.tf_rules.specs.Declarations.{Declaration, SourceAt, declarations}
-use Rattle.tf_rules.specs.References.{last_of, variable_reference, local_reference, data_reference}
-use Rattle.tf_rules.specs.Comments.{Comment, comments}
-use Rattle.tf_rules.specs.Patterns.{legacy_indexes, wrapped_interpolations}
-use Rattle.tf_rules.specs.declared.rule.Rule.{Rule}
-use Rattle.tf_rules.specs.declared.rule.Rule.TheVariants.{CommentSyntax, DeprecatedIndex, DeprecatedInterpolation, DocumentedOutputs, DocumentedVariables, ModulePinnedSource, ModuleVersion, NamingConvention, TypedVariables, UnusedDeclarations}
+use Rattle.tf_facts.specs.Sources.{Source, Other, NotPinned, DefaultBranch, Registry}
+use Rattle.tf_facts.specs.Declarations.{Declaration, SourceAt}
+use Rattle.tf_facts.specs.References.{last_of, variable_reference, local_reference, data_reference}
+use Rattle.tf_facts.specs.Comments.{Comment}
+use Rattle.tf_facts.specs.Facts.{Facts}
+use Rattle.tf_facts.specs.declared.rule.Rule.{Rule}
+use Rattle.tf_facts.specs.declared.rule.Rule.TheVariants.{CommentSyntax, DeprecatedIndex, DeprecatedInterpolation, DocumentedOutputs, DocumentedVariables, ModulePinnedSource, ModuleVersion, NamingConvention, TypedVariables, UnusedDeclarations}
 use Rattle.tf_rules.specs.declared.naming.Naming.{Naming}
-use Rattle.tf_rules.specs.declared.declaration_kind.DeclarationKind.{DeclarationKind}
-use Rattle.tf_rules.specs.declared.declaration_kind.DeclarationKind.TheVariants as declares
-
--- The facts of files, references aside, by the places of tokens.
-pub record Facts (P : Type 0) : Type 0 where
-  pub comments : List (Comment P)
-  pub indexes : List P
-  pub interpolations : List P
-  pub declarations : List (Declaration P)
+use Rattle.tf_facts.specs.declared.declaration_kind.DeclarationKind.{DeclarationKind}
+use Rattle.tf_facts.specs.declared.declaration_kind.DeclarationKind.TheVariants as declares
 
 -- a place, and what a rule says of it
 pub record Finding (P : Type 0) : Type 0 where
   pub at : P
   pub message : List ℕ
-
--- the facts of one file, by the numbers of its tokens
-abbrev pub facts_of : List Numbered → Facts ℕ
-facts_of ts = record { comments = comments ts; indexes = legacy_indexes ts; interpolations = wrapped_interpolations ts; declarations = declarations ts }
 
 -- ---- texts
 

@@ -1,10 +1,44 @@
--- How much is kept.
-use Rattle.std.specs.Prelude.{ℕ, ◌+◌, length}
+-- How much is kept. Our own words.
+use Rattle.std.specs.Prelude.{ℕ, ◌+◌, List, [], ◌∷◌, ◌++◌, Option, Some, None, length}
+use Rattle.std.specs.List.{flat_map}
+use Rattle.tf_facts.specs.Declarations.{Declaration, SourceAt}
+use Rattle.tf_facts.specs.Sources.{Source, DefaultBranch}
 use Rattle.tf_rules.specs.Kept.{Kept}
 
--- comments, patterns of tokens and references
-abbrev pub entries : Kept → ℕ
-entries kept = length kept.facts.comments + (length kept.facts.indexes + (length kept.facts.interpolations + length kept.references))
+abbrev pub source_places : {P : Type 0} → Option (SourceAt P) → List P
+source_places None = []
+source_places (Some s) = s.at ∷ []
 
-abbrev pub declared : Kept → ℕ
-declared kept = length kept.facts.declarations
+-- the places of a declaration: its own, and that of its source
+abbrev pub places_of : {P : Type 0} → Declaration P → List P
+places_of d = d.at ∷ source_places d.source
+
+-- HOW MANY ENTRIES are kept: the places of comments, of patterns of tokens and of declarations, and the references
+abbrev pub entries : Kept → ℕ
+entries kept =
+    length kept.facts.comments
+    + (length kept.facts.indexes + (length kept.facts.interpolations + (length (flat_map places_of kept.facts.declarations) + length kept.references)))
+
+-- ---- and how long
+
+-- the text of a source: the name of its default branch
+abbrev pub branch_of : Source → List (List ℕ)
+branch_of (DefaultBranch r) = r ∷ []
+branch_of _ = []
+
+abbrev pub source_texts : {P : Type 0} → Option (SourceAt P) → List (List ℕ)
+source_texts None = []
+source_texts (Some s) = branch_of s.source
+
+-- the texts of a declaration: its names, and that of its source
+abbrev pub texts_of : {P : Type 0} → Declaration P → List (List ℕ)
+texts_of d = d.names ++ source_texts d.source
+
+-- how many bytes these texts have
+abbrev pub bytes : List (List ℕ) → ℕ
+bytes [] = 0
+bytes (x ∷ xs) = length x + bytes xs
+
+-- HOW MANY BYTES the texts have that are kept: those of the declarations, and the references
+abbrev pub name_bytes : Kept → ℕ
+name_bytes kept = bytes (flat_map texts_of kept.facts.declarations) + bytes kept.references

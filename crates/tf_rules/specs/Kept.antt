@@ -3,11 +3,12 @@ use Rattle.std.specs.Prelude.{ℕ, ◌++◌, not, List, [], Option, Some, None, 
 use Rattle.std.specs.List.{flat_map}
 use Rattle.std.specs.Str.{bytes_eq}
 use Rattle.indexmap.specs.IndexSet.{insert_all}
-use Rattle.tf_rules.specs.Declarations.{Declaration, SourceAt}
-use Rattle.tf_rules.specs.References.{references}
-use Rattle.tf_rules.specs.Findings.{Facts, Finding, facts_of, findings}
+use Rattle.tf_facts.specs.Declarations.{Declaration, SourceAt}
+use Rattle.tf_facts.specs.References.{references}
+use Rattle.tf_facts.specs.Facts.{Facts, facts_of}
+use Rattle.tf_rules.specs.Findings.{Finding, findings}
 use Rattle.tf_rules.specs.Issues.{File, Place, Issue, Asked, tokens_of, place_in, comment_at, is_silenced}
-use Rattle.tf_rules.specs.declared.rule.Rule.{Rule}
+use Rattle.tf_facts.specs.declared.rule.Rule.{Rule}
 
 pub record Kept : Type 0 where
   pub facts : Facts Place

@@ -1,13 +1,4 @@
-pub mod Texts
-pub mod Rules
-pub mod RuleSets
 pub mod Naming
-pub mod Silencing
-pub mod Comments
-pub mod Sources
-pub mod Declarations
-pub mod References
-pub mod Patterns
 pub mod Findings
 pub mod Ordered
 pub mod Issues
@@ -15,6 +6,5 @@ pub mod Kept
 pub mod Growth
 pub mod Answers
 pub mod Agreement
-pub mod OwnBlocks
 pub mod Examples
 pub mod Inner

@@ -1,21 +1,15 @@
 -- The two namings, each a set of texts. A name is one or more words with one `_` between each two; a word is one or
 -- more letters and digits, and the first begins with a letter. In snake_case letters are `a` to `z`, in
 -- mixed_snake_case also `A` to `Z`. Our own choice.
-use Rattle.std.specs.Prelude.{ℕ, ◌||◌, ◌&&◌, ◌==◌, Bool, false, not, List, [], ◌∷◌, codes, length, nat_le}
+use Rattle.std.specs.Prelude.{ℕ, ◌||◌, ◌&&◌, ◌==◌, Bool, false, not, List, [], ◌∷◌, codes, length}
 use Rattle.std.specs.List.{list_all, slice_split}
-use Rattle.std.specs.Char.{is_ascii_digit}
+use Rattle.std.specs.Char.{is_ascii_digit, is_ascii_lowercase, is_ascii_uppercase}
 use Rattle.tf_rules.specs.declared.naming.Naming.{Naming}
 use Rattle.tf_rules.specs.declared.naming.Naming.TheVariants.{SnakeCase, MixedSnakeCase}
 
-abbrev pub is_lowercase : ℕ → Bool
-is_lowercase b = nat_le 97 b && nat_le b 122
-
-abbrev pub is_uppercase : ℕ → Bool
-is_uppercase b = nat_le 65 b && nat_le b 90
-
 abbrev pub is_letter : Naming → ℕ → Bool
-is_letter SnakeCase b = is_lowercase b
-is_letter MixedSnakeCase b = is_lowercase b || is_uppercase b
+is_letter SnakeCase b = is_ascii_lowercase b
+is_letter MixedSnakeCase b = is_ascii_lowercase b || is_ascii_uppercase b
 
 abbrev pub is_word_byte : Naming → ℕ → Bool
 is_word_byte naming b = is_letter naming b || is_ascii_digit b

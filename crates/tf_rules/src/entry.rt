@@ -2,7 +2,7 @@
 
 use crate::issue::Message;
 use crate::kept::TokenPlace;
-use crate::rule::Rule;
+use tf_facts::Rule;
 
 /// What a rule says of a token.
 #[derive(Drop)]

@@ -7,7 +7,7 @@ ghost use Rattle.tf_rules.specs.Answers.{IsAnswer, Rising};
 ghost use Rattle.tf_rules.specs.Findings.{findings};
 ghost use Rattle.tf_rules.specs.Issues.{File, asked_of};
 ghost use Rattle.tf_rules.specs.Kept.{issue_at, kept_of, nothing, with_file};
-ghost use Rattle.tf_rules.specs.RuleSets.{holds};
+ghost use Rattle.tf_facts.specs.RuleSets.{holds};
 ghost use Rattle.tf_rules.specs.Inner.Entries.{issues_of};
 
 #[cfg(test)]
@@ -20,14 +20,12 @@ use crate::kept::{KeptComment, KeptDeclaration, TokenPlace};
 use crate::kept_file::kept_file;
 use crate::naming::Naming;
 use crate::order::in_order;
-use crate::owners::add_references_of;
-use crate::rule::{ALL_RULES, Rule};
 use crate::settings::Settings;
 use crate::silenced::{shown, silenced_lines};
-use crate::text_set::TextSet;
 use hcl_syntax::{Accepted, outline};
 use std::alloc::{AllocError, Global};
 use std::marker::Model;
+use tf_facts::{ALL_RULES, Rule, TextSet, add_references_of};
 
 /// What is kept of the files of a module: places, names and flags, and no source.
 #[derive(Drop)]

@@ -3,21 +3,18 @@
 ghost use Rattle.std.specs.Prelude.{◌≡◌, ◌++◌, ◌&&◌, [], not, codes, IfOk};
 ghost use Rattle.std.specs.String.{string_bytes};
 ghost use Rattle.tf_rules.specs.Findings.{about, both_quoted, finding, is_kind, is_registry, is_unused, kind_text, says_if, unpinned, unpinned_by, uses_of};
-ghost use Rattle.tf_rules.specs.References.{last_of};
+ghost use Rattle.tf_facts.specs.References.{last_of};
 ghost use Rattle.tf_rules.specs.Inner.Entries.{told};
 ghost use Rattle.tf_rules.specs.Inner.KeptViews.{kept_declaration, kept_names, kept_source, place_of};
-ghost use Rattle.tf_rules.specs.Inner.SourceViews.{source};
+ghost use Rattle.tf_facts.specs.Found.{source};
 ghost use Rattle.std.specs.Option.{option_map};
 
-use crate::declaration_kind::DeclarationKind;
 use crate::entry::Finding;
 use crate::issue::Message;
 use crate::kept::{KeptDeclaration, KeptNames, KeptSource, TokenPlace};
-use crate::module_source::ModuleSource;
 use crate::naming::{Naming, fits};
-use crate::rule::Rule;
-use crate::text_set::TextSet;
 use std::alloc::{AllocError, Global};
+use tf_facts::{DeclarationKind, ModuleSource, Rule, TextSet};
 
 /// The word for what is declared.
 fn kind_text(kind: DeclarationKind) -> &'static str

@@ -12,9 +12,8 @@ use crate::finding::finding;
 use crate::issue::Message;
 use crate::kept::{KeptComment, KeptDeclaration, TokenPlace};
 use crate::naming::Naming;
-use crate::rule::Rule;
-use crate::text_set::TextSet;
 use std::alloc::{AllocError, Global};
+use tf_facts::{Rule, TextSet};
 
 /// Puts what was found last, where something was.
 fn put(entries: &mut Vec<Entry>, rule: Rule, found: Option<Finding>) -> Result<(), AllocError>

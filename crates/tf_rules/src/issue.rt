@@ -3,9 +3,9 @@
 ghost use Rattle.std.specs.Prelude.{◌≡◌};
 ghost use Rattle.std.specs.String.{string_bytes};
 
-use crate::rule::Rule;
 use hcl_scan::Position;
 use std::marker::Model;
+use tf_facts::Rule;
 
 /// What an issue says, in UTF-8 and without a line's end.
 #[derive(Drop)]

@@ -5,16 +5,15 @@ ghost use Rattle.std.specs.List.{flat_map};
 ghost use Rattle.std.specs.Option.{option_map};
 ghost use Rattle.tf_rules.specs.Issues.{comment_at, place_in};
 ghost use Rattle.tf_rules.specs.Kept.{declaration_at, source_at};
-ghost use Rattle.tf_rules.specs.Inner.FoundViews.{declaration, texts_of};
-ghost use Rattle.tf_rules.specs.Inner.FoundViews as found;
+ghost use Rattle.tf_facts.specs.Found.{declaration, texts_of};
+ghost use Rattle.tf_facts.specs.Found as found;
 ghost use Rattle.tf_rules.specs.Inner.KeptViews.{kept_comment, kept_declaration, kept_names, kept_source, place_of};
 ghost use Rattle.tf_rules.specs.Inner.Placing.{CanGo, gone, numbers_of, quotes};
 
-use crate::found::{Declared, FoundComment, FoundSource};
 use crate::kept::{KeptComment, KeptDeclaration, KeptNames, KeptSource, TokenPlace};
-use crate::names::Names;
 use crate::placer::Placer;
 use std::alloc::{AllocError, Global};
+use tf_facts::{Declared, FoundComment, FoundSource, Names};
 
 /// The places of the tokens of these numbers.
 pub fn places(

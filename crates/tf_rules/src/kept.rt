@@ -1,9 +1,7 @@
 //! What is kept of the files of a module: places, names and flags, and no source.
 
-use crate::declaration_kind::DeclarationKind;
-use crate::module_source::ModuleSource;
-use crate::rule_set::RuleSet;
 use hcl_scan::Position;
+use tf_facts::{DeclarationKind, ModuleSource, RuleSet};
 
 /// The place of a token: the number of its file, its own, and where it begins.
 #[derive(Clone, Copy)]

@@ -2,17 +2,17 @@
 
 ghost use Rattle.std.specs.Prelude.{◌≡◌, IfOk};
 ghost use Rattle.hcl_syntax.specs.Items.{outline};
-ghost use Rattle.tf_rules.specs.Findings.{facts_of};
+ghost use Rattle.tf_facts.specs.Facts.{facts_of};
 ghost use Rattle.tf_rules.specs.Issues.{place_in, tokens_of};
 ghost use Rattle.tf_rules.specs.Kept.{facts_at};
 ghost use Rattle.tf_rules.specs.Inner.KeptFacts.{kept_facts};
 
-use crate::file_facts::file_facts;
 use crate::keeping::{kept_comments, kept_declarations, places};
 use crate::kept::{KeptComment, KeptDeclaration, TokenPlace};
 use crate::placer::Placer;
 use hcl_syntax::{Accepted, Outline};
 use std::alloc::{AllocError, Global};
+use tf_facts::facts_of;
 
 /// What is kept of one file, references aside.
 #[derive(Drop)]
@@ -34,7 +34,7 @@ pub fn kept_file(
     ensures { IfOk result (λ kept. kept_facts kept ≡ facts_at (place_in (record { number = number; source = accepted.now })) (facts_of (tokens_of (record { number = number; source = accepted.now })))) }
 {
     let tokens = accepted.tokens();
-    let found = file_facts(alloc, accepted, items)?;
+    let found = facts_of(alloc, accepted, items)?;
     let comments = kept_comments(alloc, &found.comments, Placer::new(number, tokens))?;
     let indexes = places(alloc, &found.indexes, Placer::new(number, tokens))?;
     let interpolations = places(alloc, &found.interpolations, Placer::new(number, tokens))?;

@@ -6,24 +6,26 @@ ghost use Rattle.tf_rules.specs.Issues.{Asked, File, Issue, IsReport, issues};
 ghost use Rattle.tf_rules.specs.Agreement.{SameTokens, told_all};
 ghost use Rattle.hcl_scan.specs.Lexemes.{Lexeme};
 ghost use Rattle.hcl_scan.specs.Scans.{Scans};
-ghost use Rattle.hcl_syntax.specs.Numbered.{numbered};
-ghost use Rattle.hcl_syntax.specs.Verdict.{start_of};
-ghost use Rattle.tf_rules.specs.OwnBlocks.{Apart};
-ghost use Rattle.tf_rules.specs.References.{own_blocks};
-ghost use Rattle.tf_rules.specs.Growth.{declared, entries};
+ghost use Rattle.hcl_syntax.specs.Verdict.{IsAccepted, start_of};
+ghost use Rattle.tf_rules.specs.Growth.{entries, name_bytes};
 ghost use Rattle.tf_rules.specs.Kept.{Kept, kept_of, with_file, issues_of_kept};
+
+pub use tf_facts::laws::own_apart;
 
 /// What is kept of files and one more is a function of what is kept of the files, and of that one.
 pub fn kept_of_more()
     ensures { (files : List File) (file : File) → kept_of (files ++ file ∷ []) ≡ with_file (kept_of files) file }
 {}
 
-/// Of one file more no more is kept than it has tokens: of comments, patterns and references together, and of
-/// declarations. Declarations are counted for themselves, since a declared name and a reference can begin at one token
-/// where the grammar does not forbid it.
+/// Of one file more no more entries are kept, of all kinds together, than it has tokens.
 pub fn little_is_kept()
-    ensures entries { (kept : Kept) (file : File) → entries (with_file kept file) ≤ entries kept + length file.source.tokens }
-    ensures declared { (kept : Kept) (file : File) → declared (with_file kept file) ≤ declared kept + length file.source.tokens }
+    ensures { (kept : Kept) (file : File) → entries (with_file kept file) ≤ entries kept + length file.source.tokens }
+{}
+
+/// Of one file more, scanned and accepted, the texts that are kept have no more bytes than the file.
+pub fn short_names_are_kept()
+    ensures { (kept : Kept) (file : File) → Scans file.source.text file.source.tokens → IsAccepted file.source.tokens
+        → name_bytes (with_file kept file) ≤ name_bytes kept + length file.source.text }
 {}
 
 /// The issues of files are a function of what is kept of them.
@@ -45,11 +47,6 @@ pub fn issues_agree()
 pub fn reports_agree()
     ensures { (asked : Asked) (files others : List File) (report other : List Issue) → AllZip SameTokens files others
         → IsReport asked files report → IsReport asked others other → told_all report ≡ told_all other }
-{}
-
-/// The blocks of the variables of a file stand one behind the other.
-pub fn own_apart()
-    ensures { (tokens : List Lexeme) → Apart 0 (own_blocks (numbered tokens)) }
 {}
 
 /// Tokens begin in the order of their numbers.

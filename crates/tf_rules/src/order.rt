@@ -5,6 +5,7 @@ ghost use Rattle.tf_rules.specs.Inner.Entries.{entry_cmp};
 
 use crate::entry::Entry;
 use std::alloc::AllocError;
+use tf_facts::rank;
 
 /// The entries by file, then token, then the name of the rule.
 pub fn in_order(entries: Vec<Entry>) -> Result<Vec<Entry>, AllocError>
@@ -12,6 +13,6 @@ pub fn in_order(entries: Vec<Entry>) -> Result<Vec<Entry>, AllocError>
     ensures ordered { IfOk result (λ sorted. IsSorted entry_cmp sorted.items) }
 {
     let mut sorted = entries;
-    sorted.sort_by_key(|entry| (entry.at.file, entry.at.token, entry.rule.rank()))?;
+    sorted.sort_by_key(|entry| (entry.at.file, entry.at.token, rank(entry.rule)))?;
     Ok(sorted)
 }

@@ -1,7 +1,7 @@
 //! What is asked of the linter.
 
 use crate::naming::Naming;
-use crate::rule_set::RuleSet;
+use tf_facts::RuleSet;
 
 /// The rules that are to be looked at, and how names are to be written.
 #[derive(Clone, Copy, Debug, PartialEq, Eq)]

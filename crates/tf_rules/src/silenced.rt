@@ -2,21 +2,20 @@
 
 ghost use Rattle.std.specs.Prelude.{◌≡◌, ◌==◌, ◌&&◌, ◌||◌, ◌++◌, ◌∷◌, [], ℕ, List, filter, map, not, IfOk, OnOk};
 ghost use Rattle.tf_rules.specs.Answers.{shown};
-ghost use Rattle.tf_rules.specs.Comments.{Comment};
+ghost use Rattle.tf_facts.specs.Comments.{Comment};
 ghost use Rattle.tf_rules.specs.Issues.{Place, is_silenced};
-ghost use Rattle.tf_rules.specs.RuleSets.{holds};
+ghost use Rattle.tf_facts.specs.RuleSets.{holds};
 ghost use Rattle.tf_rules.specs.Inner.Entries.{issue_of, issues_of};
 ghost use Rattle.tf_rules.specs.Inner.KeptViews.{kept_comment};
 ghost use Rattle.tf_rules.specs.Inner.SilencedLines.{AreSilenced, silenced_at};
-ghost use Rattle.tf_rules.specs.declared.rule.Rule.{Rule};
+ghost use Rattle.tf_facts.specs.declared.rule.Rule.{Rule};
 
-use crate::comment::is_any;
 use crate::entry::Entry;
 use crate::issue::Issue;
 use crate::kept::KeptComment;
-use crate::rule_set::RuleSet;
 use indexmap::IndexMap;
 use std::alloc::{AllocError, Global};
+use tf_facts::{RuleSet, is_any, rules_of_both};
 
 /// The silenced rules by the number of the file and the line.
 pub type SilencedLines = IndexMap<(u32, u32), RuleSet>;
@@ -40,7 +39,7 @@ fn silence(
 ) -> Result<(), AllocError>
     ensures { OnOk result ((f l : ℕ) (rule : Rule) → silenced_at lines.new f l rule ≡ (silenced_at lines.old f l rule || ((file == f) && (line == l) && holds rules rule))) }
 {
-    let both = rules_on(lines, file, line).with_all(rules);
+    let both = rules_of_both(rules_on(lines, file, line), rules);
     lines.insert((file, line), both)?;
     Ok(())
 }

@@ -1,2 +1,2 @@
-pub mod Answers
-pub mod PrintAgain
+pub mod AnswerLemmas
+pub mod PrintAgainLemmas

@@ -1,4 +1,5 @@
--- What `tffmt` answers to a line of words and an input.
+-- What `tffmt` answers to a line of words and an input. Its texts, its statuses and the order in which faults are looked for
+-- are our own choice.
 use Rattle.std.specs.Prelude.{◌≡◌, ◌⊎◌, ℕ, List, [], Result, Ok, Err, codes, length, nat_lt, if◌then◌else◌}
 use Rattle.std.specs.Str.{bytes_eq}
 use Rattle.hcl_source.specs.Places.{place}

@@ -3,7 +3,8 @@
 use Rattle.std.specs.Prelude.{List, [], ◌∷◌, Some, Result, Ok, Err}
 use Rattle.std.specs.Prelude.{codes}
 use Rattle.command_line.specs.Flags.{is_set}
-use Rattle.clap.specs.Words.{App, Kinds, Row, Rule, Text, fault_of, matches_of, new_app}
+use Rattle.clap.specs.Words.{App, Kinds, Rule, Text, fault_of, matches_of, new_app}
+use Rattle.clap.specs.Words as clap
 use Rattle.clap.specs.Words.{new_rule, with_rule}
 use Rattle.clap.specs.declared.builder.ArgAction.TheVariants.{SetTrue}
 use Rattle.clap.specs.declared.error.ErrorKind.{ErrorKind}
@@ -28,10 +29,10 @@ usage_of_kind _ = BadLine
 
 -- a line in which clap finds no fault gives its matches, a fault that is help gives help, and any
 -- other a bad line
-abbrev pub line_of : Kinds → List Row → Result FmtOptions Usage
-line_of [] rows = Ok (record { check = is_set (codes "check") rows })
-line_of (fault ∷ _) rows = Err (usage_of_kind fault)
+abbrev pub options_by : Kinds → List clap.Row → Result FmtOptions Usage
+options_by [] rows = Ok (record { check = is_set (codes "check") rows })
+options_by (fault ∷ _) rows = Err (usage_of_kind fault)
 
 -- the answer to a line, want of memory aside
 abbrev pub options_of : List Text → Result FmtOptions Usage
-options_of words = line_of (fault_of tffmt words) (matches_of tffmt words)
+options_of words = options_by (fault_of tffmt words) (matches_of tffmt words)

@@ -1,5 +1,5 @@
 -- What is said of a print that is given as input again: words that ask for a print, words that ask for a check, and the
--- rows that these then have.
+-- rows that these then have. Our own words, for the law `printed_twice`.
 use Rattle.std.specs.Prelude.{◌≡◌, ℕ, true, false, List, [], Ok}
 use Rattle.command_line.specs.Rows.{Row}
 use Rattle.tffmt.specs.Line.{options_of}
@@ -13,9 +13,9 @@ abbrev pub AskForCheck : List (List ℕ) → Type 0
 AskForCheck words = options_of words ≡ Ok (record { check = true })
 
 -- the bytes on standard output, nothing on standard error, status 0
-abbrev pub printed : List ℕ → Row
-printed out = record { out = out; err = []; status = 0 }
+abbrev pub row_of_print : List ℕ → Row
+row_of_print out = record { out = out; err = []; status = 0 }
 
 -- nothing on either, status 0
-abbrev pub formatted : Row
-formatted = record { out = []; err = []; status = 0 }
+abbrev pub row_of_check : Row
+row_of_check = record { out = []; err = []; status = 0 }

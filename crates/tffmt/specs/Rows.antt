@@ -1,4 +1,4 @@
--- The rows of `tffmt` whose devices failed or whose memory ran out, beside those of its answers.
+-- The rows of `tffmt` whose devices failed or whose memory ran out, beside those of its answers: our own choice.
 use Rattle.std.specs.Prelude.{◌≡◌, ℕ, Bool, true, false, List, Option, Some, None, codes}
 use Rattle.command_line.specs.Rows.{Program, Row, OrOutOfMemory, fails_with}
 

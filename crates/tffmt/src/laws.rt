@@ -4,7 +4,7 @@
 ghost use Rattle.std.specs.Prelude.{◌≡◌, ℕ, List, map};
 ghost use Rattle.command_line.specs.Rows.{Row};
 ghost use Rattle.tffmt.specs.Answer.{IsAnswer};
-ghost use Rattle.tffmt.specs.PrintAgain.{AskForCheck, AskForPrint, formatted, printed};
+ghost use Rattle.tffmt.specs.PrintAgain.{AskForCheck, AskForPrint, row_of_check, row_of_print};
 
 use hcl_scan::laws::{list_or_fault, text_or_fault};
 
@@ -29,7 +29,7 @@ pub fn one_answer()
 /// empty standard error and status 0. A check of it gives nothing and status 0.
 pub fn printed_twice()
     ensures printed { (words later : List (List ℕ)) (input : List ℕ) (row : Row) → AskForPrint words → AskForPrint later → IsAnswer words input row
-        → row.status ≡ 0 → IsAnswer later row.out (printed row.out) }
+        → row.status ≡ 0 → IsAnswer later row.out (row_of_print row.out) }
     ensures formatted { (words later : List (List ℕ)) (input : List ℕ) (row : Row) → AskForPrint words → AskForCheck later → IsAnswer words input row
-        → row.status ≡ 0 → IsAnswer later row.out formatted }
+        → row.status ≡ 0 → IsAnswer later row.out row_of_check }
 {}

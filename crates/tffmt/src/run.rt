@@ -35,7 +35,7 @@ fn formatter() -> Program
 }
 
 /// The line of a fault.
-fn line_of(alloc: Global, fault: &Fault) -> Result<String, AllocError>
+fn fault_line(alloc: Global, fault: &Fault) -> Result<String, AllocError>
     ensures { IfOk result (λ text. string_bytes text ≡ fault_line fault.now) }
 {
     let line = fault.at.line;
@@ -51,7 +51,7 @@ fn refuse<O: ByteSink, E: ByteSink>(alloc: Global, out: &mut O, err: &mut E, fau
     ensures { ShowsOne formatter (OrOutOfMemory formatter (λ row. row ≡ refused fault.now))
         (record { out = writer O.taken O.failed O.flushed out.old out.new; err = writer E.taken E.failed E.flushed err.old err.new; status = result }) }
 {
-    formatter().tell_line(out, err, line_of(alloc, fault), 2)
+    formatter().tell_line(out, err, fault_line(alloc, fault), 2)
 }
 
 /// Writes the print of a file, which has so many bytes.

@@ -32,8 +32,8 @@ use Rattle.tfrules.specs.Answer.{IsReported}
 use Rattle.tfrules.specs.Line.{Asking}
 use Rattle.tfrules.specs.Report.{weighs, weight}
 use Rattle.command_line.specs.Rows.{Row}
-use Rattle.tf_rules.specs.Rules.{severity}
-use Rattle.tf_rules.specs.declared.rule.Severity.{Severity}
+use Rattle.tf_facts.specs.Rules.{severity}
+use Rattle.tf_facts.specs.declared.rule.Severity.{Severity}
 use Rattle.tfrules.specs.Files.{NamedFile, AreAccepted, IsAcceptedAs, max_module, numbered_files, size_of}
 use Rattle.tfrules.specs.Formatted.{IsFormatted, Told, told, told_all}
 

@@ -1,6 +1,6 @@
 -- How a run ends.
-use Rattle.std.proofs.Common.{◌≡◌, ◌∙◌, ◌⊎◌, ◌<◌, ◌+◌, ◌++◌, ℕ, Bool, true, false, List, [], ◌∷◌, Option, Some, None, ap, arith, inl, inr, length, map, refl, subst, sym}
-use Rattle.std.specs.Prelude.{Result, Ok, Err, All}
+use Rattle.std.proofs.Common.{◌≡◌, ◌∙◌, ◌⊎◌, ◌<◌, ◌+◌, ◌++◌, ℕ, Bool, false, List, [], ◌∷◌, Option, Some, None, ap, arith, inl, inr, refl, subst, sym}
+use Rattle.std.specs.Prelude.{Result, Ok, Err}
 use Rattle.std.proofs.lemmas.List.{map-append}
 use Rattle.std.proofs.lemmas.List.Elements.{All-append, All-cons, All-nil}
 use Rattle.command_line.specs.Rows.{Program, Row, End, Shows, ShowsOne, OrOutOfMemory, out_of_memory}
@@ -8,14 +8,14 @@ use Rattle.command_line.proofs.Endings.{shows_as}
 use Rattle.hcl_scan.specs.Scanned.{Scanned}
 use Rattle.tf_rules.specs.Answers as rules
 use Rattle.tf_rules.specs.Kept.{Kept}
-use Rattle.tf_rules.specs.Ordered.{Ascends, BeforeAll}
+use Rattle.tf_rules.specs.Ordered.{BeforeAll}
 use Rattle.tf_rules.specs.declared.issue.Issue.{Issue}
 use Rattle.tfrules.specs.Answer.{IsAnswerBy, IsRefused, linter, names_of, usage_line}
-use Rattle.tfrules.specs.Files.{NamedFile, AreAccepted, numbered_files, size_of}
+use Rattle.tfrules.specs.Files.{NamedFile, numbered_files}
 use Rattle.tfrules.specs.Line.{Asking}
 use Rattle.tfrules.specs.Report.{report_row}
 use Rattle.tfrules.specs.Rows.{AreFiles, IsRowBy, Tells}
-use Rattle.tfrules.specs.Inner.Steps.{AreFine, Reached, StopsAt, StopsBy, stop_row, usage_row}
+use Rattle.tfrules.specs.Inner.Steps.{AreFine, Reached, StopsAt, stop_row, usage_row}
 use Rattle.tfrules.specs.declared.stop.Stop.{Stop}
 use Rattle.tfrules.specs.declared.stop.Stop.TheVariants as stop
 use Rattle.tfrules.specs.declared.usage.Usage.{Usage}

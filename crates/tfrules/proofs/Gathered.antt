@@ -1,9 +1,9 @@
 -- The files of a run, one behind the other.
-use Rattle.std.proofs.Common.{◌≡◌, ◌∙◌, ◌⊎◌, ◌≤◌, ◌<◌, ◌+◌, ◌++◌, ℕ, suc, Bool, true, false, List, [], ◌∷◌, Option, Some, None, refl, sym, ap, ap₂, subst, inl, inr, length, map, take, drop, get_or, arith, append-nil, ⊎_elim}
-use Rattle.std.specs.Prelude.{Result, Ok, Err, All, ◌||◌, sum_by}
+use Rattle.std.proofs.Common.{◌≡◌, ◌∙◌, ◌⊎◌, ◌≤◌, ◌<◌, ◌+◌, ◌++◌, ℕ, suc, Bool, false, List, [], ◌∷◌, Option, Some, None, refl, sym, ap, ap₂, subst, inl, inr, length, take, drop, get_or, arith, append-nil, ⊎_elim}
+use Rattle.std.specs.Prelude.{Result, Ok, Err, ◌||◌}
 use Rattle.std.specs.List.{AllZip}
 use Rattle.std.specs.Io.KnownBytes.{Consumes, IsAtEnd}
-use Rattle.std.proofs.lemmas.List.{get_or_default, length-map, length-take-le, map-append, take_all, take_more, take-append-drop}
+use Rattle.std.proofs.lemmas.List.{get_or_default, length-map, length-take-le, map-append, take_more, take-append-drop}
 use Rattle.std.proofs.lemmas.List.Elements.{All-append, All-cons, All-nil}
 use Rattle.std.proofs.lemmas.List.Sums.{sum_by-append}
 use Rattle.hcl_source.specs.Load.{IsLoadFault, IsText, Loads, is_failed_load, max_source}
@@ -12,12 +12,10 @@ use Rattle.hcl_source.specs.declared.fault.Fault.{Fault}
 use Rattle.hcl_source.specs.declared.fault.LoadError.{LoadError}
 use Rattle.hcl_source.specs.declared.fault.LoadError.TheVariants as error
 use Rattle.hcl_source.proofs.LoadLemmas.{too_large_too}
-use Rattle.tf_rules.specs.Issues.{File}
 use Rattle.tf_rules.specs.Kept.{Kept, kept_of, with_file}
 use Rattle.tf_rules.proofs.KeptLemmas.{kept_of_more}
-use Rattle.tfrules.specs.Answer.{names_of}
-use Rattle.tfrules.specs.Files.{NamedFile, AreAccepted, IsAcceptedAs, IsFault, IsOutcome, IsTooMuch, max_module, numbered_files, size_of}
-use Rattle.tfrules.specs.Rows.{AreFiles, Tells}
+use Rattle.tfrules.specs.Files.{NamedFile, IsAcceptedAs, max_module, numbered_files, size_of}
+use Rattle.tfrules.specs.Rows.{Tells}
 use Rattle.tfrules.specs.Inner.Steps.{AreFine, Added, Adds, Keeps, Reached, Reads, StopsAt, StopsBy, stop_by}
 use Rattle.tfrules.specs.declared.stop.Stop.{Stop}
 use Rattle.tfrules.specs.declared.stop.Stop.TheVariants as stop
@@ -79,7 +77,7 @@ stops_unread told o r size stop.OutOfMemory h = h
 
 -- ---- one file more
 
-all_zip_push : (files : List NamedFile) (sources : List Scanned) (f : NamedFile) (s : Scanned) → AllZip IsAcceptedAs files sources → IsAcceptedAs f s → AllZip IsAcceptedAs (files ++ f ∷ []) (sources ++ s ∷ [])
+pub all_zip_push : (files : List NamedFile) (sources : List Scanned) (f : NamedFile) (s : Scanned) → AllZip IsAcceptedAs files sources → IsAcceptedAs f s → AllZip IsAcceptedAs (files ++ f ∷ []) (sources ++ s ∷ [])
 all_zip_push [] [] f s h r = (r, tt)
 all_zip_push [] (b ∷ ys) f s h r = absurd h
 all_zip_push (a ∷ xs) [] f s h r = absurd h

@@ -6,3 +6,6 @@ pub mod Words
 pub mod Gathered
 pub mod Ends
 pub mod AgreeLemmas
+pub mod OneAnswer
+pub mod SomeReport
+pub mod SomeAnswer

@@ -1,12 +1,12 @@
 -- Pieces that are written one behind the other.
-use Rattle.std.proofs.Common.{◌≡◌, ◌∙◌, ◌<◌, ◌≤◌, ◌+◌, ◌++◌, ◌∷◌, [], ℕ, Bool, true, false, List, Option, Some, None, ap, append_assoc, arith, codes, drop, get_or, length, map, refl, subst, sym, take}
+use Rattle.std.proofs.Common.{◌≡◌, ◌∙◌, ◌<◌, ◌≤◌, ◌+◌, ◌++◌, ◌∷◌, [], ℕ, Bool, true, false, List, Option, Some, None, ap, append_assoc, arith, codes, drop, get_or, length, map, refl, subst, sym}
 use Rattle.std.proofs.lemmas.List.{get_or_default, take_all}
 use Rattle.std.specs.Prelude.{◌==◌, decimal}
 use Rattle.std.specs.Borrow.{Bor}
 use Rattle.std.specs.List.{concat, flat_map}
 use Rattle.std.specs.Io.KnownBytes.{Appends, Keeps}
 use Rattle.command_line.specs.Rows.{TookBy, line}
-use Rattle.tf_rules.specs.Rules.{rule_name, severity, severity_text}
+use Rattle.tf_facts.specs.Rules.{rule_name, severity, severity_text}
 use Rattle.tf_rules.specs.declared.issue.Issue.{Issue}
 use Rattle.tfrules.specs.Report.{issue_line, report}
 use Rattle.tfrules.specs.Inner.Pieces.{issue_words, lines_of_report, place_words}

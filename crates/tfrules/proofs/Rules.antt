@@ -3,21 +3,20 @@ use Rattle.std.proofs.Common.{◌≡◌, ◌∙◌, ◌<◌, ◌≤◌, ℕ, Boo
 use Rattle.std.proofs.lemmas.Bool.Decides.{nat_tests}
 use Rattle.clap.specs.Words.{Row}
 use Rattle.command_line.specs.Flags.{is_set}
-use Rattle.std.specs.Prelude.{◌||◌, ◌&&◌, ◌==◌, Option, Some, None, Result, Ok, Err, filter, nat_lt, option_map}
+use Rattle.std.specs.Prelude.{◌||◌, ◌&&◌, ◌==◌, Option, Some, None, Ok, Err, filter, nat_lt, option_map}
 use Rattle.std.specs.List.{list_all, list_any, slice_split}
 use Rattle.std.specs.Borrow.{Bor}
 use Rattle.std.specs.Str.{bytes_eq}
-use Rattle.std.proofs.lemmas.List.Folds.{list_all-append, list_any-append}
+use Rattle.std.proofs.lemmas.List.Folds.{list_all-append}
 use Rattle.std.proofs.lemmas.Slice.Eq.{bytes_eq-Decides}
-use Rattle.tf_rules.specs.RuleSets.{holds, rules_of}
-use Rattle.tf_rules.specs.Rules.{all_rules, is_recommended, rule_name}
+use Rattle.tf_facts.specs.RuleSets.{holds, rules_of}
+use Rattle.tf_facts.specs.Rules.{all_rules, is_recommended, rule_name}
 use Rattle.tf_rules.specs.declared.naming.Naming.{Naming}
-use Rattle.tf_rules.specs.declared.rule.Severity.{Severity}
-use Rattle.tfrules.specs.declared.usage.Usage.{Usage}
+use Rattle.tf_facts.specs.declared.rule.Severity.{Severity}
 use Rattle.tfrules.specs.declared.usage.Usage.TheVariants as usage
-use Rattle.tf_rules.specs.declared.rule.Rule.{Rule}
-use Rattle.tf_rules.specs.declared.rule_set.RuleSet.{RuleSet}
-use Rattle.tfrules.specs.Line.{Asking, asking_for, asking_with, each_once, has_name, max_files, naming_asked, rules_asked, rules_named, severity_asked, value_or}
+use Rattle.tf_facts.specs.declared.rule.Rule.{Rule}
+use Rattle.tf_facts.specs.declared.rule_set.RuleSet.{RuleSet}
+use Rattle.tfrules.specs.Line.{asking_for, asking_with, each_once, has_name, max_files, naming_asked, rules_asked, rules_named, severity_asked, value_or}
 use Rattle.tfrules.specs.Inner.Named.{Named}
 use Rattle.tfrules.proofs.Lists.{filter_same}
 

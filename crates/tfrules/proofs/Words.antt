@@ -9,7 +9,7 @@ use Rattle.clap.specs.declared.error.ErrorKind.TheVariants as kind
 use Rattle.command_line.specs.Faults.{One}
 use Rattle.command_line.proofs.OneFault.{one_fault}
 use Rattle.tfrules.specs.Line.{Asking, line_of, tfrules, usage_of_kind}
-use Rattle.tfrules.specs.Inner.Asked.{asked_by, asking_of}
+use Rattle.tfrules.specs.Asked.{asked_by, asking_of}
 use Rattle.tfrules.specs.declared.options.LintOptions.{LintOptions}
 use Rattle.tfrules.specs.declared.usage.Usage.{Usage}
 use Rattle.tfrules.specs.declared.usage.Usage.TheVariants as usage

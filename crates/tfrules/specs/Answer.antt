@@ -1,4 +1,5 @@
--- What `tfrules` answers to a line of words and the files that it names.
+-- What `tfrules` answers to a line of words and the files that it names. Its texts, its statuses and the order in which the
+-- files are refused are our own choice.
 use Rattle.std.specs.Prelude.{◌≡◌, ◌⊎◌, ℕ, List, [], ◌∷◌, ◌++◌, Result, Ok, Err, codes, map}
 use Rattle.command_line.specs.Rows.{Program, Row, error, fails_with, fault_words, line}
 use Rattle.hcl_scan.specs.Scanned.{Scanned}
@@ -72,3 +73,8 @@ IsAnswerBy (Err usage.OutOfMemory) files row = ⊥
 -- THE ANSWER to a line of words and the files that it names, each once, in order
 abbrev pub IsAnswer : List (List ℕ) → List NamedFile → Row → Type 0
 IsAnswer words = IsAnswerBy (options_of words)
+
+-- the files are those that the line names, where it asks for any
+abbrev pub AreNamed : Result Asking Usage → List NamedFile → Type 0
+AreNamed (Ok asking) files = names_of files ≡ asking.files
+AreNamed (Err usage) files = Unit {0}

@@ -1,5 +1,5 @@
 -- Words for the code's own parts, which its inner contracts use. Nobody has to believe them.
-pub mod Asked
 pub mod Named
+pub mod Outcomes
 pub mod Pieces
 pub mod Steps

@@ -1,4 +1,5 @@
 pub mod Line
+pub mod Asked
 pub mod Files
 pub mod Report
 pub mod Answer

@@ -1,6 +1,6 @@
 -- What the words of a `tfrules` line ask for. clap reads them as a simple command: its own definitions of the matches and
 -- the faults of a line decide. What its options may say is our own choice.
-use Rattle.std.specs.Prelude.{ℕ, ◌==◌, ◌++◌, Bool, true, false, List, [], ◌∷◌, Option, Some, None, Result, Ok, Err, codes, filter, fold, length, nat_lt, unwrap_or, if◌then◌else◌}
+use Rattle.std.specs.Prelude.{ℕ, ◌==◌, ◌++◌, Bool, true, List, [], ◌∷◌, Option, Some, None, Result, Ok, Err, codes, filter, fold, length, nat_lt, unwrap_or, if◌then◌else◌}
 use Rattle.std.specs.List.{list_all, list_any, slice_split}
 use Rattle.std.specs.Str.{bytes_eq}
 use Rattle.command_line.specs.Flags.{is_set}
@@ -11,10 +11,10 @@ use Rattle.clap.specs.declared.builder.ArgAction.TheVariants.{Append, Set, SetTr
 use Rattle.clap.specs.declared.error.ErrorKind.{ErrorKind}
 use Rattle.clap.specs.declared.error.ErrorKind.TheVariants as kind
 use Rattle.tf_rules.specs.Issues.{Asked}
-use Rattle.tf_rules.specs.Rules.{all_rules, is_recommended, rule_name}
-use Rattle.tf_rules.specs.declared.rule.Rule.{Rule}
-use Rattle.tf_rules.specs.declared.rule.Severity.{Severity}
-use Rattle.tf_rules.specs.declared.rule.Severity.TheVariants.{Notice, Warning, Error}
+use Rattle.tf_facts.specs.Rules.{all_rules, is_recommended, rule_name}
+use Rattle.tf_facts.specs.declared.rule.Rule.{Rule}
+use Rattle.tf_facts.specs.declared.rule.Severity.{Severity}
+use Rattle.tf_facts.specs.declared.rule.Severity.TheVariants.{Notice, Warning, Error}
 use Rattle.tf_rules.specs.declared.naming.Naming.{Naming}
 use Rattle.tf_rules.specs.declared.naming.Naming.TheVariants.{SnakeCase, MixedSnakeCase}
 use Rattle.tfrules.specs.declared.usage.Usage.{Usage}

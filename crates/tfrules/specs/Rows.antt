@@ -1,5 +1,5 @@
--- The rows of `tfrules` where an opening or a read failed or memory ran out, beside those of its answers.
-use Rattle.std.specs.Prelude.{◌≡◌, ℕ, Bool, true, false, List, [], ◌∷◌, ◌++◌, Option, Some, None, Result, Ok, Err, All, codes}
+-- The rows of `tfrules` where an opening or a read failed or memory ran out, beside those of its answers: our own choice.
+use Rattle.std.specs.Prelude.{◌≡◌, ℕ, Bool, true, false, List, ◌∷◌, ◌++◌, Option, Some, None, Result, Ok, Err, All, codes}
 use Rattle.command_line.specs.Rows.{Row, OrOutOfMemory}
 use Rattle.hcl_scan.specs.Scanned.{Scanned}
 use Rattle.tfrules.specs.Answer.{IsAnswerBy, about, linter, names_of}

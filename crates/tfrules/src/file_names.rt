@@ -3,7 +3,7 @@
 ghost use Rattle.std.specs.Prelude.{◌≡◌, ◌≤◌, ◌<◌, ◌+◌, [], length, map, get_or, IfOk, OnOk};
 ghost use Rattle.std.specs.List.{list_any};
 ghost use Rattle.std.specs.Str.{bytes_eq};
-ghost use Rattle.tfrules.specs.Line.{each_once, with_name};
+ghost use Rattle.tfrules.specs.Line.{each_once, max_files, with_name};
 
 use std::alloc::{AllocError, Global};
 use std::marker::Model;
@@ -19,12 +19,13 @@ pub struct FileNames<'a> {
 
 impl<'a> Model for FileNames<'a> {
     ghost use Rattle.std.specs.Prelude.{◌≤◌, List, ℕ, length, map};
+    ghost use Rattle.tfrules.specs.Line.{max_files};
 
     ghost Value = { List (List ℕ) };
 
     ghost view = { λ f. map (λ name. name.now) f.names.items };
 
-    ghost invariant = { λ f. length f.names.items ≤ 256 };
+    ghost invariant = { λ f. length f.names.items ≤ max_files };
 }
 
 /// Whether the name is among them.
@@ -51,7 +52,7 @@ fn add_name<'a>(names: &mut Vec<&'a str>, name: &'a str) -> Result<(), AllocErro
 impl<'a> FileNames<'a> {
     /// These names, each once, in the order of their first mention.
     pub(crate) fn new(alloc: Global, given: &[&'a str]) -> Result<FileNames<'a>, AllocError>
-        requires { length given.now ≤ 256 }
+        requires { length given.now ≤ max_files }
         ensures { IfOk result (λ names. names ≡ each_once (map (λ name. name.now) given.now)) }
     {
         let mut names = Vec::new(alloc);
@@ -66,7 +67,7 @@ impl<'a> FileNames<'a> {
     /// How many names there are.
     pub fn len(&self) -> usize
         ensures len { result ≡ length self.now }
-        ensures few { result ≤ 256 }
+        ensures few { result ≤ max_files }
     {
         self.names.len()
     }

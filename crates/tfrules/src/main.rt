@@ -1,12 +1,18 @@
 //! `tfrules` lints the files of a Terraform module.
 #![tactic(auto)]
 
+#[cfg(test)]
+mod failure_tests;
 mod file_names;
 mod gather;
 mod laws;
+#[cfg(test)]
+mod memory_files;
 mod module_files;
 mod options;
 mod report;
+#[cfg(test)]
+mod row_tests;
 mod run;
 mod stop;
 mod system_files;

@@ -7,7 +7,7 @@ ghost use Rattle.tfrules.specs.Answer.{about, linter, refused, usage_line};
 ghost use Rattle.tfrules.specs.Line.{options_of};
 ghost use Rattle.tfrules.specs.Report.{report_row, status};
 ghost use Rattle.tfrules.specs.Rows.{IsRow};
-ghost use Rattle.tfrules.specs.Inner.Asked.{asking_of};
+ghost use Rattle.tfrules.specs.Asked.{asking_of};
 ghost use Rattle.tfrules.specs.Inner.Steps.{stop_row, usage_row, usage_text};
 
 use crate::gather::gather;

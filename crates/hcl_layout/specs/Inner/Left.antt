@@ -1,5 +1,5 @@
 -- What is left to print, from a state of the reading.
-use Rattle.std.specs.Prelude.{◌≡◌, ◌-◌, ◌<◌, ◌≤◌, ◌^◌, ◌++◌, ℕ, List, Option, None, IfSome, take, drop, length, nat_lt, replicate, slice_get, if◌then◌else◌}
+use Rattle.std.specs.Prelude.{◌-◌, ◌<◌, ◌≤◌, ◌^◌, ◌++◌, ℕ, List, Option, None, IfSome, take, drop, length, nat_lt, replicate, slice_get, if◌then◌else◌}
 use Rattle.std.specs.List.{flat_map}
 use Rattle.hcl_scan.specs.Lexemes.{Lexeme}
 use Rattle.hcl_syntax.specs.Balanced.{max_open}
@@ -31,10 +31,6 @@ to_print ts s = printed (gaps_left ts s) (drop s.next ts)
 
 abbrev pub bytes_of : Piece → List ℕ
 bytes_of p = replicate p.gap 32 ++ p.text.now
-
--- a text stands in the source, and begins at a place
-abbrev pub IsFrom : List ℕ → ℕ → List ℕ → Type 0
-IsFrom source start text = text ≡ take (length text) (drop start source)
 
 pub record Ready (ts : List Lexeme) (s : Pieces) : Type 0 where
   pub order : s.next ≤ s.end

@@ -1,8 +1,8 @@
 -- The gaps of a line from its level and two cells, token by token.
-use Rattle.std.specs.Prelude.{◌+◌, ◌==◌, ℕ, List, [], ◌∷◌, Option, Some, None, length, slice_set, if◌then◌else◌}
+use Rattle.std.specs.Prelude.{◌≡◌, ◌+◌, ◌==◌, ℕ, List, [], ◌∷◌, Option, Some, None, length, slice_set, if◌then◌else◌}
 use Rattle.hcl_scan.specs.Lexemes.{Lexeme}
 use Rattle.hcl_layout.specs.Lines.{Line}
-use Rattle.hcl_layout.specs.Gaps.{blanks, indent}
+use Rattle.hcl_layout.specs.Gaps.{blanks, indent, width}
 use Rattle.hcl_layout.specs.declared.gap.Cell.{Cell}
 use Rattle.hcl_layout.specs.declared.gap.LineGaps.{LineGaps}
 
@@ -39,3 +39,16 @@ len_with_blanks (t ∷ ts) = 1 + length t.text + len_with_blanks ts
 -- no cell
 abbrev pub plain_of : ℕ → LineGaps
 plain_of level = record { level = level; assign = None; comment = None }
+
+-- the place of the assign cell and the width before it, where a line has one, and else its beginning
+abbrev pub known_place : Option Cell → ℕ
+known_place None = 0
+known_place (Some c) = c.place
+
+abbrev pub known_width : Option Cell → ℕ
+known_width None = 0
+known_width (Some c) = c.width
+
+-- the width that is kept with the assign cell is the one before it
+abbrev pub IsKnown : LineGaps → Line → Type 0
+IsKnown g line = known_width g.assign ≡ width (known_place g.assign) (gaps_in g line) line

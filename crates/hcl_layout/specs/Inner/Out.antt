@@ -1,8 +1,9 @@
 -- What of a text has gone out, to the sink or into the buffer before it.
-use Rattle.std.specs.Prelude.{◌≡◌, ◌<◌, ◌++◌, ℕ, List, Option, length, take}
+use Rattle.std.specs.Prelude.{◌≡◌, ◌<◌, ◌≤◌, ◌-◌, ◌++◌, ℕ, List, Option, length, take, drop, replicate}
 use Rattle.std.specs.Io.KnownBytes.{Appends}
 use Rattle.hcl_source.specs.declared.device.WriteFault.{WriteFault}
 use Rattle.hcl_layout.specs.declared.buffer.Buffer.{Buffer}
+use Rattle.hcl_layout.specs.declared.buffer.Stretch.{Stretch}
 
 -- what waits in the buffer
 abbrev pub held : Buffer → List ℕ
@@ -26,3 +27,11 @@ Puts now new old b text = (base : Option (List ℕ)) (front : List ℕ) → Out 
 -- a write failed after a part of such a front and the text
 abbrev pub Fails : Option (List ℕ) → Option (List ℕ) → Buffer → List ℕ → WriteFault → Type 0
 Fails now new old text fault = (base : Option (List ℕ)) (front : List ℕ) → Out base now old front → Stopped base new (front ++ text) fault
+
+-- what is printed of a stretch of the source
+abbrev pub stretched : List ℕ → Stretch → List ℕ
+stretched source s = replicate s.gap 32 ++ take (s.end - s.start) (drop s.start source)
+
+-- a stretch of the source lies in it
+abbrev pub Lies : List ℕ → Stretch → Type 0
+Lies source s = (s.start ≤ s.end) × (s.end ≤ length source)

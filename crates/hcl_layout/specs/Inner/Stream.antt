@@ -1,11 +1,11 @@
 -- The gaps of the lines that are left, by what is known of the lines before them: the depth, the levels by depth, and
 -- the columns of the runs in which the line before stands. It is the form that the code follows; the gaps of whole
 -- lists are the same (proofs/StreamLemmas).
-use Rattle.std.specs.Prelude.{ℕ, List, [], ◌∷◌, Option, Some, None}
+use Rattle.std.specs.Prelude.{ℕ, List, [], ◌∷◌, Option, Some, None, option_map}
 use Rattle.hcl_layout.specs.Lines.{Line}
 use Rattle.hcl_layout.specs.Cells.{assign_cell, running_comment, trailing_comment}
 use Rattle.hcl_layout.specs.Columns.{widest}
-use Rattle.hcl_layout.specs.Gaps.{align, plain_gaps, widths}
+use Rattle.hcl_layout.specs.Gaps.{align, plain_gaps, width, widths}
 use Rattle.hcl_layout.specs.Inner.Depths.{depth_after, level_at, levels_behind}
 
 -- ---- runs
@@ -47,6 +47,10 @@ comment_widths d levels column ls = widths running_comment (assigned d levels co
 
 abbrev pub comment_column : ℕ → List ℕ → Option ℕ → Option ℕ → List Line → Option ℕ
 comment_column d levels column comment ls = next_of comment (comment_widths d levels column ls)
+
+-- the same, by the first line's gaps with its assign cell in its column, and the widths of the lines behind it
+abbrev pub column_behind : List ℕ → Line → Option ℕ → List (Option ℕ) → Option ℕ
+column_behind gaps l comment behind = next_of comment (option_map (λ i. width i gaps l) (running_comment l) ∷ behind)
 
 abbrev pub commented : ℕ → List ℕ → Option ℕ → Option ℕ → List Line → List (List ℕ)
 commented d levels column comment [] = []

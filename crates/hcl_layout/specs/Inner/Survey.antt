@@ -4,7 +4,7 @@ use Rattle.hcl_scan.specs.Lexemes.{Lexeme}
 use Rattle.hcl_scan.specs.declared.token.Kind.{Kind}
 use Rattle.hcl_scan.specs.declared.token.Kind.TheVariants as kind
 use Rattle.hcl_layout.specs.Lines.{Line, ends_line, lines}
-use Rattle.hcl_syntax.specs.Kinds.{is_assign, is_inline_comment, is_line_comment}
+use Rattle.hcl_scan.specs.Kinds.{is_assign, is_inline_comment, is_line_comment}
 use Rattle.hcl_layout.specs.Cells.{assign_cell, is_assignment, is_multiline, is_trailing, running_comment, trailing_comment}
 use Rattle.hcl_syntax.specs.Balanced.{is_closer, is_opener, max_open}
 use Rattle.hcl_layout.specs.Inner.Depths.{BalancedFrom, deepen, depth_after}

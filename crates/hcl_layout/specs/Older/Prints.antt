@@ -4,7 +4,7 @@ use Rattle.std.specs.Prelude.{◌&&◌, ◌||◌, ℕ, Bool, true, false, not, L
 use Rattle.std.specs.List.{flat_map}
 use Rattle.std.specs.Str.{bytes_eq}
 use Rattle.hcl_scan.specs.Lexemes.{Lexeme}
-use Rattle.hcl_syntax.specs.Kinds.{is_brace_close, is_brace_open, is_bracket_open, is_comma, is_dot, is_ellipsis, is_ident, is_lit, is_minus, is_newline, is_not, is_number, is_paren_open, is_quote_close, is_quote_open, is_seq_close}
+use Rattle.hcl_scan.specs.Kinds.{is_brace_close, is_brace_open, is_bracket_open, is_comma, is_dot, is_ellipsis, is_ident, is_lit, is_minus, is_newline, is_not, is_number, is_paren_open, is_quote_close, is_quote_open, is_seq_close}
 use Rattle.hcl_layout.specs.Lines.{Line, lines}
 use Rattle.hcl_layout.specs.Levels.{levels, net_of}
 use Rattle.hcl_layout.specs.Cells.{assign_cell, running_comment, trailing_comment}

@@ -1,15 +1,15 @@
 -- What the scanner keeps of what is open, and what this stands for: the openers, their offsets, what heredocs hide.
 -- Our own choice of representation: a heredoc is kept by where its closing marker ends and where what was seen around it ends.
-use Rattle.std.specs.Prelude.{ℕ, Bool, true, false, List, [], ◌∷◌, map, drop, if◌then◌else◌, slice_range, Option, Some, None}
+use Rattle.std.specs.Prelude.{ℕ, ◌-◌, Bool, true, false, List, [], ◌∷◌, length, map, drop, if◌then◌else◌, slice_range, Option, Some, None}
 use Rattle.hcl_scan.specs.Lexemes as lexemes
-use Rattle.hcl_scan.specs.Lexemes.{is_group}
+use Rattle.hcl_scan.specs.Lexemes.{is_group, moved}
 use Rattle.hcl_scan.specs.Spelling.{Context, Template, Expression, context_in}
 use Rattle.hcl_scan.specs.Scans.{Hidden, owes}
 use Rattle.hcl_scan.specs.declared.stack.Opener.{Opener}
 use Rattle.hcl_scan.specs.declared.stack.Opener.TheVariants.{Quote, Heredoc, Sequence, Brace, Bracket, Paren}
 use Rattle.hcl_scan.specs.declared.stack.Opened.{Opened}
 use Rattle.hcl_scan.specs.declared.token.Kind.{Kind}
-use Rattle.hcl_scan.specs.declared.token.Kind.TheVariants.{QuoteOpen, HeredocOpen, InterpOpen, ControlOpen, ParenOpen, BracketOpen, BraceOpen, ParenClose, BracketClose, BraceClose, SeqClose, QuoteClose}
+use Rattle.hcl_scan.specs.declared.token.Kind.TheVariants.{QuoteOpen, HeredocOpen, InterpOpen, ControlOpen, ParenOpen, BracketOpen, BraceOpen}
 
 abbrev pub opener_of : Opener → lexemes.Opener
 opener_of Quote = lexemes.Quote
@@ -58,14 +58,9 @@ abbrev pub popped_if : lexemes.Opener → List Opened → List Opened
 popped_if opener [] = []
 popped_if opener (o ∷ stack) = if same_opener (opener_of o.by) opener then stack else o ∷ stack
 
--- without what a token of this kind closes
+-- without what a token of this kind closes: as much is left as the token leaves open
 abbrev pub closed : Kind → List Opened → List Opened
-closed ParenClose stack = popped_if lexemes.Paren stack
-closed BracketClose stack = popped_if lexemes.Bracket stack
-closed BraceClose stack = popped_if lexemes.Brace (popped_groups stack)
-closed SeqClose stack = drop 1 (popped_groups stack)
-closed QuoteClose stack = drop 1 stack
-closed _ stack = stack
+closed kind stack = drop (length stack - length (moved kind (openers_of stack))) stack
 
 -- a `}` closes a sequence in what this opens, where it does so around it or not
 abbrev pub closes_on : Opener → Bool → Bool

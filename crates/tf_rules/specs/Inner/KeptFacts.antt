@@ -1,6 +1,6 @@
 -- What contracts see of what is kept of one file.
 use Rattle.std.specs.Prelude.{map}
-use Rattle.tf_rules.specs.Findings.{Facts}
+use Rattle.tf_facts.specs.Facts.{Facts}
 use Rattle.tf_rules.specs.Issues.{Place}
 use Rattle.tf_rules.specs.Inner.KeptViews.{kept_comment, kept_declaration, place_of}
 use Rattle.tf_rules.specs.declared.kept_file.KeptFile.{KeptFile}

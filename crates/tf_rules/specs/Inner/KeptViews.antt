@@ -2,11 +2,11 @@
 use Rattle.std.specs.Prelude.{ℕ, List, [], ◌∷◌}
 use Rattle.std.specs.Option.{option_map}
 use Rattle.std.specs.String.{string_bytes}
-use Rattle.tf_rules.specs.Comments.{Comment}
-use Rattle.tf_rules.specs.Declarations.{Declaration, SourceAt}
+use Rattle.tf_facts.specs.Comments.{Comment}
+use Rattle.tf_facts.specs.Declarations.{Declaration, SourceAt}
 use Rattle.tf_rules.specs.Issues.{Place}
-use Rattle.tf_rules.specs.RuleSets.{rules_of}
-use Rattle.tf_rules.specs.Inner.SourceViews.{source}
+use Rattle.tf_facts.specs.RuleSets.{rules_of}
+use Rattle.tf_facts.specs.Found.{source}
 use Rattle.tf_rules.specs.declared.kept.KeptComment.{KeptComment}
 use Rattle.tf_rules.specs.declared.kept.KeptDeclaration.{KeptDeclaration}
 use Rattle.tf_rules.specs.declared.kept.KeptNames.{KeptNames}

@@ -3,7 +3,7 @@ use Rattle.std.specs.Prelude.{◌≡◌, ◌<◌, ◌≤◌, ◌++◌, ℕ, List
 use Rattle.std.specs.List.{flat_map}
 use Rattle.hcl_scan.specs.Lexemes.{Lexeme}
 use Rattle.hcl_syntax.specs.Verdict.{start_of}
-use Rattle.tf_rules.specs.Declarations.{Declaration, SourceAt}
+use Rattle.tf_facts.specs.Declarations.{Declaration, SourceAt}
 use Rattle.tf_rules.specs.Issues.{File}
 
 -- a file, and the offset of the last token whose place was asked for

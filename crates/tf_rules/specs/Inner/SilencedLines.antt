@@ -2,12 +2,12 @@
 use Rattle.std.specs.Prelude.{◌≡◌, ◌==◌, ◌&&◌, ℕ, Bool, false, List, Option, Some, None, nat_eq}
 use Rattle.std.specs.List.{list_any}
 use Rattle.indexmap.specs.IndexMap.{IndexMap, get}
-use Rattle.tf_rules.specs.Comments.{Comment}
+use Rattle.tf_facts.specs.Comments.{Comment}
 use Rattle.tf_rules.specs.Issues.{Place}
-use Rattle.tf_rules.specs.Rules.{is_rule}
-use Rattle.tf_rules.specs.RuleSets.{holds}
-use Rattle.tf_rules.specs.declared.rule.Rule.{Rule}
-use Rattle.tf_rules.specs.declared.rule_set.RuleSet.{RuleSet}
+use Rattle.tf_facts.specs.Rules.{is_rule}
+use Rattle.tf_facts.specs.RuleSets.{holds}
+use Rattle.tf_facts.specs.declared.rule.Rule.{Rule}
+use Rattle.tf_facts.specs.declared.rule_set.RuleSet.{RuleSet}
 
 abbrev pub held : Option RuleSet → Rule → Bool
 held None rule = false

@@ -1,15 +1,13 @@
 //! What is kept of two small files, worked out by hand.
 
 use super::Facts;
-use crate::declaration_kind::DeclarationKind;
 use crate::kept::{KeptNames, TokenPlace};
-use crate::module_source::ModuleSource;
-use crate::rule::Rule;
 use hcl_scan::{Source, scan};
 use hcl_syntax::accepts;
 use std::alloc::{AllocError, Global};
 use std::process::Abort;
 use std::test::Fail;
+use tf_facts::{DeclarationKind, ModuleSource, Rule};
 
 const FIRST: &str =
     "variable \"v\" {\n  type = var.v\n}\nmodule \"m\" {\n  source = \"git@x?ref=main\"\n}\n// é\n";

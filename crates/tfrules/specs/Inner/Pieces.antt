@@ -1,5 +1,5 @@
 -- The parts of a report.
-use Rattle.std.specs.Prelude.{ℕ, ◌<◌, ◌++◌, List, codes, decimal, length}
+use Rattle.std.specs.Prelude.{ℕ, ◌++◌, List, codes, decimal, length}
 use Rattle.std.specs.List.{flat_map}
 use Rattle.command_line.specs.Rows.{line}
 use Rattle.tf_rules.specs.declared.issue.Issue.{Issue}

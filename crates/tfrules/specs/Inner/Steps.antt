@@ -1,5 +1,5 @@
 -- How far a run has come with the files of a module, and why it stopped.
-use Rattle.std.specs.Prelude.{◌≡◌, ◌≤◌, ◌<◌, ◌+◌, ◌++◌, ◌∷◌, ℕ, Bool, true, false, List, [], Option, Some, None, Result, Ok, Err, codes, length}
+use Rattle.std.specs.Prelude.{◌≡◌, ◌≤◌, ◌<◌, ◌+◌, ◌++◌, ◌∷◌, ℕ, Bool, true, false, List, [], Option, Result, Ok, Err, codes, length}
 use Rattle.command_line.specs.Rows.{Row, error_line, out_of_memory}
 use Rattle.hcl_source.specs.Load.{IsLoadFault, IsText}
 use Rattle.hcl_scan.specs.Scanned.{Scanned}

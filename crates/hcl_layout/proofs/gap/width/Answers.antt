@@ -1,7 +1,9 @@
-use Rattle.std.proofs.Common.{◌∙◌, ap, arith}
+use Rattle.std.proofs.Common.{◌≡◌, ◌∙◌, ap, arith, drop, sym, take}
 use Rattle.hcl_scan.specs.Scanned.{lexeme}
-use Rattle.hcl_layout.specs.Inner.LineGaps.{cell_gap}
-use Rattle.hcl_layout.proofs.LeftLemmas.{width_behind, width_front}
+use Rattle.hcl_layout.specs.Inner.LineGaps.{cell_gap, gaps_in}
+use Rattle.hcl_layout.specs.Gaps.{width}
+use Rattle.hcl_layout.specs.Lines.{Line}
+use Rattle.hcl_layout.proofs.LeftLemmas.{width_behind, width_known}
 use Rattle.hcl_layout.proofs.RunLemmas.{length_len_with_blanks}
 use Rattle.hcl_layout.proofs.gap.width.Goals as goal
 
@@ -12,22 +14,33 @@ pub overflow_add-at-in-loop-k : goal.overflow_add-at-in-loop-k
 overflow_add-at-in-loop-k c = omega (arith, length_len_with_blanks c.args.tokens.now.tokens, c.requires.within, c.requires.there, c.requires.small)
 
 pub loop-k-init : goal.loop-k-init
-loop-k-init c = width_front c.args.gaps c.args.tokens.now.tokens c.args.at c.args.len c.args.place
+loop-k-init c =
+    let ts = c.args.tokens.now.tokens in
+    let line : Line = take c.args.len (drop c.args.at ts) in
+    let from = c.known-from.result.0 in
+    let known : c.known-from.result.1 ≡ width from (gaps_in c.args.gaps line) line = c.known-from.ensures.width ∙ c.requires.known ∙ ap (λ k. width k (gaps_in c.args.gaps line) line) (sym c.known-from.ensures.place) in
+    omega (arith, known, width_known c.args.gaps ts c.args.at c.args.len from c.args.place c.requires.within (omega (arith, c.known-from.ensures.place, c.requires.order)) c.requires.there)
 
 pub overflow_add-columns : goal.overflow_add-columns
 overflow_add-columns c =
     let next = width_behind c.args.gaps c.args.tokens.now.tokens c.args.at c.args.len c.loop-k.k c.args.place (lexeme c.get-token.result) c.get-token.ensures.token c.requires.there c.loop-k-test.true in
-    let gap = c.gap_by_cells-gap.ensures ∙ ap (λ p. cell_gap c.args.gaps.comment c.loop-k.k (cell_gap c.args.gaps.assign c.loop-k.k p)) c.plain_gap_at-plain.ensures in
-    omega (arith, next, c.loop-k.invariant, gap, c.clusters.ensures.count, c.requires.fits)
+    let gap = c.cell_gap-gap.ensures
+    ∙ ap (λ o. cell_gap o c.loop-k.k (cell_gap c.args.gaps.assign c.loop-k.k c.plain_gap_at-plain.result)) (sym c.requires.plain)
+    ∙ ap (λ p. cell_gap c.args.gaps.comment c.loop-k.k (cell_gap c.args.gaps.assign c.loop-k.k p)) c.plain_gap_at-plain.ensures in
+    omega (arith, next, c.loop-k.invariant, gap, c.columns.ensures.count, c.requires.fits)
 
 pub overflow_add-columns-in-loop-k : goal.overflow_add-columns-in-loop-k
 overflow_add-columns-in-loop-k c =
     let next = width_behind c.args.gaps c.args.tokens.now.tokens c.args.at c.args.len c.loop-k.k c.args.place (lexeme c.get-token.result) c.get-token.ensures.token c.requires.there c.loop-k-test.true in
-    let gap = c.gap_by_cells-gap.ensures ∙ ap (λ p. cell_gap c.args.gaps.comment c.loop-k.k (cell_gap c.args.gaps.assign c.loop-k.k p)) c.plain_gap_at-plain.ensures in
-    omega (arith, next, c.loop-k.invariant, gap, c.clusters.ensures.count, c.requires.fits)
+    let gap = c.cell_gap-gap.ensures
+    ∙ ap (λ o. cell_gap o c.loop-k.k (cell_gap c.args.gaps.assign c.loop-k.k c.plain_gap_at-plain.result)) (sym c.requires.plain)
+    ∙ ap (λ p. cell_gap c.args.gaps.comment c.loop-k.k (cell_gap c.args.gaps.assign c.loop-k.k p)) c.plain_gap_at-plain.ensures in
+    omega (arith, next, c.loop-k.invariant, gap, c.columns.ensures.count, c.requires.fits)
 
 pub loop-k-preserved : goal.loop-k-preserved
 loop-k-preserved c =
     let next = width_behind c.args.gaps c.args.tokens.now.tokens c.args.at c.args.len c.loop-k.k c.args.place (lexeme c.get-token.result) c.get-token.ensures.token c.requires.there c.loop-k-test.true in
-    let gap = c.gap_by_cells-gap.ensures ∙ ap (λ p. cell_gap c.args.gaps.comment c.loop-k.k (cell_gap c.args.gaps.assign c.loop-k.k p)) c.plain_gap_at-plain.ensures in
-    omega (arith, next, c.loop-k.invariant, gap, c.clusters.ensures.count)
+    let gap = c.cell_gap-gap.ensures
+    ∙ ap (λ o. cell_gap o c.loop-k.k (cell_gap c.args.gaps.assign c.loop-k.k c.plain_gap_at-plain.result)) (sym c.requires.plain)
+    ∙ ap (λ p. cell_gap c.args.gaps.comment c.loop-k.k (cell_gap c.args.gaps.assign c.loop-k.k p)) c.plain_gap_at-plain.ensures in
+    omega (arith, next, c.loop-k.invariant, gap, c.columns.ensures.count)

@@ -6,7 +6,7 @@ use Rattle.hcl_syntax.specs.Balanced.{max_open}
 use Rattle.hcl_layout.specs.Inner.Depths.{BalancedFrom, deepen}
 use Rattle.hcl_layout.specs.Inner.Survey.{first_noted, going, is_noted, noted, surveyed}
 use Rattle.hcl_layout.specs.declared.line.Survey.{Survey}
-use Rattle.hcl_layout.proofs.SurveyLemmas.{low_at, rest_at, same_token, steps_at, going_more, going_on, going_out, surveyed_end, surveyed_going}
+use Rattle.hcl_layout.proofs.SurveyLemmas.{behind_token, low_at, rest_at, same_token, steps_at, going_more, going_on, going_out, surveyed_end, surveyed_going}
 use Rattle.hcl_layout.proofs.NotedKindLemmas.{end_passed, unnoted, unnoted_goes_on}
 use Rattle.hcl_layout.proofs.line.read_line.Goals as goal
 
@@ -78,6 +78,29 @@ loop-line-smaller-then-not-is_noted c =
     let same = c.passed-line.ensures t (unnoted t.kind (sym c.is_noted.ensures ∙ c.if-not-is_noted.true)) in
     let len : c.passed-line.result.len ≡ c.loop-line.line.len + 1 = ap (λ (s : Survey). s.len) same in
     omega (arith, len)
+
+pub read_rest-requires-clause-balanced : goal.read_rest-requires-clause-balanced
+read_rest-requires-clause-balanced c = (behind_token c.args.tokens.now.tokens c.args.at c.loop-line.line c.with-line.result (lexeme c.get-token.result) c.get-token.ensures.token c.with-line.ensures c.loop-line.invariant.balanced c.loop-line.invariant.low).0
+
+pub read_rest-requires-clause-fits : goal.read_rest-requires-clause-fits
+read_rest-requires-clause-fits c = (behind_token c.args.tokens.now.tokens c.args.at c.loop-line.line c.with-line.result (lexeme c.get-token.result) c.get-token.ensures.token c.with-line.ensures c.loop-line.invariant.balanced c.loop-line.invariant.low).1
+
+pub read_rest-requires-clause-within : goal.read_rest-requires-clause-within
+read_rest-requires-clause-within c =
+    let len : c.with-line.result.len ≡ c.loop-line.line.len + 1 = ap (λ (s : Survey). s.len) c.with-line.ensures in
+    omega (arith, len)
+
+pub returns-then-is_some : goal.returns-then-is_some
+returns-then-is_some c t e =
+    let ts = c.args.tokens.now.tokens in
+    let u = lexeme c.get-token.result in
+    let i : ℕ = c.args.at + c.loop-line.line.len in
+    let len : c.with-line.result.len ≡ c.loop-line.line.len + 1 = ap (λ (s : Survey). s.len) c.with-line.ensures in
+    let further : i + 1 ≡ c.args.at + c.with-line.result.len = omega (arith, len) in
+    let whole = surveyed (first_noted c.args.depth t) t (drop (c.args.at + 1) ts) in
+    c.read_rest.ensures
+    ∙ sym (going_on ts i u c.loop-line.line c.with-line.result whole c.get-token.ensures.token c.with-line.ensures (sym c.is_line_end-in-loop-line.ensures ∙ c.if-is_line_end-2.false) (c.loop-line.invariant.same t e)
+    ∙ ap (λ k. going c.with-line.result (drop k ts)) further)
 
 pub loop-line-preserved : goal.loop-line-preserved
 loop-line-preserved c =

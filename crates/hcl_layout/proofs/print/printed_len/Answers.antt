@@ -7,8 +7,8 @@ use Rattle.hcl_layout.proofs.print.printed_len.Goals as goal
 
 pub loop-piece-init : goal.loop-piece-init
 loop-piece-init c =
-    let ts = c.tokens-tokens.result.now.tokens in
-    let balanced : BalancedFrom 0 ts = balanced_from ts (subst (λ (s : Scanned). IsBalanced s.tokens) (sym c.tokens-tokens.ensures.tokens) c.tokens-tokens.ensures.balanced) in
+    let ts = c.new-tokens.result.tokens in
+    let balanced : BalancedFrom 0 ts = balanced_from ts (subst (λ (s : Scanned). IsBalanced s.tokens) (sym c.new-tokens.ensures.same) c.new-tokens.ensures.balanced) in
     record {
       ready = c.start-pieces.ensures.ready ts balanced;
       whole = omega (arith, ap length (c.start-pieces.ensures.all ts balanced));

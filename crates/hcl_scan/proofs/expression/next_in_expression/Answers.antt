@@ -101,10 +101,10 @@ pub opener_or_less-requires : goal.opener_or_less-requires
 opener_or_less-requires c = (ap lead_of (sym c.as_bytes-bytes.ensures.value) ∙ sym c.lead_of.ensures ∙ c.in-LessLess.is)
 
 pub returns-in-Sign-clause-found : goal.returns-in-Sign-clause-found
-returns-in-Sign-clause-found c = some_mark c.args.around.after_dot c.args.around.inside_heredoc c.args.around.closes_sequence c.args.seen.now c.as_bytes-bytes.result.now c.mark.result (ap lead_of (sym c.as_bytes-bytes.ensures.value) ∙ sym c.lead_of.ensures ∙ c.in-Sign.is) c.as_bytes-bytes.ensures.value c.mark.ensures.found
+returns-in-Sign-clause-found c = some_mark c.args.around.after_dot c.args.around.inside_heredoc c.args.around.closes_sequence c.args.seen.now c.as_bytes-bytes.result.now c.found_punctuation.result (ap lead_of (sym c.as_bytes-bytes.ensures.value) ∙ sym c.lead_of.ensures ∙ c.in-Sign.is) c.as_bytes-bytes.ensures.value c.found_punctuation.ensures.found
 
 pub returns-in-Sign-clause-boundary : goal.returns-in-Sign-clause-boundary
-returns-in-Sign-clause-boundary c = mark_cut c.args.seen.now c.as_bytes-bytes.result.now c.mark.result c.utf8.seen c.as_bytes-bytes.ensures.value c.mark.ensures.found
+returns-in-Sign-clause-boundary c = mark_cut c.args.seen.now c.as_bytes-bytes.result.now c.found_punctuation.result c.utf8.seen c.as_bytes-bytes.ensures.value c.found_punctuation.ensures.found
 
 pub returns-in-Sign-clause-none : goal.returns-in-Sign-clause-none
-returns-in-Sign-clause-none c = no_mark c.args.around.after_dot c.args.around.inside_heredoc c.args.around.closes_sequence c.args.seen.now c.as_bytes-bytes.result.now c.mark.result (ap lead_of (sym c.as_bytes-bytes.ensures.value) ∙ sym c.lead_of.ensures ∙ c.in-Sign.is) c.as_bytes-bytes.ensures.value c.mark.ensures.none
+returns-in-Sign-clause-none c = no_mark c.args.around.after_dot c.args.around.inside_heredoc c.args.around.closes_sequence c.args.seen.now c.as_bytes-bytes.result.now c.found_punctuation.result (ap lead_of (sym c.as_bytes-bytes.ensures.value) ∙ sym c.lead_of.ensures ∙ c.in-Sign.is) c.as_bytes-bytes.ensures.value c.found_punctuation.ensures.none

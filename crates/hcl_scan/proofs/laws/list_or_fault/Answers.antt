@@ -5,7 +5,7 @@ use Rattle.hcl_scan.specs.Inner.Scanners.{state_of, lexeme_of, Moves}
 use Rattle.hcl_scan.specs.declared.token.Entry.{Entry}
 use Rattle.hcl_scan.specs.declared.scanner.Scanner.{Scanner}
 use Rattle.hcl_scan.proofs.AllContextLemmas.{Run-push}
-use Rattle.hcl_scan.proofs.ScanLemmas.{all_read, token_read, fault_of}
+use Rattle.hcl_scan.proofs.ScanLemmas.{all_read, token_read, scan_fault}
 use Rattle.hcl_scan.proofs.laws.list_or_fault.Goals as goal
 
 abbrev Read : List ℕ → Scanner → Type 0
@@ -46,5 +46,5 @@ returns-in-Ok-None c = inl (c.loop.invariant.read.0, (state_of c.loop.scanner, c
 
 pub returns-in-Err : goal.returns-in-Err
 returns-in-Err c =
-    let fault = fault_of c.args.text.now c.loop.invariant.read.0 c.loop.scanner c.in-Err.field-0 c.loop.invariant.same_text c.loop.invariant.read.1 c.in-Err.ensures.stopped in
-    inr (c.in-Err.field-0.kind, c.in-Err.field-0.at, fault.scan_fault)
+    let fault = scan_fault c.args.text.now c.loop.invariant.read.0 c.loop.scanner c.in-Err.field-0 c.loop.invariant.same_text c.loop.invariant.read.1 c.in-Err.ensures.stopped in
+    inr (c.in-Err.field-0.kind, c.in-Err.field-0.at, fault)

@@ -1,23 +1,23 @@
 use Rattle.std.proofs.Common.{drop, arith, sym, ap, ◌∙◌, length-drop}
 use Rattle.hcl_scan.specs.Spelling.{element_len}
 use Rattle.hcl_scan.proofs.ElementLemmas.{next_element}
-use Rattle.hcl_scan.proofs.LiteralLemmas.{element_is, Fits}
+use Rattle.hcl_scan.proofs.LiteralLemmas.{element_is, IsPart}
 use Rattle.hcl_scan.proofs.literal.literal_len.Goals as goal
 
 pub overflow_add-len-in-Some : goal.overflow_add-len-in-Some
 overflow_add-len-in-Some c =
-    let some : Fits (drop c.loop-len.len c.args.seen.now) c.in-Some.n = element_is c.args.quoted (drop c.loop-len.len c.args.seen.now) c.in-Some.n (sym (c.in-Some.ensures ∙ ap (element_len c.args.quoted) c.split_at.ensures.back)) in
+    let some : IsPart (drop c.loop-len.len c.args.seen.now) c.in-Some.n = element_is c.args.quoted (drop c.loop-len.len c.args.seen.now) c.in-Some.n (sym (c.in-Some.ensures ∙ ap (element_len c.args.quoted) c.split_at.ensures.back)) in
     omega (arith, some.1, length-drop c.loop-len.len c.args.seen.now)
 
 pub loop-len-smaller : goal.loop-len-smaller
 loop-len-smaller c =
-    let some : Fits (drop c.loop-len.len c.args.seen.now) c.in-Some.n = element_is c.args.quoted (drop c.loop-len.len c.args.seen.now) c.in-Some.n (sym (c.in-Some.ensures ∙ ap (element_len c.args.quoted) c.split_at.ensures.back)) in
+    let some : IsPart (drop c.loop-len.len c.args.seen.now) c.in-Some.n = element_is c.args.quoted (drop c.loop-len.len c.args.seen.now) c.in-Some.n (sym (c.in-Some.ensures ∙ ap (element_len c.args.quoted) c.split_at.ensures.back)) in
     omega (arith, some.0, some.1, length-drop c.loop-len.len c.args.seen.now, c.loop-len-test.true)
 
 pub loop-len-preserved : goal.loop-len-preserved
 loop-len-preserved c =
     let is = sym (c.in-Some.ensures ∙ ap (element_len c.args.quoted) c.split_at.ensures.back) in
-    let some : Fits (drop c.loop-len.len c.args.seen.now) c.in-Some.n = element_is c.args.quoted (drop c.loop-len.len c.args.seen.now) c.in-Some.n is in
+    let some : IsPart (drop c.loop-len.len c.args.seen.now) c.in-Some.n = element_is c.args.quoted (drop c.loop-len.len c.args.seen.now) c.in-Some.n is in
     record {
       within = omega (arith, some.1, length-drop c.loop-len.len c.args.seen.now, c.loop-len-test.true);
       elements = next_element c.args.quoted c.loop-len.len c.in-Some.n c.args.seen.now c.loop-len.invariant.elements is some.0 some.1;

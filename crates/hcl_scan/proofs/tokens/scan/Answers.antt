@@ -1,6 +1,6 @@
 use Rattle.std.proofs.Common.{arith}
 use Rattle.hcl_scan.specs.Inner.Scanners.{lexemes_of}
-use Rattle.hcl_scan.proofs.ScanLemmas.{token_read, more_parts, same_still, more_run, fault_of}
+use Rattle.hcl_scan.proofs.ScanLemmas.{token_read, more_parts, same_still, more_run, no_tokens, scan_fault}
 use Rattle.hcl_scan.proofs.tokens.scan.Goals as goal
 
 pub loop-entry-preserved : goal.loop-entry-preserved
@@ -16,5 +16,5 @@ loop-entry-preserved c =
 
 pub returns-in-Err-clause-err : goal.returns-in-Err-clause-err
 returns-in-Err-clause-err c =
-    let fault = fault_of c.args.source.now (lexemes_of c.args.source.now c.loop-entry.entries.items) c.loop-entry.scanner c.in-Err.stopped c.loop-entry.invariant.same_text c.loop-entry.invariant.read c.in-Err.ensures.stopped in
-    (c.in-Err.stopped.at, fault.scan_fault, c.position.ensures, fault.none)
+    let fault = scan_fault c.args.source.now (lexemes_of c.args.source.now c.loop-entry.entries.items) c.loop-entry.scanner c.in-Err.stopped c.loop-entry.invariant.same_text c.loop-entry.invariant.read c.in-Err.ensures.stopped in
+    (c.in-Err.stopped.at, fault, c.position.ensures, no_tokens c.args.source.now c.in-Err.stopped.kind c.in-Err.stopped.at fault)

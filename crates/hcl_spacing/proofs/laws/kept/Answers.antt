@@ -1,6 +1,6 @@
 use Rattle.std.proofs.Common.{◌∙◌, ◌||◌, ap}
 use Rattle.hcl_scan.proofs.BooleanLemmas.{or_true}
-use Rattle.hcl_syntax.specs.Kinds.{is_newline}
+use Rattle.hcl_scan.specs.Kinds.{is_newline}
 use Rattle.hcl_spacing.proofs.SpacingLemmas.{row_one, template_touches}
 use Rattle.hcl_spacing.proofs.laws.kept.Goals as goal
 

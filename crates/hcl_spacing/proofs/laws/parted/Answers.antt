@@ -1,4 +1,4 @@
-use Rattle.hcl_syntax.specs.Kinds.{is_dot}
+use Rattle.hcl_scan.specs.Kinds.{is_dot}
 use Rattle.hcl_spacing.specs.Spacing.{stands_before}
 use Rattle.hcl_spacing.proofs.JoiningLemmas.{joined_apart}
 use Rattle.hcl_spacing.proofs.laws.parted.Goals as goal

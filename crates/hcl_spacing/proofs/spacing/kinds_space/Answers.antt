@@ -1,11 +1,12 @@
-use Rattle.std.proofs.Common.{◌∙◌, ◌≡◌, Bool, false, Option, Some, None, sym}
+use Rattle.std.proofs.Common.{◌∙◌, ◌≡◌, Bool, false, true, Option, Some, None, sym}
 use Rattle.std.specs.Prelude.{IfNone, IfSome}
 use Rattle.hcl_scan.specs.Lexemes.{Lexeme}
 use Rattle.hcl_scan.specs.Scanned.{lexeme}
+use Rattle.hcl_scan.specs.declared.token.Kind.{Kind}
 use Rattle.hcl_spacing.specs.Inner.KindPairs.{asked_space, pair_space}
-use Rattle.hcl_syntax.specs.Kinds.{is_newline}
-use Rattle.hcl_spacing.specs.Spacing.{spaced}
-use Rattle.hcl_spacing.proofs.KindPairLemmas.{asked_is, given}
+use Rattle.hcl_scan.specs.Kinds.{is_newline}
+use Rattle.hcl_spacing.specs.Spacing.{asks_more, spaced}
+use Rattle.hcl_spacing.proofs.KindPairLemmas.{asked_is, given, untold}
 use Rattle.hcl_spacing.proofs.spacing.kinds_space.Goals as goal
 
 all_given : (o : Option Bool) (subject after : Lexeme) → is_newline after.kind ≡ false → after.inside_heredoc ≡ false → o ≡ pair_space subject.kind after.kind → IfSome o (λ space. (before : Option Lexeme) → space ≡ spaced before subject after)
@@ -16,8 +17,15 @@ all_asked : (o : Option Bool) (subject after : Lexeme) → is_newline after.kind
 all_asked None subject after e f g = λ before. asked_is before subject after e f (sym g)
 all_asked (Some space) subject after e f g = tt
 
+all_untold : (o : Option Bool) (l r : Kind) → o ≡ pair_space l r → IfNone o (asks_more l r ≡ true)
+all_untold None l r g = untold l r (sym g)
+all_untold (Some space) l r g = tt
+
 pub returns-clause-given : goal.returns-clause-given
 returns-clause-given c = all_given c.pair_space.result (lexeme c.args.subject) (lexeme c.args.after) (sym c.is_newline.ensures ∙ c.if-is_newline.false) c.if-after.false c.pair_space.ensures
 
 pub returns-clause-asked : goal.returns-clause-asked
 returns-clause-asked c = all_asked c.pair_space.result (lexeme c.args.subject) (lexeme c.args.after) (sym c.is_newline.ensures ∙ c.if-is_newline.false) c.if-after.false c.pair_space.ensures
+
+pub returns-clause-untold : goal.returns-clause-untold
+returns-clause-untold c = all_untold c.pair_space.result c.args.subject.kind c.args.after.kind c.pair_space.ensures

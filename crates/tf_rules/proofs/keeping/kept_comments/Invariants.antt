@@ -1,6 +1,6 @@
 use Rattle.std.proofs.Common.{[], ◌∷◌}
 use Rattle.tf_rules.specs.Issues.{comment_at, place_in}
-use Rattle.tf_rules.specs.Inner.FoundViews.{comment}
+use Rattle.tf_facts.specs.Found.{comment}
 use Rattle.tf_rules.specs.Inner.KeptViews.{kept_comment}
 use Rattle.tf_rules.specs.Inner.Placing.{IsKeeping}
 use Rattle.tf_rules.proofs.keeping.kept_comments.Given as goal

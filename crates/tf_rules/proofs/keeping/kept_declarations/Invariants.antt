@@ -1,6 +1,6 @@
 use Rattle.tf_rules.specs.Issues.{place_in}
 use Rattle.tf_rules.specs.Kept.{declaration_at}
-use Rattle.tf_rules.specs.Inner.FoundViews.{declaration}
+use Rattle.tf_facts.specs.Found.{declaration}
 use Rattle.tf_rules.specs.Inner.KeptViews.{kept_declaration}
 use Rattle.tf_rules.specs.Inner.Placing.{IsKeeping, numbers_of}
 use Rattle.tf_rules.proofs.keeping.kept_declarations.Given as goal

@@ -3,11 +3,11 @@ use Rattle.hcl_scan.specs.Scanned.{Scanned}
 use Rattle.hcl_scan.specs.Scans.{Scans}
 use Rattle.tf_rules.specs.Issues.{File, comment_at, place_in}
 use Rattle.tf_rules.specs.Kept.{declaration_at}
-use Rattle.tf_rules.specs.Inner.FoundViews.{comment, declaration}
+use Rattle.tf_facts.specs.Found.{comment, declaration}
 use Rattle.tf_rules.specs.Inner.KeptViews.{kept_comment, kept_declaration, place_of}
 use Rattle.tf_rules.specs.Inner.Placing.{Placing}
-use Rattle.tf_rules.specs.declared.found.Declared.{Declared}
-use Rattle.tf_rules.specs.declared.found.FoundComment.{FoundComment}
+use Rattle.tf_facts.specs.declared.found.Declared.{Declared}
+use Rattle.tf_facts.specs.declared.found.FoundComment.{FoundComment}
 use Rattle.tf_rules.proofs.KeptFileLemmas.{all_kept, at_start, comments_go, declarations_go, indexes_go, interpolations_go, there}
 use Rattle.tf_rules.proofs.kept_file.kept_file.Goals as goal
 

@@ -1,6 +1,6 @@
 use Rattle.std.proofs.Common.{◌≡◌, List, filter, map, not}
 use Rattle.tf_rules.specs.Answers.{shown}
-use Rattle.tf_rules.specs.Comments.{Comment}
+use Rattle.tf_facts.specs.Comments.{Comment}
 use Rattle.tf_rules.specs.Issues.{Place, is_silenced}
 use Rattle.tf_rules.specs.Inner.Entries.{issues_of}
 use Rattle.tf_rules.specs.Inner.SilencedLines.{AreSilenced}

@@ -14,7 +14,7 @@ use Rattle.hcl_scan.specs.Scans.{Scans}
 use Rattle.hcl_source.specs.declared.fault.FaultKind.{FaultKind}
 use Rattle.hcl_syntax.specs.Verdict.{verdict}
 use Rattle.command_line.specs.Rows.{Row}
-use Rattle.tffmt.specs.Line.{line_of, options_of, tffmt, usage_of_kind}
+use Rattle.tffmt.specs.Line.{options_by, options_of, tffmt, usage_of_kind}
 use Rattle.tffmt.specs.Answer.{IsAnswerBy, IsFileAnswer, IsTextAnswer, refused, row_by, usage_line}
 use Rattle.tffmt.specs.declared.options.FmtOptions.{FmtOptions}
 use Rattle.tffmt.specs.declared.options.Usage.{Usage}
@@ -42,7 +42,7 @@ usage_of_words kind.Io p e = absurd (cc)
 usage_of_words kind.Format p e = absurd (cc)
 usage_of_words kind.OutOfMemory p e = absurd p
 
-line_has_memory : (faults : Kinds) (rows : List clap.Row) → One faults → line_of faults rows ≡ Err usage.OutOfMemory → ⊥
+line_has_memory : (faults : Kinds) (rows : List clap.Row) → One faults → options_by faults rows ≡ Err usage.OutOfMemory → ⊥
 line_has_memory [] rows p e = absurd (cc)
 line_has_memory (k ∷ []) rows p e = usage_of_words k p (cc)
 line_has_memory (k ∷ l ∷ ks) rows p e = absurd p

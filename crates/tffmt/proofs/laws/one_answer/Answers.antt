@@ -1,4 +1,4 @@
-use Rattle.tffmt.proofs.Answers.{one_answer}
+use Rattle.tffmt.proofs.AnswerLemmas.{one_answer}
 use Rattle.tffmt.proofs.laws.one_answer.Goals as goal
 
 pub returns : goal.returns

@@ -1,4 +1,4 @@
-use Rattle.tffmt.proofs.PrintAgain as law
+use Rattle.tffmt.proofs.PrintAgainLemmas as law
 use Rattle.tffmt.proofs.laws.printed_twice.Goals as goal
 
 pub returns-clause-printed : goal.returns-clause-printed

@@ -1,7 +1,7 @@
 use Rattle.std.proofs.Common.{map}
 use Rattle.tffmt.specs.Answer.{IsAnswer}
 use Rattle.tffmt.specs.Line.{options_of}
-use Rattle.tffmt.proofs.Answers.{answered, row_of_options}
+use Rattle.tffmt.proofs.AnswerLemmas.{answered, row_of_options}
 use Rattle.tffmt.proofs.run.program.Goals as goal
 
 pub returns-in-Ok-clause-row : goal.returns-in-Ok-clause-row

@@ -1,5 +1,5 @@
 use Rattle.std.proofs.Common.{◌∙◌}
-use Rattle.tffmt.proofs.Answers.{row_of_text, row_of_fault, fault_loads, no_read_fault}
+use Rattle.tffmt.proofs.AnswerLemmas.{row_of_text, row_of_fault, fault_loads, no_read_fault}
 use Rattle.tffmt.proofs.run.run.Goals as goal
 
 pub returns-in-Ok : goal.returns-in-Ok

@@ -1,7 +1,7 @@
 use Rattle.std.proofs.Common.{◌<◌, arith, length}
 use Rattle.hcl_layout.specs.Print.{print}
 use Rattle.hcl_source.specs.Load.{max_source}
-use Rattle.tffmt.proofs.Answers.{row_too_large}
+use Rattle.tffmt.proofs.AnswerLemmas.{row_too_large}
 use Rattle.tffmt.proofs.run.show_changed.Goals as goal
 
 pub returns-then-len : goal.returns-then-len

@@ -1,4 +1,4 @@
-use Rattle.std.proofs.Common.{◌≡◌, ◌∙◌, ◌≤◌, ◌<◌, arith, length, lit≤, refl, subst, take}
+use Rattle.std.proofs.Common.{◌∙◌, ◌≤◌, ◌<◌, arith, length, lit≤, refl, subst}
 use Rattle.std.proofs.lemmas.List.{take_all}
 use Rattle.tfrules.specs.Inner.Steps.{Reached}
 use Rattle.tfrules.proofs.Gathered.{reached_more, reached_none, stops_at}

@@ -1,4 +1,3 @@
-use Rattle.std.proofs.Common.{◌∙◌}
 use Rattle.tfrules.proofs.Gathered.{reads_told}
 use Rattle.tfrules.proofs.gather.read_file.Goals as goal
 

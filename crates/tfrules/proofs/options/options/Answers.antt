@@ -2,7 +2,6 @@ use Rattle.std.proofs.Common.{◌≡◌, ◌∙◌, ◌⊎◌, [], List, ap, map
 use Rattle.std.specs.Prelude.{Err}
 use Rattle.clap.specs.Words.{HasKind, Text, app_of, fault_of, found_of, is_simple, is_simple_and_free, kind_of, matches_of, rows_of}
 use Rattle.tfrules.specs.Line.{asking_of_rows, line_of, options_of, tfrules}
-use Rattle.tfrules.specs.Inner.Asked.{asked_by}
 use Rattle.tfrules.specs.declared.usage.Usage.{Usage}
 use Rattle.tfrules.proofs.Words.{SameAsked, SameOptions, asked_more, one, refused_line}
 use Rattle.tfrules.specs.declared.usage.Usage.TheVariants.{OutOfMemory}

@@ -1,8 +1,8 @@
-use Rattle.std.proofs.Common.{◌≡◌, ◌<◌, ◌≤◌, arith, inr, length, map}
+use Rattle.std.proofs.Common.{◌<◌, ◌≤◌, arith, inr, length, map}
 use Rattle.std.proofs.lemmas.List.{length-map}
 use Rattle.std.specs.Borrow.{Bor}
 use Rattle.std.specs.Prelude.{List, ℕ}
-use Rattle.tf_rules.specs.RuleSets.{rules_of}
+use Rattle.tf_facts.specs.RuleSets.{rules_of}
 use Rattle.tfrules.specs.Line.{max_files}
 use Rattle.tfrules.proofs.Rules.{few_enough, too_many}
 use Rattle.tfrules.proofs.options.options_for.Goals as goal

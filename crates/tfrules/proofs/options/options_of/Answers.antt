@@ -1,4 +1,4 @@
-use Rattle.std.proofs.Common.{◌≡◌, ◌∙◌, ◌⊎◌, ap, codes, inl, inr}
+use Rattle.std.proofs.Common.{◌∙◌, ap, codes, inr}
 use Rattle.clap.proofs.WalkLemmas.{raw_values-rows}
 use Rattle.clap.specs.Words.{found_of, rows_of}
 use Rattle.tfrules.specs.Line.{asking_with}

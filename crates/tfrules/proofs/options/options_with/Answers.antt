@@ -1,11 +1,8 @@
-use Rattle.std.proofs.Common.{◌≡◌, ◌∙◌, ◌⊎◌, ap, inl, inr, map, sym, List, ℕ}
+use Rattle.std.proofs.Common.{◌∙◌, inr, map, sym, List, ℕ}
 use Rattle.std.specs.Borrow.{Bor}
-use Rattle.std.specs.Prelude.{Option, Some, None, option_map}
+use Rattle.std.specs.Prelude.{option_map}
 use Rattle.clap.specs.Words.{found_of, rows_of}
-use Rattle.tf_rules.specs.RuleSets.{rules_of}
-use Rattle.tf_rules.specs.declared.naming.Naming.{Naming}
-use Rattle.tf_rules.specs.declared.rule.Severity.{Severity}
-use Rattle.tf_rules.specs.declared.rule_set.RuleSet.{RuleSet}
+use Rattle.tf_facts.specs.RuleSets.{rules_of}
 use Rattle.tfrules.specs.Line.{asking_for}
 use Rattle.tfrules.proofs.Rules.{with_parts}
 use Rattle.tfrules.proofs.Words.{asked_more}

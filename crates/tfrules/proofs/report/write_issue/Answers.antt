@@ -1,5 +1,5 @@
 use Rattle.std.proofs.Common.{◌∙◌, ap}
-use Rattle.tf_rules.specs.Rules.{severity_text}
+use Rattle.tf_facts.specs.Rules.{severity_text}
 use Rattle.tfrules.proofs.Pieces.{line_written, place_failed}
 use Rattle.tfrules.proofs.Wrote.{all_taken}
 use Rattle.tfrules.proofs.report.write_issue.Goals as goal

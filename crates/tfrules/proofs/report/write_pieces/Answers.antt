@@ -1,4 +1,4 @@
-use Rattle.std.proofs.Common.{◌≡◌, ◌≤◌, arith, length}
+use Rattle.std.proofs.Common.{◌≤◌, arith, length}
 use Rattle.tfrules.proofs.Pieces.{goes_on, goes_wrong, piece_here}
 use Rattle.tfrules.proofs.Wrote.{took_part}
 use Rattle.tfrules.proofs.report.write_pieces.Goals as goal

@@ -2,8 +2,8 @@ use Rattle.std.proofs.Common.{inr, subst, sym}
 use Rattle.tf_rules.specs.Answers as rules
 use Rattle.tfrules.specs.Files.{numbered_files}
 use Rattle.tfrules.specs.Report.{report_row}
-use Rattle.tfrules.specs.Inner.Asked.{asking_of}
-use Rattle.tfrules.proofs.Ends.{memory_shown, reported_row, rising, stopped_row}
+use Rattle.tfrules.specs.Asked.{asking_of}
+use Rattle.tfrules.proofs.Ends.{reported_row, rising, stopped_row}
 use Rattle.tfrules.proofs.run.run.Goals as goal
 
 pub returns-in-Err : goal.returns-in-Err

@@ -1,13 +1,13 @@
-use Rattle.std.proofs.Common.{rules, ◌≡◌, ◌∙◌, ◌≤◌, ℕ, ◌+◌, ◌-◌, ◌^◌, Some, ap, arith, sym, take, drop}
+use Rattle.std.proofs.Common.{rules, ◌≡◌, ◌∙◌, ◌≤◌, ℕ, ◌+◌, ◌-◌, ◌^◌, Some, ap, arith, refl, subst, sym, take, drop}
 use Rattle.hcl_layout.specs.Cells.{assign_cell}
 use Rattle.hcl_layout.specs.Inner.Depths.{depth_after, level_at}
 use Rattle.hcl_layout.specs.Gaps.{align, plain_gaps, width}
 use Rattle.std.specs.Prelude.{slice_set}
-use Rattle.hcl_layout.specs.Inner.LineGaps.{gaps_in}
+use Rattle.hcl_layout.specs.Inner.LineGaps.{IsKnown, gaps_in, known_place}
 use Rattle.hcl_layout.specs.Lines.{Line, lines}
 use Rattle.hcl_layout.specs.Inner.Stream.{assign_column, plain}
 use Rattle.hcl_layout.specs.declared.gap.LineGaps.{LineGaps}
-use Rattle.hcl_layout.proofs.RunLemmas.{aligned_none, aligned_some, assign_there, assigned_in, length_len_with_blanks, narrow_plain, narrow_set, plain_in}
+use Rattle.hcl_layout.proofs.RunLemmas.{aligned_none, aligned_some, assign_before, assign_there, assigned_in, known_set, length_len_with_blanks, narrow_plain, narrow_set, plain_in}
 use Rattle.hcl_layout.proofs.runs.Walk.pass.Goals as goal
 
 pub returns-in_default-clause-gaps : goal.returns-in_default-clause-gaps
@@ -37,7 +37,7 @@ returns-clause-gaps c =
     let gap : ℕ = c.saturating_sub-gap.result + 1 in
     let level : c.next_level-level.result ≡ level_at s.depth (depth_after s.depth line) s.levels = c.next_level-level.ensures.level ∙ ap (λ n. level_at s.depth n s.levels) c.requires.line.depth in
     let column : Some c.run_column-column.result ≡ assign_column s.depth s.levels s.column (lines (drop c.args.at c.args.tokens.now.tokens)) = search rules in
-    assigned_in c.next_level-level.result i gap line
+    assigned_in c.next_level-level.result i c.plain_width-own.result gap line
     ∙ ap (λ k. slice_set (plain_gaps k line) i gap) level
     ∙ aligned_some (plain s.depth s.levels line) line c.run_column-column.result i gap (sym c.requires.line.assign ∙ c.in-Some.is)
     (ap (λ x. x + 1) (c.saturating_sub-gap.ensures ∙ ap (λ w. c.run_column-column.result - w) (c.plain_width-own.ensures.value ∙ ap (λ k. width i (plain_gaps k line) line) level)))
@@ -46,4 +46,20 @@ returns-clause-gaps c =
 pub returns-clause-narrow : goal.returns-clause-narrow
 returns-clause-narrow c =
     let gap : c.saturating_sub-gap.result + 1 ≤ 2 ^ 33 = omega (arith, c.run_column-column.ensures.fits, c.saturating_sub-gap.ensures) in
-    narrow_set c.args.tokens.now.tokens c.args.at c.args.line.len c.next_level-level.result c.in-Some.place (c.saturating_sub-gap.result + 1) c.next_level-level.ensures.small c.requires.small gap
+    narrow_set c.args.tokens.now.tokens c.args.at c.args.line.len c.next_level-level.result c.in-Some.place c.plain_width-own.result (c.saturating_sub-gap.result + 1) c.next_level-level.ensures.small c.requires.small gap
+
+pub returns-in_default-clause-known : goal.returns-in_default-clause-known
+returns-in_default-clause-known c =
+    let line : Line = take c.args.line.len (drop c.args.at c.args.tokens.now.tokens) in
+    subst (λ (g : LineGaps). IsKnown g line) (sym c.plain_line.ensures) refl
+
+pub returns-in_default-clause-order : goal.returns-in_default-clause-order
+returns-in_default-clause-order c i e = subst (λ (g : LineGaps). known_place g.assign ≤ i) (sym c.plain_line.ensures) (omega arith)
+
+pub returns-clause-known : goal.returns-clause-known
+returns-clause-known c =
+    let line : Line = take c.args.line.len (drop c.args.at c.args.tokens.now.tokens) in
+    known_set c.next_level-level.result c.in-Some.place c.plain_width-own.result (c.saturating_sub-gap.result + 1) line c.plain_width-own.ensures.value
+
+pub returns-clause-order : goal.returns-clause-order
+returns-clause-order c i e = assign_before (take c.args.line.len (drop c.args.at c.args.tokens.now.tokens)) c.in-Some.place i (sym c.requires.line.assign ∙ c.in-Some.is) e

@@ -1,7 +1,7 @@
 use Rattle.std.proofs.Common.{◌≡◌, ◌∙◌, ap, ap₂, sym, subst, List, Bool, not, map, filter}
 use Rattle.std.proofs.lemmas.Result.{IfOk-weaker}
 use Rattle.tf_rules.specs.Answers.{IsAnswer, shown}
-use Rattle.tf_rules.specs.Comments.{Comment}
+use Rattle.tf_facts.specs.Comments.{Comment}
 use Rattle.tf_rules.specs.Issues.{Asked, Issue, Place, asked_of, is_silenced, issues, reported}
 use Rattle.tf_rules.specs.Kept.{Kept, issues_of_kept, reported_of_kept}
 use Rattle.tf_rules.specs.Ordered.{Ascends}

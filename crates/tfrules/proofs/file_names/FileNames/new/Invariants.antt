@@ -1,4 +1,4 @@
-use Rattle.std.proofs.Common.{◌≡◌, ◌≤◌, [], drop, length, map}
+use Rattle.std.proofs.Common.{◌≡◌, ◌≤◌, drop, length, map}
 use Rattle.std.specs.Prelude.{fold}
 use Rattle.tfrules.specs.Line.{each_once, with_name}
 use Rattle.tfrules.proofs.file_names.FileNames.new.Given as goal

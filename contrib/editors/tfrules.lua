@@ -1,0 +1,86 @@
+-- Neovim 0.7 or later: shows as diagnostics what tfrules finds, when a Terraform file is opened or written.
+--
+-- Put this file into ~/.config/nvim/plugin/. The module of the file is linted with all its files, as they were written
+-- last. vim.g.tfrules_command names the program and its options, where it isn't { "tfrules-modules" }.
+--
+-- A column is that of a character as a reader sees it, and Neovim takes it for that of a byte: behind letters that
+-- aren't ASCII the mark stands too far to the left on the line.
+
+local space = vim.api.nvim_create_namespace("tfrules")
+local severities = {
+  Error = vim.diagnostic.severity.ERROR,
+  Warning = vim.diagnostic.severity.WARN,
+  Notice = vim.diagnostic.severity.INFO,
+}
+
+-- One line of a report, or of a refusal: the file and a diagnostic, or nothing.
+local function read_line(line)
+  local file, row, column, word, message, rule =
+    line:match("^(.+):(%d+):(%d+): (%a+) %- (.+) %(([a-z_]+)%)$")
+  if not severities[word] then
+    word, rule = "Error", nil
+    file, row, column, message = line:match("^tfrules: error: (.+):(%d+):(%d+): (.+)$")
+    if not file then
+      file, message = line:match("^tfrules: error: (.+): (.+)$")
+      row, column = 1, 1
+    end
+  end
+  if file then
+    return file,
+      {
+        lnum = tonumber(row) - 1,
+        col = tonumber(column) - 1,
+        severity = severities[word],
+        message = message,
+        code = rule,
+        source = "tfrules",
+      }
+  end
+end
+
+-- Shows the lines of a run in the buffers of the module, and wipes what was shown there before.
+local function show(folder, lines)
+  local found = {}
+  for _, line in ipairs(lines) do
+    local file, diagnostic = read_line(line)
+    if file then
+      found[file] = found[file] or {}
+      table.insert(found[file], diagnostic)
+    end
+  end
+  for _, buffer in ipairs(vim.api.nvim_list_bufs()) do
+    local name = vim.api.nvim_buf_get_name(buffer)
+    if vim.api.nvim_buf_is_loaded(buffer) and vim.fn.fnamemodify(name, ":h") == folder then
+      vim.diagnostic.set(space, buffer, found[name] or {})
+    end
+  end
+end
+
+local function lint(event)
+  local name = vim.fn.fnamemodify(event.match, ":p")
+  local command = vim.deepcopy(vim.g.tfrules_command or { "tfrules-modules" })
+  local lines = {}
+  local function add(_, data)
+    vim.list_extend(lines, data)
+  end
+  vim.list_extend(command, { "--", name })
+  if vim.fn.executable(command[1]) ~= 1 then
+    vim.notify_once(command[1] .. ": not found", vim.log.levels.WARN)
+    return
+  end
+  vim.fn.jobstart(command, {
+    stdout_buffered = true,
+    stderr_buffered = true,
+    on_stdout = add,
+    on_stderr = add,
+    on_exit = function()
+      show(vim.fn.fnamemodify(name, ":h"), lines)
+    end,
+  })
+end
+
+vim.api.nvim_create_autocmd({ "BufReadPost", "BufWritePost" }, {
+  group = vim.api.nvim_create_augroup("tfrules", { clear = true }),
+  pattern = { "*.tf", "*.tofu" },
+  callback = lint,
+})

@@ -1,0 +1,37 @@
+" Vim and Neovim: lints the module of the file at hand, and lists what is found.
+"
+" Put this file into ~/.vim/compiler/ (Vim) or ~/.config/nvim/compiler/ (Neovim). After `:compiler tfrules`, `:make`
+" lints the folder of the file with all its files, as they were written last, and fills the quickfix list; `:lmake`
+" fills the location list. To have it for all Terraform files:
+"
+"     autocmd FileType terraform,hcl compiler tfrules
+"
+" g:tfrules_program names the program where it isn't `tfrules-modules` on the path. Words that are put behind `:make`
+" are options, as in `:make --rules all`.
+"
+" A column is that of a character as a reader sees it, and Vim takes it for that of a byte: behind letters that aren't
+" ASCII the cursor stands too far to the left on the line.
+
+if exists('current_compiler')
+  finish
+endif
+let current_compiler = 'tfrules'
+
+let s:keep = &cpoptions
+set cpoptions&vim
+if exists(':CompilerSet') != 2
+  command -nargs=* CompilerSet setlocal <args>
+endif
+execute 'CompilerSet makeprg=' . escape(shellescape(get(g:, 'tfrules_program', 'tfrules-modules')), ' \"|')
+      \ . '\ $*\ --\ %:S'
+CompilerSet errorformat=
+      \tfrules:\ %trror:\ %f:%l:%c:\ %m,
+      \tfrules:\ %trror:\ %f:\ %m,
+      \%f:%l:%c:\ %trror\ -\ %m,
+      \%f:%l:%c:\ %tarning\ -\ %m,
+      \%f:%l:%c:\ %totice\ -\ %m,
+      \%+Gtfrules-modules:%.%#,
+      \%+Gusage:%.%#,
+      \%-G%.%#
+let &cpoptions = s:keep
+unlet s:keep

@@ -1,0 +1,10 @@
+use Rattle.std.proofs.Common.{subst, sym}
+use Rattle.hcl_scan.specs.Scanned.{Scanned}
+use Rattle.hcl_layout.specs.Inner.Simple.{IsFrom}
+use Rattle.hcl_layout.proofs.ClusterLemmas.{clusters_part}
+use Rattle.hcl_layout.proofs.measured.Measured.columns.Goals as goal
+
+pub returns-then-self-clause-count : goal.returns-then-self-clause-count
+returns-then-self-clause-count c =
+    let token = c.args.token in
+    sym (clusters_part c.self.inside.tokens.now.text token.start token.text.now (subst (λ (s : Scanned). IsFrom s.text token.start token.text.now) (sym c.self.view_is) c.requires.source) (c.self.invariant c.if-self.true))

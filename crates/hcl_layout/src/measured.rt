@@ -1,0 +1,109 @@
+//! The tokens to lay out, and how wide their texts are.
+ghost use Rattle.std.specs.Prelude.{◌≡◌, ◌<◌, ◌≤◌, ◌+◌, ◌^◌, Some, true, length, drop, slice_get, take};
+ghost use Rattle.unicode_segmentation.specs.Grapheme.{graphemes};
+ghost use Rattle.hcl_scan.specs.Scanned.{lexeme};
+ghost use Rattle.hcl_syntax.specs.Balanced.{IsBalanced};
+ghost use Rattle.hcl_layout.specs.Inner.Simple.{IsFrom, is_simple as is_simple_of};
+ghost use Rattle.hcl_layout.specs.Inner.LineGaps.{len_with_blanks};
+
+use hcl_scan::{Token, Tokens};
+use hcl_syntax::Accepted;
+use std::marker::Model;
+use unicode_segmentation::UnicodeSegmentation;
+
+/// Tokens, and whether their source is ASCII without CR: then each text is as wide as it has bytes. That is asked of the
+/// whole source once, and not of each text.
+#[derive(Drop)]
+pub struct Measured<'t, 's> {
+    tokens: &'t Tokens<'s>,
+    simple: bool,
+}
+
+impl<'t, 's> Model for Measured<'t, 's> {
+    ghost use Rattle.std.specs.Prelude.{◌≡◌, true};
+    ghost use Rattle.hcl_scan.specs.Scanned.{Scanned};
+    ghost use Rattle.hcl_layout.specs.Inner.Simple.{is_simple};
+
+    ghost Value = { Scanned };
+
+    ghost view = { λ m. m.tokens.now };
+
+    ghost invariant = { λ m. m.simple ≡ true → is_simple m.tokens.now.text ≡ true };
+}
+
+/// Whether the bytes are ASCII without CR, so that each is a grapheme cluster. All of them are looked at, whatever the
+/// first are, so that the compiler takes many at a time.
+fn is_simple(bytes: &[u8]) -> bool
+    ensures { result ≡ is_simple_of bytes.now }
+{
+    let mut simple = true;
+    for byte in bytes {
+        simple = simple & (*byte < 128) & (*byte != b'\r');
+    }
+    simple
+}
+
+/// How many extended grapheme clusters a text has.
+#[inline(never)]
+fn count_clusters(text: &str) -> u64
+    ensures count { result ≡ length (graphemes true text.now) }
+    ensures within { result ≤ length text.now }
+{
+    text.graphemes(true).count() as u64
+}
+
+impl<'t, 's> Measured<'t, 's> {
+    /// The tokens that were accepted.
+    pub fn new(accepted: &Accepted<'t, 's>) -> Measured<'t, 's>
+        ensures same { result ≡ accepted.now }
+        ensures balanced { IsBalanced accepted.now.tokens }
+    {
+        let tokens = accepted.tokens();
+        let simple = is_simple(tokens.source().text().as_bytes());
+        Measured { tokens, simple }
+    }
+
+    /// The bytes of the source. Its size bounds the number of tokens and their texts, and so every sum that is made of
+    /// the print.
+    pub fn source(&self) -> &'s [u8]
+        ensures text { result.now ≡ self.now.text }
+        ensures short { length result.now < 2 ^ 32 }
+        ensures few { length self.now.tokens ≤ 2 ^ 22 }
+        ensures small { len_with_blanks self.now.tokens ≤ 2 ^ 23 }
+    {
+        // its contract says that there are no more tokens than bytes
+        let _count = self.tokens.len();
+        self.tokens.source().text().as_bytes()
+    }
+
+    /// How many tokens there are.
+    #[inline(always)]
+    pub fn len(&self) -> usize
+        ensures { result ≡ length self.now.tokens }
+    {
+        self.tokens.len()
+    }
+
+    /// The token of this number.
+    #[inline(always)]
+    pub fn get(&self, i: usize) -> Token<'s>
+        requires { i < length self.now.tokens }
+        ensures token { slice_get self.now.tokens i ≡ Some (lexeme result) }
+        ensures source { IsFrom self.now.text result.start result.text.now }
+    {
+        self.tokens.get(i)
+    }
+
+    /// How wide the text of a token is: how many grapheme clusters it has.
+    #[inline(always)]
+    pub fn columns(&self, token: Token<'_>) -> u64
+        requires source { IsFrom self.now.text token.start token.text.now }
+        ensures count { result ≡ length (graphemes true token.entry.text.now) }
+        ensures within { result ≤ length token.entry.text.now }
+    {
+        if self.simple {
+            return token.text.len() as u64;
+        }
+        count_clusters(token.text)
+    }
+}

@@ -1,0 +1,89 @@
+-- A walk that puts references into a set, token by token.
+use Rattle.std.proofs.Common.{◌≡◌, ◌∙◌, ap, sym, refl, ℕ, ◌+◌, ◌≤◌, Bool, true, false, cond, List, [], ◌∷◌, ◌++◌, length, append_assoc, subst}
+use Rattle.std.specs.Prelude.{Some, slice_get}
+use Rattle.std.specs.List.{list_any}
+use Rattle.std.specs.Str.{bytes_eq}
+use Rattle.std.proofs.lemmas.List.{append-nil}
+use Rattle.std.proofs.lemmas.List.Sums.{fold-append}
+use Rattle.indexmap.specs.IndexSet.{insert_all, insert_key}
+use Rattle.hcl_scan.specs.Lexemes.{Lexeme}
+use Rattle.hcl_syntax.specs.Numbered.{is_passed_over}
+use Rattle.tf_facts.specs.References.{Own, is_dot, reference_at, references_from, unless_own}
+use Rattle.tf_facts.specs.Inner.Seen.{number_of, seen_from}
+use Rattle.tf_facts.specs.OwnBlocks.{ArePassed, Extends}
+use Rattle.tf_facts.proofs.SeenLemmas.{seen_here, seen_past, seen_none}
+
+-- what is in the set, with what is left, is what is to be in it; and it has what it had in front
+pub record IsCollected (own : List Own) (ts : List Lexeme) (old new : List (List ℕ)) (after_dot : Bool) (n : ℕ) : Type 0 where
+  pub left : insert_all bytes_eq new (references_from own after_dot (seen_from ts n)) ≡ insert_all bytes_eq old (references_from own false (seen_from ts 0))
+  pub kept : Extends old new
+
+-- a loop has come to a number, with so many blocks passed
+pub record IsWalked (own : List Own) (ts : List Lexeme) (old new : List (List ℕ)) (after_dot : Bool) (next count n : ℕ) : Type 0 where
+  pub collected : IsCollected own ts old new after_dot n
+  pub passed : ArePassed own next n
+  pub within : next ≤ count
+
+module _ (own : List Own) (ts : List Lexeme) (old : List (List ℕ)) where
+  pub begins : IsCollected own ts old old false 0
+  begins = record { left = refl; kept = record { more = []; is = sym (append-nil old) } }
+
+  pub ends : (new : List (List ℕ)) (after_dot : Bool) (n : ℕ) → length ts ≤ n → IsCollected own ts old new after_dot n
+      → new ≡ insert_all bytes_eq old (references_from own false (seen_from ts 0))
+  ends new after_dot n past h = ap (λ s. insert_all bytes_eq new (references_from own after_dot s)) (sym (seen_none ts n past)) ∙ h.left
+
+  pub passes : (new : List (List ℕ)) (after_dot : Bool) (n : ℕ) (t : Lexeme) → slice_get ts n ≡ Some t → is_passed_over t.kind ≡ true → IsCollected own ts old new after_dot n
+      → IsCollected own ts old new after_dot (n + 1)
+  passes new after_dot n t e passed h = record {
+    left = ap (λ s. insert_all bytes_eq new (references_from own after_dot s)) (sym (seen_past ts n t e passed)) ∙ h.left;
+    kept = h.kept;
+  }
+
+  -- behind a dot nothing is put in
+  pub skips : (new : List (List ℕ)) (n : ℕ) (t : Lexeme) → slice_get ts n ≡ Some t → is_passed_over t.kind ≡ false → IsCollected own ts old new true n
+      → IsCollected own ts old new (is_dot t.kind) (n + 1)
+  skips new n t e seen h = record {
+    left = ap (λ s. insert_all bytes_eq new (references_from own true s)) (sym (seen_here ts n t e seen)) ∙ h.left;
+    kept = h.kept;
+  }
+
+  extends_key : (new : List (List ℕ)) (key : List ℕ) → Extends old new → Extends old (insert_key bytes_eq new key)
+  extends_key new key h = by (list_any (bytes_eq key) new)
+    where
+      by : (b : Bool) → Extends old (cond b new (new ++ key ∷ []))
+      by true = h
+      by false = record { more = h.more ++ key ∷ []; is = ap (λ r. r ++ key ∷ []) h.is ∙ append_assoc old h.more (key ∷ []) }
+
+  extends_all : (new xs : List (List ℕ)) → Extends old new → Extends old (insert_all bytes_eq new xs)
+  extends_all new [] h = h
+  extends_all new (x ∷ xs) h = extends_all (insert_key bytes_eq new x) xs (extends_key new x h)
+
+  pub puts : (new next : List (List ℕ)) (n : ℕ) (t : Lexeme) → slice_get ts n ≡ Some t → is_passed_over t.kind ≡ false
+      → next ≡ insert_all bytes_eq new (unless_own own n (reference_at (number_of n t ∷ seen_from ts (n + 1))))
+      → IsCollected own ts old new false n → IsCollected own ts old next (is_dot t.kind) (n + 1)
+  puts new next n t e seen put h =
+      let here = unless_own own n (reference_at (number_of n t ∷ seen_from ts (n + 1))) in
+      let rest = references_from own (is_dot t.kind) (seen_from ts (n + 1)) in
+      let P : List (List ℕ) → Type 0 = λ s. Extends old s in
+      record {
+        left =
+            ap (λ s. insert_all bytes_eq s rest) put
+            ∙ sym (fold-append (insert_key bytes_eq) new here rest)
+            ∙ ap (λ s. insert_all bytes_eq new (references_from own false s)) (sym (seen_here ts n t e seen))
+            ∙ h.left;
+        kept = rw put (extends_all new here h.kept);
+      }
+
+  -- the same, where the loop's variables are equal to these
+  pub skipped : (new into : List (List ℕ)) (after dot : Bool) (n : ℕ) (t : Lexeme) → slice_get ts n ≡ Some t → is_passed_over t.kind ≡ false → after ≡ true → dot ≡ is_dot t.kind → into ≡ new
+      → IsCollected own ts old new after n → IsCollected own ts old into dot (n + 1)
+  skipped new into after dot n t e seen behind is same h =
+      let P : Bool → Type 0 = λ b. IsCollected own ts old new b n in
+      rw same (rw is (skips new n t e seen (subst P behind h)))
+
+  pub collected : (new next into : List (List ℕ)) (after dot : Bool) (n : ℕ) (t : Lexeme) → slice_get ts n ≡ Some t → is_passed_over t.kind ≡ false → after ≡ false → dot ≡ is_dot t.kind → into ≡ next
+      → next ≡ insert_all bytes_eq new (unless_own own n (reference_at (number_of n t ∷ seen_from ts (n + 1))))
+      → IsCollected own ts old new after n → IsCollected own ts old into dot (n + 1)
+  collected new next into after dot n t e seen free is same put h =
+      let P : Bool → Type 0 = λ b. IsCollected own ts old new b n in
+      rw same (rw is (puts new next n t e seen put (subst P free h)))

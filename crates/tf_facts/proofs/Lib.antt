@@ -1,0 +1,16 @@
+pub mod RankLemmas
+pub mod RuleLemmas
+pub mod SetLemmas
+pub mod SeenLemmas
+pub mod TextLemmas
+pub mod CutLemmas
+pub mod FrontLemmas
+pub mod OwnLemmas
+pub mod CollectLemmas
+pub mod ClosingLemmas
+pub mod PatternLemmas
+pub mod BodyLemmas
+pub mod ValueLemmas
+pub mod DeclarationLemmas
+pub mod OwnerLemmas
+pub mod CommentLemmas

@@ -1,0 +1,202 @@
+-- Whether a reference stands in the block of its own variable.
+use Rattle.std.proofs.Common.{◌≡◌, ◌∙◌, ap, sym, refl, ℕ, suc, zero, ◌+◌, ◌≤◌, ◌<◌, Bool, true, false, cond, max, List, [], ◌∷◌, ◌++◌, map, length, drop, arith, subst}
+use Rattle.std.specs.Prelude.{◌&&◌, ◌||◌, nat_le, nat_lt, codes, Some, None, Option, slice_get, filter, ◌==◌}
+use Rattle.std.specs.List.{list_any}
+use Rattle.std.proofs.lemmas.Bool.{lt-ltb, le-ltb, lt-leb}
+use Rattle.std.specs.Str.{bytes_eq}
+use Rattle.tf_facts.specs.OwnBlocks.{own_of, Apart, ArePassed}
+use Rattle.hcl_scan.specs.Lexemes.{Lexeme}
+use Rattle.hcl_syntax.specs.Numbered.{Numbered, numbered}
+use Rattle.hcl_syntax.specs.Items.{is_closed, outline}
+use Rattle.hcl_syntax.specs.Labels.{text_of}
+use Rattle.hcl_syntax.specs.ItemOrder.{Either, TopsApart}
+use Rattle.hcl_syntax.specs.declared.item.Item.{Item}
+use Rattle.hcl_syntax.specs.declared.item.Item.TheVariants as item
+use Rattle.hcl_syntax.proofs.TopBlockLemmas.{tops_apart}
+use Rattle.tf_facts.specs.Declarations.{Attribute, Declaration, Declarer, attributes_in, by_declarer, declarer, has, is_empty, is_module, labels_in, module_source, of_block, of_local}
+use Rattle.tf_facts.specs.References.{Own, is_own, is_variable, last_of, own_blocks, own_of_items, variable_reference, local_reference, data_reference}
+use Rattle.tf_facts.specs.declared.own_block.OwnBlock.{OwnBlock}
+use Rattle.tf_facts.specs.declared.reference.Reference.{Reference}
+use Rattle.tf_facts.specs.declared.reference.Reference.TheVariants.{Variable, Local, Data}
+use Rattle.tf_facts.specs.Inner.Spelled.{spelled}
+use denote.Bor.{Bor}
+use Rattle.tf_facts.proofs.TextLemmas.{list_any-map}
+
+pub own_variable : (blocks : List OwnBlock) (number : ℕ) (name : List ℕ)
+    → is_own (map own_of blocks) number (variable_reference name) ≡ list_any (λ o. nat_le o.first number && nat_lt number o.end && bytes_eq o.name.now name) blocks
+own_variable blocks number name = list_any-map (λ o. nat_le o.first number && nat_lt number o.end && bytes_eq (variable_reference o.name) (variable_reference name)) own_of blocks
+
+and_false : (b : Bool) → (b && false) ≡ false
+and_false true = refl
+and_false false = refl
+
+none_own : (own : List Own) (number : ℕ) (text : List ℕ) → ((n : List ℕ) → bytes_eq (variable_reference n) text ≡ false) → is_own own number text ≡ false
+none_own [] number text h = refl
+none_own (o ∷ own) number text h =
+    ap (λ b. (nat_le o.first number && nat_lt number o.end && b) || is_own own number text) (h o.name)
+    ∙ ap (λ b. b || is_own own number text) (and_false (nat_le o.first number && nat_lt number o.end))
+    ∙ none_own own number text h
+
+pub own_local : (own : List Own) (number : ℕ) (name : List ℕ) → is_own own number (local_reference name) ≡ false
+own_local own number name = none_own own number (local_reference name) (λ n. refl)
+
+pub own_data : (own : List Own) (number : ℕ) (kind name : List ℕ) → is_own own number (data_reference kind name) ≡ false
+own_data own number kind name = none_own own number (data_reference kind name) (λ n. refl)
+
+-- ---- one block alone
+
+lt_false : (m n : ℕ) → n ≤ m → nat_lt m n ≡ false
+lt_false m n h = le-ltb m n h
+
+lt_true : (m n : ℕ) → m < n → nat_lt m n ≡ true
+lt_true m n h = lt-ltb m n h
+
+le_false : (m n : ℕ) → n < m → nat_le m n ≡ false
+le_false m n h = lt-leb m n h
+
+pub nothing_passed : (own : List Own) → ArePassed own 0 0
+nothing_passed own = record { same = λ m text h. refl }
+
+pub still_passed : (own : List Own) (next number later : ℕ) → number ≤ later → ArePassed own next number → ArePassed own next later
+still_passed own next number later h p = record { same = λ m text k. p.same m text (omega (arith, h, k)) }
+
+at_drop : (blocks : List OwnBlock) (n : ℕ) (o : OwnBlock) → slice_get blocks n ≡ Some o → drop n (map own_of blocks) ≡ own_of o ∷ drop (n + 1) (map own_of blocks)
+at_drop [] n o e = absurd (cc)
+at_drop (b ∷ blocks) zero o e = let f : b ≡ o = cc in let z : 0 + 1 ≡ suc 0 = omega arith in ap (λ x. own_of x ∷ map own_of blocks) f ∙ ap (λ j. own_of o ∷ drop j (map own_of (b ∷ blocks))) (sym z)
+at_drop (b ∷ blocks) (suc n) o e = let s : suc n + 1 ≡ suc (n + 1) = omega arith in at_drop blocks n o e ∙ ap (λ j. own_of o ∷ drop j (map own_of (b ∷ blocks))) (sym s)
+
+pub one_more_passed : (blocks : List OwnBlock) (next number : ℕ) (o : OwnBlock) → slice_get blocks next ≡ Some o → o.end ≤ number → ArePassed (map own_of blocks) next number → ArePassed (map own_of blocks) (next + 1) number
+one_more_passed blocks next number o e ends p = record {
+  same = λ m text h.
+      let rest = is_own (drop (next + 1) (map own_of blocks)) m text in
+      sym (ap (λ own. is_own own m text) (at_drop blocks next o e)
+      ∙ ap (λ b. (nat_le o.first m && b && bytes_eq (variable_reference o.name.now) text) || rest) (lt_false m o.end (omega (arith, ends, h)))
+      ∙ ap (λ b. b || rest) (none (nat_le o.first m) (bytes_eq (variable_reference o.name.now) text)))
+      ∙ p.same m text h;
+}
+  where
+    none : (b c : Bool) → (b && false && c) ≡ false
+    none true c = refl
+    none false c = refl
+
+-- blocks from a number on hold no token before it
+none_before : (from number : ℕ) (text : List ℕ) (own : List Own) → number < from → Apart from own → is_own own number text ≡ false
+none_before from number text [] h a = refl
+none_before from number text (o ∷ own) h a =
+    ap (λ b. (b && nat_lt number o.end && bytes_eq (variable_reference o.name) text) || is_own own number text) (le_false o.first number (omega (arith, h, a.0)))
+    ∙ none_before (max o.first o.end) number text own (omega (arith, h, a.0)) a.1
+
+apart_drop : (from n : ℕ) (own : List Own) → Apart from own → (later : ℕ) × Apart later (drop n own)
+apart_drop from zero own a = (from, a)
+apart_drop from (suc n) [] a = (from, tt)
+apart_drop from (suc n) (o ∷ own) a = apart_drop (max o.first o.end) n own a.1
+
+-- where the next block ends behind the token, it alone decides
+pub decides : (blocks : List OwnBlock) (next number : ℕ) (o : OwnBlock) (name : List ℕ) → slice_get blocks next ≡ Some o → number < o.end → Apart 0 (map own_of blocks) → ArePassed (map own_of blocks) next number
+    → (nat_le o.first number && bytes_eq o.name.now name) ≡ is_own (map own_of blocks) number (variable_reference name)
+decides blocks next number o name e inside a p =
+    by (nat_le o.first number) (bytes_eq o.name.now name) (is_own (drop (next + 1) own) number (variable_reference name)) (none_before (max o.first o.end) number (variable_reference name) (drop (next + 1) own) (omega (arith, inside)) rest.1)
+    ∙ ap (λ b. (nat_le o.first number && b && bytes_eq o.name.now name) || is_own (drop (next + 1) own) number (variable_reference name)) (sym (lt_true number o.end inside))
+    ∙ ap (λ os. is_own os number (variable_reference name)) (sym here)
+    ∙ p.same number (variable_reference name) (omega arith)
+  where
+    own : List Own
+    own = map own_of blocks
+
+    here : drop next own ≡ own_of o ∷ drop (next + 1) own
+    here = at_drop blocks next o e
+
+    whole : (later : ℕ) × Apart later (drop next own)
+    whole = apart_drop 0 next own a
+
+    rest : (whole.0 ≤ o.first) × Apart (max o.first o.end) (drop (next + 1) own)
+    rest = subst (λ (os : List Own). Apart whole.0 os) here whole.1
+
+    by : (a b c : Bool) → c ≡ false → (a && b) ≡ ((a && true && b) || c)
+    by true true c h = refl
+    by true false c h = sym h
+    by false true c h = sym h
+    by false false c h = sym h
+
+-- where no block is left, none holds the token
+pub none_left : (blocks : List OwnBlock) (next number : ℕ) (text : List ℕ) → length blocks ≤ next → ArePassed (map own_of blocks) next number → is_own (map own_of blocks) number text ≡ false
+none_left blocks next number text h p = sym (p.same number text (omega arith)) ∙ ap (λ own. is_own own number text) (all_gone blocks next h)
+  where
+    all_gone : (bs : List OwnBlock) (n : ℕ) → length bs ≤ n → drop n (map own_of bs) ≡ []
+    all_gone [] zero h = refl
+    all_gone [] (suc n) h = refl
+    all_gone (b ∷ bs) zero h = absurd (omega (arith, h))
+    all_gone (b ∷ bs) (suc n) h = all_gone bs n (omega (arith, h))
+
+pub own_other : (own : List Own) (number : ℕ) (r : Reference) → ((x : Bor (List ℕ)) → r ≡ Variable x → ⊥) → is_own own number (spelled r) ≡ false
+own_other own number (Variable n) h = absurd (h n refl)
+own_other own number (Local n) h = own_local own number n.now
+own_other own number (Data t n) h = own_data own number t.now n.now
+
+-- ---- the blocks of a file stand one behind the other
+
+apart_from : (from later : ℕ) (own : List Own) → from ≤ later → Apart later own → Apart from own
+apart_from from later [] h a = tt
+apart_from from later (o ∷ own) h a = (omega (arith, h, a.0), a.1)
+
+-- one at most
+abbrev AtMostOne : List (Declaration ℕ) → Type 0
+AtMostOne [] = Unit {0}
+AtMostOne (d ∷ []) = Unit {0}
+AtMostOne (d ∷ e ∷ ds) = ⊥
+
+pub no_locals : (attributes : List Attribute) → filter (λ d. is_variable d.kind) (map of_local attributes) ≡ []
+no_locals [] = refl
+no_locals (a ∷ attributes) = no_locals attributes
+
+one_declared : (ts : List Numbered) (token : ℕ) (names : List (List ℕ)) (attributes : List Attribute) (d : Option Declarer) → AtMostOne (filter (λ e. is_variable e.kind) (by_declarer ts token names attributes d))
+one_declared ts token names attributes None = tt
+one_declared ts token names attributes (Some d) = by (length names == d.labels) (is_variable d.kind)
+  where
+    one : Declaration ℕ
+    one = record {
+      kind = d.kind;
+      names = names;
+      at = token;
+      described = has (codes "description") attributes;
+      typed = has (codes "type") attributes;
+      versioned = has (codes "version") attributes;
+      source = cond (is_module d.kind) (module_source ts attributes) None;
+    }
+
+    by : (a b : Bool) → AtMostOne (filter (λ e. is_variable e.kind) (cond a (one ∷ []) []))
+    by false b = tt
+    by true b = single (is_variable d.kind)
+      where
+        single : (c : Bool) → AtMostOne (cond c (one ∷ []) [])
+        single true = tt
+        single false = tt
+
+one_in_block : (ts : List Numbered) (token : ℕ) (names : List (List ℕ)) (attributes : List Attribute) → AtMostOne (filter (λ e. is_variable e.kind) (of_block ts token names attributes))
+one_in_block ts token names attributes = by (bytes_eq (text_of ts token) (codes "locals")) (is_empty names)
+  where
+    by : (a b : Bool) → AtMostOne (filter (λ e. is_variable e.kind) (cond a (cond b (map of_local attributes) []) (by_declarer ts token names attributes (declarer (text_of ts token)))))
+    by true true = subst (λ (ds : List (Declaration ℕ)). AtMostOne ds) (sym (no_locals attributes)) tt
+    by true false = tt
+    by false b = one_declared ts token names attributes (declarer (text_of ts token))
+
+in_front : (from token end : ℕ) (ds : List (Declaration ℕ)) (own : List Own) → AtMostOne ds → from ≤ token → Apart (max token end) own
+    → Apart from (map (λ d. record { name = last_of d.names; first = token; end = end }) ds ++ own)
+in_front from token end [] own one h a = apart_from from (max token end) own (omega (arith, h)) a
+in_front from token end (d ∷ []) own one h a = (h, a)
+in_front from token end (d ∷ e ∷ ds) own one h a = absurd one
+
+items_own : (ts : List Numbered) (from to : ℕ) (is : List Item) → TopsApart from is to → Apart from (own_of_items ts is)
+items_own ts from to [] h = tt
+items_own ts from to (item.Attribute level name first end ∷ is) h = items_own ts from to is h
+items_own ts from to (item.Label l ∷ is) h = items_own ts from to is h
+items_own ts from to (item.Block level token end ∷ is) h = by (is_closed level) (λ n q. items_own ts n to is q) h
+  where
+    by : (b : Bool) → ((n : ℕ) → TopsApart n is to → Apart n (own_of_items ts is)) → Either b ((from ≤ token) × TopsApart (max token end) is to) (TopsApart from is to)
+        → Apart from (map (λ d. record { name = last_of d.names; first = token; end = end }) (filter (λ d. is_variable d.kind) (cond b (of_block ts token (labels_in ts is) (attributes_in ts is)) [])) ++ own_of_items ts is)
+    by true more r = in_front from token end (filter (λ e. is_variable e.kind) (of_block ts token (labels_in ts is) (attributes_in ts is))) (own_of_items ts is) (one_in_block ts token (labels_in ts is) (attributes_in ts is)) r.0 (more (max token end) r.1)
+    by false more r = more from r
+
+-- THE LAW
+pub own_apart : (tokens : List Lexeme) → Apart 0 (own_blocks (numbered tokens))
+own_apart tokens = items_own (numbered tokens) 0 (length tokens) (outline tokens) (tops_apart tokens)

@@ -1,0 +1,118 @@
+-- The blocks of variables, item by item.
+use Rattle.std.proofs.Common.{◌≡◌, ◌∙◌, ap, sym, refl, ℕ, suc, zero, ◌+◌, ◌<◌, ◌≤◌, Bool, true, false, cond, List, [], ◌∷◌, ◌++◌, append_assoc, map, drop, length, arith}
+use Rattle.std.specs.Prelude.{Some, codes, filter, slice_get}
+use Rattle.std.specs.Str.{bytes_eq}
+use Rattle.std.proofs.lemmas.List.{append-nil, drop_all, map-append}
+use Rattle.std.proofs.lemmas.Slice.Eq.{bytes_eq-Decides}
+use Rattle.hcl_syntax.specs.Numbered.{Numbered}
+use Rattle.hcl_syntax.specs.Items.{is_closed}
+use Rattle.hcl_syntax.specs.Labels.{text_of}
+use Rattle.hcl_syntax.specs.declared.item.Item.{Item}
+use Rattle.hcl_syntax.specs.declared.item.Item.TheVariants as item
+use Rattle.hcl_syntax.proofs.WordLemmas.{drop_at}
+use Rattle.tf_facts.specs.Declarations.{Attribute, Declaration, attributes_in, by_declarer, declarer, is_empty, labels_in, of_block, of_local}
+use Rattle.tf_facts.specs.References.{Own, is_variable, last_of, own_of_item, own_of_items}
+use Rattle.tf_facts.specs.OwnBlocks.{own_of}
+use Rattle.tf_facts.specs.Found.{declaration, texts_of}
+use Rattle.tf_facts.specs.declared.found.Declared.{Declared}
+use Rattle.tf_facts.specs.declared.own_block.OwnBlock.{OwnBlock}
+use Rattle.tf_facts.proofs.OwnLemmas.{no_locals}
+
+abbrev variables : List (Declaration ℕ) → List (Declaration ℕ)
+variables ds = filter (λ d. is_variable d.kind) ds
+
+-- `locals` declares no variable
+variables_in : (ts : List Numbered) (token : ℕ) (texts : List (List ℕ)) (attributes : List Attribute)
+    → variables (by_declarer ts token texts attributes (declarer (text_of ts token))) ≡ variables (of_block ts token texts attributes)
+variables_in ts token texts attributes = by (bytes_eq (text_of ts token) (codes "locals")) refl
+  where
+    none : (b : Bool) → variables (cond b (map of_local attributes) []) ≡ []
+    none true = no_locals attributes
+    none false = refl
+
+    by : (b : Bool) → bytes_eq (text_of ts token) (codes "locals") ≡ b
+        → variables (by_declarer ts token texts attributes (declarer (text_of ts token)))
+        ≡ variables (cond b (cond (is_empty texts) (map of_local attributes) []) (by_declarer ts token texts attributes (declarer (text_of ts token))))
+    by true e = ap (λ w. variables (by_declarer ts token texts attributes (declarer w))) ((bytes_eq-Decides (text_of ts token) (codes "locals")).0 e) ∙ sym (none (is_empty texts))
+    by false e = refl
+
+pub closed_at : (level : ℕ) → level ≤ 0 → is_closed level ≡ true
+closed_at zero h = refl
+closed_at (suc level) h = absurd (omega (arith, h))
+
+abbrev own_by : List ℕ → ℕ → ℕ → Own
+own_by name first end = record { name = name; first = first; end = end }
+
+module _ (ts : List Numbered) (items : List Item) (n level token end : ℕ) (e : slice_get items n ≡ Some (item.Block level token end)) (x : Item) (k : slice_get items n ≡ Some x) where
+  abbrev own_as : Declaration ℕ → Own
+  own_as d = record { name = last_of d.names; first = token; end = end }
+
+  abbrev rest : List Item
+  rest = drop (n + 1) items
+
+  abbrev inside : List (Declaration ℕ)
+  inside = of_block ts token (labels_in ts rest) (attributes_in ts rest)
+
+  abbrev pub all_by : List (Declaration ℕ)
+  all_by = by_declarer ts token (labels_in ts (drop (n + 1) items)) (attributes_in ts (drop (n + 1) items)) (declarer (text_of ts token))
+
+  same : item.Block level token end ≡ x
+  same = some_same (sym e ∙ k)
+    where
+      some_same : Some (item.Block level token end) ≡ Some x → item.Block level token end ≡ x
+      some_same h = cc
+
+  at_level : (b : Bool) → is_closed level ≡ b → map own_as (variables (cond b inside [])) ≡ own_of_item ts x rest
+  at_level b is = ap (λ c. map own_as (variables (cond c inside []))) (sym is) ∙ ap (λ i. own_of_item ts i rest) same
+
+  pub owner_deeper : is_closed level ≡ false → [] ≡ own_of_item ts x (drop (n + 1) items)
+  owner_deeper deeper = at_level false deeper
+
+  at_top : is_closed level ≡ true → (ds : List (Declaration ℕ)) → ds ≡ all_by → map own_as (variables ds) ≡ own_of_item ts x rest
+  at_top top ds is = ap (λ es. map own_as (variables es)) is ∙ ap (map own_as) (variables_in ts token (labels_in ts rest) (attributes_in ts rest)) ∙ at_level true top
+
+  pub owner_none : is_closed level ≡ true → [] ≡ all_by → [] ≡ own_of_item ts x (drop (n + 1) items)
+  owner_none top is = at_top top [] is
+
+  pub owner_other : is_closed level ≡ true → (d : Declared) → declaration d ∷ [] ≡ all_by → is_variable d.kind ≡ false → [] ≡ own_of_item ts x (drop (n + 1) items)
+  owner_other top d is other = ap (λ b. map own_as (cond b (declaration d ∷ []) [])) (sym other) ∙ at_top top (declaration d ∷ []) is
+
+  pub owner_one : is_closed level ≡ true → (d : Declared) → declaration d ∷ [] ≡ all_by → is_variable d.kind ≡ true → (o : OwnBlock) → o.name.now ≡ last_of (texts_of d.names) → o.first ≡ token → o.end ≡ end
+      → own_of o ∷ [] ≡ own_of_item ts x (drop (n + 1) items)
+  owner_one top d is one o name first last =
+      ap (λ v. own_by v o.first o.end ∷ []) name
+      ∙ ap (λ v. own_by (last_of (texts_of d.names)) v o.end ∷ []) first
+      ∙ ap (λ v. own_by (last_of (texts_of d.names)) token v ∷ []) last
+      ∙ ap (λ b. map own_as (cond b (declaration d ∷ []) [])) (sym one)
+      ∙ at_top top (declaration d ∷ []) is
+
+-- ---- all items
+
+abbrev pub AreOwners : List Numbered → List Item → List OwnBlock → ℕ → Type 0
+AreOwners ts items found n = map own_of found ++ own_of_items ts (drop n items) ≡ own_of_items ts items
+
+module _ (ts : List Numbered) (items : List Item) (found : List OwnBlock) (n : ℕ) where
+  pub owners_end : length items ≤ n → AreOwners ts items found n → map own_of found ≡ own_of_items ts items
+  owners_end past h = sym (append-nil (map own_of found)) ∙ ap (λ is. map own_of found ++ own_of_items ts is) (sym (drop_all n items past)) ∙ h
+
+  there_is : (k : ℕ) (xs : List Item) → k < length xs → (i : Item) × (slice_get xs k ≡ Some i)
+  there_is k [] h = absurd (omega (arith, h))
+  there_is zero (x ∷ xs) h = (x, refl)
+  there_is (suc k) (x ∷ xs) h = there_is k xs (omega (arith, h))
+
+  step : (own : List Own) → n < length items → ((i : Item) → slice_get items n ≡ Some i → own ≡ own_of_item ts i (drop (n + 1) items)) → own ++ own_of_items ts (drop (n + 1) items) ≡ own_of_items ts (drop n items)
+  step own less is =
+      let i = there_is n items less in
+      ap (λ r. r ++ own_of_items ts (drop (n + 1) items)) (is i.0 i.1) ∙ ap (own_of_items ts) (sym (drop_at items n i.0 i.1))
+
+  pub owners_past : n < length items → ((i : Item) → slice_get items n ≡ Some i → [] ≡ own_of_item ts i (drop (n + 1) items)) → AreOwners ts items found n → AreOwners ts items found (n + 1)
+  owners_past less none h = ap (λ r. map own_of found ++ r) (step [] less none) ∙ h
+
+  pub owners_more : (next : List OwnBlock) (o : OwnBlock) → n < length items → next ≡ found ++ o ∷ [] → ((i : Item) → slice_get items n ≡ Some i → own_of o ∷ [] ≡ own_of_item ts i (drop (n + 1) items))
+      → AreOwners ts items found n → AreOwners ts items next (n + 1)
+  owners_more next o less pushed one h =
+      ap (λ r. map own_of r ++ own_of_items ts (drop (n + 1) items)) pushed
+      ∙ ap (λ r. r ++ own_of_items ts (drop (n + 1) items)) (map-append own_of found (o ∷ []))
+      ∙ append_assoc (map own_of found) (own_of o ∷ []) (own_of_items ts (drop (n + 1) items))
+      ∙ ap (λ r. map own_of found ++ r) (step (own_of o ∷ []) less one)
+      ∙ h

@@ -1,0 +1,25 @@
+use Rattle.std.proofs.Common.{◌∙◌, ap, sym, List, ◌∷◌, ◌+◌, drop}
+use Rattle.std.specs.Prelude.{slice_get}
+use Rattle.hcl_syntax.specs.Numbered.{numbered}
+use Rattle.hcl_syntax.specs.declared.item.Item.{Item}
+use Rattle.hcl_syntax.specs.declared.item.Item.TheVariants as item
+use Rattle.tf_facts.specs.Declarations.{labels_in}
+use Rattle.tf_facts.proofs.BodyLemmas.{begins_within, labels_here}
+use Rattle.tf_facts.proofs.block.label_at.Goals as goal
+
+pub label_text-requires : goal.label_text-requires
+label_text-requires c =
+    begins_within c.args.accepted.now.tokens c.args.number (item.Label c.in-Label.label) (sym (ap (λ (is : List Item). slice_get is c.args.number) c.requires) ∙ c.in-Label.ensures)
+
+pub returns-in-Label : goal.returns-in-Label
+returns-in-Label c =
+    labels_here (numbered c.args.accepted.now.tokens) c.args.items.now c.args.number (item.Label c.in-Label.label) c.in-Label.ensures
+    ∙ ap (λ text. text ∷ labels_in (numbered c.args.accepted.now.tokens) (drop (c.args.number + 1) c.args.items.now)) (sym c.label_text.ensures)
+
+pub returns-in-Attribute : goal.returns-in-Attribute
+returns-in-Attribute c =
+    labels_here (numbered c.args.accepted.now.tokens) c.args.items.now c.args.number (item.Attribute c.in-Attribute.level c.in-Attribute.name c.in-Attribute.first c.in-Attribute.end) c.in-Attribute.ensures
+
+pub returns-in-Block : goal.returns-in-Block
+returns-in-Block c =
+    labels_here (numbered c.args.accepted.now.tokens) c.args.items.now c.args.number (item.Block c.in-Block.level c.in-Block.kind c.in-Block.end) c.in-Block.ensures

@@ -1,0 +1,20 @@
+use Rattle.std.proofs.Common.{◌∙◌, ap, map, ℕ, List}
+use Rattle.hcl_scan.specs.Scanned.{Scanned}
+use Rattle.hcl_syntax.specs.Numbered.{numbered}
+use Rattle.tf_facts.specs.Comments.{Comment, comments}
+use Rattle.tf_facts.specs.Declarations.{Declaration, declarations}
+use Rattle.tf_facts.specs.Facts.{Facts}
+use Rattle.tf_facts.specs.Patterns.{legacy_indexes, wrapped_interpolations}
+use Rattle.tf_facts.specs.Found.{declaration}
+use Rattle.tf_facts.proofs.file_facts.facts_of.Goals as goal
+
+abbrev made : List (Comment ℕ) → List ℕ → List ℕ → List (Declaration ℕ) → Facts ℕ
+made told indexes interpolations listed = record { comments = told; indexes = indexes; interpolations = interpolations; declarations = listed }
+
+pub returns : goal.returns
+returns c =
+    ap (λ cs. made cs c.in_ok-indexes.indexes.items c.in_ok-interpolations.interpolations.items (map declaration c.in_ok-declarations.declarations.items)) c.in_ok-comments.ensures
+    ∙ ap (λ is. made (comments (numbered c.tokens-tokens.result.now.tokens)) is c.in_ok-interpolations.interpolations.items (map declaration c.in_ok-declarations.declarations.items)) c.in_ok-indexes.ensures
+    ∙ ap (λ is. made (comments (numbered c.tokens-tokens.result.now.tokens)) (legacy_indexes (numbered c.tokens-tokens.result.now.tokens)) is (map declaration c.in_ok-declarations.declarations.items)) c.in_ok-interpolations.ensures
+    ∙ ap (λ ds. made (comments (numbered c.tokens-tokens.result.now.tokens)) (legacy_indexes (numbered c.tokens-tokens.result.now.tokens)) (wrapped_interpolations (numbered c.tokens-tokens.result.now.tokens)) ds) c.in_ok-declarations.ensures
+    ∙ ap (λ (s : Scanned). made (comments (numbered s.tokens)) (legacy_indexes (numbered s.tokens)) (wrapped_interpolations (numbered s.tokens)) (declarations (numbered c.args.accepted.now.tokens))) c.tokens-tokens.ensures.tokens

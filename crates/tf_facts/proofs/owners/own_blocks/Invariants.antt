@@ -1,0 +1,6 @@
+use Rattle.hcl_syntax.specs.Numbered.{numbered}
+use Rattle.tf_facts.proofs.OwnerLemmas.{AreOwners}
+use Rattle.tf_facts.proofs.owners.own_blocks.Given as goal
+
+abbrev pub invariant-loop-number : goal.invariant-loop-number
+invariant-loop-number l = AreOwners (numbered l.accepted.tokens) l.items l.found.items l.number

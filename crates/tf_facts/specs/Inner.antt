@@ -1,0 +1,8 @@
+-- Words for the code's own parts, which its inner contracts use. Nobody has to believe them.
+pub mod Closings
+pub mod Cuts
+pub mod FoundViews
+pub mod Labelled
+pub mod Seen
+pub mod Spelled
+pub mod Values

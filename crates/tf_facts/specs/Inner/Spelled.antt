@@ -1,0 +1,20 @@
+-- The text by which a reference is told.
+use Rattle.std.specs.Prelude.{◌≡◌, ◌<◌, ◌+◌, ◌^◌, ℕ, List, drop, length, Some}
+use Rattle.hcl_scan.specs.Lexemes.{Lexeme}
+use Rattle.tf_facts.specs.References.{name_behind, variable_reference, local_reference, data_reference}
+use Rattle.tf_facts.specs.Inner.Seen.{seen_from, numbered_of}
+use Rattle.tf_facts.specs.declared.seen.Seen.{Seen}
+use Rattle.tf_facts.specs.declared.reference.Reference.{Reference}
+use Rattle.tf_facts.specs.declared.reference.Reference.TheVariants.{Variable, Local, Data}
+
+abbrev pub spelled : Reference → List ℕ
+spelled (Variable n) = variable_reference n.now
+spelled (Local n) = local_reference n.now
+spelled (Data t n) = data_reference t.now n.now
+
+-- the token is the identifier behind a dot with which the tokens from a number on begin
+pub record IsBehind (tokens : List Lexeme) (from : ℕ) (t : Seen) : Type 0 where
+  pub named : name_behind (seen_from tokens from) ≡ Some (numbered_of t)
+  pub rest : drop 2 (seen_from tokens from) ≡ seen_from tokens (t.number + 1)
+  pub within : t.number < length tokens
+  pub small : t.number + 1 < 2 ^ 64

@@ -1,0 +1,14 @@
+pub mod Texts
+pub mod Rules
+pub mod RuleSets
+pub mod Silencing
+pub mod Comments
+pub mod Sources
+pub mod Declarations
+pub mod References
+pub mod Patterns
+pub mod Facts
+pub mod Found
+pub mod OwnBlocks
+pub mod Examples
+pub mod Inner

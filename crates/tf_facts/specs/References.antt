@@ -1,0 +1,100 @@
+-- The references of a file: `var . n`, `local . n` and `data . t . n`, where n and t are identifiers and the first word
+-- isn't directly behind a dot, over the tokens without comments, blanks and newlines, heredocs included. A reference is
+-- told by its text, with nothing around the dots. Left out is `var . n` inside the block of a variable declared as n.
+use Rattle.std.specs.Prelude.{ℕ, ◌++◌, ◌&&◌, Bool, true, false, List, [], ◌∷◌, Option, Some, None, codes, nat_le, nat_lt, filter, map, drop, if◌then◌else◌}
+use Rattle.std.specs.List.{list_any}
+use Rattle.std.specs.Str.{bytes_eq}
+use Rattle.hcl_scan.specs.declared.token.Kind.{Kind}
+use Rattle.hcl_scan.specs.declared.token.Kind.TheVariants as kind
+use Rattle.hcl_syntax.specs.Numbered.{Numbered, significant, is_ident}
+use Rattle.hcl_syntax.specs.Items.{items_of}
+use Rattle.hcl_syntax.specs.declared.item.Item.{Item}
+use Rattle.hcl_syntax.specs.declared.item.Item.TheVariants as item
+use Rattle.tf_facts.specs.Declarations.{of_item}
+use Rattle.tf_facts.specs.declared.declaration_kind.DeclarationKind.{DeclarationKind}
+use Rattle.tf_facts.specs.declared.declaration_kind.DeclarationKind.TheVariants as declares
+
+abbrev pub is_dot : Kind → Bool
+is_dot kind.Dot = true
+is_dot _ = false
+
+abbrev pub variable_reference : List ℕ → List ℕ
+variable_reference n = codes "var." ++ n
+
+abbrev pub local_reference : List ℕ → List ℕ
+local_reference n = codes "local." ++ n
+
+abbrev pub data_reference : List ℕ → List ℕ → List ℕ
+data_reference t n = codes "data." ++ (t ++ (codes "." ++ n))
+
+-- the identifier behind a dot with which these tokens begin
+abbrev pub name_behind : List Numbered → Option Numbered
+name_behind (d ∷ n ∷ rest) = if is_dot d.kind && is_ident n.kind then Some n else None
+name_behind _ = None
+
+abbrev pub data_of : List ℕ → Option Numbered → Option (List ℕ)
+data_of t None = None
+data_of t (Some n) = Some (data_reference t n.text)
+
+-- the reference of a first word and a name behind a dot, where `rest` follows
+abbrev pub named : List ℕ → List ℕ → List Numbered → Option (List ℕ)
+named word n rest =
+    if bytes_eq word (codes "var") then Some (variable_reference n)
+    else if bytes_eq word (codes "local") then Some (local_reference n)
+    else if bytes_eq word (codes "data") then data_of n (name_behind rest)
+    else None
+
+abbrev pub by_name : List ℕ → Option Numbered → List Numbered → Option (List ℕ)
+by_name word None rest = None
+by_name word (Some n) rest = named word n.text rest
+
+-- the reference with which these tokens begin
+abbrev pub reference_at : List Numbered → Option (List ℕ)
+reference_at [] = None
+reference_at (w ∷ ts) = if is_ident w.kind then by_name w.text (name_behind ts) (drop 2 ts) else None
+
+-- where a variable is declared, and as what
+pub record Own : Type 0 where
+  pub name : List ℕ
+  pub first : ℕ
+  pub end : ℕ
+
+abbrev pub is_variable : DeclarationKind → Bool
+is_variable declares.Variable = true
+is_variable _ = false
+
+abbrev pub last_of : List (List ℕ) → List ℕ
+last_of [] = []
+last_of (x ∷ []) = x
+last_of (x ∷ y ∷ xs) = last_of (y ∷ xs)
+
+-- the variable that an item declares, where `rest` follows it in the list of items
+abbrev pub own_of_item : List Numbered → Item → List Item → List Own
+own_of_item ts (item.Block level token end) rest =
+    map (λ d. record { name = last_of d.names; first = token; end = end }) (filter (λ d. is_variable d.kind) (of_item ts (item.Block level token end) rest))
+own_of_item ts _ rest = []
+
+abbrev pub own_of_items : List Numbered → List Item → List Own
+own_of_items ts [] = []
+own_of_items ts (i ∷ rest) = own_of_item ts i rest ++ own_of_items ts rest
+
+abbrev pub own_blocks : List Numbered → List Own
+own_blocks ts = own_of_items ts (items_of ts)
+
+-- the token stands in the block of the variable to which this text refers
+abbrev pub is_own : List Own → ℕ → List ℕ → Bool
+is_own own number text = list_any (λ o. nat_le o.first number && nat_lt number o.end && bytes_eq (variable_reference o.name) text) own
+
+abbrev pub unless_own : List Own → ℕ → Option (List ℕ) → List (List ℕ)
+unless_own own number None = []
+unless_own own number (Some text) = if is_own own number text then [] else text ∷ []
+
+-- the references of significant tokens, where a dot stands before them or not
+abbrev pub references_from : List Own → Bool → List Numbered → List (List ℕ)
+references_from own after_dot [] = []
+references_from own after_dot (t ∷ ts) =
+    (if after_dot then [] else unless_own own t.number (reference_at (t ∷ ts))) ++ references_from own (is_dot t.kind) ts
+
+-- THE REFERENCES of numbered tokens, in order, repeats included
+abbrev pub references : List Numbered → List (List ℕ)
+references ts = references_from (own_blocks ts) false (significant ts)

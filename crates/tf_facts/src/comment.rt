@@ -1,0 +1,88 @@
+//! The line comments of a file that begin with `//` or silence a rule.
+
+ghost use Rattle.std.specs.Prelude.{◌≡◌, ◌<◌, ◌||◌, length, map, slice_get, Some, IfOk};
+ghost use Rattle.std.specs.List.{list_any};
+ghost use Rattle.hcl_scan.specs.Lexemes.{Lexeme};
+ghost use Rattle.hcl_syntax.specs.Numbered.{numbered};
+ghost use Rattle.tf_facts.specs.Comments.{comment_of, comments, if_telling, is_any, is_line_comment};
+ghost use Rattle.tf_facts.specs.RuleSets.{holds, rules_of};
+ghost use Rattle.tf_facts.specs.Silencing.{has_slashes, silenced_rules};
+ghost use Rattle.tf_facts.specs.Found.{comment};
+ghost use Rattle.tf_facts.specs.Inner.FoundViews.{told};
+ghost use Rattle.tf_facts.specs.Inner.Seen.{number_of};
+
+use crate::found::FoundComment;
+use crate::rule::{ALL_RULES, Rule};
+use crate::rule_set::RuleSet;
+use crate::silencing::{has_slashes, silenced_rules};
+use hcl_scan::{Kind, Tokens};
+use std::alloc::{AllocError, Global};
+
+fn is_line_comment(kind: Kind) -> bool
+    ensures { result ≡ is_line_comment kind }
+{
+    matches!(kind, Kind::LineComment)
+}
+
+/// Whether one of these rules is in a set.
+fn holds_one(set: RuleSet, rules: &[Rule]) -> bool
+    ensures { result ≡ list_any (holds set) rules.now }
+{
+    rules.iter().any(|rule| set.holds(*rule))
+}
+
+/// Whether there is a rule in a set.
+pub fn is_any(set: RuleSet) -> bool
+    ensures { result ≡ is_any (rules_of set) }
+{
+    holds_one(set, &ALL_RULES)
+}
+
+/// Whether a comment says something.
+fn is_telling(slashes: bool, silences: RuleSet) -> bool
+    ensures { result ≡ (slashes || is_any (rules_of silences)) }
+{
+    slashes || is_any(silences)
+}
+
+/// What the line comment of this number and text says, where it says something.
+fn comment_of(number: usize, text: &[u8]) -> Option<FoundComment>
+    ensures { told result ≡ if_telling (record { at = number; slashes = has_slashes text.now; silences = silenced_rules text.now }) }
+{
+    let slashes = has_slashes(text);
+    let silences = silenced_rules(text);
+    if !is_telling(slashes, silences) {
+        return None;
+    }
+    Some(FoundComment {
+        at: number,
+        has_slashes: slashes,
+        silences,
+    })
+}
+
+/// What the token of this number says, where it is a line comment that says something.
+fn comment_at(tokens: &Tokens<'_>, number: usize) -> Option<FoundComment>
+    requires { number < length tokens.now.tokens }
+    ensures { (t : Lexeme) → slice_get tokens.now.tokens number ≡ Some t → told result ≡ comment_of (number_of number t) }
+{
+    let token = tokens.get(number);
+    if !is_line_comment(token.kind) {
+        return None;
+    }
+    comment_of(number, token.text.as_bytes())
+}
+
+/// The line comments that say something, in order.
+pub fn comments(alloc: Global, tokens: &Tokens<'_>) -> Result<Vec<FoundComment>, AllocError>
+    ensures { IfOk result (λ found. map comment found.items ≡ comments (numbered tokens.now.tokens)) }
+{
+    let mut found = Vec::new(alloc);
+    for number in 0..tokens.len() {
+        let Some(comment) = comment_at(tokens, number) else {
+            continue;
+        };
+        found.push(comment)?;
+    }
+    Ok(found)
+}

@@ -1,0 +1,277 @@
+//! What the top-level blocks of a file declare, by its outline.
+
+ghost use Rattle.std.specs.Prelude.{◌≡◌, ◌<◌, ◌≤◌, ◌+◌, ◌^◌, ◌==◌, ◌++◌, [], ℕ, List, codes, drop, length, map, slice_get, Some, None, IfOk, IfSome, OnOk, if◌then◌else◌};
+ghost use Rattle.std.specs.Option.{option_map};
+ghost use Rattle.hcl_syntax.specs.Items.{outline};
+ghost use Rattle.hcl_syntax.specs.Labels.{text_of};
+ghost use Rattle.hcl_syntax.specs.Numbered.{numbered};
+ghost use Rattle.hcl_syntax.specs.declared.item.Item.{Item};
+ghost use Rattle.tf_facts.specs.Declarations.{attribute, attributes_in, by_declarer, declarations, declarer, is_empty, is_module, labels_in, module_source, of_block, of_item, of_local, with_attribute};
+ghost use Rattle.tf_facts.specs.Found.{declaration, source_at};
+ghost use Rattle.tf_facts.specs.Inner.FoundViews.{declarer_of, listed};
+ghost use Rattle.tf_facts.specs.Inner.Labelled.{AreNames};
+
+use crate::block::{attribute_value, has_attribute, is_inside, names};
+use crate::declaration_kind::DeclarationKind;
+use crate::found::{Declared, Declarer, FoundSource};
+use crate::names::Names;
+use crate::plain_text::plain_text;
+use crate::source::source_of;
+use hcl_syntax::{Accepted, Item, Outline};
+use std::alloc::{AllocError, Global};
+
+/// The text of the token of this number.
+fn word_at<'s>(accepted: &Accepted<'_, 's>, number: usize) -> &'s str
+    requires { number < length accepted.now.tokens }
+    ensures { result.now ≡ text_of (numbered accepted.now.tokens) number }
+{
+    let tokens = accepted.tokens();
+    let token = tokens.get(number);
+    token.text
+}
+
+/// What a block with this word as its kind declares, and with how many labels.
+fn declarer(word: &str) -> Option<Declarer>
+    ensures is { option_map declarer_of result ≡ declarer word.now }
+    ensures few { IfSome result (λ d. d.labels ≤ 2) }
+{
+    if word == "variable" {
+        return Some(Declarer {
+            kind: DeclarationKind::Variable,
+            labels: 1,
+        });
+    }
+    if word == "output" {
+        return Some(Declarer {
+            kind: DeclarationKind::Output,
+            labels: 1,
+        });
+    }
+    if word == "module" {
+        return Some(Declarer {
+            kind: DeclarationKind::Module,
+            labels: 1,
+        });
+    }
+    if word == "resource" {
+        return Some(Declarer {
+            kind: DeclarationKind::Resource,
+            labels: 2,
+        });
+    }
+    if word == "data" {
+        return Some(Declarer {
+            kind: DeclarationKind::Data,
+            labels: 2,
+        });
+    }
+    None
+}
+
+/// Whether there are so many labels.
+fn are_as_many(names: Names<'_>, labels: usize) -> bool
+    requires { labels ≤ 2 }
+    ensures { (texts : List (List ℕ)) → AreNames names.entry texts → result ≡ (length texts == labels) }
+{
+    match names {
+        Names::None => labels == 0,
+        Names::One(_) => labels == 1,
+        Names::Two(_, _) => labels == 2,
+        Names::More => false,
+    }
+}
+
+fn is_module(kind: DeclarationKind) -> bool
+    ensures { result ≡ is_module kind }
+{
+    matches!(kind, DeclarationKind::Module)
+}
+
+/// The source that the first attribute `source` of a block gives, where it is a plain text; `from` is the number of the
+/// item behind the block.
+fn module_source(accepted: &Accepted<'_, '_>, items: &Outline, from: usize) -> Option<FoundSource>
+    requires { items.now ≡ outline accepted.now.tokens }
+    ensures { option_map source_at result ≡ module_source (numbered accepted.now.tokens) (attributes_in (numbered accepted.now.tokens) (drop from items.now)) }
+{
+    let Some(value) = attribute_value(accepted, items, from, "source") else {
+        return None;
+    };
+    let tokens = accepted.tokens();
+    let Some(plain) = plain_text(tokens, value.first, value.end) else {
+        return None;
+    };
+    Some(FoundSource {
+        source: source_of(plain.text.as_bytes()),
+        at: plain.quote,
+    })
+}
+
+/// The source of a block that declares a module.
+fn source_in(
+    accepted: &Accepted<'_, '_>,
+    items: &Outline,
+    from: usize,
+    kind: DeclarationKind,
+) -> Option<FoundSource>
+    requires { items.now ≡ outline accepted.now.tokens }
+    ensures { option_map source_at result ≡ (if is_module kind then module_source (numbered accepted.now.tokens) (attributes_in (numbered accepted.now.tokens) (drop from items.now)) else None) }
+{
+    if is_module(kind) {
+        return module_source(accepted, items, from);
+    }
+    None
+}
+
+/// What a top-level block other than `locals` declares, by the number of its kind and that of the item behind it.
+pub fn declared_by<'s>(
+    accepted: &Accepted<'_, 's>,
+    items: &Outline,
+    token: usize,
+    from: usize,
+) -> Option<Declared<'s>>
+    requires items { items.now ≡ outline accepted.now.tokens }
+    requires token { token < length accepted.now.tokens }
+    ensures { listed result ≡ by_declarer (numbered accepted.now.tokens) token (labels_in (numbered accepted.now.tokens) (drop from items.now)) (attributes_in (numbered accepted.now.tokens) (drop from items.now))
+        (declarer (text_of (numbered accepted.now.tokens) token)) }
+{
+    let Some(declarer) = declarer(word_at(accepted, token)) else {
+        return None;
+    };
+    let names = names(accepted, items, from);
+    if !are_as_many(names, declarer.labels) {
+        return None;
+    }
+    let is_described = has_attribute(accepted, items, from, "description");
+    let is_typed = has_attribute(accepted, items, from, "type");
+    let is_versioned = has_attribute(accepted, items, from, "version");
+    let source = source_in(accepted, items, from, declarer.kind);
+    Some(Declared {
+        kind: declarer.kind,
+        names,
+        at: token,
+        is_described,
+        is_typed,
+        is_versioned,
+        source,
+    })
+}
+
+/// Puts what is there behind what was found.
+fn put<'s>(declared: Option<Declared<'s>>, found: &mut Vec<Declared<'s>>) -> Result<(), AllocError>
+    ensures { OnOk result (map declaration found.new.items ≡ map declaration found.old.items ++ listed declared.entry) }
+{
+    let Some(declared) = declared else {
+        return Ok(());
+    };
+    found.push(declared)?;
+    Ok(())
+}
+
+/// What an item in the body of a `locals` block declares.
+fn local_of<'s>(accepted: &Accepted<'_, 's>, item: Item) -> Option<Declared<'s>>
+    requires { (i : ℕ) × (slice_get (outline accepted.now.tokens) i ≡ Some item) }
+    ensures { listed result ≡ map of_local (with_attribute (attribute (numbered accepted.now.tokens) item) []) }
+{
+    let Item::Attribute { level, name, .. } = item else {
+        return None;
+    };
+    if level != 1 {
+        return None;
+    }
+    Some(Declared {
+        kind: DeclarationKind::Local,
+        names: Names::One(word_at(accepted, name)),
+        at: name,
+        is_described: false,
+        is_typed: false,
+        is_versioned: false,
+        source: None,
+    })
+}
+
+/// Puts the attributes of a `locals` block, by the number of the item behind it, behind what was found.
+fn put_locals<'s>(
+    accepted: &Accepted<'_, 's>,
+    items: &Outline,
+    from: usize,
+    found: &mut Vec<Declared<'s>>,
+) -> Result<(), AllocError>
+    requires { items.now ≡ outline accepted.now.tokens }
+    ensures { OnOk result (map declaration found.new.items ≡ map declaration found.old.items ++ map of_local (attributes_in (numbered accepted.now.tokens) (drop from items.now))) }
+{
+    for number in from..items.len() {
+        let item = items.get(number);
+        if !is_inside(item) {
+            return Ok(());
+        }
+        put(local_of(accepted, item), found)?;
+    }
+    Ok(())
+}
+
+/// Whether there is no label.
+fn is_unlabelled(names: Names<'_>) -> bool
+    ensures { (texts : List (List ℕ)) → AreNames names.entry texts → result ≡ is_empty texts }
+{
+    matches!(names, Names::None)
+}
+
+/// Puts what a top-level block declares, by the number of its kind and that of the item behind it, behind what was found.
+fn put_block<'s>(
+    accepted: &Accepted<'_, 's>,
+    items: &Outline,
+    token: usize,
+    from: usize,
+    found: &mut Vec<Declared<'s>>,
+) -> Result<(), AllocError>
+    requires items { items.now ≡ outline accepted.now.tokens }
+    requires token { token < length accepted.now.tokens }
+    ensures { OnOk result (map declaration found.new.items ≡ map declaration found.old.items
+        ++ of_block (numbered accepted.now.tokens) token (labels_in (numbered accepted.now.tokens) (drop from items.now)) (attributes_in (numbered accepted.now.tokens) (drop from items.now))) }
+{
+    if word_at(accepted, token) != "locals" {
+        return put(declared_by(accepted, items, token, from), found);
+    }
+    if !is_unlabelled(names(accepted, items, from)) {
+        return Ok(());
+    }
+    put_locals(accepted, items, from, found)
+}
+
+/// Puts what the item of this number declares behind what was found.
+fn put_item<'s>(
+    accepted: &Accepted<'_, 's>,
+    items: &Outline,
+    number: usize,
+    found: &mut Vec<Declared<'s>>,
+) -> Result<(), AllocError>
+    requires items { items.now ≡ outline accepted.now.tokens }
+    requires within { number < length items.now }
+    requires small { number + 1 < 2 ^ 64 }
+    ensures { OnOk result ((item : Item) → slice_get items.now number ≡ Some item
+        → map declaration found.new.items ≡ map declaration found.old.items ++ of_item (numbered accepted.now.tokens) item (drop (number + 1) items.now)) }
+{
+    let Item::Block { level, kind, .. } = items.get(number) else {
+        return Ok(());
+    };
+    if level > 0 {
+        return Ok(());
+    }
+    put_block(accepted, items, kind, number + 1, found)
+}
+
+/// What a file declares, in order, by its outline.
+pub fn declarations<'s>(
+    alloc: Global,
+    accepted: &Accepted<'_, 's>,
+    items: &Outline,
+) -> Result<Vec<Declared<'s>>, AllocError>
+    requires { items.now ≡ outline accepted.now.tokens }
+    ensures { IfOk result (λ found. map declaration found.items ≡ declarations (numbered accepted.now.tokens)) }
+{
+    let mut found = Vec::new(alloc);
+    for number in 0..items.len() {
+        put_item(accepted, items, number, &mut found)?;
+    }
+    Ok(found)
+}

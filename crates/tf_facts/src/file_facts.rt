@@ -1,0 +1,45 @@
+//! The facts of one file, by the numbers of its tokens.
+
+ghost use Rattle.std.specs.Prelude.{◌≡◌, IfOk};
+ghost use Rattle.hcl_syntax.specs.Items.{outline};
+ghost use Rattle.hcl_syntax.specs.Numbered.{numbered};
+ghost use Rattle.tf_facts.specs.Facts.{facts_of};
+ghost use Rattle.tf_facts.specs.Found.{facts};
+
+use crate::comment::comments;
+use crate::declaration::declarations;
+use crate::found::{Declared, FoundComment};
+use crate::pattern::{legacy_indexes, wrapped_interpolations};
+use hcl_syntax::{Accepted, Outline};
+use std::alloc::{AllocError, Global};
+
+/// The comments that say something, the dots before numbers, the quotes of interpolations alone, and what is declared.
+#[derive(Drop)]
+pub struct FileFacts<'s> {
+    pub comments: Vec<FoundComment>,
+    pub indexes: Vec<usize>,
+    pub interpolations: Vec<usize>,
+    pub declarations: Vec<Declared<'s>>,
+}
+
+/// The facts of a file, by its outline.
+pub fn facts_of<'s>(
+    alloc: Global,
+    accepted: &Accepted<'_, 's>,
+    items: &Outline,
+) -> Result<FileFacts<'s>, AllocError>
+    requires { items.now ≡ outline accepted.now.tokens }
+    ensures { IfOk result (λ found. facts found ≡ facts_of (numbered accepted.now.tokens)) }
+{
+    let tokens = accepted.tokens();
+    let comments = comments(alloc, tokens)?;
+    let indexes = legacy_indexes(alloc, tokens)?;
+    let interpolations = wrapped_interpolations(alloc, tokens)?;
+    let declarations = declarations(alloc, accepted, items)?;
+    Ok(FileFacts {
+        comments,
+        indexes,
+        interpolations,
+        declarations,
+    })
+}

@@ -1,0 +1,12 @@
+//! What is proved of the definitions alone. No program calls these functions: their contracts are the laws.
+
+ghost use Rattle.std.specs.Prelude.{List};
+ghost use Rattle.hcl_scan.specs.Lexemes.{Lexeme};
+ghost use Rattle.hcl_syntax.specs.Numbered.{numbered};
+ghost use Rattle.tf_facts.specs.OwnBlocks.{Apart};
+ghost use Rattle.tf_facts.specs.References.{own_blocks};
+
+/// The blocks of the variables of a file stand one behind the other.
+pub fn own_apart()
+    ensures { (tokens : List Lexeme) → Apart 0 (own_blocks (numbered tokens)) }
+{}

@@ -1,0 +1,47 @@
+//! What one file of a Terraform module says, by the numbers of its tokens.
+//!
+//! [`facts_of`] finds what a file declares, the comments that say something and two patterns of tokens, and
+//! [`add_references_of`] collects its references. The rules stand here too, since comments silence them by their names.
+//! The module [`laws`] holds what is proved of the definitions alone.
+#![tactic(auto)]
+
+mod block;
+mod closing;
+mod comment;
+mod cut;
+mod declaration;
+mod declaration_kind;
+mod file_facts;
+mod found;
+pub mod laws;
+mod module_source;
+mod names;
+mod own_block;
+mod owners;
+#[cfg(test)]
+mod part_tests;
+mod pattern;
+mod plain_text;
+mod reference;
+mod references;
+mod rule;
+mod rule_set;
+#[cfg(test)]
+mod rule_tests;
+mod seen;
+mod silencing;
+mod source;
+mod text_set;
+mod texts;
+mod value;
+
+pub use comment::is_any;
+pub use declaration_kind::DeclarationKind;
+pub use file_facts::{FileFacts, facts_of};
+pub use found::{Declared, FoundComment, FoundSource};
+pub use module_source::ModuleSource;
+pub use names::Names;
+pub use owners::add_references_of;
+pub use rule::{ALL_RULES, Rule, Severity, rank};
+pub use rule_set::{RuleSet, rules_of_both};
+pub use text_set::TextSet;

@@ -1,0 +1,106 @@
+//! Where the variables of a file are declared, and the references that are left without their own.
+
+ghost use Rattle.std.specs.Prelude.{◌≡◌, ◌<◌, ◌+◌, ◌^◌, ℕ, drop, length, map, slice_get, Some, IfOk, OnOk, OnErr};
+ghost use Rattle.std.specs.Str.{bytes_eq};
+ghost use Rattle.indexmap.specs.IndexSet.{insert_all};
+ghost use Rattle.hcl_syntax.specs.Items.{outline};
+ghost use Rattle.hcl_syntax.specs.Numbered.{numbered};
+ghost use Rattle.hcl_syntax.specs.declared.item.Item.{Item};
+ghost use Rattle.tf_facts.specs.OwnBlocks.{own_of, Apart};
+ghost use Rattle.tf_facts.specs.References.{is_variable, last_of, own_blocks, own_of_item, references};
+ghost use Rattle.tf_facts.specs.Inner.FoundViews.{own_listed};
+ghost use Rattle.tf_facts.specs.Found.{texts_of};
+
+use crate::declaration::declared_by;
+use crate::declaration_kind::DeclarationKind;
+use crate::names::Names;
+use crate::own_block::OwnBlock;
+use crate::references::add_references;
+use crate::text_set::TextSet;
+use hcl_syntax::{Accepted, Item, Outline};
+use std::alloc::{AllocError, Global};
+
+/// The last of up to two labels.
+fn last<'s>(names: Names<'s>) -> &'s str
+    ensures { result.now ≡ last_of (texts_of names.entry) }
+{
+    match names {
+        Names::None => "",
+        Names::One(name) => name,
+        Names::Two(_, second) => second,
+        Names::More => "",
+    }
+}
+
+fn is_variable(kind: DeclarationKind) -> bool
+    ensures { result ≡ is_variable kind }
+{
+    matches!(kind, DeclarationKind::Variable)
+}
+
+/// The block of the variable that the item of this number declares.
+fn own_block_at<'s>(
+    accepted: &Accepted<'_, 's>,
+    items: &Outline,
+    number: usize,
+) -> Option<OwnBlock<'s>>
+    requires items { items.now ≡ outline accepted.now.tokens }
+    requires within { number < length items.now }
+    requires small { number + 1 < 2 ^ 64 }
+    ensures { (item : Item) → slice_get items.now number ≡ Some item → own_listed result ≡ own_of_item (numbered accepted.now.tokens) item (drop (number + 1) items.now) }
+{
+    let Item::Block { level, kind, end } = items.get(number) else {
+        return None;
+    };
+    if level > 0 {
+        return None;
+    }
+    let Some(declared) = declared_by(accepted, items, kind, number + 1) else {
+        return None;
+    };
+    if !is_variable(declared.kind) {
+        return None;
+    }
+    Some(OwnBlock {
+        name: last(declared.names),
+        first: kind,
+        end,
+    })
+}
+
+/// The blocks of the variables of a file, in order, by its outline.
+pub fn own_blocks<'s>(
+    alloc: Global,
+    accepted: &Accepted<'_, 's>,
+    items: &Outline,
+) -> Result<Vec<OwnBlock<'s>>, AllocError>
+    requires { items.now ≡ outline accepted.now.tokens }
+    ensures blocks { IfOk result (λ found. map own_of found.items ≡ own_blocks (numbered accepted.now.tokens)) }
+    ensures apart { IfOk result (λ found. Apart 0 (map own_of found.items)) }
+{
+    let mut found = Vec::new(alloc);
+    for number in 0..items.len() {
+        let Some(block) = own_block_at(accepted, items, number) else {
+            continue;
+        };
+        found.push(block)?;
+    }
+    Ok(found)
+}
+
+/// Puts the references of a file into the set, by its outline. On refusal the set is as it was.
+pub fn add_references_of(
+    alloc: Global,
+    accepted: &Accepted<'_, '_>,
+    items: &Outline,
+    into: &mut TextSet,
+) -> Result<(), AllocError>
+    requires { items.now ≡ outline accepted.now.tokens }
+    ensures ok { OnOk result (into.new ≡ insert_all bytes_eq into.old (references (numbered accepted.now.tokens))) }
+    ensures err { OnErr result (into.new ≡ into.old) }
+{
+    let blocks = own_blocks(alloc, accepted, items)?;
+    let tokens = accepted.tokens();
+    add_references(alloc, tokens, &blocks, into)?;
+    Ok(())
+}

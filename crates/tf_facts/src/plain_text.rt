@@ -1,0 +1,90 @@
+//! Values that are plain texts.
+
+ghost use Rattle.std.specs.Prelude.{◌≡◌, ◌≤◌, ◌&&◌, not, [], length, MatchOption};
+ghost use Rattle.std.specs.Option.{option_map};
+ghost use Rattle.hcl_scan.specs.Kinds.{is_lit};
+ghost use Rattle.hcl_syntax.specs.Numbered.{is_comment, is_newline, is_quote_close, is_quote_open};
+ghost use Rattle.tf_facts.specs.Declarations.{plain_text};
+ghost use Rattle.tf_facts.specs.Inner.Values.{IsFirstValue, plain, values};
+
+use crate::seen::Seen;
+use crate::value::Plain;
+use hcl_scan::{Kind, Tokens};
+
+/// Whether tokens of this kind count in a value: comments and newlines don't.
+fn counts(kind: Kind) -> bool
+    ensures { result ≡ (not (is_comment kind) && not (is_newline kind)) }
+{
+    !matches!(
+        kind,
+        Kind::LineComment | Kind::InlineComment | Kind::Newline
+    )
+}
+
+fn is_quote_open(kind: Kind) -> bool
+    ensures { result ≡ is_quote_open kind }
+{
+    matches!(kind, Kind::QuoteOpen)
+}
+
+fn is_quote_close(kind: Kind) -> bool
+    ensures { result ≡ is_quote_close kind }
+{
+    matches!(kind, Kind::QuoteClose)
+}
+
+fn is_lit(kind: Kind) -> bool
+    ensures { result ≡ is_lit kind }
+{
+    matches!(kind, Kind::Lit)
+}
+
+/// The first token from a number on to before another that is no comment and no newline.
+fn next_value<'s>(tokens: &Tokens<'s>, from: usize, to: usize) -> Option<Seen<'s>>
+    requires { to ≤ length tokens.now.tokens }
+    ensures { MatchOption result (values tokens.now.tokens from to ≡ []) (IsFirstValue tokens.now.tokens from to) }
+{
+    for number in from..to {
+        let token = tokens.get(number);
+        if counts(token.kind) {
+            return Some(Seen {
+                number,
+                kind: token.kind,
+                text: token.text,
+            });
+        }
+    }
+    None
+}
+
+/// The plain text that these tokens are, comments and newlines aside.
+pub fn plain_text<'s>(tokens: &Tokens<'s>, from: usize, to: usize) -> Option<Plain<'s>>
+    requires { to ≤ length tokens.now.tokens }
+    ensures { option_map plain result ≡ plain_text (values tokens.now.tokens from to) }
+{
+    let Some(quote) = next_value(tokens, from, to) else {
+        return None;
+    };
+    let Some(second) = next_value(tokens, quote.number + 1, to) else {
+        return None;
+    };
+    let Some(third) = next_value(tokens, second.number + 1, to) else {
+        if is_quote_open(quote.kind) && is_quote_close(second.kind) {
+            return Some(Plain {
+                quote: quote.number,
+                text: "",
+            });
+        }
+        return None;
+    };
+    if next_value(tokens, third.number + 1, to).is_some() {
+        return None;
+    }
+    if is_quote_open(quote.kind) && is_lit(second.kind) && is_quote_close(third.kind) {
+        return Some(Plain {
+            quote: quote.number,
+            text: second.text,
+        });
+    }
+    None
+}

@@ -1,0 +1,75 @@
+//! References: `var.n`, `local.n` and `data.t.n`.
+
+ghost use Rattle.std.specs.Prelude.{◌≡◌, ◌<◌, ◌≤◌, ◌+◌, ◌^◌, ◌∷◌, drop, length, MatchOption, None};
+ghost use Rattle.std.specs.Option.{option_map};
+ghost use Rattle.hcl_syntax.specs.Numbered.{is_ident};
+ghost use Rattle.tf_facts.specs.References.{is_dot, name_behind, named, reference_at};
+ghost use Rattle.tf_facts.specs.Inner.Seen.{seen_from, numbered_of};
+ghost use Rattle.tf_facts.specs.Inner.Spelled.{IsBehind, spelled};
+
+use crate::seen::{Seen, next_seen};
+use hcl_scan::{Kind, Tokens};
+
+/// What a reference names.
+#[derive(Clone, Copy)]
+pub enum Reference<'s> {
+    Variable(&'s str),
+    Local(&'s str),
+    Data(&'s str, &'s str),
+}
+
+/// Whether the kind is a dot.
+pub fn is_dot(kind: Kind) -> bool
+    ensures { result ≡ is_dot kind }
+{
+    matches!(kind, Kind::Dot)
+}
+
+fn is_ident(kind: Kind) -> bool
+    ensures { result ≡ is_ident kind }
+{
+    matches!(kind, Kind::Ident)
+}
+
+/// The identifier behind a dot with which the tokens from a number on begin.
+fn name_behind<'s>(tokens: &Tokens<'s>, from: usize) -> Option<Seen<'s>>
+    requires { from ≤ length tokens.now.tokens }
+    ensures { MatchOption result (name_behind (seen_from tokens.now.tokens from) ≡ None) (IsBehind tokens.now.tokens from) }
+{
+    let Some(dot) = next_seen(tokens, from) else {
+        return None;
+    };
+    if !is_dot(dot.kind) {
+        return None;
+    }
+    let Some(name) = next_seen(tokens, dot.number + 1) else {
+        return None;
+    };
+    if !is_ident(name.kind) {
+        return None;
+    }
+    Some(name)
+}
+
+/// The reference that begins with a token.
+pub fn reference_at<'s>(tokens: &Tokens<'s>, word: Seen<'s>) -> Option<Reference<'s>>
+    requires within { word.number < length tokens.now.tokens }
+    requires small { word.number + 1 < 2 ^ 64 }
+    ensures { option_map spelled result ≡ reference_at (numbered_of word.entry ∷ seen_from tokens.now.tokens (word.entry.number + 1)) }
+{
+    if !is_ident(word.kind) {
+        return None;
+    }
+    let Some(name) = name_behind(tokens, word.number + 1) else {
+        return None;
+    };
+    match word.text {
+        "var" => Some(Reference::Variable(name.text)),
+        "local" => Some(Reference::Local(name.text)),
+        "data" => match name_behind(tokens, name.number + 1) {
+            Some(second) => Some(Reference::Data(name.text, second.text)),
+            None => None,
+        },
+        _ => None,
+    }
+}

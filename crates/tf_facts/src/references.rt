@@ -1,0 +1,162 @@
+//! All references of a file.
+
+ghost use Rattle.std.specs.List.{list_any};
+ghost use Rattle.std.specs.Prelude.{◌≡◌, ◌<◌, ◌≤◌, ◌+◌, ◌^◌, ◌∷◌, ◌++◌, ◌&&◌, nat_le, nat_lt, slice_get, Some, ℕ, List, OnOk, OnErr, IfOk, length, map, take, true, false};
+ghost use Rattle.std.specs.String.{string_bytes};
+ghost use Rattle.std.specs.Str.{bytes_eq};
+ghost use Rattle.indexmap.specs.IndexSet.{insert_all};
+ghost use Rattle.tf_facts.specs.References.{is_own, reference_at, references_from, unless_own};
+ghost use Rattle.tf_facts.specs.Inner.Seen.{seen_from, numbered_of};
+ghost use Rattle.tf_facts.specs.Inner.Spelled.{spelled};
+ghost use Rattle.tf_facts.specs.OwnBlocks.{own_of, Apart, ArePassed, Extends, IsAhead};
+
+use crate::own_block::OwnBlock;
+use crate::reference::{Reference, is_dot, reference_at};
+use crate::seen::{Seen, is_passed_over};
+use crate::text_set::TextSet;
+use hcl_scan::Tokens;
+use std::alloc::{AllocError, Global};
+
+/// The text by which a reference is told.
+fn spelled(alloc: Global, reference: Reference<'_>) -> Result<String, AllocError>
+    ensures { IfOk result (λ text. string_bytes text ≡ spelled reference.entry) }
+{
+    match reference {
+        Reference::Variable(name) => format!(in alloc; "var.{name}"),
+        Reference::Local(name) => format!(in alloc; "local.{name}"),
+        Reference::Data(kind, name) => format!(in alloc; "data.{kind}.{name}"),
+    }
+}
+
+/// The block of this number.
+fn block_at<'s>(blocks: &[OwnBlock<'s>], i: usize) -> OwnBlock<'s>
+    requires { i < length blocks.now }
+    ensures { slice_get blocks.now i ≡ Some result }
+{
+    blocks[i]
+}
+
+/// Whether the block begins at or before a token, and is that of the variable of this name.
+fn begins_before(block: OwnBlock<'_>, number: usize, name: &str) -> bool
+    ensures { result ≡ (nat_le block.entry.first number && bytes_eq block.entry.name.now name.now) }
+{
+    block.first <= number && block.name == name
+}
+
+/// How many blocks end at or before a token, where so many are known to.
+fn passed(blocks: &[OwnBlock<'_>], from: usize, number: usize) -> usize
+    requires passed { ArePassed (map own_of blocks.now) from number }
+    requires within { from ≤ length blocks.now }
+    ensures passed { ArePassed (map own_of blocks.now) result number }
+    ensures within { result ≤ length blocks.now }
+    ensures ahead { IsAhead blocks.now result number }
+{
+    let mut next = from;
+    while next < blocks.len() {
+        let block = block_at(blocks, next);
+        if number < block.end {
+            return next;
+        }
+        next += 1;
+    }
+    next
+}
+
+/// Whether a reference at a token stands in the block of the variable that it names. Blocks before `next` end at or
+/// before the token, and the blocks stand one behind the other, so no other block is asked.
+fn is_own(blocks: &[OwnBlock<'_>], next: usize, number: usize, reference: Reference<'_>) -> bool
+    requires apart { Apart 0 (map own_of blocks.now) }
+    requires passed { ArePassed (map own_of blocks.now) next number }
+    requires within { next ≤ length blocks.now }
+    requires ahead { IsAhead blocks.now next number }
+    ensures { result ≡ is_own (map own_of blocks.now) number (spelled reference.entry) }
+{
+    let Reference::Variable(name) = reference else {
+        return false;
+    };
+    if next >= blocks.len() {
+        return false;
+    }
+    let block = block_at(blocks, next);
+    begins_before(block, number, name)
+}
+
+/// Puts the reference that begins with a token into the set, unless it stands in the block of its own variable.
+fn put(
+    alloc: Global,
+    tokens: &Tokens<'_>,
+    blocks: &[OwnBlock<'_>],
+    next: usize,
+    word: Seen<'_>,
+    into: &mut TextSet,
+) -> Result<(), AllocError>
+    requires within { word.number < length tokens.now.tokens }
+    requires small { word.number + 1 < 2 ^ 64 }
+    requires apart { Apart 0 (map own_of blocks.now) }
+    requires passed { ArePassed (map own_of blocks.now) next word.number }
+    requires next { next ≤ length blocks.now }
+    requires ahead { IsAhead blocks.now next word.number }
+    ensures ok { OnOk result (into.new ≡ insert_all bytes_eq into.old (unless_own (map own_of blocks.now) word.entry.number (reference_at (numbered_of word.entry ∷ seen_from tokens.now.tokens (word.entry.number + 1))))) }
+    ensures err { OnErr result (into.new ≡ into.old) }
+{
+    let Some(reference) = reference_at(tokens, word) else {
+        return Ok(());
+    };
+    if is_own(blocks, next, word.number, reference) {
+        return Ok(());
+    }
+    let text = spelled(alloc, reference)?;
+    into.insert(text)
+}
+
+/// Puts the references of the tokens into the set, in order; `blocks` are those of variables, one behind the other. On
+/// refusal the set may have some of them behind what it had.
+pub fn collect(
+    alloc: Global,
+    tokens: &Tokens<'_>,
+    blocks: &[OwnBlock<'_>],
+    into: &mut TextSet,
+) -> Result<(), AllocError>
+    requires { Apart 0 (map own_of blocks.now) }
+    ensures ok { OnOk result (into.new ≡ insert_all bytes_eq into.old (references_from (map own_of blocks.now) false (seen_from tokens.now.tokens 0))) }
+    ensures err { OnErr result (Extends into.old into.new) }
+{
+    let mut after_dot = false;
+    let mut next = 0;
+    for number in 0..tokens.len() {
+        let token = tokens.get(number);
+        if is_passed_over(token.kind) {
+            continue;
+        }
+        next = passed(blocks, next, number);
+        if !after_dot {
+            let word = Seen {
+                number,
+                kind: token.kind,
+                text: token.text,
+            };
+            put(alloc, tokens, blocks, next, word, into)?;
+        }
+        after_dot = is_dot(token.kind);
+    }
+    Ok(())
+}
+
+/// The same, where a refusal leaves the set as it was.
+pub fn add_references(
+    alloc: Global,
+    tokens: &Tokens<'_>,
+    blocks: &[OwnBlock<'_>],
+    into: &mut TextSet,
+) -> Result<(), AllocError>
+    requires { Apart 0 (map own_of blocks.now) }
+    ensures ok { OnOk result (into.new ≡ insert_all bytes_eq into.old (references_from (map own_of blocks.now) false (seen_from tokens.now.tokens 0))) }
+    ensures err { OnErr result (into.new ≡ into.old) }
+{
+    let before = into.len();
+    if let Err(error) = collect(alloc, tokens, blocks, into) {
+        into.truncate(before);
+        return Err(error);
+    }
+    Ok(())
+}

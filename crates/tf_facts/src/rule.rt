@@ -1,0 +1,125 @@
+//! The rules, their names, and how severe their issues are.
+
+ghost use Rattle.std.specs.Prelude.{◌≡◌, ◌<◌, MatchOption, find, None};
+ghost use Rattle.std.specs.Str.{bytes_eq};
+ghost use Rattle.tf_facts.specs.Rules.{all_rules, rank, rule_name, severity, severity_text};
+
+use crate::texts::equals;
+
+/// A rule. The variants stand in the order of the names.
+#[derive(Clone, Copy, Debug, PartialEq, Eq)]
+pub enum Rule {
+    CommentSyntax,
+    DeprecatedIndex,
+    DeprecatedInterpolation,
+    DocumentedOutputs,
+    DocumentedVariables,
+    ModulePinnedSource,
+    ModuleVersion,
+    NamingConvention,
+    TypedVariables,
+    UnusedDeclarations,
+}
+
+/// All rules, in the order of their names.
+pub const ALL_RULES: [Rule; 10] = [
+    Rule::CommentSyntax,
+    Rule::DeprecatedIndex,
+    Rule::DeprecatedInterpolation,
+    Rule::DocumentedOutputs,
+    Rule::DocumentedVariables,
+    Rule::ModulePinnedSource,
+    Rule::ModuleVersion,
+    Rule::NamingConvention,
+    Rule::TypedVariables,
+    Rule::UnusedDeclarations,
+];
+
+/// How much an issue matters, in rising order.
+#[derive(Clone, Copy, Debug, PartialEq, Eq, PartialOrd, Ord)]
+pub enum Severity {
+    Notice,
+    Warning,
+    Error,
+}
+
+impl Severity {
+    /// The word for it in a report.
+    pub fn text(self) -> &'static str
+        ensures { result.now ≡ severity_text self }
+    {
+        match self {
+            Severity::Notice => "Notice",
+            Severity::Warning => "Warning",
+            Severity::Error => "Error",
+        }
+    }
+}
+
+/// The first of these rules that has a name.
+pub(crate) fn named(rules: &[Rule], name: &[u8]) -> Option<Rule>
+    ensures { result ≡ find (λ rule. bytes_eq (rule_name rule) name.now) rules.now }
+{
+    rules
+        .iter()
+        .copied()
+        .find(|rule| equals(rule.name().as_bytes(), name))
+}
+
+impl Rule {
+    /// The name by which users ask for the rule.
+    pub fn name(self) -> &'static str
+        ensures { result.now ≡ rule_name self }
+    {
+        match self {
+            Rule::CommentSyntax => "terraform_comment_syntax",
+            Rule::DeprecatedIndex => "terraform_deprecated_index",
+            Rule::DeprecatedInterpolation => "terraform_deprecated_interpolation",
+            Rule::DocumentedOutputs => "terraform_documented_outputs",
+            Rule::DocumentedVariables => "terraform_documented_variables",
+            Rule::ModulePinnedSource => "terraform_module_pinned_source",
+            Rule::ModuleVersion => "terraform_module_version",
+            Rule::NamingConvention => "terraform_naming_convention",
+            Rule::TypedVariables => "terraform_typed_variables",
+            Rule::UnusedDeclarations => "terraform_unused_declarations",
+        }
+    }
+
+    /// How severe its issues are.
+    pub fn severity(self) -> Severity
+        ensures { result ≡ severity self }
+    {
+        match self {
+            Rule::DocumentedOutputs | Rule::DocumentedVariables | Rule::NamingConvention => {
+                Severity::Notice
+            }
+            _ => Severity::Warning,
+        }
+    }
+
+    /// The rule of this name, where there is one.
+    pub fn from_name(name: &str) -> Option<Rule>
+        ensures { MatchOption result ((rule : Rule) → rule_name rule ≡ name.now → ⊥) (λ rule. rule_name rule ≡ name.now) }
+    {
+        named(&ALL_RULES, name.as_bytes())
+    }
+}
+
+/// A rule's place in the order of the names, from 0 on.
+pub fn rank(rule: Rule) -> usize
+    ensures rank { result ≡ rank rule }
+    ensures few { result < 10 }
+{
+    match rule {
+        Rule::CommentSyntax => 0,
+        Rule::DeprecatedIndex => 1,
+        Rule::DeprecatedInterpolation => 2,
+        Rule::DocumentedOutputs => 3,
+        Rule::DocumentedVariables => 4,
+        Rule::ModulePinnedSource => 5,
+        Rule::ModuleVersion => 6,
+        Rule::NamingConvention => 7,
+        Rule::TypedVariables => 8,
+        Rule::UnusedDeclarations => 9,
+    }
+}

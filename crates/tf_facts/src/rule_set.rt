@@ -1,0 +1,73 @@
+//! Sets of rules.
+
+ghost use Rattle.std.specs.Prelude.{◌≡◌, ◌||◌, false, true};
+ghost use Rattle.tf_facts.specs.Rules.{is_recommended, is_rule};
+ghost use Rattle.tf_facts.specs.RuleSets.{holds};
+
+use crate::rule::{Rule, rank};
+
+/// A set of rules.
+#[derive(Clone, Copy, Debug, PartialEq, Eq)]
+pub struct RuleSet {
+    held: [bool; 10],
+}
+
+fn either(one: bool, other: bool) -> bool
+    ensures { result ≡ (one || other) }
+{
+    one || other
+}
+
+impl RuleSet {
+    /// No rule.
+    pub fn none() -> RuleSet
+        ensures { (rule : Rule) → holds result rule ≡ false }
+    {
+        RuleSet { held: [false; 10] }
+    }
+
+    /// The rules that are asked for where none is named.
+    pub fn recommended() -> RuleSet
+        ensures { (rule : Rule) → holds result rule ≡ is_recommended rule }
+    {
+        RuleSet {
+            held: [
+                false, true, true, false, false, true, true, false, true, true,
+            ],
+        }
+    }
+
+    /// Every rule.
+    pub fn all() -> RuleSet
+        ensures { (rule : Rule) → holds result rule ≡ true }
+    {
+        RuleSet { held: [true; 10] }
+    }
+
+    /// The set with one rule more, where it doesn't hold it yet.
+    pub fn with(self, rule: Rule) -> RuleSet
+        ensures { (other : Rule) → holds result other ≡ (holds self other || is_rule other rule) }
+    {
+        let mut held = self.held;
+        held[rank(rule)] = true;
+        RuleSet { held }
+    }
+
+    /// Whether the rule is in the set.
+    pub fn holds(self, rule: Rule) -> bool
+        ensures { result ≡ holds self rule }
+    {
+        self.held[rank(rule)]
+    }
+}
+
+/// The rules of two sets.
+pub fn rules_of_both(one: RuleSet, other: RuleSet) -> RuleSet
+    ensures { (rule : Rule) → holds result rule ≡ (holds one rule || holds other rule) }
+{
+    let mut joined = one.held;
+    for number in 0..10 {
+        joined[number] = either(one.held[number], other.held[number]);
+    }
+    RuleSet { held: joined }
+}

@@ -1,0 +1,43 @@
+//! The tokens that patterns see: those that are no comment, blank or newline.
+
+ghost use Rattle.std.specs.Prelude.{◌≡◌, ◌<◌, ◌≤◌, ◌+◌, ◌∷◌, [], length, MatchOption};
+ghost use Rattle.hcl_syntax.specs.Numbered.{is_passed_over};
+ghost use Rattle.tf_facts.specs.Inner.Seen.{seen_from, IsNext};
+
+use hcl_scan::{Kind, Tokens};
+
+/// A token that is seen, and its number.
+#[derive(Clone, Copy)]
+pub struct Seen<'s> {
+    pub number: usize,
+    pub kind: Kind,
+    pub text: &'s str,
+}
+
+/// Whether patterns pass over tokens of this kind.
+pub fn is_passed_over(kind: Kind) -> bool
+    ensures { result ≡ is_passed_over kind }
+{
+    matches!(
+        kind,
+        Kind::LineComment | Kind::InlineComment | Kind::Blank | Kind::Newline
+    )
+}
+
+/// The first token from a number on that is seen.
+pub fn next_seen<'s>(tokens: &Tokens<'s>, from: usize) -> Option<Seen<'s>>
+    requires { from ≤ length tokens.now.tokens }
+    ensures { MatchOption result (seen_from tokens.now.tokens from ≡ []) (IsNext tokens.now.tokens from) }
+{
+    for number in from..tokens.len() {
+        let token = tokens.get(number);
+        if !is_passed_over(token.kind) {
+            return Some(Seen {
+                number,
+                kind: token.kind,
+                text: token.text,
+            });
+        }
+    }
+    None
+}

@@ -1,0 +1,123 @@
+//! Line comments that silence issues.
+
+ghost use Rattle.std.specs.Prelude.{◌≡◌, ◌==◌, ◌||◌};
+ghost use Rattle.std.specs.List.{list_any, slice_split};
+ghost use Rattle.tf_facts.specs.RuleSets.{holds};
+ghost use Rattle.tf_facts.specs.Silencing.{has_slashes, is_blank, is_margin, names, silences, trimmed, unmarked};
+ghost use Rattle.tf_facts.specs.Texts.{without_end, without_front};
+
+use crate::rule::{ALL_RULES, Rule, named};
+use crate::rule_set::RuleSet;
+use crate::texts::{begins, behind, cut, equals};
+
+/// What a silencing comment begins with, behind its mark and blanks.
+const KEYWORD: &[u8] = b"tflint-ignore:";
+
+fn is_blank(byte: u8) -> bool
+    ensures { result ≡ is_blank byte }
+{
+    byte == b' ' || byte == b'\t'
+}
+
+fn is_margin(byte: u8) -> bool
+    ensures { result ≡ is_margin byte }
+{
+    is_blank(byte) || byte == b'\r'
+}
+
+/// Whether a comment begins with `//`.
+pub fn has_slashes(text: &[u8]) -> bool
+    ensures { result ≡ has_slashes text.now }
+{
+    begins(b"//", text)
+}
+
+/// A comment without its mark.
+fn unmarked(text: &[u8]) -> &[u8]
+    ensures { result.now ≡ unmarked text.now }
+{
+    if has_slashes(text) {
+        return behind(text, 2);
+    }
+    behind(text, 1)
+}
+
+/// A text without the blanks at its front.
+fn without_blanks(text: &[u8]) -> &[u8]
+    ensures { result.now ≡ without_front is_blank text.now }
+{
+    for start in 0..text.len() {
+        if !is_blank(text[start]) {
+            return &text[start..];
+        }
+    }
+    &text[text.len()..]
+}
+
+/// A text without the margin at its front.
+fn without_front(text: &[u8]) -> &[u8]
+    ensures { result.now ≡ without_front is_margin text.now }
+{
+    for start in 0..text.len() {
+        if !is_margin(text[start]) {
+            return &text[start..];
+        }
+    }
+    &text[text.len()..]
+}
+
+/// A text without the margin at its end.
+fn without_end(text: &[u8]) -> &[u8]
+    ensures { result.now ≡ without_end is_margin text.now }
+{
+    let mut end = text.len();
+    while end > 0 {
+        if !is_margin(text[end - 1]) {
+            return &text[..end];
+        }
+        end -= 1;
+    }
+    &text[..0]
+}
+
+/// A text without the margins at both ends.
+fn trimmed(part: &[u8]) -> &[u8]
+    ensures { result.now ≡ trimmed part.now }
+{
+    without_end(without_front(part))
+}
+
+/// The set with the rules that a part of a comment names.
+fn with_named(set: RuleSet, part: &[u8]) -> RuleSet
+    ensures { (rule : Rule) → holds result rule ≡ (holds set rule || names rule part.now) }
+{
+    if equals(part, b"all") {
+        return RuleSet::all();
+    }
+    match named(&ALL_RULES, part) {
+        Some(rule) => set.with(rule),
+        None => set,
+    }
+}
+
+/// The rules that a list of names between commas has.
+fn all_named(list: &[u8]) -> RuleSet
+    ensures { (rule : Rule) → holds result rule ≡ list_any (λ part. names rule (trimmed part)) (slice_split (λ b. b == 44) list.now) }
+{
+    let mut set = RuleSet::none();
+    for part in list.split(|byte| *byte == b',') {
+        set = with_named(set, trimmed(part));
+    }
+    set
+}
+
+/// The rules that the comment of this text silences.
+pub fn silenced_rules(text: &[u8]) -> RuleSet
+    ensures { (rule : Rule) → holds result rule ≡ silences text.now rule }
+{
+    let rest = without_blanks(unmarked(text));
+    if !begins(KEYWORD, rest) {
+        return RuleSet::none();
+    }
+    all_named(cut(behind(rest, KEYWORD.len()), b'#').part)
+}

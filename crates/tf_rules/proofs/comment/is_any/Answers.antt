@@ -1,6 +1,0 @@
-use Rattle.std.proofs.Common.{◌∙◌}
-use Rattle.tf_rules.proofs.CommentLemmas.{holds_any}
-use Rattle.tf_rules.proofs.comment.is_any.Goals as goal
-
-pub returns : goal.returns
-returns c = c.holds_one.ensures ∙ holds_any c.args.set

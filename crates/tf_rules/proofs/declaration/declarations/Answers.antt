@@ -1,9 +1,0 @@
-use Rattle.std.proofs.Common.{arith}
-use Rattle.hcl_syntax.specs.Numbered.{numbered}
-use Rattle.tf_rules.proofs.DeclarationLemmas.{declared_more}
-use Rattle.tf_rules.proofs.declaration.declarations.Goals as goal
-
-pub loop-number-preserved : goal.loop-number-preserved
-loop-number-preserved c =
-    declared_more (numbered c.args.accepted.now.tokens) c.args.items.now c.loop-number.found.items c.loop-number.number c.put_item.new.found.items (omega (arith, c.loop-number-test.true, c.len-number-end.ensures))
-    c.in_ok-put_item.ensures c.loop-number.invariant

@@ -1,7 +1,0 @@
-use Rattle.std.proofs.Common.{map, length}
-use Rattle.tf_rules.specs.OwnBlocks.{own_of}
-use Rattle.tf_rules.proofs.CollectLemmas.{IsWalked}
-use Rattle.tf_rules.proofs.references.collect.Given as goal
-
-abbrev pub invariant-loop-number : goal.invariant-loop-number
-invariant-loop-number l = IsWalked (map own_of l.blocks) l.tokens.tokens l.fn.into l.into l.after_dot l.next (length l.blocks) l.number

@@ -1,7 +1,0 @@
-use Rattle.std.proofs.Common.{arith}
-use Rattle.tf_rules.proofs.SetLemmas.{joined_more}
-use Rattle.tf_rules.proofs.rule_set.RuleSet.with_all.Goals as goal
-
-pub loop-number-preserved : goal.loop-number-preserved
-loop-number-preserved c =
-    joined_more c.args.self.held c.args.other.held c.loop-number.joined c.loop-number.number c.either.result (omega (arith, c.loop-number-test.true)) c.either.ensures c.loop-number.invariant

@@ -1,5 +1,0 @@
-use Rattle.tf_rules.proofs.CutLemmas.{ArePassed}
-use Rattle.tf_rules.proofs.texts.cut.Given as goal
-
-abbrev pub invariant-loop-end : goal.invariant-loop-end
-invariant-loop-end l = ArePassed l.text l.byte l.end

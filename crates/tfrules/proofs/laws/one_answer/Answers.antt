@@ -1,0 +1,5 @@
+use Rattle.tfrules.proofs.OneAnswer.{one_answer}
+use Rattle.tfrules.proofs.laws.one_answer.Goals as goal
+
+pub returns : goal.returns
+returns c = one_answer
