@@ -3,6 +3,7 @@
 use crate::comment::comments;
 use crate::declaration::declarations;
 use crate::declaration_kind::DeclarationKind;
+use crate::found::Declared;
 use crate::module_source::ModuleSource;
 use crate::owners::{add_references_of, own_blocks};
 use crate::pattern::{legacy_indexes, wrapped_interpolations};
@@ -147,12 +148,27 @@ fn collects_references(rt: HostRuntime) -> Result<(), Fail> {
     Ok(())
 }
 
+/// A block of each sort, with a reference in a variable's own block and one outside.
+static BLOCKS: &str =
+    "variable \"v\" {\n  type = var.v\n}\nlocals {\n  a = var.w\n}\ndata \"t\" \"n\" {}\nmodule \"m\" {\n  source = \"a/b/c\"\n}\noutput {}\n";
+
+/// That what is declared is of this kind, and has a type and a source just where it should.
+fn is_declared(
+    rt: &impl Abort,
+    found: Declared<'_>,
+    kind: DeclarationKind,
+    is_typed: bool,
+    has_source: bool,
+) {
+    assert_eq!(rt; found.kind, kind);
+    assert_eq!(rt; found.is_typed, is_typed);
+    assert_eq!(rt; found.source.is_some(), has_source);
+}
+
 #[test]
 fn lists_declarations(rt: HostRuntime) -> Result<(), Fail> {
     let alloc = rt.alloc();
-    let text =
-        "variable \"v\" {\n  type = var.v\n}\nlocals {\n  a = var.w\n}\ndata \"t\" \"n\" {}\nmodule \"m\" {\n  source = \"a/b/c\"\n}\noutput {}\n";
-    let source = Source::from_bytes(alloc, text.as_bytes())?;
+    let source = Source::from_bytes(alloc, BLOCKS.as_bytes())?;
     let tokens = scan(alloc, &source)?;
     let Ok(accepted) = accepts(&tokens) else {
         assert!(&rt; false, "refused");
@@ -160,21 +176,30 @@ fn lists_declarations(rt: HostRuntime) -> Result<(), Fail> {
     };
     let items = outline(alloc, &accepted)?;
     let found = declarations(alloc, &accepted, &items)?;
-    let kinds = [
-        DeclarationKind::Variable,
-        DeclarationKind::Local,
-        DeclarationKind::Data,
-        DeclarationKind::Module,
+    let wanted = [
+        (DeclarationKind::Variable, true, false),
+        (DeclarationKind::Local, false, false),
+        (DeclarationKind::Data, false, false),
+        (DeclarationKind::Module, false, true),
     ];
-    assert_eq!(&rt; found.len(), kinds.len());
+    assert_eq!(&rt; found.len(), wanted.len());
     for i in 0..found.len() {
-        let declared = found[i];
-        assert_eq!(&rt; declared.kind, kinds[i], "{i}");
-        assert_eq!(&rt; declared.is_typed, i == 0, "{i}");
-        assert_eq!(&rt; declared.source.is_some(), i == 3, "{i}");
+        let (kind, is_typed, has_source) = wanted[i];
+        is_declared(&rt, found[i], kind, is_typed, has_source);
     }
-    let blocks = own_blocks(alloc, &accepted, &items)?;
-    assert_eq!(&rt; blocks.len(), 1);
+    Ok(())
+}
+
+#[test]
+fn leaves_out_references_in_own_blocks(rt: HostRuntime) -> Result<(), Fail> {
+    let alloc = rt.alloc();
+    let source = Source::from_bytes(alloc, BLOCKS.as_bytes())?;
+    let tokens = scan(alloc, &source)?;
+    let Ok(accepted) = accepts(&tokens) else {
+        assert!(&rt; false, "refused");
+        return Ok(());
+    };
+    let items = outline(alloc, &accepted)?;
     let mut used = TextSet::new(alloc);
     add_references_of(alloc, &accepted, &items, &mut used)?;
     assert_eq!(&rt; used.len(), 1);

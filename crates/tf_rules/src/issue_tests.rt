@@ -1,6 +1,6 @@
 //! What is reported of small modules, worked out by hand.
 
-use crate::{Facts, Naming, Rule, RuleSet, Settings};
+use crate::{Facts, Issue, Naming, Rule, RuleSet, Settings};
 use hcl_scan::{Source, scan};
 use hcl_syntax::accepts;
 use std::alloc::Global;
@@ -15,35 +15,38 @@ fn asking(rules: RuleSet) -> Settings {
     }
 }
 
-/// The issues of a module, a line for each, with the files by their numbers.
-fn report(
-    rt: &impl Abort,
-    alloc: Global,
-    files: &[&str],
-    settings: Settings,
-) -> Result<String, Fail> {
+/// The facts of a module, whose files are numbered from 0.
+fn facts_of(alloc: Global, files: &[&str]) -> Result<Facts, Fail> {
     let mut facts = Facts::new(alloc)?;
     let mut number = 0u32;
     for text in files {
         let source = Source::from_bytes(alloc, text.as_bytes())?;
         let tokens = scan(alloc, &source)?;
-        let Ok(accepted) = accepts(&tokens) else {
-            assert!(rt; false, "refused");
-            return Ok(String::new(alloc));
-        };
+        let accepted = accepts(&tokens)?;
         facts.add_file(number, &accepted)?;
         number = number.wrapping_add(1);
     }
+    Ok(facts)
+}
+
+/// The line of an issue, with the file by its number.
+fn line(alloc: Global, issue: &Issue) -> Result<String, Fail> {
+    let file = issue.file;
+    let line = issue.at.line;
+    let column = issue.at.column;
+    let severity = issue.rule.severity().text();
+    let message = issue.message.as_str();
+    let name = issue.rule.name();
+    Ok(format!(in alloc; "{file}:{line}:{column}: {severity} - {message} ({name})\n")?)
+}
+
+/// The issues of a module, a line for each, with the files by their numbers.
+fn report(alloc: Global, files: &[&str], settings: Settings) -> Result<String, Fail> {
+    let facts = facts_of(alloc, files)?;
     let issues = facts.issues(&settings)?;
     let mut report = String::new(alloc);
     for issue in &issues {
-        let file = issue.file;
-        let line = issue.at.line;
-        let column = issue.at.column;
-        let severity = issue.rule.severity().text();
-        let message = issue.message.as_str();
-        let name = issue.rule.name();
-        let told = format!(in alloc; "{file}:{line}:{column}: {severity} - {message} ({name})\n")?;
+        let told = line(alloc, issue)?;
         report.push_str(told.as_str())?;
     }
     Ok(report)
@@ -57,7 +60,7 @@ fn reports(
     settings: Settings,
     wanted: &str,
 ) -> Result<(), Fail> {
-    let found = report(rt, alloc, files, settings)?;
+    let found = report(alloc, files, settings)?;
     assert!(rt; found.as_str() == wanted, "{found}");
     Ok(())
 }

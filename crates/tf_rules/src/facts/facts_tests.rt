@@ -73,6 +73,19 @@ fn counts(rt: &impl Abort, facts: &Facts, wanted: [usize; 5]) {
     assert_eq!(rt; facts.references.len(), wanted[4]);
 }
 
+/// That the facts of both files are those of the second too.
+fn has_second(rt: &impl Abort, facts: &Facts) {
+    assert!(rt; facts.comments.len() > 1 && facts.declarations.len() > 3);
+    assert!(rt; facts.indexes.len() > 0 && facts.interpolations.len() > 0);
+    is_at(rt, facts.comments[1].at, 7, 2, 19);
+    assert!(rt; facts.comments[1].silences.holds(Rule::ModuleVersion));
+    is_at(rt, facts.indexes[0], 7, 2, 13);
+    is_at(rt, facts.interpolations[0], 7, 5, 7);
+    is_at(rt, facts.declarations[2].at, 7, 2, 3);
+    is_at(rt, facts.declarations[3].at, 7, 4, 1);
+    assert!(rt; facts.references.contains("var.w"));
+}
+
 #[test]
 fn keeps_files(rt: HostRuntime) -> Result<(), Fail> {
     let alloc = rt.alloc();
@@ -84,15 +97,7 @@ fn keeps_files(rt: HostRuntime) -> Result<(), Fail> {
     add(alloc, &mut facts, 7, SECOND)??;
     counts(&rt, &facts, [2, 1, 1, 4, 1]);
     has_first(&rt, &facts);
-    assert!(&rt; facts.comments.len() > 1 && facts.declarations.len() > 3);
-    assert!(&rt; facts.indexes.len() > 0 && facts.interpolations.len() > 0);
-    is_at(&rt, facts.comments[1].at, 7, 2, 19);
-    assert!(&rt; facts.comments[1].silences.holds(Rule::ModuleVersion));
-    is_at(&rt, facts.indexes[0], 7, 2, 13);
-    is_at(&rt, facts.interpolations[0], 7, 5, 7);
-    is_at(&rt, facts.declarations[2].at, 7, 2, 3);
-    is_at(&rt, facts.declarations[3].at, 7, 4, 1);
-    assert!(&rt; facts.references.contains("var.w"));
+    has_second(&rt, &facts);
     Ok(())
 }
 
