@@ -128,7 +128,7 @@ fn put_piece(
 /// from it on outside all openers, so no token is looked at twice as the end of a piece is found.
 pub fn put_items(
     tokens: &Tokens<'_>,
-    ends: &[usize],
+    ends: &[u32],
     level: usize,
     from: usize,
     to: usize,
@@ -141,7 +141,7 @@ pub fn put_items(
 {
     let mut start = from;
     while start < to {
-        let end = ends[start].min(to);
+        let end = (ends[start] as usize).min(to);
         let body = put_piece(tokens, level, start, end, items)?;
         put_items(tokens, ends, level + 1, body.first, body.end, items)?;
         start = end + 1;
