@@ -7,6 +7,7 @@
 mod accepted;
 mod class;
 mod cursor;
+mod entry;
 mod expected;
 mod expression;
 mod file;

@@ -5,7 +5,7 @@ ghost use Rattle.hcl_syntax.specs.Items.{outline};
 
 use crate::accepted::Accepted;
 use crate::item_list::Outline;
-use crate::piece_end::newlines;
+use crate::piece_end::{newlines, token_count};
 use crate::pieces::put_items;
 use std::alloc::{AllocError, Global};
 
@@ -15,7 +15,8 @@ pub fn outline(alloc: Global, accepted: &Accepted<'_, '_>) -> Result<Outline, Al
 {
     let tokens = accepted.tokens();
     let ends = newlines(alloc, tokens)?;
-    let mut entries = Vec::new(alloc);
-    put_items(tokens, &ends, 0, 0, tokens.len(), &mut entries)?;
-    Ok(Outline { entries })
+    let count = token_count(tokens);
+    let mut items = Outline::new(alloc);
+    put_items(tokens, &ends, 0, 0, count, &mut items)?;
+    Ok(items)
 }

@@ -1,11 +1,13 @@
 //! The items of tokens, put out piece by piece.
 
 ghost use Rattle.std.specs.Prelude.{◌≡◌, ◌<◌, ◌≤◌, ◌+◌, ◌++◌, length, IfOk, OnOk};
+ghost use Rattle.hcl_source.specs.Load.{max_source};
 ghost use Rattle.hcl_syntax.specs.Inner.Pieces.{AreEnds, items_at, words};
 ghost use Rattle.hcl_syntax.specs.Inner.Bodies.{PutsBlock, PutsPiece};
 ghost use Rattle.hcl_syntax.specs.Items.{label_at, labels};
 
-use crate::item::{Item, Label};
+use crate::entry::Entry;
+use crate::item_list::Outline;
 use crate::words::{
     behind_brace, block_end, closing_quote, first_word, is_assign, is_brace_open, words_end,
 };
@@ -15,37 +17,33 @@ use std::alloc::AllocError;
 /// The tokens between a block's braces, by the number of the first and one past that of the last; it may be empty.
 #[derive(Clone, Copy, Debug)]
 struct Body {
-    first: usize,
-    end: usize,
+    first: u32,
+    end: u32,
 }
 
 /// Puts out the label that begins with a token: an identifier, or a quote.
 fn put_label(
     tokens: &Tokens<'_>,
-    number: usize,
+    number: u32,
     kind: Kind,
-    to: usize,
-    items: &mut Vec<Item>,
+    to: u32,
+    items: &mut Outline,
 ) -> Result<(), AllocError>
     requires within { to ≤ length tokens.now.tokens }
     requires before { number < to }
-    ensures { OnOk result (items.new.items ≡ items.old.items ++ label_at number kind (words tokens.now.tokens (number + 1) to)) }
+    ensures { OnOk result (items.new ≡ items.old ++ label_at number kind (words tokens.now.tokens (number + 1) to)) }
 {
     match kind {
-        Kind::Ident => {
-            items.push(Item::Label(Label {
-                first: number,
-                last: number,
-            }))?;
-            Ok(())
-        }
+        Kind::Ident => items.push(Entry::Label {
+            first: number,
+            last: number,
+        }),
         Kind::QuoteOpen => {
             let last = closing_quote(tokens, number + 1, to);
-            items.push(Item::Label(Label {
+            items.push(Entry::Label {
                 first: number,
                 last,
-            }))?;
-            Ok(())
+            })
         }
         _ => Ok(()),
     }
@@ -54,15 +52,15 @@ fn put_label(
 /// Puts out the labels that stand before the first opening brace.
 fn put_labels(
     tokens: &Tokens<'_>,
-    from: usize,
-    to: usize,
-    items: &mut Vec<Item>,
+    from: u32,
+    to: u32,
+    items: &mut Outline,
 ) -> Result<(), AllocError>
     requires { to ≤ length tokens.now.tokens }
-    ensures { OnOk result (items.new.items ≡ items.old.items ++ labels (words tokens.now.tokens from to)) }
+    ensures { OnOk result (items.new ≡ items.old ++ labels (words tokens.now.tokens from to)) }
 {
     for number in from..to {
-        let token = tokens.get(number);
+        let token = tokens.get(number as usize);
         if is_brace_open(token.kind) {
             return Ok(());
         }
@@ -74,18 +72,18 @@ fn put_labels(
 /// Puts out a block and its labels. Its kind is the token of this number, and its piece ends before `to`.
 fn put_block(
     tokens: &Tokens<'_>,
-    level: usize,
-    kind: usize,
-    to: usize,
-    items: &mut Vec<Item>,
+    level: u32,
+    kind: u32,
+    to: u32,
+    items: &mut Outline,
 ) -> Result<Body, AllocError>
     requires within { to ≤ length tokens.now.tokens }
     requires before { kind < to }
-    ensures { IfOk result (PutsBlock tokens.now.tokens level kind to items.old.items items.new.items) }
+    ensures { IfOk result (PutsBlock tokens.now.tokens level kind to items.old items.new) }
 {
     let first = behind_brace(tokens, kind + 1, to);
     let end = block_end(tokens, kind + 1, to);
-    items.push(Item::Block { level, kind, end })?;
+    items.push(Entry::Block { level, kind, end })?;
     put_labels(tokens, kind + 1, to, items)?;
     Ok(Body {
         first,
@@ -96,14 +94,14 @@ fn put_block(
 /// Puts out the item of a piece, up to the items of its body.
 fn put_piece(
     tokens: &Tokens<'_>,
-    level: usize,
-    from: usize,
-    to: usize,
-    items: &mut Vec<Item>,
+    level: u32,
+    from: u32,
+    to: u32,
+    items: &mut Outline,
 ) -> Result<Body, AllocError>
     requires within { to ≤ length tokens.now.tokens }
     requires ordered { from ≤ to }
-    ensures { IfOk result (PutsPiece tokens.now.tokens level from to items.old.items items.new.items) }
+    ensures { IfOk result (PutsPiece tokens.now.tokens level from to items.old items.new) }
 {
     let Some(name) = first_word(tokens, from, to) else {
         return Ok(Body { first: to, end: to });
@@ -115,7 +113,7 @@ fn put_piece(
         return put_block(tokens, level, name.number, to, items);
     }
     let end = words_end(tokens, name.number + 1, to);
-    items.push(Item::Attribute {
+    items.push(Entry::Attribute {
         level,
         name: name.number,
         first: second.number + 1,
@@ -128,20 +126,21 @@ fn put_piece(
 /// from it on outside all openers, so no token is looked at twice as the end of a piece is found.
 pub fn put_items(
     tokens: &Tokens<'_>,
-    ends: &[usize],
-    level: usize,
-    from: usize,
-    to: usize,
-    items: &mut Vec<Item>,
+    ends: &[u32],
+    level: u32,
+    from: u32,
+    to: u32,
+    items: &mut Outline,
 ) -> Result<(), AllocError>
+    requires small { length tokens.now.tokens ≤ max_source }
     requires ends { AreEnds tokens.now.tokens ends.now }
     requires within { to ≤ length tokens.now.tokens }
     requires deep { from < to → level ≤ from }
-    ensures { OnOk result (items.new.items ≡ items.old.items ++ items_at level (words tokens.now.tokens from to)) }
+    ensures { OnOk result (items.new ≡ items.old ++ items_at level (words tokens.now.tokens from to)) }
 {
     let mut start = from;
     while start < to {
-        let end = ends[start].min(to);
+        let end = ends[start as usize].min(to);
         let body = put_piece(tokens, level, start, end, items)?;
         put_items(tokens, ends, level + 1, body.first, body.end, items)?;
         start = end + 1;

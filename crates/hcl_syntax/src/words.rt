@@ -10,7 +10,7 @@ use hcl_scan::{Kind, Tokens};
 /// A token that is no comment, and its number.
 #[derive(Clone, Copy, Debug)]
 pub struct Word {
-    pub number: usize,
+    pub number: u32,
     pub kind: Kind,
 }
 
@@ -45,12 +45,12 @@ fn is_brace_close(kind: Kind) -> bool
 }
 
 /// The first token from a number on to before another that is no comment.
-pub fn first_word(tokens: &Tokens<'_>, from: usize, to: usize) -> Option<Word>
+pub fn first_word(tokens: &Tokens<'_>, from: u32, to: u32) -> Option<Word>
     requires { to ≤ length tokens.now.tokens }
     ensures { MatchOption result (words tokens.now.tokens from to ≡ []) (IsFirst tokens.now.tokens from to) }
 {
     for number in from..to {
-        let token = tokens.get(number);
+        let token = tokens.get(number as usize);
         if !is_comment(token.kind) {
             let kind = token.kind;
             return Some(Word { number, kind });
@@ -60,12 +60,12 @@ pub fn first_word(tokens: &Tokens<'_>, from: usize, to: usize) -> Option<Word>
 }
 
 /// The number of the first closing quote, or 0.
-pub fn closing_quote(tokens: &Tokens<'_>, from: usize, to: usize) -> usize
+pub fn closing_quote(tokens: &Tokens<'_>, from: u32, to: u32) -> u32
     requires { to ≤ length tokens.now.tokens }
     ensures { result ≡ closing_quote (words tokens.now.tokens from to) }
 {
     for number in from..to {
-        let token = tokens.get(number);
+        let token = tokens.get(number as usize);
         if is_quote_close(token.kind) {
             return number;
         }
@@ -74,7 +74,7 @@ pub fn closing_quote(tokens: &Tokens<'_>, from: usize, to: usize) -> usize
 }
 
 /// One past the number of the first opening brace, or the end.
-pub fn behind_brace(tokens: &Tokens<'_>, from: usize, to: usize) -> usize
+pub fn behind_brace(tokens: &Tokens<'_>, from: u32, to: u32) -> u32
     requires within { to ≤ length tokens.now.tokens }
     requires ordered { from ≤ to }
     ensures is { words tokens.now.tokens result to ≡ behind_brace (words tokens.now.tokens from to) }
@@ -82,7 +82,7 @@ pub fn behind_brace(tokens: &Tokens<'_>, from: usize, to: usize) -> usize
     ensures within { result ≤ to }
 {
     for number in from..to {
-        let token = tokens.get(number);
+        let token = tokens.get(number as usize);
         if is_brace_open(token.kind) {
             return number + 1;
         }
@@ -91,7 +91,7 @@ pub fn behind_brace(tokens: &Tokens<'_>, from: usize, to: usize) -> usize
 }
 
 /// One past the number of the last closing brace, or 0.
-pub fn block_end(tokens: &Tokens<'_>, from: usize, to: usize) -> usize
+pub fn block_end(tokens: &Tokens<'_>, from: u32, to: u32) -> u32
     requires within { to ≤ length tokens.now.tokens }
     requires ordered { from ≤ to }
     ensures is { result ≡ block_end (words tokens.now.tokens from to) }
@@ -99,7 +99,7 @@ pub fn block_end(tokens: &Tokens<'_>, from: usize, to: usize) -> usize
 {
     let mut end = to;
     while from < end {
-        let last = tokens.get(end - 1);
+        let last = tokens.get((end - 1) as usize);
         if is_brace_close(last.kind) {
             return end;
         }
@@ -109,14 +109,14 @@ pub fn block_end(tokens: &Tokens<'_>, from: usize, to: usize) -> usize
 }
 
 /// One past the number of the last token that is no comment, or 0.
-pub fn words_end(tokens: &Tokens<'_>, from: usize, to: usize) -> usize
+pub fn words_end(tokens: &Tokens<'_>, from: u32, to: u32) -> u32
     requires within { to ≤ length tokens.now.tokens }
     requires ordered { from ≤ to }
     ensures { result ≡ end_of (words tokens.now.tokens from to) }
 {
     let mut end = to;
     while from < end {
-        let last = tokens.get(end - 1);
+        let last = tokens.get((end - 1) as usize);
         if !is_comment(last.kind) {
             return end;
         }

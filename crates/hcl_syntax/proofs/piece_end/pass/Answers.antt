@@ -15,7 +15,7 @@ returns-in-Opens c =
 
 pub returns-in_ok-push-in-Closes : goal.returns-in_ok-push-in-Closes
 returns-in_ok-push-in-Closes c =
-    let top = c.last_or-last.ensures ∙ ap (λ r. get_or (reverse r) 0 c.len.result) c.deref.ensures.value ∙ ap (λ n. get_or (reverse c.args.ahead.now.items) 0 n) c.len.ensures.len in
+    let top = c.last_or-last.ensures ∙ ap (λ r. get_or (reverse r) 0 c.args.count) c.deref.ensures.value ∙ ap (λ n. get_or (reverse c.args.ahead.now.items) 0 n) c.requires.count in
     closes c.args.tokens.now.tokens c.args.number (lexeme c.get.result) c.get.ensures.token c.args.ahead.now.items c.push-in-Closes.new.self.items c.last_or-last.result (sym c.nesting_of.ensures ∙ c.in-Closes.is)
     top c.in_ok-push-in-Closes.ensures.items c.requires.ahead
 

@@ -6,7 +6,7 @@ abbrev pub decreases-put_items : goal.decreases-put_items
 decreases-put_items l = l.to - l.from
 
 abbrev pub invariant-loop-start : goal.invariant-loop-start
-invariant-loop-start l = AreItems l.tokens.tokens l.level l.from l.to l.fn.items.items l.items.items l.start
+invariant-loop-start l = AreItems l.tokens.tokens l.level l.from l.to l.fn.items l.items l.start
 
 abbrev pub decreases-loop-start : goal.decreases-loop-start
 decreases-loop-start l = l.to - l.start

@@ -7,16 +7,16 @@ use Rattle.hcl_syntax.proofs.pieces.put_piece.Goals as goal
 pub returns-in_default-first_word : goal.returns-in_default-first_word
 returns-in_default-first_word c =
     let ts = c.args.tokens.now.tokens in
-    let old = c.args.items.now.items in
-    let new = c.put_block.new.items.items in
+    let old = c.args.items.now in
+    let new = c.put_block.new.items in
     IfOk-weaker c.put_block.result (PutsBlock ts c.args.level c.in-Some.name.number c.args.to old new) (PutsPiece ts c.args.level c.args.from c.args.to old new)
     (λ b h. puts_alone ts c.args.level c.args.from c.args.to old new c.in-Some.name b c.in-Some.ensures c.in_default-first_word.ensures h) c.put_block.ensures
 
 pub returns-then-not-is_assign : goal.returns-then-not-is_assign
 returns-then-not-is_assign c =
     let ts = c.args.tokens.now.tokens in
-    let old = c.args.items.now.items in
-    let new = c.put_block-then-not-is_assign.new.items.items in
+    let old = c.args.items.now in
+    let new = c.put_block-then-not-is_assign.new.items in
     IfOk-weaker c.put_block-then-not-is_assign.result (PutsBlock ts c.args.level c.in-Some.name.number c.args.to old new) (PutsPiece ts c.args.level c.args.from c.args.to old new)
     (λ b h. puts_labelled ts c.args.level c.args.from c.args.to old new c.in-Some.name c.in-Some-first_word.second b c.in-Some.ensures c.in-Some-first_word.ensures (sym c.is_assign.ensures ∙ c.if-not-is_assign.true) h)
     c.put_block-then-not-is_assign.ensures
