@@ -5,7 +5,7 @@ ghost use Rattle.hcl_scan.specs.Lexemes.{Lexeme};
 ghost use Rattle.hcl_scan.specs.Scanned.{lexeme};
 ghost use Rattle.hcl_scan.specs.Kinds.{is_dot as is_dot_of, is_ident as is_ident_of};
 ghost use Rattle.hcl_spacing.specs.Spacing.{asks_more, begins_with_colon as begins_with_colon_of, begins_with_equals as begins_with_equals_of, is_opening as is_opening_of, spaced, stands_before};
-ghost use Rattle.hcl_spacing.specs.Inner.KindPairs.{asked_space as asked_space_of, pair_space as pair_space_of, space_behind_operand as space_behind_operand_of, stands_close as stands_close_of};
+ghost use Rattle.hcl_spacing.specs.Inner.KindPairs.{asked_space as asked_space_of, pair_space as pair_space_of, space_behind_brace as space_behind_brace_of, space_behind_name as space_behind_name_of, space_behind_number as space_behind_number_of, space_behind_operand as space_behind_operand_of, space_in_sequence as space_in_sequence_of, stands_close as stands_close_of};
 
 use crate::kind::{
     awaits_operand, closes_group, is_brace_close, is_brace_open, is_bracket_open, is_colon_colon,
@@ -78,12 +78,55 @@ fn stands_close(kind: Kind) -> bool
     )
 }
 
-/// Behind what an index may follow.
+/// Behind what an index may follow: by "Indexes" `[` hugs what is indexed.
 #[inline(always)]
 fn space_behind_operand(right: Kind) -> bool
     ensures { result ≡ space_behind_operand_of right }
 {
     !(stands_close(right) || closes_group(right) || is_bracket_open(right))
+}
+
+/// Behind `}`: by "Braces" `}}` reads badly at the end of a template.
+#[inline(always)]
+fn space_behind_brace(right: Kind) -> bool
+    ensures { result ≡ space_behind_brace_of right }
+{
+    is_seq_close(right) || space_behind_operand(right)
+}
+
+/// Behind a number, which could be read as one with a dot, by "A number and a dot", unless a dot stands before both.
+#[inline(always)]
+fn space_behind_number(right: Kind) -> Option<bool>
+    ensures { result ≡ space_behind_number_of right }
+{
+    if is_dot(right) {
+        return None;
+    }
+    Some(space_behind_operand(right))
+}
+
+/// Behind a name, which hugs its parenthesis by "Calls". By "`in`" that word has a blank after it, while an index hugs a
+/// name, and a closer what it holds.
+#[inline(always)]
+fn space_behind_name(right: Kind) -> Option<bool>
+    ensures { result ≡ space_behind_name_of right }
+{
+    if is_bracket_open(right) || closes_group(right) {
+        return None;
+    }
+    Some(!(stands_close(right) || is_paren_open(right)))
+}
+
+/// Behind `${` and `%{`, which by "Brackets, parentheses" hug what they hold; by "Braces" but for a brace, since `${{` reads
+/// badly. By "A number and a dot" an opener would join the `~` of its closer.
+#[inline(always)]
+fn space_in_sequence(right: Kind) -> Option<bool>
+    ensures { result ≡ space_in_sequence_of right }
+{
+    if is_seq_close(right) {
+        return None;
+    }
+    Some(is_brace_open(right) || is_brace_close(right))
 }
 
 /// What two kinds tell alone, the second no Newline and outside heredocs. Nearly always they do, so this is a table by
@@ -108,28 +151,17 @@ fn pair_space(left: Kind, right: Kind) -> Option<bool>
         Kind::ParenOpen | Kind::BracketOpen => Some(is_brace_close(right)),
         // "Braces": a blank on the inner side, and none in an empty pair
         Kind::BraceOpen => Some(!(stands_close(right) || is_brace_close(right))),
-        // "A number and a dot": an opener would join the `~` of the closer
-        Kind::InterpOpen | Kind::ControlOpen if is_seq_close(right) => None,
-        // "Brackets, parentheses, `${ }` and `%{ }`" hug what they hold; "Braces": but for a brace, since `${{` reads badly
-        Kind::InterpOpen | Kind::ControlOpen => Some(is_brace_open(right) || is_brace_close(right)),
+        Kind::InterpOpen | Kind::ControlOpen => space_in_sequence(right),
         // "Quotes and templates": what is added between a sequence and the next would be text
         Kind::SeqClose => Some(
             !(stands_close(right) || closes_group(right) || opens_sequence(right)),
         ),
-        // "Braces": `}}` reads badly at the end of a template
-        Kind::BraceClose if is_seq_close(right) => Some(true),
-        // "A number and a dot" could be read as one number, unless a dot stands before both
-        Kind::Number if is_dot(right) => None,
-        // "`in`" has a blank after it, while an index hugs a name, and a closer what it holds
-        Kind::Ident if is_bracket_open(right) || closes_group(right) => None,
-        // "Calls": the name hugs its parenthesis
-        Kind::Ident => Some(!(stands_close(right) || is_paren_open(right))),
-        // "Indexes": `[` hugs what is indexed
-        Kind::BraceClose
-        | Kind::Number
-        | Kind::QuoteClose
-        | Kind::ParenClose
-        | Kind::BracketClose => Some(space_behind_operand(right)),
+        Kind::BraceClose => Some(space_behind_brace(right)),
+        Kind::Number => space_behind_number(right),
+        Kind::Ident => space_behind_name(right),
+        Kind::QuoteClose | Kind::ParenClose | Kind::BracketClose => {
+            Some(space_behind_operand(right))
+        }
         // "All else" has one blank, but before a closer and what stands close
         _ => Some(!(stands_close(right) || closes_group(right))),
     }
