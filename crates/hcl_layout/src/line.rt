@@ -184,44 +184,33 @@ impl Survey {
         requires room { self.len + 1 < 2 ^ 64 }
         ensures { result ≡ noted self (lexeme token.entry) }
     {
-        let depth = deepened(self.depth, token.kind);
-        let len = self.len + 1;
-        let multiline = self.multiline || is_multiline(token);
+        let behind = Survey {
+            len: self.len + 1,
+            depth: deepened(self.depth, token.kind),
+            multiline: self.multiline || is_multiline(token),
+            ..self
+        };
         if self.comment.is_some() {
-            return Survey {
-                len,
-                depth,
-                multiline,
-                ..self
-            };
+            return behind;
         }
         if is_trailing(token) {
-            let comment = Some(self.len);
             return Survey {
-                len,
-                depth,
-                multiline,
-                comment,
-                ..self
+                comment: Some(self.len),
+                ..behind
             };
         }
+        let body_depth = behind.depth;
         if self.sign.is_none() && is_assignment(token) {
             return Survey {
-                len,
-                depth,
-                multiline,
-                body_depth: depth,
+                body_depth,
                 sign: Some(self.len),
                 sign_depth: self.depth,
-                ..self
+                ..behind
             };
         }
         Survey {
-            len,
-            depth,
-            multiline,
-            body_depth: depth,
-            ..self
+            body_depth,
+            ..behind
         }
     }
 
