@@ -7,9 +7,8 @@ ghost use Rattle.hcl_layout.specs.Gaps.{indent as indent_of, plain_gaps, width a
 ghost use Rattle.hcl_layout.specs.Inner.Left.{behind};
 ghost use Rattle.hcl_layout.specs.Inner.LineGaps.{IsKnown, known_place, known_width, len_with_blanks, cell_gap as cell_gap_of, gaps_in, plain_gap as plain_gap_of, plain_of};
 
-use crate::kind::is_newline;
 use crate::measured::Measured;
-use hcl_scan::Token;
+use hcl_scan::{Kind, Token};
 use hcl_spacing::{space_between, space_by_kinds};
 
 /// A cell: its place in the line, the width before it, and the gap that then sets it into its column.
@@ -55,7 +54,7 @@ fn indent(level: u32, token: Token<'_>) -> u64
     requires { level ≤ max_open }
     ensures { result ≡ indent_of level (lexeme token.entry) }
 {
-    if is_newline(token.kind) || token.inside_heredoc {
+    if matches!(token.kind, Kind::Newline) || token.inside_heredoc {
         return 0;
     }
     2 * u64::from(level)
