@@ -8,7 +8,7 @@ use Rattle.hcl_scan.specs.SideBySide.{Beside, Besides, opens_template, is_colone
 use Rattle.hcl_scan.specs.declared.token.Kind.{Kind}
 use Rattle.hcl_scan.specs.declared.token.Kind.TheVariants as kind
 use Rattle.hcl_scan.proofs.FirstByteLemmas.{says}
-use Rattle.hcl_layout.specs.Lines.{Line, ends_line, lines, onto}
+use Rattle.hcl_layout.specs.Lines.{Line, ends_line, lines, onto_line}
 use Rattle.hcl_layout.specs.Levels.{levels, net_of}
 use Rattle.hcl_layout.specs.Cells.{assign_cell, running_comment, trailing_comment}
 use Rattle.hcl_layout.specs.Gaps.{aligned, blanks, gaps_after, indent, indented, line_gaps, plain_gaps, zip_with}
@@ -118,7 +118,7 @@ abbrev MeetsLine : Lexeme → List Line → Type 0
 MeetsLine u [] = Unit {0}
 MeetsLine u (l ∷ ls) = MeetsFirst u l
 
-line_behind : (u t : Lexeme) (v : Bool) (ls : List Line) → Meets u t → MeetsLine u (if v then (t ∷ []) ∷ ls else onto t ls)
+line_behind : (u t : Lexeme) (v : Bool) (ls : List Line) → Meets u t → MeetsLine u (if v then (t ∷ []) ∷ ls else onto_line t ls)
 line_behind u t true ls m = m
 line_behind u t false [] m = m
 line_behind u t false (l ∷ ls) m = m
@@ -127,7 +127,7 @@ first_line : (u : Lexeme) (ts : List Lexeme) → MeetsFirst u ts → MeetsLine u
 first_line u [] m = tt
 first_line u (t ∷ ts) m = line_behind u t (ends_line t) (lines ts) m
 
-lines_on : (t : Lexeme) (v : Bool) (ls : List Line) → MeetsLine t ls → LinesMeet ls → LinesMeet (if v then (t ∷ []) ∷ ls else onto t ls)
+lines_on : (t : Lexeme) (v : Bool) (ls : List Line) → MeetsLine t ls → LinesMeet ls → LinesMeet (if v then (t ∷ []) ∷ ls else onto_line t ls)
 lines_on t true ls m all = ((tt, tt), all)
 lines_on t false [] m all = ((tt, tt), tt)
 lines_on t false (l ∷ ls) m all = ((m, all.0), all.1)
