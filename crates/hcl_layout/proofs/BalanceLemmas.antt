@@ -1,10 +1,10 @@
 -- Of accepted tokens no more are open than may be.
-use Rattle.std.proofs.Common.{◌≡◌, ◌+◌, ◌-◌, ◌<◌, ◌≤◌, ℕ, suc, Bool, true, false, List, [], ◌∷◌, length, ap, refl, sym, arith, take, drop}
+use Rattle.std.proofs.Common.{◌≡◌, ◌+◌, ◌-◌, ◌<◌, ◌≤◌, ℕ, suc, Bool, true, false, List, [], ◌∷◌, length, refl, sym, arith, take, drop}
 use Rattle.std.proofs.lemmas.List.{take-append-drop}
 use Rattle.std.specs.Prelude.{IsTrue, if◌then◌else◌, not, ◌&&◌}
 use Rattle.hcl_scan.specs.Lexemes.{Lexeme}
 use Rattle.hcl_scan.specs.declared.token.Kind.{Kind}
-use Rattle.hcl_syntax.specs.Balanced.{IsBalanced, closers, closing, openers, opening, max_open}
+use Rattle.hcl_syntax.specs.Balanced.{IsBalanced, closers, openers, max_open}
 use Rattle.hcl_layout.specs.Inner.Depths.{BalancedFrom, deepen}
 use Rattle.hcl_syntax.specs.Balanced.{is_closer, is_opener}
 use Rattle.hcl_spacing.proofs.KindLemmas.{each}

@@ -1,13 +1,13 @@
 -- The gaps of a layout, one by one: behind another token of the line what the spacing table says, or some blanks before a
 -- cell, and at a line's start none before what stands in a heredoc.
-use Rattle.std.proofs.Common.{◌≡◌, ℕ, zero, suc, ◌+◌, ◌<◌, ◌||◌, Bool, true, false, List, [], ◌∷◌, ◌++◌, length, drop, Option, Some, None, ◌⊎◌, inl, inr, refl, sym, ap, subst, ◌∙◌, arith, max, ◌*◌}
+use Rattle.std.proofs.Common.{◌≡◌, ℕ, zero, suc, ◌+◌, ◌<◌, ◌||◌, Bool, true, false, List, [], ◌∷◌, ◌++◌, length, drop, Option, Some, None, ◌⊎◌, inl, inr, refl, sym, ap, subst, ◌∙◌, arith, ◌*◌}
 use Rattle.std.specs.Prelude.{if◌then◌else◌, slice_set, map}
 use Rattle.hcl_scan.specs.Lexemes.{Lexeme}
 use Rattle.hcl_scan.proofs.BooleanLemmas.{or_true}
 use Rattle.hcl_scan.specs.Kinds.{is_newline}
 use Rattle.hcl_layout.specs.Lines.{Line}
 use Rattle.hcl_layout.specs.Levels.{Net, level, levels_after, net_of}
-use Rattle.hcl_layout.specs.Cells.{is_assignment, is_trailing, has_multiline, body, until, found, found_from, if_level, is_level, assign_cell, running_comment, trailing_comment}
+use Rattle.hcl_layout.specs.Cells.{is_assignment, is_trailing, has_multiline, before_comment, until, found, found_from, if_level, is_level, assign_cell, running_comment, trailing_comment}
 use Rattle.hcl_layout.specs.Columns.{columns}
 use Rattle.hcl_layout.proofs.ColumnLemmas.{columns_len}
 use Rattle.hcl_layout.specs.Gaps.{blanks, gaps_after, plain_gaps, width, widths, gap_to, set_gap, align, aligned_by, aligned, indented, line_gaps, zip_with}
@@ -98,9 +98,9 @@ behind_first : (line : Line) (i : ℕ) → Found 1 i (drop 1 line) → CellOf li
 behind_first [] i f = absurd (f.2)
 behind_first (t ∷ line) i f = (f.0, omega (arith, f.1), f.2)
 
-body_cell : (line : Line) (i : ℕ) → Found 1 i (drop 1 (body line)) → Found 1 i (drop 1 line)
-body_cell [] i f = f
-body_cell (t ∷ line) i f = (f.0, f.1, until_cell is_trailing f.0 line f.2)
+cell_before_comment : (line : Line) (i : ℕ) → Found 1 i (drop 1 (before_comment line)) → Found 1 i (drop 1 line)
+cell_before_comment [] i f = f
+cell_before_comment (t ∷ line) i f = (f.0, f.1, until_cell is_trailing f.0 line f.2)
 
 sign_cell : (t : Lexeme) → is_assignment t ≡ true → is_cell t ≡ true
 sign_cell t h = ap (λ v. v || is_trailing t) h
@@ -119,9 +119,9 @@ level_place line (Some k) i e = by (is_level (net_of (drop k line))) e
 assign_at : (line : Line) (i : ℕ) → assign_cell line ≡ Some i → CellOf line i
 assign_at line i e = by (has_multiline line) e
   where
-    by : (v : Bool) → (if v then None else if_level (body line) (found is_assignment (body line))) ≡ Some i → CellOf line i
+    by : (v : Bool) → (if v then None else if_level (before_comment line) (found is_assignment (before_comment line))) ≡ Some i → CellOf line i
     by true e = absurd (cc)
-    by false e = behind_first line i (body_cell line i (place_cell is_assignment sign_cell 1 i (drop 1 (body line)) (level_place (body line) (found is_assignment (body line)) i e)))
+    by false e = behind_first line i (cell_before_comment line i (place_cell is_assignment sign_cell 1 i (drop 1 (before_comment line)) (level_place (before_comment line) (found is_assignment (before_comment line)) i e)))
 
 trailing_at : (line : Line) (i : ℕ) → trailing_comment line ≡ Some i → CellOf line i
 trailing_at line i e = behind_first line i (place_cell is_trailing trailing_cell 1 i (drop 1 line) e)

@@ -1,5 +1,5 @@
 -- The print by the tables before is the print, where no token is a ColonColon and no colon stands behind another.
-use Rattle.std.proofs.Common.{◌≡◌, ◌≢◌, ℕ, ◌&&◌, ◌||◌, ◌==◌, not, Bool, true, false, List, [], ◌∷◌, get_or, Option, Some, None, refl, sym, ap, ap₂, ◌∙◌, map, ◌⊎◌, inl, inr}
+use Rattle.std.proofs.Common.{◌≡◌, ◌≢◌, ℕ, ◌&&◌, ◌||◌, ◌==◌, not, Bool, true, false, List, [], ◌∷◌, get_or, Option, Some, None, refl, sym, ap, ap₂, ◌∙◌, map}
 use Rattle.std.specs.Prelude.{if◌then◌else◌}
 use Rattle.std.specs.List.{flat_map}
 use Rattle.hcl_scan.specs.Lexemes.{Lexeme}
@@ -8,16 +8,16 @@ use Rattle.hcl_scan.specs.SideBySide.{Beside, Besides, opens_template, is_colone
 use Rattle.hcl_scan.specs.declared.token.Kind.{Kind}
 use Rattle.hcl_scan.specs.declared.token.Kind.TheVariants as kind
 use Rattle.hcl_scan.proofs.FirstByteLemmas.{says}
-use Rattle.hcl_layout.specs.Lines.{Line, ends_line, lines, onto}
+use Rattle.hcl_layout.specs.Lines.{Line, ends_line, lines, onto_line}
 use Rattle.hcl_layout.specs.Levels.{levels, net_of}
 use Rattle.hcl_layout.specs.Cells.{assign_cell, running_comment, trailing_comment}
-use Rattle.hcl_layout.specs.Gaps.{aligned, blanks, gaps_after, indent, indented, line_gaps, plain_gaps, zip_with}
+use Rattle.hcl_layout.specs.Gaps.{aligned, gaps_after, indent, line_gaps, plain_gaps, zip_with}
 use Rattle.hcl_layout.specs.Print.{print, printed}
 use Rattle.hcl_scan.specs.Kinds.{is_brace_close, is_brace_open, is_bracket_open, is_colon, is_colon_colon, is_comma, is_dot, is_ellipsis, is_ident, is_lit, is_minus, is_newline, is_not, is_paren_open, is_quote_close, is_quote_open, is_seq_close}
 use Rattle.hcl_spacing.specs.Spacing.{begins_with_colon, closes_group, ends_operand, is_in, is_opening, opens_sequence, spaced, would_join}
 use Rattle.hcl_layout.specs.Older.Prints.{were_gaps_after, were_line_gaps, were_plain_gaps, was_print, was_spaced, would_have_joined}
 use Rattle.hcl_spacing.proofs.SpacingLemmas.{row_one}
-use Rattle.hcl_layout.proofs.OlderScans.{Apart, Older, starts_colon, colon_colon_is, coloned_is}
+use Rattle.hcl_layout.proofs.OlderScans.{Apart, Older, colon_colon_is, coloned_is}
 
 -- ---- two neighbours
 record Meets (u t : Lexeme) : Type 0 where
@@ -118,7 +118,7 @@ abbrev MeetsLine : Lexeme → List Line → Type 0
 MeetsLine u [] = Unit {0}
 MeetsLine u (l ∷ ls) = MeetsFirst u l
 
-line_behind : (u t : Lexeme) (v : Bool) (ls : List Line) → Meets u t → MeetsLine u (if v then (t ∷ []) ∷ ls else onto t ls)
+line_behind : (u t : Lexeme) (v : Bool) (ls : List Line) → Meets u t → MeetsLine u (if v then (t ∷ []) ∷ ls else onto_line t ls)
 line_behind u t true ls m = m
 line_behind u t false [] m = m
 line_behind u t false (l ∷ ls) m = m
@@ -127,7 +127,7 @@ first_line : (u : Lexeme) (ts : List Lexeme) → MeetsFirst u ts → MeetsLine u
 first_line u [] m = tt
 first_line u (t ∷ ts) m = line_behind u t (ends_line t) (lines ts) m
 
-lines_on : (t : Lexeme) (v : Bool) (ls : List Line) → MeetsLine t ls → LinesMeet ls → LinesMeet (if v then (t ∷ []) ∷ ls else onto t ls)
+lines_on : (t : Lexeme) (v : Bool) (ls : List Line) → MeetsLine t ls → LinesMeet ls → LinesMeet (if v then (t ∷ []) ∷ ls else onto_line t ls)
 lines_on t true ls m all = ((tt, tt), all)
 lines_on t false [] m all = ((tt, tt), tt)
 lines_on t false (l ∷ ls) m all = ((m, all.0), all.1)

@@ -1,6 +1,6 @@
 -- What the grammar accepted by the tables before it accepts, and in it no colon stands behind another: behind each symbol
 -- that reads one an expression is waited for, and no expression begins with one.
-use Rattle.std.proofs.Common.{◌≡◌, ◌≢◌, ℕ, suc, zero, ◌+◌, ◌-◌, ◌<◌, ◌&&◌, ◌||◌, not, Bool, true, false, cond, List, [], ◌∷◌, ◌++◌, length, get_or, Option, Some, None, refl, sym, ap, subst, ◌∙◌, arith}
+use Rattle.std.proofs.Common.{◌≡◌, ◌≢◌, ℕ, suc, zero, ◌+◌, ◌&&◌, ◌||◌, not, Bool, true, false, cond, List, [], ◌∷◌, ◌++◌, length, get_or, Option, None, refl, sym, ap, subst, ◌∙◌, arith}
 use Rattle.std.specs.Prelude.{nat_lt}
 use Rattle.std.specs.List.{list_all}
 use Rattle.std.proofs.lemmas.Bool.Decides.{nat_tests}
@@ -15,18 +15,17 @@ use Rattle.hcl_syntax.specs.declared.class.Word.TheVariants.{Plain, For, In, If,
 use Rattle.hcl_syntax.specs.declared.class.Lookahead.{Lookahead}
 use Rattle.hcl_syntax.specs.declared.expected.Newlines.{Newlines}
 use Rattle.hcl_syntax.specs.declared.expected.Newlines.TheVariants.{Seen, Dropped}
-use Rattle.hcl_syntax.specs.declared.expected.Section.{Section}
 use Rattle.hcl_syntax.specs.declared.expected.Section.TheVariants.{InIf, InElse, InFor}
 use Rattle.hcl_syntax.specs.declared.expected.Terminal.{Terminal}
 use Rattle.hcl_syntax.specs.declared.expected.Terminal.TheVariants.{Separator}
 use Rattle.hcl_syntax.specs.declared.refusal.Refusal.{Refusal}
-use Rattle.hcl_syntax.specs.Grammar.{Symbol, the, file, rest, labels, label_literal, start, body, eol, expr, after_ident, path, after, step, index, tuple, tuple_next, tuple_item, tuple_if, names, object, separator, object_next, object_item, group, object_if, args, arg_next, parts, directive, inside, section_directive, Marked, ◌at◌, Action, none, nothing, reads, opens, closes, row_of, row, fits, expr_row}
-use Rattle.hcl_syntax.specs.Predictor.{ending, Effect, on, stop, taken, effect, next, run}
+use Rattle.hcl_syntax.specs.Grammar.{Symbol, the, file, rest, labels, label_literal, start, body, eol, expr, after_ident, path, after, step, index, tuple, tuple_next, tuple_item, tuple_if, names, object, separator, object_next, object_item, group, object_if, args, arg_next, parts, directive, inside, section_directive, Marked, ◌at◌, Action, none, nothing, reads, opens, closes, row_of, row, fits}
+use Rattle.hcl_syntax.specs.Predictor.{Effect, on, stop, taken, effect, next, run}
 use Rattle.hcl_syntax.specs.Relation.{Step, dropped, read, opened, closed, gone, Run, at_end, step as one_step, refused}
 use Rattle.hcl_syntax.specs.Verdict.{IsAccepted}
 use Rattle.hcl_syntax.proofs.RelationLemmas.{answers}
 use Rattle.hcl_scan.specs.Kinds.{is_colon}
-use Rattle.hcl_layout.specs.Older.Rows.{is_path_sign, was_row, was_turn, was_run, WasAccepted}
+use Rattle.hcl_layout.specs.Older.Rows.{is_path_sign, was_turn, was_run, WasAccepted}
 use Rattle.hcl_layout.proofs.OlderScans.{Apart, Older, starts_colon}
 
 -- ---- without the class, both tables are one

@@ -1,13 +1,13 @@
 -- What was scanned by the tables before is scanned to the same tokens, where no colon stands behind another: at two
 -- colons in the text, the older tables read one, and behind it the other.
-use Rattle.std.proofs.Common.{◌≡◌, ◌≢◌, ℕ, suc, ◌+◌, ◌<◌, ◌&&◌, ◌||◌, ◌==◌, not, Bool, true, false, cond, List, [], ◌∷◌, ◌++◌, length, drop, get_or, ◌⊎◌, inl, inr, ⊎_elim, refl, sym, ap, subst, ◌∙◌, arith, append_assoc}
+use Rattle.std.proofs.Common.{◌≡◌, ◌≢◌, ℕ, ◌<◌, ◌&&◌, ◌||◌, ◌==◌, not, Bool, true, false, cond, List, [], ◌∷◌, ◌++◌, length, drop, get_or, inl, inr, ⊎_elim, refl, sym, ap, subst, ◌∙◌, arith, append_assoc}
 use Rattle.std.specs.Char.{is_ascii_digit}
 use Rattle.std.specs.List.{list_all, prefix_len}
 use Rattle.std.proofs.lemmas.List.{append-nil}
 use Rattle.std.proofs.lemmas.Bool.Decides.{nat_tests}
 use Rattle.hcl_scan.specs.Lexemes.{Lexeme, Opener, in_heredoc, moved}
-use Rattle.hcl_scan.specs.Spelling.{punctuation, IsPunctuation, IsSpelling, IsExpressionText, context, Template, Expression, is_blank, starts}
-use Rattle.hcl_scan.specs.Scans.{State, begin, ahead, gap_in, has_gaps_in, IsLongest, Leaves, Reads, Closes, Next, Run, IsComplete, Scans}
+use Rattle.hcl_scan.specs.Spelling.{punctuation, IsPunctuation, IsSpelling, IsExpressionText, context, Expression, is_blank, starts}
+use Rattle.hcl_scan.specs.Scans.{State, begin, ahead, gap_in, has_gaps_in, Leaves, Reads, Closes, Run, IsComplete, Scans}
 use Rattle.hcl_scan.specs.SideBySide.{is_coloned}
 use Rattle.hcl_scan.specs.declared.token.Kind.{Kind}
 use Rattle.hcl_scan.specs.declared.token.Kind.TheVariants as kind
@@ -21,7 +21,7 @@ use Rattle.hcl_scan.proofs.TemplateLemmas.{Way, lit, interp, control, quote}
 use Rattle.hcl_scan.proofs.WordLemmas.{begins_word, ident_word}
 use Rattle.hcl_scan.proofs.WayLemmas.{Ways, ways, newline, line_comment, inline_comment, blanks, ident, digits, number, heredoc, seq_close, brace_close, slash, mark, mark_passes}
 use Rattle.hcl_scan.specs.Kinds.{is_colon, is_colon_colon}
-use Rattle.hcl_layout.specs.Older.Tokens.{WasSpelling, WasLongest, WasRead, WasNext, WasRun, WasScanned}
+use Rattle.hcl_layout.specs.Older.Tokens.{WasSpelling, WasRead, WasRun, WasScanned}
 
 abbrev pub starts_colon : List Lexeme → Bool
 starts_colon [] = false

@@ -5,7 +5,7 @@ use Rattle.std.proofs.lemmas.List.{append-nil, length-take-le, take-append-le}
 use Rattle.std.specs.Prelude.{IfErr, OnOk, Result, Ok, Err}
 use Rattle.std.specs.Io.KnownBytes.{Appends}
 use Rattle.hcl_source.specs.declared.device.WriteFault.{WriteFault}
-use Rattle.hcl_layout.specs.Inner.Out.{Out, Stopped, held, stretched}
+use Rattle.hcl_layout.specs.Inner.Out.{Out, CutShort, held, stretched}
 use Rattle.hcl_layout.specs.declared.buffer.Buffer.{Buffer}
 use Rattle.hcl_layout.specs.declared.buffer.Stretch.{Stretch}
 use Rattle.hcl_layout.proofs.FormatLemmas.{behind}
@@ -54,21 +54,21 @@ out_past base now new b b' front text e e' f q p =
     }
 
 -- a write of a piece failed behind what was sent
-stopped_piece : (base now new : Option (List ℕ)) (sent piece : List ℕ) (n : ℕ) (fault : WriteFault) → fault.written ≡ length sent + n → n < length piece → Appends base now sent → Appends now new (take n piece)
-    → Stopped base new (sent ++ piece) fault
-stopped_piece base now new sent piece n fault e lt p q =
+cut_short_piece : (base now new : Option (List ℕ)) (sent piece : List ℕ) (n : ℕ) (fault : WriteFault) → fault.written ≡ length sent + n → n < length piece → Appends base now sent → Appends now new (take n piece)
+    → CutShort base new (sent ++ piece) fault
+cut_short_piece base now new sent piece n fault e lt p q =
     let front : take fault.written (sent ++ piece) ≡ sent ++ take n piece = ap (λ k. take k (sent ++ piece)) e ∙ take-append-add sent piece n in
     (omega (arith, e, length-append sent piece), subst (Appends base new) (sym front) (Appends-then base now new sent (take n piece) p q))
 
-pub stopped_past : (base now new : Option (List ℕ)) (b : Buffer) (front text : List ℕ) (n : ℕ) (fault : WriteFault) → b.len ≡ 0 → fault.written ≡ b.sent + n → n < length text → Appends now new (take n text) → Out base now b front
-    → Stopped base new (front ++ text) fault
-stopped_past base now new b front text n fault e f lt q p =
+pub cut_short_past : (base now new : Option (List ℕ)) (b : Buffer) (front text : List ℕ) (n : ℕ) (fault : WriteFault) → b.len ≡ 0 → fault.written ≡ b.sent + n → n < length text → Appends now new (take n text) → Out base now b front
+    → CutShort base new (front ++ text) fault
+cut_short_past base now new b front text n fault e f lt q p =
     let all : front ≡ p.sent = p.whole ∙ ap (λ l. p.sent ++ l) (held_none b e) ∙ append-nil p.sent in
-    subst (λ l. Stopped base new (l ++ text) fault) (sym all) (stopped_piece base now new p.sent text n fault (f ∙ ap (λ k. k + n) p.count) lt p.out q)
+    subst (λ l. CutShort base new (l ++ text) fault) (sym all) (cut_short_piece base now new p.sent text n fault (f ∙ ap (λ k. k + n) p.count) lt p.out q)
 
 -- what stopped within a front stopped within what goes on from it
-pub stopped_more : (base new : Option (List ℕ)) (front text : List ℕ) (fault : WriteFault) → Stopped base new front fault → Stopped base new (front ++ text) fault
-stopped_more base new front text fault p =
+pub cut_short_more : (base new : Option (List ℕ)) (front text : List ℕ) (fault : WriteFault) → CutShort base new front fault → CutShort base new (front ++ text) fault
+cut_short_more base new front text fault p =
     let same : take fault.written (front ++ text) ≡ take fault.written front = take-append-le fault.written front text (omega (arith, p.0)) in
     (omega (arith, p.0, length-append front text), subst (Appends base new) (sym same) p.1)
 
@@ -99,14 +99,14 @@ blanks_cut (suc k) n =
     let e : suc (k + suc n) ≡ suc k + suc n = omega arith in
     ap (λ l. 32 ∷ l) (blanks_cut k n) ∙ ap (λ j. replicate {A = ℕ} j 32) e
 
-pub stopped_blanks : (base new : Option (List ℕ)) (front : List ℕ) (k gap : ℕ) (fault : WriteFault) → k < gap → Stopped base new ((front ++ replicate k 32) ++ (32 ∷ [])) fault → Stopped base new (front ++ replicate gap 32) fault
-stopped_blanks base new front k gap fault lt p =
+pub cut_short_blanks : (base new : Option (List ℕ)) (front : List ℕ) (k gap : ℕ) (fault : WriteFault) → k < gap → CutShort base new ((front ++ replicate k 32) ++ (32 ∷ [])) fault → CutShort base new (front ++ replicate gap 32) fault
+cut_short_blanks base new front k gap fault lt p =
     let n : ℕ = gap - suc k in
     let all : k + suc n ≡ gap = omega arith in
     let whole : ((front ++ replicate k 32) ++ (32 ∷ [])) ++ replicate n 32 ≡ front ++ replicate gap 32 =
     append_assoc (front ++ replicate k 32) (32 ∷ []) (replicate n 32) ∙ append_assoc front (replicate k 32) (32 ∷ replicate n 32)
     ∙ ap (λ l. front ++ l) (blanks_cut k n ∙ ap (λ j. replicate {A = ℕ} j 32) all) in
-    subst (λ l. Stopped base new l fault) whole (stopped_more base new ((front ++ replicate k 32) ++ (32 ∷ [])) (replicate n 32) fault p)
+    subst (λ l. CutShort base new l fault) whole (cut_short_more base new ((front ++ replicate k 32) ++ (32 ∷ [])) (replicate n 32) fault p)
 
 -- ---- a stretch of the source waits
 
@@ -131,8 +131,8 @@ print_grown whole front a b piece rest rest' e f g =
 pub print_put : (whole front a b piece rest rest' : List ℕ) → whole ≡ front ++ (a ++ rest) → rest ≡ piece ++ rest' → b ≡ piece → whole ≡ (front ++ a) ++ (b ++ rest')
 print_put whole front a b piece rest rest' e f g = e ∙ sym (append_assoc front a rest) ∙ ap (λ l. (front ++ a) ++ l) (f ∙ ap (λ l. l ++ rest') (sym g))
 
-pub stopped_print : (base new : Option (List ℕ)) (whole front a rest : List ℕ) (fault : WriteFault) → whole ≡ front ++ (a ++ rest) → Stopped base new (front ++ a) fault → Stopped base new whole fault
-stopped_print base new whole front a rest fault e p = subst (λ l. Stopped base new l fault) (sym (e ∙ sym (append_assoc front a rest))) (stopped_more base new (front ++ a) rest fault p)
+pub cut_short_print : (base new : Option (List ℕ)) (whole front a rest : List ℕ) (fault : WriteFault) → whole ≡ front ++ (a ++ rest) → CutShort base new (front ++ a) fault → CutShort base new whole fault
+cut_short_print base new whole front a rest fault e p = subst (λ l. CutShort base new l fault) (sym (e ∙ sym (append_assoc front a rest))) (cut_short_more base new (front ++ a) rest fault p)
 
 pub print_end : (whole front a rest : List ℕ) → whole ≡ front ++ (a ++ rest) → rest ≡ [] → front ++ a ≡ whole
 print_end whole front a rest e f = sym (e ∙ ap (λ l. front ++ l) (ap (λ l. a ++ l) f ∙ append-nil a))

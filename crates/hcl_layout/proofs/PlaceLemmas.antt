@@ -7,10 +7,10 @@ use Rattle.hcl_scan.specs.Regapped.{without_gaps, placed}
 use Rattle.hcl_syntax.specs.declared.class.Lookahead.{Lookahead}
 use Rattle.hcl_syntax.specs.Classes.{class_of, lookaheads, lookaheads_from}
 use Rattle.hcl_syntax.specs.Classes.{is_trivia}
-use Rattle.hcl_layout.specs.Lines.{Line, lines, onto, ends_line}
+use Rattle.hcl_layout.specs.Lines.{Line, lines, onto_line, ends_line}
 use Rattle.hcl_layout.specs.Inner.Depths.{net_of_kind}
 use Rattle.hcl_layout.specs.Levels.{Net, levels, net_of, plus}
-use Rattle.hcl_layout.specs.Cells.{is_assignment, is_trailing, is_multiline, is_level, has_multiline, body, until, found, found_from, if_level, assign_cell, running_comment, trailing_comment}
+use Rattle.hcl_layout.specs.Cells.{is_assignment, is_trailing, is_multiline, is_level, has_multiline, before_comment, until, found, found_from, if_level, assign_cell, running_comment, trailing_comment}
 use Rattle.hcl_layout.specs.Columns.{columns}
 use Rattle.hcl_layout.specs.Gaps.{blanks, clusters, gaps_after, indent, plain_gaps, width, widths, gap_to, set_gap, aligned_by, aligned, indented, line_gaps, gaps, zip_with}
 use Rattle.hcl_layout.specs.Print.{print, printed}
@@ -25,15 +25,15 @@ abbrev pub forgot : List Lexeme → List Lexeme
 forgot ts = map forget ts
 
 -- ---- lines
-onto_forgot : (t : Lexeme) (ls : List Line) → onto (forget t) (map forgot ls) ≡ map forgot (onto t ls)
+onto_forgot : (t : Lexeme) (ls : List Line) → onto_line (forget t) (map forgot ls) ≡ map forgot (onto_line t ls)
 onto_forgot t [] = refl
 onto_forgot t (l ∷ ls) = refl
 
 lines_forgot : (ts : List Lexeme) → lines (forgot ts) ≡ map forgot (lines ts)
 lines_forgot [] = refl
-lines_forgot (t ∷ ts) = ap (λ l. if ends_line t then (forget t ∷ []) ∷ l else onto (forget t) l) (lines_forgot ts) ∙ by (ends_line t)
+lines_forgot (t ∷ ts) = ap (λ l. if ends_line t then (forget t ∷ []) ∷ l else onto_line (forget t) l) (lines_forgot ts) ∙ by (ends_line t)
   where
-    by : (v : Bool) → (if v then (forget t ∷ []) ∷ map forgot (lines ts) else onto (forget t) (map forgot (lines ts))) ≡ map forgot (if v then (t ∷ []) ∷ lines ts else onto t (lines ts))
+    by : (v : Bool) → (if v then (forget t ∷ []) ∷ map forgot (lines ts) else onto_line (forget t) (map forgot (lines ts))) ≡ map forgot (if v then (t ∷ []) ∷ lines ts else onto_line t (lines ts))
     by true = refl
     by false = onto_forgot t (lines ts)
 
@@ -67,9 +67,9 @@ until_forgot (t ∷ l) = ap (λ y. if is_trailing t then [] else forget t ∷ y)
     by true = refl
     by false = refl
 
-body_forgot : (l : Line) → body (forgot l) ≡ forgot (body l)
-body_forgot [] = refl
-body_forgot (t ∷ l) = ap (λ y. forget t ∷ y) (until_forgot l)
+before_comment_forgot : (l : Line) → before_comment (forgot l) ≡ forgot (before_comment l)
+before_comment_forgot [] = refl
+before_comment_forgot (t ∷ l) = ap (λ y. forget t ∷ y) (until_forgot l)
 
 multiline_forgot : (l : Line) → has_multiline (forgot l) ≡ has_multiline l
 multiline_forgot [] = refl
@@ -89,7 +89,7 @@ place_line test same l = ap (found_from test 1) (drop_forgot 1 l) ∙ place_forg
 
 assign_forgot : (l : Line) → assign_cell (forgot l) ≡ assign_cell l
 assign_forgot l = ap₂ (λ (v : Bool) (p : Option ℕ). if v then None else p) (multiline_forgot l)
-    (ap₂ (λ (b : Line) (p : Option ℕ). if_level b p) (body_forgot l) (ap (found is_assignment) (body_forgot l) ∙ place_line is_assignment (λ t. refl) (body l)) ∙ level_forgot (body l) (found is_assignment (body l)))
+    (ap₂ (λ (b : Line) (p : Option ℕ). if_level b p) (before_comment_forgot l) (ap (found is_assignment) (before_comment_forgot l) ∙ place_line is_assignment (λ t. refl) (before_comment l)) ∙ level_forgot (before_comment l) (found is_assignment (before_comment l)))
 
 trailing_forgot : (l : Line) → trailing_comment (forgot l) ≡ trailing_comment l
 trailing_forgot l = place_line is_trailing (λ t. refl) l

@@ -11,7 +11,7 @@ use Rattle.hcl_scan.specs.declared.token.Kind.TheVariants as kind
 use Rattle.hcl_scan.proofs.OtherGapLemmas.{other_gaps}
 use Rattle.hcl_scan.proofs.SideBySideLemmas.{besides}
 use Rattle.hcl_scan.specs.Kinds.{is_dot, is_newline}
-use Rattle.hcl_layout.specs.Lines.{Line, lines, onto, ends_line}
+use Rattle.hcl_layout.specs.Lines.{Line, lines, onto_line, ends_line}
 use Rattle.hcl_layout.specs.Gaps.{gaps, line_gaps}
 use Rattle.hcl_layout.specs.Print.{print, printed}
 use Rattle.hcl_layout.specs.Reprinted.{with_gaps, printed_tokens}
@@ -27,7 +27,7 @@ abbrev more_lines : List Line → List Line
 more_lines [] = []
 more_lines (l ∷ ls) = ls
 
-onto_first : (t : Lexeme) (ls : List Line) → onto t ls ≡ (t ∷ first_line ls) ∷ more_lines ls
+onto_first : (t : Lexeme) (ls : List Line) → onto_line t ls ≡ (t ∷ first_line ls) ∷ more_lines ls
 onto_first t [] = refl
 onto_first t (l ∷ ls) = refl
 
@@ -55,7 +55,7 @@ abbrev Fits : List Lexeme → Type 0
 Fits ts = (before u : Option Lexeme) (dot : Bool) (k : Kind) (g : List ℕ) (gs : List (List ℕ)) → Coherent before u dot k → Spread before u g (first_line (lines ts)) → AllSpread gs (more_lines (lines ts)) → Besides k ts → AllFit dot k (with_gaps (g ++ all_gaps gs) ts)
 
 -- a line goes on, or the next begins
-fits_cons : (t : Lexeme) (ts : List Lexeme) → Fits ts → (v : Bool) → ends_line t ≡ v → (ls : List Line) → ls ≡ (if v then (t ∷ []) ∷ lines ts else onto t (lines ts)) →
+fits_cons : (t : Lexeme) (ts : List Lexeme) → Fits ts → (v : Bool) → ends_line t ≡ v → (ls : List Line) → ls ≡ (if v then (t ∷ []) ∷ lines ts else onto_line t (lines ts)) →
     (before u : Option Lexeme) (dot : Bool) (k : Kind) (g : List ℕ) (gs : List (List ℕ)) → Coherent before u dot k → Spread before u g (first_line ls) → AllSpread gs (more_lines ls) → Besides k (t ∷ ts) → AllFit dot k (with_gaps (g ++ all_gaps gs) (t ∷ ts))
 fits_cons t ts rec true e ls is before u dot k g gs c s more b = by g (subst (λ l. Spread before u g (first_line l)) is s)
   where
@@ -94,7 +94,7 @@ spread_len before u (x ∷ g) (t ∷ l) s = ap suc (spread_len u (Some t) g l s.
 abbrev Long : List Lexeme → Type 0
 Long ts = (before u : Option Lexeme) (g : List ℕ) (gs : List (List ℕ)) → Spread before u g (first_line (lines ts)) → AllSpread gs (more_lines (lines ts)) → without_gaps (with_gaps (g ++ all_gaps gs) ts) ≡ ts
 
-long_cons : (t : Lexeme) (ts : List Lexeme) → Long ts → (v : Bool) → (ls : List Line) → ls ≡ (if v then (t ∷ []) ∷ lines ts else onto t (lines ts)) →
+long_cons : (t : Lexeme) (ts : List Lexeme) → Long ts → (v : Bool) → (ls : List Line) → ls ≡ (if v then (t ∷ []) ∷ lines ts else onto_line t (lines ts)) →
     (before u : Option Lexeme) (g : List ℕ) (gs : List (List ℕ)) → Spread before u g (first_line ls) → AllSpread gs (more_lines ls) → without_gaps (with_gaps (g ++ all_gaps gs) (t ∷ ts)) ≡ t ∷ ts
 long_cons t ts rec true ls is before u g gs s more = by g (subst (λ l. Spread before u g (first_line l)) is s)
   where

@@ -3,7 +3,7 @@ use Rattle.std.proofs.Common.{◌*◌, ◌≡◌, ◌∙◌, ◌+◌, ◌-◌, �
 use Rattle.std.specs.Prelude.{slice_set, if◌then◌else◌}
 use Rattle.hcl_scan.specs.Lexemes.{Lexeme}
 use Rattle.hcl_syntax.specs.Balanced.{max_open}
-use Rattle.hcl_layout.specs.Cells.{assign_cell, body, has_multiline, if_level, is_level, is_assignment, is_trailing, found_from, running_comment, trailing_comment, until}
+use Rattle.hcl_layout.specs.Cells.{assign_cell, before_comment, has_multiline, if_level, is_level, is_assignment, is_trailing, found_from, running_comment, trailing_comment, until}
 use Rattle.hcl_layout.specs.Gaps.{align, gap_to, plain_gaps, width}
 use Rattle.hcl_layout.specs.Levels.{net_of}
 use Rattle.hcl_layout.specs.Inner.LineGaps.{IsKnown, len_with_blanks, gaps_in, plain_of, set_cell}
@@ -71,7 +71,7 @@ until_found test k (t ∷ line) j e = go (λ h. until_found test (k + 1) line j 
 
 assign_sign : (t : Lexeme) (line : Line) (i : ℕ) → assign_cell (t ∷ line) ≡ Some i → found_from is_assignment 1 (until is_trailing line) ≡ Some i
 assign_sign t line i e =
-    level_some (t ∷ until is_trailing line) (found_from is_assignment 1 (until is_trailing line)) i (multiline_some (has_multiline (t ∷ line)) (if_level (body (t ∷ line)) (found_from is_assignment 1 (until is_trailing line))) i e)
+    level_some (t ∷ until is_trailing line) (found_from is_assignment 1 (until is_trailing line)) i (multiline_some (has_multiline (t ∷ line)) (if_level (before_comment (t ∷ line)) (found_from is_assignment 1 (until is_trailing line))) i e)
 
 assign_within : (line : Line) (i : ℕ) → assign_cell line ≡ Some i → i < length line
 assign_within [] i e = let h : None ≡ Some i = multiline_some (has_multiline []) None i e in cc

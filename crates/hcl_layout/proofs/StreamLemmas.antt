@@ -11,7 +11,7 @@ use Rattle.hcl_layout.specs.Inner.Depths.{net_of_kind, BalancedFrom, Steps, deep
 use Rattle.hcl_layout.specs.Gaps.{aligned, aligned_by, align, gaps, indented, line_gaps, plain_gaps, zip_with}
 use Rattle.hcl_syntax.specs.Balanced.{is_closer, is_opener, max_open}
 use Rattle.hcl_layout.specs.Levels.{Net, is_above, levels, net_of, no_net, plus}
-use Rattle.hcl_layout.specs.Lines.{Line, ends_line, lines, onto}
+use Rattle.hcl_layout.specs.Lines.{Line, ends_line, lines, onto_line}
 use Rattle.hcl_layout.specs.Inner.Stream.{assign_column, assign_widths, assigned, comment_column, comment_widths, commented, leveled, plain}
 use Rattle.hcl_layout.proofs.BalanceLemmas.{disjoint}
 use Rattle.hcl_layout.proofs.ColumnLemmas.{columns_at, before_run}
@@ -52,7 +52,7 @@ abbrev pub BalancedLines : ℕ → List Line → Type 0
 BalancedLines d [] = Unit {0}
 BalancedLines d (l ∷ ls) = BalancedFrom d l × BalancedLines (depth_after d l) ls
 
-onto_balanced : (t : Lexeme) (d : ℕ) (ls : List Line) → Steps d t.kind → BalancedLines (deepen d t.kind) ls → BalancedLines d (onto t ls)
+onto_balanced : (t : Lexeme) (d : ℕ) (ls : List Line) → Steps d t.kind → BalancedLines (deepen d t.kind) ls → BalancedLines d (onto_line t ls)
 onto_balanced t d [] p q = ((p, tt), tt)
 onto_balanced t d (l ∷ ls) p q = ((p, q.0), q.1)
 

@@ -10,7 +10,7 @@ use Rattle.hcl_syntax.specs.Balanced.{max_open}
 use Rattle.hcl_layout.specs.Cells.{assign_cell, has_multiline, if_level, is_level, is_assignment, is_multiline, is_trailing, found_from, running_comment, trailing_comment, until}
 use Rattle.hcl_layout.specs.Inner.Depths.{BalancedFrom, Steps, deepen, depth_after}
 use Rattle.hcl_layout.specs.Levels.{Net, net_of}
-use Rattle.hcl_layout.specs.Lines.{Line, ends_line, lines, onto}
+use Rattle.hcl_layout.specs.Lines.{Line, ends_line, lines, onto_line}
 use Rattle.hcl_layout.specs.Inner.Survey.{IsLine, assign_of, cell_if, first_noted, going, noted, running_of, surveyed, takes_sign}
 use Rattle.hcl_layout.specs.declared.line.Survey.{Survey}
 use Rattle.hcl_layout.specs.declared.line.LineFacts.{LineFacts}
@@ -55,7 +55,7 @@ lines_tail (u ∷ ts) t = go (lines_tail ts u) (ends_line t) refl
   where
     go : lines (u ∷ ts) ≡ (u ∷ tail_of u ts) ∷ lines (left_of u ts) → (v : Bool) → ends_line t ≡ v → lines (t ∷ (u ∷ ts)) ≡ (t ∷ tail_of t (u ∷ ts)) ∷ lines (left_of t (u ∷ ts))
     go r true e = rw e refl
-    go r false e = rw e (ap (onto t) r)
+    go r false e = rw e (ap (onto_line t) r)
 
 tail_take : (ts : List Lexeme) (t : Lexeme) → take (length (tail_of t ts)) ts ≡ tail_of t ts
 tail_take [] t = refl

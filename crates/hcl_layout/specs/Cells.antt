@@ -29,9 +29,9 @@ until test [] = []
 until test (t ∷ line) = if test t then [] else t ∷ until test line
 
 -- the line before its trailing comment
-abbrev pub body : Line → Line
-body [] = []
-body (t ∷ line) = t ∷ until is_trailing line
+abbrev pub before_comment : Line → Line
+before_comment [] = []
+before_comment (t ∷ line) = t ∷ until is_trailing line
 
 abbrev pub is_assignment : Lexeme → Bool
 is_assignment t = is_assign t.kind && not t.inside_heredoc
@@ -53,7 +53,7 @@ if_level line (Some i) = if is_level (net_of (drop i line)) then Some i else Non
 
 -- the line's first assignment sign, as a cell; a later sign never begins one
 abbrev pub assign_cell : Line → Option ℕ
-assign_cell line = if has_multiline line then None else if_level (body line) (found is_assignment (body line))
+assign_cell line = if has_multiline line then None else if_level (before_comment line) (found is_assignment (before_comment line))
 
 -- the trailing comment, where the line takes part in runs of comments
 abbrev pub running_comment : Line → Option ℕ

@@ -1,5 +1,5 @@
 -- The layout at work on small texts, by computation: levels, columns, and blanks.
-use Rattle.std.specs.Prelude.{◌≡◌, ℕ, refl, List, [], ◌∷◌, Option, Some, None, codes, false}
+use Rattle.std.specs.Prelude.{◌≡◌, ℕ, refl, List, [], ◌∷◌, Some, None, codes, false}
 use Rattle.hcl_scan.specs.Lexemes.{Lexeme}
 use Rattle.hcl_scan.specs.declared.token.Kind.{Kind}
 use Rattle.hcl_scan.specs.declared.token.Kind.TheVariants.{Newline, LineComment, Ident, Number, QuoteOpen, ParenOpen, BracketOpen, BraceOpen, ParenClose, BracketClose, BraceClose, Dot, Comma, Assign, Minus, Lit, InterpOpen, SeqClose, QuoteClose}

@@ -1,7 +1,7 @@
 -- The level of a line: how many lines before it open a group that is open still. A group is opened by a line with
 -- more openers than closers, and is open as long as the lines from there on have more openers than closers.
 -- Our own choice, in the style of `terraform fmt`: two openers on one line indent by one level.
-use Rattle.std.specs.Prelude.{◌+◌, ◌&&◌, ℕ, Bool, true, false, List, [], ◌∷◌, ◌++◌, nat_lt, if◌then◌else◌}
+use Rattle.std.specs.Prelude.{◌+◌, ◌&&◌, ℕ, Bool, true, List, [], ◌∷◌, ◌++◌, nat_lt, if◌then◌else◌}
 use Rattle.hcl_syntax.specs.Balanced.{closers, openers}
 use Rattle.hcl_layout.specs.Lines.{Line}
 

@@ -12,10 +12,10 @@ abbrev pub ends_line : Lexeme → Bool
 ends_line t = is_newline t.kind && not t.inside_heredoc
 
 -- the token at the front of the first line
-abbrev pub onto : Lexeme → List Line → List Line
-onto t [] = (t ∷ []) ∷ []
-onto t (line ∷ rest) = (t ∷ line) ∷ rest
+abbrev pub onto_line : Lexeme → List Line → List Line
+onto_line t [] = (t ∷ []) ∷ []
+onto_line t (line ∷ rest) = (t ∷ line) ∷ rest
 
 abbrev pub lines : List Lexeme → List Line
 lines [] = []
-lines (t ∷ ts) = if ends_line t then (t ∷ []) ∷ lines ts else onto t (lines ts)
+lines (t ∷ ts) = if ends_line t then (t ∷ []) ∷ lines ts else onto_line t (lines ts)

@@ -7,9 +7,8 @@ ghost use Rattle.hcl_layout.specs.Gaps.{indent as indent_of, plain_gaps, width a
 ghost use Rattle.hcl_layout.specs.Inner.Left.{behind};
 ghost use Rattle.hcl_layout.specs.Inner.LineGaps.{IsKnown, known_place, known_width, len_with_blanks, cell_gap as cell_gap_of, gaps_in, plain_gap as plain_gap_of, plain_of};
 
-use crate::kind::is_newline;
 use crate::measured::Measured;
-use hcl_scan::Token;
+use hcl_scan::{Kind, Token};
 use hcl_spacing::{space_between, space_by_kinds};
 
 /// A cell: its place in the line, the width before it, and the gap that then sets it into its column.
@@ -55,7 +54,7 @@ fn indent(level: u32, token: Token<'_>) -> u64
     requires { level ≤ max_open }
     ensures { result ≡ indent_of level (lexeme token.entry) }
 {
-    if is_newline(token.kind) || token.inside_heredoc {
+    if matches!(token.kind, Kind::Newline) || token.inside_heredoc {
         return 0;
     }
     2 * u64::from(level)
@@ -169,12 +168,12 @@ pub fn plain_width(
     ensures value { result ≡ width_of place (plain_gaps level (take len (drop at tokens.now.tokens))) (take len (drop at tokens.now.tokens)) }
     ensures small { result ≤ 2 * max_open + len_with_blanks tokens.now.tokens }
 {
-    let mut columns = 0;
+    let mut sum = 0;
     for k in 0..place {
         let token = tokens.get(at + k);
-        columns += plain_gap_at(tokens, level, at, at + k, token) + tokens.columns(token);
+        sum += plain_gap_at(tokens, level, at, at + k, token) + tokens.clusters(token);
     }
-    columns
+    sum
 }
 
 /// The place of the assign cell and the width before it, where a line has one, and else its beginning.
@@ -203,12 +202,12 @@ pub fn width(tokens: &Measured<'_, '_>, at: usize, len: usize, place: usize, gap
     requires fits { width_of place (gaps_in gaps (take len (drop at tokens.now.tokens))) (take len (drop at tokens.now.tokens)) < 2 ^ 64 }
     ensures { result ≡ width_of place (gaps_in gaps (take len (drop at tokens.now.tokens))) (take len (drop at tokens.now.tokens)) }
 {
-    let (from, mut columns) = known(gaps);
+    let (from, mut sum) = known(gaps);
     for k in from..place {
         let token = tokens.get(at + k);
         let plain = plain_gap_at(tokens, gaps.level, at, at + k, token);
         let gap = cell_gap(gaps.assign, k, plain);
-        columns += gap + tokens.columns(token);
+        sum += gap + tokens.clusters(token);
     }
-    columns
+    sum
 }

@@ -20,7 +20,6 @@
 
 mod buffer;
 mod gap;
-mod kind;
 pub mod laws;
 mod levels;
 mod line;

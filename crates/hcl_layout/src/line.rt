@@ -9,9 +9,6 @@ ghost use Rattle.hcl_layout.specs.Cells.{is_assignment as is_assignment_of, is_m
 ghost use Rattle.hcl_layout.specs.Inner.Depths.{BalancedFrom, Steps, deepen};
 ghost use Rattle.hcl_layout.specs.Inner.Survey.{IsLine, assign_of, changes, first_noted, going, is_noted as is_noted_of, noted, running_of, surveyed};
 
-use crate::kind::{
-    is_assign, is_closer, is_inline_comment, is_line_comment, is_newline, is_opener,
-};
 use crate::measured::Measured;
 use hcl_scan::{Kind, Token};
 
@@ -49,21 +46,21 @@ pub struct LineFacts {
 fn is_line_end(token: Token<'_>) -> bool
     ensures { result ≡ ends_line (lexeme token.entry) }
 {
-    is_newline(token.kind) && !token.inside_heredoc
+    matches!(token.kind, Kind::Newline) && !token.inside_heredoc
 }
 
 #[inline(always)]
 fn is_trailing(token: Token<'_>) -> bool
     ensures { result ≡ is_trailing_of (lexeme token.entry) }
 {
-    is_line_comment(token.kind) && !token.inside_heredoc
+    matches!(token.kind, Kind::LineComment) && !token.inside_heredoc
 }
 
 #[inline(always)]
 fn is_assignment(token: Token<'_>) -> bool
     ensures { result ≡ is_assignment_of (lexeme token.entry) }
 {
-    is_assign(token.kind) && !token.inside_heredoc
+    matches!(token.kind, Kind::Assign) && !token.inside_heredoc
 }
 
 #[inline(always)]
@@ -77,7 +74,7 @@ fn holds_newline(text: &str) -> bool
 fn is_multiline(token: Token<'_>) -> bool
     ensures { result ≡ is_multiline_of (lexeme token.entry) }
 {
-    is_inline_comment(token.kind) && !token.inside_heredoc && holds_newline(token.text)
+    matches!(token.kind, Kind::InlineComment) && !token.inside_heredoc && holds_newline(token.text)
 }
 
 /// The depth behind a token.
@@ -87,13 +84,15 @@ fn deepened(depth: u32, kind: Kind) -> u32
     requires fits { depth ≤ max_open }
     ensures { result ≡ deepen depth kind }
 {
-    if is_opener(kind) {
-        return depth + 1;
+    match kind {
+        Kind::ParenOpen
+        | Kind::BracketOpen
+        | Kind::BraceOpen
+        | Kind::InterpOpen
+        | Kind::ControlOpen => depth + 1,
+        Kind::ParenClose | Kind::BracketClose | Kind::BraceClose | Kind::SeqClose => depth - 1,
+        _ => depth,
     }
-    if is_closer(kind) {
-        return depth - 1;
-    }
-    depth
 }
 
 /// Behind the first token of a line, of a kind that changes nothing.
@@ -184,44 +183,33 @@ impl Survey {
         requires room { self.len + 1 < 2 ^ 64 }
         ensures { result ≡ noted self (lexeme token.entry) }
     {
-        let depth = deepened(self.depth, token.kind);
-        let len = self.len + 1;
-        let multiline = self.multiline || is_multiline(token);
+        let behind = Survey {
+            len: self.len + 1,
+            depth: deepened(self.depth, token.kind),
+            multiline: self.multiline || is_multiline(token),
+            ..self
+        };
         if self.comment.is_some() {
-            return Survey {
-                len,
-                depth,
-                multiline,
-                ..self
-            };
+            return behind;
         }
         if is_trailing(token) {
-            let comment = Some(self.len);
             return Survey {
-                len,
-                depth,
-                multiline,
-                comment,
-                ..self
+                comment: Some(self.len),
+                ..behind
             };
         }
+        let body_depth = behind.depth;
         if self.sign.is_none() && is_assignment(token) {
             return Survey {
-                len,
-                depth,
-                multiline,
-                body_depth: depth,
+                body_depth,
                 sign: Some(self.len),
                 sign_depth: self.depth,
-                ..self
+                ..behind
             };
         }
         Survey {
-            len,
-            depth,
-            multiline,
-            body_depth: depth,
-            ..self
+            body_depth,
+            ..behind
         }
     }
 

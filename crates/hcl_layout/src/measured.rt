@@ -96,7 +96,7 @@ impl<'t, 's> Measured<'t, 's> {
 
     /// How wide the text of a token is: how many grapheme clusters it has.
     #[inline(always)]
-    pub fn columns(&self, token: Token<'_>) -> u64
+    pub fn clusters(&self, token: Token<'_>) -> u64
         requires source { IsFrom self.now.text token.start token.text.now }
         ensures count { result ≡ length (graphemes true token.entry.text.now) }
         ensures within { result ≤ length token.entry.text.now }

@@ -24,7 +24,7 @@ pub fn printed_len(accepted: &Accepted<'_, '_>) -> u64
 }
 
 #[inline(always)]
-fn is_blank(bytes: &[u8]) -> bool
+fn are_spaces(bytes: &[u8]) -> bool
     ensures { result ≡ list_all (λ b. b == 32) bytes.now }
 {
     bytes.iter().all(|b| *b == b' ')
@@ -39,7 +39,7 @@ pub fn begins_blank(bytes: &[u8], gap: u64) -> bool
         return false;
     }
     let (front, _) = bytes.split_at(gap as usize);
-    is_blank(front)
+    are_spaces(front)
 }
 
 /// Whether the text of a piece of the source stands at a place. Where nothing changed it stands

@@ -2,7 +2,7 @@
 ghost use Rattle.std.specs.Prelude.{◌≡◌, ◌<◌, ◌≤◌, ◌+◌, ◌-◌, ◌^◌, ◌++◌, ℕ, List, Option, IsTrue, false, length, drop, take, replicate, is_err, IfErr, OnOk};
 ghost use Rattle.std.specs.Io.KnownBytes.{Appends};
 ghost use Rattle.hcl_layout.specs.Inner.Left.{bytes_of};
-ghost use Rattle.hcl_layout.specs.Inner.Out.{Fails, Lies, Out, Puts, Stopped, held, stretched};
+ghost use Rattle.hcl_layout.specs.Inner.Out.{Fails, Lies, Out, Puts, CutShort, held, stretched};
 ghost use Rattle.hcl_layout.specs.Inner.Simple.{IsFrom};
 ghost use Rattle.hcl_layout.specs.Print.{print};
 
@@ -57,7 +57,7 @@ fn send<W: ByteSink>(to: &mut W, buffer: &mut Buffer) -> Result<(), WriteFault>
     requires fresh { W.failed to.old ≡ false }
     requires room { buffer.old.sent < 2 ^ 63 }
     ensures ok { OnOk result ((base : Option (List ℕ)) (front : List ℕ) → Out base (W.taken to.old) buffer.old front → Out base (W.taken to.new) buffer.new front) }
-    ensures err { IfErr result (λ fault. (base : Option (List ℕ)) (front : List ℕ) → Out base (W.taken to.old) buffer.old front → Stopped base (W.taken to.new) front fault) }
+    ensures err { IfErr result (λ fault. (base : Option (List ℕ)) (front : List ℕ) → Out base (W.taken to.old) buffer.old front → CutShort base (W.taken to.new) front fault) }
     ensures failed { W.failed to.new ≡ is_err result }
     ensures empty { OnOk result (buffer.new.len ≡ 0) }
     ensures sent { OnOk result (buffer.new.sent ≡ buffer.old.sent + buffer.old.len) }

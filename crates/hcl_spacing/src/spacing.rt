@@ -1,17 +1,13 @@
 //! One blank or none between two neighbours on a line. The words in quotation marks are headings of `docs/STYLE.md`, "Between
 //! two words of a line", where each rule stands with its examples.
-ghost use Rattle.std.specs.Prelude.{◌≡◌, IfNone, IfSome, Option, option_map, true};
+ghost use Rattle.std.specs.Prelude.{◌≡◌, ◌||◌, IfNone, IfSome, Option, option_map, true};
 ghost use Rattle.hcl_scan.specs.Lexemes.{Lexeme};
 ghost use Rattle.hcl_scan.specs.Scanned.{lexeme};
-ghost use Rattle.hcl_scan.specs.Kinds.{is_dot as is_dot_of, is_ident as is_ident_of};
+ghost use Rattle.hcl_scan.specs.Kinds.{is_dot, is_ident, is_newline};
 ghost use Rattle.hcl_spacing.specs.Spacing.{asks_more, begins_with_colon as begins_with_colon_of, begins_with_equals as begins_with_equals_of, is_opening as is_opening_of, spaced, stands_before};
-ghost use Rattle.hcl_spacing.specs.Inner.KindPairs.{asked_space as asked_space_of, pair_space as pair_space_of, space_behind_operand as space_behind_operand_of, stands_close as stands_close_of};
+ghost use Rattle.hcl_spacing.specs.Inner.KindPairs.{asked_space as asked_space_of, pair_space as pair_space_of, space_behind_brace as space_behind_brace_of, space_behind_name as space_behind_name_of, space_behind_number as space_behind_number_of, space_behind_operand as space_behind_operand_of, space_in_sequence as space_in_sequence_of, stands_close as stands_close_of};
 
-use crate::kind::{
-    awaits_operand, closes_group, is_brace_close, is_brace_open, is_bracket_open, is_colon_colon,
-    is_comma, is_dot, is_ellipsis, is_ident, is_newline, is_opener, is_operator, is_paren_open,
-    is_seq_close, opens_sequence,
-};
+use crate::kind::{awaits_operand, closes_group, is_opener, is_operator, opens_sequence};
 use hcl_scan::{Kind, Token};
 
 #[inline(always)]
@@ -37,23 +33,23 @@ fn begins_with_colon(text: &str) -> bool
 /// Whether the token before is a Dot.
 #[inline(always)]
 fn is_behind_dot(before: Option<Token<'_>>) -> bool
-    ensures { result ≡ stands_before is_dot_of (option_map lexeme before.entry) }
+    ensures { result ≡ stands_before is_dot (option_map lexeme before.entry) }
 {
     let Some(before) = before else {
         return false;
     };
-    is_dot(before.kind)
+    matches!(before.kind, Kind::Dot)
 }
 
 /// Whether the token before is an Ident.
 #[inline(always)]
 fn is_behind_ident(before: Option<Token<'_>>) -> bool
-    ensures { result ≡ stands_before is_ident_of (option_map lexeme before.entry) }
+    ensures { result ≡ stands_before is_ident (option_map lexeme before.entry) }
 {
     let Some(before) = before else {
         return false;
     };
-    is_ident(before.kind)
+    matches!(before.kind, Kind::Ident)
 }
 
 /// Whether an expression begins behind the token before, so that a minus there is a sign.
@@ -78,12 +74,55 @@ fn stands_close(kind: Kind) -> bool
     )
 }
 
-/// Behind what an index may follow.
+/// Behind what an index may follow: by "Indexes" `[` hugs what is indexed.
 #[inline(always)]
 fn space_behind_operand(right: Kind) -> bool
     ensures { result ≡ space_behind_operand_of right }
 {
-    !(stands_close(right) || closes_group(right) || is_bracket_open(right))
+    !(stands_close(right) || closes_group(right) || matches!(right, Kind::BracketOpen))
+}
+
+/// Behind `}`: by "Braces" `}}` reads badly at the end of a template.
+#[inline(always)]
+fn space_behind_brace(right: Kind) -> bool
+    ensures { result ≡ space_behind_brace_of right }
+{
+    matches!(right, Kind::SeqClose) || space_behind_operand(right)
+}
+
+/// Behind a number, which could be read as one with a dot, by "A number and a dot", unless a dot stands before both.
+#[inline(always)]
+fn space_behind_number(right: Kind) -> Option<bool>
+    ensures { result ≡ space_behind_number_of right }
+{
+    if matches!(right, Kind::Dot) {
+        return None;
+    }
+    Some(space_behind_operand(right))
+}
+
+/// Behind a name, which hugs its parenthesis by "Calls". By "`in`" that word has a blank after it, while an index hugs a
+/// name, and a closer what it holds.
+#[inline(always)]
+fn space_behind_name(right: Kind) -> Option<bool>
+    ensures { result ≡ space_behind_name_of right }
+{
+    if matches!(right, Kind::BracketOpen) || closes_group(right) {
+        return None;
+    }
+    Some(!(stands_close(right) || matches!(right, Kind::ParenOpen)))
+}
+
+/// Behind `${` and `%{`, which by "Brackets, parentheses" hug what they hold; by "Braces" but for a brace, since `${{` reads
+/// badly. By "A number and a dot" an opener would join the `~` of its closer.
+#[inline(always)]
+fn space_in_sequence(right: Kind) -> Option<bool>
+    ensures { result ≡ space_in_sequence_of right }
+{
+    if matches!(right, Kind::SeqClose) {
+        return None;
+    }
+    Some(matches!(right, Kind::BraceOpen | Kind::BraceClose))
 }
 
 /// What two kinds tell alone, the second no Newline and outside heredocs. Nearly always they do, so this is a table by
@@ -99,37 +138,27 @@ fn pair_space(left: Kind, right: Kind) -> Option<bool>
         // "Quotes": what is added there would be text; "Two colons": a name is one thing to its reader
         Kind::QuoteOpen | Kind::Lit | Kind::ColonColon => Some(false),
         // "Dots": so are attributes of attributes; but two dots would be read as another mark
-        Kind::Dot => Some(is_dot(right) || is_ellipsis(right)),
+        Kind::Dot => Some(matches!(right, Kind::Dot | Kind::Ellipsis)),
         // "Commas": they part what stands behind them from the rest, but not from a comma or dots
-        Kind::Comma => Some(
-            !(is_dot(right) || is_colon_colon(right) || is_comma(right) || is_ellipsis(right)),
-        ),
+        Kind::Comma => Some(!matches!(
+            right,
+            Kind::Dot | Kind::ColonColon | Kind::Comma | Kind::Ellipsis
+        )),
         // "Brackets, parentheses": they hug what they hold; "Braces": a closing brace never does
-        Kind::ParenOpen | Kind::BracketOpen => Some(is_brace_close(right)),
+        Kind::ParenOpen | Kind::BracketOpen => Some(matches!(right, Kind::BraceClose)),
         // "Braces": a blank on the inner side, and none in an empty pair
-        Kind::BraceOpen => Some(!(stands_close(right) || is_brace_close(right))),
-        // "A number and a dot": an opener would join the `~` of the closer
-        Kind::InterpOpen | Kind::ControlOpen if is_seq_close(right) => None,
-        // "Brackets, parentheses, `${ }` and `%{ }`" hug what they hold; "Braces": but for a brace, since `${{` reads badly
-        Kind::InterpOpen | Kind::ControlOpen => Some(is_brace_open(right) || is_brace_close(right)),
+        Kind::BraceOpen => Some(!(stands_close(right) || matches!(right, Kind::BraceClose))),
+        Kind::InterpOpen | Kind::ControlOpen => space_in_sequence(right),
         // "Quotes and templates": what is added between a sequence and the next would be text
         Kind::SeqClose => Some(
             !(stands_close(right) || closes_group(right) || opens_sequence(right)),
         ),
-        // "Braces": `}}` reads badly at the end of a template
-        Kind::BraceClose if is_seq_close(right) => Some(true),
-        // "A number and a dot" could be read as one number, unless a dot stands before both
-        Kind::Number if is_dot(right) => None,
-        // "`in`" has a blank after it, while an index hugs a name, and a closer what it holds
-        Kind::Ident if is_bracket_open(right) || closes_group(right) => None,
-        // "Calls": the name hugs its parenthesis
-        Kind::Ident => Some(!(stands_close(right) || is_paren_open(right))),
-        // "Indexes": `[` hugs what is indexed
-        Kind::BraceClose
-        | Kind::Number
-        | Kind::QuoteClose
-        | Kind::ParenClose
-        | Kind::BracketClose => Some(space_behind_operand(right)),
+        Kind::BraceClose => Some(space_behind_brace(right)),
+        Kind::Number => space_behind_number(right),
+        Kind::Ident => space_behind_name(right),
+        Kind::QuoteClose | Kind::ParenClose | Kind::BracketClose => {
+            Some(space_behind_operand(right))
+        }
         // "All else" has one blank, but before a closer and what stands close
         _ => Some(!(stands_close(right) || closes_group(right))),
     }
@@ -159,6 +188,15 @@ fn asked_space(before: Option<Token<'_>>, subject: Token<'_>, after: Token<'_>) 
     }
 }
 
+/// Whether nothing is added before a token, whatever stands there: "Blanks at the ends of lines" vanish, and "Heredocs" are kept
+/// byte for byte.
+#[inline(always)]
+fn takes_no_blank(after: Token<'_>) -> bool
+    ensures { result ≡ (is_newline after.entry.kind || after.entry.inside_heredoc) }
+{
+    matches!(after.kind, Kind::Newline) || after.inside_heredoc
+}
+
 /// What their kinds tell of two tokens, and else what has to be asked.
 #[inline(always)]
 fn kinds_space(subject: Token<'_>, after: Token<'_>) -> Option<bool>
@@ -166,8 +204,7 @@ fn kinds_space(subject: Token<'_>, after: Token<'_>) -> Option<bool>
     ensures untold { IfNone result (asks_more subject.entry.kind after.entry.kind ≡ true) }
     ensures asked { IfNone result ((before : Option Lexeme) → asked_space_of before (lexeme subject.entry) (lexeme after.entry) ≡ spaced before (lexeme subject.entry) (lexeme after.entry)) }
 {
-    // "Blanks at the ends of lines" vanish, and "Heredocs" are kept byte for byte
-    if is_newline(after.kind) || after.inside_heredoc {
+    if takes_no_blank(after) {
         return Some(false);
     }
     pair_space(subject.kind, after.kind)

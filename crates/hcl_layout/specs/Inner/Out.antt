@@ -17,8 +17,8 @@ pub record Out (base now : Option (List ℕ)) (b : Buffer) (front : List ℕ) : 
   pub out : Appends base now sent
 
 -- a write failed after a part of the front
-abbrev pub Stopped : Option (List ℕ) → Option (List ℕ) → List ℕ → WriteFault → Type 0
-Stopped base now front fault = (fault.written < length front) × Appends base now (take fault.written front)
+abbrev pub CutShort : Option (List ℕ) → Option (List ℕ) → List ℕ → WriteFault → Type 0
+CutShort base now front fault = (fault.written < length front) × Appends base now (take fault.written front)
 
 -- behind whatever front went out before, the text goes out
 abbrev pub Puts : Option (List ℕ) → Option (List ℕ) → Buffer → Buffer → List ℕ → Type 0
@@ -26,7 +26,7 @@ Puts now new old b text = (base : Option (List ℕ)) (front : List ℕ) → Out 
 
 -- a write failed after a part of such a front and the text
 abbrev pub Fails : Option (List ℕ) → Option (List ℕ) → Buffer → List ℕ → WriteFault → Type 0
-Fails now new old text fault = (base : Option (List ℕ)) (front : List ℕ) → Out base now old front → Stopped base new (front ++ text) fault
+Fails now new old text fault = (base : Option (List ℕ)) (front : List ℕ) → Out base now old front → CutShort base new (front ++ text) fault
 
 -- what is printed of a stretch of the source
 abbrev pub stretched : List ℕ → Stretch → List ℕ

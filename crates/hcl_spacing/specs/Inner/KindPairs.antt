@@ -22,6 +22,22 @@ stands_close _ = false
 abbrev pub space_behind_operand : Kind → Bool
 space_behind_operand r = not (stands_close r || closes_group r || is_bracket_open r)
 
+-- behind `}`
+abbrev pub space_behind_brace : Kind → Bool
+space_behind_brace r = is_seq_close r || space_behind_operand r
+
+-- behind a number, unless it could join a dot
+abbrev pub space_behind_number : Kind → Option Bool
+space_behind_number r = if is_dot r then None else Some (space_behind_operand r)
+
+-- behind a name, unless it could be the word `in`
+abbrev pub space_behind_name : Kind → Option Bool
+space_behind_name r = if is_bracket_open r || closes_group r then None else Some (not (stands_close r || is_paren_open r))
+
+-- behind `${` and `%{`, unless they could join the `~` of the closer
+abbrev pub space_in_sequence : Kind → Option Bool
+space_in_sequence r = if is_seq_close r then None else Some (is_brace_open r || is_brace_close r)
+
 -- the answer, where the two kinds give it, the second no Newline and outside heredocs
 abbrev pub pair_space : Kind → Kind → Option Bool
 pair_space kind.Not r = None
@@ -35,12 +51,12 @@ pair_space kind.Comma r = Some (not (is_dot r || is_colon_colon r || is_comma r 
 pair_space kind.ParenOpen r = Some (is_brace_close r)
 pair_space kind.BracketOpen r = Some (is_brace_close r)
 pair_space kind.BraceOpen r = Some (not (stands_close r || is_brace_close r))
-pair_space kind.InterpOpen r = if is_seq_close r then None else Some (is_brace_open r || is_brace_close r)
-pair_space kind.ControlOpen r = if is_seq_close r then None else Some (is_brace_open r || is_brace_close r)
+pair_space kind.InterpOpen r = space_in_sequence r
+pair_space kind.ControlOpen r = space_in_sequence r
 pair_space kind.SeqClose r = Some (not (stands_close r || closes_group r || opens_sequence r))
-pair_space kind.BraceClose r = if is_seq_close r then Some true else Some (space_behind_operand r)
-pair_space kind.Number r = if is_dot r then None else Some (space_behind_operand r)
-pair_space kind.Ident r = if is_bracket_open r || closes_group r then None else Some (not (stands_close r || is_paren_open r))
+pair_space kind.BraceClose r = Some (space_behind_brace r)
+pair_space kind.Number r = space_behind_number r
+pair_space kind.Ident r = space_behind_name r
 pair_space kind.QuoteClose r = Some (space_behind_operand r)
 pair_space kind.ParenClose r = Some (space_behind_operand r)
 pair_space kind.BracketClose r = Some (space_behind_operand r)

@@ -21,21 +21,21 @@ loop-k-init c =
     let known : c.known-from.result.1 ≡ width from (gaps_in c.args.gaps line) line = c.known-from.ensures.width ∙ c.requires.known ∙ ap (λ k. width k (gaps_in c.args.gaps line) line) (sym c.known-from.ensures.place) in
     omega (arith, known, width_known c.args.gaps ts c.args.at c.args.len from c.args.place c.requires.within (omega (arith, c.known-from.ensures.place, c.requires.order)) c.requires.there)
 
-pub overflow_add-columns : goal.overflow_add-columns
-overflow_add-columns c =
+pub overflow_add-sum : goal.overflow_add-sum
+overflow_add-sum c =
     let next = width_behind c.args.gaps c.args.tokens.now.tokens c.args.at c.args.len c.loop-k.k c.args.place (lexeme c.get-token.result) c.get-token.ensures.token c.requires.there c.loop-k-test.true in
     let gap = c.cell_gap-gap.ensures
     ∙ ap (λ o. cell_gap o c.loop-k.k (cell_gap c.args.gaps.assign c.loop-k.k c.plain_gap_at-plain.result)) (sym c.requires.plain)
     ∙ ap (λ p. cell_gap c.args.gaps.comment c.loop-k.k (cell_gap c.args.gaps.assign c.loop-k.k p)) c.plain_gap_at-plain.ensures in
-    omega (arith, next, c.loop-k.invariant, gap, c.columns.ensures.count, c.requires.fits)
+    omega (arith, next, c.loop-k.invariant, gap, c.clusters.ensures.count, c.requires.fits)
 
-pub overflow_add-columns-in-loop-k : goal.overflow_add-columns-in-loop-k
-overflow_add-columns-in-loop-k c =
+pub overflow_add-sum-in-loop-k : goal.overflow_add-sum-in-loop-k
+overflow_add-sum-in-loop-k c =
     let next = width_behind c.args.gaps c.args.tokens.now.tokens c.args.at c.args.len c.loop-k.k c.args.place (lexeme c.get-token.result) c.get-token.ensures.token c.requires.there c.loop-k-test.true in
     let gap = c.cell_gap-gap.ensures
     ∙ ap (λ o. cell_gap o c.loop-k.k (cell_gap c.args.gaps.assign c.loop-k.k c.plain_gap_at-plain.result)) (sym c.requires.plain)
     ∙ ap (λ p. cell_gap c.args.gaps.comment c.loop-k.k (cell_gap c.args.gaps.assign c.loop-k.k p)) c.plain_gap_at-plain.ensures in
-    omega (arith, next, c.loop-k.invariant, gap, c.columns.ensures.count, c.requires.fits)
+    omega (arith, next, c.loop-k.invariant, gap, c.clusters.ensures.count, c.requires.fits)
 
 pub loop-k-preserved : goal.loop-k-preserved
 loop-k-preserved c =
@@ -43,4 +43,4 @@ loop-k-preserved c =
     let gap = c.cell_gap-gap.ensures
     ∙ ap (λ o. cell_gap o c.loop-k.k (cell_gap c.args.gaps.assign c.loop-k.k c.plain_gap_at-plain.result)) (sym c.requires.plain)
     ∙ ap (λ p. cell_gap c.args.gaps.comment c.loop-k.k (cell_gap c.args.gaps.assign c.loop-k.k p)) c.plain_gap_at-plain.ensures in
-    omega (arith, next, c.loop-k.invariant, gap, c.columns.ensures.count)
+    omega (arith, next, c.loop-k.invariant, gap, c.clusters.ensures.count)

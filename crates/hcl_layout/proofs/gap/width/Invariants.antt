@@ -6,6 +6,6 @@ use Rattle.hcl_layout.proofs.gap.width.Given as goal
 
 abbrev pub invariant-loop-k : goal.invariant-loop-k
 invariant-loop-k l =
-    l.columns
+    l.sum
     + width (l.place - l.k) (gaps_from l.gaps l.k (behind l.tokens.tokens l.at ((l.at + l.k) - 1)) (behind l.tokens.tokens l.at (l.at + l.k)) (take (l.len - l.k) (drop (l.at + l.k) l.tokens.tokens))) (take (l.len - l.k) (drop (l.at + l.k) l.tokens.tokens))
     ≡ width l.place (gaps_in l.gaps (take l.len (drop l.at l.tokens.tokens))) (take l.len (drop l.at l.tokens.tokens))

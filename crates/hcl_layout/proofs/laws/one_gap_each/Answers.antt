@@ -1,8 +1,8 @@
-use Rattle.std.proofs.Common.{◌≡◌, ◌∙◌, ◌+◌, ℕ, zero, suc, Bool, true, false, List, [], ◌∷◌, ◌++◌, Option, Some, None, refl, arith, max, map, length, length-append}
+use Rattle.std.proofs.Common.{◌≡◌, ◌∙◌, ◌+◌, ℕ, zero, suc, Bool, true, false, List, [], ◌∷◌, ◌++◌, Option, Some, None, refl, arith, map, length, length-append}
 use Rattle.std.specs.Prelude.{if◌then◌else◌, slice_set}
 use Rattle.std.specs.List.{flat_map}
 use Rattle.hcl_scan.specs.Lexemes.{Lexeme}
-use Rattle.hcl_layout.specs.Lines.{Line, ends_line, lines, onto}
+use Rattle.hcl_layout.specs.Lines.{Line, ends_line, lines, onto_line}
 use Rattle.hcl_layout.specs.Levels.{Net, level, levels_after, net_of}
 use Rattle.hcl_layout.specs.Cells.{assign_cell, running_comment, trailing_comment}
 use Rattle.hcl_layout.specs.Columns.{columns}
@@ -70,11 +70,11 @@ flat_length [] (l ∷ ls) s = absurd s
 flat_length (g ∷ gs) [] s = absurd s
 flat_length (g ∷ gs) (l ∷ ls) s = length-append g (flat_map (λ h. h) gs) ∙ omega (arith, s.0, flat_length gs ls s.1)
 
-onto_total : (t : Lexeme) (ls : List Line) → total (onto t ls) ≡ 1 + total ls
+onto_total : (t : Lexeme) (ls : List Line) → total (onto_line t ls) ≡ 1 + total ls
 onto_total t [] = refl
 onto_total t (l ∷ ls) = omega arith
 
-split_total : (b : Bool) (t : Lexeme) (ls : List Line) → total (if b then (t ∷ []) ∷ ls else onto t ls) ≡ 1 + total ls
+split_total : (b : Bool) (t : Lexeme) (ls : List Line) → total (if b then (t ∷ []) ∷ ls else onto_line t ls) ≡ 1 + total ls
 split_total true t ls = omega arith
 split_total false t ls = onto_total t ls
 

@@ -5,10 +5,10 @@ use Rattle.hcl_scan.specs.Scanned.{Scanned}
 use Rattle.hcl_syntax.specs.Balanced.{IsBalanced}
 use Rattle.hcl_layout.specs.Inner.Depths.{BalancedFrom}
 use Rattle.hcl_layout.specs.Inner.Left.{bytes_of, to_print}
-use Rattle.hcl_layout.specs.Inner.Out.{Out, Stopped, stretched}
+use Rattle.hcl_layout.specs.Inner.Out.{Out, CutShort, stretched}
 use Rattle.hcl_layout.specs.Print.{print}
 use Rattle.hcl_layout.proofs.BalanceLemmas.{balanced_from}
-use Rattle.hcl_layout.proofs.OutLemmas.{err_by, grown, ok_to, out_none, print_end, print_grown, print_put, stopped_print}
+use Rattle.hcl_layout.proofs.OutLemmas.{err_by, grown, ok_to, out_none, print_end, print_grown, print_put, cut_short_print}
 use Rattle.hcl_layout.proofs.writer.emit.Goals as goal
 
 pub loop-piece-init : goal.loop-piece-init
@@ -55,7 +55,7 @@ returns-in-Err-clause-err g c =
     let ts = c.new-tokens.result.tokens in
     let o = c.loop-piece.invariant.out in
     let base = g.W.ByteSink.taken c.args.to.now in
-    let stop = stopped_print base (g.W.ByteSink.taken c.put_stretch.new.to) (print ts) o.0 (stretched c.source-source.result.now c.loop-piece.waiting) (to_print ts c.loop-piece.pieces) c.in-Err.fault o.1 (c.in-Err.ensures.err base o.0 o.2) in
+    let stop = cut_short_print base (g.W.ByteSink.taken c.put_stretch.new.to) (print ts) o.0 (stretched c.source-source.result.now c.loop-piece.waiting) (to_print ts c.loop-piece.pieces) c.in-Err.fault o.1 (c.in-Err.ensures.err base o.0 o.2) in
     subst (λ (s : Scanned). Appends base (g.W.ByteSink.taken c.put_stretch.new.to) (take c.in-Err.fault.written (print s.tokens))) c.new-tokens.ensures.same stop.1
 
 pub returns-in-Err-clause-written : goal.returns-in-Err-clause-written
@@ -63,7 +63,7 @@ returns-in-Err-clause-written g c =
     let ts = c.new-tokens.result.tokens in
     let o = c.loop-piece.invariant.out in
     let base = g.W.ByteSink.taken c.args.to.now in
-    let stop = stopped_print base (g.W.ByteSink.taken c.put_stretch.new.to) (print ts) o.0 (stretched c.source-source.result.now c.loop-piece.waiting) (to_print ts c.loop-piece.pieces) c.in-Err.fault o.1 (c.in-Err.ensures.err base o.0 o.2) in
+    let stop = cut_short_print base (g.W.ByteSink.taken c.put_stretch.new.to) (print ts) o.0 (stretched c.source-source.result.now c.loop-piece.waiting) (to_print ts c.loop-piece.pieces) c.in-Err.fault o.1 (c.in-Err.ensures.err base o.0 o.2) in
     subst (λ (s : Scanned). c.in-Err.fault.written < length (print s.tokens)) c.new-tokens.ensures.same stop.0
 
 pub loop-piece-preserved : goal.loop-piece-preserved
@@ -106,7 +106,7 @@ returns-clause-err g c =
     let text : List ℕ = stretched c.source-source.result.now c.loop-piece.waiting in
     let all : o.0 ++ text ≡ print c.args.accepted.now.tokens = print_end (print ts) o.0 text (to_print ts c.loop-piece.pieces) o.1 c.in_default.ensures.left ∙ ap (λ (s : Scanned). print s.tokens) c.new-tokens.ensures.same in
     err_by c.finish.result
-    (λ fault. (base : Option (List ℕ)) (front : List ℕ) → Out base (g.W.ByteSink.taken c.loop-piece.to) c.loop-piece.buffer front → Stopped base (g.W.ByteSink.taken c.finish.new.to) (front ++ text) fault)
+    (λ fault. (base : Option (List ℕ)) (front : List ℕ) → Out base (g.W.ByteSink.taken c.loop-piece.to) c.loop-piece.buffer front → CutShort base (g.W.ByteSink.taken c.finish.new.to) (front ++ text) fault)
     (λ fault. Appends base (g.W.ByteSink.taken c.finish.new.to) (take fault.written (print c.args.accepted.now.tokens)))
     (λ fault q. subst (λ l. Appends base (g.W.ByteSink.taken c.finish.new.to) (take fault.written l)) all (q base o.0 o.2).1) c.finish.ensures.err
 
@@ -118,6 +118,6 @@ returns-clause-written g c =
     let text : List ℕ = stretched c.source-source.result.now c.loop-piece.waiting in
     let all : o.0 ++ text ≡ print c.args.accepted.now.tokens = print_end (print ts) o.0 text (to_print ts c.loop-piece.pieces) o.1 c.in_default.ensures.left ∙ ap (λ (s : Scanned). print s.tokens) c.new-tokens.ensures.same in
     err_by c.finish.result
-    (λ fault. (base : Option (List ℕ)) (front : List ℕ) → Out base (g.W.ByteSink.taken c.loop-piece.to) c.loop-piece.buffer front → Stopped base (g.W.ByteSink.taken c.finish.new.to) (front ++ text) fault)
+    (λ fault. (base : Option (List ℕ)) (front : List ℕ) → Out base (g.W.ByteSink.taken c.loop-piece.to) c.loop-piece.buffer front → CutShort base (g.W.ByteSink.taken c.finish.new.to) (front ++ text) fault)
     (λ fault. fault.written < length (print c.args.accepted.now.tokens))
     (λ fault q. subst (λ l. fault.written < length l) all (q base o.0 o.2).0) c.finish.ensures.err

@@ -1,6 +1,6 @@
 use Rattle.std.proofs.Common.{◌≡◌, ◌++◌, ℕ, List, Option}
 use Rattle.std.specs.Io.KnownBytes.{Appends}
-use Rattle.hcl_layout.specs.Inner.Out.{Out, Stopped, stretched}
+use Rattle.hcl_layout.specs.Inner.Out.{Out, CutShort, stretched}
 use Rattle.hcl_layout.proofs.OutLemmas.{err_by, ok_by, out_all}
 use Rattle.hcl_layout.proofs.writer.finish.Goals as goal
 
@@ -17,6 +17,6 @@ pub returns-clause-err : goal.returns-clause-err
 returns-clause-err g c =
     let text : List ℕ = stretched c.args.source.now c.args.stretch in
     err_by c.send.result
-    (λ fault. (base : Option (List ℕ)) (front : List ℕ) → Out base (g.W.ByteSink.taken c.put_stretch.new.to) c.put_stretch.new.buffer front → Stopped base (g.W.ByteSink.taken c.send.new.to) front fault)
-    (λ fault. (base : Option (List ℕ)) (front : List ℕ) → Out base (g.W.ByteSink.taken c.args.to.now) c.args.buffer.now front → Stopped base (g.W.ByteSink.taken c.send.new.to) (front ++ text) fault)
+    (λ fault. (base : Option (List ℕ)) (front : List ℕ) → Out base (g.W.ByteSink.taken c.put_stretch.new.to) c.put_stretch.new.buffer front → CutShort base (g.W.ByteSink.taken c.send.new.to) front fault)
+    (λ fault. (base : Option (List ℕ)) (front : List ℕ) → Out base (g.W.ByteSink.taken c.args.to.now) c.args.buffer.now front → CutShort base (g.W.ByteSink.taken c.send.new.to) (front ++ text) fault)
     (λ fault q base front p. q base (front ++ text) (c.in_default.ensures.ok base front p)) c.send.ensures.err

@@ -1,4 +1,4 @@
-use Rattle.std.proofs.Common.{◌∙◌, ◌≡◌, Bool, false, true, Option, Some, None, sym}
+use Rattle.std.proofs.Common.{◌∙◌, ◌≡◌, ◌||◌, refl, Bool, false, true, Option, Some, None, sym}
 use Rattle.std.specs.Prelude.{IfNone, IfSome}
 use Rattle.hcl_scan.specs.Lexemes.{Lexeme}
 use Rattle.hcl_scan.specs.Scanned.{lexeme}
@@ -8,6 +8,10 @@ use Rattle.hcl_scan.specs.Kinds.{is_newline}
 use Rattle.hcl_spacing.specs.Spacing.{asks_more, spaced}
 use Rattle.hcl_spacing.proofs.KindPairLemmas.{asked_is, given, untold}
 use Rattle.hcl_spacing.proofs.spacing.kinds_space.Goals as goal
+
+neither : (a b : Bool) → (a || b) ≡ false → (a ≡ false) × (b ≡ false)
+neither true b e = cc
+neither false b e = (refl, e)
 
 all_given : (o : Option Bool) (subject after : Lexeme) → is_newline after.kind ≡ false → after.inside_heredoc ≡ false → o ≡ pair_space subject.kind after.kind → IfSome o (λ space. (before : Option Lexeme) → space ≡ spaced before subject after)
 all_given None subject after e f g = tt
@@ -22,10 +26,10 @@ all_untold None l r g = untold l r (sym g)
 all_untold (Some space) l r g = tt
 
 pub returns-clause-given : goal.returns-clause-given
-returns-clause-given c = all_given c.pair_space.result (lexeme c.args.subject) (lexeme c.args.after) (sym c.is_newline.ensures ∙ c.if-is_newline.false) c.if-after.false c.pair_space.ensures
+returns-clause-given c = all_given c.pair_space.result (lexeme c.args.subject) (lexeme c.args.after) (neither (is_newline c.args.after.kind) c.args.after.inside_heredoc (sym c.takes_no_blank.ensures ∙ c.if-takes_no_blank.false)).0 (neither (is_newline c.args.after.kind) c.args.after.inside_heredoc (sym c.takes_no_blank.ensures ∙ c.if-takes_no_blank.false)).1 c.pair_space.ensures
 
 pub returns-clause-asked : goal.returns-clause-asked
-returns-clause-asked c = all_asked c.pair_space.result (lexeme c.args.subject) (lexeme c.args.after) (sym c.is_newline.ensures ∙ c.if-is_newline.false) c.if-after.false c.pair_space.ensures
+returns-clause-asked c = all_asked c.pair_space.result (lexeme c.args.subject) (lexeme c.args.after) (neither (is_newline c.args.after.kind) c.args.after.inside_heredoc (sym c.takes_no_blank.ensures ∙ c.if-takes_no_blank.false)).0 (neither (is_newline c.args.after.kind) c.args.after.inside_heredoc (sym c.takes_no_blank.ensures ∙ c.if-takes_no_blank.false)).1 c.pair_space.ensures
 
 pub returns-clause-untold : goal.returns-clause-untold
 returns-clause-untold c = all_untold c.pair_space.result c.args.subject.kind c.args.after.kind c.pair_space.ensures

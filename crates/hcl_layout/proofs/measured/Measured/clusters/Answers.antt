@@ -2,7 +2,7 @@ use Rattle.std.proofs.Common.{subst, sym}
 use Rattle.hcl_scan.specs.Scanned.{Scanned}
 use Rattle.hcl_layout.specs.Inner.Simple.{IsFrom}
 use Rattle.hcl_layout.proofs.ClusterLemmas.{clusters_part}
-use Rattle.hcl_layout.proofs.measured.Measured.columns.Goals as goal
+use Rattle.hcl_layout.proofs.measured.Measured.clusters.Goals as goal
 
 pub returns-then-self-clause-count : goal.returns-then-self-clause-count
 returns-then-self-clause-count c =
