@@ -1,6 +1,7 @@
 pub mod BooleanLemmas
 pub mod RunLemmas
 pub mod ElementLemmas
+pub mod EntryLemmas
 pub mod LineLemmas
 pub mod CandidateLemmas
 pub mod LiteralLemmas

@@ -6,6 +6,7 @@
 #![tactic(auto)]
 
 mod comment;
+mod entries;
 mod expression;
 #[cfg(test)]
 mod expression_tests;

@@ -248,3 +248,35 @@ fn comments_and_numbers(rt: HostRuntime) -> Result<(), Fail> {
     }
     Ok(())
 }
+
+/// Long tokens, which are kept apart from others, with short ones between them.
+#[test]
+fn long_tokens(rt: HostRuntime) -> Result<(), Fail> {
+    let parts = [
+        ("a /*", 65_530, "*/\n"),
+        ("b \"", 65_535, "\"\n"),
+        ("c /*", 65_532, "*/\n"),
+        ("d <<E\n", 199_999, "\nE\n"),
+        ("e #", 65_534, "\nf"),
+    ];
+    let mut text = String::new(rt.alloc());
+    for (front, count, rest) in parts {
+        text.push_str(front)?;
+        let longer = nested(rt.alloc(), "x", count, rest)?;
+        text.push_str(longer.as_str())?;
+    }
+    let wanted = [
+        "Ident 0-1 InlineComment 2-65536 Newline 65536-65537",
+        " Ident 65537-65538 QuoteOpen 65539-65540 Lit 65540-131075 QuoteClose 131075-131076 Newline 131076-131077",
+        " Ident 131077-131078 InlineComment 131079-196615 Newline 196615-196616",
+        " Ident 196616-196617 HeredocOpen 196618-196622 !Lit 196622-396622 !HeredocClose 396622-396623 Newline 396623-396624",
+        " Ident 396624-396625 LineComment 396626-462161 Newline 462161-462162 Ident 462162-462163",
+    ];
+    let mut tokens = String::new(rt.alloc());
+    for line in wanted {
+        tokens.push_str(line)?;
+    }
+    let line = shown(rt.alloc(), text.as_str())?;
+    assert_eq!(rt; line.as_str(), tokens.as_str());
+    Ok(())
+}

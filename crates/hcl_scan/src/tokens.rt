@@ -5,8 +5,9 @@ ghost use Rattle.std.specs.Str.{IsCharBoundary};
 ghost use Rattle.hcl_scan.specs.Scans.{Scans};
 ghost use Rattle.hcl_scan.specs.Scanned.{lexeme, IsScanError};
 
+use crate::entries::Entries;
 use crate::scanner::Scanner;
-use crate::token::{Entry, ScanError, Token};
+use crate::token::{ScanError, Token};
 use hcl_source::{Fault, Source};
 use std::alloc::Global;
 use std::marker::Model;
@@ -15,7 +16,7 @@ use std::marker::Model;
 #[derive(Debug, Drop)]
 pub struct Tokens<'s> {
     origin: &'s Source,
-    entries: Vec<Entry>,
+    entries: Entries,
 }
 
 impl<'s> Model for Tokens<'s> {
@@ -26,9 +27,9 @@ impl<'s> Model for Tokens<'s> {
     ghost use Rattle.hcl_scan.specs.Inner.Scanners.{lexemes_of};
     ghost use Rattle.hcl_scan.specs.Inner.Entries.{AreTokens};
 
-    ghost view = { λ t. record { text = t.origin.now; tokens = lexemes_of t.origin.now t.entries.items } };
+    ghost view = { λ t. record { text = t.origin.now; tokens = lexemes_of t.origin.now t.entries } };
 
-    ghost invariant = { λ t. AreTokens t.origin.now t.entries.items };
+    ghost invariant = { λ t. AreTokens t.origin.now t.entries };
 }
 
 impl<'s> Tokens<'s> {
@@ -64,7 +65,7 @@ impl<'s> Tokens<'s> {
         ensures start { IsCharBoundary self.now.text result.start }
         ensures text { result.text.now ≡ take (length result.text.now) (drop result.start self.now.text) }
     {
-        let entry = self.entries[i];
+        let entry = self.entries.get(i);
         let start = entry.start as usize;
         Token {
             kind: entry.kind,
@@ -81,7 +82,7 @@ pub fn scan<'s>(alloc: Global, source: &'s Source) -> Result<Tokens<'s>, ScanErr
     ensures tokens { IfOk result (λ t. Scans source.now t.tokens) }
     ensures err { IfErr result (IsScanError source.now) }
 {
-    let mut entries = Vec::new(alloc);
+    let mut entries = Entries::new(alloc);
     let mut scanner = Scanner::new(source.text());
     loop {
         match scanner.next_token() {

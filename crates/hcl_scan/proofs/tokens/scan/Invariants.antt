@@ -1,4 +1,4 @@
-use Rattle.std.proofs.Common.{◌≡◌, ◌≤◌, ◌-◌, length, vec_len}
+use Rattle.std.proofs.Common.{◌≡◌, ◌≤◌, ◌-◌, length}
 use Rattle.std.specs.Prelude.{All}
 use Rattle.hcl_scan.specs.Scans.{Run, begin}
 use Rattle.hcl_scan.specs.Inner.Scanners.{state_of, lexemes_of, IsSound, IsEntry}
@@ -6,7 +6,7 @@ use Rattle.hcl_scan.proofs.tokens.scan.Given as goal
 
 -- the tokens so far were read, up to here
 abbrev pub invariant-loop-entry : goal.invariant-loop-entry
-invariant-loop-entry l = record { same_text : l.scanner.text.now ≡ l.source; sound : IsSound l.scanner; within : vec_len l.entries ≤ l.scanner.at; parts : All (IsEntry l.source) l.entries.items; read : Run (begin l.source) (lexemes_of l.source l.entries.items) (state_of l.scanner) }
+invariant-loop-entry l = record { same_text : l.scanner.text.now ≡ l.source; sound : IsSound l.scanner; within : length l.entries ≤ l.scanner.at; parts : All (IsEntry l.source) l.entries; read : Run (begin l.source) (lexemes_of l.source l.entries) (state_of l.scanner) }
 
 abbrev pub decreases-loop-entry : goal.decreases-loop-entry
 decreases-loop-entry l = length l.scanner.text.now - l.scanner.at

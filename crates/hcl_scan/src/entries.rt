@@ -1,0 +1,120 @@
+//! Entries, kept in 8 bytes each but for those of long tokens.
+
+ghost use Rattle.std.specs.Prelude.{◌≡◌, ◌≤◌, ◌<◌, ◌==◌, ◌++◌, ◌∷◌, [], length, slice_get, Some, OnOk};
+
+use crate::token::{Entry, Kind};
+use std::alloc::{AllocError, Global};
+use std::marker::Model;
+
+/// The length that marks a long token, and from which on a token is one.
+const LONG: u16 = u16::MAX;
+
+/// An entry as it is kept. Of a long token it only says which of the long ones this is.
+#[derive(Clone, Copy, Debug)]
+struct Kept {
+    /// Where the token begins, or the number of a long one among the long ones.
+    place: u32,
+    /// How many bytes it has, or `LONG`.
+    length: u16,
+    kind: Kind,
+    inside_heredoc: bool,
+}
+
+const _: () = prove!(size_of::<Kept>() == 8);
+
+/// A list of entries.
+#[derive(Debug, Drop)]
+pub struct Entries {
+    kept: Vec<Kept>,
+    /// The entries of the long tokens, whole.
+    long: Vec<Entry>,
+}
+
+impl Model for Entries {
+    ghost use Rattle.std.specs.Prelude.{List, All};
+    ghost use Rattle.hcl_scan.specs.declared.token.Entry.{Entry};
+
+    ghost Value = { List Entry };
+
+    ghost use Rattle.hcl_scan.specs.Inner.Entries.{entries_of, IsKept};
+
+    ghost view = { λ e. entries_of e.long.items e.kept.items };
+
+    ghost invariant = { λ e. All (IsKept e.long.items) e.kept.items };
+}
+
+impl Entries {
+    pub fn new(alloc: Global) -> Entries
+        ensures { result ≡ [] }
+    {
+        Entries {
+            kept: Vec::new(alloc),
+            long: Vec::new(alloc),
+        }
+    }
+
+    pub fn len(&self) -> usize
+        ensures { result ≡ length self.now }
+    {
+        self.kept.len()
+    }
+
+    pub fn is_empty(&self) -> bool
+        ensures { result ≡ (length self.now == 0) }
+    {
+        self.kept.is_empty()
+    }
+
+    /// The entry of this number.
+    #[inline(always)]
+    pub fn get(&self, i: usize) -> Entry
+        requires { i < length self.now }
+        ensures { slice_get self.now i ≡ Some result }
+    {
+        let kept = self.kept[i];
+        if kept.length == LONG {
+            return self.long[kept.place as usize];
+        }
+        Entry {
+            start: kept.place,
+            end: kept.place + kept.length as u32,
+            kind: kept.kind,
+            inside_heredoc: kept.inside_heredoc,
+        }
+    }
+
+    /// Puts an entry at the end.
+    pub fn push(&mut self, entry: Entry) -> Result<(), AllocError>
+        requires { entry.start ≤ entry.end }
+        ensures { OnOk result (self.new ≡ self.old ++ entry ∷ []) }
+    {
+        let length = entry.end - entry.start;
+        if length >= LONG as u32 {
+            return self.push_long(entry);
+        }
+        self.kept.push(Kept {
+            place: entry.start,
+            length: length as u16,
+            kind: entry.kind,
+            inside_heredoc: entry.inside_heredoc,
+        })?;
+        Ok(())
+    }
+
+    /// Puts the entry of a long token at the end.
+    fn push_long(&mut self, entry: Entry) -> Result<(), AllocError>
+        ensures { OnOk result (self.new ≡ self.old ++ entry ∷ []) }
+    {
+        let Ok(place) = u32::try_from(self.long.len()) else {
+            return Err(AllocError);
+        };
+        self.long.push(entry)?;
+        self.kept.push(Kept {
+            place,
+            length: LONG,
+            kind: entry.kind,
+            inside_heredoc: entry.inside_heredoc,
+        })?;
+        Ok(())
+    }
+}
