@@ -16,6 +16,14 @@ use Rattle.hcl_layout.specs.declared.line.LineFacts.{LineFacts}
 abbrev pub changes : Kind → Bool
 changes k = is_opener k || is_closer k || is_line_comment k || is_inline_comment k || is_assign k
 
+-- a token of the kind changes the depth
+abbrev pub turns : Kind → Bool
+turns k = is_opener k || is_closer k
+
+-- a token of the kind may be or tear a cell
+abbrev pub marks : Kind → Bool
+marks k = is_line_comment k || is_inline_comment k || is_assign k
+
 -- these kinds, and those that may end the line, in one list (proofs/SurveyKinds)
 abbrev pub is_noted : Kind → Bool
 is_noted kind.Newline = true
