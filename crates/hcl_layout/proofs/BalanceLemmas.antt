@@ -5,7 +5,8 @@ use Rattle.std.specs.Prelude.{IsTrue, if◌then◌else◌, not, ◌&&◌}
 use Rattle.hcl_scan.specs.Lexemes.{Lexeme}
 use Rattle.hcl_scan.specs.declared.token.Kind.{Kind}
 use Rattle.hcl_syntax.specs.Balanced.{IsBalanced, closers, openers, max_open}
-use Rattle.hcl_layout.specs.Inner.Depths.{BalancedFrom, deepen}
+use Rattle.hcl_syntax.specs.Items.{deepen}
+use Rattle.hcl_layout.specs.Inner.Depths.{BalancedFrom}
 use Rattle.hcl_syntax.specs.Balanced.{is_closer, is_opener}
 use Rattle.hcl_spacing.proofs.KindLemmas.{each}
 
@@ -28,7 +29,7 @@ Fronts d ts = (n : ℕ) → n ≤ length ts → (closers (take n ts) ≤ d + ope
 step_by : (o c : Bool) (d : ℕ) → (o ≡ true → c ≡ false) → one_if c ≤ d + one_if o → d + one_if o ≤ one_if c + max_open
     → ((IsTrue o → d < max_open) × (IsTrue c → 0 < d))
     × ((x y : ℕ) → one_if c + y ≤ d + (one_if o + x) → d + (one_if o + x) ≤ one_if c + y + max_open
-    → (y ≤ (if o then d + 1 else (if c then d - 1 else d)) + x) × ((if o then d + 1 else (if c then d - 1 else d)) + x ≤ y + max_open))
+    → (y ≤ (d + one_if o - one_if c) + x) × ((d + one_if o - one_if c) + x ≤ y + max_open))
 step_by true true d p q r = absurd (cc (p refl))
 step_by true false d p q r = ((λ e. omega arith, λ e. cc), λ x y a b. (omega arith, omega arith))
 step_by false true d p q r = ((λ e. cc, λ e. omega arith), λ x y a b. (omega arith, omega arith))

@@ -5,7 +5,7 @@ use Rattle.hcl_scan.specs.Lexemes.{Lexeme}
 use Rattle.hcl_scan.specs.declared.token.Kind.{Kind}
 use Rattle.hcl_scan.specs.Kinds.{is_newline}
 use Rattle.hcl_layout.specs.Lines.{ends_line}
-use Rattle.hcl_layout.specs.Inner.Survey.{changes, is_noted}
+use Rattle.hcl_layout.specs.Inner.Survey.{changes, is_noted, marks, turns}
 use Rattle.hcl_spacing.proofs.KindLemmas.{each}
 
 passes : (a b : Bool) → (a || not b) ≡ true → a ≡ false → b ≡ false
@@ -14,6 +14,10 @@ passes a false h e = refl
 
 pub unnoted : (k : Kind) → is_noted k ≡ false → changes k ≡ false
 unnoted k e = passes (is_noted k) (changes k) (each (λ j. is_noted j || not (changes j)) refl k) e
+
+-- what opens or closes is no cell and tears none
+pub turns_unmarked : (k : Kind) → turns k ≡ true → marks k ≡ false
+turns_unmarked k e = passes (not (turns k)) (marks k) (each (λ j. not (turns j) || not (marks j)) refl k) (ap not e)
 
 pub unnoted_goes_on : (t : Lexeme) → is_noted t.kind ≡ false → ends_line t ≡ false
 unnoted_goes_on t e = rw (passes (is_noted t.kind) (is_newline t.kind) (each (λ j. is_noted j || not (is_newline j)) refl t.kind) e) refl

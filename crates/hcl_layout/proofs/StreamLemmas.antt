@@ -7,7 +7,8 @@ use Rattle.std.proofs.lemmas.List.Elements.{filter-append}
 use Rattle.hcl_scan.specs.Lexemes.{Lexeme}
 use Rattle.hcl_scan.specs.declared.token.Kind.{Kind}
 use Rattle.hcl_layout.specs.Cells.{assign_cell, running_comment, trailing_comment}
-use Rattle.hcl_layout.specs.Inner.Depths.{net_of_kind, BalancedFrom, Steps, deepen, depth_after, fresh, level_at, levels_behind}
+use Rattle.hcl_syntax.specs.Items.{deepen}
+use Rattle.hcl_layout.specs.Inner.Depths.{net_of_kind, BalancedFrom, Steps, depth_after, fresh, level_at, levels_behind}
 use Rattle.hcl_layout.specs.Gaps.{aligned, aligned_by, align, gaps, indented, line_gaps, plain_gaps, zip_with}
 use Rattle.hcl_syntax.specs.Balanced.{is_closer, is_opener, max_open}
 use Rattle.hcl_layout.specs.Levels.{Net, is_above, levels, net_of, no_net, plus}
@@ -20,7 +21,7 @@ use Rattle.hcl_layout.proofs.LevelLemmas.{Counted, Is, above_is, count, deeper_i
 -- ---- depths of nets
 
 step_by : (o c : Bool) (d : ℕ) (s : Net) → Is d s → (o ≡ true → c ≡ false) → (IsTrue c → 0 < d)
-    → Is (if o then d + 1 else (if c then d - 1 else d)) (plus s (record { opens = if o then 1 else 0; closes = if c then 1 else 0 }))
+    → Is (d + (if o then 1 else 0) - (if c then 1 else 0)) (plus s (record { opens = if o then 1 else 0; closes = if c then 1 else 0 }))
 step_by true true d s p q r = absurd (cc (q refl))
 step_by true false d s p q r = omega arith
 step_by false true d s p q r = omega (arith, r refl)
@@ -65,10 +66,11 @@ balanced_lines (t ∷ ts) d p = go (balanced_lines ts (deepen d t.kind) p.1) (en
     go r false e = rw e (onto_balanced t d (lines ts) p.0 r)
 
 -- nor will more be open
-step_low : (o c : Bool) (d : ℕ) → (IsTrue o → d < max_open) → d ≤ max_open → (if o then d + 1 else (if c then d - 1 else d)) ≤ max_open
-step_low true c d p q = omega (arith, p refl)
+step_low : (o c : Bool) (d : ℕ) → (IsTrue o → d < max_open) → d ≤ max_open → d + (if o then 1 else 0) - (if c then 1 else 0) ≤ max_open
+step_low true true d p q = omega (arith, p refl)
+step_low true false d p q = omega (arith, p refl)
 step_low false true d p q = omega arith
-step_low false false d p q = q
+step_low false false d p q = omega (arith, q)
 
 pub deepen_low : (k : Kind) (d : ℕ) → Steps d k → d ≤ max_open → deepen d k ≤ max_open
 deepen_low k d p q = step_low (is_opener k) (is_closer k) d p.0 q

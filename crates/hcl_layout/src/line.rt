@@ -6,8 +6,9 @@ ghost use Rattle.hcl_scan.specs.Scanned.{lexeme};
 ghost use Rattle.hcl_syntax.specs.Balanced.{max_open};
 ghost use Rattle.hcl_layout.specs.Lines.{ends_line};
 ghost use Rattle.hcl_layout.specs.Cells.{is_assignment as is_assignment_of, is_multiline as is_multiline_of, is_trailing as is_trailing_of};
-ghost use Rattle.hcl_layout.specs.Inner.Depths.{BalancedFrom, Steps, deepen};
-ghost use Rattle.hcl_layout.specs.Inner.Survey.{IsLine, assign_of, changes, first_noted, going, is_noted as is_noted_of, noted, running_of, surveyed};
+ghost use Rattle.hcl_syntax.specs.Items.{deepen};
+ghost use Rattle.hcl_layout.specs.Inner.Depths.{BalancedFrom, Steps};
+ghost use Rattle.hcl_layout.specs.Inner.Survey.{IsLine, assign_of, changes, first_noted, going, is_noted as is_noted_of, marks, noted, running_of, surveyed, turns as turns_of};
 
 use crate::measured::Measured;
 use hcl_scan::{Kind, Token};
@@ -157,6 +158,25 @@ fn is_noted(kind: Kind) -> bool
     )
 }
 
+/// Whether a token of the kind opens or closes.
+#[inline(always)]
+fn turns(kind: Kind) -> bool
+    ensures { result ≡ turns_of kind }
+{
+    matches!(
+        kind,
+        Kind::ParenOpen
+            | Kind::BracketOpen
+            | Kind::BraceOpen
+            | Kind::InterpOpen
+            | Kind::ControlOpen
+            | Kind::ParenClose
+            | Kind::BracketClose
+            | Kind::SeqClose
+            | Kind::BraceClose
+    )
+}
+
 impl Survey {
     /// Behind one token more, of a kind that changes nothing.
     #[inline(always)]
@@ -175,7 +195,29 @@ impl Survey {
         }
     }
 
-    /// Behind one token more.
+    /// Behind one token more, of a kind that changes the depth alone.
+    #[inline(always)]
+    fn turned(self, kind: Kind) -> Survey
+        requires steps { Steps self.depth kind }
+        requires fits { self.depth ≤ max_open }
+        requires room { self.len + 1 < 2 ^ 64 }
+        ensures { (t : Lexeme) → t.kind ≡ kind → marks kind ≡ false → result ≡ noted self t }
+    {
+        let behind = Survey {
+            len: self.len + 1,
+            depth: deepened(self.depth, kind),
+            ..self
+        };
+        if self.comment.is_some() {
+            return behind;
+        }
+        Survey {
+            body_depth: behind.depth,
+            ..behind
+        }
+    }
+
+    /// Behind one token more. Most that are noted open or close, and are asked for nothing else.
     #[inline(always)]
     fn with(self, token: Token<'_>) -> Survey
         requires steps { Steps self.depth token.kind }
@@ -183,6 +225,9 @@ impl Survey {
         requires room { self.len + 1 < 2 ^ 64 }
         ensures { result ≡ noted self (lexeme token.entry) }
     {
+        if turns(token.kind) {
+            return self.turned(token.kind);
+        }
         let behind = Survey {
             len: self.len + 1,
             depth: deepened(self.depth, token.kind),

@@ -1,18 +1,15 @@
 -- How deep a token list stands after each token, and the levels of lines by depth: the form in which the code keeps
 -- what is open. The levels of whole lists give the same (proofs/LevelLemmas).
-use Rattle.std.specs.Prelude.{◌≡◌, ◌<◌, ◌≤◌, ◌+◌, ◌-◌, ℕ, suc, zero, List, [], ◌∷◌, length, get_or, slice_set, min, replicate, if◌then◌else◌, IsTrue}
+use Rattle.std.specs.Prelude.{◌≡◌, ◌<◌, ◌≤◌, ◌+◌, ◌-◌, ℕ, suc, zero, List, [], ◌∷◌, length, get_or, slice_set, min, replicate, IsTrue}
 use Rattle.hcl_scan.specs.Lexemes.{Lexeme}
 use Rattle.hcl_scan.specs.declared.token.Kind.{Kind}
 use Rattle.hcl_syntax.specs.Balanced.{closing, is_closer, is_opener, opening, max_open}
+use Rattle.hcl_syntax.specs.Items.{deepen}
 use Rattle.hcl_layout.specs.Levels.{Net}
 
 -- the openers and the closers of a token
 abbrev pub net_of_kind : Kind → Net
 net_of_kind k = record { opens = opening k; closes = closing k }
-
--- the depth after a token
-abbrev pub deepen : ℕ → Kind → ℕ
-deepen d k = if is_opener k then d + 1 else (if is_closer k then d - 1 else d)
 
 abbrev pub depth_after : ℕ → List Lexeme → ℕ
 depth_after d [] = d

@@ -7,13 +7,22 @@ use Rattle.hcl_layout.specs.Lines.{Line, ends_line, lines}
 use Rattle.hcl_scan.specs.Kinds.{is_assign, is_inline_comment, is_line_comment}
 use Rattle.hcl_layout.specs.Cells.{assign_cell, is_assignment, is_multiline, is_trailing, running_comment, trailing_comment}
 use Rattle.hcl_syntax.specs.Balanced.{is_closer, is_opener, max_open}
-use Rattle.hcl_layout.specs.Inner.Depths.{BalancedFrom, deepen, depth_after}
+use Rattle.hcl_syntax.specs.Items.{deepen}
+use Rattle.hcl_layout.specs.Inner.Depths.{BalancedFrom, depth_after}
 use Rattle.hcl_layout.specs.declared.line.Survey.{Survey}
 use Rattle.hcl_layout.specs.declared.line.LineFacts.{LineFacts}
 
 -- a token of the kind changes the depth, or may be or tear a cell
 abbrev pub changes : Kind → Bool
 changes k = is_opener k || is_closer k || is_line_comment k || is_inline_comment k || is_assign k
+
+-- a token of the kind changes the depth
+abbrev pub turns : Kind → Bool
+turns k = is_opener k || is_closer k
+
+-- a token of the kind may be or tear a cell
+abbrev pub marks : Kind → Bool
+marks k = is_line_comment k || is_inline_comment k || is_assign k
 
 -- these kinds, and those that may end the line, in one list (proofs/SurveyKinds)
 abbrev pub is_noted : Kind → Bool

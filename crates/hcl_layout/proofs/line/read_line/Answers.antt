@@ -3,7 +3,8 @@ use Rattle.std.specs.Prelude.{slice_get}
 use Rattle.hcl_scan.specs.Lexemes.{Lexeme}
 use Rattle.hcl_scan.specs.Scanned.{lexeme}
 use Rattle.hcl_syntax.specs.Balanced.{max_open}
-use Rattle.hcl_layout.specs.Inner.Depths.{BalancedFrom, deepen}
+use Rattle.hcl_syntax.specs.Items.{deepen}
+use Rattle.hcl_layout.specs.Inner.Depths.{BalancedFrom}
 use Rattle.hcl_layout.specs.Inner.Survey.{first_noted, going, is_noted, noted, surveyed}
 use Rattle.hcl_layout.specs.declared.line.Survey.{Survey}
 use Rattle.hcl_layout.proofs.SurveyLemmas.{behind_token, low_at, rest_at, same_token, steps_at, going_more, going_on, going_out, surveyed_end, surveyed_going}
