@@ -24,7 +24,7 @@ pub fn places(
     requires { CanGo placer numbers.now }
     ensures { IfOk result (λ kept. map place_of kept.items ≡ map (place_in placer.entry.file) numbers.now) }
 {
-    let mut kept = Vec::new(alloc);
+    let mut kept = Vec::with_capacity(alloc, numbers.len())?;
     for number in numbers {
         kept.push(placer.place(*number))?;
     }
@@ -52,7 +52,7 @@ pub fn kept_comments(
     requires { CanGo placer (map (λ c. c.at) comments.now) }
     ensures { IfOk result (λ kept. map kept_comment kept.items ≡ map (λ c. comment_at (place_in placer.entry.file) (found.comment c)) comments.now) }
 {
-    let mut kept = Vec::new(alloc);
+    let mut kept = Vec::with_capacity(alloc, comments.len())?;
     for comment in comments {
         kept.push(kept_comment(*comment, &mut placer))?;
     }
@@ -121,7 +121,7 @@ pub fn kept_declarations(
     requires { CanGo placer (flat_map (λ d. numbers_of (declaration d)) declarations.now) }
     ensures { IfOk result (λ kept. map kept_declaration kept.items ≡ map (λ d. declaration_at (place_in placer.entry.file) (declaration d)) declarations.now) }
 {
-    let mut kept = Vec::new(alloc);
+    let mut kept = Vec::with_capacity(alloc, declarations.len())?;
     for declared in declarations {
         kept.push(kept_declaration(alloc, *declared, &mut placer)?)?;
     }
