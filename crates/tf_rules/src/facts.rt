@@ -1,6 +1,6 @@
 //! What is kept of the files of a module, and the issues that it gives.
 
-ghost use Rattle.std.specs.Prelude.{◌≡◌, ◌≤◌, ◌+◌, ◌++◌, [], List, filter, map, IfOk, OnOk, OnErr, if◌then◌else◌};
+ghost use Rattle.std.specs.Prelude.{◌≡◌, ◌≤◌, ◌<◌, ◌+◌, ◌++◌, [], List, filter, map, IfOk, OnOk, OnErr, if◌then◌else◌};
 ghost use Rattle.std.specs.List.{flat_map};
 ghost use Rattle.std.specs.Vec.{vec_capacity, vec_len};
 ghost use Rattle.tf_rules.specs.Answers.{IsAnswer, Rising};
@@ -25,6 +25,7 @@ use crate::silenced::{shown, silenced_lines};
 use hcl_syntax::{Accepted, outline};
 use std::alloc::{AllocError, Global};
 use std::marker::Model;
+use std::mem::swap;
 use tf_facts::{ALL_RULES, Rule, TextSet, add_references_of};
 
 /// What is kept of the files of a module: places, names and flags, and no source.
@@ -56,11 +57,26 @@ impl Model for Facts {
     } };
 }
 
-/// Moves all that is in one list behind what is in another, which has room for it.
+/// Makes room in a list for so many more. An empty list needs none, since the list of more takes its place.
+fn make_room<T>(list: &mut Vec<T>, more: usize) -> Result<(), AllocError>
+    ensures same { list.new.items ≡ list.old.items }
+    ensures room { OnOk result (0 < vec_len list.new → vec_len list.new + more ≤ vec_capacity list.new) }
+{
+    if list.is_empty() {
+        return Ok(());
+    }
+    list.reserve(more)
+}
+
+/// Moves all that is in one list behind what is in another, which is empty or has room for it.
 fn move_behind<T>(from: &mut Vec<T>, into: &mut Vec<T>)
-    requires { vec_len into.old + vec_len from.old ≤ vec_capacity into.old }
+    requires { 0 < vec_len into.old → vec_len into.old + vec_len from.old ≤ vec_capacity into.old }
     ensures { into.new.items ≡ into.old.items ++ from.old.items }
 {
+    if into.is_empty() {
+        swap(from, into);
+        return;
+    }
     let Ok(()) = into.append(from) else {
         unreachable!();
     };
@@ -89,10 +105,10 @@ impl Facts {
     {
         let items = outline(self.alloc, accepted)?;
         let mut kept = kept_file(self.alloc, number, accepted, &items)?;
-        self.comments.reserve(kept.comments.len())?;
-        self.indexes.reserve(kept.indexes.len())?;
-        self.interpolations.reserve(kept.interpolations.len())?;
-        self.declarations.reserve(kept.declarations.len())?;
+        make_room(&mut self.comments, kept.comments.len())?;
+        make_room(&mut self.indexes, kept.indexes.len())?;
+        make_room(&mut self.interpolations, kept.interpolations.len())?;
+        make_room(&mut self.declarations, kept.declarations.len())?;
         add_references_of(self.alloc, accepted, &items, &mut self.references)?;
         move_behind(&mut kept.comments, &mut self.comments);
         move_behind(&mut kept.indexes, &mut self.indexes);
