@@ -66,7 +66,7 @@ fn fault_at(tokens: &Tokens, refusal: Refusal) -> Fault
     match refusal {
         Refusal::UnexpectedToken(number) => Fault {
             kind: FaultKind::UnexpectedToken,
-            at: position_of(tokens, number),
+            at: position_of(tokens, number as usize),
         },
         Refusal::UnexpectedEnd => Fault {
             kind: FaultKind::UnexpectedEnd,
@@ -74,7 +74,7 @@ fn fault_at(tokens: &Tokens, refusal: Refusal) -> Fault
         },
         Refusal::TooDeep(number) => Fault {
             kind: FaultKind::TooDeep,
-            at: position_of(tokens, number),
+            at: position_of(tokens, number as usize),
         },
     }
 }

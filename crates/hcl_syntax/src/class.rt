@@ -60,7 +60,7 @@ pub enum Class {
 #[derive(Clone, Copy, Debug)]
 pub struct Lookahead {
     pub class: Class,
-    pub number: usize,
+    pub number: u32,
 }
 
 fn word_of(text: &str) -> Word
@@ -131,6 +131,17 @@ fn class_at(kind: Kind, text: &str) -> Class
     }
 }
 
+/// The number of a token in 32 bits: a source has fewer bytes than these count.
+#[inline(always)]
+fn narrow(tokens: &Tokens, number: usize) -> u32
+    requires { number < length tokens.now.tokens }
+    ensures { result ≡ number }
+{
+    let _count = tokens.len();
+    let _text = tokens.source().text();
+    number as u32
+}
+
 /// What the grammar sees of the token of this number.
 #[inline(always)]
 pub fn lookahead_at(tokens: &Tokens, number: usize) -> Lookahead
@@ -140,6 +151,6 @@ pub fn lookahead_at(tokens: &Tokens, number: usize) -> Lookahead
     let token = tokens.get(number);
     Lookahead {
         class: class_at(token.kind, token.text),
-        number,
+        number: narrow(tokens, number),
     }
 }

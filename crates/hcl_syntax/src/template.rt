@@ -66,7 +66,7 @@ impl<'t, 's> Cursor<'t, 's> {
 
     /// A directive behind its `%{`, which is the token of this number.
     #[cycle(parser)]
-    fn directive(&mut self, number: usize, directives: usize) -> Result<(), Refusal>
+    fn directive(&mut self, number: u32, directives: usize) -> Result<(), Refusal>
         ensures parses { Parses directives (directive number at Dropped ∷ []) self.old result self.new }
         ensures shorter { OnOk result (length self.new < length self.old) }
     {
