@@ -3,24 +3,29 @@ use Rattle.std.proofs.Common.{◌≡◌, ◌==◌, Bool, true, false, List, [], 
 use Rattle.std.specs.Prelude.{All}
 use Rattle.std.proofs.lemmas.List.{get_or_append_left, get_or_push, map_push}
 use Rattle.std.proofs.lemmas.List.Elements.{All-head, All-tail}
-use Rattle.hcl_scan.specs.Inner.Entries.{entry_of, entries_of, short_entry, long_mark, IsKept}
+use Rattle.hcl_scan.specs.Inner.Entries.{span_of, entry_of, entries_of, short_span, long_mark, IsKept}
 use Rattle.hcl_scan.specs.declared.token.Entry.{Entry}
 use Rattle.hcl_scan.specs.declared.entries.Kept.{Kept}
+use Rattle.hcl_scan.specs.declared.entries.Span.{Span}
 
-module _ (long : List Entry) (e : Entry) where
-  kept_still : (k : Kept) → IsKept long k → entry_of (long ++ e ∷ []) k ≡ entry_of long k
-  kept_still k is = by (k.length == long_mark) refl
+-- the entry of a token that stands here
+abbrev pub entry_at : Kept → Span → Entry
+entry_at k s = record { start = s.start; end = s.end; kind = k.kind; inside_heredoc = k.inside_heredoc }
+
+module _ (long : List Span) (s : Span) where
+  span_still : (k : Kept) → IsKept long k → span_of (long ++ s ∷ []) k ≡ span_of long k
+  span_still k is = by (k.length == long_mark) refl
     where
-      by : (v : Bool) → (k.length == long_mark) ≡ v → (if v then get_or (long ++ e ∷ []) k.place (short_entry k) else short_entry k) ≡ (if v then get_or long k.place (short_entry k) else short_entry k)
-      by true h = get_or_append_left long (e ∷ []) (short_entry k) k.place (is.found (search rules))
+      by : (v : Bool) → (k.length == long_mark) ≡ v → (if v then get_or (long ++ s ∷ []) k.place (short_span k) else short_span k) ≡ (if v then get_or long k.place (short_span k) else short_span k)
+      by true h = get_or_append_left long (s ∷ []) (short_span k) k.place (is.found (search rules))
       by false h = refl
 
-  all_still : (ks : List Kept) → All (IsKept long) ks → entries_of (long ++ e ∷ []) ks ≡ entries_of long ks
+  all_still : (ks : List Kept) → All (IsKept long) ks → entries_of (long ++ s ∷ []) ks ≡ entries_of long ks
   all_still [] are = refl
-  all_still (k ∷ ks) are = let one = kept_still k (All-head (IsKept long) k ks are) in let rest = all_still ks (All-tail (IsKept long) k ks are) in cc
+  all_still (k ∷ ks) are = let one = ap (entry_at k) (span_still k (All-head (IsKept long) k ks are)) in let rest = all_still ks (All-tail (IsKept long) k ks are) in cc
 
   -- the long token itself
-  pub long_pushed : (ks : List Kept) (k : Kept) → All (IsKept long) ks → k.length ≡ long_mark → k.place ≡ length long → entries_of (long ++ e ∷ []) (ks ++ k ∷ []) ≡ entries_of long ks ++ e ∷ []
+  pub long_pushed : (ks : List Kept) (k : Kept) → All (IsKept long) ks → k.length ≡ long_mark → k.place ≡ length long → entries_of (long ++ s ∷ []) (ks ++ k ∷ []) ≡ entries_of long ks ++ entry_at k s ∷ []
   long_pushed ks k are marked last =
-      let itself : entry_of (long ++ e ∷ []) k ≡ e = ap (λ n. if n == long_mark then get_or (long ++ e ∷ []) k.place (short_entry k) else short_entry k) marked ∙ get_or_push long e (short_entry k) k.place (sym last) in
-      map_push (entry_of (long ++ e ∷ [])) ks k ∙ ap (λ l. l ++ entry_of (long ++ e ∷ []) k ∷ []) (all_still ks are) ∙ ap (λ x. entries_of long ks ++ x ∷ []) itself
+      let itself : span_of (long ++ s ∷ []) k ≡ s = ap (λ n. if n == long_mark then get_or (long ++ s ∷ []) k.place (short_span k) else short_span k) marked ∙ get_or_push long s (short_span k) k.place (sym last) in
+      map_push (entry_of (long ++ s ∷ [])) ks k ∙ ap (λ l. l ++ entry_of (long ++ s ∷ []) k ∷ []) (all_still ks are) ∙ ap (λ x. entries_of long ks ++ entry_at k x ∷ []) itself

@@ -9,7 +9,7 @@ use std::marker::Model;
 /// The length that marks a long token, and from which on a token is one.
 const LONG: u16 = u16::MAX;
 
-/// An entry as it is kept. Of a long token it only says which of the long ones this is.
+/// An entry as it is kept. Of a long token it says which of the long ones this is, and not where it stands.
 #[derive(Clone, Copy, Debug)]
 struct Kept {
     /// Where the token begins, or the number of a long one among the long ones.
@@ -22,12 +22,19 @@ struct Kept {
 
 const _: () = prove!(size_of::<Kept>() == 8);
 
+/// Where a long token begins and ends.
+#[derive(Clone, Copy, Debug)]
+struct Span {
+    start: u32,
+    end: u32,
+}
+
 /// A list of entries.
 #[derive(Debug, Drop)]
 pub struct Entries {
     kept: Vec<Kept>,
-    /// The entries of the long tokens, whole.
-    long: Vec<Entry>,
+    /// Where the long tokens stand.
+    long: Vec<Span>,
 }
 
 impl Model for Entries {
@@ -72,12 +79,17 @@ impl Entries {
         ensures { slice_get self.now i ≡ Some result }
     {
         let kept = self.kept[i];
-        if kept.length == LONG {
-            return self.long[kept.place as usize];
-        }
+        let span = if kept.length == LONG {
+            self.long[kept.place as usize]
+        } else {
+            Span {
+                start: kept.place,
+                end: kept.place + kept.length as u32,
+            }
+        };
         Entry {
-            start: kept.place,
-            end: kept.place + kept.length as u32,
+            start: span.start,
+            end: span.end,
             kind: kept.kind,
             inside_heredoc: kept.inside_heredoc,
         }
@@ -108,7 +120,10 @@ impl Entries {
         let Ok(place) = u32::try_from(self.long.len()) else {
             return Err(AllocError);
         };
-        self.long.push(entry)?;
+        self.long.push(Span {
+            start: entry.start,
+            end: entry.end,
+        })?;
         self.kept.push(Kept {
             place,
             length: LONG,

@@ -1,27 +1,31 @@
 -- What a `Tokens` keeps of its tokens.
--- Our own choice of representation: 8 bytes an entry, but for those of long tokens, which a second list has whole.
+-- Our own choice of representation: 8 bytes a token, and where a long one stands is in a second list.
 use Rattle.std.specs.Prelude.{◌≡◌, ◌≢◌, ℕ, ◌+◌, ◌^◌, ◌<◌, ◌≤◌, ◌==◌, List, length, map, get_or, All, if◌then◌else◌}
 use Rattle.hcl_scan.specs.Scans.{Scans}
 use Rattle.hcl_scan.specs.Inner.Scanners.{lexemes_of, IsEntry}
 use Rattle.hcl_scan.specs.declared.token.Entry.{Entry}
 use Rattle.hcl_scan.specs.declared.entries.Kept.{Kept}
+use Rattle.hcl_scan.specs.declared.entries.Span.{Span}
 
 -- the length that marks a long token
 abbrev pub long_mark : ℕ
 long_mark = 65535
 
--- the entry of a token that is not long
-abbrev pub short_entry : Kept → Entry
-short_entry k = record { start = k.place; end = k.place + k.length; kind = k.kind; inside_heredoc = k.inside_heredoc }
+-- where a token stands that is not long
+abbrev pub short_span : Kept → Span
+short_span k = record { start = k.place; end = k.place + k.length }
 
-abbrev pub entry_of : List Entry → Kept → Entry
-entry_of long k = if k.length == long_mark then get_or long k.place (short_entry k) else short_entry k
+abbrev pub span_of : List Span → Kept → Span
+span_of long k = if k.length == long_mark then get_or long k.place (short_span k) else short_span k
 
-abbrev pub entries_of : List Entry → List Kept → List Entry
+abbrev pub entry_of : List Span → Kept → Entry
+entry_of long k = record { start = (span_of long k).start; end = (span_of long k).end; kind = k.kind; inside_heredoc = k.inside_heredoc }
+
+abbrev pub entries_of : List Span → List Kept → List Entry
 entries_of long ks = map (entry_of long) ks
 
 -- a long token stands among the long ones, and the end of any other fits
-pub record IsKept (long : List Entry) (k : Kept) : Type 0 where
+pub record IsKept (long : List Span) (k : Kept) : Type 0 where
   pub found : k.length ≡ long_mark → k.place < length long
   pub fits : k.length ≢ long_mark → k.place + k.length < 2 ^ 32
 
