@@ -24,7 +24,7 @@ turns k = is_opener k || is_closer k
 abbrev pub marks : Kind → Bool
 marks k = is_line_comment k || is_inline_comment k || is_assign k
 
--- these kinds, and those that may end the line, in one list (proofs/SurveyKinds)
+-- these kinds, and those that may end the line, in one list (proofs/NotedKindLemmas)
 abbrev pub is_noted : Kind → Bool
 is_noted kind.Newline = true
 is_noted kind.ParenOpen = true
