@@ -1,5 +1,5 @@
 -- What is kept of entries stands for the same when one more long token is known.
-use Rattle.std.proofs.Common.{◌≡◌, ◌==◌, Bool, true, false, List, [], ◌∷◌, ◌++◌, length, get_or, if◌then◌else◌, rules, refl, sym, ap, ◌∙◌}
+use Rattle.std.proofs.Common.{◌≡◌, ℕ, ◌+◌, ◌==◌, Bool, true, false, List, [], ◌∷◌, ◌++◌, length, get_or, if◌then◌else◌, rules, refl, sym, ap, ◌∙◌}
 use Rattle.std.specs.Prelude.{All}
 use Rattle.std.proofs.lemmas.List.{get_or_append_left, get_or_push, map_push}
 use Rattle.std.proofs.lemmas.List.Elements.{All-head, All-tail}
@@ -10,7 +10,11 @@ use Rattle.hcl_scan.specs.declared.entries.Span.{Span}
 
 -- the entry of a token that stands here
 abbrev pub entry_at : Kept → Span → Entry
-entry_at k s = record { start = s.start; end = s.end; kind = k.kind; inside_heredoc = k.inside_heredoc }
+entry_at k s = record { start = s.start; end = s.start + s.length; kind = k.kind; inside_heredoc = k.inside_heredoc }
+
+-- the entry with another end
+abbrev pub ended : Entry → ℕ → Entry
+ended e n = record { start = e.start; end = n; kind = e.kind; inside_heredoc = e.inside_heredoc }
 
 module _ (long : List Span) (s : Span) where
   span_still : (k : Kept) → IsKept long k → span_of (long ++ s ∷ []) k ≡ span_of long k

@@ -1,6 +1,7 @@
 //! Entries, kept in 8 bytes each but for those of long tokens.
 
 ghost use Rattle.std.specs.Prelude.{◌≡◌, ◌≤◌, ◌<◌, ◌==◌, ◌++◌, ◌∷◌, [], length, slice_get, Some, OnOk};
+ghost use Rattle.hcl_scan.specs.Inner.Entries.{entry_given};
 
 use crate::token::{Entry, Kind};
 use std::alloc::{AllocError, Global};
@@ -22,11 +23,20 @@ struct Kept {
 
 const _: () = prove!(size_of::<Kept>() == 8);
 
-/// Where a long token begins and ends.
+/// Where a token begins, and how many bytes it has.
 #[derive(Clone, Copy, Debug)]
 struct Span {
     start: u32,
-    end: u32,
+    length: u32,
+}
+
+/// An entry as it is given, by its length: so no end is added up of which the start is taken away again.
+#[derive(Clone, Copy, Debug)]
+pub struct Given {
+    pub start: usize,
+    pub length: usize,
+    pub kind: Kind,
+    pub inside_heredoc: bool,
 }
 
 /// A list of entries.
@@ -74,9 +84,9 @@ impl Entries {
 
     /// The entry of this number.
     #[inline(always)]
-    pub fn get(&self, i: usize) -> Entry
+    pub fn get(&self, i: usize) -> Given
         requires { i < length self.now }
-        ensures { slice_get self.now i ≡ Some result }
+        ensures { slice_get self.now i ≡ Some (entry_given result) }
     {
         let kept = self.kept[i];
         let span = if kept.length == LONG {
@@ -84,12 +94,12 @@ impl Entries {
         } else {
             Span {
                 start: kept.place,
-                end: kept.place + kept.length as u32,
+                length: kept.length as u32,
             }
         };
-        Entry {
-            start: span.start,
-            end: span.end,
+        Given {
+            start: span.start as usize,
+            length: span.length as usize,
             kind: kept.kind,
             inside_heredoc: kept.inside_heredoc,
         }
@@ -115,6 +125,7 @@ impl Entries {
 
     /// Puts the entry of a long token at the end.
     fn push_long(&mut self, entry: Entry) -> Result<(), AllocError>
+        requires { entry.start ≤ entry.end }
         ensures { OnOk result (self.new ≡ self.old ++ entry ∷ []) }
     {
         let Ok(place) = u32::try_from(self.long.len()) else {
@@ -122,7 +133,7 @@ impl Entries {
         };
         self.long.push(Span {
             start: entry.start,
-            end: entry.end,
+            length: entry.end - entry.start,
         })?;
         self.kept.push(Kept {
             place,

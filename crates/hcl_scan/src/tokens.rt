@@ -65,13 +65,13 @@ impl<'s> Tokens<'s> {
         ensures start { IsCharBoundary self.now.text result.start }
         ensures text { result.text.now ≡ take (length result.text.now) (drop result.start self.now.text) }
     {
-        let entry = self.entries.get(i);
-        let start = entry.start as usize;
+        let given = self.entries.get(i);
+        let start = given.start;
         Token {
-            kind: entry.kind,
-            text: &self.origin.text()[start..entry.end as usize],
+            kind: given.kind,
+            text: &self.origin.text()[start..start + given.length],
             start,
-            inside_heredoc: entry.inside_heredoc,
+            inside_heredoc: given.inside_heredoc,
         }
     }
 }

@@ -1,11 +1,12 @@
 -- What a `Tokens` keeps of its tokens.
 -- Our own choice of representation: 8 bytes a token, and where a long one stands is in a second list.
-use Rattle.std.specs.Prelude.{◌≡◌, ◌≢◌, ℕ, ◌+◌, ◌^◌, ◌<◌, ◌≤◌, ◌==◌, List, length, map, get_or, All, if◌then◌else◌}
+use Rattle.std.specs.Prelude.{◌≡◌, ℕ, ◌+◌, ◌<◌, ◌≤◌, ◌==◌, List, length, map, get_or, All, if◌then◌else◌}
 use Rattle.hcl_scan.specs.Scans.{Scans}
 use Rattle.hcl_scan.specs.Inner.Scanners.{lexemes_of, IsEntry}
 use Rattle.hcl_scan.specs.declared.token.Entry.{Entry}
 use Rattle.hcl_scan.specs.declared.entries.Kept.{Kept}
 use Rattle.hcl_scan.specs.declared.entries.Span.{Span}
+use Rattle.hcl_scan.specs.declared.entries.Given.{Given}
 
 -- the length that marks a long token
 abbrev pub long_mark : ℕ
@@ -13,21 +14,24 @@ long_mark = 65535
 
 -- where a token stands that is not long
 abbrev pub short_span : Kept → Span
-short_span k = record { start = k.place; end = k.place + k.length }
+short_span k = record { start = k.place; length = k.length }
 
 abbrev pub span_of : List Span → Kept → Span
 span_of long k = if k.length == long_mark then get_or long k.place (short_span k) else short_span k
 
 abbrev pub entry_of : List Span → Kept → Entry
-entry_of long k = record { start = (span_of long k).start; end = (span_of long k).end; kind = k.kind; inside_heredoc = k.inside_heredoc }
+entry_of long k = record { start = (span_of long k).start; end = (span_of long k).start + (span_of long k).length; kind = k.kind; inside_heredoc = k.inside_heredoc }
 
 abbrev pub entries_of : List Span → List Kept → List Entry
 entries_of long ks = map (entry_of long) ks
 
--- a long token stands among the long ones, and the end of any other fits
+-- the entry that is given so
+abbrev pub entry_given : Given → Entry
+entry_given g = record { start = g.start; end = g.start + g.length; kind = g.kind; inside_heredoc = g.inside_heredoc }
+
+-- a long token stands among the long ones
 pub record IsKept (long : List Span) (k : Kept) : Type 0 where
   pub found : k.length ≡ long_mark → k.place < length long
-  pub fits : k.length ≢ long_mark → k.place + k.length < 2 ^ 32
 
 -- the entries are the tokens of the text
 pub record AreTokens (text : List ℕ) (es : List Entry) : Type 0 where

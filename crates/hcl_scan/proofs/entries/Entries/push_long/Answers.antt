@@ -1,6 +1,11 @@
-use Rattle.std.proofs.Common.{refl, rules}
-use Rattle.hcl_scan.proofs.EntryLemmas.{long_pushed}
+use Rattle.std.proofs.Common.{◌≡◌, ◌+◌, ◌-◌, ◌++◌, ◌∷◌, [], ◌∙◌, ap, refl, rules, arith}
+use Rattle.hcl_scan.specs.Inner.Entries.{entries_of}
+use Rattle.hcl_scan.proofs.EntryLemmas.{ended, long_pushed}
 use Rattle.hcl_scan.proofs.entries.Entries.push_long.Goals as goal
 
 pub returns : goal.returns
-returns c = rw (c.in_ok-push-2.ensures.items, c.in_ok-push.ensures.items, ← c.self.view_is) (long_pushed c.self.inside.long.items _ c.self.inside.kept.items _ c.self.invariant refl (search rules))
+returns c =
+    let e = c.args.entry in
+    let same_end : e.start + (e.end - e.start) ≡ e.end = omega (arith, c.requires) in
+    let pushed = long_pushed c.self.inside.long.items _ c.self.inside.kept.items _ c.self.invariant refl (search rules) in
+    rw (c.in_ok-push-2.ensures.items, c.in_ok-push.ensures.items, ← c.self.view_is) (pushed ∙ ap (λ n. entries_of c.self.inside.long.items c.self.inside.kept.items ++ ended e n ∷ []) same_end)
