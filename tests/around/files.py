@@ -10,7 +10,7 @@ import stat
 import time
 
 from editors import on_terminal
-from harness import BAD, GOOD, OTHER, REFUSED, lines, put
+from harness import BAD, GOOD, OTHER, REFUSED, is_sh, lines, put
 
 NOBODY = 65534
 SHELLS = ['sh', 'dash', 'bash', 'busybox']
@@ -54,8 +54,8 @@ class Script:
 
 def run_shell(group):
     shell = group.name.split()[-1]
-    if shell != 'sh' and os.path.realpath(shutil.which(shell) or '') == os.path.realpath(shutil.which('sh')):
-        return                                                                      # it was run as sh
+    if is_sh(shell):
+        return
     if not group.has(shell, checks=70):
         return
     script = Script(group, shell)

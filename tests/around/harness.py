@@ -13,6 +13,11 @@ REFUSED = ':1:3: unexpected token'
 LIMIT = 60
 
 
+def is_sh(shell):
+    """Whether a shell of another name is the one that `sh` is, so that it was run already."""
+    return shell != 'sh' and os.path.realpath(shutil.which(shell) or '') == os.path.realpath(shutil.which('sh'))
+
+
 class Group:
     """Checks of one subject, with a temporary folder. `lines` is what is to be printed in the end."""
 

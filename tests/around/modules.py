@@ -7,7 +7,7 @@ import signal
 import time
 
 from files import NOBODY, Script
-from harness import BAD, lines, put
+from harness import BAD, is_sh, lines, put
 
 DECLARED, USED = b'variable "n" { type = string }\n', b'x = var.n\n'
 UNUSED = '%s:1:1: Warning - variable "n" is declared but not used (terraform_unused_declarations)'
@@ -26,8 +26,8 @@ def unused(*names):
 
 def run_shell(group):
     shell = group.name.split()[-1]
-    if shell != 'sh' and os.path.realpath(shutil.which(shell) or '') == os.path.realpath(shutil.which('sh')):
-        return                                                                      # it was run as sh
+    if is_sh(shell):
+        return
     if not group.has(shell, checks=65):
         return
     script = Script(group, shell, 'tfrules-modules')
