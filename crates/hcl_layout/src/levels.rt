@@ -18,8 +18,7 @@ ghost use Rattle.std.specs.Prelude.{◌≡◌, ◌≤◌, ◌+◌, ◌*◌, ◌-
 ghost use Rattle.hcl_syntax.specs.Balanced.{max_open};
 ghost use Rattle.hcl_layout.specs.Inner.Depths.{Sound, level_at, levels_behind, raised};
 
-/// How many openers may be open, by the scan. With another number than the scan's the contracts below are not proved.
-const MAX_OPEN: usize = 256;
+use hcl_scan::MAX_OPEN;
 
 /// The depths at which a line can end: from 0 to as many openers as may be open.
 pub const DEPTHS: usize = MAX_OPEN + 1;

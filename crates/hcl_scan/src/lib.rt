@@ -33,5 +33,6 @@ pub use hcl_source::{
     ByteSink, ByteSource, Failed, Fault, FaultKind, FromRead, LoadError, MAX_SOURCE, MemorySink,
     MemorySource, Position, SINK_ROOM, Source, ToWrite, WriteFault, write_fully,
 };
+pub use stack::MAX_OPEN;
 pub use token::{Kind, ScanError, Token};
 pub use tokens::{Tokens, scan};

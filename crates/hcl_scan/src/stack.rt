@@ -41,7 +41,7 @@ impl Default for Opened {
     }
 }
 
-/// How much may be open at once.
+/// How many quotes, heredocs, sequences, braces, brackets and parens may be open at once.
 pub const MAX_OPEN: usize = 256;
 
 /// At most `MAX_OPEN` openers, the innermost on top.
