@@ -83,6 +83,7 @@ fn is_digits(text: &str) -> bool
     text.as_bytes().iter().all(|b| b.is_ascii_digit())
 }
 
+/// What is not named here stands between two operands alone; the definition names it kind by kind.
 #[inline(always)]
 fn class_at(kind: Kind, text: &str) -> Class
     ensures { result ≡ class_at kind text.now }
@@ -117,17 +118,7 @@ fn class_at(kind: Kind, text: &str) -> Class
         Kind::ControlOpen => Class::ControlOpen,
         Kind::QuoteClose => Class::QuoteClose,
         Kind::HeredocClose => Class::HeredocClose,
-        Kind::Plus
-        | Kind::Slash
-        | Kind::Percent
-        | Kind::And
-        | Kind::Or
-        | Kind::Equal
-        | Kind::NotEqual
-        | Kind::Less
-        | Kind::Greater
-        | Kind::LessEqual
-        | Kind::GreaterEqual => Class::Binary,
+        _ => Class::Binary,
     }
 }
 
