@@ -68,20 +68,20 @@ abbrev pub Took : Writer → List ℕ → Type 0
 Took w text = TookBy w.failed w text
 
 -- what goes to standard error
-abbrev pub told : Program → Bool → Row → List ℕ
-told program out_failed row = if out_failed then write_failed program else row.err
+abbrev pub error_output : Program → Bool → Row → List ℕ
+error_output program out_failed row = if out_failed then write_failed program else row.err
 
 -- A run that is to show the row ends so: each writer took its text, standard error that of the failed write
 -- where standard output failed, and the status is that of a failure where a writer failed. Standard output is flushed
 -- behind its text, and standard error isn't. Where there is no text a writer is not called, so it can't fail.
 pub record Shows (program : Program) (row : Row) (end : End) : Type 0 where
   pub output : Took end.out row.out
-  pub message : Took end.err (told program end.out.failed row)
+  pub message : Took end.err (error_output program end.out.failed row)
   pub exit : end.status ≡ (if end.out.failed || end.err.failed then program.failure else row.status)
   pub flush : end.out.failed ≡ false → 0 < length row.out → end.out.flushed ≡ true
-  pub unflushed : end.err.failed ≡ false → 0 < length (told program end.out.failed row) → end.err.flushed ≡ false
+  pub unflushed : end.err.failed ≡ false → 0 < length (error_output program end.out.failed row) → end.err.flushed ≡ false
   pub no_output : length row.out ≡ 0 → end.out.failed ≡ false
-  pub no_message : length (told program end.out.failed row) ≡ 0 → end.err.failed ≡ false
+  pub no_message : length (error_output program end.out.failed row) ≡ 0 → end.err.failed ≡ false
 
 -- a run shows a row of which this holds
 abbrev pub ShowsOne : Program → (Row → Type 0) → End → Type 0

@@ -3,7 +3,7 @@ use Rattle.std.proofs.Common.{◌*◌, ◌≡◌, ◌∙◌, ◌+◌, ◌-◌, �
 use Rattle.std.specs.Prelude.{IfSome, if◌then◌else◌, nat_lt, slice_get}
 use Rattle.std.proofs.lemmas.Bool.Decides.{nat_tests}
 use Rattle.hcl_syntax.specs.Balanced.{max_open}
-use Rattle.hcl_layout.specs.Inner.Left.{behind}
+use Rattle.hcl_layout.specs.Inner.Left.{token_before}
 use Rattle.std.specs.List.{flat_map}
 use Rattle.hcl_scan.specs.Lexemes.{Lexeme}
 use Rattle.hcl_layout.specs.Inner.Depths.{BalancedFrom, fresh}
@@ -25,14 +25,14 @@ start_all ts d levels column p e f g =
     ∙ ap (λ (x : Option ℕ). flat_map (λ g. g) (commented 0 fresh x None (lines ts))) g ∙ sym (gaps_all ts p)
 
 -- the first token of a line has none behind it
-pub none_behind : (ts : List Lexeme) (at n : ℕ) → n ≤ at → behind ts at n ≡ None
+pub none_behind : (ts : List Lexeme) (at n : ℕ) → n ≤ at → token_before ts at n ≡ None
 none_behind ts at n le = rw (not_less at n le) refl
   where
     not_less : (a b : ℕ) → b ≤ a → nat_lt a b ≡ false
     not_less a b h = grind (arith, nat_tests)
 
 -- the token that was printed is behind the next
-pub printed_behind : (ts : List Lexeme) (start next : ℕ) (t : Lexeme) → slice_get ts next ≡ Some t → start ≤ next → behind ts start (next + 1) ≡ Some t
+pub printed_behind : (ts : List Lexeme) (start next : ℕ) (t : Lexeme) → slice_get ts next ≡ Some t → start ≤ next → token_before ts start (next + 1) ≡ Some t
 printed_behind ts start next t e le = rw (less start next le) (ap (slice_get ts) (omega arith) ∙ e)
   where
     less : (a b : ℕ) → a ≤ b → nat_lt a (b + 1) ≡ true
@@ -40,27 +40,27 @@ printed_behind ts start next t e le = rw (less start next le) (ap (slice_get ts)
 
 -- the width on from a place of the line, by the tokens behind it, is that of the token there and that on from the next
 pub width_behind : (g : LineGaps) (ts : List Lexeme) (at len k i : ℕ) (t : Lexeme) → slice_get ts (at + k) ≡ Some t → i ≤ len → k < i
-    → width (i - k) (gaps_from g k (behind ts at ((at + k) - 1)) (behind ts at (at + k)) (take (len - k) (drop (at + k) ts))) (take (len - k) (drop (at + k) ts))
-    ≡ gap_of g k (behind ts at ((at + k) - 1)) (behind ts at (at + k)) t + clusters t
-    + width (i - (k + 1)) (gaps_from g (k + 1) (behind ts at ((at + (k + 1)) - 1)) (behind ts at (at + (k + 1))) (take (len - (k + 1)) (drop (at + (k + 1)) ts))) (take (len - (k + 1)) (drop (at + (k + 1)) ts))
+    → width (i - k) (gaps_from g k (token_before ts at ((at + k) - 1)) (token_before ts at (at + k)) (take (len - k) (drop (at + k) ts))) (take (len - k) (drop (at + k) ts))
+    ≡ gap_of g k (token_before ts at ((at + k) - 1)) (token_before ts at (at + k)) t + clusters t
+    + width (i - (k + 1)) (gaps_from g (k + 1) (token_before ts at ((at + (k + 1)) - 1)) (token_before ts at (at + (k + 1))) (take (len - (k + 1)) (drop (at + (k + 1)) ts))) (take (len - (k + 1)) (drop (at + (k + 1)) ts))
 width_behind g ts at len k i t e le lt =
-    let b = behind ts at ((at + k) - 1) in
-    let s = behind ts at (at + k) in
+    let b = token_before ts at ((at + k) - 1) in
+    let s = token_before ts at (at + k) in
     let rest : List Lexeme = take (len - (k + 1)) (drop (at + (k + 1)) ts) in
     let last : at + k ≡ (at + (k + 1)) - 1 = omega arith in
     let next : (at + k) + 1 ≡ at + (k + 1) = omega arith in
-    let there : Some t ≡ behind ts at (at + (k + 1)) = sym (printed_behind ts at (at + k) t e (omega arith)) ∙ ap (behind ts at) next in
+    let there : Some t ≡ token_before ts at (at + (k + 1)) = sym (printed_behind ts at (at + k) t e (omega arith)) ∙ ap (token_before ts at) next in
     width_next g ts at len k i b s t e le lt
-    ∙ ap₂ (λ (n : ℕ) (u : Option Lexeme). gap_of g k b s t + clusters t + width (i - (k + 1)) (gaps_from g (k + 1) (behind ts at n) u rest) rest) last there
+    ∙ ap₂ (λ (n : ℕ) (u : Option Lexeme). gap_of g k b s t + clusters t + width (i - (k + 1)) (gaps_from g (k + 1) (token_before ts at n) u rest) rest) last there
 
 -- no token behind the first of a line is of that line
 pub width_front : (g : LineGaps) (ts : List Lexeme) (at len i : ℕ)
-    → 0 + width (i - 0) (gaps_from g 0 (behind ts at ((at + 0) - 1)) (behind ts at (at + 0)) (take (len - 0) (drop (at + 0) ts))) (take (len - 0) (drop (at + 0) ts))
+    → 0 + width (i - 0) (gaps_from g 0 (token_before ts at ((at + 0) - 1)) (token_before ts at (at + 0)) (take (len - 0) (drop (at + 0) ts))) (take (len - 0) (drop (at + 0) ts))
     ≡ width i (gaps_in g (take len (drop at ts))) (take len (drop at ts))
 width_front g ts at len i =
     let line : List Lexeme = take len (drop at ts) in
-    let b = behind ts at ((at + 0) - 1) in
-    let s = behind ts at (at + 0) in
+    let b = token_before ts at ((at + 0) - 1) in
+    let s = token_before ts at (at + 0) in
     let same : take (len - 0) (drop (at + 0) ts) ≡ line = ap₂ (λ (n m : ℕ). take n (drop m ts)) (omega arith) (omega arith) in
     let whole : i - 0 ≡ i = omega arith in
     zero_plus (width (i - 0) (gaps_from g 0 b s (take (len - 0) (drop (at + 0) ts))) (take (len - 0) (drop (at + 0) ts)))
@@ -79,7 +79,7 @@ width_none n gs line e = rw e refl
 -- the width before a place, and on from there
 pub width_known : (g : LineGaps) (ts : List Lexeme) (at len k i : ℕ) → at + len ≤ length ts → k ≤ i → i ≤ len
     → width k (gaps_in g (take len (drop at ts))) (take len (drop at ts))
-    + width (i - k) (gaps_from g k (behind ts at ((at + k) - 1)) (behind ts at (at + k)) (take (len - k) (drop (at + k) ts))) (take (len - k) (drop (at + k) ts))
+    + width (i - k) (gaps_from g k (token_before ts at ((at + k) - 1)) (token_before ts at (at + k)) (take (len - k) (drop (at + k) ts))) (take (len - k) (drop (at + k) ts))
     ≡ width i (gaps_in g (take len (drop at ts))) (take len (drop at ts))
 width_known g ts at len zero i room le within = width_front g ts at len i
 width_known g ts at len (suc k) i room le within =
@@ -89,26 +89,26 @@ width_known g ts at len (suc k) i room le within =
     let all = width_known g ts at len k i room (omega (arith, le)) within in
     let one = width_known g ts at len k (k + 1) room (omega arith) (omega (arith, le, within)) in
     let last = width_behind g ts at len k (k + 1) here.0 here.1 (omega (arith, le, within)) (omega arith) in
-    let none = width_none ((k + 1) - (k + 1)) (gaps_from g (k + 1) (behind ts at ((at + (k + 1)) - 1)) (behind ts at (at + (k + 1))) further) further (omega arith) in
+    let none = width_none ((k + 1) - (k + 1)) (gaps_from g (k + 1) (token_before ts at ((at + (k + 1)) - 1)) (token_before ts at (at + (k + 1))) further) further (omega arith) in
     let next = width_behind g ts at len k i here.0 here.1 within (omega (arith, le)) in
-    subst (λ n. width n (gaps_in g line) line + width (i - n) (gaps_from g n (behind ts at ((at + n) - 1)) (behind ts at (at + n)) (take (len - n) (drop (at + n) ts))) (take (len - n) (drop (at + n) ts)) ≡ width i (gaps_in g line) line)
+    subst (λ n. width n (gaps_in g line) line + width (i - n) (gaps_from g n (token_before ts at ((at + n) - 1)) (token_before ts at (at + n)) (take (len - n) (drop (at + n) ts))) (take (len - n) (drop (at + n) ts)) ≡ width i (gaps_in g line) line)
     (suc_is k) (omega (arith, all, one, last, none, next))
 
 pub piece_left : (ts : List Lexeme) (next start end : ℕ) (set : LineGaps) (rest : List ℕ) (t : Lexeme) (gap : ℕ) → slice_get ts next ≡ Some t → next < end → start ≤ next
-    → gap ≡ gap_of set (next - start) (behind ts start (next - 1)) (behind ts start next) t
-    → printed (gaps_from set (next - start) (behind ts start (next - 1)) (behind ts start next) (take (end - next) (drop next ts)) ++ rest) (drop next ts)
-    ≡ (replicate gap 32 ++ t.text) ++ printed (gaps_from set ((next + 1) - start) (behind ts start ((next + 1) - 1)) (behind ts start (next + 1)) (take (end - (next + 1)) (drop (next + 1) ts)) ++ rest) (drop (next + 1) ts)
+    → gap ≡ gap_of set (next - start) (token_before ts start (next - 1)) (token_before ts start next) t
+    → printed (gaps_from set (next - start) (token_before ts start (next - 1)) (token_before ts start next) (take (end - next) (drop next ts)) ++ rest) (drop next ts)
+    ≡ (replicate gap 32 ++ t.text) ++ printed (gaps_from set ((next + 1) - start) (token_before ts start ((next + 1) - 1)) (token_before ts start (next + 1)) (take (end - (next + 1)) (drop (next + 1) ts)) ++ rest) (drop (next + 1) ts)
 piece_left ts next start end set rest t gap e lt le g =
     let one : end - next ≡ suc (end - (next + 1)) = omega arith in
     let left : List Lexeme = drop (next + 1) ts in
-    let b = behind ts start (next - 1) in
-    let s = behind ts start next in
+    let b = token_before ts start (next - 1) in
+    let s = token_before ts start next in
     let place : (next - start) + 1 ≡ (next + 1) - start = omega arith in
     let last : next ≡ (next + 1) - 1 = omega arith in
     ap₂ (λ (n : ℕ) (xs : List Lexeme). printed (gaps_from set (next - start) b s (take n xs) ++ rest) xs) one (drop_at ts next t e)
     ∙ ap (λ k. (replicate k 32 ++ t.text) ++ printed (gaps_from set ((next - start) + 1) s (Some t) (take (end - (next + 1)) left) ++ rest) left) (sym g)
     ∙ ap (λ k. (replicate gap 32 ++ t.text) ++ printed (gaps_from set k s (Some t) (take (end - (next + 1)) left) ++ rest) left) place
-    ∙ ap₂ (λ (n : ℕ) (u : Option Lexeme). (replicate gap 32 ++ t.text) ++ printed (gaps_from set ((next + 1) - start) (behind ts start n) u (take (end - (next + 1)) left) ++ rest) left) last (sym (printed_behind ts start next t e le))
+    ∙ ap₂ (λ (n : ℕ) (u : Option Lexeme). (replicate gap 32 ++ t.text) ++ printed (gaps_from set ((next + 1) - start) (token_before ts start n) u (take (end - (next + 1)) left) ++ rest) left) last (sym (printed_behind ts start next t e le))
 
 plain_small : (level : ℕ) (b s : Option Lexeme) (t : Lexeme) → level ≤ max_open → plain_gap level b s t ≤ 2 * max_open
 plain_small level b None t low = omega (arith, indented level t)

@@ -17,6 +17,6 @@ pub mod PlaceLemmas
 pub mod LoadLemmas
 pub mod SameLineLemmas
 pub mod NotedKindLemmas
-pub mod OlderScans
-pub mod OlderRuns
-pub mod OlderPrints
+pub mod OlderScanLemmas
+pub mod OlderRunLemmas
+pub mod OlderPrintLemmas

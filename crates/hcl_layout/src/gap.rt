@@ -4,7 +4,7 @@ ghost use Rattle.hcl_scan.specs.Lexemes.{Lexeme};
 ghost use Rattle.hcl_scan.specs.Scanned.{lexeme};
 ghost use Rattle.hcl_syntax.specs.Balanced.{max_open};
 ghost use Rattle.hcl_layout.specs.Gaps.{indent as indent_of, plain_gaps, width as width_of};
-ghost use Rattle.hcl_layout.specs.Inner.Left.{behind};
+ghost use Rattle.hcl_layout.specs.Inner.Left.{token_before};
 ghost use Rattle.hcl_layout.specs.Inner.LineGaps.{IsKnown, known_place, known_width, len_with_blanks, cell_gap as cell_gap_of, gaps_in, plain_gap as plain_gap_of, plain_of};
 
 use crate::measured::Measured;
@@ -83,9 +83,9 @@ fn plain_gap(
 
 /// The token before a place, where it is of the line that begins at `start`.
 #[inline(always)]
-fn token_behind<'s>(tokens: &Measured<'_, 's>, start: usize, at: usize) -> Option<Token<'s>>
+fn token_before<'s>(tokens: &Measured<'_, 's>, start: usize, at: usize) -> Option<Token<'s>>
     requires { at ≤ length tokens.now.tokens }
-    ensures { option_map lexeme result ≡ behind tokens.now.tokens start at }
+    ensures { option_map lexeme result ≡ token_before tokens.now.tokens start at }
 {
     if start < at {
         return Some(tokens.get(at - 1));
@@ -99,11 +99,11 @@ fn token_behind<'s>(tokens: &Measured<'_, 's>, start: usize, at: usize) -> Optio
 fn looked_up_gap(tokens: &Measured<'_, '_>, level: u32, start: usize, at: usize) -> u64
     requires within { at < length tokens.now.tokens }
     requires level { level ≤ max_open }
-    ensures { (t : Lexeme) → slice_get tokens.now.tokens at ≡ Some t → result ≡ plain_gap_of level (behind tokens.now.tokens start (at - 1)) (behind tokens.now.tokens start at) t }
+    ensures { (t : Lexeme) → slice_get tokens.now.tokens at ≡ Some t → result ≡ plain_gap_of level (token_before tokens.now.tokens start (at - 1)) (token_before tokens.now.tokens start at) t }
 {
     let token = tokens.get(at);
-    let subject = token_behind(tokens, start, at);
-    let before = token_behind(tokens, start, at.saturating_sub(1));
+    let subject = token_before(tokens, start, at);
+    let before = token_before(tokens, start, at.saturating_sub(1));
     plain_gap(level, before, subject, token)
 }
 
@@ -119,9 +119,9 @@ pub fn plain_gap_at(
     requires there { slice_get tokens.now.tokens at ≡ Some (lexeme token) }
     requires within { at < length tokens.now.tokens }
     requires level { level ≤ max_open }
-    ensures { result ≡ plain_gap_of level (behind tokens.now.tokens start (at - 1)) (behind tokens.now.tokens start at) (lexeme token.entry) }
+    ensures { result ≡ plain_gap_of level (token_before tokens.now.tokens start (at - 1)) (token_before tokens.now.tokens start at) (lexeme token.entry) }
 {
-    let Some(subject) = token_behind(tokens, start, at) else {
+    let Some(subject) = token_before(tokens, start, at) else {
         return indent(level, token);
     };
     match space_by_kinds(subject, token) {

@@ -9,7 +9,7 @@ use Rattle.hcl_scan.specs.declared.token.Kind.TheVariants as kind
 use Rattle.hcl_syntax.specs.Numbered.{is_newline}
 use Rattle.hcl_syntax.specs.Items.{deepen, is_closed}
 use Rattle.hcl_syntax.specs.declared.nesting.Nesting.TheVariants as nesting
-use Rattle.hcl_syntax.specs.Inner.Pieces.{AreEnds, first_len, newline_from, nesting_of, IsAhead}
+use Rattle.hcl_syntax.specs.Inner.Pieces.{AreEnds, first_len, newline_from, nesting_of, AreNewlinesAhead}
 use Rattle.hcl_syntax.proofs.WordLemmas.{drop_at}
 
 -- what a kind does to the depth
@@ -79,16 +79,16 @@ module _ (ts : List Lexeme) (n : ℕ) (t : Lexeme) (e : slice_get ts n ≡ Some 
       ∙ ap (λ m. n + (first_len m (drop (n + 1) ts) + 1)) moved
       ∙ omega arith
 
-  pub passes : (ahead : List ℕ) → nesting_of t.kind ≡ nesting.Passes → IsAhead ts ahead (n + 1) → IsAhead ts ahead n
+  pub passes : (ahead : List ℕ) → nesting_of t.kind ≡ nesting.Passes → AreNewlinesAhead ts ahead (n + 1) → AreNewlinesAhead ts ahead n
   passes ahead is h d = let m = at_other t.kind is in h d ∙ sym (from_next d d m.newline_is (m.moves d))
 
-  pub opens : (old new : List ℕ) → nesting_of t.kind ≡ nesting.Opens → ((d c : ℕ) → get_or (reverse new) d c ≡ get_or (reverse old) (suc d) c) → IsAhead ts old (n + 1) → IsAhead ts new n
+  pub opens : (old new : List ℕ) → nesting_of t.kind ≡ nesting.Opens → ((d c : ℕ) → get_or (reverse new) d c ≡ get_or (reverse old) (suc d) c) → AreNewlinesAhead ts old (n + 1) → AreNewlinesAhead ts new n
   opens old new is popped h d =
       let m = at_opener t.kind is in
       let s : d + 1 ≡ suc d = omega arith in
       popped d (length ts) ∙ h (suc d) ∙ sym (from_next d (suc d) m.newline_is (m.moves d ∙ s))
 
-  pub closes : (old new : List ℕ) (last : ℕ) → nesting_of t.kind ≡ nesting.Closes → last ≡ get_or (reverse old) 0 (length ts) → new ≡ old ++ last ∷ [] → IsAhead ts old (n + 1) → IsAhead ts new n
+  pub closes : (old new : List ℕ) (last : ℕ) → nesting_of t.kind ≡ nesting.Closes → last ≡ get_or (reverse old) 0 (length ts) → new ≡ old ++ last ∷ [] → AreNewlinesAhead ts old (n + 1) → AreNewlinesAhead ts new n
   closes old new last is top pushed h d = ap (λ r. get_or r d (length ts)) (ap reverse pushed ∙ reverse-append old (last ∷ [])) ∙ by d
     where
       m : Moves t.kind false (λ k. k - 1)
@@ -98,8 +98,8 @@ module _ (ts : List Lexeme) (n : ℕ) (t : Lexeme) (e : slice_get ts n ≡ Some 
       by zero = top ∙ h 0 ∙ sym (from_next 0 0 m.newline_is (m.moves 0))
       by (suc k) = let s : suc k - 1 ≡ k = omega arith in h k ∙ sym (from_next (suc k) k m.newline_is (m.moves (suc k) ∙ s))
 
-  pub newline : (old mid new : List ℕ) → nesting_of t.kind ≡ nesting.Newline → ((d c : ℕ) → get_or (reverse mid) d c ≡ get_or (reverse old) (suc d) c) → new ≡ mid ++ n ∷ [] → IsAhead ts old (n + 1)
-      → IsAhead ts new n
+  pub newline : (old mid new : List ℕ) → nesting_of t.kind ≡ nesting.Newline → ((d c : ℕ) → get_or (reverse mid) d c ≡ get_or (reverse old) (suc d) c) → new ≡ mid ++ n ∷ [] → AreNewlinesAhead ts old (n + 1)
+      → AreNewlinesAhead ts new n
   newline old mid new is popped pushed h d = ap (λ r. get_or r d (length ts)) (ap reverse pushed ∙ reverse-append mid (n ∷ [])) ∙ by d
     where
       m : Moves t.kind true (λ k. k)
@@ -134,7 +134,7 @@ popped {X} (y ∷ ys) new None n size is rest d c = absurd (omega (arith, size, 
 pub record IsFilled (ts : List Lexeme) (ends ahead : List ℕ) (n : ℕ) : Type 0 where
   pub len : length ends ≡ length ts
   pub within : n ≤ length ts
-  pub newlines_ahead : IsAhead ts ahead n
+  pub newlines_ahead : AreNewlinesAhead ts ahead n
   pub each : (i : ℕ) → n ≤ i → i < length ts → get_or ends i 0 ≡ newline_from ts 0 i
 
 pub starts_filled : (ts : List Lexeme) (count : ℕ) (ends : List ℕ) → count ≡ length ts → ends ≡ replicate count 0 → IsFilled ts ends [] count
@@ -145,7 +145,7 @@ starts_filled ts count ends is made = record {
   each = λ i h k. absurd (omega (arith, h, k, is));
 }
 
-pub fills : (ts : List Lexeme) (old new before ahead : List ℕ) (last n x : ℕ) → last ≡ n + 1 → IsFilled ts old before last → IsAhead ts ahead n → x ≡ get_or (reverse ahead) 0 (length ts) → new ≡ set old n x
+pub fills : (ts : List Lexeme) (old new before ahead : List ℕ) (last n x : ℕ) → last ≡ n + 1 → IsFilled ts old before last → AreNewlinesAhead ts ahead n → x ≡ get_or (reverse ahead) 0 (length ts) → new ≡ set old n x
     → IsFilled ts new ahead n
 fills ts old new before ahead last n x at h next top is = record {
   len = ap length is ∙ length-set old n x ∙ h.len;

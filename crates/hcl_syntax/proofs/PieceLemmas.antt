@@ -7,12 +7,12 @@ use Rattle.hcl_syntax.specs.Items.{block, item_of}
 use Rattle.hcl_syntax.specs.Inner.Pieces.{IsFirst, words}
 use Rattle.hcl_syntax.specs.Inner.Bodies.{PutsBlock, PutsPiece}
 use Rattle.hcl_syntax.specs.declared.pieces.Body.{Body}
-use Rattle.hcl_syntax.specs.declared.words.Word.{Word}
+use Rattle.hcl_syntax.specs.declared.words.NumberedKind.{NumberedKind}
 use Rattle.hcl_syntax.specs.declared.item.Item.{Item}
 use Rattle.hcl_syntax.specs.declared.item.Item.TheVariants as item
 use Rattle.hcl_syntax.proofs.WordLemmas.{words_none}
 
-abbrev head_of : Word → List ℕ → Numbered
+abbrev head_of : NumberedKind → List ℕ → Numbered
 head_of w text = record { number = w.number; kind = w.kind; text = text }
 
 pub puts_nothing : (ts : List Lexeme) (level from to : ℕ) (old : List Item) → from ≤ to → words ts from to ≡ [] → PutsPiece ts level from to old old (record { first = to; end = to })
@@ -22,7 +22,7 @@ puts_nothing ts level from to old h none = record {
   deeper = λ less. absurd (omega (arith, less));
 }
 
-pub puts_alone : (ts : List Lexeme) (level from to : ℕ) (old new : List Item) (name : Word) (b : Body) → IsFirst ts from to name → words ts (name.number + 1) to ≡ [] → PutsBlock ts level name.number to old new b
+pub puts_alone : (ts : List Lexeme) (level from to : ℕ) (old new : List Item) (name : NumberedKind) (b : Body) → IsFirst ts from to name → words ts (name.number + 1) to ≡ [] → PutsBlock ts level name.number to old new b
     → PutsPiece ts level from to old new b
 puts_alone ts level from to old new name b f none h = record {
   is = λ inner nothing.
@@ -34,7 +34,7 @@ puts_alone ts level from to old new name b f none h = record {
   deeper = λ less. omega (arith, h.deeper, f.from_on);
 }
 
-pub puts_labelled : (ts : List Lexeme) (level from to : ℕ) (old new : List Item) (name second : Word) (b : Body) → IsFirst ts from to name → IsFirst ts (name.number + 1) to second → is_assign second.kind ≡ false
+pub puts_labelled : (ts : List Lexeme) (level from to : ℕ) (old new : List Item) (name second : NumberedKind) (b : Body) → IsFirst ts from to name → IsFirst ts (name.number + 1) to second → is_assign second.kind ≡ false
     → PutsBlock ts level name.number to old new b → PutsPiece ts level from to old new b
 puts_labelled ts level from to old new name second b f s plain h = record {
   is = λ inner nothing.
@@ -47,7 +47,7 @@ puts_labelled ts level from to old new name second b f s plain h = record {
   deeper = λ less. omega (arith, h.deeper, f.from_on);
 }
 
-pub puts_attribute : (ts : List Lexeme) (level from to end : ℕ) (old new : List Item) (name second : Word) → IsFirst ts from to name → IsFirst ts (name.number + 1) to second → is_assign second.kind ≡ true
+pub puts_attribute : (ts : List Lexeme) (level from to end : ℕ) (old new : List Item) (name second : NumberedKind) → IsFirst ts from to name → IsFirst ts (name.number + 1) to second → is_assign second.kind ≡ true
     → end ≡ end_of (words ts (name.number + 1) to) → new ≡ old ++ item.Attribute level name.number (second.number + 1) end ∷ [] → PutsPiece ts level from to old new (record { first = to; end = to })
 puts_attribute ts level from to end old new name second f s assign at pushed = record {
   is = λ inner nothing.

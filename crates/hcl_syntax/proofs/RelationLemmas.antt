@@ -7,16 +7,16 @@ use Rattle.hcl_syntax.specs.declared.refusal.Refusal.{Refusal}
 use Rattle.hcl_syntax.specs.declared.refusal.Refusal.TheVariants.{UnexpectedToken, UnexpectedEnd, TooDeep}
 use Rattle.hcl_syntax.specs.Classes.{drops}
 use Rattle.hcl_syntax.specs.Grammar.{Symbol, Marked, ◌at◌, Action, none, nothing, reads, opens, closes, row, ends}
-use Rattle.hcl_syntax.specs.Predictor.{max_directives, ending, on, stop, opening, taken, effect, next, run}
-use Rattle.hcl_syntax.specs.Relation.{Step, dropped, read, opened, closed, gone, Refuses, nothing_waited_for, no_row, too_deep, behind, Ending, complete, wanting, ended, Run, at_end, step, refused}
+use Rattle.hcl_syntax.specs.Predictor.{max_directives, ending, on, stop, opening_directive, taken, effect, next, run}
+use Rattle.hcl_syntax.specs.Relation.{Step, dropped, read, opened, closed, gone, Refuses, nothing_waited_for, no_row, too_deep, behind, Ending, complete, wanting, ended, ComesTo, at_end, step, refused}
 
 effect-row : (count : ℕ) (s : Symbol) (m : Newlines) (ss : List Marked) (t : Lookahead) (r : Action) → drops m t.class ≡ false → row s m t ≡ r → effect count (s at m ∷ ss) t ≡ taken count r ss (effect count ss t) t
 effect-row count s m ss t r d e = ap (λ b. cond b (on count (s at m ∷ ss)) (taken count (row s m t) ss (effect count ss t) t)) d ∙ ap (λ x. taken count x ss (effect count ss t) t) e
 
-opening-on : (count n : ℕ) (xs : List Marked) → count < max_directives → opening count n xs ≡ on (count + 1) xs
+opening-on : (count n : ℕ) (xs : List Marked) → count < max_directives → opening_directive count n xs ≡ on (count + 1) xs
 opening-on count n xs few = ap (λ b. cond b (on (count + 1) xs) (stop (TooDeep n))) (lt-ltb count max_directives few)
 
-opening-stop : (count n : ℕ) (xs : List Marked) → max_directives ≤ count → opening count n xs ≡ stop (TooDeep n)
+opening-stop : (count n : ℕ) (xs : List Marked) → max_directives ≤ count → opening_directive count n xs ≡ stop (TooDeep n)
 opening-stop count n xs many = ap (λ b. cond b (on (count + 1) xs) (stop (TooDeep n))) (le-ltb count max_directives many)
 
 step-effect : (count : ℕ) (ss : List Marked) (t : Lookahead) (later : ℕ) (us : List Marked) → Step count ss t later us → effect count ss t ≡ on later us
@@ -38,7 +38,7 @@ ending-is ss o (wanting s m us e) = ap (λ b. cond b (ending us) (Some Unexpecte
 ending-is ss o (ended s m us p e h) = ap (λ b. cond b (ending us) (Some UnexpectedEnd)) e ∙ ending-is us p h
 
 -- A run of the relation is the function's answer.
-pub computes : (count : ℕ) (ss : List Marked) (ts : List Lookahead) (o : Option Refusal) → Run count ss ts o → run count ss ts ≡ o
+pub computes : (count : ℕ) (ss : List Marked) (ts : List Lookahead) (o : Option Refusal) → ComesTo count ss ts o → run count ss ts ≡ o
 unfolding run
 computes count ss ts o (at_end c us p h) = ending-is us p h
 computes count ss ts o (step c us t vs later ws p h k) = ap (λ w. next w (λ q rest. run q rest vs)) (step-effect c us t later ws h) ∙ computes later ws vs p k
@@ -76,14 +76,14 @@ has-ending : (ss : List Marked) → (o : Option Refusal) × Ending ss o
 has-ending [] = (None, complete)
 has-ending (s at m ∷ ss) = ends-by s m ss (ends s) refl (has-ending ss)
 
-run-by : (count : ℕ) (ss : List Marked) (t : Lookahead) (ts : List Lookahead) → Moves count ss t → ((o : ℕ) (us : List Marked) → (p : Option Refusal) × Run o us ts p) → (o : Option Refusal) × Run count ss (t ∷ ts) o
+run-by : (count : ℕ) (ss : List Marked) (t : Lookahead) (ts : List Lookahead) → Moves count ss t → ((o : ℕ) (us : List Marked) → (p : Option Refusal) × ComesTo o us ts p) → (o : Option Refusal) × ComesTo count ss (t ∷ ts) o
 run-by count ss t ts (inl h) k = let w = k h.0 h.1 in (w.0, step count ss t ts h.0 h.1 w.0 h.2 w.1)
 run-by count ss t ts (inr h) k = (Some h.0, refused count ss t ts h.0 h.1)
 
-has-run : (count : ℕ) (ss : List Marked) (ts : List Lookahead) → (o : Option Refusal) × Run count ss ts o
+has-run : (count : ℕ) (ss : List Marked) (ts : List Lookahead) → (o : Option Refusal) × ComesTo count ss ts o
 has-run count ss [] = let w = has-ending ss in (w.0, at_end count ss w.0 w.1)
 has-run count ss (t ∷ ts) = run-by count ss t ts (moves count ss t) (λ o us. has-run o us ts)
 
 -- The function's answer has a run.
-pub answers : (count : ℕ) (ss : List Marked) (ts : List Lookahead) → Run count ss ts (run count ss ts)
-answers count ss ts = let w = has-run count ss ts in subst (λ o. Run count ss ts o) (sym (computes count ss ts w.0 w.1)) w.1
+pub answers : (count : ℕ) (ss : List Marked) (ts : List Lookahead) → ComesTo count ss ts (run count ss ts)
+answers count ss ts = let w = has-run count ss ts in subst (λ o. ComesTo count ss ts o) (sym (computes count ss ts w.0 w.1)) w.1

@@ -13,7 +13,7 @@ use Rattle.hcl_syntax.specs.Inner.Cursors.{shown, first, after_first, Looks}
 use Rattle.hcl_syntax.proofs.LookaheadLemmas.{shown-shown}
 use Rattle.hcl_syntax.specs.declared.class.Word.{Word}
 use Rattle.hcl_syntax.specs.Grammar.{Symbol, Marked, ◌at◌, Action, ◌then◌, none, nothing, reads, opens, closes, row, ends, the, fits, expr, expr_row, args_row, arg_next, tuple_row, tuple_item_row, tuple_next, tuple_if, tuple_if_row, object, object_row, object_item, object_item_row, object_next, object_if, object_if_row, group, group_row, separator, names, index_row, names_row, terminal_row, rest, rest_row, labels_row, file_row, body_row, eol, file, body, directive, directive_row, inside, section_directive_row}
-use Rattle.hcl_syntax.specs.Predictor.{max_directives, ending, Effect, on, stop, opening, taken, effect, next, run}
+use Rattle.hcl_syntax.specs.Predictor.{max_directives, ending, Effect, on, stop, opening_directive, taken, effect, next, run}
 use Rattle.hcl_syntax.specs.Inner.Parsing.{turning, turning_row, outcome, Advances, bodies, Ends, waits}
 use Rattle.hcl_syntax.specs.declared.class.Word.TheVariants.{For, In, If, Else, Endif, Endfor}
 use Rattle.hcl_syntax.specs.declared.expected.Section.{Section}
@@ -156,7 +156,7 @@ taken-then : (count : ℕ) (r : Action) (ys behind : List Marked) (p q : Effect)
 taken-then count none ys behind p q t h = refl
 taken-then count nothing ys behind p q t h = cc
 taken-then count (reads xs) ys behind p q t h = ap (λ l. on count l) (append_assoc xs ys behind)
-taken-then count (opens n xs) ys behind p q t h = ap (λ l. opening count n l) (append_assoc xs ys behind)
+taken-then count (opens n xs) ys behind p q t h = ap (λ l. opening_directive count n l) (append_assoc xs ys behind)
 taken-then count (closes xs) ys behind p q t h = ap (λ l. on (count - 1) l) (append_assoc xs ys behind)
 
 -- A symbol that another one begins.

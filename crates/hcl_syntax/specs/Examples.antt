@@ -9,12 +9,12 @@ use Rattle.hcl_syntax.specs.declared.refusal.Refusal.TheVariants.{UnexpectedToke
 use Rattle.hcl_syntax.specs.Classes.{is_trivia}
 use Rattle.hcl_syntax.specs.Predictor.{run, refusal_of}
 
-abbrev numbered : ℕ → List Class → List Lookahead
-numbered n [] = []
-numbered n (c ∷ cs) = if is_trivia c then numbered (n + 1) cs else record { class = c; number = n } ∷ numbered (n + 1) cs
+abbrev numbered_classes : ℕ → List Class → List Lookahead
+numbered_classes n [] = []
+numbered_classes n (c ∷ cs) = if is_trivia c then numbered_classes (n + 1) cs else record { class = c; number = n } ∷ numbered_classes (n + 1) cs
 
 abbrev refusal : List Class → Option Refusal
-refusal cs = refusal_of (numbered 0 cs)
+refusal cs = refusal_of (numbered_classes 0 cs)
 
 -- a = 1
 attribute : refusal (Ident Plain ∷ Assign ∷ Number true ∷ Newline ∷ []) ≡ None

@@ -42,11 +42,11 @@ outline_own = refl
 -- a = { # c
 --   b = 1
 -- } # d
-abbrev commented : List Lexeme
-commented =
+abbrev with_comments : List Lexeme
+with_comments =
     token Ident (codes "a") ∷ token Assign (codes "=") ∷ token BraceOpen (codes "{") ∷ token LineComment (codes "# c") ∷ token Newline (codes "\n")
     ∷ token Ident (codes "b") ∷ token Assign (codes "=") ∷ token Number (codes "1") ∷ token Newline (codes "\n")
     ∷ token BraceClose (codes "}") ∷ token LineComment (codes "# d") ∷ token Newline (codes "\n") ∷ []
 
-outline_commented : outline commented ≡ item.Attribute 0 0 2 10 ∷ []
-outline_commented = refl
+outline_with_comments : outline with_comments ≡ item.Attribute 0 0 2 10 ∷ []
+outline_with_comments = refl

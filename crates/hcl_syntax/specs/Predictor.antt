@@ -24,15 +24,15 @@ abbrev pub max_directives : ℕ
 max_directives = 256
 
 -- a directive opens, unless so many are open
-abbrev pub opening : ℕ → ℕ → List Marked → Effect
-opening count n ss = if nat_lt count max_directives then on (count + 1) ss else stop (TooDeep n)
+abbrev pub opening_directive : ℕ → ℕ → List Marked → Effect
+opening_directive count n ss = if nat_lt count max_directives then on (count + 1) ss else stop (TooDeep n)
 
 -- what the row of the first symbol does, where the others give passed
 abbrev pub taken : ℕ → Action → List Marked → Effect → Lookahead → Effect
 taken count none ss passed t = stop (UnexpectedToken t.number)
 taken count nothing ss passed t = passed
 taken count (reads xs) ss passed t = on count (xs ++ ss)
-taken count (opens n xs) ss passed t = opening count n (xs ++ ss)
+taken count (opens n xs) ss passed t = opening_directive count n (xs ++ ss)
 taken count (closes xs) ss passed t = on (count - 1) (xs ++ ss)
 
 -- one token

@@ -36,7 +36,7 @@ pub data Ending : List Marked → Option Refusal → Type 0 where
   ended : (s : Symbol) (m : Newlines) (ss : List Marked) (o : Option Refusal) → ends s ≡ true → Ending ss o → Ending (s at m ∷ ss) o
 
 -- what comes of a list of tokens
-pub data Run : ℕ → List Marked → List Lookahead → Option Refusal → Type 0 where
-  at_end : (count : ℕ) (ss : List Marked) (o : Option Refusal) → Ending ss o → Run count ss [] o
-  step : (count : ℕ) (ss : List Marked) (t : Lookahead) (ts : List Lookahead) (later : ℕ) (us : List Marked) (o : Option Refusal) → Step count ss t later us → Run later us ts o → Run count ss (t ∷ ts) o
-  refused : (count : ℕ) (ss : List Marked) (t : Lookahead) (ts : List Lookahead) (r : Refusal) → Refuses count ss t r → Run count ss (t ∷ ts) (Some r)
+pub data ComesTo : ℕ → List Marked → List Lookahead → Option Refusal → Type 0 where
+  at_end : (count : ℕ) (ss : List Marked) (o : Option Refusal) → Ending ss o → ComesTo count ss [] o
+  step : (count : ℕ) (ss : List Marked) (t : Lookahead) (ts : List Lookahead) (later : ℕ) (us : List Marked) (o : Option Refusal) → Step count ss t later us → ComesTo later us ts o → ComesTo count ss (t ∷ ts) o
+  refused : (count : ℕ) (ss : List Marked) (t : Lookahead) (ts : List Lookahead) (r : Refusal) → Refuses count ss t r → ComesTo count ss (t ∷ ts) (Some r)

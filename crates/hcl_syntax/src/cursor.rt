@@ -5,7 +5,7 @@ ghost use Rattle.std.specs.Bool.{OnTrue, OnFalse};
 ghost use Rattle.hcl_syntax.specs.Classes.{lookaheads, lookaheads_from};
 ghost use Rattle.hcl_syntax.specs.Grammar.{fits, ◌at◌, the};
 ghost use Rattle.hcl_syntax.specs.Inner.Cursors.{shown, first, after_first, is_shown};
-ghost use Rattle.hcl_syntax.specs.Inner.Parsing.{Parses, Took, Lacks};
+ghost use Rattle.hcl_syntax.specs.Inner.Parsing.{Parses, TookTerminal, LacksTerminal};
 
 use crate::class::{Class, Lookahead, Word, lookahead_at};
 use crate::expected::{Newlines, Terminal};
@@ -165,8 +165,8 @@ impl<'t, 's> Cursor<'t, 's> {
     /// Reads the next token where it is what the terminal waits for. It is inlined, as `look` is.
     #[inline(always)]
     pub fn takes(&mut self, newlines: Newlines, terminal: Terminal) -> bool
-        ensures yes { OnTrue result (Took newlines terminal self.old self.new) }
-        ensures no { OnFalse result (Lacks newlines terminal self.old self.new) }
+        ensures yes { OnTrue result (TookTerminal newlines terminal self.old self.new) }
+        ensures no { OnFalse result (LacksTerminal newlines terminal self.old self.new) }
         ensures shorter { length self.new ≤ length self.old }
         ensures shorter_yes { OnTrue result (length self.new < length self.old) }
     {

@@ -8,7 +8,7 @@ ghost use Rattle.hcl_syntax.specs.declared.expected.Newlines.TheVariants.{Seen};
 ghost use Rattle.hcl_syntax.specs.declared.refusal.Refusal.{Refusal};
 ghost use Rattle.hcl_syntax.specs.Grammar.{file, ◌at◌};
 ghost use Rattle.hcl_syntax.specs.Predictor.{refusal_of};
-ghost use Rattle.hcl_syntax.specs.Relation.{Run};
+ghost use Rattle.hcl_syntax.specs.Relation.{ComesTo};
 ghost use Rattle.hcl_syntax.specs.Verdict.{IsAccepted};
 ghost use Rattle.hcl_syntax.specs.Balanced.{IsBalanced};
 ghost use Rattle.hcl_syntax.specs.ItemOrder.{Climbs, TopsApart};
@@ -25,12 +25,12 @@ pub fn balanced()
 
 /// A run of the grammar as a relation ends with the answer of the grammar as a function.
 pub fn run_is_answer()
-    ensures { (tokens : List Lookahead) (answer : Option Refusal) → Run 0 (file at Seen ∷ []) tokens answer → refusal_of tokens ≡ answer }
+    ensures { (tokens : List Lookahead) (answer : Option Refusal) → ComesTo 0 (file at Seen ∷ []) tokens answer → refusal_of tokens ≡ answer }
 {}
 
 /// The answer of the grammar as a function has a run of the relation.
 pub fn answer_has_run()
-    ensures { (tokens : List Lookahead) → Run 0 (file at Seen ∷ []) tokens (refusal_of tokens) }
+    ensures { (tokens : List Lookahead) → ComesTo 0 (file at Seen ∷ []) tokens (refusal_of tokens) }
 {}
 
 /// Each item begins behind the one before it, an attribute's value and a label's or block's first token included, and

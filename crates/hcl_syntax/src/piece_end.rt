@@ -2,7 +2,7 @@
 
 ghost use Rattle.std.specs.Prelude.{◌≡◌, ◌<◌, ◌≤◌, ◌+◌, length, get_or, reverse, IfOk, OnOk};
 ghost use Rattle.hcl_source.specs.Load.{max_source};
-ghost use Rattle.hcl_syntax.specs.Inner.Pieces.{AreEnds, nesting_of, IsAhead};
+ghost use Rattle.hcl_syntax.specs.Inner.Pieces.{AreEnds, nesting_of, AreNewlinesAhead};
 
 use crate::nesting::Nesting;
 use hcl_scan::{Kind, MAX_SOURCE, Tokens};
@@ -53,8 +53,8 @@ fn pass(
 ) -> Result<(), AllocError>
     requires count { count ≡ length tokens.now.tokens }
     requires within { number < count }
-    requires ahead { IsAhead tokens.now.tokens ahead.old.items (number + 1) }
-    ensures { OnOk result (IsAhead tokens.now.tokens ahead.new.items number) }
+    requires ahead { AreNewlinesAhead tokens.now.tokens ahead.old.items (number + 1) }
+    ensures { OnOk result (AreNewlinesAhead tokens.now.tokens ahead.new.items number) }
 {
     match nesting_of(tokens.get(number as usize).kind) {
         Nesting::Newline => {

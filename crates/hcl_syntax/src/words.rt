@@ -9,7 +9,7 @@ use hcl_scan::{Kind, Tokens};
 
 /// A token that is no comment, and its number.
 #[derive(Clone, Copy, Debug)]
-pub struct Word {
+pub struct NumberedKind {
     pub number: u32,
     pub kind: Kind,
 }
@@ -45,7 +45,7 @@ fn is_brace_close(kind: Kind) -> bool
 }
 
 /// The first token from a number on to before another that is no comment.
-pub fn first_word(tokens: &Tokens<'_>, from: u32, to: u32) -> Option<Word>
+pub fn first_word(tokens: &Tokens<'_>, from: u32, to: u32) -> Option<NumberedKind>
     requires { to ≤ length tokens.now.tokens }
     ensures { MatchOption result (words tokens.now.tokens from to ≡ []) (IsFirst tokens.now.tokens from to) }
 {
@@ -53,7 +53,7 @@ pub fn first_word(tokens: &Tokens<'_>, from: u32, to: u32) -> Option<Word>
         let token = tokens.get(number as usize);
         if !is_comment(token.kind) {
             let kind = token.kind;
-            return Some(Word { number, kind });
+            return Some(NumberedKind { number, kind });
         }
     }
     None

@@ -13,12 +13,12 @@ use Rattle.hcl_syntax.specs.declared.item.Item.{Item}
 use Rattle.hcl_syntax.specs.declared.item.Item.TheVariants as item
 use Rattle.hcl_syntax.proofs.WordLemmas.{drop_at}
 use Rattle.hcl_syntax.proofs.ItemOrderLemmas.{outline_climbs}
-use Rattle.tf_facts.specs.Declarations.{Attribute, Declaration, Declarer, SourceAt, PlainText, attribute, attributes_in, by_declarer, declarer, has, is_inside, is_module, module_source, of_item, of_items, of_local, plain_text, source_at, source_of_attribute, with_attribute}
+use Rattle.tf_facts.specs.Declarations.{Attribute, Declaration, Declarer, SourceAt, PlainText, attribute, attributes_in, by_declarer, declarer, has, is_inside, is_module, module_source, of_item, of_items, of_local, plain_text, source_of_plain_text, source_of_attribute, with_attribute}
 use Rattle.tf_facts.specs.Sources.{Source, source_of}
 use Rattle.tf_facts.specs.Found.{declaration, texts_of, source}
 use Rattle.tf_facts.specs.Found as found
 use Rattle.tf_facts.specs.Inner.Labelled.{AreNames}
-use Rattle.tf_facts.specs.Inner.Values.{plain, value_of_attribute, values}
+use Rattle.tf_facts.specs.Inner.Values.{plain_text_of, value_of_attribute, values}
 use Rattle.tf_facts.specs.declared.declaration_kind.DeclarationKind.{DeclarationKind}
 use Rattle.tf_facts.specs.declared.found.Declared.{Declared}
 use Rattle.tf_facts.specs.declared.found.FoundSource.{FoundSource}
@@ -82,21 +82,21 @@ no_value ts None e = refl
 no_value ts (Some a) e = absurd (cc)
 
 pub value_source : (tokens : List Lexeme) (o : Option Attribute) (v : Value) (p : Option PlainText) → option_map value_of_attribute o ≡ Some v → p ≡ plain_text (values tokens v.first v.end)
-    → source_at p ≡ source_of_attribute (numbered tokens) o
+    → source_of_plain_text p ≡ source_of_attribute (numbered tokens) o
 value_source tokens None v p e is = absurd (cc)
 value_source tokens (Some a) v p e is =
     let same : value_of_attribute a ≡ v = cc in
-    ap source_at (is ∙ ap (λ w. plain_text (values tokens w.first w.end)) (sym same))
+    ap source_of_plain_text (is ∙ ap (λ w. plain_text (values tokens w.first w.end)) (sym same))
 
 abbrev source_from : Source → ℕ → SourceAt ℕ
 source_from s n = record { source = s; at = n }
 
-pub source_found : (tokens : List Lexeme) (o : Option Attribute) (v : Value) (p : Plain) (s : FoundSource) → option_map value_of_attribute o ≡ Some v → Some (plain p) ≡ plain_text (values tokens v.first v.end)
-    → source s.source ≡ source_of p.text.now → s.at ≡ p.quote → Some (found.source_at s) ≡ source_of_attribute (numbered tokens) o
+pub source_found : (tokens : List Lexeme) (o : Option Attribute) (v : Value) (p : Plain) (s : FoundSource) → option_map value_of_attribute o ≡ Some v → Some (plain_text_of p) ≡ plain_text (values tokens v.first v.end)
+    → source s.source ≡ source_of p.text.now → s.at ≡ p.quote → Some (found.found_source s) ≡ source_of_attribute (numbered tokens) o
 source_found tokens o v p s e is same at =
     ap (λ x. Some (source_from x s.at)) same
     ∙ ap (λ n. Some (source_from (source_of p.text.now) n)) at
-    ∙ value_source tokens o v (Some (plain p)) e is
+    ∙ value_source tokens o v (Some (plain_text_of p)) e is
 
 -- ---- a block other than `locals`
 

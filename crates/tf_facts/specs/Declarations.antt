@@ -81,13 +81,13 @@ plain_text _ = None
 abbrev pub value_of : List Numbered → Attribute → List Numbered
 value_of ts a = filter (λ t. not (is_comment t.kind) && not (is_newline t.kind)) (take (a.end - a.first) (drop a.first ts))
 
-abbrev pub source_at : Option PlainText → Option (SourceAt ℕ)
-source_at None = None
-source_at (Some p) = Some (record { source = source_of p.text; at = p.quote })
+abbrev pub source_of_plain_text : Option PlainText → Option (SourceAt ℕ)
+source_of_plain_text None = None
+source_of_plain_text (Some p) = Some (record { source = source_of p.text; at = p.quote })
 
 abbrev pub source_of_attribute : List Numbered → Option Attribute → Option (SourceAt ℕ)
 source_of_attribute ts None = None
-source_of_attribute ts (Some a) = source_at (plain_text (value_of ts a))
+source_of_attribute ts (Some a) = source_of_plain_text (plain_text (value_of ts a))
 
 -- by the first attribute `source`
 abbrev pub module_source : List Numbered → List Attribute → Option (SourceAt ℕ)

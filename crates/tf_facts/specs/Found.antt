@@ -29,8 +29,8 @@ source NotPinned = seen.NotPinned
 source (DefaultBranch branch) = seen.DefaultBranch branch.now
 source Registry = seen.Registry
 
-abbrev pub source_at : FoundSource → SourceAt ℕ
-source_at s = record { source = source s.source; at = s.at }
+abbrev pub found_source : FoundSource → SourceAt ℕ
+found_source s = record { source = source s.source; at = s.at }
 
 abbrev pub declaration : Declared → Declaration ℕ
 declaration d = record {
@@ -40,7 +40,7 @@ declaration d = record {
   described = d.is_described;
   typed = d.is_typed;
   versioned = d.is_versioned;
-  source = option_map source_at d.source;
+  source = option_map found_source d.source;
 }
 
 abbrev pub comment : FoundComment → Comment ℕ

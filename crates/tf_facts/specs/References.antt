@@ -37,8 +37,8 @@ data_of t None = None
 data_of t (Some n) = Some (data_reference t n.text)
 
 -- the reference of a first word and a name behind a dot, where `rest` follows
-abbrev pub named : List ℕ → List ℕ → List Numbered → Option (List ℕ)
-named word n rest =
+abbrev pub reference_of : List ℕ → List ℕ → List Numbered → Option (List ℕ)
+reference_of word n rest =
     if bytes_eq word (codes "var") then Some (variable_reference n)
     else if bytes_eq word (codes "local") then Some (local_reference n)
     else if bytes_eq word (codes "data") then data_of n (name_behind rest)
@@ -46,7 +46,7 @@ named word n rest =
 
 abbrev pub by_name : List ℕ → Option Numbered → List Numbered → Option (List ℕ)
 by_name word None rest = None
-by_name word (Some n) rest = named word n.text rest
+by_name word (Some n) rest = reference_of word n.text rest
 
 -- the reference with which these tokens begin
 abbrev pub reference_at : List Numbered → Option (List ℕ)

@@ -4,6 +4,7 @@
 use Rattle.std.specs.Prelude.{ℕ, ◌==◌, ◌||◌, Bool, List, [], codes, length, drop, filter, if◌then◌else◌}
 use Rattle.std.specs.List.{list_any, before_first, slice_split}
 use Rattle.std.specs.Str.{bytes_eq}
+use Rattle.hcl_scan.specs.Spelling.{is_blank}
 use Rattle.tf_facts.specs.Texts.{begins, without_front, without_end}
 use Rattle.tf_facts.specs.Rules.{all_rules, rule_name}
 use Rattle.tf_facts.specs.declared.rule.Rule.{Rule}
@@ -15,11 +16,7 @@ has_slashes text = begins (codes "//") text
 abbrev pub unmarked : List ℕ → List ℕ
 unmarked text = if has_slashes text then drop 2 text else drop 1 text
 
--- a space or a tab
-abbrev pub is_blank : ℕ → Bool
-is_blank b = (b == 32) || (b == 9)
-
--- or a CR
+-- a space, a tab or a CR
 abbrev pub is_margin : ℕ → Bool
 is_margin b = is_blank b || (b == 13)
 

@@ -8,7 +8,7 @@ ghost use Rattle.tf_facts.specs.Comments.{comment_of, comments, if_telling, is_a
 ghost use Rattle.tf_facts.specs.RuleSets.{holds, rules_of};
 ghost use Rattle.tf_facts.specs.Silencing.{has_slashes, silenced_rules};
 ghost use Rattle.tf_facts.specs.Found.{comment};
-ghost use Rattle.tf_facts.specs.Inner.FoundViews.{told};
+ghost use Rattle.tf_facts.specs.Inner.FoundViews.{comment_listed};
 ghost use Rattle.tf_facts.specs.Inner.Seen.{number_of};
 
 use crate::found::FoundComment;
@@ -47,7 +47,7 @@ fn is_telling(slashes: bool, silences: RuleSet) -> bool
 
 /// What the line comment of this number and text says, where it says something.
 fn comment_of(number: usize, text: &[u8]) -> Option<FoundComment>
-    ensures { told result ≡ if_telling (record { at = number; slashes = has_slashes text.now; silences = silenced_rules text.now }) }
+    ensures { comment_listed result ≡ if_telling (record { at = number; slashes = has_slashes text.now; silences = silenced_rules text.now }) }
 {
     let slashes = has_slashes(text);
     let silences = silenced_rules(text);
@@ -64,7 +64,7 @@ fn comment_of(number: usize, text: &[u8]) -> Option<FoundComment>
 /// What the token of this number says, where it is a line comment that says something.
 fn comment_at(tokens: &Tokens<'_>, number: usize) -> Option<FoundComment>
     requires { number < length tokens.now.tokens }
-    ensures { (t : Lexeme) → slice_get tokens.now.tokens number ≡ Some t → told result ≡ comment_of (number_of number t) }
+    ensures { (t : Lexeme) → slice_get tokens.now.tokens number ≡ Some t → comment_listed result ≡ comment_of (number_of number t) }
 {
     let token = tokens.get(number);
     if !is_line_comment(token.kind) {

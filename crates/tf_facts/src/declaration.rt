@@ -7,7 +7,7 @@ ghost use Rattle.hcl_syntax.specs.Labels.{text_of};
 ghost use Rattle.hcl_syntax.specs.Numbered.{numbered};
 ghost use Rattle.hcl_syntax.specs.declared.item.Item.{Item};
 ghost use Rattle.tf_facts.specs.Declarations.{attribute, attributes_in, by_declarer, declarations, declarer, is_empty, is_module, labels_in, module_source, of_block, of_item, of_local, with_attribute};
-ghost use Rattle.tf_facts.specs.Found.{declaration, source_at};
+ghost use Rattle.tf_facts.specs.Found.{declaration, found_source};
 ghost use Rattle.tf_facts.specs.Inner.FoundViews.{declarer_of, listed};
 ghost use Rattle.tf_facts.specs.Inner.Labelled.{AreNames};
 
@@ -91,7 +91,7 @@ fn is_module(kind: DeclarationKind) -> bool
 /// item behind the block.
 fn module_source(accepted: &Accepted<'_, '_>, items: &Outline, from: usize) -> Option<FoundSource>
     requires { items.now ≡ outline accepted.now.tokens }
-    ensures { option_map source_at result ≡ module_source (numbered accepted.now.tokens) (attributes_in (numbered accepted.now.tokens) (drop from items.now)) }
+    ensures { option_map found_source result ≡ module_source (numbered accepted.now.tokens) (attributes_in (numbered accepted.now.tokens) (drop from items.now)) }
 {
     let Some(value) = attribute_value(accepted, items, from, "source") else {
         return None;
@@ -114,7 +114,7 @@ fn source_in(
     kind: DeclarationKind,
 ) -> Option<FoundSource>
     requires { items.now ≡ outline accepted.now.tokens }
-    ensures { option_map source_at result ≡ (if is_module kind then module_source (numbered accepted.now.tokens) (attributes_in (numbered accepted.now.tokens) (drop from items.now)) else None) }
+    ensures { option_map found_source result ≡ (if is_module kind then module_source (numbered accepted.now.tokens) (attributes_in (numbered accepted.now.tokens) (drop from items.now)) else None) }
 {
     if is_module(kind) {
         return module_source(accepted, items, from);

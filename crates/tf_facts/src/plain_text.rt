@@ -5,7 +5,7 @@ ghost use Rattle.std.specs.Option.{option_map};
 ghost use Rattle.hcl_scan.specs.Kinds.{is_lit};
 ghost use Rattle.hcl_syntax.specs.Numbered.{is_comment, is_newline, is_quote_close, is_quote_open};
 ghost use Rattle.tf_facts.specs.Declarations.{plain_text};
-ghost use Rattle.tf_facts.specs.Inner.Values.{IsFirstValue, plain, values};
+ghost use Rattle.tf_facts.specs.Inner.Values.{IsFirstValue, plain_text_of, values};
 
 use crate::seen::Seen;
 use crate::value::Plain;
@@ -60,7 +60,7 @@ fn next_value<'s>(tokens: &Tokens<'s>, from: usize, to: usize) -> Option<Seen<'s
 /// The plain text that these tokens are, comments and newlines aside.
 pub fn plain_text<'s>(tokens: &Tokens<'s>, from: usize, to: usize) -> Option<Plain<'s>>
     requires { to ≤ length tokens.now.tokens }
-    ensures { option_map plain result ≡ plain_text (values tokens.now.tokens from to) }
+    ensures { option_map plain_text_of result ≡ plain_text (values tokens.now.tokens from to) }
 {
     let Some(quote) = next_value(tokens, from, to) else {
         return None;

@@ -3,7 +3,7 @@
 ghost use Rattle.std.specs.Prelude.{◌≡◌, ◌<◌, ◌≤◌, ◌+◌, ◌^◌, ◌∷◌, drop, length, MatchOption, None};
 ghost use Rattle.std.specs.Option.{option_map};
 ghost use Rattle.hcl_syntax.specs.Numbered.{is_ident};
-ghost use Rattle.tf_facts.specs.References.{is_dot, name_behind, named, reference_at};
+ghost use Rattle.tf_facts.specs.References.{is_dot, name_behind, reference_at, reference_of};
 ghost use Rattle.tf_facts.specs.Inner.Seen.{seen_from, numbered_of};
 ghost use Rattle.tf_facts.specs.Inner.Spelled.{IsBehind, spelled};
 

@@ -2,7 +2,7 @@
 
 ghost use Rattle.std.specs.Prelude.{◌≡◌, ◌<◌, ◌≤◌, ◌+◌, ◌∷◌, [], length, MatchOption};
 ghost use Rattle.hcl_syntax.specs.Numbered.{is_passed_over};
-ghost use Rattle.tf_facts.specs.Inner.Seen.{seen_from, IsNext};
+ghost use Rattle.tf_facts.specs.Inner.Seen.{seen_from, IsNextSeen};
 
 use hcl_scan::{Kind, Tokens};
 
@@ -27,7 +27,7 @@ pub fn is_passed_over(kind: Kind) -> bool
 /// The first token from a number on that is seen.
 pub fn next_seen<'s>(tokens: &Tokens<'s>, from: usize) -> Option<Seen<'s>>
     requires { from ≤ length tokens.now.tokens }
-    ensures { MatchOption result (seen_from tokens.now.tokens from ≡ []) (IsNext tokens.now.tokens from) }
+    ensures { MatchOption result (seen_from tokens.now.tokens from ≡ []) (IsNextSeen tokens.now.tokens from) }
 {
     for number in from..tokens.len() {
         let token = tokens.get(number);

@@ -11,9 +11,9 @@ use Rattle.hcl_syntax.specs.Labels.{label_text, text_of}
 use Rattle.hcl_syntax.specs.Numbered.{Numbered}
 use Rattle.hcl_syntax.specs.declared.item.Item.{Item}
 use Rattle.hcl_syntax.specs.declared.item.Item.TheVariants as item
-use Rattle.tf_facts.specs.Declarations.{Attribute, Declaration, Declarer, PlainText, SourceAt, attributes_in, by_declarer, declarer, has, is_empty, is_module, labels_in, module_source, of_block, of_items, of_local, plain_text, source_at, source_of_attribute, value_of, with_attribute}
+use Rattle.tf_facts.specs.Declarations.{Attribute, Declaration, Declarer, PlainText, SourceAt, attributes_in, by_declarer, declarer, has, is_empty, is_module, labels_in, module_source, of_block, of_items, of_local, plain_text, source_of_plain_text, source_of_attribute, value_of, with_attribute}
 use Rattle.tf_facts.specs.Sources.{Other, NotPinned, DefaultBranch, Registry, is_default_branch, is_git, is_mercurial, is_registry, pinned_to, revision, source_of}
-use Rattle.tf_rules.specs.Growth.{branch_of, bytes, source_texts, texts_of}
+use Rattle.tf_rules.specs.Growth.{branch_of, bytes, source_texts, declared_texts}
 use Rattle.tf_rules.proofs.NameCostLemmas.{cost}
 
 pub bytes_both : (xs ys : List (List ℕ)) → bytes (xs ++ ys) ≡ bytes xs + bytes ys
@@ -21,10 +21,10 @@ bytes_both [] ys = omega arith
 bytes_both (x ∷ xs) ys = omega (arith, bytes_both xs ys)
 
 abbrev pub told : {P : Type 0} → List (Declaration P) → ℕ
-told ds = bytes (flat_map texts_of ds)
+told ds = bytes (flat_map declared_texts ds)
 
 pub told_both : {P : Type 0} (ds es : List (Declaration P)) → told (ds ++ es) ≡ told ds + told es
-told_both ds es = ap bytes (flat_map-append texts_of ds es) ∙ bytes_both (flat_map texts_of ds) (flat_map texts_of es)
+told_both ds es = ap bytes (flat_map-append declared_texts ds es) ∙ bytes_both (flat_map declared_texts ds) (flat_map declared_texts es)
 
 -- ---- sources
 
@@ -70,7 +70,7 @@ told_local [] = omega arith
 told_local (a ∷ attributes) = omega (arith, told_local attributes)
 
 module _ (ts : List Numbered) where
-  plain_short : (o : Option PlainText) → bytes (source_texts (source_at o)) ≤ 7
+  plain_short : (o : Option PlainText) → bytes (source_texts (source_of_plain_text o)) ≤ 7
   plain_short None = omega arith
   plain_short (Some p) = branch_short p.text
 

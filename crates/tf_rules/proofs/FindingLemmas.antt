@@ -9,7 +9,7 @@ use Rattle.std.proofs.lemmas.List.Folds.{flat_map-map}
 use Rattle.tf_facts.specs.Sources.{Source, Other, NotPinned, DefaultBranch, Registry}
 use Rattle.tf_facts.specs.Declarations.{Declaration, SourceAt}
 use Rattle.tf_facts.specs.Facts.{Facts}
-use Rattle.tf_rules.specs.Findings.{Finding, findings, finding, says_if, says_of, slashed, about, unpinned, unpinned_by, is_registry, is_unused, uses_of, kind_text, both_quoted}
+use Rattle.tf_rules.specs.Findings.{Finding, findings, finding, says_if, says_of, slashed, about, unpinned, unpinned_by, from_registry, is_unused, uses_of, kind_text, both_quoted}
 use Rattle.tf_facts.specs.Comments.{Comment}
 use Rattle.tf_rules.specs.Issues.{comment_at}
 use Rattle.tf_rules.specs.Kept.{source_at, declaration_at, facts_at, both}
@@ -55,9 +55,9 @@ module _ {P Q : Type 0} (f : P → Q) where
   unpinned-at d None = refl
   unpinned-at d (Some s) = unpinned_by-at d s.at s.source
 
-  is_registry-at : (s : Option (SourceAt P)) → is_registry (source_at f s) ≡ is_registry s
-  is_registry-at None = refl
-  is_registry-at (Some s) = refl
+  from_registry-at : (s : Option (SourceAt P)) → from_registry (source_at f s) ≡ from_registry s
+  from_registry-at None = refl
+  from_registry-at (Some s) = refl
 
   pub finding-at : (naming : Naming) (used : List (List ℕ)) (rule : Rule) (d : Declaration P) → finding naming used rule (declaration_at f d) ≡ map (finding_at f) (finding naming used rule d)
   finding-at naming used CommentSyntax d = refl
@@ -66,7 +66,7 @@ module _ {P Q : Type 0} (f : P → Q) where
   finding-at naming used DocumentedOutputs d = says_if-at _ d.at _
   finding-at naming used DocumentedVariables d = says_if-at _ d.at _
   finding-at naming used ModulePinnedSource d = unpinned-at d d.source
-  finding-at naming used ModuleVersion d = ap (λ b. says_if (b && not d.versioned) (f d.at) (about d (codes " has no version"))) (is_registry-at d.source) ∙ says_if-at _ d.at _
+  finding-at naming used ModuleVersion d = ap (λ b. says_if (b && not d.versioned) (f d.at) (about d (codes " has no version"))) (from_registry-at d.source) ∙ says_if-at _ d.at _
   finding-at naming used NamingConvention d = says_if-at _ d.at _
   finding-at naming used TypedVariables d = says_if-at _ d.at _
   finding-at naming used UnusedDeclarations d = says_if-at _ d.at _

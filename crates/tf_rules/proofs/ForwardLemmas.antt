@@ -16,7 +16,7 @@ use Rattle.hcl_syntax.specs.declared.item.Item.TheVariants as item
 use Rattle.hcl_syntax.proofs.ItemOrderLemmas.{Rises, outline_climbs, rises_filter, rises_numbered, rises_wide}
 use Rattle.hcl_syntax.proofs.WordLemmas.{numbered_at}
 use Rattle.tf_facts.specs.Comments.{Comment, comments, is_any, is_line_comment}
-use Rattle.tf_facts.specs.Declarations.{Attribute, Declaration, Declarer, attributes_in, by_declarer, declarer, declarations, is_empty, is_module, labels_in, module_source, of_block, of_items, of_local, plain_text, source_at, source_of_attribute, value_of, has, with_attribute}
+use Rattle.tf_facts.specs.Declarations.{Attribute, Declaration, Declarer, attributes_in, by_declarer, declarer, declarations, is_empty, is_module, labels_in, module_source, of_block, of_items, of_local, plain_text, source_of_plain_text, source_of_attribute, value_of, has, with_attribute}
 use Rattle.tf_facts.specs.Patterns.{legacy_indexes, numbers_where, wrapped_interpolations, is_index, is_wrapped}
 use Rattle.tf_facts.specs.Silencing.{has_slashes, silenced_rules}
 use Rattle.tf_rules.specs.Inner.Placing.{Forward, numbers_of, quotes}
@@ -78,17 +78,17 @@ value_rises tokens a h =
     (subst (λ (ts : List Numbered). Rises a.first (take (a.end - a.first) ts) a.end) (sym (numbered_at tokens a.first))
     (subst (λ (to : ℕ). Rises a.first (take (a.end - a.first) (numbered_from a.first (drop a.first tokens))) to) e (rises_taken a.first (a.end - a.first) (drop a.first tokens))))
 
-plain_rises : (from to : ℕ) (vs : List Numbered) → Rises from vs to → Rise from (quotes (source_at (plain_text vs))) to
+plain_rises : (from to : ℕ) (vs : List Numbered) → Rises from vs to → Rise from (quotes (source_of_plain_text (plain_text vs))) to
 plain_rises from to [] h = h
 plain_rises from to (q ∷ []) h = rises_wide from to (q ∷ []) h
 plain_rises from to (q ∷ c ∷ []) h = by (is_quote_open q.kind && is_quote_close c.kind)
   where
-    by : (b : Bool) → Rise from (quotes (source_at (cond b (Some (record { quote = q.number; text = [] })) None))) to
+    by : (b : Bool) → Rise from (quotes (source_of_plain_text (cond b (Some (record { quote = q.number; text = [] })) None))) to
     by true = (h.0, rises_wide (q.number + 1) to (c ∷ []) h.1)
     by false = rises_wide from to (q ∷ c ∷ []) h
 plain_rises from to (q ∷ l ∷ c ∷ []) h = by (is_quote_open q.kind && is_lit l.kind && is_quote_close c.kind)
   where
-    by : (b : Bool) → Rise from (quotes (source_at (cond b (Some (record { quote = q.number; text = l.text })) None))) to
+    by : (b : Bool) → Rise from (quotes (source_of_plain_text (cond b (Some (record { quote = q.number; text = l.text })) None))) to
     by true = (h.0, rises_wide (q.number + 1) to (l ∷ c ∷ []) h.1)
     by false = rises_wide from to (q ∷ l ∷ c ∷ []) h
 plain_rises from to (q ∷ l ∷ c ∷ d ∷ ds) h = rises_wide from to (q ∷ l ∷ c ∷ d ∷ ds) h
@@ -179,8 +179,8 @@ module _ (tokens : List Lexeme) where
 
       one : (b : Bool) → IsRising tokens end is to → IsRising tokens from is to → Rise from (quotes (source_of_attribute ts (cond b (Some it) (find is_source (attributes_in ts is)))) ++ named (of_items ts is)) to
       one true r l =
-          let q : Rise first (quotes (source_at (plain_text (value_of ts it)))) end = plain_rises first end (value_of ts it) (value_rises tokens it c.0.2) in
-          rise_both from end to (quotes (source_at (plain_text (value_of ts it)))) (named (of_items ts is)) (rise_from from first end (quotes (source_at (plain_text (value_of ts it)))) (omega (arith, c.0.0, c.0.1)) q) r.items
+          let q : Rise first (quotes (source_of_plain_text (plain_text (value_of ts it)))) end = plain_rises first end (value_of ts it) (value_rises tokens it c.0.2) in
+          rise_both from end to (quotes (source_of_plain_text (plain_text (value_of ts it)))) (named (of_items ts is)) (rise_from from first end (quotes (source_of_plain_text (plain_text (value_of ts it)))) (omega (arith, c.0.0, c.0.1)) q) r.items
       one false r l = l.source
 
       by : (b e : Bool) → IsRising tokens end is to → IsRising tokens from is to

@@ -7,13 +7,13 @@ use Rattle.hcl_scan.specs.Lexemes.{Lexeme}
 use Rattle.hcl_syntax.proofs.WordLemmas.{drop_at}
 use Rattle.hcl_syntax.specs.Verdict.{start_of}
 use Rattle.tf_rules.specs.Issues.{File}
-use Rattle.tf_rules.specs.Inner.Placing.{Placing, CanGo, Forward, IsKeeping, behind, gone}
+use Rattle.tf_rules.specs.Inner.Placing.{Placing, CanGo, Forward, IsKeeping, reached_after, gone}
 
 forward_first : (ts : List Lexeme) (r : ℕ) (ns ms : List ℕ) → Forward ts r (ns ++ ms) → Forward ts r ns
 forward_first ts r [] ms h = tt
 forward_first ts r (n ∷ ns) ms h = (h.0, h.1, forward_first ts (start_of ts n) ns ms h.2)
 
-forward_rest : (ts : List Lexeme) (r : ℕ) (ns ms : List ℕ) → Forward ts r (ns ++ ms) → Forward ts (behind ts r ns) ms
+forward_rest : (ts : List Lexeme) (r : ℕ) (ns ms : List ℕ) → Forward ts r (ns ++ ms) → Forward ts (reached_after ts r ns) ms
 forward_rest ts r [] ms h = h
 forward_rest ts r (n ∷ ns) ms h = forward_rest ts (start_of ts n) ns ms h.2
 
@@ -52,6 +52,6 @@ module _ {X K V : Type 0} (view : K → V) (whole : File → X → V) (numbers :
             ∙ ap (λ xs. map view kept ++ map (whole file) xs) (sym (drop_at all n x e))
             ∙ h.so_far;
         same = ap (λ (r : Placing). r.file) went ∙ h.same;
-        ahead = subst (λ (r : ℕ). Forward file.source.tokens r (flat_map numbers (drop (n + 1) all))) (sym (ap (λ (r : Placing). r.reached) went ∙ ap (λ (f : File). behind f.source.tokens p.reached (numbers x)) h.same))
+        ahead = subst (λ (r : ℕ). Forward file.source.tokens r (flat_map numbers (drop (n + 1) all))) (sym (ap (λ (r : Placing). r.reached) went ∙ ap (λ (f : File). reached_after f.source.tokens p.reached (numbers x)) h.same))
             (forward_rest file.source.tokens p.reached (numbers x) (flat_map numbers (drop (n + 1) all)) split);
       }

@@ -1,7 +1,7 @@
 pub mod FindingLemmas
 pub mod KeptLemmas
 pub mod AgreementLemmas
-pub mod OneReport
+pub mod OneReportLemmas
 pub mod ReportLemmas
 pub mod StartLemmas
 pub mod ClusterLemmas

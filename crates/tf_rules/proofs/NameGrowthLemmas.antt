@@ -22,7 +22,7 @@ use Rattle.hcl_syntax.proofs.PieceTurnLemmas.{AllGood, Good}
 use Rattle.hcl_syntax.proofs.PlainLabelLemmas.{file_good}
 use Rattle.tf_facts.specs.Declarations.{Declaration, SourceAt, declarations}
 use Rattle.tf_facts.specs.References.{is_dot, own_blocks, references}
-use Rattle.tf_rules.specs.Growth.{bytes, name_bytes, source_texts, texts_of}
+use Rattle.tf_rules.specs.Growth.{bytes, name_bytes, source_texts, declared_texts}
 use Rattle.tf_rules.specs.Issues.{File, place_in, tokens_of}
 use Rattle.tf_rules.specs.Kept.{Kept, declaration_at, source_at, with_file}
 use Rattle.tf_rules.proofs.DeclaredTextLemmas.{AllWeigh, Weighs, bytes_both, told, told_both, told_few}
@@ -160,8 +160,8 @@ module _ {P Q : Type 0} (f : P → Q) where
   told_same (d ∷ ds) =
       omega (
         arith,
-        bytes_both (d.names ++ source_texts (source_at f d.source)) (flat_map texts_of (map (declaration_at f) ds)),
-        bytes_both (d.names ++ source_texts d.source) (flat_map texts_of ds),
+        bytes_both (d.names ++ source_texts (source_at f d.source)) (flat_map declared_texts (map (declaration_at f) ds)),
+        bytes_both (d.names ++ source_texts d.source) (flat_map declared_texts ds),
         bytes_both d.names (source_texts (source_at f d.source)),
         bytes_both d.names (source_texts d.source),
         source_same d.source,

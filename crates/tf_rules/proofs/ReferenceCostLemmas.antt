@@ -6,7 +6,7 @@ use Rattle.std.proofs.lemmas.Slice.Eq.{bytes_eq-Decides}
 use Rattle.hcl_scan.specs.declared.token.Kind.{Kind}
 use Rattle.hcl_scan.specs.declared.token.Kind.TheVariants as kind
 use Rattle.hcl_syntax.specs.Numbered.{Numbered, is_ident}
-use Rattle.tf_facts.specs.References.{Own, by_name, data_of, is_dot, is_own, local_reference, name_behind, named, reference_at, references_from, unless_own, variable_reference}
+use Rattle.tf_facts.specs.References.{Own, by_name, data_of, is_dot, is_own, local_reference, name_behind, reference_of, reference_at, references_from, unless_own, variable_reference}
 use Rattle.tf_rules.specs.Growth.{bytes}
 use Rattle.tf_rules.proofs.DeclaredTextLemmas.{bytes_both}
 use Rattle.tf_rules.proofs.ItemWeightLemmas.{bit}
@@ -53,7 +53,7 @@ first_step ts = by (name_behind ts)
 same_length : (r x : List ℕ) (n : ℕ) → bytes_eq r x ≡ true → length x ≡ n → length r ≡ n
 same_length r x n e h = ap length ((bytes_eq-Decides r x).0 e) ∙ h
 
-named_short : (word n : List ℕ) (rest : List Numbered) → some_bytes (named word n rest) ≤ length word + (1 + (length n + step_bytes (name_behind rest)))
+named_short : (word n : List ℕ) (rest : List Numbered) → some_bytes (reference_of word n rest) ≤ length word + (1 + (length n + step_bytes (name_behind rest)))
 named_short word n rest = by (bytes_eq word (codes "var")) (bytes_eq word (codes "local")) (bytes_eq word (codes "data")) refl refl refl
   where
     variable : length (variable_reference n) ≡ 4 + length n

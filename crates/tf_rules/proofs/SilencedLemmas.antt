@@ -10,7 +10,7 @@ use Rattle.tf_rules.specs.Issues.{Issue, Place, covers, is_silenced}
 use Rattle.tf_facts.specs.Rules.{all_rules, is_rule}
 use Rattle.tf_facts.specs.RuleSets.{holds, rules_of}
 use Rattle.tf_rules.specs.Inner.KeptViews.{kept_comment}
-use Rattle.tf_rules.specs.Inner.SilencedLines.{held, is_on}
+use Rattle.tf_rules.specs.Inner.SilencedLines.{is_in_set, is_on}
 use Rattle.tf_rules.specs.declared.kept.KeptComment.{KeptComment}
 use Rattle.tf_facts.specs.declared.rule.Rule.{Rule}
 use Rattle.tf_facts.specs.declared.rule.Rule.TheVariants.{CommentSyntax, DeprecatedIndex, DeprecatedInterpolation, DocumentedOutputs, DocumentedVariables, ModulePinnedSource, ModuleVersion, NamingConvention, TypedVariables, UnusedDeclarations}
@@ -60,10 +60,10 @@ none_among p (r ∷ rules) e = absurd (cc)
 
 -- ---- one comment more
 
-pub silence_step : (old new : Option RuleSet) (both rules : RuleSet) (here : Bool) (rule : Rule) → new ≡ cond here (Some both) old → (here ≡ true → holds both rule ≡ (held old rule || holds rules rule))
-    → held new rule ≡ (held old rule || (here && holds rules rule))
-silence_step old new both rules true rule e h = ap (λ o. held o rule) e ∙ h refl
-silence_step old new both rules false rule e h = ap (λ o. held o rule) e ∙ sym (or_false (held old rule))
+pub silence_step : (old new : Option RuleSet) (both rules : RuleSet) (here : Bool) (rule : Rule) → new ≡ cond here (Some both) old → (here ≡ true → holds both rule ≡ (is_in_set old rule || holds rules rule))
+    → is_in_set new rule ≡ (is_in_set old rule || (here && holds rules rule))
+silence_step old new both rules true rule e h = ap (λ o. is_in_set o rule) e ∙ h refl
+silence_step old new both rules false rule e h = ap (λ o. is_in_set o rule) e ∙ sym (or_false (is_in_set old rule))
 
 module _ (comments : List (Comment Place)) (c : KeptComment) (file line : ℕ) (rule : Rule) where
   with_one : list_any (is_on file line rule) (comments ++ kept_comment c ∷ []) ≡ (list_any (is_on file line rule) comments || is_on file line rule (kept_comment c))

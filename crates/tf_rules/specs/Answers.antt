@@ -6,8 +6,8 @@ use Rattle.tf_rules.specs.Issues.{Asked, File, IsReport}
 use Rattle.tf_rules.specs.Issues as issues
 use Rattle.tf_rules.specs.declared.issue.Issue.{Issue}
 
-abbrev pub shown : issues.Issue → Issue
-shown i = record { file = i.place.file; at = i.place.at; rule = i.rule; message = i.message }
+abbrev pub answered : issues.Issue → Issue
+answered i = record { file = i.place.file; at = i.place.at; rule = i.rule; message = i.message }
 
 -- the number of a file is below another's
 abbrev pub IsBelow : File → File → Type 0
@@ -18,7 +18,7 @@ abbrev pub Rising : List File → Type 0
 Rising files = Ascends IsBelow files
 
 -- THE ANSWER: the ordered list of the issues of files, as it is shown
-pub record IsAnswer (asked : Asked) (files : List File) (answer : List Issue) : Type 0 where
+pub record AreIssues (asked : Asked) (files : List File) (answer : List Issue) : Type 0 where
   pub report : List issues.Issue
   pub is : IsReport asked files report
-  pub same : map shown report ≡ answer
+  pub same : map answered report ≡ answer

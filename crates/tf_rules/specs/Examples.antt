@@ -8,7 +8,7 @@ use Rattle.tf_facts.specs.Facts.{facts_of}
 use Rattle.tf_facts.specs.References.{references}
 use Rattle.tf_facts.specs.declared.rule.Rule.TheVariants.{NamingConvention, ModulePinnedSource, UnusedDeclarations, DeprecatedIndex as OldIndex}
 use Rattle.tf_rules.specs.Findings.{findings}
-use Rattle.tf_rules.specs.Naming.{fits}
+use Rattle.tf_rules.specs.Naming.{matches_naming}
 use Rattle.tf_rules.specs.declared.naming.Naming.TheVariants.{SnakeCase, MixedSnakeCase}
 
 abbrev token : Kind → List ℕ → Lexeme
@@ -16,25 +16,25 @@ token kind text = record { kind = kind; text = text; start = 0; inside_heredoc =
 
 -- ---- namings
 
-words : fits SnakeCase (codes "a1_b2") ≡ true
+words : matches_naming SnakeCase (codes "a1_b2") ≡ true
 words = refl
 
-two_signs : fits SnakeCase (codes "a__b") ≡ false
+two_signs : matches_naming SnakeCase (codes "a__b") ≡ false
 two_signs = refl
 
-sign_in_front : fits MixedSnakeCase (codes "_a") ≡ false
+sign_in_front : matches_naming MixedSnakeCase (codes "_a") ≡ false
 sign_in_front = refl
 
-sign_at_end : fits MixedSnakeCase (codes "a_") ≡ false
+sign_at_end : matches_naming MixedSnakeCase (codes "a_") ≡ false
 sign_at_end = refl
 
-dash : fits MixedSnakeCase (codes "a-b") ≡ false
+dash : matches_naming MixedSnakeCase (codes "a-b") ≡ false
 dash = refl
 
-mixed : fits MixedSnakeCase (codes "Ab_C") ≡ true
+mixed : matches_naming MixedSnakeCase (codes "Ab_C") ≡ true
 mixed = refl
 
-not_snake : fits SnakeCase (codes "Ab_C") ≡ false
+not_snake : matches_naming SnakeCase (codes "Ab_C") ≡ false
 not_snake = refl
 
 -- ---- findings

@@ -3,7 +3,7 @@
 use Rattle.std.specs.Prelude.{ℕ, ◌++◌, ◌&&◌, Bool, true, false, not, List, [], ◌∷◌, Option, Some, None, codes, map, if◌then◌else◌}
 use Rattle.std.specs.List.{list_any, flat_map}
 use Rattle.std.specs.Str.{bytes_eq}
-use Rattle.tf_rules.specs.Naming.{fits, naming_text}
+use Rattle.tf_rules.specs.Naming.{matches_naming, naming_text}
 use Rattle.tf_facts.specs.Sources.{Source, Other, NotPinned, DefaultBranch, Registry}
 use Rattle.tf_facts.specs.Declarations.{Declaration, SourceAt}
 use Rattle.tf_facts.specs.References.{last_of, variable_reference, local_reference, data_reference}
@@ -82,13 +82,13 @@ abbrev pub unpinned : {P : Type 0} → Declaration P → Option (SourceAt P) →
 unpinned d None = []
 unpinned d (Some s) = unpinned_by d s.at s.source
 
-abbrev pub is_registry : {P : Type 0} → Option (SourceAt P) → Bool
-is_registry None = false
-is_registry (Some s) = is_address s.source
+abbrev pub from_registry : {P : Type 0} → Option (SourceAt P) → Bool
+from_registry None = false
+from_registry (Some s) = is_from s.source
   where
-    is_address : Source → Bool
-    is_address Registry = true
-    is_address _ = false
+    is_from : Source → Bool
+    is_from Registry = true
+    is_from _ = false
 
 -- of a comment that begins with `//`
 abbrev pub slashed : {P : Type 0} → Comment P → List (Finding P)
@@ -99,9 +99,9 @@ abbrev pub finding : {P : Type 0} → Naming → List (List ℕ) → Rule → De
 finding naming used DocumentedOutputs d = says_if (is_kind declares.Output d.kind && not d.described) d.at (about d (codes " has no description"))
 finding naming used DocumentedVariables d = says_if (is_kind declares.Variable d.kind && not d.described) d.at (about d (codes " has no description"))
 finding naming used ModulePinnedSource d = unpinned d d.source
-finding naming used ModuleVersion d = says_if (is_registry d.source && not d.versioned) d.at (about d (codes " has no version"))
+finding naming used ModuleVersion d = says_if (from_registry d.source && not d.versioned) d.at (about d (codes " has no version"))
 finding naming used NamingConvention d =
-    says_if (not (fits naming (last_of d.names))) d.at (kind_text d.kind ++ (codes " name" ++ quoting (last_of d.names) (codes " must match " ++ naming_text naming)))
+    says_if (not (matches_naming naming (last_of d.names))) d.at (kind_text d.kind ++ (codes " name" ++ quoting (last_of d.names) (codes " must match " ++ naming_text naming)))
 finding naming used TypedVariables d = says_if (is_kind declares.Variable d.kind && not d.typed) d.at (about d (codes " has no type"))
 finding naming used UnusedDeclarations d =
     says_if (is_unused used (uses_of d.kind d.names)) d.at (kind_text d.kind ++ both_quoted d.names (codes " is declared but not used"))

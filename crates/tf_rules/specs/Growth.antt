@@ -31,8 +31,8 @@ source_texts None = []
 source_texts (Some s) = branch_of s.source
 
 -- the texts of a declaration: its names, and that of its source
-abbrev pub texts_of : {P : Type 0} → Declaration P → List (List ℕ)
-texts_of d = d.names ++ source_texts d.source
+abbrev pub declared_texts : {P : Type 0} → Declaration P → List (List ℕ)
+declared_texts d = d.names ++ source_texts d.source
 
 -- how many bytes these texts have
 abbrev pub bytes : List (List ℕ) → ℕ
@@ -41,4 +41,4 @@ bytes (x ∷ xs) = length x + bytes xs
 
 -- HOW MANY BYTES the texts have that are kept: those of the declarations, and the references
 abbrev pub name_bytes : Kept → ℕ
-name_bytes kept = bytes (flat_map texts_of kept.facts.declarations) + bytes kept.references
+name_bytes kept = bytes (flat_map declared_texts kept.facts.declarations) + bytes kept.references

@@ -3,7 +3,7 @@
 ghost use Rattle.std.specs.Prelude.{◌≡◌, ◌≤◌, ◌<◌, ◌+◌, ◌++◌, [], List, filter, map, IfOk, OnOk, OnErr, if◌then◌else◌};
 ghost use Rattle.std.specs.List.{flat_map};
 ghost use Rattle.std.specs.Vec.{vec_capacity, vec_len};
-ghost use Rattle.tf_rules.specs.Answers.{IsAnswer, Rising};
+ghost use Rattle.tf_rules.specs.Answers.{AreIssues, Rising};
 ghost use Rattle.tf_rules.specs.Findings.{findings};
 ghost use Rattle.tf_rules.specs.Issues.{File, asked_of};
 ghost use Rattle.tf_rules.specs.Kept.{issue_at, kept_of, nothing, with_file};
@@ -181,7 +181,7 @@ impl Facts {
 
     /// The issues of the files, by file, then token, then the name of the rule.
     pub fn issues(&self, settings: &Settings) -> Result<Vec<Issue>, AllocError>
-        ensures { (files : List File) → self.now ≡ kept_of files → Rising files → IfOk result (λ issues. IsAnswer (asked_of settings.now) files issues.items) }
+        ensures { (files : List File) → self.now ≡ kept_of files → Rising files → IfOk result (λ issues. AreIssues (asked_of settings.now) files issues.items) }
     {
         let entries = self.reported(settings, &ALL_RULES)?;
         let lines = silenced_lines(self.alloc, &self.comments)?;

@@ -2,9 +2,9 @@
 
 ghost use Rattle.std.specs.Prelude.{◌≡◌, ◌++◌, ◌&&◌, [], not, codes, IfOk};
 ghost use Rattle.std.specs.String.{string_bytes};
-ghost use Rattle.tf_rules.specs.Findings.{about, both_quoted, finding, is_kind, is_registry, is_unused, kind_text, says_if, unpinned, unpinned_by, uses_of};
+ghost use Rattle.tf_rules.specs.Findings.{about, both_quoted, finding, is_kind, from_registry, is_unused, kind_text, says_if, unpinned, unpinned_by, uses_of};
 ghost use Rattle.tf_facts.specs.References.{last_of};
-ghost use Rattle.tf_rules.specs.Inner.Entries.{told};
+ghost use Rattle.tf_rules.specs.Inner.Entries.{finding_listed};
 ghost use Rattle.tf_rules.specs.Inner.KeptViews.{kept_declaration, kept_names, kept_source, place_of};
 ghost use Rattle.tf_facts.specs.Found.{source};
 ghost use Rattle.std.specs.Option.{option_map};
@@ -12,7 +12,7 @@ ghost use Rattle.std.specs.Option.{option_map};
 use crate::entry::Finding;
 use crate::issue::Message;
 use crate::kept::{KeptDeclaration, KeptNames, KeptSource, TokenPlace};
-use crate::naming::{Naming, fits};
+use crate::naming::{Naming, matches_naming};
 use std::alloc::{AllocError, Global};
 use tf_facts::{DeclarationKind, ModuleSource, Rule, TextSet};
 
@@ -71,7 +71,7 @@ fn lacking(
     declaration: &KeptDeclaration,
     rest: &str,
 ) -> Result<Option<Finding>, AllocError>
-    ensures { IfOk result (λ found. told found ≡ says_if is_lacking (place_of declaration.now.at) (about (kept_declaration declaration.now) rest.now)) }
+    ensures { IfOk result (λ found. finding_listed found ≡ says_if is_lacking (place_of declaration.now.at) (about (kept_declaration declaration.now) rest.now)) }
 {
     if !is_lacking {
         return Ok(None);
@@ -89,7 +89,7 @@ fn unpinned_by(
     declaration: &KeptDeclaration,
     found: KeptSource,
 ) -> Result<Option<Finding>, AllocError>
-    ensures { IfOk result (λ finding. told finding ≡ unpinned_by (kept_declaration declaration.now) (place_of found.at) (source found.source)) }
+    ensures { IfOk result (λ finding. finding_listed finding ≡ unpinned_by (kept_declaration declaration.now) (place_of found.at) (source found.source)) }
 {
     match found.source {
         ModuleSource::Other => Ok(None),
@@ -113,7 +113,7 @@ fn unpinned_by(
 }
 
 fn unpinned(alloc: Global, declaration: &KeptDeclaration) -> Result<Option<Finding>, AllocError>
-    ensures { IfOk result (λ found. told found ≡ unpinned (kept_declaration declaration.now) (option_map kept_source declaration.now.source)) }
+    ensures { IfOk result (λ found. finding_listed found ≡ unpinned (kept_declaration declaration.now) (option_map kept_source declaration.now.source)) }
 {
     match declaration.source {
         Some(found) => unpinned_by(alloc, declaration, found),
@@ -122,8 +122,8 @@ fn unpinned(alloc: Global, declaration: &KeptDeclaration) -> Result<Option<Findi
 }
 
 /// Whether a source is an address in a registry.
-fn is_registry(found: Option<KeptSource>) -> bool
-    ensures { result ≡ is_registry (option_map kept_source found) }
+fn from_registry(found: Option<KeptSource>) -> bool
+    ensures { result ≡ from_registry (option_map kept_source found) }
 {
     match found {
         Some(found) => matches!(found.source, ModuleSource::Registry),
@@ -137,10 +137,10 @@ fn misnamed(
     naming: Naming,
     declaration: &KeptDeclaration,
 ) -> Result<Option<Finding>, AllocError>
-    ensures { IfOk result (λ found. told found ≡ finding naming [] Rule.NamingConvention (kept_declaration declaration.now)) }
+    ensures { IfOk result (λ found. finding_listed found ≡ finding naming [] Rule.NamingConvention (kept_declaration declaration.now)) }
 {
     let name = last(&declaration.names);
-    if fits(naming, name) {
+    if matches_naming(naming, name) {
         return Ok(None);
     }
     let kind = kind_text(declaration.kind);
@@ -214,7 +214,7 @@ fn unused(
     used: &TextSet,
     declaration: &KeptDeclaration,
 ) -> Result<Option<Finding>, AllocError>
-    ensures { IfOk result (λ found. told found ≡ finding Naming.SnakeCase used.now Rule.UnusedDeclarations (kept_declaration declaration.now)) }
+    ensures { IfOk result (λ found. finding_listed found ≡ finding Naming.SnakeCase used.now Rule.UnusedDeclarations (kept_declaration declaration.now)) }
 {
     if !is_unused(alloc, used, declaration)? {
         return Ok(None);
@@ -234,7 +234,7 @@ pub fn finding(
     rule: Rule,
     declaration: &KeptDeclaration,
 ) -> Result<Option<Finding>, AllocError>
-    ensures { IfOk result (λ found. told found ≡ finding naming used.now rule (kept_declaration declaration.now)) }
+    ensures { IfOk result (λ found. finding_listed found ≡ finding naming used.now rule (kept_declaration declaration.now)) }
 {
     match rule {
         Rule::DocumentedOutputs => lacking(
@@ -252,7 +252,7 @@ pub fn finding(
         Rule::ModulePinnedSource => unpinned(alloc, declaration),
         Rule::ModuleVersion => lacking(
             alloc,
-            is_registry(declaration.source) && !declaration.is_versioned,
+            from_registry(declaration.source) && !declaration.is_versioned,
             declaration,
             " has no version",
         ),

@@ -4,7 +4,7 @@ ghost use Rattle.std.specs.Prelude.{◌≡◌, ◌++◌, map, IfOk, OnOk};
 ghost use Rattle.std.specs.List.{flat_map};
 ghost use Rattle.tf_rules.specs.Findings.{finding, says_of, slashed};
 ghost use Rattle.tf_rules.specs.Kept.{issue_at};
-ghost use Rattle.tf_rules.specs.Inner.Entries.{issues_of, told};
+ghost use Rattle.tf_rules.specs.Inner.Entries.{issues_of, finding_listed};
 ghost use Rattle.tf_rules.specs.Inner.KeptViews.{kept_comment, kept_declaration, place_of};
 
 use crate::entry::{Entry, Finding};
@@ -17,7 +17,7 @@ use tf_facts::{Rule, TextSet};
 
 /// Puts what was found last, where something was.
 fn put(entries: &mut Vec<Entry>, rule: Rule, found: Option<Finding>) -> Result<(), AllocError>
-    ensures { OnOk result (issues_of entries.new.items ≡ issues_of entries.old.items ++ map (issue_at rule) (told found)) }
+    ensures { OnOk result (issues_of entries.new.items ≡ issues_of entries.old.items ++ map (issue_at rule) (finding_listed found)) }
 {
     let Some(found) = found else {
         return Ok(());
@@ -32,7 +32,7 @@ fn put(entries: &mut Vec<Entry>, rule: Rule, found: Option<Finding>) -> Result<(
 
 /// What is said of a comment that begins with `//`.
 fn slashed(alloc: Global, comment: KeptComment) -> Result<Option<Finding>, AllocError>
-    ensures { IfOk result (λ found. told found ≡ slashed (kept_comment comment)) }
+    ensures { IfOk result (λ found. finding_listed found ≡ slashed (kept_comment comment)) }
 {
     if !comment.has_slashes {
         return Ok(None);

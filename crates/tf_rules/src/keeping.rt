@@ -76,9 +76,9 @@ fn kept_names(alloc: Global, names: Names<'_>) -> Result<KeptNames, AllocError>
 }
 
 fn kept_source(source: Option<FoundSource>, placer: &mut Placer<'_, '_>) -> Option<KeptSource>
-    requires { CanGo placer.old (quotes (option_map found.source_at source)) }
-    ensures kept { option_map kept_source result ≡ source_at (place_in placer.old.file) (option_map found.source_at source) }
-    ensures moved { placer.new ≡ gone placer.old (quotes (option_map found.source_at source)) }
+    requires { CanGo placer.old (quotes (option_map found.found_source source)) }
+    ensures kept { option_map kept_source result ≡ source_at (place_in placer.old.file) (option_map found.found_source source) }
+    ensures moved { placer.new ≡ gone placer.old (quotes (option_map found.found_source source)) }
 {
     let Some(source) = source else {
         return None;

@@ -2,7 +2,7 @@
 
 ghost use Rattle.std.specs.Prelude.{◌≡◌, ◌==◌};
 ghost use Rattle.std.specs.List.{list_all, slice_split};
-ghost use Rattle.tf_rules.specs.Naming.{begins_with_letter, fits, is_letter, is_word, is_word_byte, naming_text};
+ghost use Rattle.tf_rules.specs.Naming.{begins_with_letter, matches_naming, is_letter, is_word, is_word_byte, naming_text};
 
 /// How names are to be written.
 #[derive(Clone, Copy, Debug, PartialEq, Eq)]
@@ -68,8 +68,8 @@ fn are_words(naming: Naming, name: &[u8]) -> bool
 }
 
 /// Whether a name has the naming.
-pub fn fits(naming: Naming, name: &str) -> bool
-    ensures { result ≡ fits naming name.now }
+pub fn matches_naming(naming: Naming, name: &str) -> bool
+    ensures { result ≡ matches_naming naming name.now }
 {
     let bytes = name.as_bytes();
     begins_with_letter(naming, bytes) && are_words(naming, bytes)

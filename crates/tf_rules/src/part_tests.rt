@@ -1,6 +1,6 @@
 //! What the parts of the linter answer on small texts, worked out by hand.
 
-use crate::naming::{Naming, fits};
+use crate::naming::{Naming, matches_naming};
 use crate::walker::Walker;
 use hcl_scan::Source;
 use std::process::Abort;
@@ -9,14 +9,16 @@ use std::test::Fail;
 #[test]
 fn tells_namings(rt: HostRuntime) {
     for name in ["a", "a1_b2", "a_1"] {
-        assert!(&rt; fits(Naming::SnakeCase, name), "{name}");
-        assert!(&rt; fits(Naming::MixedSnakeCase, name), "{name}");
+        assert!(&rt; matches_naming(Naming::SnakeCase, name), "{name}");
+        assert!(&rt; matches_naming(Naming::MixedSnakeCase, name), "{name}");
     }
     for name in ["", "a__b", "_a", "a_", "a-b", "1a", "é"] {
-        assert!(&rt; !fits(Naming::SnakeCase, name), "{name}");
-        assert!(&rt; !fits(Naming::MixedSnakeCase, name), "{name}");
+        assert!(&rt; !matches_naming(Naming::SnakeCase, name), "{name}");
+        assert!(&rt; !matches_naming(Naming::MixedSnakeCase, name), "{name}");
     }
-    assert!(&rt; fits(Naming::MixedSnakeCase, "Ab_C") && !fits(Naming::SnakeCase, "Ab_C"));
+    assert!(&rt;
+        matches_naming(Naming::MixedSnakeCase, "Ab_C") && !matches_naming(Naming::SnakeCase, "Ab_C")
+    );
     assert!(&rt; Naming::SnakeCase.text() == "snake_case");
     assert!(&rt; Naming::MixedSnakeCase.text() == "mixed_snake_case");
 }

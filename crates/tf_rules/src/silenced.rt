@@ -1,7 +1,7 @@
 //! Which rules are silenced on which lines.
 
 ghost use Rattle.std.specs.Prelude.{◌≡◌, ◌==◌, ◌&&◌, ◌||◌, ◌++◌, ◌∷◌, [], ℕ, List, filter, map, not, IfOk, OnOk};
-ghost use Rattle.tf_rules.specs.Answers.{shown};
+ghost use Rattle.tf_rules.specs.Answers.{answered};
 ghost use Rattle.tf_facts.specs.Comments.{Comment};
 ghost use Rattle.tf_rules.specs.Issues.{Place, is_silenced};
 ghost use Rattle.tf_facts.specs.RuleSets.{holds};
@@ -83,7 +83,7 @@ fn is_silenced(lines: &SilencedLines, entry: &Entry) -> bool
 /// Puts an issue last as it is shown, where it isn't silenced.
 fn put_shown(entry: Entry, lines: &SilencedLines, issues: &mut Vec<Issue>) -> Result<(), AllocError>
     ensures { (comments : List (Comment Place)) → AreSilenced lines.now comments
-        → OnOk result (issues.new.items ≡ issues.old.items ++ map shown (filter (λ i. not (is_silenced comments i)) (issue_of entry ∷ []))) }
+        → OnOk result (issues.new.items ≡ issues.old.items ++ map answered (filter (λ i. not (is_silenced comments i)) (issue_of entry ∷ []))) }
 {
     if is_silenced(lines, &entry) {
         return Ok(());
@@ -104,7 +104,7 @@ pub fn shown(
     lines: &SilencedLines,
 ) -> Result<Vec<Issue>, AllocError>
     ensures { (comments : List (Comment Place)) → AreSilenced lines.now comments
-        → IfOk result (λ issues. issues.items ≡ map shown (filter (λ i. not (is_silenced comments i)) (issues_of entries.items))) }
+        → IfOk result (λ issues. issues.items ≡ map answered (filter (λ i. not (is_silenced comments i)) (issues_of entries.items))) }
 {
     let mut issues = Vec::new(alloc);
     for entry in entries {

@@ -27,7 +27,7 @@ use Rattle.tf_rules.specs.Issues.{File}
 use Rattle.tf_rules.specs.Issues as issues
 use Rattle.tf_rules.proofs.ReportLemmas.{reports_agree}
 use Rattle.tf_rules.specs.declared.issue.Issue.{Issue}
-use Rattle.tf_rules.specs.Answers.{shown}
+use Rattle.tf_rules.specs.Answers.{answered}
 use Rattle.tfrules.specs.Answer.{IsReported}
 use Rattle.tfrules.specs.Line.{Asking}
 use Rattle.tfrules.specs.Report.{weighs, weight}
@@ -35,7 +35,7 @@ use Rattle.command_line.specs.Rows.{Row}
 use Rattle.tf_facts.specs.Rules.{severity}
 use Rattle.tf_facts.specs.declared.rule.Severity.{Severity}
 use Rattle.tfrules.specs.Files.{NamedFile, AreAccepted, IsAcceptedAs, max_module, numbered_files, size_of}
-use Rattle.tfrules.specs.Formatted.{IsFormatted, Told, told, told_all}
+use Rattle.tfrules.specs.Formatted.{IsFormatted, WithoutColumn, without_column, without_columns}
 
 -- ---- one file
 record Accepted (file : NamedFile) (source : Scanned) : Type 0 where
@@ -116,12 +116,12 @@ all_same n (f ∷ fs) (g ∷ gs) (s ∷ ss) [] z a b = absurd b
 all_same n (f ∷ fs) (g ∷ gs) (s ∷ ss) (o ∷ os) z a b = (same_tokens n f g s o z.0 a.0 b.0, all_same (n + 1) fs gs ss os z.1 a.1 b.1)
 
 -- ---- what is told
-abbrev without_token : rules.Told → Told
+abbrev without_token : rules.Told → WithoutColumn
 without_token t = record { file = t.file; line = t.line; rule = t.rule; message = t.message }
 
-without_tokens : (report : List issues.Issue) → told_all (map shown report) ≡ map without_token (rules.told_all report)
+without_tokens : (report : List issues.Issue) → without_columns (map answered report) ≡ map without_token (rules.told_all report)
 without_tokens [] = refl
-without_tokens (i ∷ is) = ap (λ l. told (shown i) ∷ l) (without_tokens is)
+without_tokens (i ∷ is) = ap (λ l. without_column (answered i) ∷ l) (without_tokens is)
 
 -- ---- THE LAWS
 pub accepted_again : (files formatted : List NamedFile) (sources : List Scanned) → AreAccepted files sources → AllZip IsFormatted files formatted → All (λ f. length f.bytes ≤ max_source) formatted → size_of formatted ≤ max_module
@@ -131,15 +131,15 @@ accepted_again files formatted sources are z small fit =
     (p.0, record { each = p.1; fit = fit })
 
 pub agree : (asking : Asking) (files formatted : List NamedFile) (row other : Row) → AllZip IsFormatted files formatted → (first : IsReported asking files row) → (again : IsReported asking formatted other)
-    → told_all first.issues ≡ told_all again.issues
+    → without_columns first.issues ≡ without_columns again.issues
 agree asking files formatted row other z first again =
     let e : rules.told_all first.found.report ≡ rules.told_all again.found.report =
     reports_agree asking.asked (numbered_files 0 first.sources) (numbered_files 0 again.sources) first.found.report again.found.report
     (all_same 0 files formatted first.sources again.sources z first.accepted.each again.accepted.each) first.found.is again.found.is in
-    ap told_all (sym first.found.same) ∙ without_tokens first.found.report ∙ ap (map without_token) e ∙ sym (without_tokens again.found.report) ∙ ap told_all again.found.same
+    ap without_columns (sym first.found.same) ∙ without_tokens first.found.report ∙ ap (map without_token) e ∙ sym (without_tokens again.found.report) ∙ ap without_columns again.found.same
 
 -- the status goes by the rules of the issues
-any_severe : (minimum : Severity) (issues : List Issue) → list_any (weighs minimum) issues ≡ list_any (λ t. nat_le (weight minimum) (weight (severity t.rule))) (told_all issues)
+any_severe : (minimum : Severity) (issues : List Issue) → list_any (weighs minimum) issues ≡ list_any (λ t. nat_le (weight minimum) (weight (severity t.rule))) (without_columns issues)
 any_severe minimum [] = refl
 any_severe minimum (i ∷ is) = ap (λ b. nat_le (weight minimum) (weight (severity i.rule)) || b) (any_severe minimum is)
 

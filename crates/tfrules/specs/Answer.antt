@@ -22,11 +22,11 @@ abbrev pub refused : List ℕ → Fault → Row
 refused name fault = record { out = []; err = error linter (name ++ (codes ":" ++ fault_words fault)); status = 1 }
 
 -- `tfrules: error: FILE: TEXT`
-abbrev pub about : List ℕ → List ℕ → Row
-about name text = record { out = []; err = error linter (name ++ (codes ": " ++ line text)); status = 1 }
+abbrev pub file_error : List ℕ → List ℕ → Row
+file_error name text = record { out = []; err = error linter (name ++ (codes ": " ++ line text)); status = 1 }
 
 abbrev pub too_large : List ℕ → Row
-too_large name = about name (codes "module too large")
+too_large name = file_error name (codes "module too large")
 
 abbrev pub usage_line : List ℕ
 usage_line = line (codes "usage: tfrules [--rules LIST] [--naming snake_case|mixed_snake_case] [--minimum-failure-severity error|warning|notice] [--force] [--help] FILE...")
@@ -43,7 +43,7 @@ pub record IsReported (asking : Asking) (files : List NamedFile) (row : Row) : T
   pub sources : List Scanned
   pub accepted : AreAccepted files sources
   pub issues : List Issue
-  pub found : rules.IsAnswer asking.asked (numbered_files 0 sources) issues
+  pub found : rules.AreIssues asking.asked (numbered_files 0 sources) issues
   pub is : row ≡ report_row asking issues
 
 -- all files before one are accepted, and the row is that for which this one is refused

@@ -15,14 +15,14 @@ pub record IsFormatted (file formatted : NamedFile) : Type 0 where
   pub printed : formatted.bytes ≡ print tokens
 
 -- an issue without its column
-pub record Told : Type 0 where
+pub record WithoutColumn : Type 0 where
   pub file : ℕ
   pub line : ℕ
   pub rule : Rule
   pub message : List ℕ
 
-abbrev pub told : Issue → Told
-told i = record { file = i.file; line = i.at.line; rule = i.rule; message = i.message }
+abbrev pub without_column : Issue → WithoutColumn
+without_column i = record { file = i.file; line = i.at.line; rule = i.rule; message = i.message }
 
-abbrev pub told_all : List Issue → List Told
-told_all = map told
+abbrev pub without_columns : List Issue → List WithoutColumn
+without_columns = map without_column

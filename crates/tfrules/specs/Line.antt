@@ -123,10 +123,10 @@ usage_of_kind kind.DisplayHelp = Help
 usage_of_kind _ = BadLine
 
 -- a line in which clap finds no fault gives its matches, a fault that is help gives help, and any other a bad line
-abbrev pub line_of : Kinds → List Row → Result Asking Usage
-line_of [] rows = asking_of_rows rows
-line_of (fault ∷ _) rows = Err (usage_of_kind fault)
+abbrev pub options_by : Kinds → List Row → Result Asking Usage
+options_by [] rows = asking_of_rows rows
+options_by (fault ∷ _) rows = Err (usage_of_kind fault)
 
 -- THE OPTIONS of a line, want of memory aside
 abbrev pub options_of : List Text → Result Asking Usage
-options_of words = line_of (fault_of tfrules words) (matches_of tfrules words)
+options_of words = options_by (fault_of tfrules words) (matches_of tfrules words)

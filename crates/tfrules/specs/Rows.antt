@@ -2,7 +2,7 @@
 use Rattle.std.specs.Prelude.{◌≡◌, ℕ, Bool, true, false, List, ◌∷◌, ◌++◌, Option, Some, None, Result, Ok, Err, All, codes}
 use Rattle.command_line.specs.Rows.{Row, OrOutOfMemory}
 use Rattle.hcl_scan.specs.Scanned.{Scanned}
-use Rattle.tfrules.specs.Answer.{IsAnswerBy, about, linter, names_of}
+use Rattle.tfrules.specs.Answer.{IsAnswerBy, file_error, linter, names_of}
 use Rattle.tfrules.specs.Files.{NamedFile, AreAccepted}
 use Rattle.tfrules.specs.Line.{Asking}
 use Rattle.tfrules.specs.declared.usage.Usage.{Usage}
@@ -25,7 +25,7 @@ pub record IsUnread (text : List ℕ) (told : List ℕ → Option (List ℕ)) (a
   pub files : AreFiles told before
   pub sources : List Scanned
   pub accepted : AreAccepted before sources
-  pub is : row ≡ about name text
+  pub is : row ≡ file_error name text
 
 -- nothing is opened without options
 abbrev pub IsUnreadBy : List ℕ → (List ℕ → Option (List ℕ)) → Result Asking Usage → Row → Type 0

@@ -1,7 +1,7 @@
 //! The files of a module, read one after the other.
 
 ghost use Rattle.std.specs.Prelude.{◌≡◌, ◌≤◌, ◌<◌, false, ℕ, List};
-ghost use Rattle.tfrules.specs.Inner.Steps.{Adds, Gathers, Keeps, Reads, stop_by};
+ghost use Rattle.tfrules.specs.Inner.Steps.{Adds, Gathers, Keeps, ReadsFile, stop_by};
 ghost use Rattle.tf_rules.specs.Kept.{nothing};
 ghost use Rattle.tfrules.specs.Files.{max_module};
 
@@ -32,7 +32,7 @@ fn stop_of(loaded: Result<Source, LoadError>) -> Result<Source, Stop>
 fn read_file<M: ModuleFiles>(alloc: Global, name: &str, files: &mut M) -> Result<Source, Stop>
     requires opened { M.open_failed files.old ≡ false }
     requires read { M.read_failed files.old ≡ false }
-    ensures reads { Reads (M.told files.old name.now) (M.open_failed files.new) (M.read_failed files.new) result }
+    ensures reads { ReadsFile (M.told files.old name.now) (M.open_failed files.new) (M.read_failed files.new) result }
     ensures told { (other : List ℕ) → M.told files.new other ≡ M.told files.old other }
 {
     let Ok(mut reader) = files.reader(name) else {

@@ -7,7 +7,7 @@ ghost use Rattle.hcl_scan.specs.Scanned.{Scanned};
 ghost use Rattle.command_line.specs.Rows.{Row};
 ghost use Rattle.tfrules.specs.Answer.{AreNamed, IsAnswer, IsReported};
 ghost use Rattle.tfrules.specs.Files.{NamedFile, AreAccepted, max_module, named, size_of};
-ghost use Rattle.tfrules.specs.Formatted.{IsFormatted, told_all};
+ghost use Rattle.tfrules.specs.Formatted.{IsFormatted, without_columns};
 ghost use Rattle.tfrules.specs.Line.{Asking, options_of};
 ghost use Rattle.tfrules.specs.Inner.Outcomes.{HasOutcome};
 
@@ -47,7 +47,7 @@ pub fn agree()
     ensures accepted { (files formatted : List NamedFile) (sources : List Scanned) → AreAccepted files sources → AllZip IsFormatted files formatted
         → All (λ f. length f.bytes ≤ max_source) formatted → size_of formatted ≤ max_module → (others : List Scanned) × AreAccepted formatted others }
     ensures issues { (asking : Asking) (files formatted : List NamedFile) (row other : Row) → AllZip IsFormatted files formatted
-        → (first : IsReported asking files row) → (again : IsReported asking formatted other) → told_all first.issues ≡ told_all again.issues }
+        → (first : IsReported asking files row) → (again : IsReported asking formatted other) → without_columns first.issues ≡ without_columns again.issues }
     ensures status { (asking : Asking) (files formatted : List NamedFile) (row other : Row) → AllZip IsFormatted files formatted
         → IsReported asking files row → IsReported asking formatted other → row.status ≡ other.status }
 {}

@@ -3,7 +3,7 @@
 ghost use Rattle.std.specs.Prelude.{◌≡◌, ◌<◌, ◌≤◌, ◌++◌, [], ℕ, List, false, map, length, string_bytes, IfOk, IfErr, Ok};
 ghost use Rattle.command_line.specs.Rows.{Row, Shows, ShowsOne, OrOutOfMemory, writer};
 ghost use Rattle.tf_rules.specs.declared.issue.Issue.{Issue};
-ghost use Rattle.tfrules.specs.Answer.{about, linter, refused, usage_line};
+ghost use Rattle.tfrules.specs.Answer.{file_error, linter, refused, usage_line};
 ghost use Rattle.tfrules.specs.Line.{options_of};
 ghost use Rattle.tfrules.specs.Report.{report_row, status};
 ghost use Rattle.tfrules.specs.Rows.{IsRow};
@@ -48,7 +48,7 @@ fn fault_line(alloc: Global, name: &str, fault: &Fault) -> Result<String, AllocE
 
 /// The line of a file of which something else is said.
 fn line_about(alloc: Global, name: &str, text: &str) -> Result<String, AllocError>
-    ensures { IfOk result (λ line. string_bytes line ≡ (about name.now text.now).err) }
+    ensures { IfOk result (λ line. string_bytes line ≡ (file_error name.now text.now).err) }
 {
     format!(in alloc; "tfrules: error: {name}: {text}\n")
 }

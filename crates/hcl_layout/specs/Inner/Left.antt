@@ -20,11 +20,11 @@ abbrev pub rest_gaps : List Lexeme → Pieces → List ℕ
 rest_gaps ts s = flat_map (λ g. g) (commented s.walk.depth s.walk.levels s.walk.column s.comment (lines (drop s.end ts)))
 
 -- the token before a place, where it is of the line that begins at `start`
-abbrev pub behind : List Lexeme → ℕ → ℕ → Option Lexeme
-behind ts start at = if nat_lt start at then slice_get ts (at - 1) else None
+abbrev pub token_before : List Lexeme → ℕ → ℕ → Option Lexeme
+token_before ts start at = if nat_lt start at then slice_get ts (at - 1) else None
 
 abbrev pub gaps_left : List Lexeme → Pieces → List ℕ
-gaps_left ts s = gaps_from s.gaps (s.next - s.start) (behind ts s.start (s.next - 1)) (behind ts s.start s.next) (line_left ts s) ++ rest_gaps ts s
+gaps_left ts s = gaps_from s.gaps (s.next - s.start) (token_before ts s.start (s.next - 1)) (token_before ts s.start s.next) (line_left ts s) ++ rest_gaps ts s
 
 abbrev pub to_print : List Lexeme → Pieces → List ℕ
 to_print ts s = printed (gaps_left ts s) (drop s.next ts)

@@ -54,13 +54,13 @@ after_follow m (Ok f) = follow_symbols m f
 after_follow m (Err e) = []
 
 -- The first token was what the terminal waits for, and was read.
-pub record Took (m : Newlines) (e : Terminal) (old new : List Lookahead) : Type 0 where
+pub record TookTerminal (m : Newlines) (e : Terminal) (old new : List Lookahead) : Type 0 where
   pub token : Lookahead
   pub looks : Looks m old token new
   pub fits : fits e token.class ≡ true
 
 -- The first token, if there is one, is not what the terminal waits for.
-pub record Lacks (m : Newlines) (e : Terminal) (old new : List Lookahead) : Type 0 where
+pub record LacksTerminal (m : Newlines) (e : Terminal) (old new : List Lookahead) : Type 0 where
   pub shows : new ≡ shown m old
   pub unfit : (t : Lookahead) → Some t ≡ first new → fits e t.class ≡ false
 

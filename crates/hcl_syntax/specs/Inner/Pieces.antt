@@ -8,7 +8,7 @@ use Rattle.hcl_syntax.specs.declared.nesting.Nesting.TheVariants as nesting
 use Rattle.hcl_syntax.specs.Numbered.{Numbered, numbered_from, uncommented, is_newline}
 use Rattle.hcl_syntax.specs.Items.{deepen, is_closed, items}
 use Rattle.hcl_syntax.specs.declared.item.Item.{Item}
-use Rattle.hcl_syntax.specs.declared.words.Word.{Word}
+use Rattle.hcl_syntax.specs.declared.words.NumberedKind.{NumberedKind}
 
 -- the tokens from a number on to before another
 abbrev pub between : List Lexeme → ℕ → ℕ → List Numbered
@@ -19,7 +19,7 @@ abbrev pub words : List Lexeme → ℕ → ℕ → List Numbered
 words tokens from to = uncommented (between tokens from to)
 
 -- the token is the first of these
-pub record IsFirst (tokens : List Lexeme) (from to : ℕ) (word : Word) : Type 0 where
+pub record IsFirst (tokens : List Lexeme) (from to : ℕ) (word : NumberedKind) : Type 0 where
   pub text : List ℕ
   pub first : words tokens from to ≡ record { number = word.number; kind = word.kind; text = text } ∷ words tokens (word.number + 1) to
   pub from_on : from ≤ word.number
@@ -51,5 +51,5 @@ items_at level ts = items (length ts) level ts
 
 -- the first newline outside all openers is last, before it the first one where one opener is open, and so on; where there
 -- is no more, there is none
-abbrev pub IsAhead : List Lexeme → List ℕ → ℕ → Type 0
-IsAhead tokens ahead n = (depth : ℕ) → get_or (reverse ahead) depth (length tokens) ≡ newline_from tokens depth n
+abbrev pub AreNewlinesAhead : List Lexeme → List ℕ → ℕ → Type 0
+AreNewlinesAhead tokens ahead n = (depth : ℕ) → get_or (reverse ahead) depth (length tokens) ≡ newline_from tokens depth n

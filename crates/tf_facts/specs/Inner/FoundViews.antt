@@ -22,6 +22,6 @@ abbrev pub own_listed : Option OwnBlock → List Own
 own_listed None = []
 own_listed (Some o) = own_of o ∷ []
 
-abbrev pub told : Option FoundComment → List (Comment ℕ)
-told None = []
-told (Some c) = comment c ∷ []
+abbrev pub comment_listed : Option FoundComment → List (Comment ℕ)
+comment_listed None = []
+comment_listed (Some c) = comment c ∷ []

@@ -15,7 +15,7 @@ abbrev pub numbered_of : Seen → Numbered
 numbered_of t = record { number = t.number; kind = t.kind; text = t.text.now }
 
 -- the token is the first that is seen from a number on
-pub record IsNext (tokens : List Lexeme) (from : ℕ) (t : Seen) : Type 0 where
+pub record IsNextSeen (tokens : List Lexeme) (from : ℕ) (t : Seen) : Type 0 where
   pub first : seen_from tokens from ≡ numbered_of t ∷ seen_from tokens (t.number + 1)
   pub within : t.number < length tokens
   pub small : t.number + 1 < 2 ^ 64

@@ -31,5 +31,5 @@ value_of_item (item.Attribute level name first end) = Some (record { first = fir
 value_of_item (item.Block level kind end) = None
 value_of_item (item.Label l) = None
 
-abbrev pub plain : Plain → PlainText
-plain p = record { quote = p.quote; text = p.text.now }
+abbrev pub plain_text_of : Plain → PlainText
+plain_text_of p = record { quote = p.quote; text = p.text.now }

@@ -16,9 +16,9 @@ abbrev pub issues_of : List Entry → List Issue
 issues_of entries = map issue_of entries
 
 -- one or none
-abbrev pub told : Option Finding → List (findings.Finding Place)
-told None = []
-told (Some f) = record { at = place_of f.at; message = f.message } ∷ []
+abbrev pub finding_listed : Option Finding → List (findings.Finding Place)
+finding_listed None = []
+finding_listed (Some f) = record { at = place_of f.at; message = f.message } ∷ []
 
 -- by file, then token, then the name of the rule
 abbrev pub entry_cmp : Entry → Entry → Ordering

@@ -17,12 +17,12 @@ Forward tokens reached [] = Unit {0}
 Forward tokens reached (n ∷ ns) = (n < length tokens) × (reached ≤ start_of tokens n) × Forward tokens (start_of tokens n) ns
 
 -- where it is then
-abbrev pub behind : List Lexeme → ℕ → List ℕ → ℕ
-behind tokens reached [] = reached
-behind tokens reached (n ∷ ns) = behind tokens (start_of tokens n) ns
+abbrev pub reached_after : List Lexeme → ℕ → List ℕ → ℕ
+reached_after tokens reached [] = reached
+reached_after tokens reached (n ∷ ns) = reached_after tokens (start_of tokens n) ns
 
 abbrev pub gone : Placing → List ℕ → Placing
-gone p numbers = record { file = p.file; reached = behind p.file.source.tokens p.reached numbers }
+gone p numbers = record { file = p.file; reached = reached_after p.file.source.tokens p.reached numbers }
 
 -- the walk can go to these tokens
 abbrev pub CanGo : Placing → List ℕ → Type 0

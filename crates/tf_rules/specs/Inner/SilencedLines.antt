@@ -9,16 +9,16 @@ use Rattle.tf_facts.specs.RuleSets.{holds}
 use Rattle.tf_facts.specs.declared.rule.Rule.{Rule}
 use Rattle.tf_facts.specs.declared.rule_set.RuleSet.{RuleSet}
 
-abbrev pub held : Option RuleSet → Rule → Bool
-held None rule = false
-held (Some set) rule = holds set rule
+abbrev pub is_in_set : Option RuleSet → Rule → Bool
+is_in_set None rule = false
+is_in_set (Some set) rule = holds set rule
 
 abbrev pub same_line : ℕ × ℕ → ℕ × ℕ → Bool
 same_line a b = nat_eq a.0 b.0 && nat_eq a.1 b.1
 
 -- by the number of the file and the line
 abbrev pub silenced_at : {S : Type 0} → IndexMap (ℕ × ℕ) RuleSet S → ℕ → ℕ → Rule → Bool
-silenced_at lines file line rule = held (get same_line lines (file, line)) rule
+silenced_at lines file line rule = is_in_set (get same_line lines (file, line)) rule
 
 -- the comment stands on the line and silences the rule
 abbrev pub is_on : ℕ → ℕ → Rule → Comment Place → Bool

@@ -6,7 +6,7 @@ use Rattle.hcl_scan.specs.Scanned.{Scanned}
 use Rattle.hcl_source.specs.declared.fault.LoadError.{LoadError}
 use Rattle.hcl_source.specs.declared.fault.LoadError.TheVariants as error
 use Rattle.tf_rules.specs.Kept.{Kept, kept_of, with_file}
-use Rattle.tfrules.specs.Answer.{about, linter, names_of, refused, too_large, usage_line}
+use Rattle.tfrules.specs.Answer.{file_error, linter, names_of, refused, too_large, usage_line}
 use Rattle.tfrules.specs.Files.{NamedFile, AreAccepted, IsFault, IsOutcome, IsTooMuch, max_module, numbered_files, size_of}
 use Rattle.tfrules.specs.Rows.{AreFiles, Tells}
 use Rattle.tfrules.specs.declared.stop.Stop.{Stop}
@@ -27,13 +27,13 @@ stop_by (Err error.ReadFailed) = Err stop.NotRead
 stop_by (Err error.OutOfMemory) = Err stop.OutOfMemory
 
 -- what reading a file answers, of which the device tells these bytes
-abbrev pub Reads : Option (List ℕ) → Bool → Bool → Result (List ℕ) Stop → Type 0
-Reads told o r (Ok text) = AreFine o r × Tells told text × IsText text
-Reads told o r (Err (stop.Refused fault)) = AreFine o r × ((bytes : List ℕ) × Tells told bytes × IsLoadFault bytes fault)
-Reads told o r (Err stop.TooLarge) = ⊥
-Reads told o r (Err stop.NotOpened) = o ≡ true
-Reads told o r (Err stop.NotRead) = (o ≡ false) × (r ≡ true)
-Reads told o r (Err stop.OutOfMemory) = AreFine o r
+abbrev pub ReadsFile : Option (List ℕ) → Bool → Bool → Result (List ℕ) Stop → Type 0
+ReadsFile told o r (Ok text) = AreFine o r × Tells told text × IsText text
+ReadsFile told o r (Err (stop.Refused fault)) = AreFine o r × ((bytes : List ℕ) × Tells told bytes × IsLoadFault bytes fault)
+ReadsFile told o r (Err stop.TooLarge) = ⊥
+ReadsFile told o r (Err stop.NotOpened) = o ≡ true
+ReadsFile told o r (Err stop.NotRead) = (o ≡ false) × (r ≡ true)
+ReadsFile told o r (Err stop.OutOfMemory) = AreFine o r
 
 -- what keeping a text behind others of so many bytes answers
 abbrev pub Keeps : List ℕ → ℕ → ℕ → Kept → Kept → Result ℕ Stop → Type 0
@@ -96,8 +96,8 @@ Gathers told names o r kept (Err stopped) = StopsAt told names o r stopped.name.
 abbrev pub stop_row : List ℕ → Stop → Row
 stop_row name (stop.Refused fault) = refused name fault
 stop_row name stop.TooLarge = too_large name
-stop_row name stop.NotOpened = about name (codes "cannot be opened")
-stop_row name stop.NotRead = about name (codes "read failed")
+stop_row name stop.NotOpened = file_error name (codes "cannot be opened")
+stop_row name stop.NotRead = file_error name (codes "read failed")
 stop_row name stop.OutOfMemory = out_of_memory linter
 
 -- ---- lines without options

@@ -1,7 +1,7 @@
 use Rattle.hcl_scan.proofs.SideBySideLemmas.{besides}
-use Rattle.hcl_layout.proofs.OlderScans.{scanned_older, scanned_too}
-use Rattle.hcl_layout.proofs.OlderRuns.{accepted_apart, accepted_too}
-use Rattle.hcl_layout.proofs.OlderPrints.{print_same}
+use Rattle.hcl_layout.proofs.OlderScanLemmas.{scanned_older, scanned_too}
+use Rattle.hcl_layout.proofs.OlderRunLemmas.{accepted_apart, accepted_too}
+use Rattle.hcl_layout.proofs.OlderPrintLemmas.{print_same}
 use Rattle.hcl_layout.proofs.laws.older_files.Goals as goal
 
 pub returns : goal.returns

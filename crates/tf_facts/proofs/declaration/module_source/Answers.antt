@@ -7,7 +7,7 @@ use Rattle.hcl_syntax.specs.Numbered.{numbered}
 use Rattle.hcl_syntax.specs.declared.item.Item.{Item}
 use Rattle.tf_facts.specs.Declarations.{attributes_in, plain_text}
 use Rattle.tf_facts.specs.Sources.{source_of}
-use Rattle.tf_facts.specs.Inner.Values.{plain, value_of_attribute, values}
+use Rattle.tf_facts.specs.Inner.Values.{plain_text_of, value_of_attribute, values}
 use Rattle.tf_facts.proofs.DeclarationLemmas.{source_found, value_within}
 use Rattle.tf_facts.proofs.declaration.module_source.Goals as goal
 
@@ -23,5 +23,5 @@ returns c =
     source_found c.args.accepted.now.tokens (find (λ a. bytes_eq a.name (codes "source")) (attributes_in (numbered c.args.accepted.now.tokens) (drop c.args.from c.args.items.now)))
     c.in-Some.value c.in-Some-plain_text.plain (record { source = c.source_of.result; at = c.in-Some-plain_text.plain.quote })
     (sym c.attribute_value.ensures ∙ c.in-Some.is)
-    (ap (option_map plain) (sym c.in-Some-plain_text.is) ∙ c.plain_text.ensures ∙ ap (λ (s : Scanned). plain_text (values s.tokens c.in-Some.value.first c.in-Some.value.end)) c.tokens-tokens.ensures.tokens)
+    (ap (option_map plain_text_of) (sym c.in-Some-plain_text.is) ∙ c.plain_text.ensures ∙ ap (λ (s : Scanned). plain_text (values s.tokens c.in-Some.value.first c.in-Some.value.end)) c.tokens-tokens.ensures.tokens)
     (c.source_of.ensures ∙ ap source_of c.as_bytes.ensures.value) refl

@@ -5,7 +5,7 @@ use Rattle.clap.specs.Words as clap
 use Rattle.clap.specs.declared.error.ErrorKind.{ErrorKind}
 use Rattle.clap.specs.declared.error.ErrorKind.TheVariants as kind
 use Rattle.command_line.specs.Faults.{IsOfWords, One}
-use Rattle.command_line.proofs.OneFault.{one_fault}
+use Rattle.command_line.proofs.OneFaultLemmas.{one_fault}
 use Rattle.hcl_scan.specs.Faults.{IsScanFault}
 use Rattle.hcl_scan.specs.Lexemes.{Lexeme}
 use Rattle.hcl_source.specs.Load.{IsText}

@@ -9,7 +9,7 @@ use Rattle.tffmt.specs.declared.options.FmtOptions.{FmtOptions}
 use Rattle.tffmt.specs.declared.options.Usage.{Usage}
 use Rattle.tffmt.specs.declared.options.Usage.TheVariants.{OutOfMemory}
 use Rattle.command_line.specs.Faults.{One}
-use Rattle.command_line.proofs.OneFault.{one_fault}
+use Rattle.command_line.proofs.OneFaultLemmas.{one_fault}
 use Rattle.tffmt.proofs.options.options.Goals as goal
 
 one : (words : List Text) → One (fault_of tffmt words)

@@ -4,7 +4,7 @@ use Rattle.std.specs.List.{list_any}
 use Rattle.std.specs.Borrow.{Bor}
 use Rattle.std.specs.Str.{bytes_eq}
 use Rattle.tfrules.specs.Line.{with_name}
-use Rattle.tfrules.proofs.Lists.{any_mapped}
+use Rattle.tfrules.proofs.ListLemmas.{any_mapped}
 use Rattle.tfrules.proofs.file_names.add_name.Goals as goal
 
 by_test : (names shown : List (Bor (List ℕ))) (name : List ℕ) (b : Bool) → shown ≡ names → b ≡ list_any (λ known. bytes_eq known.now name) shown

@@ -1,4 +1,4 @@
-use Rattle.tfrules.proofs.Gathered.{adds_kept, stops_unread}
+use Rattle.tfrules.proofs.GatherLemmas.{adds_kept, stops_unread}
 use Rattle.tfrules.proofs.gather.add_file.Goals as goal
 
 pub returns-in-Ok-clause-adds : goal.returns-in-Ok-clause-adds

@@ -1,7 +1,7 @@
 use Rattle.std.proofs.Common.{◌∙◌, ◌≤◌, ◌<◌, arith, length, lit≤, refl, subst}
 use Rattle.std.proofs.lemmas.List.{take_all}
 use Rattle.tfrules.specs.Inner.Steps.{Reached}
-use Rattle.tfrules.proofs.Gathered.{reached_more, reached_none, stops_at}
+use Rattle.tfrules.proofs.GatherLemmas.{reached_more, reached_none, stops_at}
 use Rattle.tfrules.proofs.gather.gather.Goals as goal
 
 pub loop-number-init : goal.loop-number-init

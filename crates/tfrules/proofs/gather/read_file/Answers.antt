@@ -1,4 +1,4 @@
-use Rattle.tfrules.proofs.Gathered.{reads_told}
+use Rattle.tfrules.proofs.GatherLemmas.{reads_told}
 use Rattle.tfrules.proofs.gather.read_file.Goals as goal
 
 pub returns-clause-reads : goal.returns-clause-reads

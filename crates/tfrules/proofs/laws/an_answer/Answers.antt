@@ -1,5 +1,5 @@
 use Rattle.std.proofs.Common.{◌≤◌, arith, length, map}
-use Rattle.tfrules.proofs.SomeAnswer.{all_given, one_more_given, some_answer}
+use Rattle.tfrules.proofs.SomeAnswerLemmas.{all_given, one_more_given, some_answer}
 use Rattle.tfrules.proofs.laws.an_answer.Goals as goal
 
 pub loop-file-preserved : goal.loop-file-preserved

@@ -1,4 +1,4 @@
-use Rattle.tfrules.proofs.OneAnswer.{one_answer}
+use Rattle.tfrules.proofs.OneAnswerLemmas.{one_answer}
 use Rattle.tfrules.proofs.laws.one_answer.Goals as goal
 
 pub returns : goal.returns

@@ -1,9 +1,9 @@
 use Rattle.std.proofs.Common.{◌≡◌, ◌∙◌, ◌⊎◌, [], List, ap, map, subst, sym}
 use Rattle.std.specs.Prelude.{Err}
 use Rattle.clap.specs.Words.{HasKind, Text, app_of, fault_of, found_of, is_simple, is_simple_and_free, kind_of, matches_of, rows_of}
-use Rattle.tfrules.specs.Line.{asking_of_rows, line_of, options_of, tfrules}
+use Rattle.tfrules.specs.Line.{asking_of_rows, options_by, options_of, tfrules}
 use Rattle.tfrules.specs.declared.usage.Usage.{Usage}
-use Rattle.tfrules.proofs.Words.{SameAsked, SameOptions, asked_more, one, refused_line}
+use Rattle.tfrules.proofs.WordLemmas.{SameAsked, SameOptions, asked_more, one, refused_line}
 use Rattle.tfrules.specs.declared.usage.Usage.TheVariants.{OutOfMemory}
 use Rattle.tfrules.proofs.options.options.Goals as goal
 
@@ -14,7 +14,7 @@ returns-in-Ok-try_get_matches_from c =
     let none : fault_of tfrules words ≡ [] = ap (λ a. fault_of a words) (sym app_is) ∙ c.in-Ok-try_get_matches_from.ensures.kinds (ap is_simple_and_free app_is) in
     let rows : rows_of (found_of c.in-Ok-try_get_matches_from.matches) ≡ matches_of tfrules words =
     (c.in-Ok-try_get_matches_from.ensures.matches (ap is_simple app_is)).0 ∙ ap (λ a. matches_of a words) app_is in
-    asked_more c.options_of.result _ (options_of words) c.options_of.ensures (ap asking_of_rows rows ∙ ap (λ f. line_of f (matches_of tfrules words)) (sym none))
+    asked_more c.options_of.result _ (options_of words) c.options_of.ensures (ap asking_of_rows rows ∙ ap (λ f. options_by f (matches_of tfrules words)) (sym none))
 
 pub returns-in-Err : goal.returns-in-Err
 returns-in-Err c =

@@ -4,7 +4,7 @@ use Rattle.std.specs.Borrow.{Bor}
 use Rattle.std.specs.Prelude.{List, ℕ}
 use Rattle.tf_facts.specs.RuleSets.{rules_of}
 use Rattle.tfrules.specs.Line.{max_files}
-use Rattle.tfrules.proofs.Rules.{few_enough, too_many}
+use Rattle.tfrules.proofs.RuleLemmas.{few_enough, too_many}
 use Rattle.tfrules.proofs.options.options_for.Goals as goal
 
 pub returns-then-given-gt-MAX_FILES : goal.returns-then-given-gt-MAX_FILES

@@ -2,7 +2,7 @@ use Rattle.std.proofs.Common.{◌∙◌, ap, codes, inr}
 use Rattle.clap.proofs.WalkLemmas.{raw_values-rows}
 use Rattle.clap.specs.Words.{found_of, rows_of}
 use Rattle.tfrules.specs.Line.{asking_with}
-use Rattle.tfrules.proofs.Words.{asked_more}
+use Rattle.tfrules.proofs.WordLemmas.{asked_more}
 use Rattle.tfrules.proofs.options.options_of.Goals as goal
 
 pub returns-in-Some : goal.returns-in-Some

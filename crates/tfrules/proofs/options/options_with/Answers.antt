@@ -4,8 +4,8 @@ use Rattle.std.specs.Prelude.{option_map}
 use Rattle.clap.specs.Words.{found_of, rows_of}
 use Rattle.tf_facts.specs.RuleSets.{rules_of}
 use Rattle.tfrules.specs.Line.{asking_for}
-use Rattle.tfrules.proofs.Rules.{with_parts}
-use Rattle.tfrules.proofs.Words.{asked_more}
+use Rattle.tfrules.proofs.RuleLemmas.{with_parts}
+use Rattle.tfrules.proofs.WordLemmas.{asked_more}
 use Rattle.tfrules.proofs.options.options_with.Goals as goal
 
 pub returns-in-Some-minimum : goal.returns-in-Some-minimum

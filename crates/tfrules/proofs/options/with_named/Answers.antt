@@ -1,4 +1,4 @@
-use Rattle.tfrules.proofs.Rules.{not_named}
+use Rattle.tfrules.proofs.RuleLemmas.{not_named}
 use Rattle.tfrules.proofs.options.with_named.Goals as goal
 
 pub returns-in-None : goal.returns-in-None

@@ -1,5 +1,5 @@
-use Rattle.tfrules.proofs.Pieces.{flushed_behind, report_is, retold}
-use Rattle.tfrules.proofs.Wrote.{all_taken}
+use Rattle.tfrules.proofs.PieceLemmas.{flushed_behind, report_is, retold}
+use Rattle.tfrules.proofs.WriterLemmas.{all_taken}
 use Rattle.tfrules.proofs.report.show_issues.Goals as goal
 
 pub returns-in-Err-clause-took : goal.returns-in-Err-clause-took

@@ -1,7 +1,7 @@
 use Rattle.std.proofs.Common.{◌∙◌, ap}
 use Rattle.tf_facts.specs.Rules.{severity_text}
-use Rattle.tfrules.proofs.Pieces.{line_written, place_failed}
-use Rattle.tfrules.proofs.Wrote.{all_taken}
+use Rattle.tfrules.proofs.PieceLemmas.{line_written, place_failed}
+use Rattle.tfrules.proofs.WriterLemmas.{all_taken}
 use Rattle.tfrules.proofs.report.write_issue.Goals as goal
 
 pub returns-in-Err-clause-took : goal.returns-in-Err-clause-took

@@ -1,6 +1,6 @@
 use Rattle.tfrules.specs.Report.{issue_line}
-use Rattle.tfrules.proofs.Pieces.{goes_on, goes_wrong, line_here}
-use Rattle.tfrules.proofs.Wrote.{all_taken}
+use Rattle.tfrules.proofs.PieceLemmas.{goes_on, goes_wrong, line_here}
+use Rattle.tfrules.proofs.WriterLemmas.{all_taken}
 use Rattle.tfrules.proofs.report.write_issues.Goals as goal
 
 pub returns-in-Err-clause-took : goal.returns-in-Err-clause-took

@@ -1,6 +1,6 @@
 use Rattle.std.proofs.Common.{◌≤◌, arith, length}
-use Rattle.tfrules.proofs.Pieces.{goes_on, goes_wrong, piece_here}
-use Rattle.tfrules.proofs.Wrote.{took_part}
+use Rattle.tfrules.proofs.PieceLemmas.{goes_on, goes_wrong, piece_here}
+use Rattle.tfrules.proofs.WriterLemmas.{took_part}
 use Rattle.tfrules.proofs.report.write_pieces.Goals as goal
 
 pub returns-in-Err-clause-took : goal.returns-in-Err-clause-took

@@ -1,4 +1,4 @@
-use Rattle.tfrules.proofs.Wrote.{all_taken, took_behind}
+use Rattle.tfrules.proofs.WriterLemmas.{all_taken, took_behind}
 use Rattle.tfrules.proofs.report.write_report.Goals as goal
 
 pub returns-clause-took : goal.returns-clause-took

@@ -1,4 +1,4 @@
-use Rattle.command_line.proofs.Endings.{shows_as}
+use Rattle.command_line.proofs.EndLemmas.{shows_as}
 use Rattle.tfrules.proofs.run.bad_line.Goals as goal
 
 pub returns : goal.returns

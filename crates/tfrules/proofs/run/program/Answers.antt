@@ -1,8 +1,8 @@
 use Rattle.std.proofs.Common.{map}
 use Rattle.tfrules.specs.Inner.Steps.{usage_row}
 use Rattle.tfrules.specs.Line.{options_of}
-use Rattle.tfrules.proofs.Ends.{usage_shown}
-use Rattle.tfrules.proofs.Words.{either_way, options_row, unopened_by_options, usage_or}
+use Rattle.tfrules.proofs.EndLemmas.{usage_shown}
+use Rattle.tfrules.proofs.WordLemmas.{either_way, options_row, unopened_by_options, usage_or}
 use Rattle.tfrules.proofs.run.program.Goals as goal
 
 pub returns-in-Ok-clause-row : goal.returns-in-Ok-clause-row

@@ -3,7 +3,7 @@ use Rattle.tf_rules.specs.Answers as rules
 use Rattle.tfrules.specs.Files.{numbered_files}
 use Rattle.tfrules.specs.Report.{report_row}
 use Rattle.tfrules.specs.Asked.{asking_of}
-use Rattle.tfrules.proofs.Ends.{reported_row, rising, stopped_row}
+use Rattle.tfrules.proofs.EndLemmas.{reported_row, rising, stopped_row}
 use Rattle.tfrules.proofs.run.run.Goals as goal
 
 pub returns-in-Err : goal.returns-in-Err
@@ -17,6 +17,6 @@ returns-in-Ok-issues g c =
     let found = c.in-Ok-issues.ensures (numbered_files 0 gathered.1.1.sources) gathered.1.1.kept_is (rising 0 gathered.1.1.sources) in (
       report_row (asking_of c.args.options.now) c.as_slice.result.now,
       inr (reported_row (g.M.ModuleFiles.told c.args.files.now) (asking_of c.args.options.now) _ _ _ _ c.as_slice.result.now gathered.0 gathered.1.1
-          (subst (rules.IsAnswer (asking_of c.args.options.now).asked (numbered_files 0 gathered.1.1.sources)) (sym c.as_slice.ensures.value) found)),
+          (subst (rules.AreIssues (asking_of c.args.options.now).asked (numbered_files 0 gathered.1.1.sources)) (sym c.as_slice.ensures.value) found)),
       c.show.ensures,
     )

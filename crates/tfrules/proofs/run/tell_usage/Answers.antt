@@ -1,4 +1,4 @@
-use Rattle.tfrules.proofs.Ends.{help_shown}
+use Rattle.tfrules.proofs.EndLemmas.{help_shown}
 use Rattle.tfrules.proofs.run.tell_usage.Goals as goal
 
 pub returns-in-Help : goal.returns-in-Help

@@ -1,6 +1,6 @@
 use Rattle.std.proofs.Common.{◌≡◌, ◌∙◌, ap, ap₂, sym, subst, List, Bool, not, map, filter}
 use Rattle.std.proofs.lemmas.Result.{IfOk-weaker}
-use Rattle.tf_rules.specs.Answers.{IsAnswer, shown}
+use Rattle.tf_rules.specs.Answers.{AreIssues, answered}
 use Rattle.tf_facts.specs.Comments.{Comment}
 use Rattle.tf_rules.specs.Issues.{Asked, Issue, Place, asked_of, is_silenced, issues, reported}
 use Rattle.tf_rules.specs.Kept.{Kept, issues_of_kept, reported_of_kept}
@@ -25,7 +25,7 @@ returns c = λ files kept rising.
     ∙ ap₂ (λ (cs : List (Comment Place)) (is : List Issue). filter (λ i. not (is_silenced cs i)) is) told (sym c.in_ok-entries.ensures) in
     let all : reported asked files ≡ found = reported_is asked files ∙ ap (reported_of_kept asked) (sym kept) ∙ sym c.in_ok-entries.ensures in
     let apart : Ascends Differ found = subst (λ (is : List Issue). Ascends Differ is) all (reported_apart c.args.settings.now files rising) in
-    IfOk-weaker c.shown.result (λ answer. answer.items ≡ map shown (filter p (issues_of c.in_ok-sorted.sorted.items))) (λ answer. IsAnswer asked files answer.items)
+    IfOk-weaker c.shown.result (λ answer. answer.items ≡ map answered (filter p (issues_of c.in_ok-sorted.sorted.items))) (λ answer. AreIssues asked files answer.items)
     (λ answer e. record {
       report = filter p (issues_of c.in_ok-sorted.sorted.items);
       is = is_report asked files p c.in_ok-entries.entries.items c.in_ok-sorted.sorted.items is apart c.in_ok-sorted.ensures.all c.in_ok-sorted.ensures.ordered;

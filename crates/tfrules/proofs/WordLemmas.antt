@@ -7,8 +7,8 @@ use Rattle.clap.specs.Words.{IsAmong, Kinds, Row, fault_of}
 use Rattle.clap.specs.declared.error.ErrorKind.{ErrorKind}
 use Rattle.clap.specs.declared.error.ErrorKind.TheVariants as kind
 use Rattle.command_line.specs.Faults.{One}
-use Rattle.command_line.proofs.OneFault.{one_fault}
-use Rattle.tfrules.specs.Line.{Asking, line_of, tfrules, usage_of_kind}
+use Rattle.command_line.proofs.OneFaultLemmas.{one_fault}
+use Rattle.tfrules.specs.Line.{Asking, options_by, tfrules, usage_of_kind}
 use Rattle.tfrules.specs.Asked.{asked_by, asking_of}
 use Rattle.tfrules.specs.declared.options.LintOptions.{LintOptions}
 use Rattle.tfrules.specs.declared.usage.Usage.{Usage}
@@ -29,7 +29,7 @@ SameOptions a b = a ≡ b
 
 -- what an error says, where it has the one fault
 pub refused_line : (faults : Kinds) (rows : List Row) (k : ErrorKind) → One faults → (k ≡ kind.OutOfMemory) ⊎ IsAmong k faults
-    → SameOptions (Err (usage_of_kind k)) (Err usage.OutOfMemory) ⊎ SameAsked (Err (usage_of_kind k)) (line_of faults rows)
+    → SameOptions (Err (usage_of_kind k)) (Err usage.OutOfMemory) ⊎ SameAsked (Err (usage_of_kind k)) (options_by faults rows)
 refused_line faults rows k p (inl e) = inl (ap (λ x. Err (usage_of_kind x)) e)
 refused_line [] rows k p (inr e) = absurd e
 refused_line (x ∷ []) rows k p (inr (inl e)) = inr (ap (λ x. Err (usage_of_kind x)) e)

@@ -15,7 +15,7 @@ use Rattle.command_line.specs.Rows.{Row, fails_with}
 use Rattle.hcl_source.specs.Load.{IsText}
 use Rattle.hcl_source.specs.declared.fault.Fault.{Fault}
 use Rattle.hcl_scan.specs.Scanned.{Scanned}
-use Rattle.tf_rules.specs.Answers.{shown}
+use Rattle.tf_rules.specs.Answers.{answered}
 use Rattle.tf_rules.specs.Issues.{Issue, IsReport}
 use Rattle.tf_facts.specs.Rules.{all_rules, is_recommended}
 use Rattle.tf_rules.specs.declared.naming.Naming.{Naming}
@@ -23,15 +23,15 @@ use Rattle.tf_facts.specs.declared.rule.Rule.{Rule}
 use Rattle.tf_facts.specs.declared.rule.Severity.{Severity}
 use Rattle.tfrules.specs.Answer.{AreNamed, IsAnswer, IsAnswerBy, IsRefused, IsRefusedFirst, IsReported, linter, refused, too_large, usage_line}
 use Rattle.tfrules.specs.Files.{NamedFile, AreAccepted, IsAcceptedAs, IsOutcome, max_module, named, numbered_files, size_of}
-use Rattle.tfrules.specs.Line.{Asking, asking_for, asking_with, each_once, has_name, line_of, max_files, options_of, rules_asked, rules_named, tfrules, usage_of_kind, value_or}
+use Rattle.tfrules.specs.Line.{Asking, asking_for, asking_with, each_once, has_name, options_by, max_files, options_of, rules_asked, rules_named, tfrules, usage_of_kind, value_or}
 use Rattle.tfrules.specs.Report.{report_row}
 use Rattle.tfrules.specs.Inner.Outcomes.{HasOutcome}
 use Rattle.tfrules.specs.declared.usage.Usage.{Usage}
 use Rattle.tfrules.specs.declared.usage.Usage.TheVariants as usage
-use Rattle.tfrules.proofs.Ends.{rising}
-use Rattle.tfrules.proofs.Gathered.{all_zip_push}
-use Rattle.tfrules.proofs.SomeReport.{some_report}
-use Rattle.tfrules.proofs.Words.{one}
+use Rattle.tfrules.proofs.EndLemmas.{rising}
+use Rattle.tfrules.proofs.GatherLemmas.{all_zip_push}
+use Rattle.tfrules.proofs.SomeReportLemmas.{some_report}
+use Rattle.tfrules.proofs.WordLemmas.{one}
 
 -- ---- no line has want of memory as its usage
 
@@ -73,7 +73,7 @@ rows_have_memory rows None e = absurd (cc)
 rows_have_memory rows (Some []) e = absurd (cc)
 rows_have_memory rows (Some (f ∷ fs)) e = asking_has_memory _ (f ∷ fs) _ _ _ e
 
-line_has_memory : (faults : Kinds) (rows : List clap.Row) → One faults → line_of faults rows ≡ Err usage.OutOfMemory → ⊥
+line_has_memory : (faults : Kinds) (rows : List clap.Row) → One faults → options_by faults rows ≡ Err usage.OutOfMemory → ⊥
 line_has_memory [] rows p e = rows_have_memory rows (all_of (codes "file") rows) e
 line_has_memory (k ∷ []) rows p e = usage_of_words k p (cc)
 line_has_memory (k ∷ l ∷ ks) rows p e = absurd p
@@ -125,7 +125,7 @@ rows_ask_some rows None asking e = absurd (cc)
 rows_ask_some rows (Some []) asking e = absurd (cc)
 rows_ask_some rows (Some (f ∷ fs)) asking e = asking_for_some (value_or (codes "default") (codes "rules") rows) _ (f ∷ fs) _ _ _ asking refl e
 
-line_asks_some : (faults : Kinds) (rows : List clap.Row) (asking : Asking) → line_of faults rows ≡ Ok asking → AreSome asking.asked.rules
+line_asks_some : (faults : Kinds) (rows : List clap.Row) (asking : Asking) → options_by faults rows ≡ Ok asking → AreSome asking.asked.rules
 line_asks_some [] rows asking e = rows_ask_some rows (all_of (codes "file") rows) asking e
 line_asks_some (k ∷ ks) rows asking e = absurd (cc)
 
@@ -147,7 +147,7 @@ module _ (asking : Asking) (reports : (sources : List Scanned) → (report : Lis
   all_reported : (files : List NamedFile) (sources : List Scanned) → AreAccepted files sources → Ends files
   all_reported files sources are =
       let found = reports sources in
-      (report_row asking (map shown found.0), inl (record { sources = sources; accepted = are; issues = map shown found.0; found = record { report = found.0; is = found.1; same = refl }; is = refl }))
+      (report_row asking (map answered found.0), inl (record { sources = sources; accepted = are; issues = map answered found.0; found = record { report = found.0; is = found.1; same = refl }; is = refl }))
 
   refused_at : (before : List NamedFile) (file : NamedFile) (behind : List NamedFile) (sources : List Scanned) → AreAccepted before sources → (row : Row) → IsRefused (size_of before) file row → Ends (before ++ file ∷ behind)
   refused_at before file behind sources are row refusal = (row, inr (record { before = before; file = file; behind = behind; split = refl; sources = sources; accepted = are; refusal = refusal }))

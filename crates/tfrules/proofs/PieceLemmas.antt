@@ -10,8 +10,8 @@ use Rattle.tf_facts.specs.Rules.{rule_name, severity, severity_text}
 use Rattle.tf_rules.specs.declared.issue.Issue.{Issue}
 use Rattle.tfrules.specs.Report.{issue_line, report}
 use Rattle.tfrules.specs.Inner.Pieces.{issue_words, lines_of_report, place_words}
-use Rattle.tfrules.proofs.Lists.{from_here}
-use Rattle.tfrules.proofs.Wrote.{took_behind, took_front}
+use Rattle.tfrules.proofs.ListLemmas.{from_here}
+use Rattle.tfrules.proofs.WriterLemmas.{took_behind, took_front}
 
 -- a text is written, and another is to come
 abbrev pub Goes : Option (List ℕ) → Option (List ℕ) → List ℕ → List ℕ → Type 0

@@ -16,10 +16,10 @@ use Rattle.tf_rules.specs.Kept.{Kept, kept_of, with_file}
 use Rattle.tf_rules.proofs.KeptLemmas.{kept_of_more}
 use Rattle.tfrules.specs.Files.{NamedFile, IsAcceptedAs, max_module, numbered_files, size_of}
 use Rattle.tfrules.specs.Rows.{Tells}
-use Rattle.tfrules.specs.Inner.Steps.{AreFine, Added, Adds, Keeps, Reached, Reads, StopsAt, StopsBy, stop_by}
+use Rattle.tfrules.specs.Inner.Steps.{AreFine, Added, Adds, Keeps, Reached, ReadsFile, StopsAt, StopsBy, stop_by}
 use Rattle.tfrules.specs.declared.stop.Stop.{Stop}
 use Rattle.tfrules.specs.declared.stop.Stop.TheVariants as stop
-use Rattle.tfrules.proofs.Lists.{from_here}
+use Rattle.tfrules.proofs.ListLemmas.{from_here}
 
 -- ---- a file that was read
 
@@ -42,7 +42,7 @@ fault_of_whole (Some xs) (Some ys) bytes fault taken done x =
     below a b = grind arith
 
 reads_left : (left left' : Option (List ℕ)) (bytes : List ℕ) (o r : Bool) (loaded : Result (List ℕ) LoadError) → o ≡ false → r ≡ is_failed_load loaded → Consumes left left' bytes → Loads bytes left' loaded
-    → Reads left o r (stop_by loaded)
+    → ReadsFile left o r (stop_by loaded)
 reads_left left left' bytes o r (Ok text) fine failed taken l =
     ((fine, failed), subst (Tells left) (sym l.0) (tells_all left left' bytes taken l.2), subst IsText (sym l.0) l.1)
 reads_left left left' bytes o r (Err (error.Fault fault)) fine failed taken l = ((fine, failed), fault_of_whole left left' bytes fault taken l.1 l.0)
@@ -50,10 +50,10 @@ reads_left left left' bytes o r (Err error.ReadFailed) fine failed taken l = (fi
 reads_left left left' bytes o r (Err error.OutOfMemory) fine failed taken l = (fine, failed)
 
 pub reads_told : (told left left' : Option (List ℕ)) (bytes : List ℕ) (o o' r r' f : Bool) (loaded : Result (List ℕ) LoadError) (answer : Result (List ℕ) Stop)
-    → answer ≡ stop_by loaded → left ≡ told → o ≡ false → o' ≡ o → r ≡ false → r' ≡ (r || f) → f ≡ is_failed_load loaded → Consumes left left' bytes → Loads bytes left' loaded → Reads told o' r' answer
+    → answer ≡ stop_by loaded → left ≡ told → o ≡ false → o' ≡ o → r ≡ false → r' ≡ (r || f) → f ≡ is_failed_load loaded → Consumes left left' bytes → Loads bytes left' loaded → ReadsFile told o' r' answer
 reads_told told left left' bytes o o' r r' f loaded answer is same fine fine' unread unread' failed taken l =
-    subst (λ a. Reads told o' r' a) (sym is)
-    (subst (λ t. Reads t o' r' (stop_by loaded)) same
+    subst (λ a. ReadsFile told o' r' a) (sym is)
+    (subst (λ t. ReadsFile t o' r' (stop_by loaded)) same
     (reads_left left left' bytes o' r' loaded (fine' ∙ fine) (unread' ∙ ap (λ b. b || f) unread ∙ failed) taken l))
 
 -- ---- a file that was kept
@@ -68,7 +68,7 @@ adds_kept told o r text size number old new (Err stop.NotOpened) fine tells is k
 adds_kept told o r text size number old new (Err stop.NotRead) fine tells is k = absurd k
 adds_kept told o r text size number old new (Err stop.OutOfMemory) fine tells is k = fine
 
-pub stops_unread : (told : Option (List ℕ)) (o r : Bool) (size : ℕ) (why : Stop) → Reads told o r (Err why) → StopsBy told size o r why
+pub stops_unread : (told : Option (List ℕ)) (o r : Bool) (size : ℕ) (why : Stop) → ReadsFile told o r (Err why) → StopsBy told size o r why
 stops_unread told o r size (stop.Refused fault) h = (h.0, (h.1.0, h.1.1, inl h.1.2))
 stops_unread told o r size stop.TooLarge h = absurd h
 stops_unread told o r size stop.NotOpened h = h

@@ -12,7 +12,7 @@ use Rattle.hcl_scan.specs.Scanned.{Scanned}
 use Rattle.hcl_scan.proofs.RunLemmas.{no_fault, one_fault, one_scan}
 use Rattle.hcl_scan.proofs.SpellingLemmas.{nonempty, one_kind}
 use Rattle.hcl_syntax.specs.Verdict.{verdict}
-use Rattle.tf_rules.specs.Answers.{shown}
+use Rattle.tf_rules.specs.Answers.{answered}
 use Rattle.tf_rules.specs.Issues.{IsReport}
 use Rattle.tf_rules.proofs.ReportLemmas.{one_report}
 use Rattle.tfrules.specs.Answer.{IsAnswer, IsAnswerBy, IsRefused, IsRefusedFirst, IsReported, refused}
@@ -143,7 +143,7 @@ one_reported asking files row other x y =
     let same : x.sources ≡ y.sources = same_sources files x.sources y.sources x.accepted.each y.accepted.each in
     let moved : IsReport asking.asked (numbered_files 0 y.sources) x.found.report = subst (λ ss. IsReport asking.asked (numbered_files 0 ss) x.found.report) same x.found.is in
     let report : x.found.report ≡ y.found.report = one_report asking.asked (numbered_files 0 y.sources) x.found.report y.found.report moved y.found.is in
-    let issues : x.issues ≡ y.issues = sym x.found.same ∙ ap (map shown) report ∙ y.found.same in
+    let issues : x.issues ≡ y.issues = sym x.found.same ∙ ap (map answered) report ∙ y.found.same in
     x.is ∙ ap (report_row asking) issues ∙ sym y.is
 
 one_of_files : (asking : Asking) (files : List NamedFile) (row other : Row) → IsReported asking files row ⊎ IsRefusedFirst files row → IsReported asking files other ⊎ IsRefusedFirst files other → row ≡ other

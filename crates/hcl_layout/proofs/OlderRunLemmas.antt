@@ -21,12 +21,12 @@ use Rattle.hcl_syntax.specs.declared.expected.Terminal.TheVariants.{Separator}
 use Rattle.hcl_syntax.specs.declared.refusal.Refusal.{Refusal}
 use Rattle.hcl_syntax.specs.Grammar.{Symbol, the, file, rest, labels, label_literal, start, body, eol, expr, after_ident, path, after, step, index, tuple, tuple_next, tuple_item, tuple_if, names, object, separator, object_next, object_item, group, object_if, args, arg_next, parts, directive, inside, section_directive, Marked, ◌at◌, Action, none, nothing, reads, opens, closes, row_of, row, fits}
 use Rattle.hcl_syntax.specs.Predictor.{Effect, on, stop, taken, effect, next, run}
-use Rattle.hcl_syntax.specs.Relation.{Step, dropped, read, opened, closed, gone, Run, at_end, step as one_step, refused}
+use Rattle.hcl_syntax.specs.Relation.{Step, dropped, read, opened, closed, gone, ComesTo, at_end, step as one_step, refused}
 use Rattle.hcl_syntax.specs.Verdict.{IsAccepted}
 use Rattle.hcl_syntax.proofs.RelationLemmas.{answers}
 use Rattle.hcl_scan.specs.Kinds.{is_colon}
 use Rattle.hcl_layout.specs.Older.Rows.{is_path_sign, was_turn, was_run, WasAccepted}
-use Rattle.hcl_layout.proofs.OlderScans.{Apart, Older, starts_colon}
+use Rattle.hcl_layout.proofs.OlderScanLemmas.{Apart, Older, starts_colon}
 
 -- ---- without the class, both tables are one
 abbrev OlderClasses : List Lookahead → Type 0
@@ -297,15 +297,15 @@ record Stepped (count : ℕ) (ss : List Marked) (t : Lookahead) (ts : List Looka
   later : ℕ
   us : List Marked
   taken_so : Step count ss t later us
-  left : Run later us ts None
+  left : ComesTo later us ts None
 
-stepped : (count : ℕ) (ss : List Marked) (l : List Lookahead) (o : Option Refusal) → Run count ss l o → o ≡ None → (t : Lookahead) (ts : List Lookahead) → l ≡ t ∷ ts → Stepped count ss t ts
+stepped : (count : ℕ) (ss : List Marked) (l : List Lookahead) (o : Option Refusal) → ComesTo count ss l o → o ≡ None → (t : Lookahead) (ts : List Lookahead) → l ≡ t ∷ ts → Stepped count ss t ts
 stepped count ss l o (at_end c us p h) e t ts k = absurd (cc)
 stepped count ss l o (one_step c us u vs later ws p h r) e t ts k = record {
   later = later;
   us = ws;
   taken_so = subst (λ (x : Lookahead). Step c us x later ws) (head u t vs ts k) h;
-  left = subst (λ (x : Option Refusal). Run later ws ts x) e (subst (λ (x : List Lookahead). Run later ws x p) (tail u t vs ts k) r);
+  left = subst (λ (x : Option Refusal). ComesTo later ws ts x) e (subst (λ (x : List Lookahead). ComesTo later ws x p) (tail u t vs ts k) r);
 }
   where
     head : (u t : Lookahead) (vs ts : List Lookahead) → u ∷ vs ≡ t ∷ ts → u ≡ t
@@ -328,8 +328,8 @@ record Parted (ss : List Marked) (ts : List Lexeme) : Type 0 where
   front : begins_expr ss ≡ true → starts_colon ts ≡ false
 
 -- one token more, where it holds of those behind it
-module _ (n : ℕ) (t : Lexeme) (ts : List Lexeme) (count : ℕ) (ss : List Marked) (r : Run count ss (lookaheads_from n (t ∷ ts)) None) (p : paired ss ≡ true)
-    (more : (count : ℕ) (ss : List Marked) → Run count ss (lookaheads_from (n + 1) ts) None → paired ss ≡ true → Parted ss ts) where
+module _ (n : ℕ) (t : Lexeme) (ts : List Lexeme) (count : ℕ) (ss : List Marked) (r : ComesTo count ss (lookaheads_from n (t ∷ ts)) None) (p : paired ss ≡ true)
+    (more : (count : ℕ) (ss : List Marked) → ComesTo count ss (lookaheads_from (n + 1) ts) None → paired ss ≡ true → Parted ss ts) where
   abbrev seen : Lookahead
   seen = record { class = class_of t; number = n }
 
@@ -342,7 +342,7 @@ module _ (n : ℕ) (t : Lexeme) (ts : List Lexeme) (count : ℕ) (ss : List Mark
 
   parted_on : (v : Bool) → is_trivia (class_of t) ≡ v → Parted ss (t ∷ ts)
   parted_on true e =
-      let behind = more count ss (subst (λ (l : List Lookahead). Run count ss l None) (list_is true e) r) p in
+      let behind = more count ss (subst (λ (l : List Lookahead). ComesTo count ss l None) (list_is true e) r) p in
       let no = trivia_no_colon t.kind t.text e in
       record { parts_all = ((λ h. let f : true ≡ false = sym h ∙ no in cc), behind.parts_all); front = λ b. no }
   parted_on false e =
@@ -351,9 +351,9 @@ module _ (n : ℕ) (t : Lexeme) (ts : List Lexeme) (count : ℕ) (ss : List Mark
       let behind = more st.later st.us st.left here.pairs in
       record { parts_all = ((λ h. behind.front (here.expects (colon_class t.kind t.text h))), behind.parts_all); front = λ b. plain st b (is_colon t.kind) refl }
 
-parted : (n : ℕ) (ts : List Lexeme) (count : ℕ) (ss : List Marked) → Run count ss (lookaheads_from n ts) None → paired ss ≡ true → Parted ss ts
+parted : (n : ℕ) (ts : List Lexeme) (count : ℕ) (ss : List Marked) → ComesTo count ss (lookaheads_from n ts) None → paired ss ≡ true → Parted ss ts
 parted n [] count ss r p = record { parts_all = tt; front = λ b. refl }
 parted n (t ∷ ts) count ss r p = parted_on n t ts count ss r p (λ later us. parted (n + 1) ts later us) (is_trivia (class_of t)) refl
 
 pub accepted_apart : (ts : List Lexeme) → IsAccepted ts → Apart ts
-accepted_apart ts is = (parted 0 ts 0 (file at Seen ∷ []) (subst (λ (o : Option Refusal). Run 0 (file at Seen ∷ []) (lookaheads ts) o) is (answers 0 (file at Seen ∷ []) (lookaheads ts))) refl).parts_all
+accepted_apart ts is = (parted 0 ts 0 (file at Seen ∷ []) (subst (λ (o : Option Refusal). ComesTo 0 (file at Seen ∷ []) (lookaheads ts) o) is (answers 0 (file at Seen ∷ []) (lookaheads ts))) refl).parts_all

@@ -14,7 +14,7 @@ use Rattle.tf_rules.specs.declared.settings.Settings.{Settings}
 use Rattle.tf_rules.proofs.DistinctLemmas.{reported_apart}
 use Rattle.tf_rules.proofs.ReportLemmas.{in_turn}
 use Rattle.tf_rules.proofs.SortLemmas.{Differ, filter_ascends, same_key}
-use Rattle.tfrules.proofs.Lists.{filter_same}
+use Rattle.tfrules.proofs.ListLemmas.{filter_same}
 
 -- ---- issues whose keys are apart, one put among others at a time
 

@@ -4,7 +4,7 @@ use Rattle.std.specs.Prelude.{Result, Ok, Err}
 use Rattle.std.proofs.lemmas.List.{map-append}
 use Rattle.std.proofs.lemmas.List.Elements.{All-append, All-cons, All-nil}
 use Rattle.command_line.specs.Rows.{Program, Row, End, Shows, ShowsOne, OrOutOfMemory, out_of_memory}
-use Rattle.command_line.proofs.Endings.{shows_as}
+use Rattle.command_line.proofs.EndLemmas.{shows_as}
 use Rattle.hcl_scan.specs.Scanned.{Scanned}
 use Rattle.tf_rules.specs.Answers as rules
 use Rattle.tf_rules.specs.Kept.{Kept}
@@ -98,7 +98,7 @@ module _ (told : List ℕ → Option (List ℕ)) where
   stopped_row asking o r name why row s (inl e) = inl e
   stopped_row asking o r name why row s (inr is) = stop_rows asking o r name why row s is
 
-  pub reported_row : (asking : Asking) (o r : Bool) (size : ℕ) (kept : Kept) (issues : List Issue) → AreFine o r → (p : Reached told asking.files size kept) → rules.IsAnswer asking.asked (numbered_files 0 p.sources) issues
+  pub reported_row : (asking : Asking) (o r : Bool) (size : ℕ) (kept : Kept) (issues : List Issue) → AreFine o r → (p : Reached told asking.files size kept) → rules.AreIssues asking.asked (numbered_files 0 p.sources) issues
       → IsRowBy told (Ok asking) o r (report_row asking issues)
   reported_row asking o r size kept issues fine p found =
       subst (λ b. IsRowBy told (Ok asking) b r (report_row asking issues)) (sym fine.0) (subst (λ b. IsRowBy told (Ok asking) false b (report_row asking issues)) (sym fine.1)

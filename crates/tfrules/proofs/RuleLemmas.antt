@@ -18,7 +18,7 @@ use Rattle.tf_facts.specs.declared.rule.Rule.{Rule}
 use Rattle.tf_facts.specs.declared.rule_set.RuleSet.{RuleSet}
 use Rattle.tfrules.specs.Line.{asking_for, asking_with, each_once, has_name, max_files, naming_asked, rules_asked, rules_named, severity_asked, value_or}
 use Rattle.tfrules.specs.Inner.Named.{Named}
-use Rattle.tfrules.proofs.Lists.{filter_same}
+use Rattle.tfrules.proofs.ListLemmas.{filter_same}
 
 abbrev known : List ℕ → Bool
 known name = list_any (has_name name) all_rules

@@ -17,7 +17,7 @@ use Rattle.hcl_scan.specs.Kinds.{is_brace_close, is_brace_open, is_bracket_open,
 use Rattle.hcl_spacing.specs.Spacing.{begins_with_colon, closes_group, ends_operand, is_in, is_opening, opens_sequence, spaced, would_join}
 use Rattle.hcl_layout.specs.Older.Prints.{were_gaps_after, were_line_gaps, were_plain_gaps, was_print, was_spaced, would_have_joined}
 use Rattle.hcl_spacing.proofs.SpacingLemmas.{row_one}
-use Rattle.hcl_layout.proofs.OlderScans.{Apart, Older, colon_colon_is, coloned_is}
+use Rattle.hcl_layout.proofs.OlderScanLemmas.{Apart, Older, colon_colon_is, coloned_is}
 
 -- ---- two neighbours
 record Meets (u t : Lexeme) : Type 0 where
