@@ -51,7 +51,7 @@ fn position_of(tokens: &Tokens, number: usize) -> Position
 }
 
 /// The end of the text.
-fn end_of(tokens: &Tokens) -> Position
+fn end_position(tokens: &Tokens) -> Position
     ensures { result ≡ place tokens.now.text (length tokens.now.text) }
 {
     let source = tokens.source();
@@ -70,7 +70,7 @@ fn fault_at(tokens: &Tokens, refusal: Refusal) -> Fault
         },
         Refusal::UnexpectedEnd => Fault {
             kind: FaultKind::UnexpectedEnd,
-            at: end_of(tokens),
+            at: end_position(tokens),
         },
         Refusal::TooDeep(number) => Fault {
             kind: FaultKind::TooDeep,

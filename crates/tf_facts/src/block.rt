@@ -103,7 +103,7 @@ pub fn has_attribute(
 }
 
 /// The value of an item that is an attribute.
-fn value_of(item: Item) -> Option<Value>
+fn value_of_item(item: Item) -> Option<Value>
     ensures { result ≡ value_of_item item }
 {
     match item {
@@ -129,7 +129,7 @@ pub fn attribute_value(
             return None;
         }
         if is_named(accepted, item, wanted) {
-            return value_of(item);
+            return value_of_item(item);
         }
     }
     None

@@ -9,7 +9,7 @@ use crate::seen::is_passed_over;
 use hcl_scan::{Kind, Tokens};
 use std::alloc::{AllocError, Global};
 
-fn is_opening(kind: Kind) -> bool
+fn is_opener(kind: Kind) -> bool
     ensures { result ≡ (opening kind == 1) }
 {
     matches!(
@@ -18,7 +18,7 @@ fn is_opening(kind: Kind) -> bool
     )
 }
 
-fn is_closing(kind: Kind) -> bool
+fn is_closer(kind: Kind) -> bool
     ensures { result ≡ (closing kind == 1) }
 {
     matches!(
@@ -68,11 +68,11 @@ fn pass(
     ensures { OnOk result (AreAhead tokens.now.tokens ahead.new.items number) }
 {
     let token = tokens.get(number);
-    if is_closing(token.kind) {
+    if is_closer(token.kind) {
         ahead.push(quote)?;
         return Ok(());
     }
-    if is_opening(token.kind) {
+    if is_opener(token.kind) {
         ahead.pop();
         return Ok(());
     }

@@ -46,7 +46,7 @@ fn is_telling(slashes: bool, silences: RuleSet) -> bool
 }
 
 /// What the line comment of this number and text says, where it says something.
-fn comment_of(number: usize, text: &[u8]) -> Option<FoundComment>
+fn telling_comment(number: usize, text: &[u8]) -> Option<FoundComment>
     ensures { comment_listed result ≡ if_telling (record { at = number; slashes = has_slashes text.now; silences = silenced_rules text.now }) }
 {
     let slashes = has_slashes(text);
@@ -70,7 +70,7 @@ fn comment_at(tokens: &Tokens<'_>, number: usize) -> Option<FoundComment>
     if !is_line_comment(token.kind) {
         return None;
     }
-    comment_of(number, token.text.as_bytes())
+    telling_comment(number, token.text.as_bytes())
 }
 
 /// The line comments that say something, in order.

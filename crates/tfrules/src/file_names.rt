@@ -29,7 +29,7 @@ impl<'a> Model for FileNames<'a> {
 }
 
 /// Whether the name is among them.
-fn has_name(names: &[&str], name: &str) -> bool
+fn is_known(names: &[&str], name: &str) -> bool
     ensures { result ≡ list_any (λ known. bytes_eq known.now name.now) names.now }
 {
     names.iter().any(|known| *known == name)
@@ -40,7 +40,7 @@ fn add_name<'a>(names: &mut Vec<&'a str>, name: &'a str) -> Result<(), AllocErro
     ensures names { OnOk result (map (λ known. known.now) names.new.items ≡ with_name (map (λ known. known.now) names.old.items) name.entry.now) }
     ensures few { OnOk result (length names.new.items ≤ length names.old.items + 1) }
 {
-    if has_name(names.as_slice(), name) {
+    if is_known(names.as_slice(), name) {
         return Ok(());
     }
     let Ok(()) = names.push(name) else {

@@ -10,7 +10,7 @@ returns-then-not-is_inside c =
 
 pub returns-then-is_named : goal.returns-then-is_named
 returns-then-is_named c =
-    c.value_of.ensures ∙ sym (value_here c.args.wanted.now (numbered c.args.accepted.now.tokens) c.args.items.now c.loop-number.number c.get-item.result c.get-item.ensures (sym c.is_inside.ensures ∙ c.if-not-is_inside.false)
+    c.value_of_item.ensures ∙ sym (value_here c.args.wanted.now (numbered c.args.accepted.now.tokens) c.args.items.now c.loop-number.number c.get-item.result c.get-item.ensures (sym c.is_inside.ensures ∙ c.if-not-is_inside.false)
     (sym c.is_named.ensures ∙ c.if-is_named.true))
     ∙ c.loop-number.invariant
 

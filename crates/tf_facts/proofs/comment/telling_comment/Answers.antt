@@ -1,6 +1,6 @@
 use Rattle.std.proofs.Common.{◌∙◌, sym}
 use Rattle.tf_facts.proofs.CommentLemmas.{is_silent, is_told}
-use Rattle.tf_facts.proofs.comment.comment_of.Goals as goal
+use Rattle.tf_facts.proofs.comment.telling_comment.Goals as goal
 
 pub returns : goal.returns
 returns c =
