@@ -1,5 +1,5 @@
 -- Flags, as clap's matches show them: a flag that is set has the text `true`.
-use Rattle.std.specs.Prelude.{Bool, true, false, List, codes}
+use Rattle.std.specs.Prelude.{Bool, false, List, codes}
 use Rattle.std.specs.Option.{option_map_or}
 use Rattle.std.specs.Str.{bytes_eq}
 use Rattle.clap.specs.Words.{Text, first_of}
