@@ -11,7 +11,7 @@ use Rattle.hcl_scan.specs.declared.token.Kind.TheVariants as kind
 use Rattle.hcl_scan.proofs.BooleanLemmas.{or_true}
 use Rattle.hcl_scan.proofs.OtherStepLemmas.{touching}
 use Rattle.hcl_scan.proofs.GapLemmas.{template_touches}
-use Rattle.hcl_scan.specs.Kinds.{is_assign, is_dot, is_line_comment, is_newline}
+use Rattle.hcl_scan.specs.Kinds.{is}
 use Rattle.hcl_spacing.specs.Spacing.{stands_before, spaced}
 use Rattle.hcl_layout.specs.Gaps.{blanks}
 use Rattle.hcl_spacing.proofs.SpacingLemmas as rows
@@ -23,7 +23,7 @@ use Rattle.hcl_layout.proofs.GapLemmas.{is_cell, GapFor}
 -- the two tokens before on the line, and what the scan knows of them
 abbrev pub Coherent : Option Lexeme → Option Lexeme → Bool → Kind → Type 0
 Coherent before None dot k = k ≡ kind.Newline
-Coherent before (Some u) dot k = (k ≡ u.kind) × (dot ≡ false → stands_before is_dot before ≡ false)
+Coherent before (Some u) dot k = (k ≡ u.kind) × (dot ≡ false → stands_before (is kind.Dot) before ≡ false)
 
 no_blank : (before : Option Lexeme) (u t : Lexeme) → spaced before u t ≡ false → blanks before u t ≡ 0
 no_blank before u t h = ap (λ v. if v then 1 else 0) h
@@ -32,7 +32,7 @@ one_blank : (before : Option Lexeme) (u t : Lexeme) → spaced before u t ≡ tr
 one_blank before u t h = ap (λ v. if v then 1 else 0) h
 
 cell_outside : (t : Lexeme) → t.inside_heredoc ≡ true → is_cell t ≡ false
-cell_outside t h = (λ i. (is_assign t.kind && not (h i)) || (is_line_comment t.kind && not (h i))) ∙ by (is_assign t.kind) (is_line_comment t.kind)
+cell_outside t h = (λ i. (is kind.Assign t.kind && not (h i)) || (is kind.LineComment t.kind && not (h i))) ∙ by (is kind.Assign t.kind) (is kind.LineComment t.kind)
   where
     by : (a b : Bool) → ((a && false) || (b && false)) ≡ false
     by true true = refl
@@ -40,7 +40,7 @@ cell_outside t h = (λ i. (is_assign t.kind && not (h i)) || (is_line_comment t.
     by false true = refl
     by false false = refl
 
-template_cell : (k : Kind) (n : Bool) → regapped.is_template k ≡ true → ((is_assign k && n) || (is_line_comment k && n)) ≡ false
+template_cell : (k : Kind) (n : Bool) → regapped.is_template k ≡ true → ((is kind.Assign k && n) || (is kind.LineComment k && n)) ≡ false
 template_cell kind.Lit n h = refl
 template_cell kind.InterpOpen n h = refl
 template_cell kind.ControlOpen n h = refl
@@ -84,7 +84,7 @@ module _ (before u : Option Lexeme) (dot : Bool) (k : Kind) (g : ℕ) (t : Lexem
   -- in a heredoc
   inside_zero : (u : Option Lexeme) → GapFor before u g t → t.inside_heredoc ≡ true → g ≡ 0
   inside_zero None gap e = gap e
-  inside_zero (Some u) gap e = zero_behind before u t g gap (row_one before u t (ap (λ v. is_newline t.kind || v) e ∙ or_true (is_newline t.kind))) (cell_outside t e)
+  inside_zero (Some u) gap e = zero_behind before u t g gap (row_one before u t (ap (λ v. is kind.Newline t.kind || v) e ∙ or_true (is kind.Newline t.kind))) (cell_outside t e)
 
   -- a token of a template, outside heredocs
   template_zero : (u : Option Lexeme) → Coherent before u dot k → GapFor before u g t → t.inside_heredoc ≡ false → regapped.is_template t.kind ≡ true → g ≡ 0
@@ -97,7 +97,7 @@ module _ (before u : Option Lexeme) (dot : Bool) (k : Kind) (g : ℕ) (t : Lexem
   comment_zero None c gap e h = absurd (let x : kind.Newline ≡ kind.LineComment = sym c ∙ h in cc)
   comment_zero (Some u) c gap e h =
       let n : t.kind ≡ kind.Newline = beside.comment e h in
-      zero_behind before u t g gap (row_one before u t (λ i. is_newline (n i) || t.inside_heredoc)) (λ i. (is_assign (n i) && not t.inside_heredoc) || (is_line_comment (n i) && not t.inside_heredoc))
+      zero_behind before u t g gap (row_one before u t (λ i. is kind.Newline (n i) || t.inside_heredoc)) (λ i. (is kind.Assign (n i) && not t.inside_heredoc) || (is kind.LineComment (n i) && not t.inside_heredoc))
 
   -- where the neighbours would join
   apart : (u : Option Lexeme) → Coherent before u dot k → GapFor before u g t → t.inside_heredoc ≡ false → regapped.is_template t.kind ≡ false → g ≡ 0 → neighbours.joins dot k t.kind t.text ≡ true → ⊥
@@ -120,6 +120,6 @@ module _ (before u : Option Lexeme) (dot : Bool) (k : Kind) (g : ℕ) (t : Lexem
       by false e = outside e (regapped.is_template t.kind) refl (is_comment k) refl
 
 -- one token further
-pub coherent_on : (before u : Option Lexeme) (dot : Bool) (k : Kind) (t : Lexeme) → Coherent before u dot k → Coherent u (Some t) (is_dot k) t.kind
+pub coherent_on : (before u : Option Lexeme) (dot : Bool) (k : Kind) (t : Lexeme) → Coherent before u dot k → Coherent u (Some t) (is kind.Dot k) t.kind
 coherent_on before None dot k t c = (refl, λ e. refl)
-coherent_on before (Some u) dot k t c = (refl, λ e. ap is_dot (sym c.0) ∙ e)
+coherent_on before (Some u) dot k t c = (refl, λ e. ap (is kind.Dot) (sym c.0) ∙ e)

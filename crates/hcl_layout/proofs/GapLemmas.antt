@@ -4,7 +4,8 @@ use Rattle.std.proofs.Common.{◌≡◌, ℕ, zero, suc, ◌+◌, ◌<◌, ◌||
 use Rattle.std.specs.Prelude.{if◌then◌else◌, slice_set, map}
 use Rattle.hcl_scan.specs.Lexemes.{Lexeme}
 use Rattle.hcl_scan.proofs.BooleanLemmas.{or_true}
-use Rattle.hcl_scan.specs.Kinds.{is_newline}
+use Rattle.hcl_scan.specs.Kinds.{is}
+use Rattle.hcl_scan.specs.declared.token.Kind.TheVariants as kind
 use Rattle.hcl_layout.specs.Lines.{Line}
 use Rattle.hcl_layout.specs.Levels.{Net, level, levels_after, net_of}
 use Rattle.hcl_layout.specs.Cells.{is_assignment, is_trailing, has_multiline, before_comment, until, found, found_from, if_level, is_level, assign_cell, running_comment, trailing_comment}
@@ -40,7 +41,7 @@ after_spread before u (t ∷ line) = (inl refl, after_spread (Some u) t line)
 
 plain_spread : (n : ℕ) (line : Line) → Spread None None (plain_gaps n line) line
 plain_spread n [] = tt
-plain_spread n (t ∷ line) = ((λ h. ap (λ v. if is_newline t.kind || v then 0 else 2 * n) h ∙ ap (λ v. if v then 0 else 2 * n) (or_true (is_newline t.kind))), after_spread None t line)
+plain_spread n (t ∷ line) = ((λ h. ap (λ v. if is kind.Newline t.kind || v then 0 else 2 * n) h ∙ ap (λ v. if v then 0 else 2 * n) (or_true (is kind.Newline t.kind))), after_spread None t line)
 
 plain_all : (before : List Net) (ls : List Line) → AllSpread (zip_with plain_gaps (levels_after before (map net_of ls)) ls) ls
 plain_all before [] = tt

@@ -4,7 +4,8 @@ use Rattle.std.specs.Prelude.{if◌then◌else◌, slice_get, slice_set, nat_eq,
 use Rattle.hcl_scan.specs.Lexemes.{Lexeme}
 use Rattle.hcl_layout.specs.Gaps.{blanks, clusters, gaps_after, indent, plain_gaps, width}
 use Rattle.hcl_layout.specs.Inner.LineGaps.{len_with_blanks, cell_gap, gap_of, gaps_from, gaps_in, plain_gap, set_cell}
-use Rattle.hcl_scan.specs.Kinds.{is_newline}
+use Rattle.hcl_scan.specs.Kinds.{is}
+use Rattle.hcl_scan.specs.declared.token.Kind.TheVariants as kind
 use Rattle.hcl_layout.specs.Lines.{Line}
 use Rattle.hcl_spacing.specs.Spacing.{spaced}
 use Rattle.hcl_layout.specs.declared.gap.Cell.{Cell}
@@ -78,7 +79,7 @@ after_small [] (suc i) b t = omega arith
 after_small (u ∷ line) (suc i) b t = omega (arith, blank b t u, clusters_few u.text, after_small line i (Some t) u)
 
 pub indented : (level : ℕ) (t : Lexeme) → indent level t ≤ 2 * level
-indented level t = go (is_newline t.kind || t.inside_heredoc)
+indented level t = go (is kind.Newline t.kind || t.inside_heredoc)
   where
     go : (v : Bool) → (if v then 0 else 2 * level) ≤ 2 * level
     go true = omega arith

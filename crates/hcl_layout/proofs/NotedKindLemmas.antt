@@ -3,7 +3,8 @@
 use Rattle.std.proofs.Common.{◌≡◌, ◌&&◌, ◌||◌, Bool, true, false, not, ap, refl}
 use Rattle.hcl_scan.specs.Lexemes.{Lexeme}
 use Rattle.hcl_scan.specs.declared.token.Kind.{Kind}
-use Rattle.hcl_scan.specs.Kinds.{is_newline}
+use Rattle.hcl_scan.specs.Kinds.{is}
+use Rattle.hcl_scan.specs.declared.token.Kind.TheVariants as kind
 use Rattle.hcl_layout.specs.Lines.{ends_line}
 use Rattle.hcl_layout.specs.Inner.Survey.{changes, is_noted, marks, turns}
 use Rattle.hcl_spacing.proofs.KindLemmas.{each}
@@ -20,11 +21,11 @@ pub turns_unmarked : (k : Kind) → turns k ≡ true → marks k ≡ false
 turns_unmarked k e = passes (not (turns k)) (marks k) (each (λ j. not (turns j) || not (marks j)) refl k) (ap not e)
 
 pub unnoted_goes_on : (t : Lexeme) → is_noted t.kind ≡ false → ends_line t ≡ false
-unnoted_goes_on t e = rw (passes (is_noted t.kind) (is_newline t.kind) (each (λ j. is_noted j || not (is_newline j)) refl t.kind) e) refl
+unnoted_goes_on t e = rw (passes (is_noted t.kind) (is kind.Newline t.kind) (each (λ j. is_noted j || not (is kind.Newline j)) refl t.kind) e) refl
 
 pub end_passed : (t : Lexeme) → ends_line t ≡ true → changes t.kind ≡ false
-end_passed t e = go (is_newline t.kind) refl e
+end_passed t e = go (is kind.Newline t.kind) refl e
   where
-    go : (v : Bool) → is_newline t.kind ≡ v → (v && not t.inside_heredoc) ≡ true → changes t.kind ≡ false
-    go true q h = passes (not (is_newline t.kind)) (changes t.kind) (each (λ j. not (is_newline j) || not (changes j)) refl t.kind) (ap not q)
+    go : (v : Bool) → is kind.Newline t.kind ≡ v → (v && not t.inside_heredoc) ≡ true → changes t.kind ≡ false
+    go true q h = passes (not (is kind.Newline t.kind)) (changes t.kind) (each (λ j. not (is kind.Newline j) || not (changes j)) refl t.kind) (ap not q)
     go false q h = cc

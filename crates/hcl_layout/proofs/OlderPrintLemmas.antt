@@ -13,7 +13,7 @@ use Rattle.hcl_layout.specs.Levels.{levels, net_of}
 use Rattle.hcl_layout.specs.Cells.{assign_cell, running_comment, trailing_comment}
 use Rattle.hcl_layout.specs.Gaps.{aligned, gaps_after, indent, line_gaps, plain_gaps, zip_with}
 use Rattle.hcl_layout.specs.Print.{print, printed}
-use Rattle.hcl_scan.specs.Kinds.{is_brace_close, is_brace_open, is_bracket_open, is_colon, is_colon_colon, is_comma, is_dot, is_ellipsis, is_ident, is_lit, is_minus, is_newline, is_not, is_paren_open, is_quote_close, is_quote_open, is_seq_close}
+use Rattle.hcl_scan.specs.Kinds.{is}
 use Rattle.hcl_spacing.specs.Spacing.{begins_with_colon, closes_group, ends_operand, is_in, is_opening, opens_sequence, spaced, would_join}
 use Rattle.hcl_layout.specs.Older.Prints.{were_gaps_after, were_line_gaps, were_plain_gaps, was_print, was_spaced, would_have_joined}
 use Rattle.hcl_spacing.proofs.SpacingLemmas.{row_one}
@@ -21,24 +21,24 @@ use Rattle.hcl_layout.proofs.OlderScanLemmas.{Apart, Older, colon_colon_is, colo
 
 -- ---- two neighbours
 record Meets (u t : Lexeme) : Type 0 where
-  left : is_colon_colon u.kind ≡ false
-  right : is_colon_colon t.kind ≡ false
-  apart : t.inside_heredoc ≡ false → (is_colon u.kind && begins_with_colon t.text) ≡ false
+  left : is kind.ColonColon u.kind ≡ false
+  right : is kind.ColonColon t.kind ≡ false
+  apart : t.inside_heredoc ≡ false → (is kind.Colon u.kind && begins_with_colon t.text) ≡ false
 
 abbrev rows_behind : Option Lexeme → Lexeme → Lexeme → Bool
 rows_behind before subject after =
-    if is_comma after.kind || is_ellipsis after.kind then false
-    else if is_comma subject.kind then true
-    else if is_quote_open subject.kind || is_lit subject.kind || is_lit after.kind || is_quote_close after.kind then false
+    if is kind.Comma after.kind || is kind.Ellipsis after.kind then false
+    else if is kind.Comma subject.kind then true
+    else if is kind.QuoteOpen subject.kind || is kind.Lit subject.kind || is kind.Lit after.kind || is kind.QuoteClose after.kind then false
     else if is_in before subject then true
-    else if is_bracket_open after.kind && ends_operand subject.kind then false
-    else if is_not subject.kind then false
-    else if is_minus subject.kind then not (is_opening before)
-    else if is_brace_open subject.kind && is_brace_close after.kind then false
-    else if is_brace_open subject.kind || is_brace_close after.kind then true
-    else if (opens_sequence subject.kind && is_brace_open after.kind) || (is_brace_close subject.kind && is_seq_close after.kind) then true
-    else if is_seq_close subject.kind && opens_sequence after.kind then false
-    else if is_paren_open subject.kind || is_bracket_open subject.kind || opens_sequence subject.kind then false
+    else if is kind.BracketOpen after.kind && ends_operand subject.kind then false
+    else if is kind.Not subject.kind then false
+    else if is kind.Minus subject.kind then not (is_opening before)
+    else if is kind.BraceOpen subject.kind && is kind.BraceClose after.kind then false
+    else if is kind.BraceOpen subject.kind || is kind.BraceClose after.kind then true
+    else if (opens_sequence subject.kind && is kind.BraceOpen after.kind) || (is kind.BraceClose subject.kind && is kind.SeqClose after.kind) then true
+    else if is kind.SeqClose subject.kind && opens_sequence after.kind then false
+    else if is kind.ParenOpen subject.kind || is kind.BracketOpen subject.kind || opens_sequence subject.kind then false
     else not (closes_group after.kind)
 
 table_same : (a r3 r4 x w v c : Bool) → w ≡ v → c ≡ false → (if a then false else if w then true else if r3 then false else if r4 then false else x) ≡ (if a then false else if v then true else if r3 then false else if r4 then false else if c then false else x)
@@ -48,7 +48,7 @@ or_false : (a : Bool) → (a || false) ≡ a
 or_false true = refl
 or_false false = refl
 
-was_row_one : (before : Option Lexeme) (u t : Lexeme) → (is_newline t.kind || t.inside_heredoc) ≡ true → was_spaced before u t ≡ false
+was_row_one : (before : Option Lexeme) (u t : Lexeme) → (is kind.Newline t.kind || t.inside_heredoc) ≡ true → was_spaced before u t ≡ false
 was_row_one before u t h = rw h refl
 
 outside : (a b : Bool) → (a || b) ≡ false → b ≡ false
@@ -56,13 +56,13 @@ outside true b h = absurd (cc)
 outside false b h = h
 
 space_same : (before : Option Lexeme) (u t : Lexeme) → Meets u t → was_spaced before u t ≡ spaced before u t
-space_same before u t m = by (is_newline t.kind || t.inside_heredoc) refl
+space_same before u t m = by (is kind.Newline t.kind || t.inside_heredoc) refl
   where
-    by : (v : Bool) → (is_newline t.kind || t.inside_heredoc) ≡ v → was_spaced before u t ≡ spaced before u t
+    by : (v : Bool) → (is kind.Newline t.kind || t.inside_heredoc) ≡ v → was_spaced before u t ≡ spaced before u t
     by true h = was_row_one before u t h ∙ sym (row_one before u t h)
     by false h =
-        let n = m.apart (outside (is_newline t.kind) t.inside_heredoc h) in
-        table_same (is_newline t.kind || t.inside_heredoc) (is_ident u.kind && is_paren_open t.kind) (is_dot u.kind || is_dot t.kind) (rows_behind before u t) (would_have_joined before u t) (would_join before u t) (is_colon_colon u.kind || is_colon_colon t.kind)
+        let n = m.apart (outside (is kind.Newline t.kind) t.inside_heredoc h) in
+        table_same (is kind.Newline t.kind || t.inside_heredoc) (is kind.Ident u.kind && is kind.ParenOpen t.kind) (is kind.Dot u.kind || is kind.Dot t.kind) (rows_behind before u t) (would_have_joined before u t) (would_join before u t) (is kind.ColonColon u.kind || is kind.ColonColon t.kind)
         (sym ((λ i. would_have_joined before u t || n i) ∙ or_false (would_have_joined before u t))) (λ i. m.left i || m.right i)
 
 -- ---- all neighbours
@@ -74,10 +74,10 @@ abbrev AllMeet : List Lexeme → Type 0
 AllMeet [] = Unit {0}
 AllMeet (t ∷ ts) = MeetsFirst t ts × AllMeet ts
 
-older_kind : (k : Kind) → (k ≢ kind.ColonColon) → is_colon_colon k ≡ false
-older_kind k h = by (is_colon_colon k) refl
+older_kind : (k : Kind) → (k ≢ kind.ColonColon) → is kind.ColonColon k ≡ false
+older_kind k h = by (is kind.ColonColon k) refl
   where
-    by : (v : Bool) → is_colon_colon k ≡ v → is_colon_colon k ≡ false
+    by : (v : Bool) → is kind.ColonColon k ≡ v → is kind.ColonColon k ≡ false
     by true e = absurd (h (colon_colon_is k e))
     by false e = e
 
@@ -85,21 +85,21 @@ colon_byte : (text : List ℕ) → begins_with_colon text ≡ true → (get_or t
 colon_byte [] h = absurd (cc)
 colon_byte (b ∷ text) h = h
 
-colon_opens_none : (k : Kind) → is_colon k ≡ true → opens_template k ≡ true → ⊥
+colon_opens_none : (k : Kind) → is kind.Colon k ≡ true → opens_template k ≡ true → ⊥
 colon_opens_none kind.Colon h e = cc
 colon_opens_none _ h e = cc
 
-meets : (u t : Lexeme) → Beside u.kind t → (u.kind ≢ kind.ColonColon) → (t.kind ≢ kind.ColonColon) → (is_colon u.kind ≡ true → is_colon t.kind ≡ false) → Meets u t
-meets u t beside h k apart = record { left = older_kind u.kind h; right = older_kind t.kind k; apart = λ inside. by inside (is_colon u.kind) refl (begins_with_colon t.text) refl }
+meets : (u t : Lexeme) → Beside u.kind t → (u.kind ≢ kind.ColonColon) → (t.kind ≢ kind.ColonColon) → (is kind.Colon u.kind ≡ true → is kind.Colon t.kind ≡ false) → Meets u t
+meets u t beside h k apart = record { left = older_kind u.kind h; right = older_kind t.kind k; apart = λ inside. by inside (is kind.Colon u.kind) refl (begins_with_colon t.text) refl }
   where
-    clash : t.inside_heredoc ≡ false → is_colon u.kind ≡ true → begins_with_colon t.text ≡ true → (v : Bool) → is_template t.kind ≡ v → ⊥
+    clash : t.inside_heredoc ≡ false → is kind.Colon u.kind ≡ true → begins_with_colon t.text ≡ true → (v : Bool) → is_template t.kind ≡ v → ⊥
     clash inside e f true g = colon_opens_none u.kind e (beside.template inside g)
     clash inside e f false g =
         let c : is_coloned t.kind ≡ true = (says t.kind (get_or t.text 0 0) (beside.begins inside g)).colons (colon_byte t.text f) in
-        let x : true ≡ false = sym (ap is_colon (coloned_is t.kind c k)) ∙ apart e in
+        let x : true ≡ false = sym (ap (is kind.Colon) (coloned_is t.kind c k)) ∙ apart e in
         cc
 
-    by : t.inside_heredoc ≡ false → (a : Bool) → is_colon u.kind ≡ a → (b : Bool) → begins_with_colon t.text ≡ b → (is_colon u.kind && begins_with_colon t.text) ≡ false
+    by : t.inside_heredoc ≡ false → (a : Bool) → is kind.Colon u.kind ≡ a → (b : Bool) → begins_with_colon t.text ≡ b → (is kind.Colon u.kind && begins_with_colon t.text) ≡ false
     by inside true e true f = absurd (clash inside e f (is_template t.kind) refl)
     by inside true e false f = λ i. e i && f i
     by inside false e b f = λ i. e i && begins_with_colon t.text

@@ -24,7 +24,7 @@ use Rattle.hcl_syntax.specs.Predictor.{Effect, on, stop, taken, effect, next, ru
 use Rattle.hcl_syntax.specs.Relation.{Step, dropped, read, opened, closed, gone, ComesTo, at_end, step as one_step, refused}
 use Rattle.hcl_syntax.specs.Verdict.{IsAccepted}
 use Rattle.hcl_syntax.proofs.RelationLemmas.{answers}
-use Rattle.hcl_scan.specs.Kinds.{is_colon}
+use Rattle.hcl_scan.specs.Kinds.{is}
 use Rattle.hcl_layout.specs.Older.Rows.{is_path_sign, was_turn, was_run, WasAccepted}
 use Rattle.hcl_layout.proofs.OlderScanLemmas.{Apart, Older, starts_colon}
 
@@ -315,11 +315,11 @@ stepped count ss l o (one_step c us u vs later ws p h r) e t ts k = record {
     tail u t vs ts k = cc
 stepped count ss l o (refused c us u vs r h) e t ts k = absurd (cc)
 
-colon_class : (k : Kind) (text : List ℕ) → is_colon k ≡ true → is_colon_class (class_at k text) ≡ true
+colon_class : (k : Kind) (text : List ℕ) → is kind.Colon k ≡ true → is_colon_class (class_at k text) ≡ true
 colon_class kind.Colon text h = refl
 colon_class _ text h = absurd (cc)
 
-trivia_no_colon : (k : Kind) (text : List ℕ) → is_trivia (class_at k text) ≡ true → is_colon k ≡ false
+trivia_no_colon : (k : Kind) (text : List ℕ) → is_trivia (class_at k text) ≡ true → is kind.Colon k ≡ false
 trivia_no_colon kind.Colon text h = absurd (cc)
 trivia_no_colon _ text h = refl
 
@@ -336,7 +336,7 @@ module _ (n : ℕ) (t : Lexeme) (ts : List Lexeme) (count : ℕ) (ss : List Mark
   list_is : (v : Bool) → is_trivia (class_of t) ≡ v → lookaheads_from n (t ∷ ts) ≡ cond v (lookaheads_from (n + 1) ts) (seen ∷ lookaheads_from (n + 1) ts)
   list_is v e = ap (λ b. cond b (lookaheads_from (n + 1) ts) (seen ∷ lookaheads_from (n + 1) ts)) e
 
-  plain : Stepped count ss seen (lookaheads_from (n + 1) ts) → begins_expr ss ≡ true → (w : Bool) → is_colon t.kind ≡ w → is_colon t.kind ≡ false
+  plain : Stepped count ss seen (lookaheads_from (n + 1) ts) → begins_expr ss ≡ true → (w : Bool) → is kind.Colon t.kind ≡ w → is kind.Colon t.kind ≡ false
   plain st b false f = f
   plain st b true f = absurd (no_colon count ss seen st.later st.us st.taken_so b (colon_class t.kind t.text f))
 
@@ -349,7 +349,7 @@ module _ (n : ℕ) (t : Lexeme) (ts : List Lexeme) (count : ℕ) (ss : List Mark
       let st = stepped count ss (lookaheads_from n (t ∷ ts)) None r refl seen (lookaheads_from (n + 1) ts) (list_is false e) in
       let here = led count ss seen st.later st.us st.taken_so p in
       let behind = more st.later st.us st.left here.pairs in
-      record { parts_all = ((λ h. behind.front (here.expects (colon_class t.kind t.text h))), behind.parts_all); front = λ b. plain st b (is_colon t.kind) refl }
+      record { parts_all = ((λ h. behind.front (here.expects (colon_class t.kind t.text h))), behind.parts_all); front = λ b. plain st b (is kind.Colon t.kind) refl }
 
 parted : (n : ℕ) (ts : List Lexeme) (count : ℕ) (ss : List Marked) → ComesTo count ss (lookaheads_from n ts) None → paired ss ≡ true → Parted ss ts
 parted n [] count ss r p = record { parts_all = tt; front = λ b. refl }

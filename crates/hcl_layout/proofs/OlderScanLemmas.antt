@@ -20,24 +20,24 @@ use Rattle.hcl_scan.proofs.KindPlaceLemmas.{Side, expression, template, side}
 use Rattle.hcl_scan.proofs.TemplateLemmas.{Way, lit, interp, control, quote}
 use Rattle.hcl_scan.proofs.WordLemmas.{begins_word, ident_word}
 use Rattle.hcl_scan.proofs.WayLemmas.{Ways, ways, newline, line_comment, inline_comment, blanks, ident, digits, number, heredoc, seq_close, brace_close, slash, mark, mark_passes}
-use Rattle.hcl_scan.specs.Kinds.{is_colon, is_colon_colon}
+use Rattle.hcl_scan.specs.Kinds.{is}
 use Rattle.hcl_layout.specs.Older.Tokens.{WasSpelling, WasRead, WasRun, WasScanned}
 
 abbrev pub starts_colon : List Lexeme → Bool
 starts_colon [] = false
-starts_colon (t ∷ ts) = is_colon t.kind
+starts_colon (t ∷ ts) = is kind.Colon t.kind
 
 -- no Colon stands behind another
 abbrev pub Apart : List Lexeme → Type 0
 Apart [] = Unit {0}
-Apart (t ∷ ts) = (is_colon t.kind ≡ true → starts_colon ts ≡ false) × Apart ts
+Apart (t ∷ ts) = (is kind.Colon t.kind ≡ true → starts_colon ts ≡ false) × Apart ts
 
 -- no ColonColon
 abbrev pub Older : List Lexeme → Type 0
 Older [] = Unit {0}
 Older (t ∷ ts) = (t.kind ≢ kind.ColonColon) × Older ts
 
-pub colon_colon_is : (k : Kind) → is_colon_colon k ≡ true → k ≡ kind.ColonColon
+pub colon_colon_is : (k : Kind) → is kind.ColonColon k ≡ true → k ≡ kind.ColonColon
 colon_colon_is kind.ColonColon h = refl
 colon_colon_is _ h = absurd (cc)
 
@@ -114,7 +114,7 @@ are_two (a ∷ b ∷ []) = (a == 58) && (b == 58)
 are_two _ = false
 
 abbrev two_test : List ℕ → Kind → Bool
-two_test t k = not (is_colon_colon k) || are_two t
+two_test t k = not (is kind.ColonColon k) || are_two t
 
 two_marks : (text : List ℕ) (k : Kind) → IsPunctuation punctuation text k → two_test text k ≡ true
 unfolding punctuation
@@ -155,7 +155,7 @@ no_gap opens seen tail e = ap (λ l. drop (gap_in opens l) l) e ∙ by (has_gaps
     by true = refl
     by false = refl
 
-module _ (s : State) (t : Lexeme) (next end : State) (ts : List Lexeme) (r : WasRead s t next) (run : WasRun next ts end) (done : IsComplete end) (apart : is_colon t.kind ≡ true → starts_colon ts ≡ false) where
+module _ (s : State) (t : Lexeme) (next end : State) (ts : List Lexeme) (r : WasRead s t next) (run : WasRun next ts end) (done : IsComplete end) (apart : is kind.Colon t.kind ≡ true → starts_colon ts ≡ false) where
   -- the older tables have read one colon, and the other is next
   not_two : (left : List ℕ) → ahead s ≡ 58 ∷ 58 ∷ left → context s.opens ≡ Expression → length t.text < 2 → ⊥
   not_two left e c few = by ts run apart
@@ -178,26 +178,26 @@ module _ (s : State) (t : Lexeme) (next end : State) (ts : List Lexeme) (r : Was
       ahead_is : ahead next ≡ 58 ∷ left
       ahead_is = no_gap next.opens next.seen left seen_is
 
-      by : (ts : List Lexeme) → WasRun next ts end → (is_colon t.kind ≡ true → starts_colon ts ≡ false) → ⊥
+      by : (ts : List Lexeme) → WasRun next ts end → (is kind.Colon t.kind ≡ true → starts_colon ts ≡ false) → ⊥
       by [] run apart = let e : [] ≡ 58 ∷ left = sym done.0 ∙ ap ahead (sym run) ∙ ahead_is in cc
       by (u ∷ us) run apart = ⊎_elim reads closes run.1
         where
           reads : WasRead next u run.0 → ⊥
           reads x =
               let k = was_colon next.opens next.after_dot u.kind u.text x.rest left (ap context opens_same ∙ c) x.longest.spelled (x.longest.whole ∙ ahead_is) in
-              let f : true ≡ false = sym (ap is_colon k) ∙ apart (ap is_colon colon) in cc
+              let f : true ≡ false = sym (ap (is kind.Colon) k) ∙ apart (ap (is kind.Colon) colon) in cc
 
           closes : Closes next u run.0 → ⊥
           closes x = let f : [] ≡ 58 ∷ left = sym x.read ∙ seen_is in cc
 
   longest_too : (other : Kind) (longer left : List ℕ) → longer ++ left ≡ ahead s → length t.text < length longer → IsSpelling s.opens s.after_dot other longer left → ⊥
-  longest_too other longer left e lt is = by (is_colon_colon other) refl
+  longest_too other longer left e lt this = by (is kind.ColonColon other) refl
     where
-      by : (v : Bool) → is_colon_colon other ≡ v → ⊥
-      by false f = r.longest.longest other longer left e lt ((λ k. let g : true ≡ false = sym (ap is_colon_colon k) ∙ f in cc), is)
+      by : (v : Bool) → is kind.ColonColon other ≡ v → ⊥
+      by false f = r.longest.longest other longer left e lt ((λ k. let g : true ≡ false = sym (ap (is kind.ColonColon) k) ∙ f in cc), this)
       by true f =
           let k = colon_colon_is other f in
-          let two = two_colons s.opens s.after_dot longer left (subst (λ (z : Kind). IsSpelling s.opens s.after_dot z longer left) k is) in
+          let two = two_colons s.opens s.after_dot longer left (subst (λ (z : Kind). IsSpelling s.opens s.after_dot z longer left) k this) in
           not_two left (sym e ∙ ap (λ l. l ++ left) two.1) two.0 (subst (λ (n : List ℕ). length t.text < length n) two.1 lt)
 
   pub read_too : Reads s t next

@@ -10,7 +10,7 @@ use Rattle.hcl_scan.specs.declared.token.Kind.{Kind}
 use Rattle.hcl_scan.specs.declared.token.Kind.TheVariants as kind
 use Rattle.hcl_scan.proofs.OtherGapLemmas.{other_gaps}
 use Rattle.hcl_scan.proofs.SideBySideLemmas.{besides}
-use Rattle.hcl_scan.specs.Kinds.{is_dot, is_newline}
+use Rattle.hcl_scan.specs.Kinds.{is}
 use Rattle.hcl_layout.specs.Lines.{Line, lines, onto_line, ends_line}
 use Rattle.hcl_layout.specs.Gaps.{gaps, line_gaps}
 use Rattle.hcl_layout.specs.Print.{print, printed}
@@ -47,7 +47,7 @@ cut [] (l ∷ ls) s = absurd s
 cut (g ∷ gs) [] s = absurd s
 cut (g ∷ gs) (l ∷ ls) s = record { front = g; back = gs; whole = refl; first = s.0; more = s.1 }
 
-newline_is : (k : Kind) (v : Bool) → (is_newline k && v) ≡ true → k ≡ kind.Newline
+newline_is : (k : Kind) (v : Bool) → (is kind.Newline k && v) ≡ true → k ≡ kind.Newline
 newline_is kind.Newline v h = refl
 newline_is _ v h = absurd (cc)
 
@@ -57,21 +57,21 @@ Fits ts = (before u : Option Lexeme) (dot : Bool) (k : Kind) (g : List ℕ) (gs 
 -- a line goes on, or the next begins
 fits_cons : (t : Lexeme) (ts : List Lexeme) → Fits ts → (v : Bool) → ends_line t ≡ v → (ls : List Line) → ls ≡ (if v then (t ∷ []) ∷ lines ts else onto_line t (lines ts)) →
     (before u : Option Lexeme) (dot : Bool) (k : Kind) (g : List ℕ) (gs : List (List ℕ)) → Coherent before u dot k → Spread before u g (first_line ls) → AllSpread gs (more_lines ls) → Besides k (t ∷ ts) → AllFit dot k (with_gaps (g ++ all_gaps gs) (t ∷ ts))
-fits_cons t ts rec true e ls is before u dot k g gs c s more b = by g (subst (λ l. Spread before u g (first_line l)) is s)
+fits_cons t ts rec true e ls this before u dot k g gs c s more b = by g (subst (λ l. Spread before u g (first_line l)) this s)
   where
     by : (g : List ℕ) → Spread before u g (t ∷ []) → AllFit dot k (with_gaps (g ++ all_gaps gs) (t ∷ ts))
     by [] s = absurd s
     by (x ∷ y ∷ g) s = absurd s.1
     by (x ∷ []) s =
-        let q = cut gs (lines ts) (subst (λ l. AllSpread gs (more_lines l)) is more) in (
+        let q = cut gs (lines ts) (subst (λ l. AllSpread gs (more_lines l)) this more) in (
           fits_here before u dot k x t c s.0 b.0,
-          subst (λ l. AllFit (is_dot k) t.kind (with_gaps l ts)) (sym q.whole) (rec None None (is_dot k) t.kind q.front q.back (newline_is t.kind (not t.inside_heredoc) e) q.first q.more b.1),
+          subst (λ l. AllFit (is kind.Dot k) t.kind (with_gaps l ts)) (sym q.whole) (rec None None (is kind.Dot k) t.kind q.front q.back (newline_is t.kind (not t.inside_heredoc) e) q.first q.more b.1),
         )
-fits_cons t ts rec false e ls is before u dot k g gs c s more b = by g (subst (λ l. Spread before u g (first_line l)) (is ∙ onto_first t (lines ts)) s)
+fits_cons t ts rec false e ls this before u dot k g gs c s more b = by g (subst (λ l. Spread before u g (first_line l)) (this ∙ onto_first t (lines ts)) s)
   where
     by : (g : List ℕ) → Spread before u g (t ∷ first_line (lines ts)) → AllFit dot k (with_gaps (g ++ all_gaps gs) (t ∷ ts))
     by [] s = absurd s
-    by (x ∷ g) s = (fits_here before u dot k x t c s.0 b.0, rec u (Some t) (is_dot k) t.kind g gs (coherent_on before u dot k t c) s.1 (subst (λ l. AllSpread gs (more_lines l)) (is ∙ onto_first t (lines ts)) more) b.1)
+    by (x ∷ g) s = (fits_here before u dot k x t c s.0 b.0, rec u (Some t) (is kind.Dot k) t.kind g gs (coherent_on before u dot k t c) s.1 (subst (λ l. AllSpread gs (more_lines l)) (this ∙ onto_first t (lines ts)) more) b.1)
 
 fits_all : (ts : List Lexeme) → Fits ts
 fits_all [] before u dot k [] [] c s more b = tt

@@ -4,7 +4,8 @@
 use Rattle.std.specs.Prelude.{◌+◌, ◌==◌, ◌&&◌, ℕ, Bool, not, [], ◌∷◌, Option, Some, None, if◌then◌else◌, drop}
 use Rattle.std.specs.List.{list_any}
 use Rattle.hcl_scan.specs.Lexemes.{Lexeme}
-use Rattle.hcl_scan.specs.Kinds.{is_assign, is_inline_comment, is_line_comment}
+use Rattle.hcl_scan.specs.Kinds.{is}
+use Rattle.hcl_scan.specs.declared.token.Kind.TheVariants as kind
 use Rattle.hcl_layout.specs.Lines.{Line}
 use Rattle.hcl_layout.specs.Levels.{Net, net_of}
 
@@ -18,7 +19,7 @@ abbrev pub found : (Lexeme → Bool) → Line → Option ℕ
 found test line = found_from test 1 (drop 1 line)
 
 abbrev pub is_trailing : Lexeme → Bool
-is_trailing t = is_line_comment t.kind && not t.inside_heredoc
+is_trailing t = is kind.LineComment t.kind && not t.inside_heredoc
 
 abbrev pub trailing_comment : Line → Option ℕ
 trailing_comment = found is_trailing
@@ -34,11 +35,11 @@ before_comment [] = []
 before_comment (t ∷ line) = t ∷ until is_trailing line
 
 abbrev pub is_assignment : Lexeme → Bool
-is_assignment t = is_assign t.kind && not t.inside_heredoc
+is_assignment t = is kind.Assign t.kind && not t.inside_heredoc
 
 -- an inline comment that holds a newline, so that the line goes on below it
 abbrev pub is_multiline : Lexeme → Bool
-is_multiline t = is_inline_comment t.kind && not t.inside_heredoc && list_any (λ b. b == 10) t.text
+is_multiline t = is kind.InlineComment t.kind && not t.inside_heredoc && list_any (λ b. b == 10) t.text
 
 abbrev pub has_multiline : Line → Bool
 has_multiline = list_any is_multiline

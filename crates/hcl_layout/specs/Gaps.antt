@@ -6,7 +6,8 @@ use Rattle.std.specs.Prelude.{◌+◌, ◌-◌, ◌*◌, ◌||◌, ℕ, true, su
 use Rattle.std.specs.List.{flat_map}
 use Rattle.unicode_segmentation.specs.Grapheme.{graphemes}
 use Rattle.hcl_scan.specs.Lexemes.{Lexeme}
-use Rattle.hcl_scan.specs.Kinds.{is_newline}
+use Rattle.hcl_scan.specs.Kinds.{is}
+use Rattle.hcl_scan.specs.declared.token.Kind.TheVariants as kind
 use Rattle.hcl_layout.specs.Lines.{Line, lines}
 use Rattle.hcl_layout.specs.Levels.{levels, net_of}
 use Rattle.hcl_spacing.specs.Spacing.{spaced}
@@ -30,7 +31,7 @@ gaps_after before subject [] = []
 gaps_after before subject (after ∷ line) = blanks before subject after ∷ gaps_after (Some subject) after line
 
 abbrev pub indent : ℕ → Lexeme → ℕ
-indent level t = if is_newline t.kind || t.inside_heredoc then 0 else 2 * level
+indent level t = if is kind.Newline t.kind || t.inside_heredoc then 0 else 2 * level
 
 -- the gaps of a line by its level and the spacing alone
 abbrev pub plain_gaps : ℕ → Line → List ℕ

@@ -3,13 +3,14 @@
 -- Our own choice: a heredoc's body is kept as it is, so it belongs to the line on which it began.
 use Rattle.std.specs.Prelude.{◌&&◌, Bool, not, List, [], ◌∷◌, if◌then◌else◌}
 use Rattle.hcl_scan.specs.Lexemes.{Lexeme}
-use Rattle.hcl_scan.specs.Kinds.{is_newline}
+use Rattle.hcl_scan.specs.Kinds.{is}
+use Rattle.hcl_scan.specs.declared.token.Kind.TheVariants as kind
 
 abbrev pub Line : Type 0
 Line = List Lexeme
 
 abbrev pub ends_line : Lexeme → Bool
-ends_line t = is_newline t.kind && not t.inside_heredoc
+ends_line t = is kind.Newline t.kind && not t.inside_heredoc
 
 -- the token at the front of the first line
 abbrev pub onto_line : Lexeme → List Line → List Line

@@ -5,10 +5,10 @@ use Rattle.std.specs.Char.{is_ascii_digit}
 use Rattle.std.proofs.lemmas.Bool.Decides.{nat_tests}
 use Rattle.hcl_scan.specs.Lexemes.{Opener, in_heredoc}
 use Rattle.hcl_scan.specs.Spelling.{punctuation, IsPunctuation, IsDigits, starts}
-use Rattle.hcl_scan.specs.Kinds.{is_ident, is_minus, is_number, is_seq_close, is_star}
+use Rattle.hcl_scan.specs.Kinds.{is}
 use Rattle.hcl_scan.specs.SideBySide.{begins_as, is_pointed, is_coloned, is_equals, is_greater, is_less, is_slashed, may_begin_ident}
 use Rattle.hcl_scan.specs.declared.token.Kind.{Kind}
-use Rattle.hcl_scan.specs.declared.token.Kind.TheVariants.{Ident, Number}
+use Rattle.hcl_scan.specs.declared.token.Kind.TheVariants.{Ident, Number, Minus, SeqClose, Star}
 use Rattle.hcl_scan.proofs.WayLemmas.{Ways, newline, line_comment, inline_comment, blanks, ident, digits, number, heredoc, seq_close, brace_close, slash, mark, mark_passes}
 use Rattle.hcl_scan.proofs.WordLemmas.{ident_word, begins_word}
 use Rattle.hcl_scan.proofs.CommentLemmas.{starts_split, or_cases}
@@ -49,17 +49,17 @@ begins opens dot kind text rest plain (mark is) = mark_begins text kind is
 
 -- the table, row by row
 pub record Says (kind : Kind) (b : ℕ) : Type 0 where
-  pub letter : may_begin_ident b ≡ true → is_ident kind ≡ true
-  pub digit : is_ascii_digit b ≡ true → is_number kind ≡ true
-  pub minus : (b == 45) ≡ true → is_minus kind ≡ true
+  pub letter : may_begin_ident b ≡ true → is Ident kind ≡ true
+  pub digit : is_ascii_digit b ≡ true → is Number kind ≡ true
+  pub minus : (b == 45) ≡ true → is Minus kind ≡ true
   pub point : (b == 46) ≡ true → is_pointed kind ≡ true
   pub colons : (b == 58) ≡ true → is_coloned kind ≡ true
   pub equals : (b == 61) ≡ true → is_equals kind ≡ true
   pub greater : (b == 62) ≡ true → is_greater kind ≡ true
   pub less : (b == 60) ≡ true → is_less kind ≡ true
   pub slashed : (b == 47) ≡ true → is_slashed kind ≡ true
-  pub star : (b == 42) ≡ true → is_star kind ≡ true
-  pub tilde : (b == 126) ≡ true → is_seq_close kind ≡ true
+  pub star : (b == 42) ≡ true → is Star kind ≡ true
+  pub tilde : (b == 126) ≡ true → is SeqClose kind ≡ true
 
 pub says : (kind : Kind) (b : ℕ) → begins_as kind b ≡ true → Says kind b
 says kind b h = record {

@@ -9,10 +9,10 @@ use Rattle.std.proofs.lemmas.List.{length-map}
 use Rattle.std.proofs.lemmas.List.Sums.{prefix_len-le-length}
 use Rattle.hcl_scan.specs.Lexemes.{Opener, Heredoc, marker_of, moved, max_open}
 use Rattle.hcl_scan.specs.Spelling.{is_blank, starts, context, Expression, IsHeredocOpen}
-use Rattle.hcl_scan.specs.Kinds.{is_dot}
+use Rattle.hcl_scan.specs.Kinds.{is}
 use Rattle.hcl_scan.specs.Scans.{Leaves, hides, IsLongest, IsMarkerLine, IsFirstMarkerLine, closer_len, is_marker_line, skip_blanks, at_line_end, ahead}
 use Rattle.hcl_scan.specs.Faults.{too_deep, no_marker_line}
-use Rattle.hcl_scan.specs.Inner.Openings.{opener_of, openers_of, offsets_in, hidden_of, opened_by, opened_on, is_heredoc_open}
+use Rattle.hcl_scan.specs.Inner.Openings.{opener_of, openers_of, offsets_in, hidden_of, opened_by, opened_on}
 use Rattle.hcl_scan.specs.Inner.Scanners.{state_of, IsSound, IsNext, IsStopped, Moves, fits_in}
 use Rattle.hcl_scan.specs.declared.token.Entry.{Entry}
 use Rattle.hcl_scan.specs.declared.stack.Opener as kept
@@ -21,7 +21,7 @@ use Rattle.hcl_scan.specs.declared.stack.Opened.{Opened}
 use Rattle.hcl_scan.specs.declared.scanner.Scanner.{Scanner}
 use Rattle.hcl_source.specs.declared.fault.FaultKind.TheVariants.{TooDeep, UnterminatedHeredoc}
 use Rattle.hcl_scan.specs.declared.token.Kind.{Kind}
-use Rattle.hcl_scan.specs.declared.token.Kind.TheVariants.{HeredocOpen}
+use Rattle.hcl_scan.specs.declared.token.Kind.TheVariants.{HeredocOpen, Dot}
 use Rattle.hcl_scan.proofs.SliceLemmas.{front_of, back_of, slice_len, part_boundary}
 use Rattle.hcl_scan.proofs.StackLemmas.{push_offsets, closes_is, opens_so}
 use Rattle.hcl_scan.proofs.LiteralLemmas.{starts_len}
@@ -30,7 +30,7 @@ use Rattle.hcl_scan.proofs.KindPlaceLemmas.{heredoc}
 use Rattle.hcl_scan.proofs.StartLemmas.{both}
 use Rattle.hcl_scan.proofs.StepLemmas.{ahead_is, entry_is, text_len, blank_ascii}
 
-heredoc_kind : (kind : Kind) → is_heredoc_open kind ≡ true → kind ≡ HeredocOpen
+heredoc_kind : (kind : Kind) → is HeredocOpen kind ≡ true → kind ≡ HeredocOpen
 heredoc_kind HeredocOpen h = refl
 heredoc_kind _ h = absurd (cc)
 
@@ -69,7 +69,7 @@ closer_within marker line is =
     let le : prefix_len is_blank line ≤ length line = prefix_len-le-length is_blank line in
     omega (arith, starts_len (skip_blanks line) marker b.0, length-drop (prefix_len is_blank line) line, le)
 
-module _ (s : Scanner) (e : Entry) (sound : IsSound s) (is : IsNext s e) (opens : is_heredoc_open e.kind ≡ true) where
+module _ (s : Scanner) (e : Entry) (sound : IsSound s) (this : IsNext s e) (opens : is HeredocOpen e.kind ≡ true) where
   kind_is : e.kind ≡ HeredocOpen
   kind_is = heredoc_kind e.kind opens
 
@@ -80,7 +80,7 @@ module _ (s : Scanner) (e : Entry) (sound : IsSound s) (is : IsNext s e) (opens 
   rest = slice_range s.text.now e.end s.end
 
   spelled_so : (context (openers_of s.stack) ≡ Expression) × IsHeredocOpen word
-  spelled_so = heredoc (openers_of s.stack) s.after_dot word rest e.kind is.longest.spelled kind_is
+  spelled_so = heredoc (openers_of s.stack) s.after_dot word rest e.kind this.longest.spelled kind_is
 
   pub word_long : 2 ≤ length word
   word_long = long_opener word spelled_so.1
@@ -89,14 +89,14 @@ module _ (s : Scanner) (e : Entry) (sound : IsSound s) (is : IsNext s e) (opens 
   marker_some = some_marker word spelled_so.1
 
   longest_so : IsLongest (openers_of s.stack) s.after_dot (ahead (state_of s)) HeredocOpen word rest
-  longest_so = subst (λ (k : Kind). IsLongest (openers_of s.stack) s.after_dot (ahead (state_of s)) k word rest) kind_is (subst (λ l. IsLongest (openers_of s.stack) s.after_dot l e.kind word rest) (ahead_is s e.start is.start) is.longest)
+  longest_so = subst (λ (k : Kind). IsLongest (openers_of s.stack) s.after_dot (ahead (state_of s)) k word rest) kind_is (subst (λ l. IsLongest (openers_of s.stack) s.after_dot l e.kind word rest) (ahead_is s e.start this.start) this.longest)
 
   -- its marker line is missing
   pub no_line : length s.stack < max_open → ((n : ℕ) → ¬ IsMarkerLine (marker_of word) rest n) → IsStopped s (record { kind = UnterminatedHeredoc; at = e.start })
   no_line room none = record {
     lacks = no_marker_line word rest longest_so (omega (arith, room, length-map s.stack (λ (o : Opened). opener_of o.by))) none refl;
-    at = is.start.gap;
-    boundary = is.start.boundary;
+    at = this.start.gap;
+    boundary = this.start.boundary;
   }
 
   -- its marker line is found
@@ -108,7 +108,7 @@ module _ (s : Scanner) (e : Entry) (sound : IsSound s) (is : IsNext s e) (opens 
     hidden = slice_range s.text.now (e.end + line) s.end
 
     rest_len : length rest + e.end ≡ s.end
-    rest_len = slice_len s.text.now e.end s.end is.within sound.within
+    rest_len = slice_len s.text.now e.end s.end this.within sound.within
 
     line_within : e.end + line ≤ s.end
     line_within = omega (arith, rest_len, first.here.within)
@@ -148,17 +148,17 @@ module _ (s : Scanner) (e : Entry) (sound : IsSound s) (is : IsNext s e) (opens 
       pub opens_heredoc : (stack : List Opened) → stack ≡ opened_on opener e.start s.stack → Moves s e (record { text = s.text; at = e.end; end = e.end + line; after_dot = false; stack = stack })
       opens_heredoc stack stack_is = subst (λ (z : List Opened). Moves s e (record { text = s.text; at = e.end; end = e.end + line; after_dot = false; stack = z })) (sym stack_is) (record {
         same_text = refl;
-        entry = entry_is s e sound is;
+        entry = entry_is s e sound this;
         read = inl (record {
           rest = rest;
-          longest = subst (λ l. IsLongest (openers_of s.stack) s.after_dot l e.kind word rest) (ahead_is s e.start is.start) is.longest;
-          start = is.start.gap;
-          inside = is.inside;
-          at = text_len s e sound is;
+          longest = subst (λ l. IsLongest (openers_of s.stack) s.after_dot l e.kind word rest) (ahead_is s e.start this.start) this.longest;
+          start = this.start.gap;
+          inside = this.inside;
+          at = text_len s e sound this;
           opens = ap (λ (k : Kind). moved k (openers_of s.stack)) (sym kind_is);
           offsets = push_offsets e.start Heredoc (openers_of s.stack) (offsets_in s.stack);
           room = omega (arith, room, length-map s.stack (λ (o : Opened). opener_of o.by));
-          after_dot = ap is_dot (sym kind_is);
+          after_dot = ap (is Dot) (sym kind_is);
           leaves = subst (λ (k : Kind). Leaves k word rest (hidden_of s.text.now s.stack s.end) (slice_range s.text.now e.end (e.end + line)) (hidden_of s.text.now (opened_on opener e.start s.stack) (e.end + line))) (sym kind_is)
               (line, first, front_of s.text.now e.end s.end line line_within, hides_so);
         });
@@ -166,12 +166,12 @@ module _ (s : Scanner) (e : Entry) (sound : IsSound s) (is : IsNext s e) (opens 
           small = sound.small;
           order = omega arith;
           within = omega (arith, line_within, sound.within);
-          start = is.boundary;
+          start = this.boundary;
           end = end_boundary;
-          stack = (closes_is s.text.now s.stack s.end opener sound.stack, ap (fits_in Heredoc) spelled_so.0, is.start.boundary, (omega (arith, closer_some), closer_within_so, closer_boundary, sound.end, sound.stack));
+          stack = (closes_is s.text.now s.stack s.end opener sound.stack, ap (fits_in Heredoc) spelled_so.0, this.start.boundary, (omega (arith, closer_some), closer_within_so, closer_boundary, sound.end, sound.stack));
           depth = omega (arith, room);
         };
-        further = omega (arith, is.start.gap, is.order);
+        further = omega (arith, this.start.gap, this.order);
       })
         where
           hides_so : record { closer = slice_range s.text.now (e.end + line) (e.end + line + n); after = slice_range s.text.now (e.end + line + n) s.end } ∷ hidden_of s.text.now s.stack s.end ≡ hides marker (drop line rest) ∷ hidden_of s.text.now s.stack s.end
@@ -193,7 +193,7 @@ deep s e is opener full moves = record {
 pub deep_opener : (s : Scanner) (e : Entry) (is : IsNext s e) (opener : kept.Opener) → length s.stack ≡ max_open → opened_by e.kind ≡ Some opener → IsStopped s (record { kind = TooDeep; at = e.start })
 deep_opener s e is opener full opens = deep s e is (opener_of opener) full (sym (opens_so e.kind opener (openers_of s.stack) opens).0)
 
-pub deep_heredoc : (s : Scanner) (e : Entry) (is : IsNext s e) → length s.stack ≡ max_open → is_heredoc_open e.kind ≡ true → IsStopped s (record { kind = TooDeep; at = e.start })
+pub deep_heredoc : (s : Scanner) (e : Entry) (this : IsNext s e) → length s.stack ≡ max_open → is HeredocOpen e.kind ≡ true → IsStopped s (record { kind = TooDeep; at = e.start })
 deep_heredoc s e is full opens = deep s e is Heredoc full (ap (λ (k : Kind). moved k (openers_of s.stack)) (heredoc_kind e.kind opens))
 
 -- whether the stack is full

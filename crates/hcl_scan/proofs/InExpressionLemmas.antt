@@ -6,7 +6,7 @@ use Rattle.std.proofs.lemmas.List.{get_or_append_left}
 use Rattle.std.proofs.lemmas.Bool.Decides.{nat_tests}
 use Rattle.hcl_scan.specs.Lexemes.{Lexeme, Opener, in_heredoc, moved}
 use Rattle.hcl_scan.specs.Spelling.{punctuation, IsPunctuation, IsExpressionText, context, Expression}
-use Rattle.hcl_scan.specs.Kinds.{is_dot, is_number}
+use Rattle.hcl_scan.specs.Kinds.{is}
 use Rattle.hcl_scan.specs.Scans.{State, ahead, Reads, Closes, Next, Run}
 use Rattle.hcl_scan.specs.Inner.Leads.{lead_of, lead_bytes}
 use Rattle.hcl_scan.specs.Neighbours.{grows, joins, joins_text, stays}
@@ -97,17 +97,17 @@ no_touch _ t g k i = λ j. no_template t.kind k j || i j
 
 -- ---- a text that begins with a point
 abbrev point_test : List ℕ → Kind → Bool
-point_test t k = is_dot k || not (get_or t 0 0 == 46) || (nat_le 2 (length t) && not (is_ascii_digit (get_or t 1 0)))
+point_test t k = is Dot k || not (get_or t 0 0 == 46) || (nat_le 2 (length t) && not (is_ascii_digit (get_or t 1 0)))
 
 points : (text : List ℕ) (kind : Kind) → IsPunctuation punctuation text kind → point_test text kind ≡ true
 unfolding punctuation
 points text kind is = mark_passes (λ t k. point_test t k) punctuation text kind refl is
 
-no_fraction : (opens : List Opener) (dot : Bool) (kind : Kind) (text rest other : List ℕ) → IsExpressionText opens dot kind text rest → is_dot kind ≡ false → ((get_or (text ++ other) 0 0 == 46) && is_ascii_digit (get_or (text ++ other) 1 0)) ≡ false
-no_fraction opens dot kind text rest other is no_dot = by (get_or (text ++ other) 0 0 == 46) refl
+no_fraction : (opens : List Opener) (dot : Bool) (kind : Kind) (text rest other : List ℕ) → IsExpressionText opens dot kind text rest → is Dot kind ≡ false → ((get_or (text ++ other) 0 0 == 46) && is_ascii_digit (get_or (text ++ other) 1 0)) ≡ false
+no_fraction opens dot kind text rest other this no_dot = by (get_or (text ++ other) 0 0 == 46) refl
   where
     w : Ways opens dot kind text rest
-    w = ways opens dot kind text rest is
+    w = ways opens dot kind text rest this
 
     long : 0 < length text
     long = some opens dot kind text rest w
@@ -129,7 +129,7 @@ no_fraction opens dot kind text rest other is no_dot = by (get_or (text ++ other
         let b : get_or text 0 0 ≡ 46 = sym first ∙ is_point (get_or (text ++ other) 0 0) e in
         let lead : lead_of text ≡ SignLead = ap (λ b. lead_bytes b (get_or text 1 0)) b in
         let m = sign_mark opens dot kind text rest (sym (leads opens dot kind text rest w) ∙ lead) w in
-        let t = two (length text) (get_or text 1 0) (is_dot kind) (get_or text 0 0 == 46) no_dot (ap (λ c. c == 46) b) (points text kind m) in
+        let t = two (length text) (get_or text 1 0) (is Dot kind) (get_or text 0 0 == 46) no_dot (ap (λ c. c == 46) b) (points text kind m) in
         ap is_ascii_digit (get_or_append_left text other 0 1 t.0) ∙ t.1
       where
         is_point : (b : ℕ) → (b == 46) ≡ true → b ≡ 46
@@ -168,10 +168,10 @@ fits_free : (v : Bool) (gap : ℕ) (j : Bool) → v ≡ false → cond v (gap ==
 fits_free true gap j h k z = absurd (cc)
 fits_free false gap j h k z = (λ i. not (sym z i == 0) || not j) ∙ k
 
-keeps_front : (kind : Kind) (dot : Bool) (text more : List ℕ) (next : Kind) → 0 < length text → not (joins dot kind next text) ≡ true → (is_dot next ≡ false → ((get_or (text ++ more) 0 0 == 46) && is_ascii_digit (get_or (text ++ more) 1 0)) ≡ false) → not (joins_text dot kind (text ++ more)) ≡ true
+keeps_front : (kind : Kind) (dot : Bool) (text more : List ℕ) (next : Kind) → 0 < length text → not (joins dot kind next text) ≡ true → (is Dot next ≡ false → ((get_or (text ++ more) 0 0 == 46) && is_ascii_digit (get_or (text ++ more) 1 0)) ≡ false) → not (joins_text dot kind (text ++ more)) ≡ true
 keeps_front kind dot text more next some h f =
-    no_join_there (grows kind (get_or (text ++ more) 0 0)) (is_number kind) (not dot) (get_or (text ++ more) 0 0 == 46) (is_ascii_digit (get_or (text ++ more) 1 0)) (is_dot next)
-    ((λ i. not (grows kind (get_or_append_left text more 0 0 some i) || (is_number kind && not dot && is_dot next))) ∙ h) f
+    no_join_there (grows kind (get_or (text ++ more) 0 0)) (is Number kind) (not dot) (get_or (text ++ more) 0 0 == 46) (is_ascii_digit (get_or (text ++ more) 1 0)) (is Dot next)
+    ((λ i. not (grows kind (get_or_append_left text more 0 0 some i) || (is Number kind && not dot && is Dot next))) ∙ h) f
 
 pub of_joins : (dot : Bool) (kind : Kind) (rest other : List ℕ) → grower kind ≡ true → not (joins_text dot kind other) ≡ true → stays dot kind rest other ≡ true
 of_joins dot LineComment rest other g h = absurd (cc)
@@ -180,7 +180,7 @@ of_joins dot kind rest other g h = h
 
 module _ (s : State) (t : Lexeme) (next end : State) (r : Reads s t next) (plain : in_heredoc s.opens ≡ false) where
   pub growing_on : grower t.kind ≡ true → (ps : List (ℕ × Lexeme)) → Run next (without_gaps ps) end → AllFit s.after_dot t.kind ps → not (joins_text s.after_dot t.kind (text_with_gaps ps)) ≡ true
-  growing_on g [] run parts = no_join (grows t.kind 0) (is_number t.kind) (not s.after_dot) false (is_ascii_digit 0) (zero_grows t.kind) refl
+  growing_on g [] run parts = no_join (grows t.kind 0) (is Number t.kind) (not s.after_dot) false (is_ascii_digit 0) (zero_grows t.kind) refl
   growing_on g (p ∷ ps) run parts = by p.0 refl
     where
       at : LeavesExpression t.kind s.opens
@@ -200,4 +200,4 @@ module _ (s : State) (t : Lexeme) (next end : State) (r : Reads s t next) (plain
           ∙ keeps_front t.kind s.after_dot p.1.text (text_with_gaps ps) p.1.kind long (fits_free (touches t.kind p.1) p.0 (joins s.after_dot t.kind p.1.kind p.1.text) free parts.0 e)
           (no_fraction next.opens next.after_dot p.1.kind p.1.text x.rest (text_with_gaps ps) x.is)
       by (suc gap) e = ap (λ n. not (joins_text s.after_dot t.kind (replicate n 32 ++ (p.1.text ++ text_with_gaps ps)))) e
-          ∙ no_join (grows t.kind 32) (is_number t.kind) (not s.after_dot) false _ (blank_grows t.kind) refl
+          ∙ no_join (grows t.kind 32) (is Number t.kind) (not s.after_dot) false _ (blank_grows t.kind) refl

@@ -1,7 +1,8 @@
 -- Inside an outermost heredoc the tokens don't depend on what stands behind it.
 use Rattle.std.proofs.Common.{◌≡◌, ℕ, ◌+◌, ◌<◌, Bool, true, false, List, [], ◌∷◌, length, drop, ◌≤◌, inl, inr, refl, sym, ap, subst, ◌∙◌, arith}
 use Rattle.hcl_scan.specs.Lexemes.{Lexeme, Opener, in_heredoc, marker_of, moved, max_open}
-use Rattle.hcl_scan.specs.Kinds.{is_dot}
+use Rattle.hcl_scan.specs.Kinds.{is}
+use Rattle.hcl_scan.specs.declared.token.Kind.TheVariants as kind
 use Rattle.hcl_scan.specs.Scans.{State, Hidden, hides, gap_len, gap_in, ahead, offsets_of, IsLongest, Leaves, Reads, Closes, Next}
 use Rattle.hcl_scan.specs.InHeredocs.{behind_last, SameInside, ReadsToo}
 use Rattle.hcl_scan.proofs.ShownLemmas.{Shown, opening, plain, shown, plain_shows, open_shows}
@@ -12,7 +13,7 @@ behind_cons other h [] some = absurd (omega arith)
 behind_cons other h (k ∷ hs) some = refl
 
 abbrev went : State → Lexeme → List ℕ → List Hidden → State
-went twin t seen hidden = record { at = twin.at + length t.text; opens = moved t.kind twin.opens; offsets = offsets_of twin.at twin.opens (moved t.kind twin.opens) twin.offsets; after_dot = is_dot t.kind; seen = seen; hidden = hidden }
+went twin t seen hidden = record { at = twin.at + length t.text; opens = moved t.kind twin.opens; offsets = offsets_of twin.at twin.opens (moved t.kind twin.opens) twin.offsets; after_dot = is kind.Dot t.kind; seen = seen; hidden = hidden }
 
 module _ (other : List ℕ) (s twin : State) (t : Lexeme) (next : State) (same : SameInside other s twin) (some : 0 < length s.hidden) where
   reads_too : in_heredoc s.opens ≡ true → Reads s t next → ReadsToo other twin t next

@@ -6,7 +6,7 @@ use Rattle.std.specs.Char.{is_ascii_digit}
 use Rattle.hcl_scan.specs.Lexemes.{Opener, in_heredoc}
 use Rattle.hcl_scan.specs.Spelling.{IsExpressionText, IsSpelling, IsTextIn, IsLiteral, context, Context, Template, Expression, starts, are_elements, element_len}
 use Rattle.hcl_scan.specs.Scans.{IsLongest}
-use Rattle.hcl_scan.specs.Kinds.{is_number}
+use Rattle.hcl_scan.specs.Kinds.{is}
 use Rattle.hcl_scan.specs.Neighbours.{grows, joins_text, same_close, stays}
 use Rattle.hcl_scan.specs.declared.token.Kind.{Kind}
 use Rattle.hcl_scan.specs.declared.token.Kind.TheVariants.{Newline, LineComment, InlineComment, Blank, Ident, Number, HeredocOpen, SeqClose, BraceClose, Slash, Lit, InterpOpen, ControlOpen, QuoteClose}
@@ -61,7 +61,7 @@ for_number (b ∷ other) h = by (is_ascii_digit b) (b == 101) (b == 69) (b == 46
 mark_stays : (dot : Bool) (kind : Kind) (rest other : List ℕ) → is_marked kind ≡ true → stays dot kind rest other ≡ true → not (grows kind (get_or other 0 0)) ≡ true
 mark_stays dot LineComment rest other m h = absurd (cc)
 mark_stays dot Lit rest other m h = absurd (cc)
-mark_stays dot kind rest other m h = (none_of (grows kind (get_or other 0 0)) (is_number kind && not dot && (get_or other 0 0 == 46) && is_ascii_digit (get_or other 1 0)) h).0
+mark_stays dot kind rest other m h = (none_of (grows kind (get_or other 0 0)) (is Number kind && not dot && (get_or other 0 0 == 46) && is_ascii_digit (get_or other 1 0)) h).0
 
 mark_before : (opens : List Opener) (dot : Bool) (kind : Kind) (text rest other : List ℕ) → is_marked kind ≡ true → IsExpressionText opens dot kind text rest → IsExpressionText opens dot kind text other
 mark_before opens dot Newline text rest other m h = absurd (cc)
@@ -78,10 +78,10 @@ mark_before opens dot _ text rest other m h = h
 
 -- ---- expressions
 sure : (opens : List Opener) (dot : Bool) (kind : Kind) (text rest other : List ℕ) → in_heredoc opens ≡ false → IsExpressionText opens dot kind text rest → stays dot kind rest other ≡ true → Alone opens dot text other × IsExpressionText opens dot kind text other
-sure opens dot kind text rest other plain is h = by (ways opens dot kind text rest is)
+sure opens dot kind text rest other plain this h = by (ways opens dot kind text rest this)
   where
     long : 0 < length text
-    long = some opens dot kind text rest (ways opens dot kind text rest is)
+    long = some opens dot kind text rest (ways opens dot kind text rest this)
 
     table : (k : Kind) → kind ≡ k → stays dot k rest other ≡ true
     table k e = subst (λ (z : Kind). stays dot z rest other ≡ true) e h
@@ -97,9 +97,9 @@ sure opens dot kind text rest other plain is h = by (ways opens dot kind text re
     by (line_comment k x) = (line_alone opens dot text other long x (table LineComment k), back LineComment k x)
     by (inline_comment k x) = (inline_alone opens dot text other x, back InlineComment k x)
     by (blanks k i x) = absurd (cc)
-    by (ident k x) = (ident_alone opens dot text other x (for_ident other (none_of (grows Ident (get_or other 0 0)) (is_number Ident && not dot && (get_or other 0 0 == 46) && is_ascii_digit (get_or other 1 0)) (table Ident k)).0), back Ident k x)
+    by (ident k x) = (ident_alone opens dot text other x (for_ident other (none_of (grows Ident (get_or other 0 0)) (is Number Ident && not dot && (get_or other 0 0 == 46) && is_ascii_digit (get_or other 1 0)) (table Ident k)).0), back Ident k x)
     by (digits k d x) = (
-      subst (λ v. Alone opens v text other) (sym d) (digits_alone opens text other x (for_digits other (none_of (grows Number (get_or other 0 0)) (is_number Number && not dot && (get_or other 0 0 == 46) && is_ascii_digit (get_or other 1 0)) (table Number k)).0)),
+      subst (λ v. Alone opens v text other) (sym d) (digits_alone opens text other x (for_digits other (none_of (grows Number (get_or other 0 0)) (is Number Number && not dot && (get_or other 0 0 == 46) && is_ascii_digit (get_or other 1 0)) (table Number k)).0)),
       with_dot true d (subst (λ (z : Kind). IsExpressionText opens true z text other) (sym k) x),
     )
     by (number k d x) = (
@@ -110,7 +110,7 @@ sure opens dot kind text rest other plain is h = by (ways opens dot kind text re
     by (seq_close k c x) = (closer_alone opens dot text other x, back SeqClose k (c, x))
     by (brace_close k c x) = (closer_alone opens dot text other (inl x), back BraceClose k (c, x))
     by (slash k x c) =
-        let stop : grows Slash (get_or other 0 0) ≡ false = not_true (grows Slash (get_or other 0 0)) (none_of (grows Slash (get_or other 0 0)) (is_number Slash && not dot && (get_or other 0 0 == 46) && is_ascii_digit (get_or other 1 0)) (table Slash k)).0 in
+        let stop : grows Slash (get_or other 0 0) ≡ false = not_true (grows Slash (get_or other 0 0)) (none_of (grows Slash (get_or other 0 0)) (is Number Slash && not dot && (get_or other 0 0 == 46) && is_ascii_digit (get_or other 1 0)) (table Slash k)).0 in
         (slash_alone opens dot text other x stop, back Slash k (x, no_star other stop))
       where
         no_star : (other : List ℕ) → grows Slash (get_or other 0 0) ≡ false → starts other (42 ∷ []) ≡ false
@@ -121,7 +121,7 @@ sure opens dot kind text rest other plain is h = by (ways opens dot kind text re
             by_two true w k = absurd (cc)
             by_two false true k = absurd (cc)
             by_two false false k = refl
-    by (mark x) = (mark_alone opens dot kind text other plain x (for_mark kind other (mark_stays dot kind rest other (mark_kind text kind x) h)), mark_before opens dot kind text rest other (mark_kind text kind x) is)
+    by (mark x) = (mark_alone opens dot kind text other plain x (for_mark kind other (mark_stays dot kind rest other (mark_kind text kind x) h)), mark_before opens dot kind text rest other (mark_kind text kind x) this)
 
 -- ---- templates
 found_front : (opens : List Opener) (dot : Bool) (kind : Kind) (text other : List ℕ) → Finds opens dot (text ++ other) kind (length text) → IsLongest opens dot (text ++ other) kind text other
@@ -169,10 +169,10 @@ module _ (opens : List Opener) (dot : Bool) (here : context opens ≡ Template t
   template_kept : (kind : Kind) → Way true kind text rest → stays dot kind rest other ≡ true → IsLongest opens dot (text ++ other) kind text other
   template_kept kind (lit k x) h = subst (λ (z : Kind). IsLongest opens dot (text ++ other) z text other) (sym k) (lit_kept x (behind_is rest other (subst (λ (z : Kind). stays dot z rest other ≡ true) k h)))
   template_kept kind (interp k x) h =
-      let t = (none_of (grows InterpOpen (get_or other 0 0)) (is_number InterpOpen && not dot && (get_or other 0 0 == 46) && is_ascii_digit (get_or other 1 0)) (subst (λ (z : Kind). stays dot z rest other ≡ true) k h)).0 in
+      let t = (none_of (grows InterpOpen (get_or other 0 0)) (is Number InterpOpen && not dot && (get_or other 0 0 == 46) && is_ascii_digit (get_or other 1 0)) (subst (λ (z : Kind). stays dot z rest other ≡ true) k h)).0 in
       subst (λ (z : Kind). IsLongest opens dot (text ++ other) z text other) (sym k) (found_front opens dot InterpOpen text other (subst (λ n. Finds opens dot (text ++ other) InterpOpen n) (opener_size 36 x t) (interp_found true opens dot here (text ++ other) (opener_starts 36 refl x))))
   template_kept kind (control k x) h =
-      let t = (none_of (grows ControlOpen (get_or other 0 0)) (is_number ControlOpen && not dot && (get_or other 0 0 == 46) && is_ascii_digit (get_or other 1 0)) (subst (λ (z : Kind). stays dot z rest other ≡ true) k h)).0 in
+      let t = (none_of (grows ControlOpen (get_or other 0 0)) (is Number ControlOpen && not dot && (get_or other 0 0 == 46) && is_ascii_digit (get_or other 1 0)) (subst (λ (z : Kind). stays dot z rest other ≡ true) k h)).0 in
       subst (λ (z : Kind). IsLongest opens dot (text ++ other) z text other) (sym k) (found_front opens dot ControlOpen text other (subst (λ n. Finds opens dot (text ++ other) ControlOpen n) (opener_size 37 x t) (control_found true opens dot here (text ++ other) (opener_starts 37 refl x))))
   template_kept kind (closing k q x) h =
       subst (λ (z : Kind). IsLongest opens dot (text ++ other) z text other) (sym k) (found_front opens dot QuoteClose text other (subst (λ n. Finds opens dot (text ++ other) QuoteClose n) (ap length (sym x)) (quote_found true opens dot here (text ++ other) refl (ap (λ l. starts (l ++ other) (34 ∷ [])) x))))

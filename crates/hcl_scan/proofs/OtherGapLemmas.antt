@@ -5,11 +5,11 @@ use Rattle.std.proofs.Common.{◌≡◌, ℕ, ◌+◌, ◌≤◌, Bool, true, fa
 use Rattle.std.proofs.lemmas.List.{take-append-drop}
 use Rattle.hcl_scan.specs.Lexemes.{Lexeme, Opener, Heredoc, marker_of, moved, in_heredoc, max_open}
 use Rattle.hcl_scan.specs.Spelling.{IsSpelling, context, Expression}
-use Rattle.hcl_scan.specs.Kinds.{is_dot}
+use Rattle.hcl_scan.specs.Kinds.{is}
 use Rattle.hcl_scan.specs.Scans.{State, Hidden, hides, gap_len, offsets_of, owed, begin, skip_blanks, at_line_end, closer_len, IsLongest, IsFirstMarkerLine, Leaves, Reads, Closes, Run, Scans, IsComplete}
 use Rattle.hcl_scan.specs.Regapped.{without_gaps, text_with_gaps, placed, AllFit}
 use Rattle.hcl_scan.specs.declared.token.Kind.{Kind}
-use Rattle.hcl_scan.specs.declared.token.Kind.TheVariants.{Newline}
+use Rattle.hcl_scan.specs.declared.token.Kind.TheVariants.{Newline, Dot}
 use Rattle.hcl_scan.proofs.BooleanLemmas.{and_true}
 use Rattle.hcl_scan.proofs.ContextLemmas.{expression_is}
 use Rattle.hcl_scan.proofs.ShownLemmas.{Shown, opening, plain, shown, plain_shows, open_shows}
@@ -26,7 +26,7 @@ behind (h ∷ hs) z = h.closer ++ (h.after ++ behind hs z)
 
 -- where the texts are read again, outside of heredocs and inside
 abbrev Outside : List (ℕ × Lexeme) → Type 0
-Outside ps = (s end : State) (dot : Bool) (before : Kind) (at : ℕ) (offsets : List ℕ) → Run s (without_gaps ps) end → IsComplete end → s.hidden ≡ [] → Sound s.opens s.hidden → s.after_dot ≡ is_dot before → AllFit dot before ps →
+Outside ps = (s end : State) (dot : Bool) (before : Kind) (at : ℕ) (offsets : List ℕ) → Run s (without_gaps ps) end → IsComplete end → s.hidden ≡ [] → Sound s.opens s.hidden → s.after_dot ≡ is Dot before → AllFit dot before ps →
     Again (record { at = at; opens = s.opens; offsets = offsets; after_dot = s.after_dot; seen = text_with_gaps ps; hidden = [] }) (placed at ps)
 
 -- what the text holds behind the outermost heredoc
@@ -37,7 +37,7 @@ pub record Within (s : State) (hs : List Hidden) (last : Hidden) (ps : List (ℕ
   pub again : Again (record { at = at; opens = s.opens; offsets = offsets; after_dot = s.after_dot; seen = s.seen; hidden = hs ++ record { closer = last.closer; after = after } ∷ [] }) (placed at ps)
 
 abbrev Inside : List (ℕ × Lexeme) → Type 0
-Inside ps = (s end : State) (dot : Bool) (before : Kind) (at : ℕ) (offsets : List ℕ) (hs : List Hidden) (last : Hidden) → Run s (without_gaps ps) end → IsComplete end → s.hidden ≡ hs ++ last ∷ [] → Sound s.opens s.hidden → at_line_end (skip_blanks last.after) ≡ true → s.after_dot ≡ is_dot before → AllFit dot before ps →
+Inside ps = (s end : State) (dot : Bool) (before : Kind) (at : ℕ) (offsets : List ℕ) (hs : List Hidden) (last : Hidden) → Run s (without_gaps ps) end → IsComplete end → s.hidden ≡ hs ++ last ∷ [] → Sound s.opens s.hidden → at_line_end (skip_blanks last.after) ≡ true → s.after_dot ≡ is Dot before → AllFit dot before ps →
     Within s hs last ps at offsets
 
 -- what a gap of no blanks leaves
@@ -128,10 +128,10 @@ module _ (p : ℕ × Lexeme) (ps : List (ℕ × Lexeme)) (outside : Outside ps) 
 
           by : Shown t.kind t.text r.rest s.hidden next.seen next.hidden → goal
           by (plain k e e') = push (text_with_gaps ps) [] (plain_shows t.kind t.text (text_with_gaps ps) [] k)
-              (outside next end (is_dot before) t.kind at' offsets' run.2 done (e' ∙ no_hidden) sound' r.after_dot parts.1)
+              (outside next end (is Dot before) t.kind at' offsets' run.2 done (e' ∙ no_hidden) sound' r.after_dot parts.1)
           by (opening k n first e e') =
               let h : Hidden = hides (marker_of t.text) (drop n r.rest) in
-              let w = inside next end (is_dot before) t.kind at' offsets' [] h run.2 done (e' ∙ ap (λ l. h ∷ l) no_hidden) sound' (and_true _ _ first.here.marked).1 r.after_dot parts.1 in
+              let w = inside next end (is Dot before) t.kind at' offsets' [] h run.2 done (e' ∙ ap (λ l. h ∷ l) no_hidden) sound' (and_true _ _ first.here.marked).1 r.after_dot parts.1 in
               let m = marker_line_stays s.opens s.after_dot t.text r.rest w.after n (subst (λ (z : Kind). IsSpelling s.opens s.after_dot z t.text r.rest) k r.longest.spelled) first w.ends in
               let z_is : take n r.rest ++ (h.closer ++ w.after) ≡ text_with_gaps ps = sym (w.whole ∙ ap (λ l. l ++ (h.closer ++ w.after)) e) in
               let first' = subst (λ l. IsFirstMarkerLine (marker_of t.text) l n) z_is m.0 in
@@ -180,7 +180,7 @@ module _ (p : ℕ × Lexeme) (ps : List (ℕ × Lexeme)) (outside : Outside ps) 
 
         by : Shown t.kind t.text r.rest s.hidden next.seen next.hidden → Within s hs last (p ∷ ps) at offsets
         by (plain k e e') =
-            let w = inside next end (is_dot before) t.kind at' offsets' hs last run.2 done (e' ∙ hidden) sound' ends r.after_dot parts.1 in
+            let w = inside next end (is Dot before) t.kind at' offsets' hs last run.2 done (e' ∙ hidden) sound' ends r.after_dot parts.1 in
             let h' : Hidden = record { closer = last.closer; after = w.after } in
             record {
               after = w.after;
@@ -190,7 +190,7 @@ module _ (p : ℕ × Lexeme) (ps : List (ℕ × Lexeme)) (outside : Outside ps) 
             }
         by (opening k n first e e') =
             let h : Hidden = hides (marker_of t.text) (drop n r.rest) in
-            let w = inside next end (is_dot before) t.kind at' offsets' (h ∷ hs) last run.2 done (e' ∙ ap (λ l. h ∷ l) hidden) sound' ends r.after_dot parts.1 in
+            let w = inside next end (is Dot before) t.kind at' offsets' (h ∷ hs) last run.2 done (e' ∙ ap (λ l. h ∷ l) hidden) sound' ends r.after_dot parts.1 in
             let h' : Hidden = record { closer = last.closer; after = w.after } in
             let tail : List ℕ = behind hs (last.closer ++ w.after) in
             record {
@@ -213,8 +213,8 @@ module _ (p : ℕ × Lexeme) (ps : List (ℕ × Lexeme)) (outside : Outside ps) 
       no_gap_here : p.0 ≡ 0
       no_gap_here = no_gap dot before p.1 p.0 c.inside parts.0
 
-      not_dot : ◌≡◌ {A = Bool} false (is_dot p.1.kind)
-      not_dot = sym (ap is_dot c.kind)
+      not_dot : ◌≡◌ {A = Bool} false (is Dot p.1.kind)
+      not_dot = sym (ap (is Dot) c.kind)
 
       -- what is left of the last is where the outer text goes on
       inside_closes : (hs : List Hidden) → s.hidden ≡ hs ++ last ∷ [] → Within s hs last (p ∷ ps) at offsets
@@ -226,7 +226,7 @@ module _ (p : ℕ × Lexeme) (ps : List (ℕ × Lexeme)) (outside : Outside ps) 
           let grounded : is_grounded (Heredoc ∷ c.below) ≡ true = subst (λ l. is_grounded l ≡ true) c.top sound.grounded in
           let in_expression : context c.below ≡ Expression = expression_is (context c.below) (and_true _ _ grounded).0 in
           let outside_all : in_heredoc c.below ≡ false = no_heredoc c.below (sound_on.counted ∙ ap length above) in
-          let again = outside next end (is_dot before) p.1.kind at' (drop 1 offsets) run_on done above sound_on not_dot parts.1 in
+          let again = outside next end (is Dot before) p.1.kind at' (drop 1 offsets) run_on done above sound_on not_dot parts.1 in
           let pushed = push_closes at p.0 s.opens c.below offsets s.after_dot s.seen (text_with_gaps ps) [] p.1 (placed at' ps) c.top c.read no_gap_here c.kind c.inside again in
           record {
             after = text_with_gaps ps;
@@ -239,7 +239,7 @@ module _ (p : ℕ × Lexeme) (ps : List (ℕ × Lexeme)) (outside : Outside ps) 
           let closer : h.closer ≡ p.1.text = ap (λ (l : List Hidden). closer_in l) both in
           let after : h.after ≡ c.rest = ap (λ (l : List Hidden). after_in l) both in
           let above : c.above ≡ hs ++ last ∷ [] = sym (ap (λ l. drop 1 l) both) in
-          let w = inside next end (is_dot before) p.1.kind at' (drop 1 offsets) hs last run_on done above sound_on ends not_dot parts.1 in
+          let w = inside next end (is Dot before) p.1.kind at' (drop 1 offsets) hs last run_on done above sound_on ends not_dot parts.1 in
           let h' : Hidden = record { closer = last.closer; after = w.after } in
           let tail : List ℕ = behind hs (last.closer ++ w.after) in
           let pushed = push_closes at p.0 s.opens c.below offsets s.after_dot s.seen c.rest (hs ++ h' ∷ []) p.1 (placed at' ps) c.top c.read no_gap_here c.kind c.inside w.again in

@@ -4,12 +4,12 @@ use Rattle.std.proofs.lemmas.Bool.{cases_order}
 use Rattle.std.proofs.Math.Seq.{take-append_seam, drop-append_seam}
 use Rattle.hcl_scan.specs.Lexemes.{Lexeme, Opener, marker_of, moved, opened, max_open}
 use Rattle.hcl_scan.specs.Spelling.{IsSpelling}
-use Rattle.hcl_scan.specs.Kinds.{is_dot}
+use Rattle.hcl_scan.specs.Kinds.{is}
 use Rattle.hcl_scan.specs.Scans.{State, Hidden, hides, gap_len, offsets_of, owed, begin, ahead, IsLongest, IsFirstMarkerLine, Leaves, Reads, Closes, Next, Run, Scans, IsComplete}
 use Rattle.hcl_scan.specs.Faults.{Lacks, at_end, no_token, too_deep, no_marker_line, end_fault, fault_offset, IsScanFault}
 use Rattle.hcl_source.specs.declared.fault.FaultKind.{FaultKind}
 use Rattle.hcl_scan.specs.declared.token.Kind.{Kind}
-use Rattle.hcl_scan.specs.declared.token.Kind.TheVariants.{HeredocOpen}
+use Rattle.hcl_scan.specs.declared.token.Kind.TheVariants.{HeredocOpen, Dot}
 
 -- two laws of the spellings: one kind for each text, and no empty text
 unfoldable pub OneKind : Type 0
@@ -63,7 +63,7 @@ one_reads one s t u a b x y =
     let at : a.at ≡ b.at = x.at ∙ ap (λ (z : Lexeme). z.start + length z.text) token ∙ sym y.at in
     let opens : a.opens ≡ b.opens = x.opens ∙ ap (λ (z : Lexeme). moved z.kind s.opens) token ∙ sym y.opens in
     let offsets : a.offsets ≡ b.offsets = x.offsets ∙ (λ i. offsets_of (starts_at i) s.opens (opens i) s.offsets) ∙ sym y.offsets in
-    let dot : a.after_dot ≡ b.after_dot = x.after_dot ∙ ap (λ (z : Lexeme). is_dot z.kind) token ∙ sym y.after_dot in
+    let dot : a.after_dot ≡ b.after_dot = x.after_dot ∙ ap (λ (z : Lexeme). is Dot z.kind) token ∙ sym y.after_dot in
     let there : Leaves u.kind u.text y.rest s.hidden a.seen a.hidden = subst (λ (p : Kind × List ℕ × List ℕ). Leaves p.0 p.1 p.2 s.hidden a.seen a.hidden) (λ i. (same.kind_is i, same.text_is i, same.rest_is i)) x.leaves in
     let shown = one_shown u.kind u.text y.rest s.hidden a.seen b.seen a.hidden b.hidden there y.leaves in
     (token, λ i. record { at = at i; opens = opens i; offsets = offsets i; after_dot = dot i; seen = shown.0 i; hidden = shown.1 i })

@@ -10,11 +10,11 @@ use Rattle.std.proofs.lemmas.List.Sums.{prefix_len-le-length}
 use Rattle.hcl_source.specs.Load.{max_source}
 use Rattle.hcl_scan.specs.Lexemes.{Opener, in_heredoc, moved, Heredoc, Quote, Sequence, Brace, Bracket, Paren, max_open}
 use Rattle.hcl_scan.specs.Spelling.{is_blank, Context, Template, Expression, context, context_in}
-use Rattle.hcl_scan.specs.Kinds.{is_dot}
+use Rattle.hcl_scan.specs.Kinds.{is}
 use Rattle.hcl_scan.specs.Scans.{State, Hidden, Leaves, IsLongest, gap_len, ahead, offsets_of, owed, owes, has_gaps_in, HasNone}
 use Rattle.hcl_scan.specs.Faults.{no_token, at_end, no_token_fault, fault_offset, owed_offset, end_fault}
 use Rattle.hcl_scan.specs.Inner.Found.{Finds}
-use Rattle.hcl_scan.specs.Inner.Openings.{opener_of, openers_of, offsets_in, hidden_of, quoted_in, template_top, option_and, innermost_owed, opened_by, opened_on, closed, is_heredoc_open}
+use Rattle.hcl_scan.specs.Inner.Openings.{opener_of, openers_of, offsets_in, hidden_of, quoted_in, template_top, option_and, innermost_owed, opened_by, opened_on, closed}
 use Rattle.hcl_scan.specs.Inner.Scanners.{state_of, IsStack, IsSound, IsEntry, IsStart, IsNext, IsStopped, Moves}
 use Rattle.hcl_scan.specs.declared.token.Entry.{Entry}
 use Rattle.hcl_scan.specs.declared.token.Found.{Found}
@@ -40,22 +40,22 @@ plain_shows HeredocOpen text rest hidden h = absurd (h refl)
 plain_shows _ text rest hidden h = (refl, refl)
 
 -- A TOKEN THAT OPENS NO HEREDOC is read
-module _ (s : Scanner) (e : Entry) (sound : IsSound s) (is : IsNext s e) where
+module _ (s : Scanner) (e : Entry) (sound : IsSound s) (this : IsNext s e) where
   pub text_len : e.end ≡ e.start + length (slice_range s.text.now e.start e.end)
-  text_len = omega (arith, slice_len s.text.now e.start e.end (omega (arith, is.order)) (omega (arith, is.within, sound.within)))
+  text_len = omega (arith, slice_len s.text.now e.start e.end (omega (arith, this.order)) (omega (arith, this.within, sound.within)))
 
   pub entry_is : IsEntry s.text.now e
-  entry_is = record { order = omega (arith, is.order); start = is.start.boundary; end = is.boundary }
+  entry_is = record { order = omega (arith, this.order); start = this.start.boundary; end = this.boundary }
 
-  pub moves : (stack : List Opened) (dot : Bool) → dot ≡ is_dot e.kind → e.kind ≢ HeredocOpen → openers_of stack ≡ moved e.kind (openers_of s.stack) → offsets_in stack ≡ offsets_of e.start (openers_of s.stack) (openers_of stack) (offsets_in s.stack) → hidden_of s.text.now stack s.end ≡ hidden_of s.text.now s.stack s.end → IsStack s.text.now stack s.end → length stack ≤ max_open → Moves s e (record { text = s.text; at = e.end; end = s.end; after_dot = dot; stack = stack })
+  pub moves : (stack : List Opened) (dot : Bool) → dot ≡ is Dot e.kind → e.kind ≢ HeredocOpen → openers_of stack ≡ moved e.kind (openers_of s.stack) → offsets_in stack ≡ offsets_of e.start (openers_of s.stack) (openers_of stack) (offsets_in s.stack) → hidden_of s.text.now stack s.end ≡ hidden_of s.text.now s.stack s.end → IsStack s.text.now stack s.end → length stack ≤ max_open → Moves s e (record { text = s.text; at = e.end; end = s.end; after_dot = dot; stack = stack })
   moves stack dot dot_is kind_is opens_are offsets_are hidden_is stack_is room = record {
     same_text = refl;
     entry = entry_is;
     read = inl (record {
       rest = slice_range s.text.now e.end s.end;
-      longest = subst (λ l. IsLongest (openers_of s.stack) s.after_dot l e.kind (slice_range s.text.now e.start e.end) (slice_range s.text.now e.end s.end)) (ahead_is s e.start is.start) is.longest;
-      start = is.start.gap;
-      inside = is.inside;
+      longest = subst (λ l. IsLongest (openers_of s.stack) s.after_dot l e.kind (slice_range s.text.now e.start e.end) (slice_range s.text.now e.end s.end)) (ahead_is s e.start this.start) this.longest;
+      start = this.start.gap;
+      inside = this.inside;
       at = text_len;
       opens = opens_are;
       offsets = offsets_are;
@@ -63,37 +63,37 @@ module _ (s : Scanner) (e : Entry) (sound : IsSound s) (is : IsNext s e) where
       after_dot = dot_is;
       leaves = subst (λ h. Leaves e.kind (slice_range s.text.now e.start e.end) (slice_range s.text.now e.end s.end) (hidden_of s.text.now s.stack s.end) (slice_range s.text.now e.end s.end) h) (sym hidden_is) (plain_shows e.kind (slice_range s.text.now e.start e.end) (slice_range s.text.now e.end s.end) (hidden_of s.text.now s.stack s.end) kind_is);
     });
-    sound = record { small = sound.small; order = is.within; within = sound.within; start = is.boundary; end = sound.end; stack = stack_is; depth = room };
-    further = omega (arith, is.start.gap, is.order);
+    sound = record { small = sound.small; order = this.within; within = sound.within; start = this.boundary; end = sound.end; stack = stack_is; depth = room };
+    further = omega (arith, this.start.gap, this.order);
   }
 
   differ : true ≡ false → ⊥
   differ h = cc
 
-  pub reads_plain : (stack : List Opened) (dot : Bool) → dot ≡ is_dot e.kind → opened_by e.kind ≡ None → is_heredoc_open e.kind ≡ false → stack ≡ closed e.kind s.stack → Moves s e (record { text = s.text; at = e.end; end = s.end; after_dot = dot; stack = stack })
+  pub reads_plain : (stack : List Opened) (dot : Bool) → dot ≡ is Dot e.kind → opened_by e.kind ≡ None → is HeredocOpen e.kind ≡ false → stack ≡ closed e.kind s.stack → Moves s e (record { text = s.text; at = e.end; end = s.end; after_dot = dot; stack = stack })
   reads_plain stack dot dot_is plain no_heredoc stack_is =
-      let kind_is : e.kind ≢ HeredocOpen = λ k. absurd (differ (sym (ap is_heredoc_open k) ∙ no_heredoc)) in
-      let spelled = is.longest.spelled in
+      let kind_is : e.kind ≢ HeredocOpen = λ k. absurd (differ (sym (ap (is HeredocOpen) k) ∙ no_heredoc)) in
+      let spelled = this.longest.spelled in
       let closes_none = no_close (openers_of s.stack) s.after_dot (slice_range s.text.now e.start e.end) (slice_range s.text.now e.end s.end) e.kind spelled in
       let d = closed_drops e.kind s.stack closes_none (closable (openers_of s.stack) s.after_dot (slice_range s.text.now e.start e.end) (slice_range s.text.now e.end s.end) e.kind spelled) in
       let opens_are = closed_is e.kind s.stack plain kind_is in
       subst (λ (z : List Opened). Moves s e (record { text = s.text; at = e.end; end = s.end; after_dot = dot; stack = z })) (sym stack_is)
       (moves (closed e.kind s.stack) dot dot_is kind_is opens_are (drops_offsets e.start s.stack (closed e.kind s.stack) d) (d.hidden s.text.now s.end) (d.stack s.text.now s.end sound.stack) (omega (arith, d.less, sound.depth)))
 
-  opener_no_dot : (kind : Kind) (opener : kept.Opener) → opened_by kind ≡ Some opener → (false ≡ is_dot kind) × (kind ≢ HeredocOpen)
+  opener_no_dot : (kind : Kind) (opener : kept.Opener) → opened_by kind ≡ Some opener → (false ≡ is Dot kind) × (kind ≢ HeredocOpen)
   opener_no_dot Dot opener h = absurd (cc)
   opener_no_dot HeredocOpen opener h = absurd (cc)
   opener_no_dot _ opener h = (refl, λ k. cc)
 
   pub reads_opener : (opener : kept.Opener) (stack : List Opened) → opened_by e.kind ≡ Some opener → length s.stack < max_open → stack ≡ opened_on opener e.start s.stack → Moves s e (record { text = s.text; at = e.end; end = s.end; after_dot = false; stack = stack })
   reads_opener opener stack opens_is room stack_is =
-      let spelled = is.longest.spelled in
+      let spelled = this.longest.spelled in
       let so = opens_so e.kind opener (openers_of s.stack) opens_is in
       let no = opener_no_dot e.kind opener opens_is in
       let fitting = fits (openers_of s.stack) s.after_dot (slice_range s.text.now e.start e.end) (slice_range s.text.now e.end s.end) e.kind opener spelled opens_is in
       subst (λ (z : List Opened). Moves s e (record { text = s.text; at = e.end; end = s.end; after_dot = false; stack = z })) (sym stack_is)
       (moves (opened_on opener e.start s.stack) false no.0 no.1 so.0 (push_offsets e.start (opener_of opener) (openers_of s.stack) (offsets_in s.stack)) (hidden_on s.text.now s.end opener (hidden_of s.text.now s.stack) so.1)
-      (closes_is s.text.now s.stack s.end opener sound.stack, fitting, is.start.boundary, ends_of s.text.now s.end opener (IsStack s.text.now s.stack) so.1 sound.stack)
+      (closes_is s.text.now s.stack s.end opener sound.stack, fitting, this.start.boundary, ends_of s.text.now s.end opener (IsStack s.text.now s.stack) so.1 sound.stack)
       (omega (arith, room)))
 
 -- AT THE FRONT

@@ -4,7 +4,7 @@
 -- `neighbours`.
 use Rattle.std.specs.Prelude.{ℕ, ◌==◌, ◌||◌, ◌&&◌, not, Bool, true, false, List, [], ◌∷◌, nat_le, get_or, codes}
 use Rattle.std.specs.Char.{is_ascii_digit, is_ascii_alphanumeric}
-use Rattle.hcl_scan.specs.Kinds.{is_dot, is_number}
+use Rattle.hcl_scan.specs.Kinds.{is}
 use Rattle.hcl_scan.specs.Spelling.{starts}
 use Rattle.hcl_scan.specs.declared.token.Kind.{Kind}
 use Rattle.hcl_scan.specs.declared.token.Kind.TheVariants.{LineComment, Ident, Number, Dot, Colon, Assign, Not, Slash, Less, Greater, Lit, InterpOpen, ControlOpen}
@@ -38,13 +38,13 @@ grows _ b = false
 -- the next token may join the one before it, `after_dot` telling whether a Dot stands before that: a Dot may begin
 -- the fraction of a number that stands behind none (`1` and `.`, but not the second step of `l.0.1`)
 abbrev pub joins : Bool → Kind → Kind → List ℕ → Bool
-joins after_dot kind next text = grows kind (get_or text 0 0) || (is_number kind && not after_dot && is_dot next)
+joins after_dot kind next text = grows kind (get_or text 0 0) || (is Number kind && not after_dot && is Dot next)
 
 -- ---- a token before a text that isn't cut into tokens
 
 -- the text may go on the token: its first byte, or for a number a point and a digit
 abbrev pub joins_text : Bool → Kind → List ℕ → Bool
-joins_text after_dot kind other = grows kind (get_or other 0 0) || (is_number kind && not after_dot && (get_or other 0 0 == 46) && is_ascii_digit (get_or other 1 0))
+joins_text after_dot kind other = grows kind (get_or other 0 0) || (is Number kind && not after_dot && (get_or other 0 0 == 46) && is_ascii_digit (get_or other 1 0))
 
 -- an LF, or nothing, comes first
 abbrev pub ends_comment : List ℕ → Bool

@@ -3,10 +3,10 @@
 -- `other_gaps`.
 use Rattle.std.specs.Prelude.{ℕ, ◌+◌, ◌==◌, ◌||◌, not, Bool, true, false, IsTrue, List, [], ◌∷◌, ◌++◌, length, if◌then◌else◌, replicate, map}
 use Rattle.hcl_scan.specs.Lexemes.{Lexeme}
-use Rattle.hcl_scan.specs.Kinds.{is_dot}
+use Rattle.hcl_scan.specs.Kinds.{is}
 use Rattle.hcl_scan.specs.Neighbours.{joins}
 use Rattle.hcl_scan.specs.declared.token.Kind.{Kind}
-use Rattle.hcl_scan.specs.declared.token.Kind.TheVariants.{LineComment, Lit, InterpOpen, ControlOpen, QuoteClose, HeredocClose}
+use Rattle.hcl_scan.specs.declared.token.Kind.TheVariants.{LineComment, Lit, InterpOpen, ControlOpen, QuoteClose, HeredocClose, Dot}
 
 -- the tokens without the gaps
 abbrev pub without_gaps : List (ℕ × Lexeme) → List Lexeme
@@ -44,4 +44,4 @@ gap_fits after_dot before t gap = if touches before t then gap == 0 else (not (g
 -- every gap fits, behind a token of this kind
 abbrev pub AllFit : Bool → Kind → List (ℕ × Lexeme) → Type 0
 AllFit after_dot before [] = Unit {0}
-AllFit after_dot before (p ∷ ps) = IsTrue (gap_fits after_dot before p.1 p.0) × AllFit (is_dot before) p.1.kind ps
+AllFit after_dot before (p ∷ ps) = IsTrue (gap_fits after_dot before p.1 p.0) × AllFit (is Dot before) p.1.kind ps

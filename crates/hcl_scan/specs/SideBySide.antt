@@ -3,10 +3,10 @@
 use Rattle.std.specs.Prelude.{◌||◌, ◌≡◌, ℕ, ◌==◌, Bool, true, false, List, [], ◌∷◌, get_or, nat_le, codes, if◌then◌else◌, ◌⊎◌, IsUtf8}
 use Rattle.std.specs.Char.{is_ascii_digit, is_ascii_alphabetic}
 use Rattle.hcl_scan.specs.Lexemes.{Lexeme}
-use Rattle.hcl_scan.specs.Kinds.{is_ident, is_minus, is_number, is_seq_close, is_star}
+use Rattle.hcl_scan.specs.Kinds.{is}
 use Rattle.hcl_scan.specs.Regapped.{is_template}
 use Rattle.hcl_scan.specs.declared.token.Kind.{Kind}
-use Rattle.hcl_scan.specs.declared.token.Kind.TheVariants.{Newline, LineComment, InlineComment, HeredocOpen, QuoteOpen, SeqClose, Dot, Ellipsis, Colon, ColonColon, Assign, Arrow, Slash, Equal, Less, Greater, LessEqual, GreaterEqual, Lit, HeredocClose}
+use Rattle.hcl_scan.specs.declared.token.Kind.TheVariants.{Newline, LineComment, InlineComment, HeredocOpen, QuoteOpen, SeqClose, Dot, Ellipsis, Colon, ColonColon, Assign, Arrow, Slash, Equal, Less, Greater, LessEqual, GreaterEqual, Lit, HeredocClose, Ident, Minus, Number, Star}
 
 -- an identifier may begin with the byte; beyond ASCII its character decides
 abbrev pub may_begin_ident : ℕ → Bool
@@ -54,17 +54,17 @@ is_slashed _ = false
 -- what the first byte of a token of an expression says of its kind; of the bytes that go on no token it says nothing
 abbrev pub begins_as : Kind → ℕ → Bool
 begins_as kind b =
-    if may_begin_ident b then is_ident kind
-    else if is_ascii_digit b then is_number kind
-    else if b == 45 then is_minus kind
+    if may_begin_ident b then is Ident kind
+    else if is_ascii_digit b then is Number kind
+    else if b == 45 then is Minus kind
     else if b == 46 then is_pointed kind
     else if b == 58 then is_coloned kind
     else if b == 61 then is_equals kind
     else if b == 62 then is_greater kind
     else if b == 60 then is_less kind
     else if b == 47 then is_slashed kind
-    else if b == 42 then is_star kind
-    else if b == 126 then is_seq_close kind
+    else if b == 42 then is Star kind
+    else if b == 126 then is SeqClose kind
     else true
 
 -- behind a token of this kind a template may go on

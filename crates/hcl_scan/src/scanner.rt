@@ -5,11 +5,12 @@ ghost use Rattle.std.specs.Str.{IsCharBoundary};
 ghost use Rattle.hcl_source.specs.Load.{max_source};
 ghost use Rattle.hcl_scan.specs.Lexemes.{in_heredoc};
 ghost use Rattle.hcl_scan.specs.Spelling.{context, Template, Expression};
-ghost use Rattle.hcl_scan.specs.Kinds.{is_dot};
+ghost use Rattle.hcl_scan.specs.Kinds.{is};
+ghost use Rattle.hcl_scan.specs.declared.token.Kind.TheVariants.{Dot, HeredocOpen};
 ghost use Rattle.hcl_scan.specs.Scans.{ahead, begin, HasNone, IsComplete};
 ghost use Rattle.hcl_scan.specs.Faults.{no_token_fault};
 ghost use Rattle.hcl_scan.specs.Inner.Found.{Finds};
-ghost use Rattle.hcl_scan.specs.Inner.Openings.{openers_of, opened_by, is_heredoc_open};
+ghost use Rattle.hcl_scan.specs.Inner.Openings.{openers_of, opened_by};
 ghost use Rattle.hcl_scan.specs.declared.stack.Opened.{Opened};
 ghost use Rattle.hcl_scan.specs.Inner.Scanners.{state_of, IsSound, IsStart, IsNext, IsStopped, Moves};
 
@@ -56,13 +57,13 @@ fn opener(kind: Kind) -> Option<Opener>
 }
 
 fn is_dot(kind: Kind) -> bool
-    ensures { result ≡ is_dot kind }
+    ensures { result ≡ is Dot kind }
 {
     matches!(kind, Kind::Dot)
 }
 
 fn is_heredoc_open(kind: Kind) -> bool
-    ensures { result ≡ is_heredoc_open kind }
+    ensures { result ≡ is HeredocOpen kind }
 {
     matches!(kind, Kind::HeredocOpen)
 }
@@ -195,7 +196,7 @@ impl<'s> Scanner<'s> {
         requires sound { IsSound self.old }
         requires next { IsNext self.old entry }
         requires plain { opened_by entry.kind ≡ None }
-        requires no_heredoc { is_heredoc_open entry.kind ≡ false }
+        requires no_heredoc { is HeredocOpen entry.kind ≡ false }
         ensures { Moves self.old entry self.new }
     {
         self.stack.close(entry.kind);
@@ -227,7 +228,7 @@ impl<'s> Scanner<'s> {
     fn read_heredoc(&mut self, entry: Entry) -> Result<(), Stopped>
         requires sound { IsSound self.old }
         requires next { IsNext self.old entry }
-        requires heredoc { is_heredoc_open entry.kind ≡ true }
+        requires heredoc { is HeredocOpen entry.kind ≡ true }
         ensures read { OnOk result (Moves self.old entry self.new) }
         ensures stopped { IfErr result (IsStopped self.old) }
     {

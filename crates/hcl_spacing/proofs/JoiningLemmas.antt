@@ -15,7 +15,7 @@ use Rattle.hcl_scan.specs.declared.token.Kind.TheVariants as kind
 use Rattle.hcl_scan.proofs.BooleanLemmas.{and_true, or_true, not_true}
 use Rattle.hcl_scan.proofs.CommentLemmas.{or_cases}
 use Rattle.hcl_scan.proofs.FirstByteLemmas.{Says, says}
-use Rattle.hcl_scan.specs.Kinds.{is_colon, is_dot, is_ellipsis, is_ident, is_minus, is_newline, is_not, is_number, is_seq_close, is_star}
+use Rattle.hcl_scan.specs.Kinds.{is}
 use Rattle.hcl_spacing.specs.Spacing.{opens_sequence, begins_with_colon, begins_with_equals, stands_before, spaced}
 use Rattle.hcl_spacing.proofs.SpacingLemmas.{plain_pair, by_kinds, by_joining}
 
@@ -41,7 +41,7 @@ e_byte b h = by (is_ascii_digit b) refl h
     by true e k = inr e
     by false e k = inl (letter b k)
 
-pair_ident : (k : Kind) → (is_ident k ≡ true) ⊎ (is_number k ≡ true) ⊎ (is_minus k ≡ true) → plain_pair kind.Ident k ≡ true
+pair_ident : (k : Kind) → (is kind.Ident k ≡ true) ⊎ (is kind.Number k ≡ true) ⊎ (is kind.Minus k ≡ true) → plain_pair kind.Ident k ≡ true
 pair_ident kind.Ident h = refl
 pair_ident kind.Number h = refl
 pair_ident kind.Minus h = refl
@@ -49,7 +49,7 @@ pair_ident _ (inl h) = absurd (cc)
 pair_ident _ (inr (inl h)) = absurd (cc)
 pair_ident _ (inr (inr h)) = absurd (cc)
 
-pair_number : (k : Kind) → (is_ident k ≡ true) ⊎ (is_number k ≡ true) → plain_pair kind.Number k ≡ true
+pair_number : (k : Kind) → (is kind.Ident k ≡ true) ⊎ (is kind.Number k ≡ true) → plain_pair kind.Number k ≡ true
 pair_number kind.Ident h = refl
 pair_number kind.Number h = refl
 pair_number _ (inl h) = absurd (cc)
@@ -80,7 +80,7 @@ pair_greater kind.Arrow h = refl
 pair_greater kind.Equal h = refl
 pair_greater _ h = absurd (cc)
 
-pair_slash : (k : Kind) → (beside.is_slashed k ≡ true) ⊎ (is_star k ≡ true) → plain_pair kind.Slash k ≡ true
+pair_slash : (k : Kind) → (beside.is_slashed k ≡ true) ⊎ (is kind.Star k ≡ true) → plain_pair kind.Slash k ≡ true
 pair_slash kind.Slash h = refl
 pair_slash kind.LineComment h = refl
 pair_slash kind.InlineComment h = refl
@@ -88,28 +88,28 @@ pair_slash kind.Star h = refl
 pair_slash _ (inl h) = absurd (cc)
 pair_slash _ (inr h) = absurd (cc)
 
-pair_dot : (k : Kind) → beside.is_pointed k ≡ true → (is_dot k || is_ellipsis k) ≡ true
+pair_dot : (k : Kind) → beside.is_pointed k ≡ true → (is kind.Dot k || is kind.Ellipsis k) ≡ true
 pair_dot kind.Dot h = refl
 pair_dot kind.Ellipsis h = refl
 pair_dot _ h = absurd (cc)
 
-pointed_on : (k : Kind) → beside.is_pointed k ≡ true → is_newline k ≡ false
+pointed_on : (k : Kind) → beside.is_pointed k ≡ true → is kind.Newline k ≡ false
 pointed_on kind.Newline h = absurd (cc)
 pointed_on _ h = refl
 
-equals_on : (k : Kind) → beside.is_equals k ≡ true → is_newline k ≡ false
+equals_on : (k : Kind) → beside.is_equals k ≡ true → is kind.Newline k ≡ false
 equals_on kind.Newline h = absurd (cc)
 equals_on _ h = refl
 
-coloned_on : (k : Kind) → beside.is_coloned k ≡ true → is_newline k ≡ false
+coloned_on : (k : Kind) → beside.is_coloned k ≡ true → is kind.Newline k ≡ false
 coloned_on kind.Newline h = absurd (cc)
 coloned_on _ h = refl
 
-dot_on : (k : Kind) → is_dot k ≡ true → is_newline k ≡ false
+dot_on : (k : Kind) → is kind.Dot k ≡ true → is kind.Newline k ≡ false
 dot_on kind.Newline h = absurd (cc)
 dot_on _ h = refl
 
-seq_close_is : (k : Kind) → is_seq_close k ≡ true → k ≡ kind.SeqClose
+seq_close_is : (k : Kind) → is kind.SeqClose k ≡ true → k ≡ kind.SeqClose
 seq_close_is kind.SeqClose h = refl
 seq_close_is _ h = absurd (cc)
 
@@ -140,7 +140,7 @@ by_fourth a b c d f h = (λ i. a || b || c || h i || f) ∙ (λ i. or_true (a ||
 by_fifth : (a b c d f : Bool) → f ≡ true → parts_of_two a b c d f ≡ true
 by_fifth a b c d f h = (λ i. a || b || c || d || h i) ∙ or_true (a || b || c || d)
 
-module _ (before : Option Lexeme) (u t : Lexeme) (dot : Bool) (outside_all : t.inside_heredoc ≡ false) (point : dot ≡ false → stands_before is_dot before ≡ false)
+module _ (before : Option Lexeme) (u t : Lexeme) (dot : Bool) (outside_all : t.inside_heredoc ≡ false) (point : dot ≡ false → stands_before (is kind.Dot) before ≡ false)
     (begins : beside.begins_as t.kind (get_or t.text 0 0) ≡ true) (tilde : t.kind ≡ kind.SeqClose → (t.text ≡ codes "}") ⊎ (t.text ≡ codes "~}")) where
   abbrev b : ℕ
   b = get_or t.text 0 0
@@ -153,21 +153,21 @@ module _ (before : Option Lexeme) (u t : Lexeme) (dot : Bool) (outside_all : t.i
 
   -- the parts of row 2
   abbrev dots : Bool
-  dots = is_dot u.kind && (is_dot t.kind || is_ellipsis t.kind)
+  dots = is kind.Dot u.kind && (is kind.Dot t.kind || is kind.Ellipsis t.kind)
 
   abbrev point_behind : Bool
-  point_behind = is_number u.kind && not (stands_before is_dot before) && is_dot t.kind
+  point_behind = is kind.Number u.kind && not (stands_before (is kind.Dot) before) && is kind.Dot t.kind
 
   abbrev not_equals : Bool
-  not_equals = is_not u.kind && begins_with_equals t.text
+  not_equals = is kind.Not u.kind && begins_with_equals t.text
 
   abbrev closed_by_tilde : Bool
-  closed_by_tilde = opens_sequence u.kind && is_seq_close t.kind && bytes_eq t.text (codes "~}")
+  closed_by_tilde = opens_sequence u.kind && is kind.SeqClose t.kind && bytes_eq t.text (codes "~}")
 
   abbrev colons : Bool
-  colons = is_colon u.kind && begins_with_colon t.text
+  colons = is kind.Colon u.kind && begins_with_colon t.text
 
-  two : is_newline t.kind ≡ false → parts_of_two dots point_behind not_equals closed_by_tilde colons ≡ true → spaced before u t ≡ true
+  two : is kind.Newline t.kind ≡ false → parts_of_two dots point_behind not_equals closed_by_tilde colons ≡ true → spaced before u t ≡ true
   two n h = by_joining before u t (λ i. n i || outside_all i) h
 
   tilde_text : (t.text ≡ codes "}") ⊎ (t.text ≡ codes "~}") → (b == 126) ≡ true → bytes_eq t.text (codes "~}") ≡ true
@@ -177,7 +177,7 @@ module _ (before : Option Lexeme) (u t : Lexeme) (dot : Bool) (outside_all : t.i
   sequence : opens_sequence u.kind ≡ true → (b == 126) ≡ true → spaced before u t ≡ true
   sequence e h =
       let k = seq_close_is t.kind (s.tilde h) in
-      two (ap is_newline k) (by_fourth dots point_behind not_equals _ colons (λ i. e i && is_seq_close (k i) && tilde_text (tilde k) h i))
+      two (ap (is kind.Newline) k) (by_fourth dots point_behind not_equals _ colons (λ i. e i && is kind.SeqClose (k i) && tilde_text (tilde k) h i))
 
   abbrev Grown : Kind → Type 0
   Grown k = u.kind ≡ k → neighbours.joins dot k t.kind t.text ≡ true → spaced before u t ≡ true
@@ -189,37 +189,37 @@ module _ (before : Option Lexeme) (u t : Lexeme) (dot : Bool) (outside_all : t.i
   grown_ident : Grown kind.Ident
   grown_ident e h = pair kind.Ident e (pair_ident t.kind (by (word_byte b (plain (neighbours.grows kind.Ident b) h))))
     where
-      by : (may_begin_ident b ≡ true) ⊎ (is_ascii_digit b ≡ true) ⊎ ((b == 45) ≡ true) → (is_ident t.kind ≡ true) ⊎ (is_number t.kind ≡ true) ⊎ (is_minus t.kind ≡ true)
+      by : (may_begin_ident b ≡ true) ⊎ (is_ascii_digit b ≡ true) ⊎ ((b == 45) ≡ true) → (is kind.Ident t.kind ≡ true) ⊎ (is kind.Number t.kind ≡ true) ⊎ (is kind.Minus t.kind ≡ true)
       by (inl x) = inl (s.letter x)
       by (inr (inl x)) = inr (inl (s.digit x))
       by (inr (inr x)) = inr (inr (s.minus x))
 
   grown_number : Grown kind.Number
-  grown_number e h = by (or_cases (neighbours.grows kind.Number b) (true && not dot && is_dot t.kind) h)
+  grown_number e h = by (or_cases (neighbours.grows kind.Number b) (true && not dot && is kind.Dot t.kind) h)
     where
-      digits : (may_begin_ident b ≡ true) ⊎ (is_ascii_digit b ≡ true) → (is_ident t.kind ≡ true) ⊎ (is_number t.kind ≡ true)
+      digits : (may_begin_ident b ≡ true) ⊎ (is_ascii_digit b ≡ true) → (is kind.Ident t.kind ≡ true) ⊎ (is kind.Number t.kind ≡ true)
       digits (inl x) = inl (s.letter x)
       digits (inr x) = inr (s.digit x)
 
-      by : (neighbours.grows kind.Number b ≡ true) ⊎ ((not dot && is_dot t.kind) ≡ true) → spaced before u t ≡ true
+      by : (neighbours.grows kind.Number b ≡ true) ⊎ ((not dot && is kind.Dot t.kind) ≡ true) → spaced before u t ≡ true
       by (inl x) = pair kind.Number e (pair_number t.kind (digits (e_byte b x)))
       by (inr x) =
-          let p = and_true (not dot) (is_dot t.kind) x in
+          let p = and_true (not dot) (is kind.Dot t.kind) x in
           let q = point (not_true dot p.0) in
           two (dot_on t.kind p.1) (by_second dots _ not_equals closed_by_tilde colons
-          (λ i. is_number (e i) && not (q i) && p.1 i))
+          (λ i. is kind.Number (e i) && not (q i) && p.1 i))
 
   grown_dot : Grown kind.Dot
   grown_dot e h = let p = pair_dot t.kind (s.point (plain (b == 46) h)) in
-      two (pointed_on t.kind (s.point (plain (b == 46) h))) (by_first _ point_behind not_equals closed_by_tilde colons (λ i. is_dot (e i) && p i))
+      two (pointed_on t.kind (s.point (plain (b == 46) h))) (by_first _ point_behind not_equals closed_by_tilde colons (λ i. is kind.Dot (e i) && p i))
 
   grown_not : Grown kind.Not
   grown_not e h = let p = equals_first t.text (plain (b == 61) h) in
-      two (equals_on t.kind (s.equals (plain (b == 61) h))) (by_third dots point_behind _ closed_by_tilde colons (λ i. is_not (e i) && p i))
+      two (equals_on t.kind (s.equals (plain (b == 61) h))) (by_third dots point_behind _ closed_by_tilde colons (λ i. is kind.Not (e i) && p i))
 
   grown_colon : Grown kind.Colon
   grown_colon e h = let p = colon_first t.text (plain (b == 58) h) in
-      two (coloned_on t.kind (s.colons (plain (b == 58) h))) (by_fifth dots point_behind not_equals closed_by_tilde _ (λ i. is_colon (e i) && p i))
+      two (coloned_on t.kind (s.colons (plain (b == 58) h))) (by_fifth dots point_behind not_equals closed_by_tilde _ (λ i. is kind.Colon (e i) && p i))
 
   either : (p q : Bool) (P Q : Type 0) → (p ≡ true → P) → (q ≡ true → Q) → ((p || q) || false) ≡ true → P ⊎ Q
   either true q P Q f g h = inl (f refl)

@@ -5,8 +5,8 @@ use Rattle.std.specs.List.{list_all}
 use Rattle.std.specs.Str.{bytes_eq}
 use Rattle.hcl_scan.specs.Lexemes.{Lexeme}
 use Rattle.hcl_scan.specs.declared.token.Kind.{Kind}
-use Rattle.hcl_scan.specs.Kinds.{is_newline}
-use Rattle.hcl_scan.specs.Kinds.{is_brace_close, is_brace_open, is_bracket_open, is_colon, is_colon_colon, is_comma, is_dot, is_ellipsis, is_ident, is_lit, is_minus, is_not, is_number, is_paren_open, is_quote_close, is_quote_open, is_seq_close}
+use Rattle.hcl_scan.specs.Kinds.{is}
+use Rattle.hcl_scan.specs.declared.token.Kind.TheVariants as kind
 use Rattle.hcl_spacing.specs.Spacing.{asks_more, begins_with_colon, begins_with_equals, closes_group, ends_operand, is_opening, opens_sequence, spaced, stands_before}
 use Rattle.hcl_spacing.specs.Inner.KindPairs.{asked, asked_space, pair_space}
 use Rattle.hcl_spacing.proofs.KindLemmas.{each, kinds}
@@ -16,22 +16,22 @@ use Rattle.hcl_spacing.proofs.KindLemmas.{each, kinds}
 -- whether an expression begins there.
 abbrev pub table_by_kinds : Kind → Kind → Bool → Bool → Bool → Bool → Bool → Bool → Bool → Bool
 table_by_kinds l r equals colon tilde word name dot opening =
-    if (is_dot l && (is_dot r || is_ellipsis r)) || (is_number l && not dot && is_dot r) || (is_not l && equals) || (opens_sequence l && is_seq_close r && tilde) || (is_colon l && colon) then true
-    else if is_ident l && is_paren_open r then false
-    else if is_dot l || is_dot r then false
-    else if is_colon_colon l || is_colon_colon r then false
-    else if is_comma r || is_ellipsis r then false
-    else if is_comma l then true
-    else if is_quote_open l || is_lit l || is_lit r || is_quote_close r then false
-    else if is_ident l && word && name then true
-    else if is_bracket_open r && ends_operand l then false
-    else if is_not l then false
-    else if is_minus l then not opening
-    else if is_brace_open l && is_brace_close r then false
-    else if is_brace_open l || is_brace_close r then true
-    else if (opens_sequence l && is_brace_open r) || (is_brace_close l && is_seq_close r) then true
-    else if is_seq_close l && opens_sequence r then false
-    else if is_paren_open l || is_bracket_open l || opens_sequence l then false
+    if (is kind.Dot l && (is kind.Dot r || is kind.Ellipsis r)) || (is kind.Number l && not dot && is kind.Dot r) || (is kind.Not l && equals) || (opens_sequence l && is kind.SeqClose r && tilde) || (is kind.Colon l && colon) then true
+    else if is kind.Ident l && is kind.ParenOpen r then false
+    else if is kind.Dot l || is kind.Dot r then false
+    else if is kind.ColonColon l || is kind.ColonColon r then false
+    else if is kind.Comma r || is kind.Ellipsis r then false
+    else if is kind.Comma l then true
+    else if is kind.QuoteOpen l || is kind.Lit l || is kind.Lit r || is kind.QuoteClose r then false
+    else if is kind.Ident l && word && name then true
+    else if is kind.BracketOpen r && ends_operand l then false
+    else if is kind.Not l then false
+    else if is kind.Minus l then not opening
+    else if is kind.BraceOpen l && is kind.BraceClose r then false
+    else if is kind.BraceOpen l || is kind.BraceClose r then true
+    else if (opens_sequence l && is kind.BraceOpen r) || (is kind.BraceClose l && is kind.SeqClose r) then true
+    else if is kind.SeqClose l && opens_sequence r then false
+    else if is kind.ParenOpen l || is kind.BracketOpen l || opens_sequence l then false
     else not (closes_group r)
 
 abbrev both : (Bool → Bool) → Bool
@@ -56,7 +56,7 @@ same true b = b
 same false b = not b
 
 abbrev holds : Kind → Kind → Bool → Bool → Bool → Bool → Bool → Bool → Bool → Bool
-holds l r a b c d e f g = is_newline r || same (answered (pair_space l r) (asked l r a b c d e f g)) (table_by_kinds l r a b c d e f g)
+holds l r a b c d e f g = is kind.Newline r || same (answered (pair_space l r) (asked l r a b c d e f g)) (table_by_kinds l r a b c d e f g)
 
 tried : list_all (λ l. list_all (λ r. both (λ a. both (λ b. both (λ c. both (λ d. both (λ e. both (λ f. both (λ g. holds l r a b c d e f g)))))))) kinds) kinds ≡ true
 tried = refl
@@ -83,7 +83,7 @@ second true w e h = cc
 second false w e h = h
 
 -- behind its first row, the table says of two tokens what their kinds give, or else what was asked
-pub by_kinds : (before : Option Lexeme) (subject after : Lexeme) → is_newline after.kind ≡ false → after.inside_heredoc ≡ false → answered (pair_space subject.kind after.kind) (asked_space before subject after) ≡ spaced before subject after
+pub by_kinds : (before : Option Lexeme) (subject after : Lexeme) → is kind.Newline after.kind ≡ false → after.inside_heredoc ≡ false → answered (pair_space subject.kind after.kind) (asked_space before subject after) ≡ spaced before subject after
 by_kinds before subject after e f =
     let l = subject.kind in
     let r = after.kind in
@@ -91,16 +91,16 @@ by_kinds before subject after e f =
     let z = begins_with_colon after.text in
     let b = bytes_eq after.text (codes "~}") in
     let c = bytes_eq subject.text (codes "in") in
-    let d = stands_before is_ident before in
-    let g = stands_before is_dot before in
+    let d = stands_before (is kind.Ident) before in
+    let g = stands_before (is kind.Dot) before in
     let h = is_opening before in
-    let tested = second (is_newline r) (same (answered (pair_space l r) (asked l r a z b c d g h)) (table_by_kinds l r a z b c d g h)) e (every l r a z b c d g h) in
+    let tested = second (is kind.Newline r) (same (answered (pair_space l r) (asked l r a z b c d g h)) (table_by_kinds l r a z b c d g h)) e (every l r a z b c d g h) in
     rw (e, f) (same_is (answered (pair_space l r) (asked l r a z b c d g h)) (table_by_kinds l r a z b c d g h) tested)
 
-pub given : (space : Bool) (subject after : Lexeme) → is_newline after.kind ≡ false → after.inside_heredoc ≡ false → pair_space subject.kind after.kind ≡ Some space → (before : Option Lexeme) → space ≡ spaced before subject after
+pub given : (space : Bool) (subject after : Lexeme) → is kind.Newline after.kind ≡ false → after.inside_heredoc ≡ false → pair_space subject.kind after.kind ≡ Some space → (before : Option Lexeme) → space ≡ spaced before subject after
 given space subject after e f g before = sym (ap (λ o. answered o (asked_space before subject after)) g) ∙ by_kinds before subject after e f
 
-pub asked_is : (before : Option Lexeme) (subject after : Lexeme) → is_newline after.kind ≡ false → after.inside_heredoc ≡ false → pair_space subject.kind after.kind ≡ None → asked_space before subject after ≡ spaced before subject after
+pub asked_is : (before : Option Lexeme) (subject after : Lexeme) → is kind.Newline after.kind ≡ false → after.inside_heredoc ≡ false → pair_space subject.kind after.kind ≡ None → asked_space before subject after ≡ spaced before subject after
 asked_is before subject after e f g = sym (ap (λ o. answered o (asked_space before subject after)) g) ∙ by_kinds before subject after e f
 
 -- where the kinds don't tell, the table asks for more

@@ -8,16 +8,15 @@ use Rattle.hcl_scan.specs.SideBySide as beside
 use Rattle.hcl_scan.specs.declared.token.Kind.{Kind}
 use Rattle.hcl_scan.specs.declared.token.Kind.TheVariants as kind
 use Rattle.hcl_scan.proofs.BooleanLemmas.{and_true, not_true}
-use Rattle.hcl_scan.specs.Kinds.{is_newline}
-use Rattle.hcl_scan.specs.Kinds.{is_dot, is_ellipsis, is_colon_colon, is_comma, is_not, is_minus, is_ident, is_paren_open, is_bracket_open, is_brace_open, is_brace_close, is_seq_close, is_quote_open, is_lit, is_quote_close}
+use Rattle.hcl_scan.specs.Kinds.{is}
 use Rattle.hcl_spacing.specs.Spacing.{opens_sequence, closes_group, ends_operand, is_opening, would_join, is_in, spaced}
 
 -- ---- rows by kinds alone
 abbrev pub plain_pair : Kind → Kind → Bool
 plain_pair k k' =
-    not (is_ident k && is_paren_open k') && not (is_dot k || is_dot k') && not (is_colon_colon k || is_colon_colon k') && not (is_comma k' || is_ellipsis k') && not (is_quote_open k || is_lit k || is_lit k' || is_quote_close k')
-    && not (is_bracket_open k' && ends_operand k) && not (is_not k) && not (is_minus k) && not (is_brace_open k && is_brace_close k') && not (is_seq_close k && opens_sequence k')
-    && not (is_paren_open k || is_bracket_open k || opens_sequence k) && not (closes_group k') && not (is_newline k')
+    not (is kind.Ident k && is kind.ParenOpen k') && not (is kind.Dot k || is kind.Dot k') && not (is kind.ColonColon k || is kind.ColonColon k') && not (is kind.Comma k' || is kind.Ellipsis k') && not (is kind.QuoteOpen k || is kind.Lit k || is kind.Lit k' || is kind.QuoteClose k')
+    && not (is kind.BracketOpen k' && ends_operand k) && not (is kind.Not k) && not (is kind.Minus k) && not (is kind.BraceOpen k && is kind.BraceClose k') && not (is kind.SeqClose k && opens_sequence k')
+    && not (is kind.ParenOpen k || is kind.BracketOpen k || opens_sequence k) && not (closes_group k') && not (is kind.Newline k')
 
 table_true : (a w r3 r4 r4a r5 r6 r7 r8 r9 r10 r11 m r12 r13 r14 r15 r16 r17 : Bool) → a ≡ false
     → (not r3 && not r4 && not r4a && not r5 && not r7 && not r9 && not r10 && not r11 && not r12 && not r15 && not r16 && not r17) ≡ true
@@ -42,28 +41,28 @@ table_true false false false false false false false false false false false fal
 table_true false false false false false false false false false false false false m false false false false true r17 e h = absurd (cc)
 table_true false false false false false false false false false false false false m false false false false false r17 e h = h
 
-rows : (before : Option Lexeme) (u t : Lexeme) → (is_newline t.kind || t.inside_heredoc) ≡ false → (not (is_ident u.kind && is_paren_open t.kind) && not (is_dot u.kind || is_dot t.kind) && not (is_colon_colon u.kind || is_colon_colon t.kind) && not (is_comma t.kind || is_ellipsis t.kind) && not (is_quote_open u.kind || is_lit u.kind || is_lit t.kind || is_quote_close t.kind)
-    && not (is_bracket_open t.kind && ends_operand u.kind) && not (is_not u.kind) && not (is_minus u.kind) && not (is_brace_open u.kind && is_brace_close t.kind) && not (is_seq_close u.kind && opens_sequence t.kind)
-    && not (is_paren_open u.kind || is_bracket_open u.kind || opens_sequence u.kind) && not (closes_group t.kind)) ≡ true → spaced before u t ≡ true
-rows before u t e h = table_true (is_newline t.kind || t.inside_heredoc) (would_join before u t) (is_ident u.kind && is_paren_open t.kind) (is_dot u.kind || is_dot t.kind) (is_colon_colon u.kind || is_colon_colon t.kind) (is_comma t.kind || is_ellipsis t.kind)
-    (is_comma u.kind) (is_quote_open u.kind || is_lit u.kind || is_lit t.kind || is_quote_close t.kind) (is_in before u) (is_bracket_open t.kind && ends_operand u.kind) (is_not u.kind) (is_minus u.kind) (not (is_opening before))
-    (is_brace_open u.kind && is_brace_close t.kind) (is_brace_open u.kind || is_brace_close t.kind) ((opens_sequence u.kind && is_brace_open t.kind) || (is_brace_close u.kind && is_seq_close t.kind)) (is_seq_close u.kind && opens_sequence t.kind)
-    (is_paren_open u.kind || is_bracket_open u.kind || opens_sequence u.kind) (closes_group t.kind) e h
+rows : (before : Option Lexeme) (u t : Lexeme) → (is kind.Newline t.kind || t.inside_heredoc) ≡ false → (not (is kind.Ident u.kind && is kind.ParenOpen t.kind) && not (is kind.Dot u.kind || is kind.Dot t.kind) && not (is kind.ColonColon u.kind || is kind.ColonColon t.kind) && not (is kind.Comma t.kind || is kind.Ellipsis t.kind) && not (is kind.QuoteOpen u.kind || is kind.Lit u.kind || is kind.Lit t.kind || is kind.QuoteClose t.kind)
+    && not (is kind.BracketOpen t.kind && ends_operand u.kind) && not (is kind.Not u.kind) && not (is kind.Minus u.kind) && not (is kind.BraceOpen u.kind && is kind.BraceClose t.kind) && not (is kind.SeqClose u.kind && opens_sequence t.kind)
+    && not (is kind.ParenOpen u.kind || is kind.BracketOpen u.kind || opens_sequence u.kind) && not (closes_group t.kind)) ≡ true → spaced before u t ≡ true
+rows before u t e h = table_true (is kind.Newline t.kind || t.inside_heredoc) (would_join before u t) (is kind.Ident u.kind && is kind.ParenOpen t.kind) (is kind.Dot u.kind || is kind.Dot t.kind) (is kind.ColonColon u.kind || is kind.ColonColon t.kind) (is kind.Comma t.kind || is kind.Ellipsis t.kind)
+    (is kind.Comma u.kind) (is kind.QuoteOpen u.kind || is kind.Lit u.kind || is kind.Lit t.kind || is kind.QuoteClose t.kind) (is_in before u) (is kind.BracketOpen t.kind && ends_operand u.kind) (is kind.Not u.kind) (is kind.Minus u.kind) (not (is_opening before))
+    (is kind.BraceOpen u.kind && is kind.BraceClose t.kind) (is kind.BraceOpen u.kind || is kind.BraceClose t.kind) ((opens_sequence u.kind && is kind.BraceOpen t.kind) || (is kind.BraceClose u.kind && is kind.SeqClose t.kind)) (is kind.SeqClose u.kind && opens_sequence t.kind)
+    (is kind.ParenOpen u.kind || is kind.BracketOpen u.kind || opens_sequence u.kind) (closes_group t.kind) e h
 
 pub by_kinds : (before : Option Lexeme) (u t : Lexeme) → t.inside_heredoc ≡ false → plain_pair u.kind t.kind ≡ true → spaced before u t ≡ true
 by_kinds before u t outside h =
-    let p = and_true (not (is_ident u.kind && is_paren_open t.kind) && not (is_dot u.kind || is_dot t.kind) && not (is_colon_colon u.kind || is_colon_colon t.kind) && not (is_comma t.kind || is_ellipsis t.kind) && not (is_quote_open u.kind || is_lit u.kind || is_lit t.kind || is_quote_close t.kind)
-    && not (is_bracket_open t.kind && ends_operand u.kind) && not (is_not u.kind) && not (is_minus u.kind) && not (is_brace_open u.kind && is_brace_close t.kind) && not (is_seq_close u.kind && opens_sequence t.kind)
-    && not (is_paren_open u.kind || is_bracket_open u.kind || opens_sequence u.kind) && not (closes_group t.kind)) (not (is_newline t.kind)) h in
-    let n = not_true (is_newline t.kind) p.1 in
+    let p = and_true (not (is kind.Ident u.kind && is kind.ParenOpen t.kind) && not (is kind.Dot u.kind || is kind.Dot t.kind) && not (is kind.ColonColon u.kind || is kind.ColonColon t.kind) && not (is kind.Comma t.kind || is kind.Ellipsis t.kind) && not (is kind.QuoteOpen u.kind || is kind.Lit u.kind || is kind.Lit t.kind || is kind.QuoteClose t.kind)
+    && not (is kind.BracketOpen t.kind && ends_operand u.kind) && not (is kind.Not u.kind) && not (is kind.Minus u.kind) && not (is kind.BraceOpen u.kind && is kind.BraceClose t.kind) && not (is kind.SeqClose u.kind && opens_sequence t.kind)
+    && not (is kind.ParenOpen u.kind || is kind.BracketOpen u.kind || opens_sequence u.kind) && not (closes_group t.kind)) (not (is kind.Newline t.kind)) h in
+    let n = not_true (is kind.Newline t.kind) p.1 in
     rows before u t (λ i. n i || outside i) p.0
 
 -- ---- row 2
-pub by_joining : (before : Option Lexeme) (u t : Lexeme) → (is_newline t.kind || t.inside_heredoc) ≡ false → would_join before u t ≡ true → spaced before u t ≡ true
+pub by_joining : (before : Option Lexeme) (u t : Lexeme) → (is kind.Newline t.kind || t.inside_heredoc) ≡ false → would_join before u t ≡ true → spaced before u t ≡ true
 by_joining before u t e h = rw (e, h) refl
 
 -- ---- row 1
-pub row_one : (before : Option Lexeme) (u t : Lexeme) → (is_newline t.kind || t.inside_heredoc) ≡ true → spaced before u t ≡ false
+pub row_one : (before : Option Lexeme) (u t : Lexeme) → (is kind.Newline t.kind || t.inside_heredoc) ≡ true → spaced before u t ≡ false
 row_one before u t h = rw h refl
 
 -- ---- rows 7 and 15: where a template goes on

@@ -6,7 +6,7 @@ use Rattle.hcl_scan.specs.Lexemes.{Lexeme}
 use Rattle.hcl_scan.specs.declared.token.Kind.{Kind}
 use Rattle.hcl_scan.specs.declared.token.Kind.TheVariants as kind
 use Rattle.hcl_syntax.specs.Balanced.{is_opener}
-use Rattle.hcl_scan.specs.Kinds.{is_newline, is_ident, is_number, is_paren_open, is_bracket_open, is_brace_open, is_brace_close, is_seq_close, is_quote_open, is_lit, is_quote_close, is_dot, is_colon, is_colon_colon, is_comma, is_ellipsis, is_not, is_minus}
+use Rattle.hcl_scan.specs.Kinds.{is}
 
 -- `${` and `%{`
 abbrev pub opens_sequence : Kind → Bool
@@ -79,42 +79,42 @@ is_opening (Some t) = is_opener t.kind || is_operator t.kind || awaits_operand t
 -- (`Neighbours.joins` of `hcl_scan`), those that a row further down would put together
 abbrev pub would_join : Option Lexeme → Lexeme → Lexeme → Bool
 would_join before subject after =
-    (is_dot subject.kind && (is_dot after.kind || is_ellipsis after.kind))
-    || (is_number subject.kind && not (stands_before is_dot before) && is_dot after.kind)
-    || (is_not subject.kind && begins_with_equals after.text)
-    || (opens_sequence subject.kind && is_seq_close after.kind && bytes_eq after.text (codes "~}"))
-    || (is_colon subject.kind && begins_with_colon after.text)
+    (is kind.Dot subject.kind && (is kind.Dot after.kind || is kind.Ellipsis after.kind))
+    || (is kind.Number subject.kind && not (stands_before (is kind.Dot) before) && is kind.Dot after.kind)
+    || (is kind.Not subject.kind && begins_with_equals after.text)
+    || (opens_sequence subject.kind && is kind.SeqClose after.kind && bytes_eq after.text (codes "~}"))
+    || (is kind.Colon subject.kind && begins_with_colon after.text)
 
 -- the word `in`, behind the last name that a `for` declares
 abbrev pub is_in : Option Lexeme → Lexeme → Bool
-is_in before subject = is_ident subject.kind && bytes_eq subject.text (codes "in") && stands_before is_ident before
+is_in before subject = is kind.Ident subject.kind && bytes_eq subject.text (codes "in") && stands_before (is kind.Ident) before
 
 -- THE TABLE: one blank between the subject and the token after it; `before` stands before the subject on its line
 abbrev pub spaced : Option Lexeme → Lexeme → Lexeme → Bool
 spaced before subject after =
-    if is_newline after.kind || after.inside_heredoc then false
+    if is kind.Newline after.kind || after.inside_heredoc then false
     else if would_join before subject after then true
-    else if is_ident subject.kind && is_paren_open after.kind then false
-    else if is_dot subject.kind || is_dot after.kind then false
-    else if is_colon_colon subject.kind || is_colon_colon after.kind then false
-    else if is_comma after.kind || is_ellipsis after.kind then false
-    else if is_comma subject.kind then true
-    else if is_quote_open subject.kind || is_lit subject.kind || is_lit after.kind || is_quote_close after.kind then false
+    else if is kind.Ident subject.kind && is kind.ParenOpen after.kind then false
+    else if is kind.Dot subject.kind || is kind.Dot after.kind then false
+    else if is kind.ColonColon subject.kind || is kind.ColonColon after.kind then false
+    else if is kind.Comma after.kind || is kind.Ellipsis after.kind then false
+    else if is kind.Comma subject.kind then true
+    else if is kind.QuoteOpen subject.kind || is kind.Lit subject.kind || is kind.Lit after.kind || is kind.QuoteClose after.kind then false
     else if is_in before subject then true
-    else if is_bracket_open after.kind && ends_operand subject.kind then false
-    else if is_not subject.kind then false
-    else if is_minus subject.kind then not (is_opening before)
-    else if is_brace_open subject.kind && is_brace_close after.kind then false
-    else if is_brace_open subject.kind || is_brace_close after.kind then true
-    else if (opens_sequence subject.kind && is_brace_open after.kind) || (is_brace_close subject.kind && is_seq_close after.kind) then true
-    else if is_seq_close subject.kind && opens_sequence after.kind then false
-    else if is_paren_open subject.kind || is_bracket_open subject.kind || opens_sequence subject.kind then false
+    else if is kind.BracketOpen after.kind && ends_operand subject.kind then false
+    else if is kind.Not subject.kind then false
+    else if is kind.Minus subject.kind then not (is_opening before)
+    else if is kind.BraceOpen subject.kind && is kind.BraceClose after.kind then false
+    else if is kind.BraceOpen subject.kind || is kind.BraceClose after.kind then true
+    else if (opens_sequence subject.kind && is kind.BraceOpen after.kind) || (is kind.BraceClose subject.kind && is kind.SeqClose after.kind) then true
+    else if is kind.SeqClose subject.kind && opens_sequence after.kind then false
+    else if is kind.ParenOpen subject.kind || is kind.BracketOpen subject.kind || opens_sequence subject.kind then false
     else not (closes_group after.kind)
 
 -- the kinds of two neighbours don't tell the answer: the table asks for their texts, or for what stands before
 abbrev pub asks_more : Kind → Kind → Bool
 asks_more subject after =
-    is_not subject || is_minus subject || is_colon subject
-    || (is_number subject && is_dot after)
-    || (is_ident subject && (is_bracket_open after || closes_group after))
-    || (opens_sequence subject && is_seq_close after)
+    is kind.Not subject || is kind.Minus subject || is kind.Colon subject
+    || (is kind.Number subject && is kind.Dot after)
+    || (is kind.Ident subject && (is kind.BracketOpen after || closes_group after))
+    || (opens_sequence subject && is kind.SeqClose after)

@@ -3,7 +3,8 @@
 ghost use Rattle.std.specs.Prelude.{◌≡◌, ◌||◌, IfNone, IfSome, Option, option_map, true};
 ghost use Rattle.hcl_scan.specs.Lexemes.{Lexeme};
 ghost use Rattle.hcl_scan.specs.Scanned.{lexeme};
-ghost use Rattle.hcl_scan.specs.Kinds.{is_dot, is_ident, is_newline};
+ghost use Rattle.hcl_scan.specs.Kinds.{is};
+ghost use Rattle.hcl_scan.specs.declared.token.Kind.TheVariants.{Dot, Ident, Newline};
 ghost use Rattle.hcl_spacing.specs.Spacing.{asks_more, begins_with_colon as begins_with_colon_of, begins_with_equals as begins_with_equals_of, is_opening as is_opening_of, spaced, stands_before};
 ghost use Rattle.hcl_spacing.specs.Inner.KindPairs.{asked_space as asked_space_of, pair_space as pair_space_of, space_behind_brace as space_behind_brace_of, space_behind_name as space_behind_name_of, space_behind_number as space_behind_number_of, space_behind_operand as space_behind_operand_of, space_in_sequence as space_in_sequence_of, stands_close as stands_close_of};
 
@@ -33,7 +34,7 @@ fn begins_with_colon(text: &str) -> bool
 /// Whether the token before is a Dot.
 #[inline(always)]
 fn is_behind_dot(before: Option<Token<'_>>) -> bool
-    ensures { result ≡ stands_before is_dot (option_map lexeme before.entry) }
+    ensures { result ≡ stands_before (is Dot) (option_map lexeme before.entry) }
 {
     let Some(before) = before else {
         return false;
@@ -44,7 +45,7 @@ fn is_behind_dot(before: Option<Token<'_>>) -> bool
 /// Whether the token before is an Ident.
 #[inline(always)]
 fn is_behind_ident(before: Option<Token<'_>>) -> bool
-    ensures { result ≡ stands_before is_ident (option_map lexeme before.entry) }
+    ensures { result ≡ stands_before (is Ident) (option_map lexeme before.entry) }
 {
     let Some(before) = before else {
         return false;
@@ -192,7 +193,7 @@ fn asked_space(before: Option<Token<'_>>, subject: Token<'_>, after: Token<'_>) 
 /// byte for byte.
 #[inline(always)]
 fn takes_no_blank(after: Token<'_>) -> bool
-    ensures { result ≡ (is_newline after.entry.kind || after.entry.inside_heredoc) }
+    ensures { result ≡ (is Newline after.entry.kind || after.entry.inside_heredoc) }
 {
     matches!(after.kind, Kind::Newline) || after.inside_heredoc
 }

@@ -2,7 +2,9 @@
 use Rattle.std.proofs.Common.{◌≡◌, ◌∙◌, ap, ap₂, sym, refl, ℕ, suc, zero, ◌+◌, ◌≤◌, ◌<◌, Bool, true, false, cond, List, [], ◌∷◌, ◌++◌, length, arith}
 use Rattle.std.specs.Prelude.{◌&&◌, filter, nat_lt}
 use Rattle.std.specs.List.{flat_map}
-use Rattle.hcl_syntax.specs.Numbered.{Numbered, is_newline, is_assign, is_brace_open, end_of}
+use Rattle.hcl_scan.specs.Kinds.{is}
+use Rattle.hcl_scan.specs.declared.token.Kind.TheVariants.{Assign, BraceOpen, Newline}
+use Rattle.hcl_syntax.specs.Numbered.{Numbered, end_of}
 use Rattle.hcl_syntax.specs.Items.{deepen, is_closed, onto, pieces, behind_brace, block_end, body, block, item_of, items, labels}
 use Rattle.hcl_syntax.specs.Inner.Pieces.{items_at}
 use Rattle.hcl_syntax.specs.declared.item.Item.{Item}
@@ -23,7 +25,7 @@ short_onto n t (p ∷ ps) h = (omega (arith, h.0), short_more n ps h.1)
 
 pub pieces_short : (depth : ℕ) (ts : List Numbered) → AllShort (length ts) (pieces depth ts)
 pieces_short depth [] = (omega arith, tt)
-pieces_short depth (t ∷ ts) = by (is_newline t.kind && is_closed depth) (pieces_short (deepen depth t.kind) ts)
+pieces_short depth (t ∷ ts) = by (is Newline t.kind && is_closed depth) (pieces_short (deepen depth t.kind) ts)
   where
     by : (b : Bool) → AllShort (length ts) (pieces (deepen depth t.kind) ts)
         → AllShort (length (t ∷ ts)) (cond b ([] ∷ pieces (deepen depth t.kind) ts) (onto t (pieces (deepen depth t.kind) ts)))
@@ -32,7 +34,7 @@ pieces_short depth (t ∷ ts) = by (is_newline t.kind && is_closed depth) (piece
 
 behind_short : (ts : List Numbered) → length (behind_brace ts) ≤ length ts
 behind_short [] = omega arith
-behind_short (t ∷ ts) = by (is_brace_open t.kind) (behind_short ts)
+behind_short (t ∷ ts) = by (is BraceOpen t.kind) (behind_short ts)
   where
     by : (b : Bool) → length (behind_brace ts) ≤ length ts → length (cond b ts (behind_brace ts)) ≤ length (t ∷ ts)
     by true h = omega arith
@@ -58,7 +60,7 @@ module _ (f g : List Numbered → List Item) (level : ℕ) where
   same_item [] h = refl
   same_item (kind ∷ []) h = same_block kind [] (h (body []) (omega arith))
   same_item (name ∷ second ∷ rest) h =
-      ap (λ other. cond (is_assign second.kind) (item.Attribute level name.number (second.number + 1) (end_of (second ∷ rest)) ∷ []) other)
+      ap (λ other. cond (is Assign second.kind) (item.Attribute level name.number (second.number + 1) (end_of (second ∷ rest)) ∷ []) other)
       (same_block name (second ∷ rest) (h (body (second ∷ rest)) (omega (arith, body_short (second ∷ rest)))))
 
   same_items : (n : ℕ) → ((ts : List Numbered) → length ts < n → f ts ≡ g ts) → (ps : List (List Numbered)) → AllShort n ps → flat_map (item_of f level) ps ≡ flat_map (item_of g level) ps

@@ -5,10 +5,11 @@ use Rattle.std.specs.List.{flat_map}
 use Rattle.std.proofs.lemmas.Bool.{cases_lt}
 use Rattle.std.proofs.lemmas.List.{drop-drop}
 use Rattle.std.proofs.Math.Seq.{drop-nil}
+use Rattle.hcl_scan.specs.Kinds.{is}
 use Rattle.hcl_scan.specs.Lexemes.{Lexeme}
 use Rattle.hcl_scan.specs.declared.token.Kind.{Kind}
 use Rattle.hcl_scan.specs.declared.token.Kind.TheVariants as kind
-use Rattle.hcl_syntax.specs.Numbered.{Numbered, numbered_from, uncommented, is_newline, is_comment}
+use Rattle.hcl_syntax.specs.Numbered.{Numbered, numbered_from, uncommented, is_comment}
 use Rattle.hcl_syntax.specs.Items.{deepen, is_closed, onto, pieces}
 use Rattle.hcl_syntax.specs.Inner.Pieces.{words, first_len, newline_from}
 use Rattle.hcl_syntax.specs.declared.item.Item.{Item}
@@ -35,17 +36,17 @@ take_none (suc k) = refl
 pub take_zero : {X : Type 0} (xs : List X) → take 0 xs ≡ []
 take_zero xs = refl
 
-comment_flat : (k : Kind) (d : ℕ) → is_comment k ≡ true → (is_newline k ≡ false) × (deepen d k ≡ d)
+comment_flat : (k : Kind) (d : ℕ) → is_comment k ≡ true → (is kind.Newline k ≡ false) × (deepen d k ≡ d)
 comment_flat kind.LineComment d e = (refl, omega arith)
 comment_flat kind.InlineComment d e = (refl, omega arith)
 comment_flat _ d e = absurd (true≢false (sym e))
 
-newline_flat : (d : ℕ) (k : Kind) → (is_newline k && is_closed d) ≡ true → deepen d k ≡ 0
+newline_flat : (d : ℕ) (k : Kind) → (is kind.Newline k && is_closed d) ≡ true → deepen d k ≡ 0
 newline_flat zero kind.Newline e = omega arith
 newline_flat (suc d) kind.Newline e = absurd (true≢false (sym e))
 newline_flat d _ e = absurd (true≢false (sym e))
 
-newline_word : (d : ℕ) (k : Kind) → (is_newline k && is_closed d) ≡ true → is_comment k ≡ false
+newline_word : (d : ℕ) (k : Kind) → (is kind.Newline k && is_closed d) ≡ true → is_comment k ≡ false
 newline_word d kind.Newline e = refl
 newline_word d _ e = absurd (true≢false (sym e))
 
@@ -54,7 +55,7 @@ pieces_cut d zero n xs =
     ap (λ r. pieces d (uncommented r)) (take_zero (numbered_from n xs))
     ∙ ap (λ r. uncommented r ∷ []) (sym (ap (λ r. take (first_len d xs) r) (take_zero (numbered_from n xs)) ∙ take_none (first_len d xs)))
 pieces_cut d (suc k) n [] = refl
-pieces_cut d (suc k) n (x ∷ xs) = by (is_comment x.kind) (is_newline x.kind && is_closed d) refl refl (pieces_cut (deepen d x.kind) k (n + 1) xs)
+pieces_cut d (suc k) n (x ∷ xs) = by (is_comment x.kind) (is kind.Newline x.kind && is_closed d) refl refl (pieces_cut (deepen d x.kind) k (n + 1) xs)
   where
     F : ℕ
     F = first_len (deepen d x.kind) xs
@@ -62,9 +63,9 @@ pieces_cut d (suc k) n (x ∷ xs) = by (is_comment x.kind) (is_newline x.kind &&
     W : List Numbered
     W = taken (n + 1) k xs
 
-    by : (c b : Bool) → is_comment x.kind ≡ c → (is_newline x.kind && is_closed d) ≡ b → pieces (deepen d x.kind) W ≡ first_of_them F k (n + 1) xs ∷ later F k (n + 1) xs
+    by : (c b : Bool) → is_comment x.kind ≡ c → (is kind.Newline x.kind && is_closed d) ≡ b → pieces (deepen d x.kind) W ≡ first_of_them F k (n + 1) xs ∷ later F k (n + 1) xs
         → pieces d (cond (not (is_comment x.kind)) (number_of n x ∷ W) W)
-        ≡ first_of_them (cond (is_newline x.kind && is_closed d) 0 (F + 1)) (suc k) n (x ∷ xs) ∷ later (cond (is_newline x.kind && is_closed d) 0 (F + 1)) (suc k) n (x ∷ xs)
+        ≡ first_of_them (cond (is kind.Newline x.kind && is_closed d) 0 (F + 1)) (suc k) n (x ∷ xs) ∷ later (cond (is kind.Newline x.kind && is_closed d) 0 (F + 1)) (suc k) n (x ∷ xs)
     by true true comment here rest = absurd (true≢false (sym comment ∙ newline_word d x.kind here))
     by true false comment here rest =
         ap (λ c. pieces d (cond (not c) (number_of n x ∷ W) W)) comment

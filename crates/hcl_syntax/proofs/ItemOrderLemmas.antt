@@ -2,9 +2,11 @@
 use Rattle.std.proofs.Common.{◌≡◌, subst, ℕ, suc, zero, ◌+◌, ◌≤◌, ◌<◌, Bool, true, false, cond, not, List, [], ◌∷◌, ◌++◌, length, arith}
 use Rattle.std.specs.Prelude.{◌&&◌, filter, nat_lt}
 use Rattle.std.specs.List.{flat_map}
+use Rattle.hcl_scan.specs.Kinds.{is}
+use Rattle.hcl_scan.specs.declared.token.Kind.TheVariants.{Assign, BraceClose, BraceOpen, Ident, Newline, QuoteOpen}
 use Rattle.hcl_scan.specs.Lexemes.{Lexeme}
 use Rattle.hcl_scan.specs.declared.token.Kind.{Kind}
-use Rattle.hcl_syntax.specs.Numbered.{Numbered, numbered, numbered_from, uncommented, is_newline, is_comment, is_assign, is_brace_open, is_brace_close, is_ident, is_quote_open, end_of}
+use Rattle.hcl_syntax.specs.Numbered.{Numbered, numbered, numbered_from, uncommented, is_comment, end_of}
 use Rattle.hcl_syntax.specs.Items.{deepen, is_closed, onto, pieces, behind_brace, block_end, body, block, item_of, items, label_at, labels, outline, closing_quote}
 use Rattle.hcl_syntax.specs.ItemOrder.{Climbs, Spans, lead, past}
 use Rattle.hcl_syntax.specs.declared.item.Item.{Item}
@@ -90,7 +92,7 @@ all_from from later to (p ∷ ps) h r = (r.0, rises_from from later r.0 p h r.1,
 
 pub pieces_rise : (depth from to : ℕ) (ts : List Numbered) → Rises from ts to → AllRise from (pieces depth ts) to
 pieces_rise depth from to [] h = (to, h, omega arith)
-pieces_rise depth from to (t ∷ ts) h = by (is_newline t.kind && is_closed depth) (pieces_rise (deepen depth t.kind) (t.number + 1) to ts h.1)
+pieces_rise depth from to (t ∷ ts) h = by (is Newline t.kind && is_closed depth) (pieces_rise (deepen depth t.kind) (t.number + 1) to ts h.1)
   where
     by : (b : Bool) → AllRise (t.number + 1) (pieces (deepen depth t.kind) ts) to → AllRise from (cond b ([] ∷ pieces (deepen depth t.kind) ts) (onto t (pieces (deepen depth t.kind) ts))) to
     by true r = (from, omega arith, all_from from (t.number + 1) to (pieces (deepen depth t.kind) ts) (omega (arith, h.0)) r)
@@ -107,7 +109,7 @@ end_behind to t (u ∷ us) h = omega (arith, h.0, end_behind to u us h.1)
 
 -- the labels in front of the first opening brace, and what stands behind it
 label_climbs : (n : ℕ) (k : Kind) (rest : List Numbered) → Climbs n (label_at n k rest) (n + 1)
-label_climbs n k rest = by (is_ident k) (is_quote_open k)
+label_climbs n k rest = by (is Ident k) (is QuoteOpen k)
   where
     by : (a b : Bool) → Climbs n (cond a (item.Label (record { first = n; last = n }) ∷ []) (cond b (item.Label (record { first = n; last = closing_quote rest }) ∷ []) [])) (n + 1)
     by true b = ((omega arith, omega arith), omega arith)
@@ -116,7 +118,7 @@ label_climbs n k rest = by (is_ident k) (is_quote_open k)
 
 labels_climb : (from to : ℕ) (ts : List Numbered) → Rises from ts to → (mid : ℕ) × Climbs from (labels ts) mid × Rises mid (behind_brace ts) to
 labels_climb from to [] h = (to, h, omega arith)
-labels_climb from to (t ∷ ts) h = by (is_brace_open t.kind) (labels_climb (t.number + 1) to ts h.1)
+labels_climb from to (t ∷ ts) h = by (is BraceOpen t.kind) (labels_climb (t.number + 1) to ts h.1)
   where
     by : (b : Bool) → ((mid : ℕ) × Climbs (t.number + 1) (labels ts) mid × Rises mid (behind_brace ts) to)
         → (mid : ℕ) × Climbs from (cond b [] (label_at t.number t.kind ts ++ labels ts)) mid × Rises mid (cond b ts (behind_brace ts)) to
@@ -131,14 +133,14 @@ module _ (inner : List Numbered → List Item) (climb : Climbing inner) (level :
   block_climbs : (from to : ℕ) (kind : Numbered) (rest : List Numbered) → from ≤ kind.number → Rises (kind.number + 1) rest to → Climbs from (block inner level kind rest) to
   block_climbs from to kind rest h r =
       let l : (mid : ℕ) × Climbs (kind.number + 1) (labels rest) mid × Rises mid (behind_brace rest) to = labels_climb (kind.number + 1) to rest r in (
-        (h, end_within (kind.number + 1) to (filter (λ t. is_brace_close t.kind) rest) (rises_filter (λ t. is_brace_close t.kind) (kind.number + 1) to rest r)),
+        (h, end_within (kind.number + 1) to (filter (λ t. is BraceClose t.kind) rest) (rises_filter (λ t. is BraceClose t.kind) (kind.number + 1) to rest r)),
         climbs_both (kind.number + 1) l.0 to (labels rest) (inner (body rest)) l.1 (climb l.0 to (body rest) (rises_filter (λ t. nat_lt (t.number + 1) (block_end rest)) l.0 to (behind_brace rest) l.2)),
       )
 
   item_climbs : (from to : ℕ) (piece : List Numbered) → Rises from piece to → Climbs from (item_of inner level piece) to
   item_climbs from to [] h = h
   item_climbs from to (kind ∷ []) h = block_climbs from to kind [] h.0 h.1
-  item_climbs from to (name ∷ second ∷ rest) h = by (is_assign second.kind)
+  item_climbs from to (name ∷ second ∷ rest) h = by (is Assign second.kind)
     where
       by : (b : Bool) → Climbs from (cond b (item.Attribute level name.number (second.number + 1) (end_of (second ∷ rest)) ∷ []) (block inner level name (second ∷ rest))) to
       by true =

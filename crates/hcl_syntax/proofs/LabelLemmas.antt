@@ -2,10 +2,11 @@
 use Rattle.std.proofs.Common.{◌≡◌, ◌∙◌, ap, sym, refl, true≢false, ℕ, ◌+◌, ◌≤◌, ◌<◌, Bool, true, false, cond, not, List, [], ◌∷◌, ◌++◌, append_assoc}
 use Rattle.std.specs.Prelude.{Some, slice_get}
 use Rattle.std.proofs.lemmas.List.{append-nil}
+use Rattle.hcl_scan.specs.Kinds.{is}
 use Rattle.hcl_scan.specs.Lexemes.{Lexeme}
 use Rattle.hcl_scan.specs.declared.token.Kind.{Kind}
 use Rattle.hcl_scan.specs.declared.token.Kind.TheVariants as kind
-use Rattle.hcl_syntax.specs.Numbered.{Numbered, is_comment, is_brace_open}
+use Rattle.hcl_syntax.specs.Numbered.{Numbered, is_comment}
 use Rattle.hcl_syntax.specs.Items.{label_at, labels}
 use Rattle.hcl_syntax.specs.Inner.Pieces.{words}
 use Rattle.hcl_syntax.specs.declared.item.Item.{Item}
@@ -24,14 +25,14 @@ module _ (ts : List Lexeme) (from to : ℕ) (old new : List Item) (n : ℕ) wher
   pub labels_end : to ≤ n → AreLabels ts from to old new n → new ≡ old ++ labels (words ts from to)
   labels_end past h = sym (append-nil new) ∙ ap (λ ws. new ++ labels ws) (sym (words_none ts n to past)) ∙ h
 
-  pub labels_brace : (t : Lexeme) → slice_get ts n ≡ Some t → n < to → is_brace_open t.kind ≡ true → AreLabels ts from to old new n → new ≡ old ++ labels (words ts from to)
+  pub labels_brace : (t : Lexeme) → slice_get ts n ≡ Some t → n < to → is kind.BraceOpen t.kind ≡ true → AreLabels ts from to old new n → new ≡ old ++ labels (words ts from to)
   labels_brace t e less brace h =
       sym (append-nil new)
       ∙ ap (λ b. new ++ cond b [] (label_at n t.kind (words ts (n + 1) to) ++ labels (words ts (n + 1) to))) (sym brace)
       ∙ ap (λ ws. new ++ labels ws) (sym (words_here ts n to t e less (open_word t.kind brace)))
       ∙ h
 
-  pub labels_more : (t : Lexeme) (next : List Item) → slice_get ts n ≡ Some t → n < to → is_brace_open t.kind ≡ false → next ≡ new ++ label_at n t.kind (words ts (n + 1) to) → AreLabels ts from to old new n
+  pub labels_more : (t : Lexeme) (next : List Item) → slice_get ts n ≡ Some t → n < to → is kind.BraceOpen t.kind ≡ false → next ≡ new ++ label_at n t.kind (words ts (n + 1) to) → AreLabels ts from to old new n
       → AreLabels ts from to old next (n + 1)
   labels_more t next e less brace put h =
       ap (λ r. r ++ labels W) put

@@ -2,12 +2,12 @@
 use Rattle.std.proofs.Common.{◌≡◌, ◌⊎◌, inl, inr, ℕ, ◌+◌, Bool, true, false, cond, not, List, [], ◌∷◌, drop, refl, sym, ap, subst, ◌∙◌, true≢false}
 use Rattle.std.specs.Prelude.{◌&&◌, ◌||◌, Some, None}
 use Rattle.std.proofs.lemmas.List.{drop-drop}
-use Rattle.hcl_scan.specs.Kinds.{is_dot}
+use Rattle.hcl_scan.specs.Kinds.{is}
 use Rattle.hcl_scan.specs.declared.token.Kind.{Kind}
 use Rattle.hcl_scan.specs.declared.token.Kind.TheVariants as kind
 use Rattle.hcl_syntax.specs.Classes.{class_at, drops, is_trivia}
 use Rattle.hcl_syntax.specs.Grammar.{Symbol, the, after, after_ident, step, section_directive, Marked, ◌at◌, none, reads, row_of, fits}
-use Rattle.hcl_syntax.specs.Numbered.{Numbered, is_comment, is_ident, is_passed_over, is_quote_open, significant, uncommented}
+use Rattle.hcl_syntax.specs.Numbered.{Numbered, is_comment, is_passed_over, significant, uncommented}
 use Rattle.hcl_syntax.specs.Predictor.{on, effect, taken}
 use Rattle.hcl_syntax.specs.declared.class.Class.TheVariants.{Dot, Newline}
 use Rattle.hcl_syntax.specs.declared.class.Lookahead.{Lookahead}
@@ -22,15 +22,15 @@ use Rattle.hcl_syntax.proofs.TurnLemmas.{Place, line, labelled, started, named, 
 
 abbrev pub begins_dot : List Numbered → Bool
 begins_dot [] = false
-begins_dot (t ∷ ts) = is_dot t.kind
+begins_dot (t ∷ ts) = is kind.Dot t.kind
 
 -- the last token that isn't passed over is a dot
 abbrev pub behind_dot : Bool → Kind → Bool
-behind_dot dot k = cond (is_passed_over k) dot (is_dot k)
+behind_dot dot k = cond (is_passed_over k) dot (is kind.Dot k)
 
 -- a quote, or an identifier beside no dot
 abbrev pub is_apart : Bool → Kind → List Numbered → Bool
-is_apart dot k rest = is_quote_open k || (is_ident k && (not dot && not (begins_dot (significant rest))))
+is_apart dot k rest = is kind.QuoteOpen k || (is kind.Ident k && (not dot && not (begins_dot (significant rest))))
 
 -- token by token
 abbrev pub apart : Bool → List Numbered → List Bool
@@ -50,21 +50,21 @@ apart_on all n dot t ts e = sym (drop-drop 1 n (apart false all)) ∙ ap (drop 1
 -- ---- which tokens name
 
 abbrev pub is_name : Place → Kind → Bool
-is_name (line k) t = is_ident t
-is_name (labelled k b) t = is_ident t || is_quote_open t
-is_name (started k) t = is_ident t
+is_name (line k) t = is kind.Ident t
+is_name (labelled k b) t = is kind.Ident t || is kind.QuoteOpen t
+is_name (started k) t = is kind.Ident t
 is_name _ t = false
 
-ident_is : (t : Kind) → is_ident t ≡ true → t ≡ kind.Ident
+ident_is : (t : Kind) → is kind.Ident t ≡ true → t ≡ kind.Ident
 ident_is kind.Ident e = refl
 ident_is _ e = absurd (true≢false (sym e))
 
-name_kind : (p : Place) (t : Kind) → is_name p t ≡ true → (is_quote_open t ≡ true) ⊎ (t ≡ kind.Ident)
+name_kind : (p : Place) (t : Kind) → is_name p t ≡ true → (is kind.QuoteOpen t ≡ true) ⊎ (t ≡ kind.Ident)
 name_kind (line k) t e = inr (ident_is t e)
 name_kind (started k) t e = inr (ident_is t e)
 name_kind (labelled k b) t e = by t e
   where
-    by : (t : Kind) → (is_ident t || is_quote_open t) ≡ true → (is_quote_open t ≡ true) ⊎ (t ≡ kind.Ident)
+    by : (t : Kind) → (is kind.Ident t || is kind.QuoteOpen t) ≡ true → (is kind.QuoteOpen t ≡ true) ⊎ (t ≡ kind.Ident)
     by kind.Ident e = inr refl
     by kind.QuoteOpen e = inl refl
     by _ e = absurd (true≢false (sym e))
@@ -73,7 +73,7 @@ name_kind _ t e = absurd (true≢false (sym e))
 -- ---- behind a name comes no dot
 
 abbrev pub follows : Kind → Bool
-follows t = not (is_passed_over t) && not (is_dot t)
+follows t = not (is_passed_over t) && not (is kind.Dot t)
 
 abbrev pub Follows : List Numbered → Type 0
 Follows [] = Unit {0}
@@ -103,8 +103,8 @@ no_dot (t ∷ ts) h = by t.kind refl h (no_dot ts)
     Front : (k : Kind) → Type 0
     Front k = begins_dot (cond (not (is_passed_over k)) (t ∷ significant ts) (significant ts)) ≡ false
 
-    one : (k : Kind) → t.kind ≡ k → (is_passed_over k ≡ false) → follows k ≡ true → is_dot t.kind ≡ false
-    one k e plain h = ap is_dot e ∙ other (is_passed_over k) (is_dot k) plain h
+    one : (k : Kind) → t.kind ≡ k → (is_passed_over k ≡ false) → follows k ≡ true → is kind.Dot t.kind ≡ false
+    one k e plain h = ap (is kind.Dot) e ∙ other (is_passed_over k) (is kind.Dot k) plain h
       where
         other : (a b : Bool) → a ≡ false → (not a && not b) ≡ true → b ≡ false
         other false false e h = refl
@@ -120,10 +120,10 @@ no_dot (t ∷ ts) h = by t.kind refl h (no_dot ts)
 
 pub name_apart : (all : List Numbered) (n : ℕ) (dot : Bool) (p : Place) (t : Numbered) (ts : List Numbered) → is_name p t.kind ≡ true → dot ≡ false → (t.kind ≡ kind.Ident → Follows (uncommented ts))
     → drop n (apart false all) ≡ apart dot (t ∷ ts) → IsApart all n
-name_apart all n dot p t ts e plain next is = ap first is ∙ by (name_kind p t.kind e)
+name_apart all n dot p t ts e plain next this = ap first this ∙ by (name_kind p t.kind e)
   where
-    by : (is_quote_open t.kind ≡ true) ⊎ (t.kind ≡ kind.Ident) → is_apart dot t.kind ts ≡ true
-    by (inl q) = ap (λ b. b || (is_ident t.kind && (not dot && not (begins_dot (significant ts))))) q
+    by : (is kind.QuoteOpen t.kind ≡ true) ⊎ (t.kind ≡ kind.Ident) → is_apart dot t.kind ts ≡ true
+    by (inl q) = ap (λ b. b || (is kind.Ident t.kind && (not dot && not (begins_dot (significant ts))))) q
     by (inr i) = ap (λ k. is_apart dot k ts) i ∙ ap (λ b. not b && not (begins_dot (significant ts))) plain ∙ ap not (no_dot ts (next i))
 
 -- ---- a dot is followed by a step

@@ -6,7 +6,7 @@ use Rattle.std.proofs.lemmas.Bool.{cases_eq}
 use Rattle.hcl_scan.specs.Lexemes.{Lexeme}
 use Rattle.hcl_scan.specs.declared.token.Kind.{Kind}
 use Rattle.hcl_scan.specs.declared.token.Kind.TheVariants as kind
-use Rattle.hcl_syntax.specs.Numbered.{is_newline}
+use Rattle.hcl_scan.specs.Kinds.{is}
 use Rattle.hcl_syntax.specs.Items.{deepen, is_closed}
 use Rattle.hcl_syntax.specs.declared.nesting.Nesting.TheVariants as nesting
 use Rattle.hcl_syntax.specs.Inner.Pieces.{AreEnds, first_len, newline_from, nesting_of, AreNewlinesAhead}
@@ -14,7 +14,7 @@ use Rattle.hcl_syntax.proofs.WordLemmas.{drop_at}
 
 -- what a kind does to the depth
 pub record Moves (k : Kind) (newline : Bool) (move : ℕ → ℕ) : Type 0 where
-  pub newline_is : is_newline k ≡ newline
+  pub newline_is : is kind.Newline k ≡ newline
   pub moves : (depth : ℕ) → deepen depth k ≡ move depth
 
 flat : (d : ℕ) → d + 0 - 0 ≡ d
@@ -59,20 +59,20 @@ at_other kind.SeqClose e = absurd (cc)
 at_other _ e = record { newline_is = refl; moves = flat }
 
 module _ (ts : List Lexeme) (n : ℕ) (t : Lexeme) (e : slice_get ts n ≡ Some t) where
-  from_here : (d : ℕ) → newline_from ts d n ≡ n + cond (is_newline t.kind && is_closed d) 0 (first_len (deepen d t.kind) (drop (n + 1) ts) + 1)
+  from_here : (d : ℕ) → newline_from ts d n ≡ n + cond (is kind.Newline t.kind && is_closed d) 0 (first_len (deepen d t.kind) (drop (n + 1) ts) + 1)
   from_here d = ap (λ r. n + first_len d r) (drop_at ts n t e)
 
-  from_next : (d next : ℕ) → is_newline t.kind ≡ false → deepen d t.kind ≡ next → newline_from ts d n ≡ newline_from ts next (n + 1)
+  from_next : (d next : ℕ) → is kind.Newline t.kind ≡ false → deepen d t.kind ≡ next → newline_from ts d n ≡ newline_from ts next (n + 1)
   from_next d next plain moved =
       from_here d
       ∙ ap (λ b. n + cond (b && is_closed d) 0 (first_len (deepen d t.kind) (drop (n + 1) ts) + 1)) plain
       ∙ ap (λ m. n + (first_len m (drop (n + 1) ts) + 1)) moved
       ∙ omega arith
 
-  from_newline : is_newline t.kind ≡ true → newline_from ts 0 n ≡ n
+  from_newline : is kind.Newline t.kind ≡ true → newline_from ts 0 n ≡ n
   from_newline here = from_here 0 ∙ ap (λ b. n + cond (b && true) 0 (first_len (deepen 0 t.kind) (drop (n + 1) ts) + 1)) here ∙ omega arith
 
-  from_deeper : (d : ℕ) → is_newline t.kind ≡ true → deepen (suc d) t.kind ≡ suc d → newline_from ts (suc d) n ≡ newline_from ts (suc d) (n + 1)
+  from_deeper : (d : ℕ) → is kind.Newline t.kind ≡ true → deepen (suc d) t.kind ≡ suc d → newline_from ts (suc d) n ≡ newline_from ts (suc d) (n + 1)
   from_deeper d here moved =
       from_here (suc d)
       ∙ ap (λ b. n + cond (b && false) 0 (first_len (deepen (suc d) t.kind) (drop (n + 1) ts) + 1)) here

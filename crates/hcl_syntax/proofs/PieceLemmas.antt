@@ -1,8 +1,10 @@
 -- The item of a piece, by its first two words.
 use Rattle.std.proofs.Common.{◌≡◌, ◌∙◌, ap, sym, refl, ℕ, ◌+◌, ◌≤◌, true, false, cond, List, [], ◌∷◌, ◌++◌, arith}
 use Rattle.std.proofs.lemmas.List.{append-nil}
+use Rattle.hcl_scan.specs.Kinds.{is}
+use Rattle.hcl_scan.specs.declared.token.Kind.TheVariants as kind
 use Rattle.hcl_scan.specs.Lexemes.{Lexeme}
-use Rattle.hcl_syntax.specs.Numbered.{Numbered, is_assign, end_of}
+use Rattle.hcl_syntax.specs.Numbered.{Numbered, end_of}
 use Rattle.hcl_syntax.specs.Items.{block, item_of}
 use Rattle.hcl_syntax.specs.Inner.Pieces.{IsFirst, words}
 use Rattle.hcl_syntax.specs.Inner.Bodies.{PutsBlock, PutsPiece}
@@ -34,7 +36,7 @@ puts_alone ts level from to old new name b f none h = record {
   deeper = λ less. omega (arith, h.deeper, f.from_on);
 }
 
-pub puts_labelled : (ts : List Lexeme) (level from to : ℕ) (old new : List Item) (name second : NumberedKind) (b : Body) → IsFirst ts from to name → IsFirst ts (name.number + 1) to second → is_assign second.kind ≡ false
+pub puts_labelled : (ts : List Lexeme) (level from to : ℕ) (old new : List Item) (name second : NumberedKind) (b : Body) → IsFirst ts from to name → IsFirst ts (name.number + 1) to second → is kind.Assign second.kind ≡ false
     → PutsBlock ts level name.number to old new b → PutsPiece ts level from to old new b
 puts_labelled ts level from to old new name second b f s plain h = record {
   is = λ inner nothing.
@@ -47,7 +49,7 @@ puts_labelled ts level from to old new name second b f s plain h = record {
   deeper = λ less. omega (arith, h.deeper, f.from_on);
 }
 
-pub puts_attribute : (ts : List Lexeme) (level from to end : ℕ) (old new : List Item) (name second : NumberedKind) → IsFirst ts from to name → IsFirst ts (name.number + 1) to second → is_assign second.kind ≡ true
+pub puts_attribute : (ts : List Lexeme) (level from to end : ℕ) (old new : List Item) (name second : NumberedKind) → IsFirst ts from to name → IsFirst ts (name.number + 1) to second → is kind.Assign second.kind ≡ true
     → end ≡ end_of (words ts (name.number + 1) to) → new ≡ old ++ item.Attribute level name.number (second.number + 1) end ∷ [] → PutsPiece ts level from to old new (record { first = to; end = to })
 puts_attribute ts level from to end old new name second f s assign at pushed = record {
   is = λ inner nothing.

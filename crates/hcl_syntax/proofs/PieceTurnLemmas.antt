@@ -5,11 +5,12 @@ use Rattle.std.specs.List.{flat_map}
 use Rattle.std.proofs.lemmas.Bool.{cases_lt}
 use Rattle.std.proofs.lemmas.Bool.Decides.{nat_tests}
 use Rattle.std.proofs.lemmas.List.Elements.{filter-append}
+use Rattle.hcl_scan.specs.Kinds.{is}
 use Rattle.hcl_scan.specs.declared.token.Kind.{Kind}
 use Rattle.hcl_scan.specs.declared.token.Kind.TheVariants as kind
 use Rattle.hcl_syntax.specs.Items.{behind_brace, block, block_end, body, closing_quote, deepen, is_closed, item_of, items, label_at, labels, onto, pieces}
-use Rattle.hcl_syntax.specs.Labels.{IsAsWritten, first_literal, is_lit, label_text, quoted, text_of}
-use Rattle.hcl_syntax.specs.Numbered.{Numbered, end_of, is_assign, is_brace_close, is_brace_open, is_ident, is_newline, is_quote_close, is_quote_open}
+use Rattle.hcl_syntax.specs.Labels.{IsAsWritten, first_literal, label_text, quoted, text_of}
+use Rattle.hcl_syntax.specs.Numbered.{Numbered, end_of}
 use Rattle.hcl_syntax.specs.declared.item.Item.{Item}
 use Rattle.hcl_syntax.specs.declared.item.Item.TheVariants as item
 use Rattle.hcl_syntax.specs.declared.item.Label.{Label}
@@ -80,7 +81,7 @@ module _ (all : List Numbered) where
   -- the first piece begins as the tokens do
   first_begins : (n d : ℕ) (ts x : List Numbered) (xs : List (List Numbered)) → Begins n ts → pieces d ts ≡ x ∷ xs → Begins n x
   first_begins n d [] x xs h e = let f : [] ≡ x = cc in subst (λ r. Begins n r) f tt
-  first_begins n d (t ∷ ts) x xs h e = by (is_newline t.kind && is_closed d) (pieces (deepen d t.kind) ts) e
+  first_begins n d (t ∷ ts) x xs h e = by (is kind.Newline t.kind && is_closed d) (pieces (deepen d t.kind) ts) e
     where
       by : (b : Bool) (ps : List (List Numbered)) → cond b ([] ∷ ps) (onto t ps) ≡ x ∷ xs → Begins n x
       by true ps e = let f : [] ≡ x = cc in subst (λ r. Begins n r) f tt
@@ -97,7 +98,7 @@ module _ (all : List Numbered) where
   pub cut : (k : ℕ) (p : Place) (ts : List Numbered) (end : Place) → k ≤ level p → Leads all (Within k) p ts end → Stops k end → Pieces k p (pieces (depth p - k) ts)
   cut k p [] end low leads stops = ((end, leads, stops), tt)
   cut k p (t ∷ ts) end low leads stops =
-      by (is_newline t.kind && is_closed (depth p - k)) refl (turns p t.kind q leads.1) (cut k q ts end leads.2 leads.5 stops)
+      by (is kind.Newline t.kind && is_closed (depth p - k)) refl (turns p t.kind q leads.1) (cut k q ts end leads.2 leads.5 stops)
     where
       q : Place
       q = leads.0
@@ -109,7 +110,7 @@ module _ (all : List Numbered) where
       newline true c e = (refl, e)
       newline false c e = absurd (true≢false (sym e))
 
-      level_newline : (x : Kind) → is_newline x ≡ true → (n : ℕ) → deepen n x ≡ n
+      level_newline : (x : Kind) → is kind.Newline x ≡ true → (n : ℕ) → deepen n x ≡ n
       level_newline kind.Newline e n = omega arith
       level_newline _ e n = absurd (true≢false (sym e))
 
@@ -134,13 +135,13 @@ module _ (all : List Numbered) where
           lines [] h = tt
           lines (x ∷ xs) h = h
 
-      by : (b : Bool) → (is_newline t.kind && is_closed (depth p - k)) ≡ b → Turns p t.kind q → Pieces k q (pieces (depth q - k) ts) → Pieces k p (cond b ([] ∷ P) (onto t P))
-      by true is (breaks nl flat ends to) rest =
-          let n = newline (is_newline t.kind) (is_closed (depth p - k)) is in
+      by : (b : Bool) → (is kind.Newline t.kind && is_closed (depth p - k)) ≡ b → Turns p t.kind q → Pieces k q (pieces (depth q - k) ts) → Pieces k p (cond b ([] ∷ P) (onto t P))
+      by true this (breaks nl flat ends to) rest =
+          let n = newline (is kind.Newline t.kind) (is_closed (depth p - k)) this in
           let f = flat_all k p low n.1 in
           broken (to ∙ ap line f.1) rest (level_newline t.kind n.0 (depth p - k) ∙ zero_of (depth p - k) n.1) ends (omega (arith, f.0, f.1))
-      by true is (moves still g) rest =
-          let n = newline (is_newline t.kind) (is_closed (depth p - k)) is in
+      by true this (moves still g) rest =
+          let n = newline (is kind.Newline t.kind) (is_closed (depth p - k)) this in
           let f = flat_all k p low n.1 in
           absurd (true≢false (sym (ap (λ b. b && is_closed (inside p)) n.0 ∙ ap is_closed f.0) ∙ still))
       by false is (breaks nl flat ends to) rest =
@@ -170,7 +171,7 @@ module _ (all : List Numbered) where
   pub record Bodied (k : ℕ) (p : Place) (ts : List Numbered) : Type 0 where
     pub inner : List Numbered
     pub close : Numbered
-    pub brace : is_brace_close close.kind ≡ true
+    pub brace : is kind.BraceClose close.kind ≡ true
     pub is : ts ≡ inner ++ close ∷ []
     pub end : Place
     pub leads : Leads all (Within (suc k)) p inner end
@@ -186,9 +187,9 @@ module _ (all : List Numbered) where
 
       by : Turns (ended k) t.kind leads.0 → ⊥
       by (breaks nl flat ends to) = omega (arith, leads.2.1 (ap is_line to), ap level to)
-      by (moves still g) = gone (is_newline t.kind) refl
+      by (moves still g) = gone (is kind.Newline t.kind) refl
         where
-          gone : (b : Bool) → is_newline t.kind ≡ b → ⊥
+          gone : (b : Bool) → is kind.Newline t.kind ≡ b → ⊥
           gone true nl = true≢false (sym (ap (λ b. b && true) nl) ∙ still)
           gone false nl = never leads.0 (sym (ap (λ b. cond (b && true) (Some (line k)) None) nl) ∙ leads.1)
 
@@ -296,23 +297,23 @@ module _ (all : List Numbered) where
   -- no `=` comes first
   abbrev pub NoSign : List Numbered → Type 0
   NoSign [] = Unit {0}
-  NoSign (t ∷ ts) = is_assign t.kind ≡ false
+  NoSign (t ∷ ts) = is kind.Assign t.kind ≡ false
 
   module _ (k : ℕ) (end : Place) (stops : Stops k end) where
     closed_label : (n : ℕ) (u : Numbered) (us : List Numbered) → u.kind ≡ kind.QuoteClose → u.number ≡ n + 1 → drop u.number all ≡ u ∷ drop (u.number + 1) all
         → IsAsWritten (quoted all (record { first = n; last = closing_quote (u ∷ us) })) (label_text all (record { first = n; last = closing_quote (u ∷ us) }))
     closed_label n u us close e here =
-        let m : closing_quote (u ∷ us) ≡ n + 1 = ap (λ b. cond (is_quote_close b) u.number (closing_quote us)) close ∙ e in
+        let m : closing_quote (u ∷ us) ≡ n + 1 = ap (λ b. cond (is kind.QuoteClose b) u.number (closing_quote us)) close ∙ e in
         let z : closing_quote (u ∷ us) - (n + 1) ≡ 0 = omega (arith, m) in
-        as_written n (closing_quote (u ∷ us)) u [] [] (inl m) (at_number u n e here) (ap (λ j. take j (u ∷ drop (n + 2) all)) z) (ap (λ b. cond (is_lit b) u.text []) close) refl
+        as_written n (closing_quote (u ∷ us)) u [] [] (inl m) (at_number u n e here) (ap (λ j. take j (u ∷ drop (n + 2) all)) z) (ap (λ b. cond (is kind.Lit b) u.text []) close) refl
 
     literal_label : (n : ℕ) (u v : Numbered) (vs : List Numbered) → u.kind ≡ kind.Lit → v.kind ≡ kind.QuoteClose → u.number ≡ n + 1 → v.number ≡ u.number + 1 → drop u.number all ≡ u ∷ drop (u.number + 1) all
         → IsAsWritten (quoted all (record { first = n; last = closing_quote (u ∷ v ∷ vs) })) (label_text all (record { first = n; last = closing_quote (u ∷ v ∷ vs) }))
     literal_label n u v vs lit close e f here =
-        let m : closing_quote (u ∷ v ∷ vs) ≡ n + 2 = ap (λ b. cond (is_quote_close b) u.number (closing_quote (v ∷ vs))) lit ∙ ap (λ b. cond (is_quote_close b) v.number (closing_quote vs)) close ∙ (let w : v.number ≡ n + 2 = omega (arith, e, f) in w) in
+        let m : closing_quote (u ∷ v ∷ vs) ≡ n + 2 = ap (λ b. cond (is kind.QuoteClose b) u.number (closing_quote (v ∷ vs))) lit ∙ ap (λ b. cond (is kind.QuoteClose b) v.number (closing_quote vs)) close ∙ (let w : v.number ≡ n + 2 = omega (arith, e, f) in w) in
         let z : closing_quote (u ∷ v ∷ vs) - (n + 1) ≡ 1 = omega (arith, m) in
-        as_written n (closing_quote (u ∷ v ∷ vs)) u (u ∷ []) u.text (inr m) (at_number u n e here) (ap (λ j. take j (u ∷ drop (n + 2) all)) z ∙ ap (λ r. u ∷ r) (take_none (drop (n + 2) all))) (ap (λ b. cond (is_lit b) u.text []) lit)
-        (ap is_lit lit, refl)
+        as_written n (closing_quote (u ∷ v ∷ vs)) u (u ∷ []) u.text (inr m) (at_number u n e here) (ap (λ j. take j (u ∷ drop (n + 2) all)) z ∙ ap (λ r. u ∷ r) (take_none (drop (n + 2) all))) (ap (λ b. cond (is kind.Lit b) u.text []) lit)
+        (ap (is kind.Lit) lit, refl)
       where
         take_none : (xs : List Numbered) → take 0 xs ≡ []
         take_none [] = refl
@@ -338,10 +339,10 @@ module _ (all : List Numbered) where
     Labels ts = AllGood (labels ts) × ((behind_brace ts ≡ []) ⊎ Leads all (Inside k) (started k) (behind_brace ts) end)
 
     -- with a token in front that is no brace
-    passed : (t : Numbered) (ts : List Numbered) (x : Kind) → t.kind ≡ x → is_brace_open x ≡ false → AllGood (label_at t.number x ts) → Labels ts → Labels (t ∷ ts)
+    passed : (t : Numbered) (ts : List Numbered) (x : Kind) → t.kind ≡ x → is kind.BraceOpen x ≡ false → AllGood (label_at t.number x ts) → Labels ts → Labels (t ∷ ts)
     passed t ts x e plain good h =
-        let L : labels (t ∷ ts) ≡ label_at t.number x ts ++ labels ts = ap (λ y. cond (is_brace_open y) [] (label_at t.number y ts ++ labels ts)) e ∙ ap (λ b. cond b [] (label_at t.number x ts ++ labels ts)) plain in
-        let B : behind_brace (t ∷ ts) ≡ behind_brace ts = ap (λ y. cond (is_brace_open y) ts (behind_brace ts)) e ∙ ap (λ b. cond b ts (behind_brace ts)) plain in
+        let L : labels (t ∷ ts) ≡ label_at t.number x ts ++ labels ts = ap (λ y. cond (is kind.BraceOpen y) [] (label_at t.number y ts ++ labels ts)) e ∙ ap (λ b. cond b [] (label_at t.number x ts ++ labels ts)) plain in
+        let B : behind_brace (t ∷ ts) ≡ behind_brace ts = ap (λ y. cond (is kind.BraceOpen y) ts (behind_brace ts)) e ∙ ap (λ b. cond b ts (behind_brace ts)) plain in
         (subst AllGood (sym L) (good_both (label_at t.number x ts) (labels ts) good h.0), subst (λ r. (r ≡ []) ⊎ Leads all (Inside k) (started k) r end) (sym B) h.1)
 
     pub data Among (p : Place) (ts : List Numbered) : Type 0 where
@@ -362,20 +363,20 @@ module _ (all : List Numbered) where
         from : (r : Place) → p ≡ r → turn r t.kind ≡ Some q
         from r e = subst (λ x. turn x t.kind ≡ Some q) e leads.1
 
-        named_by : (b : Bool) → p ≡ labelled k b → (is_ident t.kind || is_quote_open t.kind) ≡ true → IsApart all t.number
+        named_by : (b : Bool) → p ≡ labelled k b → (is kind.Ident t.kind || is kind.QuoteOpen t.kind) ≡ true → IsApart all t.number
         named_by b e h = leads.3.1 (ap (λ r. is_name r t.kind) e ∙ h)
 
-        one : (b : Bool) → p ≡ labelled k b → (b ≡ true → is_assign t.kind ≡ false) → (Among q ts → Labels ts) → LabelTurn k b t.kind q → Labels (t ∷ ts)
-        one b e unsign rest (word x to) = passed t ts kind.Ident x refl (((λ h. absurd (omega (arith, h))), named_by b e (ap (λ k. is_ident k || is_quote_open k) x)), tt) (rest (among false to (unsigned ts)))
+        one : (b : Bool) → p ≡ labelled k b → (b ≡ true → is kind.Assign t.kind ≡ false) → (Among q ts → Labels ts) → LabelTurn k b t.kind q → Labels (t ∷ ts)
+        one b e unsign rest (word x to) = passed t ts kind.Ident x refl (((λ h. absurd (omega (arith, h))), named_by b e (ap (λ k. is kind.Ident k || is kind.QuoteOpen k) x)), tt) (rest (among false to (unsigned ts)))
         one b e unsign rest (quote x to) =
             passed t ts kind.QuoteOpen x refl
-            (((λ h. good_quote t.number ts (leads.4 (ap in_quotes to)) (subst (λ y. Leads all (Inside k) y ts end) to leads.5)), named_by b e (ap (λ k. is_ident k || is_quote_open k) x)), tt)
+            (((λ h. good_quote t.number ts (leads.4 (ap in_quotes to)) (subst (λ y. Leads all (Inside k) y ts end) to leads.5)), named_by b e (ap (λ k. is kind.Ident k || is kind.QuoteOpen k) x)), tt)
             (rest (begun to))
         one b e unsign rest (brace x to) =
-            let L : labels (t ∷ ts) ≡ [] = ap (λ y. cond (is_brace_open y) [] (label_at t.number y ts ++ labels ts)) x in
-            let B : behind_brace (t ∷ ts) ≡ ts = ap (λ y. cond (is_brace_open y) ts (behind_brace ts)) x in
+            let L : labels (t ∷ ts) ≡ [] = ap (λ y. cond (is kind.BraceOpen y) [] (label_at t.number y ts ++ labels ts)) x in
+            let B : behind_brace (t ∷ ts) ≡ ts = ap (λ y. cond (is kind.BraceOpen y) ts (behind_brace ts)) x in
             (subst AllGood (sym L) tt, inr (subst (λ r. Leads all (Inside k) (started k) r end) (sym B) (subst (λ y. Leads all (Inside k) y ts end) to leads.5)))
-        one b e unsign rest (sign may x) = absurd (true≢false (sym (ap is_assign x) ∙ unsign may))
+        one b e unsign rest (sign may x) = absurd (true≢false (sym (ap (is kind.Assign) x) ∙ unsign may))
 
         two : (Among q ts → Labels ts) → ((t.kind ≡ kind.Lit) × (q ≡ at.written k)) ⊎ ((t.kind ≡ kind.QuoteClose) × (q ≡ labelled k false)) → Labels (t ∷ ts)
         two rest (inl h) = passed t ts kind.Lit h.0 refl tt (rest (full h.1))
@@ -390,7 +391,7 @@ module _ (all : List Numbered) where
 
   front_of : (ts : List Numbered) → (front : List Numbered) × (ts ≡ front ++ behind_brace ts)
   front_of [] = ([], refl)
-  front_of (t ∷ ts) = by (is_brace_open t.kind) (front_of ts)
+  front_of (t ∷ ts) = by (is kind.BraceOpen t.kind) (front_of ts)
     where
       by : (b : Bool) → (front : List Numbered) × (ts ≡ front ++ behind_brace ts) → (front : List Numbered) × (t ∷ ts ≡ front ++ cond b ts (behind_brace ts))
       by true h = (t ∷ [], refl)
@@ -401,7 +402,7 @@ module _ (all : List Numbered) where
   end_is (x ∷ []) t = refl
   end_is (x ∷ y ∷ xs) t = end_is (y ∷ xs) t
 
-  one_brace : (t : Numbered) → is_brace_close t.kind ≡ true → filter (λ u. is_brace_close u.kind) (t ∷ []) ≡ t ∷ []
+  one_brace : (t : Numbered) → is kind.BraceClose t.kind ≡ true → filter (λ u. is kind.BraceClose u.kind) (t ∷ []) ≡ t ∷ []
   one_brace t e = ap (λ b. cond b (t ∷ []) []) e
 
   rises_back : (from to : ℕ) (xs ys : List Numbered) → Rises from (xs ++ ys) to → (mid : ℕ) × Rises mid ys to
@@ -418,18 +419,18 @@ module _ (all : List Numbered) where
       let more = before_last (x.number + 1) to e xs t h.1 is in
       (ap (λ b. cond b (x ∷ filter (λ u. nat_lt (u.number + 1) e) (xs ++ t ∷ [])) (filter (λ u. nat_lt (u.number + 1) e) (xs ++ t ∷ []))) (lt-ltb (x.number + 1) e (omega (arith, is, more.1))) ∙ ap (λ r. x ∷ r) more.0, omega (arith, h.0, more.1))
 
-  body_is : (from to : ℕ) (ts inner : List Numbered) (t : Numbered) → Rises from ts to → behind_brace ts ≡ inner ++ t ∷ [] → is_brace_close t.kind ≡ true → (body ts ≡ inner) × ((mid : ℕ) × Rises mid (inner ++ t ∷ []) to)
-  body_is from to ts inner t rises is closes =
+  body_is : (from to : ℕ) (ts inner : List Numbered) (t : Numbered) → Rises from ts to → behind_brace ts ≡ inner ++ t ∷ [] → is kind.BraceClose t.kind ≡ true → (body ts ≡ inner) × ((mid : ℕ) × Rises mid (inner ++ t ∷ []) to)
+  body_is from to ts inner t rises this closes =
       let f = front_of ts in
-      let whole : ts ≡ f.0 ++ (inner ++ t ∷ []) = f.1 ∙ ap (λ r. f.0 ++ r) is in
+      let whole : ts ≡ f.0 ++ (inner ++ t ∷ []) = f.1 ∙ ap (λ r. f.0 ++ r) this in
       let back = rises_back from to f.0 (inner ++ t ∷ []) (subst (λ r. Rises from r to) whole rises) in
-      let braces = (λ (u : Numbered). is_brace_close u.kind) in
+      let braces = (λ (u : Numbered). is kind.BraceClose u.kind) in
       let e : block_end ts ≡ t.number + 1 =
       ap (λ r. end_of (filter braces r)) whole
       ∙ ap end_of (filter-append braces f.0 (inner ++ t ∷ []) ∙ ap (λ r. filter braces f.0 ++ r) (filter-append braces inner (t ∷ []) ∙ ap (λ r. filter braces inner ++ r) (one_brace t closes)) ∙ sym (append_assoc (filter braces f.0) (filter braces inner) (t ∷ [])))
       ∙ end_is (filter braces f.0 ++ filter braces inner) t
       in
-      (ap (λ r. filter (λ u. nat_lt (u.number + 1) (block_end ts)) r) is ∙ (before_last back.0 to (block_end ts) inner t back.1 e).0, back)
+      (ap (λ r. filter (λ u. nat_lt (u.number + 1) (block_end ts)) r) this ∙ (before_last back.0 to (block_end ts) inner t back.1 e).0, back)
 
   rises_front : (from to : ℕ) (xs : List Numbered) (t : Numbered) → Rises from (xs ++ t ∷ []) to → Rises from xs to
   rises_front from to [] t h = rises_wide from to (t ∷ []) h
@@ -483,7 +484,7 @@ module _ (all : List Numbered) where
     first_names : (k : ℕ) (p q : Place) (t : Kind) → Begin k p → turn p t ≡ Some q → Inside k q → is_name p t ≡ true
     first_names k p q t (inl e) turned ok = ap (λ x. is_name x t) e ∙ by k t q (subst (λ x. turn x t ≡ Some q) e turned) ok
       where
-        by : (k : ℕ) (t : Kind) (q : Place) → turn (line k) t ≡ Some q → Inside k q → is_ident t ≡ true
+        by : (k : ℕ) (t : Kind) (q : Place) → turn (line k) t ≡ Some q → Inside k q → is kind.Ident t ≡ true
         by k kind.Ident q e ok = refl
         by k kind.Newline q e ok = let h : q ≡ line k = cc in absurd (omega (arith, ok.1 (ap is_line h), ap level h))
         by zero kind.BraceClose q e ok = let n : None ≡ Some q = e in absurd (cc)
@@ -491,20 +492,20 @@ module _ (all : List Numbered) where
         by k t q e ok = let n : None ≡ Some q = e in absurd (cc)
     first_names k p q t (inr e) turned ok = ap (λ x. is_name x t) e.2 ∙ by e.0 t q (subst (λ x. turn x t ≡ Some q) e.2 turned) (subst (λ (x : ℕ). Inside x q) e.1 ok)
       where
-        by : (j : ℕ) (t : Kind) (q : Place) → turn (started j) t ≡ Some q → Inside (suc j) q → is_ident t ≡ true
+        by : (j : ℕ) (t : Kind) (q : Place) → turn (started j) t ≡ Some q → Inside (suc j) q → is kind.Ident t ≡ true
         by j kind.Ident q e ok = refl
         by j kind.Newline q e ok = let h : q ≡ line (suc j) = cc in absurd (omega (arith, ok.1 (ap is_line h), ap level h))
         by j kind.BraceClose q e ok = let h : q ≡ ended j = cc in absurd (omega (arith, ok.0, ap level h))
         by j t q e ok = let n : None ≡ Some q = e in absurd (cc)
 
-    named_turn : (j : ℕ) (t : Kind) (q : Place) → turn (named j) t ≡ Some q → is_assign t ≡ true
+    named_turn : (j : ℕ) (t : Kind) (q : Place) → turn (named j) t ≡ Some q → is kind.Assign t ≡ true
     named_turn j kind.Assign q e = refl
     named_turn j t q e = let n : None ≡ Some q = e in absurd (cc)
 
     item_good : (k : ℕ) (p : Place) (from to : ℕ) (ts : List Numbered) → Begin k p → Rises from ts to → Piece k p ts → AllGood (item_of inner lev ts)
     item_good k p from to [] begin rises piece = tt
     item_good k p from to (name ∷ []) begin rises piece = (tt, nothing_good)
-    item_good k p from to (name ∷ second ∷ rest) begin rises piece = by (is_assign second.kind) refl
+    item_good k p from to (name ∷ second ∷ rest) begin rises piece = by (is kind.Assign second.kind) refl
       where
         leads : Leads all (Inside k) p (name ∷ second ∷ rest) piece.0
         leads = piece.1
@@ -512,11 +513,11 @@ module _ (all : List Numbered) where
         q : Place
         q = leads.0
 
-        behind : is_assign second.kind ≡ false → (q ≡ labelled k true) ⊎ ((j : ℕ) × (q ≡ named j)) → AllGood (block inner lev name (second ∷ rest))
+        behind : is kind.Assign second.kind ≡ false → (q ≡ labelled k true) ⊎ ((j : ℕ) × (q ≡ named j)) → AllGood (block inner lev name (second ∷ rest))
         behind unsign (inl e) = block_good k (name.number + 1) to name (second ∷ rest) piece.0 rises.1 unsign (subst (λ x. Leads all (Inside k) x (second ∷ rest) piece.0) e leads.5) piece.2
         behind unsign (inr e) = absurd (true≢false (sym (named_turn e.0 second.kind leads.5.0 (subst (λ x. turn x second.kind ≡ Some leads.5.0) e.1 leads.5.1)) ∙ unsign))
 
-        by : (b : Bool) → is_assign second.kind ≡ b → AllGood (cond b (item.Attribute lev name.number (second.number + 1) (end_of (second ∷ rest)) ∷ []) (block inner lev name (second ∷ rest)))
+        by : (b : Bool) → is kind.Assign second.kind ≡ b → AllGood (cond b (item.Attribute lev name.number (second.number + 1) (end_of (second ∷ rest)) ∷ []) (block inner lev name (second ∷ rest)))
         by true e = (leads.3.1 (first_names k p q name.kind begin leads.1 leads.2), tt)
         by false e = behind e (first_turn k p q name.kind begin leads.1 leads.2)
 

@@ -2,7 +2,7 @@
 use Rattle.std.proofs.Common.{◌≡◌, inl, inr, ℕ, zero, suc, ◌+◌, Bool, true, false, cond, not, List, [], ◌∷◌, ◌++◌, drop, arith, refl, sym, ap, subst, ◌∙◌, true≢false}
 use Rattle.std.specs.Prelude.{◌&&◌, Option, Some, None}
 use Rattle.std.proofs.lemmas.List.{drop-drop}
-use Rattle.hcl_scan.specs.Kinds.{is_dot}
+use Rattle.hcl_scan.specs.Kinds.{is}
 use Rattle.hcl_scan.specs.Lexemes.{Lexeme, Opener, Quote, Heredoc, Sequence, Brace, Bracket, Paren, in_heredoc, moved}
 use Rattle.hcl_scan.specs.Scans.{State, Next, Scans, begin}
 use Rattle.hcl_scan.specs.Scans as scan
@@ -13,7 +13,7 @@ use Rattle.hcl_scan.proofs.KindPlaceLemmas.{in_expressions}
 use Rattle.hcl_syntax.specs.Balanced.{opening, closing, is_closer}
 use Rattle.hcl_syntax.specs.Classes.{class_at, class_of, is_trivia, lookaheads_from}
 use Rattle.hcl_syntax.specs.Items.{deepen, is_closed}
-use Rattle.hcl_syntax.specs.Numbered.{Numbered, is_brace_close, is_comment, is_newline, is_passed_over, numbered, numbered_from, uncommented}
+use Rattle.hcl_syntax.specs.Numbered.{Numbered, is_comment, is_passed_over, numbered, numbered_from, uncommented}
 use Rattle.hcl_syntax.specs.Verdict.{IsAccepted}
 use Rattle.hcl_syntax.specs.declared.class.Lookahead.{Lookahead}
 use Rattle.hcl_syntax.specs.declared.expected.Newlines.TheVariants.{Seen}
@@ -140,7 +140,7 @@ all_numbers (s at m ∷ ss) = all_numbers ss
 shift : (count n later : ℕ) (t : Kind) (text : List ℕ) (ss us : List Marked) → effect count ss (look n t text) ≡ on later us → Shift (class_at t text) (owes_all ss) (owes_all us)
 shift count n later t text ss us e = (subst (λ w. EffectMoves (λ i. Unit {0}) w (owes_all ss) (class_at t text)) e (effect-moves (λ i. Unit {0}) count ss (look n t text) tt (all_numbers ss))).0
 
-newline_is : (t : Kind) → is_newline t ≡ true → t ≡ kind.Newline
+newline_is : (t : Kind) → is kind.Newline t ≡ true → t ≡ kind.Newline
 newline_is kind.Newline e = refl
 newline_is _ e = absurd (true≢false (sym e))
 
@@ -158,11 +158,11 @@ closer_opens_none _ e = absurd (true≢false (sym e))
 
 -- a newline fits what is open
 abbrev Newlined : List Marked → Kind → Type 0
-Newlined ss t = in_template (owes_all ss) ≡ true → is_newline t ≡ false
+Newlined ss t = in_template (owes_all ss) ≡ true → is kind.Newline t ≡ false
 
 module _ (count n later : ℕ) (t : Kind) (text : List ℕ) (us xs ds : List Marked) (inner : AreInner false xs) (e : effect count (xs ++ ds) (look n t text) ≡ on later us) where
   -- a newline with nothing open is for what stands below
-  newline_below : Newlined (xs ++ ds) t → (is_newline t ≡ true) → groups (owes_all xs) ≡ 0 → effect count ds (look n kind.Newline text) ≡ on later us
+  newline_below : Newlined (xs ++ ds) t → (is kind.Newline t ≡ true) → groups (owes_all xs) ≡ 0 → effect count ds (look n kind.Newline text) ≡ on later us
   newline_below fits nl flat = newline_passes count n xs ds later us inner none (subst (λ x. effect count (xs ++ ds) (look n x text) ≡ on later us) (newline_is t nl) e)
     where
       outside : (b : Bool) → in_template (owes_all (xs ++ ds)) ≡ b → in_template (owes_all (xs ++ ds)) ≡ false
@@ -185,15 +185,15 @@ module _ (count n later : ℕ) (t : Kind) (text : List ℕ) (us xs ds : List Mar
   no_closer h ys g is c = let b = both_true (is_closer t) h c in let z = closer_opens_none t b.0 in omega (arith, z.0, z.1, b.1, g, more_open ys is)
 
 from_value : (count n later : ℕ) (t : Kind) (text : List ℕ) (ss us : List Marked) (k h : ℕ) → Newlined ss t → At (value k h) ss → effect count ss (look n t text) ≡ on later us → Moved (value k h) t us
-from_value count n later t text ss us k h fits (xs, is, inner, g) e = by (is_newline t && is_closed h) refl
+from_value count n later t text ss us k h fits (xs, this, inner, g) e = by (is kind.Newline t && is_closed h) refl
   where
     ds : List Marked
     ds = eol at Seen ∷ base k
 
     e' : effect count (xs ++ ds) (look n t text) ≡ on later us
-    e' = subst (λ r. effect count r (look n t text) ≡ on later us) is e
+    e' = subst (λ r. effect count r (look n t text) ≡ on later us) this e
 
-    inside : (is_newline t && is_closed h) ≡ false → Passes count xs ds (look n t text) later us → Moved (value k h) t us
+    inside : (is kind.Newline t && is_closed h) ≡ false → Passes count xs ds (look n t text) later us → Moved (value k h) t us
     inside nn (inl p) = on_by (is_closer t && is_closed h) refl
       where
         on_by : (b : Bool) → (is_closer t && is_closed h) ≡ b → Moved (value k h) t us
@@ -204,43 +204,43 @@ from_value count n later t text ss us k h fits (xs, is, inner, g) e = by (is_new
     inside nn (inr p) =
         let l = line_end count n later text us k t p.0 in
         let z : h ≡ 0 = sym g ∙ ap groups p.1 in
-        absurd (true≢false (sym (ap (λ x. is_newline x && is_closed h) l.0 ∙ ap is_closed z) ∙ nn))
+        absurd (true≢false (sym (ap (λ x. is kind.Newline x && is_closed h) l.0 ∙ ap is_closed z) ∙ nn))
 
-    by : (b : Bool) → (is_newline t && is_closed h) ≡ b → Moved (value k h) t us
+    by : (b : Bool) → (is kind.Newline t && is_closed h) ≡ b → Moved (value k h) t us
     by true nn =
-        let b = both_true (is_newline t) h nn in
-        (line k, ap (λ c. cond c (Some (line k)) (cond (is_closer t && is_closed h) None (Some (value k (deepen h t))))) nn, landed count later (base k) us (newline_below count n later t text us xs ds inner e' (subst (λ r. Newlined r t) is fits) b.0 (g ∙ b.1)))
+        let b = both_true (is kind.Newline t) h nn in
+        (line k, ap (λ c. cond c (Some (line k)) (cond (is_closer t && is_closed h) None (Some (value k (deepen h t))))) nn, landed count later (base k) us (newline_below count n later t text us xs ds inner e' (subst (λ r. Newlined r t) this fits) b.0 (g ∙ b.1)))
     by false nn = inside nn (inner_passes count xs ds (look n t text) later us inner e')
 
 from_single : (count n later : ℕ) (t : Kind) (text : List ℕ) (ss us : List Marked) (k h : ℕ) → Newlined ss t → At (single k h) ss → effect count ss (look n t text) ≡ on later us → Moved (single k h) t us
-from_single count n later t text ss us k h fits (xs, is, inner, g) e = by (is_newline t && is_closed h) refl
+from_single count n later t text ss us k h fits (xs, this, inner, g) e = by (is kind.Newline t && is_closed h) refl
   where
     ds : List Marked
     ds = the EndBrace at Seen ∷ eol at Seen ∷ base k
 
     e' : effect count (xs ++ ds) (look n t text) ≡ on later us
-    e' = subst (λ r. effect count r (look n t text) ≡ on later us) is e
+    e' = subst (λ r. effect count r (look n t text) ≡ on later us) this e
 
     G : Option Place
-    G = cond (is_closer t && is_closed h) (cond (is_brace_close t) (Some (ended k)) None) (Some (single k (deepen h t)))
+    G = cond (is_closer t && is_closed h) (cond (is kind.BraceClose t) (Some (ended k)) None) (Some (single k (deepen h t)))
 
-    inside : (is_newline t && is_closed h) ≡ false → Passes count xs ds (look n t text) later us → Moved (single k h) t us
+    inside : (is kind.Newline t && is_closed h) ≡ false → Passes count xs ds (look n t text) later us → Moved (single k h) t us
     inside nn (inl p) = on_by (is_closer t && is_closed h) refl
       where
         on_by : (b : Bool) → (is_closer t && is_closed h) ≡ b → Moved (single k h) t us
         on_by true c = absurd (no_closer count n later t text us xs ds inner e' h p.0 g p.1 c)
         on_by false c =
             let m = more_open count n later t text us xs ds inner e' p.0 p.1 in
-            (single k (deepen h t), ap (λ b. cond b None G) nn ∙ ap (λ b. cond b (cond (is_brace_close t) (Some (ended k)) None) (Some (single k (deepen h t)))) c, (p.0, p.1, p.2, omega (arith, m, g)))
+            (single k (deepen h t), ap (λ b. cond b None G) nn ∙ ap (λ b. cond b (cond (is kind.BraceClose t) (Some (ended k)) None) (Some (single k (deepen h t)))) c, (p.0, p.1, p.2, omega (arith, m, g)))
     inside nn (inr p) =
         let l = brace_end count n later text us k t p.0 in
         let z : h ≡ 0 = sym g ∙ ap groups p.1 in
         (ended k, ap (λ x. turn (single k h) x) l.0 ∙ ap (λ (j : ℕ). turn (single k j) kind.BraceClose) z, l.1)
 
-    by : (b : Bool) → (is_newline t && is_closed h) ≡ b → Moved (single k h) t us
+    by : (b : Bool) → (is kind.Newline t && is_closed h) ≡ b → Moved (single k h) t us
     by true nn =
-        let b = both_true (is_newline t) h nn in
-        absurd (stopped (UnexpectedToken n) later us (newline_below count n later t text us xs ds inner e' (subst (λ r. Newlined r t) is fits) b.0 (g ∙ b.1)))
+        let b = both_true (is kind.Newline t) h nn in
+        absurd (stopped (UnexpectedToken n) later us (newline_below count n later t text us xs ds inner e' (subst (λ r. Newlined r t) this fits) b.0 (g ∙ b.1)))
     by false nn = inside nn (inner_passes count xs ds (look n t text) later us inner e')
 
 -- ONE TOKEN
@@ -332,7 +332,7 @@ comment_kind kind.LineComment e = absurd (true≢false e)
 comment_kind kind.InlineComment e = absurd (true≢false e)
 comment_kind _ e = refl
 
-newline_kind : (t : Kind) → in_expressions t ≡ false → is_newline t ≡ false
+newline_kind : (t : Kind) → in_expressions t ≡ false → is kind.Newline t ≡ false
 newline_kind kind.Newline e = absurd (true≢false e)
 newline_kind _ e = refl
 
@@ -477,7 +477,7 @@ module _ (all : List Numbered) where
       by : (b : Bool) → is_comment t.kind ≡ b → On → Led p (cond (not (is_comment t.kind)) (it ∷ W) W)
       by true e on_ =
           subst (λ b. Led p (cond (not b) (it ∷ W) W)) (sym e)
-          (on_ p ss count (next_opens ∙ comment_same t.kind s.opens e ∙ same) a (skipped (comment_trivia t.kind t.text e)) (λ d. stepping (sym (ap (λ b. cond b dot (is_dot t.kind)) (comment_passed t.kind e)) ∙ d)))
+          (on_ p ss count (next_opens ∙ comment_same t.kind s.opens e ∙ same) a (skipped (comment_trivia t.kind t.text e)) (λ d. stepping (sym (ap (λ b. cond b dot (is kind.Dot t.kind)) (comment_passed t.kind e)) ∙ d)))
       by false e on_ = subst (λ b. Led p (cond (not b) (it ∷ W) W)) (sym e) (word e (is_trivia (class_of t)) refl on_)
 
 pub whole_file : (text : List ℕ) (tokens : List Lexeme) → Scans text tokens → IsAccepted tokens → Led (numbered tokens) (line 0) (uncommented (numbered tokens))

@@ -2,41 +2,42 @@
 use Rattle.std.proofs.Common.{◌≡◌, ◌∙◌, ap, sym, refl, true≢false, ℕ, ◌+◌, ◌<◌, ◌≤◌, Bool, true, false, cond, not, List, [], ◌∷◌, ◌++◌, arith, subst}
 use Rattle.std.specs.Prelude.{Some, slice_get, filter}
 use Rattle.std.proofs.lemmas.List.Elements.{filter-append}
+use Rattle.hcl_scan.specs.Kinds.{is}
 use Rattle.hcl_scan.specs.Lexemes.{Lexeme}
 use Rattle.hcl_scan.specs.declared.token.Kind.{Kind}
 use Rattle.hcl_scan.specs.declared.token.Kind.TheVariants as kind
-use Rattle.hcl_syntax.specs.Numbered.{Numbered, is_comment, is_quote_close, is_brace_open, is_brace_close, end_of}
+use Rattle.hcl_syntax.specs.Numbered.{Numbered, is_comment, end_of}
 use Rattle.hcl_syntax.specs.Items.{closing_quote, behind_brace, block_end}
 use Rattle.hcl_syntax.specs.Inner.Pieces.{words}
 use Rattle.hcl_syntax.proofs.WordLemmas.{number_of, words_parts, words_step, words_past, words_here, open_word}
 
-close_word : (k : Kind) → is_quote_close k ≡ true → is_comment k ≡ false
+close_word : (k : Kind) → is kind.QuoteClose k ≡ true → is_comment k ≡ false
 close_word kind.QuoteClose e = refl
 close_word _ e = absurd (true≢false (sym e))
 
-brace_word : (k : Kind) → is_brace_close k ≡ true → is_comment k ≡ false
+brace_word : (k : Kind) → is kind.BraceClose k ≡ true → is_comment k ≡ false
 brace_word kind.BraceClose e = refl
 brace_word _ e = absurd (true≢false (sym e))
 
 module _ (ts : List Lexeme) (from to : ℕ) (t : Lexeme) (e : slice_get ts from ≡ Some t) (h : from < to) where
-  pub closing_here : is_quote_close t.kind ≡ true → closing_quote (words ts from to) ≡ from
+  pub closing_here : is kind.QuoteClose t.kind ≡ true → closing_quote (words ts from to) ≡ from
   closing_here is =
       ap closing_quote (words_here ts from to t e h (close_word t.kind is))
       ∙ ap (λ b. cond b from (closing_quote (words ts (from + 1) to))) is
 
-  pub closing_past : is_quote_close t.kind ≡ false → closing_quote (words ts from to) ≡ closing_quote (words ts (from + 1) to)
+  pub closing_past : is kind.QuoteClose t.kind ≡ false → closing_quote (words ts from to) ≡ closing_quote (words ts (from + 1) to)
   closing_past is = ap closing_quote (words_step ts from to t e h) ∙ by (not (is_comment t.kind))
     where
       by : (b : Bool) → closing_quote (cond b (number_of from t ∷ words ts (from + 1) to) (words ts (from + 1) to)) ≡ closing_quote (words ts (from + 1) to)
       by true = ap (λ b. cond b from (closing_quote (words ts (from + 1) to))) is
       by false = refl
 
-  pub brace_here : is_brace_open t.kind ≡ true → behind_brace (words ts from to) ≡ words ts (from + 1) to
+  pub brace_here : is kind.BraceOpen t.kind ≡ true → behind_brace (words ts from to) ≡ words ts (from + 1) to
   brace_here is =
       ap behind_brace (words_here ts from to t e h (open_word t.kind is))
       ∙ ap (λ b. cond b (words ts (from + 1) to) (behind_brace (words ts (from + 1) to))) is
 
-  pub brace_past : is_brace_open t.kind ≡ false → behind_brace (words ts from to) ≡ behind_brace (words ts (from + 1) to)
+  pub brace_past : is kind.BraceOpen t.kind ≡ false → behind_brace (words ts from to) ≡ behind_brace (words ts (from + 1) to)
   brace_past is = ap behind_brace (words_step ts from to t e h) ∙ by (not (is_comment t.kind))
     where
       by : (b : Bool) → behind_brace (cond b (number_of from t ∷ words ts (from + 1) to) (words ts (from + 1) to)) ≡ behind_brace (words ts (from + 1) to)
@@ -49,7 +50,7 @@ end_of-last (x ∷ []) t = refl
 end_of-last (x ∷ y ∷ xs) t = end_of-last (y ∷ xs) t
 
 abbrev closes : Numbered → Bool
-closes t = is_brace_close t.kind
+closes t = is kind.BraceClose t.kind
 
 -- up to the end and no further: what is behind has no closing brace
 pub record NoClose (ts : List Lexeme) (end to : ℕ) : Type 0 where
@@ -62,7 +63,7 @@ pub record NoWord (ts : List Lexeme) (end to : ℕ) : Type 0 where
   pub within : end ≤ to
 
 module _ (ts : List Lexeme) (end to : ℕ) (t : Lexeme) (e : slice_get ts end ≡ Some t) (h : end < to) where
-  pub close_past : (last : ℕ) → last ≡ end + 1 → is_brace_close t.kind ≡ false → NoClose ts last to → NoClose ts end to
+  pub close_past : (last : ℕ) → last ≡ end + 1 → is kind.BraceClose t.kind ≡ false → NoClose ts last to → NoClose ts end to
   close_past last at is behind = let P : ℕ → Type 0 = λ n. NoClose ts n to in let rest : NoClose ts (end + 1) to = subst P at behind in record { none = ap (filter closes) (words_step ts end to t e h) ∙ by (not (is_comment t.kind)) ∙ rest.none; within = omega (arith, h) }
     where
       by : (b : Bool) → filter closes (cond b (number_of end t ∷ words ts (end + 1) to) (words ts (end + 1) to)) ≡ filter closes (words ts (end + 1) to)
@@ -72,7 +73,7 @@ module _ (ts : List Lexeme) (end to : ℕ) (t : Lexeme) (e : slice_get ts end �
   pub word_past : (last : ℕ) → last ≡ end + 1 → is_comment t.kind ≡ true → NoWord ts last to → NoWord ts end to
   word_past last at is behind = let P : ℕ → Type 0 = λ n. NoWord ts n to in let rest : NoWord ts (end + 1) to = subst P at behind in record { none = words_past ts end to t e h is ∙ rest.none; within = omega (arith, h) }
 
-  pub close_here : (last from : ℕ) → last ≡ end + 1 → from ≤ end → is_brace_close t.kind ≡ true → NoClose ts last to → last ≡ block_end (words ts from to)
+  pub close_here : (last from : ℕ) → last ≡ end + 1 → from ≤ end → is kind.BraceClose t.kind ≡ true → NoClose ts last to → last ≡ block_end (words ts from to)
   close_here last from at k is behind =
       let P : ℕ → Type 0 = λ n. NoClose ts n to in
       let rest : NoClose ts (end + 1) to = subst P at behind in

@@ -2,9 +2,11 @@
 use Rattle.std.proofs.Common.{◌≡◌, ap, sym, subst, ℕ, suc, zero, ◌+◌, ◌≤◌, max, Bool, true, false, cond, not, List, [], ◌∷◌, ◌++◌, length, arith}
 use Rattle.std.specs.Prelude.{filter}
 use Rattle.std.specs.List.{flat_map}
+use Rattle.hcl_scan.specs.Kinds.{is}
+use Rattle.hcl_scan.specs.declared.token.Kind.TheVariants.{Assign, BraceClose, BraceOpen, Ident, QuoteOpen}
 use Rattle.hcl_scan.specs.Lexemes.{Lexeme}
 use Rattle.hcl_scan.specs.declared.token.Kind.{Kind}
-use Rattle.hcl_syntax.specs.Numbered.{Numbered, numbered, uncommented, is_comment, is_assign, is_brace_open, is_brace_close, is_ident, is_quote_open, end_of}
+use Rattle.hcl_syntax.specs.Numbered.{Numbered, numbered, uncommented, is_comment, end_of}
 use Rattle.hcl_syntax.specs.Items.{is_closed, pieces, block_end, body, block, item_of, items, label_at, labels, outline, closing_quote}
 use Rattle.hcl_syntax.specs.ItemOrder.{Either, TopsApart}
 use Rattle.hcl_syntax.specs.declared.item.Item.{Item}
@@ -42,7 +44,7 @@ deep_wide : (from to : ℕ) (is : List Item) → from ≤ to → Deep is → Top
 deep_wide from to is h d = tops_from from to to is h (d to)
 
 deep_label : (n : ℕ) (k : Kind) (rest : List Numbered) → Deep (label_at n k rest)
-deep_label n k rest m = by (is_ident k) (is_quote_open k)
+deep_label n k rest m = by (is Ident k) (is QuoteOpen k)
   where
     by : (a b : Bool) → TopsApart m (cond a (item.Label (record { first = n; last = n }) ∷ []) (cond b (item.Label (record { first = n; last = closing_quote rest }) ∷ []) [])) m
     by true b = omega arith
@@ -51,7 +53,7 @@ deep_label n k rest m = by (is_ident k) (is_quote_open k)
 
 deep_labels : (ts : List Numbered) → Deep (labels ts)
 deep_labels [] m = omega arith
-deep_labels (t ∷ ts) m = by (is_brace_open t.kind) (deep_labels ts)
+deep_labels (t ∷ ts) m = by (is BraceOpen t.kind) (deep_labels ts)
   where
     by : (b : Bool) → Deep (labels ts) → TopsApart m (cond b [] (label_at t.number t.kind ts ++ labels ts)) m
     by true rest = omega arith
@@ -71,7 +73,7 @@ module _ (inner : List Numbered → List Item) (deep : AllDeep inner) (level : �
     item_deep : (piece : List Numbered) → Deep (item_of inner level piece)
     item_deep [] m = omega arith
     item_deep (kind ∷ []) m = block_deep kind [] m
-    item_deep (name ∷ second ∷ rest) m = by (is_assign second.kind)
+    item_deep (name ∷ second ∷ rest) m = by (is Assign second.kind)
       where
         by : (b : Bool) → TopsApart m (cond b (item.Attribute level name.number (second.number + 1) (end_of (second ∷ rest)) ∷ []) (block inner level name (second ∷ rest))) m
         by true = omega arith
@@ -86,7 +88,7 @@ module _ (inner : List Numbered → List Item) (deep : AllDeep inner) (level : �
   block_tops from to kind rest h r = by (is_closed level)
     where
       within : block_end rest ≤ to
-      within = end_within (kind.number + 1) to (filter (λ t. is_brace_close t.kind) rest) (rises_filter (λ t. is_brace_close t.kind) (kind.number + 1) to rest r)
+      within = end_within (kind.number + 1) to (filter (λ t. is BraceClose t.kind) rest) (rises_filter (λ t. is BraceClose t.kind) (kind.number + 1) to rest r)
 
       wide : kind.number + 1 ≤ to
       wide = rises_wide (kind.number + 1) to rest r
@@ -101,7 +103,7 @@ module _ (inner : List Numbered → List Item) (deep : AllDeep inner) (level : �
   item_tops : (from to : ℕ) (piece : List Numbered) → Rises from piece to → TopsApart from (item_of inner level piece) to
   item_tops from to [] h = h
   item_tops from to (kind ∷ []) h = block_tops from to kind [] h.0 h.1
-  item_tops from to (name ∷ second ∷ rest) h = by (is_assign second.kind)
+  item_tops from to (name ∷ second ∷ rest) h = by (is Assign second.kind)
     where
       by : (b : Bool) → TopsApart from (cond b (item.Attribute level name.number (second.number + 1) (end_of (second ∷ rest)) ∷ []) (block inner level name (second ∷ rest))) to
       by true = rises_wide from to (name ∷ second ∷ rest) h

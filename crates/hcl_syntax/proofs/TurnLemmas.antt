@@ -6,7 +6,7 @@ use Rattle.hcl_scan.specs.declared.token.Kind.{Kind}
 use Rattle.hcl_scan.specs.declared.token.Kind.TheVariants as kind
 use Rattle.hcl_syntax.specs.Balanced.{closing, is_closer}
 use Rattle.hcl_syntax.specs.Items.{deepen, is_closed}
-use Rattle.hcl_syntax.specs.Numbered.{is_newline, is_brace_close}
+use Rattle.hcl_scan.specs.Kinds.{is}
 
 -- where a reader stands: at the begin of a line; among the labels, where an `=` may come yet or not; behind a label's
 -- quote, and behind its literal; behind a block's brace, and behind the name there; in the value there, or of a line,
@@ -104,7 +104,7 @@ goes (quoted k) t = from_quote k t
 goes (written k) t = from_literal k t
 goes (started k) t = from_start k t
 goes (named k) t = from_name k t
-goes (single k h) t = cond (is_closer t && is_closed h) (cond (is_brace_close t) (Some (ended k)) None) (Some (single k (deepen h t)))
+goes (single k h) t = cond (is_closer t && is_closed h) (cond (is kind.BraceClose t) (Some (ended k)) None) (Some (single k (deepen h t)))
 goes (value k h) t = cond (is_closer t && is_closed h) None (Some (value k (deepen h t)))
 goes (ended k) t = None
 
@@ -113,13 +113,13 @@ ends_line p = cond (may_end p) (Some (line (level p))) None
 
 -- behind a token
 abbrev pub turn : Place → Kind → Option Place
-turn p t = cond (is_newline t && is_closed (inside p)) (ends_line p) (goes p t)
+turn p t = cond (is kind.Newline t && is_closed (inside p)) (ends_line p) (goes p t)
 
 -- ---- what comes of it
 
 -- a body is left
 pub record IsLeft (p : Place) (t : Kind) (q : Place) : Type 0 where
-  pub brace : is_brace_close t ≡ true
+  pub brace : is kind.BraceClose t ≡ true
   pub below : ℕ
   pub to : q ≡ ended below
   pub from : level p ≡ suc below
@@ -192,18 +192,18 @@ go_single : (k h : ℕ) (t : Kind) (q : Place) → goes (single k h) t ≡ Some 
 go_single k h t q e = by (is_closer t && is_closed h) refl e
   where
     flat : (h : ℕ) → (is_closer t && is_closed h) ≡ true → h ≡ 0
-    flat zero is = refl
-    flat (suc h) is = absurd (true≢false (sym is ∙ none (is_closer t)))
+    flat zero this = refl
+    flat (suc h) this = absurd (true≢false (sym this ∙ none (is_closer t)))
       where
         none : (b : Bool) → (b && false) ≡ false
         none true = refl
         none false = refl
 
-    close : (t : Kind) → is_brace_close t ≡ true → (suc k) + 0 ≡ suc (k + 0) → k + 0 ≡ deepen (suc k + 0) t
-    close kind.BraceClose is h = omega arith
-    close _ is h = absurd (true≢false (sym is))
+    close : (t : Kind) → is kind.BraceClose t ≡ true → (suc k) + 0 ≡ suc (k + 0) → k + 0 ≡ deepen (suc k + 0) t
+    close kind.BraceClose this h = omega arith
+    close _ this h = absurd (true≢false (sym this))
 
-    over : (b : Bool) → is_brace_close t ≡ b → h ≡ 0 → cond b (Some (ended k)) None ≡ Some q → Goes (single k h) t q
+    over : (b : Bool) → is kind.BraceClose t ≡ b → h ≡ 0 → cond b (Some (ended k)) None ≡ Some q → Goes (single k h) t q
     over true brace none e =
         there (single k h) t q (ended k) e
         (record {
@@ -213,9 +213,9 @@ go_single k h t q e = by (is_closer t && is_closed h) refl e
         })
     over false brace none e = nowhere (single k h) t q e
 
-    by : (b : Bool) → (is_closer t && is_closed h) ≡ b → cond b (cond (is_brace_close t) (Some (ended k)) None) (Some (single k (deepen h t))) ≡ Some q → Goes (single k h) t q
-    by true is e = over (is_brace_close t) refl (flat h is) e
-    by false is e = there (single k h) t q (single k (deepen h t)) e (record { deep = omega (arith, fits h t is); no_line = refl; levels = inl (omega arith) })
+    by : (b : Bool) → (is_closer t && is_closed h) ≡ b → cond b (cond (is kind.BraceClose t) (Some (ended k)) None) (Some (single k (deepen h t))) ≡ Some q → Goes (single k h) t q
+    by true this e = over (is kind.BraceClose t) refl (flat h this) e
+    by false this e = there (single k h) t q (single k (deepen h t)) e (record { deep = omega (arith, fits h t this); no_line = refl; levels = inl (omega arith) })
 
 pub go : (p : Place) (t : Kind) (q : Place) → goes p t ≡ Some q → Goes p t q
 go (line k) t q e = go_line k t q e
@@ -230,21 +230,21 @@ go (ended k) t q e = nowhere (ended k) t q e
 
 -- a line ends, or a token leads on
 pub data Turns (p : Place) (t : Kind) (q : Place) : Type 0 where
-  breaks : is_newline t ≡ true → inside p ≡ 0 → may_end p ≡ true → q ≡ line (level p) → Turns p t q
-  moves : (is_newline t && is_closed (inside p)) ≡ false → Goes p t q → Turns p t q
+  breaks : is kind.Newline t ≡ true → inside p ≡ 0 → may_end p ≡ true → q ≡ line (level p) → Turns p t q
+  moves : (is kind.Newline t && is_closed (inside p)) ≡ false → Goes p t q → Turns p t q
 
 pub turns : (p : Place) (t : Kind) (q : Place) → turn p t ≡ Some q → Turns p t q
-turns p t q e = by (is_newline t && is_closed (inside p)) refl e
+turns p t q e = by (is kind.Newline t && is_closed (inside p)) refl e
   where
     newline : (b : Bool) (h : ℕ) → (b && is_closed h) ≡ true → (b ≡ true) × (h ≡ 0)
-    newline true zero is = (refl, refl)
-    newline true (suc h) is = absurd (true≢false (sym is))
-    newline false h is = absurd (true≢false (sym is))
+    newline true zero this = (refl, refl)
+    newline true (suc h) this = absurd (true≢false (sym this))
+    newline false h this = absurd (true≢false (sym this))
 
     end : (b : Bool) → may_end p ≡ b → cond b (Some (line (level p))) None ≡ Some q → (may_end p ≡ true) × (q ≡ line (level p))
-    end true is e = (is, let same : q ≡ line (level p) = cc in same)
-    end false is e = absurd (cc)
+    end true this e = (this, let same : q ≡ line (level p) = cc in same)
+    end false this e = absurd (cc)
 
-    by : (b : Bool) → (is_newline t && is_closed (inside p)) ≡ b → cond b (ends_line p) (goes p t) ≡ Some q → Turns p t q
-    by true is e = let n = newline (is_newline t) (inside p) is in let l = end (may_end p) refl e in breaks n.0 n.1 l.0 l.1
-    by false is e = moves is (go p t q e)
+    by : (b : Bool) → (is kind.Newline t && is_closed (inside p)) ≡ b → cond b (ends_line p) (goes p t) ≡ Some q → Turns p t q
+    by true this e = let n = newline (is kind.Newline t) (inside p) this in let l = end (may_end p) refl e in breaks n.0 n.1 l.0 l.1
+    by false this e = moves this (go p t q e)

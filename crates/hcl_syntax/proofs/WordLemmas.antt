@@ -4,10 +4,11 @@ use Rattle.std.specs.Prelude.{Some, slice_get}
 use Rattle.std.proofs.lemmas.Option.{slice_get_within, get_or_from_slice_get}
 use Rattle.std.proofs.lemmas.List.{drop-drop}
 use Rattle.std.proofs.lemmas.List.Elements.{filter-append}
+use Rattle.hcl_scan.specs.Kinds.{is}
 use Rattle.hcl_scan.specs.Lexemes.{Lexeme}
 use Rattle.hcl_scan.specs.declared.token.Kind.{Kind}
 use Rattle.hcl_scan.specs.declared.token.Kind.TheVariants as kind
-use Rattle.hcl_syntax.specs.Numbered.{Numbered, numbered, numbered_from, uncommented, is_comment, is_brace_open}
+use Rattle.hcl_syntax.specs.Numbered.{Numbered, numbered, numbered_from, uncommented, is_comment}
 use Rattle.hcl_syntax.specs.Inner.Pieces.{between, words}
 
 pub drop_at : {X : Type 0} (ts : List X) (n : ℕ) (t : X) → slice_get ts n ≡ Some t → drop n ts ≡ t ∷ drop (n + 1) ts
@@ -105,6 +106,6 @@ numbered_past ts n h = numbered_at ts n ∙ ap (numbered_from n) (past ts n h)
     past (x ∷ xs) (suc k) h = past xs k (omega arith)
 
 -- an opening brace is no comment
-pub open_word : (k : Kind) → is_brace_open k ≡ true → is_comment k ≡ false
+pub open_word : (k : Kind) → is kind.BraceOpen k ≡ true → is_comment k ≡ false
 open_word kind.BraceOpen e = refl
 open_word _ e = absurd (true≢false (sym e))

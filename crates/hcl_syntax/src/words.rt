@@ -1,9 +1,11 @@
 //! Tokens that are no comments, and what is looked for among them.
 
 ghost use Rattle.std.specs.Prelude.{◌≡◌, ◌≤◌, [], filter, length, MatchOption};
+ghost use Rattle.hcl_scan.specs.Kinds.{is};
+ghost use Rattle.hcl_scan.specs.declared.token.Kind.TheVariants.{Assign, BraceClose, BraceOpen, QuoteClose};
 ghost use Rattle.hcl_syntax.specs.Inner.Pieces.{IsFirst, words};
 ghost use Rattle.hcl_syntax.specs.Items.{behind_brace, block_end, closing_quote};
-ghost use Rattle.hcl_syntax.specs.Numbered.{end_of, is_assign, is_brace_close, is_brace_open, is_comment, is_quote_close};
+ghost use Rattle.hcl_syntax.specs.Numbered.{end_of, is_comment};
 
 use hcl_scan::{Kind, Tokens};
 
@@ -21,25 +23,25 @@ fn is_comment(kind: Kind) -> bool
 }
 
 pub fn is_assign(kind: Kind) -> bool
-    ensures { result ≡ is_assign kind }
+    ensures { result ≡ is Assign kind }
 {
     matches!(kind, Kind::Assign)
 }
 
 fn is_quote_close(kind: Kind) -> bool
-    ensures { result ≡ is_quote_close kind }
+    ensures { result ≡ is QuoteClose kind }
 {
     matches!(kind, Kind::QuoteClose)
 }
 
 pub fn is_brace_open(kind: Kind) -> bool
-    ensures { result ≡ is_brace_open kind }
+    ensures { result ≡ is BraceOpen kind }
 {
     matches!(kind, Kind::BraceOpen)
 }
 
 fn is_brace_close(kind: Kind) -> bool
-    ensures { result ≡ is_brace_close kind }
+    ensures { result ≡ is BraceClose kind }
 {
     matches!(kind, Kind::BraceClose)
 }

@@ -3,12 +3,13 @@ use Rattle.std.proofs.Common.{◌≡◌, ◌∙◌, ap, sym, refl, true≢false,
 use Rattle.std.specs.Prelude.{◌==◌, ◌&&◌, Some, slice_get}
 use Rattle.std.proofs.lemmas.List.{reverse-append, get_or-set_same, get_or-set_other, length-set, length-replicate}
 use Rattle.std.proofs.lemmas.Bool.{cases_eq}
+use Rattle.hcl_scan.specs.Kinds.{is}
 use Rattle.hcl_scan.specs.Lexemes.{Lexeme}
 use Rattle.hcl_scan.specs.declared.token.Kind.{Kind}
 use Rattle.hcl_scan.specs.declared.token.Kind.TheVariants as kind
 use Rattle.hcl_syntax.specs.Balanced.{opening, closing}
 use Rattle.hcl_syntax.specs.Items.{deepen, is_closed}
-use Rattle.hcl_syntax.specs.Numbered.{is_passed_over, is_quote_close}
+use Rattle.hcl_syntax.specs.Numbered.{is_passed_over}
 use Rattle.tf_facts.specs.Patterns.{begins_with_close, behind_closer}
 use Rattle.tf_facts.specs.Inner.Seen.{seen_from}
 use Rattle.tf_facts.specs.Inner.Closings.{AreAhead, AreClosings, closes_before_quote, quote_from}
@@ -94,10 +95,10 @@ module _ (ts : List Lexeme) (n : ℕ) (t : Lexeme) (e : slice_get ts n ≡ Some 
           let s : suc k - 1 ≡ k = omega arith in
           h k ∙ sym (shut (suc k) ∙ ap (λ j. begins_with_close (behind_closer j (seen_from ts (n + 1)))) s)
 
-  pub quote_here : (quote : Bool) → quote ≡ quote_from ts (n + 1) → cond (is_passed_over t.kind) quote (is_quote_close t.kind) ≡ quote_from ts n
+  pub quote_here : (quote : Bool) → quote ≡ quote_from ts (n + 1) → cond (is_passed_over t.kind) quote (is kind.QuoteClose t.kind) ≡ quote_from ts n
   quote_here quote known = by (is_passed_over t.kind) refl
     where
-      by : (b : Bool) → is_passed_over t.kind ≡ b → cond b quote (is_quote_close t.kind) ≡ quote_from ts n
+      by : (b : Bool) → is_passed_over t.kind ≡ b → cond b quote (is kind.QuoteClose t.kind) ≡ quote_from ts n
       by true passed = known ∙ ap begins_with_close (sym (seen_past ts n t e passed))
       by false seen = ap begins_with_close (sym (seen_here ts n t e seen))
 

@@ -6,9 +6,11 @@ use Rattle.std.specs.Str.{bytes_eq}
 use Rattle.std.proofs.lemmas.List.{append-nil}
 use Rattle.std.proofs.lemmas.List.Sums.{fold-append}
 use Rattle.indexmap.specs.IndexSet.{insert_all, insert_key}
+use Rattle.hcl_scan.specs.Kinds.{is}
+use Rattle.hcl_scan.specs.declared.token.Kind.TheVariants as kind
 use Rattle.hcl_scan.specs.Lexemes.{Lexeme}
 use Rattle.hcl_syntax.specs.Numbered.{is_passed_over}
-use Rattle.tf_facts.specs.References.{Own, is_dot, reference_at, references_from, unless_own}
+use Rattle.tf_facts.specs.References.{Own, reference_at, references_from, unless_own}
 use Rattle.tf_facts.specs.Inner.Seen.{number_of, seen_from}
 use Rattle.tf_facts.specs.OwnBlocks.{ArePassed, Extends}
 use Rattle.tf_facts.proofs.SeenLemmas.{seen_here, seen_past, seen_none}
@@ -41,7 +43,7 @@ module _ (own : List Own) (ts : List Lexeme) (old : List (List ℕ)) where
 
   -- behind a dot nothing is put in
   pub skips : (new : List (List ℕ)) (n : ℕ) (t : Lexeme) → slice_get ts n ≡ Some t → is_passed_over t.kind ≡ false → IsCollected own ts old new true n
-      → IsCollected own ts old new (is_dot t.kind) (n + 1)
+      → IsCollected own ts old new (is kind.Dot t.kind) (n + 1)
   skips new n t e seen h = record {
     left = ap (λ s. insert_all bytes_eq new (references_from own true s)) (sym (seen_here ts n t e seen)) ∙ h.left;
     kept = h.kept;
@@ -60,10 +62,10 @@ module _ (own : List Own) (ts : List Lexeme) (old : List (List ℕ)) where
 
   pub puts : (new next : List (List ℕ)) (n : ℕ) (t : Lexeme) → slice_get ts n ≡ Some t → is_passed_over t.kind ≡ false
       → next ≡ insert_all bytes_eq new (unless_own own n (reference_at (number_of n t ∷ seen_from ts (n + 1))))
-      → IsCollected own ts old new false n → IsCollected own ts old next (is_dot t.kind) (n + 1)
+      → IsCollected own ts old new false n → IsCollected own ts old next (is kind.Dot t.kind) (n + 1)
   puts new next n t e seen put h =
       let here = unless_own own n (reference_at (number_of n t ∷ seen_from ts (n + 1))) in
-      let rest = references_from own (is_dot t.kind) (seen_from ts (n + 1)) in
+      let rest = references_from own (is kind.Dot t.kind) (seen_from ts (n + 1)) in
       let P : List (List ℕ) → Type 0 = λ s. Extends old s in
       record {
         left =
@@ -75,13 +77,13 @@ module _ (own : List Own) (ts : List Lexeme) (old : List (List ℕ)) where
       }
 
   -- the same, where the loop's variables are equal to these
-  pub skipped : (new into : List (List ℕ)) (after dot : Bool) (n : ℕ) (t : Lexeme) → slice_get ts n ≡ Some t → is_passed_over t.kind ≡ false → after ≡ true → dot ≡ is_dot t.kind → into ≡ new
+  pub skipped : (new into : List (List ℕ)) (after dot : Bool) (n : ℕ) (t : Lexeme) → slice_get ts n ≡ Some t → is_passed_over t.kind ≡ false → after ≡ true → dot ≡ is kind.Dot t.kind → into ≡ new
       → IsCollected own ts old new after n → IsCollected own ts old into dot (n + 1)
   skipped new into after dot n t e seen behind is same h =
       let P : Bool → Type 0 = λ b. IsCollected own ts old new b n in
       rw same (rw is (skips new n t e seen (subst P behind h)))
 
-  pub collected : (new next into : List (List ℕ)) (after dot : Bool) (n : ℕ) (t : Lexeme) → slice_get ts n ≡ Some t → is_passed_over t.kind ≡ false → after ≡ false → dot ≡ is_dot t.kind → into ≡ next
+  pub collected : (new next into : List (List ℕ)) (after dot : Bool) (n : ℕ) (t : Lexeme) → slice_get ts n ≡ Some t → is_passed_over t.kind ≡ false → after ≡ false → dot ≡ is kind.Dot t.kind → into ≡ next
       → next ≡ insert_all bytes_eq new (unless_own own n (reference_at (number_of n t ∷ seen_from ts (n + 1))))
       → IsCollected own ts old new after n → IsCollected own ts old into dot (n + 1)
   collected new next into after dot n t e seen free is same put h =

@@ -5,9 +5,9 @@ use Rattle.std.proofs.lemmas.List.{append-nil}
 use Rattle.hcl_scan.specs.Lexemes.{Lexeme}
 use Rattle.hcl_scan.specs.declared.token.Kind.{Kind}
 use Rattle.hcl_scan.specs.declared.token.Kind.TheVariants as kind
-use Rattle.hcl_syntax.specs.Numbered.{Numbered, is_passed_over, is_quote_open}
-use Rattle.tf_facts.specs.References.{is_dot}
-use Rattle.tf_facts.specs.Patterns.{begins_with_close, behind_closer, is_index, is_interpolation, is_number, is_wrapped, numbers_where}
+use Rattle.hcl_syntax.specs.Numbered.{Numbered, is_passed_over}
+use Rattle.hcl_scan.specs.Kinds.{is}
+use Rattle.tf_facts.specs.Patterns.{begins_with_close, behind_closer, is_index, is_wrapped, numbers_where}
 use Rattle.tf_facts.specs.Inner.Seen.{number_of, seen_from}
 use Rattle.tf_facts.proofs.SeenLemmas.{seen_here, seen_none, seen_past}
 
@@ -46,11 +46,11 @@ module _ (test : List Numbered → Bool) (ts : List Lexeme) where
     pub skips : (found next : List ℕ) → test (number_of n t ∷ seen_from ts (n + 1)) ≡ false → next ≡ found → AreFound test ts found n → AreFound test ts next (n + 1)
     skips found next is same h = ap (λ r. r ++ numbers_where test (seen_from ts (n + 1))) same ∙ ap (λ r. found ++ r) (sym (step false is)) ∙ h
 
-passed_no_dot : (k : Kind) → is_passed_over k ≡ true → is_dot k ≡ false
+passed_no_dot : (k : Kind) → is_passed_over k ≡ true → is kind.Dot k ≡ false
 passed_no_dot kind.Dot e = absurd (true≢false (sym e))
 passed_no_dot _ e = refl
 
-passed_no_quote : (k : Kind) → is_passed_over k ≡ true → is_quote_open k ≡ false
+passed_no_quote : (k : Kind) → is_passed_over k ≡ true → is kind.QuoteOpen k ≡ false
 passed_no_quote kind.QuoteOpen e = absurd (true≢false (sym e))
 passed_no_quote _ e = refl
 
@@ -60,9 +60,9 @@ no_and false b e = refl
 
 pub index_unseen : (n : ℕ) (t : Lexeme) (rest : List Numbered) → is_passed_over t.kind ≡ true → is_index (number_of n t ∷ rest) ≡ false
 index_unseen n t [] passed = refl
-index_unseen n t (x ∷ xs) passed = no_and (is_dot t.kind) (is_number x.kind) (passed_no_dot t.kind passed)
+index_unseen n t (x ∷ xs) passed = no_and (is kind.Dot t.kind) (is kind.Number x.kind) (passed_no_dot t.kind passed)
 
 pub wrapped_unseen : (n : ℕ) (t : Lexeme) (rest : List Numbered) → is_passed_over t.kind ≡ true → is_wrapped (number_of n t ∷ rest) ≡ false
 wrapped_unseen n t [] passed = refl
 wrapped_unseen n t (x ∷ xs) passed =
-    ap (λ b. b && begins_with_close (behind_closer 0 xs)) (no_and (is_quote_open t.kind) (is_interpolation x.kind) (passed_no_quote t.kind passed))
+    ap (λ b. b && begins_with_close (behind_closer 0 xs)) (no_and (is kind.QuoteOpen t.kind) (is kind.InterpOpen x.kind) (passed_no_quote t.kind passed))

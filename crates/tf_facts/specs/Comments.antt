@@ -1,7 +1,7 @@
 -- The line comments that say something: those that begin with `//`, and those that silence a rule.
 use Rattle.std.specs.Prelude.{ℕ, ◌||◌, Bool, true, false, List, [], ◌∷◌, if◌then◌else◌}
 use Rattle.std.specs.List.{flat_map}
-use Rattle.hcl_scan.specs.declared.token.Kind.{Kind}
+use Rattle.hcl_scan.specs.Kinds.{is}
 use Rattle.hcl_scan.specs.declared.token.Kind.TheVariants as kind
 use Rattle.hcl_syntax.specs.Numbered.{Numbered}
 use Rattle.tf_facts.specs.Silencing.{has_slashes, silenced_rules}
@@ -13,10 +13,6 @@ pub record Comment (P : Type 0) : Type 0 where
   pub slashes : Bool  -- it begins with `//`
   pub silences : List Rule  -- each once, in the order of their names
 
-abbrev pub is_line_comment : Kind → Bool
-is_line_comment kind.LineComment = true
-is_line_comment _ = false
-
 abbrev pub is_any : List Rule → Bool
 is_any [] = false
 is_any (r ∷ rs) = true
@@ -26,7 +22,7 @@ if_telling c = if c.slashes || is_any c.silences then c ∷ [] else []
 
 abbrev pub comment_of : Numbered → List (Comment ℕ)
 comment_of t =
-    if is_line_comment t.kind then if_telling (record { at = t.number; slashes = has_slashes t.text; silences = silenced_rules t.text })
+    if is kind.LineComment t.kind then if_telling (record { at = t.number; slashes = has_slashes t.text; silences = silenced_rules t.text })
     else []
 
 -- THE COMMENTS of numbered tokens, in order

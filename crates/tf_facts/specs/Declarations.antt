@@ -4,9 +4,10 @@
 use Rattle.std.specs.Prelude.{ℕ, ◌-◌, ◌==◌, ◌&&◌, Bool, true, false, not, List, [], ◌∷◌, ◌++◌, length, filter, map, take, drop, codes, Option, Some, None, if◌then◌else◌, find}
 use Rattle.std.specs.List.{list_any}
 use Rattle.std.specs.Str.{bytes_eq}
-use Rattle.hcl_syntax.specs.Numbered.{Numbered, is_comment, is_newline, is_quote_open, is_quote_close}
+use Rattle.hcl_syntax.specs.Numbered.{Numbered, is_comment}
 use Rattle.hcl_syntax.specs.Items.{items_of, is_closed}
-use Rattle.hcl_scan.specs.Kinds.{is_lit}
+use Rattle.hcl_scan.specs.Kinds.{is}
+use Rattle.hcl_scan.specs.declared.token.Kind.TheVariants.{Lit, Newline, QuoteClose, QuoteOpen}
 use Rattle.hcl_syntax.specs.Labels.{text_of, label_text}
 use Rattle.hcl_syntax.specs.declared.item.Item.{Item}
 use Rattle.hcl_syntax.specs.declared.item.Item.TheVariants as item
@@ -73,13 +74,13 @@ pub record PlainText : Type 0 where
 
 -- a quote with at most one literal
 abbrev pub plain_text : List Numbered → Option PlainText
-plain_text (q ∷ c ∷ []) = if is_quote_open q.kind && is_quote_close c.kind then Some (record { quote = q.number; text = [] }) else None
-plain_text (q ∷ l ∷ c ∷ []) = if is_quote_open q.kind && is_lit l.kind && is_quote_close c.kind then Some (record { quote = q.number; text = l.text }) else None
+plain_text (q ∷ c ∷ []) = if is QuoteOpen q.kind && is QuoteClose c.kind then Some (record { quote = q.number; text = [] }) else None
+plain_text (q ∷ l ∷ c ∷ []) = if is QuoteOpen q.kind && is Lit l.kind && is QuoteClose c.kind then Some (record { quote = q.number; text = l.text }) else None
 plain_text _ = None
 
 -- the tokens of an attribute's value without comments and newlines
 abbrev pub value_of : List Numbered → Attribute → List Numbered
-value_of ts a = filter (λ t. not (is_comment t.kind) && not (is_newline t.kind)) (take (a.end - a.first) (drop a.first ts))
+value_of ts a = filter (λ t. not (is_comment t.kind) && not (is Newline t.kind)) (take (a.end - a.first) (drop a.first ts))
 
 abbrev pub source_of_plain_text : Option PlainText → Option (SourceAt ℕ)
 source_of_plain_text None = None

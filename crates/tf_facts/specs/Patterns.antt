@@ -1,23 +1,14 @@
 -- The two rules that go by tokens alone: the numbers of the tokens that each reports. They run over the tokens of a
 -- file without comments, blanks and newlines.
-use Rattle.std.specs.Prelude.{ℕ, ◌==◌, ◌&&◌, ◌++◌, Bool, true, false, List, [], ◌∷◌, if◌then◌else◌}
-use Rattle.hcl_scan.specs.declared.token.Kind.{Kind}
+use Rattle.std.specs.Prelude.{ℕ, ◌==◌, ◌&&◌, ◌++◌, Bool, false, List, [], ◌∷◌, if◌then◌else◌}
 use Rattle.hcl_scan.specs.declared.token.Kind.TheVariants as kind
 use Rattle.hcl_syntax.specs.Balanced.{closing}
 use Rattle.hcl_syntax.specs.Items.{deepen, is_closed}
-use Rattle.hcl_syntax.specs.Numbered.{Numbered, significant, is_quote_open, is_quote_close}
-use Rattle.tf_facts.specs.References.{is_dot}
-
-abbrev pub is_number : Kind → Bool
-is_number kind.Number = true
-is_number _ = false
-
-abbrev pub is_interpolation : Kind → Bool
-is_interpolation kind.InterpOpen = true
-is_interpolation _ = false
+use Rattle.hcl_syntax.specs.Numbered.{Numbered, significant}
+use Rattle.hcl_scan.specs.Kinds.{is}
 
 abbrev pub is_index : List Numbered → Bool
-is_index (d ∷ n ∷ rest) = is_dot d.kind && is_number n.kind
+is_index (d ∷ n ∷ rest) = is kind.Dot d.kind && is kind.Number n.kind
 is_index _ = false
 
 -- what stands behind the closer of what is open, where so many more are open
@@ -27,11 +18,11 @@ behind_closer depth (t ∷ ts) = if is_closed depth && (closing t.kind == 1) the
 
 abbrev pub begins_with_close : List Numbered → Bool
 begins_with_close [] = false
-begins_with_close (t ∷ ts) = is_quote_close t.kind
+begins_with_close (t ∷ ts) = is kind.QuoteClose t.kind
 
 -- a quote that holds one interpolation and nothing else
 abbrev pub is_wrapped : List Numbered → Bool
-is_wrapped (q ∷ i ∷ rest) = is_quote_open q.kind && is_interpolation i.kind && begins_with_close (behind_closer 0 rest)
+is_wrapped (q ∷ i ∷ rest) = is kind.QuoteOpen q.kind && is kind.InterpOpen i.kind && begins_with_close (behind_closer 0 rest)
 is_wrapped _ = false
 
 -- the numbers of the tokens from which on the test holds

@@ -4,19 +4,15 @@
 use Rattle.std.specs.Prelude.{ℕ, ◌++◌, ◌&&◌, Bool, true, false, List, [], ◌∷◌, Option, Some, None, codes, nat_le, nat_lt, filter, map, drop, if◌then◌else◌}
 use Rattle.std.specs.List.{list_any}
 use Rattle.std.specs.Str.{bytes_eq}
-use Rattle.hcl_scan.specs.declared.token.Kind.{Kind}
+use Rattle.hcl_scan.specs.Kinds.{is}
 use Rattle.hcl_scan.specs.declared.token.Kind.TheVariants as kind
-use Rattle.hcl_syntax.specs.Numbered.{Numbered, significant, is_ident}
+use Rattle.hcl_syntax.specs.Numbered.{Numbered, significant}
 use Rattle.hcl_syntax.specs.Items.{items_of}
 use Rattle.hcl_syntax.specs.declared.item.Item.{Item}
 use Rattle.hcl_syntax.specs.declared.item.Item.TheVariants as item
 use Rattle.tf_facts.specs.Declarations.{of_item}
 use Rattle.tf_facts.specs.declared.declaration_kind.DeclarationKind.{DeclarationKind}
 use Rattle.tf_facts.specs.declared.declaration_kind.DeclarationKind.TheVariants as declares
-
-abbrev pub is_dot : Kind → Bool
-is_dot kind.Dot = true
-is_dot _ = false
 
 abbrev pub variable_reference : List ℕ → List ℕ
 variable_reference n = codes "var." ++ n
@@ -29,7 +25,7 @@ data_reference t n = codes "data." ++ (t ++ (codes "." ++ n))
 
 -- the identifier behind a dot with which these tokens begin
 abbrev pub name_behind : List Numbered → Option Numbered
-name_behind (d ∷ n ∷ rest) = if is_dot d.kind && is_ident n.kind then Some n else None
+name_behind (d ∷ n ∷ rest) = if is kind.Dot d.kind && is kind.Ident n.kind then Some n else None
 name_behind _ = None
 
 abbrev pub data_of : List ℕ → Option Numbered → Option (List ℕ)
@@ -51,7 +47,7 @@ by_name word (Some n) rest = reference_of word n.text rest
 -- the reference with which these tokens begin
 abbrev pub reference_at : List Numbered → Option (List ℕ)
 reference_at [] = None
-reference_at (w ∷ ts) = if is_ident w.kind then by_name w.text (name_behind ts) (drop 2 ts) else None
+reference_at (w ∷ ts) = if is kind.Ident w.kind then by_name w.text (name_behind ts) (drop 2 ts) else None
 
 -- where a variable is declared, and as what
 pub record Own : Type 0 where
@@ -93,7 +89,7 @@ unless_own own number (Some text) = if is_own own number text then [] else text 
 abbrev pub references_from : List Own → Bool → List Numbered → List (List ℕ)
 references_from own after_dot [] = []
 references_from own after_dot (t ∷ ts) =
-    (if after_dot then [] else unless_own own t.number (reference_at (t ∷ ts))) ++ references_from own (is_dot t.kind) ts
+    (if after_dot then [] else unless_own own t.number (reference_at (t ∷ ts))) ++ references_from own (is kind.Dot t.kind) ts
 
 -- THE REFERENCES of numbered tokens, in order, repeats included
 abbrev pub references : List Numbered → List (List ℕ)

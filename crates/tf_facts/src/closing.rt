@@ -1,8 +1,10 @@
 //! Which openers are closed directly before a closing quote.
 
 ghost use Rattle.std.specs.Prelude.{◌≡◌, ◌==◌, ◌<◌, ◌+◌, false, length, get_or, reverse, if◌then◌else◌, IfOk, OnOk};
+ghost use Rattle.hcl_scan.specs.Kinds.{is};
+ghost use Rattle.hcl_scan.specs.declared.token.Kind.TheVariants.{QuoteClose};
 ghost use Rattle.hcl_syntax.specs.Balanced.{closing, opening};
-ghost use Rattle.hcl_syntax.specs.Numbered.{is_passed_over, is_quote_close};
+ghost use Rattle.hcl_syntax.specs.Numbered.{is_passed_over};
 ghost use Rattle.tf_facts.specs.Inner.Closings.{AreAhead, AreClosings, quote_from};
 
 use crate::seen::is_passed_over;
@@ -28,7 +30,7 @@ fn is_closer(kind: Kind) -> bool
 }
 
 fn is_quote_close(kind: Kind) -> bool
-    ensures { result ≡ is_quote_close kind }
+    ensures { result ≡ is QuoteClose kind }
 {
     matches!(kind, Kind::QuoteClose)
 }
@@ -45,7 +47,7 @@ fn last_flag(flags: &[bool]) -> bool
 
 /// Whether a closing quote is the first token seen from a token on, where that is known behind it.
 fn quote_at(kind: Kind, behind: bool) -> bool
-    ensures { result ≡ (if is_passed_over kind then behind else is_quote_close kind) }
+    ensures { result ≡ (if is_passed_over kind then behind else is QuoteClose kind) }
 {
     if is_passed_over(kind) {
         behind

@@ -2,9 +2,11 @@
 
 ghost use Rattle.std.specs.Prelude.{◌≡◌, ◌<◌, ◌||◌, length, map, slice_get, Some, IfOk};
 ghost use Rattle.std.specs.List.{list_any};
+ghost use Rattle.hcl_scan.specs.Kinds.{is};
+ghost use Rattle.hcl_scan.specs.declared.token.Kind.TheVariants.{LineComment};
 ghost use Rattle.hcl_scan.specs.Lexemes.{Lexeme};
 ghost use Rattle.hcl_syntax.specs.Numbered.{numbered};
-ghost use Rattle.tf_facts.specs.Comments.{comment_of, comments, if_telling, is_any, is_line_comment};
+ghost use Rattle.tf_facts.specs.Comments.{comment_of, comments, if_telling, is_any};
 ghost use Rattle.tf_facts.specs.RuleSets.{holds, rules_of};
 ghost use Rattle.tf_facts.specs.Silencing.{has_slashes, silenced_rules};
 ghost use Rattle.tf_facts.specs.Found.{comment};
@@ -19,7 +21,7 @@ use hcl_scan::{Kind, Tokens};
 use std::alloc::{AllocError, Global};
 
 fn is_line_comment(kind: Kind) -> bool
-    ensures { result ≡ is_line_comment kind }
+    ensures { result ≡ is LineComment kind }
 {
     matches!(kind, Kind::LineComment)
 }

@@ -1,9 +1,11 @@
 //! The patterns of tokens that two rules report.
 
 ghost use Rattle.std.specs.Prelude.{◌≡◌, ◌<◌, ◌∷◌, ◌+◌, ◌^◌, length, slice_get, Some, IfOk};
+ghost use Rattle.hcl_scan.specs.Kinds.{is};
+ghost use Rattle.hcl_scan.specs.declared.token.Kind.TheVariants.{InterpOpen, Number, QuoteOpen};
 ghost use Rattle.hcl_scan.specs.Lexemes.{Lexeme};
-ghost use Rattle.hcl_syntax.specs.Numbered.{is_quote_open, numbered};
-ghost use Rattle.tf_facts.specs.Patterns.{is_index, is_interpolation, is_number, is_wrapped, legacy_indexes, wrapped_interpolations};
+ghost use Rattle.hcl_syntax.specs.Numbered.{numbered};
+ghost use Rattle.tf_facts.specs.Patterns.{is_index, is_wrapped, legacy_indexes, wrapped_interpolations};
 ghost use Rattle.tf_facts.specs.Inner.Closings.{AreClosings};
 ghost use Rattle.tf_facts.specs.Inner.Seen.{number_of, seen_from};
 
@@ -14,19 +16,19 @@ use hcl_scan::{Kind, Tokens};
 use std::alloc::{AllocError, Global};
 
 fn is_number(kind: Kind) -> bool
-    ensures { result ≡ is_number kind }
+    ensures { result ≡ is Number kind }
 {
     matches!(kind, Kind::Number)
 }
 
 fn is_quote_open(kind: Kind) -> bool
-    ensures { result ≡ is_quote_open kind }
+    ensures { result ≡ is QuoteOpen kind }
 {
     matches!(kind, Kind::QuoteOpen)
 }
 
 fn is_interpolation(kind: Kind) -> bool
-    ensures { result ≡ is_interpolation kind }
+    ensures { result ≡ is InterpOpen kind }
 {
     matches!(kind, Kind::InterpOpen)
 }

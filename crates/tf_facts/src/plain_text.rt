@@ -2,8 +2,9 @@
 
 ghost use Rattle.std.specs.Prelude.{◌≡◌, ◌≤◌, ◌&&◌, not, [], length, MatchOption};
 ghost use Rattle.std.specs.Option.{option_map};
-ghost use Rattle.hcl_scan.specs.Kinds.{is_lit};
-ghost use Rattle.hcl_syntax.specs.Numbered.{is_comment, is_newline, is_quote_close, is_quote_open};
+ghost use Rattle.hcl_scan.specs.Kinds.{is};
+ghost use Rattle.hcl_scan.specs.declared.token.Kind.TheVariants.{Lit, Newline, QuoteClose, QuoteOpen};
+ghost use Rattle.hcl_syntax.specs.Numbered.{is_comment};
 ghost use Rattle.tf_facts.specs.Declarations.{plain_text};
 ghost use Rattle.tf_facts.specs.Inner.Values.{IsFirstValue, plain_text_of, values};
 
@@ -13,7 +14,7 @@ use hcl_scan::{Kind, Tokens};
 
 /// Whether tokens of this kind count in a value: comments and newlines don't.
 fn counts(kind: Kind) -> bool
-    ensures { result ≡ (not (is_comment kind) && not (is_newline kind)) }
+    ensures { result ≡ (not (is_comment kind) && not (is Newline kind)) }
 {
     !matches!(
         kind,
@@ -22,19 +23,19 @@ fn counts(kind: Kind) -> bool
 }
 
 fn is_quote_open(kind: Kind) -> bool
-    ensures { result ≡ is_quote_open kind }
+    ensures { result ≡ is QuoteOpen kind }
 {
     matches!(kind, Kind::QuoteOpen)
 }
 
 fn is_quote_close(kind: Kind) -> bool
-    ensures { result ≡ is_quote_close kind }
+    ensures { result ≡ is QuoteClose kind }
 {
     matches!(kind, Kind::QuoteClose)
 }
 
 fn is_lit(kind: Kind) -> bool
-    ensures { result ≡ is_lit kind }
+    ensures { result ≡ is Lit kind }
 {
     matches!(kind, Kind::Lit)
 }

@@ -2,8 +2,9 @@
 
 ghost use Rattle.std.specs.Prelude.{◌≡◌, ◌<◌, ◌≤◌, ◌+◌, ◌^◌, ◌∷◌, drop, length, MatchOption, None};
 ghost use Rattle.std.specs.Option.{option_map};
-ghost use Rattle.hcl_syntax.specs.Numbered.{is_ident};
-ghost use Rattle.tf_facts.specs.References.{is_dot, name_behind, reference_at, reference_of};
+ghost use Rattle.hcl_scan.specs.Kinds.{is};
+ghost use Rattle.hcl_scan.specs.declared.token.Kind.TheVariants.{Dot, Ident};
+ghost use Rattle.tf_facts.specs.References.{name_behind, reference_at, reference_of};
 ghost use Rattle.tf_facts.specs.Inner.Seen.{seen_from, numbered_of};
 ghost use Rattle.tf_facts.specs.Inner.Spelled.{IsBehind, spelled};
 
@@ -20,13 +21,13 @@ pub enum Reference<'s> {
 
 /// Whether the kind is a dot.
 pub fn is_dot(kind: Kind) -> bool
-    ensures { result ≡ is_dot kind }
+    ensures { result ≡ is Dot kind }
 {
     matches!(kind, Kind::Dot)
 }
 
 fn is_ident(kind: Kind) -> bool
-    ensures { result ≡ is_ident kind }
+    ensures { result ≡ is Ident kind }
 {
     matches!(kind, Kind::Ident)
 }

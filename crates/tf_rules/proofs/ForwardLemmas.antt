@@ -4,18 +4,20 @@ use Rattle.std.specs.Prelude.{◌&&◌, ◌||◌, ◌==◌, Option, Some, None, 
 use Rattle.std.specs.List.{flat_map}
 use Rattle.std.specs.Str.{bytes_eq}
 use Rattle.std.proofs.lemmas.Grind.{flat_map-append}
+use Rattle.hcl_scan.specs.Kinds.{is}
+use Rattle.hcl_scan.specs.declared.token.Kind.TheVariants.{LineComment, Lit, Newline, QuoteClose, QuoteOpen}
 use Rattle.hcl_scan.specs.Lexemes.{Lexeme}
 use Rattle.hcl_scan.specs.Scans.{Scans}
-use Rattle.hcl_syntax.specs.Numbered.{Numbered, numbered, numbered_from, significant, is_comment, is_newline, is_passed_over, is_quote_open, is_quote_close}
+use Rattle.hcl_syntax.specs.Numbered.{Numbered, numbered, numbered_from, significant, is_comment, is_passed_over}
 use Rattle.hcl_syntax.specs.Items.{is_closed, outline}
 use Rattle.hcl_syntax.specs.ItemOrder.{Climbs}
-use Rattle.hcl_syntax.specs.Labels.{is_lit, text_of}
+use Rattle.hcl_syntax.specs.Labels.{text_of}
 use Rattle.hcl_syntax.specs.Verdict.{start_of}
 use Rattle.hcl_syntax.specs.declared.item.Item.{Item}
 use Rattle.hcl_syntax.specs.declared.item.Item.TheVariants as item
 use Rattle.hcl_syntax.proofs.ItemOrderLemmas.{Rises, outline_climbs, rises_filter, rises_numbered, rises_wide}
 use Rattle.hcl_syntax.proofs.WordLemmas.{numbered_at}
-use Rattle.tf_facts.specs.Comments.{Comment, comments, is_any, is_line_comment}
+use Rattle.tf_facts.specs.Comments.{Comment, comments, is_any}
 use Rattle.tf_facts.specs.Declarations.{Attribute, Declaration, Declarer, attributes_in, by_declarer, declarer, declarations, is_empty, is_module, labels_in, module_source, of_block, of_items, of_local, plain_text, source_of_plain_text, source_of_attribute, value_of, has, with_attribute}
 use Rattle.tf_facts.specs.Patterns.{legacy_indexes, numbers_where, wrapped_interpolations, is_index, is_wrapped}
 use Rattle.tf_facts.specs.Silencing.{has_slashes, silenced_rules}
@@ -46,7 +48,7 @@ comment_numbers ts = map (λ (c : Comment ℕ). c.at) (comments ts)
 
 comments_rise : (from to : ℕ) (ts : List Numbered) → Rises from ts to → Rise from (comment_numbers ts) to
 comments_rise from to [] h = h
-comments_rise from to (t ∷ ts) h = by (is_line_comment t.kind) (has_slashes t.text || is_any (silenced_rules t.text)) (comments_rise (t.number + 1) to ts h.1)
+comments_rise from to (t ∷ ts) h = by (is LineComment t.kind) (has_slashes t.text || is_any (silenced_rules t.text)) (comments_rise (t.number + 1) to ts h.1)
   where
     one : Comment ℕ
     one = record { at = t.number; slashes = has_slashes t.text; silences = silenced_rules t.text }
@@ -74,19 +76,19 @@ rises_taken n (suc k) (x ∷ xs) = (omega arith, let e : n + 1 + k ≡ n + suc k
 value_rises : (tokens : List Lexeme) (a : Attribute) → a.first ≤ a.end → Rises a.first (value_of (numbered tokens) a) a.end
 value_rises tokens a h =
     let e : a.first + (a.end - a.first) ≡ a.end = omega (arith, h) in
-    rises_filter (λ t. not (is_comment t.kind) && not (is_newline t.kind)) a.first a.end (take (a.end - a.first) (drop a.first (numbered tokens)))
+    rises_filter (λ t. not (is_comment t.kind) && not (is Newline t.kind)) a.first a.end (take (a.end - a.first) (drop a.first (numbered tokens)))
     (subst (λ (ts : List Numbered). Rises a.first (take (a.end - a.first) ts) a.end) (sym (numbered_at tokens a.first))
     (subst (λ (to : ℕ). Rises a.first (take (a.end - a.first) (numbered_from a.first (drop a.first tokens))) to) e (rises_taken a.first (a.end - a.first) (drop a.first tokens))))
 
 plain_rises : (from to : ℕ) (vs : List Numbered) → Rises from vs to → Rise from (quotes (source_of_plain_text (plain_text vs))) to
 plain_rises from to [] h = h
 plain_rises from to (q ∷ []) h = rises_wide from to (q ∷ []) h
-plain_rises from to (q ∷ c ∷ []) h = by (is_quote_open q.kind && is_quote_close c.kind)
+plain_rises from to (q ∷ c ∷ []) h = by (is QuoteOpen q.kind && is QuoteClose c.kind)
   where
     by : (b : Bool) → Rise from (quotes (source_of_plain_text (cond b (Some (record { quote = q.number; text = [] })) None))) to
     by true = (h.0, rises_wide (q.number + 1) to (c ∷ []) h.1)
     by false = rises_wide from to (q ∷ c ∷ []) h
-plain_rises from to (q ∷ l ∷ c ∷ []) h = by (is_quote_open q.kind && is_lit l.kind && is_quote_close c.kind)
+plain_rises from to (q ∷ l ∷ c ∷ []) h = by (is QuoteOpen q.kind && is Lit l.kind && is QuoteClose c.kind)
   where
     by : (b : Bool) → Rise from (quotes (source_of_plain_text (cond b (Some (record { quote = q.number; text = l.text })) None))) to
     by true = (h.0, rises_wide (q.number + 1) to (l ∷ c ∷ []) h.1)

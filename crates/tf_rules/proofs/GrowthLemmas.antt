@@ -6,22 +6,23 @@ use Rattle.std.specs.Str.{bytes_eq}
 use Rattle.std.proofs.lemmas.List.{length-append, length-map}
 use Rattle.std.proofs.lemmas.Grind.{flat_map-append}
 use Rattle.indexmap.specs.IndexSet.{insert_all, insert_key}
+use Rattle.hcl_scan.specs.Kinds.{is}
 use Rattle.hcl_scan.specs.Lexemes.{Lexeme}
 use Rattle.hcl_scan.specs.declared.token.Kind.{Kind}
 use Rattle.hcl_scan.specs.declared.token.Kind.TheVariants as kind
-use Rattle.hcl_syntax.specs.Numbered.{Numbered, numbered_from, significant, is_ident, is_passed_over, is_quote_open}
-use Rattle.tf_facts.specs.Comments.{Comment, comments, is_any, is_line_comment}
+use Rattle.hcl_syntax.specs.Numbered.{Numbered, numbered_from, significant, is_passed_over}
+use Rattle.tf_facts.specs.Comments.{Comment, comments, is_any}
 use Rattle.tf_facts.specs.Declarations.{Declaration, SourceAt, declarations}
 use Rattle.tf_rules.specs.Growth.{entries, places_of, source_places}
 use Rattle.tf_rules.specs.Issues.{File, comment_at, place_in, tokens_of}
 use Rattle.tf_rules.specs.Kept.{Kept, declaration_at, source_at, with_file}
-use Rattle.tf_facts.specs.Patterns.{begins_with_close, behind_closer, is_index, is_interpolation, is_number, is_wrapped, legacy_indexes, numbers_where, wrapped_interpolations}
-use Rattle.tf_facts.specs.References.{Own, by_name, is_dot, is_own, name_behind, own_blocks, reference_at, references, references_from, unless_own}
+use Rattle.tf_facts.specs.Patterns.{begins_with_close, behind_closer, is_index, is_wrapped, legacy_indexes, numbers_where, wrapped_interpolations}
+use Rattle.tf_facts.specs.References.{Own, by_name, is_own, name_behind, own_blocks, reference_at, references, references_from, unless_own}
 use Rattle.tf_facts.specs.Silencing.{has_slashes, silenced_rules}
 use Rattle.tf_rules.proofs.ItemCostLemmas.{is_telling, places, places_few, tally, tally_filter}
 use Rattle.tf_rules.proofs.ItemWeightLemmas.{bit}
 
-one_kind : (k : Kind) → bit (is_line_comment k) + (bit (is_dot k) + (bit (is_interpolation k) + bit (is_telling k))) ≤ 1
+one_kind : (k : Kind) → bit (is kind.LineComment k) + (bit (is kind.Dot k) + (bit (is kind.InterpOpen k) + bit (is_telling k))) ≤ 1
 one_kind kind.LineComment = omega arith
 one_kind kind.Dot = omega arith
 one_kind kind.InterpOpen = omega arith
@@ -30,20 +31,20 @@ one_kind kind.Ident = omega arith
 one_kind kind.QuoteOpen = omega arith
 one_kind _ = omega arith
 
-kinds_few : (ts : List Numbered) → tally is_line_comment ts + (tally is_dot ts + (tally is_interpolation ts + tally is_telling ts)) ≤ length ts
+kinds_few : (ts : List Numbered) → tally (is kind.LineComment) ts + (tally (is kind.Dot) ts + (tally (is kind.InterpOpen) ts + tally is_telling ts)) ≤ length ts
 kinds_few [] = omega arith
 kinds_few (t ∷ ts) = omega (arith, one_kind t.kind, kinds_few ts)
 
 -- ---- comments
 
-comments_few : (ts : List Numbered) → length (comments ts) ≤ tally is_line_comment ts
+comments_few : (ts : List Numbered) → length (comments ts) ≤ tally (is kind.LineComment) ts
 comments_few [] = omega arith
-comments_few (t ∷ ts) = by (is_line_comment t.kind) (has_slashes t.text || is_any (silenced_rules t.text)) (comments_few ts)
+comments_few (t ∷ ts) = by (is kind.LineComment t.kind) (has_slashes t.text || is_any (silenced_rules t.text)) (comments_few ts)
   where
     one : Comment ℕ
     one = record { at = t.number; slashes = has_slashes t.text; silences = silenced_rules t.text }
 
-    by : (a b : Bool) → length (comments ts) ≤ tally is_line_comment ts → length (cond a (cond b (one ∷ []) []) [] ++ comments ts) ≤ bit a + tally is_line_comment ts
+    by : (a b : Bool) → length (comments ts) ≤ tally (is kind.LineComment) ts → length (cond a (cond b (one ∷ []) []) [] ++ comments ts) ≤ bit a + tally (is kind.LineComment) ts
     by true true h = omega (arith, h)
     by true false h = omega (arith, h)
     by false b h = omega (arith, h)
@@ -52,22 +53,22 @@ comments_few (t ∷ ts) = by (is_line_comment t.kind) (has_slashes t.text || is_
 
 abbrev interpolates : List Numbered → Bool
 interpolates [] = false
-interpolates (t ∷ ts) = is_interpolation t.kind
+interpolates (t ∷ ts) = is kind.InterpOpen t.kind
 
 wrapped_by : (t : Numbered) (ts : List Numbered) → interpolates ts ≡ false → is_wrapped (t ∷ ts) ≡ false
 wrapped_by t [] e = refl
-wrapped_by t (i ∷ rest) e = by (is_quote_open t.kind) (is_interpolation i.kind) e
+wrapped_by t (i ∷ rest) e = by (is kind.QuoteOpen t.kind) (is kind.InterpOpen i.kind) e
   where
     by : (a b : Bool) → b ≡ false → (a && b && begins_with_close (behind_closer 0 rest)) ≡ false
     by true b h = ap (λ c. c && begins_with_close (behind_closer 0 rest)) h
     by false b h = refl
 
-wrapped_few : (ts : List Numbered) → length (numbers_where is_wrapped ts) + bit (interpolates ts) ≤ tally is_interpolation ts
+wrapped_few : (ts : List Numbered) → length (numbers_where is_wrapped ts) + bit (interpolates ts) ≤ tally (is kind.InterpOpen) ts
 wrapped_few [] = omega arith
 wrapped_few (t ∷ ts) = by (is_wrapped (t ∷ ts)) (interpolates ts) (wrapped_by t ts) (wrapped_few ts)
   where
-    by : (a b : Bool) → (b ≡ false → a ≡ false) → length (numbers_where is_wrapped ts) + bit b ≤ tally is_interpolation ts
-        → length (cond a (t.number ∷ []) [] ++ numbers_where is_wrapped ts) + bit (is_interpolation t.kind) ≤ bit (is_interpolation t.kind) + tally is_interpolation ts
+    by : (a b : Bool) → (b ≡ false → a ≡ false) → length (numbers_where is_wrapped ts) + bit b ≤ tally (is kind.InterpOpen) ts
+        → length (cond a (t.number ∷ []) [] ++ numbers_where is_wrapped ts) + bit (is kind.InterpOpen t.kind) ≤ bit (is kind.InterpOpen t.kind) + tally (is kind.InterpOpen) ts
     by true true n h = omega (arith, h)
     by true false n h = absurd (true≢false (n refl))
     by false b n h = omega (arith, h)
@@ -77,7 +78,7 @@ wrapped_few (t ∷ ts) = by (is_wrapped (t ∷ ts)) (interpolates ts) (wrapped_b
 abbrev names_next : List Numbered → Bool
 names_next [] = false
 names_next (d ∷ []) = false
-names_next (d ∷ n ∷ rest) = is_dot d.kind && is_ident n.kind
+names_next (d ∷ n ∷ rest) = is kind.Dot d.kind && is kind.Ident n.kind
 
 own_few : (own : List Own) (n : ℕ) (o : Option (List ℕ)) → length (unless_own own n o) ≤ 1
 own_few own n None = omega arith
@@ -93,17 +94,17 @@ unnamed (d ∷ []) e = refl
 unnamed (d ∷ n ∷ rest) e = ap (λ b. cond b (Some n) None) e
 
 -- a reference begins with an identifier, and a dot and a name come next
-none_begun : (own : List Own) (t : Numbered) (ts : List Numbered) → (is_ident t.kind && names_next ts) ≡ false → length (unless_own own t.number (reference_at (t ∷ ts))) ≡ 0
-none_begun own t ts e = ap (λ o. length (unless_own own t.number o)) (by (is_ident t.kind) (names_next ts) (unnamed ts) e)
+none_begun : (own : List Own) (t : Numbered) (ts : List Numbered) → (is kind.Ident t.kind && names_next ts) ≡ false → length (unless_own own t.number (reference_at (t ∷ ts))) ≡ 0
+none_begun own t ts e = ap (λ o. length (unless_own own t.number o)) (by (is kind.Ident t.kind) (names_next ts) (unnamed ts) e)
   where
     by : (a b : Bool) → (b ≡ false → name_behind ts ≡ None) → (a && b) ≡ false → cond a (by_name t.text (name_behind ts) (drop 2 ts)) None ≡ None
     by true b u h = ap (λ o. by_name t.text o (drop 2 ts)) (u h)
     by false b u h = refl
 
-begun_few : (own : List Own) (t : Numbered) (ts : List Numbered) → length (unless_own own t.number (reference_at (t ∷ ts))) ≤ bit (is_ident t.kind && names_next ts)
-begun_few own t ts = by (is_ident t.kind && names_next ts) refl
+begun_few : (own : List Own) (t : Numbered) (ts : List Numbered) → length (unless_own own t.number (reference_at (t ∷ ts))) ≤ bit (is kind.Ident t.kind && names_next ts)
+begun_few own t ts = by (is kind.Ident t.kind && names_next ts) refl
   where
-    by : (b : Bool) → (is_ident t.kind && names_next ts) ≡ b → length (unless_own own t.number (reference_at (t ∷ ts))) ≤ bit b
+    by : (b : Bool) → (is kind.Ident t.kind && names_next ts) ≡ b → length (unless_own own t.number (reference_at (t ∷ ts))) ≤ bit b
     by true e = own_few own t.number (reference_at (t ∷ ts))
     by false e = omega (arith, none_begun own t ts e)
 
@@ -113,17 +114,17 @@ dotted own after ts = length (numbers_where is_index ts) + length (references_fr
 
 -- a dot before a name is no index, and no reference begins at it
 abbrev AreDotted : List Own → List Numbered → Type 0
-AreDotted own ts = ((after : Bool) → dotted own after ts + 0 ≤ tally is_dot ts) × (names_next ts ≡ true → dotted own false ts + 1 ≤ tally is_dot ts)
+AreDotted own ts = ((after : Bool) → dotted own after ts + 0 ≤ tally (is kind.Dot) ts) × (names_next ts ≡ true → dotted own false ts + 1 ≤ tally (is kind.Dot) ts)
 
-index_few : (t : Numbered) (ts : List Numbered) → bit (is_index (t ∷ ts)) + bit (is_ident t.kind && names_next ts) ≤ bit (is_dot t.kind) + bit (names_next ts)
-index_few t [] = by (is_ident t.kind)
+index_few : (t : Numbered) (ts : List Numbered) → bit (is_index (t ∷ ts)) + bit (is kind.Ident t.kind && names_next ts) ≤ bit (is kind.Dot t.kind) + bit (names_next ts)
+index_few t [] = by (is kind.Ident t.kind)
   where
-    by : (a : Bool) → 0 + bit (a && false) ≤ bit (is_dot t.kind) + 0
+    by : (a : Bool) → 0 + bit (a && false) ≤ bit (is kind.Dot t.kind) + 0
     by true = omega arith
     by false = omega arith
-index_few t (n ∷ rest) = by (is_dot t.kind) (is_number n.kind) (is_ident t.kind) (names_next (n ∷ rest)) (apart t.kind)
+index_few t (n ∷ rest) = by (is kind.Dot t.kind) (is kind.Number n.kind) (is kind.Ident t.kind) (names_next (n ∷ rest)) (apart t.kind)
   where
-    apart : (k : Kind) → is_dot k ≡ true → is_ident k ≡ false
+    apart : (k : Kind) → is kind.Dot k ≡ true → is kind.Ident k ≡ false
     apart kind.Dot e = refl
     apart _ e = absurd (true≢false (sym e))
 
@@ -136,15 +137,15 @@ index_few t (n ∷ rest) = by (is_dot t.kind) (is_number n.kind) (is_ident t.kin
     by false m true false h = omega arith
     by false m false b h = omega arith
 
-named_dot : (t : Numbered) (ts : List Numbered) → names_next (t ∷ ts) ≡ true → (is_dot t.kind ≡ true) × (is_index (t ∷ ts) ≡ false) × (is_ident t.kind ≡ false)
+named_dot : (t : Numbered) (ts : List Numbered) → names_next (t ∷ ts) ≡ true → (is kind.Dot t.kind ≡ true) × (is_index (t ∷ ts) ≡ false) × (is kind.Ident t.kind ≡ false)
 named_dot t [] e = absurd (true≢false (sym e))
 named_dot t (n ∷ rest) e = by t.kind n.kind e
   where
-    number : (k : Kind) → is_ident k ≡ true → is_number k ≡ false
+    number : (k : Kind) → is kind.Ident k ≡ true → is kind.Number k ≡ false
     number kind.Ident h = refl
     number _ h = absurd (true≢false (sym h))
 
-    by : (k l : Kind) → (is_dot k && is_ident l) ≡ true → (is_dot k ≡ true) × ((is_dot k && is_number l) ≡ false) × (is_ident k ≡ false)
+    by : (k l : Kind) → (is kind.Dot k && is kind.Ident l) ≡ true → (is kind.Dot k ≡ true) × ((is kind.Dot k && is kind.Number l) ≡ false) × (is kind.Ident k ≡ false)
     by kind.Dot l h = (refl, number l h, refl)
     by _ l h = absurd (true≢false (sym h))
 
@@ -156,16 +157,16 @@ numbers_here t ts = by (is_index (t ∷ ts))
     by false = omega arith
 
 references_here : (own : List Own) (after : Bool) (t : Numbered) (ts : List Numbered)
-    → length (references_from own after (t ∷ ts)) ≤ length (unless_own own t.number (reference_at (t ∷ ts))) + length (references_from own (is_dot t.kind) ts)
+    → length (references_from own after (t ∷ ts)) ≤ length (unless_own own t.number (reference_at (t ∷ ts))) + length (references_from own (is kind.Dot t.kind) ts)
 references_here own true t ts = omega arith
-references_here own false t ts = omega (arith, length-append (unless_own own t.number (reference_at (t ∷ ts))) (references_from own (is_dot t.kind) ts))
+references_here own false t ts = omega (arith, length-append (unless_own own t.number (reference_at (t ∷ ts))) (references_from own (is kind.Dot t.kind) ts))
 
 module _ (own : List Own) (t : Numbered) (ts : List Numbered) (more : AreDotted own ts) where
-  left : (b : Bool) → names_next ts ≡ b → is_dot t.kind ≡ false → dotted own (is_dot t.kind) ts + bit b ≤ tally is_dot ts
+  left : (b : Bool) → names_next ts ≡ b → is kind.Dot t.kind ≡ false → dotted own (is kind.Dot t.kind) ts + bit b ≤ tally (is kind.Dot) ts
   left true e d = let h = more.1 e in omega (arith, h, ap (λ a. length (references_from own a ts)) d)
-  left false e d = more.0 (is_dot t.kind)
+  left false e d = more.0 (is kind.Dot t.kind)
 
-  no_word : (k : Kind) → is_dot k ≡ true → bit (is_ident k && names_next ts) ≡ 0
+  no_word : (k : Kind) → is kind.Dot k ≡ true → bit (is kind.Ident k && names_next ts) ≡ 0
   no_word kind.Dot h = refl
   no_word _ h = absurd (true≢false (sym h))
 
@@ -173,29 +174,29 @@ module _ (own : List Own) (t : Numbered) (ts : List Numbered) (more : AreDotted 
   at_most true = omega arith
   at_most false = omega arith
 
-  any_by : (after b : Bool) → is_dot t.kind ≡ b → dotted own after (t ∷ ts) + 0 ≤ bit (is_dot t.kind) + tally is_dot ts
+  any_by : (after b : Bool) → is kind.Dot t.kind ≡ b → dotted own after (t ∷ ts) + 0 ≤ bit (is kind.Dot t.kind) + tally (is kind.Dot) ts
   any_by after true d =
       let none = no_word t.kind d in
-      let one : bit (is_dot t.kind) ≡ 1 = ap bit d in
-      let m = more.0 (is_dot t.kind) in
+      let one : bit (is kind.Dot t.kind) ≡ 1 = ap bit d in
+      let m = more.0 (is kind.Dot t.kind) in
       omega (arith, numbers_here t ts, at_most (is_index (t ∷ ts)), references_here own after t ts, begun_few own t ts, none, one, m)
   any_by after false d =
       let l = left (names_next ts) refl d in
-      let none : bit (is_dot t.kind) ≡ 0 = ap bit d in
+      let none : bit (is kind.Dot t.kind) ≡ 0 = ap bit d in
       omega (arith, numbers_here t ts, index_few t ts, references_here own after t ts, begun_few own t ts, none, l)
 
-  first : names_next (t ∷ ts) ≡ true → dotted own false (t ∷ ts) + 1 ≤ bit (is_dot t.kind) + tally is_dot ts
+  first : names_next (t ∷ ts) ≡ true → dotted own false (t ∷ ts) + 1 ≤ bit (is kind.Dot t.kind) + tally (is kind.Dot) ts
   first e =
       let d = named_dot t ts e in
-      let one : bit (is_dot t.kind) ≡ 1 = ap bit d.0 in
+      let one : bit (is kind.Dot t.kind) ≡ 1 = ap bit d.0 in
       let none : bit (is_index (t ∷ ts)) ≡ 0 = ap bit d.1 in
-      let word : bit (is_ident t.kind && names_next ts) ≡ 0 = ap (λ b. bit (b && names_next ts)) d.2 in
-      let m = more.0 (is_dot t.kind) in
+      let word : bit (is kind.Ident t.kind && names_next ts) ≡ 0 = ap (λ b. bit (b && names_next ts)) d.2 in
+      let m = more.0 (is kind.Dot t.kind) in
       omega (arith, numbers_here t ts, none, one, references_here own false t ts, begun_few own t ts, word, m)
 
 dots_few : (own : List Own) (ts : List Numbered) → AreDotted own ts
 dots_few own [] = ((λ after. omega arith), (λ e. absurd (true≢false (sym e))))
-dots_few own (t ∷ ts) = let more = dots_few own ts in ((λ after. any_by own t ts more after (is_dot t.kind) refl), first own t ts more)
+dots_few own (t ∷ ts) = let more = dots_few own ts in ((λ after. any_by own t ts more after (is kind.Dot t.kind) refl), first own t ts more)
 
 -- ---- all of them
 
@@ -209,8 +210,8 @@ few ts =
       dots,
       wrapped_few (significant ts),
       places_few ts,
-      tally_filter is_dot (λ t. not (is_passed_over t.kind)) ts,
-      tally_filter is_interpolation (λ t. not (is_passed_over t.kind)) ts,
+      tally_filter (is kind.Dot) (λ t. not (is_passed_over t.kind)) ts,
+      tally_filter (is kind.InterpOpen) (λ t. not (is_passed_over t.kind)) ts,
     )
 
 -- ---- what is kept

@@ -6,10 +6,12 @@ use Rattle.std.specs.Str.{bytes_eq}
 use Rattle.std.proofs.lemmas.List.{length-append}
 use Rattle.std.proofs.lemmas.Bool.Decides.{nat_tests}
 use Rattle.std.proofs.lemmas.Grind.{flat_map-append}
+use Rattle.hcl_scan.specs.Kinds.{is}
+use Rattle.hcl_scan.specs.declared.token.Kind.TheVariants.{Assign, Ident, QuoteOpen}
 use Rattle.hcl_scan.specs.declared.token.Kind.{Kind}
 use Rattle.hcl_syntax.specs.Labels.{text_of}
 use Rattle.hcl_syntax.specs.Items.{closing_quote, is_closed, items_of, label_at}
-use Rattle.hcl_syntax.specs.Numbered.{Numbered, is_assign, is_comment, is_ident, is_quote_open, uncommented}
+use Rattle.hcl_syntax.specs.Numbered.{Numbered, is_comment, uncommented}
 use Rattle.hcl_syntax.specs.declared.item.Item.{Item}
 use Rattle.hcl_syntax.specs.declared.item.Item.TheVariants as item
 use Rattle.tf_facts.specs.Declarations.{Attribute, Declaration, Declarer, SourceAt, attributes_in, by_declarer, declarations, declarer, has, is_empty, is_module, labels_in, module_source, of_block, of_items, of_local, with_attribute}
@@ -40,10 +42,10 @@ cost_both (item.Label l ∷ is) js = omega (arith, cost_both is js)
 
 -- the kinds of `=`, and of the tokens with which labels begin
 abbrev pub is_telling : Kind → Bool
-is_telling k = is_assign k || (is_ident k || is_quote_open k)
+is_telling k = is Assign k || (is Ident k || is QuoteOpen k)
 
 label_costs : (n : ℕ) (k : Kind) (rest : List Numbered) → cost (label_at n k rest) ≤ bit (is_telling k)
-label_costs n k rest = by (is_assign k) (is_ident k) (is_quote_open k)
+label_costs n k rest = by (is Assign k) (is Ident k) (is QuoteOpen k)
   where
     by : (a b c : Bool) → cost (cond b (item.Label (record { first = n; last = n }) ∷ []) (cond c (item.Label (record { first = n; last = closing_quote rest }) ∷ []) [])) ≤ bit (a || (b || c))
     by true true c = omega arith
@@ -58,7 +60,7 @@ counted = record {
   none = refl;
   both = cost_both;
   block = λ level kind end. refl;
-  attribute = λ level end name second e. omega (arith, ap (λ b. bit (b || (is_ident second.kind || is_quote_open second.kind))) e);
+  attribute = λ level end name second e. omega (arith, ap (λ b. bit (b || (is Ident second.kind || is QuoteOpen second.kind))) e);
   label = λ t ts. label_costs t.number t.kind ts;
 }
 

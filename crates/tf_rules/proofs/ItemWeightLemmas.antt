@@ -2,8 +2,10 @@
 use Rattle.std.proofs.Common.{◌≡◌, ℕ, suc, zero, ◌+◌, ◌≤◌, Bool, true, false, cond, List, [], ◌∷◌, ◌++◌, arith, refl}
 use Rattle.std.specs.Prelude.{◌&&◌, filter, nat_lt}
 use Rattle.std.specs.List.{flat_map}
+use Rattle.hcl_scan.specs.Kinds.{is}
+use Rattle.hcl_scan.specs.declared.token.Kind.TheVariants.{Assign, BraceOpen, Newline}
 use Rattle.hcl_syntax.specs.Items.{behind_brace, block, block_end, body, deepen, is_closed, item_of, items, labels, label_at, onto, pieces}
-use Rattle.hcl_syntax.specs.Numbered.{Numbered, end_of, is_assign, is_brace_open, is_newline}
+use Rattle.hcl_syntax.specs.Numbered.{Numbered, end_of}
 use Rattle.hcl_syntax.specs.declared.item.Item.{Item}
 use Rattle.hcl_syntax.specs.declared.item.Item.TheVariants as item
 
@@ -28,13 +30,13 @@ pub record IsCounted (cost : List Item → ℕ) (weigh : Numbered → ℕ) : Typ
   pub none : cost [] ≡ 0
   pub both : (is js : List Item) → cost (is ++ js) ≡ cost is + cost js
   pub block : (level kind end : ℕ) → cost (item.Block level kind end ∷ []) ≡ 0
-  pub attribute : (level end : ℕ) (name second : Numbered) → is_assign second.kind ≡ true → cost (item.Attribute level name.number (second.number + 1) end ∷ []) ≤ weigh name + weigh second
+  pub attribute : (level end : ℕ) (name second : Numbered) → is Assign second.kind ≡ true → cost (item.Attribute level name.number (second.number + 1) end ∷ []) ≤ weigh name + weigh second
   pub label : (t : Numbered) (ts : List Numbered) → cost (label_at t.number t.kind ts) ≤ weigh t
 
 module _ (cost : List Item → ℕ) (weigh : Numbered → ℕ) (counted : IsCounted cost weigh) where
   labels_cost : (ts : List Numbered) → cost (labels ts) + weight weigh (behind_brace ts) ≤ weight weigh ts
   labels_cost [] = omega (arith, counted.none)
-  labels_cost (t ∷ ts) = by (is_brace_open t.kind) (labels_cost ts)
+  labels_cost (t ∷ ts) = by (is BraceOpen t.kind) (labels_cost ts)
     where
       by : (b : Bool) → cost (labels ts) + weight weigh (behind_brace ts) ≤ weight weigh ts
           → cost (cond b [] (label_at t.number t.kind ts ++ labels ts)) + weight weigh (cond b ts (behind_brace ts)) ≤ weigh t + weight weigh ts
@@ -51,7 +53,7 @@ module _ (cost : List Item → ℕ) (weigh : Numbered → ℕ) (counted : IsCoun
 
   pieces_weigh : (depth : ℕ) (ts : List Numbered) → all_weigh (pieces depth ts) ≤ weight weigh ts
   pieces_weigh depth [] = omega arith
-  pieces_weigh depth (t ∷ ts) = by (is_newline t.kind && is_closed depth) (pieces_weigh (deepen depth t.kind) ts)
+  pieces_weigh depth (t ∷ ts) = by (is Newline t.kind && is_closed depth) (pieces_weigh (deepen depth t.kind) ts)
     where
       by : (b : Bool) → all_weigh (pieces (deepen depth t.kind) ts) ≤ weight weigh ts
           → all_weigh (cond b ([] ∷ pieces (deepen depth t.kind) ts) (onto t (pieces (deepen depth t.kind) ts))) ≤ weigh t + weight weigh ts
@@ -77,9 +79,9 @@ module _ (cost : List Item → ℕ) (weigh : Numbered → ℕ) (counted : IsCoun
     item_costs : (piece : List Numbered) → cost (item_of inner level piece) ≤ weight weigh piece
     item_costs [] = omega (arith, counted.none)
     item_costs (kind ∷ []) = omega (arith, block_costs kind [])
-    item_costs (name ∷ second ∷ rest) = by (is_assign second.kind) refl (block_costs name (second ∷ rest))
+    item_costs (name ∷ second ∷ rest) = by (is Assign second.kind) refl (block_costs name (second ∷ rest))
       where
-        by : (b : Bool) → is_assign second.kind ≡ b → cost (block inner level name (second ∷ rest)) ≤ weigh second + weight weigh rest
+        by : (b : Bool) → is Assign second.kind ≡ b → cost (block inner level name (second ∷ rest)) ≤ weigh second + weight weigh rest
             → cost (cond b (item.Attribute level name.number (second.number + 1) (end_of (second ∷ rest)) ∷ []) (block inner level name (second ∷ rest))) ≤ weigh name + (weigh second + weight weigh rest)
         by true e h = omega (arith, counted.attribute level (end_of (second ∷ rest)) name second e)
         by false e h = omega (arith, h)

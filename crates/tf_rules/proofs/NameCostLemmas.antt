@@ -1,7 +1,9 @@
 -- Attributes and labels weigh what the tokens of their names do, and each `=` one more.
 use Rattle.std.proofs.Common.{◌≡◌, ap, refl, ℕ, ◌+◌, ◌≤◌, Bool, true, false, cond, List, [], ◌∷◌, ◌++◌, arith}
+use Rattle.hcl_scan.specs.Kinds.{is}
+use Rattle.hcl_scan.specs.declared.token.Kind.TheVariants.{Assign, Ident, QuoteOpen}
 use Rattle.hcl_syntax.specs.Items.{closing_quote, label_at}
-use Rattle.hcl_syntax.specs.Numbered.{Numbered, is_assign, is_ident, is_quote_open}
+use Rattle.hcl_syntax.specs.Numbered.{Numbered}
 use Rattle.hcl_syntax.specs.declared.item.Item.{Item}
 use Rattle.hcl_syntax.specs.declared.item.Item.TheVariants as item
 use Rattle.hcl_scan.specs.declared.token.Kind.{Kind}
@@ -16,7 +18,7 @@ module _ (w : ℕ → ℕ) where
   cost (item.Label l ∷ is) = w l.first + cost is
 
   abbrev pub weigh : Numbered → ℕ
-  weigh t = bit (is_assign t.kind) + w t.number
+  weigh t = bit (is Assign t.kind) + w t.number
 
   cost_both : (is js : List Item) → cost (is ++ js) ≡ cost is + cost js
   cost_both [] js = omega arith
@@ -25,7 +27,7 @@ module _ (w : ℕ → ℕ) where
   cost_both (item.Label l ∷ is) js = omega (arith, cost_both is js)
 
   label_costs : (n : ℕ) (k : Kind) (rest : List Numbered) → cost (label_at n k rest) ≤ w n
-  label_costs n k rest = by (is_ident k) (is_quote_open k)
+  label_costs n k rest = by (is Ident k) (is QuoteOpen k)
     where
       by : (b c : Bool) → cost (cond b (item.Label (record { first = n; last = n }) ∷ []) (cond c (item.Label (record { first = n; last = closing_quote rest }) ∷ []) [])) ≤ w n
       by true c = omega arith

@@ -5,14 +5,14 @@ use Rattle.std.specs.List.{flat_map, list_any}
 use Rattle.std.specs.Str.{bytes_eq}
 use Rattle.std.proofs.lemmas.List.{drop-drop}
 use Rattle.indexmap.specs.IndexSet.{insert_all, insert_key}
-use Rattle.hcl_scan.specs.Kinds as scanned
+use Rattle.hcl_scan.specs.Kinds.{is}
 use Rattle.hcl_scan.specs.Lexemes.{Lexeme}
 use Rattle.hcl_scan.specs.Scans.{Scans}
 use Rattle.hcl_scan.specs.declared.token.Kind.{Kind}
 use Rattle.hcl_scan.specs.declared.token.Kind.TheVariants as kind
 use Rattle.hcl_syntax.specs.Items.{items_of}
-use Rattle.hcl_syntax.specs.Labels.{first_literal, first_text, is_lit, label_text, text_of}
-use Rattle.hcl_syntax.specs.Numbered.{Numbered, is_assign, is_comment, is_ident, is_passed_over, is_quote_open, numbered_from, significant, uncommented}
+use Rattle.hcl_syntax.specs.Labels.{first_literal, first_text, label_text, text_of}
+use Rattle.hcl_syntax.specs.Numbered.{Numbered, is_comment, is_passed_over, numbered_from, significant, uncommented}
 use Rattle.hcl_syntax.specs.Verdict.{IsAccepted}
 use Rattle.hcl_syntax.specs.declared.item.Item.{Item}
 use Rattle.hcl_syntax.specs.declared.item.Item.TheVariants as item
@@ -21,7 +21,7 @@ use Rattle.hcl_syntax.proofs.NameLemmas.{IsApart, apart, apart_on, begins_dot, b
 use Rattle.hcl_syntax.proofs.PieceTurnLemmas.{AllGood, Good}
 use Rattle.hcl_syntax.proofs.PlainLabelLemmas.{file_good}
 use Rattle.tf_facts.specs.Declarations.{Declaration, SourceAt, declarations}
-use Rattle.tf_facts.specs.References.{is_dot, own_blocks, references}
+use Rattle.tf_facts.specs.References.{own_blocks, references}
 use Rattle.tf_rules.specs.Growth.{bytes, name_bytes, source_texts, declared_texts}
 use Rattle.tf_rules.specs.Issues.{File, place_in, tokens_of}
 use Rattle.tf_rules.specs.Kept.{Kept, declaration_at, source_at, with_file}
@@ -61,22 +61,18 @@ module _ (all : List Numbered) where
 
 -- ---- one token
 
-same_dot : (k : Kind) → is_dot k ≡ scanned.is_dot k
-same_dot kind.Dot = refl
-same_dot _ = refl
-
 same_begin : (ts : List Numbered) → comes_dot ts ≡ begins_dot ts
 same_begin [] = refl
-same_begin (t ∷ ts) = same_dot t.kind
+same_begin (t ∷ ts) = refl
 
 -- what it weighs beside a dot
 abbrev in_reference : Bool → Bool → Kind → ℕ → ℕ
-in_reference dot next k n = cond (is_passed_over k) 0 (bit (scanned.is_dot k) + cond (is_ident k && (dot || next)) n 0)
+in_reference dot next k n = cond (is_passed_over k) 0 (bit (is kind.Dot k) + cond (is kind.Ident k && (dot || next)) n 0)
 
 abbrev as_name : Bool → Bool → Kind → ℕ → ℕ
-as_name dot next k n = cond (is_quote_open k || (is_ident k && (not dot && not next))) n 0
+as_name dot next k n = cond (is kind.QuoteOpen k || (is kind.Ident k && (not dot && not next))) n 0
 
-one_token : (k : Kind) (dot next : Bool) (n m : ℕ) → bit (scanned.is_dot k || is_assign k) ≤ n → bit (is_assign k) + (as_name dot next k (n + m) + (in_reference dot next k n + cond (is_lit k) n 0)) ≤ n + m
+one_token : (k : Kind) (dot next : Bool) (n m : ℕ) → bit (is kind.Dot k || is kind.Assign k) ≤ n → bit (is kind.Assign k) + (as_name dot next k (n + m) + (in_reference dot next k n + cond (is kind.Lit k) n 0)) ≤ n + m
 one_token kind.Ident true next n m h = omega arith
 one_token kind.Ident false true n m h = omega arith
 one_token kind.Ident false false n m h = omega arith
@@ -91,16 +87,14 @@ dotted_here : (dot : Bool) (t : Numbered) (ts : List Numbered)
 dotted_here dot t ts = by (is_passed_over t.kind)
   where
     by : (b : Bool) → dotted dot (cond (not b) (t ∷ significant ts) (significant ts))
-        ≡ cond b 0 (bit (scanned.is_dot t.kind) + cond (is_ident t.kind && (dot || begins_dot (significant ts))) (length t.text) 0) + dotted (cond b dot (scanned.is_dot t.kind)) (significant ts)
+        ≡ cond b 0 (bit (is kind.Dot t.kind) + cond (is kind.Ident t.kind && (dot || begins_dot (significant ts))) (length t.text) 0) + dotted (cond b dot (is kind.Dot t.kind)) (significant ts)
     by true = omega arith
     by false =
-        let a : bit (is_dot t.kind) ≡ bit (scanned.is_dot t.kind) = ap bit (same_dot t.kind) in
-        let b : dotted (is_dot t.kind) (significant ts) ≡ dotted (scanned.is_dot t.kind) (significant ts) = ap (λ d. dotted d (significant ts)) (same_dot t.kind) in
-        let c : cond (is_ident t.kind && (dot || comes_dot (significant ts))) (length t.text) 0 ≡ cond (is_ident t.kind && (dot || begins_dot (significant ts))) (length t.text) 0 = ap (λ d. cond (is_ident t.kind && (dot || d)) (length t.text) 0) (same_begin (significant ts)) in
-        omega (arith, a, b, c)
+        let c : cond (is kind.Ident t.kind && (dot || comes_dot (significant ts))) (length t.text) 0 ≡ cond (is kind.Ident t.kind && (dot || begins_dot (significant ts))) (length t.text) 0 = ap (λ d. cond (is kind.Ident t.kind && (dot || d)) (length t.text) 0) (same_begin (significant ts)) in
+        omega (arith, c)
 
-literal_here : (t : Numbered) (ts : List Numbered) → literal (t ∷ ts) ≡ cond (is_lit t.kind) (length t.text) 0
-literal_here t ts = by (is_lit t.kind)
+literal_here : (t : Numbered) (ts : List Numbered) → literal (t ∷ ts) ≡ cond (is kind.Lit t.kind) (length t.text) 0
+literal_here t ts = by (is kind.Lit t.kind)
   where
     by : (b : Bool) → length (cond b t.text []) ≡ cond b (length t.text) 0
     by true = refl

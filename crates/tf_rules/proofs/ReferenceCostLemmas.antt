@@ -3,26 +3,27 @@ use Rattle.std.proofs.Common.{◌≡◌, ◌∙◌, ap, sym, refl, true≢false,
 use Rattle.std.specs.Prelude.{◌&&◌, ◌||◌, Option, Some, None, codes}
 use Rattle.std.specs.Str.{bytes_eq}
 use Rattle.std.proofs.lemmas.Slice.Eq.{bytes_eq-Decides}
+use Rattle.hcl_scan.specs.Kinds.{is}
 use Rattle.hcl_scan.specs.declared.token.Kind.{Kind}
 use Rattle.hcl_scan.specs.declared.token.Kind.TheVariants as kind
-use Rattle.hcl_syntax.specs.Numbered.{Numbered, is_ident}
-use Rattle.tf_facts.specs.References.{Own, by_name, data_of, is_dot, is_own, local_reference, name_behind, reference_of, reference_at, references_from, unless_own, variable_reference}
+use Rattle.hcl_syntax.specs.Numbered.{Numbered}
+use Rattle.tf_facts.specs.References.{Own, by_name, data_of, is_own, local_reference, name_behind, reference_of, reference_at, references_from, unless_own, variable_reference}
 use Rattle.tf_rules.specs.Growth.{bytes}
 use Rattle.tf_rules.proofs.DeclaredTextLemmas.{bytes_both}
 use Rattle.tf_rules.proofs.ItemWeightLemmas.{bit}
 
 abbrev pub comes_dot : List Numbered → Bool
 comes_dot [] = false
-comes_dot (t ∷ ts) = is_dot t.kind
+comes_dot (t ∷ ts) = is kind.Dot t.kind
 
 -- an identifier beside a dot weighs its bytes
 abbrev pub beside : Bool → Numbered → ℕ
-beside b t = cond (is_ident t.kind && b) (length t.text) 0
+beside b t = cond (is kind.Ident t.kind && b) (length t.text) 0
 
 -- where a dot stands before the tokens or not
 abbrev pub dotted : Bool → List Numbered → ℕ
 dotted after [] = 0
-dotted after (t ∷ ts) = bit (is_dot t.kind) + (beside (after || comes_dot ts) t + dotted (is_dot t.kind) ts)
+dotted after (t ∷ ts) = bit (is kind.Dot t.kind) + (beside (after || comes_dot ts) t + dotted (is kind.Dot t.kind) ts)
 
 -- ---- one reference
 
@@ -87,11 +88,11 @@ own_short own n (Some text) = by (is_own own n text)
 no_name : (ts : List Numbered) → comes_dot ts ≡ false → name_behind ts ≡ None
 no_name [] e = refl
 no_name (d ∷ []) e = refl
-no_name (d ∷ n ∷ rest) e = ap (λ b. cond (b && is_ident n.kind) (Some n) None) e
+no_name (d ∷ n ∷ rest) e = ap (λ b. cond (b && is kind.Ident n.kind) (Some n) None) e
 
 -- a reference weighs its first word and the steps behind
 begun_short : (t : Numbered) (ts : List Numbered) → some_bytes (reference_at (t ∷ ts)) ≤ beside (comes_dot ts) t + steps ts
-begun_short t ts = by (is_ident t.kind) (comes_dot ts) refl
+begun_short t ts = by (is kind.Ident t.kind) (comes_dot ts) refl
   where
     word : (o : Option Numbered) → some_bytes (by_name t.text o (drop 2 ts)) ≤ length t.text + steps_by o (drop 2 ts)
     word None = omega arith
@@ -108,29 +109,29 @@ module _ (own : List Own) where
   abbrev made : Bool → List Numbered → ℕ
   made after ts = bytes (references_from own after ts)
 
-  made_here : (after : Bool) (t : Numbered) (ts : List Numbered) → made after (t ∷ ts) ≤ beside (after || comes_dot ts) t + (steps ts + made (is_dot t.kind) ts)
+  made_here : (after : Bool) (t : Numbered) (ts : List Numbered) → made after (t ∷ ts) ≤ beside (after || comes_dot ts) t + (steps ts + made (is kind.Dot t.kind) ts)
   made_here true t ts = omega arith
   made_here false t ts =
       omega (
         arith,
-        bytes_both (unless_own own t.number (reference_at (t ∷ ts))) (references_from own (is_dot t.kind) ts),
+        bytes_both (unless_own own t.number (reference_at (t ∷ ts))) (references_from own (is kind.Dot t.kind) ts),
         own_short own t.number (reference_at (t ∷ ts)),
         begun_short t ts,
       )
 
-  dot_is : (k : Kind) → is_dot k ≡ true → is_ident k ≡ false
+  dot_is : (k : Kind) → is kind.Dot k ≡ true → is kind.Ident k ≡ false
   dot_is kind.Dot e = refl
   dot_is _ e = absurd (true≢false (sym e))
 
-  ident_is : (k : Kind) → is_ident k ≡ true → is_dot k ≡ false
+  ident_is : (k : Kind) → is kind.Ident k ≡ true → is kind.Dot k ≡ false
   ident_is kind.Ident e = refl
   ident_is _ e = absurd (true≢false (sym e))
 
   -- no reference begins at a dot, nor at the name behind it
-  step_made : (after : Bool) (t n : Numbered) (rest : List Numbered) → is_dot t.kind ≡ true → is_ident n.kind ≡ true → made after (t ∷ n ∷ rest) ≤ made false rest
+  step_made : (after : Bool) (t n : Numbered) (rest : List Numbered) → is kind.Dot t.kind ≡ true → is kind.Ident n.kind ≡ true → made after (t ∷ n ∷ rest) ≤ made false rest
   step_made after t n rest d i = by after
     where
-      on : made (is_dot t.kind) (n ∷ rest) ≡ made false rest
+      on : made (is kind.Dot t.kind) (n ∷ rest) ≡ made false rest
       on = ap (λ b. made b (n ∷ rest)) d ∙ ap (λ b. made b rest) (ident_is n.kind i)
 
       none : bytes (unless_own own t.number (reference_at (t ∷ n ∷ rest))) ≡ 0
@@ -138,22 +139,22 @@ module _ (own : List Own) where
 
       by : (b : Bool) → made b (t ∷ n ∷ rest) ≤ made false rest
       by true = omega (arith, on)
-      by false = omega (arith, on, none, bytes_both (unless_own own t.number (reference_at (t ∷ n ∷ rest))) (references_from own (is_dot t.kind) (n ∷ rest)))
+      by false = omega (arith, on, none, bytes_both (unless_own own t.number (reference_at (t ∷ n ∷ rest))) (references_from own (is kind.Dot t.kind) (n ∷ rest)))
 
-  step_weighs : (after : Bool) (t n : Numbered) (rest : List Numbered) → is_dot t.kind ≡ true → is_ident n.kind ≡ true → 1 + (length n.text + dotted false rest) ≤ dotted after (t ∷ n ∷ rest)
+  step_weighs : (after : Bool) (t n : Numbered) (rest : List Numbered) → is kind.Dot t.kind ≡ true → is kind.Ident n.kind ≡ true → 1 + (length n.text + dotted false rest) ≤ dotted after (t ∷ n ∷ rest)
   step_weighs after t n rest d i =
-      let one : bit (is_dot t.kind) ≡ 1 = ap bit d in
-      let on : dotted (is_dot t.kind) (n ∷ rest) ≡ dotted true (n ∷ rest) = ap (λ b. dotted b (n ∷ rest)) d in
+      let one : bit (is kind.Dot t.kind) ≡ 1 = ap bit d in
+      let on : dotted (is kind.Dot t.kind) (n ∷ rest) ≡ dotted true (n ∷ rest) = ap (λ b. dotted b (n ∷ rest)) d in
       let name : beside true n ≡ length n.text = ap (λ b. cond (b && true) (length n.text) 0) i in
-      let more : dotted (is_dot n.kind) rest ≡ dotted false rest = ap (λ b. dotted b rest) (ident_is n.kind i) in
+      let more : dotted (is kind.Dot n.kind) rest ≡ dotted false rest = ap (λ b. dotted b rest) (ident_is n.kind i) in
       omega (arith, one, on, name, more)
 
   pub made_few : (ts : List Numbered) (after : Bool) → made after ts + steps ts ≤ dotted after ts
   made_few [] after = omega arith
   made_few (t ∷ []) after = omega (arith, made_here after t [])
-  made_few (t ∷ n ∷ rest) after = by (is_dot t.kind) (is_ident n.kind) refl refl (made_few (n ∷ rest) (is_dot t.kind)) (made_few rest false)
+  made_few (t ∷ n ∷ rest) after = by (is kind.Dot t.kind) (is kind.Ident n.kind) refl refl (made_few (n ∷ rest) (is kind.Dot t.kind)) (made_few rest false)
     where
-      by : (d i : Bool) → is_dot t.kind ≡ d → is_ident n.kind ≡ i → made (is_dot t.kind) (n ∷ rest) + steps (n ∷ rest) ≤ dotted (is_dot t.kind) (n ∷ rest) → made false rest + steps rest ≤ dotted false rest
+      by : (d i : Bool) → is kind.Dot t.kind ≡ d → is kind.Ident n.kind ≡ i → made (is kind.Dot t.kind) (n ∷ rest) + steps (n ∷ rest) ≤ dotted (is kind.Dot t.kind) (n ∷ rest) → made false rest + steps rest ≤ dotted false rest
           → made after (t ∷ n ∷ rest) + steps_by (cond (d && i) (Some n) None) rest ≤ dotted after (t ∷ n ∷ rest)
       by true true d i h k = omega (arith, k, first_step rest, step_made after t n rest d i, step_weighs after t n rest d i)
       by true false d i h k = omega (arith, h, made_here after t (n ∷ rest))

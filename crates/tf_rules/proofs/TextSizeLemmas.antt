@@ -3,11 +3,11 @@ use Rattle.std.proofs.Common.{◌≡◌, ℕ, ◌+◌, ◌≤◌, ◌<◌, Bool,
 use Rattle.std.specs.Prelude.{◌||◌}
 use Rattle.std.proofs.lemmas.List.{take-append-drop}
 use Rattle.hcl_scan.specs.Lexemes.{Lexeme}
-use Rattle.hcl_scan.specs.Kinds.{is_assign, is_dot}
+use Rattle.hcl_scan.specs.Kinds.{is}
 use Rattle.hcl_scan.specs.Scans.{State, Hidden, Leaves, Next, Run, Scans, begin, closer_len, gap_len}
 use Rattle.hcl_scan.specs.Lexemes.{marker_of}
 use Rattle.hcl_scan.specs.declared.token.Kind.{Kind}
-use Rattle.hcl_scan.specs.declared.token.Kind.TheVariants.{HeredocOpen}
+use Rattle.hcl_scan.specs.declared.token.Kind.TheVariants.{HeredocOpen, Assign, Dot}
 use Rattle.hcl_scan.proofs.RunLemmas.{Nonempty}
 use Rattle.hcl_scan.proofs.SpellingLemmas.{nonempty}
 use Rattle.tf_rules.proofs.ItemWeightLemmas.{bit}
@@ -54,16 +54,16 @@ tokens_few text ts s = omega (arith, run_few (begin text) ts s.0 s.1)
 
 abbrev pub Solid : List Lexeme → Type 0
 Solid [] = Unit {0}
-Solid (t ∷ ts) = (bit (is_dot t.kind || is_assign t.kind) ≤ length t.text) × Solid ts
+Solid (t ∷ ts) = (bit (is Dot t.kind || is Assign t.kind) ≤ length t.text) × Solid ts
 
 one_at_most : (b : Bool) → bit b ≤ 1
 one_at_most true = omega arith
 one_at_most false = omega arith
 
-step_solid : (s : State) (t : Lexeme) (next : State) → Next s t next → bit (is_dot t.kind || is_assign t.kind) ≤ length t.text
+step_solid : (s : State) (t : Lexeme) (next : State) → Next s t next → bit (is Dot t.kind || is Assign t.kind) ≤ length t.text
 unfolding Nonempty
-step_solid s t next (inl r) = let some : 0 < length t.text = nonempty s.opens s.after_dot t.kind t.text r.rest r.longest.spelled in omega (arith, one_at_most (is_dot t.kind || is_assign t.kind), some)
-step_solid s t next (inr c) = let none : bit (is_dot t.kind || is_assign t.kind) ≡ 0 = ap (λ k. bit (is_dot k || is_assign k)) c.kind in omega (arith, none)
+step_solid s t next (inl r) = let some : 0 < length t.text = nonempty s.opens s.after_dot t.kind t.text r.rest r.longest.spelled in omega (arith, one_at_most (is Dot t.kind || is Assign t.kind), some)
+step_solid s t next (inr c) = let none : bit (is Dot t.kind || is Assign t.kind) ≡ 0 = ap (λ k. bit (is Dot k || is Assign k)) c.kind in omega (arith, none)
 
 run_solid : (s : State) (ts : List Lexeme) (end : State) → Run s ts end → Solid ts
 run_solid s [] end r = tt

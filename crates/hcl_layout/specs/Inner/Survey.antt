@@ -4,7 +4,7 @@ use Rattle.hcl_scan.specs.Lexemes.{Lexeme}
 use Rattle.hcl_scan.specs.declared.token.Kind.{Kind}
 use Rattle.hcl_scan.specs.declared.token.Kind.TheVariants as kind
 use Rattle.hcl_layout.specs.Lines.{Line, ends_line, lines}
-use Rattle.hcl_scan.specs.Kinds.{is_assign, is_inline_comment, is_line_comment}
+use Rattle.hcl_scan.specs.Kinds.{is}
 use Rattle.hcl_layout.specs.Cells.{assign_cell, is_assignment, is_multiline, is_trailing, running_comment, trailing_comment}
 use Rattle.hcl_syntax.specs.Balanced.{is_closer, is_opener, max_open}
 use Rattle.hcl_syntax.specs.Items.{deepen}
@@ -14,7 +14,7 @@ use Rattle.hcl_layout.specs.declared.line.LineFacts.{LineFacts}
 
 -- a token of the kind changes the depth, or may be or tear a cell
 abbrev pub changes : Kind → Bool
-changes k = is_opener k || is_closer k || is_line_comment k || is_inline_comment k || is_assign k
+changes k = is_opener k || is_closer k || is kind.LineComment k || is kind.InlineComment k || is kind.Assign k
 
 -- a token of the kind changes the depth
 abbrev pub turns : Kind → Bool
@@ -22,7 +22,7 @@ turns k = is_opener k || is_closer k
 
 -- a token of the kind may be or tear a cell
 abbrev pub marks : Kind → Bool
-marks k = is_line_comment k || is_inline_comment k || is_assign k
+marks k = is kind.LineComment k || is kind.InlineComment k || is kind.Assign k
 
 -- these kinds, and those that may end the line, in one list (proofs/NotedKindLemmas)
 abbrev pub is_noted : Kind → Bool

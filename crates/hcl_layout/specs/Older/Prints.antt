@@ -4,7 +4,8 @@ use Rattle.std.specs.Prelude.{◌&&◌, ◌||◌, ℕ, Bool, true, false, not, L
 use Rattle.std.specs.List.{flat_map}
 use Rattle.std.specs.Str.{bytes_eq}
 use Rattle.hcl_scan.specs.Lexemes.{Lexeme}
-use Rattle.hcl_scan.specs.Kinds.{is_brace_close, is_brace_open, is_bracket_open, is_comma, is_dot, is_ellipsis, is_ident, is_lit, is_minus, is_newline, is_not, is_number, is_paren_open, is_quote_close, is_quote_open, is_seq_close}
+use Rattle.hcl_scan.specs.Kinds.{is}
+use Rattle.hcl_scan.specs.declared.token.Kind.TheVariants as kind
 use Rattle.hcl_layout.specs.Lines.{Line, lines}
 use Rattle.hcl_layout.specs.Levels.{levels, net_of}
 use Rattle.hcl_layout.specs.Cells.{assign_cell, running_comment, trailing_comment}
@@ -14,29 +15,29 @@ use Rattle.hcl_spacing.specs.Spacing.{begins_with_equals, closes_group, ends_ope
 
 abbrev pub would_have_joined : Option Lexeme → Lexeme → Lexeme → Bool
 would_have_joined before subject after =
-    (is_dot subject.kind && (is_dot after.kind || is_ellipsis after.kind))
-    || (is_number subject.kind && not (stands_before is_dot before) && is_dot after.kind)
-    || (is_not subject.kind && begins_with_equals after.text)
-    || (opens_sequence subject.kind && is_seq_close after.kind && bytes_eq after.text (codes "~}"))
+    (is kind.Dot subject.kind && (is kind.Dot after.kind || is kind.Ellipsis after.kind))
+    || (is kind.Number subject.kind && not (stands_before (is kind.Dot) before) && is kind.Dot after.kind)
+    || (is kind.Not subject.kind && begins_with_equals after.text)
+    || (opens_sequence subject.kind && is kind.SeqClose after.kind && bytes_eq after.text (codes "~}"))
 
 abbrev pub was_spaced : Option Lexeme → Lexeme → Lexeme → Bool
 was_spaced before subject after =
-    if is_newline after.kind || after.inside_heredoc then false
+    if is kind.Newline after.kind || after.inside_heredoc then false
     else if would_have_joined before subject after then true
-    else if is_ident subject.kind && is_paren_open after.kind then false
-    else if is_dot subject.kind || is_dot after.kind then false
-    else if is_comma after.kind || is_ellipsis after.kind then false
-    else if is_comma subject.kind then true
-    else if is_quote_open subject.kind || is_lit subject.kind || is_lit after.kind || is_quote_close after.kind then false
+    else if is kind.Ident subject.kind && is kind.ParenOpen after.kind then false
+    else if is kind.Dot subject.kind || is kind.Dot after.kind then false
+    else if is kind.Comma after.kind || is kind.Ellipsis after.kind then false
+    else if is kind.Comma subject.kind then true
+    else if is kind.QuoteOpen subject.kind || is kind.Lit subject.kind || is kind.Lit after.kind || is kind.QuoteClose after.kind then false
     else if is_in before subject then true
-    else if is_bracket_open after.kind && ends_operand subject.kind then false
-    else if is_not subject.kind then false
-    else if is_minus subject.kind then not (is_opening before)
-    else if is_brace_open subject.kind && is_brace_close after.kind then false
-    else if is_brace_open subject.kind || is_brace_close after.kind then true
-    else if (opens_sequence subject.kind && is_brace_open after.kind) || (is_brace_close subject.kind && is_seq_close after.kind) then true
-    else if is_seq_close subject.kind && opens_sequence after.kind then false
-    else if is_paren_open subject.kind || is_bracket_open subject.kind || opens_sequence subject.kind then false
+    else if is kind.BracketOpen after.kind && ends_operand subject.kind then false
+    else if is kind.Not subject.kind then false
+    else if is kind.Minus subject.kind then not (is_opening before)
+    else if is kind.BraceOpen subject.kind && is kind.BraceClose after.kind then false
+    else if is kind.BraceOpen subject.kind || is kind.BraceClose after.kind then true
+    else if (opens_sequence subject.kind && is kind.BraceOpen after.kind) || (is kind.BraceClose subject.kind && is kind.SeqClose after.kind) then true
+    else if is kind.SeqClose subject.kind && opens_sequence after.kind then false
+    else if is kind.ParenOpen subject.kind || is kind.BracketOpen subject.kind || opens_sequence subject.kind then false
     else not (closes_group after.kind)
 
 abbrev pub were_gaps_after : Option Lexeme → Lexeme → Line → List ℕ

@@ -4,10 +4,10 @@
 use Rattle.std.specs.Prelude.{◌≡◌, ◌≢◌, ◌+◌, ◌<◌, ◌≤◌, ℕ, Bool, List, [], ◌∷◌, ◌++◌, length, ◌⊎◌}
 use Rattle.hcl_scan.specs.Lexemes.{Lexeme, Opener, in_heredoc, moved, max_open}
 use Rattle.hcl_scan.specs.Spelling.{IsSpelling}
-use Rattle.hcl_scan.specs.Kinds.{is_dot}
+use Rattle.hcl_scan.specs.Kinds.{is}
 use Rattle.hcl_scan.specs.Scans.{State, begin, ahead, gap_len, offsets_of, Leaves, Closes, IsComplete}
 use Rattle.hcl_scan.specs.declared.token.Kind.{Kind}
-use Rattle.hcl_scan.specs.declared.token.Kind.TheVariants.{ColonColon}
+use Rattle.hcl_scan.specs.declared.token.Kind.TheVariants.{ColonColon, Dot}
 
 abbrev pub WasSpelling : List Opener → Bool → Kind → List ℕ → List ℕ → Type 0
 WasSpelling opens after_dot kind text rest = (kind ≢ ColonColon) × IsSpelling opens after_dot kind text rest
@@ -26,7 +26,7 @@ pub record WasRead (s : State) (t : Lexeme) (next : State) : Type 0 where
   pub opens : next.opens ≡ moved t.kind s.opens
   pub offsets : next.offsets ≡ offsets_of t.start s.opens next.opens s.offsets
   pub room : length next.opens ≤ max_open
-  pub after_dot : next.after_dot ≡ is_dot t.kind
+  pub after_dot : next.after_dot ≡ is Dot t.kind
   pub leaves : Leaves t.kind t.text rest s.hidden next.seen next.hidden
 
 abbrev pub WasNext : State → Lexeme → State → Type 0

@@ -9,7 +9,7 @@ use Rattle.hcl_scan.specs.declared.stack.Opener.{Opener}
 use Rattle.hcl_scan.specs.declared.stack.Opener.TheVariants.{Quote, Heredoc, Sequence, Brace, Bracket, Paren}
 use Rattle.hcl_scan.specs.declared.stack.Opened.{Opened}
 use Rattle.hcl_scan.specs.declared.token.Kind.{Kind}
-use Rattle.hcl_scan.specs.declared.token.Kind.TheVariants.{QuoteOpen, HeredocOpen, InterpOpen, ControlOpen, ParenOpen, BracketOpen, BraceOpen}
+use Rattle.hcl_scan.specs.declared.token.Kind.TheVariants.{QuoteOpen, InterpOpen, ControlOpen, ParenOpen, BracketOpen, BraceOpen}
 
 abbrev pub opener_of : Opener → lexemes.Opener
 opener_of Quote = lexemes.Quote
@@ -105,7 +105,3 @@ option_and (Some quoted) o = Some o
 abbrev pub template_top : List Opened → Option Opened
 template_top [] = None
 template_top (o ∷ stack) = option_and (quoted_in (context_in (opener_of o.by))) o
-
-abbrev pub is_heredoc_open : Kind → Bool
-is_heredoc_open HeredocOpen = true
-is_heredoc_open _ = false

@@ -5,7 +5,7 @@ use Rattle.std.specs.Str.{bytes_eq}
 use Rattle.hcl_scan.specs.Lexemes.{Lexeme}
 use Rattle.hcl_scan.specs.declared.token.Kind.{Kind}
 use Rattle.hcl_scan.specs.declared.token.Kind.TheVariants as kind
-use Rattle.hcl_scan.specs.Kinds.{is_brace_close, is_brace_open, is_bracket_open, is_colon_colon, is_comma, is_dot, is_ellipsis, is_ident, is_paren_open, is_seq_close}
+use Rattle.hcl_scan.specs.Kinds.{is}
 use Rattle.hcl_spacing.specs.Spacing.{begins_with_colon, begins_with_equals, closes_group, is_opening, opens_sequence, stands_before}
 
 -- what stands close behind whatever it doesn't join
@@ -20,23 +20,23 @@ stands_close _ = false
 
 -- behind what an index may follow
 abbrev pub space_behind_operand : Kind → Bool
-space_behind_operand r = not (stands_close r || closes_group r || is_bracket_open r)
+space_behind_operand r = not (stands_close r || closes_group r || is kind.BracketOpen r)
 
 -- behind `}`
 abbrev pub space_behind_brace : Kind → Bool
-space_behind_brace r = is_seq_close r || space_behind_operand r
+space_behind_brace r = is kind.SeqClose r || space_behind_operand r
 
 -- behind a number, unless it could join a dot
 abbrev pub space_behind_number : Kind → Option Bool
-space_behind_number r = if is_dot r then None else Some (space_behind_operand r)
+space_behind_number r = if is kind.Dot r then None else Some (space_behind_operand r)
 
 -- behind a name, unless it could be the word `in`
 abbrev pub space_behind_name : Kind → Option Bool
-space_behind_name r = if is_bracket_open r || closes_group r then None else Some (not (stands_close r || is_paren_open r))
+space_behind_name r = if is kind.BracketOpen r || closes_group r then None else Some (not (stands_close r || is kind.ParenOpen r))
 
 -- behind `${` and `%{`, unless they could join the `~` of the closer
 abbrev pub space_in_sequence : Kind → Option Bool
-space_in_sequence r = if is_seq_close r then None else Some (is_brace_open r || is_brace_close r)
+space_in_sequence r = if is kind.SeqClose r then None else Some (is kind.BraceOpen r || is kind.BraceClose r)
 
 -- the answer, where the two kinds give it, the second no Newline and outside heredocs
 abbrev pub pair_space : Kind → Kind → Option Bool
@@ -46,11 +46,11 @@ pair_space kind.Colon r = None
 pair_space kind.ColonColon r = Some false
 pair_space kind.QuoteOpen r = Some false
 pair_space kind.Lit r = Some false
-pair_space kind.Dot r = Some (is_dot r || is_ellipsis r)
-pair_space kind.Comma r = Some (not (is_dot r || is_colon_colon r || is_comma r || is_ellipsis r))
-pair_space kind.ParenOpen r = Some (is_brace_close r)
-pair_space kind.BracketOpen r = Some (is_brace_close r)
-pair_space kind.BraceOpen r = Some (not (stands_close r || is_brace_close r))
+pair_space kind.Dot r = Some (is kind.Dot r || is kind.Ellipsis r)
+pair_space kind.Comma r = Some (not (is kind.Dot r || is kind.ColonColon r || is kind.Comma r || is kind.Ellipsis r))
+pair_space kind.ParenOpen r = Some (is kind.BraceClose r)
+pair_space kind.BracketOpen r = Some (is kind.BraceClose r)
+pair_space kind.BraceOpen r = Some (not (stands_close r || is kind.BraceClose r))
 pair_space kind.InterpOpen r = space_in_sequence r
 pair_space kind.ControlOpen r = space_in_sequence r
 pair_space kind.SeqClose r = Some (not (stands_close r || closes_group r || opens_sequence r))
@@ -75,4 +75,4 @@ asked _ r equals colon tilde word name dot opening = tilde
 
 abbrev pub asked_space : Option Lexeme → Lexeme → Lexeme → Bool
 asked_space before subject after =
-    asked subject.kind after.kind (begins_with_equals after.text) (begins_with_colon after.text) (bytes_eq after.text (codes "~}")) (bytes_eq subject.text (codes "in")) (stands_before is_ident before) (stands_before is_dot before) (is_opening before)
+    asked subject.kind after.kind (begins_with_equals after.text) (begins_with_colon after.text) (bytes_eq after.text (codes "~}")) (bytes_eq subject.text (codes "in")) (stands_before (is kind.Ident) before) (stands_before (is kind.Dot) before) (is_opening before)

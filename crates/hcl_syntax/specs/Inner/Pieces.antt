@@ -1,11 +1,13 @@
 -- Pieces of items by token numbers, as the code finds them.
 use Rattle.std.specs.Prelude.{◌≡◌, ◌<◌, ◌≤◌, ℕ, ◌+◌, ◌-◌, ◌&&◌, List, [], ◌∷◌, drop, take, length, get_or, reverse, ◌==◌, if◌then◌else◌}
+use Rattle.hcl_scan.specs.Kinds.{is}
+use Rattle.hcl_scan.specs.declared.token.Kind.TheVariants as kind
 use Rattle.hcl_scan.specs.Lexemes.{Lexeme}
 use Rattle.hcl_scan.specs.declared.token.Kind.{Kind}
 use Rattle.hcl_syntax.specs.Balanced.{opening, closing}
 use Rattle.hcl_syntax.specs.declared.nesting.Nesting.{Nesting}
 use Rattle.hcl_syntax.specs.declared.nesting.Nesting.TheVariants as nesting
-use Rattle.hcl_syntax.specs.Numbered.{Numbered, numbered_from, uncommented, is_newline}
+use Rattle.hcl_syntax.specs.Numbered.{Numbered, numbered_from, uncommented}
 use Rattle.hcl_syntax.specs.Items.{deepen, is_closed, items}
 use Rattle.hcl_syntax.specs.declared.item.Item.{Item}
 use Rattle.hcl_syntax.specs.declared.words.NumberedKind.{NumberedKind}
@@ -27,14 +29,14 @@ pub record IsFirst (tokens : List Lexeme) (from to : ℕ) (word : NumberedKind) 
 
 -- what a token means to the search for newlines
 abbrev pub nesting_of : Kind → Nesting
-nesting_of k = if is_newline k then nesting.Newline else if opening k == 1 then nesting.Opens else if closing k == 1 then nesting.Closes else nesting.Passes
+nesting_of k = if is kind.Newline k then nesting.Newline else if opening k == 1 then nesting.Opens else if closing k == 1 then nesting.Closes else nesting.Passes
 
 -- how many tokens stand before the first newline outside all openers, where so many are open
 abbrev pub first_len : ℕ → List Lexeme → ℕ
 first_len depth [] = 0
 first_len depth (t ∷ ts) =
     let rest = first_len (deepen depth t.kind) ts in
-    if is_newline t.kind && is_closed depth then 0 else rest + 1
+    if is kind.Newline t.kind && is_closed depth then 0 else rest + 1
 
 -- the number of the first newline, from a number on, outside all openers, where so many are open; or how many tokens there are
 abbrev pub newline_from : List Lexeme → ℕ → ℕ → ℕ

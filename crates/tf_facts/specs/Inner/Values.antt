@@ -1,7 +1,9 @@
 -- The values of attributes, as the code finds them.
 use Rattle.std.specs.Prelude.{◌≡◌, ◌<◌, ◌+◌, ◌-◌, ◌&&◌, ℕ, Bool, not, List, ◌∷◌, Option, Some, None, drop, filter, take}
+use Rattle.hcl_scan.specs.Kinds.{is}
+use Rattle.hcl_scan.specs.declared.token.Kind.TheVariants.{Newline}
 use Rattle.hcl_scan.specs.Lexemes.{Lexeme}
-use Rattle.hcl_syntax.specs.Numbered.{Numbered, is_comment, is_newline, numbered}
+use Rattle.hcl_syntax.specs.Numbered.{Numbered, is_comment, numbered}
 use Rattle.hcl_syntax.specs.declared.item.Item.{Item}
 use Rattle.hcl_syntax.specs.declared.item.Item.TheVariants as item
 use Rattle.tf_facts.specs.Declarations.{Attribute, PlainText}
@@ -11,7 +13,7 @@ use Rattle.tf_facts.specs.declared.value.Plain.{Plain}
 use Rattle.tf_facts.specs.declared.seen.Seen.{Seen}
 
 abbrev pub in_value : Numbered → Bool
-in_value t = not (is_comment t.kind) && not (is_newline t.kind)
+in_value t = not (is_comment t.kind) && not (is Newline t.kind)
 
 -- the tokens from a number on to before another, without comments and newlines
 abbrev pub values : List Lexeme → ℕ → ℕ → List Numbered
