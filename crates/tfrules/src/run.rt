@@ -8,6 +8,7 @@ ghost use Rattle.tfrules.specs.Line.{options_of};
 ghost use Rattle.tfrules.specs.Report.{report_row, status};
 ghost use Rattle.tfrules.specs.Rows.{IsRow};
 ghost use Rattle.tfrules.specs.Asked.{asking_of};
+ghost use Rattle.tf_rules.specs.Kept.{nothing};
 ghost use Rattle.tfrules.specs.Inner.Steps.{stop_row, usage_row, usage_text};
 
 use crate::gather::gather;
@@ -109,6 +110,32 @@ fn show<O: ByteSink, E: ByteSink>(
     linter().finish(out, err, status)
 }
 
+/// Runs over facts of no file yet.
+fn run_over<M: ModuleFiles, O: ByteSink, E: ByteSink>(
+    alloc: Global,
+    facts: &mut Facts,
+    options: &LintOptions<'_>,
+    files: &mut M,
+    out: &mut O,
+    err: &mut E,
+) -> u8
+    requires empty { facts.old ≡ nothing }
+    requires opened { M.open_failed files.old ≡ false }
+    requires read { M.read_failed files.old ≡ false }
+    requires out { O.failed out.old ≡ false }
+    requires err { E.failed err.old ≡ false }
+    ensures { ShowsOne linter (IsRow (M.told files.old) (Ok (asking_of options.now)) (M.open_failed files.new) (M.read_failed files.new))
+        (record { out = writer O.taken O.failed O.flushed out.old out.new; err = writer E.taken E.failed E.flushed err.old err.new; status = result }) }
+{
+    if let Err(stopped) = gather(alloc, &options.files, files, facts) {
+        return refuse(alloc, out, err, stopped.name, stopped.why);
+    }
+    match facts.issues(&options.settings) {
+        Ok(issues) => show(options, issues.as_slice(), out, err),
+        Err(_) => linter().tell_out_of_memory(out, err),
+    }
+}
+
 /// Reads the files that are named, in their order and each once, and lints them: writes the report of their issues to
 /// standard output, or why one of them is refused to standard error, and gives the exit status. No file is opened behind one
 /// that is refused.
@@ -130,13 +157,7 @@ pub fn run<M: ModuleFiles, O: ByteSink, E: ByteSink>(
     let Ok(mut facts) = Facts::new(alloc) else {
         return linter().tell_out_of_memory(out, err);
     };
-    if let Err(stopped) = gather(alloc, &options.files, files, &mut facts) {
-        return refuse(alloc, out, err, stopped.name, stopped.why);
-    }
-    match facts.issues(&options.settings) {
-        Ok(issues) => show(options, issues.as_slice(), out, err),
-        Err(_) => linter().tell_out_of_memory(out, err),
-    }
+    run_over(alloc, &mut facts, options, files, out, err)
 }
 
 /// Says what the lines of this program are. It opens nothing.
