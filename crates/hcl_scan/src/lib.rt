@@ -8,25 +8,17 @@
 mod comment;
 mod entries;
 mod expression;
-#[cfg(test)]
-mod expression_tests;
 mod heredoc;
 mod ident;
 pub mod laws;
 mod literal;
 mod number;
-#[cfg(test)]
-mod pair_tests;
 mod punctuation;
 mod scanner;
 mod stack;
 mod template;
-#[cfg(test)]
-mod tests;
 mod text;
 mod token;
-#[cfg(test)]
-mod token_tests;
 mod tokens;
 
 pub use hcl_source::{

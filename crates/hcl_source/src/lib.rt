@@ -6,16 +6,10 @@
 #![tactic(auto)]
 
 mod device;
-#[cfg(test)]
-mod device_tests;
 mod fault;
 pub mod laws;
 mod memory;
-#[cfg(test)]
-mod memory_tests;
 mod source;
-#[cfg(test)]
-mod tests;
 
 pub use device::{ByteSink, ByteSource, Failed, FromRead, ToWrite, WriteFault, write_fully};
 pub use fault::{Fault, FaultKind, LoadError, Position};

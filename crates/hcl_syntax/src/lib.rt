@@ -16,15 +16,11 @@ mod item_list;
 mod label;
 pub mod laws;
 mod nesting;
-#[cfg(test)]
-mod outline_tests;
 mod outlining;
 mod piece_end;
 mod pieces;
 mod refusal;
 mod template;
-#[cfg(test)]
-mod tests;
 mod words;
 
 pub use accepted::{Accepted, accepts};

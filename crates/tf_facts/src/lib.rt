@@ -18,16 +18,12 @@ mod module_source;
 mod names;
 mod own_block;
 mod owners;
-#[cfg(test)]
-mod part_tests;
 mod pattern;
 mod plain_text;
 mod reference;
 mod references;
 mod rule;
 mod rule_set;
-#[cfg(test)]
-mod rule_tests;
 mod seen;
 mod silencing;
 mod source;

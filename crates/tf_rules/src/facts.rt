@@ -10,9 +10,6 @@ ghost use Rattle.tf_rules.specs.Kept.{issue_at, kept_of, nothing, with_file};
 ghost use Rattle.tf_facts.specs.RuleSets.{holds};
 ghost use Rattle.tf_rules.specs.Inner.Entries.{issues_of};
 
-#[cfg(test)]
-mod facts_tests;
-
 use crate::entry::Entry;
 use crate::findings::{put_comments, put_declarations, put_places};
 use crate::issue::Issue;

@@ -9,16 +9,12 @@ mod facts;
 mod finding;
 mod findings;
 mod issue;
-#[cfg(test)]
-mod issue_tests;
 mod keeping;
 mod kept;
 mod kept_file;
 pub mod laws;
 mod naming;
 mod order;
-#[cfg(test)]
-mod part_tests;
 mod placer;
 mod settings;
 mod silenced;

@@ -1,7 +1,8 @@
 //! Texts, and their tokens or their fault. The expected values were worked out apart from this code.
 
-use crate::{ScanError, Source, scan};
+use hcl_scan::{ScanError, Source, scan};
 use std::alloc::{AllocError, Global};
+use std::process::Abort;
 use std::test::Fail;
 
 /// The tokens of a text by kind and place, those inside heredocs with a `!`, or its fault.
@@ -43,19 +44,20 @@ fn nested(alloc: Global, opener: &str, count: usize, rest: &str) -> Result<Strin
     Ok(text)
 }
 
-/// Literal text, sequences and escapes.
+/// That each text has these tokens, or this fault.
+fn has_tokens(rt: &impl Abort, alloc: Global, rows: &[(&str, &str)]) -> Result<(), Fail> {
+    for (text, wanted) in rows {
+        let given = shown(alloc, *text)?;
+        assert_eq!(rt; given.as_str(), *wanted, "at {text:?}");
+    }
+    Ok(())
+}
+
+/// Literal text and escapes.
 #[test]
-fn templates(rt: HostRuntime) -> Result<(), Fail> {
+fn literals(rt: HostRuntime) -> Result<(), Fail> {
     let rows = [
         ("\"$$${a}\"", "QuoteOpen 0-1 Lit 1-7 QuoteClose 7-8"),
-        (
-            "\"${\"${x}\"}\"",
-            "QuoteOpen 0-1 InterpOpen 1-3 QuoteOpen 3-4 InterpOpen 4-6 Ident 6-7 SeqClose 7-8 QuoteClose 8-9 SeqClose 9-10 QuoteClose 10-11",
-        ),
-        (
-            "\"${~x~}\"",
-            "QuoteOpen 0-1 InterpOpen 1-4 Ident 4-5 SeqClose 5-7 QuoteClose 7-8",
-        ),
         ("\"$\"", "QuoteOpen 0-1 Lit 1-2 QuoteClose 2-3"),
         ("\"%\"", "QuoteOpen 0-1 Lit 1-2 QuoteClose 2-3"),
         ("\"$${\"", "QuoteOpen 0-1 Lit 1-4 QuoteClose 4-5"),
@@ -65,6 +67,22 @@ fn templates(rt: HostRuntime) -> Result<(), Fail> {
         (
             "\"\\u1234\\U0001F600\\n\"",
             "QuoteOpen 0-1 Lit 1-19 QuoteClose 19-20",
+        ),
+    ];
+    has_tokens(&rt, rt.alloc(), &rows)
+}
+
+/// Sequences in a quote.
+#[test]
+fn sequences(rt: HostRuntime) -> Result<(), Fail> {
+    let rows = [
+        (
+            "\"${\"${x}\"}\"",
+            "QuoteOpen 0-1 InterpOpen 1-3 QuoteOpen 3-4 InterpOpen 4-6 Ident 6-7 SeqClose 7-8 QuoteClose 8-9 SeqClose 9-10 QuoteClose 10-11",
+        ),
+        (
+            "\"${~x~}\"",
+            "QuoteOpen 0-1 InterpOpen 1-4 Ident 4-5 SeqClose 5-7 QuoteClose 7-8",
         ),
         (
             "\"é${é}é\"",
@@ -83,11 +101,7 @@ fn templates(rt: HostRuntime) -> Result<(), Fail> {
             "QuoteOpen 0-1 InterpOpen 1-3 ParenOpen 3-4 SeqClose 4-5 QuoteClose 5-6",
         ),
     ];
-    for (text, tokens) in rows {
-        let line = shown(rt.alloc(), text)?;
-        assert_eq!(rt; line.as_str(), tokens);
-    }
-    Ok(())
+    has_tokens(&rt, rt.alloc(), &rows)
 }
 
 /// Heredocs: marker lines, blanks and nesting.
@@ -126,11 +140,7 @@ fn heredocs(rt: HostRuntime) -> Result<(), Fail> {
         ),
         ("<<é\né\n", "HeredocOpen 0-5 !HeredocClose 5-7 Newline 7-8"),
     ];
-    for (text, tokens) in rows {
-        let line = shown(rt.alloc(), text)?;
-        assert_eq!(rt; line.as_str(), tokens);
-    }
-    Ok(())
+    has_tokens(&rt, rt.alloc(), &rows)
 }
 
 /// What closes, and what does not.
@@ -150,11 +160,7 @@ fn closers(rt: HostRuntime) -> Result<(), Fail> {
         ("(})", "ParenOpen 0-1 BraceClose 1-2 ParenClose 2-3"),
         ("{[}", "BraceOpen 0-1 BracketOpen 1-2 BraceClose 2-3"),
     ];
-    for (text, tokens) in rows {
-        let line = shown(rt.alloc(), text)?;
-        assert_eq!(rt; line.as_str(), tokens);
-    }
-    Ok(())
+    has_tokens(&rt, rt.alloc(), &rows)
 }
 
 /// The fault of a text, and where it stands.
@@ -180,11 +186,7 @@ fn faults(rt: HostRuntime) -> Result<(), Fail> {
         ("\"${a", "UnterminatedTemplate at 1:2"),
         ("\"${\"b", "UnterminatedQuote at 1:4"),
     ];
-    for (text, tokens) in rows {
-        let line = shown(rt.alloc(), text)?;
-        assert_eq!(rt; line.as_str(), tokens);
-    }
-    Ok(())
+    has_tokens(&rt, rt.alloc(), &rows)
 }
 
 /// The opener past 256 open ones, also where it has no marker line.
@@ -242,11 +244,7 @@ fn comments_and_numbers(rt: HostRuntime) -> Result<(), Fail> {
         ("1.5.2", "Number 0-3 Dot 3-4 Number 4-5"),
         ("1e5.0", "Number 0-3 Dot 3-4 Number 4-5"),
     ];
-    for (text, wanted) in rows {
-        let given = shown(rt.alloc(), text)?;
-        assert_eq!(rt; given.as_str(), wanted, "at {text:?}");
-    }
-    Ok(())
+    has_tokens(&rt, rt.alloc(), &rows)
 }
 
 /// Long tokens, which are kept apart from others, with short ones between them.

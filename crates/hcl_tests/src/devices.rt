@@ -1,7 +1,7 @@
 //! Devices over readers and writers of std's that fail once and then work. No contract sees how
 //! often a device calls what it stands on.
 
-use crate::{
+use hcl_source::{
     ByteSink, ByteSource, Failed, FromRead, LoadError, Source, ToWrite, WriteFault, write_fully,
 };
 use std::io;

@@ -1,6 +1,6 @@
 //! Devices in memory, compared with answers worked out by hand.
 
-use crate::{
+use hcl_source::{
     ByteSink, ByteSource, Failed, LoadError, MemorySink, MemorySource, SINK_ROOM, Source,
     WriteFault, write_fully,
 };

@@ -1,7 +1,7 @@
 //! The outlines of small files, worked out by hand, and the texts of their labels.
 
-use crate::{Accepted, Item, Label, Outline, accepts, label_text, outline};
 use hcl_scan::{Source, scan};
+use hcl_syntax::{Accepted, Item, Label, Outline, accepts, label_text, outline};
 use std::alloc::{AllocError, Global};
 use std::process::Abort;
 use std::test::Fail;

@@ -1,6 +1,6 @@
 //! Calls with ample memory, compared with answers worked out by hand.
 
-use crate::{FaultKind, Kind, Position, ScanError, Source, scan};
+use hcl_scan::{FaultKind, Kind, Position, ScanError, Source, scan};
 use std::process::Abort;
 use std::test::Fail;
 

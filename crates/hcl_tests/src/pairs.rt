@@ -1,7 +1,7 @@
 //! Each mark beside each mark: which tokens a text of two of them is. The answers were worked out
 //! from the table of marks by the longest match, apart from this code.
 
-use crate::{ScanError, Source, Tokens, scan};
+use hcl_scan::{ScanError, Source, Tokens, scan};
 use std::alloc::{AllocError, Global};
 use std::test::Fail;
 

@@ -1,6 +1,6 @@
 //! Calls with ample memory, compared with answers worked out by hand.
 
-use crate::{
+use hcl_source::{
     ByteSink, ByteSource, FaultKind, FromRead, LoadError, MAX_SOURCE, Position, Source, ToWrite,
     line_start, write_fully,
 };

@@ -1,7 +1,7 @@
 //! Small files, and texts that are none with the fault that they have, worked out by hand or by another program.
 
-use crate::accepts;
 use hcl_scan::{Fault, FaultKind, Position, Source, scan};
+use hcl_syntax::accepts;
 use std::alloc::Global;
 use std::process::Abort;
 use std::test::Fail;
@@ -36,31 +36,48 @@ fn refuses(
     Ok(())
 }
 
-#[test]
-fn takes_files(rt: HostRuntime) -> Result<(), Fail> {
-    for text in ["", "\n\na=1\n", "a = 1", "a = 1 # x\n/* y */ b = 2 // z\n"] {
-        takes(&rt, rt.alloc(), text)?;
+/// That each text is a file.
+fn takes_all(rt: &impl Abort, alloc: Global, texts: &[&str]) -> Result<(), Fail> {
+    for text in texts {
+        takes(rt, alloc, *text)?;
+    }
+    Ok(())
+}
+
+/// That each text is none, for a fault of this kind at this line and column.
+fn refuses_all(
+    rt: &impl Abort,
+    alloc: Global,
+    kind: FaultKind,
+    rows: &[(&str, u32, u32)],
+) -> Result<(), Fail> {
+    for (text, line, column) in rows {
+        refuses(rt, alloc, *text, kind, *line, *column)?;
     }
     Ok(())
 }
 
 #[test]
+fn takes_files(rt: HostRuntime) -> Result<(), Fail> {
+    let texts = ["", "\n\na=1\n", "a = 1", "a = 1 # x\n/* y */ b = 2 // z\n"];
+    takes_all(&rt, rt.alloc(), &texts)
+}
+
+#[test]
 fn takes_blocks(rt: HostRuntime) -> Result<(), Fail> {
-    for text in [
+    let texts = [
         "b {\n}\n",
         "b {}\n",
         "b {}",
         "b { c = 1 }\n",
         "b \"x\" c \"\" \"y\" {\n  d = 1\n\n  e {\n    f {}\n  }\n}\n",
-    ] {
-        takes(&rt, rt.alloc(), text)?;
-    }
-    Ok(())
+    ];
+    takes_all(&rt, rt.alloc(), &texts)
 }
 
 #[test]
 fn takes_operands(rt: HostRuntime) -> Result<(), Fail> {
-    for text in [
+    let texts = [
         "a = -!-b\n",
         "a = 1.5e3\n",
         "a = \"x\"\n",
@@ -70,15 +87,13 @@ fn takes_operands(rt: HostRuntime) -> Result<(), Fail> {
         "a = []\n",
         "a = {}\n",
         "a = b /* c */ + /* d */ e\n",
-    ] {
-        takes(&rt, rt.alloc(), text)?;
-    }
-    Ok(())
+    ];
+    takes_all(&rt, rt.alloc(), &texts)
 }
 
 #[test]
 fn takes_follows(rt: HostRuntime) -> Result<(), Fail> {
-    for text in [
+    let texts = [
         "a = b.c.0.*.d\n",
         "a = b[*].c.0\n",
         "a = b[0][c][*]\n",
@@ -88,15 +103,13 @@ fn takes_follows(rt: HostRuntime) -> Result<(), Fail> {
         "a = [b\n(c)]\n",
         "a = l . 0 . 1\n",
         "a = b.1.5\n",
-    ] {
-        takes(&rt, rt.alloc(), text)?;
-    }
-    Ok(())
+    ];
+    takes_all(&rt, rt.alloc(), &texts)
 }
 
 #[test]
 fn takes_calls(rt: HostRuntime) -> Result<(), Fail> {
-    for text in [
+    let texts = [
         "a = f()\n",
         "a = f(b, c,)\n",
         "a = f(\n  b,\n  c...\n)\n",
@@ -105,43 +118,37 @@ fn takes_calls(rt: HostRuntime) -> Result<(), Fail> {
         "a = p :: x::f(b)[0].c\n",
         "a = [\n  p\n  ::\n  f\n  (b)\n]\n",
         "a = b ? p::f(1) : p::g(2)\n",
-    ] {
-        takes(&rt, rt.alloc(), text)?;
-    }
-    Ok(())
+    ];
+    takes_all(&rt, rt.alloc(), &texts)
 }
 
 #[test]
 fn takes_tuples(rt: HostRuntime) -> Result<(), Fail> {
-    for text in [
+    let texts = [
         "a = [b]\n",
         "a = [\n  b,\n  c,\n]\n",
         "a = [for b in c : d]\n",
         "a = [for b, c in d : e if f]\n",
         "a = [[b], [c]]\n",
-    ] {
-        takes(&rt, rt.alloc(), text)?;
-    }
-    Ok(())
+    ];
+    takes_all(&rt, rt.alloc(), &texts)
 }
 
 #[test]
 fn takes_objects(rt: HostRuntime) -> Result<(), Fail> {
-    for text in [
+    let texts = [
         "a = {\n\n  b = c\n  \"d\" : e, f = g,\n  (h) = i\n}\n",
         "a = { b : 1 }\n",
         "a = {for b in c : d => e}\n",
         "a = {\n  for b, c in d : e => f...\n  if g\n}\n",
         "a = { if = in, b = for }\n",
-    ] {
-        takes(&rt, rt.alloc(), text)?;
-    }
-    Ok(())
+    ];
+    takes_all(&rt, rt.alloc(), &texts)
 }
 
 #[test]
 fn takes_templates(rt: HostRuntime) -> Result<(), Fail> {
-    for text in [
+    let texts = [
         "a = \"\"\n",
         "a = \"x${b}y${\"z\"}\"\n",
         "a = \"%{ if b }x${c}%{ else }y%{ endif }\"\n",
@@ -152,30 +159,19 @@ fn takes_templates(rt: HostRuntime) -> Result<(), Fail> {
         "a = \"%{\nif b\n}x%{\nendif\n}\"\n",
         "a = \"%{if b}%{else}%{if c}%{endif}${d}%{endif}\"\n",
         "a = \"%{for b in c}x${b}%{endfor}\"\n",
-    ] {
-        takes(&rt, rt.alloc(), text)?;
-    }
-    Ok(())
+    ];
+    takes_all(&rt, rt.alloc(), &texts)
 }
 
 #[test]
 fn refuses_files(rt: HostRuntime) -> Result<(), Fail> {
-    for (text, line, column) in [("=\n", 1, 1), ("a = 1\n}\n", 2, 1), ("\"x\"\n", 1, 1)] {
-        refuses(
-            &rt,
-            rt.alloc(),
-            text,
-            FaultKind::UnexpectedToken,
-            line,
-            column,
-        )?;
-    }
-    Ok(())
+    let rows = [("=\n", 1, 1), ("a = 1\n}\n", 2, 1), ("\"x\"\n", 1, 1)];
+    refuses_all(&rt, rt.alloc(), FaultKind::UnexpectedToken, &rows)
 }
 
 #[test]
 fn refuses_attributes(rt: HostRuntime) -> Result<(), Fail> {
-    for (text, line, column) in [
+    let rows = [
         ("a\n", 1, 2),
         ("a b\n", 1, 4),
         ("a = 1 2\n", 1, 7),
@@ -183,32 +179,15 @@ fn refuses_attributes(rt: HostRuntime) -> Result<(), Fail> {
         ("a =\n", 1, 4),
         ("a = # x\n", 1, 8),
         ("a = 1 }\n", 1, 7),
-    ] {
-        refuses(
-            &rt,
-            rt.alloc(),
-            text,
-            FaultKind::UnexpectedToken,
-            line,
-            column,
-        )?;
-    }
-    for (text, line, column) in [("a =", 1, 4)] {
-        refuses(
-            &rt,
-            rt.alloc(),
-            text,
-            FaultKind::UnexpectedEnd,
-            line,
-            column,
-        )?;
-    }
-    Ok(())
+    ];
+    refuses_all(&rt, rt.alloc(), FaultKind::UnexpectedToken, &rows)?;
+    let ends = [("a =", 1, 4)];
+    refuses_all(&rt, rt.alloc(), FaultKind::UnexpectedEnd, &ends)
 }
 
 #[test]
 fn refuses_blocks(rt: HostRuntime) -> Result<(), Fail> {
-    for (text, line, column) in [
+    let rows = [
         ("b \"x\" = 1\n", 1, 7),
         ("b \"${x}\" {}\n", 1, 4),
         ("b { c = 1 d = 2 }\n", 1, 11),
@@ -219,64 +198,30 @@ fn refuses_blocks(rt: HostRuntime) -> Result<(), Fail> {
         ("b {} c = 1\n", 1, 6),
         ("b {\n  c = 1 }\n", 2, 9),
         ("b { c = 1\n}\n", 1, 10),
-    ] {
-        refuses(
-            &rt,
-            rt.alloc(),
-            text,
-            FaultKind::UnexpectedToken,
-            line,
-            column,
-        )?;
-    }
-    for (text, line, column) in [("b {", 1, 4), ("a {", 1, 4)] {
-        refuses(
-            &rt,
-            rt.alloc(),
-            text,
-            FaultKind::UnexpectedEnd,
-            line,
-            column,
-        )?;
-    }
-    Ok(())
+    ];
+    refuses_all(&rt, rt.alloc(), FaultKind::UnexpectedToken, &rows)?;
+    let ends = [("b {", 1, 4), ("a {", 1, 4)];
+    refuses_all(&rt, rt.alloc(), FaultKind::UnexpectedEnd, &ends)
 }
 
 #[test]
 fn refuses_operands(rt: HostRuntime) -> Result<(), Fail> {
-    for (text, line, column) in [
+    let rows = [
         ("a = *\n", 1, 5),
         ("a = (b c)\n", 1, 8),
         ("a = )\n", 1, 5),
         ("a = - \n", 1, 7),
         ("a = b\n+ c\n", 2, 1),
         ("a = if\n== c\n", 2, 1),
-    ] {
-        refuses(
-            &rt,
-            rt.alloc(),
-            text,
-            FaultKind::UnexpectedToken,
-            line,
-            column,
-        )?;
-    }
-    for (text, line, column) in [("a = (b\n", 2, 1)] {
-        refuses(
-            &rt,
-            rt.alloc(),
-            text,
-            FaultKind::UnexpectedEnd,
-            line,
-            column,
-        )?;
-    }
-    Ok(())
+    ];
+    refuses_all(&rt, rt.alloc(), FaultKind::UnexpectedToken, &rows)?;
+    let ends = [("a = (b\n", 2, 1)];
+    refuses_all(&rt, rt.alloc(), FaultKind::UnexpectedEnd, &ends)
 }
 
 #[test]
 fn refuses_follows(rt: HostRuntime) -> Result<(), Fail> {
-    for (text, line, column) in [
+    let rows = [
         ("a = b.\n", 1, 7),
         ("a = b.\"c\"\n", 1, 7),
         ("a = b[]\n", 1, 7),
@@ -286,44 +231,26 @@ fn refuses_follows(rt: HostRuntime) -> Result<(), Fail> {
         ("a = b ? c , d\n", 1, 11),
         ("a = b ! c\n", 1, 7),
         ("a = b => c\n", 1, 7),
-    ] {
-        refuses(
-            &rt,
-            rt.alloc(),
-            text,
-            FaultKind::UnexpectedToken,
-            line,
-            column,
-        )?;
-    }
-    Ok(())
+    ];
+    refuses_all(&rt, rt.alloc(), FaultKind::UnexpectedToken, &rows)
 }
 
 #[test]
 fn refuses_calls(rt: HostRuntime) -> Result<(), Fail> {
-    for (text, line, column) in [
+    let rows = [
         ("a = f(,)\n", 1, 7),
         ("a = f(b,,c)\n", 1, 9),
         ("a = f(b c)\n", 1, 9),
         ("a = f(b... , c)\n", 1, 12),
         ("a = f(b..., )\n", 1, 11),
         ("a = f(...)\n", 1, 7),
-    ] {
-        refuses(
-            &rt,
-            rt.alloc(),
-            text,
-            FaultKind::UnexpectedToken,
-            line,
-            column,
-        )?;
-    }
-    Ok(())
+    ];
+    refuses_all(&rt, rt.alloc(), FaultKind::UnexpectedToken, &rows)
 }
 
 #[test]
 fn refuses_paths(rt: HostRuntime) -> Result<(), Fail> {
-    for (text, line, column) in [
+    let rows = [
         ("a=b::c\n", 1, 7),
         ("a=b::c.d\n", 1, 7),
         ("a=b::c[0]\n", 1, 7),
@@ -337,32 +264,15 @@ fn refuses_paths(rt: HostRuntime) -> Result<(), Fail> {
         ("a={b::c=1}\n", 1, 8),
         ("a={b::1}\n", 1, 7),
         ("a::b=1\n", 1, 2),
-    ] {
-        refuses(
-            &rt,
-            rt.alloc(),
-            text,
-            FaultKind::UnexpectedToken,
-            line,
-            column,
-        )?;
-    }
-    for (text, line, column) in [("a=b::", 1, 6), ("a=b::c", 1, 7)] {
-        refuses(
-            &rt,
-            rt.alloc(),
-            text,
-            FaultKind::UnexpectedEnd,
-            line,
-            column,
-        )?;
-    }
-    Ok(())
+    ];
+    refuses_all(&rt, rt.alloc(), FaultKind::UnexpectedToken, &rows)?;
+    let ends = [("a=b::", 1, 6), ("a=b::c", 1, 7)];
+    refuses_all(&rt, rt.alloc(), FaultKind::UnexpectedEnd, &ends)
 }
 
 #[test]
 fn refuses_tuples(rt: HostRuntime) -> Result<(), Fail> {
-    for (text, line, column) in [
+    let rows = [
         ("a = [b,,]\n", 1, 8),
         ("a = [,]\n", 1, 6),
         ("a = [b c]\n", 1, 8),
@@ -374,22 +284,13 @@ fn refuses_tuples(rt: HostRuntime) -> Result<(), Fail> {
         ("a = [for b in c : d unless e]\n", 1, 21),
         ("a = [for b in c : d => e]\n", 1, 21),
         ("a = [b : c]\n", 1, 8),
-    ] {
-        refuses(
-            &rt,
-            rt.alloc(),
-            text,
-            FaultKind::UnexpectedToken,
-            line,
-            column,
-        )?;
-    }
-    Ok(())
+    ];
+    refuses_all(&rt, rt.alloc(), FaultKind::UnexpectedToken, &rows)
 }
 
 #[test]
 fn refuses_objects(rt: HostRuntime) -> Result<(), Fail> {
-    for (text, line, column) in [
+    let rows = [
         ("a = { b }\n", 1, 9),
         ("a = { b\n = c }\n", 1, 8),
         ("a = { b =\n c }\n", 1, 10),
@@ -402,22 +303,13 @@ fn refuses_objects(rt: HostRuntime) -> Result<(), Fail> {
         ("a = {for b in c : d => e... f}\n", 1, 29),
         ("a = {for b in c : d => e if f g}\n", 1, 31),
         ("a = { b = c...\n}\n", 1, 12),
-    ] {
-        refuses(
-            &rt,
-            rt.alloc(),
-            text,
-            FaultKind::UnexpectedToken,
-            line,
-            column,
-        )?;
-    }
-    Ok(())
+    ];
+    refuses_all(&rt, rt.alloc(), FaultKind::UnexpectedToken, &rows)
 }
 
 #[test]
 fn refuses_templates(rt: HostRuntime) -> Result<(), Fail> {
-    for (text, line, column) in [
+    let rows = [
         ("a = \"${}\"\n", 1, 8),
         ("a = \"${b c}\"\n", 1, 10),
         ("a = \"%{ x }\"\n", 1, 9),
@@ -436,17 +328,8 @@ fn refuses_templates(rt: HostRuntime) -> Result<(), Fail> {
         ("a = \"%{ if b }%{ endif b }\"\n", 1, 24),
         ("a = <<E\n%{ if b }\nE\n", 3, 1),
         ("a = <<E\n${a. 0.1}\nE\n", 2, 6),
-    ] {
-        refuses(
-            &rt,
-            rt.alloc(),
-            text,
-            FaultKind::UnexpectedToken,
-            line,
-            column,
-        )?;
-    }
-    Ok(())
+    ];
+    refuses_all(&rt, rt.alloc(), FaultKind::UnexpectedToken, &rows)
 }
 
 /// `front`, then so many times `part`, then `middle`, then as many times `back`, and the end of the line.

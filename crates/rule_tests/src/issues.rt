@@ -1,11 +1,11 @@
 //! What is reported of small modules, worked out by hand.
 
-use crate::{Facts, Issue, Naming, Rule, RuleSet, Settings};
 use hcl_scan::{Source, scan};
 use hcl_syntax::accepts;
 use std::alloc::Global;
 use std::process::Abort;
 use std::test::Fail;
+use tf_rules::{Facts, Issue, Naming, Rule, RuleSet, Settings};
 
 /// These rules with names in snake case.
 fn asking(rules: RuleSet) -> Settings {
@@ -191,47 +191,52 @@ fn tells_sources_of_modules(rt: HostRuntime) -> Result<(), Fail> {
 #[test]
 fn comments_silence_issues(rt: HostRuntime) -> Result<(), Fail> {
     let alloc = rt.alloc();
-    let settings = asking(RuleSet::recommended());
-    reports(
-        &rt,
-        alloc,
-        &["# tflint-ignore: terraform_typed_variables\nvariable \"n\" {}\n"],
-        settings,
-        "0:2:1: Warning - variable \"n\" is declared but not used (terraform_unused_declarations)\n",
-    )?;
-    reports(
-        &rt,
-        alloc,
-        &[
+    let recommended = asking(RuleSet::recommended());
+    for (text, settings, wanted) in [
+        (
+            "# tflint-ignore: terraform_typed_variables\nvariable \"n\" {}\n",
+            recommended,
+            "0:2:1: Warning - variable \"n\" is declared but not used (terraform_unused_declarations)\n",
+        ),
+        (
             "# tflint-ignore: terraform_typed_variables, terraform_unused_declarations # later\nvariable \"n\" {}\n",
-        ],
-        settings,
-        "",
-    )?;
-    reports(
-        &rt,
-        alloc,
-        &["variable \"n\" {} // tflint-ignore: all\n"],
-        asking(RuleSet::all()),
-        "",
-    )?;
-    reports(
-        &rt,
-        alloc,
-        &["# tflint-ignore: nope\nvariable \"n\" {}\n"],
-        settings,
-        "0:2:1: Warning - variable \"n\" has no type (terraform_typed_variables)\n\
+            recommended,
+            "",
+        ),
+        (
+            "variable \"n\" {} // tflint-ignore: all\n",
+            asking(RuleSet::all()),
+            "",
+        ),
+    ] {
+        reports(&rt, alloc, &[text], settings, wanted)?;
+    }
+    Ok(())
+}
+
+#[test]
+fn comments_silence_nothing(rt: HostRuntime) -> Result<(), Fail> {
+    for (text, wanted) in [
+        (
+            "# tflint-ignore: nope\nvariable \"n\" {}\n",
+            "0:2:1: Warning - variable \"n\" has no type (terraform_typed_variables)\n\
 0:2:1: Warning - variable \"n\" is declared but not used (terraform_unused_declarations)\n",
-    )?;
-    let both = "0:3:1: Warning - variable \"n\" has no type (terraform_typed_variables)\n\
-0:3:1: Warning - variable \"n\" is declared but not used (terraform_unused_declarations)\n";
-    reports(
-        &rt,
-        alloc,
-        &["# tflint-ignore: all\n\nvariable \"n\" {}\n"],
-        settings,
-        both,
-    )
+        ),
+        (
+            "# tflint-ignore: all\n\nvariable \"n\" {}\n",
+            "0:3:1: Warning - variable \"n\" has no type (terraform_typed_variables)\n\
+0:3:1: Warning - variable \"n\" is declared but not used (terraform_unused_declarations)\n",
+        ),
+    ] {
+        reports(
+            &rt,
+            rt.alloc(),
+            &[text],
+            asking(RuleSet::recommended()),
+            wanted,
+        )?;
+    }
+    Ok(())
 }
 
 #[test]
@@ -244,5 +249,63 @@ fn comments_silence_in_their_own_file(rt: HostRuntime) -> Result<(), Fail> {
         asking(RuleSet::recommended()),
         "1:2:1: Warning - variable \"n\" has no type (terraform_typed_variables)\n\
 1:2:1: Warning - variable \"n\" is declared but not used (terraform_unused_declarations)\n",
+    )
+}
+
+/// That a name in a label is reported by the rule on names, or not.
+fn is_misnamed(
+    rt: &impl Abort,
+    alloc: Global,
+    naming: Naming,
+    name: &str,
+    misnamed: bool,
+) -> Result<(), Fail> {
+    let text = format!(in alloc; "variable \"{name}\" {{}}\n")?;
+    let rules = RuleSet::none().with(Rule::NamingConvention);
+    let facts = facts_of(alloc, &[text.as_str()])?;
+    let issues = facts.issues(&Settings { rules, naming })?;
+    assert_eq!(rt; !issues.is_empty(), misnamed, "{name}");
+    Ok(())
+}
+
+#[test]
+fn tells_namings(rt: HostRuntime) -> Result<(), Fail> {
+    for (name, snake, mixed) in [
+        ("a", true, true),
+        ("a1_b2", true, true),
+        ("a_1", true, true),
+        ("", false, false),
+        ("a__b", false, false),
+        ("_a", false, false),
+        ("a_", false, false),
+        ("a-b", false, false),
+        ("1a", false, false),
+        ("é", false, false),
+        ("Ab_C", false, true),
+    ] {
+        is_misnamed(&rt, rt.alloc(), Naming::SnakeCase, name, !snake)?;
+        is_misnamed(&rt, rt.alloc(), Naming::MixedSnakeCase, name, !mixed)?;
+    }
+    assert!(rt; Naming::SnakeCase.text() == "snake_case");
+    assert!(rt; Naming::MixedSnakeCase.text() == "mixed_snake_case");
+    Ok(())
+}
+
+/// Clusters of several characters, a tab and a line's end of two bytes are in front of what is reported.
+static CLUSTERS: &str =
+    "a = 1 // e\u{301}\nlocals {\n\tb = \"\u{1f468}\u{200d}\u{1f469}x${ c.0 }\u{e9}\" // d\r\n}\n// f\n";
+
+#[test]
+fn places_are_counted_in_clusters(rt: HostRuntime) -> Result<(), Fail> {
+    reports(
+        &rt,
+        rt.alloc(),
+        &[CLUSTERS],
+        asking(RuleSet::all()),
+        "0:1:7: Warning - line comments should begin with # (terraform_comment_syntax)\n\
+0:3:2: Warning - local \"b\" is declared but not used (terraform_unused_declarations)\n\
+0:3:13: Warning - list items should be accessed using square brackets (terraform_deprecated_index)\n\
+0:3:20: Warning - line comments should begin with # (terraform_comment_syntax)\n\
+0:5:1: Warning - line comments should begin with # (terraform_comment_syntax)\n",
     )
 }

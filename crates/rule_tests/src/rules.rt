@@ -1,7 +1,7 @@
 //! The rules' names, severities and sets, from the table that users read.
 
-use crate::{Rule, RuleSet, Severity};
 use std::process::Abort;
+use tf_facts::{Rule, RuleSet, Severity};
 
 /// That the name is the rule's, with this severity, and that it is recommended or not.
 fn is_rule(rt: &impl Abort, name: &str, rule: Rule, severity: Severity, recommended: bool) {

@@ -1,0 +1,144 @@
+//! What is found at the front of an expression, and behind a front that says where it stands.
+
+use hcl_scan::{ScanError, Source, scan};
+use std::alloc::Global;
+use std::process::Abort;
+use std::test::Fail;
+
+// Behind a dot, and in an expression of a heredoc.
+const DOT: &str = "a.";
+
+const HEREDOC: &str = "<<E\n${a";
+
+/// The kind and the length of the token that begins behind the front, or the fault of the text.
+fn found(alloc: Global, front: &str, rest: &str) -> Result<String, Fail> {
+    let text = format!(in alloc; "{front}{rest}")?;
+    let source = Source::from_bytes(alloc, text.as_bytes())?;
+    let tokens = match scan(alloc, &source) {
+        Ok(tokens) => tokens,
+        Err(ScanError::Fault(fault)) => {
+            let at = fault.at;
+            return Ok(format!(in alloc; "{:?} at {}:{}", fault.kind, at.line, at.column)?);
+        }
+        Err(ScanError::OutOfMemory) => return Ok(String::from_str(alloc, "out of memory")?),
+    };
+    for i in 0..tokens.len() {
+        let token = tokens.get(i);
+        if token.start == front.len() {
+            return Ok(format!(in alloc; "{:?} {}", token.kind, token.text.len())?);
+        }
+    }
+    Ok(String::from_str(alloc, "nothing")?)
+}
+
+/// That this is found behind each front.
+fn finds(rt: &impl Abort, alloc: Global, rows: &[(&str, &str, &str)]) -> Result<(), Fail> {
+    for (front, rest, wanted) in rows {
+        let given = found(alloc, *front, *rest)?;
+        assert!(rt; given.as_str() == *wanted, "{given}");
+    }
+    Ok(())
+}
+
+#[test]
+fn identifiers(rt: HostRuntime) -> Result<(), Fail> {
+    let rows = [
+        ("", "a.1e5", "Ident 1"),
+        ("", "a-b_1 c", "Ident 5"),
+        ("", "é", "Ident 2"),
+        ("", "_é9-=", "Ident 5"),
+        ("", "\u{b7}a", "InvalidCharacter at 1:1"),
+        ("", "a\u{b7}\u{300}b.", "Ident 6"),
+        ("", "日本 ", "Ident 6"),
+        ("", "a→", "InvalidCharacter at 1:2"),
+        ("", "→", "InvalidCharacter at 1:1"),
+    ];
+    finds(&rt, rt.alloc(), &rows)
+}
+
+#[test]
+fn numbers(rt: HostRuntime) -> Result<(), Fail> {
+    let rows = [
+        (DOT, "1e5", "Number 1"),
+        ("", "1e+", "Number 1"),
+        ("", "1e+7e", "Number 4"),
+        ("", "1.5.2", "Number 3"),
+        (DOT, "1.5.2", "Number 1"),
+        ("", "1 .5", "Number 1"),
+        ("", "1.e5", "Number 1"),
+        ("", "10.25E-03x", "Number 9"),
+        ("", "5e3.1", "Number 3"),
+    ];
+    finds(&rt, rt.alloc(), &rows)
+}
+
+#[test]
+fn comments(rt: HostRuntime) -> Result<(), Fail> {
+    let rows = [
+        ("", "/* x */ */", "InlineComment 7"),
+        ("", "/*/ */", "InlineComment 6"),
+        ("", "/**/", "InlineComment 4"),
+        ("", "/*/", "UnterminatedComment at 1:1"),
+        ("", "/* é", "UnterminatedComment at 1:1"),
+        ("", "//x\r\n", "LineComment 4"),
+        ("", "# é", "LineComment 4"),
+        ("", "/ /", "Slash 1"),
+        ("", "/", "Slash 1"),
+    ];
+    finds(&rt, rt.alloc(), &rows)
+}
+
+#[test]
+fn heredocs(rt: HostRuntime) -> Result<(), Fail> {
+    let rows = [
+        ("", "<<E\nE", "HeredocOpen 4"),
+        ("", "<<-E\r\nE", "HeredocOpen 6"),
+        ("", "<< E\n", "Less 1"),
+        ("", "<<E \n", "Less 1"),
+        ("", "<<E\r", "InvalidCharacter at 1:4"),
+        ("", "<<--E\n", "Less 1"),
+        ("", "<<É-1\nÉ-1", "HeredocOpen 7"),
+        ("", "<=", "LessEqual 2"),
+        ("", "<", "Less 1"),
+    ];
+    finds(&rt, rt.alloc(), &rows)
+}
+
+#[test]
+fn closers_and_space(rt: HostRuntime) -> Result<(), Fail> {
+    let rows = [
+        (HEREDOC, "~}\nE", "SeqClose 2"),
+        ("", "~}", "InvalidCharacter at 1:1"),
+        (HEREDOC, "~\nE", "InvalidCharacter at 2:4"),
+        (HEREDOC, "}~\nE", "SeqClose 1"),
+        ("", "}", "BraceClose 1"),
+        (HEREDOC, " \t x}\nE", "Blank 3"),
+        ("", " x", "nothing"),
+        (" ", "x", "Ident 1"),
+        ("", "\n\n", "Newline 1"),
+        ("", "\r\n", "Newline 2"),
+        ("", "\rx", "InvalidCharacter at 1:1"),
+        ("", "", "nothing"),
+    ];
+    finds(&rt, rt.alloc(), &rows)
+}
+
+#[test]
+fn punctuation(rt: HostRuntime) -> Result<(), Fail> {
+    let rows = [
+        ("", "&", "InvalidCharacter at 1:1"),
+        ("", "&&", "And 2"),
+        ("", "...", "Ellipsis 3"),
+        ("", "..", "Dot 1"),
+        ("", "::", "ColonColon 2"),
+        ("", ": :", "Colon 1"),
+        ("", "=>", "Arrow 2"),
+        ("", "==", "Equal 2"),
+        ("", "=", "Assign 1"),
+        ("", "\"${a}\"", "QuoteOpen 1"),
+        ("", "!=", "NotEqual 2"),
+        ("", "$", "InvalidCharacter at 1:1"),
+        ("", "'", "InvalidCharacter at 1:1"),
+    ];
+    finds(&rt, rt.alloc(), &rows)
+}
