@@ -25,7 +25,7 @@ use hcl_source::FaultKind;
 #[derive(Clone, Copy, Debug)]
 pub struct Stopped {
     pub kind: FaultKind,
-    pub at: usize,
+    pub at: u32,
 }
 
 /// Where a scan stands. What is seen is the text from `at` up to `end`.
@@ -151,18 +151,18 @@ impl<'s> Scanner<'s> {
         let Some(top) = self.stack.template_top() else {
             return Stopped {
                 kind: no_expression(seen),
-                at: start,
+                at: start as u32,
             };
         };
         if seen.starts_with(b"\\") {
             return Stopped {
                 kind: FaultKind::InvalidEscape,
-                at: start,
+                at: start as u32,
             };
         }
         Stopped {
             kind: FaultKind::UnterminatedQuote,
-            at: top.at as usize,
+            at: top.at,
         }
     }
 
@@ -177,7 +177,7 @@ impl<'s> Scanner<'s> {
         let Some(owed) = self.stack.pop_owed() else {
             return Ok(None);
         };
-        let at = owed.at as usize;
+        let at = owed.at;
         match owed.by {
             Opener::Quote => Err(Stopped {
                 kind: FaultKind::UnterminatedQuote,
@@ -214,7 +214,7 @@ impl<'s> Scanner<'s> {
         if self.stack.is_full() {
             return Err(Stopped {
                 kind: FaultKind::TooDeep,
-                at: entry.start as usize,
+                at: entry.start,
             });
         }
         self.stack.open(by, entry.start);
@@ -231,20 +231,19 @@ impl<'s> Scanner<'s> {
         ensures read { OnOk result (Moves self.old entry self.new) }
         ensures stopped { IfErr result (IsStopped self.old) }
     {
-        let start = entry.start as usize;
         let at = entry.end as usize;
         if self.stack.is_full() {
             return Err(Stopped {
                 kind: FaultKind::TooDeep,
-                at: start,
+                at: entry.start,
             });
         }
-        let marker = marker_of(self.text[start..at].as_bytes());
+        let marker = marker_of(self.text[entry.start as usize..at].as_bytes());
         let rest = self.text[at..self.end].as_bytes();
         let Some(line) = marker_line(rest, marker) else {
             return Err(Stopped {
                 kind: FaultKind::UnterminatedHeredoc,
-                at: start,
+                at: entry.start,
             });
         };
         let (_, hidden) = rest.split_at(line);
@@ -268,10 +267,10 @@ impl<'s> Scanner<'s> {
         ensures { Moves self.old result self.new }
     {
         let entry = Entry {
-            start: self.at as u32,
-            end: closer_end,
             kind: Kind::HeredocClose,
             inside_heredoc: true,
+            start: self.at as u32,
+            end: closer_end,
         };
         let _ = self.stack.pop();
         self.at = closer_end as usize;
@@ -309,10 +308,10 @@ impl<'s> Scanner<'s> {
             return Err(self.no_token(start));
         };
         let entry = Entry {
-            start: start as u32,
-            end: (start + found.len) as u32,
             kind: found.kind,
             inside_heredoc: self.inside_heredoc(),
+            start: start as u32,
+            end: (start + found.len) as u32,
         };
         match self.read(entry) {
             Ok(()) => Ok(entry),

@@ -99,7 +99,7 @@ pub fn scan<'s>(alloc: Global, source: &'s Source) -> Result<Tokens<'s>, ScanErr
             Err(stopped) => {
                 return Err(ScanError::Fault(Fault {
                     kind: stopped.kind,
-                    at: source.position(stopped.at),
+                    at: source.position(stopped.at as usize),
                 }));
             }
         }
