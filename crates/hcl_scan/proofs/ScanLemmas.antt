@@ -1,6 +1,6 @@
 -- The scan as a whole: a run grows by the tokens read, and where it ends in a fault this is the fault of the text.
-use Rattle.std.proofs.Common.{◌≡◌, ℕ, List, [], ◌∷◌, ◌++◌, length, Option, Some, None, sym, ap, subst, ◌∙◌, arith}
-use Rattle.std.specs.Prelude.{All, MatchOption}
+use Rattle.std.proofs.Common.{◌≡◌, ℕ, List, [], ◌∷◌, ◌++◌, length, Result, Ok, Err, sym, ap, subst, ◌∙◌, arith}
+use Rattle.std.specs.Prelude.{All, IfOk, IfErr}
 use Rattle.std.proofs.lemmas.List.{map_push}
 use Rattle.std.proofs.lemmas.List.Elements.{All-push}
 use Rattle.hcl_scan.specs.Lexemes.{Lexeme}
@@ -16,11 +16,11 @@ use Rattle.hcl_scan.proofs.AllContextLemmas.{one_kind, nonempty, lacks_stuck, Ru
 use Rattle.hcl_scan.proofs.ExpressionLawLemmas.{one_expression, some_expression}
 
 -- what the scanner came to
-pub token_read : (found : Option Entry) (s next : Scanner) (e : Entry) → found ≡ Some e → MatchOption found (IsComplete (state_of s)) (λ x. Moves s x next) → Moves s e next
-token_read found s next e is h = subst (λ (f : Option Entry). MatchOption f (IsComplete (state_of s)) (λ x. Moves s x next)) is h
+pub token_read : (read : Result Entry Stopped) (s next : Scanner) (e : Entry) → read ≡ Ok e → IfOk read (λ x. Moves s x next) → Moves s e next
+token_read read s next e is h = subst (λ (r : Result Entry Stopped). IfOk r (λ x. Moves s x next)) is h
 
-pub all_read : (found : Option Entry) (s next : Scanner) → found ≡ None → MatchOption found (IsComplete (state_of s)) (λ x. Moves s x next) → IsComplete (state_of s)
-all_read found s next is h = subst (λ (f : Option Entry). MatchOption f (IsComplete (state_of s)) (λ x. Moves s x next)) is h
+pub stopped_there : (read : Result Entry Stopped) (s : Scanner) (fault : Stopped) → read ≡ Err fault → IfErr read (λ x. IsStopped s x) → IsStopped s fault
+stopped_there read s fault is h = subst (λ (r : Result Entry Stopped). IfErr r (λ x. IsStopped s x)) is h
 
 pub none_yet : (text : List ℕ) (es : List Entry) → es ≡ [] → All (IsEntry text) es
 none_yet text es is = subst (λ (l : List Entry). All (IsEntry text) l) (sym is) (λ k d h. absurd (omega arith))

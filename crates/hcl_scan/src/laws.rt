@@ -27,10 +27,9 @@ pub fn list_or_fault(text: &str)
     ensures { ((ts : List Lexeme) × Scans text.now ts) ⊎ ((kind : FaultKind) × (at : ℕ) × IsScanFault text.now kind at) }
 {
     let mut scanner = Scanner::new(text);
-    loop {
-        match scanner.next_token() {
-            Ok(Some(_)) => {}
-            Ok(None) => return,
+    while let Some(read) = scanner.next_token() {
+        match read {
+            Ok(_) => {}
             Err(_) => return,
         }
     }

@@ -1,6 +1,6 @@
 //! One token after the other.
 
-ghost use Rattle.std.specs.Prelude.{◌≡◌, ◌<◌, ◌≤◌, ◌≢◌, ◌∷◌, [], List, true, false, None, Some, length, slice_range, IfSome, IfNone, IfOk, IfErr, OnOk, MatchOption};
+ghost use Rattle.std.specs.Prelude.{◌≡◌, ◌<◌, ◌≤◌, ◌≢◌, ◌∷◌, [], List, true, false, None, Some, length, slice_range, IfSome, IfNone, IfOk, IfErr, OnOk};
 ghost use Rattle.std.specs.Str.{IsCharBoundary};
 ghost use Rattle.hcl_source.specs.Load.{max_source};
 ghost use Rattle.hcl_scan.specs.Lexemes.{in_heredoc};
@@ -167,24 +167,24 @@ impl<'s> Scanner<'s> {
         }
     }
 
-    /// Where all that is seen was read, and no heredoc ends: whether something is owed.
-    fn ended(&mut self) -> Result<Option<Entry>, Stopped>
+    /// Where all that is seen was read, and no heredoc ends: why more is needed, if something is owed.
+    fn owed(&mut self) -> Option<Stopped>
         requires sound { IsSound self.old }
         requires read { ahead (state_of self.old) ≡ [] }
         requires no_heredoc { context (openers_of self.old.stack) ≢ Template false }
-        ensures complete { IfOk result (λ found. (found ≡ None) × IsComplete (state_of self.old)) }
-        ensures stopped { IfErr result (IsStopped self.old) }
+        ensures complete { IfNone result (IsComplete (state_of self.old)) }
+        ensures stopped { IfSome result (IsStopped self.old) }
     {
         let Some(owed) = self.stack.pop_owed() else {
-            return Ok(None);
+            return None;
         };
         let at = owed.at;
         match owed.by {
-            Opener::Quote => Err(Stopped {
+            Opener::Quote => Some(Stopped {
                 kind: FaultKind::UnterminatedQuote,
                 at,
             }),
-            _ => Err(Stopped {
+            _ => Some(Stopped {
                 kind: FaultKind::UnterminatedTemplate,
                 at,
             }),
@@ -321,27 +321,28 @@ impl<'s> Scanner<'s> {
     }
 
     /// Reads a token, or gives `None` where all was read and nothing is owed.
-    pub fn next_token(&mut self) -> Result<Option<Entry>, Stopped>
+    pub fn next_token(&mut self) -> Option<Result<Entry, Stopped>>
         requires { IsSound self.old }
-        ensures read { IfOk result (λ found. MatchOption found (IsComplete (state_of self.old)) (λ entry. Moves self.old entry self.new)) }
-        ensures stopped { IfErr result (IsStopped self.old) }
+        ensures complete { IfNone result (IsComplete (state_of self.old)) }
+        ensures read { IfSome result (λ read. IfOk read (λ entry. Moves self.old entry self.new)) }
+        ensures stopped { IfSome result (λ read. IfErr read (IsStopped self.old)) }
     {
         let start = self.start();
         if start < self.end {
-            return match self.token(start) {
-                Ok(entry) => Ok(Some(entry)),
-                Err(stopped) => Err(stopped),
-            };
+            return Some(self.token(start));
         }
-        let Some(top) = self.stack.top() else {
-            return self.ended();
-        };
-        match top.by {
-            Opener::Heredoc {
+        if let Some(top) = self.stack.top() {
+            if let Opener::Heredoc {
                 closer_end,
                 outer_end,
-            } => Ok(Some(self.close_heredoc(closer_end, outer_end))),
-            _ => self.ended(),
+            } = top.by
+            {
+                return Some(Ok(self.close_heredoc(closer_end, outer_end)));
+            }
+        }
+        match self.owed() {
+            Some(stopped) => Some(Err(stopped)),
+            None => None,
         }
     }
 }

@@ -84,18 +84,12 @@ pub fn scan<'s>(alloc: Global, source: &'s Source) -> Result<Tokens<'s>, ScanErr
 {
     let mut entries = Entries::new(alloc);
     let mut scanner = Scanner::new(source.text());
-    loop {
-        match scanner.next_token() {
-            Ok(Some(entry)) => match entries.push(entry) {
+    while let Some(read) = scanner.next_token() {
+        match read {
+            Ok(entry) => match entries.push(entry) {
                 Ok(()) => {}
                 Err(_) => return Err(ScanError::OutOfMemory),
             },
-            Ok(None) => {
-                return Ok(Tokens {
-                    origin: source,
-                    entries,
-                });
-            }
             Err(stopped) => {
                 return Err(ScanError::Fault(Fault {
                     kind: stopped.kind,
@@ -104,4 +98,8 @@ pub fn scan<'s>(alloc: Global, source: &'s Source) -> Result<Tokens<'s>, ScanErr
             }
         }
     }
+    Ok(Tokens {
+        origin: source,
+        entries,
+    })
 }

@@ -5,7 +5,7 @@ use Rattle.hcl_scan.specs.Inner.Scanners.{state_of, lexeme_of, Moves}
 use Rattle.hcl_scan.specs.declared.token.Entry.{Entry}
 use Rattle.hcl_scan.specs.declared.scanner.Scanner.{Scanner}
 use Rattle.hcl_scan.proofs.AllContextLemmas.{Run-push}
-use Rattle.hcl_scan.proofs.ScanLemmas.{all_read, token_read, scan_fault}
+use Rattle.hcl_scan.proofs.ScanLemmas.{token_read, stopped_there, scan_fault}
 use Rattle.hcl_scan.proofs.laws.list_or_fault.Goals as goal
 
 abbrev Read : List ℕ → Scanner → Type 0
@@ -22,29 +22,29 @@ read_on text s next e same moved (ts, run) = (
       (subst (λ t. Next (state_of s) (lexeme_of t e) (state_of next)) same moved.read),
 )
 
-pub loop-init : goal.loop-init
-loop-init c = record {
+pub loop-read-init : goal.loop-read-init
+loop-read-init c = record {
   same_text = ap (λ t. t.now) c.new-scanner.ensures.text;
   sound = c.new-scanner.ensures.sound;
   read = ([], sym c.new-scanner.ensures.state);
 }
 
 pub next_token-requires : goal.next_token-requires
-next_token-requires c = c.loop.invariant.sound
+next_token-requires c = c.loop-read.invariant.sound
 
-pub loop-preserved : goal.loop-preserved
-loop-preserved c =
-    let moved = token_read c.in-Ok-Some.field-0 c.loop.scanner c.next_token.new.self c.in-Ok-Some.field-0-0 c.in-Ok-Some.field-0-is c.in-Ok-Some.ensures.read in
+pub loop-read-preserved : goal.loop-read-preserved
+loop-read-preserved c =
+    let moved = token_read c.in-Some.read c.loop-read.scanner c.next_token.new.self c.in-Ok.field-0 c.in-Ok.is c.in-Some.ensures.read in
     record {
-      same_text = still c.args.text.now c.loop.scanner c.next_token.new.self c.in-Ok-Some.field-0-0 c.loop.invariant.same_text moved;
+      same_text = still c.args.text.now c.loop-read.scanner c.next_token.new.self c.in-Ok.field-0 c.loop-read.invariant.same_text moved;
       sound = moved.sound;
-      read = read_on c.args.text.now c.loop.scanner c.next_token.new.self c.in-Ok-Some.field-0-0 c.loop.invariant.same_text moved c.loop.invariant.read;
+      read = read_on c.args.text.now c.loop-read.scanner c.next_token.new.self c.in-Ok.field-0 c.loop-read.invariant.same_text moved c.loop-read.invariant.read;
     }
 
-pub returns-in-Ok-None : goal.returns-in-Ok-None
-returns-in-Ok-None c = inl (c.loop.invariant.read.0, (state_of c.loop.scanner, c.loop.invariant.read.1, all_read c.in-Ok-None.field-0 c.loop.scanner c.next_token.new.self c.in-Ok-None.field-0-is c.in-Ok-None.ensures.read))
+pub returns : goal.returns
+returns c = inl (c.loop-read.invariant.read.0, (state_of c.loop-read.scanner, c.loop-read.invariant.read.1, c.in_default.ensures.complete))
 
 pub returns-in-Err : goal.returns-in-Err
 returns-in-Err c =
-    let fault = scan_fault c.args.text.now c.loop.invariant.read.0 c.loop.scanner c.in-Err.field-0 c.loop.invariant.same_text c.loop.invariant.read.1 c.in-Err.ensures.stopped in
+    let fault = scan_fault c.args.text.now c.loop-read.invariant.read.0 c.loop-read.scanner c.in-Err.field-0 c.loop-read.invariant.same_text c.loop-read.invariant.read.1 (stopped_there c.in-Some.read c.loop-read.scanner c.in-Err.field-0 c.in-Err.is c.in-Some.ensures.stopped) in
     inr (c.in-Err.field-0.kind, c.in-Err.field-0.at, fault)

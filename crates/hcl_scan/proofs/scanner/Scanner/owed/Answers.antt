@@ -1,12 +1,12 @@
-use Rattle.std.proofs.Common.{Some, refl, sym, ap, ◌∙◌}
+use Rattle.std.proofs.Common.{Some, sym, ap, ◌∙◌}
 use Rattle.hcl_scan.specs.Inner.Openings.{opener_of}
 use Rattle.hcl_scan.specs.Faults.{end_fault}
 use Rattle.hcl_source.specs.declared.fault.FaultKind.TheVariants.{UnterminatedQuote, UnterminatedTemplate}
 use Rattle.hcl_scan.proofs.StepLemmas.{owed_none, owed_some, owed_stops, owed_template}
-use Rattle.hcl_scan.proofs.scanner.Scanner.ended.Goals as goal
+use Rattle.hcl_scan.proofs.scanner.Scanner.owed.Goals as goal
 
 pub returns-in_default-clause-complete : goal.returns-in_default-clause-complete
-returns-in_default-clause-complete c = (refl, (c.requires.read, owed_none c.args.self.now.stack (sym c.in_default.ensures)))
+returns-in_default-clause-complete c = (c.requires.read, owed_none c.args.self.now.stack (sym c.in_default.ensures))
 
 pub returns-in-Quote-clause-stopped : goal.returns-in-Quote-clause-stopped
 returns-in-Quote-clause-stopped c =
