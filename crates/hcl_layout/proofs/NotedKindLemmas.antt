@@ -3,7 +3,7 @@
 use Rattle.std.proofs.Common.{◌≡◌, ◌&&◌, ◌||◌, Bool, true, false, not, ap, refl}
 use Rattle.hcl_scan.specs.Lexemes.{Lexeme}
 use Rattle.hcl_scan.specs.declared.token.Kind.{Kind}
-use Rattle.hcl_scan.specs.Kinds.{is_newline}
+use Rattle.hcl_scan.specs.Kinds.{is_inline_comment, is_newline}
 use Rattle.hcl_layout.specs.Lines.{ends_line}
 use Rattle.hcl_layout.specs.Inner.Survey.{changes, is_noted, marks, turns}
 use Rattle.hcl_spacing.proofs.KindLemmas.{each}
@@ -18,6 +18,13 @@ unnoted k e = passes (is_noted k) (changes k) (each (λ j. is_noted j || not (ch
 -- what opens or closes is no cell and tears none
 pub turns_unmarked : (k : Kind) → turns k ≡ true → marks k ≡ false
 turns_unmarked k e = passes (not (turns k)) (marks k) (each (λ j. not (turns j) || not (marks j)) refl k) (ap not e)
+
+-- nor the line's end
+pub turns_goes_on : (t : Lexeme) → turns t.kind ≡ true → ends_line t ≡ false
+turns_goes_on t e = rw (passes (not (turns t.kind)) (is_newline t.kind) (each (λ j. not (turns j) || not (is_newline j)) refl t.kind) (ap not e)) refl
+
+pub inline_goes_on : (t : Lexeme) → is_inline_comment t.kind ≡ true → ends_line t ≡ false
+inline_goes_on t e = rw (passes (not (is_inline_comment t.kind)) (is_newline t.kind) (each (λ j. not (is_inline_comment j) || not (is_newline j)) refl t.kind) (ap not e)) refl
 
 pub unnoted_goes_on : (t : Lexeme) → is_noted t.kind ≡ false → ends_line t ≡ false
 unnoted_goes_on t e = rw (passes (is_noted t.kind) (is_newline t.kind) (each (λ j. is_noted j || not (is_newline j)) refl t.kind) e) refl
