@@ -20,6 +20,13 @@ unnoted k e = passes (is_noted k) (changes k) (each (λ j. is_noted j || not (ch
 pub turns_unmarked : (k : Kind) → turns k ≡ true → marks k ≡ false
 turns_unmarked k e = passes (not (turns k)) (marks k) (each (λ j. not (turns j) || not (marks j)) refl k) (ap not e)
 
+-- nor the line's end
+pub turns_goes_on : (t : Lexeme) → turns t.kind ≡ true → ends_line t ≡ false
+turns_goes_on t e = rw (passes (not (turns t.kind)) (is kind.Newline t.kind) (each (λ j. not (turns j) || not (is kind.Newline j)) refl t.kind) (ap not e)) refl
+
+pub inline_goes_on : (t : Lexeme) → is kind.InlineComment t.kind ≡ true → ends_line t ≡ false
+inline_goes_on t e = rw (passes (not (is kind.InlineComment t.kind)) (is kind.Newline t.kind) (each (λ j. not (is kind.InlineComment j) || not (is kind.Newline j)) refl t.kind) (ap not e)) refl
+
 pub unnoted_goes_on : (t : Lexeme) → is_noted t.kind ≡ false → ends_line t ≡ false
 unnoted_goes_on t e = rw (passes (is_noted t.kind) (is kind.Newline t.kind) (each (λ j. is_noted j || not (is kind.Newline j)) refl t.kind) e) refl
 

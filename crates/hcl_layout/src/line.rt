@@ -1,6 +1,8 @@
 //! One line, in one walk: where it ends, how deep, and which cells it has.
 ghost use Rattle.std.specs.Prelude.{◌≡◌, false, ◌<◌, ◌≤◌, ◌+◌, ◌^◌, ◌==◌, length, drop, slice_get, Some};
 ghost use Rattle.std.specs.List.{list_any};
+ghost use Rattle.hcl_scan.specs.Kinds.{is};
+ghost use Rattle.hcl_scan.specs.declared.token.Kind.TheVariants.{InlineComment};
 ghost use Rattle.hcl_scan.specs.Lexemes.{Lexeme};
 ghost use Rattle.hcl_scan.specs.Scanned.{lexeme};
 ghost use Rattle.hcl_syntax.specs.Balanced.{max_open};
@@ -72,10 +74,17 @@ fn holds_newline(text: &str) -> bool
 }
 
 #[inline(always)]
+fn is_inline_comment(kind: Kind) -> bool
+    ensures { result ≡ is InlineComment kind }
+{
+    matches!(kind, Kind::InlineComment)
+}
+
+#[inline(always)]
 fn is_multiline(token: Token<'_>) -> bool
     ensures { result ≡ is_multiline_of (lexeme token.entry) }
 {
-    matches!(token.kind, Kind::InlineComment) && !token.inside_heredoc && holds_newline(token.text)
+    is_inline_comment(token.kind) && !token.inside_heredoc && holds_newline(token.text)
 }
 
 /// The depth behind a token.
@@ -119,9 +128,6 @@ fn first_survey(depth: u32, token: Token<'_>) -> Survey
     requires fits { depth ≤ max_open }
     ensures { result ≡ first_noted depth (lexeme token.entry) }
 {
-    if !is_noted(token.kind) {
-        return bare_survey(depth);
-    }
     let depth = deepened(depth, token.kind);
     Survey {
         len: 1,
@@ -132,6 +138,22 @@ fn first_survey(depth: u32, token: Token<'_>) -> Survey
         sign: None,
         sign_depth: 0,
     }
+}
+
+/// Behind the first token of the line that begins at a place, and whether the line ends with it.
+#[inline(always)]
+fn read_first(tokens: &Measured<'_, '_>, at: usize, depth: u32) -> (Survey, bool)
+    requires within { at < length tokens.now.tokens }
+    requires balanced { BalancedFrom depth (drop at tokens.now.tokens) }
+    requires fits { depth ≤ max_open }
+    ensures line { (t : Lexeme) → slice_get tokens.now.tokens at ≡ Some t → result.0 ≡ first_noted depth t }
+    ensures end { (t : Lexeme) → slice_get tokens.now.tokens at ≡ Some t → result.1 ≡ ends_line t }
+{
+    if !is_noted(tokens.kind(at)) {
+        return (bare_survey(depth), false);
+    }
+    let token = tokens.get(at);
+    (first_survey(depth, token), is_line_end(token))
 }
 
 /// Whether a token of the kind may end the line, changes the depth, or may be or tear a cell. Most do none of these. It
@@ -217,7 +239,7 @@ impl Survey {
         }
     }
 
-    /// Behind one token more. Most that are noted open or close, and are asked for nothing else.
+    /// Behind one token more, of any kind.
     #[inline(always)]
     fn with(self, token: Token<'_>) -> Survey
         requires steps { Steps self.depth token.kind }
@@ -225,9 +247,6 @@ impl Survey {
         requires room { self.len + 1 < 2 ^ 64 }
         ensures { result ≡ noted self (lexeme token.entry) }
     {
-        if turns(token.kind) {
-            return self.turned(token.kind);
-        }
         let behind = Survey {
             len: self.len + 1,
             depth: deepened(self.depth, token.kind),
@@ -301,8 +320,9 @@ fn read_rest(tokens: &Measured<'_, '_>, at: usize, passed: Survey) -> Survey
     line
 }
 
-/// The tokens of a line, from the one at a place on, each noted. What stands behind a trailing comment, as a rule the
-/// newline alone, is read apart, so that up to there less has to be kept.
+/// The tokens of a line, from the one at a place on, each noted. Most change nothing, or open or close: of them the kind
+/// alone is asked, and of inline comments alone the text. What stands behind a trailing comment, as a rule the newline
+/// alone, is read apart, so that up to there less has to be kept.
 #[inline(always)]
 fn read_line(tokens: &Measured<'_, '_>, at: usize, depth: u32) -> Survey
     requires within { at < length tokens.now.tokens }
@@ -311,17 +331,25 @@ fn read_line(tokens: &Measured<'_, '_>, at: usize, depth: u32) -> Survey
     ensures { (t : Lexeme) → slice_get tokens.now.tokens at ≡ Some t → result ≡ surveyed (first_noted depth t) t (drop (at + 1) tokens.now.tokens) }
 {
     let count = tokens.len();
-    let first = tokens.get(at);
-    let mut line = first_survey(depth, first);
-    if is_line_end(first) {
+    let (mut line, ended) = read_first(tokens, at, depth);
+    if ended {
         return line;
     }
     while at + line.len < count {
-        let token = tokens.get(at + line.len);
-        if !is_noted(token.kind) {
+        let kind = tokens.kind(at + line.len);
+        if !is_noted(kind) {
             line = line.passed();
             continue;
         }
+        if turns(kind) {
+            line = line.turned(kind);
+            continue;
+        }
+        if is_inline_comment(kind) {
+            line = line.with(tokens.get(at + line.len));
+            continue;
+        }
+        let token = tokens.get(at + line.len);
         if is_line_end(token) {
             return line.passed();
         }

@@ -1,12 +1,13 @@
 //! The tokens to lay out, and how wide their texts are.
 ghost use Rattle.std.specs.Prelude.{◌≡◌, ◌<◌, ◌≤◌, ◌+◌, ◌^◌, Some, true, length, drop, slice_get, take};
 ghost use Rattle.unicode_segmentation.specs.Grapheme.{graphemes};
+ghost use Rattle.hcl_scan.specs.Lexemes.{Lexeme};
 ghost use Rattle.hcl_scan.specs.Scanned.{lexeme};
 ghost use Rattle.hcl_syntax.specs.Balanced.{IsBalanced};
 ghost use Rattle.hcl_layout.specs.Inner.Simple.{IsFrom, is_simple as is_simple_of};
 ghost use Rattle.hcl_layout.specs.Inner.LineGaps.{len_with_blanks};
 
-use hcl_scan::{Token, Tokens};
+use hcl_scan::{Kind, Token, Tokens};
 use hcl_syntax::Accepted;
 use std::marker::Model;
 use unicode_segmentation::UnicodeSegmentation;
@@ -92,6 +93,15 @@ impl<'t, 's> Measured<'t, 's> {
         ensures source { IsFrom self.now.text result.start result.text.now }
     {
         self.tokens.get(i)
+    }
+
+    /// The kind of the token of this number.
+    #[inline(always)]
+    pub fn kind(&self, i: usize) -> Kind
+        requires { i < length self.now.tokens }
+        ensures { (t : Lexeme) → slice_get self.now.tokens i ≡ Some t → result ≡ t.kind }
+    {
+        self.tokens.kind(i)
     }
 
     /// How wide the text of a token is: how many grapheme clusters it has.

@@ -1,6 +1,7 @@
 //! Entries, kept in 8 bytes each but for those of long tokens.
 
 ghost use Rattle.std.specs.Prelude.{◌≡◌, ◌≤◌, ◌<◌, ◌==◌, ◌++◌, ◌∷◌, [], length, slice_get, Some, OnOk};
+ghost use Rattle.hcl_scan.specs.declared.token.Entry.{Entry};
 ghost use Rattle.hcl_scan.specs.Inner.Entries.{entry_given};
 
 use crate::token::{Entry, Kind};
@@ -103,6 +104,15 @@ impl Entries {
             kind: kept.kind,
             inside_heredoc: kept.inside_heredoc,
         }
+    }
+
+    /// The kind of the entry of this number, wherever that stands.
+    #[inline(always)]
+    pub fn kind(&self, i: usize) -> Kind
+        requires { i < length self.now }
+        ensures { (e : Entry) → slice_get self.now i ≡ Some e → result ≡ e.kind }
+    {
+        self.kept[i].kind
     }
 
     /// Puts an entry at the end.

@@ -1,13 +1,14 @@
 //! The tokens of a source.
 
-ghost use Rattle.std.specs.Prelude.{◌≡◌, ◌≤◌, ◌<◌, ◌==◌, drop, length, slice_get, take, IfOk, IfErr};
+ghost use Rattle.std.specs.Prelude.{◌≡◌, ◌≤◌, ◌<◌, ◌==◌, Some, drop, length, slice_get, take, IfOk, IfErr};
 ghost use Rattle.std.specs.Str.{IsCharBoundary};
+ghost use Rattle.hcl_scan.specs.Lexemes.{Lexeme};
 ghost use Rattle.hcl_scan.specs.Scans.{Scans};
 ghost use Rattle.hcl_scan.specs.Scanned.{lexeme, IsScanError};
 
 use crate::entries::Entries;
 use crate::scanner::Scanner;
-use crate::token::{ScanError, Token};
+use crate::token::{Kind, ScanError, Token};
 use hcl_source::{Fault, Source};
 use std::alloc::Global;
 use std::marker::Model;
@@ -73,6 +74,16 @@ impl<'s> Tokens<'s> {
             start,
             inside_heredoc: given.inside_heredoc,
         }
+    }
+
+    /// The kind of the token of this number.
+    #[inline(always)]
+    pub fn kind(&self, i: usize) -> Kind
+        requires { i < length self.now.tokens }
+        ensures { (t : Lexeme) → slice_get self.now.tokens i ≡ Some t → result ≡ t.kind }
+    {
+        let _ = &self.origin;
+        self.entries.kind(i)
     }
 }
 

@@ -22,6 +22,7 @@ fn scans_an_attribute(rt: HostRuntime) -> Result<(), Fail> {
         if i < tokens.len() {
             let token = tokens.get(i);
             assert_eq!(rt; token.kind, *kind);
+            assert_eq!(rt; tokens.kind(i), *kind);
             assert_eq!(rt; token.text, *text);
             assert_eq!(rt; token.start, *start);
             assert!(rt; !token.inside_heredoc);
