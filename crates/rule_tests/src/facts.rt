@@ -9,21 +9,26 @@ use tf_facts::{
     DeclarationKind, Declared, ModuleSource, Rule, RuleSet, TextSet, add_references_of, facts_of,
 };
 
-/// What the source of a module is, where it has one.
-fn source_in(alloc: Global, source: &str) -> Result<Option<ModuleSource>, Fail> {
-    let text = format!(in alloc; "module \"m\" {{\n  source = \"{source}\"\n}}\n")?;
+/// What the source of the first module of a file is, where it has one.
+fn first_source(alloc: Global, text: &str) -> Result<Option<ModuleSource>, Fail> {
     let source = Source::from_bytes(alloc, text.as_bytes())?;
     let tokens = scan(alloc, &source)?;
     let accepted = accepts(&tokens)?;
     let items = outline(alloc, &accepted)?;
-    let facts = facts_of(alloc, &accepted, &items)?;
-    match facts.declarations.first() {
+    let found = facts_of(alloc, &accepted, &items)?.declarations;
+    match found.first() {
         Some(declared) => match declared.source {
             Some(found) => Ok(Some(found.source)),
             None => Ok(None),
         },
         None => Ok(None),
     }
+}
+
+/// What the source of a module is.
+fn source_in(alloc: Global, source: &str) -> Result<Option<ModuleSource>, Fail> {
+    let text = format!(in alloc; "module \"m\" {{\n  source = \"{source}\"\n}}\n")?;
+    first_source(alloc, text.as_str())
 }
 
 /// That each source is of this sort.
