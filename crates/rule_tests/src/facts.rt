@@ -1,8 +1,8 @@
 //! What is found in small files, worked out by hand.
 
 use hcl_scan::{Source, scan};
-use hcl_syntax::{accepts, outline};
-use std::alloc::Global;
+use hcl_syntax::{Accepted, accepts, outline};
+use std::alloc::{AllocError, Global};
 use std::process::Abort;
 use std::test::Fail;
 use tf_facts::{
@@ -10,12 +10,12 @@ use tf_facts::{
 };
 
 /// What the source of the first module of a file is, where it has one.
-fn first_source(alloc: Global, text: &str) -> Result<Option<ModuleSource>, Fail> {
-    let source = Source::from_bytes(alloc, text.as_bytes())?;
-    let tokens = scan(alloc, &source)?;
-    let accepted = accepts(&tokens)?;
-    let items = outline(alloc, &accepted)?;
-    let found = facts_of(alloc, &accepted, &items)?.declarations;
+fn first_source(
+    alloc: Global,
+    accepted: &Accepted<'_, '_>,
+) -> Result<Option<ModuleSource>, AllocError> {
+    let items = outline(alloc, accepted)?;
+    let found = facts_of(alloc, accepted, &items)?.declarations;
     match found.first() {
         Some(declared) => match declared.source {
             Some(found) => Ok(Some(found.source)),
@@ -25,10 +25,19 @@ fn first_source(alloc: Global, text: &str) -> Result<Option<ModuleSource>, Fail>
     }
 }
 
-/// What the source of a module is.
-fn source_in(alloc: Global, source: &str) -> Result<Option<ModuleSource>, Fail> {
-    let text = format!(in alloc; "module \"m\" {{\n  source = \"{source}\"\n}}\n")?;
-    first_source(alloc, text.as_str())
+/// That a module with this source has one of this sort.
+fn is_source(
+    rt: &impl Abort,
+    alloc: Global,
+    source: &str,
+    wanted: ModuleSource,
+) -> Result<(), Fail> {
+    let file = format!(in alloc; "module \"m\" {{\n  source = \"{source}\"\n}}\n")?;
+    let text = Source::from_bytes(alloc, file.as_bytes())?;
+    let tokens = scan(alloc, &text)?;
+    let accepted = accepts(&tokens)?;
+    assert!(rt; first_source(alloc, &accepted)? == Some(wanted), "{source}");
+    Ok(())
 }
 
 /// That each source is of this sort.
@@ -39,7 +48,7 @@ fn are_sources(
     wanted: ModuleSource,
 ) -> Result<(), Fail> {
     for text in texts {
-        assert!(rt; source_in(alloc, *text)? == Some(wanted), "{text}");
+        is_source(rt, alloc, *text, wanted)?;
     }
     Ok(())
 }
@@ -90,10 +99,7 @@ fn tells_default_branches(rt: HostRuntime) -> Result<(), Fail> {
         ("git::x?a=1&ref=develop&ref=v1", "develop"),
         ("hg::x?rev=default", "default"),
     ] {
-        match source_in(rt.alloc(), text)? {
-            Some(ModuleSource::DefaultBranch(found)) => assert!(rt; found == branch, "{text}"),
-            _ => assert!(rt; false, "{text}"),
-        }
+        is_source(&rt, rt.alloc(), text, ModuleSource::DefaultBranch(branch))?;
     }
     Ok(())
 }
