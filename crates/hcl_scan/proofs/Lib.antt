@@ -2,6 +2,7 @@ pub mod BooleanLemmas
 pub mod RunLemmas
 pub mod ElementLemmas
 pub mod EntryLemmas
+pub mod ToldKindLemmas
 pub mod LineLemmas
 pub mod CandidateLemmas
 pub mod LiteralLemmas

@@ -11,6 +11,7 @@ ghost use Rattle.hcl_scan.specs.Regapped.{AllFit, placed, text_with_gaps, withou
 ghost use Rattle.hcl_scan.specs.SideBySide.{AreTexts, Besides};
 ghost use Rattle.hcl_scan.specs.InHeredocs.{ReadsToo, SameInside};
 ghost use Rattle.hcl_scan.specs.declared.token.Kind.TheVariants.{Newline, HeredocOpen};
+ghost use Rattle.hcl_scan.specs.Kinds.{is};
 ghost use Rattle.hcl_scan.specs.Faults.{IsScanFault};
 ghost use Rattle.hcl_source.specs.Places.{line_of};
 ghost use Rattle.hcl_source.specs.Load.{max_source, IsText, IsLoadFault, has_byte_order_mark};
@@ -59,6 +60,11 @@ pub fn context_of_list()
 /// After each front of a text's list of tokens at most `max_open` things are open.
 pub fn bounded()
     ensures { (text : List ℕ) (front back : List Lexeme) → Scans text (front ++ back) → length (opened [] front) ≤ max_open }
+{}
+
+/// No kind is left out of what tells kinds.
+pub fn all_kinds_told()
+    ensures { (kind : Kind) → is kind kind ≡ true }
 {}
 
 /// At one place a text has one kind, and no token is empty.
