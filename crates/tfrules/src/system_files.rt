@@ -3,28 +3,8 @@
 ghost use Rattle.std.specs.Prelude.{◌≡◌, false, None};
 
 use crate::module_files::{ModuleFiles, OpenFault};
-use hcl_scan::{ByteSource, Failed, FromRead};
+use hcl_scan::{ByteSource, FromRead};
 use std::fs::File;
-
-/// A file that was opened. It tells no bytes.
-#[derive(Drop)]
-pub struct FileReader {
-    reader: FromRead<File>,
-}
-
-impl ByteSource for FileReader {
-    ghost left = { λ s. None };
-
-    ghost failed = { λ s. ⟦<FromRead<File> as ByteSource>⟧.failed s.reader };
-
-    fn read(&mut self, buffer: &mut [u8]) -> Result<usize, Failed> {
-        self.reader.read(buffer)
-    }
-
-    fn has_failed(&self) -> bool {
-        self.reader.has_failed()
-    }
-}
 
 /// Opens files by std. It tells no bytes.
 #[derive(Drop)]
@@ -49,7 +29,7 @@ impl SystemFiles {
 }
 
 impl ModuleFiles for SystemFiles {
-    type Reader = FileReader;
+    type Reader = FromRead<File>;
 
     ghost told = { λ s name. None };
 
@@ -57,11 +37,9 @@ impl ModuleFiles for SystemFiles {
 
     ghost read_failed = { λ s. s.has_unread };
 
-    fn reader(&mut self, name: &str) -> Result<FileReader, OpenFault> {
+    fn reader(&mut self, name: &str) -> Result<FromRead<File>, OpenFault> {
         match File::open(&self.rt, name) {
-            Ok(file) => Ok(FileReader {
-                reader: FromRead::new(file),
-            }),
+            Ok(file) => Ok(FromRead::new(file)),
             Err(_) => {
                 self.has_unopened = true;
                 Err(OpenFault)
@@ -69,7 +47,7 @@ impl ModuleFiles for SystemFiles {
         }
     }
 
-    fn give_back(&mut self, reader: FileReader) {
+    fn give_back(&mut self, reader: FromRead<File>) {
         if reader.has_failed() {
             self.has_unread = true;
         }
