@@ -1,21 +1,10 @@
 //! `tffmt` formats the HCL file that it reads from standard input.
 #![tactic(auto)]
 
-#[cfg(test)]
-mod call_tests;
-#[cfg(test)]
-mod failure_tests;
-mod laws;
-mod options;
-#[cfg(test)]
-mod row_tests;
-mod run;
-#[cfg(test)]
-mod tests;
-
 use hcl_scan::{FromRead, ToWrite};
 use std::process::ExitCode;
 use std::{env, io};
+use tffmt_command::run::{bad_line, program};
 
 /// The status of a run that got no words: nothing is printed.
 const NO_WORDS: u8 = 4;
@@ -29,7 +18,7 @@ fn main(rt: HostRuntime) -> ExitCode {
         Ok(arguments) => arguments,
         // A word isn't UTF-8.
         Err(error) if error.kind() == io::ErrorKind::InvalidData => {
-            return ExitCode::from(run::bad_line(&mut out, &mut err));
+            return ExitCode::from(bad_line(&mut out, &mut err));
         }
         Err(_) => return ExitCode::from(NO_WORDS),
     };
@@ -49,6 +38,6 @@ fn main(rt: HostRuntime) -> ExitCode {
     if words.is_empty() {
         return ExitCode::from(NO_WORDS);
     }
-    let status = run::program(alloc, words.as_slice(), &mut input, &mut out, &mut err);
+    let status = program(alloc, words.as_slice(), &mut input, &mut out, &mut err);
     ExitCode::from(status)
 }

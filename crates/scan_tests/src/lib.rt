@@ -1,0 +1,18 @@
+//! Tests of `hcl_source` and `hcl_scan` by their public items. They stand in a crate of their own, since a crate with tests
+//! is proved twice.
+#![tactic(auto)]
+
+#[cfg(test)]
+mod devices;
+#[cfg(test)]
+mod expressions;
+#[cfg(test)]
+mod memory;
+#[cfg(test)]
+mod pairs;
+#[cfg(test)]
+mod scans;
+#[cfg(test)]
+mod sources;
+#[cfg(test)]
+mod tokens;

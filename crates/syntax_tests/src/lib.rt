@@ -1,0 +1,7 @@
+//! Tests of `hcl_syntax` by its public items. They stand in a crate of their own, since a crate with tests is proved twice.
+#![tactic(auto)]
+
+#[cfg(test)]
+mod grammar;
+#[cfg(test)]
+mod outlines;

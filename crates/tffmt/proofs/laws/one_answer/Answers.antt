@@ -1,5 +1,0 @@
-use Rattle.tffmt.proofs.AnswerLemmas.{one_answer}
-use Rattle.tffmt.proofs.laws.one_answer.Goals as goal
-
-pub returns : goal.returns
-returns c = one_answer

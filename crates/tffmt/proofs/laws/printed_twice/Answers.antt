@@ -1,8 +1,0 @@
-use Rattle.tffmt.proofs.PrintAgainLemmas as law
-use Rattle.tffmt.proofs.laws.printed_twice.Goals as goal
-
-pub returns-clause-printed : goal.returns-clause-printed
-returns-clause-printed c = law.printed_again
-
-pub returns-clause-formatted : goal.returns-clause-formatted
-returns-clause-formatted c = law.found_formatted

@@ -1,0 +1,84 @@
+use Rattle.std.proofs.Common.{◌≡◌, ◌⊎◌, inl, inr, refl, subst, ℕ, List, [], ◌∷◌, map}
+use Rattle.std.specs.Prelude.{Result, Ok, Err}
+use Rattle.clap.specs.Words.{Kinds, fault_of, matches_of}
+use Rattle.clap.specs.Words as clap
+use Rattle.clap.specs.declared.error.ErrorKind.{ErrorKind}
+use Rattle.clap.specs.declared.error.ErrorKind.TheVariants as kind
+use Rattle.command_line.specs.Faults.{IsOfWords, One}
+use Rattle.command_line.proofs.OneFaultLemmas.{one_fault}
+use Rattle.hcl_scan.specs.Faults.{IsScanFault}
+use Rattle.hcl_scan.specs.Lexemes.{Lexeme}
+use Rattle.hcl_source.specs.Load.{IsText}
+use Rattle.hcl_source.specs.Places.{place}
+use Rattle.hcl_scan.specs.Scans.{Scans}
+use Rattle.hcl_source.specs.declared.fault.FaultKind.{FaultKind}
+use Rattle.hcl_syntax.specs.Verdict.{verdict}
+use Rattle.command_line.specs.Rows.{Row}
+use Rattle.tffmt_command.specs.Line.{options_by, options_of, tffmt, usage_of_kind}
+use Rattle.tffmt_command.specs.Answer.{IsAnswerBy, IsFileAnswer, IsTextAnswer, refused, row_by, usage_line}
+use Rattle.tffmt_command.specs.declared.options.FmtOptions.{FmtOptions}
+use Rattle.tffmt_command.specs.declared.options.Usage.{Usage}
+use Rattle.tffmt_command.specs.declared.options.Usage.TheVariants as usage
+use Rattle.tffmt_command.proofs.laws.an_answer.Goals as goal
+
+-- ---- no line has want of memory as its usage
+
+usage_of_words : (k : ErrorKind) → IsOfWords k → usage_of_kind k ≡ usage.OutOfMemory → ⊥
+usage_of_words kind.InvalidValue p e = absurd (cc)
+usage_of_words kind.UnknownArgument p e = absurd (cc)
+usage_of_words kind.InvalidSubcommand p e = absurd (cc)
+usage_of_words kind.NoEquals p e = absurd (cc)
+usage_of_words kind.ValueValidation p e = absurd (cc)
+usage_of_words kind.TooManyValues p e = absurd (cc)
+usage_of_words kind.TooFewValues p e = absurd (cc)
+usage_of_words kind.WrongNumberOfValues p e = absurd (cc)
+usage_of_words kind.ArgumentConflict p e = absurd (cc)
+usage_of_words kind.MissingRequiredArgument p e = absurd (cc)
+usage_of_words kind.MissingSubcommand p e = absurd (cc)
+usage_of_words kind.DisplayHelp p e = absurd (cc)
+usage_of_words kind.DisplayHelpOnMissingArgumentOrSubcommand p e = absurd (cc)
+usage_of_words kind.DisplayVersion p e = absurd (cc)
+usage_of_words kind.Io p e = absurd (cc)
+usage_of_words kind.Format p e = absurd (cc)
+usage_of_words kind.OutOfMemory p e = absurd p
+
+line_has_memory : (faults : Kinds) (rows : List clap.Row) → One faults → options_by faults rows ≡ Err usage.OutOfMemory → ⊥
+line_has_memory [] rows p e = absurd (cc)
+line_has_memory (k ∷ []) rows p e = usage_of_words k p (cc)
+line_has_memory (k ∷ l ∷ ks) rows p e = absurd p
+
+has_memory : (words : List (List ℕ)) → options_of words ≡ Err usage.OutOfMemory → ⊥
+has_memory words = line_has_memory (fault_of tffmt words) (matches_of tffmt words) (one_fault tffmt words refl refl)
+
+-- ---- an answer to each input
+
+abbrev Outcome : List ℕ → Type 0
+Outcome text = ((ts : List Lexeme) × Scans text ts) ⊎ ((kind : FaultKind) × (at : ℕ) × IsScanFault text kind at)
+
+text_answer : (options : FmtOptions) (text : List ℕ) → Outcome text → (row : Row) × IsTextAnswer options text row
+text_answer options text (inl s) = (row_by options (verdict (record { text = text; tokens = s.0 })), inr (s.0, s.1, refl))
+text_answer options text (inr f) = (refused (record { kind = f.0; at = place text f.1 }), inl (f.0, f.1, f.2, refl))
+
+answer_by : (r : Result FmtOptions Usage) (input : List ℕ) → (r ≡ Err usage.OutOfMemory → ⊥) → ((options : FmtOptions) → (row : Row) × IsFileAnswer options input row) → (row : Row) × IsAnswerBy r input row
+answer_by (Ok options) input p f = f options
+answer_by (Err usage.Help) input p f = (record { out = usage_line; err = []; status = 0 }, refl)
+answer_by (Err usage.BadLine) input p f = (record { out = []; err = usage_line; status = 2 }, refl)
+answer_by (Err usage.OutOfMemory) input p f = absurd (p refl)
+
+text_there : (text input : List ℕ) (options : FmtOptions) → text ≡ input → IsText input → Outcome text → (row : Row) × IsFileAnswer options input row
+text_there text input options same is found =
+    let answer = text_answer options input (subst Outcome same found) in
+    (answer.0, inr (is, answer.1))
+
+pub returns-in-Some : goal.returns-in-Some
+returns-in-Some c =
+    let text = c.in-Some.ensures.text in
+    let words = map (λ word. word.now) c.args.words.now in
+    answer_by (options_of words) c.args.input.now (has_memory words)
+    (λ options. text_there c.in-Some.text.now c.args.input.now options text.0 text.1 c.list_or_fault.ensures)
+
+pub returns-in-None : goal.returns-in-None
+returns-in-None c =
+    let fault = c.in-None.ensures.fault in
+    let words = map (λ word. word.now) c.args.words.now in
+    answer_by (options_of words) c.args.input.now (has_memory words) (λ options. (refused fault.0, inl (fault.0, fault.1, refl)))

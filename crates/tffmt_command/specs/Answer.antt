@@ -1,0 +1,68 @@
+-- What `tffmt` answers to a line of words and an input. Its texts, its statuses and the order in which faults are looked for
+-- are our own choice.
+use Rattle.std.specs.Prelude.{◌≡◌, ◌⊎◌, ℕ, List, [], Result, Ok, Err, codes, length, nat_lt, if◌then◌else◌}
+use Rattle.std.specs.Str.{bytes_eq}
+use Rattle.hcl_source.specs.Places.{place}
+use Rattle.hcl_source.specs.Load.{max_source, IsText, IsLoadFault}
+use Rattle.hcl_scan.specs.Lexemes.{Lexeme}
+use Rattle.hcl_scan.specs.Scanned.{Scanned}
+use Rattle.hcl_scan.specs.Scans.{Scans}
+use Rattle.hcl_scan.specs.Faults.{IsScanFault}
+use Rattle.hcl_source.specs.declared.fault.Fault.{Fault}
+use Rattle.hcl_source.specs.declared.fault.FaultKind.{FaultKind}
+use Rattle.hcl_source.specs.declared.fault.FaultKind.TheVariants.{ResultTooLarge}
+use Rattle.hcl_syntax.specs.Verdict.{verdict}
+use Rattle.hcl_layout.specs.Print.{print}
+use Rattle.command_line.specs.Rows.{Row, line, error, fault_words}
+use Rattle.tffmt_command.specs.Rows.{formatter}
+use Rattle.tffmt_command.specs.Line.{options_of}
+use Rattle.tffmt_command.specs.declared.options.FmtOptions.{FmtOptions}
+use Rattle.tffmt_command.specs.declared.options.Usage.{Usage}
+use Rattle.tffmt_command.specs.declared.options.Usage.TheVariants as usage
+
+-- `tffmt: error: LINE:COLUMN: TEXT`
+abbrev pub fault_line : Fault → List ℕ
+fault_line fault = error formatter (fault_words fault)
+
+-- the row of a refused file: nothing but its one fault line
+abbrev pub refused : Fault → Row
+refused fault = record { out = []; err = fault_line fault; status = 2 }
+
+-- a print of more than the bytes of a source is none: its fault stands at the front
+abbrev pub too_large : Fault
+too_large = record { kind = ResultTooLarge; at = record { line = 1; column = 1 } }
+
+-- the row of an accepted file
+abbrev pub row_of_file : FmtOptions → Scanned → Row
+row_of_file options s =
+    if nat_lt max_source (length (print s.tokens)) then refused too_large
+    else (if options.check then record { out = []; err = []; status = if bytes_eq (print s.tokens) s.text then 0 else 3 }
+    else record { out = print s.tokens; err = []; status = 0 })
+
+abbrev pub row_by : FmtOptions → Result Scanned Fault → Row
+row_by options (Ok s) = row_of_file options s
+row_by options (Err fault) = refused fault
+
+-- the row of a source: that of its one scan fault, or that of its one list of tokens
+abbrev pub IsTextAnswer : FmtOptions → List ℕ → Row → Type 0
+IsTextAnswer options text row =
+    ((kind : FaultKind) × (at : ℕ) × IsScanFault text kind at × (row ≡ refused (record { kind = kind; at = place text at })))
+    ⊎ ((ts : List Lexeme) × Scans text ts × (row ≡ row_by options (verdict (record { text = text; tokens = ts }))))
+
+-- the row of an input: that of its one load fault, or that of its text
+abbrev pub IsFileAnswer : FmtOptions → List ℕ → Row → Type 0
+IsFileAnswer options input row = ((fault : Fault) × IsLoadFault input fault × (row ≡ refused fault)) ⊎ (IsText input × IsTextAnswer options input row)
+
+abbrev pub usage_line : List ℕ
+usage_line = line (codes "usage: tffmt [--check] [--help]")
+
+-- no line has want of memory as its usage
+abbrev pub IsAnswerBy : Result FmtOptions Usage → List ℕ → Row → Type 0
+IsAnswerBy (Ok options) input row = IsFileAnswer options input row
+IsAnswerBy (Err usage.Help) input row = row ≡ record { out = usage_line; err = []; status = 0 }
+IsAnswerBy (Err usage.BadLine) input row = row ≡ record { out = []; err = usage_line; status = 2 }
+IsAnswerBy (Err usage.OutOfMemory) input row = ⊥
+
+-- THE ANSWER to a line of words and an input
+abbrev pub IsAnswer : List (List ℕ) → List ℕ → Row → Type 0
+IsAnswer words = IsAnswerBy (options_of words)

@@ -1,0 +1,12 @@
+//! Tests of `tffmt_command` by its public items: `options`, and whole runs of `program`. They stand in a crate of their
+//! own, since a crate with tests is proved twice.
+#![tactic(auto)]
+
+#[cfg(test)]
+mod call_tests;
+#[cfg(test)]
+mod failure_tests;
+#[cfg(test)]
+mod row_tests;
+#[cfg(test)]
+mod tests;
