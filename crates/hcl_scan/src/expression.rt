@@ -8,7 +8,7 @@ ghost use Rattle.hcl_scan.specs.Inner.Leads.{lead_of, lead_bytes, slash_lead};
 ghost use Rattle.hcl_scan.specs.declared.expression.Lead.TheVariants.{LessLess};
 
 use crate::comment::inline_comment_len;
-use crate::ident::{heredoc_open_len, ident_len};
+use crate::ident::{begun_ident_len, heredoc_open_len};
 use crate::number::{digits_len, number_len};
 use crate::punctuation::longest_punctuation;
 use crate::text::{blanks_len, byte_at, line_len, newline_len};
@@ -171,7 +171,7 @@ pub(crate) fn next_in_expression(seen: &str, around: Surroundings) -> Option<Fou
     match lead_of(bytes) {
         Lead::LineEnd => found_as(Kind::Newline, newline_len(bytes)),
         Lead::Space => found_as(Kind::Blank, blank_len(bytes, around.inside_heredoc)),
-        Lead::Letter => found_as(Kind::Ident, ident_len(seen)),
+        Lead::Letter => found_as(Kind::Ident, begun_ident_len(seen)),
         Lead::Digit => found_as(Kind::Number, numeral_len(bytes, around.after_dot)),
         Lead::HashOrSlashes => Some(Found {
             kind: Kind::LineComment,

@@ -1,10 +1,11 @@
 //! Identifiers, and the openers of heredocs, whose marker is one.
 
-ghost use Rattle.std.specs.Prelude.{◌≡◌, ◌==◌, ◌||◌, true, false, take, drop, IfSome, IfNone};
+ghost use Rattle.std.specs.Prelude.{◌≡◌, ◌==◌, ◌||◌, true, false, take, drop, get_or, IfSome, IfNone};
 ghost use Rattle.std.specs.Char.{is_ascii_alphabetic};
 ghost use Rattle.std.specs.List.{prefix_len};
 ghost use Rattle.std.specs.Str.{IsCharBoundary};
 ghost use Rattle.hcl_scan.specs.Spelling.{continues_ident, starts_ident, IsIdent, IsHeredocOpen};
+ghost use Rattle.hcl_scan.specs.SideBySide.{may_begin_ident};
 ghost use Rattle.hcl_scan.specs.Inner.Found.{IsLongestFront, HasNoFront, AreContinuing, BeginsWith, BeginsWithout, FirstChar, IsMarker, continues_ascii, heredoc_mark_len};
 
 use crate::text::{byte_at, newline_len};
@@ -97,6 +98,7 @@ fn continuing_len(text: &str) -> usize
 }
 
 /// How many bytes the longest identifier at the front has.
+#[inline(never)]
 pub(crate) fn ident_len(text: &str) -> Option<usize>
     ensures found { IfSome result (IsLongestFront IsIdent text.now) }
     ensures boundary { IfSome result (IsCharBoundary text.now) }
@@ -107,6 +109,22 @@ pub(crate) fn ident_len(text: &str) -> Option<usize>
     } else {
         None
     }
+}
+
+/// The same where the first byte may begin an identifier: of ASCII characters alone it is one then.
+#[inline(always)]
+pub(crate) fn begun_ident_len(text: &str) -> Option<usize>
+    requires { may_begin_ident (get_or text.now 0 0) ≡ true }
+    ensures found { IfSome result (IsLongestFront IsIdent text.now) }
+    ensures boundary { IfSome result (IsCharBoundary text.now) }
+    ensures none { IfNone result (HasNoFront IsIdent text.now) }
+{
+    let bytes = text.as_bytes();
+    let len = continuing_ascii(bytes);
+    if byte_at(bytes, len) < 128 {
+        return Some(len);
+    }
+    ident_len(text)
 }
 
 /// How many bytes of the opener of a heredoc stand before its marker, 0 where there is none.

@@ -1,4 +1,4 @@
-use Rattle.std.proofs.Common.{subst, refl, sym, ap, ◌∙◌}
+use Rattle.std.proofs.Common.{subst, refl, sym, ap, ◌∙◌, get_or}
 use Rattle.std.specs.List.{prefix_len}
 use Rattle.hcl_scan.specs.Inner.Leads.{lead_of}
 use Rattle.hcl_scan.specs.Inner.Found.{CloserText}
@@ -6,6 +6,7 @@ use Rattle.hcl_scan.specs.declared.expression.Lead.TheVariants.{Closer}
 use Rattle.hcl_scan.specs.declared.token.Kind.{Kind}
 use Rattle.hcl_scan.specs.declared.token.Kind.TheVariants.{Newline, InlineComment, Blank, Number, Ident}
 use Rattle.hcl_scan.proofs.ExpressionTextLemmas.{Reading, some_found, none_found, some_cut, same_cut, comment_none, some_mark, no_mark, mark_cut, slash_found, slash_cut, line_comment, line_reading, space_reading, letter_reading, digit_reading, closer_reading, star_reading}
+use Rattle.hcl_scan.proofs.LeadLemmas.{letter_begins}
 use Rattle.hcl_scan.proofs.CommentLemmas.{goes_on}
 use Rattle.hcl_scan.proofs.CutLemmas.{newline_low, blanks_low, number_low, closer_low, inline_low, line_cut}
 use Rattle.hcl_scan.proofs.expression.next_in_expression.Goals as goal
@@ -34,17 +35,20 @@ pub returns-in-Space-clause-none : goal.returns-in-Space-clause-none
 returns-in-Space-clause-none c =
     none_found c.args.around.after_dot c.args.around.inside_heredoc c.args.around.closes_sequence c.args.seen.now c.as_bytes-bytes.result.now c.found_as-in-Space.result c.blank_len.result (space_reading c.args.around.after_dot c.args.around.inside_heredoc c.args.around.closes_sequence) (ap lead_of (sym c.as_bytes-bytes.ensures.value) ∙ sym c.lead_of.ensures ∙ c.in-Space.is) refl c.as_bytes-bytes.ensures.value c.found_as-in-Space.ensures.none c.blank_len.ensures.none
 
+pub begun_ident_len-requires : goal.begun_ident_len-requires
+begun_ident_len-requires c = letter_begins (get_or c.args.seen.now 0 0) (get_or c.args.seen.now 1 0) (ap lead_of (sym c.as_bytes-bytes.ensures.value) ∙ sym c.lead_of.ensures ∙ c.in-Letter.is)
+
 pub returns-in-Letter-clause-found : goal.returns-in-Letter-clause-found
 returns-in-Letter-clause-found c =
-    some_found c.args.around.after_dot c.args.around.inside_heredoc c.args.around.closes_sequence c.args.seen.now c.args.seen.now c.found_as-in-Letter.result c.ident_len.result (letter_reading c.args.around.after_dot c.args.around.inside_heredoc c.args.around.closes_sequence) (ap lead_of (sym c.as_bytes-bytes.ensures.value) ∙ sym c.lead_of.ensures ∙ c.in-Letter.is) refl c.found_as-in-Letter.ensures.some c.ident_len.ensures.found
+    some_found c.args.around.after_dot c.args.around.inside_heredoc c.args.around.closes_sequence c.args.seen.now c.args.seen.now c.found_as-in-Letter.result c.begun_ident_len.result (letter_reading c.args.around.after_dot c.args.around.inside_heredoc c.args.around.closes_sequence) (ap lead_of (sym c.as_bytes-bytes.ensures.value) ∙ sym c.lead_of.ensures ∙ c.in-Letter.is) refl c.found_as-in-Letter.ensures.some c.begun_ident_len.ensures.found
 
 pub returns-in-Letter-clause-boundary : goal.returns-in-Letter-clause-boundary
 returns-in-Letter-clause-boundary c =
-    same_cut Ident c.args.seen.now c.found_as-in-Letter.result c.ident_len.result c.found_as-in-Letter.ensures.some c.ident_len.ensures.boundary
+    same_cut Ident c.args.seen.now c.found_as-in-Letter.result c.begun_ident_len.result c.found_as-in-Letter.ensures.some c.begun_ident_len.ensures.boundary
 
 pub returns-in-Letter-clause-none : goal.returns-in-Letter-clause-none
 returns-in-Letter-clause-none c =
-    none_found c.args.around.after_dot c.args.around.inside_heredoc c.args.around.closes_sequence c.args.seen.now c.args.seen.now c.found_as-in-Letter.result c.ident_len.result (letter_reading c.args.around.after_dot c.args.around.inside_heredoc c.args.around.closes_sequence) (ap lead_of (sym c.as_bytes-bytes.ensures.value) ∙ sym c.lead_of.ensures ∙ c.in-Letter.is) refl refl c.found_as-in-Letter.ensures.none c.ident_len.ensures.none
+    none_found c.args.around.after_dot c.args.around.inside_heredoc c.args.around.closes_sequence c.args.seen.now c.args.seen.now c.found_as-in-Letter.result c.begun_ident_len.result (letter_reading c.args.around.after_dot c.args.around.inside_heredoc c.args.around.closes_sequence) (ap lead_of (sym c.as_bytes-bytes.ensures.value) ∙ sym c.lead_of.ensures ∙ c.in-Letter.is) refl refl c.found_as-in-Letter.ensures.none c.begun_ident_len.ensures.none
 
 pub returns-in-Digit-clause-found : goal.returns-in-Digit-clause-found
 returns-in-Digit-clause-found c =
