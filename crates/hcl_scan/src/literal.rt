@@ -87,6 +87,9 @@ fn is_doubled_sign(seen: &[u8]) -> bool
 fn is_ordinary(b: u8) -> bool
     ensures { result ≡ is_ordinary b }
 {
+    if b > b'\\' {
+        return true;
+    }
     !matches!(b, b'$' | b'%' | b'"' | b'\\' | b'\n' | b'\r')
 }
 
