@@ -131,12 +131,13 @@ impl<'s> Scanner<'s> {
         requires { IsSound self.now }
         ensures { IsStart self.now result }
     {
-        if self.inside_heredoc() {
-            return self.at;
-        }
         match self.stack.template() {
             Some(_) => self.at,
-            None => self.at + count_blanks(self.text[self.at..self.end].as_bytes()),
+            None => if self.inside_heredoc() {
+                self.at
+            } else {
+                self.at + count_blanks(self.text[self.at..self.end].as_bytes())
+            },
         }
     }
 
