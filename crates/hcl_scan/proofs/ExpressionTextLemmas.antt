@@ -324,16 +324,29 @@ none_found {form = form} dot inside closes seen bytes None len reading l s e h g
     let none : HasNoFront form bytes = subst (λ (o : Option ℕ). IfNone o (HasNoFront form bytes)) h g in
     nothing dot inside closes seen reading l s (subst (λ b. HasNoFront form b) e none)
 
+-- the same where what is found says its kind itself
+pub kind_found : {lead : Lead} {kind : Kind} {form : List ℕ → Type 0} → (dot inside closes : Bool) (seen bytes : List ℕ) (r : Option Found) → Reading dot inside closes lead kind form → lead_of seen ≡ lead → bytes ≡ seen →
+    IfSome r (λ f. (f.kind ≡ kind) × IsLongestFront form bytes f.len) → IfSome r (λ f. FindsAt dot inside closes seen f.kind f.len)
+kind_found {form = form} dot inside closes seen bytes (Some f) reading l e h =
+    subst (λ (k : Kind). FindsAt dot inside closes seen k f.len) (sym h.0) (found dot inside closes seen f.len reading l (subst (λ s. IsLongestFront form s f.len) e h.1))
+kind_found dot inside closes seen bytes None reading l e h = tt
+
+pub kind_none : {lead : Lead} {kind : Kind} {form : List ℕ → Type 0} → (dot inside closes : Bool) (seen bytes : List ℕ) (r : Option Found) → Reading dot inside closes lead kind form → lead_of seen ≡ lead → is_settled lead ≡ true → bytes ≡ seen →
+    IfNone r (HasNoFront form bytes) → IfNone r (HasNoneAt dot inside closes seen)
+kind_none dot inside closes seen bytes (Some f) reading l s e h = tt
+kind_none {form = form} dot inside closes seen bytes None reading l s e h = nothing dot inside closes seen reading l s (subst (λ b. HasNoFront form b) e h)
+
+pub kind_cut : {form : List ℕ → Type 0} → (kind : Kind) (seen bytes : List ℕ) (r : Option Found) → IsUtf8 seen → ((text : List ℕ) → form text → EndsLow text) → bytes ≡ seen →
+    IfSome r (λ f. (f.kind ≡ kind) × IsLongestFront form bytes f.len) → IfSome r (λ f. IsCharBoundary seen f.len)
+kind_cut {form} kind seen bytes (Some f) utf8 ends e h = formed_cut seen f.len utf8 ends (subst (λ s. IsLongestFront form s f.len) e h.1)
+kind_cut kind seen bytes None utf8 ends e h = tt
+
 pub some_cut : {form : List ℕ → Type 0} → (kind : Kind) (seen bytes : List ℕ) (r : Option Found) (len : Option ℕ) → IsUtf8 seen → ((text : List ℕ) → form text → EndsLow text) → bytes ≡ seen →
     IfSome r (λ f. (f.kind ≡ kind) × (len ≡ Some f.len)) → IfSome len (IsLongestFront form bytes) → IfSome r (λ f. IsCharBoundary seen f.len)
 some_cut {form} kind seen bytes (Some f) len utf8 ends e h g =
     let front : IsLongestFront form bytes f.len = subst (λ (o : Option ℕ). IfSome o (IsLongestFront form bytes)) h.1 g in
     formed_cut seen f.len utf8 ends (subst (λ s. IsLongestFront form s f.len) e front)
 some_cut kind seen bytes None len utf8 ends e h g = tt
-
-pub same_cut : (kind : Kind) (seen : List ℕ) (r : Option Found) (len : Option ℕ) → IfSome r (λ f. (f.kind ≡ kind) × (len ≡ Some f.len)) → IfSome len (IsCharBoundary seen) → IfSome r (λ f. IsCharBoundary seen f.len)
-same_cut kind seen (Some f) len h g = subst (λ (o : Option ℕ). IfSome o (IsCharBoundary seen)) h.1 g
-same_cut kind seen None len h g = tt
 
 pub comment_none : (dot inside closes : Bool) (seen bytes : List ℕ) (r : Option Found) (len : Option ℕ) → lead_of seen ≡ SlashStar → bytes ≡ seen → IfNone r (len ≡ None) → IfNone len (HasNoFront IsInlineComment bytes) → IfNone r (HasNoneAt dot inside closes seen)
 comment_none dot inside closes seen bytes (Some f) len l e h g = tt

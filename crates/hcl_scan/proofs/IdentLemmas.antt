@@ -1,5 +1,5 @@
 -- Identifiers at the front of a text, character by character.
-use Rattle.std.proofs.Common.{◌≡◌, ℕ, ◌+◌, ◌-◌, ◌<◌, ◌≤◌, ◌&&◌, ◌||◌, ◌==◌, Bool, true, false, List, [], ◌∷◌, ◌++◌, length, take, drop, get_or, get_or-drop, ◌⊎◌, ⊎_elim, inl, inr, refl, sym, ap, subst, ◌∙◌, arith, IsUtf8, length-append, length-drop, append_assoc, append-nil, length-take-le}
+use Rattle.std.proofs.Common.{◌≡◌, ℕ, if◌then◌else◌, ◌+◌, ◌-◌, ◌<◌, ◌≤◌, ◌&&◌, ◌||◌, ◌==◌, Bool, true, false, List, [], ◌∷◌, ◌++◌, length, take, drop, get_or, get_or-drop, ◌⊎◌, ⊎_elim, inl, inr, refl, sym, ap, subst, ◌∙◌, arith, IsUtf8, length-append, length-drop, append_assoc, append-nil, length-take-le}
 use Rattle.std.specs.Prelude.{encode_utf8, encode_utf8_all}
 use Rattle.std.specs.List.{list_all, prefix_len}
 use Rattle.std.specs.Str.{IsCharBoundary, all_scalars}
@@ -13,6 +13,7 @@ use Rattle.std.proofs.lemmas.Bool.Decides.{nat_tests}
 use Rattle.unicode_ident.specs.Ident.{is_xid_start}
 use Rattle.unicode_ident.proofs.IdentLemmas.{is_xid_start-ascii, is_xid_continue-ascii, is_xid_start-is_xid_continue}
 use Rattle.hcl_scan.specs.Spelling.{IsIdent, are_ident, starts_ident, continues_ident}
+use Rattle.hcl_scan.specs.SideBySide.{may_begin_ident}
 use Rattle.hcl_scan.specs.Inner.Found.{IsLongestFront, HasNoFront, BeginsWith, FirstChar, BeginsWithout, AreContinuing, continues_ascii}
 use Rattle.hcl_scan.proofs.BooleanLemmas.{and_true}
 use Rattle.hcl_scan.proofs.CutLemmas.{run_cut}
@@ -136,6 +137,23 @@ ascii_stops text bytes n same is low = subst (λ l. BeginsWithout continues_iden
 
     end : length bytes ≤ n → BeginsWithout continues_ident (drop n bytes)
     end le = inl (drop_all n bytes le)
+
+-- where the first byte may begin an identifier, and the first that doesn't continue one is ASCII too
+pub begun : (text bytes : List ℕ) (n : ℕ) → bytes ≡ text → n ≡ prefix_len continues_ascii bytes → get_or bytes n 0 < 128 → may_begin_ident (get_or text 0 0) ≡ true → BeginsWith starts_ident text
+begun text bytes n same is stops may = at text (is ∙ ap (prefix_len continues_ascii) same) (subst (λ l. get_or l n 0 < 128) same stops) may
+  where
+    alone : (b : ℕ) → b < 128 → may_begin_ident b ≡ true → (is_ascii_alphabetic b || (b == 95)) ≡ true
+    alone b lt h = grind (arith, nat_tests)
+
+    first : (b : ℕ) (rest : List ℕ) (v : Bool) → continues_ascii b ≡ v → n ≡ (if v then 1 + prefix_len continues_ascii rest else 0) → get_or (b ∷ rest) n 0 < 128 → b < 128
+    first b rest true e n_is lt = ascii_only b e
+    first b rest false e n_is lt = subst (λ k. get_or (b ∷ rest) k 0 < 128) n_is lt
+
+    at : (l : List ℕ) → n ≡ prefix_len continues_ascii l → get_or l n 0 < 128 → may_begin_ident (get_or l 0 0) ≡ true → BeginsWith starts_ident l
+    at [] n_is lt h = absurd (cc)
+    at (b ∷ rest) n_is lt h =
+        let ascii : b < 128 = first b rest (continues_ascii b) refl n_is lt in
+        ascii_with starts_ident (b ∷ rest) (omega arith) ascii (ascii_starts b ascii ∙ alone b ascii h)
 
 pub continued_more : (text rest : List ℕ) (len n : ℕ) → IsUtf8 text → Continued text len → rest ≡ drop len text → FirstChar continues_ident rest n → Continued text (len + n)
 continued_more text rest len n utf8 so_far e f =

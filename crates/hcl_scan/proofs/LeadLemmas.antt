@@ -48,6 +48,22 @@ mark_leads text kind is = mark_passes (λ t k. is_sign_lead (lead_of t) && is_si
 pub letter_leads : (b second : ℕ) → may_begin_ident b ≡ true → lead_bytes b second ≡ Letter
 letter_leads b second h = rw h refl
 
+pub letter_begins : (b second : ℕ) → lead_bytes b second ≡ Letter → may_begin_ident b ≡ true
+letter_begins b second h = by (may_begin_ident b) (is_ascii_digit b) ((b == 10) || (b == 13)) (is_blank b) (b == 35) (b == 47) (second == 47) (second == 42) ((b == 60) && (second == 60)) ((b == 125) || (b == 126)) h
+  where
+    by : (a d l s f g v w m i : Bool) → cond a Letter (cond d Digit (cond l LineEnd (cond s Space (cond f HashOrSlashes (cond g (cond v HashOrSlashes (cond w SlashStar OneSlash)) (cond m LessLess (cond i Closer Sign))))))) ≡ Letter → a ≡ true
+    by true d l s f g v w m i h = refl
+    by false true l s f g v w m i h = absurd (cc)
+    by false false true s f g v w m i h = absurd (cc)
+    by false false false true f g v w m i h = absurd (cc)
+    by false false false false true g v w m i h = absurd (cc)
+    by false false false false false true true w m i h = absurd (cc)
+    by false false false false false true false true m i h = absurd (cc)
+    by false false false false false true false false m i h = absurd (cc)
+    by false false false false false false v w true i h = absurd (cc)
+    by false false false false false false v w false true h = absurd (cc)
+    by false false false false false false v w false false h = absurd (cc)
+
 pub digit_leads : (b second : ℕ) → is_ascii_digit b ≡ true → lead_bytes b second ≡ Digit
 digit_leads b second h = let no : may_begin_ident b ≡ false = grind (arith, nat_tests) in rw (no, h) refl
 

@@ -4,7 +4,7 @@ use Rattle.std.specs.Prelude.{All, IfOk, IfErr}
 use Rattle.std.proofs.lemmas.List.{map_push}
 use Rattle.std.proofs.lemmas.List.Elements.{All-push}
 use Rattle.hcl_scan.specs.Lexemes.{Lexeme}
-use Rattle.hcl_scan.specs.Scans.{Run, Next, Scans, IsComplete, begin}
+use Rattle.hcl_scan.specs.Scans.{Run, Next, Scans, begin}
 use Rattle.hcl_scan.specs.Faults.{IsScanFault}
 use Rattle.hcl_scan.specs.Inner.Scanners.{state_of, lexeme_of, lexemes_of, IsEntry, IsStopped, Moves}
 use Rattle.hcl_source.specs.declared.fault.FaultKind.{FaultKind}

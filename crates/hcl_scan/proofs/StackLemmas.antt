@@ -4,14 +4,15 @@ use Rattle.std.proofs.lemmas.List.{length-map, drop-map, drop-drop}
 use Rattle.std.proofs.lemmas.Bool.Decides.{nat_tests}
 use Rattle.hcl_scan.specs.Lexemes.{Opener, Quote, Heredoc, Sequence, Brace, Bracket, Paren, is_heredoc, is_group, is_paren, is_bracket, is_brace, is_sequence, in_heredoc, below_groups, closes_sequence, pop_if, tops_with, moved}
 use Rattle.hcl_scan.specs.Spelling.{Context, Template, Expression, context, context_in}
+use Rattle.hcl_scan.specs.Kinds.{is}
 use Rattle.hcl_scan.specs.Scans.{Hidden, offsets_of, owed, owes}
-use Rattle.hcl_scan.specs.Inner.Openings.{opener_of, openers_of, offsets_in, hidden_of, hidden_under, popped_groups, popped_if, same_opener, closed, closes_on, top_closes, opened_by}
+use Rattle.hcl_scan.specs.Inner.Openings.{opener_of, openers_of, offsets_in, hidden_of, hidden_under, popped_groups, popped_if, same_opener, closed, closes_on, top_closes, opens_or_closes, opened_by}
 use Rattle.hcl_scan.specs.Inner.Scanners.{fits_in, AreEndsBy, IsStack}
 use Rattle.hcl_scan.specs.declared.stack.Opener as kept
 use Rattle.hcl_scan.specs.declared.stack.Opener.TheVariants as by
 use Rattle.hcl_scan.specs.declared.stack.Opened.{Opened}
 use Rattle.hcl_scan.specs.declared.token.Kind.{Kind}
-use Rattle.hcl_scan.specs.declared.token.Kind.TheVariants.{QuoteOpen, HeredocOpen, HeredocClose, InterpOpen, ControlOpen, ParenOpen, BracketOpen, BraceOpen, ParenClose, BracketClose, BraceClose, SeqClose, QuoteClose}
+use Rattle.hcl_scan.specs.declared.token.Kind.TheVariants.{Dot, QuoteOpen, HeredocOpen, HeredocClose, InterpOpen, ControlOpen, ParenOpen, BracketOpen, BraceOpen, ParenClose, BracketClose, BraceClose, SeqClose, QuoteClose}
 
 -- what is seen ends within the text
 within_by : (text : List ℕ) (end : ℕ) (opener : kept.Opener) (around : ℕ → Type 0) → ((e : ℕ) → around e → e ≤ length text) → AreEndsBy text end opener around → end ≤ length text
@@ -275,6 +276,33 @@ module _ (stack : List Opened) where
   dropped_so BracketOpen = opens_more Bracket
   dropped_so BraceOpen = opens_more Brace
   dropped_so _ = leaves_open stack (openers_of stack) (back_none stack) refl
+
+-- what neither opens nor closes leaves all open
+pub stays_so : (kind : Kind) (stack : List Opened) → opens_or_closes kind ≡ false → stack ≡ closed kind stack
+stays_so kind stack h = by kind h ∙ dropped_so stack kind
+  where
+    by : (kind : Kind) → opens_or_closes kind ≡ false → stack ≡ dropped kind stack
+    by ParenClose h = absurd (cc)
+    by BracketClose h = absurd (cc)
+    by BraceClose h = absurd (cc)
+    by SeqClose h = absurd (cc)
+    by QuoteClose h = absurd (cc)
+    by HeredocClose h = absurd (cc)
+    by _ h = refl
+
+pub plain_opens : (kind : Kind) → opens_or_closes kind ≡ false → (opened_by kind ≡ None) × (is HeredocOpen kind ≡ false)
+plain_opens QuoteOpen h = absurd (cc)
+plain_opens InterpOpen h = absurd (cc)
+plain_opens ControlOpen h = absurd (cc)
+plain_opens ParenOpen h = absurd (cc)
+plain_opens BracketOpen h = absurd (cc)
+plain_opens BraceOpen h = absurd (cc)
+plain_opens HeredocOpen h = absurd (cc)
+plain_opens _ h = (refl, refl)
+
+pub changes_no_dot : (kind : Kind) → opens_or_closes kind ≡ true → false ≡ is Dot kind
+changes_no_dot Dot h = absurd (cc)
+changes_no_dot _ h = refl
 
 pub closed_is : (kind : Kind) (stack : List Opened) → opened_by kind ≡ None → kind ≢ HeredocOpen → openers_of (closed kind stack) ≡ moved kind (openers_of stack)
 closed_is kind stack none no_open = ap openers_of (sym (dropped_so stack kind)) ∙ dropped_is kind stack none no_open

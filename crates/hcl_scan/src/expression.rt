@@ -2,13 +2,14 @@
 
 ghost use Rattle.std.specs.Prelude.{◌≡◌, ℕ, Bool, Some, None, IfSome, IfNone};
 ghost use Rattle.std.specs.Str.{IsCharBoundary};
-ghost use Rattle.hcl_scan.specs.Spelling.{punctuation};
+ghost use Rattle.hcl_scan.specs.Spelling.{punctuation, IsNewline};
 ghost use Rattle.hcl_scan.specs.Inner.Found.{FindsAt, HasNoneAt, IsLongestFront, HasNoFront, IsLongestPunctuation, HasNoPunctuation, BlankText, NumberText, CloserText, closer_kind};
-ghost use Rattle.hcl_scan.specs.Inner.Leads.{lead_of, lead_bytes, slash_lead};
+ghost use Rattle.hcl_scan.specs.Inner.Leads.{lead_of, slash_lead};
 ghost use Rattle.hcl_scan.specs.declared.expression.Lead.TheVariants.{LessLess};
+ghost use Rattle.hcl_scan.specs.declared.token.Kind.TheVariants.{Newline};
 
 use crate::comment::inline_comment_len;
-use crate::ident::{heredoc_open_len, ident_len};
+use crate::ident::{begun_ident, heredoc_open_len};
 use crate::number::{digits_len, number_len};
 use crate::punctuation::longest_punctuation;
 use crate::text::{blanks_len, byte_at, line_len, newline_len};
@@ -52,26 +53,21 @@ fn slash_lead(second: u8) -> Lead
     }
 }
 
-fn lead_bytes(first: u8, second: u8) -> Lead
-    ensures { result ≡ lead_bytes first second }
+/// The second byte is looked at only behind a first one that asks for it.
+fn lead_of(seen: &[u8]) -> Lead
+    ensures { result ≡ lead_of seen.now }
 {
-    match first {
+    match byte_at(seen, 0) {
         b'a'..=b'z' | b'A'..=b'Z' | b'_' | 128..=255 => Lead::Letter,
         b'0'..=b'9' => Lead::Digit,
         b'\n' | b'\r' => Lead::LineEnd,
         b' ' | b'\t' => Lead::Space,
         b'#' => Lead::HashOrSlashes,
-        b'/' => slash_lead(second),
-        b'<' if second == b'<' => Lead::LessLess,
+        b'/' => slash_lead(byte_at(seen, 1)),
+        b'<' if byte_at(seen, 1) == b'<' => Lead::LessLess,
         b'}' | b'~' => Lead::Closer,
         _ => Lead::Sign,
     }
-}
-
-fn lead_of(seen: &[u8]) -> Lead
-    ensures { result ≡ lead_of seen.now }
-{
-    lead_bytes(byte_at(seen, 0), byte_at(seen, 1))
 }
 
 fn found_as(kind: Kind, len: Option<usize>) -> Option<Found>
@@ -82,6 +78,20 @@ fn found_as(kind: Kind, len: Option<usize>) -> Option<Found>
         Some(len) => Some(Found { kind, len }),
         None => None,
     }
+}
+
+/// The newline at the front: nearly always it is LF alone.
+fn found_newline(seen: &[u8]) -> Option<Found>
+    ensures found { IfSome result (λ f. (f.kind ≡ Newline) × IsLongestFront IsNewline seen.now f.len) }
+    ensures none { IfNone result (HasNoFront IsNewline seen.now) }
+{
+    if seen.starts_with(b"\n") {
+        return Some(Found {
+            kind: Kind::Newline,
+            len: 1,
+        });
+    }
+    found_as(Kind::Newline, newline_len(seen))
 }
 
 /// Blanks, which are a token inside a heredoc.
@@ -169,9 +179,9 @@ pub(crate) fn next_in_expression(seen: &str, around: Surroundings) -> Option<Fou
 {
     let bytes = seen.as_bytes();
     match lead_of(bytes) {
-        Lead::LineEnd => found_as(Kind::Newline, newline_len(bytes)),
+        Lead::LineEnd => found_newline(bytes),
         Lead::Space => found_as(Kind::Blank, blank_len(bytes, around.inside_heredoc)),
-        Lead::Letter => found_as(Kind::Ident, ident_len(seen)),
+        Lead::Letter => begun_ident(seen),
         Lead::Digit => found_as(Kind::Number, numeral_len(bytes, around.after_dot)),
         Lead::HashOrSlashes => Some(Found {
             kind: Kind::LineComment,

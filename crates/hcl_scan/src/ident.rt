@@ -1,13 +1,16 @@
 //! Identifiers, and the openers of heredocs, whose marker is one.
 
-ghost use Rattle.std.specs.Prelude.{◌≡◌, ◌==◌, ◌||◌, true, false, take, drop, IfSome, IfNone};
+ghost use Rattle.std.specs.Prelude.{◌≡◌, ◌==◌, ◌||◌, true, false, take, drop, get_or, IfSome, IfNone};
 ghost use Rattle.std.specs.Char.{is_ascii_alphabetic};
 ghost use Rattle.std.specs.List.{prefix_len};
 ghost use Rattle.std.specs.Str.{IsCharBoundary};
 ghost use Rattle.hcl_scan.specs.Spelling.{continues_ident, starts_ident, IsIdent, IsHeredocOpen};
+ghost use Rattle.hcl_scan.specs.declared.token.Kind.TheVariants.{Ident};
+ghost use Rattle.hcl_scan.specs.SideBySide.{may_begin_ident};
 ghost use Rattle.hcl_scan.specs.Inner.Found.{IsLongestFront, HasNoFront, AreContinuing, BeginsWith, BeginsWithout, FirstChar, IsMarker, continues_ascii, heredoc_mark_len};
 
 use crate::text::{byte_at, newline_len};
+use crate::token::{Found, Kind};
 
 fn continues_ident(c: char) -> bool
     ensures { result ≡ continues_ident c }
@@ -97,6 +100,7 @@ fn continuing_len(text: &str) -> usize
 }
 
 /// How many bytes the longest identifier at the front has.
+#[inline(never)]
 pub(crate) fn ident_len(text: &str) -> Option<usize>
     ensures found { IfSome result (IsLongestFront IsIdent text.now) }
     ensures boundary { IfSome result (IsCharBoundary text.now) }
@@ -106,6 +110,31 @@ pub(crate) fn ident_len(text: &str) -> Option<usize>
         Some(continuing_len(text))
     } else {
         None
+    }
+}
+
+/// The longest identifier at the front, where the first byte may begin one: of ASCII characters alone it is one then.
+#[inline(always)]
+pub(crate) fn begun_ident(text: &str) -> Option<Found>
+    requires { may_begin_ident (get_or text.now 0 0) ≡ true }
+    ensures found { IfSome result (λ f. (f.kind ≡ Ident) × IsLongestFront IsIdent text.now f.len) }
+    ensures boundary { IfSome result (λ f. IsCharBoundary text.now f.len) }
+    ensures none { IfNone result (HasNoFront IsIdent text.now) }
+{
+    let bytes = text.as_bytes();
+    let len = continuing_ascii(bytes);
+    if byte_at(bytes, len) < 128 {
+        return Some(Found {
+            kind: Kind::Ident,
+            len,
+        });
+    }
+    match ident_len(text) {
+        Some(len) => Some(Found {
+            kind: Kind::Ident,
+            len,
+        }),
+        None => None,
     }
 }
 

@@ -1,9 +1,10 @@
 //! Literal text of templates.
 
-ghost use Rattle.std.specs.Prelude.{◌≡◌, ◌==◌, ◌≤◌, not, ◌||◌, ◌&&◌, ◌∷◌, codes, take, drop, length, None, IsTrue};
-ghost use Rattle.std.specs.List.{list_all};
+ghost use Rattle.std.specs.Prelude.{◌≡◌, ◌+◌, ◌≤◌, ◌||◌, ◌&&◌, ◌∷◌, codes, take, drop, length, None, IsTrue};
+ghost use Rattle.std.specs.List.{list_all, prefix_len};
 ghost use Rattle.std.specs.Char.{is_ascii_hexdigit};
 ghost use Rattle.hcl_scan.specs.Spelling.{escape_len, element_len, are_elements, ends_quoted, hex_digits_after, is_dollar_or_percent, starts};
+ghost use Rattle.hcl_scan.specs.Inner.Found.{is_ordinary};
 
 fn are_hex(bytes: &[u8]) -> bool
     ensures { result ≡ list_all is_ascii_hexdigit bytes.now }
@@ -49,6 +50,9 @@ fn is_code_escape(seen: &[u8], front: &[u8], count: usize) -> bool
 fn escape_len(seen: &[u8]) -> Option<usize>
     ensures { result ≡ escape_len seen.now }
 {
+    if !seen.starts_with(b"\\") {
+        return None;
+    }
     if is_short_escape(seen) {
         Some(2)
     } else if is_code_escape(seen, b"\\u", 4) {
@@ -81,9 +85,30 @@ fn is_doubled_sign(seen: &[u8]) -> bool
 
 /// Whether the byte is an element of literal text by itself, wherever it stands. Most are, so this is asked first.
 fn is_ordinary(b: u8) -> bool
-    ensures { result ≡ not (is_dollar_or_percent b || (b == 34) || (b == 92) || (b == 10) || (b == 13)) }
+    ensures { result ≡ is_ordinary b }
 {
+    if b > b'\\' {
+        return true;
+    }
     !matches!(b, b'$' | b'%' | b'"' | b'\\' | b'\n' | b'\r')
+}
+
+/// How many bytes at the front are each an element of literal text by itself.
+fn ordinary_len(seen: &[u8]) -> usize
+    ensures count { result ≡ prefix_len is_ordinary seen.now }
+    ensures within { result ≤ length seen.now }
+{
+    seen.iter().take_while(|b| is_ordinary(**b)).count()
+}
+
+/// Where the first byte stands from here on that isn't an element of literal text by itself, or the end.
+fn past_ordinary(seen: &[u8], from: usize) -> usize
+    requires { from ≤ length seen.now }
+    ensures place { result ≡ from + prefix_len is_ordinary (drop from seen.now) }
+    ensures within { result ≤ length seen.now }
+{
+    let (_, rest) = seen.split_at(from);
+    from + ordinary_len(rest)
 }
 
 /// How many bytes the element of literal text at the front has, which begins with `b` before `after`.
@@ -91,12 +116,10 @@ fn element_len(seen: &[u8], b: u8, after: &[u8], quoted: bool) -> Option<usize>
     requires { seen.now ≡ b ∷ after.now }
     ensures { result ≡ element_len quoted seen.now }
 {
-    if is_ordinary(b) {
-        Some(1)
-    } else if is_doubled_sign(seen) {
-        Some(3)
-    } else if is_dollar_or_percent(b) {
-        if after.starts_with(b"{") {
+    if is_dollar_or_percent(b) {
+        if is_doubled_sign(seen) {
+            Some(3)
+        } else if after.starts_with(b"{") {
             None
         } else {
             Some(1)
@@ -114,12 +137,12 @@ pub fn literal_len(seen: &[u8], quoted: bool) -> usize
     ensures elements { IsTrue (are_elements quoted 0 (take result seen.now) (drop result seen.now)) }
     ensures ends { element_len quoted (drop result seen.now) ≡ None }
 {
-    let mut len = 0;
+    let mut len = past_ordinary(seen, 0);
     while len < seen.len() {
         let (_, rest) = seen.split_at(len);
         let (_, after) = seen.split_at(len + 1);
         match element_len(rest, seen[len], after, quoted) {
-            Some(n) => len += n,
+            Some(n) => len = past_ordinary(seen, len + n),
             None => return len,
         }
     }

@@ -9,38 +9,41 @@ use crate::text::byte_at;
 use crate::token::Kind;
 
 /// The first of the marks, longer ones first, that stands at the front, and its length in bytes.
+/// The second byte is looked at only behind a first one that may go on with one.
 fn first_punctuation(seen: &[u8]) -> Option<(Kind, usize)>
     ensures { result ≡ first_punctuation seen.now }
 {
-    match (byte_at(seen, 0), byte_at(seen, 1)) {
-        (b'=', b'>') => Some((Kind::Arrow, 2)),
-        (b'=', b'=') => Some((Kind::Equal, 2)),
-        (b'=', _) => Some((Kind::Assign, 1)),
-        (b'"', _) => Some((Kind::QuoteOpen, 1)),
-        (b'.', _) if seen.starts_with(b"...") => Some((Kind::Ellipsis, 3)),
-        (b'.', _) => Some((Kind::Dot, 1)),
-        (b',', _) => Some((Kind::Comma, 1)),
-        (b'{', _) => Some((Kind::BraceOpen, 1)),
-        (b'[', _) => Some((Kind::BracketOpen, 1)),
-        (b']', _) => Some((Kind::BracketClose, 1)),
-        (b'(', _) => Some((Kind::ParenOpen, 1)),
-        (b')', _) => Some((Kind::ParenClose, 1)),
-        (b':', b':') => Some((Kind::ColonColon, 2)),
-        (b':', _) => Some((Kind::Colon, 1)),
-        (b'?', _) => Some((Kind::Question, 1)),
-        (b'!', b'=') => Some((Kind::NotEqual, 2)),
-        (b'!', _) => Some((Kind::Not, 1)),
-        (b'-', _) => Some((Kind::Minus, 1)),
-        (b'+', _) => Some((Kind::Plus, 1)),
-        (b'*', _) => Some((Kind::Star, 1)),
-        (b'%', _) => Some((Kind::Percent, 1)),
-        (b'<', b'=') => Some((Kind::LessEqual, 2)),
-        (b'<', _) => Some((Kind::Less, 1)),
-        (b'>', b'=') => Some((Kind::GreaterEqual, 2)),
-        (b'>', _) => Some((Kind::Greater, 1)),
-        (b'&', b'&') => Some((Kind::And, 2)),
-        (b'|', b'|') => Some((Kind::Or, 2)),
-        _ => None,
+    match byte_at(seen, 0) {
+        b'"' => Some((Kind::QuoteOpen, 1)),
+        b'.' if seen.starts_with(b"...") => Some((Kind::Ellipsis, 3)),
+        b'.' => Some((Kind::Dot, 1)),
+        b',' => Some((Kind::Comma, 1)),
+        b'{' => Some((Kind::BraceOpen, 1)),
+        b'[' => Some((Kind::BracketOpen, 1)),
+        b']' => Some((Kind::BracketClose, 1)),
+        b'(' => Some((Kind::ParenOpen, 1)),
+        b')' => Some((Kind::ParenClose, 1)),
+        b'?' => Some((Kind::Question, 1)),
+        b'-' => Some((Kind::Minus, 1)),
+        b'+' => Some((Kind::Plus, 1)),
+        b'*' => Some((Kind::Star, 1)),
+        b'%' => Some((Kind::Percent, 1)),
+        first => match (first, byte_at(seen, 1)) {
+            (b'=', b'>') => Some((Kind::Arrow, 2)),
+            (b'=', b'=') => Some((Kind::Equal, 2)),
+            (b'=', _) => Some((Kind::Assign, 1)),
+            (b':', b':') => Some((Kind::ColonColon, 2)),
+            (b':', _) => Some((Kind::Colon, 1)),
+            (b'!', b'=') => Some((Kind::NotEqual, 2)),
+            (b'!', _) => Some((Kind::Not, 1)),
+            (b'<', b'=') => Some((Kind::LessEqual, 2)),
+            (b'<', _) => Some((Kind::Less, 1)),
+            (b'>', b'=') => Some((Kind::GreaterEqual, 2)),
+            (b'>', _) => Some((Kind::Greater, 1)),
+            (b'&', b'&') => Some((Kind::And, 2)),
+            (b'|', b'|') => Some((Kind::Or, 2)),
+            _ => None,
+        },
     }
 }
 

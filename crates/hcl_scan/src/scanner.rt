@@ -10,7 +10,7 @@ ghost use Rattle.hcl_scan.specs.declared.token.Kind.TheVariants.{Dot, HeredocOpe
 ghost use Rattle.hcl_scan.specs.Scans.{ahead, begin, HasNone, IsComplete};
 ghost use Rattle.hcl_scan.specs.Faults.{no_token_fault};
 ghost use Rattle.hcl_scan.specs.Inner.Found.{Finds};
-ghost use Rattle.hcl_scan.specs.Inner.Openings.{openers_of, opened_by};
+ghost use Rattle.hcl_scan.specs.Inner.Openings.{openers_of, opens_or_closes, opened_by};
 ghost use Rattle.hcl_scan.specs.declared.stack.Opened.{Opened};
 ghost use Rattle.hcl_scan.specs.Inner.Scanners.{state_of, IsSound, IsStart, IsNext, IsStopped, Moves};
 
@@ -68,6 +68,28 @@ fn is_heredoc_open(kind: Kind) -> bool
     matches!(kind, Kind::HeredocOpen)
 }
 
+/// Whether a token of this kind changes what is open. Most don't, and are told by this one test.
+fn opens_or_closes(kind: Kind) -> bool
+    ensures { result ≡ opens_or_closes kind }
+{
+    matches!(
+        kind,
+        Kind::HeredocOpen
+            | Kind::QuoteOpen
+            | Kind::ParenOpen
+            | Kind::BracketOpen
+            | Kind::BraceOpen
+            | Kind::ParenClose
+            | Kind::BracketClose
+            | Kind::SeqClose
+            | Kind::BraceClose
+            | Kind::InterpOpen
+            | Kind::ControlOpen
+            | Kind::QuoteClose
+            | Kind::HeredocClose
+    )
+}
+
 /// Why no token of an expression begins here.
 fn no_expression(seen: &[u8]) -> FaultKind
     ensures { result ≡ no_token_fault Expression seen.now }
@@ -109,12 +131,13 @@ impl<'s> Scanner<'s> {
         requires { IsSound self.now }
         ensures { IsStart self.now result }
     {
-        if self.inside_heredoc() {
-            return self.at;
-        }
         match self.stack.template() {
             Some(_) => self.at,
-            None => self.at + count_blanks(self.text[self.at..self.end].as_bytes()),
+            None => if self.inside_heredoc() {
+                self.at
+            } else {
+                self.at + count_blanks(self.text[self.at..self.end].as_bytes())
+            },
         }
     }
 
@@ -191,17 +214,29 @@ impl<'s> Scanner<'s> {
         }
     }
 
-    /// Reads what closes something, or neither opens nor closes.
+    /// Reads what neither opens nor closes.
     fn read_plain(&mut self, entry: Entry)
         requires sound { IsSound self.old }
         requires next { IsNext self.old entry }
+        requires plain { opens_or_closes entry.kind ≡ false }
+        ensures { Moves self.old entry self.new }
+    {
+        self.at = entry.end as usize;
+        self.after_dot = is_dot(entry.kind);
+    }
+
+    /// Reads what closes something.
+    fn read_closer(&mut self, entry: Entry)
+        requires sound { IsSound self.old }
+        requires next { IsNext self.old entry }
+        requires closes { opens_or_closes entry.kind ≡ true }
         requires plain { opened_by entry.kind ≡ None }
         requires no_heredoc { is HeredocOpen entry.kind ≡ false }
         ensures { Moves self.old entry self.new }
     {
         self.stack.close(entry.kind);
         self.at = entry.end as usize;
-        self.after_dot = is_dot(entry.kind);
+        self.after_dot = false;
     }
 
     /// Reads what opens something, heredocs aside.
@@ -287,13 +322,17 @@ impl<'s> Scanner<'s> {
         ensures read { OnOk result (Moves self.old entry self.new) }
         ensures stopped { IfErr result (IsStopped self.old) }
     {
+        if !opens_or_closes(entry.kind) {
+            self.read_plain(entry);
+            return Ok(());
+        }
         if let Some(by) = opener(entry.kind) {
             return self.read_opener(entry, by);
         }
         if is_heredoc_open(entry.kind) {
             return self.read_heredoc(entry);
         }
-        self.read_plain(entry);
+        self.read_closer(entry);
         Ok(())
     }
 

@@ -4,7 +4,7 @@ ghost use Rattle.std.specs.Prelude.{◌≡◌, ◌==◌, ◌<◌, ◌≤◌, ◌
 ghost use Rattle.hcl_scan.specs.Lexemes.{max_open};
 ghost use Rattle.hcl_scan.specs.Spelling.{context, context_in};
 ghost use Rattle.hcl_scan.specs.Scans.{owes};
-ghost use Rattle.hcl_scan.specs.Inner.Openings.{opener_of, openers_of, is_group_by, popped_groups, same_opener, popped_if, closes_on, top_closes, opened_on, closed, quoted_in, template_top, innermost_owed};
+ghost use Rattle.hcl_scan.specs.Inner.Openings.{opener_of, openers_of, is_group_by, popped_groups, same_opener, popped_if, closes_on, top_closes, opened_on, closed, quoted_in, template_on, closes_under, template_top, innermost_owed};
 
 use crate::token::Kind;
 use arrayvec::ArrayVec;
@@ -48,6 +48,10 @@ pub const MAX_OPEN: usize = 256;
 #[derive(Drop)]
 pub struct Stack {
     entries: ArrayVec<Opened, MAX_OPEN>,
+    /// What the innermost says, kept apart since each token asks for it: where it is a template, whether in quotes.
+    template: Option<bool>,
+    /// Whether a `}` closes a sequence.
+    closes_sequence: bool,
 }
 
 impl Model for Stack {
@@ -56,7 +60,11 @@ impl Model for Stack {
 
     ghost Value = { List Opened };
 
+    ghost use Rattle.hcl_scan.specs.Inner.Openings.{SaysOfTop};
+
     ghost view = { λ s. reverse s.entries.items };
+
+    ghost invariant = { λ s. SaysOfTop s.template s.closes_sequence (reverse s.entries.items) };
 }
 
 /// Whether these are the same opener.
@@ -81,6 +89,26 @@ fn template_by(by: Opener) -> Option<bool>
         Opener::Quote => Some(true),
         Opener::Heredoc { .. } => Some(false),
         _ => None,
+    }
+}
+
+/// Where the innermost is a template, whether it is in quotes.
+fn template_on(top: Option<Opened>) -> Option<bool>
+    ensures { result ≡ template_on top }
+{
+    match top {
+        Some(top) => template_by(top.by),
+        None => None,
+    }
+}
+
+/// Whether a `}` closes a sequence under the innermost.
+fn closes_under(top: Option<Opened>) -> bool
+    ensures { result ≡ closes_under top }
+{
+    match top {
+        Some(top) => top.closes_sequence,
+        None => false,
     }
 }
 
@@ -115,6 +143,8 @@ impl Stack {
     {
         Stack {
             entries: ArrayVec::new(),
+            template: None,
+            closes_sequence: false,
         }
     }
 
@@ -130,6 +160,8 @@ impl Stack {
         ensures { self.new ≡ opened ∷ self.old }
     {
         self.entries.push(opened);
+        self.template = template_by(opened.by);
+        self.closes_sequence = opened.closes_sequence;
     }
 
     /// The innermost.
@@ -143,7 +175,11 @@ impl Stack {
         ensures popped { MatchOption result ((self.old ≡ []) × (self.new ≡ [])) (λ o. self.old ≡ o ∷ self.new) }
         ensures rest { self.new ≡ drop 1 self.old }
     {
-        self.entries.pop()
+        let popped = self.entries.pop();
+        let top = self.entries.last().copied();
+        self.template = template_on(top);
+        self.closes_sequence = closes_under(top);
+        popped
     }
 }
 
@@ -152,20 +188,16 @@ impl Stack {
     pub fn closes_sequence(&self) -> bool
         ensures { result ≡ top_closes self.now }
     {
-        match self.top() {
-            Some(top) => top.closes_sequence,
-            None => false,
-        }
+        let _ = &self.entries;
+        self.closes_sequence
     }
 
     /// Where the innermost is a template, whether it is in quotes.
     pub fn template(&self) -> Option<bool>
         ensures { result ≡ quoted_in (context (openers_of self.now)) }
     {
-        match self.top() {
-            Some(top) => template_by(top.by),
-            None => None,
-        }
+        let _ = &self.entries;
+        self.template
     }
 
     /// The innermost, if it is a template.

@@ -25,6 +25,12 @@ pub fn next_in_template(seen: &[u8], quoted: bool) -> Option<Found>
     ensures none { IfNone result ((opens : List Opener) (after_dot : Bool) → context opens ≡ Template quoted → HasNone opens after_dot seen.now) }
     ensures boundary { IsUtf8 seen.now → IfSome result (λ f. IsCharBoundary seen.now f.len) }
 {
+    if quoted && seen.starts_with(b"\"") {
+        return Some(Found {
+            kind: Kind::QuoteClose,
+            len: 1,
+        });
+    }
     let len = literal_len(seen, quoted);
     if len > 0 {
         return Some(Found {
@@ -42,12 +48,6 @@ pub fn next_in_template(seen: &[u8], quoted: bool) -> Option<Found>
         return Some(Found {
             kind: Kind::ControlOpen,
             len: sequence_open_len(seen),
-        });
-    }
-    if quoted && seen.starts_with(b"\"") {
-        return Some(Found {
-            kind: Kind::QuoteClose,
-            len: 1,
         });
     }
     None

@@ -1,10 +1,10 @@
 -- What the parts of the scanner find at the front of what is seen: the longest token of any kind, as the HCL Native
 -- Syntax Specification reads a text, or the longest front of one form.
-use Rattle.std.specs.Prelude.{◌≡◌, ℕ, ◌+◌, ◌<◌, ◌≤◌, ◌==◌, ◌||◌, Bool, true, false, List, [], ◌++◌, length, take, drop, if◌then◌else◌, get_or, codes, encode_utf8, encode_utf8_all, ◌⊎◌}
+use Rattle.std.specs.Prelude.{◌≡◌, ℕ, ◌+◌, ◌<◌, ◌≤◌, ◌==◌, ◌||◌, not, Bool, true, false, List, [], ◌++◌, length, take, drop, if◌then◌else◌, get_or, codes, encode_utf8, encode_utf8_all, ◌⊎◌}
 use Rattle.std.specs.Char.{is_ascii_alphanumeric}
 use Rattle.std.specs.List.{list_all}
 use Rattle.hcl_scan.specs.Lexemes.{Opener, in_heredoc, closes_sequence}
-use Rattle.hcl_scan.specs.Spelling.{IsPunctuation, IsBlanks, IsDigits, IsNumber, IsIdent, IsNewline, starts, continues_ident, context, Expression}
+use Rattle.hcl_scan.specs.Spelling.{IsPunctuation, IsBlanks, IsDigits, IsNumber, IsIdent, IsNewline, starts, is_dollar_or_percent, continues_ident, context, Expression}
 use Rattle.hcl_scan.specs.Scans.{IsLongest, HasNone}
 use Rattle.hcl_scan.specs.declared.token.Kind.{Kind}
 use Rattle.hcl_scan.specs.declared.token.Kind.TheVariants.{SeqClose, BraceClose}
@@ -85,6 +85,10 @@ continues_ascii b = is_ascii_alphanumeric b || (b == 95) || (b == 45)
 -- characters that may continue an identifier
 abbrev pub AreContinuing : List ℕ → Type 0
 AreContinuing text = (cs : List ℕ) × (list_all continues_ident cs ≡ true) × (text ≡ encode_utf8_all cs)
+
+-- the byte is an element of literal text by itself, wherever it stands
+abbrev pub is_ordinary : ℕ → Bool
+is_ordinary b = not (is_dollar_or_percent b || (b == 34) || (b == 92) || (b == 10) || (b == 13))
 
 -- the marker of a heredoc's opener, and the newline behind it
 abbrev pub IsMarker : List ℕ → Type 0

@@ -1,6 +1,6 @@
 -- What the scanner keeps of what is open, and what this stands for: the openers, their offsets, what heredocs hide.
 -- Our own choice of representation: a heredoc is kept by where its closing marker ends and where what was seen around it ends.
-use Rattle.std.specs.Prelude.{ℕ, ◌-◌, Bool, true, false, List, [], ◌∷◌, length, map, drop, if◌then◌else◌, slice_range, Option, Some, None}
+use Rattle.std.specs.Prelude.{◌≡◌, ℕ, ◌-◌, Bool, true, false, List, [], ◌∷◌, length, map, drop, if◌then◌else◌, slice_range, Option, Some, None}
 use Rattle.hcl_scan.specs.Lexemes as lexemes
 use Rattle.hcl_scan.specs.Lexemes.{is_group, moved}
 use Rattle.hcl_scan.specs.Spelling.{Context, Template, Expression, context_in}
@@ -9,7 +9,7 @@ use Rattle.hcl_scan.specs.declared.stack.Opener.{Opener}
 use Rattle.hcl_scan.specs.declared.stack.Opener.TheVariants.{Quote, Heredoc, Sequence, Brace, Bracket, Paren}
 use Rattle.hcl_scan.specs.declared.stack.Opened.{Opened}
 use Rattle.hcl_scan.specs.declared.token.Kind.{Kind}
-use Rattle.hcl_scan.specs.declared.token.Kind.TheVariants.{QuoteOpen, InterpOpen, ControlOpen, ParenOpen, BracketOpen, BraceOpen}
+use Rattle.hcl_scan.specs.declared.token.Kind.TheVariants.{HeredocOpen, QuoteOpen, InterpOpen, ControlOpen, ParenOpen, BracketOpen, BraceOpen, ParenClose, BracketClose, SeqClose, BraceClose, QuoteClose, HeredocClose}
 
 abbrev pub opener_of : Opener → lexemes.Opener
 opener_of Quote = lexemes.Quote
@@ -86,6 +86,42 @@ innermost_owed (o ∷ stack) = if owes (opener_of o.by) then Some o else innermo
 abbrev pub quoted_in : Context → Option Bool
 quoted_in (Template quoted) = Some quoted
 quoted_in Expression = None
+
+-- of the innermost: where it is a template, whether it is in quotes
+abbrev pub template_on : Option Opened → Option Bool
+template_on None = None
+template_on (Some o) = quoted_in (context_in (opener_of o.by))
+
+-- a `}` closes a sequence under the innermost
+abbrev pub closes_under : Option Opened → Bool
+closes_under None = false
+closes_under (Some o) = o.closes_sequence
+
+abbrev pub top_of : List Opened → Option Opened
+top_of [] = None
+top_of (o ∷ stack) = Some o
+
+-- what is kept of the top beside the stack
+pub record SaysOfTop (quoted : Option Bool) (closing : Bool) (stack : List Opened) : Type 0 where
+  pub template : quoted ≡ template_on (top_of stack)
+  pub closes : closing ≡ closes_under (top_of stack)
+
+-- tokens of this kind change what is open
+abbrev pub opens_or_closes : Kind → Bool
+opens_or_closes HeredocOpen = true
+opens_or_closes QuoteOpen = true
+opens_or_closes ParenOpen = true
+opens_or_closes BracketOpen = true
+opens_or_closes BraceOpen = true
+opens_or_closes ParenClose = true
+opens_or_closes BracketClose = true
+opens_or_closes SeqClose = true
+opens_or_closes BraceClose = true
+opens_or_closes InterpOpen = true
+opens_or_closes ControlOpen = true
+opens_or_closes QuoteClose = true
+opens_or_closes HeredocClose = true
+opens_or_closes _ = false
 
 -- what a token of this kind opens, heredocs aside
 abbrev pub opened_by : Kind → Option Opener

@@ -1,50 +1,49 @@
-use Rattle.std.proofs.Common.{subst, refl, sym, ap, ◌∙◌}
+use Rattle.std.proofs.Common.{subst, refl, sym, ap, ◌∙◌, get_or}
 use Rattle.std.specs.List.{prefix_len}
 use Rattle.hcl_scan.specs.Inner.Leads.{lead_of}
 use Rattle.hcl_scan.specs.Inner.Found.{CloserText}
 use Rattle.hcl_scan.specs.declared.expression.Lead.TheVariants.{Closer}
 use Rattle.hcl_scan.specs.declared.token.Kind.{Kind}
-use Rattle.hcl_scan.specs.declared.token.Kind.TheVariants.{Newline, InlineComment, Blank, Number, Ident}
-use Rattle.hcl_scan.proofs.ExpressionTextLemmas.{Reading, some_found, none_found, some_cut, same_cut, comment_none, some_mark, no_mark, mark_cut, slash_found, slash_cut, line_comment, line_reading, space_reading, letter_reading, digit_reading, closer_reading, star_reading}
+use Rattle.hcl_scan.specs.declared.token.Kind.TheVariants.{Newline, InlineComment, Blank, Number}
+use Rattle.hcl_scan.proofs.ExpressionTextLemmas.{Reading, some_found, none_found, some_cut, kind_found, kind_none, kind_cut, comment_none, some_mark, no_mark, mark_cut, slash_found, slash_cut, line_comment, line_reading, space_reading, letter_reading, digit_reading, closer_reading, star_reading}
+use Rattle.hcl_scan.proofs.LeadLemmas.{letter_begins}
 use Rattle.hcl_scan.proofs.CommentLemmas.{goes_on}
 use Rattle.hcl_scan.proofs.CutLemmas.{newline_low, blanks_low, number_low, closer_low, inline_low, line_cut}
 use Rattle.hcl_scan.proofs.expression.next_in_expression.Goals as goal
 
 pub returns-in-LineEnd-clause-found : goal.returns-in-LineEnd-clause-found
 returns-in-LineEnd-clause-found c =
-    some_found c.args.around.after_dot c.args.around.inside_heredoc c.args.around.closes_sequence c.args.seen.now c.as_bytes-bytes.result.now c.found_as.result c.newline_len.result (line_reading c.args.around.after_dot c.args.around.inside_heredoc c.args.around.closes_sequence) (ap lead_of (sym c.as_bytes-bytes.ensures.value) ∙ sym c.lead_of.ensures ∙ c.in-LineEnd.is) c.as_bytes-bytes.ensures.value c.found_as.ensures.some c.newline_len.ensures.found
+    kind_found c.args.around.after_dot c.args.around.inside_heredoc c.args.around.closes_sequence c.args.seen.now c.as_bytes-bytes.result.now c.found_newline.result (line_reading c.args.around.after_dot c.args.around.inside_heredoc c.args.around.closes_sequence) (ap lead_of (sym c.as_bytes-bytes.ensures.value) ∙ sym c.lead_of.ensures ∙ c.in-LineEnd.is) c.as_bytes-bytes.ensures.value c.found_newline.ensures.found
 
 pub returns-in-LineEnd-clause-boundary : goal.returns-in-LineEnd-clause-boundary
-returns-in-LineEnd-clause-boundary c =
-    some_cut Newline c.args.seen.now c.as_bytes-bytes.result.now c.found_as.result c.newline_len.result c.utf8.seen newline_low c.as_bytes-bytes.ensures.value c.found_as.ensures.some c.newline_len.ensures.found
+returns-in-LineEnd-clause-boundary c = kind_cut Newline c.args.seen.now c.as_bytes-bytes.result.now c.found_newline.result c.utf8.seen newline_low c.as_bytes-bytes.ensures.value c.found_newline.ensures.found
 
 pub returns-in-LineEnd-clause-none : goal.returns-in-LineEnd-clause-none
 returns-in-LineEnd-clause-none c =
-    none_found c.args.around.after_dot c.args.around.inside_heredoc c.args.around.closes_sequence c.args.seen.now c.as_bytes-bytes.result.now c.found_as.result c.newline_len.result (line_reading c.args.around.after_dot c.args.around.inside_heredoc c.args.around.closes_sequence) (ap lead_of (sym c.as_bytes-bytes.ensures.value) ∙ sym c.lead_of.ensures ∙ c.in-LineEnd.is) refl c.as_bytes-bytes.ensures.value c.found_as.ensures.none c.newline_len.ensures.none
+    kind_none c.args.around.after_dot c.args.around.inside_heredoc c.args.around.closes_sequence c.args.seen.now c.as_bytes-bytes.result.now c.found_newline.result (line_reading c.args.around.after_dot c.args.around.inside_heredoc c.args.around.closes_sequence) (ap lead_of (sym c.as_bytes-bytes.ensures.value) ∙ sym c.lead_of.ensures ∙ c.in-LineEnd.is) refl c.as_bytes-bytes.ensures.value c.found_newline.ensures.none
 
 pub returns-in-Space-clause-found : goal.returns-in-Space-clause-found
 returns-in-Space-clause-found c =
-    some_found c.args.around.after_dot c.args.around.inside_heredoc c.args.around.closes_sequence c.args.seen.now c.as_bytes-bytes.result.now c.found_as-in-Space.result c.blank_len.result (space_reading c.args.around.after_dot c.args.around.inside_heredoc c.args.around.closes_sequence) (ap lead_of (sym c.as_bytes-bytes.ensures.value) ∙ sym c.lead_of.ensures ∙ c.in-Space.is) c.as_bytes-bytes.ensures.value c.found_as-in-Space.ensures.some c.blank_len.ensures.found
+    some_found c.args.around.after_dot c.args.around.inside_heredoc c.args.around.closes_sequence c.args.seen.now c.as_bytes-bytes.result.now c.found_as.result c.blank_len.result (space_reading c.args.around.after_dot c.args.around.inside_heredoc c.args.around.closes_sequence) (ap lead_of (sym c.as_bytes-bytes.ensures.value) ∙ sym c.lead_of.ensures ∙ c.in-Space.is) c.as_bytes-bytes.ensures.value c.found_as.ensures.some c.blank_len.ensures.found
 
 pub returns-in-Space-clause-boundary : goal.returns-in-Space-clause-boundary
 returns-in-Space-clause-boundary c =
-    some_cut Blank c.args.seen.now c.as_bytes-bytes.result.now c.found_as-in-Space.result c.blank_len.result c.utf8.seen (blanks_low c.args.around.inside_heredoc) c.as_bytes-bytes.ensures.value c.found_as-in-Space.ensures.some c.blank_len.ensures.found
+    some_cut Blank c.args.seen.now c.as_bytes-bytes.result.now c.found_as.result c.blank_len.result c.utf8.seen (blanks_low c.args.around.inside_heredoc) c.as_bytes-bytes.ensures.value c.found_as.ensures.some c.blank_len.ensures.found
 
 pub returns-in-Space-clause-none : goal.returns-in-Space-clause-none
 returns-in-Space-clause-none c =
-    none_found c.args.around.after_dot c.args.around.inside_heredoc c.args.around.closes_sequence c.args.seen.now c.as_bytes-bytes.result.now c.found_as-in-Space.result c.blank_len.result (space_reading c.args.around.after_dot c.args.around.inside_heredoc c.args.around.closes_sequence) (ap lead_of (sym c.as_bytes-bytes.ensures.value) ∙ sym c.lead_of.ensures ∙ c.in-Space.is) refl c.as_bytes-bytes.ensures.value c.found_as-in-Space.ensures.none c.blank_len.ensures.none
+    none_found c.args.around.after_dot c.args.around.inside_heredoc c.args.around.closes_sequence c.args.seen.now c.as_bytes-bytes.result.now c.found_as.result c.blank_len.result (space_reading c.args.around.after_dot c.args.around.inside_heredoc c.args.around.closes_sequence) (ap lead_of (sym c.as_bytes-bytes.ensures.value) ∙ sym c.lead_of.ensures ∙ c.in-Space.is) refl c.as_bytes-bytes.ensures.value c.found_as.ensures.none c.blank_len.ensures.none
+
+pub begun_ident-requires : goal.begun_ident-requires
+begun_ident-requires c = letter_begins (get_or c.args.seen.now 0 0) (get_or c.args.seen.now 1 0) (ap lead_of (sym c.as_bytes-bytes.ensures.value) ∙ sym c.lead_of.ensures ∙ c.in-Letter.is)
 
 pub returns-in-Letter-clause-found : goal.returns-in-Letter-clause-found
 returns-in-Letter-clause-found c =
-    some_found c.args.around.after_dot c.args.around.inside_heredoc c.args.around.closes_sequence c.args.seen.now c.args.seen.now c.found_as-in-Letter.result c.ident_len.result (letter_reading c.args.around.after_dot c.args.around.inside_heredoc c.args.around.closes_sequence) (ap lead_of (sym c.as_bytes-bytes.ensures.value) ∙ sym c.lead_of.ensures ∙ c.in-Letter.is) refl c.found_as-in-Letter.ensures.some c.ident_len.ensures.found
-
-pub returns-in-Letter-clause-boundary : goal.returns-in-Letter-clause-boundary
-returns-in-Letter-clause-boundary c =
-    same_cut Ident c.args.seen.now c.found_as-in-Letter.result c.ident_len.result c.found_as-in-Letter.ensures.some c.ident_len.ensures.boundary
+    kind_found c.args.around.after_dot c.args.around.inside_heredoc c.args.around.closes_sequence c.args.seen.now c.args.seen.now c.begun_ident.result (letter_reading c.args.around.after_dot c.args.around.inside_heredoc c.args.around.closes_sequence) (ap lead_of (sym c.as_bytes-bytes.ensures.value) ∙ sym c.lead_of.ensures ∙ c.in-Letter.is) refl c.begun_ident.ensures.found
 
 pub returns-in-Letter-clause-none : goal.returns-in-Letter-clause-none
 returns-in-Letter-clause-none c =
-    none_found c.args.around.after_dot c.args.around.inside_heredoc c.args.around.closes_sequence c.args.seen.now c.args.seen.now c.found_as-in-Letter.result c.ident_len.result (letter_reading c.args.around.after_dot c.args.around.inside_heredoc c.args.around.closes_sequence) (ap lead_of (sym c.as_bytes-bytes.ensures.value) ∙ sym c.lead_of.ensures ∙ c.in-Letter.is) refl refl c.found_as-in-Letter.ensures.none c.ident_len.ensures.none
+    kind_none c.args.around.after_dot c.args.around.inside_heredoc c.args.around.closes_sequence c.args.seen.now c.args.seen.now c.begun_ident.result (letter_reading c.args.around.after_dot c.args.around.inside_heredoc c.args.around.closes_sequence) (ap lead_of (sym c.as_bytes-bytes.ensures.value) ∙ sym c.lead_of.ensures ∙ c.in-Letter.is) refl refl c.begun_ident.ensures.none
 
 pub returns-in-Digit-clause-found : goal.returns-in-Digit-clause-found
 returns-in-Digit-clause-found c =
