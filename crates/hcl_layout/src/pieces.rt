@@ -17,7 +17,7 @@ ghost use Rattle.hcl_layout.specs.Inner.LineGaps.{len_with_blanks};
 ghost use Rattle.hcl_layout.specs.Inner.Simple.{IsFrom};
 ghost use Rattle.hcl_layout.specs.Print.{print};
 
-use crate::gap::{LineGaps, gap_by_cells, plain_gap_at, plain_line};
+use crate::gap::{LineGaps, gap_behind, gap_by_cells, next_cell, plain_gap_at, plain_line};
 use crate::line::line_at;
 use crate::measured::Measured;
 use crate::runs::{Walk, start_walk};
@@ -27,6 +27,8 @@ use crate::runs::{Walk, start_walk};
 #[derive(Clone, Copy)]
 pub struct Pieces {
     pub next: usize,
+    /// Up to here no piece is a cell or the first of its line.
+    pub stop: usize,
     pub start: usize,
     pub end: usize,
     pub gaps: LineGaps,
@@ -50,6 +52,7 @@ pub fn start() -> Pieces
 {
     Pieces {
         next: 0,
+        stop: 0,
         start: 0,
         end: 0,
         gaps: plain_line(0),
@@ -74,11 +77,12 @@ fn enter_line(pieces: &mut Pieces, tokens: &Measured<'_, '_>)
     let (gaps, comment) = pieces.walk.pass_commented(pieces.comment, tokens, at, line);
     pieces.gaps = gaps;
     pieces.start = at;
+    pieces.stop = at;
     pieces.end = at + line.len;
     pieces.comment = comment;
 }
 
-/// The piece at hand.
+/// The piece at hand, which may be a cell or the first of its line.
 #[inline(always)]
 fn take_piece<'s>(pieces: &mut Pieces, tokens: &Measured<'_, 's>) -> Piece<'s>
     requires ready { Ready tokens.now.tokens pieces.old }
@@ -92,9 +96,35 @@ fn take_piece<'s>(pieces: &mut Pieces, tokens: &Measured<'_, 's>) -> Piece<'s>
     ensures source { IsFrom tokens.now.text result.start result.text.now }
 {
     let (start, at) = (pieces.start, pieces.next);
+    let place = at - start;
     let token = tokens.get(at);
     let plain = plain_gap_at(tokens, pieces.gaps.level, start, at, token);
-    let gap = gap_by_cells(pieces.gaps, at - start, plain);
+    let gap = gap_by_cells(pieces.gaps, place, plain);
+    pieces.next = at + 1;
+    pieces.stop = start + next_cell(pieces.gaps, place, pieces.end - start);
+    Piece {
+        gap,
+        text: token.text,
+        start: token.start,
+    }
+}
+
+/// The piece at hand, which is neither, as most are.
+#[inline(always)]
+fn take_plain_piece<'s>(pieces: &mut Pieces, tokens: &Measured<'_, 's>) -> Piece<'s>
+    requires ready { Ready tokens.now.tokens pieces.old }
+    requires some { pieces.old.next < pieces.old.stop }
+    requires small { len_with_blanks tokens.now.tokens < 2 ^ 32 }
+    ensures ready { Ready tokens.now.tokens pieces.new }
+    ensures left { to_print tokens.now.tokens pieces.old ≡ bytes_of result ++ to_print tokens.now.tokens pieces.new }
+    ensures next { pieces.new.next ≡ pieces.old.next + 1 }
+    ensures gap { result.gap ≤ 2 ^ 34 }
+    ensures text { length result.text.now < 2 ^ 32 }
+    ensures source { IsFrom tokens.now.text result.start result.text.now }
+{
+    let at = pieces.next;
+    let token = tokens.get(at);
+    let gap = gap_behind(tokens, pieces.gaps.level, pieces.start, at, token);
     pieces.next = at + 1;
     Piece {
         gap,
@@ -103,9 +133,9 @@ fn take_piece<'s>(pieces: &mut Pieces, tokens: &Measured<'_, 's>) -> Piece<'s>
     }
 }
 
-/// The next piece.
-#[inline(always)]
-pub fn next_piece<'s>(pieces: &mut Pieces, tokens: &Measured<'_, 's>) -> Option<Piece<'s>>
+/// The next piece, which may be a cell or the first of its line.
+#[inline(never)]
+fn next_stop<'s>(pieces: &mut Pieces, tokens: &Measured<'_, 's>) -> Option<Piece<'s>>
     requires ready { Ready tokens.now.tokens pieces.old }
     requires small { len_with_blanks tokens.now.tokens < 2 ^ 32 }
     ensures ready { Ready tokens.now.tokens pieces.new }
@@ -124,4 +154,23 @@ pub fn next_piece<'s>(pieces: &mut Pieces, tokens: &Measured<'_, 's>) -> Option<
     }
     enter_line(pieces, tokens);
     Some(take_piece(pieces, tokens))
+}
+
+/// The next piece.
+#[inline(always)]
+pub fn next_piece<'s>(pieces: &mut Pieces, tokens: &Measured<'_, 's>) -> Option<Piece<'s>>
+    requires ready { Ready tokens.now.tokens pieces.old }
+    requires small { len_with_blanks tokens.now.tokens < 2 ^ 32 }
+    ensures ready { Ready tokens.now.tokens pieces.new }
+    ensures left { MatchOption result (to_print tokens.now.tokens pieces.old ≡ []) (λ p. to_print tokens.now.tokens pieces.old ≡ bytes_of p ++ to_print tokens.now.tokens pieces.new) }
+    ensures next { IfSome result (λ p. pieces.new.next ≡ pieces.old.next + 1) }
+    ensures within { pieces.new.next ≤ length tokens.now.tokens }
+    ensures gap { IfSome result (λ p. p.gap ≤ 2 ^ 34) }
+    ensures text { IfSome result (λ p. length p.text.now < 2 ^ 32) }
+    ensures source { IfSome result (λ p. IsFrom tokens.now.text p.start p.text.now) }
+{
+    if pieces.next < pieces.stop {
+        return Some(take_plain_piece(pieces, tokens));
+    }
+    next_stop(pieces, tokens)
 }
