@@ -5,7 +5,7 @@ ghost use Rattle.hcl_scan.specs.Scanned.{lexeme};
 ghost use Rattle.hcl_syntax.specs.Balanced.{max_open};
 ghost use Rattle.hcl_layout.specs.Gaps.{indent as indent_of, plain_gaps, width as width_of};
 ghost use Rattle.hcl_layout.specs.Inner.Left.{token_before};
-ghost use Rattle.hcl_layout.specs.Inner.LineGaps.{ArePlain, IsKnown, known_place, known_width, len_with_blanks, cell_gap as cell_gap_of, gaps_in, plain_gap as plain_gap_of, plain_of};
+ghost use Rattle.hcl_layout.specs.Inner.LineGaps.{ArePlain, IsKnown, known_place, known_width, len_with_blanks, cell_gap as cell_gap_of, gap_of, gaps_in, given_or, plain_gap as plain_gap_of, plain_of};
 
 use crate::measured::Measured;
 use hcl_scan::{Kind, Token};
@@ -162,12 +162,35 @@ fn cell_gap(cell: Option<Cell>, place: usize, otherwise: u64) -> u64
     otherwise
 }
 
-/// The gap at a place of a line: that of its cell there, and else the plain one.
+/// The gap of the cell at its place, if that is the place.
 #[inline(always)]
-pub fn gap_by_cells(gaps: LineGaps, place: usize, plain: u64) -> u64
-    ensures { result ≡ cell_gap_of gaps.comment place (cell_gap_of gaps.assign place plain) }
+fn gap_of_cell(cell: Option<Cell>, place: usize) -> Option<u64>
+    ensures { (plain : ℕ) → given_or result plain ≡ cell_gap_of cell place plain }
 {
-    cell_gap(gaps.comment, place, cell_gap(gaps.assign, place, plain))
+    let Some(cell) = cell else {
+        return None;
+    };
+    if cell.place == place {
+        return Some(cell.gap);
+    }
+    None
+}
+
+/// The gap before the token at a place of the line that begins at `start`: that of its cell there, and else the plain one.
+#[inline(always)]
+pub fn gap_at(tokens: &Measured<'_, '_>, gaps: LineGaps, start: usize, at: usize) -> u64
+    requires within { at < length tokens.now.tokens }
+    requires order { start ≤ at }
+    requires level { gaps.level ≤ max_open }
+    ensures { (t : Lexeme) → slice_get tokens.now.tokens at ≡ Some t → result ≡ gap_of gaps (at - start) (token_before tokens.now.tokens start (at - 1)) (token_before tokens.now.tokens start at) t }
+{
+    if let Some(gap) = gap_of_cell(gaps.comment, at - start) {
+        return gap;
+    }
+    if let Some(gap) = gap_of_cell(gaps.assign, at - start) {
+        return gap;
+    }
+    plain_gap_at(tokens, gaps.level, start, at, tokens.get(at))
 }
 
 /// A place behind another of a line, up to which the cell doesn't stand: its own, if it stands behind, or else the end.
