@@ -1,6 +1,6 @@
 //! One blank or none between two neighbours on a line. The words in quotation marks are headings of `docs/STYLE.md`, "Between
 //! two words of a line", where each rule stands with its examples.
-ghost use Rattle.std.specs.Prelude.{◌≡◌, ◌||◌, IfNone, IfSome, Option, option_map, true};
+ghost use Rattle.std.specs.Prelude.{◌≡◌, ◌||◌, IfNone, IfSome, IsTrue, Option, option_map, true};
 ghost use Rattle.hcl_scan.specs.Lexemes.{Lexeme};
 ghost use Rattle.hcl_scan.specs.Scanned.{lexeme};
 ghost use Rattle.hcl_scan.specs.Kinds.{is};
@@ -89,6 +89,15 @@ fn asked_space(before: Option<Token<'_>>, subject: Token<'_>, after: Token<'_>) 
     }
 }
 
+/// Whether a token is kept as it stands, whatever stands before it: "Heredocs" are, byte for byte.
+#[inline(always)]
+fn is_kept(after: Token<'_>) -> bool
+    ensures inside { result ≡ after.entry.inside_heredoc }
+    ensures row { IsTrue result → (is Newline after.entry.kind || after.entry.inside_heredoc) ≡ true }
+{
+    after.inside_heredoc
+}
+
 /// What their kinds tell of two tokens, and else what has to be asked.
 #[inline(always)]
 fn kinds_space(subject: Token<'_>, after: Token<'_>) -> Option<bool>
@@ -96,8 +105,7 @@ fn kinds_space(subject: Token<'_>, after: Token<'_>) -> Option<bool>
     ensures untold { IfNone result (asks_more subject.entry.kind after.entry.kind ≡ true) }
     ensures asked { IfNone result ((before : Option Lexeme) → asked_space_of before (lexeme subject.entry) (lexeme after.entry) ≡ spaced before (lexeme subject.entry) (lexeme after.entry)) }
 {
-    // "Heredocs" are kept byte for byte
-    if after.inside_heredoc {
+    if is_kept(after) {
         return Some(false);
     }
     pair_space(subject.kind, after.kind)

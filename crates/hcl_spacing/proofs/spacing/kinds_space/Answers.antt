@@ -1,19 +1,12 @@
-use Rattle.std.proofs.Common.{◌≡◌, ◌||◌, refl, Bool, false, true, Option, Some, None, sym}
+use Rattle.std.proofs.Common.{◌∙◌, ◌≡◌, Bool, false, true, Option, Some, None, sym}
 use Rattle.std.specs.Prelude.{IfNone, IfSome}
 use Rattle.hcl_scan.specs.Lexemes.{Lexeme}
 use Rattle.hcl_scan.specs.Scanned.{lexeme}
 use Rattle.hcl_scan.specs.declared.token.Kind.{Kind}
 use Rattle.hcl_spacing.specs.Inner.KindPairs.{asked_space, pair_space}
-use Rattle.hcl_scan.specs.Kinds.{is}
-use Rattle.hcl_scan.specs.declared.token.Kind.TheVariants as kind
 use Rattle.hcl_spacing.specs.Spacing.{asks_more, spaced}
 use Rattle.hcl_spacing.proofs.KindPairLemmas.{asked_is, given, untold}
-use Rattle.hcl_spacing.proofs.SpacingLemmas.{row_one}
 use Rattle.hcl_spacing.proofs.spacing.kinds_space.Goals as goal
-
-inside : (a b : Bool) → b ≡ true → (a || b) ≡ true
-inside true b e = refl
-inside false b e = e
 
 all_given : (o : Option Bool) (subject after : Lexeme) → after.inside_heredoc ≡ false → o ≡ pair_space subject.kind after.kind → IfSome o (λ space. (before : Option Lexeme) → space ≡ spaced before subject after)
 all_given None subject after e f = tt
@@ -28,15 +21,10 @@ all_untold None l r g = untold l r (sym g)
 all_untold (Some space) l r g = tt
 
 pub returns-clause-given : goal.returns-clause-given
-returns-clause-given c = all_given c.pair_space.result (lexeme c.args.subject) (lexeme c.args.after) c.if-after.false c.pair_space.ensures
+returns-clause-given c = all_given c.pair_space.result (lexeme c.args.subject) (lexeme c.args.after) (sym c.is_kept.ensures.inside ∙ c.if-is_kept.false) c.pair_space.ensures
 
 pub returns-clause-asked : goal.returns-clause-asked
-returns-clause-asked c = all_asked c.pair_space.result (lexeme c.args.subject) (lexeme c.args.after) c.if-after.false c.pair_space.ensures
+returns-clause-asked c = all_asked c.pair_space.result (lexeme c.args.subject) (lexeme c.args.after) (sym c.is_kept.ensures.inside ∙ c.if-is_kept.false) c.pair_space.ensures
 
 pub returns-clause-untold : goal.returns-clause-untold
 returns-clause-untold c = all_untold c.pair_space.result c.args.subject.kind c.args.after.kind c.pair_space.ensures
-
-pub returns-then-after-clause-given : goal.returns-then-after-clause-given
-returns-then-after-clause-given c before =
-    let after = lexeme c.args.after in
-    sym (row_one before (lexeme c.args.subject) after (inside (is kind.Newline after.kind) after.inside_heredoc c.if-after.true))
