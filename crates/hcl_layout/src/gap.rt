@@ -1,11 +1,11 @@
 //! The gaps of one line, and the widths before its cells.
-ghost use Rattle.std.specs.Prelude.{◌*◌, ◌≡◌, ◌<◌, ◌≤◌, ◌+◌, ◌-◌, ◌^◌, true, None, Some, length, take, drop, option_map, slice_get};
+ghost use Rattle.std.specs.Prelude.{◌*◌, ◌≡◌, ◌<◌, ◌≤◌, ◌+◌, ◌-◌, ◌^◌, ℕ, true, None, Some, length, take, drop, option_map, slice_get};
 ghost use Rattle.hcl_scan.specs.Lexemes.{Lexeme};
 ghost use Rattle.hcl_scan.specs.Scanned.{lexeme};
 ghost use Rattle.hcl_syntax.specs.Balanced.{max_open};
 ghost use Rattle.hcl_layout.specs.Gaps.{indent as indent_of, plain_gaps, width as width_of};
 ghost use Rattle.hcl_layout.specs.Inner.Left.{token_before};
-ghost use Rattle.hcl_layout.specs.Inner.LineGaps.{IsKnown, known_place, known_width, len_with_blanks, cell_gap as cell_gap_of, gaps_in, plain_gap as plain_gap_of, plain_of};
+ghost use Rattle.hcl_layout.specs.Inner.LineGaps.{ArePlain, IsKnown, known_place, known_width, len_with_blanks, cell_gap as cell_gap_of, gap_of, gaps_in, given_or, plain_gap as plain_gap_of, plain_of};
 
 use crate::measured::Measured;
 use hcl_scan::{Kind, Token};
@@ -107,7 +107,28 @@ fn looked_up_gap(tokens: &Measured<'_, '_>, level: u32, start: usize, at: usize)
     plain_gap(level, before, subject, token)
 }
 
-/// The same, where nearly always the token and the one before it tell the gap.
+/// The same behind another token of the line, where nearly always the two tell the gap.
+#[inline(always)]
+pub fn gap_behind(
+    tokens: &Measured<'_, '_>,
+    level: u32,
+    start: usize,
+    at: usize,
+    token: Token<'_>,
+) -> u64
+    requires there { slice_get tokens.now.tokens at ≡ Some (lexeme token) }
+    requires within { at < length tokens.now.tokens }
+    requires behind { start < at }
+    requires level { level ≤ max_open }
+    ensures { result ≡ plain_gap_of level (token_before tokens.now.tokens start (at - 1)) (token_before tokens.now.tokens start at) (lexeme token.entry) }
+{
+    match space_by_kinds(tokens.get(at - 1), token) {
+        Some(space) => u64::from(space),
+        None => looked_up_gap(tokens, level, start, at),
+    }
+}
+
+/// The same of any token of the line.
 #[inline(always)]
 pub fn plain_gap_at(
     tokens: &Measured<'_, '_>,
@@ -121,13 +142,10 @@ pub fn plain_gap_at(
     requires level { level ≤ max_open }
     ensures { result ≡ plain_gap_of level (token_before tokens.now.tokens start (at - 1)) (token_before tokens.now.tokens start at) (lexeme token.entry) }
 {
-    let Some(subject) = token_before(tokens, start, at) else {
-        return indent(level, token);
-    };
-    match space_by_kinds(subject, token) {
-        Some(space) => u64::from(space),
-        None => looked_up_gap(tokens, level, start, at),
+    if start < at {
+        return gap_behind(tokens, level, start, at, token);
     }
+    indent(level, token)
 }
 
 /// The gap of the cell at its place, and else the other.
@@ -144,12 +162,59 @@ fn cell_gap(cell: Option<Cell>, place: usize, otherwise: u64) -> u64
     otherwise
 }
 
-/// The gap at a place of a line: that of its cell there, and else the plain one.
+/// The gap of the cell at its place, if that is the place.
 #[inline(always)]
-pub fn gap_by_cells(gaps: LineGaps, place: usize, plain: u64) -> u64
-    ensures { result ≡ cell_gap_of gaps.comment place (cell_gap_of gaps.assign place plain) }
+fn gap_of_cell(cell: Option<Cell>, place: usize) -> Option<u64>
+    ensures { (plain : ℕ) → given_or result plain ≡ cell_gap_of cell place plain }
 {
-    cell_gap(gaps.comment, place, cell_gap(gaps.assign, place, plain))
+    let Some(cell) = cell else {
+        return None;
+    };
+    if cell.place == place {
+        return Some(cell.gap);
+    }
+    None
+}
+
+/// The gap before the token at a place of the line that begins at `start`: that of its cell there, and else the plain one.
+#[inline(always)]
+pub fn gap_at(tokens: &Measured<'_, '_>, gaps: LineGaps, start: usize, at: usize) -> u64
+    requires within { at < length tokens.now.tokens }
+    requires order { start ≤ at }
+    requires level { gaps.level ≤ max_open }
+    ensures { (t : Lexeme) → slice_get tokens.now.tokens at ≡ Some t → result ≡ gap_of gaps (at - start) (token_before tokens.now.tokens start (at - 1)) (token_before tokens.now.tokens start at) t }
+{
+    if let Some(gap) = gap_of_cell(gaps.comment, at - start) {
+        return gap;
+    }
+    if let Some(gap) = gap_of_cell(gaps.assign, at - start) {
+        return gap;
+    }
+    plain_gap_at(tokens, gaps.level, start, at, tokens.get(at))
+}
+
+/// A place behind another of a line, up to which the cell doesn't stand: its own, if it stands behind, or else the end.
+#[inline(always)]
+fn before_cell(cell: Option<Cell>, place: usize, end: usize) -> usize
+    ensures within { result ≤ end }
+    ensures clear { (k gap : ℕ) → place < k → k < result → cell_gap_of cell k gap ≡ gap }
+{
+    let Some(cell) = cell else {
+        return end;
+    };
+    if cell.place <= place {
+        return end;
+    }
+    cell.place.min(end)
+}
+
+/// The place of the first cell behind another place of a line of that length, or else the line's end.
+#[inline(always)]
+pub fn next_cell(gaps: LineGaps, place: usize, len: usize) -> usize
+    ensures within { result ≤ len }
+    ensures clear { ArePlain gaps (place + 1) result }
+{
+    before_cell(gaps.comment, place, before_cell(gaps.assign, place, len))
 }
 
 /// The width before the token at a place of the line that begins at a token, by the level and the spacing alone.

@@ -9,7 +9,7 @@
 //!
 //! The line at hand has been surveyed, so its level and the gaps of its cells are known; the other gaps come from the table
 //! of spacing, token by token. At the end of the line the next one is surveyed.
-ghost use Rattle.std.specs.Prelude.{◌≡◌, ◌<◌, ◌≤◌, ◌+◌, ◌*◌, ◌^◌, ◌++◌, ◌∷◌, [], List, length, IfSome, MatchOption};
+ghost use Rattle.std.specs.Prelude.{◌≡◌, ◌<◌, ◌≤◌, ◌+◌, ◌*◌, ◌^◌, ◌++◌, ◌∷◌, [], List, Some, length, replicate, slice_get, IfSome, MatchOption};
 ghost use Rattle.hcl_scan.specs.Lexemes.{Lexeme};
 ghost use Rattle.hcl_layout.specs.Inner.Depths.{BalancedFrom};
 ghost use Rattle.hcl_layout.specs.Inner.Left.{Ready, bytes_of, gaps_left, rest_gaps, to_print};
@@ -17,16 +17,19 @@ ghost use Rattle.hcl_layout.specs.Inner.LineGaps.{len_with_blanks};
 ghost use Rattle.hcl_layout.specs.Inner.Simple.{IsFrom};
 ghost use Rattle.hcl_layout.specs.Print.{print};
 
-use crate::gap::{LineGaps, gap_by_cells, plain_gap_at, plain_line};
+use crate::gap::{LineGaps, gap_at, gap_behind, next_cell, plain_line};
 use crate::line::line_at;
 use crate::measured::Measured;
 use crate::runs::{Walk, start_walk};
+use hcl_scan::Token;
 
 /// Where the next piece stands: the number of its token, where its line begins and ends, the
 /// line's gaps, and what is known of the lines up to its end.
 #[derive(Clone, Copy)]
 pub struct Pieces {
     pub next: usize,
+    /// Up to here no piece is a cell or the first of its line.
+    pub stop: usize,
     pub start: usize,
     pub end: usize,
     pub gaps: LineGaps,
@@ -50,6 +53,7 @@ pub fn start() -> Pieces
 {
     Pieces {
         next: 0,
+        stop: 0,
         start: 0,
         end: 0,
         gaps: plain_line(0),
@@ -59,6 +63,7 @@ pub fn start() -> Pieces
 }
 
 /// Goes on to the next line.
+#[inline(always)]
 fn enter_line(pieces: &mut Pieces, tokens: &Measured<'_, '_>)
     requires ready { Ready tokens.now.tokens pieces.old }
     requires done { pieces.old.next ≡ pieces.old.end }
@@ -69,20 +74,84 @@ fn enter_line(pieces: &mut Pieces, tokens: &Measured<'_, '_>)
     ensures same { pieces.new.next ≡ pieces.old.next }
     ensures some { pieces.new.next < pieces.new.end }
 {
-    let at = pieces.end;
+    let at = pieces.next;
     let line = line_at(tokens, at, pieces.walk.depth);
     let (gaps, comment) = pieces.walk.pass_commented(pieces.comment, tokens, at, line);
     pieces.gaps = gaps;
     pieces.start = at;
+    pieces.stop = at;
     pieces.end = at + line.len;
     pieces.comment = comment;
 }
 
-/// The piece at hand.
+/// Passes the piece at hand, which may be a cell or the first of its line, and gives its gap.
 #[inline(always)]
-fn take_piece<'s>(pieces: &mut Pieces, tokens: &Measured<'_, 's>) -> Piece<'s>
+fn pass_piece(pieces: &mut Pieces, tokens: &Measured<'_, '_>) -> u64
     requires ready { Ready tokens.now.tokens pieces.old }
     requires some { pieces.old.next < pieces.old.end }
+    requires small { len_with_blanks tokens.now.tokens < 2 ^ 32 }
+    ensures ready { Ready tokens.now.tokens pieces.new }
+    ensures left { (t : Lexeme) → slice_get tokens.now.tokens pieces.old.next ≡ Some t → to_print tokens.now.tokens pieces.old ≡ (replicate result 32 ++ t.text) ++ to_print tokens.now.tokens pieces.new }
+    ensures next { pieces.new.next ≡ pieces.old.next + 1 }
+    ensures gap { result ≤ 2 ^ 34 }
+{
+    let (start, at) = (pieces.start, pieces.next);
+    let gap = gap_at(tokens, pieces.gaps, start, at);
+    pieces.next = at + 1;
+    pieces.stop = start + next_cell(pieces.gaps, at - start, pieces.end - start);
+    gap
+}
+
+/// Passes the piece at hand, which is a cell.
+#[inline(never)]
+fn pass_cell(pieces: &mut Pieces, tokens: &Measured<'_, '_>) -> u64
+    requires ready { Ready tokens.now.tokens pieces.old }
+    requires some { pieces.old.next < pieces.old.end }
+    requires small { len_with_blanks tokens.now.tokens < 2 ^ 32 }
+    ensures ready { Ready tokens.now.tokens pieces.new }
+    ensures left { (t : Lexeme) → slice_get tokens.now.tokens pieces.old.next ≡ Some t → to_print tokens.now.tokens pieces.old ≡ (replicate result 32 ++ t.text) ++ to_print tokens.now.tokens pieces.new }
+    ensures next { pieces.new.next ≡ pieces.old.next + 1 }
+    ensures gap { result ≤ 2 ^ 34 }
+{
+    pass_piece(pieces, tokens)
+}
+
+/// Passes the first piece of the next line.
+#[inline(never)]
+fn pass_first(pieces: &mut Pieces, tokens: &Measured<'_, '_>) -> u64
+    requires ready { Ready tokens.now.tokens pieces.old }
+    requires done { pieces.old.next ≡ pieces.old.end }
+    requires within { pieces.old.end < length tokens.now.tokens }
+    requires small { len_with_blanks tokens.now.tokens < 2 ^ 32 }
+    ensures ready { Ready tokens.now.tokens pieces.new }
+    ensures left { (t : Lexeme) → slice_get tokens.now.tokens pieces.old.next ≡ Some t → to_print tokens.now.tokens pieces.old ≡ (replicate result 32 ++ t.text) ++ to_print tokens.now.tokens pieces.new }
+    ensures next { pieces.new.next ≡ pieces.old.next + 1 }
+    ensures gap { result ≤ 2 ^ 34 }
+{
+    enter_line(pieces, tokens);
+    pass_piece(pieces, tokens)
+}
+
+/// The piece of a token that was passed. The calls that pass one give its gap alone, since they would give a piece by way
+/// of the memory.
+#[inline(always)]
+fn piece_of(token: Token<'_>, gap: u64) -> Piece<'_>
+    ensures gap { result.gap ≡ gap }
+    ensures text { result.text.now ≡ token.entry.text.now }
+    ensures start { result.start ≡ token.entry.start }
+{
+    Piece {
+        gap,
+        text: token.text,
+        start: token.start,
+    }
+}
+
+/// The piece at hand, which is no cell and not the first of its line, as most are.
+#[inline(always)]
+fn take_plain_piece<'s>(pieces: &mut Pieces, tokens: &Measured<'_, 's>) -> Piece<'s>
+    requires ready { Ready tokens.now.tokens pieces.old }
+    requires some { pieces.old.next < pieces.old.stop }
     requires small { len_with_blanks tokens.now.tokens < 2 ^ 32 }
     ensures ready { Ready tokens.now.tokens pieces.new }
     ensures left { to_print tokens.now.tokens pieces.old ≡ bytes_of result ++ to_print tokens.now.tokens pieces.new }
@@ -91,10 +160,9 @@ fn take_piece<'s>(pieces: &mut Pieces, tokens: &Measured<'_, 's>) -> Piece<'s>
     ensures text { length result.text.now < 2 ^ 32 }
     ensures source { IsFrom tokens.now.text result.start result.text.now }
 {
-    let (start, at) = (pieces.start, pieces.next);
+    let at = pieces.next;
     let token = tokens.get(at);
-    let plain = plain_gap_at(tokens, pieces.gaps.level, start, at, token);
-    let gap = gap_by_cells(pieces.gaps, at - start, plain);
+    let gap = gap_behind(tokens, pieces.gaps.level, pieces.start, at, token);
     pieces.next = at + 1;
     Piece {
         gap,
@@ -116,12 +184,17 @@ pub fn next_piece<'s>(pieces: &mut Pieces, tokens: &Measured<'_, 's>) -> Option<
     ensures text { IfSome result (λ p. length p.text.now < 2 ^ 32) }
     ensures source { IfSome result (λ p. IsFrom tokens.now.text p.start p.text.now) }
 {
-    if pieces.next < pieces.end {
-        return Some(take_piece(pieces, tokens));
+    let at = pieces.next;
+    if at < pieces.stop {
+        return Some(take_plain_piece(pieces, tokens));
     }
-    if pieces.end == tokens.len() {
+    if at < pieces.end {
+        let gap = pass_cell(pieces, tokens);
+        return Some(piece_of(tokens.get(at), gap));
+    }
+    if at == tokens.len() {
         return None;
     }
-    enter_line(pieces, tokens);
-    Some(take_piece(pieces, tokens))
+    let gap = pass_first(pieces, tokens);
+    Some(piece_of(tokens.get(at), gap))
 }

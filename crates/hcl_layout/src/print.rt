@@ -1,5 +1,5 @@
 //! How long the print is, and whether the source is its own print.
-ghost use Rattle.std.specs.Prelude.{◌≡◌, ◌≢◌, ◌↔◌, ◌<◌, ◌≤◌, ◌^◌, ◌++◌, ◌==◌, ◌&&◌, ℕ, List, IsTrue, length, drop, take, nat_eq, nat_le, IfSome, MatchOption};
+ghost use Rattle.std.specs.Prelude.{◌≡◌, ◌≢◌, ◌↔◌, ◌<◌, ◌≤◌, ◌+◌, ◌^◌, ◌++◌, ◌==◌, ◌&&◌, ℕ, List, IsTrue, length, drop, take, nat_eq, nat_le, IfSome, MatchOption};
 ghost use Rattle.std.specs.List.{list_all, starts_with};
 ghost use Rattle.hcl_layout.specs.Inner.Left.{bytes_of};
 ghost use Rattle.hcl_layout.specs.Inner.Simple.{IsFrom};
@@ -32,7 +32,7 @@ fn are_spaces(bytes: &[u8]) -> bool
 
 /// Whether so many spaces stand at the front.
 #[inline(always)]
-pub fn begins_blank(bytes: &[u8], gap: u64) -> bool
+fn begins_blank(bytes: &[u8], gap: u64) -> bool
     ensures { result ≡ (nat_le gap (length bytes.now) && list_all (λ b. b == 32) (take gap bytes.now)) }
 {
     if gap > bytes.len() as u64 {
@@ -57,9 +57,26 @@ fn stands_at(bytes: &[u8], at: usize, piece: Piece<'_>) -> bool
     left.starts_with(piece.text.as_bytes())
 }
 
-/// Where a piece of the source ends that stands at a place, if it stands there.
+/// Whether the source has so many blanks from the place on where the text before a piece ends, and then the piece, which
+/// thus stands where it stood and isn't compared.
 #[inline(always)]
-fn piece_end(bytes: &[u8], at: usize, piece: Piece<'_>) -> Option<usize>
+pub fn goes_on(source: &[u8], at: usize, piece: Piece<'_>) -> bool
+    requires within { at ≤ length source.now }
+    requires source { IsFrom source.now piece.start piece.text.now }
+    requires gap { piece.gap ≤ 2 ^ 34 }
+    requires small { length source.now < 2 ^ 32 }
+    ensures goes { IsTrue result → drop at source.now ≡ bytes_of piece.entry ++ drop (piece.entry.start + length piece.entry.text.now) source.now }
+    ensures end { IsTrue result → at + piece.entry.gap ≡ piece.entry.start }
+{
+    if at as u64 + piece.gap != piece.start as u64 {
+        return false;
+    }
+    are_spaces(&source[at..piece.start])
+}
+
+/// Where a piece of the source ends that stands at a place, if it stands there. It is compared with what stands there.
+#[inline(never)]
+fn moved_end(bytes: &[u8], at: usize, piece: Piece<'_>) -> Option<usize>
     requires within { at ≤ length bytes.now }
     requires source { IsFrom bytes.now piece.start piece.text.now }
     ensures found { MatchOption result ((rest : List ℕ) → drop at bytes.now ≢ bytes_of piece.entry ++ rest) (λ end. drop at bytes.now ≡ bytes_of piece.entry ++ drop end bytes.now) }
@@ -74,6 +91,22 @@ fn piece_end(bytes: &[u8], at: usize, piece: Piece<'_>) -> Option<usize>
         return None;
     }
     Some(front + piece.text.len())
+}
+
+/// Where a piece of the source ends that stands at a place, if it stands there.
+#[inline(always)]
+fn piece_end(bytes: &[u8], at: usize, piece: Piece<'_>) -> Option<usize>
+    requires within { at ≤ length bytes.now }
+    requires source { IsFrom bytes.now piece.start piece.text.now }
+    requires gap { piece.gap ≤ 2 ^ 34 }
+    requires small { length bytes.now < 2 ^ 32 }
+    ensures found { MatchOption result ((rest : List ℕ) → drop at bytes.now ≢ bytes_of piece.entry ++ rest) (λ end. drop at bytes.now ≡ bytes_of piece.entry ++ drop end bytes.now) }
+    ensures within { IfSome result (λ end. end ≤ length bytes.now) }
+{
+    if goes_on(bytes, at, piece) {
+        return Some(piece.start + piece.text.len());
+    }
+    moved_end(bytes, at, piece)
 }
 
 /// Whether the print is the source: the bytes of the source are those of the print.

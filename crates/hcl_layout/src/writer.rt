@@ -9,7 +9,7 @@ ghost use Rattle.hcl_layout.specs.Print.{print};
 use crate::buffer::{Buffer, Stretch};
 use crate::measured::Measured;
 use crate::pieces::{Piece, next_piece, start};
-use crate::print::begins_blank;
+use crate::print::goes_on;
 use hcl_scan::{ByteSink, WriteFault, write_fully};
 use hcl_syntax::Accepted;
 
@@ -213,23 +213,6 @@ fn stretch_of(source: &[u8], piece: Piece<'_>) -> Stretch
         start: piece.start,
         end: piece.start + piece.text.len(),
     }
-}
-
-/// Whether the source has so many blanks from the place on where the text before a piece ends, and then the piece.
-#[inline(always)]
-fn goes_on(source: &[u8], at: usize, piece: Piece<'_>) -> bool
-    requires within { at ≤ length source.now }
-    requires source { IsFrom source.now piece.start piece.text.now }
-    requires gap { piece.gap ≤ 2 ^ 34 }
-    requires small { length source.now < 2 ^ 32 }
-    ensures goes { IsTrue result → drop at source.now ≡ bytes_of piece.entry ++ drop (piece.entry.start + length piece.entry.text.now) source.now }
-    ensures end { IsTrue result → at + piece.entry.gap ≡ piece.entry.start }
-{
-    if at as u64 + piece.gap != piece.start as u64 {
-        return false;
-    }
-    let (_, left) = source.split_at(at);
-    begins_blank(left, piece.gap)
 }
 
 /// Writes the print of accepted tokens to a sink that hasn't failed, in pieces of some KiB. A fault

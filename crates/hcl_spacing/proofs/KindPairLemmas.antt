@@ -11,12 +11,13 @@ use Rattle.hcl_spacing.specs.Spacing.{asks_more, begins_with_colon, begins_with_
 use Rattle.hcl_spacing.specs.Inner.KindPairs.{asked, asked_space, pair_space}
 use Rattle.hcl_spacing.proofs.KindLemmas.{each, kinds}
 
--- The table, behind its first row, by the kinds and by what it asks of the texts and of the token before: whether the
+-- The table outside heredocs, by the kinds and by what it asks of the texts and of the token before: whether the
 -- second begins with `=` or `:`, whether it is `~}`, whether the first is `in`, whether an Ident or a Dot stands before, and
 -- whether an expression begins there.
 abbrev pub table_by_kinds : Kind → Kind → Bool → Bool → Bool → Bool → Bool → Bool → Bool → Bool
 table_by_kinds l r equals colon tilde word name dot opening =
-    if (is kind.Dot l && (is kind.Dot r || is kind.Ellipsis r)) || (is kind.Number l && not dot && is kind.Dot r) || (is kind.Not l && equals) || (opens_sequence l && is kind.SeqClose r && tilde) || (is kind.Colon l && colon) then true
+    if is kind.Newline r then false
+    else if (is kind.Dot l && (is kind.Dot r || is kind.Ellipsis r)) || (is kind.Number l && not dot && is kind.Dot r) || (is kind.Not l && equals) || (opens_sequence l && is kind.SeqClose r && tilde) || (is kind.Colon l && colon) then true
     else if is kind.Ident l && is kind.ParenOpen r then false
     else if is kind.Dot l || is kind.Dot r then false
     else if is kind.ColonColon l || is kind.ColonColon r then false
@@ -56,7 +57,7 @@ same true b = b
 same false b = not b
 
 abbrev holds : Kind → Kind → Bool → Bool → Bool → Bool → Bool → Bool → Bool → Bool
-holds l r a b c d e f g = is kind.Newline r || same (answered (pair_space l r) (asked l r a b c d e f g)) (table_by_kinds l r a b c d e f g)
+holds l r a b c d e f g = same (answered (pair_space l r) (asked l r a b c d e f g)) (table_by_kinds l r a b c d e f g)
 
 tried : list_all (λ l. list_all (λ r. both (λ a. both (λ b. both (λ c. both (λ d. both (λ e. both (λ f. both (λ g. holds l r a b c d e f g)))))))) kinds) kinds ≡ true
 tried = refl
@@ -82,9 +83,9 @@ second : (v w : Bool) → v ≡ false → (v || w) ≡ true → w ≡ true
 second true w e h = cc
 second false w e h = h
 
--- behind its first row, the table says of two tokens what their kinds give, or else what was asked
-pub by_kinds : (before : Option Lexeme) (subject after : Lexeme) → is kind.Newline after.kind ≡ false → after.inside_heredoc ≡ false → answered (pair_space subject.kind after.kind) (asked_space before subject after) ≡ spaced before subject after
-by_kinds before subject after e f =
+-- outside heredocs, the table says of two tokens what their kinds give, or else what was asked
+pub by_kinds : (before : Option Lexeme) (subject after : Lexeme) → after.inside_heredoc ≡ false → answered (pair_space subject.kind after.kind) (asked_space before subject after) ≡ spaced before subject after
+by_kinds before subject after e =
     let l = subject.kind in
     let r = after.kind in
     let a = begins_with_equals after.text in
@@ -94,14 +95,17 @@ by_kinds before subject after e f =
     let d = stands_before (is kind.Ident) before in
     let g = stands_before (is kind.Dot) before in
     let h = is_opening before in
-    let tested = second (is kind.Newline r) (same (answered (pair_space l r) (asked l r a z b c d g h)) (table_by_kinds l r a z b c d g h)) e (every l r a z b c d g h) in
-    rw (e, f) (same_is (answered (pair_space l r) (asked l r a z b c d g h)) (table_by_kinds l r a z b c d g h) tested)
+    rw (e, or_false (is kind.Newline r)) (same_is (answered (pair_space l r) (asked l r a z b c d g h)) (table_by_kinds l r a z b c d g h) (every l r a z b c d g h))
+  where
+    or_false : (v : Bool) → (v || false) ≡ v
+    or_false true = refl
+    or_false false = refl
 
-pub given : (space : Bool) (subject after : Lexeme) → is kind.Newline after.kind ≡ false → after.inside_heredoc ≡ false → pair_space subject.kind after.kind ≡ Some space → (before : Option Lexeme) → space ≡ spaced before subject after
-given space subject after e f g before = sym (ap (λ o. answered o (asked_space before subject after)) g) ∙ by_kinds before subject after e f
+pub given : (space : Bool) (subject after : Lexeme) → after.inside_heredoc ≡ false → pair_space subject.kind after.kind ≡ Some space → (before : Option Lexeme) → space ≡ spaced before subject after
+given space subject after e f before = sym (ap (λ o. answered o (asked_space before subject after)) f) ∙ by_kinds before subject after e
 
-pub asked_is : (before : Option Lexeme) (subject after : Lexeme) → is kind.Newline after.kind ≡ false → after.inside_heredoc ≡ false → pair_space subject.kind after.kind ≡ None → asked_space before subject after ≡ spaced before subject after
-asked_is before subject after e f g = sym (ap (λ o. answered o (asked_space before subject after)) g) ∙ by_kinds before subject after e f
+pub asked_is : (before : Option Lexeme) (subject after : Lexeme) → after.inside_heredoc ≡ false → pair_space subject.kind after.kind ≡ None → asked_space before subject after ≡ spaced before subject after
+asked_is before subject after e f = sym (ap (λ o. answered o (asked_space before subject after)) f) ∙ by_kinds before subject after e
 
 -- where the kinds don't tell, the table asks for more
 abbrev tells : Kind → Kind → Bool

@@ -2,16 +2,9 @@
 
 ghost use Rattle.std.specs.Prelude.{◌≡◌};
 ghost use Rattle.hcl_syntax.specs.Balanced.{is_opener as is_opener_of};
-ghost use Rattle.hcl_spacing.specs.Spacing.{opens_sequence as opens_sequence_of, closes_group as closes_group_of, is_operator as is_operator_of, awaits_operand as awaits_operand_of};
+ghost use Rattle.hcl_spacing.specs.Spacing.{closes_group as closes_group_of, is_operator as is_operator_of, awaits_operand as awaits_operand_of};
 
 use hcl_scan::Kind;
-
-/// `${` and `%{`.
-pub fn opens_sequence(kind: Kind) -> bool
-    ensures { result ≡ opens_sequence_of kind }
-{
-    matches!(kind, Kind::InterpOpen | Kind::ControlOpen)
-}
 
 /// What closes a paren, a bracket or a sequence.
 pub fn closes_group(kind: Kind) -> bool

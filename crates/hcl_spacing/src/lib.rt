@@ -6,6 +6,7 @@
 
 mod kind;
 pub mod laws;
+mod rows;
 mod spacing;
 
 pub use spacing::{space_between, space_by_kinds};

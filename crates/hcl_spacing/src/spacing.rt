@@ -1,14 +1,15 @@
 //! One blank or none between two neighbours on a line. The words in quotation marks are headings of `docs/STYLE.md`, "Between
 //! two words of a line", where each rule stands with its examples.
-ghost use Rattle.std.specs.Prelude.{◌≡◌, ◌||◌, IfNone, IfSome, Option, option_map, true};
+ghost use Rattle.std.specs.Prelude.{◌≡◌, ◌||◌, IfNone, IfSome, IsTrue, Option, option_map, true};
 ghost use Rattle.hcl_scan.specs.Lexemes.{Lexeme};
 ghost use Rattle.hcl_scan.specs.Scanned.{lexeme};
 ghost use Rattle.hcl_scan.specs.Kinds.{is};
 ghost use Rattle.hcl_scan.specs.declared.token.Kind.TheVariants.{Dot, Ident, Newline};
 ghost use Rattle.hcl_spacing.specs.Spacing.{asks_more, begins_with_colon as begins_with_colon_of, begins_with_equals as begins_with_equals_of, is_opening as is_opening_of, spaced, stands_before};
-ghost use Rattle.hcl_spacing.specs.Inner.KindPairs.{asked_space as asked_space_of, pair_space as pair_space_of, space_behind_brace as space_behind_brace_of, space_behind_name as space_behind_name_of, space_behind_number as space_behind_number_of, space_behind_operand as space_behind_operand_of, space_in_sequence as space_in_sequence_of, stands_close as stands_close_of};
+ghost use Rattle.hcl_spacing.specs.Inner.KindPairs.{asked_space as asked_space_of};
 
-use crate::kind::{awaits_operand, closes_group, is_opener, is_operator, opens_sequence};
+use crate::kind::{awaits_operand, closes_group, is_opener, is_operator};
+use crate::rows::{pair_space, stands_close};
 use hcl_scan::{Kind, Token};
 
 #[inline(always)]
@@ -64,107 +65,6 @@ fn is_opening(before: Option<Token<'_>>) -> bool
     is_opener(before.kind) || is_operator(before.kind) || awaits_operand(before.kind)
 }
 
-/// Whether the token stands close behind whatever it doesn't join: by "Dots", "Two colons", "Commas" and "Quotes".
-#[inline(always)]
-fn stands_close(kind: Kind) -> bool
-    ensures { result ≡ stands_close_of kind }
-{
-    matches!(
-        kind,
-        Kind::Dot | Kind::ColonColon | Kind::Comma | Kind::Ellipsis | Kind::Lit | Kind::QuoteClose
-    )
-}
-
-/// Behind what an index may follow: by "Indexes" `[` hugs what is indexed.
-#[inline(always)]
-fn space_behind_operand(right: Kind) -> bool
-    ensures { result ≡ space_behind_operand_of right }
-{
-    !(stands_close(right) || closes_group(right) || matches!(right, Kind::BracketOpen))
-}
-
-/// Behind `}`: by "Braces" `}}` reads badly at the end of a template.
-#[inline(always)]
-fn space_behind_brace(right: Kind) -> bool
-    ensures { result ≡ space_behind_brace_of right }
-{
-    matches!(right, Kind::SeqClose) || space_behind_operand(right)
-}
-
-/// Behind a number, which could be read as one with a dot, by "A number and a dot", unless a dot stands before both.
-#[inline(always)]
-fn space_behind_number(right: Kind) -> Option<bool>
-    ensures { result ≡ space_behind_number_of right }
-{
-    if matches!(right, Kind::Dot) {
-        return None;
-    }
-    Some(space_behind_operand(right))
-}
-
-/// Behind a name, which hugs its parenthesis by "Calls". By "`in`" that word has a blank after it, while an index hugs a
-/// name, and a closer what it holds.
-#[inline(always)]
-fn space_behind_name(right: Kind) -> Option<bool>
-    ensures { result ≡ space_behind_name_of right }
-{
-    if matches!(right, Kind::BracketOpen) || closes_group(right) {
-        return None;
-    }
-    Some(!(stands_close(right) || matches!(right, Kind::ParenOpen)))
-}
-
-/// Behind `${` and `%{`, which by "Brackets, parentheses" hug what they hold; by "Braces" but for a brace, since `${{` reads
-/// badly. By "A number and a dot" an opener would join the `~` of its closer.
-#[inline(always)]
-fn space_in_sequence(right: Kind) -> Option<bool>
-    ensures { result ≡ space_in_sequence_of right }
-{
-    if matches!(right, Kind::SeqClose) {
-        return None;
-    }
-    Some(matches!(right, Kind::BraceOpen | Kind::BraceClose))
-}
-
-/// What two kinds tell alone, the second no Newline and outside heredocs. Nearly always they do, so this is a table by
-/// the first of them, and not the rows of the definition in turn, of which most tokens pass all.
-#[inline(always)]
-fn pair_space(left: Kind, right: Kind) -> Option<bool>
-    ensures { result ≡ pair_space_of left right }
-{
-    match left {
-        // "Not", "Minus": a sign stands at its operand. What comes before tells a sign, and a `!` may not join a `=`, nor
-        // a `:` another
-        Kind::Not | Kind::Minus | Kind::Colon => None,
-        // "Quotes": what is added there would be text; "Two colons": a name is one thing to its reader
-        Kind::QuoteOpen | Kind::Lit | Kind::ColonColon => Some(false),
-        // "Dots": so are attributes of attributes; but two dots would be read as another mark
-        Kind::Dot => Some(matches!(right, Kind::Dot | Kind::Ellipsis)),
-        // "Commas": they part what stands behind them from the rest, but not from a comma or dots
-        Kind::Comma => Some(!matches!(
-            right,
-            Kind::Dot | Kind::ColonColon | Kind::Comma | Kind::Ellipsis
-        )),
-        // "Brackets, parentheses": they hug what they hold; "Braces": a closing brace never does
-        Kind::ParenOpen | Kind::BracketOpen => Some(matches!(right, Kind::BraceClose)),
-        // "Braces": a blank on the inner side, and none in an empty pair
-        Kind::BraceOpen => Some(!(stands_close(right) || matches!(right, Kind::BraceClose))),
-        Kind::InterpOpen | Kind::ControlOpen => space_in_sequence(right),
-        // "Quotes and templates": what is added between a sequence and the next would be text
-        Kind::SeqClose => Some(
-            !(stands_close(right) || closes_group(right) || opens_sequence(right)),
-        ),
-        Kind::BraceClose => Some(space_behind_brace(right)),
-        Kind::Number => space_behind_number(right),
-        Kind::Ident => space_behind_name(right),
-        Kind::QuoteClose | Kind::ParenClose | Kind::BracketClose => {
-            Some(space_behind_operand(right))
-        }
-        // "All else" has one blank, but before a closer and what stands close
-        _ => Some(!(stands_close(right) || closes_group(right))),
-    }
-}
-
 /// What the texts tell and the token before, where the kinds don't: whether a `!` would join `=`, a `:` another, a
 /// number a dot, or the opening of a sequence the `~` that closes it, whether a minus is a sign, and whether a name is the word `in`.
 #[inline(always)]
@@ -189,13 +89,13 @@ fn asked_space(before: Option<Token<'_>>, subject: Token<'_>, after: Token<'_>) 
     }
 }
 
-/// Whether nothing is added before a token, whatever stands there: "Blanks at the ends of lines" vanish, and "Heredocs" are kept
-/// byte for byte.
+/// Whether a token is kept as it stands, whatever stands before it: "Heredocs" are, byte for byte.
 #[inline(always)]
-fn takes_no_blank(after: Token<'_>) -> bool
-    ensures { result ≡ (is Newline after.entry.kind || after.entry.inside_heredoc) }
+fn is_kept(after: Token<'_>) -> bool
+    ensures inside { result ≡ after.entry.inside_heredoc }
+    ensures row { IsTrue result → (is Newline after.entry.kind || after.entry.inside_heredoc) ≡ true }
 {
-    matches!(after.kind, Kind::Newline) || after.inside_heredoc
+    after.inside_heredoc
 }
 
 /// What their kinds tell of two tokens, and else what has to be asked.
@@ -205,7 +105,7 @@ fn kinds_space(subject: Token<'_>, after: Token<'_>) -> Option<bool>
     ensures untold { IfNone result (asks_more subject.entry.kind after.entry.kind ≡ true) }
     ensures asked { IfNone result ((before : Option Lexeme) → asked_space_of before (lexeme subject.entry) (lexeme after.entry) ≡ spaced before (lexeme subject.entry) (lexeme after.entry)) }
 {
-    if takes_no_blank(after) {
+    if is_kept(after) {
         return Some(false);
     }
     pair_space(subject.kind, after.kind)

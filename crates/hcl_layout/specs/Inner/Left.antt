@@ -3,7 +3,7 @@ use Rattle.std.specs.Prelude.{◌-◌, ◌<◌, ◌≤◌, ◌^◌, ◌++◌, �
 use Rattle.std.specs.List.{flat_map}
 use Rattle.hcl_scan.specs.Lexemes.{Lexeme}
 use Rattle.hcl_syntax.specs.Balanced.{max_open}
-use Rattle.hcl_layout.specs.Inner.LineGaps.{gaps_from}
+use Rattle.hcl_layout.specs.Inner.LineGaps.{ArePlain, gaps_from}
 use Rattle.hcl_layout.specs.Lines.{Line, lines}
 use Rattle.hcl_layout.specs.Print.{printed}
 use Rattle.hcl_layout.specs.Inner.Stream.{commented}
@@ -36,6 +36,9 @@ pub record Ready (ts : List Lexeme) (s : Pieces) : Type 0 where
   pub order : s.next ≤ s.end
   pub within : s.end ≤ length ts
   pub began : s.start ≤ s.next
+  pub stop : s.stop ≤ s.end
+  pub behind : s.next < s.stop → s.start < s.next
+  pub plain : ArePlain s.gaps (s.next - s.start) (s.stop - s.start)
   pub level : s.gaps.level ≤ max_open
   pub assign : IfSome s.gaps.assign (λ c. c.gap ≤ 2 ^ 33)
   pub cell : IfSome s.gaps.comment (λ c. c.gap ≤ 2 ^ 34)

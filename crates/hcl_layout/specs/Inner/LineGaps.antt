@@ -1,5 +1,5 @@
 -- The gaps of a line from its level and two cells, token by token.
-use Rattle.std.specs.Prelude.{◌≡◌, ◌+◌, ◌==◌, ℕ, List, [], ◌∷◌, Option, Some, None, length, slice_set, if◌then◌else◌}
+use Rattle.std.specs.Prelude.{◌≡◌, ◌<◌, ◌≤◌, ◌+◌, ◌==◌, ℕ, List, [], ◌∷◌, Option, Some, None, length, slice_set, if◌then◌else◌}
 use Rattle.hcl_scan.specs.Lexemes.{Lexeme}
 use Rattle.hcl_layout.specs.Lines.{Line}
 use Rattle.hcl_layout.specs.Gaps.{blanks, indent, width}
@@ -18,6 +18,15 @@ plain_gap level before (Some subject) t = blanks before subject t
 
 abbrev pub gap_of : LineGaps → ℕ → Option Lexeme → Option Lexeme → Lexeme → ℕ
 gap_of g k before subject t = cell_gap g.comment k (cell_gap g.assign k (plain_gap g.level before subject t))
+
+-- the gap of a cell, if that is known, and else the other
+abbrev pub given_or : Option ℕ → ℕ → ℕ
+given_or None gap = gap
+given_or (Some own) gap = own
+
+-- no cell stands at the places from one to another
+abbrev pub ArePlain : LineGaps → ℕ → ℕ → Type 0
+ArePlain g from to = (k gap : ℕ) → from ≤ k → k < to → cell_gap g.comment k (cell_gap g.assign k gap) ≡ gap
 
 -- from the token at a place on
 abbrev pub gaps_from : LineGaps → ℕ → Option Lexeme → Option Lexeme → Line → List ℕ

@@ -1,15 +1,18 @@
 -- The table of spacing by pairs of kinds: own words of the code, which nobody has to believe. That they agree with the
 -- table is proved by trying all pairs of kinds (proofs/KindPairLemmas).
-use Rattle.std.specs.Prelude.{◌&&◌, ◌||◌, Bool, true, false, not, Option, Some, None, if◌then◌else◌, codes}
+use Rattle.std.specs.Prelude.{◌&&◌, ◌||◌, ◌==◌, ℕ, Bool, true, false, not, Option, Some, None, if◌then◌else◌, codes}
 use Rattle.std.specs.Str.{bytes_eq}
 use Rattle.hcl_scan.specs.Lexemes.{Lexeme}
 use Rattle.hcl_scan.specs.declared.token.Kind.{Kind}
 use Rattle.hcl_scan.specs.declared.token.Kind.TheVariants as kind
 use Rattle.hcl_scan.specs.Kinds.{is}
+use Rattle.hcl_spacing.specs.declared.rows.Row.{Row}
+use Rattle.std.specs.Int.{bit_at}
 use Rattle.hcl_spacing.specs.Spacing.{begins_with_colon, begins_with_equals, closes_group, is_opening, opens_sequence, stands_before}
 
 -- what stands close behind whatever it doesn't join
 abbrev pub stands_close : Kind → Bool
+stands_close kind.Newline = true
 stands_close kind.Dot = true
 stands_close kind.ColonColon = true
 stands_close kind.Comma = true
@@ -38,16 +41,20 @@ space_behind_name r = if is kind.BracketOpen r || closes_group r then None else 
 abbrev pub space_in_sequence : Kind → Option Bool
 space_in_sequence r = if is kind.SeqClose r then None else Some (is kind.BraceOpen r || is kind.BraceClose r)
 
--- the answer, where the two kinds give it, the second no Newline and outside heredocs
+-- not told, but at the end of a line
+abbrev pub unless_line_ends : Kind → Option Bool
+unless_line_ends r = if is kind.Newline r then Some false else None
+
+-- the answer, where the two kinds give it, outside heredocs
 abbrev pub pair_space : Kind → Kind → Option Bool
-pair_space kind.Not r = None
-pair_space kind.Minus r = None
-pair_space kind.Colon r = None
+pair_space kind.Not r = unless_line_ends r
+pair_space kind.Minus r = unless_line_ends r
+pair_space kind.Colon r = unless_line_ends r
 pair_space kind.ColonColon r = Some false
 pair_space kind.QuoteOpen r = Some false
 pair_space kind.Lit r = Some false
 pair_space kind.Dot r = Some (is kind.Dot r || is kind.Ellipsis r)
-pair_space kind.Comma r = Some (not (is kind.Dot r || is kind.ColonColon r || is kind.Comma r || is kind.Ellipsis r))
+pair_space kind.Comma r = Some (not (is kind.Newline r || is kind.Dot r || is kind.ColonColon r || is kind.Comma r || is kind.Ellipsis r))
 pair_space kind.ParenOpen r = Some (is kind.BraceClose r)
 pair_space kind.BracketOpen r = Some (is kind.BraceClose r)
 pair_space kind.BraceOpen r = Some (not (stands_close r || is kind.BraceClose r))
@@ -76,3 +83,55 @@ asked _ r equals colon tilde word name dot opening = tilde
 abbrev pub asked_space : Option Lexeme → Lexeme → Lexeme → Bool
 asked_space before subject after =
     asked subject.kind after.kind (begins_with_equals after.text) (begins_with_colon after.text) (bytes_eq after.text (codes "~}")) (bytes_eq subject.text (codes "in")) (stands_before (is kind.Ident) before) (stands_before (is kind.Dot) before) (is_opening before)
+
+-- the bit of a kind in a set of kinds
+abbrev pub number : Kind → ℕ
+number kind.Newline = 0
+number kind.LineComment = 1
+number kind.InlineComment = 2
+number kind.Blank = 3
+number kind.Ident = 4
+number kind.Number = 5
+number kind.HeredocOpen = 6
+number kind.QuoteOpen = 7
+number kind.ParenOpen = 8
+number kind.BracketOpen = 9
+number kind.BraceOpen = 10
+number kind.ParenClose = 11
+number kind.BracketClose = 12
+number kind.SeqClose = 13
+number kind.BraceClose = 14
+number kind.Dot = 15
+number kind.Comma = 16
+number kind.Ellipsis = 17
+number kind.Question = 18
+number kind.Colon = 19
+number kind.ColonColon = 20
+number kind.Assign = 21
+number kind.Arrow = 22
+number kind.Not = 23
+number kind.Minus = 24
+number kind.Plus = 25
+number kind.Star = 26
+number kind.Slash = 27
+number kind.Percent = 28
+number kind.And = 29
+number kind.Or = 30
+number kind.Equal = 31
+number kind.NotEqual = 32
+number kind.Less = 33
+number kind.Greater = 34
+number kind.LessEqual = 35
+number kind.GreaterEqual = 36
+number kind.Lit = 37
+number kind.InterpOpen = 38
+number kind.ControlOpen = 39
+number kind.QuoteClose = 40
+number kind.HeredocClose = 41
+
+abbrev pub has : ℕ → Kind → Bool
+has kinds kind = bit_at kinds (number kind) == 1
+
+-- what a row tells of a kind
+abbrev pub told : Row → Kind → Option Bool
+told row r = if has row.asked r then None else Some (has row.blank r)

@@ -2,7 +2,7 @@ use Rattle.std.proofs.Common.{◌≡◌, ◌∙◌, ◌++◌, ◌==◌, ◌&&◌
 use Rattle.std.specs.Prelude.{nat_eq, nat_le}
 use Rattle.std.specs.List.{list_all, starts_with}
 use Rattle.hcl_layout.proofs.FormatLemmas.{blank_front, behind, blank_parts, not_blank, other_piece, piece_found, text_front}
-use Rattle.hcl_layout.proofs.print.piece_end.Goals as goal
+use Rattle.hcl_layout.proofs.print.moved_end.Goals as goal
 
 pub returns-then-not-begins_blank-clause-found : goal.returns-then-not-begins_blank-clause-found
 returns-then-not-begins_blank-clause-found c rest p =

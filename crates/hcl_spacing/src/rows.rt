@@ -1,0 +1,139 @@
+//! The rows of the spacing: before which kinds one blank stands behind a kind. The words in quotation marks are headings of
+//! `docs/STYLE.md`, "Between two words of a line".
+//!
+//! Nearly always two kinds tell their blank, and it is asked of every token: so a row is two sets of kinds, with a bit for
+//! each kind, and a pair is looked up without a jump.
+ghost use Rattle.std.specs.Prelude.{◌≡◌, Option};
+ghost use Rattle.hcl_scan.specs.declared.token.Kind.{Kind};
+ghost use Rattle.hcl_spacing.specs.Inner.KindPairs.{has as has_of, pair_space as pair_space_of, stands_close as stands_close_of, told as told_of};
+
+use hcl_scan::Kind;
+
+/// What a kind tells of the kinds behind it.
+#[derive(Clone, Copy)]
+struct Row {
+    /// Before these stands one blank.
+    blank: u64,
+    /// Of these the texts have to be asked, or what stands before.
+    asked: u64,
+}
+
+const NONE: u64 = 0;
+
+/// "Blanks at the ends of lines" vanish.
+const LINE_END: u64 = 1 << Kind::Newline as u64;
+
+/// By "Dots", "Two colons" and "Commas" these stand close behind whatever they don't join.
+const MARKS: u64 = 1 << Kind::Dot as u64
+    | 1 << Kind::ColonColon as u64
+    | 1 << Kind::Comma as u64
+    | 1 << Kind::Ellipsis as u64;
+
+/// So do these, by "Quotes".
+const CLOSE: u64 = MARKS | LINE_END | 1 << Kind::Lit as u64 | 1 << Kind::QuoteClose as u64;
+
+/// What closes a paren, a bracket or a sequence.
+const CLOSERS: u64 = 1 << Kind::ParenClose as u64 | 1 << Kind::BracketClose as u64 | SEQUENCE_END;
+
+const SEQUENCE_END: u64 = 1 << Kind::SeqClose as u64;
+
+const SEQUENCES: u64 = 1 << Kind::InterpOpen as u64 | 1 << Kind::ControlOpen as u64;
+
+const PAREN: u64 = 1 << Kind::ParenOpen as u64;
+
+const BRACKET: u64 = 1 << Kind::BracketOpen as u64;
+
+const BRACE: u64 = 1 << Kind::BraceOpen as u64;
+
+const BRACE_END: u64 = 1 << Kind::BraceClose as u64;
+
+const DOT: u64 = 1 << Kind::Dot as u64;
+
+const DOTS: u64 = DOT | 1 << Kind::Ellipsis as u64;
+
+/// By "Indexes" `[` hugs what is indexed.
+const BEHIND_OPERAND: u64 = !(CLOSE | CLOSERS | BRACKET);
+
+#[inline(always)]
+fn has(kinds: u64, kind: Kind) -> bool
+    ensures { result ≡ has_of kinds kind }
+{
+    (kinds >> kind as u64) & 1 == 1
+}
+
+/// Whether the token stands close behind whatever it doesn't join.
+#[inline(always)]
+pub fn stands_close(kind: Kind) -> bool
+    ensures { result ≡ stands_close_of kind }
+{
+    has(CLOSE, kind)
+}
+
+/// A row where the kinds tell all.
+#[inline(always)]
+fn telling(blank: u64) -> Row
+    ensures { result ≡ record { blank = blank; asked = 0 } }
+{
+    Row { blank, asked: NONE }
+}
+
+/// The row of a kind.
+#[inline(always)]
+fn row_of(left: Kind) -> Row
+    ensures { (right : Kind) → told_of result right ≡ pair_space_of left right }
+{
+    match left {
+        // "Not", "Minus": a sign stands at its operand. What comes before tells a sign, and a `!` may not join a `=`, nor
+        // a `:` another
+        Kind::Not | Kind::Minus | Kind::Colon => Row {
+            blank: NONE,
+            asked: !LINE_END,
+        },
+        // "Quotes": what is added there would be text; "Two colons": a name is one thing to its reader
+        Kind::QuoteOpen | Kind::Lit | Kind::ColonColon => telling(NONE),
+        // "Dots": so are attributes of attributes; but two dots would be read as another mark
+        Kind::Dot => telling(DOTS),
+        // "Commas": they part what stands behind them from the rest, but not from a comma or dots
+        Kind::Comma => telling(!(MARKS | LINE_END)),
+        // "Brackets, parentheses": they hug what they hold; "Braces": a closing brace never does
+        Kind::ParenOpen | Kind::BracketOpen => telling(BRACE_END),
+        // "Braces": a blank on the inner side, and none in an empty pair
+        Kind::BraceOpen => telling(!(CLOSE | BRACE_END)),
+        // "Brackets, parentheses": these hug what they hold; "Braces": but for a brace, since `${{` reads badly. By "A
+        // number and a dot" an opener would join the `~` of its closer
+        Kind::InterpOpen | Kind::ControlOpen => Row {
+            blank: BRACE | BRACE_END,
+            asked: SEQUENCE_END,
+        },
+        // "Quotes and templates": what is added between a sequence and the next would be text
+        Kind::SeqClose => telling(!(CLOSE | CLOSERS | SEQUENCES)),
+        // "Braces": `}}` reads badly at the end of a template
+        Kind::BraceClose => telling(BEHIND_OPERAND | SEQUENCE_END),
+        // "A number and a dot": they could be read as one number, unless a dot stands before both
+        Kind::Number => Row {
+            blank: BEHIND_OPERAND,
+            asked: DOT,
+        },
+        // "Calls": a name hugs its parenthesis. By "`in`" that word has a blank after it, while an index hugs a name, and a
+        // closer what it holds
+        Kind::Ident => Row {
+            blank: !(CLOSE | PAREN),
+            asked: BRACKET | CLOSERS,
+        },
+        Kind::QuoteClose | Kind::ParenClose | Kind::BracketClose => telling(BEHIND_OPERAND),
+        // "All else" has one blank, but before a closer and what stands close
+        _ => telling(!(CLOSE | CLOSERS)),
+    }
+}
+
+/// What two kinds tell alone, outside heredocs.
+#[inline(always)]
+pub fn pair_space(left: Kind, right: Kind) -> Option<bool>
+    ensures { result ≡ pair_space_of left right }
+{
+    let row = row_of(left);
+    if has(row.asked, right) {
+        return None;
+    }
+    Some(has(row.blank, right))
+}
