@@ -3,23 +3,27 @@
 ghost use Rattle.std.specs.Prelude.{◌≡◌, ◌≤◌, ◌<◌, ◌+◌, ◌++◌, [], List, filter, map, IfOk, OnOk, OnErr, if◌then◌else◌};
 ghost use Rattle.std.specs.List.{flat_map};
 ghost use Rattle.std.specs.Vec.{vec_capacity, vec_len};
+ghost use Rattle.hcl_syntax.specs.Items.{outline};
+ghost use Rattle.hcl_syntax.specs.Numbered.{numbered};
 ghost use Rattle.tf_rules.specs.Answers.{AreIssues, Rising};
 ghost use Rattle.tf_rules.specs.Findings.{findings};
 ghost use Rattle.tf_rules.specs.Issues.{File, asked_of};
 ghost use Rattle.tf_rules.specs.Kept.{issue_at, kept_of, nothing, with_file};
+ghost use Rattle.tf_facts.specs.References.{references};
 ghost use Rattle.tf_facts.specs.RuleSets.{holds};
 ghost use Rattle.tf_rules.specs.Inner.Entries.{issues_of};
+ghost use Rattle.tf_rules.specs.Inner.KeptFacts.{kept_facts, with_found};
 
 use crate::entry::Entry;
 use crate::findings::{put_comments, put_declarations, put_places};
 use crate::issue::Issue;
 use crate::kept::{KeptComment, KeptDeclaration, TokenPlace};
-use crate::kept_file::kept_file;
+use crate::kept_file::{KeptFile, kept_file};
 use crate::naming::Naming;
 use crate::order::in_order;
 use crate::settings::Settings;
 use crate::silenced::{shown, silenced_lines};
-use hcl_syntax::{Accepted, outline};
+use hcl_syntax::{Accepted, Outline, outline};
 use std::alloc::{AllocError, Global};
 use std::marker::Model;
 use std::mem::swap;
@@ -94,6 +98,44 @@ impl Facts {
         })
     }
 
+    /// Keeps what was found in a file, or nothing of it.
+    fn keep(
+        &mut self,
+        accepted: &Accepted<'_, '_>,
+        items: &Outline,
+        kept: &mut KeptFile,
+    ) -> Result<(), AllocError>
+        requires { items.now ≡ outline accepted.now.tokens }
+        ensures ok { OnOk result (self.new ≡ with_found self.old (kept_facts kept.old) (references (numbered accepted.now.tokens))) }
+        ensures err { OnErr result (self.new ≡ self.old) }
+    {
+        make_room(&mut self.comments, kept.comments.len())?;
+        make_room(&mut self.indexes, kept.indexes.len())?;
+        make_room(&mut self.interpolations, kept.interpolations.len())?;
+        make_room(&mut self.declarations, kept.declarations.len())?;
+        add_references_of(self.alloc, accepted, items, &mut self.references)?;
+        move_behind(&mut kept.comments, &mut self.comments);
+        move_behind(&mut kept.indexes, &mut self.indexes);
+        move_behind(&mut kept.interpolations, &mut self.interpolations);
+        move_behind(&mut kept.declarations, &mut self.declarations);
+        Ok(())
+    }
+
+    /// Keeps what the rules need of a file of this outline.
+    fn add_outlined(
+        &mut self,
+        number: u32,
+        accepted: &Accepted<'_, '_>,
+        items: &Outline,
+    ) -> Result<(), AllocError>
+        requires { items.now ≡ outline accepted.now.tokens }
+        ensures ok { OnOk result (self.new ≡ with_file self.old (record { number = number; source = accepted.now })) }
+        ensures err { OnErr result (self.new ≡ self.old) }
+    {
+        let mut kept = kept_file(self.alloc, number, accepted, items)?;
+        self.keep(accepted, items, &mut kept)
+    }
+
     /// Keeps what the rules need of one file more, whose number is above those of the files before it. On refusal the
     /// facts are as they were.
     pub fn add_file(&mut self, number: u32, accepted: &Accepted<'_, '_>) -> Result<(), AllocError>
@@ -101,17 +143,7 @@ impl Facts {
         ensures err { OnErr result (self.new ≡ self.old) }
     {
         let items = outline(self.alloc, accepted)?;
-        let mut kept = kept_file(self.alloc, number, accepted, &items)?;
-        make_room(&mut self.comments, kept.comments.len())?;
-        make_room(&mut self.indexes, kept.indexes.len())?;
-        make_room(&mut self.interpolations, kept.interpolations.len())?;
-        make_room(&mut self.declarations, kept.declarations.len())?;
-        add_references_of(self.alloc, accepted, &items, &mut self.references)?;
-        move_behind(&mut kept.comments, &mut self.comments);
-        move_behind(&mut kept.indexes, &mut self.indexes);
-        move_behind(&mut kept.interpolations, &mut self.interpolations);
-        move_behind(&mut kept.declarations, &mut self.declarations);
-        Ok(())
+        self.add_outlined(number, accepted, &items)
     }
 
     /// Puts what a rule reports, silenced or not, behind these entries.

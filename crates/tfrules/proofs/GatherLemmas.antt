@@ -7,8 +7,11 @@ use Rattle.std.proofs.lemmas.List.{get_or_default, length-map, length-take-le, m
 use Rattle.std.proofs.lemmas.List.Elements.{All-append, All-cons, All-nil}
 use Rattle.std.proofs.lemmas.List.Sums.{sum_by-append}
 use Rattle.hcl_source.specs.Load.{IsLoadFault, IsText, Loads, is_failed_load, max_source}
-use Rattle.hcl_scan.specs.Scanned.{Scanned}
+use Rattle.hcl_scan.specs.Scanned.{IsScanError, Scanned}
+use Rattle.hcl_scan.specs.declared.token.ScanError.{ScanError}
+use Rattle.hcl_scan.specs.declared.token.ScanError.TheVariants as scan_error
 use Rattle.hcl_source.specs.declared.fault.Fault.{Fault}
+use Rattle.hcl_source.specs.declared.fault.Position.{Position}
 use Rattle.hcl_source.specs.declared.fault.LoadError.{LoadError}
 use Rattle.hcl_source.specs.declared.fault.LoadError.TheVariants as error
 use Rattle.hcl_source.proofs.LoadLemmas.{too_large_too}
@@ -16,7 +19,7 @@ use Rattle.tf_rules.specs.Kept.{Kept, kept_of, with_file}
 use Rattle.tf_rules.proofs.KeptLemmas.{kept_of_more}
 use Rattle.tfrules.specs.Files.{NamedFile, IsAcceptedAs, max_module, numbered_files, size_of}
 use Rattle.tfrules.specs.Rows.{Tells}
-use Rattle.tfrules.specs.Inner.Steps.{AreFine, Added, Adds, Keeps, Reached, ReadsFile, StopsAt, StopsBy, stop_by}
+use Rattle.tfrules.specs.Inner.Steps.{AreFine, Added, Adds, Keeps, Reached, ReadsFile, StopsAt, StopsBy, stop_by, stop_of_scan}
 use Rattle.tfrules.specs.declared.stop.Stop.{Stop}
 use Rattle.tfrules.specs.declared.stop.Stop.TheVariants as stop
 use Rattle.tfrules.proofs.ListLemmas.{from_here}
@@ -56,7 +59,13 @@ reads_told told left left' bytes o o' r r' f loaded answer is same fine fine' un
     (subst (λ t. ReadsFile t o' r' (stop_by loaded)) same
     (reads_left left left' bytes o' r' loaded (fine' ∙ fine) (unread' ∙ ap (λ b. b || f) unread ∙ failed) taken l))
 
--- ---- a file that was kept
+-- ---- a file that was kept, or wasn't scanned
+
+pub stops_unscanned : (text : List ℕ) (size number : ℕ) (kept : Kept) (error : ScanError) (why : Stop) → why ≡ stop_of_scan error → size + length text ≤ max_module → IsScanError text error
+    → Keeps text size number kept kept (Err why)
+stops_unscanned text size number kept (scan_error.Fault fault) why is fits e =
+    subst (λ w. Keeps text size number kept kept (Err w)) (sym is) (fits, inl (fault.kind, e.0, e.1, ap (λ (p : Position). Err (record { kind = fault.kind; at = p })) e.2))
+stops_unscanned text size number kept scan_error.OutOfMemory why is fits e = subst (λ w. Keeps text size number kept kept (Err w)) (sym is) tt
 
 pub adds_kept : (told : Option (List ℕ)) (o r : Bool) (text : List ℕ) (size number : ℕ) (old new : Kept) (answer : Result ℕ Stop)
     → AreFine o r → Tells told text → IsText text → Keeps text size number old new answer → Adds told size number o r old new answer

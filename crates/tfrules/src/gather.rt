@@ -1,14 +1,14 @@
 //! The files of a module, read one after the other.
 
 ghost use Rattle.std.specs.Prelude.{◌≡◌, ◌≤◌, ◌<◌, false, ℕ, List};
-ghost use Rattle.tfrules.specs.Inner.Steps.{Adds, Gathers, Keeps, ReadsFile, stop_by};
+ghost use Rattle.tfrules.specs.Inner.Steps.{Adds, Gathers, Keeps, KeepsTokens, ReadsFile, stop_by, stop_of_scan};
 ghost use Rattle.tf_rules.specs.Kept.{nothing};
 ghost use Rattle.tfrules.specs.Files.{max_module};
 
 use crate::file_names::FileNames;
 use crate::module_files::ModuleFiles;
 use crate::stop::{Stop, Stopped};
-use hcl_scan::{LoadError, ScanError, Source, scan};
+use hcl_scan::{LoadError, ScanError, Source, Tokens, scan};
 use hcl_syntax::accepts;
 use std::alloc::Global;
 use tf_rules::Facts;
@@ -43,6 +43,35 @@ fn read_file<M: ModuleFiles>(alloc: Global, name: &str, files: &mut M) -> Result
     stop_of(loaded)
 }
 
+/// What the fault of a scan is for a run.
+fn stop_of_scan(error: ScanError) -> Stop
+    ensures { result ≡ stop_of_scan error }
+{
+    match error {
+        ScanError::Fault(fault) => Stop::Refused(fault),
+        ScanError::OutOfMemory => Stop::OutOfMemory,
+    }
+}
+
+/// Keeps the facts of a file by its tokens, and answers how many bytes the files have with it.
+fn keep_tokens(
+    number: u32,
+    all: usize,
+    tokens: &Tokens<'_>,
+    facts: &mut Facts,
+) -> Result<usize, Stop>
+    ensures { KeepsTokens tokens.now number all facts.old facts.new result }
+{
+    let accepted = match accepts(tokens) {
+        Ok(accepted) => accepted,
+        Err(fault) => return Err(Stop::Refused(fault)),
+    };
+    match facts.add_file(number, &accepted) {
+        Ok(()) => Ok(all),
+        Err(_) => Err(Stop::OutOfMemory),
+    }
+}
+
 /// Keeps the facts of a file behind others of so many bytes, and answers how many it is then. Their size is looked at before
 /// its tokens.
 fn keep_file(
@@ -60,15 +89,8 @@ fn keep_file(
         return Err(Stop::TooLarge);
     }
     match scan(alloc, source) {
-        Ok(tokens) => match accepts(&tokens) {
-            Ok(accepted) => match facts.add_file(number, &accepted) {
-                Ok(()) => Ok(all),
-                Err(_) => Err(Stop::OutOfMemory),
-            },
-            Err(fault) => Err(Stop::Refused(fault)),
-        },
-        Err(ScanError::Fault(fault)) => Err(Stop::Refused(fault)),
-        Err(ScanError::OutOfMemory) => Err(Stop::OutOfMemory),
+        Ok(tokens) => keep_tokens(number, all, &tokens, facts),
+        Err(error) => Err(stop_of_scan(error)),
     }
 }
 

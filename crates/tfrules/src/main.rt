@@ -1,6 +1,8 @@
 //! `tfrules` lints the files of a Terraform module.
 #![tactic(auto)]
 
+ghost use Rattle.std.specs.Prelude.{◌≡◌, false};
+
 #[cfg(test)]
 mod failure_tests;
 mod file_names;
@@ -21,7 +23,8 @@ mod tests;
 mod usage;
 
 use crate::system_files::SystemFiles;
-use hcl_scan::ToWrite;
+use hcl_scan::{ByteSink, ToWrite};
+use std::alloc::{AllocError, Global};
 use std::io::{BufWriter, Write};
 use std::process::ExitCode;
 use std::{env, io};
@@ -41,36 +44,67 @@ fn main(rt: HostRuntime) -> ExitCode {
 
 /// Hands the process's words, its files and its streams to the program, and answers the status.
 fn lint<W: Write>(rt: &HostRuntime, stdout: &mut W) -> u8 {
-    let alloc = rt.alloc();
     let mut out = ToWrite::new(stdout);
     let mut err = ToWrite::new(rt.stderr());
-    let arguments = match env::args(rt) {
-        Ok(arguments) => arguments,
+    match env::args(rt) {
+        Ok(arguments) => match owned(rt.alloc(), arguments) {
+            Ok(arguments) => lint_by(rt, arguments.as_slice(), &mut out, &mut err),
+            Err(_) => NO_WORDS,
+        },
         // A word isn't UTF-8.
         Err(error) if error.kind() == io::ErrorKind::InvalidData => {
-            return run::bad_line(&mut out, &mut err);
+            run::bad_line(&mut out, &mut err)
         }
-        Err(_) => return NO_WORDS,
-    };
-    // Not by `collect`, which goes on where a reservation was refused.
+        Err(_) => NO_WORDS,
+    }
+}
+
+/// The arguments as a list. Not by `collect`, which goes on where a reservation was refused.
+fn owned(alloc: Global, arguments: env::Args) -> Result<Vec<String>, AllocError> {
     let mut owned = Vec::new(alloc);
     for argument in arguments {
-        if owned.push(argument).is_err() {
-            return NO_WORDS;
-        }
+        owned.push(argument)?;
     }
+    Ok(owned)
+}
+
+/// The same words.
+fn words_of<'a>(alloc: Global, arguments: &'a [String]) -> Result<Vec<&'a str>, AllocError> {
     let mut words = Vec::new(alloc);
-    for word in &owned {
-        if words.push(word.as_str()).is_err() {
-            return NO_WORDS;
-        }
+    for argument in arguments {
+        words.push(argument.as_str())?;
     }
-    if words.is_empty() {
-        return NO_WORDS;
+    Ok(words)
+}
+
+/// Runs the program by these arguments over the files of the system.
+fn lint_by<O: ByteSink, E: ByteSink>(
+    rt: &HostRuntime,
+    arguments: &[String],
+    out: &mut O,
+    err: &mut E,
+) -> u8
+    requires out { O.failed out.old ≡ false }
+    requires err { E.failed err.old ≡ false }
+{
+    match words_of(rt.alloc(), arguments) {
+        Ok(words) if !words.is_empty() => lint_files(rt, words.as_slice(), out, err),
+        _ => NO_WORDS,
     }
+}
+
+fn lint_files<O: ByteSink, E: ByteSink>(
+    rt: &HostRuntime,
+    words: &[&str],
+    out: &mut O,
+    err: &mut E,
+) -> u8
+    requires out { O.failed out.old ≡ false }
+    requires err { E.failed err.old ≡ false }
+{
     let Ok(own) = rt.clone() else {
         return NO_WORDS;
     };
     let mut files = SystemFiles::new(own);
-    run::program(alloc, words.as_slice(), &mut files, &mut out, &mut err)
+    run::program(rt.alloc(), words, &mut files, out, err)
 }

@@ -3,8 +3,11 @@ use Rattle.std.specs.Prelude.{◌≡◌, ◌≤◌, ◌<◌, ◌+◌, ◌++◌, 
 use Rattle.command_line.specs.Rows.{Row, error_line, out_of_memory}
 use Rattle.hcl_source.specs.Load.{IsLoadFault, IsText}
 use Rattle.hcl_scan.specs.Scanned.{Scanned}
+use Rattle.hcl_scan.specs.declared.token.ScanError.{ScanError}
+use Rattle.hcl_scan.specs.declared.token.ScanError.TheVariants as scan_error
 use Rattle.hcl_source.specs.declared.fault.LoadError.{LoadError}
 use Rattle.hcl_source.specs.declared.fault.LoadError.TheVariants as error
+use Rattle.hcl_syntax.specs.Verdict.{verdict}
 use Rattle.tf_rules.specs.Kept.{Kept, kept_of, with_file}
 use Rattle.tfrules.specs.Answer.{file_error, linter, names_of, refused, too_large, usage_line}
 use Rattle.tfrules.specs.Files.{NamedFile, AreAccepted, IsFault, IsOutcome, IsTooMuch, max_module, numbered_files, size_of}
@@ -34,6 +37,21 @@ ReadsFile told o r (Err stop.TooLarge) = ⊥
 ReadsFile told o r (Err stop.NotOpened) = o ≡ true
 ReadsFile told o r (Err stop.NotRead) = (o ≡ false) × (r ≡ true)
 ReadsFile told o r (Err stop.OutOfMemory) = AreFine o r
+
+-- what the fault of a scan is for a run
+abbrev pub stop_of_scan : ScanError → Stop
+stop_of_scan (scan_error.Fault fault) = stop.Refused fault
+stop_of_scan scan_error.OutOfMemory = stop.OutOfMemory
+
+-- what keeping scanned tokens answers, with which the files have so many bytes
+abbrev pub KeepsTokens : Scanned → ℕ → ℕ → Kept → Kept → Result ℕ Stop → Type 0
+KeepsTokens scanned number all old new (Ok more) =
+    (source : Scanned) × (Ok source ≡ verdict scanned) × (more ≡ all) × (new ≡ with_file old (record { number = number; source = source }))
+KeepsTokens scanned number all old new (Err (stop.Refused fault)) = Err fault ≡ verdict scanned
+KeepsTokens scanned number all old new (Err stop.TooLarge) = ⊥
+KeepsTokens scanned number all old new (Err stop.NotOpened) = ⊥
+KeepsTokens scanned number all old new (Err stop.NotRead) = ⊥
+KeepsTokens scanned number all old new (Err stop.OutOfMemory) = Unit {0}
 
 -- what keeping a text behind others of so many bytes answers
 abbrev pub Keeps : List ℕ → ℕ → ℕ → Kept → Kept → Result ℕ Stop → Type 0

@@ -1,0 +1,7 @@
+//! Tests of `tf_facts` by its public items. They stand in a crate of their own, since a crate with tests is proved twice.
+#![tactic(auto)]
+
+#[cfg(test)]
+mod facts;
+#[cfg(test)]
+mod rules;
