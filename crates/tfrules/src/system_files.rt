@@ -2,9 +2,9 @@
 
 ghost use Rattle.std.specs.Prelude.{◌≡◌, false, None};
 
-use crate::module_files::{ModuleFiles, OpenFault};
 use hcl_scan::{ByteSource, Failed, FromRead};
 use std::fs::File;
+use tfrules_command::module_files::{ModuleFiles, OpenFault};
 
 /// A file that was opened. It tells no bytes.
 #[derive(Drop)]
