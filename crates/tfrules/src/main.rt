@@ -3,24 +3,7 @@
 
 ghost use Rattle.std.specs.Prelude.{◌≡◌, false};
 
-#[cfg(test)]
-mod failure_tests;
-mod file_names;
-mod gather;
-mod laws;
-#[cfg(test)]
-mod memory_files;
-mod module_files;
-mod options;
-mod report;
-#[cfg(test)]
-mod row_tests;
-mod run;
-mod stop;
 mod system_files;
-#[cfg(test)]
-mod tests;
-mod usage;
 
 use crate::system_files::SystemFiles;
 use hcl_scan::{ByteSink, ToWrite};
@@ -28,6 +11,7 @@ use std::alloc::{AllocError, Global};
 use std::io::{BufWriter, Write};
 use std::process::ExitCode;
 use std::{env, io};
+use tfrules_command::run::{bad_line, program};
 
 /// The status of a run that got no words or no buffer: nothing is printed.
 const NO_WORDS: u8 = 1;
@@ -52,9 +36,7 @@ fn lint<W: Write>(rt: &HostRuntime, stdout: &mut W) -> u8 {
             Err(_) => NO_WORDS,
         },
         // A word isn't UTF-8.
-        Err(error) if error.kind() == io::ErrorKind::InvalidData => {
-            run::bad_line(&mut out, &mut err)
-        }
+        Err(error) if error.kind() == io::ErrorKind::InvalidData => { bad_line(&mut out, &mut err) }
         Err(_) => NO_WORDS,
     }
 }
@@ -106,5 +88,5 @@ fn lint_files<O: ByteSink, E: ByteSink>(
         return NO_WORDS;
     };
     let mut files = SystemFiles::new(own);
-    run::program(rt.alloc(), words, &mut files, out, err)
+    program(rt.alloc(), words, &mut files, out, err)
 }

@@ -2,9 +2,9 @@
 
 ghost use Rattle.std.specs.Prelude.{◌≡◌, false, None};
 
-use crate::module_files::{ModuleFiles, OpenFault};
 use hcl_scan::{ByteSource, FromRead};
 use std::fs::File;
+use tfrules_command::module_files::{ModuleFiles, OpenFault};
 
 /// Opens files by std. It tells no bytes.
 #[derive(Drop)]

@@ -1,0 +1,167 @@
+-- Words and the files that they name have one answer at most.
+use Rattle.std.proofs.Common.{◌≡◌, ◌∙◌, ◌⊎◌, ◌≤◌, ◌+◌, ◌++◌, ℕ, List, [], ◌∷◌, ap, ap₂, arith, inl, inr, length, map, refl, subst, sym}
+use Rattle.std.specs.Prelude.{Result, Ok, Err}
+use Rattle.std.specs.List.{AllZip}
+use Rattle.std.proofs.lemmas.List.Sums.{sum_by-append, sum_by-cons}
+use Rattle.command_line.specs.Rows.{Row}
+use Rattle.hcl_source.specs.Places.{place}
+use Rattle.hcl_source.specs.declared.fault.Fault.{Fault}
+use Rattle.hcl_source.proofs.LoadLemmas.{one_load_fault, text_or_fault}
+use Rattle.hcl_scan.specs.Lexemes.{Lexeme}
+use Rattle.hcl_scan.specs.Scanned.{Scanned}
+use Rattle.hcl_scan.proofs.RunLemmas.{no_fault, one_fault, one_scan}
+use Rattle.hcl_scan.proofs.SpellingLemmas.{nonempty, one_kind}
+use Rattle.hcl_syntax.specs.Verdict.{verdict}
+use Rattle.tf_rules.specs.Answers.{answered}
+use Rattle.tf_rules.specs.Issues.{IsReport}
+use Rattle.tf_rules.proofs.ReportLemmas.{one_report}
+use Rattle.tfrules_command.specs.Answer.{IsAnswer, IsAnswerBy, IsRefused, IsRefusedFirst, IsReported, refused}
+use Rattle.tfrules_command.specs.Files.{NamedFile, AreAccepted, IsAcceptedAs, IsFault, IsOutcome, IsTooMuch, max_module, numbered_files, size_of}
+use Rattle.tfrules_command.specs.Line.{Asking, options_of}
+use Rattle.tfrules_command.specs.Report.{report_row}
+use Rattle.tfrules_command.specs.declared.usage.Usage.{Usage}
+use Rattle.tfrules_command.specs.declared.usage.Usage.TheVariants as usage
+
+-- ---- one text
+
+abbrev source_or : Scanned → Result Scanned Fault → Scanned
+source_or other (Ok source) = source
+source_or other (Err fault) = other
+
+abbrev fault_or : Fault → Result Scanned Fault → Fault
+fault_or other (Ok source) = other
+fault_or other (Err fault) = fault
+
+not_both : (source : Scanned) (fault : Fault) → (Ok source ≡ Err fault) → ⊥
+not_both source fault e = cc
+
+one_outcome : (text : List ℕ) (outcome other : Result Scanned Fault) → IsOutcome text outcome → IsOutcome text other → outcome ≡ other
+one_outcome text outcome other (inl x) (inl y) =
+    let same = one_fault one_kind nonempty text x.0 y.0 x.1 y.1 x.2 y.2 in
+    x.3 ∙ (λ i. Err (record { kind = same.0 i; at = place text (same.1 i) })) ∙ sym y.3
+one_outcome text outcome other (inl x) (inr y) = absurd (no_fault one_kind nonempty text y.0 x.0 x.1 y.1 x.2)
+one_outcome text outcome other (inr x) (inl y) = absurd (no_fault one_kind nonempty text x.0 y.0 y.1 x.1 y.2)
+one_outcome text outcome other (inr x) (inr y) =
+    x.2 ∙ ap (λ (ts : List Lexeme). verdict (record { text = text; tokens = ts })) (one_scan one_kind nonempty text x.0 y.0 x.1 y.1) ∙ sym y.2
+
+-- ---- accepted files
+
+one_source : (file : NamedFile) (source other : Scanned) → IsAcceptedAs file source → IsAcceptedAs file other → source ≡ other
+one_source file source other a b = ap (source_or source) (one_outcome file.bytes (Ok source) (Ok other) a.1 b.1)
+
+same_sources : (files : List NamedFile) (sources others : List Scanned) → AllZip IsAcceptedAs files sources → AllZip IsAcceptedAs files others → sources ≡ others
+same_sources [] [] [] a b = refl
+same_sources [] [] (o ∷ os) a b = absurd b
+same_sources [] (s ∷ ss) others a b = absurd a
+same_sources (f ∷ fs) [] others a b = absurd a
+same_sources (f ∷ fs) (s ∷ ss) [] a b = absurd b
+same_sources (f ∷ fs) (s ∷ ss) (o ∷ os) a b = ap₂ (λ x xs. x ∷ xs) (one_source f s o a.0 b.0) (same_sources fs ss os a.1 b.1)
+
+-- ---- one refusal
+
+no_fault_too : (size : ℕ) (file : NamedFile) (source : Scanned) (fault : Fault) → IsAcceptedAs file source → IsFault size file.bytes fault → ⊥
+no_fault_too size file source fault a (inl load) = text_or_fault file.bytes fault a.0 load
+no_fault_too size file source fault a (inr f) = not_both source fault (one_outcome file.bytes (Ok source) (Err fault) a.1 f.2)
+
+one_file_fault : (size : ℕ) (bytes : List ℕ) (fault other : Fault) → IsFault size bytes fault → IsFault size bytes other → fault ≡ other
+one_file_fault size bytes fault other (inl x) (inl y) = one_load_fault bytes fault other x y
+one_file_fault size bytes fault other (inl x) (inr y) = absurd (text_or_fault bytes fault y.0 x)
+one_file_fault size bytes fault other (inr x) (inl y) = absurd (text_or_fault bytes other x.0 y)
+one_file_fault size bytes fault other (inr x) (inr y) = ap (fault_or fault) (one_outcome bytes (Err fault) (Err other) x.2 y.2)
+
+fault_or_much : (size : ℕ) (bytes : List ℕ) (fault : Fault) → IsFault size bytes fault → IsTooMuch size bytes → ⊥
+fault_or_much size bytes fault (inl load) much = text_or_fault bytes fault much.0 load
+fault_or_much size bytes fault (inr f) much = omega (arith, f.1, much.1)
+
+one_refusal : (size : ℕ) (file : NamedFile) (row other : Row) → IsRefused size file row → IsRefused size file other → row ≡ other
+one_refusal size file row other (inl x) (inl y) = x.2 ∙ ap (refused file.name) (one_file_fault size file.bytes x.0 y.0 x.1 y.1) ∙ sym y.2
+one_refusal size file row other (inl x) (inr y) = absurd (fault_or_much size file.bytes x.0 x.1 y.0)
+one_refusal size file row other (inr x) (inl y) = absurd (fault_or_much size file.bytes y.0 y.1 x.0)
+one_refusal size file row other (inr x) (inr y) = x.1 ∙ sym y.1
+
+not_refused : (size : ℕ) (file : NamedFile) (source : Scanned) (row : Row) → IsAcceptedAs file source → size + length file.bytes ≤ max_module → IsRefused size file row → ⊥
+not_refused size file source row a fit (inl x) = no_fault_too size file source x.0 a x.1
+not_refused size file source row a fit (inr x) = omega (arith, x.0.1, fit)
+
+accepted_within : (before : List NamedFile) (file : NamedFile) (behind : List NamedFile) (sources : List Scanned) → AllZip IsAcceptedAs (before ++ file ∷ behind) sources → (source : Scanned) × IsAcceptedAs file source
+accepted_within [] file behind [] a = absurd a
+accepted_within [] file behind (s ∷ ss) a = (s, a.0)
+accepted_within (f ∷ fs) file behind [] a = absurd a
+accepted_within (f ∷ fs) file behind (s ∷ ss) a = accepted_within fs file behind ss a.1
+
+-- none of accepted files is refused
+none_refused : (before : List NamedFile) (file : NamedFile) (behind : List NamedFile) (sources : List Scanned) (row : Row) → AreAccepted (before ++ file ∷ behind) sources → IsRefused (size_of before) file row → ⊥
+none_refused before file behind sources row are refusal =
+    let found = accepted_within before file behind sources are.each in
+    let all : size_of (before ++ file ∷ behind) ≡ size_of before + size_of (file ∷ behind) = sum_by-append (λ (f : NamedFile). length f.bytes) before (file ∷ behind) in
+    let rest : size_of (file ∷ behind) ≡ length file.bytes + size_of behind = sum_by-cons (λ (f : NamedFile). length f.bytes) file behind in
+    let fit : size_of (before ++ file ∷ behind) ≤ max_module = are.fit in
+    not_refused (size_of before) file found.0 row found.1 (omega (arith, all, rest, fit)) refusal
+
+-- ---- a list that is split twice
+module _ {X : Type 0} where
+  abbrev head_or : X → List X → X
+  head_or other [] = other
+  head_or other (x ∷ xs) = x
+
+  abbrev behind_head : List X → List X
+  behind_head [] = []
+  behind_head (x ∷ xs) = xs
+
+  -- at the same place, or one within what is before the other
+  abbrev Splits : List X → List X → X → X → Type 0
+  Splits xs ys a b = ((xs ≡ ys) × (a ≡ b)) ⊎ (((rest : List X) × (ys ≡ xs ++ a ∷ rest)) ⊎ ((rest : List X) × (xs ≡ ys ++ b ∷ rest)))
+
+  further : (x y : X) (xs ys : List X) (a b : X) → x ≡ y → Splits xs ys a b → Splits (x ∷ xs) (y ∷ ys) a b
+  further x y xs ys a b e (inl s) = inl (ap₂ (λ v vs. v ∷ vs) e s.0, s.1)
+  further x y xs ys a b e (inr (inl s)) = inr (inl (s.0, ap₂ (λ v vs. v ∷ vs) (sym e) s.1))
+  further x y xs ys a b e (inr (inr s)) = inr (inr (s.0, ap₂ (λ v vs. v ∷ vs) e s.1))
+
+  split_twice : (xs more ys bs : List X) (a b : X) → xs ++ a ∷ more ≡ ys ++ b ∷ bs → Splits xs ys a b
+  split_twice [] more [] bs a b e = inl (refl, ap (head_or a) e)
+  split_twice [] more (y ∷ ys) bs a b e = inr (inl (ys, ap (λ v. v ∷ ys) (sym (ap (head_or a) e))))
+  split_twice (x ∷ xs) more [] bs a b e = inr (inr (xs, ap (λ v. v ∷ xs) (ap (head_or x) e)))
+  split_twice (x ∷ xs) more (y ∷ ys) bs a b e = further x y xs ys a b (ap (head_or x) e) (split_twice xs more ys bs a b (ap behind_head e))
+
+-- ---- the row
+
+one_refused_first : (files : List NamedFile) (row other : Row) → IsRefusedFirst files row → IsRefusedFirst files other → row ≡ other
+one_refused_first files row other x y = by (split_twice x.before x.behind y.before y.behind x.file y.file (sym x.split ∙ y.split))
+  where
+    by : Splits x.before y.before x.file y.file → row ≡ other
+    by (inl s) =
+        one_refusal (size_of y.before) y.file row other
+        (subst (λ f. IsRefused (size_of y.before) f row) s.1 (subst (λ fs. IsRefused (size_of fs) x.file row) s.0 x.refusal)) y.refusal
+    by (inr (inl s)) = absurd (none_refused x.before x.file s.0 y.sources row (subst (λ fs. AreAccepted fs y.sources) s.1 y.accepted) x.refusal)
+    by (inr (inr s)) = absurd (none_refused y.before y.file s.0 x.sources other (subst (λ fs. AreAccepted fs x.sources) s.1 x.accepted) y.refusal)
+
+reported_or_refused : (asking : Asking) (files : List NamedFile) (row other : Row) → IsReported asking files row → IsRefusedFirst files other → ⊥
+reported_or_refused asking files row other x y = none_refused y.before y.file y.behind x.sources other (subst (λ fs. AreAccepted fs x.sources) y.split x.accepted) y.refusal
+
+one_reported : (asking : Asking) (files : List NamedFile) (row other : Row) → IsReported asking files row → IsReported asking files other → row ≡ other
+one_reported asking files row other x y =
+    let same : x.sources ≡ y.sources = same_sources files x.sources y.sources x.accepted.each y.accepted.each in
+    let moved : IsReport asking.asked (numbered_files 0 y.sources) x.found.report = subst (λ ss. IsReport asking.asked (numbered_files 0 ss) x.found.report) same x.found.is in
+    let report : x.found.report ≡ y.found.report = one_report asking.asked (numbered_files 0 y.sources) x.found.report y.found.report moved y.found.is in
+    let issues : x.issues ≡ y.issues = sym x.found.same ∙ ap (map answered) report ∙ y.found.same in
+    x.is ∙ ap (report_row asking) issues ∙ sym y.is
+
+one_of_files : (asking : Asking) (files : List NamedFile) (row other : Row) → IsReported asking files row ⊎ IsRefusedFirst files row → IsReported asking files other ⊎ IsRefusedFirst files other → row ≡ other
+one_of_files asking files row other (inl x) (inl y) = one_reported asking files row other x y
+one_of_files asking files row other (inl x) (inr y) = absurd (reported_or_refused asking files row other x y)
+one_of_files asking files row other (inr x) (inl y) = absurd (reported_or_refused asking files other row y x)
+one_of_files asking files row other (inr x) (inr y) = one_refused_first files row other x y
+
+pub one_answer_by : (r : Result Asking Usage) (files : List NamedFile) (row other : Row) → IsAnswerBy r files row → IsAnswerBy r files other → row ≡ other
+one_answer_by (Ok asking) files row other x y = one_of_files asking files row other x.1 y.1
+one_answer_by (Err usage.Help) files row other x y = x ∙ sym y
+one_answer_by (Err usage.BadLine) files row other x y = x ∙ sym y
+one_answer_by (Err usage.UnknownRule) files row other x y = x ∙ sym y
+one_answer_by (Err usage.BadNaming) files row other x y = x ∙ sym y
+one_answer_by (Err usage.BadSeverity) files row other x y = x ∙ sym y
+one_answer_by (Err usage.TooManyFiles) files row other x y = x ∙ sym y
+one_answer_by (Err usage.OutOfMemory) files row other x y = absurd x
+
+-- ---- THE LAW
+pub one_answer : (words : List (List ℕ)) (files : List NamedFile) (row other : Row) → IsAnswer words files row → IsAnswer words files other → row ≡ other
+one_answer words = one_answer_by (options_of words)

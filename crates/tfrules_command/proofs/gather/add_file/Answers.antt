@@ -1,0 +1,10 @@
+use Rattle.tfrules_command.proofs.GatherLemmas.{adds_kept, stops_unread}
+use Rattle.tfrules_command.proofs.gather.add_file.Goals as goal
+
+pub returns-in-Ok-clause-adds : goal.returns-in-Ok-clause-adds
+returns-in-Ok-clause-adds g c =
+    let r = c.in-Ok.ensures.reads in
+    adds_kept _ _ _ c.in-Ok.source _ _ _ _ c.keep_file.result r.0 r.1 r.2 c.keep_file.ensures
+
+pub returns-in-Err-clause-adds : goal.returns-in-Err-clause-adds
+returns-in-Err-clause-adds g c = stops_unread _ _ _ _ c.in-Err.stop c.in-Err.ensures.reads

@@ -1,0 +1,22 @@
+use Rattle.std.proofs.Common.{inr, subst, sym}
+use Rattle.tf_rules.specs.Answers as rules
+use Rattle.tfrules_command.specs.Files.{numbered_files}
+use Rattle.tfrules_command.specs.Report.{report_row}
+use Rattle.tfrules_command.specs.Asked.{asking_of}
+use Rattle.tfrules_command.proofs.EndLemmas.{reported_row, rising, stopped_row}
+use Rattle.tfrules_command.proofs.run.run_over.Goals as goal
+
+pub returns-in-Err : goal.returns-in-Err
+returns-in-Err g c =
+    let w = c.refuse.ensures in
+    (w.0, stopped_row (g.M.ModuleFiles.told c.args.files.now) (asking_of c.args.options.now) _ _ c.in-Err.stopped.name.now c.in-Err.stopped.why w.0 c.in-Err.ensures w.1, w.2)
+
+pub returns-in-Ok : goal.returns-in-Ok
+returns-in-Ok g c =
+    let gathered = c.in_default.ensures in
+    let found = c.in-Ok.ensures (numbered_files 0 gathered.1.1.sources) gathered.1.1.kept_is (rising 0 gathered.1.1.sources) in (
+      report_row (asking_of c.args.options.now) c.as_slice.result.now,
+      inr (reported_row (g.M.ModuleFiles.told c.args.files.now) (asking_of c.args.options.now) _ _ _ _ c.as_slice.result.now gathered.0 gathered.1.1
+          (subst (rules.AreIssues (asking_of c.args.options.now).asked (numbered_files 0 gathered.1.1.sources)) (sym c.as_slice.ensures.value) found)),
+      c.show.ensures,
+    )

@@ -1,0 +1,5 @@
+use Rattle.tfrules_command.proofs.EndLemmas.{help_shown}
+use Rattle.tfrules_command.proofs.run.tell_usage.Goals as goal
+
+pub returns-in-Help : goal.returns-in-Help
+returns-in-Help g c = help_shown _ _ _ c.in-Help.is c.linter.ensures c.deliver.ensures

@@ -1,0 +1,80 @@
+-- What `tfrules` answers to a line of words and the files that it names. Its texts, its statuses and the order in which the
+-- files are refused are our own choice.
+use Rattle.std.specs.Prelude.{◌≡◌, ◌⊎◌, ℕ, List, [], ◌∷◌, ◌++◌, Result, Ok, Err, codes, map}
+use Rattle.command_line.specs.Rows.{Program, Row, error, fails_with, fault_words, line}
+use Rattle.hcl_scan.specs.Scanned.{Scanned}
+use Rattle.hcl_source.specs.declared.fault.Fault.{Fault}
+use Rattle.tf_rules.specs.Answers as rules
+use Rattle.tf_rules.specs.declared.issue.Issue.{Issue}
+use Rattle.tfrules_command.specs.Files.{NamedFile, AreAccepted, IsFault, IsTooMuch, numbered_files, size_of}
+use Rattle.tfrules_command.specs.Line.{Asking, options_of}
+use Rattle.tfrules_command.specs.Report.{report_row}
+use Rattle.tfrules_command.specs.declared.usage.Usage.{Usage}
+use Rattle.tfrules_command.specs.declared.usage.Usage.TheVariants as usage
+
+abbrev pub linter : Program
+linter = record { name = codes "tfrules"; failure = 1 }
+
+-- ---- rows
+
+-- `tfrules: error: FILE:LINE:COLUMN: TEXT`
+abbrev pub refused : List ℕ → Fault → Row
+refused name fault = record { out = []; err = error linter (name ++ (codes ":" ++ fault_words fault)); status = 1 }
+
+-- `tfrules: error: FILE: TEXT`
+abbrev pub file_error : List ℕ → List ℕ → Row
+file_error name text = record { out = []; err = error linter (name ++ (codes ": " ++ line text)); status = 1 }
+
+abbrev pub too_large : List ℕ → Row
+too_large name = file_error name (codes "module too large")
+
+abbrev pub usage_line : List ℕ
+usage_line = line (codes "usage: tfrules [--rules LIST] [--naming snake_case|mixed_snake_case] [--minimum-failure-severity error|warning|notice] [--force] [--help] FILE...")
+
+-- ---- the answer
+
+-- behind files of so many bytes, this one ends the run with the row
+abbrev pub IsRefused : ℕ → NamedFile → Row → Type 0
+IsRefused size file row =
+    ((fault : Fault) × IsFault size file.bytes fault × (row ≡ refused file.name fault)) ⊎ (IsTooMuch size file.bytes × (row ≡ too_large file.name))
+
+-- all files are accepted, and the row is that of their issues
+pub record IsReported (asking : Asking) (files : List NamedFile) (row : Row) : Type 0 where
+  pub sources : List Scanned
+  pub accepted : AreAccepted files sources
+  pub issues : List Issue
+  pub found : rules.AreIssues asking.asked (numbered_files 0 sources) issues
+  pub is : row ≡ report_row asking issues
+
+-- all files before one are accepted, and the row is that for which this one is refused
+pub record IsRefusedFirst (files : List NamedFile) (row : Row) : Type 0 where
+  pub before : List NamedFile
+  pub file : NamedFile
+  pub behind : List NamedFile
+  pub split : files ≡ before ++ file ∷ behind
+  pub sources : List Scanned
+  pub accepted : AreAccepted before sources
+  pub refusal : IsRefused (size_of before) file row
+
+abbrev pub names_of : List NamedFile → List (List ℕ)
+names_of files = map (λ file. file.name) files
+
+-- no line has want of memory as its usage
+abbrev pub IsAnswerBy : Result Asking Usage → List NamedFile → Row → Type 0
+IsAnswerBy (Ok asking) files row = (names_of files ≡ asking.files) × (IsReported asking files row ⊎ IsRefusedFirst files row)
+IsAnswerBy (Err usage.Help) files row = row ≡ record { out = usage_line; err = []; status = 0 }
+IsAnswerBy (Err usage.BadLine) files row = row ≡ record { out = []; err = usage_line; status = 1 }
+IsAnswerBy (Err usage.UnknownRule) files row = row ≡ fails_with linter (codes "unknown rule")
+IsAnswerBy (Err usage.BadNaming) files row = row ≡ fails_with linter (codes "unknown naming")
+IsAnswerBy (Err usage.BadSeverity) files row = row ≡ fails_with linter (codes "unknown severity")
+IsAnswerBy (Err usage.TooManyFiles) files row = row ≡ fails_with linter (codes "more than 256 files")
+IsAnswerBy (Err usage.OutOfMemory) files row = ⊥
+
+-- THE ANSWER to a line of words and the files that it names, each once, in order
+abbrev pub IsAnswer : List (List ℕ) → List NamedFile → Row → Type 0
+IsAnswer words = IsAnswerBy (options_of words)
+
+-- the files are those that the line names, where it asks for any
+abbrev pub AreNamed : Result Asking Usage → List NamedFile → Type 0
+AreNamed (Ok asking) files = names_of files ≡ asking.files
+AreNamed (Err usage) files = Unit {0}

@@ -1,0 +1,47 @@
+-- The rows of `tfrules` where an opening or a read failed or memory ran out, beside those of its answers: our own choice.
+use Rattle.std.specs.Prelude.{◌≡◌, ℕ, Bool, true, false, List, ◌∷◌, ◌++◌, Option, Some, None, Result, Ok, Err, All, codes}
+use Rattle.command_line.specs.Rows.{Row, OrOutOfMemory}
+use Rattle.hcl_scan.specs.Scanned.{Scanned}
+use Rattle.tfrules_command.specs.Answer.{IsAnswerBy, file_error, linter, names_of}
+use Rattle.tfrules_command.specs.Files.{NamedFile, AreAccepted}
+use Rattle.tfrules_command.specs.Line.{Asking}
+use Rattle.tfrules_command.specs.declared.usage.Usage.{Usage}
+
+-- where the device tells the bytes of a file, these are they
+abbrev pub Tells : Option (List ℕ) → List ℕ → Type 0
+Tells None bytes = Unit {0}
+Tells (Some told) bytes = told ≡ bytes
+
+-- the files of a module, where a device tells the bytes of a name
+abbrev pub AreFiles : (List ℕ → Option (List ℕ)) → List NamedFile → Type 0
+AreFiles told files = All (λ file. Tells (told file.name) file.bytes) files
+
+-- all files before one are accepted, and the row says this of the next one
+pub record IsUnread (text : List ℕ) (told : List ℕ → Option (List ℕ)) (asking : Asking) (row : Row) : Type 0 where
+  pub before : List NamedFile
+  pub name : List ℕ
+  pub behind : List (List ℕ)
+  pub split : asking.files ≡ names_of before ++ name ∷ behind
+  pub files : AreFiles told before
+  pub sources : List Scanned
+  pub accepted : AreAccepted before sources
+  pub is : row ≡ file_error name text
+
+-- nothing is opened without options
+abbrev pub IsUnreadBy : List ℕ → (List ℕ → Option (List ℕ)) → Result Asking Usage → Row → Type 0
+IsUnreadBy text told (Ok asking) row = IsUnread text told asking row
+IsUnreadBy text told (Err usage) row = ⊥
+
+-- the answer to some files that are as the device tells them
+abbrev pub IsAnswerTo : (List ℕ → Option (List ℕ)) → Result Asking Usage → Row → Type 0
+IsAnswerTo told options row = (files : List NamedFile) × AreFiles told files × IsAnswerBy options files row
+
+-- the row for a failed opening, for a failed read, or of an answer
+abbrev pub IsRowBy : (List ℕ → Option (List ℕ)) → Result Asking Usage → Bool → Bool → Row → Type 0
+IsRowBy told options true read_failed = IsUnreadBy (codes "cannot be opened") told options
+IsRowBy told options false true = IsUnreadBy (codes "read failed") told options
+IsRowBy told options false false = IsAnswerTo told options
+
+-- or that for want of memory
+abbrev pub IsRow : (List ℕ → Option (List ℕ)) → Result Asking Usage → Bool → Bool → Row → Type 0
+IsRow told options open_failed read_failed = OrOutOfMemory linter (IsRowBy told options open_failed read_failed)

@@ -1,0 +1,139 @@
+//! The files of a module, read one after the other.
+
+ghost use Rattle.std.specs.Prelude.{◌≡◌, ◌≤◌, ◌<◌, false, ℕ, List};
+ghost use Rattle.tfrules_command.specs.Inner.Steps.{Adds, Gathers, Keeps, KeepsTokens, ReadsFile, stop_by, stop_of_scan};
+ghost use Rattle.tf_rules.specs.Kept.{nothing};
+ghost use Rattle.tfrules_command.specs.Files.{max_module};
+
+use crate::file_names::FileNames;
+use crate::module_files::ModuleFiles;
+use crate::stop::{Stop, Stopped};
+use hcl_scan::{LoadError, ScanError, Source, Tokens, scan};
+use hcl_syntax::accepts;
+use std::alloc::Global;
+use tf_rules::Facts;
+
+/// The most bytes that the files of a module have together.
+pub const MAX_MODULE: usize = 33_554_432;
+
+/// What a loaded text is for a run.
+fn stop_of(loaded: Result<Source, LoadError>) -> Result<Source, Stop>
+    ensures { result ≡ stop_by loaded }
+{
+    match loaded {
+        Ok(source) => Ok(source),
+        Err(LoadError::Fault(fault)) => Err(Stop::Refused(fault)),
+        Err(LoadError::ReadFailed) => Err(Stop::NotRead),
+        Err(LoadError::OutOfMemory) => Err(Stop::OutOfMemory),
+    }
+}
+
+/// Reads a file, and gives its reader back.
+fn read_file<M: ModuleFiles>(alloc: Global, name: &str, files: &mut M) -> Result<Source, Stop>
+    requires opened { M.open_failed files.old ≡ false }
+    requires read { M.read_failed files.old ≡ false }
+    ensures reads { ReadsFile (M.told files.old name.now) (M.open_failed files.new) (M.read_failed files.new) result }
+    ensures told { (other : List ℕ) → M.told files.new other ≡ M.told files.old other }
+{
+    let Ok(mut reader) = files.reader(name) else {
+        return Err(Stop::NotOpened);
+    };
+    let loaded = Source::read_from(alloc, &mut reader);
+    files.give_back(reader);
+    stop_of(loaded)
+}
+
+/// What the fault of a scan is for a run.
+fn stop_of_scan(error: ScanError) -> Stop
+    ensures { result ≡ stop_of_scan error }
+{
+    match error {
+        ScanError::Fault(fault) => Stop::Refused(fault),
+        ScanError::OutOfMemory => Stop::OutOfMemory,
+    }
+}
+
+/// Keeps the facts of a file by its tokens, and answers how many bytes the files have with it.
+fn keep_tokens(
+    number: u32,
+    all: usize,
+    tokens: &Tokens<'_>,
+    facts: &mut Facts,
+) -> Result<usize, Stop>
+    ensures { KeepsTokens tokens.now number all facts.old facts.new result }
+{
+    let accepted = match accepts(tokens) {
+        Ok(accepted) => accepted,
+        Err(fault) => return Err(Stop::Refused(fault)),
+    };
+    match facts.add_file(number, &accepted) {
+        Ok(()) => Ok(all),
+        Err(_) => Err(Stop::OutOfMemory),
+    }
+}
+
+/// Keeps the facts of a file behind others of so many bytes, and answers how many it is then. Their size is looked at before
+/// its tokens.
+fn keep_file(
+    alloc: Global,
+    number: u32,
+    size: usize,
+    source: &Source,
+    facts: &mut Facts,
+) -> Result<usize, Stop>
+    requires { size ≤ max_module }
+    ensures { Keeps source.now size number facts.old facts.new result }
+{
+    let all = size + source.text().len();
+    if all > MAX_MODULE {
+        return Err(Stop::TooLarge);
+    }
+    match scan(alloc, source) {
+        Ok(tokens) => keep_tokens(number, all, &tokens, facts),
+        Err(error) => Err(stop_of_scan(error)),
+    }
+}
+
+/// Reads a file and keeps its facts. Its text and its tokens are gone when it returns.
+fn add_file<M: ModuleFiles>(
+    alloc: Global,
+    number: u32,
+    size: usize,
+    name: &str,
+    files: &mut M,
+    facts: &mut Facts,
+) -> Result<usize, Stop>
+    requires opened { M.open_failed files.old ≡ false }
+    requires read { M.read_failed files.old ≡ false }
+    requires small { size ≤ max_module }
+    ensures adds { Adds (M.told files.old name.now) size number (M.open_failed files.new) (M.read_failed files.new) facts.old facts.new result }
+    ensures told { (other : List ℕ) → M.told files.new other ≡ M.told files.old other }
+{
+    match read_file(alloc, name, files) {
+        Ok(source) => keep_file(alloc, number, size, &source, facts),
+        Err(stop) => Err(stop),
+    }
+}
+
+/// Reads the files of these names in their order, up to the first that isn't kept, and keeps their facts.
+pub fn gather<'a, M: ModuleFiles>(
+    alloc: Global,
+    names: &FileNames<'a>,
+    files: &mut M,
+    facts: &mut Facts,
+) -> Result<(), Stopped<'a>>
+    requires opened { M.open_failed files.old ≡ false }
+    requires read { M.read_failed files.old ≡ false }
+    requires none { facts.old ≡ nothing }
+    ensures { Gathers (M.told files.old) names.now (M.open_failed files.new) (M.read_failed files.new) facts.new result }
+{
+    let mut size = 0;
+    for number in 0..names.len() {
+        let name = names.get(number);
+        match add_file(alloc, number as u32, size, name, files, facts) {
+            Ok(all) => size = all,
+            Err(why) => return Err(Stopped { name, why }),
+        }
+    }
+    Ok(())
+}

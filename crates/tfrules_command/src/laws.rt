@@ -1,0 +1,53 @@
+//! What is proved of the definitions alone. No program calls these functions: their contracts are the laws.
+
+ghost use Rattle.std.specs.Prelude.{◌≡◌, ◌≤◌, ℕ, List, length, map};
+ghost use Rattle.std.specs.List.{All, AllZip};
+ghost use Rattle.hcl_source.specs.Load.{max_source};
+ghost use Rattle.hcl_scan.specs.Scanned.{Scanned};
+ghost use Rattle.command_line.specs.Rows.{Row};
+ghost use Rattle.tfrules_command.specs.Answer.{AreNamed, IsAnswer, IsReported};
+ghost use Rattle.tfrules_command.specs.Files.{NamedFile, AreAccepted, max_module, named, size_of};
+ghost use Rattle.tfrules_command.specs.Formatted.{IsFormatted, without_columns};
+ghost use Rattle.tfrules_command.specs.Line.{Asking, options_of};
+ghost use Rattle.tfrules_command.specs.Inner.Outcomes.{HasOutcome};
+
+use hcl_scan::laws::{list_or_fault, text_or_fault};
+
+/// Bytes have a load fault, or are a text with an outcome. The body shows it: it loads and scans, and keeps nothing.
+fn show_outcome(bytes: &[u8])
+    ensures { HasOutcome bytes.now }
+{
+    match text_or_fault(bytes) {
+        Some(text) => list_or_fault(text),
+        None => {}
+    }
+}
+
+/// A line of words and the files that it names have an answer. The body shows it for files that are there: it loads and
+/// scans each.
+pub fn an_answer(words: &[&str], files: &[(&str, &[u8])])
+    ensures { let line = map (λ word. word.now) words.now in let given = map (λ file. named file.0.now file.1.now) files.now in
+        AreNamed (options_of line) given → (row : Row) × IsAnswer line given row }
+{
+    let _ = words;
+    for file in files {
+        show_outcome(file.1);
+    }
+}
+
+/// A line of words and the files that it names have one answer at most.
+pub fn one_answer()
+    ensures { (words : List (List ℕ)) (files : List NamedFile) (row other : Row) → IsAnswer words files row → IsAnswer words files other → row ≡ other }
+{}
+
+/// Where the files of a module are accepted, so are the formatted files, unless they are too large, and a run over them
+/// has the same issues in the same order, with the same lines, rules and messages, and the same status: columns alone may
+/// differ.
+pub fn agree()
+    ensures accepted { (files formatted : List NamedFile) (sources : List Scanned) → AreAccepted files sources → AllZip IsFormatted files formatted
+        → All (λ f. length f.bytes ≤ max_source) formatted → size_of formatted ≤ max_module → (others : List Scanned) × AreAccepted formatted others }
+    ensures issues { (asking : Asking) (files formatted : List NamedFile) (row other : Row) → AllZip IsFormatted files formatted
+        → (first : IsReported asking files row) → (again : IsReported asking formatted other) → without_columns first.issues ≡ without_columns again.issues }
+    ensures status { (asking : Asking) (files formatted : List NamedFile) (row other : Row) → AllZip IsFormatted files formatted
+        → IsReported asking files row → IsReported asking formatted other → row.status ≡ other.status }
+{}

@@ -1,0 +1,157 @@
+//! The report of a run, written piece by piece.
+
+ghost use Rattle.std.specs.Prelude.{◌≡◌, ◌<◌, ◌≤◌, [], ◌∷◌, false, true, map, length, is_err, if◌then◌else◌};
+ghost use Rattle.std.specs.List.{concat, flat_map, list_any};
+ghost use Rattle.command_line.specs.Rows.{Took, writer};
+ghost use Rattle.tfrules_command.specs.Report.{issue_line, report, weighs, weight};
+ghost use Rattle.tfrules_command.specs.Inner.Pieces.{count_lines, issue_words, lines_of_report, place_words};
+
+use crate::file_names::FileNames;
+use hcl_scan::{ByteSink, WriteFault, write_fully};
+use itoa::Buffer;
+use tf_rules::{Issue, Severity};
+
+/// How much a severity weighs.
+fn weight(severity: Severity) -> u8
+    ensures { result ≡ weight severity }
+{
+    match severity {
+        Severity::Notice => 0,
+        Severity::Warning => 1,
+        Severity::Error => 2,
+    }
+}
+
+/// Whether one of the issues is as severe as this, or more.
+pub fn has_severe(minimum: Severity, issues: &[Issue]) -> bool
+    ensures { result ≡ list_any (weighs minimum) issues.now }
+{
+    let least = weight(minimum);
+    issues
+        .iter()
+        .any(|issue| least <= weight(issue.rule.severity()))
+}
+
+/// Writes the pieces one behind the other, up to the first write that fails.
+fn write_pieces<O: ByteSink>(out: &mut O, pieces: &[&str]) -> Result<(), WriteFault>
+    requires { O.failed out.old ≡ false }
+    ensures took { Took (writer O.taken O.failed O.flushed out.old out.new) (concat (map (λ piece. piece.now) pieces.now)) }
+    ensures failed { O.failed out.new ≡ is_err result }
+{
+    for piece in pieces {
+        if let Err(fault) = write_fully(out, piece.as_bytes()) {
+            return Err(fault);
+        }
+    }
+    Ok(())
+}
+
+/// Writes the place of an issue.
+fn write_place<'p, O: ByteSink>(
+    out: &mut O,
+    name: &'p str,
+    line: &'p str,
+    column: &'p str,
+) -> Result<(), WriteFault>
+    requires { O.failed out.old ≡ false }
+    ensures took { Took (writer O.taken O.failed O.flushed out.old out.new) (place_words name.now line.now column.now) }
+    ensures failed { O.failed out.new ≡ is_err result }
+{
+    write_pieces(out, &[name, ":", line, ":", column, ": "])
+}
+
+/// Writes what an issue says.
+fn write_words<'p, O: ByteSink>(
+    out: &mut O,
+    severity: &'p str,
+    message: &'p str,
+    rule: &'p str,
+) -> Result<(), WriteFault>
+    requires { O.failed out.old ≡ false }
+    ensures took { Took (writer O.taken O.failed O.flushed out.old out.new) (issue_words severity.now message.now rule.now) }
+    ensures failed { O.failed out.new ≡ is_err result }
+{
+    write_pieces(out, &[severity, " - ", message, " (", rule, ")\n"])
+}
+
+/// Writes the line of an issue.
+fn write_issue<O: ByteSink>(
+    out: &mut O,
+    names: &FileNames<'_>,
+    issue: &Issue,
+) -> Result<(), WriteFault>
+    requires { O.failed out.old ≡ false }
+    ensures took { Took (writer O.taken O.failed O.flushed out.old out.new) (issue_line names.now issue.now) }
+    ensures failed { O.failed out.new ≡ is_err result }
+{
+    let name = names.name_of(issue.file);
+    let mut line = Buffer::new();
+    let mut column = Buffer::new();
+    let line = line.format(issue.at.line);
+    let column = column.format(issue.at.column);
+    if let Err(fault) = write_place(out, name, line, column) {
+        return Err(fault);
+    }
+    let severity = issue.rule.severity().text();
+    write_words(out, severity, issue.message.as_str(), issue.rule.name())
+}
+
+/// Writes how many issues there are, and an empty line.
+fn write_count<O: ByteSink>(out: &mut O, count: usize) -> Result<(), WriteFault>
+    requires { O.failed out.old ≡ false }
+    ensures took { Took (writer O.taken O.failed O.flushed out.old out.new) (count_lines count) }
+    ensures failed { O.failed out.new ≡ is_err result }
+{
+    let mut digits = Buffer::new();
+    write_pieces(out, &[digits.format(count), " issue(s) found:\n\n"])
+}
+
+/// Writes the lines of issues.
+fn write_issues<O: ByteSink>(
+    out: &mut O,
+    names: &FileNames<'_>,
+    issues: &[Issue],
+) -> Result<(), WriteFault>
+    requires { O.failed out.old ≡ false }
+    ensures took { Took (writer O.taken O.failed O.flushed out.old out.new) (flat_map (issue_line names.now) issues.now) }
+    ensures failed { O.failed out.new ≡ is_err result }
+{
+    for issue in issues {
+        if let Err(fault) = write_issue(out, names, issue) {
+            return Err(fault);
+        }
+    }
+    Ok(())
+}
+
+/// Writes the report of issues, of which there is one or more.
+fn write_report<O: ByteSink>(
+    out: &mut O,
+    names: &FileNames<'_>,
+    issues: &[Issue],
+) -> Result<(), WriteFault>
+    requires { O.failed out.old ≡ false }
+    ensures took { Took (writer O.taken O.failed O.flushed out.old out.new) (lines_of_report names.now issues.now) }
+    ensures failed { O.failed out.new ≡ is_err result }
+{
+    if let Err(fault) = write_count(out, issues.len()) {
+        return Err(fault);
+    }
+    write_issues(out, names, issues)
+}
+
+/// Writes the report and flushes it, or leaves standard output alone where there is no issue.
+pub fn show_issues<O: ByteSink>(out: &mut O, names: &FileNames<'_>, issues: &[Issue])
+    requires { O.failed out.old ≡ false }
+    ensures took { Took (writer O.taken O.failed O.flushed out.old out.new) (report names.now issues.now) }
+    ensures flushed { O.failed out.new ≡ false → 0 < length (report names.now issues.now) → O.flushed out.new ≡ true }
+    ensures untouched { length (report names.now issues.now) ≡ 0 → O.failed out.new ≡ false }
+{
+    if issues.is_empty() {
+        return;
+    }
+    if let Err(_) = write_report(out, names, issues) {
+        return;
+    }
+    let _ = out.flush();
+}
