@@ -2,9 +2,29 @@
 
 ghost use Rattle.std.specs.Prelude.{◌≡◌, false, None};
 
-use hcl_scan::{ByteSource, FromRead};
+use hcl_scan::{ByteSource, Failed, FromRead};
 use std::fs::File;
 use tfrules_command::module_files::{ModuleFiles, OpenFault};
+
+/// A file that was opened. It tells no bytes.
+#[derive(Drop)]
+pub struct FileReader {
+    reader: FromRead<File>,
+}
+
+impl ByteSource for FileReader {
+    ghost left = { λ s. None };
+
+    ghost failed = { λ s. ⟦<FromRead<File> as ByteSource>⟧.failed s.reader };
+
+    fn read(&mut self, buffer: &mut [u8]) -> Result<usize, Failed> {
+        self.reader.read(buffer)
+    }
+
+    fn has_failed(&self) -> bool {
+        self.reader.has_failed()
+    }
+}
 
 /// Opens files by std. It tells no bytes.
 #[derive(Drop)]
@@ -29,7 +49,7 @@ impl SystemFiles {
 }
 
 impl ModuleFiles for SystemFiles {
-    type Reader = FromRead<File>;
+    type Reader = FileReader;
 
     ghost told = { λ s name. None };
 
@@ -37,9 +57,11 @@ impl ModuleFiles for SystemFiles {
 
     ghost read_failed = { λ s. s.has_unread };
 
-    fn reader(&mut self, name: &str) -> Result<FromRead<File>, OpenFault> {
+    fn reader(&mut self, name: &str) -> Result<FileReader, OpenFault> {
         match File::open(&self.rt, name) {
-            Ok(file) => Ok(FromRead::new(file)),
+            Ok(file) => Ok(FileReader {
+                reader: FromRead::new(file),
+            }),
             Err(_) => {
                 self.has_unopened = true;
                 Err(OpenFault)
@@ -47,7 +69,7 @@ impl ModuleFiles for SystemFiles {
         }
     }
 
-    fn give_back(&mut self, reader: FromRead<File>) {
+    fn give_back(&mut self, reader: FileReader) {
         if reader.has_failed() {
             self.has_unread = true;
         }
