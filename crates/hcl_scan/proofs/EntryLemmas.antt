@@ -1,8 +1,9 @@
 -- What is kept of entries stands for the same when one more long token is known.
-use Rattle.std.proofs.Common.{◌≡◌, ℕ, ◌+◌, ◌==◌, Bool, true, false, List, [], ◌∷◌, ◌++◌, length, get_or, if◌then◌else◌, rules, refl, sym, ap, ◌∙◌}
+use Rattle.std.proofs.Common.{◌≡◌, ℕ, ◌+◌, ◌==◌, Bool, true, false, List, [], ◌∷◌, ◌++◌, length, get_or, if◌then◌else◌, rules, refl, sym, ap, ◌∙◌, slice_set}
 use Rattle.std.specs.Prelude.{All}
 use Rattle.std.proofs.lemmas.List.{get_or_append_left, get_or_push, map_push}
 use Rattle.std.proofs.lemmas.List.Elements.{All-head, All-tail}
+use Rattle.std.proofs.Math.Seq.{set-append_seam}
 use Rattle.hcl_scan.specs.Inner.Entries.{span_of, entry_of, entries_of, short_span, long_mark, IsKept}
 use Rattle.hcl_scan.specs.declared.token.Entry.{Entry}
 use Rattle.hcl_scan.specs.declared.entries.Kept.{Kept}
@@ -33,3 +34,10 @@ module _ (long : List Span) (s : Span) where
   long_pushed ks k are marked last =
       let itself : span_of (long ++ s ∷ []) k ≡ s = ap (λ n. if n == long_mark then get_or (long ++ s ∷ []) k.place (short_span k) else short_span k) marked ∙ get_or_push long s (short_span k) k.place (sym last) in
       map_push (entry_of (long ++ s ∷ [])) ks k ∙ ap (λ l. l ++ entry_of (long ++ s ∷ []) k ∷ []) (all_still ks are) ∙ ap (λ x. entries_of long ks ++ entry_at k x ∷ []) itself
+
+-- a token that isn't long, written where another was put
+pub short_pushed : (long : List Span) (ks : List Kept) (put k : Kept) → (k.length == long_mark) ≡ false
+    → entries_of long (slice_set (ks ++ put ∷ []) (length ks) k) ≡ entries_of long ks ++ entry_at k (short_span k) ∷ []
+short_pushed long ks put k short =
+    let itself : entry_of long k ≡ entry_at k (short_span k) = ap (λ v. entry_at k (if v then get_or long k.place (short_span k) else short_span k)) short in
+    ap (entries_of long) (set-append_seam ks put [] k) ∙ map_push (entry_of long) ks k ∙ ap (λ x. entries_of long ks ++ x ∷ []) itself

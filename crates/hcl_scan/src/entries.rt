@@ -124,12 +124,19 @@ impl Entries {
         if length >= LONG as u32 {
             return self.push_long(entry);
         }
+        let at = self.kept.len();
         self.kept.push(Kept {
-            place: entry.start,
-            length: length as u16,
-            kind: entry.kind,
-            inside_heredoc: entry.inside_heredoc,
+            place: 0,
+            length: 0,
+            kind: Kind::Newline,
+            inside_heredoc: false,
         })?;
+        // Part by part where it stands: a whole one would be put together first, in twice the instructions.
+        let kept = &mut self.kept[at];
+        kept.place = entry.start;
+        kept.length = length as u16;
+        kept.kind = entry.kind;
+        kept.inside_heredoc = entry.inside_heredoc;
         Ok(())
     }
 
