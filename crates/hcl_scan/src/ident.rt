@@ -24,12 +24,16 @@ fn starts_ident(c: char) -> bool
     unicode_ident::is_xid_start(c) || c == '_'
 }
 
-/// Whether the ASCII byte may continue an identifier. Most are small letters, so that is asked first.
+/// Whether the ASCII byte may continue an identifier. Most are small letters, and most that don't are blanks and marks before
+/// the hyphen, so these are asked first.
 fn continues_ascii(b: u8) -> bool
     ensures { result ≡ continues_ascii b }
 {
     if b.is_ascii_lowercase() {
         return true;
+    }
+    if b < b'-' {
+        return false;
     }
     b.is_ascii_alphanumeric() || b == b'_' || b == b'-'
 }
