@@ -7,9 +7,12 @@ pub mod LineLemmas
 pub mod RunLemmas
 pub mod LeftLemmas
 pub mod SizeLemmas
+pub mod ExtentLemmas
+pub mod EmptyLemmas
 pub mod BalanceLemmas
 pub mod OutLemmas
 pub mod FormatLemmas
+pub mod GapCountLemmas
 pub mod GapLemmas
 pub mod FitLemmas
 pub mod RescanLemmas

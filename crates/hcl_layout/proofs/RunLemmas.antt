@@ -50,7 +50,7 @@ level_some line (Some j) i e = go (is_level (net_of (drop j line))) refl
     go true v = rw v at e
     go false v = let h : None ≡ Some i = rw v at e in cc
 
-multiline_some : (a : Bool) (x : Option ℕ) (i : ℕ) → (if a then None else x) ≡ Some i → x ≡ Some i
+pub multiline_some : (a : Bool) (x : Option ℕ) (i : ℕ) → (if a then None else x) ≡ Some i → x ≡ Some i
 multiline_some true x i e = cc
 multiline_some false x i e = e
 

@@ -19,6 +19,7 @@
 #![tactic(auto)]
 
 mod buffer;
+mod extent;
 mod gap;
 pub mod laws;
 mod levels;
@@ -29,6 +30,7 @@ mod print;
 mod runs;
 mod writer;
 
+pub use extent::fits;
 pub use hcl_spacing::space_between;
-pub use print::{is_formatted, printed_len};
+pub use print::{is_formatted, printed_len, prints_nothing};
 pub use writer::emit;

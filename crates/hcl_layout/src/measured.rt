@@ -77,6 +77,14 @@ impl<'t, 's> Measured<'t, 's> {
         self.tokens.source().text().as_bytes()
     }
 
+    /// What the texts take at most, each with a blank: each byte is of one text, and there are no more texts than tokens.
+    pub fn len_bound(&self) -> u64
+        ensures bound { len_with_blanks self.now.tokens ≤ result }
+        ensures small { result ≤ 2 ^ 23 }
+    {
+        (self.tokens.len() + self.tokens.source().text().len()) as u64
+    }
+
     /// How many tokens there are.
     #[inline(always)]
     pub fn len(&self) -> usize

@@ -23,6 +23,16 @@ pub fn printed_len(accepted: &Accepted<'_, '_>) -> u64
     len
 }
 
+/// Whether the print has no bytes. No token is empty, so that is so where there is none.
+pub fn prints_nothing(accepted: &Accepted<'_, '_>) -> bool
+    ensures { result ≡ (length (print accepted.now.tokens) == 0) }
+{
+    let tokens = accepted.tokens();
+    // its contract says that the tokens are a scan
+    let _scanned = tokens.source();
+    tokens.is_empty()
+}
+
 #[inline(always)]
 fn are_spaces(bytes: &[u8]) -> bool
     ensures { result ≡ list_all (λ b. b == 32) bytes.now }

@@ -1,0 +1,9 @@
+use Rattle.std.proofs.Common.{subst, sym}
+use Rattle.hcl_scan.specs.Scanned.{Scanned}
+use Rattle.hcl_syntax.specs.Balanced.{IsBalanced}
+use Rattle.hcl_layout.proofs.BalanceLemmas.{balanced_from}
+use Rattle.hcl_layout.proofs.extent.fits.Goals as goal
+
+pub len_bound-requires : goal.len_bound-requires
+len_bound-requires c =
+    record { balanced = balanced_from c.new-tokens.result.tokens (subst (λ (s : Scanned). IsBalanced s.tokens) (sym c.new-tokens.ensures.same) c.new-tokens.ensures.balanced) }

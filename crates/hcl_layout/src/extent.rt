@@ -1,0 +1,185 @@
+//! Whether a print fits into so many bytes.
+//!
+//! A bound, which is found in one pass over the lines, tells most prints: it asks for no spacing, keeps no levels and reads
+//! no run ahead. What stands between two tokens is a blank at most, but for the indent of a line and the gap before a cell. A
+//! line is indented by two blanks at most for each opener that is open before it, and the gap before a cell is, without its
+//! one blank, no wider than the column: the width before some cell of that kind.
+//!
+//! ```text
+//! line             tokens, each with a blank    indent    before =    before #
+//! locals {                    7 + 2 + 2            0
+//! a=1# one                2 + 2 + 2 + 6 + 2        2        2 + 2       2 + 6
+//! long="x"# two     5 + 2 + 2 + 2 + 2 + 6 + 2      2        2 + 5       2 + 13
+//! }                           2 + 2                2
+//! ```
+//!
+//! Here no sign's column is more than 7, and no comment's more than 7 + 15, so the print has at most 50 bytes for the tokens
+//! with a blank each, 6 for the indents, and 2 * 7 + 2 * 22 for the cells.
+ghost use Rattle.std.specs.Prelude.{◌≡◌, ◌↔◌, ◌<◌, ◌≤◌, ◌+◌, ◌*◌, ◌^◌, ℕ, IsTrue, Some, length, take, drop};
+ghost use Rattle.hcl_syntax.specs.Balanced.{max_open};
+ghost use Rattle.hcl_layout.specs.Inner.Depths.{BalancedFrom};
+ghost use Rattle.hcl_layout.specs.Inner.Extents.{IsSmall, IsSmallCell, extra_of, no_cell, nothing, with_cell as with_cell_of, with_line as with_line_of, with_lines};
+ghost use Rattle.hcl_layout.specs.Inner.LineGaps.{len_with_blanks};
+ghost use Rattle.hcl_layout.specs.Inner.Survey.{IsLine, text_at};
+ghost use Rattle.hcl_layout.specs.Lines.{lines};
+ghost use Rattle.hcl_layout.specs.Print.{print};
+
+use crate::line::{LineFacts, line_at};
+use crate::measured::Measured;
+use crate::print::printed_len;
+use hcl_syntax::Accepted;
+
+/// The cells of one kind: how many lines have one, and how wide it can be before one.
+#[derive(Clone, Copy)]
+pub struct CellExtent {
+    pub count: u64,
+    pub width: u64,
+}
+
+/// What of the lines that were passed bounds their gaps.
+#[derive(Clone, Copy)]
+pub struct Extent {
+    /// All indents together are no wider.
+    pub indents: u64,
+    pub signs: CellExtent,
+    pub comments: CellExtent,
+}
+
+/// What so many tokens from a place on take, each with a blank.
+#[inline(always)]
+fn len_of(tokens: &Measured<'_, '_>, at: usize, count: usize) -> u64
+    requires within { at + count ≤ length tokens.now.tokens }
+    requires small { len_with_blanks tokens.now.tokens ≤ 2 ^ 23 }
+    ensures value { result ≡ len_with_blanks (take count (drop at tokens.now.tokens)) }
+    ensures small { result ≤ 2 ^ 23 }
+{
+    let mut len = 0;
+    for k in 0..count {
+        len += 1 + tokens.get(at + k).text.len() as u64;
+    }
+    len
+}
+
+impl CellExtent {
+    /// Of no line.
+    fn new() -> CellExtent
+        ensures { result ≡ no_cell }
+    {
+        CellExtent { count: 0, width: 0 }
+    }
+
+    /// With the cell, if there is one, of a line that begins at a place and is indented by so many blanks at most.
+    #[inline(always)]
+    fn with_cell(
+        self,
+        tokens: &Measured<'_, '_>,
+        at: usize,
+        len: usize,
+        indent: u64,
+        cell: Option<usize>,
+    ) -> CellExtent
+        requires within { at + len ≤ length tokens.now.tokens }
+        requires there { (i : ℕ) → cell ≡ Some i → i ≤ len }
+        requires some { 0 < len }
+        requires indent { indent ≤ 2 * max_open }
+        requires small { len_with_blanks tokens.now.tokens ≤ 2 ^ 23 }
+        requires few { IsSmallCell at self }
+        ensures value { result ≡ with_cell_of indent (take len (drop at tokens.now.tokens)) cell self }
+        ensures few { IsSmallCell (at + len) result }
+    {
+        let Some(place) = cell else {
+            return self;
+        };
+        let width = indent + len_of(tokens, at, place);
+        CellExtent {
+            count: self.count + 1,
+            width: self.width.max(width),
+        }
+    }
+}
+
+impl Extent {
+    /// Of no line.
+    fn new() -> Extent
+        ensures { result ≡ nothing }
+    {
+        Extent {
+            indents: 0,
+            signs: CellExtent::new(),
+            comments: CellExtent::new(),
+        }
+    }
+
+    /// With the line that begins at a place and a depth.
+    #[inline(always)]
+    fn with_line(self, tokens: &Measured<'_, '_>, at: usize, depth: u32, line: LineFacts) -> Extent
+        requires line { IsLine tokens.now.tokens at depth line }
+        requires depth { depth ≤ max_open }
+        requires small { len_with_blanks tokens.now.tokens ≤ 2 ^ 23 }
+        requires few { IsSmall at self }
+        ensures value { result ≡ with_line_of depth (text_at tokens.now.tokens at line) self }
+        ensures few { IsSmall (at + line.len) result }
+    {
+        let indent = 2 * u64::from(depth);
+        Extent {
+            indents: self.indents + indent,
+            signs: self
+                .signs
+                .with_cell(tokens, at, line.len, indent, line.assign),
+            comments: self
+                .comments
+                .with_cell(tokens, at, line.len, indent, line.comment),
+        }
+    }
+
+    /// What the gaps take at most, but for a blank before each token.
+    fn extra(self) -> u64
+        requires { IsSmall (2 ^ 23) self }
+        ensures value { result ≡ extra_of self }
+        ensures small { result < 2 ^ 60 }
+    {
+        let sign_column = self.signs.width;
+        let comment_column = sign_column + self.comments.width;
+        self.indents + self.signs.count * sign_column + self.comments.count * comment_column
+    }
+}
+
+/// What all lines tell.
+#[inline(never)]
+fn extent_of(tokens: &Measured<'_, '_>) -> Extent
+    requires balanced { BalancedFrom 0 tokens.now.tokens }
+    requires small { len_with_blanks tokens.now.tokens ≤ 2 ^ 23 }
+    ensures value { result ≡ with_lines 0 (lines tokens.now.tokens) nothing }
+    ensures few { IsSmall (2 ^ 23) result }
+{
+    let count = tokens.len();
+    let mut extent = Extent::new();
+    let mut depth = 0;
+    let mut at = 0;
+    while at < count {
+        let line = line_at(tokens, at, depth);
+        extent = extent.with_line(tokens, at, depth, line);
+        depth = line.depth;
+        at += line.len;
+    }
+    extent
+}
+
+/// No less than the length of the print, in bytes.
+fn len_bound(tokens: &Measured<'_, '_>) -> u64
+    requires balanced { BalancedFrom 0 tokens.now.tokens }
+    ensures { length (print tokens.now.tokens) ≤ result }
+{
+    tokens.len_bound() + extent_of(tokens).extra()
+}
+
+/// Whether the print has no more bytes than that. Where the bound doesn't tell, it is measured.
+pub fn fits(accepted: &Accepted<'_, '_>, most: u64) -> bool
+    ensures { IsTrue result ↔ (length (print accepted.now.tokens) ≤ most) }
+{
+    let tokens = Measured::new(accepted);
+    if len_bound(&tokens) <= most {
+        return true;
+    }
+    printed_len(accepted) <= most
+}
