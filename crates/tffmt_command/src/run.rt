@@ -10,7 +10,7 @@ ghost use Rattle.tffmt_command.specs.Answer.{fault_line, refused, usage_line, ro
 
 use crate::options::{FmtOptions, Usage, options};
 use command_line::Program;
-use hcl_layout::{emit, is_formatted, printed_len};
+use hcl_layout::{emit, fits, is_formatted, prints_nothing};
 use hcl_scan::{
     ByteSink, ByteSource, Fault, FaultKind, LoadError, MAX_SOURCE, Position, ScanError, Source,
     scan,
@@ -54,34 +54,27 @@ fn refuse<O: ByteSink, E: ByteSink>(alloc: Global, out: &mut O, err: &mut E, fau
     formatter().tell_line(out, err, fault_line(alloc, fault), 2)
 }
 
-/// Writes the print of a file, which has so many bytes.
-fn print<O: ByteSink>(accepted: &Accepted<'_, '_>, len: u64, out: &mut O)
+/// Writes the print of a file.
+fn print<O: ByteSink>(accepted: &Accepted<'_, '_>, out: &mut O)
     requires out { O.failed out.old ≡ false }
-    requires len { len ≡ length (print accepted.now.tokens) }
     ensures took { Took (writer O.taken O.failed O.flushed out.old out.new) (print accepted.now.tokens) }
     ensures flushed { O.failed out.new ≡ false → 0 < length (print accepted.now.tokens) → O.flushed out.new ≡ true }
     ensures untouched { length (print accepted.now.tokens) ≡ 0 → O.failed out.new ≡ false }
 {
-    if emit(accepted, out).is_ok() && len > 0 {
+    if emit(accepted, out).is_ok() && !prints_nothing(accepted) {
         let _ = out.flush();
     }
 }
 
 /// Prints a file.
-fn show<O: ByteSink, E: ByteSink>(
-    accepted: &Accepted<'_, '_>,
-    len: u64,
-    out: &mut O,
-    err: &mut E,
-) -> u8
+fn show<O: ByteSink, E: ByteSink>(accepted: &Accepted<'_, '_>, out: &mut O, err: &mut E) -> u8
     requires out { O.failed out.old ≡ false }
     requires err { E.failed err.old ≡ false }
-    requires len { len ≡ length (print accepted.now.tokens) }
     ensures { let row : Row = record { out = print accepted.now.tokens; err = []; status = 0 } in
         Shows formatter row
         (record { out = writer O.taken O.failed O.flushed out.old out.new; err = writer E.taken E.failed E.flushed err.old err.new; status = result }) }
 {
-    print(accepted, len, out);
+    print(accepted, out);
     formatter().finish(out, err, 0)
 }
 
@@ -128,8 +121,7 @@ fn show_changed<O: ByteSink, E: ByteSink>(
     ensures { ShowsOne formatter (OrOutOfMemory formatter (λ row. row ≡ row_of_file options.now accepted.now))
         (record { out = writer O.taken O.failed O.flushed out.old out.new; err = writer E.taken E.failed E.flushed err.old err.new; status = result }) }
 {
-    let len = printed_len(accepted);
-    if len > MAX_SOURCE as u64 {
+    if !fits(accepted, MAX_SOURCE as u64) {
         let fault = Fault {
             kind: FaultKind::ResultTooLarge,
             at: Position { line: 1, column: 1 },
@@ -139,7 +131,7 @@ fn show_changed<O: ByteSink, E: ByteSink>(
     if options.check {
         formatter().tell(out, err, "", 3)
     } else {
-        show(accepted, len, out, err)
+        show(accepted, out, err)
     }
 }
 
