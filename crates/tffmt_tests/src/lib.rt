@@ -1,11 +1,13 @@
-//! Tests of `tffmt_command` by its public items: `options`, and whole runs of `program`. They stand in a crate of their
-//! own, since a crate with tests is proved twice.
+//! Tests of `tffmt_command` by its public items: `options`, and whole runs of `program`; and of what `hcl_layout` says of
+//! the length of a print. They stand in a crate of their own, since a crate with tests is proved twice.
 #![tactic(auto)]
 
 #[cfg(test)]
 mod call_tests;
 #[cfg(test)]
 mod failure_tests;
+#[cfg(test)]
+mod length_tests;
 #[cfg(test)]
 mod row_tests;
 #[cfg(test)]

@@ -20,7 +20,7 @@ fn gives_fault(rt: &impl Abort, alloc: Global, input: &[u8], line: &[u8]) {
 }
 
 // Each part so many times, in turn.
-fn repeated(alloc: Global, parts: &[(&[u8], usize)]) -> Result<Vec<u8>, Fail> {
+pub fn repeated(alloc: Global, parts: &[(&[u8], usize)]) -> Result<Vec<u8>, Fail> {
     let mut bytes = Vec::new(alloc);
     for (part, count) in parts {
         for _ in 0..*count {
