@@ -6,7 +6,7 @@ use Rattle.hcl_scan.specs.declared.token.Kind.{Kind}
 use Rattle.hcl_scan.specs.Kinds.{is}
 use Rattle.hcl_scan.specs.declared.token.Kind.TheVariants as kind
 use Rattle.hcl_layout.specs.Lines.{ends_line}
-use Rattle.hcl_layout.specs.Inner.Survey.{changes, is_noted, marks, turns}
+use Rattle.hcl_layout.specs.Inner.Survey.{changes, is_noted, marks, stops}
 use Rattle.hcl_spacing.proofs.KindLemmas.{each}
 
 passes : (a b : Bool) → (a || not b) ≡ true → a ≡ false → b ≡ false
@@ -16,13 +16,13 @@ passes a false h e = refl
 pub unnoted : (k : Kind) → is_noted k ≡ false → changes k ≡ false
 unnoted k e = passes (is_noted k) (changes k) (each (λ j. is_noted j || not (changes j)) refl k) e
 
--- what opens or closes is no cell and tears none
-pub turns_unmarked : (k : Kind) → turns k ≡ true → marks k ≡ false
-turns_unmarked k e = passes (not (turns k)) (marks k) (each (λ j. not (turns j) || not (marks j)) refl k) (ap not e)
+-- a kind of which the kind alone is asked is no cell and tears none
+pub unstopped_unmarked : (k : Kind) → stops k ≡ false → marks k ≡ false
+unstopped_unmarked k e = passes (stops k) (marks k) (each (λ j. stops j || not (marks j)) refl k) e
 
 -- nor the line's end
-pub turns_goes_on : (t : Lexeme) → turns t.kind ≡ true → ends_line t ≡ false
-turns_goes_on t e = rw (passes (not (turns t.kind)) (is kind.Newline t.kind) (each (λ j. not (turns j) || not (is kind.Newline j)) refl t.kind) (ap not e)) refl
+pub unstopped_goes_on : (t : Lexeme) → stops t.kind ≡ false → ends_line t ≡ false
+unstopped_goes_on t e = rw (passes (stops t.kind) (is kind.Newline t.kind) (each (λ j. stops j || not (is kind.Newline j)) refl t.kind) e) refl
 
 pub inline_goes_on : (t : Lexeme) → is kind.InlineComment t.kind ≡ true → ends_line t ≡ false
 inline_goes_on t e = rw (passes (not (is kind.InlineComment t.kind)) (is kind.Newline t.kind) (each (λ j. not (is kind.InlineComment j) || not (is kind.Newline j)) refl t.kind) (ap not e)) refl

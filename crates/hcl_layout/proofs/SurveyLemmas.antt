@@ -363,22 +363,13 @@ pub going_out : (ts : List Lexeme) (i : ℕ) (s whole : Survey) → length ts �
 going_out ts i s whole le p = sym (p ∙ ap (going s) (drop_of_length-le ts le))
 
 -- what is left behind a token that was noted
-pub behind_token : (ts : List Lexeme) (at : ℕ) (s new : Survey) (t : Lexeme) → slice_get ts (at + s.len) ≡ Some t → new ≡ noted s t → BalancedFrom s.depth (drop (at + s.len) ts) → s.depth ≤ max_open
-    → BalancedFrom new.depth (drop (at + new.len) ts) × (new.depth ≤ max_open)
-behind_token ts at s new t e same p low =
-    let depth : new.depth ≡ deepen s.depth t.kind = ap (λ (x : Survey). x.depth) same in
-    let len : new.len ≡ s.len + 1 = ap (λ (x : Survey). x.len) same in
-    let further : (at + s.len) + 1 ≡ at + new.len = omega (arith, len) in (
-      subst (λ k. BalancedFrom new.depth (drop k ts)) further (subst (λ d. BalancedFrom d (drop ((at + s.len) + 1) ts)) (sym depth) (rest_at ts (at + s.len) s.depth t e p)),
-      subst (λ d. d ≤ max_open) (sym depth) (low_at ts (at + s.len) s.depth t e p low),
+pub behind_token : (ts : List Lexeme) (i : ℕ) (s new : Survey) (t : Lexeme) → slice_get ts i ≡ Some t → new ≡ noted s t → BalancedFrom s.depth (drop i ts) → s.depth ≤ max_open
+    → BalancedFrom new.depth (drop (i + 1) ts) × (new.depth ≤ max_open)
+behind_token ts i s new t e same p low =
+    let depth : new.depth ≡ deepen s.depth t.kind = ap (λ (x : Survey). x.depth) same in (
+      subst (λ d. BalancedFrom d (drop (i + 1) ts)) (sym depth) (rest_at ts i s.depth t e p),
+      subst (λ d. d ≤ max_open) (sym depth) (low_at ts i s.depth t e p low),
     )
-
--- and what the rest of the line makes of it, where that goes on
-pub going_behind : (ts : List Lexeme) (at : ℕ) (s new : Survey) (t : Lexeme) → slice_get ts (at + s.len) ≡ Some t → new ≡ noted s t → ends_line t ≡ false → (whole : Survey) → whole ≡ going s (drop (at + s.len) ts) → whole ≡ going new (drop (at + new.len) ts)
-going_behind ts at s new t e same goes whole p =
-    let len : new.len ≡ s.len + 1 = ap (λ (x : Survey). x.len) same in
-    let further : (at + s.len) + 1 ≡ at + new.len = omega (arith, len) in
-    going_on ts (at + s.len) t s new whole e same goes p ∙ ap (λ k. going new (drop k ts)) further
 
 pub same_token : (ts : List Lexeme) (i : ℕ) (t u : Lexeme) → slice_get ts i ≡ Some t → slice_get ts i ≡ Some u → t ≡ u
 same_token ts i t u p q = some_is t u (sym p ∙ q)

@@ -5,12 +5,12 @@ ghost use Rattle.hcl_scan.specs.Kinds.{is};
 ghost use Rattle.hcl_scan.specs.declared.token.Kind.TheVariants.{InlineComment};
 ghost use Rattle.hcl_scan.specs.Lexemes.{Lexeme};
 ghost use Rattle.hcl_scan.specs.Scanned.{lexeme};
-ghost use Rattle.hcl_syntax.specs.Balanced.{max_open};
+ghost use Rattle.hcl_syntax.specs.Balanced.{is_closer, is_opener, max_open};
 ghost use Rattle.hcl_layout.specs.Lines.{ends_line};
 ghost use Rattle.hcl_layout.specs.Cells.{is_assignment as is_assignment_of, is_multiline as is_multiline_of, is_trailing as is_trailing_of};
 ghost use Rattle.hcl_syntax.specs.Items.{deepen};
 ghost use Rattle.hcl_layout.specs.Inner.Depths.{BalancedFrom, Steps};
-ghost use Rattle.hcl_layout.specs.Inner.Survey.{IsLine, assign_of, changes, first_noted, going, is_noted as is_noted_of, marks, noted, running_of, surveyed, turns as turns_of};
+ghost use Rattle.hcl_layout.specs.Inner.Survey.{IsLine, assign_of, changes, first_noted, going, is_noted as is_noted_of, marks, noted, running_of, stops as stops_of, surveyed};
 
 use crate::measured::Measured;
 use hcl_scan::{Kind, Token};
@@ -87,6 +87,33 @@ fn is_multiline(token: Token<'_>) -> bool
     is_inline_comment(token.kind) && !token.inside_heredoc && holds_newline(token.text)
 }
 
+/// What opens, as a set of kinds with a bit for each: the depth is asked behind every token, and thus without a jump.
+const OPENERS: u64 = 1 << Kind::ParenOpen as u64
+    | 1 << Kind::BracketOpen as u64
+    | 1 << Kind::BraceOpen as u64
+    | 1 << Kind::InterpOpen as u64
+    | 1 << Kind::ControlOpen as u64;
+
+/// What closes.
+const CLOSERS: u64 = 1 << Kind::ParenClose as u64
+    | 1 << Kind::BracketClose as u64
+    | 1 << Kind::SeqClose as u64
+    | 1 << Kind::BraceClose as u64;
+
+#[inline(always)]
+fn opens(kind: Kind) -> bool
+    ensures { result ≡ is_opener kind }
+{
+    (OPENERS >> kind as u64) & 1 == 1
+}
+
+#[inline(always)]
+fn closes(kind: Kind) -> bool
+    ensures { result ≡ is_closer kind }
+{
+    (CLOSERS >> kind as u64) & 1 == 1
+}
+
 /// The depth behind a token.
 #[inline(always)]
 fn deepened(depth: u32, kind: Kind) -> u32
@@ -94,15 +121,7 @@ fn deepened(depth: u32, kind: Kind) -> u32
     requires fits { depth ≤ max_open }
     ensures { result ≡ deepen depth kind }
 {
-    match kind {
-        Kind::ParenOpen
-        | Kind::BracketOpen
-        | Kind::BraceOpen
-        | Kind::InterpOpen
-        | Kind::ControlOpen => depth + 1,
-        Kind::ParenClose | Kind::BracketClose | Kind::BraceClose | Kind::SeqClose => depth - 1,
-        _ => depth,
-    }
+    depth + u32::from(opens(kind)) - u32::from(closes(kind))
 }
 
 /// Behind the first token of a line, of a kind that changes nothing.
@@ -180,26 +199,27 @@ fn is_noted(kind: Kind) -> bool
     )
 }
 
-/// Whether a token of the kind opens or closes.
+/// Whether a token of the kind may end the line, or be or tear a cell: then more is asked of it than its kind.
 #[inline(always)]
-fn turns(kind: Kind) -> bool
-    ensures { result ≡ turns_of kind }
+fn stops(kind: Kind) -> bool
+    ensures { result ≡ stops_of kind }
 {
     matches!(
         kind,
-        Kind::ParenOpen
-            | Kind::BracketOpen
-            | Kind::BraceOpen
-            | Kind::InterpOpen
-            | Kind::ControlOpen
-            | Kind::ParenClose
-            | Kind::BracketClose
-            | Kind::SeqClose
-            | Kind::BraceClose
+        Kind::Newline | Kind::Assign | Kind::LineComment | Kind::InlineComment
     )
 }
 
 impl Survey {
+    /// The same, its length written again: a loop that counts its tokens itself then needn't keep that beside its count.
+    #[inline(always)]
+    fn counted(self, len: usize) -> Survey
+        requires { len ≡ self.len }
+        ensures { result ≡ self }
+    {
+        Survey { len, ..self }
+    }
+
     /// Behind one token more, of a kind that changes nothing.
     #[inline(always)]
     fn passed(self) -> Survey
@@ -217,7 +237,7 @@ impl Survey {
         }
     }
 
-    /// Behind one token more, of a kind that changes the depth alone.
+    /// Behind one token more, of a kind that changes the depth at most.
     #[inline(always)]
     fn turned(self, kind: Kind) -> Survey
         requires steps { Steps self.depth kind }
@@ -320,7 +340,7 @@ fn read_rest(tokens: &Measured<'_, '_>, at: usize, passed: Survey) -> Survey
     line
 }
 
-/// The tokens of a line, from the one at a place on, each noted. Most change nothing, or open or close: of them the kind
+/// The tokens of a line, from the one at a place on, each noted. Most open or close, or change nothing: of them the kind
 /// alone is asked, and of inline comments alone the text. What stands behind a trailing comment, as a rule the newline
 /// alone, is read apart, so that up to there less has to be kept.
 #[inline(always)]
@@ -335,30 +355,31 @@ fn read_line(tokens: &Measured<'_, '_>, at: usize, depth: u32) -> Survey
     if ended {
         return line;
     }
-    while at + line.len < count {
-        let kind = tokens.kind(at + line.len);
-        if !is_noted(kind) {
-            line = line.passed();
-            continue;
-        }
-        if turns(kind) {
+    let mut next = at + 1;
+    while next < count {
+        let kind = tokens.kind(next);
+        if !stops(kind) {
             line = line.turned(kind);
+            next += 1;
             continue;
         }
+        let before = line.counted(next - at);
         if is_inline_comment(kind) {
-            line = line.with(tokens.get(at + line.len));
+            line = before.with(tokens.get(next));
+            next += 1;
             continue;
         }
-        let token = tokens.get(at + line.len);
+        let token = tokens.get(next);
         if is_line_end(token) {
-            return line.passed();
+            return before.passed();
         }
-        line = line.with(token);
+        line = before.with(token);
+        next += 1;
         if line.comment.is_some() {
             return read_rest(tokens, at, line);
         }
     }
-    line
+    line.counted(next - at)
 }
 
 /// The line that begins at a place, where the depth is known.

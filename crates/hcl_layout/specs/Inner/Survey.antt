@@ -16,13 +16,13 @@ use Rattle.hcl_layout.specs.declared.line.LineFacts.{LineFacts}
 abbrev pub changes : Kind → Bool
 changes k = is_opener k || is_closer k || is kind.LineComment k || is kind.InlineComment k || is kind.Assign k
 
--- a token of the kind changes the depth
-abbrev pub turns : Kind → Bool
-turns k = is_opener k || is_closer k
-
 -- a token of the kind may be or tear a cell
 abbrev pub marks : Kind → Bool
 marks k = is kind.LineComment k || is kind.InlineComment k || is kind.Assign k
+
+-- or may end the line
+abbrev pub stops : Kind → Bool
+stops k = is kind.Newline k || marks k
 
 -- these kinds, and those that may end the line, in one list (proofs/NotedKindLemmas)
 abbrev pub is_noted : Kind → Bool
