@@ -13,6 +13,7 @@ pub mod BalanceLemmas
 pub mod OutLemmas
 pub mod FormatLemmas
 pub mod GapCountLemmas
+pub mod InPlaceLemmas
 pub mod GapLemmas
 pub mod FitLemmas
 pub mod RescanLemmas

@@ -97,6 +97,15 @@ running_there ts at n i cell e f =
     let comment : trailing_comment (take n (drop at ts)) ≡ Some i = multiline_some (has_multiline (take n (drop at ts))) (trailing_comment (take n (drop at ts))) i (sym (f ∙ e)) in
     omega (arith, line_short ts at n i (comment_within (take n (drop at ts)) i comment))
 
+-- so the token of a cell is there
+pub assign_inside : (ts : List Lexeme) (at n i : ℕ) (cell : Option ℕ) → at + n ≤ length ts → cell ≡ assign_cell (take n (drop at ts)) → cell ≡ Some i → at + i < length ts
+assign_inside ts at n i cell room e f = omega (arith, room, line_short ts at n i (assign_within (take n (drop at ts)) i (sym e ∙ f)))
+
+pub running_inside : (ts : List Lexeme) (at n i : ℕ) (cell : Option ℕ) → at + n ≤ length ts → cell ≡ running_comment (take n (drop at ts)) → cell ≡ Some i → at + i < length ts
+running_inside ts at n i cell room e f =
+    let line : Line = take n (drop at ts) in
+    omega (arith, room, line_short ts at n i (comment_within line i (multiline_some (has_multiline line) (trailing_comment line) i (sym e ∙ f))))
+
 -- ---- the gaps of a line with its cells
 
 pub aligned_none : (gaps : List ℕ) (l : Line) (column : Option ℕ) → assign_cell l ≡ None → gaps ≡ align assign_cell gaps l column

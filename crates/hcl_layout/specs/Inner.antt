@@ -1,6 +1,7 @@
 -- Words for the code's own parts, which its inner contracts use. Nobody has to believe them.
 pub mod Depths
 pub mod Extents
+pub mod InPlace
 pub mod Left
 pub mod LineGaps
 pub mod Out

@@ -21,6 +21,7 @@
 mod buffer;
 mod extent;
 mod gap;
+mod in_place;
 pub mod laws;
 mod levels;
 mod line;

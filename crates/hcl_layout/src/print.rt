@@ -1,10 +1,12 @@
 //! How long the print is, and whether the source is its own print.
 ghost use Rattle.std.specs.Prelude.{◌≡◌, ◌≢◌, ◌↔◌, ◌<◌, ◌≤◌, ◌+◌, ◌^◌, ◌++◌, ◌==◌, ◌&&◌, ℕ, List, IsTrue, length, drop, take, nat_eq, nat_le, IfSome, MatchOption};
 ghost use Rattle.std.specs.List.{list_all, starts_with};
+ghost use Rattle.hcl_syntax.specs.Balanced.{IsBalanced};
 ghost use Rattle.hcl_layout.specs.Inner.Left.{bytes_of};
 ghost use Rattle.hcl_layout.specs.Inner.Simple.{IsFrom};
 ghost use Rattle.hcl_layout.specs.Print.{print};
 
+use crate::in_place::stands_in_place;
 use crate::measured::Measured;
 use crate::pieces::{Piece, next_piece, start};
 use hcl_syntax::Accepted;
@@ -119,19 +121,27 @@ fn piece_end(bytes: &[u8], at: usize, piece: Piece<'_>) -> Option<usize>
     moved_end(bytes, at, piece)
 }
 
-/// Whether the print is the source: the bytes of the source are those of the print.
-pub fn is_formatted(accepted: &Accepted<'_, '_>) -> bool
-    ensures { IsTrue result ↔ (print accepted.now.tokens ≡ accepted.now.text) }
+/// Whether the print is the source, by comparing them piece by piece up to the first difference.
+fn agrees(tokens: &Measured<'_, '_>) -> bool
+    requires balanced { IsBalanced tokens.now.tokens }
+    ensures { IsTrue result ↔ (print tokens.now.tokens ≡ tokens.now.text) }
 {
-    let tokens = Measured::new(accepted);
     let bytes = tokens.source();
     let mut pieces = start();
     let mut at = 0;
-    while let Some(piece) = next_piece(&mut pieces, &tokens) {
+    while let Some(piece) = next_piece(&mut pieces, tokens) {
         let Some(end) = piece_end(bytes, at, piece) else {
             return false;
         };
         at = end;
     }
     at == bytes.len()
+}
+
+/// Whether the print is the source: the bytes of the source are those of the print.
+pub fn is_formatted(accepted: &Accepted<'_, '_>) -> bool
+    ensures { IsTrue result ↔ (print accepted.now.tokens ≡ accepted.now.text) }
+{
+    let tokens = Measured::new(accepted);
+    stands_in_place(&tokens) || agrees(&tokens)
 }

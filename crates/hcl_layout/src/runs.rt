@@ -15,7 +15,7 @@
 //! A tab writer keeps the lines of a block until it ends. Here nothing is kept: at the first line of a run the lines ahead
 //! are measured up to its end, and the lines behind the first take the column of the line before. The comments' widths
 //! are measured with the assignment signs in their columns, so both runs are looked ahead at their first lines.
-ghost use Rattle.std.specs.Prelude.{◌*◌, ◌≡◌, ◌<◌, ◌≤◌, ◌+◌, ◌-◌, ◌^◌, ℕ, length, take, drop, Some, None, ◌∷◌, IfSome};
+ghost use Rattle.std.specs.Prelude.{◌*◌, ◌≡◌, ◌<◌, ◌≤◌, ◌+◌, ◌-◌, ◌^◌, ℕ, length, take, drop, Some, None, ◌∷◌, IfSome, option_map};
 ghost use Rattle.hcl_syntax.specs.Balanced.{max_open};
 ghost use Rattle.hcl_layout.specs.Columns.{widest};
 ghost use Rattle.hcl_layout.specs.Cells.{running_comment, trailing_comment};
@@ -23,7 +23,7 @@ ghost use Rattle.hcl_layout.specs.Inner.Depths.{depth_after, fresh, levels_behin
 ghost use Rattle.hcl_layout.specs.Gaps.{align, plain_gaps, width as width_of};
 ghost use Rattle.hcl_layout.specs.Inner.LineGaps.{IsKnown, gaps_in, known_place, len_with_blanks};
 ghost use Rattle.hcl_layout.specs.Lines.{lines};
-ghost use Rattle.hcl_layout.specs.Inner.Stream.{assign_column, assigned_line, assign_widths, next_of, column_behind, comment_column, comment_widths};
+ghost use Rattle.hcl_layout.specs.Inner.Stream.{HasWidth, assign_column, assign_width, assigned_line, assign_widths, next_of, column_behind, comment_column, comment_width, comment_widths};
 ghost use Rattle.hcl_layout.specs.Inner.Survey.{IsLine, text_at};
 ghost use Rattle.hcl_layout.specs.Inner.Walks.{Stands};
 
@@ -153,6 +153,7 @@ impl Walk {
         ensures known { IsKnown result (text_at tokens.now.tokens at line) }
         ensures order { (i : ℕ) → trailing_comment (text_at tokens.now.tokens at line) ≡ Some i → known_place result.assign ≤ i }
         ensures narrow { (k : ℕ) → width_of k (gaps_in result (text_at tokens.now.tokens at line)) (text_at tokens.now.tokens at line) < 2 ^ 34 }
+        ensures before_sign { HasWidth result.assign (assign_width self.old.depth self.old.levels (text_at tokens.now.tokens at line)) }
         ensures depth { self.new.depth ≡ depth_after self.old.depth (text_at tokens.now.tokens at line) }
         ensures levels { self.new.levels ≡ levels_behind self.old.depth (depth_after self.old.depth (text_at tokens.now.tokens at line)) self.old.levels }
         ensures column { self.new.column ≡ assign_column self.old.depth self.old.levels self.old.column (lines (drop at tokens.now.tokens)) }
@@ -262,6 +263,7 @@ fn commented_line(
     ensures level { result.0.level ≡ gaps.level }
     ensures assign { result.0.assign ≡ gaps.assign }
     ensures comment { IfSome result.0.comment (λ c. c.gap ≤ 2 ^ 34) }
+    ensures before_comment { HasWidth result.0.comment (option_map (λ i. width_of i (gaps_in gaps (text_at tokens.now.tokens at line)) (text_at tokens.now.tokens at line)) (running_comment (text_at tokens.now.tokens at line))) }
     ensures fits { IfSome result.1 (λ c. c < 2 ^ 34) }
 {
     let Some(place) = line.comment else {
@@ -299,6 +301,8 @@ impl Walk {
         ensures assign { IfSome result.0.assign (λ c. c.gap ≤ 2 ^ 33) }
         ensures cell { IfSome result.0.comment (λ c. c.gap ≤ 2 ^ 34) }
         ensures narrow { IfSome result.1 (λ c. c < 2 ^ 34) }
+        ensures before_sign { HasWidth result.0.assign (assign_width self.old.depth self.old.levels (text_at tokens.now.tokens at line)) }
+        ensures before_comment { HasWidth result.0.comment (comment_width self.old.depth self.old.levels self.old.column (text_at tokens.now.tokens at line) (lines (drop at tokens.now.tokens))) }
         ensures depth { self.new.depth ≡ depth_after self.old.depth (text_at tokens.now.tokens at line) }
         ensures levels { self.new.levels ≡ levels_behind self.old.depth (depth_after self.old.depth (text_at tokens.now.tokens at line)) self.old.levels }
         ensures column { self.new.column ≡ assign_column self.old.depth self.old.levels self.old.column (lines (drop at tokens.now.tokens)) }

@@ -1,12 +1,13 @@
 -- The gaps of the lines that are left, by what is known of the lines before them: the depth, the levels by depth, and
 -- the columns of the runs in which the line before stands. It is the form that the code follows; the gaps of whole
 -- lists are the same (proofs/StreamLemmas).
-use Rattle.std.specs.Prelude.{ℕ, List, [], ◌∷◌, Option, Some, None, option_map}
+use Rattle.std.specs.Prelude.{ℕ, List, [], ◌∷◌, Option, Some, None, IfSome, ◌≡◌, option_map}
 use Rattle.hcl_layout.specs.Lines.{Line}
 use Rattle.hcl_layout.specs.Cells.{assign_cell, running_comment, trailing_comment}
 use Rattle.hcl_layout.specs.Columns.{widest}
 use Rattle.hcl_layout.specs.Gaps.{align, plain_gaps, width, widths}
 use Rattle.hcl_layout.specs.Inner.Depths.{depth_after, level_at, levels_behind}
+use Rattle.hcl_layout.specs.declared.gap.Cell.{Cell}
 
 -- ---- runs
 
@@ -57,3 +58,17 @@ commented d levels column comment [] = []
 commented d levels column comment (l ∷ ls) =
     align trailing_comment (align assign_cell (plain d levels l) l (assign_column d levels column (l ∷ ls))) l (comment_column d levels column comment (l ∷ ls))
     ∷ commented (depth_after d l) (levels_behind d (depth_after d l) levels) (assign_column d levels column (l ∷ ls)) (comment_column d levels column comment (l ∷ ls)) ls
+
+-- ---- the widths of the first line
+
+-- the width before the assign cell, where the line has one
+abbrev pub assign_width : ℕ → List ℕ → Line → Option ℕ
+assign_width d levels l = option_map (λ i. width i (plain d levels l) l) (assign_cell l)
+
+-- the width before the comment, where the line takes part in runs of comments
+abbrev pub comment_width : ℕ → List ℕ → Option ℕ → Line → List Line → Option ℕ
+comment_width d levels column l ls = option_map (λ i. width i (assigned_line d levels column l ls) l) (running_comment l)
+
+-- a cell was set behind that width, if it is known
+abbrev pub HasWidth : Option Cell → Option ℕ → Type 0
+HasWidth cell width = IfSome width (λ w. option_map (λ (c : Cell). c.width) cell ≡ Some w)

@@ -2,7 +2,7 @@ use Rattle.std.proofs.Common.{◌≤◌, ◌-◌, length}
 use Rattle.hcl_layout.specs.Inner.Left.{Ready, to_print}
 use Rattle.hcl_layout.specs.Print.{print}
 use Rattle.hcl_layout.proofs.FormatLemmas.{Agrees}
-use Rattle.hcl_layout.proofs.print.is_formatted.Given as goal
+use Rattle.hcl_layout.proofs.print.agrees.Given as goal
 
 abbrev pub invariant-loop-piece : goal.invariant-loop-piece
 invariant-loop-piece l = record {
