@@ -16,7 +16,7 @@ ghost use Rattle.hcl_scan.specs.Inner.Scanners.{state_of, IsSound, IsStart, IsNe
 
 use crate::expression::{Surroundings, next_in_expression};
 use crate::heredoc::{closer_len, marker_line, marker_of};
-use crate::stack::{Opener, Stack};
+use crate::stack::{Opener, Room, Stack};
 use crate::template::next_in_template;
 use crate::text::count_blanks;
 use crate::token::{Entry, Found, Kind};
@@ -31,7 +31,7 @@ pub struct Stopped {
 
 /// Where a scan stands. What is seen is the text from `at` up to `end`.
 #[derive(Drop)]
-pub struct Scanner<'s> {
+pub struct Scanner<'s, 'k> {
     text: &'s str,
     /// How many bytes were read.
     at: usize,
@@ -39,7 +39,7 @@ pub struct Scanner<'s> {
     end: usize,
     /// The token before is a Dot.
     after_dot: bool,
-    stack: Stack,
+    stack: Stack<'k>,
 }
 
 /// What a token of this kind opens, heredocs aside.
@@ -101,9 +101,9 @@ fn no_expression(seen: &[u8]) -> FaultKind
     }
 }
 
-impl<'s> Scanner<'s> {
+impl<'s, 'k> Scanner<'s, 'k> {
     /// At the front of a text.
-    pub fn new(text: &'s str) -> Scanner<'s>
+    pub fn new(text: &'s str, room: &'k mut Room) -> Scanner<'s, 'k>
         requires { length text.now ≤ max_source }
         ensures text { result.text ≡ text.entry }
         ensures sound { IsSound result }
@@ -114,7 +114,7 @@ impl<'s> Scanner<'s> {
             at: 0,
             end: text.len(),
             after_dot: false,
-            stack: Stack::new(),
+            stack: Stack::new(room),
         }
     }
 

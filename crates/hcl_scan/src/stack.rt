@@ -44,17 +44,20 @@ impl Default for Opened {
 /// How many quotes, heredocs, sequences, braces, brackets and parens may be open at once.
 pub const MAX_OPEN: usize = 256;
 
+/// Room for what is open. A [`Stack`] borrows it, so that what it says of the innermost stands apart and can be kept in registers.
+pub type Room = ArrayVec<Opened, MAX_OPEN>;
+
 /// At most `MAX_OPEN` openers, the innermost on top.
 #[derive(Drop)]
-pub struct Stack {
-    entries: ArrayVec<Opened, MAX_OPEN>,
+pub struct Stack<'k> {
+    entries: &'k mut Room,
     /// What the innermost says, kept apart since each token asks for it: where it is a template, whether in quotes.
     template: Option<bool>,
     /// Whether a `}` closes a sequence.
     closes_sequence: bool,
 }
 
-impl Model for Stack {
+impl<'k> Model for Stack<'k> {
     ghost use Rattle.std.specs.Prelude.{List, reverse};
     ghost use Rattle.hcl_scan.specs.declared.stack.Opened.{Opened};
 
@@ -62,9 +65,9 @@ impl Model for Stack {
 
     ghost use Rattle.hcl_scan.specs.Inner.Openings.{SaysOfTop};
 
-    ghost view = { λ s. reverse s.entries.items };
+    ghost view = { λ s. reverse s.entries.now.items };
 
-    ghost invariant = { λ s. SaysOfTop s.template s.closes_sequence (reverse s.entries.items) };
+    ghost invariant = { λ s. SaysOfTop s.template s.closes_sequence (reverse s.entries.now.items) };
 }
 
 /// Whether these are the same opener.
@@ -136,13 +139,14 @@ fn owes(by: Opener) -> bool
     !matches!(by, Opener::Brace | Opener::Bracket | Opener::Paren)
 }
 
-impl Stack {
+impl<'k> Stack<'k> {
     /// Nothing is open.
-    pub fn new() -> Stack
+    pub fn new(room: &'k mut Room) -> Stack<'k>
         ensures { result ≡ [] }
     {
+        room.clear();
         Stack {
-            entries: ArrayVec::new(),
+            entries: room,
             template: None,
             closes_sequence: false,
         }
@@ -183,7 +187,7 @@ impl Stack {
     }
 }
 
-impl Stack {
+impl<'k> Stack<'k> {
     /// Whether a `}` closes a sequence.
     pub fn closes_sequence(&self) -> bool
         ensures { result ≡ top_closes self.now }

@@ -8,6 +8,7 @@ ghost use Rattle.hcl_scan.specs.Scanned.{lexeme, IsScanError};
 
 use crate::entries::Entries;
 use crate::scanner::Scanner;
+use crate::stack::Room;
 use crate::token::{Kind, ScanError, Token};
 use hcl_source::{Fault, Source};
 use std::alloc::Global;
@@ -94,7 +95,8 @@ pub fn scan<'s>(alloc: Global, source: &'s Source) -> Result<Tokens<'s>, ScanErr
     ensures err { IfErr result (IsScanError source.now) }
 {
     let mut entries = Entries::new(alloc);
-    let mut scanner = Scanner::new(source.text());
+    let mut room = Room::new();
+    let mut scanner = Scanner::new(source.text(), &mut room);
     while let Some(read) = scanner.next_token() {
         match read {
             Ok(entry) => match entries.push(entry) {
