@@ -1,7 +1,8 @@
 -- Parts of a text, and where it may be cut in them.
-use Rattle.std.proofs.Common.{◌≡◌, ℕ, ◌+◌, ◌-◌, ◌≤◌, List, [], length, take, drop, get_or, slice_range, sym, ap, subst, ◌∙◌, arith, length-drop, length-take-le, get_or-take, get_or-drop, ⊎_elim}
+use Rattle.std.proofs.Common.{◌≡◌, ℕ, suc, ◌+◌, ◌-◌, ◌≤◌, ◌<◌, List, [], ◌∷◌, length, take, drop, get_or, slice_range, sym, ap, subst, ◌∙◌, arith, length-drop, length-take-le, get_or-take, get_or-drop, ⊎_elim}
 use Rattle.std.specs.Str.{IsCharBoundary}
 use Rattle.std.proofs.Math.Nat.{add-sub_cancel_left}
+use Rattle.std.proofs.Math.Seq.{drop-cons}
 use Rattle.std.proofs.lemmas.Bool.{cases_order}
 use Rattle.std.proofs.lemmas.List.{take-take, drop-take, drop-drop}
 
@@ -32,3 +33,10 @@ part_boundary text at end n le within last here =
     (λ more. absurd (omega arith))
     other)
     (cases_order (at + n) end)
+
+-- a byte, and what follows it
+pub slice_first : (text : List ℕ) (at end : ℕ) → at < end → end ≤ length text → slice_range text at end ≡ get_or text at 0 ∷ slice_range text (at + 1) end
+slice_first text at end lt le =
+    let one_more : end - at ≡ suc (end - (at + 1)) = omega arith in
+    let next : suc at ≡ at + 1 = omega arith in
+    ap (λ n. take n (drop at text)) one_more ∙ ap (λ l. take (suc (end - (at + 1))) l) (drop-cons text at 0 (omega arith) ∙ ap (λ n. get_or text at 0 ∷ drop n text) next)

@@ -3,7 +3,7 @@ use Rattle.std.proofs.Common.{◌≡◌, ◌≢◌, ℕ, ◌+◌, ◌<◌, ◌�
 use Rattle.std.specs.Prelude.{IfSome}
 use Rattle.std.specs.List.{prefix_len}
 use Rattle.std.specs.Str.{IsCharBoundary}
-use Rattle.std.proofs.lemmas.Str.{IsCharBoundary-start, IsCharBoundary-end}
+use Rattle.std.proofs.lemmas.Str.{IsCharBoundary-start, IsCharBoundary-end, IsUtf8-between}
 use Rattle.std.proofs.lemmas.Bool.Decides.{nat_tests}
 use Rattle.std.proofs.lemmas.List.{length-map}
 use Rattle.std.proofs.lemmas.List.Sums.{prefix_len-le-length}
@@ -125,14 +125,17 @@ start_plain s sound none =
     let g : gap_len (state_of s) ≡ 0 = ap (λ v. if v then prefix_len is_blank (slice_range s.text.now s.at s.end) else 0) none in
     record { gap = omega (arith, g); within = sound.order; boundary = sound.start }
 
-pub start_gap : (s : Scanner) (n : ℕ) (seen : List ℕ) → IsSound s → IsUtf8 seen → seen ≡ slice_range s.text.now s.at s.end → n ≡ prefix_len is_blank seen → has_gaps_in (context (openers_of s.stack)) (in_heredoc (openers_of s.stack)) ≡ true → IsStart s (s.at + n)
-start_gap s n seen sound utf8 seen_is n_is gaps =
-    let g : gap_len (state_of s) ≡ n = ap (λ v. if v then prefix_len is_blank (slice_range s.text.now s.at s.end) else 0) gaps ∙ sym (n_is ∙ ap (prefix_len is_blank) seen_is) in
+pub start_gap : (s : Scanner) (start : ℕ) → IsSound s → IsUtf8 s.text.now → start ≡ s.at + prefix_len is_blank (slice_range s.text.now s.at s.end) → has_gaps_in (context (openers_of s.stack)) (in_heredoc (openers_of s.stack)) ≡ true → IsStart s start
+start_gap s start sound utf8 start_is gaps =
+    let seen : List ℕ = slice_range s.text.now s.at s.end in
+    let n : ℕ = prefix_len is_blank seen in
+    let g : gap_len (state_of s) ≡ n = ap (λ v. if v then n else 0) gaps in
     let len = slice_len s.text.now s.at s.end sound.order sound.within in
-    let le : prefix_len is_blank seen ≤ length seen = prefix_len-le-length is_blank seen in
-    let within : s.at + n ≤ s.end = omega (arith, n_is, le, ap length seen_is, len) in
-    let inner : IsCharBoundary (slice_range s.text.now s.at s.end) n = subst (λ l. IsCharBoundary l n) seen_is (subst (IsCharBoundary seen) (sym n_is) (run_cut is_blank blank_ascii seen utf8)) in
-    record { gap = ap (λ k. s.at + k) (sym g); within = within; boundary = part_boundary s.text.now s.at s.end n within sound.within sound.end inner }
+    let le : n ≤ length seen = prefix_len-le-length is_blank seen in
+    let within : s.at + n ≤ s.end = omega (arith, le, len) in
+    let inner : IsCharBoundary seen n = run_cut is_blank blank_ascii seen (IsUtf8-between s.text.now s.at s.end utf8 sound.order sound.start sound.end) in
+    let boundary : IsCharBoundary s.text.now (s.at + n) = part_boundary s.text.now s.at s.end n within sound.within sound.end inner in
+    record { gap = start_is ∙ ap (λ k. s.at + k) (sym g); within = subst (λ m. m ≤ s.end) (sym start_is) within; boundary = subst (IsCharBoundary s.text.now) (sym start_is) boundary }
 
 pub no_gaps_inside : (c : Context) (inside : Bool) → inside ≡ true → has_gaps_in c inside ≡ false
 no_gaps_inside (Template q) inside h = refl

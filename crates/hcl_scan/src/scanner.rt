@@ -18,7 +18,7 @@ use crate::expression::{Surroundings, next_in_expression};
 use crate::heredoc::{closer_len, marker_line, marker_of};
 use crate::stack::{Opener, Room, Stack};
 use crate::template::next_in_template;
-use crate::text::count_blanks;
+use crate::text::past_blanks;
 use crate::token::{Entry, Found, Kind};
 use hcl_source::FaultKind;
 
@@ -136,7 +136,7 @@ impl<'s, 'k> Scanner<'s, 'k> {
             None => if self.inside_heredoc() {
                 self.at
             } else {
-                self.at + count_blanks(self.text[self.at..self.end].as_bytes())
+                past_blanks(self.text.as_bytes(), self.at, self.end)
             },
         }
     }

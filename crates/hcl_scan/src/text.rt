@@ -1,6 +1,6 @@
 //! What stands at the front of a text: a byte, a line, a newline, blanks.
 
-ghost use Rattle.std.specs.Prelude.{◌≡◌, ◌==◌, ◌≤◌, length, get_or, IfSome, IfNone};
+ghost use Rattle.std.specs.Prelude.{◌≡◌, ◌==◌, ◌≤◌, ◌+◌, length, get_or, slice_range, IfSome, IfNone};
 ghost use Rattle.std.specs.List.{prefix_len, position_or_len};
 ghost use Rattle.hcl_scan.specs.Spelling.{is_blank, IsNewline, IsBlanks};
 ghost use Rattle.hcl_scan.specs.Inner.Found.{IsLongestFront, HasNoFront};
@@ -34,6 +34,28 @@ pub(crate) fn line_len(seen: &[u8]) -> usize
     ensures within { result ≤ length seen.now }
 {
     seen.iter().take_while(|b| **b != b'\n').count()
+}
+
+fn is_blank(b: u8) -> bool
+    ensures { result ≡ is_blank b }
+{
+    b == b' ' || b == b'\t'
+}
+
+/// Where the blanks end that begin at `at`. Offsets into the whole text take half the instructions of a part and its count.
+pub(crate) fn past_blanks(text: &[u8], at: usize, end: usize) -> usize
+    requires order { at ≤ end }
+    requires within { end ≤ length text.now }
+    ensures { result ≡ at + prefix_len is_blank (slice_range text.now at end) }
+{
+    let mut here = at;
+    while here < end {
+        if !is_blank(text[here]) {
+            return here;
+        }
+        here += 1;
+    }
+    here
 }
 
 /// How many spaces and tabs stand at the front.
