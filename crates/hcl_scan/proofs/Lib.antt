@@ -7,6 +7,7 @@ pub mod LineLemmas
 pub mod CandidateLemmas
 pub mod LiteralLemmas
 pub mod StartLemmas
+pub mod TableLemmas
 pub mod TemplateLemmas
 pub mod StackLemmas
 pub mod SliceLemmas

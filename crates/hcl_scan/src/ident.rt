@@ -24,18 +24,22 @@ fn starts_ident(c: char) -> bool
     unicode_ident::is_xid_start(c) || c == '_'
 }
 
-/// Whether the ASCII byte may continue an identifier. Most are small letters, and most that don't are blanks and marks before
-/// the hyphen, so these are asked first.
+/// The ASCII characters that may continue an identifier, each at its own place, and points for all other bytes.
+static CONTINUING: [u8; 256] = *b"\
+    ................................\
+    .............-..0123456789......\
+    .ABCDEFGHIJKLMNOPQRSTUVWXYZ...._\
+    .abcdefghijklmnopqrstuvwxyz.....\
+    ................................\
+    ................................\
+    ................................\
+    ................................";
+
+/// Whether the ASCII byte may continue an identifier.
 fn continues_ascii(b: u8) -> bool
     ensures { result ≡ continues_ascii b }
 {
-    if b.is_ascii_lowercase() {
-        return true;
-    }
-    if b < b'-' {
-        return false;
-    }
-    b.is_ascii_alphanumeric() || b == b'_' || b == b'-'
+    CONTINUING[b as usize] != b'.'
 }
 
 /// Whether the ASCII byte may start an identifier.
