@@ -83,14 +83,22 @@ fn is_doubled_sign(seen: &[u8]) -> bool
     seen.starts_with(b"$${") || seen.starts_with(b"%%{")
 }
 
-/// Whether the byte is an element of literal text by itself, wherever it stands. Most are, so this is asked first.
+/// The bytes that may be more than an element of literal text by themselves, each at its own place, and points for all others.
+static SPECIAL: [u8; 256] = *b"\
+    ..........\n..\r..................\
+    ..\".$%..........................\
+    ............................\\...\
+    ................................\
+    ................................\
+    ................................\
+    ................................\
+    ................................";
+
+/// Whether the byte is an element of literal text by itself, wherever it stands. Letters are, so these are asked first.
 fn is_ordinary(b: u8) -> bool
     ensures { result ≡ is_ordinary b }
 {
-    if b > b'\\' {
-        return true;
-    }
-    !matches!(b, b'$' | b'%' | b'"' | b'\\' | b'\n' | b'\r')
+    b > b'\\' || SPECIAL[b as usize] == b'.'
 }
 
 /// How many bytes at the front are each an element of literal text by itself.

@@ -21,12 +21,53 @@ use crate::template::next_in_template;
 use crate::text::past_blanks;
 use crate::token::{Entry, Found, Kind};
 use hcl_source::FaultKind;
+use std::marker::Model;
 
 /// A fault, and the offset at which it stands.
 #[derive(Clone, Copy, Debug)]
 pub struct Stopped {
     pub kind: FaultKind,
     pub at: u32,
+}
+
+/// Whether the token before is a Dot, kept as its kind: hardly a token asks for it.
+#[derive(Drop)]
+struct AfterDot {
+    before: Kind,
+}
+
+impl Model for AfterDot {
+    ghost use Rattle.std.specs.Prelude.{Bool};
+    ghost use Rattle.hcl_scan.specs.Kinds.{is};
+    ghost use Rattle.hcl_scan.specs.declared.token.Kind.TheVariants.{Dot};
+
+    ghost Value = { Bool };
+
+    ghost view = { λ a. is Dot a.before };
+}
+
+impl AfterDot {
+    /// Behind a token of this kind.
+    fn behind(before: Kind) -> AfterDot
+        ensures { result ≡ is Dot before }
+    {
+        AfterDot { before }
+    }
+
+    /// At the front, or behind a token that is no Dot.
+    fn no() -> AfterDot
+        ensures { result ≡ false }
+    {
+        AfterDot {
+            before: Kind::Newline,
+        }
+    }
+
+    fn is_so(&self) -> bool
+        ensures { result ≡ self.now }
+    {
+        matches!(self.before, Kind::Dot)
+    }
 }
 
 /// Where a scan stands. What is seen is the text from `at` up to `end`.
@@ -38,7 +79,7 @@ pub struct Scanner<'s, 'k> {
     /// Where the innermost open heredoc's marker line begins, or the end of the text.
     end: usize,
     /// The token before is a Dot.
-    after_dot: bool,
+    after_dot: AfterDot,
     stack: Stack<'k>,
 }
 
@@ -54,12 +95,6 @@ fn opener(kind: Kind) -> Option<Opener>
         Kind::BraceOpen => Some(Opener::Brace),
         _ => None,
     }
-}
-
-fn is_dot(kind: Kind) -> bool
-    ensures { result ≡ is Dot kind }
-{
-    matches!(kind, Kind::Dot)
 }
 
 fn is_heredoc_open(kind: Kind) -> bool
@@ -113,7 +148,7 @@ impl<'s, 'k> Scanner<'s, 'k> {
             text,
             at: 0,
             end: text.len(),
-            after_dot: false,
+            after_dot: AfterDot::no(),
             stack: Stack::new(room),
         }
     }
@@ -155,7 +190,7 @@ impl<'s, 'k> Scanner<'s, 'k> {
             None => next_in_expression(
                 seen,
                 Surroundings {
-                    after_dot: self.after_dot,
+                    after_dot: self.after_dot.is_so(),
                     inside_heredoc: self.inside_heredoc(),
                     closes_sequence: self.stack.closes_sequence(),
                 },
@@ -222,7 +257,7 @@ impl<'s, 'k> Scanner<'s, 'k> {
         ensures { Moves self.old entry self.new }
     {
         self.at = entry.end as usize;
-        self.after_dot = is_dot(entry.kind);
+        self.after_dot = AfterDot::behind(entry.kind);
     }
 
     /// Reads what closes something.
@@ -236,7 +271,7 @@ impl<'s, 'k> Scanner<'s, 'k> {
     {
         self.stack.close(entry.kind);
         self.at = entry.end as usize;
-        self.after_dot = false;
+        self.after_dot = AfterDot::no();
     }
 
     /// Reads what opens something, heredocs aside.
@@ -255,7 +290,7 @@ impl<'s, 'k> Scanner<'s, 'k> {
         }
         self.stack.open(by, entry.start);
         self.at = entry.end as usize;
-        self.after_dot = false;
+        self.after_dot = AfterDot::no();
         Ok(())
     }
 
@@ -291,7 +326,7 @@ impl<'s, 'k> Scanner<'s, 'k> {
         self.stack.open(by, entry.start);
         self.at = at;
         self.end = end;
-        self.after_dot = false;
+        self.after_dot = AfterDot::no();
         Ok(())
     }
 
@@ -311,7 +346,7 @@ impl<'s, 'k> Scanner<'s, 'k> {
         let _ = self.stack.pop();
         self.at = closer_end as usize;
         self.end = outer_end as usize;
-        self.after_dot = false;
+        self.after_dot = AfterDot::no();
         entry
     }
 

@@ -30,5 +30,5 @@ returns-clause-read c =
     let hidden_is : c.split_at.result.1.now ≡ drop c.in-Some.line rest = c.split_at.ensures.back ∙ ap (drop c.in-Some.line) rest_is in
     let first : IsFirstMarkerLine (marker_of word) rest c.in-Some.line = subst (λ r. IsFirstMarkerLine (marker_of word) r c.in-Some.line) rest_is (subst (λ m. IsFirstMarkerLine m c.as_bytes-rest.result.now c.in-Some.line) marker_is c.in-Some.ensures.found) in
     let len_is : c.closer_len.result ≡ closer_len (marker_of word) (drop c.in-Some.line rest) = c.closer_len.ensures.value ∙ (λ i. closer_len (marker_is i) (hidden_is i)) in
-    opens_heredoc c.args.self.now c.args.entry c.requires.sound c.requires.next c.requires.heredoc c.in-Some.line (subst (λ r. IsUtf8 r) rest_is c.as_bytes-rest.ensures.utf8)
-    (has_room (length c.args.self.now.stack) c.is_full.ensures.small (sym c.is_full.ensures.full ∙ c.if-is_full.false)) first c.closer_len.result len_is c.open.new.self c.open.ensures
+    rw (c.no-self.ensures) (opens_heredoc c.args.self.now c.args.entry c.requires.sound c.requires.next c.requires.heredoc c.in-Some.line (subst (λ r. IsUtf8 r) rest_is c.as_bytes-rest.ensures.utf8)
+    (has_room (length c.args.self.now.stack) c.is_full.ensures.small (sym c.is_full.ensures.full ∙ c.if-is_full.false)) first c.closer_len.result len_is c.open.new.self c.open.ensures)
