@@ -77,7 +77,7 @@ impl<'t, 's> Measured<'t, 's> {
         self.tokens.source().text().as_bytes()
     }
 
-    /// What the texts take at most, each with a blank: each byte is of one text, and there are no more texts than tokens.
+    /// What the texts take at most, each with a blank: no byte is of two of them.
     pub fn len_bound(&self) -> u64
         ensures bound { len_with_blanks self.now.tokens ≤ result }
         ensures small { result ≤ 2 ^ 23 }
