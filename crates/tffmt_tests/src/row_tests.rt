@@ -11,6 +11,21 @@ fn gives(rt: &impl Abort, alloc: Global, input: &[u8], print: &[u8]) {
     check(rt, alloc, words, input, (print, b"", 0));
 }
 
+// That the file is its own print, and found to be.
+fn stays(rt: &impl Abort, alloc: Global, file: &[u8]) {
+    gives(rt, alloc, file, file);
+    let checked = ["tffmt", "--check"].as_slice();
+    check(rt, alloc, checked, file, (b"", b"", 0));
+}
+
+// That the input isn't its own print, which this is.
+fn turns_to(rt: &impl Abort, alloc: Global, input: &[u8], print: &[u8]) {
+    gives(rt, alloc, input, print);
+    let checked = ["tffmt", "--check"].as_slice();
+    check(rt, alloc, checked, input, (b"", b"", 3));
+    stays(rt, alloc, print);
+}
+
 // That the input is refused with this line, printed or checked.
 fn gives_fault(rt: &impl Abort, alloc: Global, input: &[u8], line: &[u8]) {
     let print = ["tffmt"].as_slice();
@@ -107,6 +122,64 @@ fn aligns(rt: HostRuntime) {
         (b"e\xcc\x81=2\nab=1\n", b"e\xcc\x81  = 2\nab = 1\n"),
     ] {
         gives(&rt, rt.alloc(), input, print);
+    }
+}
+
+// A run whose column is the greatest width, wherever the widest line stands, and whatever is beside the run.
+#[test]
+fn keeps_formatted(rt: HostRuntime) {
+    for file in [
+        b"".as_slice(),
+        b"a = 1\n",
+        b"a   = 1\nbcd = 2",
+        b"bcd = 1\na   = 2\nef  = 3\n",
+        b"a   = 1\nbcd = 2\n\ne  = 3\nfg = 4\n",
+        b"a  = 1  # x\nbc = 22 # y\n\n# z\nd = 3 # x\n",
+        b"b {\n  a   = 1 # x\n  bcd = 2 # y\n}\n",
+        b"b {          # x\n  longer = 1 // y\n}\n",
+        b"a = 1 /* x\ny */ # z\nbcd = 2 # x\n",
+        b"a = \"\xc3\xa9\"  # x\nb = \"ee\" # y\n",
+        b"\xc3\xa9   = 1\nabc = 2\n",
+        b"abc = \"\xc3\xa9\" # x\nd   = 1   # y\n",
+    ] {
+        stays(&rt, rt.alloc(), file);
+    }
+}
+
+#[test]
+fn tells_nearly_formatted(rt: HostRuntime) {
+    for (input, print) in [
+        // a column further than the widest line, in all lines of the run, in front of an end or of another run
+        (
+            b"a    = 1\nbcd  = 2\n".as_slice(),
+            b"a   = 1\nbcd = 2\n".as_slice(),
+        ),
+        (b"a    = 1\nbcd  = 2", b"a   = 1\nbcd = 2"),
+        (b"a  = 1\n\nbcd = 2\n", b"a = 1\n\nbcd = 2\n"),
+        (
+            b"a   = 1\nbcd = 2\n\ne   = 3\n",
+            b"a   = 1\nbcd = 2\n\ne = 3\n",
+        ),
+        // a column that the widest line is beyond
+        (b"a  = 1\nbcd= 2\n", b"a   = 1\nbcd = 2\n"),
+        (b"a  = 1\nbcd = 2\n", b"a   = 1\nbcd = 2\n"),
+        (b"bcd = 1\na = 2\n", b"bcd = 1\na   = 2\n"),
+        // the same of comments
+        (
+            b"a  = 1   # x\nbc = 22  # y\n",
+            b"a  = 1  # x\nbc = 22 # y\n",
+        ),
+        (b"a  = 1  # x\nbc = 22  # y", b"a  = 1  # x\nbc = 22 # y"),
+        (b"a = 1  # x\n\nb = 22 # y\n", b"a = 1 # x\n\nb = 22 # y\n"),
+        // what is as long as the blanks that belong there
+        (b"a\t= 1\n", b"a = 1\n"),
+        (b"b {\n\t\tc = 1\n}\n", b"b {\n  c = 1\n}\n"),
+        (b"a\t  = 1\nbcd = 2\n", b"a   = 1\nbcd = 2\n"),
+        // blanks at an end
+        (b"a = 1 \nb = 2\n", b"a = 1\nb = 2\n"),
+        (b"a = 1\n ", b"a = 1\n"),
+    ] {
+        turns_to(&rt, rt.alloc(), input, print);
     }
 }
 
