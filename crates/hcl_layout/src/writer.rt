@@ -50,6 +50,50 @@ impl Buffer {
         self.bytes[self.len..end].fill(b' ');
         self.len = end;
     }
+
+    /// Takes so many spaces: a block of them is written, and of that only so much taken.
+    #[inline(always)]
+    fn hold_few_blanks(&mut self, count: usize)
+        requires few { count ≤ 16 }
+        requires room { self.old.len + 16 ≤ 8192 }
+        ensures held { held self.new ≡ held self.old ++ replicate count 32 }
+        ensures len { self.new.len ≡ self.old.len + count }
+        ensures sent { self.new.sent ≡ self.old.sent }
+    {
+        let at = self.len;
+        self.bytes[at..at + 16].fill(b' ');
+        self.len = at + count;
+    }
+
+    /// Takes so many bytes of a block: the block is written, and of that only so much taken.
+    #[inline(always)]
+    fn hold_front(&mut self, block: &[u8], count: usize)
+        requires block { length block.now ≡ 32 }
+        requires few { count ≤ 32 }
+        requires room { self.old.len + 32 ≤ 8192 }
+        ensures held { held self.new ≡ held self.old ++ take count block.now }
+        ensures len { self.new.len ≡ self.old.len + count }
+        ensures sent { self.new.sent ≡ self.old.sent }
+    {
+        let at = self.len;
+        self.bytes[at..at + 32].copy_from_slice(block);
+        self.len = at + count;
+    }
+
+    /// Whether a stretch of the source is short, and there is room for the blocks that it is written by.
+    #[inline(always)]
+    fn has_room(&self, source: &[u8], stretch: Stretch) -> bool
+        requires lies { Lies source.now stretch }
+        ensures gap { IsTrue result → stretch.gap ≤ 16 }
+        ensures short { IsTrue result → stretch.end ≤ stretch.start + 32 }
+        ensures block { IsTrue result → stretch.start + 32 ≤ length source.now }
+        ensures room { IsTrue result → self.now.len + 48 ≤ 8192 }
+    {
+        stretch.gap <= 16
+            && stretch.end - stretch.start <= 32
+            && source.len() - stretch.start >= 32
+            && self.len <= 8192 - 48
+    }
 }
 
 /// Writes what waits.
@@ -159,7 +203,8 @@ fn put_text<W: ByteSink>(
     put(to, buffer, text)
 }
 
-/// Writes a stretch of the source.
+/// Writes a stretch of the source. Most are a few bytes: blocks of a fixed length are written quicker than so few bytes,
+/// and what was written behind them is written over.
 #[inline(always)]
 fn put_stretch<W: ByteSink>(
     to: &mut W,
@@ -175,7 +220,13 @@ fn put_stretch<W: ByteSink>(
     ensures failed { W.failed to.new ≡ is_err result }
     ensures count { OnOk result (buffer.new.sent + buffer.new.len ≡ buffer.old.sent + buffer.old.len + stretch.gap + (stretch.end - stretch.start)) }
 {
-    put_text(to, buffer, stretch.gap, &source[stretch.start..stretch.end])
+    let (start, end) = (stretch.start, stretch.end);
+    if buffer.has_room(source, stretch) {
+        buffer.hold_few_blanks(stretch.gap as usize);
+        buffer.hold_front(&source[start..start + 32], end - start);
+        return Ok(());
+    }
+    put_text(to, buffer, stretch.gap, &source[start..end])
 }
 
 /// Writes the last stretch, and all that waits.
