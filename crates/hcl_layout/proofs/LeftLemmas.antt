@@ -7,8 +7,8 @@ use Rattle.hcl_layout.specs.Inner.Left.{token_before}
 use Rattle.std.specs.List.{flat_map}
 use Rattle.hcl_scan.specs.Lexemes.{Lexeme}
 use Rattle.hcl_layout.specs.Inner.Depths.{BalancedFrom, fresh}
-use Rattle.hcl_layout.specs.Gaps.{clusters, gaps, width}
-use Rattle.hcl_layout.specs.Inner.LineGaps.{len_with_blanks, cell_gap, gap_of, gaps_from, gaps_in, plain_gap}
+use Rattle.hcl_layout.specs.Gaps.{clusters, gaps, indent, width}
+use Rattle.hcl_layout.specs.Inner.LineGaps.{len_with_blanks, cell_gap, gap_of, gaps_from, gaps_in, plain_gap, plain_of}
 use Rattle.hcl_layout.specs.Lines.{lines}
 use Rattle.hcl_layout.specs.Print.{printed}
 use Rattle.hcl_layout.specs.Inner.Stream.{commented}
@@ -69,6 +69,16 @@ width_front g ts at len i =
   where
     zero_plus : (n : ℕ) → 0 + n ≡ n
     zero_plus n = omega arith
+
+-- the first token stands behind the indent
+pub width_first : (level : ℕ) (ts : List Lexeme) (at len i : ℕ) (t : Lexeme) → slice_get ts at ≡ Some t → i ≤ len → 0 < i
+    → (indent level t + clusters t) + width (i - 1) (gaps_from (plain_of level) 1 (token_before ts at ((at + 1) - 1)) (token_before ts at (at + 1)) (take (len - 1) (drop (at + 1) ts))) (take (len - 1) (drop (at + 1) ts))
+    ≡ width i (gaps_in (plain_of level) (take len (drop at ts))) (take len (drop at ts))
+width_first level ts at len i t e le lt =
+    let g : LineGaps = plain_of level in
+    let here : slice_get ts (at + 0) ≡ Some t = ap (slice_get ts) (omega arith) ∙ e in
+    let gap : plain_gap level (token_before ts at ((at + 0) - 1)) (token_before ts at (at + 0)) t ≡ indent level t = ap (λ s. plain_gap level (token_before ts at ((at + 0) - 1)) s t) (none_behind ts at (at + 0) (omega arith)) in
+    omega (arith, width_front g ts at len i, width_behind g ts at len 0 i t here le lt, gap)
 
 suc_is : (k : ℕ) → k + 1 ≡ suc k
 suc_is k = omega arith

@@ -5,11 +5,11 @@ ghost use Rattle.hcl_scan.specs.Scanned.{lexeme};
 ghost use Rattle.hcl_syntax.specs.Balanced.{max_open};
 ghost use Rattle.hcl_layout.specs.Gaps.{indent as indent_of, plain_gaps, width as width_of};
 ghost use Rattle.hcl_layout.specs.Inner.Left.{token_before};
-ghost use Rattle.hcl_layout.specs.Inner.LineGaps.{ArePlain, IsKnown, known_place, known_width, len_with_blanks, cell_gap as cell_gap_of, gap_of, gaps_in, given_or, plain_gap as plain_gap_of, plain_of};
+ghost use Rattle.hcl_layout.specs.Inner.LineGaps.{ArePlain, IsKnown, IsUntold, known_place, known_width, len_with_blanks, cell_gap as cell_gap_of, gap_of, gaps_in, given_or, plain_gap as plain_gap_of, plain_of};
 
 use crate::measured::Measured;
 use hcl_scan::{Kind, Token};
-use hcl_spacing::{space_between, space_by_kinds};
+use hcl_spacing::{space_by_kinds, space_by_texts};
 
 /// A cell: its place in the line, the width before it, and the gap that then sets it into its column.
 #[derive(Clone, Copy)]
@@ -60,27 +60,6 @@ fn indent(level: u32, token: Token<'_>) -> u64
     2 * u64::from(level)
 }
 
-/// The gap before a token, by the level and the spacing alone.
-#[inline(always)]
-fn plain_gap(
-    level: u32,
-    before: Option<Token<'_>>,
-    subject: Option<Token<'_>>,
-    token: Token<'_>,
-) -> u64
-    requires { level ≤ max_open }
-    ensures value { result ≡ plain_gap_of level (option_map lexeme before.entry) (option_map lexeme subject.entry) (lexeme token.entry) }
-    ensures small { result ≤ 2 * max_open }
-{
-    let Some(subject) = subject else {
-        return indent(level, token);
-    };
-    if space_between(before, subject, token) {
-        return 1;
-    }
-    0
-}
-
 /// The token before a place, where it is of the line that begins at `start`.
 #[inline(always)]
 fn token_before<'s>(tokens: &Measured<'_, 's>, start: usize, at: usize) -> Option<Token<'s>>
@@ -93,42 +72,37 @@ fn token_before<'s>(tokens: &Measured<'_, 's>, start: usize, at: usize) -> Optio
     None
 }
 
-/// The gap before the token at a place of the line that begins at `start`, by the level and the spacing alone. It is a
-/// call that looks up all tokens itself, so that its caller builds none that it seldom needs.
+/// The gap before the token at a place of the line that begins at `start`, by the spacing alone, where there is another
+/// before it and the kinds of the two don't tell the gap. It is a call that looks up all tokens itself, so that its caller
+/// builds none that it seldom needs.
 #[inline(never)]
-fn looked_up_gap(tokens: &Measured<'_, '_>, level: u32, start: usize, at: usize) -> u64
+fn looked_up_gap(tokens: &Measured<'_, '_>, start: usize, at: usize) -> u64
     requires within { at < length tokens.now.tokens }
-    requires level { level ≤ max_open }
-    ensures { (t : Lexeme) → slice_get tokens.now.tokens at ≡ Some t → result ≡ plain_gap_of level (token_before tokens.now.tokens start (at - 1)) (token_before tokens.now.tokens start at) t }
+    requires behind { start < at }
+    requires untold { (subject t : Lexeme) → slice_get tokens.now.tokens (at - 1) ≡ Some subject → slice_get tokens.now.tokens at ≡ Some t → IsUntold subject t }
+    ensures { (level : ℕ) (t : Lexeme) → slice_get tokens.now.tokens at ≡ Some t → result ≡ plain_gap_of level (token_before tokens.now.tokens start (at - 1)) (token_before tokens.now.tokens start at) t }
 {
     let token = tokens.get(at);
-    let subject = token_before(tokens, start, at);
-    let before = token_before(tokens, start, at.saturating_sub(1));
-    plain_gap(level, before, subject, token)
+    let subject = tokens.get(at - 1);
+    let before = token_before(tokens, start, at - 1);
+    u64::from(space_by_texts(before, subject, token))
 }
 
-/// The same behind another token of the line, where nearly always the two tell the gap.
+/// The same where the kinds may tell it, as they nearly always do.
 #[inline(always)]
-pub fn gap_behind(
-    tokens: &Measured<'_, '_>,
-    level: u32,
-    start: usize,
-    at: usize,
-    token: Token<'_>,
-) -> u64
+pub fn gap_behind(tokens: &Measured<'_, '_>, start: usize, at: usize, token: Token<'_>) -> u64
     requires there { slice_get tokens.now.tokens at ≡ Some (lexeme token) }
     requires within { at < length tokens.now.tokens }
     requires behind { start < at }
-    requires level { level ≤ max_open }
-    ensures { result ≡ plain_gap_of level (token_before tokens.now.tokens start (at - 1)) (token_before tokens.now.tokens start at) (lexeme token.entry) }
+    ensures { (level : ℕ) → result ≡ plain_gap_of level (token_before tokens.now.tokens start (at - 1)) (token_before tokens.now.tokens start at) (lexeme token.entry) }
 {
     match space_by_kinds(tokens.get(at - 1), token) {
         Some(space) => u64::from(space),
-        None => looked_up_gap(tokens, level, start, at),
+        None => looked_up_gap(tokens, start, at),
     }
 }
 
-/// The same of any token of the line.
+/// The gap before any token of the line, by the level and the spacing alone.
 #[inline(always)]
 pub fn plain_gap_at(
     tokens: &Measured<'_, '_>,
@@ -143,7 +117,7 @@ pub fn plain_gap_at(
     ensures { result ≡ plain_gap_of level (token_before tokens.now.tokens start (at - 1)) (token_before tokens.now.tokens start at) (lexeme token.entry) }
 {
     if start < at {
-        return gap_behind(tokens, level, start, at, token);
+        return gap_behind(tokens, start, at, token);
     }
     indent(level, token)
 }
@@ -233,10 +207,14 @@ pub fn plain_width(
     ensures value { result ≡ width_of place (plain_gaps level (take len (drop at tokens.now.tokens))) (take len (drop at tokens.now.tokens)) }
     ensures small { result ≤ 2 * max_open + len_with_blanks tokens.now.tokens }
 {
-    let mut sum = 0;
-    for k in 0..place {
+    if place == 0 {
+        return 0;
+    }
+    let first = tokens.get(at);
+    let mut sum = indent(level, first) + tokens.clusters(first);
+    for k in 1..place {
         let token = tokens.get(at + k);
-        sum += plain_gap_at(tokens, level, at, at + k, token) + tokens.clusters(token);
+        sum += gap_behind(tokens, at, at + k, token) + tokens.clusters(token);
     }
     sum
 }

@@ -139,7 +139,7 @@ fn plain_piece<'s>(pieces: &Pieces, tokens: &Measured<'_, 's>, at: usize) -> Pie
     ensures source { IsFrom tokens.now.text result.start result.text.now }
 {
     let token = tokens.get(at);
-    let gap = gap_behind(tokens, pieces.gaps.level, pieces.start, at, token);
+    let gap = gap_behind(tokens, pieces.start, at, token);
     piece_of(token, gap)
 }
 

@@ -190,7 +190,7 @@ fn take_plain_piece<'s>(pieces: &mut Pieces, tokens: &Measured<'_, 's>) -> Piece
 {
     let at = pieces.next;
     let token = tokens.get(at);
-    let gap = gap_behind(tokens, pieces.gaps.level, pieces.start, at, token);
+    let gap = gap_behind(tokens, pieces.start, at, token);
     pieces.next = at + 1;
     Piece {
         gap,

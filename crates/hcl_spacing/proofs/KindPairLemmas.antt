@@ -116,3 +116,31 @@ all_tell = refl
 
 pub untold : (l r : Kind) → pair_space l r ≡ None → asks_more l r ≡ true
 untold l r e = second (is_some (pair_space l r)) (asks_more l r) (ap is_some e) (each (λ r. tells l r) (each (λ l. list_all (λ r. tells l r) kinds) all_tell l) r)
+
+-- and where it asks for more, the kinds don't tell, but at the end of a line
+abbrev asks : Kind → Kind → Bool
+asks l r = not (is_some (pair_space l r)) || (not (asks_more l r) || is kind.Newline r)
+
+all_ask : list_all (λ l. list_all (λ r. asks l r) kinds) kinds ≡ true
+all_ask = refl
+
+pub untold_pair : (l r : Kind) → asks_more l r ≡ true → is kind.Newline r ≡ false → pair_space l r ≡ None
+untold_pair l r e f = go (pair_space l r) (each (λ r. asks l r) (each (λ l. list_all (λ r. asks l r) kinds) all_ask l) r)
+  where
+    go : (o : Option Bool) → (not (is_some o) || (not (asks_more l r) || is kind.Newline r)) ≡ true → o ≡ None
+    go None h = refl
+    go (Some space) h = let g : (not true || false) ≡ true = rw (e, f) at h in cc
+
+abbrev line_tells : Kind → Kind → Bool
+line_tells l r = is_some (pair_space l r) || not (is kind.Newline r)
+
+all_lines : list_all (λ l. list_all (λ r. line_tells l r) kinds) kinds ≡ true
+all_lines = refl
+
+pub same_line : (l r : Kind) → pair_space l r ≡ None → is kind.Newline r ≡ false
+same_line l r e = third (is_some (pair_space l r)) (is kind.Newline r) (ap is_some e) (each (λ r. line_tells l r) (each (λ l. list_all (λ r. line_tells l r) kinds) all_lines l) r)
+  where
+    third : (v w : Bool) → v ≡ false → (v || not w) ≡ true → w ≡ false
+    third true w e h = cc
+    third false true e h = cc
+    third false false e h = refl

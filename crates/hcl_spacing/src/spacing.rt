@@ -1,6 +1,6 @@
 //! One blank or none between two neighbours on a line. The words in quotation marks are headings of `docs/STYLE.md`, "Between
 //! two words of a line", where each rule stands with its examples.
-ghost use Rattle.std.specs.Prelude.{◌≡◌, ◌||◌, IfNone, IfSome, IsTrue, Option, option_map, true};
+ghost use Rattle.std.specs.Prelude.{◌≡◌, ◌||◌, IfNone, IfSome, IsTrue, Option, false, option_map, true};
 ghost use Rattle.hcl_scan.specs.Lexemes.{Lexeme};
 ghost use Rattle.hcl_scan.specs.Scanned.{lexeme};
 ghost use Rattle.hcl_scan.specs.Kinds.{is};
@@ -83,7 +83,7 @@ fn asked_space(before: Option<Token<'_>>, subject: Token<'_>, after: Token<'_>) 
         // "A number and a dot": behind a dot the number is a step, and joins no other dot
         Kind::Number => !is_behind_dot(before),
         // "`in`" after a name, as in a `for`
-        Kind::Ident => subject.text == "in" && is_behind_ident(before),
+        Kind::Ident => is_behind_ident(before) && subject.text == "in",
         // "A number and a dot": `${~` would be another opener
         _ => after.text == "~}",
     }
@@ -103,6 +103,8 @@ fn is_kept(after: Token<'_>) -> bool
 fn kinds_space(subject: Token<'_>, after: Token<'_>) -> Option<bool>
     ensures given { IfSome result (λ space. (before : Option Lexeme) → space ≡ spaced before (lexeme subject.entry) (lexeme after.entry)) }
     ensures untold { IfNone result (asks_more subject.entry.kind after.entry.kind ≡ true) }
+    ensures outside { IfNone result (after.entry.inside_heredoc ≡ false) }
+    ensures same_line { IfNone result (is Newline after.entry.kind ≡ false) }
     ensures asked { IfNone result ((before : Option Lexeme) → asked_space_of before (lexeme subject.entry) (lexeme after.entry) ≡ spaced before (lexeme subject.entry) (lexeme after.entry)) }
 {
     if is_kept(after) {
@@ -117,8 +119,21 @@ fn kinds_space(subject: Token<'_>, after: Token<'_>) -> Option<bool>
 pub fn space_by_kinds(subject: Token<'_>, after: Token<'_>) -> Option<bool>
     ensures told { IfSome result (λ space. (before : Option Lexeme) → space ≡ spaced before (lexeme subject.entry) (lexeme after.entry)) }
     ensures untold { IfNone result (asks_more subject.entry.kind after.entry.kind ≡ true) }
+    ensures outside { IfNone result (after.entry.inside_heredoc ≡ false) }
+    ensures same_line { IfNone result (is Newline after.entry.kind ≡ false) }
 {
     kinds_space(subject, after)
+}
+
+/// The same where the kinds don't tell it. `before` is the token before the subject on that line, if there is one.
+#[inline(always)]
+pub fn space_by_texts(before: Option<Token<'_>>, subject: Token<'_>, after: Token<'_>) -> bool
+    requires untold { asks_more subject.kind after.kind ≡ true }
+    requires outside { after.inside_heredoc ≡ false }
+    requires same_line { is Newline after.kind ≡ false }
+    ensures { result ≡ spaced (option_map lexeme before.entry) (lexeme subject.entry) (lexeme after.entry) }
+{
+    asked_space(before, subject, after)
 }
 
 /// Whether one blank stands between the subject and the token after it on a line, or none. `before`

@@ -1,6 +1,9 @@
 -- The gaps of a line from its level and two cells, token by token.
-use Rattle.std.specs.Prelude.{◌≡◌, ◌<◌, ◌≤◌, ◌+◌, ◌==◌, ℕ, List, [], ◌∷◌, Option, Some, None, length, slice_set, if◌then◌else◌}
+use Rattle.std.specs.Prelude.{true, false, ◌≡◌, ◌<◌, ◌≤◌, ◌+◌, ◌==◌, ℕ, List, [], ◌∷◌, Option, Some, None, length, slice_set, if◌then◌else◌}
 use Rattle.hcl_scan.specs.Lexemes.{Lexeme}
+use Rattle.hcl_scan.specs.declared.token.Kind.TheVariants as kind
+use Rattle.hcl_scan.specs.Kinds.{is}
+use Rattle.hcl_spacing.specs.Spacing.{asks_more}
 use Rattle.hcl_layout.specs.Lines.{Line}
 use Rattle.hcl_layout.specs.Gaps.{blanks, indent, width}
 use Rattle.hcl_layout.specs.declared.gap.Cell.{Cell}
@@ -15,6 +18,10 @@ cell_gap (Some c) k gap = if c.place == k then c.gap else gap
 abbrev pub plain_gap : ℕ → Option Lexeme → Option Lexeme → Lexeme → ℕ
 plain_gap level before None t = indent level t
 plain_gap level before (Some subject) t = blanks before subject t
+
+-- the kinds of two neighbours don't tell whether a blank stands between them
+abbrev pub IsUntold : Lexeme → Lexeme → Type 0
+IsUntold subject t = (asks_more subject.kind t.kind ≡ true) × (t.inside_heredoc ≡ false) × (is kind.Newline t.kind ≡ false)
 
 abbrev pub gap_of : LineGaps → ℕ → Option Lexeme → Option Lexeme → Lexeme → ℕ
 gap_of g k before subject t = cell_gap g.comment k (cell_gap g.assign k (plain_gap g.level before subject t))

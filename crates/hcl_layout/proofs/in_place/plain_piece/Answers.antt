@@ -14,7 +14,7 @@ returns-clause-left c =
     let t = lexeme c.get-token.result in
     let r = c.requires.ready in
     let plain = plain_gap s.gaps.level (token_before ts s.start (at - 1)) (token_before ts s.start at) t in
-    let gap = c.gap_behind-gap.ensures ∙ sym (r.plain (at - s.start) plain (omega (arith, c.requires.from)) (omega (arith, c.requires.from, c.requires.to, r.began))) in
+    let gap = c.gap_behind-gap.ensures s.gaps.level ∙ sym (r.plain (at - s.start) plain (omega (arith, c.requires.from)) (omega (arith, c.requires.from, c.requires.to, r.began))) in
     piece_left ts at s.start s.end s.gaps (rest_gaps ts s) t c.gap_behind-gap.result
     c.get-token.ensures.token (omega (arith, c.requires.to, r.stop)) (omega (arith, c.requires.from, r.began)) gap
     ∙ ap₂ (λ (n : ℕ) (l : List ℕ). (replicate n 32 ++ l) ++ to_print ts (at_piece (at + 1) s)) (sym c.piece_of.ensures.gap) (sym c.piece_of.ensures.text)
@@ -27,5 +27,5 @@ returns-clause-gap c =
     let t = lexeme c.get-token.result in
     let r = c.requires.ready in
     let plain = plain_gap s.gaps.level (token_before ts s.start (at - 1)) (token_before ts s.start at) t in
-    let gap = c.gap_behind-gap.ensures ∙ sym (r.plain (at - s.start) plain (omega (arith, c.requires.from)) (omega (arith, c.requires.from, c.requires.to, r.began))) in
+    let gap = c.gap_behind-gap.ensures s.gaps.level ∙ sym (r.plain (at - s.start) plain (omega (arith, c.requires.from)) (omega (arith, c.requires.from, c.requires.to, r.began))) in
     omega (arith, c.piece_of.ensures.gap, gap, gap_small s.gaps (at - s.start) (token_before ts s.start (at - 1)) (token_before ts s.start at) t r.level r.assign r.cell)

@@ -12,7 +12,7 @@ returns-clause-left c =
     let t = lexeme c.get-token.result in
     let r = c.requires.ready in
     let plain = plain_gap s.gaps.level (token_before ts s.start (s.next - 1)) (token_before ts s.start s.next) t in
-    let gap = c.gap_behind-gap.ensures ∙ sym (r.plain (s.next - s.start) plain (omega arith) (omega (arith, c.requires.some, r.behind c.requires.some))) in
+    let gap = c.gap_behind-gap.ensures s.gaps.level ∙ sym (r.plain (s.next - s.start) plain (omega arith) (omega (arith, c.requires.some, r.behind c.requires.some))) in
     piece_left ts s.next s.start s.end s.gaps (rest_gaps ts s) t c.gap_behind-gap.result
     c.get-token.ensures.token (omega (arith, c.requires.some, r.stop)) r.began gap
 
@@ -23,7 +23,7 @@ returns-clause-gap c =
     let t = lexeme c.get-token.result in
     let r = c.requires.ready in
     let plain = plain_gap s.gaps.level (token_before ts s.start (s.next - 1)) (token_before ts s.start s.next) t in
-    let gap = c.gap_behind-gap.ensures ∙ sym (r.plain (s.next - s.start) plain (omega arith) (omega (arith, c.requires.some, r.behind c.requires.some))) in
+    let gap = c.gap_behind-gap.ensures s.gaps.level ∙ sym (r.plain (s.next - s.start) plain (omega arith) (omega (arith, c.requires.some, r.behind c.requires.some))) in
     omega (arith, gap, gap_small s.gaps (s.next - s.start) (token_before ts s.start (s.next - 1)) (token_before ts s.start s.next) t r.level r.assign r.cell)
 
 pub returns-clause-text : goal.returns-clause-text
