@@ -1,22 +1,27 @@
 -- A run whose column is taken from the source and found to be its greatest width is printed as it is.
-use Rattle.std.proofs.Common.{◌≡◌, ◌∙◌, ◌+◌, ◌-◌, ◌++◌, ◌≤◌, ℕ, List, [], ◌∷◌, Option, Some, None, max, length, ap, ap₂, refl, sym, arith, subst, take, drop}
-use Rattle.std.specs.Prelude.{IfSome, option_map}
+use Rattle.std.proofs.Common.{◌≡◌, ◌∙◌, ◌+◌, ◌-◌, ◌++◌, ◌<◌, ◌≤◌, ◌==◌, ℕ, Bool, true, false, List, [], ◌∷◌, Option, Some, None, max, length, ap, ap₂, refl, sym, arith, subst, take, drop, replicate}
+use Rattle.std.specs.Prelude.{IfSome, option_map, slice_get, if◌then◌else◌}
 use Rattle.std.specs.List.{flat_map}
 use Rattle.std.proofs.lemmas.Grind.{common_steps}
 use Rattle.hcl_scan.specs.Lexemes.{Lexeme}
 use Rattle.hcl_layout.specs.Cells.{assign_cell, running_comment, trailing_comment}
 use Rattle.hcl_layout.specs.Gaps.{align, width}
 use Rattle.hcl_layout.specs.Lines.{Line, lines}
-use Rattle.hcl_layout.specs.Print.{printed}
-use Rattle.hcl_layout.specs.Inner.Depths.{depth_after, levels_behind}
-use Rattle.hcl_layout.specs.Inner.InPlace.{EndsWell, Enters, InPlace, IsColumn, since}
-use Rattle.hcl_layout.specs.Inner.Left.{gaps_left, rest_gaps, token_before}
-use Rattle.hcl_layout.specs.Inner.LineGaps.{gaps_from}
-use Rattle.hcl_layout.specs.Inner.Survey.{IsLine}
+use Rattle.hcl_layout.specs.Print.{print, printed}
+use Rattle.hcl_layout.specs.Inner.Depths.{BalancedFrom, depth_after, fresh, levels_behind}
+use Rattle.hcl_layout.specs.Inner.InPlace.{EndsWell, Enters, GoOn, InPlace, IsColumn, gaps_on, left_at, since}
+use Rattle.hcl_layout.specs.Inner.Left.{bytes_of, token_before}
+use Rattle.hcl_layout.specs.Inner.LineGaps.{ArePlain, cell_gap, gap_of, gaps_from, gaps_in}
 use Rattle.hcl_layout.specs.Inner.Stream.{assign_column, assign_width, assign_widths, assigned_line, comment_column, comment_width, comment_widths, commented, next_of, plain}
-use Rattle.hcl_layout.specs.declared.in_place.Greatest.{Greatest}
+use Rattle.hcl_layout.specs.Inner.Survey.{IsLine}
+use Rattle.hcl_layout.specs.declared.gap.Cell.{Cell}
+use Rattle.hcl_layout.specs.declared.gap.LineGaps.{LineGaps}
+use Rattle.hcl_layout.specs.declared.in_place.LaidLine.{LaidLine}
+use Rattle.hcl_layout.specs.declared.in_place.Runs.{Runs}
 use Rattle.hcl_layout.specs.declared.line.LineFacts.{LineFacts}
-use Rattle.hcl_layout.specs.declared.pieces.Pieces.{Pieces}
+use Rattle.hcl_layout.specs.declared.pieces.Piece.{Piece}
+use Rattle.hcl_layout.specs.declared.runs.Walk.{Walk}
+use Rattle.hcl_layout.proofs.LeftLemmas.{none_behind, piece_left, start_all}
 
 -- ---- one run
 
@@ -108,68 +113,123 @@ line_back d levels c m c' m' a b a' b' l ls ends_c ends_m enters_c enters_m wide
       gaps = ap₂ (commented_from d levels l ls) same_c same_m;
     }
 
--- ---- what is left
-
--- where the line at hand is at its end
-pub rest_left : (ts : List Lexeme) (s : Pieces) → s.next ≡ s.end → gaps_left ts s ≡ rest_gaps ts s
-rest_left ts s e =
-    let none : s.end - s.next ≡ 0 = omega (arith, e) in
-    ap (λ n. gaps_from s.gaps (s.next - s.start) (token_before ts s.start (s.next - 1)) (token_before ts s.start s.next) (take n (drop s.next ts)) ++ rest_gaps ts s) none
-
 -- ---- a line that is entered
 
-pub entered_before : (ts : List Lexeme) (text : List ℕ) (s new : Pieces) (passed passed' : Greatest) (line : LineFacts) (c m : Option ℕ) (at : ℕ)
-    → s.next ≡ s.end → IsLine ts s.end s.walk.depth line
-    → EndsWell s.walk.column passed.assign line.assign → EndsWell s.comment passed.comment line.running
-    → Enters s.walk.column line.assign c → Enters s.comment line.running m
-    → IfSome (assign_width s.walk.depth s.walk.levels (take line.len (drop s.end ts))) (λ w. passed'.assign ≡ max (since s.walk.column passed.assign) w)
-    → IfSome (comment_width s.walk.depth s.walk.levels c (take line.len (drop s.end ts)) (lines (drop s.end ts))) (λ w. passed'.comment ≡ max (since s.comment passed.comment) w)
-    → gaps_left ts new ≡ flat_map (λ g. g) (commented s.walk.depth s.walk.levels c m (lines (drop s.end ts)))
-    → new.next ≡ s.next → new.end ≡ s.end + line.len
-    → new.walk.depth ≡ depth_after s.walk.depth (take line.len (drop s.end ts))
-    → new.walk.levels ≡ levels_behind s.walk.depth (depth_after s.walk.depth (take line.len (drop s.end ts))) s.walk.levels
-    → new.walk.column ≡ assign_column s.walk.depth s.walk.levels c (lines (drop s.end ts))
-    → new.comment ≡ comment_column s.walk.depth s.walk.levels c m (lines (drop s.end ts))
-    → InPlace ts text new passed' at → InPlace ts text s passed at
-entered_before ts text s new passed passed' line c m at done is ends_c ends_m enters_c enters_m wide_c wide_m left next end depth levels column comment h =
-    let d = s.walk.depth in
-    let lv = s.walk.levels in
-    let l : Line = take line.len (drop s.end ts) in
-    let all = lines (drop s.end ts) in
-    let rest = lines (drop (s.end + line.len) ts) in
+laid : LineGaps → ℕ → ℕ → LaidLine
+laid g first end = record { first = first; end = end; gaps = g }
+
+-- from its first token on
+front_gaps : (ts : List Lexeme) (g : LineGaps) (first len : ℕ)
+    → gaps_from g (first - first) (token_before ts first (first - 1)) (token_before ts first first) (take ((first + len) - first) (drop first ts)) ≡ gaps_in g (take len (drop first ts))
+front_gaps ts g first len =
+    let place : first - first ≡ 0 = omega arith in
+    let long : (first + len) - first ≡ len = omega arith in
+    ap₂ (λ (k n : ℕ). gaps_from g k (token_before ts first (first - 1)) (token_before ts first first) (take n (drop first ts))) place long
+    ∙ ap₂ (λ (x y : Option Lexeme). gaps_from g 0 x y (take len (drop first ts))) (none_behind ts first (first - 1) (omega arith)) (none_behind ts first first (omega arith))
+
+pub entered_before : (ts : List Lexeme) (text : List ℕ) (w new : Walk) (runs runs' : Runs) (line : LineFacts) (g : LineGaps) (c m : Option ℕ) (first at end : ℕ)
+    → IsLine ts first w.depth line
+    → EndsWell w.column runs.assign line.assign → EndsWell runs.column runs.comment line.running
+    → Enters w.column line.assign c → Enters runs.column line.running m
+    → IfSome (assign_width w.depth w.levels (take line.len (drop first ts))) (λ x. runs'.assign ≡ max (since w.column runs.assign) x)
+    → IfSome (comment_width w.depth w.levels c (take line.len (drop first ts)) (lines (drop first ts))) (λ x. runs'.comment ≡ max (since runs.column runs.comment) x)
+    → gaps_in g (take line.len (drop first ts)) ≡ align trailing_comment (assigned_line w.depth w.levels c (take line.len (drop first ts)) (lines (drop first ts))) (take line.len (drop first ts)) runs'.column
+    → new.depth ≡ depth_after w.depth (take line.len (drop first ts))
+    → new.levels ≡ levels_behind w.depth (depth_after w.depth (take line.len (drop first ts))) w.levels
+    → new.column ≡ assign_column w.depth w.levels c (lines (drop first ts))
+    → runs'.column ≡ comment_column w.depth w.levels c m (lines (drop first ts))
+    → InPlace ts text new runs' (first + line.len) end
+    → left_at ts (record { first = first; end = first + line.len; gaps = g }) (gaps_on ts (first + line.len) new runs'.column) first ≡ drop at text
+    → InPlace ts text w runs first at
+entered_before ts text w new runs runs' line g c m first at end is ends_c ends_m enters_c enters_m wide_c wide_m gaps depth levels column comment h left =
+    let d = w.depth in
+    let lv = w.levels in
+    let l : Line = take line.len (drop first ts) in
+    let all = lines (drop first ts) in
+    let rest = lines (drop (first + line.len) ts) in
     let d' = depth_after d l in
     let lv' = levels_behind d d' lv in
     let c' = assign_column d lv c (l ∷ rest) in
     let m' = comment_column d lv c m (l ∷ rest) in
-    let same_c : new.walk.column ≡ c' = column ∙ ap (assign_column d lv c) is.cut in
-    let same_m : new.comment ≡ m' = comment ∙ ap (comment_column d lv c m) is.cut in
-    let ws : assign_widths new.walk.depth new.walk.levels (lines (drop new.end ts)) ≡ assign_widths d' lv' rest =
-    ap₂ (λ (x : ℕ) (y : List ℕ). assign_widths x y (lines (drop new.end ts))) depth levels ∙ ap (λ n. assign_widths d' lv' (lines (drop n ts))) end in
-    let vs : comment_widths new.walk.depth new.walk.levels new.walk.column (lines (drop new.end ts)) ≡ comment_widths d' lv' c' rest =
-    ap₂ (λ (x : ℕ) (y : List ℕ). comment_widths x y new.walk.column (lines (drop new.end ts))) depth levels
-    ∙ ap₂ (λ (x : Option ℕ) (n : ℕ). comment_widths d' lv' x (lines (drop n ts))) same_c end in
-    let is_c : IsColumn c' passed'.assign (assign_widths d' lv' rest) =
-    subst (λ (xs : List (Option ℕ)). IsColumn c' passed'.assign xs) ws (subst (λ (x : Option ℕ). IsColumn x passed'.assign (assign_widths new.walk.depth new.walk.levels (lines (drop new.end ts)))) same_c h.assign) in
-    let is_m : IsColumn m' passed'.comment (comment_widths d' lv' c' rest) =
-    subst (λ (xs : List (Option ℕ)). IsColumn m' passed'.comment xs) vs (subst (λ (x : Option ℕ). IsColumn x passed'.comment (comment_widths new.walk.depth new.walk.levels new.walk.column (lines (drop new.end ts)))) same_m h.comment) in
-    let before = line_back d lv s.walk.column s.comment c m passed.assign passed.comment passed'.assign passed'.comment l rest
-    (subst (λ (x : Option ℕ). EndsWell s.walk.column passed.assign x) is.assign ends_c) (subst (λ (x : Option ℕ). EndsWell s.comment passed.comment x) is.running ends_m)
-    (subst (λ (x : Option ℕ). Enters s.walk.column x c) is.assign enters_c) (subst (λ (x : Option ℕ). Enters s.comment x m) is.running enters_m)
-    wide_c (subst (λ (ls : List Line). IfSome (comment_width d lv c l ls) (λ w. passed'.comment ≡ max (since s.comment passed.comment) w)) is.cut wide_m)
+    let same_c : new.column ≡ c' = column ∙ ap (assign_column d lv c) is.cut in
+    let same_m : runs'.column ≡ m' = comment ∙ ap (comment_column d lv c m) is.cut in
+    let ws : assign_widths new.depth new.levels rest ≡ assign_widths d' lv' rest =
+    ap₂ (λ (x : ℕ) (y : List ℕ). assign_widths x y rest) depth levels in
+    let vs : comment_widths new.depth new.levels new.column rest ≡ comment_widths d' lv' c' rest =
+    ap₂ (λ (x : ℕ) (y : List ℕ). comment_widths x y new.column rest) depth levels ∙ ap (λ (x : Option ℕ). comment_widths d' lv' x rest) same_c in
+    let is_c : IsColumn c' runs'.assign (assign_widths d' lv' rest) =
+    subst (λ (xs : List (Option ℕ)). IsColumn c' runs'.assign xs) ws (subst (λ (x : Option ℕ). IsColumn x runs'.assign (assign_widths new.depth new.levels rest)) same_c h.assign) in
+    let is_m : IsColumn m' runs'.comment (comment_widths d' lv' c' rest) =
+    subst (λ (xs : List (Option ℕ)). IsColumn m' runs'.comment xs) vs (subst (λ (x : Option ℕ). IsColumn x runs'.comment (comment_widths new.depth new.levels new.column rest)) same_m h.comment) in
+    let before = line_back d lv w.column runs.column c m runs.assign runs.comment runs'.assign runs'.comment l rest
+    (subst (λ (x : Option ℕ). EndsWell w.column runs.assign x) is.assign ends_c) (subst (λ (x : Option ℕ). EndsWell runs.column runs.comment x) is.running ends_m)
+    (subst (λ (x : Option ℕ). Enters w.column x c) is.assign enters_c) (subst (λ (x : Option ℕ). Enters runs.column x m) is.running enters_m)
+    wide_c (subst (λ (ls : List Line). IfSome (comment_width d lv c l ls) (λ x. runs'.comment ≡ max (since runs.column runs.comment) x)) is.cut wide_m)
     is_c is_m in
-    let same : commented d lv s.walk.column s.comment all ≡ commented d lv c m all =
-    ap (commented d lv s.walk.column s.comment) is.cut ∙ sym before.gaps ∙ sym (ap (commented d lv c m) is.cut) in
-    let gaps : gaps_left ts s ≡ gaps_left ts new = rest_left ts s done ∙ ap (flat_map (λ g. g)) same ∙ sym left in
+    let one : gaps_in g l ≡ align trailing_comment (align assign_cell (plain d lv l) l c') l m' =
+    gaps ∙ ap₂ (λ (ls : List Line) (x : Option ℕ). align trailing_comment (assigned_line d lv c l ls) l x) is.cut same_m in
+    let more : gaps_on ts (first + line.len) new runs'.column ≡ flat_map (λ g. g) (commented d' lv' c' m' rest) =
+    ap₂ (λ (x : ℕ) (y : List ℕ). flat_map (λ g. g) (commented x y new.column runs'.column rest)) depth levels
+    ∙ ap₂ (λ (x y : Option ℕ). flat_map (λ g. g) (commented d' lv' x y rest)) same_c same_m in
+    let whole : flat_map (λ g. g) (commented d lv c m (l ∷ rest)) ≡ gaps_in g l ++ gaps_on ts (first + line.len) new runs'.column =
+    ap₂ (λ (x y : List ℕ). x ++ y) (sym one) (sym more) in
+    let front : gaps_in g l ≡ gaps_from g (first - first) (token_before ts first (first - 1)) (token_before ts first first) (take ((first + line.len) - first) (drop first ts)) =
+    sym (front_gaps ts g first line.len) in
+    let same : gaps_on ts first w runs.column ≡ gaps_from g (first - first) (token_before ts first (first - 1)) (token_before ts first first) (take ((first + line.len) - first) (drop first ts)) ++ gaps_on ts (first + line.len) new runs'.column =
+    ap (λ (ls : List Line). flat_map (λ g. g) (commented d lv w.column runs.column ls)) is.cut ∙ ap (flat_map (λ g. g)) (sym before.gaps) ∙ whole ∙ ap (λ (x : List ℕ). x ++ gaps_on ts (first + line.len) new runs'.column) front in
     record {
-      assign = subst (λ (ls : List Line). IsColumn s.walk.column passed.assign (assign_widths d lv ls)) (sym is.cut) before.assign;
-      comment = subst (λ (ls : List Line). IsColumn s.comment passed.comment (comment_widths d lv s.walk.column ls)) (sym is.cut) before.comment;
-      left = ap₂ (λ (g : List ℕ) (n : ℕ). printed g (drop n ts)) gaps (sym next) ∙ h.left;
+      assign = subst (λ (ls : List Line). IsColumn w.column runs.assign (assign_widths d lv ls)) (sym is.cut) before.assign;
+      comment = subst (λ (ls : List Line). IsColumn runs.column runs.comment (comment_widths d lv w.column ls)) (sym is.cut) before.comment;
+      left = ap (λ (x : List ℕ). printed x (drop first ts)) same ∙ left;
     }
 
--- ---- at the end
+-- ---- pieces
 
-none_behind : {A : Type 0} (n : ℕ) (xs : List A) → length xs ≤ n → drop n xs ≡ []
-none_behind n xs le = grind (arith, common_steps)
+other_place : (c : Option Cell) (k gap : ℕ) → k ≡ 0 → IfSome c (λ x. 0 < x.place) → cell_gap c k gap ≡ gap
+other_place None k gap e p = refl
+other_place (Some c) k gap e p = go (c.place == k) refl
+  where
+    go : (v : Bool) → (c.place == k) ≡ v → (if v then c.gap else gap) ≡ gap
+    go true v = absurd (grind arith)
+    go false v = refl
+
+-- no cell begins the line
+pub front_plain : (g : LineGaps) → IfSome g.assign (λ c. 0 < c.place) → IfSome g.comment (λ c. 0 < c.place) → ArePlain g 0 1
+front_plain g p q k gap from to =
+    let front : k ≡ 0 = omega (arith, to) in
+    other_place g.comment k (cell_gap g.assign k gap) front q ∙ other_place g.assign k gap front p
+
+-- a piece of the line goes on in the source
+goes : (ts : List Lexeme) (text : List ℕ) (l : LaidLine) (n from end : ℕ) (t : Lexeme) (gap : ℕ) (p : Piece) → slice_get ts n ≡ Some t → n < l.end → l.first ≤ n
+    → gap ≡ gap_of l.gaps (n - l.first) (token_before ts l.first (n - 1)) (token_before ts l.first n) t → p.gap ≡ gap → p.text.now ≡ t.text
+    → drop from text ≡ bytes_of p ++ drop end text → GoOn ts text l n from (n + 1) end
+goes ts text l n from end t gap p e lt le g same_gap same_text here rest h =
+    piece_left ts n l.first l.end l.gaps rest t gap e lt le g
+    ∙ ap₂ (λ (k : ℕ) (x : List ℕ). (replicate k 32 ++ x) ++ left_at ts l rest (n + 1)) (sym same_gap) (sym same_text)
+    ∙ ap (λ (x : List ℕ). bytes_of p ++ x) h ∙ sym here
+
+pub goes_to : (ts : List Lexeme) (text : List ℕ) (l : LaidLine) (n from : ℕ) (end : Option ℕ) (t : Lexeme) (gap : ℕ) (p : Piece) → slice_get ts n ≡ Some t → n < l.end → l.first ≤ n
+    → gap ≡ gap_of l.gaps (n - l.first) (token_before ts l.first (n - 1)) (token_before ts l.first n) t → p.gap ≡ gap → p.text.now ≡ t.text
+    → IfSome end (λ k. drop from text ≡ bytes_of p ++ drop k text) → IfSome end (λ k. GoOn ts text l n from (n + 1) k)
+goes_to ts text l n from None t gap p e lt le g same_gap same_text here = tt
+goes_to ts text l n from (Some k) t gap p e lt le g same_gap same_text here = goes ts text l n from k t gap p e lt le g same_gap same_text here
+
+-- behind its last piece the lines behind it are left
+pub line_over : (ts : List Lexeme) (l : LaidLine) (rest : List ℕ) → left_at ts l rest l.end ≡ printed rest (drop l.end ts)
+line_over ts l rest =
+    let none : l.end - l.end ≡ 0 = omega arith in
+    ap (λ n. printed (gaps_from l.gaps (l.end - l.first) (token_before ts l.first (l.end - 1)) (token_before ts l.first l.end) (take n (drop l.end ts)) ++ rest) (drop l.end ts)) none
+
+-- ---- at the beginning, and at the end
+
+pub begun : (ts : List Lexeme) (text : List ℕ) (w : Walk) (runs : Runs) → BalancedFrom 0 ts → w.depth ≡ 0 → w.levels ≡ fresh → w.column ≡ None → runs.column ≡ None → InPlace ts text w runs 0 0 → print ts ≡ text
+begun ts text w runs p e f g none h =
+    let all : gaps_on ts 0 w runs.column ≡ flat_map (λ g. g) (commented w.depth w.levels w.column None (lines ts)) =
+    ap (λ (x : Option ℕ). flat_map (λ g. g) (commented w.depth w.levels w.column x (lines ts))) none in
+    ap (λ gaps. printed gaps ts) (sym (all ∙ start_all ts w.depth w.levels w.column p e f g)) ∙ h.left
+
+drop_none : {A : Type 0} (n : ℕ) (xs : List A) → length xs ≤ n → drop n xs ≡ []
+drop_none n xs le = grind (arith, common_steps)
 
 none_printed : (gs : List ℕ) → printed gs [] ≡ []
 none_printed [] = refl
@@ -179,13 +239,12 @@ column_ended : (column : Option ℕ) (greatest : ℕ) → EndsWell {A = ℕ} col
 column_ended None greatest p = tt
 column_ended (Some c) greatest p = omega (arith, p refl)
 
-pub all_passed : (ts : List Lexeme) (text : List ℕ) (s : Pieces) (passed : Greatest) (at : ℕ) → length ts ≤ s.end → s.next ≡ s.end → length text ≤ at
-    → EndsWell {A = ℕ} s.walk.column passed.assign None → EndsWell {A = ℕ} s.comment passed.comment None → InPlace ts text s passed at
-all_passed ts text s passed at long done short p q =
-    let none : [] ≡ drop s.end ts = sym (none_behind s.end ts long) in
-    let tokens : drop s.next ts ≡ [] = none_behind s.next ts (omega (arith, long, done)) in
+pub all_passed : (ts : List Lexeme) (text : List ℕ) (w : Walk) (runs : Runs) (first at : ℕ) → length ts ≤ first → length text ≤ at
+    → EndsWell {A = ℕ} w.column runs.assign None → EndsWell {A = ℕ} runs.column runs.comment None → InPlace ts text w runs first at
+all_passed ts text w runs first at long short p q =
+    let none : [] ≡ drop first ts = sym (drop_none first ts long) in
     record {
-      assign = subst (λ (xs : List Lexeme). IsColumn s.walk.column passed.assign (assign_widths s.walk.depth s.walk.levels (lines xs))) none (column_ended s.walk.column passed.assign p);
-      comment = subst (λ (xs : List Lexeme). IsColumn s.comment passed.comment (comment_widths s.walk.depth s.walk.levels s.walk.column (lines xs))) none (column_ended s.comment passed.comment q);
-      left = ap (printed (gaps_left ts s)) tokens ∙ none_printed (gaps_left ts s) ∙ sym (none_behind at text short);
+      assign = subst (λ (xs : List Lexeme). IsColumn w.column runs.assign (assign_widths w.depth w.levels (lines xs))) none (column_ended w.column runs.assign p);
+      comment = subst (λ (xs : List Lexeme). IsColumn runs.column runs.comment (comment_widths w.depth w.levels w.column (lines xs))) none (column_ended runs.column runs.comment q);
+      left = ap (printed (gaps_on ts first w runs.column)) (sym none) ∙ none_printed (gaps_on ts first w runs.column) ∙ sym (drop_none at text short);
     }

@@ -12,28 +12,38 @@
 //! x  = 1                                   2                    1
 //!                                          -                    -         2 > 1: not in place
 //! ```
-ghost use Rattle.std.specs.Prelude.{◌≡◌, ◌<◌, ◌≤◌, ◌+◌, ◌^◌, ◌++◌, ℕ, List, None, Some, IsTrue, Option, IfSome, length, drop, max};
+ghost use Rattle.std.specs.Prelude.{◌≡◌, ◌<◌, ◌≤◌, ◌+◌, ◌-◌, ◌^◌, ◌++◌, ℕ, List, None, Some, IsTrue, Option, IfSome, length, drop, max};
 ghost use Rattle.hcl_scan.specs.Lexemes.{Lexeme};
 ghost use Rattle.hcl_syntax.specs.Balanced.{IsBalanced};
 ghost use Rattle.hcl_layout.specs.Print.{print};
-ghost use Rattle.hcl_layout.specs.Inner.InPlace.{EndsWell, Enters, InPlace, at_piece, since as since_of, widened as widened_of};
-ghost use Rattle.hcl_layout.specs.Inner.Left.{Ready, bytes_of, gaps_left, rest_gaps, to_print};
-ghost use Rattle.hcl_layout.specs.Inner.LineGaps.{len_with_blanks};
+ghost use Rattle.hcl_layout.specs.Inner.InPlace.{EndsWell, Enters, GoOn, InPlace, Laid, gaps_on, left_at, since as since_of};
+ghost use Rattle.hcl_layout.specs.Inner.Left.{bytes_of};
+ghost use Rattle.hcl_layout.specs.Inner.LineGaps.{ArePlain, len_with_blanks};
 ghost use Rattle.hcl_layout.specs.Inner.Simple.{IsFrom};
 ghost use Rattle.hcl_layout.specs.Inner.Stream.{HasWidth};
-ghost use Rattle.hcl_layout.specs.Inner.Survey.{IsLine};
+ghost use Rattle.hcl_layout.specs.Inner.Walks.{Stands};
 
-use crate::gap::{Cell, gap_behind};
-use crate::line::{LineFacts, line_at};
+use crate::gap::{Cell, LineGaps, gap_at, gap_behind, next_cell, plain_gap_at};
+use crate::line::line_at;
 use crate::measured::Measured;
-use crate::pieces::{Piece, Pieces, enter_surveyed, pass_piece, piece_of, start};
+use crate::pieces::{Piece, piece_of};
 use crate::print::goes_on;
+use crate::runs::{Walk, start_walk};
 
-/// The greatest widths passed of the runs at hand: before the signs, and before the comments.
+/// The runs at hand: the column of the comments, and the greatest widths passed before the signs and before the comments.
 #[derive(Clone, Copy)]
-pub struct Greatest {
+pub struct Runs {
+    pub column: Option<u64>,
     pub assign: u64,
     pub comment: u64,
+}
+
+/// A line: the numbers of its first token and of that behind it, and its gaps.
+#[derive(Clone, Copy)]
+pub struct LaidLine {
+    pub first: usize,
+    pub end: usize,
+    pub gaps: LineGaps,
 }
 
 /// The greatest width passed of a run: none yet where it has no column.
@@ -95,176 +105,205 @@ fn entered(
     Some(token.start.saturating_sub(at).saturating_sub(1) as u64)
 }
 
-/// Goes on to the next line, which begins at a byte offset of the source, unless a run ended before it in another column
-/// than its greatest width.
+/// Passes the next line, which begins at a byte offset of the source, unless a run ended before it in another column than its
+/// greatest width.
 #[inline(always)]
-fn enter(pieces: &mut Pieces, passed: &mut Greatest, tokens: &Measured<'_, '_>, at: usize) -> bool
-    requires ready { Ready tokens.now.tokens pieces.old }
-    requires done { pieces.old.next ≡ pieces.old.end }
-    requires within { pieces.old.end < length tokens.now.tokens }
-    requires small { len_with_blanks tokens.now.tokens < 2 ^ 32 }
-    requires short { length tokens.now.text < 2 ^ 32 }
-    ensures ready { IsTrue result → Ready tokens.now.tokens pieces.new }
-    ensures same { IsTrue result → pieces.new.next ≡ pieces.old.next }
-    ensures some { IsTrue result → pieces.new.next < pieces.new.end }
-    ensures step { IsTrue result → InPlace tokens.now.tokens tokens.now.text pieces.new passed.new at → InPlace tokens.now.tokens tokens.now.text pieces.old passed.old at }
-{
-    let first = pieces.next;
-    let line = line_at(tokens, first, pieces.walk.depth);
-    if !ends_well(pieces.walk.column, passed.assign, line.assign) {
-        return false;
-    }
-    if !ends_well(pieces.comment, passed.comment, line.running) {
-        return false;
-    }
-    let assign = since(pieces.walk.column, passed.assign);
-    let comment = since(pieces.comment, passed.comment);
-    pieces.walk.column = entered(tokens, pieces.walk.column, first, line.assign, at);
-    pieces.comment = entered(tokens, pieces.comment, first, line.running, at);
-    enter_surveyed(pieces, tokens, line);
-    passed.assign = widened(assign, pieces.gaps.assign);
-    passed.comment = widened(comment, pieces.gaps.comment);
-    true
-}
-
-/// The piece of a token of the line at hand, which is no cell and not the first.
-#[inline(always)]
-fn plain_piece<'s>(pieces: &Pieces, tokens: &Measured<'_, 's>, at: usize) -> Piece<'s>
-    requires ready { Ready tokens.now.tokens pieces.now }
-    requires from { pieces.now.next ≤ at }
-    requires to { at < pieces.now.stop }
-    requires small { len_with_blanks tokens.now.tokens < 2 ^ 32 }
-    ensures left { to_print tokens.now.tokens (at_piece at pieces.now) ≡ bytes_of result ++ to_print tokens.now.tokens (at_piece (at + 1) pieces.now) }
-    ensures gap { result.gap ≤ 2 ^ 34 }
-    ensures source { IsFrom tokens.now.text result.start result.text.now }
-{
-    let token = tokens.get(at);
-    let gap = gap_behind(tokens, pieces.start, at, token);
-    piece_of(token, gap)
-}
-
-/// Where the last piece before the next cell ends, if each goes on from a byte offset of the source.
-#[inline(always)]
-fn plain_end(
-    pieces: &Pieces,
+fn enter(
+    walk: &mut Walk,
+    runs: &mut Runs,
     tokens: &Measured<'_, '_>,
-    source: &[u8],
-    from: usize,
-) -> Option<usize>
-    requires ready { Ready tokens.now.tokens pieces.now }
-    requires order { pieces.now.next ≤ pieces.now.stop }
-    requires source { source.now ≡ tokens.now.text }
-    requires within { from ≤ length source.now }
+    first: usize,
+    at: usize,
+) -> Option<LaidLine>
+    requires within { first < length tokens.now.tokens }
+    requires stands { Stands tokens.now.tokens first walk.old.depth walk.old.levels }
+    requires fits { IfSome walk.old.column (λ c. c < 2 ^ 33) }
+    requires narrow { IfSome runs.old.column (λ c. c < 2 ^ 34) }
     requires small { len_with_blanks tokens.now.tokens < 2 ^ 32 }
     requires short { length tokens.now.text < 2 ^ 32 }
-    ensures within { IfSome result (λ end. end ≤ length source.now) }
-    ensures left { IfSome result (λ end. to_print tokens.now.tokens (at_piece pieces.now.stop pieces.now) ≡ drop end tokens.now.text → to_print tokens.now.tokens pieces.now ≡ drop from tokens.now.text) }
+    ensures laid { IfSome result (λ line. Laid tokens.now.tokens line) }
+    ensures first { IfSome result (λ line. line.first ≡ first) }
+    ensures stands { IfSome result (λ line. Stands tokens.now.tokens line.end walk.new.depth walk.new.levels) }
+    ensures fits { IfSome result (λ line. IfSome walk.new.column (λ c. c < 2 ^ 33)) }
+    ensures narrow { IfSome result (λ line. IfSome runs.new.column (λ c. c < 2 ^ 34)) }
+    ensures step { IfSome result (λ line. (end : ℕ) → InPlace tokens.now.tokens tokens.now.text walk.new runs.new line.end end → left_at tokens.now.tokens line (gaps_on tokens.now.tokens line.end walk.new runs.new.column) first ≡ drop at tokens.now.text → InPlace tokens.now.tokens tokens.now.text walk.old runs.old first at) }
 {
-    let stop = pieces.stop;
-    let mut at = pieces.next;
-    let mut end = from;
-    while at < stop {
-        let piece = plain_piece(pieces, tokens, at);
-        if !goes_on(source, end, piece) {
-            return None;
-        }
-        end = piece.start + piece.text.len();
-        at += 1;
+    let line = line_at(tokens, first, walk.depth);
+    if !ends_well(walk.column, runs.assign, line.assign) {
+        return None;
     }
-    Some(end)
+    if !ends_well(runs.column, runs.comment, line.running) {
+        return None;
+    }
+    let assign = since(walk.column, runs.assign);
+    let comment = since(runs.column, runs.comment);
+    walk.column = entered(tokens, walk.column, first, line.assign, at);
+    let before = entered(tokens, runs.column, first, line.running, at);
+    let (gaps, column) = walk.pass_commented(before, tokens, first, line);
+    runs.column = column;
+    runs.assign = widened(assign, gaps.assign);
+    runs.comment = widened(comment, gaps.comment);
+    Some(LaidLine {
+        first,
+        end: first + line.len,
+        gaps,
+    })
 }
 
-/// Passes the piece at hand, and gives where it ends, if it goes on from a byte offset of the source.
+/// Where a piece ends that goes on from a byte offset of the source.
 #[inline(always)]
-fn pass_in_place(
-    pieces: &mut Pieces,
-    tokens: &Measured<'_, '_>,
-    source: &[u8],
-    from: usize,
-) -> Option<usize>
-    requires ready { Ready tokens.now.tokens pieces.old }
-    requires some { pieces.old.next < pieces.old.end }
-    requires source { source.now ≡ tokens.now.text }
+fn end_of(source: &[u8], from: usize, piece: Piece<'_>) -> Option<usize>
     requires within { from ≤ length source.now }
-    requires small { len_with_blanks tokens.now.tokens < 2 ^ 32 }
-    requires short { length tokens.now.text < 2 ^ 32 }
-    ensures ready { Ready tokens.now.tokens pieces.new }
-    ensures next { pieces.new.next ≡ pieces.old.next + 1 }
-    ensures end { pieces.new.end ≡ pieces.old.end }
-    ensures walk { pieces.new.walk ≡ pieces.old.walk }
-    ensures comment { pieces.new.comment ≡ pieces.old.comment }
+    requires source { IsFrom source.now piece.start piece.text.now }
+    requires gap { piece.gap ≤ 2 ^ 34 }
+    requires small { length source.now < 2 ^ 32 }
     ensures within { IfSome result (λ end. end ≤ length source.now) }
-    ensures left { IfSome result (λ end. to_print tokens.now.tokens pieces.new ≡ drop end tokens.now.text → to_print tokens.now.tokens pieces.old ≡ drop from tokens.now.text) }
+    ensures goes { IfSome result (λ end. drop from source.now ≡ bytes_of piece.entry ++ drop end source.now) }
 {
-    let at = pieces.next;
-    let gap = pass_piece(pieces, tokens);
-    let piece = piece_of(tokens.get(at), gap);
     if !goes_on(source, from, piece) {
         return None;
     }
     Some(piece.start + piece.text.len())
 }
 
-/// Passes a piece and those behind it that are no cells, and gives where they end, if each goes on from a byte offset of
-/// the source.
+/// Where the first piece of a line ends, if it goes on from a byte offset of the source.
 #[inline(always)]
-fn pass_to_cell(
-    pieces: &mut Pieces,
-    tokens: &Measured<'_, '_>,
-    source: &[u8],
-    from: usize,
-) -> Option<usize>
-    requires ready { Ready tokens.now.tokens pieces.old }
-    requires some { pieces.old.next < pieces.old.end }
+fn first_end(tokens: &Measured<'_, '_>, source: &[u8], line: LaidLine, from: usize) -> Option<usize>
+    requires laid { Laid tokens.now.tokens line }
     requires source { source.now ≡ tokens.now.text }
     requires within { from ≤ length source.now }
     requires small { len_with_blanks tokens.now.tokens < 2 ^ 32 }
     requires short { length tokens.now.text < 2 ^ 32 }
-    ensures ready { Ready tokens.now.tokens pieces.new }
-    ensures next { pieces.old.next < pieces.new.next }
-    ensures end { pieces.new.end ≡ pieces.old.end }
-    ensures walk { pieces.new.walk ≡ pieces.old.walk }
-    ensures comment { pieces.new.comment ≡ pieces.old.comment }
     ensures within { IfSome result (λ end. end ≤ length source.now) }
-    ensures left { IfSome result (λ end. to_print tokens.now.tokens pieces.new ≡ drop end tokens.now.text → to_print tokens.now.tokens pieces.old ≡ drop from tokens.now.text) }
+    ensures left { IfSome result (λ end. GoOn tokens.now.tokens tokens.now.text line line.first from (line.first + 1) end) }
 {
-    let Some(end) = pass_in_place(pieces, tokens, source, from) else {
-        return None;
-    };
-    if pieces.stop <= pieces.next {
-        return Some(end);
+    let token = tokens.get(line.first);
+    let gap = plain_gap_at(tokens, line.gaps.level, line.first, line.first, token);
+    end_of(source, from, piece_of(token, gap))
+}
+
+/// Where a piece behind the first of a line ends that is no cell, if it goes on from a byte offset of the source.
+#[inline(always)]
+fn plain_end(
+    tokens: &Measured<'_, '_>,
+    source: &[u8],
+    line: LaidLine,
+    at: usize,
+    from: usize,
+) -> Option<usize>
+    requires laid { Laid tokens.now.tokens line }
+    requires behind { line.first < at }
+    requires there { at < line.end }
+    requires plain { ArePlain line.gaps (at - line.first) (at + 1 - line.first) }
+    requires source { source.now ≡ tokens.now.text }
+    requires within { from ≤ length source.now }
+    requires small { len_with_blanks tokens.now.tokens < 2 ^ 32 }
+    requires short { length tokens.now.text < 2 ^ 32 }
+    ensures within { IfSome result (λ end. end ≤ length source.now) }
+    ensures left { IfSome result (λ end. GoOn tokens.now.tokens tokens.now.text line at from (at + 1) end) }
+{
+    let token = tokens.get(at);
+    let gap = gap_behind(tokens, line.first, at, token);
+    end_of(source, from, piece_of(token, gap))
+}
+
+/// Where the cell at a place of a line ends, if it goes on from a byte offset of the source.
+#[inline(always)]
+fn cell_end(
+    tokens: &Measured<'_, '_>,
+    source: &[u8],
+    line: LaidLine,
+    at: usize,
+    from: usize,
+) -> Option<usize>
+    requires laid { Laid tokens.now.tokens line }
+    requires order { line.first ≤ at }
+    requires there { at < line.end }
+    requires source { source.now ≡ tokens.now.text }
+    requires within { from ≤ length source.now }
+    requires small { len_with_blanks tokens.now.tokens < 2 ^ 32 }
+    requires short { length tokens.now.text < 2 ^ 32 }
+    ensures within { IfSome result (λ end. end ≤ length source.now) }
+    ensures left { IfSome result (λ end. GoOn tokens.now.tokens tokens.now.text line at from (at + 1) end) }
+{
+    let gap = gap_at(tokens, line.gaps, line.first, at);
+    end_of(source, from, piece_of(tokens.get(at), gap))
+}
+
+/// Where the last of the pieces from one place to another ends, which are no cells, if each goes on from a byte offset of
+/// the source.
+#[inline(always)]
+fn plain_ends(
+    tokens: &Measured<'_, '_>,
+    source: &[u8],
+    line: LaidLine,
+    next: usize,
+    stop: usize,
+    from: usize,
+) -> Option<usize>
+    requires laid { Laid tokens.now.tokens line }
+    requires behind { line.first < next }
+    requires order { next ≤ stop }
+    requires there { stop ≤ line.end }
+    requires plain { ArePlain line.gaps (next - line.first) (stop - line.first) }
+    requires source { source.now ≡ tokens.now.text }
+    requires within { from ≤ length source.now }
+    requires small { len_with_blanks tokens.now.tokens < 2 ^ 32 }
+    requires short { length tokens.now.text < 2 ^ 32 }
+    ensures within { IfSome result (λ end. end ≤ length source.now) }
+    ensures left { IfSome result (λ end. GoOn tokens.now.tokens tokens.now.text line next from stop end) }
+{
+    let mut at = next;
+    let mut end = from;
+    while at < stop {
+        let Some(behind) = plain_end(tokens, source, line, at, end) else {
+            return None;
+        };
+        end = behind;
+        at += 1;
     }
-    let Some(end) = plain_end(pieces, tokens, source, end) else {
-        return None;
-    };
-    pieces.next = pieces.stop;
     Some(end)
 }
 
-/// Passes the rest of the line at hand, and gives where it ends, if each piece goes on from a byte offset of the source.
+/// The place of the next cell of a line behind a token of it, or the line's end.
 #[inline(always)]
-fn pass_rest(
-    pieces: &mut Pieces,
-    tokens: &Measured<'_, '_>,
-    source: &[u8],
-    from: usize,
-) -> Option<usize>
-    requires ready { Ready tokens.now.tokens pieces.old }
+fn cell_behind(line: LaidLine, at: usize) -> usize
+    requires order { line.first ≤ at }
+    requires there { at < line.end }
+    ensures on { at < result }
+    ensures within { result ≤ line.end }
+    ensures plain { ArePlain line.gaps (at + 1 - line.first) (result - line.first) }
+{
+    let place = next_cell(line.gaps, at - line.first, line.end - line.first);
+    (line.first + place).max(at + 1)
+}
+
+/// Where a line ends, if each of its pieces goes on from a byte offset of the source.
+#[inline(always)]
+fn line_end(tokens: &Measured<'_, '_>, source: &[u8], line: LaidLine, from: usize) -> Option<usize>
+    requires laid { Laid tokens.now.tokens line }
     requires source { source.now ≡ tokens.now.text }
     requires within { from ≤ length source.now }
     requires small { len_with_blanks tokens.now.tokens < 2 ^ 32 }
     requires short { length tokens.now.text < 2 ^ 32 }
-    ensures ready { Ready tokens.now.tokens pieces.new }
-    ensures done { IfSome result (λ end. pieces.new.next ≡ pieces.new.end) }
-    ensures end { pieces.new.end ≡ pieces.old.end }
-    ensures walk { pieces.new.walk ≡ pieces.old.walk }
-    ensures comment { pieces.new.comment ≡ pieces.old.comment }
     ensures within { IfSome result (λ end. end ≤ length source.now) }
-    ensures left { IfSome result (λ end. to_print tokens.now.tokens pieces.new ≡ drop end tokens.now.text → to_print tokens.now.tokens pieces.old ≡ drop from tokens.now.text) }
+    ensures left { IfSome result (λ end. GoOn tokens.now.tokens tokens.now.text line line.first from line.end end) }
 {
-    let mut at = from;
-    while pieces.next < pieces.end {
-        let Some(end) = pass_to_cell(pieces, tokens, source, at) else {
+    let Some(end) = first_end(tokens, source, line, from) else {
+        return None;
+    };
+    let mut cell = cell_behind(line, line.first);
+    let Some(end) = plain_ends(tokens, source, line, line.first + 1, cell, end) else {
+        return None;
+    };
+    let mut at = end;
+    while cell < line.end {
+        let Some(end) = cell_end(tokens, source, line, cell, at) else {
+            return None;
+        };
+        let next = cell + 1;
+        cell = cell_behind(line, cell);
+        let Some(end) = plain_ends(tokens, source, line, next, cell, end) else {
             return None;
         };
         at = end;
@@ -272,64 +311,74 @@ fn pass_rest(
     Some(at)
 }
 
-/// Passes the next line, and gives where it ends, if each of its pieces goes on from a byte offset of the source and no run
-/// ended before it in another column than its greatest width.
+/// Passes the next line, and gives the number of the token behind it and where it ends, if each of its pieces goes on from a
+/// byte offset of the source and no run ended before it in another column than its greatest width.
 #[inline(always)]
 fn pass_line(
-    pieces: &mut Pieces,
-    passed: &mut Greatest,
+    walk: &mut Walk,
+    runs: &mut Runs,
     tokens: &Measured<'_, '_>,
     source: &[u8],
+    first: usize,
     from: usize,
-) -> Option<usize>
-    requires ready { Ready tokens.now.tokens pieces.old }
-    requires done { pieces.old.next ≡ pieces.old.end }
-    requires some { pieces.old.end < length tokens.now.tokens }
+) -> Option<(usize, usize)>
+    requires some { first < length tokens.now.tokens }
+    requires stands { Stands tokens.now.tokens first walk.old.depth walk.old.levels }
+    requires fits { IfSome walk.old.column (λ c. c < 2 ^ 33) }
+    requires narrow { IfSome runs.old.column (λ c. c < 2 ^ 34) }
     requires source { source.now ≡ tokens.now.text }
     requires within { from ≤ length source.now }
     requires small { len_with_blanks tokens.now.tokens < 2 ^ 32 }
     requires short { length tokens.now.text < 2 ^ 32 }
-    ensures ready { IfSome result (λ end. Ready tokens.now.tokens pieces.new) }
-    ensures done { IfSome result (λ end. pieces.new.next ≡ pieces.new.end) }
-    ensures on { IfSome result (λ end. pieces.old.end < pieces.new.end) }
-    ensures within { IfSome result (λ end. end ≤ length source.now) }
-    ensures step { IfSome result (λ end. InPlace tokens.now.tokens tokens.now.text pieces.new passed.new end → InPlace tokens.now.tokens tokens.now.text pieces.old passed.old from) }
+    ensures on { IfSome result (λ p. first < p.0) }
+    ensures tokens { IfSome result (λ p. p.0 ≤ length tokens.now.tokens) }
+    ensures stands { IfSome result (λ p. Stands tokens.now.tokens p.0 walk.new.depth walk.new.levels) }
+    ensures fits { IfSome result (λ p. IfSome walk.new.column (λ c. c < 2 ^ 33)) }
+    ensures narrow { IfSome result (λ p. IfSome runs.new.column (λ c. c < 2 ^ 34)) }
+    ensures within { IfSome result (λ p. p.1 ≤ length source.now) }
+    ensures step { IfSome result (λ p. InPlace tokens.now.tokens tokens.now.text walk.new runs.new p.0 p.1 → InPlace tokens.now.tokens tokens.now.text walk.old runs.old first from) }
 {
-    if !enter(pieces, passed, tokens, from) {
+    let Some(line) = enter(walk, runs, tokens, first, from) else {
         return None;
-    }
-    pass_rest(pieces, tokens, source, from)
+    };
+    let Some(end) = line_end(tokens, source, line, from) else {
+        return None;
+    };
+    Some((line.end, end))
 }
 
 /// Whether both runs that end with the text have a width as great as their columns.
 #[inline(always)]
-fn end_well(pieces: &Pieces, passed: Greatest) -> bool
-    ensures assign { IsTrue result → EndsWell {A = ℕ} pieces.now.walk.column passed.assign None }
-    ensures comment { IsTrue result → EndsWell {A = ℕ} pieces.now.comment passed.comment None }
+fn end_well(column: Option<u64>, runs: Runs) -> bool
+    ensures assign { IsTrue result → EndsWell {A = ℕ} column runs.assign None }
+    ensures comment { IsTrue result → EndsWell {A = ℕ} runs.column runs.comment None }
 {
-    ends_well(pieces.walk.column, passed.assign, None)
-        && ends_well(pieces.comment, passed.comment, None)
+    ends_well(column, runs.assign, None) && ends_well(runs.column, runs.comment, None)
 }
 
 /// Whether the source was found to be its print, with the columns of its runs taken from the source. Where it wasn't, it
 /// may yet be, as by a run whose lines aren't ASCII.
+#[inline(never)]
 pub fn stands_in_place(tokens: &Measured<'_, '_>) -> bool
     requires balanced { IsBalanced tokens.now.tokens }
     ensures { IsTrue result → print tokens.now.tokens ≡ tokens.now.text }
 {
     let source = tokens.source();
     let count = tokens.len();
-    let mut pieces = start();
-    let mut passed = Greatest {
+    let mut walk = start_walk();
+    let mut runs = Runs {
+        column: None,
         assign: 0,
         comment: 0,
     };
+    let mut next = 0;
     let mut at = 0;
-    while pieces.end < count {
-        let Some(end) = pass_line(&mut pieces, &mut passed, tokens, source, at) else {
+    while next < count {
+        let Some((first, end)) = pass_line(&mut walk, &mut runs, tokens, source, next, at) else {
             return false;
         };
+        next = first;
         at = end;
     }
-    at == source.len() && end_well(&pieces, passed)
+    at == source.len() && end_well(walk.column, runs)
 }

@@ -9,19 +9,16 @@
 //!
 //! The line at hand has been surveyed, so its level and the gaps of its cells are known; the other gaps come from the table
 //! of spacing, token by token. At the end of the line the next one is surveyed.
-ghost use Rattle.std.specs.Prelude.{◌≡◌, ◌<◌, ◌≤◌, ◌+◌, ◌*◌, ◌^◌, ◌++◌, ◌∷◌, [], List, Some, drop, length, replicate, slice_get, IfSome, MatchOption};
+ghost use Rattle.std.specs.Prelude.{◌≡◌, ◌<◌, ◌≤◌, ◌+◌, ◌*◌, ◌^◌, ◌++◌, ◌∷◌, [], List, Some, length, replicate, slice_get, IfSome, MatchOption};
 ghost use Rattle.hcl_scan.specs.Lexemes.{Lexeme};
-ghost use Rattle.hcl_layout.specs.Lines.{lines};
-ghost use Rattle.hcl_layout.specs.Inner.Depths.{BalancedFrom, depth_after, levels_behind};
+ghost use Rattle.hcl_layout.specs.Inner.Depths.{BalancedFrom};
 ghost use Rattle.hcl_layout.specs.Inner.Left.{Ready, bytes_of, gaps_left, rest_gaps, to_print};
 ghost use Rattle.hcl_layout.specs.Inner.LineGaps.{len_with_blanks};
 ghost use Rattle.hcl_layout.specs.Inner.Simple.{IsFrom};
-ghost use Rattle.hcl_layout.specs.Inner.Stream.{HasWidth, assign_column, assign_width, comment_column, comment_width};
-ghost use Rattle.hcl_layout.specs.Inner.Survey.{IsLine, text_at};
 ghost use Rattle.hcl_layout.specs.Print.{print};
 
 use crate::gap::{LineGaps, gap_at, gap_behind, next_cell, plain_line};
-use crate::line::{LineFacts, line_at};
+use crate::line::line_at;
 use crate::measured::Measured;
 use crate::runs::{Walk, start_walk};
 use hcl_scan::Token;
@@ -53,7 +50,6 @@ pub fn start() -> Pieces
     ensures ready { (ts : List Lexeme) → BalancedFrom 0 ts → Ready ts result }
     ensures all { (ts : List Lexeme) → BalancedFrom 0 ts → to_print ts result ≡ print ts }
     ensures first { result.next ≡ 0 }
-    ensures done { result.next ≡ result.end }
 {
     Pieces {
         next: 0,
@@ -64,33 +60,6 @@ pub fn start() -> Pieces
         walk: start_walk(),
         comment: None,
     }
-}
-
-/// Goes on to the next line, which is surveyed.
-#[inline(always)]
-pub fn enter_surveyed(pieces: &mut Pieces, tokens: &Measured<'_, '_>, line: LineFacts)
-    requires ready { Ready tokens.now.tokens pieces.old }
-    requires done { pieces.old.next ≡ pieces.old.end }
-    requires line { IsLine tokens.now.tokens pieces.old.end pieces.old.walk.depth line }
-    requires small { len_with_blanks tokens.now.tokens < 2 ^ 32 }
-    ensures ready { Ready tokens.now.tokens pieces.new }
-    ensures left { gaps_left tokens.now.tokens pieces.new ≡ rest_gaps tokens.now.tokens pieces.old }
-    ensures same { pieces.new.next ≡ pieces.old.next }
-    ensures end { pieces.new.end ≡ pieces.old.end + line.len }
-    ensures depth { pieces.new.walk.depth ≡ depth_after pieces.old.walk.depth (text_at tokens.now.tokens pieces.old.end line) }
-    ensures levels { pieces.new.walk.levels ≡ levels_behind pieces.old.walk.depth (depth_after pieces.old.walk.depth (text_at tokens.now.tokens pieces.old.end line)) pieces.old.walk.levels }
-    ensures column { pieces.new.walk.column ≡ assign_column pieces.old.walk.depth pieces.old.walk.levels pieces.old.walk.column (lines (drop pieces.old.end tokens.now.tokens)) }
-    ensures comment { pieces.new.comment ≡ comment_column pieces.old.walk.depth pieces.old.walk.levels pieces.old.walk.column pieces.old.comment (lines (drop pieces.old.end tokens.now.tokens)) }
-    ensures before_sign { HasWidth pieces.new.gaps.assign (assign_width pieces.old.walk.depth pieces.old.walk.levels (text_at tokens.now.tokens pieces.old.end line)) }
-    ensures before_comment { HasWidth pieces.new.gaps.comment (comment_width pieces.old.walk.depth pieces.old.walk.levels pieces.old.walk.column (text_at tokens.now.tokens pieces.old.end line) (lines (drop pieces.old.end tokens.now.tokens))) }
-{
-    let at = pieces.next;
-    let (gaps, comment) = pieces.walk.pass_commented(pieces.comment, tokens, at, line);
-    pieces.gaps = gaps;
-    pieces.start = at;
-    pieces.stop = at;
-    pieces.end = at + line.len;
-    pieces.comment = comment;
 }
 
 /// Goes on to the next line.
@@ -105,22 +74,25 @@ fn enter_line(pieces: &mut Pieces, tokens: &Measured<'_, '_>)
     ensures same { pieces.new.next ≡ pieces.old.next }
     ensures some { pieces.new.next < pieces.new.end }
 {
-    let line = line_at(tokens, pieces.next, pieces.walk.depth);
-    enter_surveyed(pieces, tokens, line);
+    let at = pieces.next;
+    let line = line_at(tokens, at, pieces.walk.depth);
+    let (gaps, comment) = pieces.walk.pass_commented(pieces.comment, tokens, at, line);
+    pieces.gaps = gaps;
+    pieces.start = at;
+    pieces.stop = at;
+    pieces.end = at + line.len;
+    pieces.comment = comment;
 }
 
 /// Passes the piece at hand, which may be a cell or the first of its line, and gives its gap.
 #[inline(always)]
-pub fn pass_piece(pieces: &mut Pieces, tokens: &Measured<'_, '_>) -> u64
+fn pass_piece(pieces: &mut Pieces, tokens: &Measured<'_, '_>) -> u64
     requires ready { Ready tokens.now.tokens pieces.old }
     requires some { pieces.old.next < pieces.old.end }
     requires small { len_with_blanks tokens.now.tokens < 2 ^ 32 }
     ensures ready { Ready tokens.now.tokens pieces.new }
     ensures left { (t : Lexeme) → slice_get tokens.now.tokens pieces.old.next ≡ Some t → to_print tokens.now.tokens pieces.old ≡ (replicate result 32 ++ t.text) ++ to_print tokens.now.tokens pieces.new }
     ensures next { pieces.new.next ≡ pieces.old.next + 1 }
-    ensures end { pieces.new.end ≡ pieces.old.end }
-    ensures walk { pieces.new.walk ≡ pieces.old.walk }
-    ensures comment { pieces.new.comment ≡ pieces.old.comment }
     ensures gap { result ≤ 2 ^ 34 }
 {
     let (start, at) = (pieces.start, pieces.next);

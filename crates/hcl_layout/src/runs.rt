@@ -154,6 +154,7 @@ impl Walk {
         ensures order { (i : ℕ) → trailing_comment (text_at tokens.now.tokens at line) ≡ Some i → known_place result.assign ≤ i }
         ensures narrow { (k : ℕ) → width_of k (gaps_in result (text_at tokens.now.tokens at line)) (text_at tokens.now.tokens at line) < 2 ^ 34 }
         ensures before_sign { HasWidth result.assign (assign_width self.old.depth self.old.levels (text_at tokens.now.tokens at line)) }
+        ensures sign_behind { IfSome result.assign (λ c. 0 < c.place) }
         ensures depth { self.new.depth ≡ depth_after self.old.depth (text_at tokens.now.tokens at line) }
         ensures levels { self.new.levels ≡ levels_behind self.old.depth (depth_after self.old.depth (text_at tokens.now.tokens at line)) self.old.levels }
         ensures column { self.new.column ≡ assign_column self.old.depth self.old.levels self.old.column (lines (drop at tokens.now.tokens)) }
@@ -264,6 +265,7 @@ fn commented_line(
     ensures assign { result.0.assign ≡ gaps.assign }
     ensures comment { IfSome result.0.comment (λ c. c.gap ≤ 2 ^ 34) }
     ensures before_comment { HasWidth result.0.comment (option_map (λ i. width_of i (gaps_in gaps (text_at tokens.now.tokens at line)) (text_at tokens.now.tokens at line)) (running_comment (text_at tokens.now.tokens at line))) }
+    ensures comment_behind { IfSome result.0.comment (λ c. 0 < c.place) }
     ensures fits { IfSome result.1 (λ c. c < 2 ^ 34) }
 {
     let Some(place) = line.comment else {
@@ -303,6 +305,8 @@ impl Walk {
         ensures narrow { IfSome result.1 (λ c. c < 2 ^ 34) }
         ensures before_sign { HasWidth result.0.assign (assign_width self.old.depth self.old.levels (text_at tokens.now.tokens at line)) }
         ensures before_comment { HasWidth result.0.comment (comment_width self.old.depth self.old.levels self.old.column (text_at tokens.now.tokens at line) (lines (drop at tokens.now.tokens))) }
+        ensures sign_behind { IfSome result.0.assign (λ c. 0 < c.place) }
+        ensures comment_behind { IfSome result.0.comment (λ c. 0 < c.place) }
         ensures depth { self.new.depth ≡ depth_after self.old.depth (text_at tokens.now.tokens at line) }
         ensures levels { self.new.levels ≡ levels_behind self.old.depth (depth_after self.old.depth (text_at tokens.now.tokens at line)) self.old.levels }
         ensures column { self.new.column ≡ assign_column self.old.depth self.old.levels self.old.column (lines (drop at tokens.now.tokens)) }

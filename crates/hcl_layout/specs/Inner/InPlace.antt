@@ -1,12 +1,19 @@
--- Reading the pieces where each stands as in the source, with the columns of runs taken from there.
-use Rattle.std.specs.Prelude.{◌≡◌, ℕ, List, Option, Some, None, IfSome, drop, max}
+-- Reading the pieces line by line where each stands as in the source, with the columns of runs taken from there.
+use Rattle.std.specs.Prelude.{◌≡◌, ◌-◌, ◌<◌, ◌≤◌, ◌^◌, ◌++◌, ℕ, List, Option, Some, None, IfSome, drop, length, max, take}
+use Rattle.std.specs.List.{flat_map}
 use Rattle.hcl_scan.specs.Lexemes.{Lexeme}
+use Rattle.hcl_syntax.specs.Balanced.{max_open}
 use Rattle.hcl_layout.specs.Columns.{widest}
 use Rattle.hcl_layout.specs.Lines.{lines}
-use Rattle.hcl_layout.specs.Inner.Left.{to_print}
-use Rattle.hcl_layout.specs.Inner.Stream.{assign_widths, comment_widths}
-use Rattle.hcl_layout.specs.declared.pieces.Pieces.{Pieces}
-use Rattle.hcl_layout.specs.declared.in_place.Greatest.{Greatest}
+use Rattle.hcl_layout.specs.Print.{printed}
+use Rattle.hcl_layout.specs.Inner.Left.{token_before}
+use Rattle.hcl_layout.specs.Inner.LineGaps.{ArePlain, gaps_from}
+use Rattle.hcl_layout.specs.Inner.Stream.{assign_widths, comment_widths, commented}
+use Rattle.hcl_layout.specs.declared.in_place.LaidLine.{LaidLine}
+use Rattle.hcl_layout.specs.declared.in_place.Runs.{Runs}
+use Rattle.hcl_layout.specs.declared.runs.Walk.{Walk}
+
+-- ---- one run
 
 -- the column of a run is the greatest of its widths: of those that were passed, and of those from the next line on
 abbrev pub IsColumn : Option ℕ → ℕ → List (Option ℕ) → Type 0
@@ -17,11 +24,6 @@ abbrev pub since : Option ℕ → ℕ → ℕ
 since None greatest = 0
 since (Some column) greatest = greatest
 
--- with the width before a cell
-abbrev pub widened : ℕ → Option ℕ → ℕ
-widened greatest None = greatest
-widened greatest (Some width) = max greatest width
-
 -- a line is entered with the column of the line before, and where a run begins with a column or with none
 abbrev pub Enters : {A : Type 0} → Option ℕ → Option A → Option ℕ → Type 0
 Enters column cell entered = IfSome column (λ c. entered ≡ Some c) × (cell ≡ None → entered ≡ column)
@@ -30,12 +32,32 @@ Enters column cell entered = IfSome column (λ c. entered ≡ Some c) × (cell �
 abbrev pub EndsWell : {A : Type 0} → Option ℕ → ℕ → Option A → Type 0
 EndsWell column greatest cell = cell ≡ None → IfSome column (λ c. c ≡ greatest)
 
--- the same with the piece at a place of the line at hand as the next
-abbrev pub at_piece : ℕ → Pieces → Pieces
-at_piece n s = record { next = n; stop = s.stop; start = s.start; end = s.end; gaps = s.gaps; walk = s.walk; comment = s.comment }
+-- ---- between two lines
+
+-- the gaps of the lines from a place on
+abbrev pub gaps_on : List Lexeme → ℕ → Walk → Option ℕ → List ℕ
+gaps_on ts first w comment = flat_map (λ g. g) (commented w.depth w.levels w.column comment (lines (drop first ts)))
 
 -- what is left to print is what is left of the source, and the columns of both runs are right
-pub record InPlace (ts : List Lexeme) (source : List ℕ) (s : Pieces) (passed : Greatest) (at : ℕ) : Type 0 where
-  pub assign : IsColumn s.walk.column passed.assign (assign_widths s.walk.depth s.walk.levels (lines (drop s.end ts)))
-  pub comment : IsColumn s.comment passed.comment (comment_widths s.walk.depth s.walk.levels s.walk.column (lines (drop s.end ts)))
-  pub left : to_print ts s ≡ drop at source
+pub record InPlace (ts : List Lexeme) (source : List ℕ) (w : Walk) (runs : Runs) (first at : ℕ) : Type 0 where
+  pub assign : IsColumn w.column runs.assign (assign_widths w.depth w.levels (lines (drop first ts)))
+  pub comment : IsColumn runs.column runs.comment (comment_widths w.depth w.levels w.column (lines (drop first ts)))
+  pub left : printed (gaps_on ts first w runs.column) (drop first ts) ≡ drop at source
+
+-- ---- in a line
+
+pub record Laid (ts : List Lexeme) (l : LaidLine) : Type 0 where
+  pub some : l.first < l.end
+  pub within : l.end ≤ length ts
+  pub level : l.gaps.level ≤ max_open
+  pub front : ArePlain l.gaps 0 1
+  pub assign : IfSome l.gaps.assign (λ c. c.gap ≤ 2 ^ 33)
+  pub comment : IfSome l.gaps.comment (λ c. c.gap ≤ 2 ^ 34)
+
+-- what is left to print from a token of the line on, by the gaps of the lines behind it
+abbrev pub left_at : List Lexeme → LaidLine → List ℕ → ℕ → List ℕ
+left_at ts l rest n = printed (gaps_from l.gaps (n - l.first) (token_before ts l.first (n - 1)) (token_before ts l.first n) (take (l.end - n) (drop n ts)) ++ rest) (drop n ts)
+
+-- from a token and a place to others the source goes on as the print
+abbrev pub GoOn : List Lexeme → List ℕ → LaidLine → ℕ → ℕ → ℕ → ℕ → Type 0
+GoOn ts source l n at n' at' = (rest : List ℕ) → left_at ts l rest n' ≡ drop at' source → left_at ts l rest n ≡ drop at source

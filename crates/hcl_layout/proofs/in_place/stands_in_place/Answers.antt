@@ -1,25 +1,28 @@
-use Rattle.std.proofs.Common.{◌≤◌, ◌∙◌, ap, arith, length, sym}
+use Rattle.std.proofs.Common.{None, rules, ◌≤◌, ap, arith, length, refl}
 use Rattle.hcl_layout.specs.Inner.Depths.{BalancedFrom}
 use Rattle.hcl_layout.proofs.BalanceLemmas.{balanced_from}
-use Rattle.hcl_layout.proofs.InPlaceLemmas.{all_passed}
+use Rattle.hcl_layout.proofs.InPlaceLemmas.{all_passed, begun}
 use Rattle.hcl_layout.proofs.in_place.stands_in_place.Goals as goal
 
-pub loop-pieces-init : goal.loop-pieces-init
-loop-pieces-init c =
+pub loop-next-init : goal.loop-next-init
+loop-next-init c =
     let ts = c.args.tokens.now.tokens in
+    let w = c.start_walk-walk in
     let balanced : BalancedFrom 0 ts = balanced_from ts c.requires.balanced in
     record {
-      ready = c.start-pieces.ensures.ready ts balanced;
-      done = c.start-pieces.ensures.done;
+      stands = search rules;
+      fits = search rules;
+      narrow = tt;
+      within = omega arith;
       inside = omega arith;
-      step = λ h. sym (c.start-pieces.ensures.all ts balanced) ∙ h.left;
+      step = begun ts c.args.tokens.now.text w.result (record { column = None; assign = 0; comment = 0 }) balanced w.ensures.depth w.ensures.levels w.ensures.column refl;
     }
 
 pub returns-then-at-source : goal.returns-then-at-source
 returns-then-at-source c t =
-    let l = c.loop-pieces in
+    let l = c.loop-next in
     let ts = c.args.tokens.now.tokens in
     let text = c.args.tokens.now.text in
-    let passed : length ts ≤ l.pieces.end = omega (arith, c.loop-pieces-test.false, c.len-count.ensures) in
+    let passed : length ts ≤ l.next = omega (arith, c.loop-next-test.false, c.len-count.ensures) in
     l.invariant.step
-    (all_passed ts text l.pieces l.passed l.at passed l.invariant.done (omega (arith, c.if-at-source.true, ap length c.source-source.ensures.text)) (c.end_well.ensures.assign t) (c.end_well.ensures.comment t))
+    (all_passed ts text l.walk l.runs l.next l.at passed (omega (arith, c.if-at-source.true, ap length c.source-source.ensures.text)) (c.end_well.ensures.assign t) (c.end_well.ensures.comment t))

@@ -1,16 +1,19 @@
-use Rattle.std.proofs.Common.{◌≡◌, ◌≤◌, ◌-◌, length}
+use Rattle.std.proofs.Common.{◌≡◌, ◌≤◌, ◌<◌, ◌-◌, ◌^◌, length}
+use Rattle.std.specs.Prelude.{IfSome}
 use Rattle.hcl_layout.specs.Inner.InPlace.{InPlace}
-use Rattle.hcl_layout.specs.Inner.Left.{Ready}
+use Rattle.hcl_layout.specs.Inner.Walks.{Stands}
 use Rattle.hcl_layout.specs.Print.{print}
 use Rattle.hcl_layout.proofs.in_place.stands_in_place.Given as goal
 
-abbrev pub invariant-loop-pieces : goal.invariant-loop-pieces
-invariant-loop-pieces l = record {
-  ready : Ready l.tokens.tokens l.pieces;
-  done : l.pieces.next ≡ l.pieces.end;
+abbrev pub invariant-loop-next : goal.invariant-loop-next
+invariant-loop-next l = record {
+  stands : Stands l.tokens.tokens l.next l.walk.depth l.walk.levels;
+  fits : IfSome l.walk.column (λ c. c < 2 ^ 33);
+  narrow : IfSome l.runs.column (λ c. c < 2 ^ 34);
+  within : l.next ≤ length l.tokens.tokens;
   inside : l.at ≤ length l.source;
-  step : InPlace l.tokens.tokens l.tokens.text l.pieces l.passed l.at → print l.tokens.tokens ≡ l.tokens.text;
+  step : InPlace l.tokens.tokens l.tokens.text l.walk l.runs l.next l.at → print l.tokens.tokens ≡ l.tokens.text;
 }
 
-abbrev pub decreases-loop-pieces : goal.decreases-loop-pieces
-decreases-loop-pieces l = l.count - l.pieces.end
+abbrev pub decreases-loop-next : goal.decreases-loop-next
+decreases-loop-next l = l.count - l.next

@@ -7,7 +7,7 @@ use Rattle.hcl_layout.specs.Inner.LineGaps.{IsKnown, gaps_in, known_place}
 use Rattle.hcl_layout.specs.Lines.{Line, lines}
 use Rattle.hcl_layout.specs.Inner.Stream.{assign_column, plain}
 use Rattle.hcl_layout.specs.declared.gap.LineGaps.{LineGaps}
-use Rattle.hcl_layout.proofs.RunLemmas.{aligned_none, aligned_some, assign_before, assign_there, assigned_in, known_set, length_len_with_blanks, narrow_plain, narrow_set, plain_in}
+use Rattle.hcl_layout.proofs.RunLemmas.{aligned_none, aligned_some, assign_before, assign_behind, assign_there, assigned_in, known_set, length_len_with_blanks, narrow_plain, narrow_set, plain_in}
 use Rattle.hcl_layout.proofs.runs.Walk.pass.Goals as goal
 
 pub returns-in_default-clause-gaps : goal.returns-in_default-clause-gaps
@@ -63,3 +63,6 @@ returns-clause-known c =
 
 pub returns-clause-order : goal.returns-clause-order
 returns-clause-order c i e = assign_before (take c.args.line.len (drop c.args.at c.args.tokens.now.tokens)) c.in-Some.place i (sym c.requires.line.assign ∙ c.in-Some.is) e
+
+pub returns-clause-sign_behind : goal.returns-clause-sign_behind
+returns-clause-sign_behind c = assign_behind (take c.args.line.len (drop c.args.at c.args.tokens.now.tokens)) c.in-Some.place (sym c.requires.line.assign ∙ c.in-Some.is)
