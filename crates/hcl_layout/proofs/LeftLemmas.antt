@@ -120,6 +120,23 @@ piece_left ts next start end set rest t gap e lt le g =
     ∙ ap (λ k. (replicate gap 32 ++ t.text) ++ printed (gaps_from set k s (Some t) (take (end - (next + 1)) left) ++ rest) left) place
     ∙ ap₂ (λ (n : ℕ) (u : Option Lexeme). (replicate gap 32 ++ t.text) ++ printed (gaps_from set ((next + 1) - start) (token_before ts start n) u (take (end - (next + 1)) left) ++ rest) left) last (sym (printed_behind ts start next t e le))
 
+behind_front : (o : Option Cell) (k gap : ℕ) → IfSome o (λ c. 0 < c.place) → k ≡ 0 → cell_gap o k gap ≡ gap
+behind_front None k gap p e = refl
+behind_front (Some c) k gap p e = rw (apart c.place k (omega (arith, p, e))) refl
+  where
+    apart : (a b : ℕ) → b < a → (a == b) ≡ false
+    apart a b h = grind (arith, nat_tests)
+
+-- the gap of the first piece of a line, where no cell stands
+pub front_gap : (set : LineGaps) (ts : List Lexeme) (start next : ℕ) (t : Lexeme) → start ≡ next → IfSome set.assign (λ c. 0 < c.place) → IfSome set.comment (λ c. 0 < c.place)
+    → indent set.level t ≡ gap_of set (next - start) (token_before ts start (next - 1)) (token_before ts start next) t
+front_gap set ts start next t e p q =
+    let b = token_before ts start (next - 1) in
+    let k : ℕ = next - start in
+    let front : k ≡ 0 = omega (arith, e) in
+    let plain : ℕ = plain_gap set.level b (token_before ts start next) t in
+    sym (behind_front set.comment k (cell_gap set.assign k plain) q front ∙ behind_front set.assign k plain p front ∙ ap (λ s. plain_gap set.level b s t) (none_behind ts start next (omega (arith, e))))
+
 plain_small : (level : ℕ) (b s : Option Lexeme) (t : Lexeme) → level ≤ max_open → plain_gap level b s t ≤ 2 * max_open
 plain_small level b None t low = omega (arith, indented level t)
 plain_small level b (Some s) t low = omega (arith, blank b s t)

@@ -83,6 +83,15 @@ pub assign_before : (line : Line) (i j : ℕ) → assign_cell line ≡ Some i �
 assign_before [] i j e f = let h : None ≡ Some i = multiline_some (has_multiline []) None i e in cc
 assign_before (t ∷ line) i j e f = omega (arith, (place_within is_assignment 1 (until is_trailing line) i (assign_sign t line i e)).1, until_found is_trailing 1 line j f)
 
+-- no cell stands at the line's front
+pub assign_behind : (line : Line) (i : ℕ) → assign_cell line ≡ Some i → 0 < i
+assign_behind [] i e = let h : None ≡ Some i = multiline_some (has_multiline []) None i e in cc
+assign_behind (t ∷ line) i e = omega (arith, (place_within is_assignment 1 (until is_trailing line) i (assign_sign t line i e)).0)
+
+pub comment_behind : (line : Line) (i : ℕ) → trailing_comment line ≡ Some i → 0 < i
+comment_behind [] i e = cc
+comment_behind (t ∷ line) i e = omega (arith, (place_within is_trailing 1 line i e).0)
+
 line_short : (ts : List Lexeme) (at n i : ℕ) → i < length (take n (drop at ts)) → i < n
 line_short ts at n i lt = omega (arith, length-take n (drop at ts))
 
@@ -96,15 +105,6 @@ pub running_there : (ts : List Lexeme) (at n i : ℕ) (cell : Option ℕ) → ce
 running_there ts at n i cell e f =
     let comment : trailing_comment (take n (drop at ts)) ≡ Some i = multiline_some (has_multiline (take n (drop at ts))) (trailing_comment (take n (drop at ts))) i (sym (f ∙ e)) in
     omega (arith, line_short ts at n i (comment_within (take n (drop at ts)) i comment))
-
--- no cell begins a line
-pub assign_behind : (line : Line) (i : ℕ) → assign_cell line ≡ Some i → 0 < i
-assign_behind [] i e = let h : None ≡ Some i = multiline_some (has_multiline []) None i e in cc
-assign_behind (t ∷ line) i e = omega (arith, (place_within is_assignment 1 (until is_trailing line) i (assign_sign t line i e)).0)
-
-pub comment_behind : (line : Line) (i : ℕ) → trailing_comment line ≡ Some i → 0 < i
-comment_behind [] i e = cc
-comment_behind (t ∷ line) i e = omega (arith, (place_within is_trailing 1 line i e).0)
 
 -- so the token of a cell is there
 pub assign_inside : (ts : List Lexeme) (at n i : ℕ) (cell : Option ℕ) → at + n ≤ length ts → cell ≡ assign_cell (take n (drop at ts)) → cell ≡ Some i → at + i < length ts

@@ -50,7 +50,7 @@ pub fn with_comment(gaps: LineGaps, place: usize, width: u64, gap: u64) -> LineG
 }
 
 #[inline(always)]
-fn indent(level: u32, token: Token<'_>) -> u64
+pub fn indent(level: u32, token: Token<'_>) -> u64
     requires { level ≤ max_open }
     ensures { result ≡ indent_of level (lexeme token.entry) }
 {
@@ -180,6 +180,27 @@ fn before_cell(cell: Option<Cell>, place: usize, end: usize) -> usize
         return end;
     }
     cell.place.min(end)
+}
+
+/// Up to the cell, or else the end.
+#[inline(always)]
+fn up_to_cell(cell: Option<Cell>, end: usize) -> usize
+    ensures within { result ≤ end }
+    ensures clear { (k gap : ℕ) → k < result → cell_gap_of cell k gap ≡ gap }
+{
+    let Some(cell) = cell else {
+        return end;
+    };
+    cell.place.min(end)
+}
+
+/// The place of the first cell of a line of that length, or else the line's end.
+#[inline(always)]
+pub fn first_cell(gaps: LineGaps, len: usize) -> usize
+    ensures within { result ≤ len }
+    ensures clear { ArePlain gaps 0 result }
+{
+    up_to_cell(gaps.comment, up_to_cell(gaps.assign, len))
 }
 
 /// The place of the first cell behind another place of a line of that length, or else the line's end.

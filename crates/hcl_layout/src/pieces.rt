@@ -17,7 +17,7 @@ ghost use Rattle.hcl_layout.specs.Inner.LineGaps.{len_with_blanks};
 ghost use Rattle.hcl_layout.specs.Inner.Simple.{IsFrom};
 ghost use Rattle.hcl_layout.specs.Print.{print};
 
-use crate::gap::{LineGaps, gap_at, gap_behind, next_cell, plain_line};
+use crate::gap::{LineGaps, first_cell, gap_at, gap_behind, indent, next_cell, plain_line};
 use crate::line::line_at;
 use crate::measured::Measured;
 use crate::runs::{Walk, start_walk};
@@ -73,6 +73,9 @@ fn enter_line(pieces: &mut Pieces, tokens: &Measured<'_, '_>)
     ensures left { gaps_left tokens.now.tokens pieces.new ≡ rest_gaps tokens.now.tokens pieces.old }
     ensures same { pieces.new.next ≡ pieces.old.next }
     ensures some { pieces.new.next < pieces.new.end }
+    ensures front { pieces.new.start ≡ pieces.new.next }
+    ensures assign { IfSome pieces.new.gaps.assign (λ c. 0 < c.place) }
+    ensures comment { IfSome pieces.new.gaps.comment (λ c. 0 < c.place) }
 {
     let at = pieces.next;
     let line = line_at(tokens, at, pieces.walk.depth);
@@ -84,7 +87,28 @@ fn enter_line(pieces: &mut Pieces, tokens: &Measured<'_, '_>)
     pieces.comment = comment;
 }
 
-/// Passes the piece at hand, which may be a cell or the first of its line, and gives its gap.
+/// Passes the first piece of the line at hand, which is no cell, and gives its gap.
+#[inline(always)]
+fn pass_front(pieces: &mut Pieces, tokens: &Measured<'_, '_>) -> u64
+    requires ready { Ready tokens.now.tokens pieces.old }
+    requires some { pieces.old.next < pieces.old.end }
+    requires front { pieces.old.start ≡ pieces.old.next }
+    requires assign { IfSome pieces.old.gaps.assign (λ c. 0 < c.place) }
+    requires comment { IfSome pieces.old.gaps.comment (λ c. 0 < c.place) }
+    requires small { len_with_blanks tokens.now.tokens < 2 ^ 32 }
+    ensures ready { Ready tokens.now.tokens pieces.new }
+    ensures left { (t : Lexeme) → slice_get tokens.now.tokens pieces.old.next ≡ Some t → to_print tokens.now.tokens pieces.old ≡ (replicate result 32 ++ t.text) ++ to_print tokens.now.tokens pieces.new }
+    ensures next { pieces.new.next ≡ pieces.old.next + 1 }
+    ensures gap { result ≤ 2 ^ 34 }
+{
+    let at = pieces.next;
+    let gap = indent(pieces.gaps.level, tokens.get(at));
+    pieces.next = at + 1;
+    pieces.stop = at + first_cell(pieces.gaps, pieces.end - at);
+    gap
+}
+
+/// Passes the piece at hand, which may be a cell, and gives its gap.
 #[inline(always)]
 fn pass_piece(pieces: &mut Pieces, tokens: &Measured<'_, '_>) -> u64
     requires ready { Ready tokens.now.tokens pieces.old }
@@ -129,7 +153,7 @@ fn pass_first(pieces: &mut Pieces, tokens: &Measured<'_, '_>) -> u64
     ensures gap { result ≤ 2 ^ 34 }
 {
     enter_line(pieces, tokens);
-    pass_piece(pieces, tokens)
+    pass_front(pieces, tokens)
 }
 
 /// The piece of a token that was passed. The calls that pass one give its gap alone, since they would give a piece by way
