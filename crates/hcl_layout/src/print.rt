@@ -122,6 +122,7 @@ fn piece_end(bytes: &[u8], at: usize, piece: Piece<'_>) -> Option<usize>
 }
 
 /// Whether the print is the source, by comparing them piece by piece up to the first difference.
+#[inline(never)]
 fn agrees(tokens: &Measured<'_, '_>) -> bool
     requires balanced { IsBalanced tokens.now.tokens }
     ensures { IsTrue result ↔ (print tokens.now.tokens ≡ tokens.now.text) }
