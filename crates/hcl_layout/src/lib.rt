@@ -3,7 +3,8 @@
 //! [`printed_len`], [`emit`] and [`is_formatted`] read the pieces of the print one after another, each
 //! token with the gap before it, and take no memory: of the lines passed they know the depth, the
 //! levels by depth, and the columns of the two runs in which the last line stands. A run is read ahead
-//! once, at its first line. [`fits`] reads the lines alone where they tell that the print isn't too long.
+//! once, at its first line; [`is_formatted`] first takes its column from the source and reads nothing
+//! ahead. [`fits`] reads the lines alone where they tell that the print isn't too long.
 //!
 //! ```text
 //! line             level   before =   before #   gaps before its pieces   printed
