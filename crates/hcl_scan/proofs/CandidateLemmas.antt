@@ -1,12 +1,14 @@
 -- Lines that can be the marker: those that have the marker in them.
-use Rattle.std.proofs.Common.{◌≡◌, ℕ, zero, suc, ◌+◌, ◌-◌, ◌<◌, ◌≤◌, ◌==◌, true, List, [], ◌∷◌, length, take, drop, get_or, ⊎_elim, sym, ap, subst, ◌∙◌, arith, length-drop, get_or-drop, get_or-take}
+use Rattle.std.proofs.Common.{◌≡◌, ◌≢◌, ℕ, zero, suc, ◌+◌, ◌-◌, ◌<◌, ◌≤◌, ◌&&◌, ◌==◌, true, false, List, [], ◌∷◌, length, drop, get_or, ⊎_elim, refl, sym, ap, subst, ◌∙◌, arith, length-drop, get_or-drop}
 use Rattle.std.specs.List.{prefix_len}
-use Rattle.std.proofs.lemmas.List.Sums.{prefix_len_passes, prefix_len-le-length}
+use Rattle.std.proofs.lemmas.List.Sums.{prefix_len_passes, prefix_len_is, prefix_len-le-length}
+use Rattle.std.proofs.lemmas.List.{drop-drop}
 use Rattle.std.proofs.lemmas.Bool.{cases_order}
 use Rattle.std.proofs.lemmas.Bool.Decides.{nat_tests}
 use Rattle.memchr.specs.Find.{OccursAt}
 use Rattle.hcl_scan.specs.Spelling.{starts, is_blank}
-use Rattle.hcl_scan.specs.Scans.{IsMarkerLine, skip_blanks, at_line_end, closer_len}
+use Rattle.hcl_scan.specs.Scans.{IsMarkerLine, IsFirstMarkerLine, skip_blanks, at_line_end, closer_len}
+use Rattle.hcl_scan.specs.Inner.MarkerPlaces.{IsPlace, IsBlankFront, EndsLine, IsNextLine}
 use Rattle.hcl_scan.proofs.StartLemmas.{both}
 use Rattle.hcl_scan.proofs.LiteralLemmas.{starts_len}
 
@@ -42,34 +44,104 @@ module _ (marker text rest : List ℕ) (at : ℕ) (rest_is : rest ≡ drop at te
   pub no_place : ((k : ℕ) → 0 ≤ k → k < length rest + 1 → ¬ OccursAt rest marker k) → ⊥
   no_place none = none (m + front - at) (omega arith) (omega (arith, within, low, ap length rest_is, length-drop at text)) occurs
 
-  -- and no line begins between a marker line's start and its marker
-  module _ (place : ℕ) (before : (k : ℕ) → 0 ≤ k → k < place → ¬ OccursAt rest marker k) where
-    reached : at + place ≤ m + front
-    reached = ⊎_elim (λ e. omega (arith, e)) (λ other. ⊎_elim (λ below. omega (arith, below)) (λ above. absurd (before (m + front - at) (omega arith) (omega (arith, above, low)) occurs)) other) (cases_order (at + place) (m + front))
+  -- and where it comes first isn't behind that
+  pub not_before : (place : ℕ) → ((k : ℕ) → 0 ≤ k → k < place → ¬ OccursAt rest marker k) → at + place ≤ m + prefix_len is_blank (drop m text)
+  not_before place before = ⊎_elim (λ e. omega (arith, e)) (λ other. ⊎_elim (λ below. omega (arith, below)) (λ above. absurd (before (m + front - at) (omega arith) (omega (arith, above, low)) occurs)) other) (cases_order (at + place) (m + front))
 
-    pub skipped : (n : ℕ) → m < n → n ≤ at + place → get_or text (n - 1) 0 ≡ 10 → ⊥
-    skipped n high near lf =
-        let k : ℕ = n - 1 - m in
-        let blank = prefix_len_passes is_blank (drop m text) k 0 (omega (arith, reached, high, near)) in
-        let here : get_or (drop m text) k 0 ≡ 10 = get_or-drop m text k 0 ∙ ap (λ i. get_or text i 0) (omega (arith, high)) ∙ lf in
-        let no : is_blank 10 ≡ true = ap is_blank (sym here) ∙ blank in
-        absurd (cc (no))
+-- what occurs in a part of the text occurs in the text
+pub occurs_in : (marker text rest : List ℕ) (at place : ℕ) → at ≤ length text → rest ≡ drop at text → OccursAt rest marker place → OccursAt text marker (at + place)
+occurs_in marker text rest at place low rest_is occurs = record {
+  fits = omega (arith, occurs.fits, ap length rest_is, length-drop at text, low);
+  reads = λ j lt. ap (λ i. get_or text i 0) (omega arith) ∙ sym (get_or-drop at text (place + j) 0) ∙ ap (λ l. get_or l (place + j) 0) (sym rest_is) ∙ occurs.reads j lt;
+}
 
--- what ends with a newline in a part of the text does so in the text
-pub lf_of : (text : List ℕ) (at place line : ℕ) → 0 < line → line ≤ place → get_or (take place (drop at text)) (line - 1) 0 ≡ 10 → get_or text (at + line - 1) 0 ≡ 10
-lf_of text at place line some near lf =
-    let here : get_or (drop at text) (line - 1) 0 ≡ get_or text (at + line - 1) 0 = get_or-drop at text (line - 1) 0 ∙ ap (λ i. get_or text i 0) (omega arith) in
-    sym here ∙ sym (get_or-take place (drop at text) (line - 1) 0 (omega arith)) ∙ lf
+-- what has the marker's bytes begins with it
+reads_starts : (text marker : List ℕ) → length marker ≤ length text → ((j : ℕ) → j < length marker → get_or text j 0 ≡ get_or marker j 0) → starts text marker ≡ true
+reads_starts [] [] fits reads = refl
+reads_starts (b ∷ text) [] fits reads = refl
+reads_starts [] (c ∷ marker) fits reads = absurd (omega (arith, fits))
+reads_starts (b ∷ text) (c ∷ marker) fits reads = (λ i. same b c (reads 0 (omega arith)) i && reads_starts text marker (omega (arith, fits)) (λ j lt. reads (suc j) (omega (arith, lt))) i)
+  where
+    same : (x y : ℕ) → x ≡ y → (x == y) ≡ true
+    same x y e = grind (arith, nat_tests)
 
--- no marker line begins before the candidate
-pub none_before : (marker word text : List ℕ) → word ≡ marker → (at start : ℕ) → ((m : ℕ) → m < at → ¬ IsMarkerLine marker text m) → ((m : ℕ) → at ≤ m → m < start → ¬ IsMarkerLine word text m) → (m : ℕ) → m < start → ¬ IsMarkerLine marker text m
-none_before marker word text same at start old new m high is =
-    let also = subst (λ w. IsMarkerLine w text m) (sym same) is in
-    ⊎_elim (λ e. new m (omega (arith, e)) high also)
-    (λ other. ⊎_elim (λ below. old m below is) (λ above. new m (omega (arith, above)) high also) other)
-    (cases_order m at)
+module _ (marker text : List ℕ) (some : 0 < length marker) (begins : is_blank (get_or marker 0 0) ≡ false) (at place : ℕ) (place_is : IsPlace marker text at place) (old : (m : ℕ) → m < at → ¬ IsMarkerLine marker text m) where
+  no_blank : is_blank (get_or text place 0) ≡ false
+  no_blank = ap is_blank (ap (λ i. get_or text i 0) (omega arith) ∙ place_is.occurs.reads 0 some) ∙ begins
 
--- nor anywhere, where none begins before a place and none from there on
+  -- a marker line that begins up to the place has its marker there
+  module _ (m : ℕ) (is : IsMarkerLine marker text m) (low : at ≤ m) (high : m ≤ place) where
+    abbrev blanks : ℕ
+    blanks = prefix_len is_blank (drop m text)
+
+    passes : (k : ℕ) → m ≤ k → k < m + blanks → is_blank (get_or text k 0) ≡ true
+    passes k from upto = ap is_blank (ap (λ i. get_or text i 0) (omega (arith, from)) ∙ sym (get_or-drop m text (k - m) 0)) ∙ prefix_len_passes is_blank (drop m text) (k - m) 0 (omega (arith, from, upto))
+
+    there : m + blanks ≡ place
+    there = ⊎_elim (λ e. e) (λ other. ⊎_elim (λ below. absurd (omega (arith, below, place_is.first m low is))) (λ above. let yes = passes place high above in let no = no_blank in absurd (cc (yes, no))) other) (cases_order (m + blanks) place)
+
+    blank_front : IsBlankFront text place m
+    blank_front = record { before = high; starts_line = is.starts_line; blank = λ k from upto. passes k from (omega (arith, there, upto)) }
+
+    ends : EndsLine text (place + length marker)
+    ends =
+        ap (λ l. at_line_end (skip_blanks l)) (ap (λ i. drop i text) (omega (arith, there)) ∙ sym (drop-drop (closer_len marker (drop m text)) m text))
+        ∙ (both (starts (skip_blanks (drop m text)) marker) (at_line_end (skip_blanks (drop (closer_len marker (drop m text)) (drop m text)))) is.marked).1
+
+  -- the place's line is the first marker line
+  module _ (n : ℕ) (front : IsBlankFront text place n) (end : EndsLine text (place + length marker)) where
+    len : prefix_len is_blank (drop n text) ≡ place - n
+    len = prefix_len_is is_blank (drop n text) (place - n) 0 (omega (arith, length-drop n text, front.before, place_is.occurs.fits))
+        (λ k lt. ap is_blank (get_or-drop n text k 0) ∙ front.blank (n + k) (omega arith) (omega (arith, lt)))
+        (λ _. ap is_blank (get_or-drop n text (place - n) 0 ∙ ap (λ i. get_or text i 0) (omega (arith, front.before))) ∙ no_blank)
+
+    begun_at : skip_blanks (drop n text) ≡ drop place text
+    begun_at = ap (λ k. drop k (drop n text)) len ∙ drop-drop (place - n) n text ∙ ap (λ k. drop k text) (omega (arith, front.before))
+
+    starts_there : starts (drop place text) marker ≡ true
+    starts_there = reads_starts (drop place text) marker (omega (arith, length-drop place text, place_is.occurs.fits)) (λ j lt. get_or-drop place text j 0 ∙ place_is.occurs.reads j lt)
+
+    after : drop (closer_len marker (drop n text)) (drop n text) ≡ drop (place + length marker) text
+    after = drop-drop (closer_len marker (drop n text)) n text ∙ ap (λ k. drop k text) (omega (arith, len, front.before))
+
+    none_below : (m : ℕ) → m < n → ¬ IsMarkerLine marker text m
+    none_below m lt is = ⊎_elim (λ e. from (omega (arith, e))) (λ other. ⊎_elim (λ below. old m below is) (λ above. from (omega (arith, above))) other) (cases_order m at)
+      where
+        from : at ≤ m → ⊥
+        from low =
+            let yes = (blank_front m is low (omega (arith, lt, front.before))).blank (n - 1) (omega (arith, lt)) (omega (arith, lt, front.before)) in
+            let lf = ap is_blank (front.starts_line (omega (arith, lt))) in
+            let no : is_blank 10 ≡ true = sym lf ∙ yes in
+            absurd (cc (no))
+
+    pub first_line : IsFirstMarkerLine marker text n
+    first_line = record {
+      here = record {
+        within = omega (arith, front.before, place_is.occurs.fits);
+        starts_line = front.starts_line;
+        marked = (λ i. starts (begun_at i) marker && at_line_end (skip_blanks (after i))) ∙ (λ i. starts_there i && end i);
+      };
+      first = none_below;
+    }
+
+  -- the place's line is no marker line
+  module _ (refused : (n : ℕ) → IsBlankFront text place n → ¬ EndsLine text (place + length marker)) where
+    none_upto : (m : ℕ) → m ≤ place → ¬ IsMarkerLine marker text m
+    none_upto m high is = ⊎_elim (λ e. from (omega (arith, e))) (λ other. ⊎_elim (λ below. old m below is) (λ above. from (omega (arith, above))) other) (cases_order m at)
+      where
+        from : at ≤ m → ⊥
+        from low = refused m (blank_front m is low high) (ends m is low high)
+
+    none_but : (m : ℕ) → (place < m → ¬ IsMarkerLine marker text m) → ¬ IsMarkerLine marker text m
+    none_but m behind is = ⊎_elim (λ e. none_upto m (omega (arith, e)) is) (λ other. ⊎_elim (λ below. none_upto m (omega (arith, below)) is) (λ above. behind above is) other) (cases_order m place)
+
+    pub none_before : (n : ℕ) → IsNextLine text place n → (m : ℕ) → m < n → ¬ IsMarkerLine marker text m
+    none_before n next m high is = none_but m (λ behind also. next.first m behind high (also.starts_line (omega (arith, behind)))) is
+
+    pub none_at_all : ((n : ℕ) → place < n → n ≤ length text → get_or text (n - 1) 0 ≢ 10) → (m : ℕ) → ¬ IsMarkerLine marker text m
+    none_at_all last m is = none_but m (λ behind also. last m behind also.within (also.starts_line (omega (arith, behind)))) is
+
+-- no marker line begins anywhere, where none begins before a place and none from there on
 pub none_from : (marker word text : List ℕ) → word ≡ marker → (at : ℕ) → ((m : ℕ) → m < at → ¬ IsMarkerLine marker text m) → ((m : ℕ) → at ≤ m → ¬ IsMarkerLine word text m) → (n : ℕ) → ¬ IsMarkerLine marker text n
 none_from marker word text same at old new n is =
     let also = subst (λ w. IsMarkerLine w text n) (sym same) is in

@@ -25,7 +25,7 @@ use Rattle.hcl_scan.specs.declared.token.Kind.TheVariants.{HeredocOpen, Dot}
 use Rattle.hcl_scan.proofs.SliceLemmas.{front_of, back_of, slice_len, part_boundary}
 use Rattle.hcl_scan.proofs.StackLemmas.{push_offsets, closes_is, opens_so}
 use Rattle.hcl_scan.proofs.LiteralLemmas.{starts_len}
-use Rattle.hcl_scan.proofs.MarkerLemmas.{some_marker, long_opener}
+use Rattle.hcl_scan.proofs.MarkerLemmas.{some_marker, marker_no_blank, long_opener}
 use Rattle.hcl_scan.proofs.KindPlaceLemmas.{heredoc}
 use Rattle.hcl_scan.proofs.StartLemmas.{both}
 use Rattle.hcl_scan.proofs.StepLemmas.{ahead_is, entry_is, text_len, blank_ascii}
@@ -87,6 +87,9 @@ module _ (s : Scanner) (e : Entry) (sound : IsSound s) (this : IsNext s e) (open
 
   pub marker_some : 0 < length (marker_of word)
   marker_some = some_marker word spelled_so.1
+
+  pub marker_begins : is_blank (get_or (marker_of word) 0 0) ≡ false
+  marker_begins = marker_no_blank word spelled_so.1
 
   longest_so : IsLongest (openers_of s.stack) s.after_dot (ahead (state_of s)) HeredocOpen word rest
   longest_so = subst (λ (k : Kind). IsLongest (openers_of s.stack) s.after_dot (ahead (state_of s)) k word rest) kind_is (subst (λ l. IsLongest (openers_of s.stack) s.after_dot l e.kind word rest) (ahead_is s e.start this.start) this.longest)

@@ -3,7 +3,6 @@ pub mod RunLemmas
 pub mod ElementLemmas
 pub mod EntryLemmas
 pub mod ToldKindLemmas
-pub mod LineLemmas
 pub mod CandidateLemmas
 pub mod LiteralLemmas
 pub mod StartLemmas

@@ -2,6 +2,7 @@
 pub mod Entries
 pub mod Found
 pub mod Leads
+pub mod MarkerPlaces
 pub mod Openings
 pub mod Punctuation
 pub mod Scanners

@@ -1,13 +1,14 @@
 //! The line that ends a heredoc.
 
-ghost use Rattle.std.specs.Prelude.{◌≡◌, ◌<◌, ◌≤◌, ◌-◌, ◌^◌, ℕ, get_or, codes, nat_eq, if◌then◌else◌, drop, length, IfSome, IfNone, IsTrue};
+ghost use Rattle.std.specs.Prelude.{◌≡◌, ◌≢◌, ◌<◌, ◌≤◌, ◌+◌, ◌-◌, ◌^◌, ℕ, false, get_or, codes, nat_eq, if◌then◌else◌, drop, length, IfSome, IfNone, IsTrue};
 ghost use Rattle.std.specs.List.{position_or_len, starts_with};
 ghost use Rattle.hcl_scan.specs.Lexemes.{is_newline_byte, marker_of};
-ghost use Rattle.hcl_scan.specs.Spelling.{starts};
-ghost use Rattle.hcl_scan.specs.Scans.{skip_blanks, at_line_end, closer_len, is_marker_line, IsMarkerLine, IsFirstMarkerLine};
+ghost use Rattle.hcl_scan.specs.Spelling.{starts, is_blank};
+ghost use Rattle.hcl_scan.specs.Scans.{skip_blanks, at_line_end, closer_len, IsMarkerLine, IsFirstMarkerLine};
+ghost use Rattle.hcl_scan.specs.Inner.MarkerPlaces.{IsPlace, IsBlankFront, EndsLine, IsNextLine};
 
-use crate::text::{count_blanks, line_len, skip_blanks};
-use hcl_source::line_start;
+use crate::text::{count_blanks, is_blank, skip_blanks};
+use memchr::memchr;
 use memchr::memmem::Finder;
 
 /// How many bytes stand before the first LF or CR, or before the end.
@@ -49,51 +50,85 @@ fn at_line_end(text: &[u8]) -> bool
     text.is_empty() || text.starts_with(b"\n") || text.starts_with(b"\r\n")
 }
 
-/// Whether the first line is the marker, blanks at both ends aside.
-fn is_marker_line(text: &[u8], marker: &[u8]) -> bool
-    ensures { result ≡ is_marker_line marker.now text.now }
+/// Whether only blanks stand between a place and the end of its line.
+fn ends_line(text: &[u8], at: usize) -> bool
+    requires { at ≤ length text.now }
+    ensures { result ≡ at_line_end (skip_blanks (drop at text.now)) }
 {
-    if !skip_blanks(text).starts_with(marker) {
-        return false;
-    }
-    let (_, after) = text.split_at(closer_len(text, marker));
+    let (_, after) = text.split_at(at);
     at_line_end(skip_blanks(after))
 }
 
-/// Where the next line begins that can be the marker: one that has the marker in it.
-/// Most lines don't, and are skipped here without a look at each.
-fn next_candidate(text: &[u8], marker: &Finder, at: usize) -> Option<usize>
-    requires within { at ≤ length text.now }
-    requires line { 0 < at → get_or text.now (at - 1) 0 ≡ 10 }
-    ensures within { IfSome result (λ n. (at ≤ n) × (n ≤ length text.now)) }
-    ensures line { IfSome result (λ n. 0 < n → get_or text.now (n - 1) 0 ≡ 10) }
-    ensures skipped { IfSome result (λ n. (m : ℕ) → at ≤ m → m < n → ¬ IsMarkerLine marker.now text.now m) }
+/// Where the line begins of which only blanks stand before a place, if it is such a line.
+fn blank_line_start(text: &[u8], place: usize) -> Option<usize>
+    requires { place ≤ length text.now }
+    ensures found { IfSome result (IsBlankFront text.now place) }
+    ensures none { IfNone result ((n : ℕ) → ¬ IsBlankFront text.now place n) }
+{
+    let mut start = place;
+    while start > 0 && is_blank(text[start - 1]) {
+        start -= 1;
+    }
+    if start == 0 || text[start - 1] == b'\n' {
+        Some(start)
+    } else {
+        None
+    }
+}
+
+/// Where the line begins that is the marker that stands from `place` to `end`, if it is one.
+/// What follows the marker is asked first: one byte of it tells as a rule.
+fn line_of_marker(text: &[u8], place: usize, end: usize) -> Option<usize>
+    requires order { place ≤ end }
+    requires within { end ≤ length text.now }
+    ensures found { IfSome result (λ n. IsBlankFront text.now place n × EndsLine text.now end) }
+    ensures none { IfNone result ((n : ℕ) → IsBlankFront text.now place n → ¬ EndsLine text.now end) }
+{
+    if ends_line(text, end) {
+        blank_line_start(text, place)
+    } else {
+        None
+    }
+}
+
+/// Where the marker stands that comes first behind a line's beginning.
+/// Most lines don't have it in them, and are skipped here without a look at each.
+fn next_place(text: &[u8], marker: &Finder, at: usize) -> Option<usize>
+    requires { at ≤ length text.now }
+    ensures found { IfSome result (IsPlace marker.now text.now at) }
     ensures none { IfNone result ((m : ℕ) → at ≤ m → ¬ IsMarkerLine marker.now text.now m) }
 {
     let (_, rest) = text.split_at(at);
     let place = marker.find(rest)?;
-    let (front, _) = rest.split_at(place);
-    Some(at + line_start(front))
+    Some(at + place)
+}
+
+/// Where the next line begins behind a place.
+fn next_line(text: &[u8], place: usize) -> Option<usize>
+    requires { place ≤ length text.now }
+    ensures found { IfSome result (IsNextLine text.now place) }
+    ensures none { IfNone result ((n : ℕ) → place < n → n ≤ length text.now → get_or text.now (n - 1) 0 ≢ 10) }
+{
+    let (_, rest) = text.split_at(place);
+    let line = memchr(b'\n', rest)?;
+    Some(place + line + 1)
 }
 
 /// Where the first line begins that is the marker.
+/// A line is asked once, where the marker comes first in it: before that only blanks may stand, and none begins a marker.
 pub fn marker_line(text: &[u8], marker: &[u8]) -> Option<usize>
-    requires { 0 < length marker.now }
+    requires some { 0 < length marker.now }
+    requires begins { is_blank (get_or marker.now 0 0) ≡ false }
     ensures found { IfSome result (IsFirstMarkerLine marker.now text.now) }
     ensures none { IfNone result ((n : ℕ) → ¬ IsMarkerLine marker.now text.now n) }
 {
     let finder = Finder::new(marker);
     let mut at = 0;
-    while let Some(start) = next_candidate(text, &finder, at) {
-        let (_, rest) = text.split_at(start);
-        if is_marker_line(rest, marker) {
+    while let Some(place) = next_place(text, &finder, at) {
+        if let Some(start) = line_of_marker(text, place, place + marker.len()) {
             return Some(start);
         }
-        let line = line_len(rest);
-        if line == rest.len() {
-            return None;
-        }
-        at = start + line + 1;
+        at = next_line(text, place)?;
     }
     None
 }

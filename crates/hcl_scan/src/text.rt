@@ -36,7 +36,7 @@ pub(crate) fn line_len(seen: &[u8]) -> usize
     seen.iter().take_while(|b| **b != b'\n').count()
 }
 
-fn is_blank(b: u8) -> bool
+pub(crate) fn is_blank(b: u8) -> bool
     ensures { result ≡ is_blank b }
 {
     b == b' ' || b == b'\t'

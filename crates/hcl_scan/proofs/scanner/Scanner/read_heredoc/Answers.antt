@@ -1,16 +1,22 @@
-use Rattle.std.proofs.Common.{◌≡◌, ◌<◌, ℕ, List, length, drop, slice_range, sym, ap, subst, ◌∙◌, IsUtf8}
+use Rattle.std.proofs.Common.{◌≡◌, ◌<◌, ℕ, false, List, length, drop, get_or, slice_range, sym, ap, subst, ◌∙◌, IsUtf8}
 use Rattle.hcl_scan.specs.Lexemes.{marker_of}
+use Rattle.hcl_scan.specs.Spelling.{is_blank}
 use Rattle.hcl_scan.specs.Scans.{IsMarkerLine, IsFirstMarkerLine, closer_len}
-use Rattle.hcl_scan.proofs.HeredocStepLemmas.{deep_heredoc, is_full, has_room, marker_some, no_line, opens_heredoc}
+use Rattle.hcl_scan.proofs.HeredocStepLemmas.{deep_heredoc, is_full, has_room, marker_some, marker_begins, no_line, opens_heredoc}
 use Rattle.hcl_scan.proofs.scanner.Scanner.read_heredoc.Goals as goal
 
 pub returns-then-is_full-clause-stopped : goal.returns-then-is_full-clause-stopped
 returns-then-is_full-clause-stopped c = deep_heredoc c.args.self.now c.args.entry c.requires.next (is_full (length c.args.self.now.stack) (sym c.is_full.ensures.full ∙ c.if-is_full.true)) c.requires.heredoc
 
-pub marker_line-requires : goal.marker_line-requires
-marker_line-requires c =
+pub marker_line-requires-clause-some : goal.marker_line-requires-clause-some
+marker_line-requires-clause-some c =
     subst (λ l. 0 < length l) (sym (c.marker_of-marker.ensures ∙ ap marker_of (c.as_bytes.ensures.value ∙ c.range.ensures.value)))
     (marker_some c.args.self.now c.args.entry c.requires.sound c.requires.next c.requires.heredoc)
+
+pub marker_line-requires-clause-begins : goal.marker_line-requires-clause-begins
+marker_line-requires-clause-begins c =
+    subst (λ l. is_blank (get_or l 0 0) ≡ false) (sym (c.marker_of-marker.ensures ∙ ap marker_of (c.as_bytes.ensures.value ∙ c.range.ensures.value)))
+    (marker_begins c.args.self.now c.args.entry c.requires.sound c.requires.next c.requires.heredoc)
 
 pub returns-in_default-clause-stopped : goal.returns-in_default-clause-stopped
 returns-in_default-clause-stopped c =
