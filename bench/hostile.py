@@ -1,28 +1,36 @@
-"""The table of bench/scan and bench/syntax: hostile inputs, timed through the program."""
+"""The table of bench/scan and bench/syntax: hostile inputs, timed through the program, or counted in instructions."""
 
 import argparse
+import concurrent.futures
 import os
 import pathlib
 import sys
 import tempfile
 
 import inputs
-from measure import MAX, MIB, best, in_ms, table
+from measure import MAX, MIB, best, in_ms, instructions, table
 
 TOP = pathlib.Path(__file__).resolve().parent.parent
 TIMES = 10
 LIMIT = 60
+# How many instructions a byte of a hostile input may take: five times the 85 that are the goal for ordinary configuration
+# that isn't formatted.
+MOST = 425
 
 
-def main(name, cases):
-    read = argparse.ArgumentParser(usage='%s [--limit N] [--keep FOLDER] [PROGRAM]' % name)
+def main(name, cases, most={}):
+    """Times the cases, or counts their instructions; `most` says of which a byte may take more than `MOST`."""
+    read = argparse.ArgumentParser(usage='%s [--limit N] [--keep FOLDER] [PROGRAM]\n       %s --count [PROGRAM]' % (name, name))
     read.add_argument('--limit', type=float, default=6)
     read.add_argument('--keep')
+    read.add_argument('--count', action='store_true')
     read.add_argument('program', nargs='?', default=str(TOP / 'bin' / 'tffmt'))
     given = read.parse_args()
     program = os.path.abspath(given.program)
     if not os.access(program, os.X_OK):
         sys.exit('%s: %s is not a program; build it first' % (name, given.program))
+    if given.count:
+        return counted(name, program, cases, most)
 
     with tempfile.TemporaryDirectory() as made:
         store = pathlib.Path(given.keep or made)
@@ -53,6 +61,29 @@ def main(name, cases):
         print(table(['input', 'bytes', 'status', '1 MiB', '4 MiB', 'ratio', 'growth'], rows))
     for label in high:
         print('too slow, or an unexpected status: %s' % label)
+    return 1 if high else 0
+
+
+def counted(name, program, cases, most):
+    """Prints the instructions a byte of each case, by callgrind, and gives 1 where one takes more than it may."""
+    def a_byte(case):
+        label, make = case
+        with tempfile.NamedTemporaryFile(suffix='.tf') as file:
+            text = make(MIB)
+            file.write(text)
+            file.flush()
+            found = instructions([program], file.name)
+        if found is None:
+            sys.exit('%s: --count needs valgrind' % name)
+        return label, len(text), found / len(text), most.get(label, MOST)
+
+    with concurrent.futures.ThreadPoolExecutor(os.cpu_count()) as pool:
+        found = list(pool.map(a_byte, cases))
+    print(table(['input', 'bytes', 'instructions a byte', 'at most'],
+                [[label, format(size, ','), '%.1f' % taken, str(limit)] for label, size, taken, limit in found]))
+    high = [label for label, _, taken, limit in found if taken > limit]
+    for label in high:
+        print('too many instructions: %s' % label)
     return 1 if high else 0
 
 
