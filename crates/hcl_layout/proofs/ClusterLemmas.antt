@@ -1,7 +1,8 @@
--- No more grapheme clusters than bytes, and as many in a text that is ASCII without CR.
+-- No more grapheme clusters than bytes, as many as characters in a text whose characters are alone, and as many as bytes in
+-- one that is ASCII without CR.
 use Rattle.std.proofs.Common.{get_or, not, ◌≡◌, ◌∙◌, ◌+◌, ◌-◌, ◌*◌, ◌≤◌, ◌<◌, ◌==◌, ◌&&◌, ap, ap₂, sym, refl, true≢false, ℕ, suc, zero, Bool, true, false, List, [], ◌∷◌, length, arith, drop, take, add-one, drop-cons}
 use Rattle.std.specs.Prelude.{encode_utf8_all, ◌++◌, nat_eq, nat_lt, slice_index_or, unwrap_or}
-use Rattle.hcl_layout.specs.Inner.Simple.{IsFrom, is_simple}
+use Rattle.hcl_layout.specs.Inner.Simple.{IsFrom, are_alone, first_joining, is_simple}
 use Rattle.std.proofs.Math.ListN.{drop_of_length-le}
 use Rattle.std.proofs.lemmas.List.{length-map}
 use Rattle.std.proofs.lemmas.Str.{chars-IsAscii}
@@ -23,7 +24,7 @@ chars_after_few [] (suc n) c = omega arith
 chars_after_few (b ∷ bs) zero c = omega (arith, chars_after_few bs (continuation_len b) (lead_bits b))
 chars_after_few (b ∷ bs) (suc n) c = omega (arith, chars_after_few bs n (c * 64 + (b - 128)))
 
-chars_few : (bs : List ℕ) → length (chars bs) ≤ length bs
+pub chars_few : (bs : List ℕ) → length (chars bs) ≤ length bs
 unfolding chars
 chars_few [] = omega arith
 chars_few (b ∷ bs) = omega (arith, chars_after_few bs (continuation_len b) (lead_bits b))
@@ -46,22 +47,22 @@ unfolding segments
 clusters_few text =
     omega (arith, length-map (cut (is_grapheme_break true) [] (chars text) []) encode_utf8_all, cut_few (is_grapheme_break true) [] (chars text) [], chars_few text)
 
--- ---- ASCII
+-- ---- characters below the first that joins
 
--- what the table gives on ASCII: the ends of lines apart, only what breaks on both sides
-abbrev ascii_class : ℕ → GraphemeClusterBreak → Bool
-ascii_class c Other = true
-ascii_class c Control = true
-ascii_class c Cr = c == 13
-ascii_class c Lf = c == 10
-ascii_class c _ = false
+-- what the table gives on them: the ends of lines apart, only what breaks on both sides
+abbrev alone_class : ℕ → GraphemeClusterBreak → Bool
+alone_class c Other = true
+alone_class c Control = true
+alone_class c Cr = c == 13
+alone_class c Lf = c == 10
+alone_class c _ = false
 
-class_of_ascii : (c : ℕ) → c < 128 → ascii_class c (grapheme_cluster_break c) ≡ true
+class_of_alone : (c : ℕ) → c < first_joining → alone_class c (grapheme_cluster_break c) ≡ true
 unfolding ucd_breaks
-class_of_ascii c below = Stepped-below grapheme_cluster_break grapheme_cluster_break_stepped ascii_class 128 refl c below
+class_of_alone c below = Stepped-below grapheme_cluster_break grapheme_cluster_break_stepped alone_class first_joining refl c below
 
 -- whether two characters of these classes break, where the tables' further rules say so of two others
-pair_breaks : (l r : GraphemeClusterBreak) (c n : ℕ) (more : Bool) → ascii_class c l ≡ true → ascii_class n r ≡ true → ((c == 13) && (n == 10)) ≡ false
+pair_breaks : (l r : GraphemeClusterBreak) (c n : ℕ) (more : Bool) → alone_class c l ≡ true → alone_class n r ≡ true → ((c == 13) && (n == 10)) ≡ false
     → (Other ≡ l → Other ≡ r → unwrap_or (break_by_pair true l r) more ≡ true) → unwrap_or (break_by_pair true l r) more ≡ true
 pair_breaks Control Control c n more p q e f = refl
 pair_breaks Control Cr c n more p q e f = refl
@@ -130,11 +131,51 @@ pair_breaks Other Other c n more p q e f = f refl refl
 pair_breaks Other Zwj c n more p q e f = absurd (true≢false (sym q))
 pair_breaks Zwj r c n more p q e f = absurd (true≢false (sym p))
 
-ascii_breaks : (c n : ℕ) (before after : List ℕ) → c < 128 → n < 128 → ((c == 13) && (n == 10)) ≡ false → is_grapheme_break true (c ∷ before) (n ∷ after) ≡ true
-ascii_breaks c n before after p q e =
+alone_breaks : (c n : ℕ) (before after : List ℕ) → c < first_joining → n < first_joining → ((c == 13) && (n == 10)) ≡ false → is_grapheme_break true (c ∷ before) (n ∷ after) ≡ true
+alone_breaks c n before after p q e =
     let inside = is_grapheme_break-inside true (c ∷ before) n after (omega arith) in
-    inside ∙ pair_breaks (grapheme_cluster_break c) (grapheme_cluster_break n) c n _ (class_of_ascii c p) (class_of_ascii n q) e
+    inside ∙ pair_breaks (grapheme_cluster_break c) (grapheme_cluster_break n) c n _ (class_of_alone c p) (class_of_alone n q) e
     (λ l r. sym inside ∙ sym (is_grapheme_break-others true (c ∷ before) n after (omega arith) (omega arith) l r))
+
+cut_step : (rule : Rule) (before : List ℕ) (c : ℕ) (cs after : List ℕ) → rule (c ∷ before) (cs ++ after) ≡ true → length (cut rule before (c ∷ cs) after) ≡ suc (length (cut rule (c ∷ before) cs after))
+unfolding cut
+cut_step rule before c cs after e = rw e refl
+
+cut_end : (rule : Rule) (before after : List ℕ) → length (cut rule before [] after) ≡ 0
+unfolding cut
+cut_end rule before after = refl
+
+last_breaks : (c : ℕ) (before : List ℕ) → is_grapheme_break true (c ∷ before) [] ≡ true
+unfolding is_grapheme_break
+last_breaks c before = refl
+
+-- a character more that is alone
+alone_parts : (c : ℕ) (cs : List ℕ) → are_alone (c ∷ cs) ≡ true → (c < first_joining) × ((c == 13) ≡ false) × (are_alone cs ≡ true)
+alone_parts c cs e = go (nat_lt c first_joining) refl (c == 13) refl e
+  where
+    go : (v : Bool) → nat_lt c first_joining ≡ v → (w : Bool) → (c == 13) ≡ w → ((v && not w) && are_alone cs) ≡ true → (c < first_joining) × ((c == 13) ≡ false) × (are_alone cs ≡ true)
+    go true v false w h = (grind (arith, nat_tests), w, h)
+    go true v true w h = cc
+    go false v w q h = cc
+
+-- a cluster for each character, behind the character before
+alone_cut : (cs : List ℕ) (c : ℕ) (before : List ℕ) → c < first_joining → (c == 13) ≡ false → are_alone cs ≡ true → length (cut (is_grapheme_break true) before (c ∷ cs) []) ≡ suc (length cs)
+alone_cut [] c before p q e = cut_step (is_grapheme_break true) before c [] [] (last_breaks c before) ∙ ap suc (cut_end (is_grapheme_break true) (c ∷ before) [])
+alone_cut (n ∷ cs) c before p q e =
+    let parts = alone_parts n cs e in
+    cut_step (is_grapheme_break true) before c (n ∷ cs) [] (alone_breaks c n before (cs ++ []) p parts.0 (ap (λ v. v && (n == 10)) q)) ∙ ap suc (alone_cut cs n (c ∷ before) parts.0 parts.1 parts.2)
+
+alone_cuts : (cs : List ℕ) → are_alone cs ≡ true → length (cut (is_grapheme_break true) [] cs []) ≡ length cs
+alone_cuts [] e = cut_end (is_grapheme_break true) [] []
+alone_cuts (c ∷ cs) e =
+    let parts = alone_parts c cs e in
+    alone_cut cs c [] parts.0 parts.1 parts.2
+
+pub clusters_alone : (text : List ℕ) → are_alone (chars text) ≡ true → length (graphemes true text) ≡ length (chars text)
+unfolding segments
+clusters_alone text e = length-map (cut (is_grapheme_break true) [] (chars text) []) encode_utf8_all ∙ alone_cuts (chars text) e
+
+-- ---- ASCII
 
 -- a byte more that is simple
 simple_parts : (b : ℕ) (text : List ℕ) → is_simple (b ∷ text) ≡ true → (b < 128) × ((b == 13) ≡ false) × (is_simple text ≡ true)
@@ -150,38 +191,17 @@ simple_ascii [] i e = omega arith
 simple_ascii (b ∷ text) zero e = (simple_parts b text e).0
 simple_ascii (b ∷ text) (suc i) e = simple_ascii text i (simple_parts b text e).2
 
-cut_step : (rule : Rule) (before : List ℕ) (c : ℕ) (cs after : List ℕ) → rule (c ∷ before) (cs ++ after) ≡ true → length (cut rule before (c ∷ cs) after) ≡ suc (length (cut rule (c ∷ before) cs after))
-unfolding cut
-cut_step rule before c cs after e = rw e refl
-
-cut_end : (rule : Rule) (before after : List ℕ) → length (cut rule before [] after) ≡ 0
-unfolding cut
-cut_end rule before after = refl
-
-last_breaks : (c : ℕ) (before : List ℕ) → is_grapheme_break true (c ∷ before) [] ≡ true
-unfolding is_grapheme_break
-last_breaks c before = refl
-
--- a cluster for each byte, behind the byte before
-simple_cut : (text : List ℕ) (c : ℕ) (before : List ℕ) → c < 128 → (c == 13) ≡ false → is_simple text ≡ true → length (cut (is_grapheme_break true) before (c ∷ text) []) ≡ suc (length text)
-simple_cut [] c before p q e = cut_step (is_grapheme_break true) before c [] [] (last_breaks c before) ∙ ap suc (cut_end (is_grapheme_break true) (c ∷ before) [])
-simple_cut (b ∷ text) c before p q e =
+simple_alone : (text : List ℕ) → is_simple text ≡ true → are_alone text ≡ true
+simple_alone [] e = refl
+simple_alone (b ∷ text) e =
     let parts = simple_parts b text e in
-    cut_step (is_grapheme_break true) before c (b ∷ text) [] (ascii_breaks c b before (text ++ []) p parts.0 (ap (λ v. v && (b == 10)) q)) ∙ ap suc (simple_cut text b (c ∷ before) parts.0 parts.1 parts.2)
-
-clusters_none : length (graphemes true []) ≡ 0
-unfolding segments chars cut
-clusters_none = refl
-
-clusters_cut : (text : List ℕ) → chars text ≡ text → length (graphemes true text) ≡ length (cut (is_grapheme_break true) [] text [])
-unfolding segments
-clusters_cut text e = length-map (cut (is_grapheme_break true) [] (chars text) []) encode_utf8_all ∙ ap (λ cs. length (cut (is_grapheme_break true) [] cs [])) e
+    let below : nat_lt b first_joining ≡ true = grind (arith, nat_tests, parts.0) in
+    rw (below, parts.1) (simple_alone text parts.2)
 
 pub clusters_simple : (text : List ℕ) → is_simple text ≡ true → length (graphemes true text) ≡ length text
-clusters_simple [] e = clusters_none
-clusters_simple (b ∷ text) e =
-    let parts = simple_parts b text e in
-    clusters_cut (b ∷ text) (chars-IsAscii (b ∷ text) (λ i. simple_ascii (b ∷ text) i e)) ∙ simple_cut text b [] parts.0 parts.1 parts.2
+clusters_simple text e =
+    let same = chars-IsAscii text (λ i. simple_ascii text i e) in
+    clusters_alone text (ap are_alone same ∙ simple_alone text e) ∙ ap length same
 
 -- a part of a text that is simple
 simple_drop : (n : ℕ) (text : List ℕ) → is_simple text ≡ true → is_simple (drop n text) ≡ true

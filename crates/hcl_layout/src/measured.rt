@@ -1,10 +1,10 @@
 //! The tokens to lay out, and how wide their texts are.
-ghost use Rattle.std.specs.Prelude.{◌≡◌, ◌<◌, ◌≤◌, ◌+◌, ◌^◌, Some, true, length, drop, slice_get, take};
+ghost use Rattle.std.specs.Prelude.{◌≡◌, ◌<◌, ◌≤◌, ◌+◌, ◌^◌, IfSome, IsTrue, Some, true, length, drop, slice_get, take};
 ghost use Rattle.unicode_segmentation.specs.Grapheme.{graphemes};
 ghost use Rattle.hcl_scan.specs.Lexemes.{Lexeme};
 ghost use Rattle.hcl_scan.specs.Scanned.{lexeme};
 ghost use Rattle.hcl_syntax.specs.Balanced.{IsBalanced};
-ghost use Rattle.hcl_layout.specs.Inner.Simple.{IsFrom, is_simple as is_simple_of};
+ghost use Rattle.hcl_layout.specs.Inner.Simple.{IsFrom, is_alone as is_alone_of, is_simple as is_simple_of};
 ghost use Rattle.hcl_layout.specs.Inner.LineGaps.{len_with_blanks};
 
 use hcl_scan::{Kind, Token, Tokens};
@@ -44,13 +44,53 @@ fn is_simple(bytes: &[u8]) -> bool
     simple
 }
 
-/// How many extended grapheme clusters a text has.
+/// Whether a character is a grapheme cluster by itself among such: below U+0300, the first that joins with the one before
+/// it, and no CR, which joins with LF.
+#[inline(always)]
+fn is_alone(c: char) -> bool
+    ensures { result ≡ is_alone_of c }
+{
+    c < '\u{300}' && c != '\r'
+}
+
+/// How many characters a text has, where each of them is a grapheme cluster by itself.
+#[inline(always)]
+fn count_alone(text: &str) -> Option<u64>
+    ensures count { IfSome result (λ n. n ≡ length (graphemes true text.now)) }
+    ensures within { IfSome result (λ n. n ≤ length text.now) }
+{
+    // a text's length fits the count, and so does the number of its characters
+    let _size = text.len();
+    let mut count = 0;
+    for c in text.chars() {
+        if !is_alone(c) {
+            return None;
+        }
+        count += 1;
+    }
+    Some(count)
+}
+
+/// How many extended grapheme clusters a text has. Few texts need the tables.
 #[inline(never)]
 fn count_clusters(text: &str) -> u64
     ensures count { result ≡ length (graphemes true text.now) }
     ensures within { result ≤ length text.now }
 {
-    text.graphemes(true).count() as u64
+    match count_alone(text) {
+        Some(count) => count,
+        None => text.graphemes(true).count() as u64,
+    }
+}
+
+/// Whether a text is one byte of ASCII and no CR, as most of the signs are.
+#[inline(always)]
+fn is_one_byte(text: &str) -> bool
+    ensures simple { IsTrue result → is_simple_of text.now ≡ true }
+    ensures one { IsTrue result → length text.now ≡ 1 }
+{
+    let bytes = text.as_bytes();
+    bytes.len() == 1 && bytes[0] < 128 && bytes[0] != b'\r'
 }
 
 impl<'t, 's> Measured<'t, 's> {
@@ -121,6 +161,9 @@ impl<'t, 's> Measured<'t, 's> {
     {
         if self.simple {
             return token.text.len() as u64;
+        }
+        if is_one_byte(token.text) {
+            return 1;
         }
         count_clusters(token.text)
     }

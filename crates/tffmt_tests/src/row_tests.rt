@@ -125,6 +125,43 @@ fn aligns(rt: HostRuntime) {
     }
 }
 
+// The widths are by grapheme clusters, of which each character below U+0300 is one.
+#[test]
+fn aligns_by_clusters(rt: HostRuntime) {
+    for (input, print) in [
+        // U+00E9, and the same letter with an accent of its own
+        (
+            b"\xc3\xa9=1\nab=2\n".as_slice(),
+            b"\xc3\xa9  = 1\nab = 2\n".as_slice(),
+        ),
+        (b"e\xcc\x81e=1\nabc=2\n", b"e\xcc\x81e  = 1\nabc = 2\n"),
+        // U+02FF, the last below, and U+0300 behind a letter and alone
+        (
+            b"a=\"\xcb\xbf\xcb\xbf\"#x\nb=\"c\"#y\n",
+            b"a = \"\xcb\xbf\xcb\xbf\" #x\nb = \"c\"  #y\n",
+        ),
+        (
+            b"a=\"d\xcc\x80\"#x\nb=\"cd\"#y\n",
+            b"a = \"d\xcc\x80\"  #x\nb = \"cd\" #y\n",
+        ),
+        (
+            b"a=\"\xcc\x80\"#x\nb=\"cd\"#y\n",
+            b"a = \"\xcc\x80\"  #x\nb = \"cd\" #y\n",
+        ),
+        // U+00AD, which is a control, and the letters of a flag
+        (
+            b"a=\"\xc2\xad\xc2\xad\"#x\nb=\"c\"#y\n",
+            b"a = \"\xc2\xad\xc2\xad\" #x\nb = \"c\"  #y\n",
+        ),
+        (
+            b"a=\"\xf0\x9f\x87\xa6\xf0\x9f\x87\xa7\"#x\nb=\"cd\"#y\n",
+            b"a = \"\xf0\x9f\x87\xa6\xf0\x9f\x87\xa7\"  #x\nb = \"cd\" #y\n",
+        ),
+    ] {
+        turns_to(&rt, rt.alloc(), input, print);
+    }
+}
+
 // A run whose column is the greatest width, wherever the widest line stands, and whatever is beside the run.
 #[test]
 fn keeps_formatted(rt: HostRuntime) {
