@@ -1,15 +1,16 @@
 -- Lines that can be the marker: those that have the marker in them.
-use Rattle.std.proofs.Common.{◌≡◌, ◌≢◌, ℕ, zero, suc, ◌+◌, ◌-◌, ◌<◌, ◌≤◌, ◌&&◌, ◌==◌, true, false, List, [], ◌∷◌, length, drop, get_or, ⊎_elim, refl, sym, ap, subst, ◌∙◌, arith, length-drop, get_or-drop}
-use Rattle.std.specs.List.{prefix_len}
-use Rattle.std.proofs.lemmas.List.Sums.{prefix_len_passes, prefix_len_is, prefix_len-le-length}
+use Rattle.std.proofs.Common.{◌≡◌, ◌≢◌, ℕ, zero, suc, ◌+◌, ◌-◌, ◌<◌, ◌≤◌, ◌&&◌, ◌==◌, not, true, false, List, [], ◌∷◌, length, drop, get_or, slice_range, ⊎_elim, refl, sym, ap, subst, ◌∙◌, arith, length-drop, get_or-drop, get_or-take}
+use Rattle.std.specs.List.{prefix_len, position_or_len}
+use Rattle.std.proofs.lemmas.List.Sums.{prefix_len_passes, prefix_len_stops, prefix_len_is, prefix_len-le-length}
 use Rattle.std.proofs.lemmas.List.{drop-drop}
 use Rattle.std.proofs.lemmas.Bool.{cases_order}
 use Rattle.std.proofs.lemmas.Bool.Decides.{nat_tests}
 use Rattle.memchr.specs.Find.{OccursAt}
 use Rattle.hcl_scan.specs.Spelling.{starts, is_blank}
 use Rattle.hcl_scan.specs.Scans.{IsMarkerLine, IsFirstMarkerLine, skip_blanks, at_line_end, closer_len}
-use Rattle.hcl_scan.specs.Inner.MarkerPlaces.{IsPlace, IsBlankFront, EndsLine, IsNextLine}
+use Rattle.hcl_scan.specs.Inner.MarkerPlaces.{IsPlace, IsBlankFront, EndsLine, IsNextLine, IsPassed}
 use Rattle.hcl_scan.proofs.StartLemmas.{both}
+use Rattle.hcl_scan.proofs.SliceLemmas.{slice_len}
 use Rattle.hcl_scan.proofs.LiteralLemmas.{starts_len}
 
 -- what begins with a marker has its bytes there
@@ -148,3 +149,83 @@ none_from marker word text same at old new n is =
     ⊎_elim (λ e. new n (omega (arith, e)) also)
     (λ other. ⊎_elim (λ below. old n below is) (λ above. new n (omega (arith, above)) also) other)
     (cases_order n at)
+
+-- the blanks of a part end in it
+pub blanks_within : (text : List ℕ) (at end start : ℕ) → at ≤ end → end ≤ length text → start ≡ at + prefix_len is_blank (slice_range text at end) → start ≤ end
+blanks_within text at end start order within start_is = omega (arith, start_is, prefix_len-le-length is_blank (slice_range text at end), slice_len text at end order within)
+
+-- no marker line begins in a line whose first byte that is no blank is another than the marker's
+module _ (marker text : List ℕ) (some : 0 < length marker) (at end start : ℕ) (order : at ≤ end) (within : end ≤ length text) (start_is : start ≡ at + prefix_len is_blank (slice_range text at end)) (short : start < end) (other : get_or text start 0 ≢ get_or marker 0 0) where
+  size : length (slice_range text at end) + at ≡ end
+  size = slice_len text at end order within
+
+  byte : (k : ℕ) → at + k < end → get_or (slice_range text at end) k 0 ≡ get_or text (at + k) 0
+  byte k lt = get_or-take (end - at) (drop at text) k 0 (omega (arith, lt)) ∙ get_or-drop at text k 0
+
+  stops : is_blank (get_or text start 0) ≡ false
+  stops = ap is_blank (ap (λ i. get_or text i 0) start_is ∙ sym (byte (prefix_len is_blank (slice_range text at end)) (omega (arith, start_is, short)))) ∙ prefix_len_stops is_blank (slice_range text at end) 0 (omega (arith, size, start_is, short))
+
+  blank_until : (k : ℕ) → at ≤ k → k < start → is_blank (get_or text k 0) ≡ true
+  blank_until k low high = ap is_blank (ap (λ i. get_or text i 0) (omega (arith, low)) ∙ sym (byte (k - at) (omega (arith, low, high, short)))) ∙ prefix_len_passes is_blank (slice_range text at end) (k - at) 0 (omega (arith, low, high, start_is))
+
+  front_is : prefix_len is_blank (drop at text) ≡ start - at
+  front_is = prefix_len_is is_blank (drop at text) (start - at) 0 (omega (arith, length-drop at text, within, short, start_is))
+      (λ k lt. ap is_blank (get_or-drop at text k 0) ∙ blank_until (at + k) (omega arith) (omega (arith, lt)))
+      (λ _. ap is_blank (get_or-drop at text (start - at) 0 ∙ ap (λ i. get_or text i 0) (omega (arith, start_is))) ∙ stops)
+
+  not_at : ¬ IsMarkerLine marker text at
+  not_at is =
+      let begins = (both (starts (skip_blanks (drop at text)) marker) (at_line_end (skip_blanks (drop (closer_len marker (drop at text)) (drop at text)))) is.marked).0 in
+      let reads = starts_reads (skip_blanks (drop at text)) marker begins 0 some in
+      let there : skip_blanks (drop at text) ≡ drop start text = ap (λ k. drop k (drop at text)) front_is ∙ drop-drop (start - at) at text ∙ ap (λ k. drop k text) (omega (arith, start_is)) in
+      other (ap (λ i. get_or text i 0) (omega arith) ∙ sym (get_or-drop start text 0 0) ∙ ap (λ l. get_or l 0 0) (sym there) ∙ reads)
+
+  pub other_line : (n : ℕ) → IsNextLine text start n → IsPassed marker text at n
+  other_line n next = record {
+    low = omega (arith, next.behind, start_is);
+    within = next.within;
+    starts_line = λ _. next.starts_line;
+    none = λ m low high is.
+        ⊎_elim (λ e. not_at (subst (λ k. IsMarkerLine marker text k) e is))
+        (λ rest. ⊎_elim (λ below. absurd (omega (arith, below, low))) (λ above. further m above high (is.starts_line (omega (arith, above)))) rest)
+        (cases_order m at);
+  }
+    where
+      further : (m : ℕ) → at < m → m < n → get_or text (m - 1) 0 ≢ 10
+      further m above high lf =
+          ⊎_elim (λ e. blank m above (omega (arith, e)) lf) (λ rest. ⊎_elim (λ below. blank m above (omega (arith, below)) lf) (λ behind. next.first m behind high lf) rest) (cases_order m start)
+        where
+          blank : (k : ℕ) → at < k → k ≤ start → get_or text (k - 1) 0 ≢ 10
+          blank k low upto is_lf =
+              let yes = blank_until (k - 1) (omega (arith, low)) (omega (arith, low, upto)) in
+              let no : is_blank 10 ≡ true = ap is_blank (sym is_lf) ∙ yes in
+              absurd (cc (no))
+
+-- lines that were passed, after lines with no marker line
+pub none_passed : (marker text : List ℕ) (at n : ℕ) → ((m : ℕ) → m < at → ¬ IsMarkerLine marker text m) → IsPassed marker text at n → (m : ℕ) → m < n → ¬ IsMarkerLine marker text m
+none_passed marker text at n old new m high is =
+    ⊎_elim (λ e. new.none m (omega (arith, e)) high is)
+    (λ other. ⊎_elim (λ below. old m below is) (λ above. new.none m (omega (arith, above)) high is) other)
+    (cases_order m at)
+
+other_than : (b : ℕ) → not (b == 10) ≡ true → b ≢ 10
+other_than b h = grind (arith, nat_tests)
+
+same_as : (b : ℕ) → not (b == 10) ≡ false → b ≡ 10
+same_as b h = grind (arith, nat_tests)
+
+-- the first LF of a part ends the line
+pub next_upto : (text : List ℕ) (place end line : ℕ) → place ≤ end → end ≤ length text → line ≡ position_or_len (λ b. b == 10) (slice_range text place end) → place + line < end → IsNextLine text place (place + line + 1)
+next_upto text place end line order within line_is short =
+    let part : List ℕ = slice_range text place end in
+    let stop = same_as _ (prefix_len_stops (λ b. not (b == 10)) part 0 (omega (arith, line_is, slice_len text place end order within, short))) in
+    record {
+      behind = omega arith;
+      within = omega (arith, short, within);
+      starts_line = ap (λ i. get_or text i 0) (omega arith) ∙ sym (byte line short) ∙ ap (λ i. get_or part i 0) line_is ∙ stop;
+      first = λ m low high lf. other_than _ (prefix_len_passes (λ b. not (b == 10)) part (m - 1 - place) 0 (omega (arith, line_is, low, high)))
+          (byte (m - 1 - place) (omega (arith, low, high, short)) ∙ ap (λ i. get_or text i 0) (omega (arith, low)) ∙ lf);
+    }
+  where
+    byte : (k : ℕ) → place + k < end → get_or (slice_range text place end) k 0 ≡ get_or text (place + k) 0
+    byte k lt = get_or-take (end - place) (drop place text) k 0 (omega (arith, lt)) ∙ get_or-drop place text k 0

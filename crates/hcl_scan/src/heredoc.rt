@@ -5,11 +5,17 @@ ghost use Rattle.std.specs.List.{position_or_len, starts_with};
 ghost use Rattle.hcl_scan.specs.Lexemes.{is_newline_byte, marker_of};
 ghost use Rattle.hcl_scan.specs.Spelling.{starts, is_blank};
 ghost use Rattle.hcl_scan.specs.Scans.{skip_blanks, at_line_end, closer_len, IsMarkerLine, IsFirstMarkerLine};
-ghost use Rattle.hcl_scan.specs.Inner.MarkerPlaces.{IsPlace, IsBlankFront, EndsLine, IsNextLine};
+ghost use Rattle.hcl_scan.specs.Inner.MarkerPlaces.{IsPlace, IsBlankFront, EndsLine, IsNextLine, IsPassed};
 
-use crate::text::{count_blanks, is_blank, skip_blanks};
+use crate::text::{count_blanks, is_blank, line_len, past_blanks, skip_blanks};
 use memchr::memchr;
 use memchr::memmem::Finder;
+
+/// Behind a line that has the marker in it, short lines are passed byte by byte: the search for the marker takes longer where
+/// the next line has it too.
+const SHORT_LINE: usize = 32;
+/// How many lines are passed so before the next search.
+const SHORT_LINES: usize = 8;
 
 /// How many bytes stand before the first LF or CR, or before the end.
 fn word_len(text: &[u8]) -> usize
@@ -114,6 +120,52 @@ fn next_line(text: &[u8], place: usize) -> Option<usize>
     Some(place + line + 1)
 }
 
+/// The next line behind a place, if it begins up to `end`.
+fn next_line_upto(text: &[u8], place: usize, end: usize) -> Option<usize>
+    requires order { place ≤ end }
+    requires within { end ≤ length text.now }
+    ensures { IfSome result (IsNextLine text.now place) }
+{
+    let line = line_len(&text[place..end]);
+    if line == end - place {
+        return None;
+    }
+    Some(place + line + 1)
+}
+
+/// Where the next line begins, if this one is short and has no blank and not the marker's first byte first.
+fn behind_other_line(text: &[u8], marker: &[u8], at: usize) -> Option<usize>
+    requires some { 0 < length marker.now }
+    requires within { at ≤ length text.now }
+    ensures { IfSome result (IsPassed marker.now text.now at) }
+{
+    let end = at + (text.len() - at).min(SHORT_LINE);
+    let start = past_blanks(text, at, end);
+    if start == end || text[start] == marker[0] {
+        return None;
+    }
+    next_line_upto(text, start, end)
+}
+
+/// Behind short lines, a few at most, that begin otherwise than the marker.
+fn pass_other_lines(text: &[u8], marker: &[u8], at: usize) -> usize
+    requires some { 0 < length marker.now }
+    requires within { at ≤ length text.now }
+    requires line { 0 < at → get_or text.now (at - 1) 0 ≡ 10 }
+    ensures { IsPassed marker.now text.now at result }
+{
+    let mut here = at;
+    let mut left = SHORT_LINES;
+    while left > 0 {
+        let Some(next) = behind_other_line(text, marker, here) else {
+            return here;
+        };
+        here = next;
+        left -= 1;
+    }
+    here
+}
+
 /// Where the first line begins that is the marker.
 /// A line is asked once, where the marker comes first in it: before that only blanks may stand, and none begins a marker.
 pub fn marker_line(text: &[u8], marker: &[u8]) -> Option<usize>
@@ -128,7 +180,8 @@ pub fn marker_line(text: &[u8], marker: &[u8]) -> Option<usize>
         if let Some(start) = line_of_marker(text, place, place + marker.len()) {
             return Some(start);
         }
-        at = next_line(text, place)?;
+        let next = next_line(text, place)?;
+        at = pass_other_lines(text, marker, next);
     }
     None
 }

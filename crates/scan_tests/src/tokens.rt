@@ -143,6 +143,40 @@ fn heredocs(rt: HostRuntime) -> Result<(), Fail> {
     has_tokens(&rt, rt.alloc(), &rows)
 }
 
+/// Lines that have a heredoc's marker in them, and the one that is the marker.
+#[test]
+fn marker_lines(rt: HostRuntime) -> Result<(), Fail> {
+    let rows = [
+        (
+            "<<M\nxMM M\nM\n",
+            "HeredocOpen 0-4 !Lit 4-10 !HeredocClose 10-11 Newline 11-12",
+        ),
+        (
+            "<<M\nM x\n\tM.\nM\n",
+            "HeredocOpen 0-4 !Lit 4-12 !HeredocClose 12-13 Newline 13-14",
+        ),
+        (
+            "<<M\nx M\n-M \n M\n",
+            "HeredocOpen 0-4 !Lit 4-12 !HeredocClose 12-14 Newline 14-15",
+        ),
+        (
+            "<<M\nM\rM\n\t M\t \nx",
+            "HeredocOpen 0-4 !Lit 4-8 !HeredocClose 8-11 Newline 13-14 Ident 14-15",
+        ),
+        (
+            "<<M\r\nMx\r\n M \r\n",
+            "HeredocOpen 0-5 !Lit 5-9 !HeredocClose 9-11 Newline 12-14",
+        ),
+        (
+            "<<MM\nM\nMMM\n M MM\n\tMM",
+            "HeredocOpen 0-5 !Lit 5-17 !HeredocClose 17-20",
+        ),
+        ("<<M\nMx\nx M", "UnterminatedHeredoc at 1:1"),
+        ("<<M\nx\nM\r", "UnterminatedHeredoc at 1:1"),
+    ];
+    has_tokens(&rt, rt.alloc(), &rows)
+}
+
 /// What closes, and what does not.
 #[test]
 fn closers(rt: HostRuntime) -> Result<(), Fail> {
