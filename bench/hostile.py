@@ -21,7 +21,7 @@ MOST = 425
 def main(name, cases, most={}):
     """Times the cases, or counts their instructions; `most` says of which a byte may take more than `MOST`."""
     read = argparse.ArgumentParser(usage='%s [--limit N] [--keep FOLDER] [PROGRAM]\n       %s --count [PROGRAM]' % (name, name))
-    read.add_argument('--limit', type=float, default=6)
+    read.add_argument('--limit', type=float, default=12)
     read.add_argument('--keep')
     read.add_argument('--count', action='store_true')
     read.add_argument('program', nargs='?', default=str(TOP / 'bin' / 'tffmt'))
