@@ -16,7 +16,7 @@ ghost use Rattle.std.specs.Prelude.{◌≡◌, ◌<◌, ◌≤◌, ◌+◌, ◌-
 ghost use Rattle.hcl_scan.specs.Lexemes.{Lexeme};
 ghost use Rattle.hcl_syntax.specs.Balanced.{IsBalanced};
 ghost use Rattle.hcl_layout.specs.Print.{print};
-ghost use Rattle.hcl_layout.specs.Inner.InPlace.{EndsWell, Enters, GoOn, InPlace, Laid, gaps_on, left_at, since as since_of};
+ghost use Rattle.hcl_layout.specs.Inner.InPlace.{EndsWell, Enters, GoOn, HoldsBefore, InPlace, Laid, since as since_of};
 ghost use Rattle.hcl_layout.specs.Inner.Left.{bytes_of};
 ghost use Rattle.hcl_layout.specs.Inner.LineGaps.{ArePlain, len_with_blanks};
 ghost use Rattle.hcl_layout.specs.Inner.Simple.{IsFrom};
@@ -126,7 +126,7 @@ fn enter(
     ensures stands { IfSome result (λ line. Stands tokens.now.tokens line.end walk.new.depth walk.new.levels) }
     ensures fits { IfSome result (λ line. IfSome walk.new.column (λ c. c < 2 ^ 33)) }
     ensures narrow { IfSome result (λ line. IfSome runs.new.column (λ c. c < 2 ^ 34)) }
-    ensures step { IfSome result (λ line. (end : ℕ) → InPlace tokens.now.tokens tokens.now.text walk.new runs.new line.end end → left_at tokens.now.tokens line (gaps_on tokens.now.tokens line.end walk.new runs.new.column) first ≡ drop at tokens.now.text → InPlace tokens.now.tokens tokens.now.text walk.old runs.old first at) }
+    ensures step { IfSome result (λ line. HoldsBefore tokens.now.tokens tokens.now.text line first at walk.old runs.old walk.new runs.new) }
 {
     let line = line_at(tokens, first, walk.depth);
     if !ends_well(walk.column, runs.assign, line.assign) {

@@ -61,3 +61,9 @@ left_at ts l rest n = printed (gaps_from l.gaps (n - l.first) (token_before ts l
 -- from a token and a place to others the source goes on as the print
 abbrev pub GoOn : List Lexeme → List ℕ → LaidLine → ℕ → ℕ → ℕ → ℕ → Type 0
 GoOn ts source l n at n' at' = (rest : List ℕ) → left_at ts l rest n' ≡ drop at' source → left_at ts l rest n ≡ drop at source
+
+-- where a line and all behind it stand in place, all stands in place from the line on: by the walk and the runs before the
+-- line, and by those behind it
+abbrev pub HoldsBefore : List Lexeme → List ℕ → LaidLine → ℕ → ℕ → Walk → Runs → Walk → Runs → Type 0
+HoldsBefore ts source l first at w runs w' runs' =
+    (end : ℕ) → InPlace ts source w' runs' l.end end → left_at ts l (gaps_on ts l.end w' runs'.column) first ≡ drop at source → InPlace ts source w runs first at
