@@ -32,7 +32,7 @@ struct Span {
 }
 
 /// An entry as it is given, by its length: so no end is added up of which the start is taken away again.
-#[derive(Clone, Copy, Debug)]
+#[derive(Clone, Copy)]
 pub struct Given {
     pub start: usize,
     pub length: usize,

@@ -16,7 +16,7 @@ use crate::text::{blanks_len, byte_at, line_len, newline_len};
 use crate::token::{Found, Kind};
 
 /// What the next token of an expression depends on, besides the text.
-#[derive(Clone, Copy, Debug)]
+#[derive(Clone, Copy)]
 pub struct Surroundings {
     /// The token before is a Dot.
     pub after_dot: bool,

@@ -24,7 +24,7 @@ use hcl_source::FaultKind;
 use std::marker::Model;
 
 /// A fault, and the offset at which it stands.
-#[derive(Clone, Copy, Debug)]
+#[derive(Clone, Copy)]
 pub struct Stopped {
     pub kind: FaultKind,
     pub at: u32,

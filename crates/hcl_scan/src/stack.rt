@@ -12,7 +12,7 @@ use std::marker::Model;
 
 /// What opens. A heredoc is kept by where its closing marker ends, and where what was seen around it
 /// ends.
-#[derive(Clone, Copy, Debug, PartialEq, Eq)]
+#[derive(Clone, Copy)]
 pub enum Opener {
     Quote,
     Heredoc { closer_end: u32, outer_end: u32 },
@@ -23,7 +23,7 @@ pub enum Opener {
 }
 
 /// What was opened, and where.
-#[derive(Clone, Copy, Debug, PartialEq, Eq)]
+#[derive(Clone, Copy)]
 pub struct Opened {
     pub by: Opener,
     pub at: u32,

@@ -198,7 +198,7 @@ pub fn write_fully<W: ByteSink>(sink: &mut W, bytes: &[u8]) -> Result<(), WriteF
 }
 
 /// Why nothing was read.
-#[derive(Clone, Copy, Debug, PartialEq, Eq)]
+#[derive(Clone, Copy)]
 pub(crate) enum ReadError {
     Failed,
     OutOfMemory,

@@ -9,7 +9,7 @@ ghost use Rattle.hcl_syntax.specs.Classes.{is_trivia};
 use hcl_scan::{Kind, Tokens};
 
 /// What an identifier can mean where the grammar asks for a word of its own.
-#[derive(Clone, Copy, Debug, PartialEq, Eq)]
+#[derive(Clone, Copy)]
 pub enum Word {
     Plain,
     For,
@@ -22,7 +22,7 @@ pub enum Word {
 
 /// The classes of tokens that the grammar tells apart: a number by whether it is digits only, and the operators that
 /// stand between two operands alone as one class.
-#[derive(Clone, Copy, Debug, PartialEq, Eq)]
+#[derive(Clone, Copy)]
 pub enum Class {
     Trivia,
     Newline,
@@ -57,7 +57,7 @@ pub enum Class {
 }
 
 /// A token's class, and which of the tokens it is, counted from 0.
-#[derive(Clone, Copy, Debug)]
+#[derive(Clone, Copy)]
 pub struct Lookahead {
     pub class: Class,
     pub number: u32,

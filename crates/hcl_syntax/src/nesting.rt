@@ -1,7 +1,7 @@
 //! What a token means to the search for newlines.
 
 /// A newline, an opener, a closer, or none of these.
-#[derive(Clone, Copy, Debug)]
+#[derive(Clone, Copy)]
 pub enum Nesting {
     Newline,
     Opens,

@@ -15,7 +15,7 @@ use hcl_scan::{Kind, Tokens};
 use std::alloc::AllocError;
 
 /// The tokens between a block's braces, by the number of the first and one past that of the last; it may be empty.
-#[derive(Clone, Copy, Debug)]
+#[derive(Clone, Copy)]
 struct Body {
     first: u32,
     end: u32,

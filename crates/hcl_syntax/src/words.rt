@@ -10,7 +10,7 @@ ghost use Rattle.hcl_syntax.specs.Numbered.{end_of, is_comment};
 use hcl_scan::{Kind, Tokens};
 
 /// A token that is no comment, and its number.
-#[derive(Clone, Copy, Debug)]
+#[derive(Clone, Copy)]
 pub struct NumberedKind {
     pub number: u32,
     pub kind: Kind,

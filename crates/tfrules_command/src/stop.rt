@@ -18,7 +18,7 @@ pub enum Stop {
 }
 
 /// The name of the file at which a run stopped, and why.
-#[derive(Clone, Copy, Debug)]
+#[derive(Clone, Copy)]
 pub struct Stopped<'a> {
     pub name: &'a str,
     pub why: Stop,
