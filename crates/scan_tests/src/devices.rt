@@ -1,12 +1,12 @@
 //! Devices over readers and writers of std's that fail once and then work. No contract sees how
 //! often a device calls what it stands on.
 
-use hcl_source::{
-    ByteSink, ByteSource, Failed, FromRead, LoadError, Source, ToWrite, WriteFault, write_fully,
-};
+use crate::checks::{flushes, holds, reads, same, same_bytes, writes_fully};
+use hcl_source::{Failed, FromRead, LoadError, Source, ToWrite, WriteFault};
+use std::alloc::Global;
 use std::io;
 use std::io::{ErrorKind, Read, Write};
-use std::test::Fail;
+use std::process::Abort;
 
 // A call that is interrupted is what a loop would most likely repeat.
 const KINDS: [ErrorKind; 3] = [
@@ -56,15 +56,15 @@ struct Choppy {
 impl Write for Choppy {
     fn write(&mut self, buf: &[u8]) -> io::Result<usize> {
         self.writes = self.writes.saturating_add(1);
-        if self.writes == self.bad_write {
-            return match self.kind {
-                Some(kind) => Err(io::Error::from(kind)),
-                None => Ok(0),
-            };
+        let is_bad = self.writes == self.bad_write;
+        match self.kind {
+            Some(kind) if is_bad => Err(io::Error::from(kind)),
+            _ => {
+                let most = if is_bad { 0 } else { buf.len().min(3) };
+                self.taken.extend_from_slice(&buf[..most])?;
+                Ok(most)
+            }
         }
-        let most = buf.len().min(3);
-        self.taken.extend_from_slice(&buf[..most])?;
-        Ok(most)
     }
 
     fn flush(&mut self) -> io::Result<()> {
@@ -76,86 +76,75 @@ impl Write for Choppy {
     }
 }
 
+/// A reader of `a=1` and a line feed.
+fn flaky_reader(fails_at: u32, kind: ErrorKind) -> Flaky {
+    Flaky {
+        bytes: b"a=1\n",
+        calls: 0,
+        fails_at,
+        kind,
+    }
+}
+
+/// A writer that has taken nothing yet.
+fn choppy_writer(alloc: Global, bad_write: u32, bad_flush: u32, kind: Option<ErrorKind>) -> Choppy {
+    Choppy {
+        taken: Vec::new(alloc),
+        writes: 0,
+        flushes: 0,
+        bad_write,
+        bad_flush,
+        kind,
+    }
+}
+
+/// That the writer was called so often, and has taken these bytes.
+fn was_called(rt: &impl Abort, writer: &Choppy, writes: u32, flushes: u32, taken: &[u8]) {
+    same(rt, &writer.writes, &writes, "the count of writes");
+    same(rt, &writer.flushes, &flushes, "the count of flushes");
+    same_bytes(rt, writer.taken.as_slice(), taken, "the bytes taken");
+}
+
 #[test]
 fn a_failed_read_is_not_tried_again(rt: HostRuntime) {
     for kind in KINDS {
-        let mut reader = Flaky {
-            bytes: b"a=1\n",
-            calls: 0,
-            fails_at: 2,
-            kind,
-        };
+        let mut reader = flaky_reader(2, kind);
         let mut from = FromRead::new(&mut reader);
         let mut buffer = [0; 8];
-        assert_eq!(rt; from.read(&mut buffer), Ok(1));
-        assert!(rt; !from.has_failed());
-        assert_eq!(rt; from.read(&mut buffer), Err(Failed));
-        assert!(rt; from.has_failed());
-        assert_eq!(rt; reader.calls, 2);
-        assert_eq!(rt; reader.bytes, b"=1\n".as_slice());
+        reads(&rt, &mut from, &mut buffer, Ok(1));
+        reads(&rt, &mut from, &mut buffer, Err(Failed));
+        same(&rt, &reader.calls, &2, "the count of reads");
+        same_bytes(&rt, reader.bytes, b"=1\n", "the bytes left");
     }
 }
 
 #[test]
 fn no_source_after_a_failed_read(rt: HostRuntime) {
     for kind in KINDS {
-        let mut reader = Flaky {
-            bytes: b"a=1\n",
-            calls: 0,
-            fails_at: 3,
-            kind,
-        };
-        let mut from = FromRead::new(&mut reader);
-        assert!(rt;
-            matches!(
-                Source::read_from(rt.alloc(), &mut from),
-                Err(LoadError::ReadFailed)
-            )
-        );
-        assert_eq!(rt; reader.calls, 3);
+        let mut reader = flaky_reader(3, kind);
+        let loaded = Source::read_from(rt.alloc(), &mut FromRead::new(&mut reader));
+        let is_failed = matches!(loaded, Err(LoadError::ReadFailed));
+        holds(&rt, is_failed, "a failed read");
+        same(&rt, &reader.calls, &3, "the count of reads");
     }
 }
 
 #[test]
-fn a_failed_write_is_not_repeated(rt: HostRuntime) -> Result<(), Fail> {
+fn a_failed_write_is_not_repeated(rt: HostRuntime) {
     for kind in [None, Some(KINDS[0]), Some(KINDS[1]), Some(KINDS[2])] {
-        let mut writer = Choppy {
-            taken: Vec::new(rt.alloc()),
-            writes: 0,
-            flushes: 0,
-            bad_write: 2,
-            bad_flush: 0,
-            kind,
-        };
+        let mut writer = choppy_writer(rt.alloc(), 2, 0, kind);
         let mut to = ToWrite::new(&mut writer);
-        let answer = write_fully(&mut to, b"a = 1\n");
-        assert_eq!(rt; answer, Err(WriteFault { written: 3 }));
-        assert!(rt; to.has_failed());
-        assert_eq!(rt; writer.writes, 2);
-        assert_eq!(rt; writer.taken.as_slice(), b"a =".as_slice());
-        assert_eq!(rt; writer.flushes, 0);
+        writes_fully(&rt, &mut to, b"a = 1\n", Err(WriteFault { written: 3 }));
+        was_called(&rt, &writer, 2, 0, b"a =");
     }
-    Ok(())
 }
 
 #[test]
-fn a_flush_is_handed_on(rt: HostRuntime) -> Result<(), Fail> {
-    let mut writer = Choppy {
-        taken: Vec::new(rt.alloc()),
-        writes: 0,
-        flushes: 0,
-        bad_write: 0,
-        bad_flush: 2,
-        kind: Some(ErrorKind::Interrupted),
-    };
+fn a_flush_is_handed_on(rt: HostRuntime) {
+    let mut writer = choppy_writer(rt.alloc(), 0, 2, Some(ErrorKind::Interrupted));
     let mut to = ToWrite::new(&mut writer);
-    assert!(rt; write_fully(&mut to, b"a = 1\n").is_ok());
-    assert_eq!(rt; to.flush(), Ok(()));
-    assert!(rt; !to.has_failed());
-    assert_eq!(rt; to.flush(), Err(Failed));
-    assert!(rt; to.has_failed());
-    assert_eq!(rt; writer.writes, 2);
-    assert_eq!(rt; writer.flushes, 2);
-    assert_eq!(rt; writer.taken.as_slice(), b"a = 1\n".as_slice());
-    Ok(())
+    writes_fully(&rt, &mut to, b"a = 1\n", Ok(()));
+    flushes(&rt, &mut to, Ok(()));
+    flushes(&rt, &mut to, Err(Failed));
+    was_called(&rt, &writer, 2, 2, b"a = 1\n");
 }

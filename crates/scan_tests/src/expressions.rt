@@ -1,7 +1,9 @@
 //! What is found at the front of an expression, and behind a front that says where it stands.
 
-use hcl_scan::{ScanError, Source, scan};
-use std::alloc::Global;
+use crate::checks::same_text;
+use crate::shown::{push_error, push_length};
+use hcl_scan::{ScanError, Source, Tokens, scan};
+use std::alloc::{AllocError, Global};
 use std::process::Abort;
 use std::test::Fail;
 
@@ -10,32 +12,48 @@ const DOT: &str = "a.";
 
 const HEREDOC: &str = "<<E\n${a";
 
-/// The kind and the length of the token that begins behind the front, or the fault of the text.
-fn found(alloc: Global, front: &str, rest: &str) -> Result<String, Fail> {
-    let text = format!(in alloc; "{front}{rest}")?;
-    let source = Source::from_bytes(alloc, text.as_bytes())?;
-    let tokens = match scan(alloc, &source) {
-        Ok(tokens) => tokens,
-        Err(ScanError::Fault(fault)) => {
-            let at = fault.at;
-            return Ok(format!(in alloc; "{:?} at {}:{}", fault.kind, at.line, at.column)?);
-        }
-        Err(ScanError::OutOfMemory) => return Ok(String::from_str(alloc, "out of memory")?),
-    };
+/// The kind and the length of the token that begins there.
+fn push_found(line: &mut String, tokens: &Tokens<'_>, start: usize) -> Result<(), AllocError> {
     for i in 0..tokens.len() {
         let token = tokens.get(i);
-        if token.start == front.len() {
-            return Ok(format!(in alloc; "{:?} {}", token.kind, token.text.len())?);
+        if token.start == start {
+            return push_length(line, &token);
         }
     }
-    Ok(String::from_str(alloc, "nothing")?)
+    line.push_str("nothing")
+}
+
+/// What is found there, or the fault of the text.
+fn push_answer(
+    line: &mut String,
+    answer: &Result<Tokens<'_>, ScanError>,
+    start: usize,
+) -> Result<(), AllocError> {
+    match answer {
+        Ok(tokens) => push_found(line, tokens, start),
+        Err(error) => push_error(line, error),
+    }
+}
+
+/// What is found behind the front.
+fn found(alloc: Global, front: &str, source: &Source) -> Result<String, Fail> {
+    let mut line = String::new(alloc);
+    push_answer(&mut line, &scan(alloc, source), front.len())?;
+    Ok(line)
+}
+
+/// A front and what is behind it, as a source.
+fn source_of(alloc: Global, front: &str, rest: &str) -> Result<Source, Fail> {
+    let text = format!(in alloc; "{front}{rest}")?;
+    Ok(Source::from_bytes(alloc, text.as_bytes())?)
 }
 
 /// That this is found behind each front.
 fn finds(rt: &impl Abort, alloc: Global, rows: &[(&str, &str, &str)]) -> Result<(), Fail> {
     for (front, rest, wanted) in rows {
-        let given = found(alloc, *front, *rest)?;
-        assert!(rt; given.as_str() == *wanted, "{given}");
+        let source = source_of(alloc, *front, *rest)?;
+        let given = found(alloc, *front, &source)?;
+        same_text(rt, given.as_str(), *wanted, source.text());
     }
     Ok(())
 }

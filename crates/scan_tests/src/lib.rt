@@ -3,6 +3,8 @@
 #![tactic(auto)]
 
 #[cfg(test)]
+mod checks;
+#[cfg(test)]
 mod devices;
 #[cfg(test)]
 mod expressions;
@@ -12,6 +14,8 @@ mod memory;
 mod pairs;
 #[cfg(test)]
 mod scans;
+#[cfg(test)]
+mod shown;
 #[cfg(test)]
 mod sources;
 #[cfg(test)]

@@ -1,8 +1,10 @@
 //! Each mark beside each mark: which tokens a text of two of them is. The answers were worked out
 //! from the table of marks by the longest match, apart from this code.
 
+use crate::checks::{same, same_text};
 use hcl_scan::{ScanError, Source, Tokens, scan};
 use std::alloc::{AllocError, Global};
+use std::process::Abort;
 use std::test::Fail;
 
 /// A text and its tokens, or its fault, in each line.
@@ -782,15 +784,35 @@ static PAIRS: &str = "\
 }}\t} }";
 
 /// The texts of tokens with a blank between them.
-fn joined(alloc: Global, tokens: &Tokens<'_>) -> Result<String, AllocError> {
-    let mut line = String::new(alloc);
+fn push_texts(line: &mut String, tokens: &Tokens<'_>) -> Result<(), AllocError> {
     for i in 0..tokens.len() {
         if i > 0 {
             line.push(' ')?;
         }
         line.push_str(tokens.get(i).text)?;
     }
-    Ok(line)
+    Ok(())
+}
+
+/// The texts of the tokens, or what messages say for the fault.
+fn push_answer(
+    line: &mut String,
+    answer: &Result<Tokens<'_>, ScanError>,
+) -> Result<(), AllocError> {
+    match answer {
+        Ok(tokens) => push_texts(line, tokens),
+        Err(ScanError::Fault(fault)) => line.push_str(fault.kind.text()),
+        Err(ScanError::OutOfMemory) => line.push_str("out of memory"),
+    }
+}
+
+/// That a text has these tokens, or this fault.
+fn has(rt: &impl Abort, alloc: Global, text: &str, wanted: &str) -> Result<(), Fail> {
+    let source = Source::from_bytes(alloc, text.as_bytes())?;
+    let mut line = String::new(alloc);
+    push_answer(&mut line, &scan(alloc, &source))?;
+    same_text(rt, line.as_str(), wanted, text);
+    Ok(())
 }
 
 #[test]
@@ -800,14 +822,9 @@ fn neighbours(rt: HostRuntime) -> Result<(), Fail> {
         let Some((text, wanted)) = row.split_once('\t') else {
             continue;
         };
-        let source = Source::from_bytes(rt.alloc(), text.as_bytes())?;
-        match scan(rt.alloc(), &source) {
-            Ok(tokens) => assert_eq!(rt; joined(rt.alloc(), &tokens)?.as_str(), wanted, "{text}"),
-            Err(ScanError::Fault(fault)) => assert_eq!(rt; fault.kind.text(), wanted, "{text}"),
-            Err(ScanError::OutOfMemory) => assert!(rt; false, "out of memory"),
-        }
+        has(&rt, rt.alloc(), text, wanted)?;
         count = count.wrapping_add(1);
     }
-    assert_eq!(rt; count, 773);
+    same(&rt, &count, &773, "the count of pairs");
     Ok(())
 }

@@ -1,8 +1,18 @@
 //! Calls with ample memory, compared with answers worked out by hand.
 
-use hcl_scan::{FaultKind, Kind, Position, ScanError, Source, scan};
+use crate::checks::{holds, same, same_text};
+use hcl_scan::{FaultKind, Kind, Position, ScanError, Source, Token, scan};
 use std::process::Abort;
 use std::test::Fail;
+
+/// That a token outside of heredocs has this kind, text and start.
+fn is_token(rt: &impl Abort, token: Token<'_>, wanted: (Kind, &str, usize)) {
+    let (kind, text, start) = wanted;
+    same(rt, &token.kind, &kind, text);
+    same_text(rt, token.text, text, "a token's text");
+    same(rt, &token.start, &start, text);
+    holds(rt, !token.inside_heredoc, text);
+}
 
 #[test]
 fn scans_an_attribute(rt: HostRuntime) -> Result<(), Fail> {
@@ -17,15 +27,11 @@ fn scans_an_attribute(rt: HostRuntime) -> Result<(), Fail> {
         (Kind::Assign, "=", 18),
         (Kind::Number, "20", 20),
     ];
-    assert_eq!(rt; tokens.len(), wanted.len());
-    for (i, (kind, text, start)) in wanted.iter().enumerate() {
+    same(&rt, &tokens.len(), &wanted.len(), "the count of tokens");
+    for (i, row) in wanted.iter().enumerate() {
         if i < tokens.len() {
-            let token = tokens.get(i);
-            assert_eq!(rt; token.kind, *kind);
-            assert_eq!(rt; tokens.kind(i), *kind);
-            assert_eq!(rt; token.text, *text);
-            assert_eq!(rt; token.start, *start);
-            assert!(rt; !token.inside_heredoc);
+            is_token(&rt, tokens.get(i), *row);
+            same(&rt, &tokens.kind(i), &row.0, "a token's kind");
         }
     }
     Ok(())
@@ -36,10 +42,15 @@ fn refuses_a_character(rt: HostRuntime) -> Result<(), Fail> {
     let source = Source::from_bytes(rt.alloc(), b"a=1\nb=^1\n")?;
     match scan(rt.alloc(), &source) {
         Err(ScanError::Fault(fault)) => {
-            assert_eq!(rt; fault.kind, FaultKind::InvalidCharacter);
-            assert_eq!(rt; fault.at, Position { line: 2, column: 3 });
+            same(&rt, &fault.kind, &FaultKind::InvalidCharacter, "the kind");
+            same(
+                &rt,
+                &fault.at,
+                &Position { line: 2, column: 3 },
+                "the place",
+            );
         }
-        _ => assert!(rt; false, "no scan fault"),
+        _ => holds(&rt, false, "no scan fault"),
     }
     Ok(())
 }

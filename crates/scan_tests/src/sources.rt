@@ -1,9 +1,10 @@
 //! Calls with ample memory, compared with answers worked out by hand.
 
+use crate::checks::{flushes, holds, same, same_text, writes_fully};
 use hcl_source::{
-    ByteSink, ByteSource, FaultKind, FromRead, LoadError, MAX_SOURCE, Position, Source, ToWrite,
-    line_start, write_fully,
+    ByteSource, Fault, FaultKind, FromRead, LoadError, MAX_SOURCE, Position, Source, ToWrite,
 };
+use std::alloc::Global;
 use std::process::Abort;
 use std::test::Fail;
 
@@ -13,10 +14,10 @@ fn place(line: u32, column: u32) -> Position {
 
 #[test]
 fn copies_bytes(rt: HostRuntime) -> Result<(), Fail> {
-    let source = Source::from_bytes(rt.alloc(), b"a=1\n")?;
-    assert_eq!(rt; source.text(), "a=1\n");
-    let empty = Source::from_bytes(rt.alloc(), b"")?;
-    assert_eq!(rt; empty.text(), "");
+    for text in ["a=1\n", ""] {
+        let source = Source::from_bytes(rt.alloc(), text.as_bytes())?;
+        same_text(&rt, source.text(), text, "a copy");
+    }
     Ok(())
 }
 
@@ -24,25 +25,23 @@ fn copies_bytes(rt: HostRuntime) -> Result<(), Fail> {
 fn reads_to_the_end(rt: HostRuntime) -> Result<(), Fail> {
     let mut input = FromRead::new(b"a=1".as_slice());
     let source = Source::read_from(rt.alloc(), &mut input)?;
-    assert_eq!(rt; source.text(), "a=1");
-    assert!(rt; !input.has_failed());
+    same_text(&rt, source.text(), "a=1", "what was read");
+    holds(&rt, !input.has_failed(), "has_failed");
     Ok(())
 }
 
-fn check_load(
-    rt: &impl Abort,
-    alloc: std::alloc::Global,
-    bytes: &[u8],
-    kind: FaultKind,
-    at: Position,
-) {
+/// Why bytes are no source, or `None` where they are one.
+fn load_fault(alloc: Global, bytes: &[u8]) -> Option<Fault> {
     match Source::from_bytes(alloc, bytes) {
-        Err(LoadError::Fault(fault)) => {
-            assert_eq!(rt; fault.kind, kind);
-            assert_eq!(rt; fault.at, at);
-        }
-        _ => assert!(rt; false, "no load fault"),
+        Err(LoadError::Fault(fault)) => Some(fault),
+        _ => None,
     }
+}
+
+/// That bytes are refused so.
+fn check_load(rt: &impl Abort, alloc: Global, bytes: &[u8], kind: FaultKind, at: Position) {
+    let fault = load_fault(alloc, bytes);
+    same(rt, &fault, &Some(Fault { kind, at }), "a load's fault");
 }
 
 #[test]
@@ -60,29 +59,26 @@ fn refuses_what_is_no_source(rt: HostRuntime) -> Result<(), Fail> {
     let large = vec![in alloc; b'\n'; MAX_SOURCE + 1]?;
     check_load(&rt, alloc, &large, FaultKind::TooLarge, place(1, 1));
     let largest = vec![in alloc; b'\n'; MAX_SOURCE]?;
-    assert_eq!(rt;
-        Source::from_bytes(alloc, &largest)?.text().len(),
-        MAX_SOURCE
-    );
+    let source = Source::from_bytes(alloc, &largest)?;
+    same(&rt, &source.text().len(), &MAX_SOURCE, "the largest source");
     Ok(())
 }
 
 #[test]
 fn counts_lines_and_clusters(rt: HostRuntime) -> Result<(), Fail> {
     let source = Source::from_bytes(rt.alloc(), b"ab\ne\xcc\x81\tx")?;
-    assert_eq!(rt; source.position(0), place(1, 1));
-    assert_eq!(rt; source.position(2), place(1, 3));
-    assert_eq!(rt; source.position(3), place(2, 1));
-    assert_eq!(rt; source.position(6), place(2, 2));
-    assert_eq!(rt; source.position(8), place(2, 4));
+    same(&rt, &source.position(0), &place(1, 1), "the front");
+    same(&rt, &source.position(2), &place(1, 3), "the end of a line");
+    same(&rt, &source.position(3), &place(2, 1), "the next line");
+    same(&rt, &source.position(6), &place(2, 2), "behind a cluster");
+    same(&rt, &source.position(8), &place(2, 4), "the end");
     Ok(())
 }
 
 #[test]
 fn writes_all(rt: HostRuntime) -> Result<(), Fail> {
     let mut sink = ToWrite::new(Vec::new(rt.alloc()));
-    assert!(rt; write_fully(&mut sink, b"a = 1\n").is_ok());
-    assert!(rt; sink.flush().is_ok());
-    assert!(rt; !sink.has_failed());
+    writes_fully(&rt, &mut sink, b"a = 1\n", Ok(()));
+    flushes(&rt, &mut sink, Ok(()));
     Ok(())
 }

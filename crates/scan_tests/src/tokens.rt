@@ -1,54 +1,57 @@
 //! Texts, and their tokens or their fault. The expected values were worked out apart from this code.
 
-use hcl_scan::{ScanError, Source, scan};
+use crate::checks::{holds, same_text};
+use crate::shown::{push_error, push_places};
+use hcl_scan::{ScanError, Source, Tokens, scan};
 use std::alloc::{AllocError, Global};
 use std::process::Abort;
 use std::test::Fail;
 
+/// The tokens by kind and place, or the fault of the text.
+fn push_answer(
+    line: &mut String,
+    answer: &Result<Tokens<'_>, ScanError>,
+) -> Result<(), AllocError> {
+    match answer {
+        Ok(tokens) => push_places(line, tokens),
+        Err(error) => push_error(line, error),
+    }
+}
+
 /// The tokens of a text by kind and place, those inside heredocs with a `!`, or its fault.
 fn shown(alloc: Global, text: &str) -> Result<String, Fail> {
-    let mut line = String::new(alloc);
     let source = Source::from_bytes(alloc, text.as_bytes())?;
-    match scan(alloc, &source) {
-        Ok(tokens) => {
-            for i in 0..tokens.len() {
-                let token = tokens.get(i);
-                if !line.is_empty() {
-                    line.push_str(" ")?;
-                }
-                if token.inside_heredoc {
-                    line.push_str("!")?;
-                }
-                let end = token.start.saturating_add(token.text.len());
-                let shown = format!(in alloc; "{:?} {}-{}", token.kind, token.start, end)?;
-                line.push_str(shown.as_str())?;
-            }
-        }
-        Err(ScanError::Fault(fault)) => {
-            let at = fault.at;
-            let stopped = format!(in alloc; "{:?} at {}:{}", fault.kind, at.line, at.column)?;
-            line.push_str(stopped.as_str())?;
-        }
-        Err(ScanError::OutOfMemory) => line.push_str("out of memory")?,
-    }
+    let mut line = String::new(alloc);
+    push_answer(&mut line, &scan(alloc, &source))?;
     Ok(line)
+}
+
+fn push_times(text: &mut String, part: &str, count: usize) -> Result<(), AllocError> {
+    for _ in 0..count {
+        text.push_str(part)?;
+    }
+    Ok(())
 }
 
 /// `count` openers in turn, and then a text.
 fn nested(alloc: Global, opener: &str, count: usize, rest: &str) -> Result<String, AllocError> {
     let mut text = String::new(alloc);
-    for _ in 0..count {
-        text.push_str(opener)?;
-    }
+    push_times(&mut text, opener, count)?;
     text.push_str(rest)?;
     Ok(text)
+}
+
+/// That a text has these tokens, or this fault.
+fn has(rt: &impl Abort, alloc: Global, text: &str, wanted: &str) -> Result<(), Fail> {
+    let given = shown(alloc, text)?;
+    same_text(rt, given.as_str(), wanted, text);
+    Ok(())
 }
 
 /// That each text has these tokens, or this fault.
 fn has_tokens(rt: &impl Abort, alloc: Global, rows: &[(&str, &str)]) -> Result<(), Fail> {
     for (text, wanted) in rows {
-        let given = shown(alloc, *text)?;
-        assert_eq!(rt; given.as_str(), *wanted, "at {text:?}");
+        has(rt, alloc, *text, *wanted)?;
     }
     Ok(())
 }
@@ -235,8 +238,7 @@ fn too_deep(rt: HostRuntime) -> Result<(), Fail> {
     ];
     for (opener, count, rest, fault) in rows {
         let text = nested(rt.alloc(), opener, count, rest)?;
-        let line = shown(rt.alloc(), text.as_str())?;
-        assert_eq!(rt; line.as_str(), fault);
+        has(&rt, rt.alloc(), text.as_str(), fault)?;
     }
     Ok(())
 }
@@ -244,14 +246,19 @@ fn too_deep(rt: HostRuntime) -> Result<(), Fail> {
 /// 256 may be open.
 #[test]
 fn as_deep_as_can_be(rt: HostRuntime) -> Result<(), Fail> {
-    let text = nested(rt.alloc(), "(", 256, "x")?;
-    let line = shown(rt.alloc(), text.as_str())?;
-    assert!(rt; line.as_str().ends_with("Ident 256-257"));
-    let text = nested(rt.alloc(), "(", 255, "<<E\nE\n")?;
-    let line = shown(rt.alloc(), text.as_str())?;
-    assert!(rt;
-        line.as_str().ends_with("HeredocOpen 255-259 !HeredocClose 259-260 Newline 260-261")
-    );
+    let rows = [
+        (256, "x", "Ident 256-257"),
+        (
+            255,
+            "<<E\nE\n",
+            "HeredocOpen 255-259 !HeredocClose 259-260 Newline 260-261",
+        ),
+    ];
+    for (count, rest, last) in rows {
+        let text = nested(rt.alloc(), "(", count, rest)?;
+        let line = shown(rt.alloc(), text.as_str())?;
+        holds(&rt, line.as_str().ends_with(last), last);
+    }
     Ok(())
 }
 
@@ -281,6 +288,17 @@ fn comments_and_numbers(rt: HostRuntime) -> Result<(), Fail> {
     has_tokens(&rt, rt.alloc(), &rows)
 }
 
+/// The parts in turn: a front, so many letters, and what follows them.
+fn long_text(alloc: Global, parts: &[(&str, usize, &str)]) -> Result<String, AllocError> {
+    let mut text = String::new(alloc);
+    for (front, count, rest) in parts {
+        text.push_str(*front)?;
+        push_times(&mut text, "x", *count)?;
+        text.push_str(*rest)?;
+    }
+    Ok(text)
+}
+
 /// Long tokens, which are kept apart from others, with short ones between them.
 #[test]
 fn long_tokens(rt: HostRuntime) -> Result<(), Fail> {
@@ -291,24 +309,14 @@ fn long_tokens(rt: HostRuntime) -> Result<(), Fail> {
         ("d <<E\n", 199_999, "\nE\n"),
         ("e #", 65_534, "\nf"),
     ];
-    let mut text = String::new(rt.alloc());
-    for (front, count, rest) in parts {
-        text.push_str(front)?;
-        let longer = nested(rt.alloc(), "x", count, rest)?;
-        text.push_str(longer.as_str())?;
-    }
-    let wanted = [
-        "Ident 0-1 InlineComment 2-65536 Newline 65536-65537",
-        " Ident 65537-65538 QuoteOpen 65539-65540 Lit 65540-131075 QuoteClose 131075-131076 Newline 131076-131077",
-        " Ident 131077-131078 InlineComment 131079-196615 Newline 196615-196616",
-        " Ident 196616-196617 HeredocOpen 196618-196622 !Lit 196622-396622 !HeredocClose 396622-396623 Newline 396623-396624",
-        " Ident 396624-396625 LineComment 396626-462161 Newline 462161-462162 Ident 462162-462163",
-    ];
-    let mut tokens = String::new(rt.alloc());
-    for line in wanted {
-        tokens.push_str(line)?;
-    }
+    let wanted = "\
+Ident 0-1 InlineComment 2-65536 Newline 65536-65537 \
+Ident 65537-65538 QuoteOpen 65539-65540 Lit 65540-131075 QuoteClose 131075-131076 Newline 131076-131077 \
+Ident 131077-131078 InlineComment 131079-196615 Newline 196615-196616 \
+Ident 196616-196617 HeredocOpen 196618-196622 !Lit 196622-396622 !HeredocClose 396622-396623 Newline 396623-396624 \
+Ident 396624-396625 LineComment 396626-462161 Newline 462161-462162 Ident 462162-462163";
+    let text = long_text(rt.alloc(), &parts)?;
     let line = shown(rt.alloc(), text.as_str())?;
-    assert_eq!(rt; line.as_str(), tokens.as_str());
+    same_text(&rt, line.as_str(), wanted, "long tokens");
     Ok(())
 }
