@@ -1,19 +1,35 @@
 //! Small files, and texts that are none with the fault that they have, worked out by hand or by another program.
 
+use crate::checks::holds;
 use hcl_scan::{Fault, FaultKind, Position, Source, scan};
 use hcl_syntax::accepts;
-use std::alloc::Global;
+use std::alloc::{AllocError, Global};
 use std::process::Abort;
 use std::test::Fail;
 
-/// That the text is a file.
-fn takes(rt: &impl Abort, alloc: Global, text: &str) -> Result<(), Fail> {
+/// Why a text is refused; nothing for a file, whose tokens are all accepted then.
+fn fault_of(rt: &impl Abort, alloc: Global, text: &str) -> Result<Option<Fault>, Fail> {
     let source = Source::from_bytes(alloc, text.as_bytes())?;
     let tokens = scan(alloc, &source)?;
     match accepts(&tokens) {
-        Ok(accepted) => assert_eq!(rt; accepted.tokens().len(), tokens.len(), "{text}"),
-        Err(fault) => assert!(rt; false, "{text}: {fault:?}"),
+        Ok(accepted) => {
+            let is_whole = accepted.tokens().len() == tokens.len();
+            holds(rt, is_whole, "all tokens", text);
+            Ok(None)
+        }
+        Err(fault) => Ok(Some(fault)),
     }
+}
+
+/// That this is what was wanted of the text.
+fn is_fault(rt: &impl Abort, found: Option<Fault>, wanted: Option<Fault>, text: &str) {
+    assert_eq!(rt; found, wanted, "{text}");
+}
+
+/// That the text is a file.
+fn takes(rt: &impl Abort, alloc: Global, text: &str) -> Result<(), Fail> {
+    let found = fault_of(rt, alloc, text)?;
+    is_fault(rt, found, None, text);
     Ok(())
 }
 
@@ -26,13 +42,9 @@ fn refuses(
     line: u32,
     column: u32,
 ) -> Result<(), Fail> {
-    let source = Source::from_bytes(alloc, text.as_bytes())?;
-    let tokens = scan(alloc, &source)?;
     let at = Position { line, column };
-    match accepts(&tokens) {
-        Ok(_) => assert!(rt; false, "{text}: accepted"),
-        Err(fault) => assert_eq!(rt; fault, Fault { kind, at }, "{text}"),
-    }
+    let found = fault_of(rt, alloc, text)?;
+    is_fault(rt, found, Some(Fault { kind, at }), text);
     Ok(())
 }
 
@@ -59,25 +71,25 @@ fn refuses_all(
 
 #[test]
 fn takes_files(rt: HostRuntime) -> Result<(), Fail> {
-    let texts = ["", "\n\na=1\n", "a = 1", "a = 1 # x\n/* y */ b = 2 // z\n"];
-    takes_all(&rt, rt.alloc(), &texts)
+    static TEXTS: &[&str] = &["", "\n\na=1\n", "a = 1", "a = 1 # x\n/* y */ b = 2 // z\n"];
+    takes_all(&rt, rt.alloc(), TEXTS)
 }
 
 #[test]
 fn takes_blocks(rt: HostRuntime) -> Result<(), Fail> {
-    let texts = [
+    static TEXTS: &[&str] = &[
         "b {\n}\n",
         "b {}\n",
         "b {}",
         "b { c = 1 }\n",
         "b \"x\" c \"\" \"y\" {\n  d = 1\n\n  e {\n    f {}\n  }\n}\n",
     ];
-    takes_all(&rt, rt.alloc(), &texts)
+    takes_all(&rt, rt.alloc(), TEXTS)
 }
 
 #[test]
 fn takes_operands(rt: HostRuntime) -> Result<(), Fail> {
-    let texts = [
+    static TEXTS: &[&str] = &[
         "a = -!-b\n",
         "a = 1.5e3\n",
         "a = \"x\"\n",
@@ -88,12 +100,12 @@ fn takes_operands(rt: HostRuntime) -> Result<(), Fail> {
         "a = {}\n",
         "a = b /* c */ + /* d */ e\n",
     ];
-    takes_all(&rt, rt.alloc(), &texts)
+    takes_all(&rt, rt.alloc(), TEXTS)
 }
 
 #[test]
 fn takes_follows(rt: HostRuntime) -> Result<(), Fail> {
-    let texts = [
+    static TEXTS: &[&str] = &[
         "a = b.c.0.*.d\n",
         "a = b[*].c.0\n",
         "a = b[0][c][*]\n",
@@ -104,12 +116,12 @@ fn takes_follows(rt: HostRuntime) -> Result<(), Fail> {
         "a = l . 0 . 1\n",
         "a = b.1.5\n",
     ];
-    takes_all(&rt, rt.alloc(), &texts)
+    takes_all(&rt, rt.alloc(), TEXTS)
 }
 
 #[test]
 fn takes_calls(rt: HostRuntime) -> Result<(), Fail> {
-    let texts = [
+    static TEXTS: &[&str] = &[
         "a = f()\n",
         "a = f(b, c,)\n",
         "a = f(\n  b,\n  c...\n)\n",
@@ -119,36 +131,36 @@ fn takes_calls(rt: HostRuntime) -> Result<(), Fail> {
         "a = [\n  p\n  ::\n  f\n  (b)\n]\n",
         "a = b ? p::f(1) : p::g(2)\n",
     ];
-    takes_all(&rt, rt.alloc(), &texts)
+    takes_all(&rt, rt.alloc(), TEXTS)
 }
 
 #[test]
 fn takes_tuples(rt: HostRuntime) -> Result<(), Fail> {
-    let texts = [
+    static TEXTS: &[&str] = &[
         "a = [b]\n",
         "a = [\n  b,\n  c,\n]\n",
         "a = [for b in c : d]\n",
         "a = [for b, c in d : e if f]\n",
         "a = [[b], [c]]\n",
     ];
-    takes_all(&rt, rt.alloc(), &texts)
+    takes_all(&rt, rt.alloc(), TEXTS)
 }
 
 #[test]
 fn takes_objects(rt: HostRuntime) -> Result<(), Fail> {
-    let texts = [
+    static TEXTS: &[&str] = &[
         "a = {\n\n  b = c\n  \"d\" : e, f = g,\n  (h) = i\n}\n",
         "a = { b : 1 }\n",
         "a = {for b in c : d => e}\n",
         "a = {\n  for b, c in d : e => f...\n  if g\n}\n",
         "a = { if = in, b = for }\n",
     ];
-    takes_all(&rt, rt.alloc(), &texts)
+    takes_all(&rt, rt.alloc(), TEXTS)
 }
 
 #[test]
 fn takes_templates(rt: HostRuntime) -> Result<(), Fail> {
-    let texts = [
+    static TEXTS: &[&str] = &[
         "a = \"\"\n",
         "a = \"x${b}y${\"z\"}\"\n",
         "a = \"%{ if b }x${c}%{ else }y%{ endif }\"\n",
@@ -160,18 +172,18 @@ fn takes_templates(rt: HostRuntime) -> Result<(), Fail> {
         "a = \"%{if b}%{else}%{if c}%{endif}${d}%{endif}\"\n",
         "a = \"%{for b in c}x${b}%{endfor}\"\n",
     ];
-    takes_all(&rt, rt.alloc(), &texts)
+    takes_all(&rt, rt.alloc(), TEXTS)
 }
 
 #[test]
 fn refuses_files(rt: HostRuntime) -> Result<(), Fail> {
-    let rows = [("=\n", 1, 1), ("a = 1\n}\n", 2, 1), ("\"x\"\n", 1, 1)];
-    refuses_all(&rt, rt.alloc(), FaultKind::UnexpectedToken, &rows)
+    static ROWS: &[(&str, u32, u32)] = &[("=\n", 1, 1), ("a = 1\n}\n", 2, 1), ("\"x\"\n", 1, 1)];
+    refuses_all(&rt, rt.alloc(), FaultKind::UnexpectedToken, ROWS)
 }
 
 #[test]
 fn refuses_attributes(rt: HostRuntime) -> Result<(), Fail> {
-    let rows = [
+    static ROWS: &[(&str, u32, u32)] = &[
         ("a\n", 1, 2),
         ("a b\n", 1, 4),
         ("a = 1 2\n", 1, 7),
@@ -180,14 +192,14 @@ fn refuses_attributes(rt: HostRuntime) -> Result<(), Fail> {
         ("a = # x\n", 1, 8),
         ("a = 1 }\n", 1, 7),
     ];
-    refuses_all(&rt, rt.alloc(), FaultKind::UnexpectedToken, &rows)?;
-    let ends = [("a =", 1, 4)];
-    refuses_all(&rt, rt.alloc(), FaultKind::UnexpectedEnd, &ends)
+    refuses_all(&rt, rt.alloc(), FaultKind::UnexpectedToken, ROWS)?;
+    static ENDS: &[(&str, u32, u32)] = &[("a =", 1, 4)];
+    refuses_all(&rt, rt.alloc(), FaultKind::UnexpectedEnd, ENDS)
 }
 
 #[test]
 fn refuses_blocks(rt: HostRuntime) -> Result<(), Fail> {
-    let rows = [
+    static ROWS: &[(&str, u32, u32)] = &[
         ("b \"x\" = 1\n", 1, 7),
         ("b \"${x}\" {}\n", 1, 4),
         ("b { c = 1 d = 2 }\n", 1, 11),
@@ -199,14 +211,14 @@ fn refuses_blocks(rt: HostRuntime) -> Result<(), Fail> {
         ("b {\n  c = 1 }\n", 2, 9),
         ("b { c = 1\n}\n", 1, 10),
     ];
-    refuses_all(&rt, rt.alloc(), FaultKind::UnexpectedToken, &rows)?;
-    let ends = [("b {", 1, 4), ("a {", 1, 4)];
-    refuses_all(&rt, rt.alloc(), FaultKind::UnexpectedEnd, &ends)
+    refuses_all(&rt, rt.alloc(), FaultKind::UnexpectedToken, ROWS)?;
+    static ENDS: &[(&str, u32, u32)] = &[("b {", 1, 4), ("a {", 1, 4)];
+    refuses_all(&rt, rt.alloc(), FaultKind::UnexpectedEnd, ENDS)
 }
 
 #[test]
 fn refuses_operands(rt: HostRuntime) -> Result<(), Fail> {
-    let rows = [
+    static ROWS: &[(&str, u32, u32)] = &[
         ("a = *\n", 1, 5),
         ("a = (b c)\n", 1, 8),
         ("a = )\n", 1, 5),
@@ -214,14 +226,14 @@ fn refuses_operands(rt: HostRuntime) -> Result<(), Fail> {
         ("a = b\n+ c\n", 2, 1),
         ("a = if\n== c\n", 2, 1),
     ];
-    refuses_all(&rt, rt.alloc(), FaultKind::UnexpectedToken, &rows)?;
-    let ends = [("a = (b\n", 2, 1)];
-    refuses_all(&rt, rt.alloc(), FaultKind::UnexpectedEnd, &ends)
+    refuses_all(&rt, rt.alloc(), FaultKind::UnexpectedToken, ROWS)?;
+    static ENDS: &[(&str, u32, u32)] = &[("a = (b\n", 2, 1)];
+    refuses_all(&rt, rt.alloc(), FaultKind::UnexpectedEnd, ENDS)
 }
 
 #[test]
 fn refuses_follows(rt: HostRuntime) -> Result<(), Fail> {
-    let rows = [
+    static ROWS: &[(&str, u32, u32)] = &[
         ("a = b.\n", 1, 7),
         ("a = b.\"c\"\n", 1, 7),
         ("a = b[]\n", 1, 7),
@@ -232,12 +244,12 @@ fn refuses_follows(rt: HostRuntime) -> Result<(), Fail> {
         ("a = b ! c\n", 1, 7),
         ("a = b => c\n", 1, 7),
     ];
-    refuses_all(&rt, rt.alloc(), FaultKind::UnexpectedToken, &rows)
+    refuses_all(&rt, rt.alloc(), FaultKind::UnexpectedToken, ROWS)
 }
 
 #[test]
 fn refuses_calls(rt: HostRuntime) -> Result<(), Fail> {
-    let rows = [
+    static ROWS: &[(&str, u32, u32)] = &[
         ("a = f(,)\n", 1, 7),
         ("a = f(b,,c)\n", 1, 9),
         ("a = f(b c)\n", 1, 9),
@@ -245,12 +257,12 @@ fn refuses_calls(rt: HostRuntime) -> Result<(), Fail> {
         ("a = f(b..., )\n", 1, 11),
         ("a = f(...)\n", 1, 7),
     ];
-    refuses_all(&rt, rt.alloc(), FaultKind::UnexpectedToken, &rows)
+    refuses_all(&rt, rt.alloc(), FaultKind::UnexpectedToken, ROWS)
 }
 
 #[test]
 fn refuses_paths(rt: HostRuntime) -> Result<(), Fail> {
-    let rows = [
+    static ROWS: &[(&str, u32, u32)] = &[
         ("a=b::c\n", 1, 7),
         ("a=b::c.d\n", 1, 7),
         ("a=b::c[0]\n", 1, 7),
@@ -265,14 +277,14 @@ fn refuses_paths(rt: HostRuntime) -> Result<(), Fail> {
         ("a={b::1}\n", 1, 7),
         ("a::b=1\n", 1, 2),
     ];
-    refuses_all(&rt, rt.alloc(), FaultKind::UnexpectedToken, &rows)?;
-    let ends = [("a=b::", 1, 6), ("a=b::c", 1, 7)];
-    refuses_all(&rt, rt.alloc(), FaultKind::UnexpectedEnd, &ends)
+    refuses_all(&rt, rt.alloc(), FaultKind::UnexpectedToken, ROWS)?;
+    static ENDS: &[(&str, u32, u32)] = &[("a=b::", 1, 6), ("a=b::c", 1, 7)];
+    refuses_all(&rt, rt.alloc(), FaultKind::UnexpectedEnd, ENDS)
 }
 
 #[test]
 fn refuses_tuples(rt: HostRuntime) -> Result<(), Fail> {
-    let rows = [
+    static ROWS: &[(&str, u32, u32)] = &[
         ("a = [b,,]\n", 1, 8),
         ("a = [,]\n", 1, 6),
         ("a = [b c]\n", 1, 8),
@@ -285,12 +297,12 @@ fn refuses_tuples(rt: HostRuntime) -> Result<(), Fail> {
         ("a = [for b in c : d => e]\n", 1, 21),
         ("a = [b : c]\n", 1, 8),
     ];
-    refuses_all(&rt, rt.alloc(), FaultKind::UnexpectedToken, &rows)
+    refuses_all(&rt, rt.alloc(), FaultKind::UnexpectedToken, ROWS)
 }
 
 #[test]
 fn refuses_objects(rt: HostRuntime) -> Result<(), Fail> {
-    let rows = [
+    static ROWS: &[(&str, u32, u32)] = &[
         ("a = { b }\n", 1, 9),
         ("a = { b\n = c }\n", 1, 8),
         ("a = { b =\n c }\n", 1, 10),
@@ -304,12 +316,12 @@ fn refuses_objects(rt: HostRuntime) -> Result<(), Fail> {
         ("a = {for b in c : d => e if f g}\n", 1, 31),
         ("a = { b = c...\n}\n", 1, 12),
     ];
-    refuses_all(&rt, rt.alloc(), FaultKind::UnexpectedToken, &rows)
+    refuses_all(&rt, rt.alloc(), FaultKind::UnexpectedToken, ROWS)
 }
 
 #[test]
 fn refuses_templates(rt: HostRuntime) -> Result<(), Fail> {
-    let rows = [
+    static ROWS: &[(&str, u32, u32)] = &[
         ("a = \"${}\"\n", 1, 8),
         ("a = \"${b c}\"\n", 1, 10),
         ("a = \"%{ x }\"\n", 1, 9),
@@ -329,35 +341,85 @@ fn refuses_templates(rt: HostRuntime) -> Result<(), Fail> {
         ("a = <<E\n%{ if b }\nE\n", 3, 1),
         ("a = <<E\n${a. 0.1}\nE\n", 2, 6),
     ];
-    refuses_all(&rt, rt.alloc(), FaultKind::UnexpectedToken, &rows)
+    refuses_all(&rt, rt.alloc(), FaultKind::UnexpectedToken, ROWS)
 }
 
-/// `front`, then so many times `part`, then `middle`, then as many times `back`, and the end of the line.
-fn nested(
-    alloc: Global,
-    front: &str,
-    part: &str,
-    count: usize,
-    middle: &str,
-    back: &str,
-) -> Result<String, Fail> {
-    let mut text = String::new(alloc);
-    text.push_str(front)?;
+/// A text that is `front`, then a number of times `part`, then `middle`, then as many times `back`, then `end`.
+#[derive(Clone, Copy)]
+struct Nest<'a> {
+    front: &'a str,
+    part: &'a str,
+    middle: &'a str,
+    back: &'a str,
+    end: &'a str,
+}
+
+/// A nest of whole lines.
+fn lines<'a>(front: &'a str, part: &'a str, middle: &'a str, back: &'a str) -> Nest<'a> {
+    Nest {
+        front,
+        part,
+        middle,
+        back,
+        end: "\n",
+    }
+}
+
+/// Puts a part so many times behind the text.
+fn repeat(text: &mut String, part: &str, count: usize) -> Result<(), AllocError> {
     for _ in 0..count {
         text.push_str(part)?;
     }
-    text.push_str(middle)?;
-    for _ in 0..count {
-        text.push_str(back)?;
+    Ok(())
+}
+
+/// Puts a nest of so many parts behind the text.
+fn write_nest(text: &mut String, nest: Nest<'_>, count: usize) -> Result<(), AllocError> {
+    text.push_str(nest.front)?;
+    repeat(text, nest.part, count)?;
+    text.push_str(nest.middle)?;
+    repeat(text, nest.back, count)?;
+    text.push_str(nest.end)?;
+    Ok(())
+}
+
+/// Why a nest of so many parts is refused, if it is.
+fn nest_fault(
+    rt: &impl Abort,
+    alloc: Global,
+    nest: Nest<'_>,
+    count: usize,
+) -> Result<Option<Fault>, Fail> {
+    let mut text = String::new(alloc);
+    write_nest(&mut text, nest, count)?;
+    fault_of(rt, alloc, text.as_str())
+}
+
+/// That the nest of so many parts is a file.
+fn takes_nest(rt: &impl Abort, alloc: Global, nest: Nest<'_>, count: usize) -> Result<(), Fail> {
+    let found = nest_fault(rt, alloc, nest, count)?;
+    is_fault(rt, found, None, nest.part);
+    Ok(())
+}
+
+/// That each of these, with so many parts and as whole lines, is a file.
+fn takes_nests(
+    rt: &impl Abort,
+    alloc: Global,
+    count: usize,
+    rows: &[(&str, &str, &str, &str)],
+) -> Result<(), Fail> {
+    for (front, part, middle, back) in rows {
+        let nest = lines(*front, *part, *middle, *back);
+        takes_nest(rt, alloc, nest, count)?;
     }
-    text.push_str("\n")?;
-    Ok(text)
+    Ok(())
 }
 
 /// What needs no opener may be as long as a source can be.
 #[test]
 fn takes_long_chains(rt: HostRuntime) -> Result<(), Fail> {
-    for (front, part, middle, back) in [
+    static ROWS: &[(&str, &str, &str, &str)] = &[
         ("a=", "b?", "b", ":b"),
         ("a=", "!", "b", ""),
         ("a=", "- ", "b", ""),
@@ -367,37 +429,38 @@ fn takes_long_chains(rt: HostRuntime) -> Result<(), Fail> {
         ("b", " c", "{}", ""),
         ("", "b {}\n", "", ""),
         ("a=[", "b,", "]", ""),
-    ] {
-        let text = nested(rt.alloc(), front, part, 100_000, middle, back)?;
-        takes(&rt, rt.alloc(), text.as_str())?;
-    }
-    Ok(())
+    ];
+    takes_nests(&rt, rt.alloc(), 100_000, ROWS)
 }
 
 #[test]
 fn nests_to_the_limit(rt: HostRuntime) -> Result<(), Fail> {
-    let alloc = rt.alloc();
-    let groups = nested(alloc, "a=", "(", 256, "1", ")")?;
-    takes(&rt, alloc, groups.as_str())?;
-    let objects = nested(alloc, "a=", "{b=", 256, "1", "}")?;
-    takes(&rt, alloc, objects.as_str())?;
-    let tuples = nested(alloc, "a=", "[for b in c:", 256, "d", "]")?;
-    takes(&rt, alloc, tuples.as_str())?;
-    let blocks = nested(alloc, "", "b {\n", 256, "", "}\n")?;
-    takes(&rt, alloc, blocks.as_str())
+    static ROWS: &[(&str, &str, &str, &str)] = &[
+        ("a=", "(", "1", ")"),
+        ("a=", "{b=", "1", "}"),
+        ("a=", "[for b in c:", "d", "]"),
+        ("", "b {\n", "", "}\n"),
+    ];
+    takes_nests(&rt, rt.alloc(), 256, ROWS)
 }
 
 #[test]
 fn counts_open_directives(rt: HostRuntime) -> Result<(), Fail> {
-    for (count, fits) in [(256, true), (257, false)] {
-        let mut text = nested(rt.alloc(), "a=\"", "%{if b}", count, "", "%{endif}")?;
-        text.pop();
-        text.push_str("\"\n")?;
-        if fits {
-            takes(&rt, rt.alloc(), text.as_str())?;
-        } else {
-            refuses(&rt, rt.alloc(), text.as_str(), FaultKind::TooDeep, 1, 1796)?;
-        }
-    }
+    let directives = Nest {
+        front: "a=\"",
+        part: "%{if b}",
+        middle: "",
+        back: "%{endif}",
+        end: "\"\n",
+    };
+    let fits = nest_fault(&rt, rt.alloc(), directives, 256)?;
+    is_fault(&rt, fits, None, "256 directives");
+    let exceeds = nest_fault(&rt, rt.alloc(), directives, 257)?;
+    let at = Position {
+        line: 1,
+        column: 1796,
+    };
+    let kind = FaultKind::TooDeep;
+    is_fault(&rt, exceeds, Some(Fault { kind, at }), "257 directives");
     Ok(())
 }

@@ -1,26 +1,50 @@
 //! The outlines of small files, worked out by hand, and the texts of their labels.
 
+use crate::checks::holds;
 use hcl_scan::{Source, scan};
 use hcl_syntax::{Accepted, Item, Label, Outline, accepts, label_text, outline};
 use std::alloc::{AllocError, Global};
 use std::process::Abort;
 use std::test::Fail;
 
+/// The item of this number, as far as there is one.
+fn item_at(items: &Outline, i: usize) -> Option<Item> {
+    if i < items.len() {
+        Some(items.get(i))
+    } else {
+        None
+    }
+}
+
+/// That the item of this number is the wanted one.
+fn is_item(rt: &impl Abort, found: Option<Item>, wanted: Item, text: &str, i: usize) {
+    assert_eq!(rt; found, Some(wanted), "{text}: {i}");
+}
+
 /// That these are the items of a text.
-fn has_outline(rt: &impl Abort, alloc: Global, text: &str, wanted: &[Item]) -> Result<(), Fail> {
+fn are_items(rt: &impl Abort, items: &Outline, wanted: &[Item], text: &str) {
+    holds(rt, items.len() == wanted.len(), "count of items", text);
+    let is_empty = items.is_empty();
+    holds(rt, is_empty == wanted.is_empty(), "emptiness", text);
+    for i in 0..wanted.len() {
+        is_item(rt, item_at(items, i), wanted[i], text, i);
+    }
+}
+
+/// The outline of a text that is a file.
+fn outline_of(rt: &impl Abort, alloc: Global, text: &str) -> Result<Outline, Fail> {
     let source = Source::from_bytes(alloc, text.as_bytes())?;
     let tokens = scan(alloc, &source)?;
     let Ok(accepted) = accepts(&tokens) else {
-        assert!(rt; false, "{text}: refused");
-        return Ok(());
+        rt.panic(text)
     };
-    let items = outline(alloc, &accepted)?;
-    assert_eq!(rt; items.len(), wanted.len(), "{text}");
-    assert_eq!(rt; items.is_empty(), wanted.is_empty(), "{text}");
-    for i in 0..items.len() {
-        let item = items.get(i);
-        assert_eq!(rt; item, wanted[i], "{text}: {i}");
-    }
+    Ok(outline(alloc, &accepted)?)
+}
+
+/// That these are the items of a text.
+fn has_outline(rt: &impl Abort, alloc: Global, text: &str, wanted: &[Item]) -> Result<(), Fail> {
+    let items = outline_of(rt, alloc, text)?;
+    are_items(rt, &items, wanted, text);
     Ok(())
 }
 
@@ -41,6 +65,15 @@ fn labels(
         }
     }
     Ok(texts)
+}
+
+/// The texts of the labels of a text that is a file.
+fn labels_of(alloc: Global, text: &str) -> Result<String, Fail> {
+    let source = Source::from_bytes(alloc, text.as_bytes())?;
+    let tokens = scan(alloc, &source)?;
+    let accepted = accepts(&tokens)?;
+    let items = outline(alloc, &accepted)?;
+    Ok(labels(alloc, &accepted, &items)?)
 }
 
 #[test]
@@ -112,15 +145,7 @@ fn outlines_nothing(rt: HostRuntime) -> Result<(), Fail> {
 
 #[test]
 fn labels_have_their_texts(rt: HostRuntime) -> Result<(), Fail> {
-    let alloc = rt.alloc();
-    let source = Source::from_bytes(alloc, b"b \"x-1\" y \"\" {\n  c \"\\n\" {}\n}\n")?;
-    let tokens = scan(alloc, &source)?;
-    let Ok(accepted) = accepts(&tokens) else {
-        assert!(&rt; false, "refused");
-        return Ok(());
-    };
-    let items = outline(alloc, &accepted)?;
-    let texts = labels(alloc, &accepted, &items)?;
+    let texts = labels_of(rt.alloc(), "b \"x-1\" y \"\" {\n  c \"\\n\" {}\n}\n")?;
     assert_eq!(&rt; texts.as_str(), "x-1,y,,\\n,");
     Ok(())
 }
