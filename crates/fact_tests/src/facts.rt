@@ -1,28 +1,172 @@
 //! What is found in small files, worked out by hand.
 
+use crate::checks::holds;
 use hcl_scan::{Source, scan};
 use hcl_syntax::{Accepted, accepts, outline};
 use std::alloc::{AllocError, Global};
 use std::process::Abort;
 use std::test::Fail;
 use tf_facts::{
-    DeclarationKind, Declared, ModuleSource, Rule, RuleSet, TextSet, add_references_of, facts_of,
+    DeclarationKind, Declared, FileFacts, FoundComment, ModuleSource, Rule, RuleSet, TextSet,
+    add_references_of, facts_of,
 };
 
-/// What the source of the first module of a file is, where it has one.
-fn first_source(
-    alloc: Global,
-    accepted: &Accepted<'_, '_>,
-) -> Result<Option<ModuleSource>, AllocError> {
-    let items = outline(alloc, accepted)?;
-    let found = facts_of(alloc, accepted, &items)?.declarations;
+/// What a test wants of the facts and the references of a file.
+#[derive(Clone, Copy)]
+enum Wanted<'a> {
+    /// What the source of the first module is.
+    Source(ModuleSource),
+    /// Which rules the first comment silences, where there is one.
+    Silenced(RuleSet),
+    Patterns {
+        interpolations: &'a [usize],
+        indexes: &'a [usize],
+    },
+    /// Of each declaration its kind, and whether it has a type and a source.
+    Declarations(&'a [(DeclarationKind, bool, bool)]),
+    /// Of each comment, whether it has slashes, and whether it silences a rule.
+    Comments(&'a [(bool, bool)]),
+    References(&'a [&'a str]),
+}
+
+/// What the source of the first module is, where it has one.
+fn first_source(found: &[Declared<'_>]) -> Option<ModuleSource> {
     match found.first() {
         Some(declared) => match declared.source {
-            Some(found) => Ok(Some(found.source)),
-            None => Ok(None),
+            Some(found) => Some(found.source),
+            None => None,
         },
-        None => Ok(None),
+        None => None,
     }
+}
+
+/// The rules that the first comment silences.
+fn first_silenced(found: &[FoundComment]) -> RuleSet {
+    match found.first() {
+        Some(comment) => comment.silences,
+        None => RuleSet::none(),
+    }
+}
+
+/// Whether the declaration of this number is of the kind, and has a type and a source just where it should.
+fn is_declared(found: &[Declared<'_>], i: usize, wanted: (DeclarationKind, bool, bool)) -> bool {
+    let (kind, is_typed, has_source) = wanted;
+    match found.get(i) {
+        Some(declared) => {
+            declared.kind == kind
+                && declared.is_typed == is_typed
+                && declared.source.is_some() == has_source
+        }
+        None => false,
+    }
+}
+
+/// That these are the declarations.
+fn are_declared(
+    rt: &impl Abort,
+    found: &[Declared<'_>],
+    wanted: &[(DeclarationKind, bool, bool)],
+    text: &str,
+) {
+    holds(
+        rt,
+        found.len() == wanted.len(),
+        "count of declarations",
+        text,
+    );
+    for i in 0..wanted.len() {
+        holds(rt, is_declared(found, i, wanted[i]), "declaration", text);
+    }
+}
+
+/// Whether the comment of this number has slashes, and silences a rule, just where it should.
+fn is_comment(found: &[FoundComment], i: usize, wanted: (bool, bool)) -> bool {
+    let (has_slashes, is_silencing) = wanted;
+    match found.get(i) {
+        Some(comment) => {
+            comment.has_slashes == has_slashes
+                && comment.silences.holds(Rule::ModuleVersion) == is_silencing
+        }
+        None => false,
+    }
+}
+
+/// That these are the comments.
+fn are_comments(rt: &impl Abort, found: &[FoundComment], wanted: &[(bool, bool)], text: &str) {
+    holds(rt, found.len() == wanted.len(), "count of comments", text);
+    for i in 0..wanted.len() {
+        holds(rt, is_comment(found, i, wanted[i]), "comment", text);
+    }
+}
+
+/// That these are the references.
+fn are_references(rt: &impl Abort, used: &TextSet, wanted: &[&str], text: &str) {
+    holds(rt, used.len() == wanted.len(), "count of references", text);
+    for reference in wanted {
+        holds(rt, used.contains(*reference), "reference", *reference);
+    }
+}
+
+/// That the facts and the references of a text are the wanted ones.
+fn are_found(
+    rt: &impl Abort,
+    found: &FileFacts<'_>,
+    used: &TextSet,
+    wanted: Wanted<'_>,
+    text: &str,
+) {
+    match wanted {
+        Wanted::Source(source) => {
+            let first = first_source(&found.declarations);
+            holds(rt, first == Some(source), "source", text);
+        }
+        Wanted::Silenced(rules) => {
+            holds(
+                rt,
+                first_silenced(&found.comments) == rules,
+                "silenced",
+                text,
+            );
+        }
+        Wanted::Patterns {
+            interpolations,
+            indexes,
+        } => {
+            let wrapped = found.interpolations.as_slice();
+            holds(rt, wrapped == interpolations, "interpolations", text);
+            holds(rt, found.indexes.as_slice() == indexes, "indexes", text);
+        }
+        Wanted::Declarations(rows) => are_declared(rt, &found.declarations, rows, text),
+        Wanted::Comments(rows) => are_comments(rt, &found.comments, rows, text),
+        Wanted::References(texts) => are_references(rt, used, texts, text),
+    }
+}
+
+/// The facts of a file, whose references are put into the set.
+fn facts_in<'s>(
+    alloc: Global,
+    accepted: &Accepted<'_, 's>,
+    used: &mut TextSet,
+) -> Result<FileFacts<'s>, AllocError> {
+    let items = outline(alloc, accepted)?;
+    add_references_of(alloc, accepted, &items, used)?;
+    facts_of(alloc, accepted, &items)
+}
+
+/// The facts of a source that is a file, whose references are put into the set.
+fn facts<'s>(alloc: Global, source: &'s Source, used: &mut TextSet) -> Result<FileFacts<'s>, Fail> {
+    let tokens = scan(alloc, source)?;
+    let accepted = accepts(&tokens)?;
+    Ok(facts_in(alloc, &accepted, used)?)
+}
+
+/// That the facts and the references of a file are the wanted ones.
+fn finds(rt: &impl Abort, alloc: Global, text: &str, wanted: Wanted<'_>) -> Result<(), Fail> {
+    let source = Source::from_bytes(alloc, text.as_bytes())?;
+    let mut used = TextSet::new(alloc);
+    let found = facts(alloc, &source, &mut used)?;
+    are_found(rt, &found, &used, wanted, text);
+    Ok(())
 }
 
 /// That a module with this source has one of this sort.
@@ -33,115 +177,82 @@ fn is_source(
     wanted: ModuleSource,
 ) -> Result<(), Fail> {
     let file = format!(in alloc; "module \"m\" {{\n  source = \"{source}\"\n}}\n")?;
-    let text = Source::from_bytes(alloc, file.as_bytes())?;
-    let tokens = scan(alloc, &text)?;
-    let accepted = accepts(&tokens)?;
-    assert!(rt; first_source(alloc, &accepted)? == Some(wanted), "{source}");
-    Ok(())
+    finds(rt, alloc, file.as_str(), Wanted::Source(wanted))
 }
 
-/// That each source is of this sort.
-fn are_sources(
-    rt: &impl Abort,
-    alloc: Global,
-    texts: &[&str],
-    wanted: ModuleSource,
-) -> Result<(), Fail> {
-    for text in texts {
-        is_source(rt, alloc, *text, wanted)?;
-    }
-    Ok(())
-}
-
-#[test]
-fn tells_other_sources(rt: HostRuntime) -> Result<(), Fail> {
-    let texts = [
+/// Texts of sources, and what each is.
+static SOURCES: &[(&str, ModuleSource)] = &[
+    (
         "git::https://e.com/r.git?depth=1&ref=v1",
-        "hg::x?rev=1",
-        "app/x/y/aws",
-        "./m",
-        "./a/b/c",
-        "../a/b",
-        "../a/b/c",
-        "",
-        "a/b",
-        "a/b/c/d",
-        "a//b/c",
-        "/a/b/c",
-        "a.b/c/d",
-    ];
-    are_sources(&rt, rt.alloc(), &texts, ModuleSource::Other)
-}
+        ModuleSource::Other,
+    ),
+    ("hg::x?rev=1", ModuleSource::Other),
+    ("app/x/y/aws", ModuleSource::Other),
+    ("./m", ModuleSource::Other),
+    ("./a/b/c", ModuleSource::Other),
+    ("../a/b", ModuleSource::Other),
+    ("../a/b/c", ModuleSource::Other),
+    ("", ModuleSource::Other),
+    ("a/b", ModuleSource::Other),
+    ("a/b/c/d", ModuleSource::Other),
+    ("a//b/c", ModuleSource::Other),
+    ("/a/b/c", ModuleSource::Other),
+    ("a.b/c/d", ModuleSource::Other),
+    ("hashicorp/consul/aws", ModuleSource::Registry),
+    ("app.terraform.io/x/y/aws", ModuleSource::Registry),
+    ("hashicorp/consul/aws//modules/x", ModuleSource::Registry),
+    ("h.x:1/a/b-1_/c", ModuleSource::Registry),
+    ("git::https://e.com/r.git?ref=", ModuleSource::NotPinned),
+    ("hg::http://e.com/r?ref=v1", ModuleSource::NotPinned),
+    ("git@x", ModuleSource::NotPinned),
+    ("bitbucket.org/a/b?xref=1", ModuleSource::NotPinned),
+    (
+        "github.com/a/b?ref=main",
+        ModuleSource::DefaultBranch("main"),
+    ),
+    ("git@x?ref=master", ModuleSource::DefaultBranch("master")),
+    (
+        "git::x?a=1&ref=develop&ref=v1",
+        ModuleSource::DefaultBranch("develop"),
+    ),
+    ("hg::x?rev=default", ModuleSource::DefaultBranch("default")),
+];
 
 #[test]
-fn tells_registries_and_what_is_not_pinned(rt: HostRuntime) -> Result<(), Fail> {
-    let registries = [
-        "hashicorp/consul/aws",
-        "app.terraform.io/x/y/aws",
-        "hashicorp/consul/aws//modules/x",
-        "h.x:1/a/b-1_/c",
-    ];
-    are_sources(&rt, rt.alloc(), &registries, ModuleSource::Registry)?;
-    let not_pinned = [
-        "git::https://e.com/r.git?ref=",
-        "hg::http://e.com/r?ref=v1",
-        "git@x",
-        "bitbucket.org/a/b?xref=1",
-    ];
-    are_sources(&rt, rt.alloc(), &not_pinned, ModuleSource::NotPinned)
-}
-
-#[test]
-fn tells_default_branches(rt: HostRuntime) -> Result<(), Fail> {
-    for (text, branch) in [
-        ("github.com/a/b?ref=main", "main"),
-        ("git@x?ref=master", "master"),
-        ("git::x?a=1&ref=develop&ref=v1", "develop"),
-        ("hg::x?rev=default", "default"),
-    ] {
-        is_source(&rt, rt.alloc(), text, ModuleSource::DefaultBranch(branch))?;
+fn tells_sources(rt: HostRuntime) -> Result<(), Fail> {
+    for (text, sort) in SOURCES {
+        is_source(&rt, rt.alloc(), *text, *sort)?;
     }
     Ok(())
 }
 
-/// The rules that the one comment of a file silences.
-fn silenced_by(alloc: Global, text: &str) -> Result<RuleSet, Fail> {
-    let source = Source::from_bytes(alloc, text.as_bytes())?;
-    let tokens = scan(alloc, &source)?;
-    let accepted = accepts(&tokens)?;
-    let items = outline(alloc, &accepted)?;
-    let facts = facts_of(alloc, &accepted, &items)?;
-    match facts.comments.first() {
-        Some(comment) => Ok(comment.silences),
-        None => Ok(RuleSet::none()),
+/// That the first comment of each text silences these rules.
+fn silences(rt: &impl Abort, alloc: Global, texts: &[&str], wanted: RuleSet) -> Result<(), Fail> {
+    for text in texts {
+        finds(rt, alloc, *text, Wanted::Silenced(wanted))?;
     }
+    Ok(())
 }
 
 #[test]
 fn tells_what_is_silenced(rt: HostRuntime) -> Result<(), Fail> {
+    static ONE: &[&str] = &[
+        "# tflint-ignore: terraform_typed_variables",
+        "//\ttflint-ignore:,terraform_typed_variables\t, nope,\r",
+    ];
+    static TWO: &[&str] = &[
+        "# tflint-ignore: terraform_typed_variables, terraform_unused_declarations # later",
+    ];
+    static EACH: &[&str] = &["// tflint-ignore: all", "#tflint-ignore:all"];
     let typed = RuleSet::none().with(Rule::TypedVariables);
-    let both = typed.with(Rule::UnusedDeclarations);
-    for (text, wanted) in [
-        ("# tflint-ignore: terraform_typed_variables", typed),
-        (
-            "# tflint-ignore: terraform_typed_variables, terraform_unused_declarations # later",
-            both,
-        ),
-        (
-            "//\ttflint-ignore:,terraform_typed_variables\t, nope,\r",
-            typed,
-        ),
-        ("// tflint-ignore: all", RuleSet::all()),
-        ("#tflint-ignore:all", RuleSet::all()),
-    ] {
-        assert!(rt; silenced_by(rt.alloc(), text)? == wanted, "{text}");
-    }
-    Ok(())
+    silences(&rt, rt.alloc(), ONE, typed)?;
+    silences(&rt, rt.alloc(), TWO, typed.with(Rule::UnusedDeclarations))?;
+    silences(&rt, rt.alloc(), EACH, RuleSet::all())
 }
 
 #[test]
 fn tells_what_is_not_silenced(rt: HostRuntime) -> Result<(), Fail> {
-    for text in [
+    static TEXTS: &[&str] = &[
         "# tflint-ignore: nope",
         "## tflint-ignore: all",
         "# x tflint-ignore: all",
@@ -151,47 +262,27 @@ fn tells_what_is_not_silenced(rt: HostRuntime) -> Result<(), Fail> {
         "#\rtflint-ignore: all",
         "#",
         "//",
-    ] {
-        assert!(rt; silenced_by(rt.alloc(), text)? == RuleSet::none(), "{text}");
-    }
-    Ok(())
+    ];
+    silences(&rt, rt.alloc(), TEXTS, RuleSet::none())
 }
 
 #[test]
 fn finds_patterns(rt: HostRuntime) -> Result<(), Fail> {
-    let alloc = rt.alloc();
     let text =
         "x = \"${\nvar.a # c\n}\"\ny = \"a${b}\"\nz = a.b . /* c */ 0[1].2\nw = \"${{a = \"${b}\"}}\"\n";
-    let source = Source::from_bytes(alloc, text.as_bytes())?;
-    let tokens = scan(alloc, &source)?;
-    let accepted = accepts(&tokens)?;
-    let items = outline(alloc, &accepted)?;
-    let found = facts_of(alloc, &accepted, &items)?;
-    assert_eq!(&rt; found.interpolations.as_slice(), [2, 38, 43].as_slice());
-    assert_eq!(&rt; found.indexes.as_slice(), [27, 33].as_slice());
-    Ok(())
-}
-
-/// That these are the references of a file.
-fn refers(rt: &impl Abort, alloc: Global, text: &str, wanted: &[&str]) -> Result<(), Fail> {
-    let source = Source::from_bytes(alloc, text.as_bytes())?;
-    let tokens = scan(alloc, &source)?;
-    let accepted = accepts(&tokens)?;
-    let items = outline(alloc, &accepted)?;
-    let mut used = TextSet::new(alloc);
-    add_references_of(alloc, &accepted, &items, &mut used)?;
-    assert_eq!(rt; used.len(), wanted.len());
-    for reference in wanted {
-        assert!(rt; used.contains(*reference), "{reference}");
-    }
-    Ok(())
+    let wanted = Wanted::Patterns {
+        interpolations: &[2, 38, 43],
+        indexes: &[27, 33],
+    };
+    finds(&rt, rt.alloc(), text, wanted)
 }
 
 #[test]
 fn collects_references(rt: HostRuntime) -> Result<(), Fail> {
     let text =
         "a = var.b.c + x.var.y\nd = <<E\n${ local . e }\nE\nf = data.g.h.var.i\nj = data.k\n";
-    refers(&rt, rt.alloc(), text, &["var.b", "local.e", "data.g.h"])
+    let wanted = ["var.b", "local.e", "data.g.h"];
+    finds(&rt, rt.alloc(), text, Wanted::References(&wanted))
 }
 
 /// A block of each sort, with a reference in a variable's own block and one outside.
@@ -200,58 +291,23 @@ static BLOCKS: &str =
 
 #[test]
 fn leaves_out_references_in_own_blocks(rt: HostRuntime) -> Result<(), Fail> {
-    refers(&rt, rt.alloc(), BLOCKS, &["var.w"])
-}
-
-/// That what is declared is of this kind, and has a type and a source just where it should.
-fn is_declared(
-    rt: &impl Abort,
-    found: Declared<'_>,
-    kind: DeclarationKind,
-    is_typed: bool,
-    has_source: bool,
-) {
-    assert_eq!(rt; found.kind, kind);
-    assert_eq!(rt; found.is_typed, is_typed);
-    assert_eq!(rt; found.source.is_some(), has_source);
+    finds(&rt, rt.alloc(), BLOCKS, Wanted::References(&["var.w"]))
 }
 
 #[test]
 fn lists_declarations(rt: HostRuntime) -> Result<(), Fail> {
-    let alloc = rt.alloc();
-    let source = Source::from_bytes(alloc, BLOCKS.as_bytes())?;
-    let tokens = scan(alloc, &source)?;
-    let accepted = accepts(&tokens)?;
-    let items = outline(alloc, &accepted)?;
-    let found = facts_of(alloc, &accepted, &items)?.declarations;
     let wanted = [
         (DeclarationKind::Variable, true, false),
         (DeclarationKind::Local, false, false),
         (DeclarationKind::Data, false, false),
         (DeclarationKind::Module, false, true),
     ];
-    assert_eq!(&rt; found.len(), wanted.len());
-    for i in 0..found.len() {
-        let (kind, is_typed, has_source) = wanted[i];
-        is_declared(&rt, found[i], kind, is_typed, has_source);
-    }
-    Ok(())
+    finds(&rt, rt.alloc(), BLOCKS, Wanted::Declarations(&wanted))
 }
 
 #[test]
 fn lists_comments(rt: HostRuntime) -> Result<(), Fail> {
-    let alloc = rt.alloc();
     let text = "# a\n// b\n/* // c */\n# tflint-ignore: all\n";
-    let source = Source::from_bytes(alloc, text.as_bytes())?;
-    let tokens = scan(alloc, &source)?;
-    let accepted = accepts(&tokens)?;
-    let items = outline(alloc, &accepted)?;
-    let found = facts_of(alloc, &accepted, &items)?.comments;
-    assert_eq!(&rt; found.len(), 2);
-    for i in 0..found.len() {
-        let comment = found[i];
-        assert_eq!(&rt; comment.has_slashes, i == 0, "{i}");
-        assert_eq!(&rt; comment.silences.holds(Rule::ModuleVersion), i == 1, "{i}");
-    }
-    Ok(())
+    let wanted = [(true, false), (false, true)];
+    finds(&rt, rt.alloc(), text, Wanted::Comments(&wanted))
 }

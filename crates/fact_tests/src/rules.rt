@@ -1,118 +1,121 @@
 //! The rules' names, severities and sets, from the table that users read.
 
+use crate::checks::holds;
 use std::process::Abort;
 use tf_facts::{Rule, RuleSet, Severity};
 
-/// That the name is the rule's, with this severity, and that it is recommended or not.
-fn is_rule(rt: &impl Abort, name: &str, rule: Rule, severity: Severity, recommended: bool) {
-    assert!(rt; rule.name() == name, "{name}");
-    assert_eq!(rt; Rule::from_name(name), Some(rule), "{name}");
-    assert_eq!(rt; rule.severity(), severity, "{name}");
-    assert_eq!(rt; RuleSet::recommended().holds(rule), recommended, "{name}");
-    assert!(rt; RuleSet::all().holds(rule), "{name}");
-    assert!(rt; !RuleSet::none().holds(rule), "{name}");
-    assert!(rt; RuleSet::none().with(rule).holds(rule), "{name}");
+/// That the name is the rule's, and the rule the name's.
+fn is_named(rt: &impl Abort, name: &str, rule: Rule) {
+    holds(rt, rule.name() == name, "name", name);
+    holds(rt, Rule::from_name(name) == Some(rule), "rule", name);
 }
+
+/// That the rule is among those that it should be among.
+fn is_in_sets(rt: &impl Abort, name: &str, rule: Rule, recommended: bool) {
+    let is_recommended = RuleSet::recommended().holds(rule);
+    holds(rt, is_recommended == recommended, "recommended", name);
+    holds(rt, RuleSet::all().holds(rule), "among all", name);
+    holds(rt, !RuleSet::none().holds(rule), "not in none", name);
+    holds(rt, RuleSet::none().with(rule).holds(rule), "put in", name);
+}
+
+/// Each rule's name, the rule, its severity, and whether it is recommended.
+static RULES: &[(&str, Rule, Severity, bool)] = &[
+    (
+        "terraform_comment_syntax",
+        Rule::CommentSyntax,
+        Severity::Warning,
+        false,
+    ),
+    (
+        "terraform_deprecated_index",
+        Rule::DeprecatedIndex,
+        Severity::Warning,
+        true,
+    ),
+    (
+        "terraform_deprecated_interpolation",
+        Rule::DeprecatedInterpolation,
+        Severity::Warning,
+        true,
+    ),
+    (
+        "terraform_documented_outputs",
+        Rule::DocumentedOutputs,
+        Severity::Notice,
+        false,
+    ),
+    (
+        "terraform_documented_variables",
+        Rule::DocumentedVariables,
+        Severity::Notice,
+        false,
+    ),
+    (
+        "terraform_module_pinned_source",
+        Rule::ModulePinnedSource,
+        Severity::Warning,
+        true,
+    ),
+    (
+        "terraform_module_version",
+        Rule::ModuleVersion,
+        Severity::Warning,
+        true,
+    ),
+    (
+        "terraform_naming_convention",
+        Rule::NamingConvention,
+        Severity::Notice,
+        false,
+    ),
+    (
+        "terraform_typed_variables",
+        Rule::TypedVariables,
+        Severity::Warning,
+        true,
+    ),
+    (
+        "terraform_unused_declarations",
+        Rule::UnusedDeclarations,
+        Severity::Warning,
+        true,
+    ),
+];
 
 #[test]
 fn rules_have_their_names(rt: HostRuntime) {
-    let warning = Severity::Warning;
-    let notice = Severity::Notice;
-    is_rule(
-        &rt,
-        "terraform_comment_syntax",
-        Rule::CommentSyntax,
-        warning,
-        false,
-    );
-    is_rule(
-        &rt,
-        "terraform_deprecated_index",
-        Rule::DeprecatedIndex,
-        warning,
-        true,
-    );
-    is_rule(
-        &rt,
-        "terraform_deprecated_interpolation",
-        Rule::DeprecatedInterpolation,
-        warning,
-        true,
-    );
-    is_rule(
-        &rt,
-        "terraform_documented_outputs",
-        Rule::DocumentedOutputs,
-        notice,
-        false,
-    );
-    is_rule(
-        &rt,
-        "terraform_documented_variables",
-        Rule::DocumentedVariables,
-        notice,
-        false,
-    );
-}
-
-#[test]
-fn more_rules_have_their_names(rt: HostRuntime) {
-    let warning = Severity::Warning;
-    let notice = Severity::Notice;
-    is_rule(
-        &rt,
-        "terraform_module_pinned_source",
-        Rule::ModulePinnedSource,
-        warning,
-        true,
-    );
-    is_rule(
-        &rt,
-        "terraform_module_version",
-        Rule::ModuleVersion,
-        warning,
-        true,
-    );
-    is_rule(
-        &rt,
-        "terraform_naming_convention",
-        Rule::NamingConvention,
-        notice,
-        false,
-    );
-    is_rule(
-        &rt,
-        "terraform_typed_variables",
-        Rule::TypedVariables,
-        warning,
-        true,
-    );
-    is_rule(
-        &rt,
-        "terraform_unused_declarations",
-        Rule::UnusedDeclarations,
-        warning,
-        true,
-    );
+    for (name, rule, severity, recommended) in RULES {
+        is_named(&rt, *name, *rule);
+        is_in_sets(&rt, *name, *rule, *recommended);
+        holds(&rt, rule.severity() == *severity, "severity", *name);
+    }
 }
 
 #[test]
 fn other_names_are_no_rules(rt: HostRuntime) {
-    for name in [
+    static NAMES: &[&str] = &[
         "",
         "all",
         "terraform_",
         "terraform_module_versions",
         "Terraform_module_version",
-    ] {
-        assert_eq!(&rt; Rule::from_name(name), None, "{name}");
+    ];
+    for name in NAMES {
+        holds(&rt, Rule::from_name(*name) == None, "no rule", *name);
     }
 }
 
 #[test]
 fn words_are_as_users_write_them(rt: HostRuntime) {
-    assert!(&rt; Severity::Notice.text() == "Notice");
-    assert!(&rt; Severity::Warning.text() == "Warning");
-    assert!(&rt; Severity::Error.text() == "Error");
-    assert!(&rt; Severity::Notice < Severity::Warning && Severity::Warning < Severity::Error);
+    static WORDS: &[(Severity, &str)] = &[
+        (Severity::Notice, "Notice"),
+        (Severity::Warning, "Warning"),
+        (Severity::Error, "Error"),
+    ];
+    for (severity, word) in WORDS {
+        holds(&rt, severity.text() == *word, "word", *word);
+    }
+    let is_ordered = Severity::Notice < Severity::Warning && Severity::Warning < Severity::Error;
+    holds(&rt, is_ordered, "severities", "in order");
 }
