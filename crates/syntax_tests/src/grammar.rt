@@ -1,6 +1,6 @@
 //! Small files, and texts that are none with the fault that they have, worked out by hand or by another program.
 
-use crate::checks::holds;
+use crate::checks::holds_at;
 use hcl_scan::{Fault, FaultKind, Position, Source, scan};
 use hcl_syntax::accepts;
 use std::alloc::{AllocError, Global};
@@ -14,7 +14,7 @@ fn fault_of(rt: &impl Abort, alloc: Global, text: &str) -> Result<Option<Fault>,
     match accepts(&tokens) {
         Ok(accepted) => {
             let is_whole = accepted.tokens().len() == tokens.len();
-            holds(rt, is_whole, "all tokens", text);
+            holds_at(rt, is_whole, "all tokens", text);
             Ok(None)
         }
         Err(fault) => Ok(Some(fault)),

@@ -1,6 +1,6 @@
 //! The outlines of small files, worked out by hand, and the texts of their labels.
 
-use crate::checks::holds;
+use crate::checks::holds_at;
 use hcl_scan::{Source, scan};
 use hcl_syntax::{Accepted, Item, Label, Outline, accepts, label_text, outline};
 use std::alloc::{AllocError, Global};
@@ -23,9 +23,9 @@ fn is_item(rt: &impl Abort, found: Option<Item>, wanted: Item, text: &str, i: us
 
 /// That these are the items of a text.
 fn are_items(rt: &impl Abort, items: &Outline, wanted: &[Item], text: &str) {
-    holds(rt, items.len() == wanted.len(), "count of items", text);
+    holds_at(rt, items.len() == wanted.len(), "count of items", text);
     let is_empty = items.is_empty();
-    holds(rt, is_empty == wanted.is_empty(), "emptiness", text);
+    holds_at(rt, is_empty == wanted.is_empty(), "emptiness", text);
     for i in 0..wanted.len() {
         is_item(rt, item_at(items, i), wanted[i], text, i);
     }
