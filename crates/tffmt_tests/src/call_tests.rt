@@ -1,74 +1,10 @@
 //! How often a run calls its devices, and that it doesn't call one again that has failed. Contracts
 //! see what was read and written and whether it was flushed, but not how many calls that took.
 
-use hcl_scan::{FromRead, ToWrite};
+use crate::compared::{Shown, same_number, same_shown};
+use crate::devices::{Reader, Writer, run};
 use std::alloc::Global;
-use std::io;
-use std::io::{ErrorKind, Read, Write};
 use std::process::Abort;
-use tffmt_command::run::program;
-
-// Gives its bytes at one call, counts its calls, and fails at one of them.
-#[derive(Drop)]
-struct Reader<'a> {
-    bytes: &'a [u8],
-    calls: u32,
-    fails_at: u32,
-}
-
-impl<'a> Read for Reader<'a> {
-    fn read(&mut self, buf: &mut [u8]) -> io::Result<usize> {
-        self.calls = self.calls.saturating_add(1);
-        if self.calls == self.fails_at {
-            return Err(io::Error::from(ErrorKind::Interrupted));
-        }
-        let mut bytes = self.bytes;
-        let count = bytes.read(buf)?;
-        self.bytes = bytes;
-        Ok(count)
-    }
-}
-
-// Takes all, counts its calls, and fails at one of them. What failed works when it is called again.
-#[derive(Drop)]
-struct Writer {
-    taken: Vec<u8>,
-    writes: u32,
-    flushes: u32,
-    bad_write: u32,
-    bad_flush: u32,
-}
-
-impl Writer {
-    fn new(alloc: Global, bad_write: u32, bad_flush: u32) -> Writer {
-        Writer {
-            taken: Vec::new(alloc),
-            writes: 0,
-            flushes: 0,
-            bad_write,
-            bad_flush,
-        }
-    }
-}
-
-impl Write for Writer {
-    fn write(&mut self, buf: &[u8]) -> io::Result<usize> {
-        self.writes = self.writes.saturating_add(1);
-        if self.writes == self.bad_write {
-            return Err(io::Error::from(ErrorKind::Interrupted));
-        }
-        self.taken.extend_from_slice(buf)?;
-        Ok(buf.len())
-    }
-
-    fn flush(&mut self) -> io::Result<()> {
-        self.flushes = self.flushes.saturating_add(1);
-        if self.flushes == self.bad_flush {
-            return Err(io::Error::from(ErrorKind::Interrupted));
-        }
-        Ok(())
-    }
-}
 
 // A number for each kind of call: how many there were, or which of them fails, 0 being none.
 #[derive(Clone, Copy)]
@@ -86,6 +22,24 @@ const NONE: Calls = Calls {
     messages: 0,
 };
 
+// That so many calls are as many as are wanted of the input.
+fn same_calls(rt: &impl Abort, found: Calls, wanted: Calls, input: &[u8]) {
+    same_number(rt, u64::from(found.reads), u64::from(wanted.reads), input);
+    same_number(rt, u64::from(found.writes), u64::from(wanted.writes), input);
+    same_number(
+        rt,
+        u64::from(found.flushes),
+        u64::from(wanted.flushes),
+        input,
+    );
+    same_number(
+        rt,
+        u64::from(found.messages),
+        u64::from(wanted.messages),
+        input,
+    );
+}
+
 // Runs the program, in which these calls fail, and compares how often it called its devices, what
 // it wrote, and its status.
 fn check(
@@ -94,29 +48,22 @@ fn check(
     (words, input): (&[&str], &[u8]),
     fails: Calls,
     wanted: Calls,
-    shown: (&[u8], &[u8], u8),
+    shown: Shown<'_>,
 ) {
-    let mut reader = Reader {
-        bytes: input,
-        calls: 0,
-        fails_at: fails.reads,
-    };
+    let mut reader = Reader::new(input, fails.reads);
     let mut written = Writer::new(alloc, fails.writes, fails.flushes);
     let mut told = Writer::new(alloc, fails.messages, 0);
-    let status = {
-        let mut from = FromRead::new(&mut reader);
-        let mut out = ToWrite::new(&mut written);
-        let mut err = ToWrite::new(&mut told);
-        program(alloc, words, &mut from, &mut out, &mut err)
+    let status = run(alloc, words, &mut reader, &mut written, &mut told);
+    let calls = Calls {
+        reads: reader.calls,
+        writes: written.writes,
+        flushes: written.flushes,
+        messages: told.writes,
     };
-    assert_eq!(rt; reader.calls, wanted.reads);
-    assert_eq!(rt; written.writes, wanted.writes);
-    assert_eq!(rt; written.flushes, wanted.flushes);
-    assert_eq!(rt; told.writes, wanted.messages);
-    assert_eq!(rt; told.flushes, 0);
-    assert_eq!(rt; written.taken.as_slice(), shown.0);
-    assert_eq!(rt; told.taken.as_slice(), shown.1);
-    assert_eq!(rt; status, shown.2);
+    same_calls(rt, calls, wanted, input);
+    same_number(rt, u64::from(told.flushes), 0, input);
+    let found = (written.taken.as_slice(), told.taken.as_slice(), status);
+    same_shown(rt, found, shown, input);
 }
 
 static USAGE: &[u8] = b"usage: tffmt [--check] [--help]\n";

@@ -1,37 +1,35 @@
 //! How long the prints of files are, which were worked out by hand.
 
+use crate::compared::{holds, same_number};
 use crate::row_tests::repeated;
 use hcl_layout::{fits, printed_len, prints_nothing};
-use hcl_scan::{Source, scan};
+use hcl_scan::{Source, Tokens, scan};
 use hcl_syntax::{Accepted, accepts};
 use std::alloc::Global;
 use std::process::Abort;
-use std::test::Fail;
 
 // That the print of a file has so many bytes.
-fn has_length(rt: &impl Abort, accepted: &Accepted<'_, '_>, len: u32) {
+fn has_length(rt: &impl Abort, accepted: &Accepted<'_, '_>, len: u32, text: &[u8]) {
     let len = u64::from(len);
-    assert_eq!(rt; printed_len(accepted), len);
-    assert!(rt; fits(accepted, len));
-    assert!(rt; fits(accepted, len + 1));
-    assert!(rt; fits(accepted, u64::MAX));
-    assert!(rt; len == 0 || !fits(accepted, len.saturating_sub(1)));
-    assert_eq!(rt; prints_nothing(accepted), len == 0);
+    same_number(rt, printed_len(accepted), len, text);
+    holds(rt, fits(accepted, len), text);
+    holds(rt, fits(accepted, len + 1), text);
+    holds(rt, fits(accepted, u64::MAX), text);
+    let fits_less = fits(accepted, len.saturating_sub(1));
+    holds(rt, len == 0 || !fits_less, text);
+    holds(rt, prints_nothing(accepted) == (len == 0), text);
 }
 
 // That the text is a file whose print has so many bytes.
-fn prints(rt: &impl Abort, alloc: Global, text: &[u8], len: u32) -> Result<(), Fail> {
-    let source = Source::from_bytes(alloc, text)?;
-    let tokens = scan(alloc, &source)?;
-    match accepts(&tokens) {
-        Ok(accepted) => has_length(rt, &accepted, len),
-        Err(fault) => assert!(rt; false, "{fault:?}"),
-    }
-    Ok(())
+fn prints(rt: &impl Abort, alloc: Global, text: &[u8], len: u32) {
+    let source = Source::from_bytes(alloc, text).expect(rt, "a source");
+    let tokens = scan(alloc, &source).expect(rt, "tokens");
+    let accepted = accepts(&tokens).expect(rt, "a file");
+    has_length(rt, &accepted, len, text);
 }
 
 #[test]
-fn lengths_of_prints(rt: HostRuntime) -> Result<(), Fail> {
+fn lengths_of_prints(rt: HostRuntime) {
     for (text, len) in [
         (b"".as_slice(), 0),
         (b" \t ", 0),
@@ -41,20 +39,17 @@ fn lengths_of_prints(rt: HostRuntime) -> Result<(), Fail> {
         (b"a=[(1),\n# x\n]\n", 18),
         (b"locals {\na=1# one\nlong=\"x\"# two\n}\n", 49),
     ] {
-        prints(&rt, rt.alloc(), text, len)?;
+        prints(&rt, rt.alloc(), text, len);
     }
-    Ok(())
 }
 
 // Each line takes 1,005 bytes in the column of the first, so that no more than a source may have is told only by measuring:
 // 4,173 lines fit, and one more doesn't.
 #[test]
-fn lengths_beside_a_long_name(rt: HostRuntime) -> Result<(), Fail> {
-    let alloc = rt.alloc();
+fn lengths_beside_a_long_name(rt: HostRuntime) {
     for (count, len) in [(4172, 4_193_865), (4173, 4_194_870)] {
         let parts = [(b"b".as_slice(), 1000), (b"=1\n", 1), (b"a=1\n", count)];
-        let text = repeated(alloc, parts.as_slice())?;
-        prints(&rt, alloc, text.as_slice(), len)?;
+        let text = repeated(&rt, rt.alloc(), &parts);
+        prints(&rt, rt.alloc(), &text, len);
     }
-    Ok(())
 }

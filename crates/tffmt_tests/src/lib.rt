@@ -5,6 +5,10 @@
 #[cfg(test)]
 mod call_tests;
 #[cfg(test)]
+mod compared;
+#[cfg(test)]
+mod devices;
+#[cfg(test)]
 mod failure_tests;
 #[cfg(test)]
 mod length_tests;
