@@ -28,18 +28,20 @@ fn prints(rt: &impl Abort, alloc: Global, text: &[u8], len: u32) {
     has_length(rt, &accepted, len, text);
 }
 
+static LENGTHS: [(&[u8], u32); 7] = [
+    (b"", 0),
+    (b" \t ", 0),
+    (b"\n", 1),
+    (b" /**/ ", 4),
+    (b"a=1", 5),
+    (b"a=[(1),\n# x\n]\n", 18),
+    (b"locals {\na=1# one\nlong=\"x\"# two\n}\n", 49),
+];
+
 #[test]
 fn lengths_of_prints(rt: HostRuntime) {
-    for (text, len) in [
-        (b"".as_slice(), 0),
-        (b" \t ", 0),
-        (b"\n", 1),
-        (b" /**/ ", 4),
-        (b"a=1", 5),
-        (b"a=[(1),\n# x\n]\n", 18),
-        (b"locals {\na=1# one\nlong=\"x\"# two\n}\n", 49),
-    ] {
-        prints(&rt, rt.alloc(), text, len);
+    for (text, len) in &LENGTHS {
+        prints(&rt, rt.alloc(), text, *len);
     }
 }
 

@@ -1,5 +1,6 @@
 //! Files and what the program shows for them, from small ones up to the limits.
 
+use crate::compared::Shown;
 use crate::tests::check;
 use std::alloc::Global;
 use std::process::Abort;
@@ -10,28 +11,35 @@ pub static PRINT: [&str; 1] = ["tffmt"];
 /// The words that ask for a check.
 pub static CHECK: [&str; 2] = ["tffmt", "--check"];
 
+static NOTHING: &[u8] = b"";
+
+// What a check of a file shows that is its own print, and of another.
+static FORMATTED: Shown<'static> = (b"", b"", 0);
+
+static UNFORMATTED: Shown<'static> = (b"", b"", 3);
+
 // That the input is formatted to this print.
 fn gives(rt: &impl Abort, alloc: Global, input: &[u8], print: &[u8]) {
-    check(rt, alloc, &PRINT, input, (print, b"", 0));
+    check(rt, alloc, &PRINT, input, (print, NOTHING, 0));
 }
 
 // That the file is its own print, and found to be.
 fn stays(rt: &impl Abort, alloc: Global, file: &[u8]) {
     gives(rt, alloc, file, file);
-    check(rt, alloc, &CHECK, file, (b"", b"", 0));
+    check(rt, alloc, &CHECK, file, FORMATTED);
 }
 
 // That the input isn't its own print, which this is.
 fn turns_to(rt: &impl Abort, alloc: Global, input: &[u8], print: &[u8]) {
     gives(rt, alloc, input, print);
-    check(rt, alloc, &CHECK, input, (b"", b"", 3));
+    check(rt, alloc, &CHECK, input, UNFORMATTED);
     stays(rt, alloc, print);
 }
 
 // That the input is refused with this line, printed or checked.
 fn gives_fault(rt: &impl Abort, alloc: Global, input: &[u8], line: &[u8]) {
-    check(rt, alloc, &PRINT, input, (b"", line, 2));
-    check(rt, alloc, &CHECK, input, (b"", line, 2));
+    check(rt, alloc, &PRINT, input, (NOTHING, line, 2));
+    check(rt, alloc, &CHECK, input, (NOTHING, line, 2));
 }
 
 // An input, and the print or the line that it gives.
@@ -181,7 +189,7 @@ fn aligns_by_clusters(rt: HostRuntime) {
 }
 
 // A run whose column is the greatest width, wherever the widest line stands, and whatever is beside the run.
-static FORMATTED: [&[u8]; 12] = [
+static FILES: [&[u8]; 12] = [
     b"",
     b"a = 1\n",
     b"a   = 1\nbcd = 2",
@@ -198,12 +206,13 @@ static FORMATTED: [&[u8]; 12] = [
 
 #[test]
 fn keeps_formatted(rt: HostRuntime) {
-    all_stay(&rt, rt.alloc(), &FORMATTED);
+    all_stay(&rt, rt.alloc(), &FILES);
 }
 
-static NEARLY_FORMATTED: [Pair; 15] = [
+static NEARLY_FORMATTED: [Pair; 16] = [
     // a column further than the widest line, in all lines of the run, in front of an end or of another run
     (b"a    = 1\nbcd  = 2\n", b"a   = 1\nbcd = 2\n"),
+    (b"a  = 1\n", b"a = 1\n"),
     (b"a    = 1\nbcd  = 2", b"a   = 1\nbcd = 2"),
     (b"a  = 1\n\nbcd = 2\n", b"a = 1\n\nbcd = 2\n"),
     (
@@ -403,10 +412,4 @@ fn sizes_of_prints(rt: HostRuntime) {
     }
     let input = after_a_long_name(&rt, alloc, b"=1\n", b"a=1\n", 4173);
     gives_fault(&rt, alloc, &input, b"tffmt: error: 1:1: result too large\n");
-}
-
-#[test]
-fn checks(rt: HostRuntime) {
-    check(&rt, rt.alloc(), &CHECK, b"a = 1\n", (b"", b"", 0));
-    check(&rt, rt.alloc(), &CHECK, b"a  = 1\n", (b"", b"", 3));
 }

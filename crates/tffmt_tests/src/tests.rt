@@ -16,28 +16,36 @@ pub fn check(rt: &impl Abort, alloc: Global, words: &[&str], input: &[u8], wante
     same_shown(rt, shown, wanted, input);
 }
 
+static USAGES: [(&[&str], Shown<'static>); 2] = [
+    (
+        &["tffmt", "--help"],
+        (b"usage: tffmt [--check] [--help]\n", b"", 0),
+    ),
+    (
+        &["tffmt", "--bogus"],
+        (b"", b"usage: tffmt [--check] [--help]\n", 2),
+    ),
+];
+
 #[test]
 fn shows_usage(rt: HostRuntime) {
-    let usage = b"usage: tffmt [--check] [--help]\n".as_slice();
-    for (word, wanted) in [
-        ("--help", (usage, b"".as_slice(), 0)),
-        ("--bogus", (b"", usage, 2)),
-    ] {
-        check(&rt, rt.alloc(), &["tffmt", word], b"", wanted);
+    for (words, wanted) in &USAGES {
+        check(&rt, rt.alloc(), words, b"", *wanted);
     }
 }
 
+static LINES: [(&[&str], Result<FmtOptions, Usage>); 5] = [
+    (&["tffmt"], Ok(FmtOptions { check: false })),
+    (&["tffmt", "--check"], Ok(FmtOptions { check: true })),
+    (&["tffmt", "-h"], Err(Usage::Help)),
+    (&["tffmt", "x"], Err(Usage::BadLine)),
+    (&["tffmt", "--check", "--check"], Err(Usage::BadLine)),
+];
+
 #[test]
 fn reads_words(rt: HostRuntime) {
-    let help = Err(Usage::Help);
-    let bad_line = Err(Usage::BadLine);
-    for (words, wanted) in [
-        (["tffmt"].as_slice(), Ok(FmtOptions { check: false })),
-        (&["tffmt", "--check"], Ok(FmtOptions { check: true })),
-        (&["tffmt", "-h"], help),
-        (&["tffmt", "x"], bad_line),
-        (&["tffmt", "--check", "--check"], bad_line),
-    ] {
-        assert!(&rt; options(rt.alloc(), words) == wanted, "at {words:?}");
+    for (words, wanted) in &LINES {
+        let found = options(rt.alloc(), words);
+        assert!(rt; found == *wanted, "{found:?} of {words:?}");
     }
 }
