@@ -325,91 +325,116 @@ fn refuses_grammar_faults(rt: HostRuntime) {
     all_refused(&rt, rt.alloc(), &GRAMMAR_FAULTS);
 }
 
-// So many parens in one another, after the text in front and round another.
-fn parens(rt: &impl Abort, alloc: Global, front: &[u8], count: usize) -> Vec<u8> {
-    let parts = [
-        (front, 1),
-        (b"(", count),
-        (b"1", 1),
-        (b")", count),
-        (b"\n", 1),
-    ];
-    repeated(rt, alloc, &parts)
+type Parts = &'static [(&'static [u8], usize)];
+
+// That these parts are formatted to those.
+fn all_parts_give(rt: &impl Abort, alloc: Global, rows: &[(Parts, Parts)]) {
+    for (parts, printed) in rows {
+        let input = repeated(rt, alloc, parts);
+        let print = repeated(rt, alloc, printed);
+        gives(rt, alloc, &input, &print);
+    }
 }
 
-// So many directives in one another, in a quote after the text in front.
-fn directives(rt: &impl Abort, alloc: Global, front: &[u8], count: usize) -> Vec<u8> {
-    let parts = [
-        (front, 1),
-        (b"\"", 1),
-        (b"%{if b}", count),
-        (b"%{endif}", count),
-        (b"\"\n", 1),
-    ];
-    repeated(rt, alloc, &parts)
+// That these parts are refused with this line.
+fn all_parts_refused(rt: &impl Abort, alloc: Global, rows: &[(Parts, &[u8])]) {
+    for (parts, line) in rows {
+        let input = repeated(rt, alloc, parts);
+        gives_fault(rt, alloc, &input, line);
+    }
 }
 
-// 256 may be open, and no more.
+static DEEP: [(Parts, Parts); 2] = [
+    (
+        &[(b"a=", 1), (b"(", 256), (b"1", 1), (b")", 256), (b"\n", 1)],
+        &[
+            (b"a = ", 1),
+            (b"(", 256),
+            (b"1", 1),
+            (b")", 256),
+            (b"\n", 1),
+        ],
+    ),
+    (
+        &[
+            (b"a=\"", 1),
+            (b"%{if b}", 256),
+            (b"%{endif}", 256),
+            (b"\"\n", 1),
+        ],
+        &[
+            (b"a = \"", 1),
+            (b"%{if b}", 256),
+            (b"%{endif}", 256),
+            (b"\"\n", 1),
+        ],
+    ),
+];
+
+static TOO_DEEP: [(Parts, &[u8]); 3] = [
+    (
+        &[(b"a=", 1), (b"(", 257), (b"1", 1), (b")", 257), (b"\n", 1)],
+        b"tffmt: error: 1:259: too deep\n",
+    ),
+    (
+        &[(b"a=", 1), (b"(", 256), (b"\"x\"", 1)],
+        b"tffmt: error: 1:259: too deep\n",
+    ),
+    (
+        &[
+            (b"a=\"", 1),
+            (b"%{if b}", 257),
+            (b"%{endif}", 257),
+            (b"\"\n", 1),
+        ],
+        b"tffmt: error: 1:1796: too deep\n",
+    ),
+];
+
+// 256 may be open, and no more. Directives are open until their end.
 #[test]
 fn limits_openers(rt: HostRuntime) {
-    let alloc = rt.alloc();
-    let input = parens(&rt, alloc, b"a=", 256);
-    let print = parens(&rt, alloc, b"a = ", 256);
-    gives(&rt, alloc, &input, &print);
-    let line = b"tffmt: error: 1:259: too deep\n".as_slice();
-    let input = parens(&rt, alloc, b"a=", 257);
-    gives_fault(&rt, alloc, &input, line);
-    let parts = [(b"a=".as_slice(), 1), (b"(", 256), (b"\"x\"", 1)];
-    let input = repeated(&rt, alloc, &parts);
-    gives_fault(&rt, alloc, &input, line);
+    all_parts_give(&rt, rt.alloc(), &DEEP);
+    all_parts_refused(&rt, rt.alloc(), &TOO_DEEP);
 }
 
-// The same of directives, which are open until their end.
+static LARGE: [(Parts, Parts); 2] = [
+    (&[(b"\n", 1_048_577)], &[(b"\n", 1_048_577)]),
+    (&[(b"\n", 4_194_304)], &[(b"\n", 4_194_304)]),
+];
+
+static TOO_LARGE: [(Parts, &[u8]); 2] = [
+    (
+        &[(b"\n", 4_194_305)],
+        b"tffmt: error: 1:1: source too large\n",
+    ),
+    (
+        &[(b"b", 1000), (b"=1\n", 1), (b"a=1\n", 4173)],
+        b"tffmt: error: 1:1: result too large\n",
+    ),
+];
+
+// An input may have 4,194,304 bytes, and so may a print: 4,172 short lines beside a long name fit, and one more does not.
 #[test]
-fn limits_directives(rt: HostRuntime) {
-    let alloc = rt.alloc();
-    let input = directives(&rt, alloc, b"a=", 256);
-    let print = directives(&rt, alloc, b"a = ", 256);
-    gives(&rt, alloc, &input, &print);
-    let input = directives(&rt, alloc, b"a=", 257);
-    gives_fault(&rt, alloc, &input, b"tffmt: error: 1:1796: too deep\n");
+fn sizes(rt: HostRuntime) {
+    all_parts_give(&rt, rt.alloc(), &LARGE);
+    all_parts_refused(&rt, rt.alloc(), &TOO_LARGE);
 }
 
-// An input may have 4,194,304 bytes.
-#[test]
-fn sizes_of_inputs(rt: HostRuntime) {
-    let alloc = rt.alloc();
-    for count in [1_048_577, 4_194_304] {
-        let input = repeated(&rt, alloc, &[(b"\n".as_slice(), count)]);
-        gives(&rt, alloc, &input, &input);
-    }
-    let large = repeated(&rt, alloc, &[(b"\n".as_slice(), 4_194_305)]);
-    gives_fault(&rt, alloc, &large, b"tffmt: error: 1:1: source too large\n");
+// That so many short lines beside a name of 1,000 bytes are aligned to it.
+fn aligns_to_a_long_name(rt: &impl Abort, alloc: Global, count: usize) {
+    let aligned = repeated(rt, alloc, &[(b"a", 1), (b" ", 1000), (b"= 1\n", 1)]);
+    let input = repeated(rt, alloc, &[(b"b", 1000), (b"=1\n", 1), (b"a=1\n", count)]);
+    let print = repeated(
+        rt,
+        alloc,
+        &[(b"b", 1000), (b" = 1\n", 1), (&aligned, count)],
+    );
+    gives(rt, alloc, &input, &print);
 }
 
-// A line with a name of 1,000 bytes and this value, and then so many times the same text.
-fn after_a_long_name<'a>(
-    rt: &impl Abort,
-    alloc: Global,
-    value: &'a [u8],
-    text: &'a [u8],
-    count: usize,
-) -> Vec<u8> {
-    let parts = [(b"b".as_slice(), 1000), (value, 1), (text, count)];
-    repeated(rt, alloc, &parts)
-}
-
-// So may a print: 4,172 short lines beside a long name fit, and one more does not.
 #[test]
 fn sizes_of_prints(rt: HostRuntime) {
-    let alloc = rt.alloc();
-    let parts = [(b"a".as_slice(), 1), (b" ", 1000), (b"= 1\n", 1)];
-    let aligned = repeated(&rt, alloc, &parts);
-    for count in [1043, 4172] {
-        let input = after_a_long_name(&rt, alloc, b"=1\n", b"a=1\n", count);
-        let print = after_a_long_name(&rt, alloc, b" = 1\n", &aligned, count);
-        gives(&rt, alloc, &input, &print);
-    }
-    let input = after_a_long_name(&rt, alloc, b"=1\n", b"a=1\n", 4173);
-    gives_fault(&rt, alloc, &input, b"tffmt: error: 1:1: result too large\n");
+    aligns_to_a_long_name(&rt, rt.alloc(), 1043);
+    aligns_to_a_long_name(&rt, rt.alloc(), 4172);
 }
