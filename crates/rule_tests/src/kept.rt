@@ -1,100 +1,94 @@
 //! What is kept of small files, by the issues that it gives, worked out by hand.
 
-use hcl_scan::{Source, scan};
-use hcl_syntax::accepts;
+use crate::reports::{add, asking, has_issues};
 use std::alloc::{AllocError, Global};
 use std::process::Abort;
 use std::test::Fail;
-use tf_rules::{Facts, Naming, RuleSet, Settings};
+use tf_rules::{Facts, RuleSet};
 
 const FIRST: &str =
     "variable \"v\" {\n  type = var.v\n}\nmodule \"m\" {\n  source = \"git@x?ref=main\"\n}\n// é\n";
 
-const OF_FIRST: &str = "0:1:1 terraform_documented_variables: variable \"v\" has no description\n\
-0:1:1 terraform_unused_declarations: variable \"v\" is declared but not used\n\
-0:5:12 terraform_module_pinned_source: module \"m\" source uses a default branch: main\n\
-0:7:1 terraform_comment_syntax: line comments should begin with #\n";
+const OF_FIRST: &str =
+    "0:1:1: Notice - variable \"v\" has no description (terraform_documented_variables)\n\
+0:1:1: Warning - variable \"v\" is declared but not used (terraform_unused_declarations)\n\
+0:5:12: Warning - module \"m\" source uses a default branch: main (terraform_module_pinned_source)\n\
+0:7:1: Warning - line comments should begin with # (terraform_comment_syntax)\n";
 
 const SECOND: &str =
     "locals {\n  é = \"é${ l.0 }\" # tflint-ignore: all\n}\ndata \"t\" \"n\" {\n  a = \"${var.w}\"\n}\n";
 
 const OF_SECOND: &str =
-    "7:4:1 terraform_unused_declarations: data \"t\" \"n\" is declared but not used\n\
-7:5:7 terraform_deprecated_interpolation: interpolation-only expressions are deprecated\n";
+    "7:4:1: Warning - data \"t\" \"n\" is declared but not used (terraform_unused_declarations)\n\
+7:5:7: Warning - interpolation-only expressions are deprecated (terraform_deprecated_interpolation)\n";
 
 // The second file with a comment that silences less, and is one to be reported.
 const LOUDER: &str =
     "locals {\n  é = \"é${ l.0 }\" // tflint-ignore: terraform_naming_convention\n}\n";
 
 const OF_LOUDER: &str =
-    "8:2:3 terraform_unused_declarations: local \"é\" is declared but not used\n\
-8:2:13 terraform_deprecated_index: list items should be accessed using square brackets\n\
-8:2:19 terraform_comment_syntax: line comments should begin with #\n";
+    "8:2:3: Warning - local \"é\" is declared but not used (terraform_unused_declarations)\n\
+8:2:13: Warning - list items should be accessed using square brackets (terraform_deprecated_index)\n\
+8:2:19: Warning - line comments should begin with # (terraform_comment_syntax)\n";
 
 // Used in the second file, which the first variable isn't.
 const USED: &str = "variable \"w\" {\n  type        = string\n  description = \"\"\n}\n";
 
-/// Adds a file of this text, which is in the language.
-fn add(
-    alloc: Global,
-    facts: &mut Facts,
-    number: u32,
-    text: &str,
-) -> Result<Result<(), AllocError>, Fail> {
-    let source = Source::from_bytes(alloc, text.as_bytes())?;
-    let tokens = scan(alloc, &source)?;
-    let accepted = accepts(&tokens)?;
-    Ok(facts.add_file(number, &accepted))
+fn push_all(all: &mut String, texts: &[&str]) -> Result<(), AllocError> {
+    for text in texts {
+        all.push_str(*text)?;
+    }
+    Ok(())
 }
 
 /// That all rules report this, a text behind the other.
-fn has_issues(rt: &impl Abort, alloc: Global, facts: &Facts, wanted: &[&str]) -> Result<(), Fail> {
-    let settings = Settings {
-        rules: RuleSet::all(),
-        naming: Naming::SnakeCase,
-    };
-    let mut told = String::new(alloc);
-    for issue in &facts.issues(&settings)? {
-        let at = issue.at;
-        let name = issue.rule.name();
-        let message = issue.message.as_str();
-        let line = format!(in alloc;
-            "{}:{}:{} {name}: {message}\n",
-            issue.file, at.line, at.column
-        )?;
-        told.push_str(line.as_str())?;
-    }
+fn reports(
+    rt: &impl Abort,
+    alloc: Global,
+    facts: &Facts,
+    wanted: &[&str],
+) -> Result<(), AllocError> {
+    let settings = asking(RuleSet::all());
     let mut all = String::new(alloc);
-    for text in wanted {
-        all.push_str(*text)?;
-    }
-    assert!(rt; told.as_str() == all.as_str(), "{told}");
-    Ok(())
+    push_all(&mut all, wanted)?;
+    has_issues(rt, alloc, facts, &settings, (all.as_str(), "kept files"))
+}
+
+/// Adds a file to those of a module, which then has these issues.
+fn add_reported(
+    rt: &impl Abort,
+    alloc: Global,
+    facts: &mut Facts,
+    (number, text): (u32, &str),
+    wanted: &[&str],
+) -> Result<(), Fail> {
+    add(alloc, facts, number, text)??;
+    Ok(reports(rt, alloc, facts, wanted)?)
 }
 
 #[test]
 fn keeps_files(rt: HostRuntime) -> Result<(), Fail> {
-    let alloc = rt.alloc();
-    let mut facts = Facts::new(alloc)?;
-    has_issues(&rt, alloc, &facts, &[])?;
-    add(alloc, &mut facts, 0, FIRST)??;
-    has_issues(&rt, alloc, &facts, &[OF_FIRST])?;
-    add(alloc, &mut facts, 7, SECOND)??;
-    has_issues(&rt, alloc, &facts, &[OF_FIRST, OF_SECOND])?;
-    add(alloc, &mut facts, 8, LOUDER)??;
-    has_issues(&rt, alloc, &facts, &[OF_FIRST, OF_SECOND, OF_LOUDER])?;
-    add(alloc, &mut facts, 9, USED)??;
-    has_issues(&rt, alloc, &facts, &[OF_FIRST, OF_SECOND, OF_LOUDER])
+    let mut facts = Facts::new(rt.alloc())?;
+    reports(&rt, rt.alloc(), &facts, &[])?;
+    for (file, wanted) in [
+        ((0, FIRST), [OF_FIRST].as_slice()),
+        ((7, SECOND), &[OF_FIRST, OF_SECOND]),
+        ((8, LOUDER), &[OF_FIRST, OF_SECOND, OF_LOUDER]),
+        ((9, USED), &[OF_FIRST, OF_SECOND, OF_LOUDER]),
+    ] {
+        add_reported(&rt, rt.alloc(), &mut facts, file, wanted)?;
+    }
+    Ok(())
 }
 
 /// Run where a growth is refused, it sees that a refused file leaves the facts as they were.
 #[test]
 fn keeps_nothing_of_a_refused_file(rt: HostRuntime) -> Result<(), Fail> {
-    let alloc = rt.alloc();
-    let mut facts = Facts::new(alloc)?;
-    add(alloc, &mut facts, 0, FIRST)??;
-    match add(alloc, &mut facts, 7, SECOND)? {
-        Ok(()) => has_issues(&rt, alloc, &facts, &[OF_FIRST, OF_SECOND]),
-        Err(AllocError) => has_issues(&rt, alloc, &facts, &[OF_FIRST]),
-    }
+    let mut facts = Facts::new(rt.alloc())?;
+    add_reported(&rt, rt.alloc(), &mut facts, (0, FIRST), &[OF_FIRST])?;
+    let wanted = match add(rt.alloc(), &mut facts, 7, SECOND)? {
+        Ok(()) => [OF_FIRST, OF_SECOND].as_slice(),
+        Err(AllocError) => &[OF_FIRST],
+    };
+    Ok(reports(&rt, rt.alloc(), &facts, wanted)?)
 }

@@ -2,6 +2,10 @@
 #![tactic(auto)]
 
 #[cfg(test)]
+mod checks;
+#[cfg(test)]
 mod issues;
 #[cfg(test)]
 mod kept;
+#[cfg(test)]
+mod reports;
