@@ -86,8 +86,12 @@ class Group:
         return done.returncode, done.stdout, done.stderr
 
     def start(self, *words, cwd, **setting):
+        def hear():
+            # A shell's job in the background ignores this signal, and so would all that is started below it.
+            signal.signal(signal.SIGINT, signal.SIG_DFL)
         return subprocess.Popen([os.fspath(w) for w in words], cwd=str(cwd), env=dict(self.setting, **setting),
-                                stdin=subprocess.DEVNULL, stdout=subprocess.PIPE, stderr=subprocess.PIPE)
+                                stdin=subprocess.DEVNULL, stdout=subprocess.PIPE, stderr=subprocess.PIPE,
+                                preexec_fn=hear)
 
     def end(self, process, sent=signal.SIGTERM):
         """(status, standard output, standard error) of a started command after a signal."""
