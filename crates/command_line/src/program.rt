@@ -4,7 +4,7 @@ ghost use Rattle.std.specs.Prelude.{◌≡◌, ◌||◌, ◌<◌, List, [], ℕ,
 ghost use Rattle.command_line.specs.Rows.{Row, Took, Shows, ShowsOne, out_of_memory, write_failed, writer};
 
 use crate::texts::Program;
-use hcl_scan::{ByteSink, write_fully};
+use hcl_source::{ByteSink, write_fully};
 use std::alloc::AllocError;
 
 impl Program {

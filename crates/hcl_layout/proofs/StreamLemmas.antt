@@ -10,7 +10,7 @@ use Rattle.hcl_layout.specs.Cells.{assign_cell, running_comment, trailing_commen
 use Rattle.hcl_syntax.specs.Items.{deepen}
 use Rattle.hcl_layout.specs.Inner.Depths.{net_of_kind, BalancedFrom, Steps, depth_after, fresh, level_at, levels_behind}
 use Rattle.hcl_layout.specs.Gaps.{aligned, aligned_by, align, gaps, indented, line_gaps, plain_gaps, zip_with}
-use Rattle.hcl_syntax.specs.Balanced.{is_closer, is_opener, max_open}
+use Rattle.hcl_scan.specs.Balanced.{is_closer, is_opener, max_open}
 use Rattle.hcl_layout.specs.Levels.{Net, is_above, levels, net_of, no_net, plus}
 use Rattle.hcl_layout.specs.Lines.{Line, ends_line, lines, onto_line}
 use Rattle.hcl_layout.specs.Inner.Stream.{assign_column, assign_widths, assigned, comment_column, comment_widths, commented, leveled, plain}

@@ -5,7 +5,7 @@ ghost use Rattle.hcl_scan.specs.Kinds.{is};
 ghost use Rattle.hcl_scan.specs.declared.token.Kind.TheVariants.{InlineComment};
 ghost use Rattle.hcl_scan.specs.Lexemes.{Lexeme};
 ghost use Rattle.hcl_scan.specs.Scanned.{lexeme};
-ghost use Rattle.hcl_syntax.specs.Balanced.{is_closer, is_opener, max_open};
+ghost use Rattle.hcl_scan.specs.Balanced.{is_closer, is_opener, max_open};
 ghost use Rattle.hcl_layout.specs.Lines.{ends_line};
 ghost use Rattle.hcl_layout.specs.Cells.{is_assignment as is_assignment_of, is_multiline as is_multiline_of, is_trailing as is_trailing_of};
 ghost use Rattle.hcl_syntax.specs.Items.{deepen};

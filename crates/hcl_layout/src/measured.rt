@@ -3,7 +3,7 @@ ghost use Rattle.std.specs.Prelude.{◌≡◌, ◌<◌, ◌≤◌, ◌+◌, ◌^
 ghost use Rattle.unicode_segmentation.specs.Grapheme.{graphemes};
 ghost use Rattle.hcl_scan.specs.Lexemes.{Lexeme};
 ghost use Rattle.hcl_scan.specs.Scanned.{lexeme};
-ghost use Rattle.hcl_syntax.specs.Balanced.{IsBalanced};
+ghost use Rattle.hcl_scan.specs.Balanced.{IsBalanced};
 ghost use Rattle.hcl_layout.specs.Inner.Simple.{IsFrom, is_alone as is_alone_of, is_simple as is_simple_of};
 ghost use Rattle.hcl_layout.specs.Inner.LineGaps.{len_with_blanks};
 

@@ -8,4 +8,5 @@ pub mod Neighbours
 pub mod Regapped
 pub mod SideBySide
 pub mod InHeredocs
+pub mod Balanced
 pub mod Inner

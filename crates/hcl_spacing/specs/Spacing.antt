@@ -5,7 +5,7 @@ use Rattle.std.specs.Str.{bytes_eq}
 use Rattle.hcl_scan.specs.Lexemes.{Lexeme}
 use Rattle.hcl_scan.specs.declared.token.Kind.{Kind}
 use Rattle.hcl_scan.specs.declared.token.Kind.TheVariants as kind
-use Rattle.hcl_syntax.specs.Balanced.{is_opener}
+use Rattle.hcl_scan.specs.Balanced.{is_opener}
 use Rattle.hcl_scan.specs.Kinds.{is}
 
 -- `${` and `%{`

@@ -7,7 +7,7 @@ use Rattle.hcl_scan.specs.declared.token.Kind.TheVariants.{ParenOpen, ParenClose
 use Rattle.hcl_scan.proofs.RunLemmas.{scan_bounded}
 use Rattle.hcl_syntax.specs.Classes.{class_at}
 use Rattle.hcl_syntax.specs.Verdict.{IsAccepted}
-use Rattle.hcl_syntax.specs.Balanced.{max_open, opening, closing, openers, closers, IsWithin, IsBalanced}
+use Rattle.hcl_scan.specs.Balanced.{max_open, opening, closing, openers, closers, IsWithin, IsBalanced}
 use Rattle.hcl_syntax.proofs.OwedLemmas.{Shift}
 use Rattle.hcl_syntax.proofs.MoveLemmas.{Shifts, accepted-shifts}
 

@@ -10,7 +10,7 @@ use Rattle.hcl_scan.specs.Spelling.{IsSpelling, IsTemplateText, IsTextIn, contex
 use Rattle.hcl_scan.specs.declared.token.Kind.{Kind}
 use Rattle.hcl_scan.specs.declared.token.Kind.TheVariants as kind
 use Rattle.hcl_scan.proofs.KindPlaceLemmas.{in_expressions}
-use Rattle.hcl_syntax.specs.Balanced.{opening, closing, is_closer}
+use Rattle.hcl_scan.specs.Balanced.{opening, closing, is_closer}
 use Rattle.hcl_syntax.specs.Classes.{class_at, class_of, is_trivia, lookaheads_from}
 use Rattle.hcl_syntax.specs.Items.{deepen, is_closed}
 use Rattle.hcl_syntax.specs.Numbered.{Numbered, is_comment, is_passed_over, numbered, numbered_from, uncommented}

@@ -4,7 +4,7 @@ use Rattle.std.proofs.Common.{◌≡◌, ◌⊎◌, inl, inr, ℕ, zero, suc, �
 use Rattle.std.specs.Prelude.{◌&&◌, Option, Some, None}
 use Rattle.hcl_scan.specs.declared.token.Kind.{Kind}
 use Rattle.hcl_scan.specs.declared.token.Kind.TheVariants as kind
-use Rattle.hcl_syntax.specs.Balanced.{closing, is_closer}
+use Rattle.hcl_scan.specs.Balanced.{closing, is_closer}
 use Rattle.hcl_syntax.specs.Items.{deepen, is_closed}
 use Rattle.hcl_scan.specs.Kinds.{is}
 

@@ -3,7 +3,6 @@ pub mod Grammar
 pub mod Predictor
 pub mod Relation
 pub mod Verdict
-pub mod Balanced
 pub mod Numbered
 pub mod Items
 pub mod Labels

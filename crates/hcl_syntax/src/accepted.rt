@@ -2,7 +2,7 @@
 
 ghost use Rattle.std.specs.Prelude.{◌≡◌, ◌<◌, length};
 ghost use Rattle.hcl_source.specs.Places.{place};
-ghost use Rattle.hcl_syntax.specs.Balanced.{IsBalanced};
+ghost use Rattle.hcl_scan.specs.Balanced.{IsBalanced};
 ghost use Rattle.hcl_syntax.specs.Verdict.{start_of, fault_at, verdict, IsAccepted};
 ghost use Rattle.hcl_syntax.specs.Inner.Parsing.{Names};
 

@@ -10,7 +10,7 @@ ghost use Rattle.hcl_syntax.specs.Grammar.{file, ◌at◌};
 ghost use Rattle.hcl_syntax.specs.Predictor.{refusal_of};
 ghost use Rattle.hcl_syntax.specs.Relation.{ComesTo};
 ghost use Rattle.hcl_syntax.specs.Verdict.{IsAccepted};
-ghost use Rattle.hcl_syntax.specs.Balanced.{IsBalanced};
+ghost use Rattle.hcl_scan.specs.Balanced.{IsBalanced};
 ghost use Rattle.hcl_syntax.specs.ItemOrder.{Climbs, TopsApart};
 ghost use Rattle.hcl_syntax.specs.Items.{outline};
 ghost use Rattle.hcl_syntax.specs.Labels.{IsAsWritten, label_text, quoted};

@@ -7,21 +7,28 @@ use std::process::Abort;
 use std::test::Fail;
 use tf_rules::{Facts, Naming, Rule, RuleSet, Settings};
 
-/// A module, whose files are numbered from 0, and what is reported of it.
+/// The rules that are asked for.
 #[derive(Clone, Copy)]
-struct Row<'a> {
-    files: &'a [&'a str],
-    settings: Settings,
-    wanted: &'a str,
+enum Asked {
+    All,
+    Recommended,
+    Only(&'static [Rule]),
 }
 
-/// Only these rules.
 fn only(rules: &[Rule]) -> RuleSet {
     let mut set = RuleSet::none();
     for rule in rules {
         set = set.with(*rule);
     }
     set
+}
+
+fn rules_of(asked: Asked) -> RuleSet {
+    match asked {
+        Asked::All => RuleSet::all(),
+        Asked::Recommended => RuleSet::recommended(),
+        Asked::Only(rules) => only(rules),
+    }
 }
 
 fn add_files(alloc: Global, facts: &mut Facts, files: &[&str]) -> Result<(), Fail> {
@@ -33,118 +40,115 @@ fn add_files(alloc: Global, facts: &mut Facts, files: &[&str]) -> Result<(), Fai
     Ok(())
 }
 
-/// That this is reported of a module.
-fn reports(rt: &impl Abort, alloc: Global, row: &Row<'_>) -> Result<(), Fail> {
-    let what = row.files.first().copied().unwrap_or("no file");
+/// That this is reported of a module, whose files are numbered from 0.
+fn reports(
+    rt: &impl Abort,
+    alloc: Global,
+    files: &[&str],
+    asked: Asked,
+    wanted: &str,
+) -> Result<(), Fail> {
+    let what = files.first().copied().unwrap_or("no file");
     let mut facts = Facts::new(alloc)?;
-    add_files(alloc, &mut facts, row.files)?;
-    Ok(has_issues(rt, alloc, &facts, &row.settings, (row.wanted, what))?)
+    add_files(alloc, &mut facts, files)?;
+    let settings = asking(rules_of(asked));
+    Ok(has_issues(rt, alloc, &facts, &settings, (wanted, what))?)
 }
 
-static MIXED: &str =
+/// A module, the rules that are asked for, and what is reported.
+type Row = (&'static [&'static str], Asked, &'static str);
+
+fn all_report(rt: &impl Abort, alloc: Global, rows: &[Row]) -> Result<(), Fail> {
+    for (files, asked, wanted) in rows {
+        reports(rt, alloc, files, *asked, wanted)?;
+    }
+    Ok(())
+}
+
+const MIXED: &str =
     "// old\nvariable \"n\" {}\nlocals {\n  Bad = \"${var.n}\"\n  u   = aws.x.0\n}\n";
 
-static OF_MIXED: &str =
-    "0:1:1: Warning - line comments should begin with # (terraform_comment_syntax)\n\
+const OUTPUT: &str =
+    "output \"o\" {\n  value = data.t.n.id\n}\ndata \"t\" \"n\" {}\ndata \"t\" \"k\" {}\n";
+
+static BY_RULES: [Row; 4] = [
+    (
+        &[MIXED],
+        Asked::All,
+        "0:1:1: Warning - line comments should begin with # (terraform_comment_syntax)\n\
 0:2:1: Notice - variable \"n\" has no description (terraform_documented_variables)\n\
 0:2:1: Warning - variable \"n\" has no type (terraform_typed_variables)\n\
 0:4:3: Notice - local name \"Bad\" must match snake_case (terraform_naming_convention)\n\
 0:4:3: Warning - local \"Bad\" is declared but not used (terraform_unused_declarations)\n\
 0:4:9: Warning - interpolation-only expressions are deprecated (terraform_deprecated_interpolation)\n\
 0:5:3: Warning - local \"u\" is declared but not used (terraform_unused_declarations)\n\
-0:5:14: Warning - list items should be accessed using square brackets (terraform_deprecated_index)\n";
-
-#[test]
-fn reports_by_all_rules(rt: HostRuntime) -> Result<(), Fail> {
-    let naming = Settings {
-        rules: only(&[Rule::NamingConvention]),
-        naming: Naming::MixedSnakeCase,
-    };
-    for (files, settings, wanted) in [
-        ([MIXED].as_slice(), asking(RuleSet::all()), OF_MIXED),
-        (&[MIXED], naming, ""),
-        (
-            &["x = \"${\nvar.a # c\n}\"\n"],
-            asking(RuleSet::all()),
-            "0:1:5: Warning - interpolation-only expressions are deprecated (terraform_deprecated_interpolation)\n",
-        ),
-    ] {
-        let row = Row {
-            files,
-            settings,
-            wanted,
-        };
-        reports(&rt, rt.alloc(), &row)?;
-    }
-    Ok(())
-}
-
-static OF_LINES: &str =
-    "0:1:1: Warning - line comments should begin with # (terraform_comment_syntax)\n\
+0:5:14: Warning - list items should be accessed using square brackets (terraform_deprecated_index)\n",
+    ),
+    (
+        &["x = \"${\nvar.a # c\n}\"\n"],
+        Asked::All,
+        "0:1:5: Warning - interpolation-only expressions are deprecated (terraform_deprecated_interpolation)\n",
+    ),
+    (
+        &[MIXED],
+        Asked::Only(&[
+            Rule::TypedVariables,
+            Rule::CommentSyntax,
+            Rule::DeprecatedInterpolation,
+            Rule::DocumentedVariables,
+            Rule::DocumentedOutputs,
+            Rule::DeprecatedIndex,
+        ]),
+        "0:1:1: Warning - line comments should begin with # (terraform_comment_syntax)\n\
 0:2:1: Notice - variable \"n\" has no description (terraform_documented_variables)\n\
 0:2:1: Warning - variable \"n\" has no type (terraform_typed_variables)\n\
 0:4:9: Warning - interpolation-only expressions are deprecated (terraform_deprecated_interpolation)\n\
-0:5:14: Warning - list items should be accessed using square brackets (terraform_deprecated_index)\n";
-
-static OUTPUT: &str =
-    "output \"o\" {\n  value = data.t.n.id\n}\ndata \"t\" \"n\" {}\ndata \"t\" \"k\" {}\n";
-
-static OF_OUTPUT: &str =
-    "0:1:1: Notice - output \"o\" has no description (terraform_documented_outputs)\n\
-0:5:1: Warning - data \"t\" \"k\" is declared but not used (terraform_unused_declarations)\n";
+0:5:14: Warning - list items should be accessed using square brackets (terraform_deprecated_index)\n",
+    ),
+    (
+        &[OUTPUT],
+        Asked::Only(&[Rule::UnusedDeclarations, Rule::DocumentedOutputs]),
+        "0:1:1: Notice - output \"o\" has no description (terraform_documented_outputs)\n\
+0:5:1: Warning - data \"t\" \"k\" is declared but not used (terraform_unused_declarations)\n",
+    ),
+];
 
 #[test]
-fn reports_by_some_rules(rt: HostRuntime) -> Result<(), Fail> {
-    let of_lines = [
-        Rule::TypedVariables,
-        Rule::CommentSyntax,
-        Rule::DeprecatedInterpolation,
-        Rule::DocumentedVariables,
-        Rule::DocumentedOutputs,
-        Rule::DeprecatedIndex,
-    ];
-    let of_output = [Rule::UnusedDeclarations, Rule::DocumentedOutputs];
-    for (file, rules, wanted) in [
-        (MIXED, of_lines.as_slice(), OF_LINES),
-        (OUTPUT, &of_output, OF_OUTPUT),
-    ] {
-        let row = Row {
-            files: &[file],
-            settings: asking(only(rules)),
-            wanted,
-        };
-        reports(&rt, rt.alloc(), &row)?;
-    }
-    Ok(())
+fn reports_by_rules(rt: HostRuntime) -> Result<(), Fail> {
+    all_report(&rt, rt.alloc(), &BY_RULES)
 }
 
-static TYPED: &str = "variable \"n\" { type = string }\n";
+const TYPED: &str = "variable \"n\" { type = string }\n";
 
-static OWN: &str =
+const OWN: &str =
     "variable \"n\" {\n  type = string\n  validation {\n    condition = var.n != \"\"\n  }\n}\n";
+
+static USES: [Row; 4] = [
+    (
+        &[TYPED, "output \"o\" {\n  value = <<EOT\n${var.n}\nEOT\n}\n"],
+        Asked::Recommended,
+        "",
+    ),
+    (
+        &[
+            TYPED,
+            "output \"o\" {\n  value = <<EOT\n${var.n}${var.n}\nEOT\n}\n",
+            "x = var.n\n",
+        ],
+        Asked::Recommended,
+        "",
+    ),
+    (
+        &[OWN],
+        Asked::Recommended,
+        "0:1:1: Warning - variable \"n\" is declared but not used (terraform_unused_declarations)\n",
+    ),
+    (&[OWN, "x = var.n\n"], Asked::Recommended, ""),
+];
 
 #[test]
 fn uses_count_in_all_files(rt: HostRuntime) -> Result<(), Fail> {
-    let heredoc = "output \"o\" {\n  value = <<EOT\n${var.n}\nEOT\n}\n";
-    let twice = "output \"o\" {\n  value = <<EOT\n${var.n}${var.n}\nEOT\n}\n";
-    for (files, wanted) in [
-        ([TYPED, heredoc].as_slice(), ""),
-        (&[TYPED, twice, "x = var.n\n"], ""),
-        (
-            &[OWN],
-            "0:1:1: Warning - variable \"n\" is declared but not used (terraform_unused_declarations)\n",
-        ),
-        (&[OWN, "x = var.n\n"], ""),
-    ] {
-        let settings = asking(RuleSet::recommended());
-        let row = Row {
-            files,
-            settings,
-            wanted,
-        };
-        reports(&rt, rt.alloc(), &row)?;
-    }
-    Ok(())
+    all_report(&rt, rt.alloc(), &USES)
 }
 
 /// The text with this in the middle of two others.
@@ -166,104 +170,76 @@ fn source_reports(rt: &impl Abort, alloc: Global, source: &str, wanted: &str) ->
         ("module \"m\" {\n  source = \"", "\"\n}\n"),
         source,
     )?;
-    let row = Row {
-        files: &[text.as_str()],
-        settings: asking(RuleSet::recommended()),
-        wanted,
-    };
-    reports(rt, alloc, &row)
+    reports(rt, alloc, &[text.as_str()], Asked::Recommended, wanted)
 }
 
-static NOT_PINNED: &str =
+const NOT_PINNED: &str =
     "0:2:12: Warning - module \"m\" source is not pinned (terraform_module_pinned_source)\n";
 
-static NO_VERSION: &str =
+const NO_VERSION: &str =
     "0:1:1: Warning - module \"m\" has no version (terraform_module_version)\n";
+
+static SOURCES: [(&str, &str); 9] = [
+    ("git::https://e.com/r.git?depth=1&ref=v1", ""),
+    ("git::https://e.com/r.git?ref=", NOT_PINNED),
+    ("hg::http://e.com/r?ref=v1", NOT_PINNED),
+    ("app.terraform.io/x/y/aws", NO_VERSION),
+    ("app/x/y/aws", ""),
+    ("./m", ""),
+    ("../a/b", ""),
+    ("hashicorp/consul/aws//modules/x", NO_VERSION),
+    ("hashicorp/consul/aws", NO_VERSION),
+];
 
 #[test]
 fn tells_sources_of_modules(rt: HostRuntime) -> Result<(), Fail> {
-    for (source, wanted) in [
-        ("git::https://e.com/r.git?depth=1&ref=v1", ""),
-        ("git::https://e.com/r.git?ref=", NOT_PINNED),
-        ("hg::http://e.com/r?ref=v1", NOT_PINNED),
-        ("app.terraform.io/x/y/aws", NO_VERSION),
-        ("app/x/y/aws", ""),
-        ("./m", ""),
-        ("../a/b", ""),
-        ("hashicorp/consul/aws//modules/x", NO_VERSION),
-        ("hashicorp/consul/aws", NO_VERSION),
-    ] {
+    for (source, wanted) in &SOURCES {
         source_reports(&rt, rt.alloc(), source, wanted)?;
     }
-    let row = Row {
-        files: &["module \"M\" {\n  source = \"github.com/a/b?ref=main\"\n}\n"],
-        settings: asking(RuleSet::all()),
-        wanted: "0:1:1: Notice - module name \"M\" must match snake_case (terraform_naming_convention)\n\
-0:2:12: Warning - module \"M\" source uses a default branch: main (terraform_module_pinned_source)\n",
-    };
-    reports(&rt, rt.alloc(), &row)
+    Ok(())
 }
+
+static SILENCED: [Row; 6] = [
+    (
+        &["# tflint-ignore: terraform_typed_variables\nvariable \"n\" {}\n"],
+        Asked::Recommended,
+        "0:2:1: Warning - variable \"n\" is declared but not used (terraform_unused_declarations)\n",
+    ),
+    (
+        &[
+            "# tflint-ignore: terraform_typed_variables, terraform_unused_declarations # later\nvariable \"n\" {}\n",
+        ],
+        Asked::Recommended,
+        "",
+    ),
+    (
+        &["variable \"n\" {} // tflint-ignore: all\n"],
+        Asked::All,
+        "",
+    ),
+    (
+        &["# tflint-ignore: all\n", "\nvariable \"n\" {}\n"],
+        Asked::Recommended,
+        "1:2:1: Warning - variable \"n\" has no type (terraform_typed_variables)\n\
+1:2:1: Warning - variable \"n\" is declared but not used (terraform_unused_declarations)\n",
+    ),
+    (
+        &["# tflint-ignore: nope\nvariable \"n\" {}\n"],
+        Asked::Recommended,
+        "0:2:1: Warning - variable \"n\" has no type (terraform_typed_variables)\n\
+0:2:1: Warning - variable \"n\" is declared but not used (terraform_unused_declarations)\n",
+    ),
+    (
+        &["# tflint-ignore: all\n\nvariable \"n\" {}\n"],
+        Asked::Recommended,
+        "0:3:1: Warning - variable \"n\" has no type (terraform_typed_variables)\n\
+0:3:1: Warning - variable \"n\" is declared but not used (terraform_unused_declarations)\n",
+    ),
+];
 
 #[test]
 fn comments_silence(rt: HostRuntime) -> Result<(), Fail> {
-    let recommended = asking(RuleSet::recommended());
-    for (files, settings, wanted) in [
-        (
-            ["# tflint-ignore: terraform_typed_variables\nvariable \"n\" {}\n"].as_slice(),
-            recommended,
-            "0:2:1: Warning - variable \"n\" is declared but not used (terraform_unused_declarations)\n",
-        ),
-        (
-            &[
-                "# tflint-ignore: terraform_typed_variables, terraform_unused_declarations # later\nvariable \"n\" {}\n",
-            ],
-            recommended,
-            "",
-        ),
-        (
-            &["variable \"n\" {} // tflint-ignore: all\n"],
-            asking(RuleSet::all()),
-            "",
-        ),
-        (
-            &["# tflint-ignore: all\n", "\nvariable \"n\" {}\n"],
-            recommended,
-            "1:2:1: Warning - variable \"n\" has no type (terraform_typed_variables)\n\
-1:2:1: Warning - variable \"n\" is declared but not used (terraform_unused_declarations)\n",
-        ),
-    ] {
-        let row = Row {
-            files,
-            settings,
-            wanted,
-        };
-        reports(&rt, rt.alloc(), &row)?;
-    }
-    Ok(())
-}
-
-#[test]
-fn comments_silence_nothing(rt: HostRuntime) -> Result<(), Fail> {
-    for (text, wanted) in [
-        (
-            "# tflint-ignore: nope\nvariable \"n\" {}\n",
-            "0:2:1: Warning - variable \"n\" has no type (terraform_typed_variables)\n\
-0:2:1: Warning - variable \"n\" is declared but not used (terraform_unused_declarations)\n",
-        ),
-        (
-            "# tflint-ignore: all\n\nvariable \"n\" {}\n",
-            "0:3:1: Warning - variable \"n\" has no type (terraform_typed_variables)\n\
-0:3:1: Warning - variable \"n\" is declared but not used (terraform_unused_declarations)\n",
-        ),
-    ] {
-        let row = Row {
-            files: &[text],
-            settings: asking(RuleSet::recommended()),
-            wanted,
-        };
-        reports(&rt, rt.alloc(), &row)?;
-    }
-    Ok(())
+    all_report(&rt, rt.alloc(), &SILENCED)
 }
 
 /// Whether the rule on names reports something.
@@ -273,15 +249,16 @@ fn names_are_reported(facts: &Facts, naming: Naming) -> Result<bool, AllocError>
     Ok(!issues.is_empty())
 }
 
-/// That the only name of a module is reported by the rule on names just where it should.
-fn is_misnamed(
+/// That the names of a module fit this naming or not.
+fn fits_naming(
     rt: &impl Abort,
     facts: &Facts,
-    (naming, misnamed): (Naming, bool),
+    naming: Naming,
+    fits: bool,
     name: &str,
 ) -> Result<(), AllocError> {
     let is_reported = names_are_reported(facts, naming)?;
-    holds(rt, is_reported == misnamed, name);
+    holds(rt, is_reported != fits, name);
     Ok(())
 }
 
@@ -296,50 +273,69 @@ fn fits_namings(
     push_between(&mut text, ("variable \"", "\" {}\n"), name)?;
     let mut facts = Facts::new(alloc)?;
     add_files(alloc, &mut facts, &[text.as_str()])?;
-    is_misnamed(rt, &facts, (Naming::SnakeCase, !snake), name)?;
-    Ok(is_misnamed(rt, &facts, (Naming::MixedSnakeCase, !mixed), name)?)
+    fits_naming(rt, &facts, Naming::SnakeCase, snake, name)?;
+    Ok(fits_naming(rt, &facts, Naming::MixedSnakeCase, mixed, name)?)
 }
+
+/// A name, and whether it is in snake_case and in mixed_snake_case.
+static NAMES: [(&str, (bool, bool)); 12] = [
+    ("a", (true, true)),
+    ("a1_b2", (true, true)),
+    ("a_1", (true, true)),
+    ("", (false, false)),
+    ("a__b", (false, false)),
+    ("_a", (false, false)),
+    ("a_", (false, false)),
+    ("a-b", (false, false)),
+    ("1a", (false, false)),
+    ("é", (false, false)),
+    ("Ab_C", (false, true)),
+    ("Bad", (false, true)),
+];
 
 #[test]
 fn tells_namings(rt: HostRuntime) -> Result<(), Fail> {
-    for (name, snake, mixed) in [
-        ("a", true, true),
-        ("a1_b2", true, true),
-        ("a_1", true, true),
-        ("", false, false),
-        ("a__b", false, false),
-        ("_a", false, false),
-        ("a_", false, false),
-        ("a-b", false, false),
-        ("1a", false, false),
-        ("é", false, false),
-        ("Ab_C", false, true),
-    ] {
-        fits_namings(&rt, rt.alloc(), name, (snake, mixed))?;
-    }
-    for (naming, text) in [
-        (Naming::SnakeCase, "snake_case"),
-        (Naming::MixedSnakeCase, "mixed_snake_case"),
-    ] {
-        holds(&rt, naming.text() == text, text);
+    for (name, fits) in &NAMES {
+        fits_namings(&rt, rt.alloc(), name, *fits)?;
     }
     Ok(())
 }
 
-/// Clusters of several characters, a tab and a line's end of two bytes are in front of what is reported.
-static CLUSTERS: &str =
-    "a = 1 // e\u{301}\nlocals {\n\tb = \"\u{1f468}\u{200d}\u{1f469}x${ c.0 }\u{e9}\" // d\r\n}\n// f\n";
+static NAMINGS: [(Naming, &str); 2] = [
+    (Naming::SnakeCase, "snake_case"),
+    (Naming::MixedSnakeCase, "mixed_snake_case"),
+];
 
 #[test]
-fn places_are_counted_in_clusters(rt: HostRuntime) -> Result<(), Fail> {
-    let row = Row {
-        files: &[CLUSTERS],
-        settings: asking(RuleSet::all()),
-        wanted: "0:1:7: Warning - line comments should begin with # (terraform_comment_syntax)\n\
+fn namings_have_names(rt: HostRuntime) {
+    for (naming, text) in &NAMINGS {
+        holds(&rt, naming.text() == *text, text);
+    }
+}
+
+/// A source with a default branch, and a text where clusters of several characters, a tab and a line's end of two bytes are
+/// in front of what is reported.
+static PLACES: [Row; 2] = [
+    (
+        &["module \"M\" {\n  source = \"github.com/a/b?ref=main\"\n}\n"],
+        Asked::All,
+        "0:1:1: Notice - module name \"M\" must match snake_case (terraform_naming_convention)\n\
+0:2:12: Warning - module \"M\" source uses a default branch: main (terraform_module_pinned_source)\n",
+    ),
+    (
+        &[
+            "a = 1 // e\u{301}\nlocals {\n\tb = \"\u{1f468}\u{200d}\u{1f469}x${ c.0 }\u{e9}\" // d\r\n}\n// f\n",
+        ],
+        Asked::All,
+        "0:1:7: Warning - line comments should begin with # (terraform_comment_syntax)\n\
 0:3:2: Warning - local \"b\" is declared but not used (terraform_unused_declarations)\n\
 0:3:13: Warning - list items should be accessed using square brackets (terraform_deprecated_index)\n\
 0:3:20: Warning - line comments should begin with # (terraform_comment_syntax)\n\
 0:5:1: Warning - line comments should begin with # (terraform_comment_syntax)\n",
-    };
-    reports(&rt, rt.alloc(), &row)
+    ),
+];
+
+#[test]
+fn places_are_counted_in_clusters(rt: HostRuntime) -> Result<(), Fail> {
+    all_report(&rt, rt.alloc(), &PLACES)
 }

@@ -66,17 +66,20 @@ fn add_reported(
     Ok(reports(rt, alloc, facts, wanted)?)
 }
 
+/// A file with its number, and what is reported when it is added behind those before it.
+static KEPT: [((u32, &str), &[&str]); 4] = [
+    ((0, FIRST), &[OF_FIRST]),
+    ((7, SECOND), &[OF_FIRST, OF_SECOND]),
+    ((8, LOUDER), &[OF_FIRST, OF_SECOND, OF_LOUDER]),
+    ((9, USED), &[OF_FIRST, OF_SECOND, OF_LOUDER]),
+];
+
 #[test]
 fn keeps_files(rt: HostRuntime) -> Result<(), Fail> {
     let mut facts = Facts::new(rt.alloc())?;
     reports(&rt, rt.alloc(), &facts, &[])?;
-    for (file, wanted) in [
-        ((0, FIRST), [OF_FIRST].as_slice()),
-        ((7, SECOND), &[OF_FIRST, OF_SECOND]),
-        ((8, LOUDER), &[OF_FIRST, OF_SECOND, OF_LOUDER]),
-        ((9, USED), &[OF_FIRST, OF_SECOND, OF_LOUDER]),
-    ] {
-        add_reported(&rt, rt.alloc(), &mut facts, file, wanted)?;
+    for (file, wanted) in &KEPT {
+        add_reported(&rt, rt.alloc(), &mut facts, *file, wanted)?;
     }
     Ok(())
 }

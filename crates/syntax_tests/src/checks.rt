@@ -1,79 +1,8 @@
-//! The comparisons of the tests and the calls of devices, each proved once. A failure tells `what` it was at.
+//! The comparison of the tests, proved once.
 
-use hcl_source::{ByteSink, ByteSource, Failed, WriteFault, write_fully};
-use std::fmt::Debug;
 use std::process::Abort;
-
-/// Ends the test with `what` unless this is so.
-pub(crate) fn holds(rt: &impl Abort, is_so: bool, what: &str) {
-    if !is_so {
-        rt.panic(what)
-    }
-}
 
 /// Ends the test unless this is so, with what should have been so and of which row.
 pub(crate) fn holds_at(rt: &impl Abort, is_so: bool, what: &str, row: &str) {
     assert!(rt; is_so, "{what}: {row}");
-}
-
-/// That two values are the same.
-pub(crate) fn same<T: Debug + PartialEq>(rt: &impl Abort, found: &T, wanted: &T, what: &str) {
-    assert!(rt; *found == *wanted, "{found:?}, not {wanted:?}, at {what}");
-}
-
-/// That two texts are the same.
-pub(crate) fn same_text(rt: &impl Abort, found: &str, wanted: &str, what: &str) {
-    assert!(rt; found == wanted, "{found:?}, not {wanted:?}, at {what:?}");
-}
-
-/// That the same bytes are in both.
-pub(crate) fn same_bytes(rt: &impl Abort, found: &[u8], wanted: &[u8], what: &str) {
-    assert!(rt; found == wanted, "{found:?}, not {wanted:?}, at {what}");
-}
-
-/// That a source that hasn't failed answers so, and has failed then where that is an error.
-pub(crate) fn reads<S: ByteSource>(
-    rt: &impl Abort,
-    source: &mut S,
-    buffer: &mut [u8],
-    wanted: Result<usize, Failed>,
-) {
-    assert!(rt; !source.has_failed());
-    let answer = source.read(buffer);
-    same(rt, &answer, &wanted, "a read");
-    holds(rt, source.has_failed() == wanted.is_err(), "has_failed");
-}
-
-/// That a sink that hasn't failed answers so, and has failed then where that is an error.
-pub(crate) fn writes<S: ByteSink>(
-    rt: &impl Abort,
-    sink: &mut S,
-    bytes: &[u8],
-    wanted: Result<usize, Failed>,
-) {
-    assert!(rt; !sink.has_failed());
-    let answer = sink.write(bytes);
-    same(rt, &answer, &wanted, "a write");
-    holds(rt, sink.has_failed() == wanted.is_err(), "has_failed");
-}
-
-/// That all of the bytes, or so many, are written, and that the sink has failed where not all are.
-pub(crate) fn writes_fully<S: ByteSink>(
-    rt: &impl Abort,
-    sink: &mut S,
-    bytes: &[u8],
-    wanted: Result<(), WriteFault>,
-) {
-    assert!(rt; !sink.has_failed());
-    let answer = write_fully(sink, bytes);
-    same(rt, &answer, &wanted, "write_fully");
-    holds(rt, sink.has_failed() == wanted.is_err(), "has_failed");
-}
-
-/// That a flush answers so, and that the sink has failed where that is an error.
-pub(crate) fn flushes<S: ByteSink>(rt: &impl Abort, sink: &mut S, wanted: Result<(), Failed>) {
-    assert!(rt; !sink.has_failed());
-    let answer = sink.flush();
-    same(rt, &answer, &wanted, "a flush");
-    holds(rt, sink.has_failed() == wanted.is_err(), "has_failed");
 }

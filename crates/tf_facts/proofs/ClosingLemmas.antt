@@ -7,7 +7,7 @@ use Rattle.hcl_scan.specs.Kinds.{is}
 use Rattle.hcl_scan.specs.Lexemes.{Lexeme}
 use Rattle.hcl_scan.specs.declared.token.Kind.{Kind}
 use Rattle.hcl_scan.specs.declared.token.Kind.TheVariants as kind
-use Rattle.hcl_syntax.specs.Balanced.{opening, closing}
+use Rattle.hcl_scan.specs.Balanced.{opening, closing}
 use Rattle.hcl_syntax.specs.Items.{deepen, is_closed}
 use Rattle.hcl_syntax.specs.Numbered.{is_passed_over}
 use Rattle.tf_facts.specs.Patterns.{begins_with_close, behind_closer}

@@ -3,7 +3,7 @@
 ghost use Rattle.std.specs.Prelude.{◌≡◌, ◌==◌, ◌<◌, ◌+◌, false, length, get_or, reverse, if◌then◌else◌, IfOk, OnOk};
 ghost use Rattle.hcl_scan.specs.Kinds.{is};
 ghost use Rattle.hcl_scan.specs.declared.token.Kind.TheVariants.{QuoteClose};
-ghost use Rattle.hcl_syntax.specs.Balanced.{closing, opening};
+ghost use Rattle.hcl_scan.specs.Balanced.{closing, opening};
 ghost use Rattle.hcl_syntax.specs.Numbered.{is_passed_over};
 ghost use Rattle.tf_facts.specs.Inner.Closings.{AreAhead, AreClosings, quote_from};
 

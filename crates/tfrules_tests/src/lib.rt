@@ -3,10 +3,12 @@
 #![tactic(auto)]
 
 #[cfg(test)]
+mod compared;
+#[cfg(test)]
+mod devices;
+#[cfg(test)]
 mod failure_tests;
 #[cfg(test)]
 mod memory_files;
-#[cfg(test)]
-mod row_tests;
 #[cfg(test)]
 mod tests;

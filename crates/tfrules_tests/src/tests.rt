@@ -1,126 +1,234 @@
-//! Whole runs over files in memory, with ample memory, on modules whose answers were worked out by hand.
+//! Whole runs over files in memory, with ample memory, on modules whose answers were worked out by hand: what is shown, and
+//! which files are opened for it. What the rules say of many modules is tested by `rule_tests`, and end to end.
 
-use crate::memory_files::{FileFailure, MemoryFiles};
-use hcl_scan::{SINK_ROOM, ToWrite};
+use crate::compared::{Files, Shown, first_text, joined, same_number};
+use crate::devices::{Devices, run, steady};
+use crate::memory_files::FileFailure;
+use hcl_scan::SINK_ROOM;
 use std::alloc::Global;
 use std::process::Abort;
-use tfrules_command::module_files::ModuleFiles;
-use tfrules_command::run::program;
 
-/// Runs the program on a module, and compares what it wrote, its status, and how many files it opened and gave back.
+/// The words of a run.
+pub type Words = &'static [&'static str];
+
+/// Runs the program on a module, and compares what it shows, and how many files it opened and gave back.
 pub fn check(
     rt: &impl Abort,
     alloc: Global,
     words: &[&str],
-    (files, failure): (&[(&str, &[u8])], FileFailure),
-    wanted: (&[u8], &[u8], u8),
-    calls: (usize, usize),
+    (files, failure): (Files<'_>, FileFailure),
+    wanted: Shown<'_>,
+    (opened, given_back): (u64, u64),
 ) {
-    let mut module = MemoryFiles::new(files, SINK_ROOM, failure);
-    let mut written = Vec::new(alloc);
-    let mut told = Vec::new(alloc);
-    let status = {
-        let mut out = ToWrite::new(&mut written);
-        let mut err = ToWrite::new(&mut told);
-        program(alloc, words, &mut module, &mut out, &mut err)
+    let devices = Devices {
+        file: failure,
+        ..steady(SINK_ROOM)
     };
-    assert_eq!(rt; written.as_slice(), wanted.0);
-    assert_eq!(rt; told.as_slice(), wanted.1);
-    assert_eq!(rt; status, wanted.2);
-    assert_eq!(rt; module.opened(), calls.0);
-    assert_eq!(rt; module.given_back(), calls.1);
+    let run = run(alloc, words, files, &devices);
+    run.check(rt, wanted, files);
+    same_number(rt, run.opened, opened, first_text(files));
+    same_number(rt, run.given_back, given_back, first_text(files));
 }
 
-static USAGE: &[u8] =
-    b"usage: tfrules [--rules LIST] [--naming snake_case|mixed_snake_case] [--minimum-failure-severity error|warning|notice] [--force] [--help] FILE...\n";
+// That the run ends with this line and shows nothing else.
+fn is_refused(
+    rt: &impl Abort,
+    alloc: Global,
+    words: &[&str],
+    module: (Files<'_>, FileFailure),
+    line: &str,
+    calls: (u64, u64),
+) {
+    check(rt, alloc, words, module, (b"", line.as_bytes(), 1), calls);
+}
 
-const NO_FILES: [(&str, &[u8]); 0] = [];
+/// The line on how the program is called.
+pub const USAGE: &str =
+    "usage: tfrules [--rules LIST] [--naming snake_case|mixed_snake_case] [--minimum-failure-severity error|warning|notice] [--force] [--help] FILE...\n";
+
+#[test]
+fn help_is_shown(rt: HostRuntime) {
+    let words = ["tfrules", "--help"];
+    let shown = (USAGE.as_bytes(), b"".as_slice(), 0);
+    check(
+        &rt,
+        rt.alloc(),
+        &words,
+        (&[], FileFailure::None),
+        shown,
+        (0, 0),
+    );
+}
+
+static BAD_WORDS: [(Words, &str); 4] = [
+    (&["tfrules"], USAGE),
+    (
+        &["tfrules", "--rules", "nope", "--naming", "x", "a.tf"],
+        "tfrules: error: unknown rule\n",
+    ),
+    (
+        &["tfrules", "--naming", "x", "a.tf"],
+        "tfrules: error: unknown naming\n",
+    ),
+    (
+        &["tfrules", "--minimum-failure-severity", "x", "a.tf"],
+        "tfrules: error: unknown severity\n",
+    ),
+];
 
 #[test]
 fn words_are_refused_before_a_file_is_opened(rt: HostRuntime) {
-    let none = (NO_FILES.as_slice(), FileFailure::None);
-    for (words, wanted) in [
-        (["tfrules", "--help"].as_slice(), (USAGE, b"".as_slice(), 0)),
-        (["tfrules"].as_slice(), (b"", USAGE, 1)),
-        (
-            ["tfrules", "--rules", "nope", "--naming", "x", "a.tf"].as_slice(),
-            (b"", b"tfrules: error: unknown rule\n", 1),
-        ),
-        (
-            ["tfrules", "--naming", "x", "a.tf"].as_slice(),
-            (b"", b"tfrules: error: unknown naming\n", 1),
-        ),
-        (
-            ["tfrules", "--minimum-failure-severity", "x", "a.tf"].as_slice(),
-            (b"", b"tfrules: error: unknown severity\n", 1),
-        ),
-    ] {
-        check(&rt, rt.alloc(), words, none, wanted, (0, 0));
+    for (words, line) in &BAD_WORDS {
+        is_refused(
+            &rt,
+            rt.alloc(),
+            words,
+            (&[], FileFailure::None),
+            line,
+            (0, 0),
+        );
     }
 }
+
+static MODULE: [(&str, &[u8]); 3] = [
+    ("a.tf", b"variable \"n\" {}\n"),
+    ("b.tf", b"a=\n"),
+    ("c.tf", b""),
+];
+
+// Words, the call that fails, the line that is shown, and how many files are opened and given back.
+static REFUSALS: [(Words, FileFailure, &str, (u64, u64)); 3] = [
+    (
+        &["tfrules", "a.tf", "b.tf", "c.tf"],
+        FileFailure::None,
+        "tfrules: error: b.tf:1:3: unexpected token\n",
+        (2, 2),
+    ),
+    (
+        &["tfrules", "a.tf", "d.tf", "c.tf"],
+        FileFailure::None,
+        "tfrules: error: d.tf: cannot be opened\n",
+        (2, 1),
+    ),
+    (
+        &["tfrules", "c.tf", "a.tf", "b.tf"],
+        FileFailure::Read(1, 0),
+        "tfrules: error: a.tf: read failed\n",
+        (2, 2),
+    ),
+];
 
 #[test]
 fn the_first_refused_file_ends_the_run(rt: HostRuntime) {
-    let files: [(&str, &[u8]); 3] = [
-        ("a.tf", b"variable \"n\" {}\n"),
-        ("b.tf", b"a=\n"),
-        ("c.tf", b""),
-    ];
-    for (words, failure, line, calls) in [
-        (
-            ["tfrules", "a.tf", "b.tf", "c.tf"].as_slice(),
-            FileFailure::None,
-            b"tfrules: error: b.tf:1:3: unexpected token\n".as_slice(),
-            (2, 2),
-        ),
-        (
-            ["tfrules", "a.tf", "d.tf", "c.tf"].as_slice(),
-            FileFailure::None,
-            b"tfrules: error: d.tf: cannot be opened\n",
-            (2, 1),
-        ),
-        (
-            ["tfrules", "c.tf", "a.tf", "b.tf"].as_slice(),
-            FileFailure::Read(1, 0),
-            b"tfrules: error: a.tf: read failed\n",
-            (2, 2),
-        ),
-    ] {
-        let module = (files.as_slice(), failure);
-        check(&rt, rt.alloc(), words, module, (b"", line, 1), calls);
+    for (words, failure, line, calls) in &REFUSALS {
+        is_refused(&rt, rt.alloc(), words, (&MODULE, *failure), line, *calls);
     }
 }
 
-#[test]
-fn a_name_that_comes_again_is_read_once(rt: HostRuntime) {
-    let files: [(&str, &[u8]); 2] = [("a.tf", b"a = 1\n"), ("b.tf", b"b = 1\n")];
-    let words = ["tfrules", "a.tf", "b.tf", "a.tf"].as_slice();
-    let module = (files.as_slice(), FileFailure::None);
-    check(&rt, rt.alloc(), words, module, (b"", b"", 0), (2, 2));
-}
+const MANY: &[u8] =
+    b"// old\nvariable \"n\" {}\nlocals {\n  Bad = \"${var.n}\"\n  u   = aws.x.0\n}\n";
+
+const OF_MANY: &[&str] = &[
+    "8 issue(s) found:\n\n",
+    "v.tf:1:1: Warning - line comments should begin with # (terraform_comment_syntax)\n",
+    "v.tf:2:1: Notice - variable \"n\" has no description (terraform_documented_variables)\n",
+    "v.tf:2:1: Warning - variable \"n\" has no type (terraform_typed_variables)\n",
+    "v.tf:4:3: Notice - local name \"Bad\" must match snake_case (terraform_naming_convention)\n",
+    "v.tf:4:3: Warning - local \"Bad\" is declared but not used (terraform_unused_declarations)\n",
+    "v.tf:4:9: Warning - interpolation-only expressions are deprecated (terraform_deprecated_interpolation)\n",
+    "v.tf:5:3: Warning - local \"u\" is declared but not used (terraform_unused_declarations)\n",
+    "v.tf:5:14: Warning - list items should be accessed using square brackets (terraform_deprecated_index)\n",
+];
+
+const UNVERSIONED: &[u8] = b"module \"m\" {\n  source = \"hashicorp/consul/aws\"\n}\n";
+
+const OF_UNVERSIONED: &[&str] = &[
+    "1 issue(s) found:\n\n",
+    "m.tf:1:1: Warning - module \"m\" has no version (terraform_module_version)\n",
+];
+
+// Words, the file that they name, the parts of its report, and the status, which is 2 where an issue is severe enough.
+static REPORTS: [(Words, (&str, &[u8]), &[&str], u8); 4] = [
+    (
+        &["tfrules", "--rules", "all", "v.tf"],
+        ("v.tf", MANY),
+        OF_MANY,
+        2,
+    ),
+    (
+        &["tfrules", "m.tf"],
+        ("m.tf", UNVERSIONED),
+        OF_UNVERSIONED,
+        2,
+    ),
+    (
+        &["tfrules", "--force", "m.tf"],
+        ("m.tf", UNVERSIONED),
+        OF_UNVERSIONED,
+        0,
+    ),
+    (
+        &["tfrules", "--minimum-failure-severity", "error", "m.tf"],
+        ("m.tf", UNVERSIONED),
+        OF_UNVERSIONED,
+        0,
+    ),
+];
 
 #[test]
 fn issues_give_a_report_and_a_status(rt: HostRuntime) {
-    let text = b"module \"m\" {\n  source = \"hashicorp/consul/aws\"\n}\n";
-    let files: [(&str, &[u8]); 1] = [("main.tf", text)];
-    let report =
-        b"1 issue(s) found:\n\nmain.tf:1:1: Warning - module \"m\" has no version (terraform_module_version)\n".as_slice();
-    for (words, status) in [
-        (["tfrules", "main.tf"].as_slice(), 2),
-        (["tfrules", "--force", "main.tf"].as_slice(), 0),
-        (
-            ["tfrules", "--minimum-failure-severity", "error", "main.tf"].as_slice(),
-            0,
-        ),
-    ] {
+    for (words, file, parts, status) in &REPORTS {
+        let report = joined(&rt, rt.alloc(), parts);
+        let files = [*file];
         let module = (files.as_slice(), FileFailure::None);
         check(
             &rt,
             rt.alloc(),
             words,
             module,
-            (report, b"", status),
+            (&report, b"", *status),
             (1, 1),
         );
     }
+}
+
+static TWO: [(&str, &[u8]); 2] = [("a.tf", b"a = 1\n"), ("b.tf", b"b = 1\n")];
+
+#[test]
+fn a_name_that_comes_again_is_read_once(rt: HostRuntime) {
+    let words = ["tfrules", "a.tf", "b.tf", "a.tf"];
+    check(
+        &rt,
+        rt.alloc(),
+        &words,
+        (&TWO, FileFailure::None),
+        (b"", b"", 0),
+        (2, 2),
+    );
+}
+
+// So many operands of one name.
+fn operands(rt: &impl Abort, alloc: Global, count: usize) -> Vec<&'static str> {
+    let mut words = Vec::new(alloc);
+    words.push("tfrules").expect(rt, "memory");
+    for _ in 0..count {
+        words.push("a.tf").expect(rt, "memory");
+    }
+    words
+}
+
+#[test]
+fn operands_are_counted_as_given(rt: HostRuntime) {
+    let alloc = rt.alloc();
+    let module = (TWO.as_slice(), FileFailure::None);
+    check(
+        &rt,
+        alloc,
+        &operands(&rt, alloc, 256),
+        module,
+        (b"", b"", 0),
+        (1, 1),
+    );
+    let line = "tfrules: error: more than 256 files\n";
+    is_refused(&rt, alloc, &operands(&rt, alloc, 257), module, line, (0, 0));
 }

@@ -3,7 +3,7 @@
 use Rattle.std.specs.Prelude.{◌≡◌, ◌<◌, ◌≤◌, ◌+◌, ◌-◌, ℕ, suc, zero, List, [], ◌∷◌, length, get_or, slice_set, min, replicate, IsTrue}
 use Rattle.hcl_scan.specs.Lexemes.{Lexeme}
 use Rattle.hcl_scan.specs.declared.token.Kind.{Kind}
-use Rattle.hcl_syntax.specs.Balanced.{closing, is_closer, is_opener, opening, max_open}
+use Rattle.hcl_scan.specs.Balanced.{closing, is_closer, is_opener, opening, max_open}
 use Rattle.hcl_syntax.specs.Items.{deepen}
 use Rattle.hcl_layout.specs.Levels.{Net}
 

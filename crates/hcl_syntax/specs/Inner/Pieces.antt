@@ -4,7 +4,7 @@ use Rattle.hcl_scan.specs.Kinds.{is}
 use Rattle.hcl_scan.specs.declared.token.Kind.TheVariants as kind
 use Rattle.hcl_scan.specs.Lexemes.{Lexeme}
 use Rattle.hcl_scan.specs.declared.token.Kind.{Kind}
-use Rattle.hcl_syntax.specs.Balanced.{opening, closing}
+use Rattle.hcl_scan.specs.Balanced.{opening, closing}
 use Rattle.hcl_syntax.specs.declared.nesting.Nesting.{Nesting}
 use Rattle.hcl_syntax.specs.declared.nesting.Nesting.TheVariants as nesting
 use Rattle.hcl_syntax.specs.Numbered.{Numbered, numbered_from, uncommented}

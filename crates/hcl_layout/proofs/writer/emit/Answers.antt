@@ -2,7 +2,7 @@ use Rattle.std.proofs.Common.{◌≡◌, ◌<◌, ◌+◌, ◌++◌, ◌∙◌, 
 use Rattle.std.specs.Io.KnownBytes.{Appends}
 use Rattle.std.proofs.lemmas.List.{length-replicate}
 use Rattle.hcl_scan.specs.Scanned.{Scanned}
-use Rattle.hcl_syntax.specs.Balanced.{IsBalanced}
+use Rattle.hcl_scan.specs.Balanced.{IsBalanced}
 use Rattle.hcl_layout.specs.Inner.Depths.{BalancedFrom}
 use Rattle.hcl_layout.specs.Inner.Left.{bytes_of, to_print}
 use Rattle.hcl_layout.specs.Inner.Out.{Out, CutShort, stretched}

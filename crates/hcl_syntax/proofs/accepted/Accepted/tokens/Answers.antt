@@ -1,5 +1,5 @@
 use Rattle.std.proofs.Common.{subst}
-use Rattle.hcl_syntax.specs.Balanced.{IsBalanced}
+use Rattle.hcl_scan.specs.Balanced.{IsBalanced}
 use Rattle.hcl_syntax.proofs.BalanceLemmas.{balance}
 use Rattle.hcl_syntax.proofs.accepted.Accepted.tokens.Goals as goal
 
