@@ -4,6 +4,7 @@ use Rattle.std.proofs.Common.{◌≡◌, ℕ, ◌&&◌, ◌||◌, ◌==◌, not,
 use Rattle.std.specs.Prelude.{nat_le}
 use Rattle.std.specs.Char.{is_ascii_digit}
 use Rattle.std.specs.Int.{is_in_range}
+use Rattle.std.specs.List.{list_all}
 use Rattle.std.specs.Str.{bytes_eq}
 use Rattle.std.proofs.lemmas.Bool.Decides.{nat_tests}
 use Rattle.hcl_scan.specs.Lexemes.{Lexeme}
@@ -17,6 +18,7 @@ use Rattle.hcl_scan.proofs.CommentLemmas.{or_cases}
 use Rattle.hcl_scan.proofs.FirstByteLemmas.{Says, says}
 use Rattle.hcl_scan.specs.Kinds.{is}
 use Rattle.hcl_spacing.specs.Spacing.{opens_sequence, begins_with_colon, begins_with_equals, stands_before, spaced}
+use Rattle.hcl_spacing.proofs.KindLemmas.{each, kinds, never}
 use Rattle.hcl_spacing.proofs.SpacingLemmas.{plain_pair, by_kinds, by_joining}
 
 -- the kinds whose texts may go on one of this kind, by the first byte
@@ -41,77 +43,56 @@ e_byte b h = by (is_ascii_digit b) refl h
     by true e k = inr e
     by false e k = inl (letter b k)
 
+-- of two tests of a kind: where the one holds, so does the other; tried for all kinds
+so : (P Q : Kind → Bool) → list_all (λ k. not (P k) || Q k) kinds ≡ true → (k : Kind) → P k ≡ true → Q k ≡ true
+so P Q tried k h = by (P k) h (each (λ k. not (P k) || Q k) tried k)
+  where
+    by : (p : Bool) → p ≡ true → (not p || Q k) ≡ true → Q k ≡ true
+    by true e f = f
+    by false e f = cc
+
 pair_ident : (k : Kind) → (is kind.Ident k ≡ true) ⊎ (is kind.Number k ≡ true) ⊎ (is kind.Minus k ≡ true) → plain_pair kind.Ident k ≡ true
-pair_ident kind.Ident h = refl
-pair_ident kind.Number h = refl
-pair_ident kind.Minus h = refl
-pair_ident _ (inl h) = absurd (cc)
-pair_ident _ (inr (inl h)) = absurd (cc)
-pair_ident _ (inr (inr h)) = absurd (cc)
+pair_ident k (inl h) = so (is kind.Ident) (plain_pair kind.Ident) refl k h
+pair_ident k (inr (inl h)) = so (is kind.Number) (plain_pair kind.Ident) refl k h
+pair_ident k (inr (inr h)) = so (is kind.Minus) (plain_pair kind.Ident) refl k h
 
 pair_number : (k : Kind) → (is kind.Ident k ≡ true) ⊎ (is kind.Number k ≡ true) → plain_pair kind.Number k ≡ true
-pair_number kind.Ident h = refl
-pair_number kind.Number h = refl
-pair_number _ (inl h) = absurd (cc)
-pair_number _ (inr h) = absurd (cc)
+pair_number k (inl h) = so (is kind.Ident) (plain_pair kind.Number) refl k h
+pair_number k (inr h) = so (is kind.Number) (plain_pair kind.Number) refl k h
 
 pair_assign : (k : Kind) → (beside.is_equals k ≡ true) ⊎ (beside.is_greater k ≡ true) → plain_pair kind.Assign k ≡ true
-pair_assign kind.Assign h = refl
-pair_assign kind.Arrow h = refl
-pair_assign kind.Equal h = refl
-pair_assign kind.Greater h = refl
-pair_assign kind.GreaterEqual h = refl
-pair_assign _ (inl h) = absurd (cc)
-pair_assign _ (inr h) = absurd (cc)
+pair_assign k (inl h) = so beside.is_equals (plain_pair kind.Assign) refl k h
+pair_assign k (inr h) = so beside.is_greater (plain_pair kind.Assign) refl k h
 
 pair_less : (k : Kind) → (beside.is_less k ≡ true) ⊎ (beside.is_equals k ≡ true) → plain_pair kind.Less k ≡ true
-pair_less kind.Assign h = refl
-pair_less kind.Arrow h = refl
-pair_less kind.Equal h = refl
-pair_less kind.Less h = refl
-pair_less kind.LessEqual h = refl
-pair_less kind.HeredocOpen h = refl
-pair_less _ (inl h) = absurd (cc)
-pair_less _ (inr h) = absurd (cc)
+pair_less k (inl h) = so beside.is_less (plain_pair kind.Less) refl k h
+pair_less k (inr h) = so beside.is_equals (plain_pair kind.Less) refl k h
 
 pair_greater : (k : Kind) → beside.is_equals k ≡ true → plain_pair kind.Greater k ≡ true
-pair_greater kind.Assign h = refl
-pair_greater kind.Arrow h = refl
-pair_greater kind.Equal h = refl
-pair_greater _ h = absurd (cc)
+pair_greater = so beside.is_equals (plain_pair kind.Greater) refl
 
 pair_slash : (k : Kind) → (beside.is_slashed k ≡ true) ⊎ (is kind.Star k ≡ true) → plain_pair kind.Slash k ≡ true
-pair_slash kind.Slash h = refl
-pair_slash kind.LineComment h = refl
-pair_slash kind.InlineComment h = refl
-pair_slash kind.Star h = refl
-pair_slash _ (inl h) = absurd (cc)
-pair_slash _ (inr h) = absurd (cc)
+pair_slash k (inl h) = so beside.is_slashed (plain_pair kind.Slash) refl k h
+pair_slash k (inr h) = so (is kind.Star) (plain_pair kind.Slash) refl k h
 
 pair_dot : (k : Kind) → beside.is_pointed k ≡ true → (is kind.Dot k || is kind.Ellipsis k) ≡ true
-pair_dot kind.Dot h = refl
-pair_dot kind.Ellipsis h = refl
-pair_dot _ h = absurd (cc)
+pair_dot = so beside.is_pointed (λ k. is kind.Dot k || is kind.Ellipsis k) refl
 
 pointed_on : (k : Kind) → beside.is_pointed k ≡ true → is kind.Newline k ≡ false
-pointed_on kind.Newline h = absurd (cc)
-pointed_on _ h = refl
+pointed_on k h = not_true (is kind.Newline k) (so beside.is_pointed (λ k. not (is kind.Newline k)) refl k h)
 
 equals_on : (k : Kind) → beside.is_equals k ≡ true → is kind.Newline k ≡ false
-equals_on kind.Newline h = absurd (cc)
-equals_on _ h = refl
+equals_on k h = not_true (is kind.Newline k) (so beside.is_equals (λ k. not (is kind.Newline k)) refl k h)
 
 coloned_on : (k : Kind) → beside.is_coloned k ≡ true → is kind.Newline k ≡ false
-coloned_on kind.Newline h = absurd (cc)
-coloned_on _ h = refl
+coloned_on k h = not_true (is kind.Newline k) (so beside.is_coloned (λ k. not (is kind.Newline k)) refl k h)
 
 dot_on : (k : Kind) → is kind.Dot k ≡ true → is kind.Newline k ≡ false
-dot_on kind.Newline h = absurd (cc)
-dot_on _ h = refl
+dot_on k h = not_true (is kind.Newline k) (so (is kind.Dot) (λ k. not (is kind.Newline k)) refl k h)
 
 seq_close_is : (k : Kind) → is kind.SeqClose k ≡ true → k ≡ kind.SeqClose
 seq_close_is kind.SeqClose h = refl
-seq_close_is _ h = absurd (cc)
+seq_close_is _ h = never h
 
 equals_first : (text : List ℕ) → (get_or text 0 0 == 61) ≡ true → begins_with_equals text ≡ true
 equals_first [] h = absurd (cc)
@@ -256,7 +237,7 @@ module _ (before : Option Lexeme) (u t : Lexeme) (dot : Bool) (outside_all : t.i
   by_kind kind.Slash = grown_slash
   by_kind kind.InterpOpen = grown_interp
   by_kind kind.ControlOpen = grown_control
-  by_kind _ = λ e h. absurd (cc)
+  by_kind _ = λ e h. never h
 
   pub joined_apart : neighbours.joins dot u.kind t.kind t.text ≡ true → spaced before u t ≡ true
   joined_apart h = by_kind u.kind refl h

@@ -6,6 +6,9 @@ use Rattle.std.proofs.lemmas.Bool.Decides.{nat_tests}
 use Rattle.hcl_scan.specs.declared.token.Kind.{Kind}
 use Rattle.hcl_scan.specs.declared.token.Kind.TheVariants as kind
 
+pub never : {A : Type 0} → false ≡ true → A
+never h = absurd (cc)
+
 abbrev pub kinds : List Kind
 kinds = kind.Newline ∷ kind.LineComment ∷ kind.InlineComment ∷ kind.Blank ∷ kind.Ident ∷ kind.Number ∷ kind.HeredocOpen ∷ kind.QuoteOpen ∷ kind.ParenOpen ∷ kind.BracketOpen ∷ kind.BraceOpen ∷ kind.ParenClose ∷ kind.BracketClose ∷ kind.SeqClose ∷ kind.BraceClose ∷ kind.Dot ∷ kind.Comma ∷ kind.Ellipsis ∷ kind.Question ∷ kind.Colon ∷ kind.ColonColon ∷ kind.Assign ∷ kind.Arrow ∷ kind.Not ∷ kind.Minus ∷ kind.Plus ∷ kind.Star ∷ kind.Slash ∷ kind.Percent ∷ kind.And ∷ kind.Or ∷ kind.Equal ∷ kind.NotEqual ∷ kind.Less ∷ kind.Greater ∷ kind.LessEqual ∷ kind.GreaterEqual ∷ kind.Lit ∷ kind.InterpOpen ∷ kind.ControlOpen ∷ kind.QuoteClose ∷ kind.HeredocClose ∷ []
 

@@ -35,17 +35,19 @@ table_by_kinds l r equals colon tilde word name dot opening =
     else if is kind.ParenOpen l || is kind.BracketOpen l || opens_sequence l then false
     else not (closes_group r)
 
-abbrev both : (Bool → Bool) → Bool
-both P = P true && P false
+-- tried with both answers where the kind asks, and else with no
+abbrev both : Bool → (Bool → Bool) → Bool
+both asks P = if asks then P true && P false else P false
 
-both_is : (P : Bool → Bool) → both P ≡ true → (b : Bool) → P b ≡ true
-both_is P h b = go (P true) refl (P false) refl h b
+both_is : (asks : Bool) (P : Bool → Bool) → both asks P ≡ true → (b : Bool) → P (asks && b) ≡ true
+both_is true P h b = go (P true) refl (P false) refl h b
   where
     go : (v : Bool) → P true ≡ v → (w : Bool) → P false ≡ w → (v && w) ≡ true → (b : Bool) → P b ≡ true
     go true e true f h true = e
     go true e true f h false = f
     go true e false f h b = cc
     go false e w f h b = cc
+both_is false P h b = h
 
 -- by the kinds, or else by what was asked
 abbrev pub answered : Option Bool → Bool → Bool
@@ -59,20 +61,51 @@ same false b = not b
 abbrev holds : Kind → Kind → Bool → Bool → Bool → Bool → Bool → Bool → Bool → Bool
 holds l r a b c d e f g = same (answered (pair_space l r) (asked l r a b c d e f g)) (table_by_kinds l r a b c d e f g)
 
-tried : list_all (λ l. list_all (λ r. both (λ a. both (λ b. both (λ c. both (λ d. both (λ e. both (λ f. both (λ g. holds l r a b c d e f g)))))))) kinds) kinds ≡ true
+-- each answer matters behind one kind alone, so that few are left to try
+abbrev by_opening : Kind → Kind → Bool → Bool → Bool → Bool → Bool → Bool → Bool
+by_opening l r a b c d e f = both (is kind.Minus l) (λ g. holds l r a b c d e f g)
+
+abbrev by_dot : Kind → Kind → Bool → Bool → Bool → Bool → Bool → Bool
+by_dot l r a b c d e = both (is kind.Number l) (λ f. by_opening l r a b c d e f)
+
+abbrev by_name : Kind → Kind → Bool → Bool → Bool → Bool → Bool
+by_name l r a b c d = both (is kind.Ident l) (λ e. by_dot l r a b c d e)
+
+abbrev by_word : Kind → Kind → Bool → Bool → Bool → Bool
+by_word l r a b c = both (is kind.Ident l) (λ d. by_name l r a b c d)
+
+abbrev by_tilde : Kind → Kind → Bool → Bool → Bool
+by_tilde l r a b = both (opens_sequence l) (λ c. by_word l r a b c)
+
+abbrev by_colon : Kind → Kind → Bool → Bool
+by_colon l r a = both (is kind.Colon l) (λ b. by_tilde l r a b)
+
+abbrev by_equals : Kind → Kind → Bool
+by_equals l r = both (is kind.Not l) (λ a. by_colon l r a)
+
+tried : list_all (λ l. list_all (λ r. by_equals l r) kinds) kinds ≡ true
 tried = refl
 
-every : (l r : Kind) (a b c d e f g : Bool) → holds l r a b c d e f g ≡ true
+every : (l r : Kind) (a b c d e f g : Bool) → holds l r (is kind.Not l && a) (is kind.Colon l && b) (opens_sequence l && c) (is kind.Ident l && d) (is kind.Ident l && e) (is kind.Number l && f) (is kind.Minus l && g) ≡ true
 every l r a b c d e f g =
-    both_is (λ g. holds l r a b c d e f g)
-    (both_is (λ f. both (λ g. holds l r a b c d e f g))
-    (both_is (λ e. both (λ f. both (λ g. holds l r a b c d e f g)))
-    (both_is (λ d. both (λ e. both (λ f. both (λ g. holds l r a b c d e f g))))
-    (both_is (λ c. both (λ d. both (λ e. both (λ f. both (λ g. holds l r a b c d e f g)))))
-    (both_is (λ b. both (λ c. both (λ d. both (λ e. both (λ f. both (λ g. holds l r a b c d e f g))))))
-    (both_is (λ a. both (λ b. both (λ c. both (λ d. both (λ e. both (λ f. both (λ g. holds l r a b c d e f g)))))))
-    (each (λ r. both (λ a. both (λ b. both (λ c. both (λ d. both (λ e. both (λ f. both (λ g. holds l r a b c d e f g))))))))
-    (each (λ l. list_all (λ r. both (λ a. both (λ b. both (λ c. both (λ d. both (λ e. both (λ f. both (λ g. holds l r a b c d e f g)))))))) kinds) tried l) r) a) b) c) d) e) f) g
+    let p = is kind.Not l && a in
+    let q = is kind.Colon l && b in
+    let s = opens_sequence l && c in
+    let t = is kind.Ident l && d in
+    let u = is kind.Ident l && e in
+    let v = is kind.Number l && f in
+    both_is (is kind.Minus l) (λ g. holds l r p q s t u v g)
+    (both_is (is kind.Number l) (λ f. by_opening l r p q s t u f)
+    (both_is (is kind.Ident l) (λ e. by_dot l r p q s t e)
+    (both_is (is kind.Ident l) (λ d. by_name l r p q s d)
+    (both_is (opens_sequence l) (λ c. by_word l r p q c)
+    (both_is (is kind.Colon l) (λ b. by_tilde l r p b)
+    (both_is (is kind.Not l) (λ a. by_colon l r a)
+    (each (by_equals l) (each (λ l. list_all (by_equals l) kinds) tried l) r) a) b) c) d) e) f) g
+
+where_asked : (l r : Kind) (a b c d e f g : Bool) → holds l r (is kind.Not l && a) (is kind.Colon l && b) (opens_sequence l && c) (is kind.Ident l && d) (is kind.Ident l && e) (is kind.Number l && f) (is kind.Minus l && g) ≡ holds l r a b c d e f g
+where_asked kind.Not r a b c d e f g = refl
+where_asked _ r a b c d e f g = refl
 
 same_is : (a b : Bool) → same a b ≡ true → a ≡ b
 same_is true b h = sym h
@@ -95,7 +128,7 @@ by_kinds before subject after e =
     let d = stands_before (is kind.Ident) before in
     let g = stands_before (is kind.Dot) before in
     let h = is_opening before in
-    rw (e, or_false (is kind.Newline r)) (same_is (answered (pair_space l r) (asked l r a z b c d g h)) (table_by_kinds l r a z b c d g h) (every l r a z b c d g h))
+    rw (e, or_false (is kind.Newline r)) (same_is (answered (pair_space l r) (asked l r a z b c d g h)) (table_by_kinds l r a z b c d g h) (sym (where_asked l r a z b c d g h) ∙ every l r a z b c d g h))
   where
     or_false : (v : Bool) → (v || false) ≡ v
     or_false true = refl

@@ -9,6 +9,7 @@ use Rattle.hcl_scan.specs.declared.token.Kind.{Kind}
 use Rattle.hcl_scan.specs.declared.token.Kind.TheVariants as kind
 use Rattle.hcl_scan.proofs.BooleanLemmas.{and_true, not_true}
 use Rattle.hcl_scan.specs.Kinds.{is}
+use Rattle.hcl_spacing.proofs.KindLemmas.{never}
 use Rattle.hcl_spacing.specs.Spacing.{opens_sequence, closes_group, ends_operand, is_opening, would_join, is_in, spaced}
 
 -- ---- rows by kinds alone
@@ -82,7 +83,7 @@ behind_quote before u t kind.InterpOpen h c = refl
 behind_quote before u t kind.ControlOpen h c = refl
 behind_quote before u t kind.QuoteClose h c = refl
 behind_quote before u t kind.HeredocClose h c = absurd (cc)
-behind_quote before u t _ h c = absurd (cc)
+behind_quote before u t _ h c = never h
 
 behind_lit : (before : Option Lexeme) (u t : Lexeme) (k : Kind) → regapped.is_template k ≡ true → is_heredoc_close k ≡ false → spaced before (of_kind kind.Lit u) (outside k t) ≡ false
 behind_lit before u t kind.Lit h c = refl
@@ -90,7 +91,7 @@ behind_lit before u t kind.InterpOpen h c = refl
 behind_lit before u t kind.ControlOpen h c = refl
 behind_lit before u t kind.QuoteClose h c = refl
 behind_lit before u t kind.HeredocClose h c = absurd (cc)
-behind_lit before u t _ h c = absurd (cc)
+behind_lit before u t _ h c = never h
 
 behind_sequence : (before : Option Lexeme) (u t : Lexeme) (k : Kind) → regapped.is_template k ≡ true → is_heredoc_close k ≡ false → spaced before (of_kind kind.SeqClose u) (outside k t) ≡ false
 behind_sequence before u t kind.Lit h c = refl
@@ -98,13 +99,13 @@ behind_sequence before u t kind.InterpOpen h c = refl
 behind_sequence before u t kind.ControlOpen h c = refl
 behind_sequence before u t kind.QuoteClose h c = refl
 behind_sequence before u t kind.HeredocClose h c = absurd (cc)
-behind_sequence before u t _ h c = absurd (cc)
+behind_sequence before u t _ h c = never h
 
 template_rows : (before : Option Lexeme) (u t : Lexeme) (k k' : Kind) → beside.opens_template k ≡ true → regapped.is_template k' ≡ true → is_heredoc_close k' ≡ false → spaced before (of_kind k u) (outside k' t) ≡ false
 template_rows before u t kind.QuoteOpen k' h i c = behind_quote before u t k' i c
 template_rows before u t kind.Lit k' h i c = behind_lit before u t k' i c
 template_rows before u t kind.SeqClose k' h i c = behind_sequence before u t k' i c
-template_rows before u t _ k' h i c = absurd (cc)
+template_rows before u t _ k' h i c = never h
 
 not_heredoc_close : (k : Kind) (inside : Bool) → inside ≡ false → (k ≡ kind.HeredocClose → inside ≡ true) → is_heredoc_close k ≡ false
 not_heredoc_close kind.HeredocClose inside e f = absurd (let g = f refl in cc)
