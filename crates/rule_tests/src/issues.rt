@@ -40,7 +40,14 @@ fn add_files(alloc: Global, facts: &mut Facts, files: &[&str]) -> Result<(), Fai
     Ok(())
 }
 
-/// That this is reported of a module, whose files are numbered from 0.
+/// What is kept of a module, whose files are numbered from 0.
+fn facts_of(alloc: Global, files: &[&str]) -> Result<Facts, Fail> {
+    let mut facts = Facts::new(alloc)?;
+    add_files(alloc, &mut facts, files)?;
+    Ok(facts)
+}
+
+/// That this is reported of a module.
 fn reports(
     rt: &impl Abort,
     alloc: Global,
@@ -49,9 +56,8 @@ fn reports(
     wanted: &str,
 ) -> Result<(), Fail> {
     let what = files.first().copied().unwrap_or("no file");
-    let mut facts = Facts::new(alloc)?;
-    add_files(alloc, &mut facts, files)?;
     let settings = asking(rules_of(asked));
+    let facts = facts_of(alloc, files)?;
     Ok(has_issues(rt, alloc, &facts, &settings, (wanted, what))?)
 }
 
@@ -250,7 +256,7 @@ fn names_are_reported(facts: &Facts, naming: Naming) -> Result<bool, AllocError>
 }
 
 /// That the names of a module fit this naming or not.
-fn fits_naming(
+fn fits(
     rt: &impl Abort,
     facts: &Facts,
     naming: Naming,
@@ -262,19 +268,33 @@ fn fits_naming(
     Ok(())
 }
 
-/// That a name in a label fits these namings.
-fn fits_namings(
+/// That the names of a module, such as this one, fit these namings or not.
+fn fits_both(
+    rt: &impl Abort,
+    facts: &Facts,
+    name: &str,
+    (snake, mixed): (bool, bool),
+) -> Result<(), AllocError> {
+    fits(rt, facts, Naming::SnakeCase, snake, name)?;
+    fits(rt, facts, Naming::MixedSnakeCase, mixed, name)
+}
+
+/// What is kept of a module with this name in a label.
+fn named(alloc: Global, name: &str) -> Result<Facts, Fail> {
+    let mut text = String::new(alloc);
+    push_between(&mut text, ("variable \"", "\" {}\n"), name)?;
+    facts_of(alloc, &[text.as_str()])
+}
+
+/// That a name in a label fits these namings or not.
+fn fits_in_a_label(
     rt: &impl Abort,
     alloc: Global,
     name: &str,
-    (snake, mixed): (bool, bool),
+    namings: (bool, bool),
 ) -> Result<(), Fail> {
-    let mut text = String::new(alloc);
-    push_between(&mut text, ("variable \"", "\" {}\n"), name)?;
-    let mut facts = Facts::new(alloc)?;
-    add_files(alloc, &mut facts, &[text.as_str()])?;
-    fits_naming(rt, &facts, Naming::SnakeCase, snake, name)?;
-    Ok(fits_naming(rt, &facts, Naming::MixedSnakeCase, mixed, name)?)
+    let facts = named(alloc, name)?;
+    Ok(fits_both(rt, &facts, name, namings)?)
 }
 
 /// A name, and whether it is in snake_case and in mixed_snake_case.
@@ -296,7 +316,7 @@ static NAMES: [(&str, (bool, bool)); 12] = [
 #[test]
 fn tells_namings(rt: HostRuntime) -> Result<(), Fail> {
     for (name, fits) in &NAMES {
-        fits_namings(&rt, rt.alloc(), name, *fits)?;
+        fits_in_a_label(&rt, rt.alloc(), name, *fits)?;
     }
     Ok(())
 }

@@ -74,24 +74,34 @@ static KEPT: [((u32, &str), &[&str]); 4] = [
     ((9, USED), &[OF_FIRST, OF_SECOND, OF_LOUDER]),
 ];
 
+/// Adds the files one by one to none.
+fn adds_each(rt: &impl Abort, alloc: Global, facts: &mut Facts) -> Result<(), Fail> {
+    reports(rt, alloc, facts, &[])?;
+    for (file, wanted) in &KEPT {
+        add_reported(rt, alloc, facts, *file, wanted)?;
+    }
+    Ok(())
+}
+
 #[test]
 fn keeps_files(rt: HostRuntime) -> Result<(), Fail> {
     let mut facts = Facts::new(rt.alloc())?;
-    reports(&rt, rt.alloc(), &facts, &[])?;
-    for (file, wanted) in &KEPT {
-        add_reported(&rt, rt.alloc(), &mut facts, *file, wanted)?;
-    }
-    Ok(())
+    adds_each(&rt, rt.alloc(), &mut facts)
+}
+
+/// Adds a file to none, and one more, of which all is kept or nothing.
+fn adds_all_or_nothing(rt: &impl Abort, alloc: Global, facts: &mut Facts) -> Result<(), Fail> {
+    add_reported(rt, alloc, facts, (0, FIRST), &[OF_FIRST])?;
+    let wanted = match add(alloc, facts, 7, SECOND)? {
+        Ok(()) => [OF_FIRST, OF_SECOND].as_slice(),
+        Err(AllocError) => &[OF_FIRST],
+    };
+    Ok(reports(rt, alloc, facts, wanted)?)
 }
 
 /// Run where a growth is refused, it sees that a refused file leaves the facts as they were.
 #[test]
 fn keeps_nothing_of_a_refused_file(rt: HostRuntime) -> Result<(), Fail> {
     let mut facts = Facts::new(rt.alloc())?;
-    add_reported(&rt, rt.alloc(), &mut facts, (0, FIRST), &[OF_FIRST])?;
-    let wanted = match add(rt.alloc(), &mut facts, 7, SECOND)? {
-        Ok(()) => [OF_FIRST, OF_SECOND].as_slice(),
-        Err(AllocError) => &[OF_FIRST],
-    };
-    Ok(reports(&rt, rt.alloc(), &facts, wanted)?)
+    adds_all_or_nothing(&rt, rt.alloc(), &mut facts)
 }

@@ -12,6 +12,77 @@ const DOT: &str = "a.";
 
 const HEREDOC: &str = "<<E\n${a";
 
+/// A front, what is behind it, and what is found there.
+static ROWS: [(&str, &str, &str); 61] = [
+    // identifiers
+    ("", "a.1e5", "Ident 1"),
+    ("", "a-b_1 c", "Ident 5"),
+    ("", "é", "Ident 2"),
+    ("", "_é9-=", "Ident 5"),
+    ("", "\u{b7}a", "InvalidCharacter at 1:1"),
+    ("", "a\u{b7}\u{300}b.", "Ident 6"),
+    ("", "日本 ", "Ident 6"),
+    ("", "a→", "InvalidCharacter at 1:2"),
+    ("", "→", "InvalidCharacter at 1:1"),
+    // numbers
+    (DOT, "1e5", "Number 1"),
+    ("", "1e+", "Number 1"),
+    ("", "1e+7e", "Number 4"),
+    ("", "1.5.2", "Number 3"),
+    (DOT, "1.5.2", "Number 1"),
+    ("", "1 .5", "Number 1"),
+    ("", "1.e5", "Number 1"),
+    ("", "10.25E-03x", "Number 9"),
+    ("", "5e3.1", "Number 3"),
+    // comments
+    ("", "/* x */ */", "InlineComment 7"),
+    ("", "/*/ */", "InlineComment 6"),
+    ("", "/**/", "InlineComment 4"),
+    ("", "/*/", "UnterminatedComment at 1:1"),
+    ("", "/* é", "UnterminatedComment at 1:1"),
+    ("", "//x\r\n", "LineComment 4"),
+    ("", "# é", "LineComment 4"),
+    ("", "/ /", "Slash 1"),
+    ("", "/", "Slash 1"),
+    // heredocs
+    ("", "<<E\nE", "HeredocOpen 4"),
+    ("", "<<-E\r\nE", "HeredocOpen 6"),
+    ("", "<< E\n", "Less 1"),
+    ("", "<<E \n", "Less 1"),
+    ("", "<<E\r", "InvalidCharacter at 1:4"),
+    ("", "<<--E\n", "Less 1"),
+    ("", "<<É-1\nÉ-1", "HeredocOpen 7"),
+    ("", "<=", "LessEqual 2"),
+    ("", "<", "Less 1"),
+    // closers and space
+    (HEREDOC, "~}\nE", "SeqClose 2"),
+    ("", "~}", "InvalidCharacter at 1:1"),
+    (HEREDOC, "~\nE", "InvalidCharacter at 2:4"),
+    (HEREDOC, "}~\nE", "SeqClose 1"),
+    ("", "}", "BraceClose 1"),
+    (HEREDOC, " \t x}\nE", "Blank 3"),
+    ("", " x", "nothing"),
+    (" ", "x", "Ident 1"),
+    ("", "\n\n", "Newline 1"),
+    ("", "\r\n", "Newline 2"),
+    ("", "\rx", "InvalidCharacter at 1:1"),
+    ("", "", "nothing"),
+    // punctuation
+    ("", "&", "InvalidCharacter at 1:1"),
+    ("", "&&", "And 2"),
+    ("", "...", "Ellipsis 3"),
+    ("", "..", "Dot 1"),
+    ("", "::", "ColonColon 2"),
+    ("", ": :", "Colon 1"),
+    ("", "=>", "Arrow 2"),
+    ("", "==", "Equal 2"),
+    ("", "=", "Assign 1"),
+    ("", "\"${a}\"", "QuoteOpen 1"),
+    ("", "!=", "NotEqual 2"),
+    ("", "$", "InvalidCharacter at 1:1"),
+    ("", "'", "InvalidCharacter at 1:1"),
+];
+
 /// The kind and the length of the token that begins there.
 fn push_found(line: &mut String, tokens: &Tokens<'_>, start: usize) -> Result<(), AllocError> {
     for i in 0..tokens.len() {
@@ -59,104 +130,6 @@ fn finds(rt: &impl Abort, alloc: Global, rows: &[(&str, &str, &str)]) -> Result<
 }
 
 #[test]
-fn identifiers(rt: HostRuntime) -> Result<(), Fail> {
-    let rows = [
-        ("", "a.1e5", "Ident 1"),
-        ("", "a-b_1 c", "Ident 5"),
-        ("", "é", "Ident 2"),
-        ("", "_é9-=", "Ident 5"),
-        ("", "\u{b7}a", "InvalidCharacter at 1:1"),
-        ("", "a\u{b7}\u{300}b.", "Ident 6"),
-        ("", "日本 ", "Ident 6"),
-        ("", "a→", "InvalidCharacter at 1:2"),
-        ("", "→", "InvalidCharacter at 1:1"),
-    ];
-    finds(&rt, rt.alloc(), &rows)
-}
-
-#[test]
-fn numbers(rt: HostRuntime) -> Result<(), Fail> {
-    let rows = [
-        (DOT, "1e5", "Number 1"),
-        ("", "1e+", "Number 1"),
-        ("", "1e+7e", "Number 4"),
-        ("", "1.5.2", "Number 3"),
-        (DOT, "1.5.2", "Number 1"),
-        ("", "1 .5", "Number 1"),
-        ("", "1.e5", "Number 1"),
-        ("", "10.25E-03x", "Number 9"),
-        ("", "5e3.1", "Number 3"),
-    ];
-    finds(&rt, rt.alloc(), &rows)
-}
-
-#[test]
-fn comments(rt: HostRuntime) -> Result<(), Fail> {
-    let rows = [
-        ("", "/* x */ */", "InlineComment 7"),
-        ("", "/*/ */", "InlineComment 6"),
-        ("", "/**/", "InlineComment 4"),
-        ("", "/*/", "UnterminatedComment at 1:1"),
-        ("", "/* é", "UnterminatedComment at 1:1"),
-        ("", "//x\r\n", "LineComment 4"),
-        ("", "# é", "LineComment 4"),
-        ("", "/ /", "Slash 1"),
-        ("", "/", "Slash 1"),
-    ];
-    finds(&rt, rt.alloc(), &rows)
-}
-
-#[test]
-fn heredocs(rt: HostRuntime) -> Result<(), Fail> {
-    let rows = [
-        ("", "<<E\nE", "HeredocOpen 4"),
-        ("", "<<-E\r\nE", "HeredocOpen 6"),
-        ("", "<< E\n", "Less 1"),
-        ("", "<<E \n", "Less 1"),
-        ("", "<<E\r", "InvalidCharacter at 1:4"),
-        ("", "<<--E\n", "Less 1"),
-        ("", "<<É-1\nÉ-1", "HeredocOpen 7"),
-        ("", "<=", "LessEqual 2"),
-        ("", "<", "Less 1"),
-    ];
-    finds(&rt, rt.alloc(), &rows)
-}
-
-#[test]
-fn closers_and_space(rt: HostRuntime) -> Result<(), Fail> {
-    let rows = [
-        (HEREDOC, "~}\nE", "SeqClose 2"),
-        ("", "~}", "InvalidCharacter at 1:1"),
-        (HEREDOC, "~\nE", "InvalidCharacter at 2:4"),
-        (HEREDOC, "}~\nE", "SeqClose 1"),
-        ("", "}", "BraceClose 1"),
-        (HEREDOC, " \t x}\nE", "Blank 3"),
-        ("", " x", "nothing"),
-        (" ", "x", "Ident 1"),
-        ("", "\n\n", "Newline 1"),
-        ("", "\r\n", "Newline 2"),
-        ("", "\rx", "InvalidCharacter at 1:1"),
-        ("", "", "nothing"),
-    ];
-    finds(&rt, rt.alloc(), &rows)
-}
-
-#[test]
-fn punctuation(rt: HostRuntime) -> Result<(), Fail> {
-    let rows = [
-        ("", "&", "InvalidCharacter at 1:1"),
-        ("", "&&", "And 2"),
-        ("", "...", "Ellipsis 3"),
-        ("", "..", "Dot 1"),
-        ("", "::", "ColonColon 2"),
-        ("", ": :", "Colon 1"),
-        ("", "=>", "Arrow 2"),
-        ("", "==", "Equal 2"),
-        ("", "=", "Assign 1"),
-        ("", "\"${a}\"", "QuoteOpen 1"),
-        ("", "!=", "NotEqual 2"),
-        ("", "$", "InvalidCharacter at 1:1"),
-        ("", "'", "InvalidCharacter at 1:1"),
-    ];
-    finds(&rt, rt.alloc(), &rows)
+fn found_at_the_front(rt: HostRuntime) -> Result<(), Fail> {
+    finds(&rt, rt.alloc(), &ROWS)
 }

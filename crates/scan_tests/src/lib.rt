@@ -13,8 +13,6 @@ mod memory;
 #[cfg(test)]
 mod pairs;
 #[cfg(test)]
-mod scans;
-#[cfg(test)]
 mod shown;
 #[cfg(test)]
 mod sources;

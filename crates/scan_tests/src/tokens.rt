@@ -7,6 +7,163 @@ use std::alloc::{AllocError, Global};
 use std::process::Abort;
 use std::test::Fail;
 
+/// Texts, and their tokens by kind and place, those inside heredocs with a `!`, or their fault.
+static ROWS: [(&str, &str); 73] = [
+    // literal text and escapes
+    ("\"$$${a}\"", "QuoteOpen 0-1 Lit 1-7 QuoteClose 7-8"),
+    ("\"$\"", "QuoteOpen 0-1 Lit 1-2 QuoteClose 2-3"),
+    ("\"%\"", "QuoteOpen 0-1 Lit 1-2 QuoteClose 2-3"),
+    ("\"$${\"", "QuoteOpen 0-1 Lit 1-4 QuoteClose 4-5"),
+    ("\"$$$$\"", "QuoteOpen 0-1 Lit 1-5 QuoteClose 5-6"),
+    ("\"%%%{a}%%{b\"", "QuoteOpen 0-1 Lit 1-11 QuoteClose 11-12"),
+    ("\"a\r\"", "QuoteOpen 0-1 Lit 1-3 QuoteClose 3-4"),
+    (
+        "\"\\u1234\\U0001F600\\n\"",
+        "QuoteOpen 0-1 Lit 1-19 QuoteClose 19-20",
+    ),
+    // sequences in a quote
+    (
+        "\"${\"${x}\"}\"",
+        "QuoteOpen 0-1 InterpOpen 1-3 QuoteOpen 3-4 InterpOpen 4-6 Ident 6-7 SeqClose 7-8 QuoteClose 8-9 SeqClose 9-10 QuoteClose 10-11",
+    ),
+    (
+        "\"${~x~}\"",
+        "QuoteOpen 0-1 InterpOpen 1-4 Ident 4-5 SeqClose 5-7 QuoteClose 7-8",
+    ),
+    (
+        "\"é${é}é\"",
+        "QuoteOpen 0-1 Lit 1-3 InterpOpen 3-5 Ident 5-7 SeqClose 7-8 Lit 8-10 QuoteClose 10-11",
+    ),
+    (
+        "\"${{}}\"",
+        "QuoteOpen 0-1 InterpOpen 1-3 BraceOpen 3-4 BraceClose 4-5 SeqClose 5-6 QuoteClose 6-7",
+    ),
+    (
+        "\"${{}~}\"",
+        "QuoteOpen 0-1 InterpOpen 1-3 BraceOpen 3-4 BraceClose 4-5 SeqClose 5-7 QuoteClose 7-8",
+    ),
+    (
+        "\"${(}\"",
+        "QuoteOpen 0-1 InterpOpen 1-3 ParenOpen 3-4 SeqClose 4-5 QuoteClose 5-6",
+    ),
+    // heredocs: marker lines, blanks and nesting
+    (
+        "<<E\nx ${ a }\n E\t\n",
+        "HeredocOpen 0-4 !Lit 4-6 !InterpOpen 6-8 !Blank 8-9 !Ident 9-10 !Blank 10-11 !SeqClose 11-12 !Lit 12-13 !HeredocClose 13-15 Newline 16-17",
+    ),
+    ("<<E\nx\nE", "HeredocOpen 0-4 !Lit 4-6 !HeredocClose 6-7"),
+    (
+        "<<E\nE\r\nx",
+        "HeredocOpen 0-4 !HeredocClose 4-5 Newline 5-7 Ident 7-8",
+    ),
+    (
+        "a = <<-X\n  ${<<Y\n  z\n Y \t\n}\n\tX\t q\n  X \n b",
+        "Ident 0-1 Assign 2-3 HeredocOpen 4-9 !Lit 9-11 !InterpOpen 11-13 !HeredocOpen 13-17 !Lit 17-21 !HeredocClose 21-23 !Blank 23-25 !Newline 25-26 !SeqClose 26-27 !Lit 27-34 !HeredocClose 34-37 Newline 38-39 Ident 40-41",
+    ),
+    ("<<E\n${<<E\na\nE\n}\nE\n", "UnterminatedHeredoc at 2:3"),
+    (
+        "<<EE\nE\nEE \nEE",
+        "HeredocOpen 0-5 !Lit 5-7 !HeredocClose 7-9 Newline 10-11 Ident 11-13",
+    ),
+    (
+        "<<E\n$$\n\"\\\nE\n",
+        "HeredocOpen 0-4 !Lit 4-10 !HeredocClose 10-11 Newline 11-12",
+    ),
+    (
+        "<<E\n${a.1.5}${a. 1.5}\nE\n",
+        "HeredocOpen 0-4 !InterpOpen 4-6 !Ident 6-7 !Dot 7-8 !Number 8-9 !Dot 9-10 !Number 10-11 !SeqClose 11-12 !InterpOpen 12-14 !Ident 14-15 !Dot 15-16 !Blank 16-17 !Number 17-20 !SeqClose 20-21 !Lit 21-22 !HeredocClose 22-23 Newline 23-24",
+    ),
+    (
+        "<<E\n%{if x}a%{endif}$\nE\n",
+        "HeredocOpen 0-4 !ControlOpen 4-6 !Ident 6-8 !Blank 8-9 !Ident 9-10 !SeqClose 10-11 !Lit 11-12 !ControlOpen 12-14 !Ident 14-19 !SeqClose 19-20 !Lit 20-22 !HeredocClose 22-23 Newline 23-24",
+    ),
+    ("<<é\né\n", "HeredocOpen 0-5 !HeredocClose 5-7 Newline 7-8"),
+    // lines that have a heredoc's marker in them, and the one that is the marker
+    (
+        "<<M\nxMM M\nM\n",
+        "HeredocOpen 0-4 !Lit 4-10 !HeredocClose 10-11 Newline 11-12",
+    ),
+    (
+        "<<M\nM x\n\tM.\nM\n",
+        "HeredocOpen 0-4 !Lit 4-12 !HeredocClose 12-13 Newline 13-14",
+    ),
+    (
+        "<<M\nx M\n-M \n M\n",
+        "HeredocOpen 0-4 !Lit 4-12 !HeredocClose 12-14 Newline 14-15",
+    ),
+    (
+        "<<M\nM\rM\n\t M\t \nx",
+        "HeredocOpen 0-4 !Lit 4-8 !HeredocClose 8-11 Newline 13-14 Ident 14-15",
+    ),
+    (
+        "<<M\r\nMx\r\n M \r\n",
+        "HeredocOpen 0-5 !Lit 5-9 !HeredocClose 9-11 Newline 12-14",
+    ),
+    (
+        "<<MM\nM\nMMM\n M MM\n\tMM",
+        "HeredocOpen 0-5 !Lit 5-17 !HeredocClose 17-20",
+    ),
+    ("<<M\nMx\nx M", "UnterminatedHeredoc at 1:1"),
+    ("<<M\nx\nM\r", "UnterminatedHeredoc at 1:1"),
+    // what closes, and what does not
+    ("}", "BraceClose 0-1"),
+    (
+        "a = [}",
+        "Ident 0-1 Assign 2-3 BracketOpen 4-5 BraceClose 5-6",
+    ),
+    (
+        "a = (] )",
+        "Ident 0-1 Assign 2-3 ParenOpen 4-5 BracketClose 5-6 ParenClose 7-8",
+    ),
+    ("a}b", "Ident 0-1 BraceClose 1-2 Ident 2-3"),
+    ("(})", "ParenOpen 0-1 BraceClose 1-2 ParenClose 2-3"),
+    ("{[}", "BraceOpen 0-1 BracketOpen 1-2 BraceClose 2-3"),
+    // the fault of a text, and where it stands
+    ("\"${x\"", "UnterminatedQuote at 1:5"),
+    ("\"b\n", "UnterminatedQuote at 1:1"),
+    ("\"b", "UnterminatedQuote at 1:1"),
+    ("\"\\u12\"", "InvalidEscape at 1:2"),
+    ("\"\\u123\"", "InvalidEscape at 1:2"),
+    ("\"\\U0001F60\"", "InvalidEscape at 1:2"),
+    ("\"\t\\q\"", "InvalidEscape at 1:3"),
+    ("\"a\r\n\"", "UnterminatedQuote at 1:1"),
+    ("~}", "InvalidCharacter at 1:1"),
+    ("a}b~}c", "InvalidCharacter at 1:4"),
+    ("\"${/*}\"", "UnterminatedComment at 1:4"),
+    ("<<E\nE\r", "UnterminatedHeredoc at 1:1"),
+    ("<<E\n", "UnterminatedHeredoc at 1:1"),
+    ("<<E\n${<<F\nE\nF\n", "UnterminatedHeredoc at 2:3"),
+    ("<<E\n${\"\nE\n\"}\nE\n", "UnterminatedQuote at 2:3"),
+    ("<<E\n${(\nE\n", "UnterminatedTemplate at 2:1"),
+    ("\"${a", "UnterminatedTemplate at 1:2"),
+    ("\"${\"b", "UnterminatedQuote at 1:4"),
+    // comments, also at the end of what is seen, and numbers
+    ("# x", "LineComment 0-3"),
+    ("// x\r", "LineComment 0-5"),
+    ("/**/", "InlineComment 0-4"),
+    ("/* a */ */", "InlineComment 0-7 Star 8-9 Slash 9-10"),
+    (
+        "<<E\n${a # c\n}\nE",
+        "HeredocOpen 0-4 !InterpOpen 4-6 !Ident 6-7 !Blank 7-8 !LineComment 8-11 !Newline 11-12 !SeqClose 12-13 !Lit 13-14 !HeredocClose 14-15",
+    ),
+    ("<<E\n${a # c\nE\n", "UnterminatedTemplate at 2:1"),
+    ("<<E\n${a /* c\nE\n*/}\nE", "UnterminatedComment at 2:5"),
+    ("<<E\n${a // c", "UnterminatedHeredoc at 1:1"),
+    ("l.0.1", "Ident 0-1 Dot 1-2 Number 2-3 Dot 3-4 Number 4-5"),
+    ("1 .5", "Number 0-1 Dot 2-3 Number 3-4"),
+    ("1.5", "Number 0-3"),
+    ("a.1e5", "Ident 0-1 Dot 1-2 Number 2-3 Ident 3-5"),
+    ("1e+", "Number 0-1 Ident 1-2 Plus 2-3"),
+    ("1.5.2", "Number 0-3 Dot 3-4 Number 4-5"),
+    ("1e5.0", "Number 0-3 Dot 3-4 Number 4-5"),
+    // some of each
+    (
+        " long-name=_x1\r\nb = 20",
+        "Ident 1-10 Assign 10-11 Ident 11-14 Newline 14-16 Ident 16-17 Assign 18-19 Number 20-22",
+    ),
+    ("a=1\nb=^1\n", "InvalidCharacter at 2:3"),
+];
+
 /// The tokens by kind and place, or the fault of the text.
 fn push_answer(
     line: &mut String,
@@ -49,181 +206,16 @@ fn has(rt: &impl Abort, alloc: Global, text: &str, wanted: &str) -> Result<(), F
 }
 
 /// That each text has these tokens, or this fault.
-fn has_tokens(rt: &impl Abort, alloc: Global, rows: &[(&str, &str)]) -> Result<(), Fail> {
+fn all_have(rt: &impl Abort, alloc: Global, rows: &[(&str, &str)]) -> Result<(), Fail> {
     for (text, wanted) in rows {
         has(rt, alloc, *text, *wanted)?;
     }
     Ok(())
 }
 
-/// Literal text and escapes.
 #[test]
-fn literals(rt: HostRuntime) -> Result<(), Fail> {
-    let rows = [
-        ("\"$$${a}\"", "QuoteOpen 0-1 Lit 1-7 QuoteClose 7-8"),
-        ("\"$\"", "QuoteOpen 0-1 Lit 1-2 QuoteClose 2-3"),
-        ("\"%\"", "QuoteOpen 0-1 Lit 1-2 QuoteClose 2-3"),
-        ("\"$${\"", "QuoteOpen 0-1 Lit 1-4 QuoteClose 4-5"),
-        ("\"$$$$\"", "QuoteOpen 0-1 Lit 1-5 QuoteClose 5-6"),
-        ("\"%%%{a}%%{b\"", "QuoteOpen 0-1 Lit 1-11 QuoteClose 11-12"),
-        ("\"a\r\"", "QuoteOpen 0-1 Lit 1-3 QuoteClose 3-4"),
-        (
-            "\"\\u1234\\U0001F600\\n\"",
-            "QuoteOpen 0-1 Lit 1-19 QuoteClose 19-20",
-        ),
-    ];
-    has_tokens(&rt, rt.alloc(), &rows)
-}
-
-/// Sequences in a quote.
-#[test]
-fn sequences(rt: HostRuntime) -> Result<(), Fail> {
-    let rows = [
-        (
-            "\"${\"${x}\"}\"",
-            "QuoteOpen 0-1 InterpOpen 1-3 QuoteOpen 3-4 InterpOpen 4-6 Ident 6-7 SeqClose 7-8 QuoteClose 8-9 SeqClose 9-10 QuoteClose 10-11",
-        ),
-        (
-            "\"${~x~}\"",
-            "QuoteOpen 0-1 InterpOpen 1-4 Ident 4-5 SeqClose 5-7 QuoteClose 7-8",
-        ),
-        (
-            "\"é${é}é\"",
-            "QuoteOpen 0-1 Lit 1-3 InterpOpen 3-5 Ident 5-7 SeqClose 7-8 Lit 8-10 QuoteClose 10-11",
-        ),
-        (
-            "\"${{}}\"",
-            "QuoteOpen 0-1 InterpOpen 1-3 BraceOpen 3-4 BraceClose 4-5 SeqClose 5-6 QuoteClose 6-7",
-        ),
-        (
-            "\"${{}~}\"",
-            "QuoteOpen 0-1 InterpOpen 1-3 BraceOpen 3-4 BraceClose 4-5 SeqClose 5-7 QuoteClose 7-8",
-        ),
-        (
-            "\"${(}\"",
-            "QuoteOpen 0-1 InterpOpen 1-3 ParenOpen 3-4 SeqClose 4-5 QuoteClose 5-6",
-        ),
-    ];
-    has_tokens(&rt, rt.alloc(), &rows)
-}
-
-/// Heredocs: marker lines, blanks and nesting.
-#[test]
-fn heredocs(rt: HostRuntime) -> Result<(), Fail> {
-    let rows = [
-        (
-            "<<E\nx ${ a }\n E\t\n",
-            "HeredocOpen 0-4 !Lit 4-6 !InterpOpen 6-8 !Blank 8-9 !Ident 9-10 !Blank 10-11 !SeqClose 11-12 !Lit 12-13 !HeredocClose 13-15 Newline 16-17",
-        ),
-        ("<<E\nx\nE", "HeredocOpen 0-4 !Lit 4-6 !HeredocClose 6-7"),
-        (
-            "<<E\nE\r\nx",
-            "HeredocOpen 0-4 !HeredocClose 4-5 Newline 5-7 Ident 7-8",
-        ),
-        (
-            "a = <<-X\n  ${<<Y\n  z\n Y \t\n}\n\tX\t q\n  X \n b",
-            "Ident 0-1 Assign 2-3 HeredocOpen 4-9 !Lit 9-11 !InterpOpen 11-13 !HeredocOpen 13-17 !Lit 17-21 !HeredocClose 21-23 !Blank 23-25 !Newline 25-26 !SeqClose 26-27 !Lit 27-34 !HeredocClose 34-37 Newline 38-39 Ident 40-41",
-        ),
-        ("<<E\n${<<E\na\nE\n}\nE\n", "UnterminatedHeredoc at 2:3"),
-        (
-            "<<EE\nE\nEE \nEE",
-            "HeredocOpen 0-5 !Lit 5-7 !HeredocClose 7-9 Newline 10-11 Ident 11-13",
-        ),
-        (
-            "<<E\n$$\n\"\\\nE\n",
-            "HeredocOpen 0-4 !Lit 4-10 !HeredocClose 10-11 Newline 11-12",
-        ),
-        (
-            "<<E\n${a.1.5}${a. 1.5}\nE\n",
-            "HeredocOpen 0-4 !InterpOpen 4-6 !Ident 6-7 !Dot 7-8 !Number 8-9 !Dot 9-10 !Number 10-11 !SeqClose 11-12 !InterpOpen 12-14 !Ident 14-15 !Dot 15-16 !Blank 16-17 !Number 17-20 !SeqClose 20-21 !Lit 21-22 !HeredocClose 22-23 Newline 23-24",
-        ),
-        (
-            "<<E\n%{if x}a%{endif}$\nE\n",
-            "HeredocOpen 0-4 !ControlOpen 4-6 !Ident 6-8 !Blank 8-9 !Ident 9-10 !SeqClose 10-11 !Lit 11-12 !ControlOpen 12-14 !Ident 14-19 !SeqClose 19-20 !Lit 20-22 !HeredocClose 22-23 Newline 23-24",
-        ),
-        ("<<é\né\n", "HeredocOpen 0-5 !HeredocClose 5-7 Newline 7-8"),
-    ];
-    has_tokens(&rt, rt.alloc(), &rows)
-}
-
-/// Lines that have a heredoc's marker in them, and the one that is the marker.
-#[test]
-fn marker_lines(rt: HostRuntime) -> Result<(), Fail> {
-    let rows = [
-        (
-            "<<M\nxMM M\nM\n",
-            "HeredocOpen 0-4 !Lit 4-10 !HeredocClose 10-11 Newline 11-12",
-        ),
-        (
-            "<<M\nM x\n\tM.\nM\n",
-            "HeredocOpen 0-4 !Lit 4-12 !HeredocClose 12-13 Newline 13-14",
-        ),
-        (
-            "<<M\nx M\n-M \n M\n",
-            "HeredocOpen 0-4 !Lit 4-12 !HeredocClose 12-14 Newline 14-15",
-        ),
-        (
-            "<<M\nM\rM\n\t M\t \nx",
-            "HeredocOpen 0-4 !Lit 4-8 !HeredocClose 8-11 Newline 13-14 Ident 14-15",
-        ),
-        (
-            "<<M\r\nMx\r\n M \r\n",
-            "HeredocOpen 0-5 !Lit 5-9 !HeredocClose 9-11 Newline 12-14",
-        ),
-        (
-            "<<MM\nM\nMMM\n M MM\n\tMM",
-            "HeredocOpen 0-5 !Lit 5-17 !HeredocClose 17-20",
-        ),
-        ("<<M\nMx\nx M", "UnterminatedHeredoc at 1:1"),
-        ("<<M\nx\nM\r", "UnterminatedHeredoc at 1:1"),
-    ];
-    has_tokens(&rt, rt.alloc(), &rows)
-}
-
-/// What closes, and what does not.
-#[test]
-fn closers(rt: HostRuntime) -> Result<(), Fail> {
-    let rows = [
-        ("}", "BraceClose 0-1"),
-        (
-            "a = [}",
-            "Ident 0-1 Assign 2-3 BracketOpen 4-5 BraceClose 5-6",
-        ),
-        (
-            "a = (] )",
-            "Ident 0-1 Assign 2-3 ParenOpen 4-5 BracketClose 5-6 ParenClose 7-8",
-        ),
-        ("a}b", "Ident 0-1 BraceClose 1-2 Ident 2-3"),
-        ("(})", "ParenOpen 0-1 BraceClose 1-2 ParenClose 2-3"),
-        ("{[}", "BraceOpen 0-1 BracketOpen 1-2 BraceClose 2-3"),
-    ];
-    has_tokens(&rt, rt.alloc(), &rows)
-}
-
-/// The fault of a text, and where it stands.
-#[test]
-fn faults(rt: HostRuntime) -> Result<(), Fail> {
-    let rows = [
-        ("\"${x\"", "UnterminatedQuote at 1:5"),
-        ("\"b\n", "UnterminatedQuote at 1:1"),
-        ("\"b", "UnterminatedQuote at 1:1"),
-        ("\"\\u12\"", "InvalidEscape at 1:2"),
-        ("\"\\u123\"", "InvalidEscape at 1:2"),
-        ("\"\\U0001F60\"", "InvalidEscape at 1:2"),
-        ("\"\t\\q\"", "InvalidEscape at 1:3"),
-        ("\"a\r\n\"", "UnterminatedQuote at 1:1"),
-        ("~}", "InvalidCharacter at 1:1"),
-        ("a}b~}c", "InvalidCharacter at 1:4"),
-        ("\"${/*}\"", "UnterminatedComment at 1:4"),
-        ("<<E\nE\r", "UnterminatedHeredoc at 1:1"),
-        ("<<E\n", "UnterminatedHeredoc at 1:1"),
-        ("<<E\n${<<F\nE\nF\n", "UnterminatedHeredoc at 2:3"),
-        ("<<E\n${\"\nE\n\"}\nE\n", "UnterminatedQuote at 2:3"),
-        ("<<E\n${(\nE\n", "UnterminatedTemplate at 2:1"),
-        ("\"${a", "UnterminatedTemplate at 1:2"),
-        ("\"${\"b", "UnterminatedQuote at 1:4"),
-    ];
-    has_tokens(&rt, rt.alloc(), &rows)
+fn tokens_and_faults(rt: HostRuntime) -> Result<(), Fail> {
+    all_have(&rt, rt.alloc(), &ROWS)
 }
 
 /// The opener past 256 open ones, also where it has no marker line.
@@ -260,32 +252,6 @@ fn as_deep_as_can_be(rt: HostRuntime) -> Result<(), Fail> {
         holds(&rt, line.as_str().ends_with(last), last);
     }
     Ok(())
-}
-
-/// Comments, also at the end of what is seen, and numbers.
-#[test]
-fn comments_and_numbers(rt: HostRuntime) -> Result<(), Fail> {
-    let rows = [
-        ("# x", "LineComment 0-3"),
-        ("// x\r", "LineComment 0-5"),
-        ("/**/", "InlineComment 0-4"),
-        ("/* a */ */", "InlineComment 0-7 Star 8-9 Slash 9-10"),
-        (
-            "<<E\n${a # c\n}\nE",
-            "HeredocOpen 0-4 !InterpOpen 4-6 !Ident 6-7 !Blank 7-8 !LineComment 8-11 !Newline 11-12 !SeqClose 12-13 !Lit 13-14 !HeredocClose 14-15",
-        ),
-        ("<<E\n${a # c\nE\n", "UnterminatedTemplate at 2:1"),
-        ("<<E\n${a /* c\nE\n*/}\nE", "UnterminatedComment at 2:5"),
-        ("<<E\n${a // c", "UnterminatedHeredoc at 1:1"),
-        ("l.0.1", "Ident 0-1 Dot 1-2 Number 2-3 Dot 3-4 Number 4-5"),
-        ("1 .5", "Number 0-1 Dot 2-3 Number 3-4"),
-        ("1.5", "Number 0-3"),
-        ("a.1e5", "Ident 0-1 Dot 1-2 Number 2-3 Ident 3-5"),
-        ("1e+", "Number 0-1 Ident 1-2 Plus 2-3"),
-        ("1.5.2", "Number 0-3 Dot 3-4 Number 4-5"),
-        ("1e5.0", "Number 0-3 Dot 3-4 Number 4-5"),
-    ];
-    has_tokens(&rt, rt.alloc(), &rows)
 }
 
 /// The parts in turn: a front, so many letters, and what follows them.
