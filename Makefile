@@ -1,4 +1,5 @@
-# `make` proves the crates and builds the programs as bin/tffmt and bin/tfrules; `make test` runs the whole gate;
+# `make` proves the crates and builds the programs as bin/tffmt and bin/tfrules, `make bin/tffmt` what that one stands
+# on alone; `make test` runs the whole gate;
 # `make install PREFIX=FOLDER` puts the programs, the scripts round them, their man pages, completions and examples
 # below the folder.
 .PHONY: all test install uninstall clean
@@ -16,10 +17,8 @@ FISH = $(DESTDIR)$(PREFIX)/share/fish/vendor_completions.d
 
 all: bin/tffmt bin/tfrules
 
-bin/tffmt: $(shell find crates -name out -prune -o -type f -print) crates.txt
-	./tools/prove
-
-bin/tfrules: bin/tffmt
+bin/tffmt bin/tfrules: $(shell find crates -name out -prune -o -type f -print) crates.txt
+	./tools/prove $(notdir $@)
 
 test:
 	./tests/gate
