@@ -5,7 +5,7 @@ use Rattle.std.specs.Prelude.{IsTrue, if◌then◌else◌, not, ◌&&◌}
 use Rattle.hcl_scan.specs.Lexemes.{Lexeme}
 use Rattle.hcl_scan.specs.declared.token.Kind.{Kind}
 use Rattle.hcl_scan.specs.Balanced.{IsBalanced, closers, openers, max_open}
-use Rattle.hcl_syntax.specs.Items.{deepen}
+use Rattle.hcl_grammar.specs.Items.{deepen}
 use Rattle.hcl_layout.specs.Inner.Depths.{BalancedFrom}
 use Rattle.hcl_scan.specs.Balanced.{is_closer, is_opener}
 use Rattle.hcl_spacing.proofs.KindLemmas.{each}

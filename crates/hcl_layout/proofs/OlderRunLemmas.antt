@@ -8,22 +8,22 @@ use Rattle.hcl_scan.specs.Lexemes.{Lexeme}
 use Rattle.hcl_scan.specs.declared.token.Kind.{Kind}
 use Rattle.hcl_scan.specs.declared.token.Kind.TheVariants as kind
 use Rattle.hcl_scan.proofs.BooleanLemmas.{and_true}
-use Rattle.hcl_syntax.specs.Classes.{class_at, class_of, drops, is_trivia, lookaheads, lookaheads_from}
-use Rattle.hcl_syntax.specs.declared.class.Class.{Class}
-use Rattle.hcl_syntax.specs.declared.class.Class.TheVariants as class
-use Rattle.hcl_syntax.specs.declared.class.Word.TheVariants.{Plain, For, In, If, Else, Endif, Endfor}
-use Rattle.hcl_syntax.specs.declared.class.Lookahead.{Lookahead}
-use Rattle.hcl_syntax.specs.declared.expected.Newlines.{Newlines}
-use Rattle.hcl_syntax.specs.declared.expected.Newlines.TheVariants.{Seen, Dropped}
-use Rattle.hcl_syntax.specs.declared.expected.Section.TheVariants.{InIf, InElse, InFor}
-use Rattle.hcl_syntax.specs.declared.expected.Terminal.{Terminal}
-use Rattle.hcl_syntax.specs.declared.expected.Terminal.TheVariants.{Separator}
-use Rattle.hcl_syntax.specs.declared.refusal.Refusal.{Refusal}
-use Rattle.hcl_syntax.specs.Grammar.{Symbol, the, file, rest, labels, label_literal, start, body, eol, expr, after_ident, path, after, step, index, tuple, tuple_next, tuple_item, tuple_if, names, object, separator, object_next, object_item, group, object_if, args, arg_next, parts, directive, inside, section_directive, Marked, ◌at◌, Action, none, nothing, reads, opens, closes, row_of, row, fits}
-use Rattle.hcl_syntax.specs.Predictor.{Effect, on, stop, taken, effect, next, run}
-use Rattle.hcl_syntax.specs.Relation.{Step, dropped, read, opened, closed, gone, ComesTo, at_end, step as one_step, refused}
-use Rattle.hcl_syntax.specs.Verdict.{IsAccepted}
-use Rattle.hcl_syntax.proofs.RelationLemmas.{answers}
+use Rattle.hcl_grammar.specs.Classes.{class_at, class_of, drops, is_trivia, lookaheads, lookaheads_from}
+use Rattle.hcl_grammar.specs.declared.class.Class.{Class}
+use Rattle.hcl_grammar.specs.declared.class.Class.TheVariants as class
+use Rattle.hcl_grammar.specs.declared.class.Word.TheVariants.{Plain, For, In, If, Else, Endif, Endfor}
+use Rattle.hcl_grammar.specs.declared.class.Lookahead.{Lookahead}
+use Rattle.hcl_grammar.specs.declared.expected.Newlines.{Newlines}
+use Rattle.hcl_grammar.specs.declared.expected.Newlines.TheVariants.{Seen, Dropped}
+use Rattle.hcl_grammar.specs.declared.expected.Section.TheVariants.{InIf, InElse, InFor}
+use Rattle.hcl_grammar.specs.declared.expected.Terminal.{Terminal}
+use Rattle.hcl_grammar.specs.declared.expected.Terminal.TheVariants.{Separator}
+use Rattle.hcl_grammar.specs.declared.refusal.Refusal.{Refusal}
+use Rattle.hcl_grammar.specs.Grammar.{Symbol, the, file, rest, labels, label_literal, start, body, eol, expr, after_ident, path, after, step, index, tuple, tuple_next, tuple_item, tuple_if, names, object, separator, object_next, object_item, group, object_if, args, arg_next, parts, directive, inside, section_directive, Marked, ◌at◌, Action, none, nothing, reads, opens, closes, row_of, row, fits}
+use Rattle.hcl_grammar.specs.Predictor.{Effect, on, stop, taken, effect, next, run}
+use Rattle.hcl_grammar.specs.Relation.{Step, dropped, read, opened, closed, gone, ComesTo, at_end, step as one_step, refused}
+use Rattle.hcl_grammar.specs.Verdict.{IsAccepted}
+use Rattle.hcl_grammar.proofs.RelationLemmas.{answers}
 use Rattle.hcl_scan.specs.Kinds.{is}
 use Rattle.hcl_layout.specs.Older.Rows.{is_path_sign, was_turn, was_run, WasAccepted}
 use Rattle.hcl_layout.proofs.OlderScanLemmas.{Apart, Older, starts_colon}

@@ -4,9 +4,9 @@ use Rattle.std.specs.Prelude.{if◌then◌else◌, map, option_map, slice_set, r
 use Rattle.std.specs.List.{flat_map}
 use Rattle.hcl_scan.specs.Lexemes.{Lexeme}
 use Rattle.hcl_scan.specs.Regapped.{without_gaps, placed}
-use Rattle.hcl_syntax.specs.declared.class.Lookahead.{Lookahead}
-use Rattle.hcl_syntax.specs.Classes.{class_of, lookaheads, lookaheads_from}
-use Rattle.hcl_syntax.specs.Classes.{is_trivia}
+use Rattle.hcl_grammar.specs.declared.class.Lookahead.{Lookahead}
+use Rattle.hcl_grammar.specs.Classes.{class_of, lookaheads, lookaheads_from}
+use Rattle.hcl_grammar.specs.Classes.{is_trivia}
 use Rattle.hcl_layout.specs.Lines.{Line, lines, onto_line, ends_line}
 use Rattle.hcl_layout.specs.Inner.Depths.{net_of_kind}
 use Rattle.hcl_layout.specs.Levels.{Net, levels, net_of, plus}

@@ -10,8 +10,8 @@ use Rattle.hcl_scan.specs.Scans.{Scans}
 use Rattle.hcl_scan.proofs.TokenLineLemmas.{line_is}
 use Rattle.hcl_scan.proofs.RunLemmas.{one_scan}
 use Rattle.hcl_scan.proofs.SpellingLemmas.{one_kind, nonempty}
-use Rattle.hcl_syntax.specs.Numbered.{Numbered, numbered, numbered_from}
-use Rattle.hcl_syntax.specs.Verdict.{start_of}
+use Rattle.hcl_grammar.specs.Numbered.{Numbered, numbered, numbered_from}
+use Rattle.hcl_grammar.specs.Verdict.{start_of}
 use Rattle.hcl_layout.specs.Print.{print}
 use Rattle.hcl_layout.specs.Reprinted.{printed_tokens}
 use Rattle.hcl_layout.proofs.PlaceLemmas.{forget, forgot, same_tokens}

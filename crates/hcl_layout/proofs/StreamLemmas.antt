@@ -7,7 +7,7 @@ use Rattle.std.proofs.lemmas.List.Elements.{filter-append}
 use Rattle.hcl_scan.specs.Lexemes.{Lexeme}
 use Rattle.hcl_scan.specs.declared.token.Kind.{Kind}
 use Rattle.hcl_layout.specs.Cells.{assign_cell, running_comment, trailing_comment}
-use Rattle.hcl_syntax.specs.Items.{deepen}
+use Rattle.hcl_grammar.specs.Items.{deepen}
 use Rattle.hcl_layout.specs.Inner.Depths.{net_of_kind, BalancedFrom, Steps, depth_after, fresh, level_at, levels_behind}
 use Rattle.hcl_layout.specs.Gaps.{aligned, aligned_by, align, gaps, indented, line_gaps, plain_gaps, zip_with}
 use Rattle.hcl_scan.specs.Balanced.{is_closer, is_opener, max_open}

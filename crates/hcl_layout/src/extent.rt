@@ -27,7 +27,7 @@ ghost use Rattle.hcl_layout.specs.Print.{print};
 use crate::line::{LineFacts, line_at};
 use crate::measured::Measured;
 use crate::print::printed_len;
-use hcl_syntax::Accepted;
+use hcl_grammar::Accepted;
 
 /// The cells of one kind: how many lines have one, and how wide it can be before one.
 #[derive(Clone, Copy)]

@@ -10,9 +10,9 @@ ghost use Rattle.hcl_layout.specs.Older.Rows.{WasAccepted};
 ghost use Rattle.hcl_layout.specs.Older.Tokens.{WasScanned};
 ghost use Rattle.hcl_layout.specs.Print.{print};
 ghost use Rattle.hcl_layout.specs.Reprinted.{printed_tokens};
-ghost use Rattle.hcl_syntax.specs.Classes.{lookaheads};
-ghost use Rattle.hcl_syntax.specs.Numbered.{numbered};
-ghost use Rattle.hcl_syntax.specs.Verdict.{IsAccepted, start_of};
+ghost use Rattle.hcl_grammar.specs.Classes.{lookaheads};
+ghost use Rattle.hcl_grammar.specs.Numbered.{numbered};
+ghost use Rattle.hcl_grammar.specs.Verdict.{IsAccepted, start_of};
 ghost use Rattle.hcl_source.specs.Load.{IsText, max_source};
 ghost use Rattle.hcl_source.specs.Places.{line_of};
 

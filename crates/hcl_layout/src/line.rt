@@ -8,7 +8,7 @@ ghost use Rattle.hcl_scan.specs.Scanned.{lexeme};
 ghost use Rattle.hcl_scan.specs.Balanced.{is_closer, is_opener, max_open};
 ghost use Rattle.hcl_layout.specs.Lines.{ends_line};
 ghost use Rattle.hcl_layout.specs.Cells.{is_assignment as is_assignment_of, is_multiline as is_multiline_of, is_trailing as is_trailing_of};
-ghost use Rattle.hcl_syntax.specs.Items.{deepen};
+ghost use Rattle.hcl_grammar.specs.Items.{deepen};
 ghost use Rattle.hcl_layout.specs.Inner.Depths.{BalancedFrom, Steps};
 ghost use Rattle.hcl_layout.specs.Inner.Survey.{IsLine, assign_of, changes, first_noted, going, is_noted as is_noted_of, marks, noted, running_of, stops as stops_of, surveyed};
 

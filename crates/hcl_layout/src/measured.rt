@@ -7,8 +7,8 @@ ghost use Rattle.hcl_scan.specs.Balanced.{IsBalanced};
 ghost use Rattle.hcl_layout.specs.Inner.Simple.{IsFrom, is_alone as is_alone_of, is_simple as is_simple_of};
 ghost use Rattle.hcl_layout.specs.Inner.LineGaps.{len_with_blanks};
 
+use hcl_grammar::Accepted;
 use hcl_scan::{Kind, Token, Tokens};
-use hcl_syntax::Accepted;
 use std::marker::Model;
 use unicode_segmentation::UnicodeSegmentation;
 

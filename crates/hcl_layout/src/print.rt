@@ -9,7 +9,7 @@ ghost use Rattle.hcl_layout.specs.Print.{print};
 use crate::in_place::stands_in_place;
 use crate::measured::Measured;
 use crate::pieces::{Piece, next_piece, start};
-use hcl_syntax::Accepted;
+use hcl_grammar::Accepted;
 
 /// The length of the print, in bytes.
 pub fn printed_len(accepted: &Accepted<'_, '_>) -> u64

@@ -10,8 +10,8 @@ use crate::buffer::{Buffer, Stretch};
 use crate::measured::Measured;
 use crate::pieces::{Piece, next_piece, start};
 use crate::print::goes_on;
+use hcl_grammar::Accepted;
 use hcl_scan::{ByteSink, WriteFault, write_fully};
-use hcl_syntax::Accepted;
 
 impl Buffer {
     fn new() -> Self

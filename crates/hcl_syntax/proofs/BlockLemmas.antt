@@ -3,13 +3,13 @@ use Rattle.std.proofs.Common.{◌≡◌, ◌∙◌, ap, ap₂, sym, refl, ℕ, s
 use Rattle.std.specs.Prelude.{filter, nat_lt}
 use borrow.Author.Tests.{ltb-true, ltb-false}
 use Rattle.hcl_scan.specs.Lexemes.{Lexeme}
-use Rattle.hcl_syntax.specs.Numbered.{Numbered, numbered_from, uncommented, is_comment}
-use Rattle.hcl_syntax.specs.Items.{behind_brace, block_end, body, labels}
+use Rattle.hcl_grammar.specs.Numbered.{Numbered, numbered_from, uncommented, is_comment}
+use Rattle.hcl_grammar.specs.Items.{behind_brace, block_end, body, labels}
 use Rattle.hcl_syntax.specs.Inner.Pieces.{between, words}
 use Rattle.hcl_syntax.specs.Inner.Bodies.{PutsBlock}
-use Rattle.hcl_syntax.specs.declared.item.Item.{Item}
-use Rattle.hcl_syntax.specs.declared.item.Item.TheVariants as item
-use Rattle.hcl_syntax.proofs.WordLemmas.{number_of}
+use Rattle.hcl_grammar.specs.declared.item.Item.{Item}
+use Rattle.hcl_grammar.specs.declared.item.Item.TheVariants as item
+use Rattle.hcl_grammar.proofs.NumberedLemmas.{number_of}
 use Rattle.hcl_syntax.proofs.FirstPieceLemmas.{take_none, take_zero}
 
 filter_filter : {X : Type 0} (p q : X → Bool) (xs : List X) → filter p (filter q xs) ≡ filter q (filter p xs)

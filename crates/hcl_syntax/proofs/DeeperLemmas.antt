@@ -4,11 +4,11 @@ use Rattle.std.specs.Prelude.{◌&&◌, filter, nat_lt}
 use Rattle.std.specs.List.{flat_map}
 use Rattle.hcl_scan.specs.Kinds.{is}
 use Rattle.hcl_scan.specs.declared.token.Kind.TheVariants.{Assign, BraceOpen, Newline}
-use Rattle.hcl_syntax.specs.Numbered.{Numbered, end_of}
-use Rattle.hcl_syntax.specs.Items.{deepen, is_closed, onto, pieces, behind_brace, block_end, body, block, item_of, items, labels}
+use Rattle.hcl_grammar.specs.Numbered.{Numbered, end_of}
+use Rattle.hcl_grammar.specs.Items.{deepen, is_closed, onto, pieces, behind_brace, block_end, body, block, item_of, items, labels}
 use Rattle.hcl_syntax.specs.Inner.Pieces.{items_at}
-use Rattle.hcl_syntax.specs.declared.item.Item.{Item}
-use Rattle.hcl_syntax.specs.declared.item.Item.TheVariants as item
+use Rattle.hcl_grammar.specs.declared.item.Item.{Item}
+use Rattle.hcl_grammar.specs.declared.item.Item.TheVariants as item
 
 -- each piece is no longer than a bound
 abbrev pub AllShort : ℕ → List (List Numbered) → Type 0

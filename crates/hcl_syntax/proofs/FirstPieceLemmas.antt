@@ -9,11 +9,12 @@ use Rattle.hcl_scan.specs.Kinds.{is}
 use Rattle.hcl_scan.specs.Lexemes.{Lexeme}
 use Rattle.hcl_scan.specs.declared.token.Kind.{Kind}
 use Rattle.hcl_scan.specs.declared.token.Kind.TheVariants as kind
-use Rattle.hcl_syntax.specs.Numbered.{Numbered, numbered_from, uncommented, is_comment}
-use Rattle.hcl_syntax.specs.Items.{deepen, is_closed, onto, pieces}
+use Rattle.hcl_grammar.specs.Numbered.{Numbered, numbered_from, uncommented, is_comment}
+use Rattle.hcl_grammar.specs.Items.{deepen, is_closed, onto, pieces}
 use Rattle.hcl_syntax.specs.Inner.Pieces.{words, first_len, newline_from}
-use Rattle.hcl_syntax.specs.declared.item.Item.{Item}
-use Rattle.hcl_syntax.proofs.WordLemmas.{number_of, words_none}
+use Rattle.hcl_grammar.specs.declared.item.Item.{Item}
+use Rattle.hcl_grammar.proofs.NumberedLemmas.{number_of}
+use Rattle.hcl_syntax.proofs.WordLemmas.{words_none}
 
 abbrev pub taken : ℕ → ℕ → List Lexeme → List Numbered
 taken n k xs = uncommented (take k (numbered_from n xs))

@@ -6,11 +6,12 @@ use Rattle.hcl_scan.specs.Kinds.{is}
 use Rattle.hcl_scan.specs.Lexemes.{Lexeme}
 use Rattle.hcl_scan.specs.declared.token.Kind.{Kind}
 use Rattle.hcl_scan.specs.declared.token.Kind.TheVariants as kind
-use Rattle.hcl_syntax.specs.Numbered.{Numbered, is_comment}
-use Rattle.hcl_syntax.specs.Items.{label_at, labels}
+use Rattle.hcl_grammar.specs.Numbered.{Numbered, is_comment}
+use Rattle.hcl_grammar.specs.Items.{label_at, labels}
 use Rattle.hcl_syntax.specs.Inner.Pieces.{words}
-use Rattle.hcl_syntax.specs.declared.item.Item.{Item}
-use Rattle.hcl_syntax.proofs.WordLemmas.{number_of, words_none, words_step, words_here, open_word}
+use Rattle.hcl_grammar.specs.declared.item.Item.{Item}
+use Rattle.hcl_grammar.proofs.NumberedLemmas.{number_of}
+use Rattle.hcl_syntax.proofs.WordLemmas.{words_none, words_step, words_here, open_word}
 
 comment_label : (n : ℕ) (k : Kind) (rest : List Numbered) → is_comment k ≡ true → label_at n k rest ≡ []
 comment_label n kind.LineComment rest e = refl

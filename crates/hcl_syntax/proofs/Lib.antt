@@ -1,10 +1,6 @@
 pub mod LookaheadLemmas
 pub mod StepLemmas
-pub mod OwedLemmas
-pub mod RowLemmas
-pub mod MoveLemmas
-pub mod BalanceLemmas
-pub mod RelationLemmas
+pub mod RefusalLemmas
 pub mod WordLemmas
 pub mod SoughtLemmas
 pub mod PieceEndLemmas
@@ -14,11 +10,3 @@ pub mod LabelLemmas
 pub mod BlockLemmas
 pub mod PieceLemmas
 pub mod OutlineLemmas
-pub mod ItemOrderLemmas
-pub mod TopBlockLemmas
-pub mod InnerLemmas
-pub mod TurnLemmas
-pub mod NameLemmas
-pub mod PieceTurnLemmas
-pub mod ReadingLemmas
-pub mod PlainLabelLemmas

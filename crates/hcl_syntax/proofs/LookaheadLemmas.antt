@@ -2,11 +2,11 @@ use Rattle.std.proofs.Common.{◌≡◌, ℕ, ◌+◌, ◌≤◌, Bool, true, fa
 use Rattle.std.specs.Prelude.{slice_get}
 use Rattle.std.proofs.lemmas.Option.{slice_get_within, get_or_from_slice_get}
 use Rattle.hcl_scan.specs.Lexemes.{Lexeme}
-use Rattle.hcl_syntax.specs.Classes.{class_of, lookaheads_from}
-use Rattle.hcl_syntax.specs.declared.class.Lookahead.{Lookahead}
-use Rattle.hcl_syntax.specs.declared.class.Class.{Class}
-use Rattle.hcl_syntax.specs.declared.expected.Newlines.{Newlines}
-use Rattle.hcl_syntax.specs.Classes.{is_trivia, drops}
+use Rattle.hcl_grammar.specs.Classes.{class_of, lookaheads_from}
+use Rattle.hcl_grammar.specs.declared.class.Lookahead.{Lookahead}
+use Rattle.hcl_grammar.specs.declared.class.Class.{Class}
+use Rattle.hcl_grammar.specs.declared.expected.Newlines.{Newlines}
+use Rattle.hcl_grammar.specs.Classes.{is_trivia, drops}
 use Rattle.hcl_syntax.specs.Inner.Cursors.{shown, after_first}
 
 pub length-lookaheads : (n : ℕ) (ts : List Lexeme) → length (lookaheads_from n ts) ≤ length ts

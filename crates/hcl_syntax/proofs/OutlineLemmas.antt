@@ -3,13 +3,14 @@ use Rattle.std.proofs.Common.{◌≡◌, ◌∙◌, ap, sym, refl, ℕ, suc, ◌
 use Rattle.std.specs.List.{flat_map}
 use Rattle.std.proofs.lemmas.List.{append-nil}
 use Rattle.hcl_scan.specs.Lexemes.{Lexeme}
-use Rattle.hcl_syntax.specs.Numbered.{Numbered, numbered, numbered_from, uncommented, is_comment}
-use Rattle.hcl_syntax.specs.Items.{pieces, item_of, outline}
+use Rattle.hcl_grammar.specs.Numbered.{Numbered, numbered, numbered_from, uncommented, is_comment}
+use Rattle.hcl_grammar.specs.Items.{pieces, item_of, outline}
 use Rattle.hcl_syntax.specs.Inner.Pieces.{words, newline_from, items_at}
 use Rattle.hcl_syntax.specs.Inner.Bodies.{PutsPiece}
 use Rattle.hcl_syntax.specs.declared.pieces.Body.{Body}
-use Rattle.hcl_syntax.specs.declared.item.Item.{Item}
-use Rattle.hcl_syntax.proofs.WordLemmas.{number_of, words_none}
+use Rattle.hcl_grammar.specs.declared.item.Item.{Item}
+use Rattle.hcl_grammar.proofs.NumberedLemmas.{number_of}
+use Rattle.hcl_syntax.proofs.WordLemmas.{words_none}
 use Rattle.hcl_syntax.proofs.DeeperLemmas.{filter_short, items_more, items_at_pieces}
 use Rattle.hcl_syntax.proofs.FirstPieceLemmas.{first_piece}
 

@@ -1,16 +1,16 @@
 -- The newlines ahead, token by token from right to left.
-use Rattle.std.proofs.Common.{◌≡◌, ◌∙◌, ap, sym, refl, ℕ, suc, zero, ◌+◌, ◌-◌, ◌<◌, ◌≤◌, Bool, true, false, cond, List, [], ◌∷◌, ◌++◌, drop, take, length, get_or, set, replicate, reverse, arith, ◌⊎◌, inl, inr, ◌≢◌}
-use Rattle.std.specs.Prelude.{Option, Some, None, slice_get, ◌&&◌, option_to_list}
+use Rattle.std.proofs.Common.{◌≡◌, ◌∙◌, ap, sym, refl, ℕ, suc, zero, ◌+◌, ◌-◌, ◌<◌, ◌≤◌, Bool, true, false, cond, List, [], ◌∷◌, ◌++◌, drop, length, get_or, set, replicate, reverse, arith, ◌⊎◌, inl, inr, ◌≢◌}
+use Rattle.std.specs.Prelude.{Some, slice_get, ◌&&◌}
 use Rattle.std.proofs.lemmas.List.{reverse-append, get_or-set_same, get_or-set_other, length-set, length-replicate, drop_all}
 use Rattle.std.proofs.lemmas.Bool.{cases_eq}
 use Rattle.hcl_scan.specs.Lexemes.{Lexeme}
 use Rattle.hcl_scan.specs.declared.token.Kind.{Kind}
 use Rattle.hcl_scan.specs.declared.token.Kind.TheVariants as kind
 use Rattle.hcl_scan.specs.Kinds.{is}
-use Rattle.hcl_syntax.specs.Items.{deepen, is_closed}
+use Rattle.hcl_grammar.specs.Items.{deepen, is_closed}
 use Rattle.hcl_syntax.specs.declared.nesting.Nesting.TheVariants as nesting
 use Rattle.hcl_syntax.specs.Inner.Pieces.{AreEnds, first_len, newline_from, nesting_of, AreNewlinesAhead}
-use Rattle.hcl_syntax.proofs.WordLemmas.{drop_at}
+use Rattle.hcl_grammar.proofs.NumberedLemmas.{drop_at}
 
 -- what a kind does to the depth
 pub record Moves (k : Kind) (newline : Bool) (move : ℕ → ℕ) : Type 0 where
@@ -108,26 +108,6 @@ module _ (ts : List Lexeme) (n : ℕ) (t : Lexeme) (e : slice_get ts n ≡ Some 
       by : (k : ℕ) → get_or (n ∷ reverse mid) k (length ts) ≡ newline_from ts k n
       by zero = sym (from_newline m.newline_is)
       by (suc k) = popped k (length ts) ∙ h (suc k) ∙ sym (from_deeper k m.newline_is (m.moves (suc k)))
-
--- what a pop leaves
-pub popped : {X : Type 0} (old new : List X) (r : Option X) (n : ℕ) → length old ≡ n → old ≡ new ++ option_to_list r → new ≡ take (n - 1) old → (d : ℕ) (c : X) → get_or (reverse new) d c ≡ get_or (reverse old) (suc d) c
-popped old new (Some x) n size is rest d c = sym (ap (λ r. get_or r (suc d) c) (ap reverse is ∙ reverse-append new (x ∷ [])))
-popped {X} [] new None n size is rest d c = ap (λ r. get_or (reverse r) d c) (rest ∙ nothing (n - 1))
-  where
-    nothing : (k : ℕ) → take {A = X} k [] ≡ []
-    nothing zero = refl
-    nothing (suc k) = refl
-popped {X} (y ∷ ys) new None n size is rest d c = absurd (omega (arith, size, ap length is, ap length rest, nil new, short (n - 1) (y ∷ ys)))
-  where
-    nil : (xs : List X) → length (xs ++ []) ≡ length xs
-    nil [] = refl
-    nil (x ∷ xs) = ap suc (nil xs)
-
-    short : (k : ℕ) (zs : List X) → length (take k zs) ≤ k
-    short zero [] = omega arith
-    short zero (z ∷ zs) = omega arith
-    short (suc k) [] = omega arith
-    short (suc k) (z ∷ zs) = omega (arith, short k zs)
 
 -- ---- the table
 

@@ -4,14 +4,14 @@ use Rattle.std.proofs.lemmas.List.{append-nil}
 use Rattle.hcl_scan.specs.Kinds.{is}
 use Rattle.hcl_scan.specs.declared.token.Kind.TheVariants as kind
 use Rattle.hcl_scan.specs.Lexemes.{Lexeme}
-use Rattle.hcl_syntax.specs.Numbered.{Numbered, end_of}
-use Rattle.hcl_syntax.specs.Items.{block, item_of}
+use Rattle.hcl_grammar.specs.Numbered.{Numbered, end_of}
+use Rattle.hcl_grammar.specs.Items.{block, item_of}
 use Rattle.hcl_syntax.specs.Inner.Pieces.{IsFirst, words}
 use Rattle.hcl_syntax.specs.Inner.Bodies.{PutsBlock, PutsPiece}
 use Rattle.hcl_syntax.specs.declared.pieces.Body.{Body}
 use Rattle.hcl_syntax.specs.declared.words.NumberedKind.{NumberedKind}
-use Rattle.hcl_syntax.specs.declared.item.Item.{Item}
-use Rattle.hcl_syntax.specs.declared.item.Item.TheVariants as item
+use Rattle.hcl_grammar.specs.declared.item.Item.{Item}
+use Rattle.hcl_grammar.specs.declared.item.Item.TheVariants as item
 use Rattle.hcl_syntax.proofs.WordLemmas.{words_none}
 
 abbrev head_of : NumberedKind → List ℕ → Numbered

@@ -6,10 +6,11 @@ use Rattle.hcl_scan.specs.Kinds.{is}
 use Rattle.hcl_scan.specs.Lexemes.{Lexeme}
 use Rattle.hcl_scan.specs.declared.token.Kind.{Kind}
 use Rattle.hcl_scan.specs.declared.token.Kind.TheVariants as kind
-use Rattle.hcl_syntax.specs.Numbered.{Numbered, is_comment, end_of}
-use Rattle.hcl_syntax.specs.Items.{closing_quote, behind_brace, block_end}
+use Rattle.hcl_grammar.specs.Numbered.{Numbered, is_comment, end_of}
+use Rattle.hcl_grammar.specs.Items.{closing_quote, behind_brace, block_end}
 use Rattle.hcl_syntax.specs.Inner.Pieces.{words}
-use Rattle.hcl_syntax.proofs.WordLemmas.{number_of, words_parts, words_step, words_past, words_here, open_word}
+use Rattle.hcl_grammar.proofs.NumberedLemmas.{number_of}
+use Rattle.hcl_syntax.proofs.WordLemmas.{words_parts, words_step, words_past, words_here, open_word}
 
 close_word : (k : Kind) → is kind.QuoteClose k ≡ true → is_comment k ≡ false
 close_word kind.QuoteClose e = refl

@@ -1,26 +1,26 @@
 -- Laws of the predictor's runs.
 use Rattle.std.proofs.Common.{◌≡◌, ◌≢◌, zero, suc, subst, ℕ, ◌+◌, ◌-◌, ◌<◌, ◌≤◌, Bool, true, false, List, [], ◌∷◌, ◌++◌, Option, Some, None, Result, Ok, Err, IsErrAnd, lt-ltb, le-ltb, arith, refl, cond, sym, ap, ◌∙◌, append_assoc}
-use Rattle.hcl_syntax.specs.declared.class.Lookahead.{Lookahead}
-use Rattle.hcl_syntax.specs.declared.class.Class.{Class}
-use Rattle.hcl_syntax.specs.declared.class.Class.TheVariants.{Newline, Ident, ParenClose, BracketClose, BraceClose, Comma, Ellipsis, Assign, Minus, Star}
-use Rattle.hcl_syntax.specs.declared.expected.Terminal.TheVariants.{Name, InWord, IfWord, ForWord, Equals, Separator, FatArrow, CommaSign, Ellipses, Asterisk, EndParen, EndBracket, EndBrace, EndSequence}
-use Rattle.hcl_syntax.specs.declared.refusal.Refusal.{Refusal}
-use Rattle.hcl_syntax.specs.declared.refusal.Refusal.TheVariants.{UnexpectedToken, UnexpectedEnd, TooDeep}
-use Rattle.hcl_syntax.specs.declared.expected.Newlines.{Newlines}
-use Rattle.hcl_syntax.specs.declared.expected.Newlines.TheVariants.{Seen, Dropped}
-use Rattle.hcl_syntax.specs.Classes.{drops}
+use Rattle.hcl_grammar.specs.declared.class.Lookahead.{Lookahead}
+use Rattle.hcl_grammar.specs.declared.class.Class.{Class}
+use Rattle.hcl_grammar.specs.declared.class.Class.TheVariants.{Newline, Ident, ParenClose, BracketClose, BraceClose, Comma, Ellipsis, Assign, Minus, Star}
+use Rattle.hcl_grammar.specs.declared.expected.Terminal.TheVariants.{Name, InWord, IfWord, ForWord, Equals, Separator, FatArrow, CommaSign, Ellipses, Asterisk, EndParen, EndBracket, EndBrace, EndSequence}
+use Rattle.hcl_grammar.specs.declared.refusal.Refusal.{Refusal}
+use Rattle.hcl_grammar.specs.declared.refusal.Refusal.TheVariants.{UnexpectedToken, UnexpectedEnd, TooDeep}
+use Rattle.hcl_grammar.specs.declared.expected.Newlines.{Newlines}
+use Rattle.hcl_grammar.specs.declared.expected.Newlines.TheVariants.{Seen, Dropped}
+use Rattle.hcl_grammar.specs.Classes.{drops}
 use Rattle.hcl_syntax.specs.Inner.Cursors.{shown, first, after_first, Looks}
 use Rattle.hcl_syntax.proofs.LookaheadLemmas.{shown-shown}
-use Rattle.hcl_syntax.specs.declared.class.Word.{Word}
-use Rattle.hcl_syntax.specs.Grammar.{Symbol, Marked, ◌at◌, Action, ◌then◌, none, nothing, reads, opens, closes, row, ends, the, fits, expr, expr_row, args_row, arg_next, tuple_row, tuple_item_row, tuple_next, tuple_if, tuple_if_row, object, object_row, object_item, object_item_row, object_next, object_if, object_if_row, group, group_row, separator, names, index_row, names_row, terminal_row, rest, rest_row, labels_row, file_row, body_row, eol, file, body, directive, directive_row, inside, section_directive_row}
-use Rattle.hcl_syntax.specs.Predictor.{max_directives, ending, Effect, on, stop, opening_directive, taken, effect, next, run}
+use Rattle.hcl_grammar.specs.declared.class.Word.{Word}
+use Rattle.hcl_grammar.specs.Grammar.{Symbol, Marked, ◌at◌, Action, ◌then◌, none, nothing, reads, opens, closes, row, ends, the, fits, expr, expr_row, args_row, arg_next, tuple_row, tuple_item_row, tuple_next, tuple_if, tuple_if_row, object, object_row, object_item, object_item_row, object_next, object_if, object_if_row, group, group_row, separator, names, index_row, names_row, terminal_row, rest, rest_row, labels_row, file_row, body_row, eol, file, body, directive, directive_row, inside, section_directive_row}
+use Rattle.hcl_grammar.specs.Predictor.{max_directives, ending, Effect, on, stop, opening_directive, taken, effect, next, run}
 use Rattle.hcl_syntax.specs.Inner.Parsing.{turning, turning_row, outcome, Advances, bodies, Ends, waits}
-use Rattle.hcl_syntax.specs.declared.class.Word.TheVariants.{For, In, If, Else, Endif, Endfor}
-use Rattle.hcl_syntax.specs.declared.expected.Section.{Section}
-use Rattle.hcl_syntax.specs.declared.expected.Section.TheVariants.{InIf, InElse, InFor}
+use Rattle.hcl_grammar.specs.declared.class.Word.TheVariants.{For, In, If, Else, Endif, Endfor}
+use Rattle.hcl_grammar.specs.declared.expected.Section.{Section}
+use Rattle.hcl_grammar.specs.declared.expected.Section.TheVariants.{InIf, InElse, InFor}
 use Rattle.hcl_syntax.specs.declared.expected.Turning.{Turning}
 use Rattle.hcl_syntax.specs.declared.expected.Turning.TheVariants.{Onward, Closing, Inner}
-use Rattle.hcl_syntax.specs.declared.expected.Terminal.{Terminal}
+use Rattle.hcl_grammar.specs.declared.expected.Terminal.{Terminal}
 
 pub run-row : (count : ℕ) (s : Symbol) (m : Newlines) (ss : List Marked) (t : Lookahead) (ts : List Lookahead) → drops m t.class ≡ false →
     run count (s at m ∷ ss) (t ∷ ts) ≡ next (taken count (row s m t) ss (effect count ss t) t) (λ o rest. run o rest ts)

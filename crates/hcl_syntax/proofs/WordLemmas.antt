@@ -1,25 +1,15 @@
 -- Tokens between two numbers, one by one and in two parts.
-use Rattle.std.proofs.Common.{◌≡◌, ◌∙◌, ap, sym, refl, true≢false, ℕ, suc, zero, ◌+◌, ◌-◌, ◌<◌, ◌≤◌, true, false, cond, not, List, [], ◌∷◌, ◌++◌, drop, drop-cons, take, length, get_or, arith}
+use Rattle.std.proofs.Common.{◌≡◌, ◌∙◌, ap, sym, refl, true≢false, ℕ, suc, zero, ◌+◌, ◌-◌, ◌<◌, ◌≤◌, true, false, cond, not, List, [], ◌∷◌, ◌++◌, drop, take, arith}
 use Rattle.std.specs.Prelude.{Some, slice_get}
-use Rattle.std.proofs.lemmas.Option.{slice_get_within, get_or_from_slice_get}
 use Rattle.std.proofs.lemmas.List.{drop-drop}
 use Rattle.std.proofs.lemmas.List.Elements.{filter-append}
 use Rattle.hcl_scan.specs.Kinds.{is}
 use Rattle.hcl_scan.specs.Lexemes.{Lexeme}
 use Rattle.hcl_scan.specs.declared.token.Kind.{Kind}
 use Rattle.hcl_scan.specs.declared.token.Kind.TheVariants as kind
-use Rattle.hcl_syntax.specs.Numbered.{Numbered, numbered, numbered_from, uncommented, is_comment}
+use Rattle.hcl_grammar.specs.Numbered.{Numbered, numbered_from, uncommented, is_comment}
+use Rattle.hcl_grammar.proofs.NumberedLemmas.{drop_at, number_of}
 use Rattle.hcl_syntax.specs.Inner.Pieces.{between, words}
-
-pub drop_at : {X : Type 0} (ts : List X) (n : ℕ) (t : X) → slice_get ts n ≡ Some t → drop n ts ≡ t ∷ drop (n + 1) ts
-drop_at ts n t e =
-    let within : n < length ts = slice_get_within ts n t e in
-    let got : get_or ts n t ≡ t = get_or_from_slice_get ts n t t e in
-    let more : suc n ≡ n + 1 = omega arith in
-    drop-cons ts n t within ∙ ap (λ x. x ∷ drop (suc n) ts) got ∙ ap (λ j. t ∷ drop j ts) more
-
-abbrev pub number_of : ℕ → Lexeme → Numbered
-number_of n t = record { number = n; kind = t.kind; text = t.text }
 
 -- from a token on
 pub between_here : (ts : List Lexeme) (from to : ℕ) (t : Lexeme) → slice_get ts from ≡ Some t → from < to → between ts from to ≡ number_of from t ∷ between ts (from + 1) to
@@ -84,26 +74,6 @@ words_past ts from to t e h comment = words_step ts from to t e h ∙ ap (λ b. 
 -- no comment
 pub words_here : (ts : List Lexeme) (from to : ℕ) (t : Lexeme) → slice_get ts from ≡ Some t → from < to → is_comment t.kind ≡ false → words ts from to ≡ number_of from t ∷ words ts (from + 1) to
 words_here ts from to t e h word = words_step ts from to t e h ∙ ap (λ b. cond (not b) (number_of from t ∷ words ts (from + 1) to) (words ts (from + 1) to)) word
-
-pub drop_numbered : (n : ℕ) (xs : List Lexeme) (k : ℕ) → drop n (numbered_from k xs) ≡ numbered_from (k + n) (drop n xs)
-drop_numbered zero xs k = let z : k + 0 ≡ k = omega arith in ap (λ j. numbered_from j xs) (sym z)
-drop_numbered (suc n) [] k = refl
-drop_numbered (suc n) (x ∷ xs) k = let s : k + suc n ≡ k + 1 + n = omega arith in drop_numbered n xs (k + 1) ∙ ap (λ j. numbered_from j (drop n xs)) (sym s)
-
-pub numbered_at : (ts : List Lexeme) (n : ℕ) → drop n (numbered ts) ≡ numbered_from n (drop n ts)
-numbered_at ts n = let z : 0 + n ≡ n = omega arith in drop_numbered n ts 0 ∙ ap (λ j. numbered_from j (drop n ts)) z
-
-pub numbered_here : (ts : List Lexeme) (n : ℕ) (t : Lexeme) → slice_get ts n ≡ Some t → drop n (numbered ts) ≡ number_of n t ∷ numbered_from (n + 1) (drop (n + 1) ts)
-numbered_here ts n t e = numbered_at ts n ∙ ap (numbered_from n) (drop_at ts n t e)
-
-pub numbered_past : (ts : List Lexeme) (n : ℕ) → length ts ≤ n → drop n (numbered ts) ≡ []
-numbered_past ts n h = numbered_at ts n ∙ ap (numbered_from n) (past ts n h)
-  where
-    past : (xs : List Lexeme) (k : ℕ) → length xs ≤ k → drop k xs ≡ []
-    past [] zero h = refl
-    past [] (suc k) h = refl
-    past (x ∷ xs) zero h = absurd (omega arith)
-    past (x ∷ xs) (suc k) h = past xs k (omega arith)
 
 -- an opening brace is no comment
 pub open_word : (k : Kind) → is kind.BraceOpen k ≡ true → is_comment k ≡ false

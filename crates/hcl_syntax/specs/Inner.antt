@@ -3,4 +3,3 @@ pub mod Cursors
 pub mod Parsing
 pub mod Pieces
 pub mod Bodies
-pub mod Entries

@@ -2,44 +2,12 @@
 
 ghost use Rattle.std.specs.Prelude.{◌≡◌, ◌<◌, length};
 ghost use Rattle.hcl_source.specs.Places.{place};
-ghost use Rattle.hcl_scan.specs.Balanced.{IsBalanced};
-ghost use Rattle.hcl_syntax.specs.Verdict.{start_of, fault_at, verdict, IsAccepted};
+ghost use Rattle.hcl_grammar.specs.Verdict.{start_of, fault_at, verdict};
 ghost use Rattle.hcl_syntax.specs.Inner.Parsing.{Names};
 
 use crate::cursor::Cursor;
-use crate::refusal::Refusal;
+use hcl_grammar::{Accepted, Refusal};
 use hcl_scan::{Fault, FaultKind, Position, Tokens};
-use std::marker::Model;
-
-/// Tokens that are a file. Only [`accepts`] makes one.
-#[derive(Debug, Drop)]
-pub struct Accepted<'t, 's> {
-    tokens: &'t Tokens<'s>,
-}
-
-impl<'t, 's> Model for Accepted<'t, 's> {
-    ghost use Rattle.hcl_scan.specs.Scanned.{Scanned};
-    ghost use Rattle.hcl_syntax.specs.Verdict.{IsAccepted};
-
-    ghost Value = { Scanned };
-
-    ghost view = { λ a. a.tokens.now };
-
-    ghost invariant = { λ a. IsAccepted a.tokens.now.tokens };
-}
-
-impl<'t, 's> Accepted<'t, 's> {
-    /// The tokens that were accepted.
-    pub fn tokens(&self) -> &'t Tokens<'s>
-        ensures tokens { result.now ≡ self.now }
-        ensures accepted { IsAccepted self.now.tokens }
-        ensures balanced { IsBalanced self.now.tokens }
-    {
-        // Its contract says that the tokens are a scan of their source, on which `balanced` rests.
-        let _source = self.tokens.source();
-        self.tokens
-    }
-}
 
 /// Where the token of this number begins.
 fn position_of(tokens: &Tokens, number: usize) -> Position
@@ -86,7 +54,7 @@ pub fn accepts<'t, 's>(tokens: &'t Tokens<'s>) -> Result<Accepted<'t, 's>, Fault
     ensures { result ≡ verdict tokens.now }
 {
     match Cursor::new(tokens).file() {
-        Ok(()) => Ok(Accepted { tokens }),
+        Ok(()) => Ok(Accepted::new(tokens)),
         Err(refusal) => Err(fault_at(tokens, refusal)),
     }
 }

@@ -1,67 +1,13 @@
-//! What the grammar sees of a token.
+//! What the grammar sees of a token, found.
 
 ghost use Rattle.std.specs.Prelude.{◌≡◌, ◌<◌, ◌+◌, ◌∷◌, length, drop, if◌then◌else◌};
 ghost use Rattle.std.specs.Char.{is_ascii_digit};
 ghost use Rattle.std.specs.List.{list_all};
-ghost use Rattle.hcl_syntax.specs.Classes.{word_of, class_at, lookaheads_from};
-ghost use Rattle.hcl_syntax.specs.Classes.{is_trivia};
+ghost use Rattle.hcl_grammar.specs.Classes.{word_of, class_at, lookaheads_from};
+ghost use Rattle.hcl_grammar.specs.Classes.{is_trivia};
 
+use hcl_grammar::{Class, Lookahead, Word};
 use hcl_scan::{Kind, Tokens};
-
-/// What an identifier can mean where the grammar asks for a word of its own.
-#[derive(Clone, Copy)]
-pub enum Word {
-    Plain,
-    For,
-    In,
-    If,
-    Else,
-    Endif,
-    Endfor,
-}
-
-/// The classes of tokens that the grammar tells apart: a number by whether it is digits only, and the operators that
-/// stand between two operands alone as one class.
-#[derive(Clone, Copy)]
-pub enum Class {
-    Trivia,
-    Newline,
-    Ident(Word),
-    Number(bool),
-    HeredocOpen,
-    HeredocClose,
-    QuoteOpen,
-    QuoteClose,
-    Lit,
-    InterpOpen,
-    ControlOpen,
-    SeqClose,
-    ParenOpen,
-    ParenClose,
-    BracketOpen,
-    BracketClose,
-    BraceOpen,
-    BraceClose,
-    Dot,
-    Comma,
-    Ellipsis,
-    Question,
-    Colon,
-    ColonColon,
-    Assign,
-    Arrow,
-    Not,
-    Minus,
-    Star,
-    Binary,
-}
-
-/// A token's class, and which of the tokens it is, counted from 0.
-#[derive(Clone, Copy)]
-pub struct Lookahead {
-    pub class: Class,
-    pub number: u32,
-}
 
 fn word_of(text: &str) -> Word
     ensures { result ≡ word_of text.now }

@@ -2,14 +2,13 @@
 
 ghost use Rattle.std.specs.Prelude.{◌≡◌, ◌+◌, ◌<◌, ◌≤◌, ◌^◌, ℕ, [], ◌∷◌, drop, length, Some, None, IsSome, OnOk};
 ghost use Rattle.std.specs.Bool.{OnTrue, OnFalse};
-ghost use Rattle.hcl_syntax.specs.Classes.{lookaheads, lookaheads_from};
-ghost use Rattle.hcl_syntax.specs.Grammar.{fits, ◌at◌, the};
+ghost use Rattle.hcl_grammar.specs.Classes.{lookaheads, lookaheads_from};
+ghost use Rattle.hcl_grammar.specs.Grammar.{fits, ◌at◌, the};
 ghost use Rattle.hcl_syntax.specs.Inner.Cursors.{shown, first, after_first, is_shown};
 ghost use Rattle.hcl_syntax.specs.Inner.Parsing.{Parses, TookTerminal, LacksTerminal};
 
-use crate::class::{Class, Lookahead, Word, lookahead_at};
-use crate::expected::{Newlines, Terminal};
-use crate::refusal::Refusal;
+use crate::class::lookahead_at;
+use hcl_grammar::{Class, Lookahead, Newlines, Refusal, Terminal, Word};
 use hcl_scan::Tokens;
 use std::marker::Model;
 
@@ -22,8 +21,8 @@ pub struct Cursor<'t, 's> {
 
 impl<'t, 's> Model for Cursor<'t, 's> {
     ghost use Rattle.std.specs.Prelude.{List, drop, length, ◌≤◌};
-    ghost use Rattle.hcl_syntax.specs.declared.class.Lookahead.{Lookahead};
-    ghost use Rattle.hcl_syntax.specs.Classes.{lookaheads_from};
+    ghost use Rattle.hcl_grammar.specs.declared.class.Lookahead.{Lookahead};
+    ghost use Rattle.hcl_grammar.specs.Classes.{lookaheads_from};
 
     ghost Value = { List Lookahead };
 

@@ -4,15 +4,14 @@
 ghost use Rattle.std.specs.Prelude.{◌≡◌, ◌+◌, ◌<◌, ◌≤◌, ◌^◌, ℕ, List, [], ◌∷◌, length, Some, None, Ok, OnOk, IfOk, IfSome, false};
 ghost use Rattle.std.specs.Bool.{OnTrue, OnFalse};
 ghost use Rattle.hcl_syntax.specs.Inner.Cursors.{shown, first};
-ghost use Rattle.hcl_syntax.specs.Grammar.{◌at◌, the, expr, after, after_ident, path, index, args, tuple, tuple_item, tuple_if, object, object_item, group, object_if, separator, names, step};
+ghost use Rattle.hcl_grammar.specs.Grammar.{◌at◌, the, expr, after, after_ident, path, index, args, tuple, tuple_item, tuple_if, object, object_item, group, object_if, separator, names, step};
 ghost use Rattle.hcl_syntax.specs.Inner.Parsing.{Advances, Parses, after_follow, is_prefix};
-ghost use Rattle.hcl_syntax.specs.declared.expected.Terminal.TheVariants.{Name, Separator, FatArrow, EndBracket, EndBrace};
-ghost use Rattle.hcl_syntax.specs.declared.expected.Newlines.TheVariants.{Seen, Dropped};
+ghost use Rattle.hcl_grammar.specs.declared.expected.Terminal.TheVariants.{Name, Separator, FatArrow, EndBracket, EndBrace};
+ghost use Rattle.hcl_grammar.specs.declared.expected.Newlines.TheVariants.{Seen, Dropped};
 
-use crate::class::{Class, Lookahead};
 use crate::cursor::Cursor;
-use crate::expected::{Follow, Newlines, Terminal};
-use crate::refusal::Refusal;
+use crate::expected::Follow;
+use hcl_grammar::{Class, Lookahead, Newlines, Refusal, Terminal};
 
 impl<'t, 's> Cursor<'t, 's> {
     /// Passes over the signs before an operand, and looks at the token behind them.

@@ -1,15 +1,13 @@
 //! Files, attributes and blocks.
 ghost use Rattle.std.specs.Prelude.{◌≡◌, ◌+◌, ◌<◌, ◌≤◌, ◌^◌, ℕ, List, [], ◌∷◌, length, Some, None, Ok, OnOk};
-ghost use Rattle.hcl_syntax.specs.Grammar.{◌at◌, the, eol, labels, label_literal, start, rest, expr, file};
-ghost use Rattle.hcl_syntax.specs.Predictor.{run};
+ghost use Rattle.hcl_grammar.specs.Grammar.{◌at◌, the, eol, labels, label_literal, start, rest, expr, file};
+ghost use Rattle.hcl_grammar.specs.Predictor.{run};
 ghost use Rattle.hcl_syntax.specs.Inner.Parsing.{Advances, Parses, outcome, after_item};
-ghost use Rattle.hcl_syntax.specs.declared.expected.Terminal.TheVariants.{EndQuote, Equals, EndBrace};
-ghost use Rattle.hcl_syntax.specs.declared.expected.Newlines.TheVariants.{Seen};
+ghost use Rattle.hcl_grammar.specs.declared.expected.Terminal.TheVariants.{EndQuote, Equals, EndBrace};
+ghost use Rattle.hcl_grammar.specs.declared.expected.Newlines.TheVariants.{Seen};
 
-use crate::class::Class;
 use crate::cursor::Cursor;
-use crate::expected::{Newlines, Terminal};
-use crate::refusal::Refusal;
+use hcl_grammar::{Class, Newlines, Refusal, Terminal};
 
 impl<'t, 's> Cursor<'t, 's> {
     /// A quoted label behind its opening quote.

@@ -7,24 +7,16 @@
 mod accepted;
 mod class;
 mod cursor;
-mod entry;
 mod expected;
 mod expression;
 mod file;
-mod item;
-mod item_list;
-mod label;
-pub mod laws;
 mod nesting;
 mod outlining;
 mod piece_end;
 mod pieces;
-mod refusal;
 mod template;
 mod words;
 
-pub use accepted::{Accepted, accepts};
-pub use item::{Item, Label};
-pub use item_list::Outline;
-pub use label::label_text;
+pub use accepted::accepts;
+pub use hcl_grammar::{Accepted, Item, Label, Outline, label_text, laws};
 pub use outlining::outline;

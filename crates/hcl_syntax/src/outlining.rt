@@ -1,12 +1,11 @@
 //! The outline of a file.
 
 ghost use Rattle.std.specs.Prelude.{◌≡◌, IfOk};
-ghost use Rattle.hcl_syntax.specs.Items.{outline};
+ghost use Rattle.hcl_grammar.specs.Items.{outline};
 
-use crate::accepted::Accepted;
-use crate::item_list::Outline;
 use crate::piece_end::{newlines, token_count};
 use crate::pieces::put_items;
+use hcl_grammar::{Accepted, Outline};
 use std::alloc::{AllocError, Global};
 
 /// The outline of a file, in time linear in its tokens.

@@ -4,13 +4,12 @@ ghost use Rattle.std.specs.Prelude.{◌≡◌, ◌<◌, ◌≤◌, ◌+◌, ◌+
 ghost use Rattle.hcl_source.specs.Load.{max_source};
 ghost use Rattle.hcl_syntax.specs.Inner.Pieces.{AreEnds, items_at, words};
 ghost use Rattle.hcl_syntax.specs.Inner.Bodies.{PutsBlock, PutsPiece};
-ghost use Rattle.hcl_syntax.specs.Items.{label_at, labels};
+ghost use Rattle.hcl_grammar.specs.Items.{label_at, labels};
 
-use crate::entry::Entry;
-use crate::item_list::Outline;
 use crate::words::{
     behind_brace, block_end, closing_quote, first_word, is_assign, is_brace_open, words_end,
 };
+use hcl_grammar::Outline;
 use hcl_scan::{Kind, Tokens};
 use std::alloc::AllocError;
 
@@ -34,16 +33,10 @@ fn put_label(
     ensures { OnOk result (items.new ≡ items.old ++ label_at number kind (words tokens.now.tokens (number + 1) to)) }
 {
     match kind {
-        Kind::Ident => items.push(Entry::Label {
-            first: number,
-            last: number,
-        }),
+        Kind::Ident => items.push_label(number, number),
         Kind::QuoteOpen => {
             let last = closing_quote(tokens, number + 1, to);
-            items.push(Entry::Label {
-                first: number,
-                last,
-            })
+            items.push_label(number, last)
         }
         _ => Ok(()),
     }
@@ -83,7 +76,7 @@ fn put_block(
 {
     let first = behind_brace(tokens, kind + 1, to);
     let end = block_end(tokens, kind + 1, to);
-    items.push(Entry::Block { level, kind, end })?;
+    items.push_block(level, kind, end)?;
     put_labels(tokens, kind + 1, to, items)?;
     Ok(Body {
         first,
@@ -113,12 +106,7 @@ fn put_piece(
         return put_block(tokens, level, name.number, to, items);
     }
     let end = words_end(tokens, name.number + 1, to);
-    items.push(Entry::Attribute {
-        level,
-        name: name.number,
-        first: second.number + 1,
-        end,
-    })?;
+    items.push_attribute(level, name.number, second.number + 1, end)?;
     Ok(Body { first: to, end: to })
 }
 

@@ -1,16 +1,15 @@
 //! Templates and their directives.
 
 ghost use Rattle.std.specs.Prelude.{◌≡◌, ◌+◌, ◌<◌, ◌≤◌, [], ◌∷◌, length, Some, None, Ok, OnOk};
-ghost use Rattle.hcl_syntax.specs.Grammar.{◌at◌, the, expr, parts, directive, inside};
+ghost use Rattle.hcl_grammar.specs.Grammar.{◌at◌, the, expr, parts, directive, inside};
 ghost use Rattle.hcl_syntax.specs.Inner.Parsing.{Advances, Parses, Ends, turning};
-ghost use Rattle.hcl_syntax.specs.Predictor.{max_directives};
-ghost use Rattle.hcl_syntax.specs.declared.expected.Terminal.TheVariants.{EndSequence};
-ghost use Rattle.hcl_syntax.specs.declared.expected.Newlines.TheVariants.{Dropped};
+ghost use Rattle.hcl_grammar.specs.Predictor.{max_directives};
+ghost use Rattle.hcl_grammar.specs.declared.expected.Terminal.TheVariants.{EndSequence};
+ghost use Rattle.hcl_grammar.specs.declared.expected.Newlines.TheVariants.{Dropped};
 
-use crate::class::{Class, Word};
 use crate::cursor::Cursor;
-use crate::expected::{Newlines, Section, Terminal, Turning};
-use crate::refusal::Refusal;
+use crate::expected::Turning;
+use hcl_grammar::{Class, Newlines, Refusal, Section, Terminal, Word};
 
 /// How many directives may be open.
 const MAX_DIRECTIVES: usize = 256;

@@ -4,8 +4,8 @@ ghost use Rattle.std.specs.Prelude.{◌≡◌, ◌≤◌, [], filter, length, Ma
 ghost use Rattle.hcl_scan.specs.Kinds.{is};
 ghost use Rattle.hcl_scan.specs.declared.token.Kind.TheVariants.{Assign, BraceClose, BraceOpen, QuoteClose};
 ghost use Rattle.hcl_syntax.specs.Inner.Pieces.{IsFirst, words};
-ghost use Rattle.hcl_syntax.specs.Items.{behind_brace, block_end, closing_quote};
-ghost use Rattle.hcl_syntax.specs.Numbered.{end_of, is_comment};
+ghost use Rattle.hcl_grammar.specs.Items.{behind_brace, block_end, closing_quote};
+ghost use Rattle.hcl_grammar.specs.Numbered.{end_of, is_comment};
 
 use hcl_scan::{Kind, Tokens};
 

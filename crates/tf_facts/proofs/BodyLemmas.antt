@@ -5,14 +5,14 @@ use Rattle.std.specs.Option.{option_map}
 use Rattle.std.specs.Str.{bytes_eq}
 use Rattle.std.proofs.lemmas.List.{drop_all}
 use Rattle.hcl_scan.specs.Lexemes.{Lexeme}
-use Rattle.hcl_syntax.specs.Numbered.{Numbered, numbered}
-use Rattle.hcl_syntax.specs.Items.{outline}
-use Rattle.hcl_syntax.specs.ItemOrder.{Climbs, lead, past}
-use Rattle.hcl_syntax.specs.Labels.{first_text, text_of}
-use Rattle.hcl_syntax.specs.declared.item.Item.{Item}
-use Rattle.hcl_syntax.specs.declared.item.Item.TheVariants as item
-use Rattle.hcl_syntax.proofs.WordLemmas.{drop_at, numbered_here}
-use Rattle.hcl_syntax.proofs.ItemOrderLemmas.{climbs_wide, outline_climbs, spans_past}
+use Rattle.hcl_grammar.specs.Numbered.{Numbered, numbered}
+use Rattle.hcl_grammar.specs.Items.{outline}
+use Rattle.hcl_grammar.specs.ItemOrder.{Climbs, lead, past}
+use Rattle.hcl_grammar.specs.Labels.{first_text, text_of}
+use Rattle.hcl_grammar.specs.declared.item.Item.{Item}
+use Rattle.hcl_grammar.specs.declared.item.Item.TheVariants as item
+use Rattle.hcl_grammar.proofs.NumberedLemmas.{drop_at, numbered_here}
+use Rattle.hcl_grammar.proofs.ItemOrderLemmas.{climbs_wide, outline_climbs, spans_past}
 use Rattle.tf_facts.specs.Inner.Values.{value_of_attribute, value_of_item}
 use Rattle.tf_facts.specs.declared.value.Value.{Value}
 use Rattle.tf_facts.specs.Declarations.{Attribute, attribute, attributes_in, has, is_inside, labels_in, with_attribute}

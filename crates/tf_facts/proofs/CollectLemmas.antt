@@ -9,7 +9,7 @@ use Rattle.indexmap.specs.IndexSet.{insert_all, insert_key}
 use Rattle.hcl_scan.specs.Kinds.{is}
 use Rattle.hcl_scan.specs.declared.token.Kind.TheVariants as kind
 use Rattle.hcl_scan.specs.Lexemes.{Lexeme}
-use Rattle.hcl_syntax.specs.Numbered.{is_passed_over}
+use Rattle.hcl_grammar.specs.Numbered.{is_passed_over}
 use Rattle.tf_facts.specs.References.{Own, reference_at, references_from, unless_own}
 use Rattle.tf_facts.specs.Inner.Seen.{number_of, seen_from}
 use Rattle.tf_facts.specs.OwnBlocks.{ArePassed, Extends}

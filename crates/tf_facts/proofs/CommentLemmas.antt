@@ -4,8 +4,8 @@ use Rattle.std.specs.Prelude.{◌||◌, Some, filter, slice_get}
 use Rattle.std.specs.List.{list_any}
 use Rattle.std.proofs.lemmas.List.{append-nil, map-append}
 use Rattle.hcl_scan.specs.Lexemes.{Lexeme}
-use Rattle.hcl_syntax.specs.Numbered.{numbered}
-use Rattle.hcl_syntax.proofs.WordLemmas.{numbered_at, numbered_here, numbered_past}
+use Rattle.hcl_grammar.specs.Numbered.{numbered}
+use Rattle.hcl_grammar.proofs.NumberedLemmas.{numbered_at, numbered_here, numbered_past}
 use Rattle.tf_facts.specs.Comments.{Comment, comment_of, comments, if_telling, is_any}
 use Rattle.tf_facts.specs.Rules.{all_rules}
 use Rattle.tf_facts.specs.RuleSets.{holds, rules_of}

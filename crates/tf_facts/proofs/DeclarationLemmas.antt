@@ -5,14 +5,14 @@ use Rattle.std.specs.Option.{option_map}
 use Rattle.std.specs.Str.{bytes_eq}
 use Rattle.std.proofs.lemmas.List.{append-nil, drop_all}
 use Rattle.hcl_scan.specs.Lexemes.{Lexeme}
-use Rattle.hcl_syntax.specs.Numbered.{Numbered, numbered}
-use Rattle.hcl_syntax.specs.Items.{is_closed, outline}
-use Rattle.hcl_syntax.specs.ItemOrder.{Climbs, past}
-use Rattle.hcl_syntax.specs.Labels.{text_of}
-use Rattle.hcl_syntax.specs.declared.item.Item.{Item}
-use Rattle.hcl_syntax.specs.declared.item.Item.TheVariants as item
-use Rattle.hcl_syntax.proofs.WordLemmas.{drop_at}
-use Rattle.hcl_syntax.proofs.ItemOrderLemmas.{outline_climbs}
+use Rattle.hcl_grammar.specs.Numbered.{Numbered, numbered}
+use Rattle.hcl_grammar.specs.Items.{is_closed, outline}
+use Rattle.hcl_grammar.specs.ItemOrder.{Climbs, past}
+use Rattle.hcl_grammar.specs.Labels.{text_of}
+use Rattle.hcl_grammar.specs.declared.item.Item.{Item}
+use Rattle.hcl_grammar.specs.declared.item.Item.TheVariants as item
+use Rattle.hcl_grammar.proofs.NumberedLemmas.{drop_at}
+use Rattle.hcl_grammar.proofs.ItemOrderLemmas.{outline_climbs}
 use Rattle.tf_facts.specs.Declarations.{Attribute, Declaration, Declarer, SourceAt, PlainText, attribute, attributes_in, by_declarer, declarer, has, is_inside, is_module, module_source, of_item, of_items, of_local, plain_text, source_of_plain_text, source_of_attribute, with_attribute}
 use Rattle.tf_facts.specs.Sources.{Source, source_of}
 use Rattle.tf_facts.specs.Found.{declaration, texts_of, source}

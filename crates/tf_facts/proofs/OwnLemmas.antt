@@ -6,13 +6,13 @@ use Rattle.std.proofs.lemmas.Bool.{lt-ltb, le-ltb, lt-leb}
 use Rattle.std.specs.Str.{bytes_eq}
 use Rattle.tf_facts.specs.OwnBlocks.{own_of, Apart, ArePassed}
 use Rattle.hcl_scan.specs.Lexemes.{Lexeme}
-use Rattle.hcl_syntax.specs.Numbered.{Numbered, numbered}
-use Rattle.hcl_syntax.specs.Items.{is_closed, outline}
-use Rattle.hcl_syntax.specs.Labels.{text_of}
-use Rattle.hcl_syntax.specs.ItemOrder.{Either, TopsApart}
-use Rattle.hcl_syntax.specs.declared.item.Item.{Item}
-use Rattle.hcl_syntax.specs.declared.item.Item.TheVariants as item
-use Rattle.hcl_syntax.proofs.TopBlockLemmas.{tops_apart}
+use Rattle.hcl_grammar.specs.Numbered.{Numbered, numbered}
+use Rattle.hcl_grammar.specs.Items.{is_closed, outline}
+use Rattle.hcl_grammar.specs.Labels.{text_of}
+use Rattle.hcl_grammar.specs.ItemOrder.{Either, TopsApart}
+use Rattle.hcl_grammar.specs.declared.item.Item.{Item}
+use Rattle.hcl_grammar.specs.declared.item.Item.TheVariants as item
+use Rattle.hcl_grammar.proofs.TopBlockLemmas.{tops_apart}
 use Rattle.tf_facts.specs.Declarations.{Attribute, Declaration, Declarer, attributes_in, by_declarer, declarer, has, is_empty, is_module, labels_in, module_source, of_block, of_local}
 use Rattle.tf_facts.specs.References.{Own, is_own, is_variable, last_of, own_blocks, own_of_items, variable_reference, local_reference, data_reference}
 use Rattle.tf_facts.specs.declared.own_block.OwnBlock.{OwnBlock}

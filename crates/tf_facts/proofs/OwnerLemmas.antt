@@ -4,12 +4,12 @@ use Rattle.std.specs.Prelude.{Some, codes, filter, slice_get}
 use Rattle.std.specs.Str.{bytes_eq}
 use Rattle.std.proofs.lemmas.List.{append-nil, drop_all, map-append}
 use Rattle.std.proofs.lemmas.Slice.Eq.{bytes_eq-Decides}
-use Rattle.hcl_syntax.specs.Numbered.{Numbered}
-use Rattle.hcl_syntax.specs.Items.{is_closed}
-use Rattle.hcl_syntax.specs.Labels.{text_of}
-use Rattle.hcl_syntax.specs.declared.item.Item.{Item}
-use Rattle.hcl_syntax.specs.declared.item.Item.TheVariants as item
-use Rattle.hcl_syntax.proofs.WordLemmas.{drop_at}
+use Rattle.hcl_grammar.specs.Numbered.{Numbered}
+use Rattle.hcl_grammar.specs.Items.{is_closed}
+use Rattle.hcl_grammar.specs.Labels.{text_of}
+use Rattle.hcl_grammar.specs.declared.item.Item.{Item}
+use Rattle.hcl_grammar.specs.declared.item.Item.TheVariants as item
+use Rattle.hcl_grammar.proofs.NumberedLemmas.{drop_at}
 use Rattle.tf_facts.specs.Declarations.{Attribute, Declaration, attributes_in, by_declarer, declarer, is_empty, labels_in, of_block, of_local}
 use Rattle.tf_facts.specs.References.{Own, is_variable, last_of, own_of_item, own_of_items}
 use Rattle.tf_facts.specs.OwnBlocks.{own_of}

@@ -2,8 +2,8 @@
 use Rattle.std.proofs.Common.{◌≡◌, ◌∙◌, ap, refl, ℕ, suc, zero, ◌+◌, ◌≤◌, true, false, cond, not, List, [], ◌∷◌, drop, length, arith}
 use Rattle.std.specs.Prelude.{Some, slice_get}
 use Rattle.hcl_scan.specs.Lexemes.{Lexeme}
-use Rattle.hcl_syntax.specs.Numbered.{numbered_from, significant, is_passed_over}
-use Rattle.hcl_syntax.proofs.WordLemmas.{drop_at}
+use Rattle.hcl_grammar.specs.Numbered.{numbered_from, significant, is_passed_over}
+use Rattle.hcl_grammar.proofs.NumberedLemmas.{drop_at}
 use Rattle.tf_facts.specs.Inner.Seen.{number_of, seen_from}
 
 seen_step : (ts : List Lexeme) (n : ℕ) (t : Lexeme) → slice_get ts n ≡ Some t

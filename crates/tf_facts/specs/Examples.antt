@@ -3,7 +3,7 @@ use Rattle.std.specs.Prelude.{◌≡◌, ℕ, refl, List, [], ◌∷◌, ◌++�
 use Rattle.hcl_scan.specs.Lexemes.{Lexeme}
 use Rattle.hcl_scan.specs.declared.token.Kind.{Kind}
 use Rattle.hcl_scan.specs.declared.token.Kind.TheVariants.{Newline, LineComment, Ident, QuoteOpen, BraceOpen, BraceClose, Dot, Assign, Lit, InterpOpen, SeqClose, QuoteClose, NotEqual}
-use Rattle.hcl_syntax.specs.Numbered.{numbered}
+use Rattle.hcl_grammar.specs.Numbered.{numbered}
 use Rattle.tf_facts.specs.Declarations.{declarations}
 use Rattle.tf_facts.specs.References.{references}
 use Rattle.tf_facts.specs.Patterns.{wrapped_interpolations}

@@ -1,6 +1,6 @@
 -- The facts of a file: the line comments that say something, where two patterns of tokens are, and what is declared.
 use Rattle.std.specs.Prelude.{ℕ, List}
-use Rattle.hcl_syntax.specs.Numbered.{Numbered}
+use Rattle.hcl_grammar.specs.Numbered.{Numbered}
 use Rattle.tf_facts.specs.Comments.{Comment, comments}
 use Rattle.tf_facts.specs.Declarations.{Declaration, declarations}
 use Rattle.tf_facts.specs.Patterns.{legacy_indexes, wrapped_interpolations}

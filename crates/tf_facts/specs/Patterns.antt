@@ -3,8 +3,8 @@
 use Rattle.std.specs.Prelude.{ℕ, ◌==◌, ◌&&◌, ◌++◌, Bool, false, List, [], ◌∷◌, if◌then◌else◌}
 use Rattle.hcl_scan.specs.declared.token.Kind.TheVariants as kind
 use Rattle.hcl_scan.specs.Balanced.{closing}
-use Rattle.hcl_syntax.specs.Items.{deepen, is_closed}
-use Rattle.hcl_syntax.specs.Numbered.{Numbered, significant}
+use Rattle.hcl_grammar.specs.Items.{deepen, is_closed}
+use Rattle.hcl_grammar.specs.Numbered.{Numbered, significant}
 use Rattle.hcl_scan.specs.Kinds.{is}
 
 abbrev pub is_index : List Numbered → Bool

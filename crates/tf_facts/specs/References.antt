@@ -6,10 +6,10 @@ use Rattle.std.specs.List.{list_any}
 use Rattle.std.specs.Str.{bytes_eq}
 use Rattle.hcl_scan.specs.Kinds.{is}
 use Rattle.hcl_scan.specs.declared.token.Kind.TheVariants as kind
-use Rattle.hcl_syntax.specs.Numbered.{Numbered, significant}
-use Rattle.hcl_syntax.specs.Items.{items_of}
-use Rattle.hcl_syntax.specs.declared.item.Item.{Item}
-use Rattle.hcl_syntax.specs.declared.item.Item.TheVariants as item
+use Rattle.hcl_grammar.specs.Numbered.{Numbered, significant}
+use Rattle.hcl_grammar.specs.Items.{items_of}
+use Rattle.hcl_grammar.specs.declared.item.Item.{Item}
+use Rattle.hcl_grammar.specs.declared.item.Item.TheVariants as item
 use Rattle.tf_facts.specs.Declarations.{of_item}
 use Rattle.tf_facts.specs.declared.declaration_kind.DeclarationKind.{DeclarationKind}
 use Rattle.tf_facts.specs.declared.declaration_kind.DeclarationKind.TheVariants as declares

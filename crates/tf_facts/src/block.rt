@@ -1,8 +1,8 @@
 //! What follows a block in the outline of a file: its labels, and the attributes directly in its body.
 
 ghost use Rattle.std.specs.Prelude.{◌≡◌, ◌<◌, ◌≤◌, ◌+◌, ◌∷◌, ℕ, [], drop, find, length, slice_get, MatchOption, Some};
-ghost use Rattle.hcl_syntax.specs.Items.{outline};
-ghost use Rattle.hcl_syntax.specs.Numbered.{numbered};
+ghost use Rattle.hcl_grammar.specs.Items.{outline};
+ghost use Rattle.hcl_grammar.specs.Numbered.{numbered};
 ghost use Rattle.tf_facts.specs.Declarations.{attribute, attributes_in, has, is_inside, labels_in, with_attribute};
 ghost use Rattle.tf_facts.specs.Inner.Labelled.{AreNames};
 ghost use Rattle.tf_facts.specs.Inner.Values.{value_of_attribute, value_of_item};
@@ -11,7 +11,7 @@ ghost use Rattle.std.specs.Str.{bytes_eq};
 
 use crate::names::Names;
 use crate::value::Value;
-use hcl_syntax::{Accepted, Item, Outline, label_text};
+use hcl_grammar::{Accepted, Item, Outline, label_text};
 
 /// The text of a label, and the number of the item behind it.
 #[derive(Clone, Copy)]

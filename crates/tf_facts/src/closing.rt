@@ -4,7 +4,7 @@ ghost use Rattle.std.specs.Prelude.{◌≡◌, ◌==◌, ◌<◌, ◌+◌, false
 ghost use Rattle.hcl_scan.specs.Kinds.{is};
 ghost use Rattle.hcl_scan.specs.declared.token.Kind.TheVariants.{QuoteClose};
 ghost use Rattle.hcl_scan.specs.Balanced.{closing, opening};
-ghost use Rattle.hcl_syntax.specs.Numbered.{is_passed_over};
+ghost use Rattle.hcl_grammar.specs.Numbered.{is_passed_over};
 ghost use Rattle.tf_facts.specs.Inner.Closings.{AreAhead, AreClosings, quote_from};
 
 use crate::seen::is_passed_over;

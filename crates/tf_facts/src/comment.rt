@@ -5,7 +5,7 @@ ghost use Rattle.std.specs.List.{list_any};
 ghost use Rattle.hcl_scan.specs.Kinds.{is};
 ghost use Rattle.hcl_scan.specs.declared.token.Kind.TheVariants.{LineComment};
 ghost use Rattle.hcl_scan.specs.Lexemes.{Lexeme};
-ghost use Rattle.hcl_syntax.specs.Numbered.{numbered};
+ghost use Rattle.hcl_grammar.specs.Numbered.{numbered};
 ghost use Rattle.tf_facts.specs.Comments.{comment_of, comments, if_telling, is_any};
 ghost use Rattle.tf_facts.specs.RuleSets.{holds, rules_of};
 ghost use Rattle.tf_facts.specs.Silencing.{has_slashes, silenced_rules};

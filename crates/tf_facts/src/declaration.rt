@@ -2,10 +2,10 @@
 
 ghost use Rattle.std.specs.Prelude.{◌≡◌, ◌<◌, ◌≤◌, ◌+◌, ◌^◌, ◌==◌, ◌++◌, [], ℕ, List, codes, drop, length, map, slice_get, Some, None, IfOk, IfSome, OnOk, if◌then◌else◌};
 ghost use Rattle.std.specs.Option.{option_map};
-ghost use Rattle.hcl_syntax.specs.Items.{outline};
-ghost use Rattle.hcl_syntax.specs.Labels.{text_of};
-ghost use Rattle.hcl_syntax.specs.Numbered.{numbered};
-ghost use Rattle.hcl_syntax.specs.declared.item.Item.{Item};
+ghost use Rattle.hcl_grammar.specs.Items.{outline};
+ghost use Rattle.hcl_grammar.specs.Labels.{text_of};
+ghost use Rattle.hcl_grammar.specs.Numbered.{numbered};
+ghost use Rattle.hcl_grammar.specs.declared.item.Item.{Item};
 ghost use Rattle.tf_facts.specs.Declarations.{attribute, attributes_in, by_declarer, declarations, declarer, is_empty, is_module, labels_in, module_source, of_block, of_item, of_local, with_attribute};
 ghost use Rattle.tf_facts.specs.Found.{declaration, found_source};
 ghost use Rattle.tf_facts.specs.Inner.FoundViews.{declarer_of, listed};
@@ -17,7 +17,7 @@ use crate::found::{Declared, Declarer, FoundSource};
 use crate::names::Names;
 use crate::plain_text::plain_text;
 use crate::source::source_of;
-use hcl_syntax::{Accepted, Item, Outline};
+use hcl_grammar::{Accepted, Item, Outline};
 use std::alloc::{AllocError, Global};
 
 /// The text of the token of this number.

@@ -1,8 +1,8 @@
 //! The facts of one file, by the numbers of its tokens.
 
 ghost use Rattle.std.specs.Prelude.{◌≡◌, IfOk};
-ghost use Rattle.hcl_syntax.specs.Items.{outline};
-ghost use Rattle.hcl_syntax.specs.Numbered.{numbered};
+ghost use Rattle.hcl_grammar.specs.Items.{outline};
+ghost use Rattle.hcl_grammar.specs.Numbered.{numbered};
 ghost use Rattle.tf_facts.specs.Facts.{facts_of};
 ghost use Rattle.tf_facts.specs.Found.{facts};
 
@@ -10,7 +10,7 @@ use crate::comment::comments;
 use crate::declaration::declarations;
 use crate::found::{Declared, FoundComment};
 use crate::pattern::{legacy_indexes, wrapped_interpolations};
-use hcl_syntax::{Accepted, Outline};
+use hcl_grammar::{Accepted, Outline};
 use std::alloc::{AllocError, Global};
 
 /// The comments that say something, the dots before numbers, the quotes of interpolations alone, and what is declared.

@@ -3,9 +3,9 @@
 ghost use Rattle.std.specs.Prelude.{◌≡◌, ◌<◌, ◌+◌, ◌^◌, ℕ, drop, length, map, slice_get, Some, IfOk, OnOk, OnErr};
 ghost use Rattle.std.specs.Str.{bytes_eq};
 ghost use Rattle.indexmap.specs.IndexSet.{insert_all};
-ghost use Rattle.hcl_syntax.specs.Items.{outline};
-ghost use Rattle.hcl_syntax.specs.Numbered.{numbered};
-ghost use Rattle.hcl_syntax.specs.declared.item.Item.{Item};
+ghost use Rattle.hcl_grammar.specs.Items.{outline};
+ghost use Rattle.hcl_grammar.specs.Numbered.{numbered};
+ghost use Rattle.hcl_grammar.specs.declared.item.Item.{Item};
 ghost use Rattle.tf_facts.specs.OwnBlocks.{own_of, Apart};
 ghost use Rattle.tf_facts.specs.References.{is_variable, last_of, own_blocks, own_of_item, references};
 ghost use Rattle.tf_facts.specs.Inner.FoundViews.{own_listed};
@@ -17,7 +17,7 @@ use crate::names::Names;
 use crate::own_block::OwnBlock;
 use crate::references::add_references;
 use crate::text_set::TextSet;
-use hcl_syntax::{Accepted, Item, Outline};
+use hcl_grammar::{Accepted, Item, Outline};
 use std::alloc::{AllocError, Global};
 
 /// The last of up to two labels.

@@ -4,7 +4,7 @@ ghost use Rattle.std.specs.Prelude.{◌≡◌, ◌<◌, ◌∷◌, ◌+◌, ◌^
 ghost use Rattle.hcl_scan.specs.Kinds.{is};
 ghost use Rattle.hcl_scan.specs.declared.token.Kind.TheVariants.{InterpOpen, Number, QuoteOpen};
 ghost use Rattle.hcl_scan.specs.Lexemes.{Lexeme};
-ghost use Rattle.hcl_syntax.specs.Numbered.{numbered};
+ghost use Rattle.hcl_grammar.specs.Numbered.{numbered};
 ghost use Rattle.tf_facts.specs.Patterns.{is_index, is_wrapped, legacy_indexes, wrapped_interpolations};
 ghost use Rattle.tf_facts.specs.Inner.Closings.{AreClosings};
 ghost use Rattle.tf_facts.specs.Inner.Seen.{number_of, seen_from};

@@ -4,7 +4,7 @@ ghost use Rattle.std.specs.Prelude.{◌≡◌, ◌≤◌, ◌&&◌, not, [], len
 ghost use Rattle.std.specs.Option.{option_map};
 ghost use Rattle.hcl_scan.specs.Kinds.{is};
 ghost use Rattle.hcl_scan.specs.declared.token.Kind.TheVariants.{Lit, Newline, QuoteClose, QuoteOpen};
-ghost use Rattle.hcl_syntax.specs.Numbered.{is_comment};
+ghost use Rattle.hcl_grammar.specs.Numbered.{is_comment};
 ghost use Rattle.tf_facts.specs.Declarations.{plain_text};
 ghost use Rattle.tf_facts.specs.Inner.Values.{IsFirstValue, plain_text_of, values};
 

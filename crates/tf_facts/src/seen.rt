@@ -1,7 +1,7 @@
 //! The tokens that patterns see: those that are no comment, blank or newline.
 
 ghost use Rattle.std.specs.Prelude.{◌≡◌, ◌<◌, ◌≤◌, ◌+◌, ◌∷◌, [], length, MatchOption};
-ghost use Rattle.hcl_syntax.specs.Numbered.{is_passed_over};
+ghost use Rattle.hcl_grammar.specs.Numbered.{is_passed_over};
 ghost use Rattle.tf_facts.specs.Inner.Seen.{seen_from, IsNextSeen};
 
 use hcl_scan::{Kind, Tokens};

@@ -6,11 +6,11 @@ use Rattle.std.specs.List.{flat_map}
 use Rattle.std.specs.Str.{bytes_eq}
 use Rattle.std.proofs.lemmas.Slice.Eq.{bytes_eq-Decides}
 use Rattle.std.proofs.lemmas.Grind.{flat_map-append}
-use Rattle.hcl_syntax.specs.Items.{is_closed}
-use Rattle.hcl_syntax.specs.Labels.{label_text, text_of}
-use Rattle.hcl_syntax.specs.Numbered.{Numbered}
-use Rattle.hcl_syntax.specs.declared.item.Item.{Item}
-use Rattle.hcl_syntax.specs.declared.item.Item.TheVariants as item
+use Rattle.hcl_grammar.specs.Items.{is_closed}
+use Rattle.hcl_grammar.specs.Labels.{label_text, text_of}
+use Rattle.hcl_grammar.specs.Numbered.{Numbered}
+use Rattle.hcl_grammar.specs.declared.item.Item.{Item}
+use Rattle.hcl_grammar.specs.declared.item.Item.TheVariants as item
 use Rattle.tf_facts.specs.Declarations.{Attribute, Declaration, Declarer, PlainText, SourceAt, attributes_in, by_declarer, declarer, has, is_empty, is_module, labels_in, module_source, of_block, of_items, of_local, plain_text, source_of_plain_text, source_of_attribute, value_of, with_attribute}
 use Rattle.tf_facts.specs.Sources.{Other, NotPinned, DefaultBranch, Registry, is_default_branch, is_git, is_mercurial, is_registry, pinned_to, revision, source_of}
 use Rattle.tf_rules.specs.Growth.{branch_of, bytes, source_texts, declared_texts}

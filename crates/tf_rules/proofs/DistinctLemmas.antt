@@ -4,7 +4,7 @@ use Rattle.std.specs.Prelude.{◌⊎◌, ◌==◌, ◌&&◌, Option, Some, None,
 use Rattle.std.specs.List.{flat_map}
 use Rattle.std.proofs.lemmas.Bool.{and_left, and_right, ne_eqb}
 use Rattle.hcl_scan.specs.Lexemes.{Lexeme}
-use Rattle.hcl_syntax.specs.Numbered.{numbered}
+use Rattle.hcl_grammar.specs.Numbered.{numbered}
 use Rattle.tf_rules.specs.Answers.{IsBelow, Rising}
 use Rattle.tf_facts.specs.Comments.{Comment, comments}
 use Rattle.tf_facts.specs.Declarations.{Declaration, SourceAt, declarations}

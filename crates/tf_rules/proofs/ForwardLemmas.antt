@@ -8,15 +8,15 @@ use Rattle.hcl_scan.specs.Kinds.{is}
 use Rattle.hcl_scan.specs.declared.token.Kind.TheVariants.{LineComment, Lit, Newline, QuoteClose, QuoteOpen}
 use Rattle.hcl_scan.specs.Lexemes.{Lexeme}
 use Rattle.hcl_scan.specs.Scans.{Scans}
-use Rattle.hcl_syntax.specs.Numbered.{Numbered, numbered, numbered_from, significant, is_comment, is_passed_over}
-use Rattle.hcl_syntax.specs.Items.{is_closed, outline}
-use Rattle.hcl_syntax.specs.ItemOrder.{Climbs}
-use Rattle.hcl_syntax.specs.Labels.{text_of}
-use Rattle.hcl_syntax.specs.Verdict.{start_of}
-use Rattle.hcl_syntax.specs.declared.item.Item.{Item}
-use Rattle.hcl_syntax.specs.declared.item.Item.TheVariants as item
-use Rattle.hcl_syntax.proofs.ItemOrderLemmas.{Rises, outline_climbs, rises_filter, rises_numbered, rises_wide}
-use Rattle.hcl_syntax.proofs.WordLemmas.{numbered_at}
+use Rattle.hcl_grammar.specs.Numbered.{Numbered, numbered, numbered_from, significant, is_comment, is_passed_over}
+use Rattle.hcl_grammar.specs.Items.{is_closed, outline}
+use Rattle.hcl_grammar.specs.ItemOrder.{Climbs}
+use Rattle.hcl_grammar.specs.Labels.{text_of}
+use Rattle.hcl_grammar.specs.Verdict.{start_of}
+use Rattle.hcl_grammar.specs.declared.item.Item.{Item}
+use Rattle.hcl_grammar.specs.declared.item.Item.TheVariants as item
+use Rattle.hcl_grammar.proofs.ItemOrderLemmas.{Rises, outline_climbs, rises_filter, rises_numbered, rises_wide}
+use Rattle.hcl_grammar.proofs.NumberedLemmas.{numbered_at}
 use Rattle.tf_facts.specs.Comments.{Comment, comments, is_any}
 use Rattle.tf_facts.specs.Declarations.{Attribute, Declaration, Declarer, attributes_in, by_declarer, declarer, declarations, is_empty, is_module, labels_in, module_source, of_block, of_items, of_local, plain_text, source_of_plain_text, source_of_attribute, value_of, has, with_attribute}
 use Rattle.tf_facts.specs.Patterns.{legacy_indexes, numbers_where, wrapped_interpolations, is_index, is_wrapped}

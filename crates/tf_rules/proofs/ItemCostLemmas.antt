@@ -9,11 +9,11 @@ use Rattle.std.proofs.lemmas.Grind.{flat_map-append}
 use Rattle.hcl_scan.specs.Kinds.{is}
 use Rattle.hcl_scan.specs.declared.token.Kind.TheVariants.{Assign, Ident, QuoteOpen}
 use Rattle.hcl_scan.specs.declared.token.Kind.{Kind}
-use Rattle.hcl_syntax.specs.Labels.{text_of}
-use Rattle.hcl_syntax.specs.Items.{closing_quote, is_closed, items_of, label_at}
-use Rattle.hcl_syntax.specs.Numbered.{Numbered, is_comment, uncommented}
-use Rattle.hcl_syntax.specs.declared.item.Item.{Item}
-use Rattle.hcl_syntax.specs.declared.item.Item.TheVariants as item
+use Rattle.hcl_grammar.specs.Labels.{text_of}
+use Rattle.hcl_grammar.specs.Items.{closing_quote, is_closed, items_of, label_at}
+use Rattle.hcl_grammar.specs.Numbered.{Numbered, is_comment, uncommented}
+use Rattle.hcl_grammar.specs.declared.item.Item.{Item}
+use Rattle.hcl_grammar.specs.declared.item.Item.TheVariants as item
 use Rattle.tf_facts.specs.Declarations.{Attribute, Declaration, Declarer, SourceAt, attributes_in, by_declarer, declarations, declarer, has, is_empty, is_module, labels_in, module_source, of_block, of_items, of_local, with_attribute}
 use Rattle.tf_rules.specs.Growth.{places_of, source_places}
 use Rattle.tf_facts.specs.declared.declaration_kind.DeclarationKind.TheVariants as declares

@@ -4,10 +4,10 @@ use Rattle.std.specs.Prelude.{◌&&◌, filter, nat_lt}
 use Rattle.std.specs.List.{flat_map}
 use Rattle.hcl_scan.specs.Kinds.{is}
 use Rattle.hcl_scan.specs.declared.token.Kind.TheVariants.{Assign, BraceOpen, Newline}
-use Rattle.hcl_syntax.specs.Items.{behind_brace, block, block_end, body, deepen, is_closed, item_of, items, labels, label_at, onto, pieces}
-use Rattle.hcl_syntax.specs.Numbered.{Numbered, end_of}
-use Rattle.hcl_syntax.specs.declared.item.Item.{Item}
-use Rattle.hcl_syntax.specs.declared.item.Item.TheVariants as item
+use Rattle.hcl_grammar.specs.Items.{behind_brace, block, block_end, body, deepen, is_closed, item_of, items, labels, label_at, onto, pieces}
+use Rattle.hcl_grammar.specs.Numbered.{Numbered, end_of}
+use Rattle.hcl_grammar.specs.declared.item.Item.{Item}
+use Rattle.hcl_grammar.specs.declared.item.Item.TheVariants as item
 
 abbrev pub bit : Bool → ℕ
 bit true = 1

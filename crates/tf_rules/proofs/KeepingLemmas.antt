@@ -4,8 +4,8 @@ use Rattle.std.specs.Prelude.{Some, slice_get}
 use Rattle.std.specs.List.{flat_map}
 use Rattle.std.proofs.lemmas.List.{append-nil, drop_all, map-append}
 use Rattle.hcl_scan.specs.Lexemes.{Lexeme}
-use Rattle.hcl_syntax.proofs.WordLemmas.{drop_at}
-use Rattle.hcl_syntax.specs.Verdict.{start_of}
+use Rattle.hcl_grammar.proofs.NumberedLemmas.{drop_at}
+use Rattle.hcl_grammar.specs.Verdict.{start_of}
 use Rattle.tf_rules.specs.Issues.{File}
 use Rattle.tf_rules.specs.Inner.Placing.{Placing, CanGo, Forward, IsKeeping, reached_after, gone}
 

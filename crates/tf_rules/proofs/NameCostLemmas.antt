@@ -2,10 +2,10 @@
 use Rattle.std.proofs.Common.{◌≡◌, ap, refl, ℕ, ◌+◌, ◌≤◌, Bool, true, false, cond, List, [], ◌∷◌, ◌++◌, arith}
 use Rattle.hcl_scan.specs.Kinds.{is}
 use Rattle.hcl_scan.specs.declared.token.Kind.TheVariants.{Assign, Ident, QuoteOpen}
-use Rattle.hcl_syntax.specs.Items.{closing_quote, label_at}
-use Rattle.hcl_syntax.specs.Numbered.{Numbered}
-use Rattle.hcl_syntax.specs.declared.item.Item.{Item}
-use Rattle.hcl_syntax.specs.declared.item.Item.TheVariants as item
+use Rattle.hcl_grammar.specs.Items.{closing_quote, label_at}
+use Rattle.hcl_grammar.specs.Numbered.{Numbered}
+use Rattle.hcl_grammar.specs.declared.item.Item.{Item}
+use Rattle.hcl_grammar.specs.declared.item.Item.TheVariants as item
 use Rattle.hcl_scan.specs.declared.token.Kind.{Kind}
 use Rattle.tf_rules.proofs.ItemWeightLemmas.{IsCounted, bit}
 

@@ -10,16 +10,16 @@ use Rattle.hcl_scan.specs.Lexemes.{Lexeme}
 use Rattle.hcl_scan.specs.Scans.{Scans}
 use Rattle.hcl_scan.specs.declared.token.Kind.{Kind}
 use Rattle.hcl_scan.specs.declared.token.Kind.TheVariants as kind
-use Rattle.hcl_syntax.specs.Items.{items_of}
-use Rattle.hcl_syntax.specs.Labels.{first_literal, first_text, label_text, text_of}
-use Rattle.hcl_syntax.specs.Numbered.{Numbered, is_comment, is_passed_over, numbered_from, significant, uncommented}
-use Rattle.hcl_syntax.specs.Verdict.{IsAccepted}
-use Rattle.hcl_syntax.specs.declared.item.Item.{Item}
-use Rattle.hcl_syntax.specs.declared.item.Item.TheVariants as item
-use Rattle.hcl_syntax.specs.declared.item.Label.{Label}
-use Rattle.hcl_syntax.proofs.NameLemmas.{IsApart, apart, apart_on, begins_dot, behind_dot, first, is_apart}
-use Rattle.hcl_syntax.proofs.PieceTurnLemmas.{AllGood, Good}
-use Rattle.hcl_syntax.proofs.PlainLabelLemmas.{file_good}
+use Rattle.hcl_grammar.specs.Items.{items_of}
+use Rattle.hcl_grammar.specs.Labels.{first_literal, first_text, label_text, text_of}
+use Rattle.hcl_grammar.specs.Numbered.{Numbered, is_comment, is_passed_over, numbered_from, significant, uncommented}
+use Rattle.hcl_grammar.specs.Verdict.{IsAccepted}
+use Rattle.hcl_grammar.specs.declared.item.Item.{Item}
+use Rattle.hcl_grammar.specs.declared.item.Item.TheVariants as item
+use Rattle.hcl_grammar.specs.declared.item.Label.{Label}
+use Rattle.hcl_grammar.proofs.NameLemmas.{IsApart, apart, apart_on, begins_dot, behind_dot, first, is_apart}
+use Rattle.hcl_grammar.proofs.PieceTurnLemmas.{AllGood, Good}
+use Rattle.hcl_grammar.proofs.PlainLabelLemmas.{file_good}
 use Rattle.tf_facts.specs.Declarations.{Declaration, SourceAt, declarations}
 use Rattle.tf_facts.specs.References.{own_blocks, references}
 use Rattle.tf_rules.specs.Growth.{bytes, name_bytes, source_texts, declared_texts}

@@ -6,7 +6,7 @@ use Rattle.std.proofs.lemmas.Slice.Eq.{bytes_eq-Decides}
 use Rattle.hcl_scan.specs.Kinds.{is}
 use Rattle.hcl_scan.specs.declared.token.Kind.{Kind}
 use Rattle.hcl_scan.specs.declared.token.Kind.TheVariants as kind
-use Rattle.hcl_syntax.specs.Numbered.{Numbered}
+use Rattle.hcl_grammar.specs.Numbered.{Numbered}
 use Rattle.tf_facts.specs.References.{Own, by_name, data_of, is_own, local_reference, name_behind, reference_of, reference_at, references_from, unless_own, variable_reference}
 use Rattle.tf_rules.specs.Growth.{bytes}
 use Rattle.tf_rules.proofs.DeclaredTextLemmas.{bytes_both}

@@ -7,8 +7,8 @@ use Rattle.tf_rules.specs.Ordered.{SameMembers, Ascends}
 use Rattle.hcl_scan.specs.Scanned.{Scanned}
 use Rattle.hcl_source.specs.Places.{place}
 use Rattle.hcl_source.specs.declared.fault.Position.{Position}
-use Rattle.hcl_syntax.specs.Verdict.{start_of}
-use Rattle.hcl_syntax.specs.Numbered.{Numbered, numbered}
+use Rattle.hcl_grammar.specs.Verdict.{start_of}
+use Rattle.hcl_grammar.specs.Numbered.{Numbered, numbered}
 use Rattle.tf_facts.specs.Rules.{is_rule, rank}
 use Rattle.tf_facts.specs.RuleSets.{rules_of}
 use Rattle.tf_facts.specs.Comments.{Comment, comments}

@@ -3,8 +3,8 @@
 ghost use Rattle.std.specs.Prelude.{◌≡◌, ◌≤◌, ◌<◌, ◌+◌, ◌++◌, [], List, filter, map, IfOk, OnOk, OnErr, if◌then◌else◌};
 ghost use Rattle.std.specs.List.{flat_map};
 ghost use Rattle.std.specs.Vec.{vec_capacity, vec_len};
-ghost use Rattle.hcl_syntax.specs.Items.{outline};
-ghost use Rattle.hcl_syntax.specs.Numbered.{numbered};
+ghost use Rattle.hcl_grammar.specs.Items.{outline};
+ghost use Rattle.hcl_grammar.specs.Numbered.{numbered};
 ghost use Rattle.tf_rules.specs.Answers.{AreIssues, Rising};
 ghost use Rattle.tf_rules.specs.Findings.{findings};
 ghost use Rattle.tf_rules.specs.Issues.{File, asked_of};

@@ -1,7 +1,7 @@
 //! What is kept of one file, references aside.
 
 ghost use Rattle.std.specs.Prelude.{◌≡◌, IfOk};
-ghost use Rattle.hcl_syntax.specs.Items.{outline};
+ghost use Rattle.hcl_grammar.specs.Items.{outline};
 ghost use Rattle.tf_facts.specs.Facts.{facts_of};
 ghost use Rattle.tf_rules.specs.Issues.{place_in, tokens_of};
 ghost use Rattle.tf_rules.specs.Kept.{facts_at};

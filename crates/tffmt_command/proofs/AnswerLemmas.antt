@@ -22,7 +22,7 @@ use Rattle.tffmt_command.specs.Line.{options_of}
 use Rattle.tffmt_command.specs.declared.options.FmtOptions.{FmtOptions}
 use Rattle.tffmt_command.specs.declared.options.Usage.{Usage}
 use Rattle.tffmt_command.specs.declared.options.Usage.TheVariants as usage
-use Rattle.hcl_syntax.specs.Verdict.{verdict}
+use Rattle.hcl_grammar.specs.Verdict.{verdict}
 
 module _ (options : FmtOptions) where
   one_text_answer : (text : List ℕ) (row other : Row) → IsTextAnswer options text row → IsTextAnswer options text other → row ≡ other

@@ -8,10 +8,10 @@ use Rattle.hcl_source.specs.Load.{max_source, IsText}
 use Rattle.hcl_scan.specs.Scanned.{Scanned}
 use Rattle.hcl_scan.specs.Scans.{Scans}
 use Rattle.hcl_source.specs.declared.fault.Fault.{Fault}
-use Rattle.hcl_syntax.specs.Classes.{lookaheads}
-use Rattle.hcl_syntax.specs.Predictor.{refusal_of}
-use Rattle.hcl_syntax.specs.Verdict.{verdict, verdict_by}
-use Rattle.hcl_syntax.specs.declared.refusal.Refusal.{Refusal}
+use Rattle.hcl_grammar.specs.Classes.{lookaheads}
+use Rattle.hcl_grammar.specs.Predictor.{refusal_of}
+use Rattle.hcl_grammar.specs.Verdict.{verdict, verdict_by}
+use Rattle.hcl_grammar.specs.declared.refusal.Refusal.{Refusal}
 use Rattle.hcl_layout.specs.Print.{print}
 use Rattle.hcl_layout.specs.Reprinted.{printed_tokens}
 use Rattle.hcl_layout.proofs.RescanLemmas.{scans_again}

@@ -11,7 +11,7 @@ use Rattle.hcl_scan.specs.Faults.{IsScanFault}
 use Rattle.hcl_source.specs.declared.fault.Fault.{Fault}
 use Rattle.hcl_source.specs.declared.fault.FaultKind.{FaultKind}
 use Rattle.hcl_source.specs.declared.fault.FaultKind.TheVariants.{ResultTooLarge}
-use Rattle.hcl_syntax.specs.Verdict.{verdict}
+use Rattle.hcl_grammar.specs.Verdict.{verdict}
 use Rattle.hcl_layout.specs.Print.{print}
 use Rattle.command_line.specs.Rows.{Row, line, error, fault_words}
 use Rattle.tffmt_command.specs.Rows.{formatter}

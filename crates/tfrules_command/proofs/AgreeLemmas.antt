@@ -11,10 +11,10 @@ use Rattle.hcl_scan.specs.Scanned.{Scanned}
 use Rattle.hcl_scan.specs.Scans.{Scans}
 use Rattle.hcl_scan.proofs.RunLemmas.{one_scan}
 use Rattle.hcl_scan.proofs.SpellingLemmas.{one_kind, nonempty}
-use Rattle.hcl_syntax.specs.declared.refusal.Refusal.{Refusal}
-use Rattle.hcl_syntax.specs.Predictor.{refusal_of}
-use Rattle.hcl_syntax.specs.Classes.{lookaheads}
-use Rattle.hcl_syntax.specs.Verdict.{IsAccepted, fault_at, start_of, verdict_by}
+use Rattle.hcl_grammar.specs.declared.refusal.Refusal.{Refusal}
+use Rattle.hcl_grammar.specs.Predictor.{refusal_of}
+use Rattle.hcl_grammar.specs.Classes.{lookaheads}
+use Rattle.hcl_grammar.specs.Verdict.{IsAccepted, fault_at, start_of, verdict_by}
 use Rattle.hcl_layout.specs.Print.{print}
 use Rattle.hcl_layout.specs.Reprinted.{printed_tokens}
 use Rattle.hcl_layout.proofs.PlaceLemmas.{seen_again}

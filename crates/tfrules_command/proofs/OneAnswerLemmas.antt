@@ -11,7 +11,7 @@ use Rattle.hcl_scan.specs.Lexemes.{Lexeme}
 use Rattle.hcl_scan.specs.Scanned.{Scanned}
 use Rattle.hcl_scan.proofs.RunLemmas.{no_fault, one_fault, one_scan}
 use Rattle.hcl_scan.proofs.SpellingLemmas.{nonempty, one_kind}
-use Rattle.hcl_syntax.specs.Verdict.{verdict}
+use Rattle.hcl_grammar.specs.Verdict.{verdict}
 use Rattle.tf_rules.specs.Answers.{answered}
 use Rattle.tf_rules.specs.Issues.{IsReport}
 use Rattle.tf_rules.proofs.ReportLemmas.{one_report}

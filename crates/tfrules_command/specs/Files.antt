@@ -10,7 +10,7 @@ use Rattle.hcl_scan.specs.Scanned.{Scanned}
 use Rattle.hcl_scan.specs.Scans.{Scans}
 use Rattle.hcl_source.specs.declared.fault.Fault.{Fault}
 use Rattle.hcl_source.specs.declared.fault.FaultKind.{FaultKind}
-use Rattle.hcl_syntax.specs.Verdict.{verdict}
+use Rattle.hcl_grammar.specs.Verdict.{verdict}
 use Rattle.tf_rules.specs.Issues.{File}
 
 pub record NamedFile : Type 0 where

@@ -4,7 +4,7 @@ use Rattle.std.specs.Prelude.{◌≡◌, ◌<◌, ◌≤◌, ◌+◌, ◌-◌, �
 use Rattle.hcl_scan.specs.Lexemes.{Lexeme}
 use Rattle.hcl_scan.specs.declared.token.Kind.{Kind}
 use Rattle.hcl_scan.specs.Balanced.{closing, is_closer, is_opener, opening, max_open}
-use Rattle.hcl_syntax.specs.Items.{deepen}
+use Rattle.hcl_grammar.specs.Items.{deepen}
 use Rattle.hcl_layout.specs.Levels.{Net}
 
 -- the openers and the closers of a token

@@ -7,7 +7,7 @@ use Rattle.hcl_layout.specs.Lines.{Line, ends_line, lines}
 use Rattle.hcl_scan.specs.Kinds.{is}
 use Rattle.hcl_layout.specs.Cells.{assign_cell, is_assignment, is_multiline, is_trailing, running_comment, trailing_comment}
 use Rattle.hcl_scan.specs.Balanced.{is_closer, is_opener, max_open}
-use Rattle.hcl_syntax.specs.Items.{deepen}
+use Rattle.hcl_grammar.specs.Items.{deepen}
 use Rattle.hcl_layout.specs.Inner.Depths.{BalancedFrom, depth_after}
 use Rattle.hcl_layout.specs.declared.line.Survey.{Survey}
 use Rattle.hcl_layout.specs.declared.line.LineFacts.{LineFacts}

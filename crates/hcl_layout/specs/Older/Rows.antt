@@ -2,16 +2,16 @@
 -- so only what goes by the rows is written once more (`Predictor` of `hcl_syntax`).
 use Rattle.std.specs.Prelude.{◌≡◌, ℕ, Bool, true, false, List, [], ◌∷◌, Option, None, if◌then◌else◌}
 use Rattle.hcl_scan.specs.Lexemes.{Lexeme}
-use Rattle.hcl_syntax.specs.declared.class.Class.{Class}
-use Rattle.hcl_syntax.specs.declared.class.Class.TheVariants.{ColonColon}
-use Rattle.hcl_syntax.specs.declared.class.Lookahead.{Lookahead}
-use Rattle.hcl_syntax.specs.declared.expected.Newlines.{Newlines}
-use Rattle.hcl_syntax.specs.declared.expected.Newlines.TheVariants.{Seen}
-use Rattle.hcl_syntax.specs.declared.refusal.Refusal.{Refusal}
-use Rattle.hcl_syntax.specs.declared.refusal.Refusal.TheVariants.{UnexpectedToken}
-use Rattle.hcl_syntax.specs.Classes.{drops, lookaheads}
-use Rattle.hcl_syntax.specs.Grammar.{Symbol, Marked, ◌at◌, file, Action, none, row}
-use Rattle.hcl_syntax.specs.Predictor.{ending, Effect, on, stop, taken, next}
+use Rattle.hcl_grammar.specs.declared.class.Class.{Class}
+use Rattle.hcl_grammar.specs.declared.class.Class.TheVariants.{ColonColon}
+use Rattle.hcl_grammar.specs.declared.class.Lookahead.{Lookahead}
+use Rattle.hcl_grammar.specs.declared.expected.Newlines.{Newlines}
+use Rattle.hcl_grammar.specs.declared.expected.Newlines.TheVariants.{Seen}
+use Rattle.hcl_grammar.specs.declared.refusal.Refusal.{Refusal}
+use Rattle.hcl_grammar.specs.declared.refusal.Refusal.TheVariants.{UnexpectedToken}
+use Rattle.hcl_grammar.specs.Classes.{drops, lookaheads}
+use Rattle.hcl_grammar.specs.Grammar.{Symbol, Marked, ◌at◌, file, Action, none, row}
+use Rattle.hcl_grammar.specs.Predictor.{ending, Effect, on, stop, taken, next}
 
 abbrev pub is_path_sign : Class → Bool
 is_path_sign ColonColon = true

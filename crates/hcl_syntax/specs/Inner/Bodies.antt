@@ -1,11 +1,11 @@
 -- What is put out of a piece before the items of its body.
 use Rattle.std.specs.Prelude.{◌≡◌, ◌<◌, ◌≤◌, ◌+◌, ℕ, List, [], ◌++◌}
 use Rattle.hcl_scan.specs.Lexemes.{Lexeme}
-use Rattle.hcl_syntax.specs.Numbered.{Numbered}
-use Rattle.hcl_syntax.specs.Items.{block, item_of}
+use Rattle.hcl_grammar.specs.Numbered.{Numbered}
+use Rattle.hcl_grammar.specs.Items.{block, item_of}
 use Rattle.hcl_syntax.specs.Inner.Pieces.{words}
 use Rattle.hcl_syntax.specs.declared.pieces.Body.{Body}
-use Rattle.hcl_syntax.specs.declared.item.Item.{Item}
+use Rattle.hcl_grammar.specs.declared.item.Item.{Item}
 
 -- with the items of its body behind, it is the item of the piece, whatever the items of bodies are
 pub record PutsPiece (tokens : List Lexeme) (level from to : ℕ) (old new : List Item) (body : Body) : Type 0 where

@@ -1,9 +1,9 @@
 -- Where a cursor stands in what the grammar sees of a token list.
 use Rattle.std.specs.Prelude.{◌≡◌, Bool, true, false, List, [], ◌∷◌, Option, Some, None, if◌then◌else◌}
-use Rattle.hcl_syntax.specs.declared.class.Class.{Class}
-use Rattle.hcl_syntax.specs.declared.class.Lookahead.{Lookahead}
-use Rattle.hcl_syntax.specs.declared.expected.Newlines.{Newlines}
-use Rattle.hcl_syntax.specs.Classes.{drops, is_trivia}
+use Rattle.hcl_grammar.specs.declared.class.Class.{Class}
+use Rattle.hcl_grammar.specs.declared.class.Lookahead.{Lookahead}
+use Rattle.hcl_grammar.specs.declared.expected.Newlines.{Newlines}
+use Rattle.hcl_grammar.specs.Classes.{drops, is_trivia}
 
 -- without the newlines at the front, where they are dropped
 abbrev pub shown : Newlines → List Lookahead → List Lookahead

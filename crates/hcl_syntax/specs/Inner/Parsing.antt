@@ -1,24 +1,24 @@
 -- What a part of a recursive descent does, in terms of the predictor: our own words for the contracts of the parser.
 use Rattle.std.specs.Prelude.{◌≡◌, ◌<◌, ℕ, zero, suc, ◌+◌, Bool, true, false, List, [], ◌∷◌, ◌++◌, Option, Some, Result, Ok, Err}
-use Rattle.hcl_syntax.specs.declared.class.Lookahead.{Lookahead}
-use Rattle.hcl_syntax.specs.declared.class.Class.{Class}
-use Rattle.hcl_syntax.specs.declared.class.Class.TheVariants.{Ident, Not, Minus}
-use Rattle.hcl_syntax.specs.declared.class.Word.TheVariants.{Else, Endif, Endfor}
-use Rattle.hcl_syntax.specs.declared.expected.Section.{Section}
-use Rattle.hcl_syntax.specs.declared.expected.Section.TheVariants.{InIf, InElse, InFor}
+use Rattle.hcl_grammar.specs.declared.class.Lookahead.{Lookahead}
+use Rattle.hcl_grammar.specs.declared.class.Class.{Class}
+use Rattle.hcl_grammar.specs.declared.class.Class.TheVariants.{Ident, Not, Minus}
+use Rattle.hcl_grammar.specs.declared.class.Word.TheVariants.{Else, Endif, Endfor}
+use Rattle.hcl_grammar.specs.declared.expected.Section.{Section}
+use Rattle.hcl_grammar.specs.declared.expected.Section.TheVariants.{InIf, InElse, InFor}
 use Rattle.hcl_syntax.specs.declared.expected.Turning.{Turning}
 use Rattle.hcl_syntax.specs.declared.expected.Turning.TheVariants.{Onward, Closing, Inner}
-use Rattle.hcl_syntax.specs.declared.expected.Newlines.{Newlines}
-use Rattle.hcl_syntax.specs.declared.expected.Newlines.TheVariants.{Seen}
-use Rattle.hcl_syntax.specs.declared.expected.Terminal.{Terminal}
-use Rattle.hcl_syntax.specs.declared.expected.Terminal.TheVariants.{Separator, EndBrace, EndSequence}
+use Rattle.hcl_grammar.specs.declared.expected.Newlines.{Newlines}
+use Rattle.hcl_grammar.specs.declared.expected.Newlines.TheVariants.{Seen}
+use Rattle.hcl_grammar.specs.declared.expected.Terminal.{Terminal}
+use Rattle.hcl_grammar.specs.declared.expected.Terminal.TheVariants.{Separator, EndBrace, EndSequence}
 use Rattle.hcl_syntax.specs.declared.expected.Follow.{Follow}
 use Rattle.hcl_syntax.specs.declared.expected.Follow.TheVariants.{Operator, Choice, Other}
-use Rattle.hcl_syntax.specs.declared.refusal.Refusal.{Refusal}
-use Rattle.hcl_syntax.specs.declared.refusal.Refusal.TheVariants.{UnexpectedToken, UnexpectedEnd, TooDeep}
+use Rattle.hcl_grammar.specs.declared.refusal.Refusal.{Refusal}
+use Rattle.hcl_grammar.specs.declared.refusal.Refusal.TheVariants.{UnexpectedToken, UnexpectedEnd, TooDeep}
 use Rattle.hcl_syntax.specs.Inner.Cursors.{shown, first, Looks}
-use Rattle.hcl_syntax.specs.Grammar.{Marked, Action, ◌at◌, ◌then◌, reads, closes, inside, directive_row, the, file, body, eol, expr, fits}
-use Rattle.hcl_syntax.specs.Predictor.{run}
+use Rattle.hcl_grammar.specs.Grammar.{Marked, Action, ◌at◌, ◌then◌, reads, closes, inside, directive_row, the, file, body, eol, expr, fits}
+use Rattle.hcl_grammar.specs.Predictor.{run}
 
 -- the refusal that was met, or else what comes of the rest
 abbrev pub outcome : {A : Type 0} → Result A Refusal → Option Refusal → Option Refusal

@@ -7,9 +7,9 @@ use Rattle.hcl_scan.specs.declared.token.Kind.{Kind}
 use Rattle.hcl_scan.specs.Balanced.{opening, closing}
 use Rattle.hcl_syntax.specs.declared.nesting.Nesting.{Nesting}
 use Rattle.hcl_syntax.specs.declared.nesting.Nesting.TheVariants as nesting
-use Rattle.hcl_syntax.specs.Numbered.{Numbered, numbered_from, uncommented}
-use Rattle.hcl_syntax.specs.Items.{deepen, is_closed, items}
-use Rattle.hcl_syntax.specs.declared.item.Item.{Item}
+use Rattle.hcl_grammar.specs.Numbered.{Numbered, numbered_from, uncommented}
+use Rattle.hcl_grammar.specs.Items.{deepen, is_closed, items}
+use Rattle.hcl_grammar.specs.declared.item.Item.{Item}
 use Rattle.hcl_syntax.specs.declared.words.NumberedKind.{NumberedKind}
 
 -- the tokens from a number on to before another

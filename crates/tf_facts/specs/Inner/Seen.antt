@@ -1,7 +1,7 @@
 -- What patterns see of a token list from a number on.
 use Rattle.std.specs.Prelude.{◌≡◌, ◌<◌, ◌≤◌, ◌+◌, ◌^◌, ℕ, List, ◌∷◌, drop, length}
 use Rattle.hcl_scan.specs.Lexemes.{Lexeme}
-use Rattle.hcl_syntax.specs.Numbered.{Numbered, numbered_from, significant}
+use Rattle.hcl_grammar.specs.Numbered.{Numbered, numbered_from, significant}
 use Rattle.tf_facts.specs.declared.seen.Seen.{Seen}
 
 abbrev pub seen_from : List Lexeme → ℕ → List Numbered

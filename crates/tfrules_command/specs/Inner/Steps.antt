@@ -7,7 +7,7 @@ use Rattle.hcl_scan.specs.declared.token.ScanError.{ScanError}
 use Rattle.hcl_scan.specs.declared.token.ScanError.TheVariants as scan_error
 use Rattle.hcl_source.specs.declared.fault.LoadError.{LoadError}
 use Rattle.hcl_source.specs.declared.fault.LoadError.TheVariants as error
-use Rattle.hcl_syntax.specs.Verdict.{verdict}
+use Rattle.hcl_grammar.specs.Verdict.{verdict}
 use Rattle.tf_rules.specs.Kept.{Kept, kept_of, with_file}
 use Rattle.tfrules_command.specs.Answer.{file_error, linter, names_of, refused, too_large, usage_line}
 use Rattle.tfrules_command.specs.Files.{NamedFile, AreAccepted, IsFault, IsOutcome, IsTooMuch, max_module, numbered_files, size_of}

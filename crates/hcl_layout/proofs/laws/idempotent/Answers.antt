@@ -1,5 +1,5 @@
 use Rattle.std.proofs.Common.{ap, ◌∙◌}
-use Rattle.hcl_syntax.specs.Predictor.{refusal_of}
+use Rattle.hcl_grammar.specs.Predictor.{refusal_of}
 use Rattle.hcl_layout.proofs.RescanLemmas.{scans_again}
 use Rattle.hcl_layout.proofs.PlaceLemmas.{print_again, seen_again}
 use Rattle.hcl_layout.proofs.LoadLemmas.{loads_again}

@@ -5,7 +5,7 @@ use Rattle.hcl_scan.specs.declared.token.Kind.TheVariants.{InlineComment}
 use Rattle.hcl_scan.specs.Scanned.{lexeme}
 use Rattle.hcl_layout.specs.Lines.{ends_line}
 use Rattle.hcl_scan.specs.Balanced.{max_open}
-use Rattle.hcl_syntax.specs.Items.{deepen}
+use Rattle.hcl_grammar.specs.Items.{deepen}
 use Rattle.hcl_layout.specs.Inner.Depths.{BalancedFrom, Steps}
 use Rattle.hcl_layout.specs.Inner.Survey.{first_noted, going, noted, stops, surveyed}
 use Rattle.hcl_layout.specs.declared.line.Survey.{Survey}

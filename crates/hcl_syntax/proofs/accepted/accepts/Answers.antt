@@ -1,6 +1,6 @@
 use Rattle.std.proofs.Common.{ap, sym, ◌∙◌}
-use Rattle.hcl_syntax.specs.Predictor.{refusal_of}
-use Rattle.hcl_syntax.proofs.MoveLemmas.{refusal-names}
+use Rattle.hcl_grammar.specs.Predictor.{refusal_of}
+use Rattle.hcl_syntax.proofs.RefusalLemmas.{refusal-names}
 use Rattle.hcl_syntax.proofs.accepted.accepts.Goals as goal
 
 pub fault_at-requires : goal.fault_at-requires

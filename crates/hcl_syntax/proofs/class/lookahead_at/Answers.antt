@@ -1,5 +1,5 @@
 use Rattle.std.proofs.Common.{ap, cond, sym, drop, ◌+◌, ◌∷◌, ◌∙◌}
-use Rattle.hcl_syntax.specs.Classes.{is_trivia, lookaheads_from}
+use Rattle.hcl_grammar.specs.Classes.{is_trivia, lookaheads_from}
 use Rattle.hcl_syntax.proofs.LookaheadLemmas.{at-number}
 use Rattle.hcl_syntax.proofs.class.lookahead_at.Goals as goal
 

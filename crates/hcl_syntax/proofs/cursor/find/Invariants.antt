@@ -1,5 +1,5 @@
 use Rattle.std.proofs.Common.{length, drop, ◌-◌, ◌≡◌, ◌≤◌}
-use Rattle.hcl_syntax.specs.Classes.{lookaheads_from}
+use Rattle.hcl_grammar.specs.Classes.{lookaheads_from}
 use Rattle.hcl_syntax.specs.Inner.Cursors.{shown}
 use Rattle.hcl_syntax.proofs.cursor.find.Given as goal
 

@@ -1,5 +1,5 @@
 use Rattle.std.proofs.Common.{length, drop, ◌-◌, ◌≡◌, ◌≤◌}
-use Rattle.hcl_syntax.specs.Classes.{lookaheads_from}
+use Rattle.hcl_grammar.specs.Classes.{lookaheads_from}
 use Rattle.hcl_syntax.proofs.cursor.past.Given as goal
 
 abbrev pub invariant-loop-number : goal.invariant-loop-number

@@ -1,5 +1,5 @@
 use Rattle.std.proofs.Common.{◌∙◌, ap, ap₂, ◌++◌}
-use Rattle.hcl_syntax.specs.Items.{outline}
+use Rattle.hcl_grammar.specs.Items.{outline}
 use Rattle.hcl_syntax.specs.Inner.Pieces.{items_at, words}
 use Rattle.hcl_syntax.proofs.OutlineLemmas.{outline_is}
 use Rattle.hcl_syntax.proofs.outlining.outline.Goals as goal

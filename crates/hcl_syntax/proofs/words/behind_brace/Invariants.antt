@@ -1,6 +1,6 @@
 use Rattle.std.proofs.Common.{◌≡◌}
 use Rattle.hcl_syntax.specs.Inner.Pieces.{words}
-use Rattle.hcl_syntax.specs.Items.{behind_brace}
+use Rattle.hcl_grammar.specs.Items.{behind_brace}
 use Rattle.hcl_syntax.proofs.words.behind_brace.Given as goal
 
 abbrev pub invariant-loop-number : goal.invariant-loop-number

@@ -1,6 +1,6 @@
 use Rattle.std.proofs.Common.{◌≡◌}
 use Rattle.hcl_syntax.specs.Inner.Pieces.{words}
-use Rattle.hcl_syntax.specs.Items.{closing_quote}
+use Rattle.hcl_grammar.specs.Items.{closing_quote}
 use Rattle.hcl_syntax.proofs.words.closing_quote.Given as goal
 
 abbrev pub invariant-loop-number : goal.invariant-loop-number

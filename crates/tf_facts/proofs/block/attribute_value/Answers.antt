@@ -1,5 +1,5 @@
 use Rattle.std.proofs.Common.{◌∙◌, sym}
-use Rattle.hcl_syntax.specs.Numbered.{numbered}
+use Rattle.hcl_grammar.specs.Numbered.{numbered}
 use Rattle.tf_facts.proofs.BodyLemmas.{value_here, value_no_more, value_past}
 use Rattle.tf_facts.proofs.block.attribute_value.Goals as goal
 

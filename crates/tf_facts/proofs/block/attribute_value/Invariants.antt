@@ -1,5 +1,5 @@
 use Rattle.std.proofs.Common.{◌≡◌, drop}
-use Rattle.hcl_syntax.specs.Numbered.{numbered}
+use Rattle.hcl_grammar.specs.Numbered.{numbered}
 use Rattle.tf_facts.specs.Declarations.{attributes_in}
 use Rattle.tf_facts.proofs.BodyLemmas.{first_value}
 use Rattle.tf_facts.proofs.block.attribute_value.Given as goal

@@ -1,5 +1,5 @@
 use Rattle.std.proofs.Common.{◌∙◌, sym}
-use Rattle.hcl_syntax.specs.Numbered.{numbered}
+use Rattle.hcl_grammar.specs.Numbered.{numbered}
 use Rattle.tf_facts.proofs.BodyLemmas.{has_here, has_no_more, has_past}
 use Rattle.tf_facts.proofs.block.has_attribute.Goals as goal
 

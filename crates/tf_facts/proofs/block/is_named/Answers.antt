@@ -1,10 +1,10 @@
 use Rattle.std.proofs.Common.{◌≡◌, ◌<◌, sym, subst, [], length, eq-eqb}
 use Rattle.std.specs.Prelude.{Some, slice_get}
 use Rattle.hcl_scan.specs.Scanned.{Scanned, lexeme}
-use Rattle.hcl_syntax.specs.Items.{outline}
-use Rattle.hcl_syntax.specs.Numbered.{numbered}
-use Rattle.hcl_syntax.specs.declared.item.Item.{Item}
-use Rattle.hcl_syntax.specs.declared.item.Item.TheVariants as item
+use Rattle.hcl_grammar.specs.Items.{outline}
+use Rattle.hcl_grammar.specs.Numbered.{numbered}
+use Rattle.hcl_grammar.specs.declared.item.Item.{Item}
+use Rattle.hcl_grammar.specs.declared.item.Item.TheVariants as item
 use Rattle.tf_facts.specs.Declarations.{attribute, has, with_attribute}
 use Rattle.tf_facts.proofs.BodyLemmas.{begins_within, named_is}
 use Rattle.tf_facts.proofs.block.is_named.Goals as goal

@@ -1,8 +1,8 @@
 use Rattle.std.proofs.Common.{◌∙◌, ap, sym, List, ◌∷◌, ◌+◌, drop}
 use Rattle.std.specs.Prelude.{slice_get}
-use Rattle.hcl_syntax.specs.Numbered.{numbered}
-use Rattle.hcl_syntax.specs.declared.item.Item.{Item}
-use Rattle.hcl_syntax.specs.declared.item.Item.TheVariants as item
+use Rattle.hcl_grammar.specs.Numbered.{numbered}
+use Rattle.hcl_grammar.specs.declared.item.Item.{Item}
+use Rattle.hcl_grammar.specs.declared.item.Item.TheVariants as item
 use Rattle.tf_facts.specs.Declarations.{labels_in}
 use Rattle.tf_facts.proofs.BodyLemmas.{begins_within, labels_here}
 use Rattle.tf_facts.proofs.block.label_at.Goals as goal

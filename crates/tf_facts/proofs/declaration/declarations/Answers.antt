@@ -1,5 +1,5 @@
 use Rattle.std.proofs.Common.{arith}
-use Rattle.hcl_syntax.specs.Numbered.{numbered}
+use Rattle.hcl_grammar.specs.Numbered.{numbered}
 use Rattle.tf_facts.proofs.DeclarationLemmas.{declared_more}
 use Rattle.tf_facts.proofs.declaration.declarations.Goals as goal
 

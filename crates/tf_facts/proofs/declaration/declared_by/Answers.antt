@@ -1,6 +1,6 @@
 use Rattle.std.proofs.Common.{◌≡◌, ◌∙◌, ap, sym, refl, drop, length, arith, eqb-true}
 use Rattle.std.specs.Option.{option_map}
-use Rattle.hcl_syntax.specs.Numbered.{numbered}
+use Rattle.hcl_grammar.specs.Numbered.{numbered}
 use Rattle.tf_facts.specs.Declarations.{attributes_in, labels_in}
 use Rattle.tf_facts.specs.Inner.FoundViews.{declarer_of}
 use Rattle.tf_facts.proofs.DeclarationLemmas.{declares_one, texts_are}

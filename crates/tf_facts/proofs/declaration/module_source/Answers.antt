@@ -3,8 +3,8 @@ use Rattle.std.specs.Prelude.{Some, codes, find}
 use Rattle.std.specs.Option.{option_map}
 use Rattle.std.specs.Str.{bytes_eq}
 use Rattle.hcl_scan.specs.Scanned.{Scanned}
-use Rattle.hcl_syntax.specs.Numbered.{numbered}
-use Rattle.hcl_syntax.specs.declared.item.Item.{Item}
+use Rattle.hcl_grammar.specs.Numbered.{numbered}
+use Rattle.hcl_grammar.specs.declared.item.Item.{Item}
 use Rattle.tf_facts.specs.Declarations.{attributes_in, plain_text}
 use Rattle.tf_facts.specs.Sources.{source_of}
 use Rattle.tf_facts.specs.Inner.Values.{plain_text_of, value_of_attribute, values}

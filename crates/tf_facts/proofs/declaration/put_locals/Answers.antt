@@ -1,5 +1,5 @@
 use Rattle.std.proofs.Common.{◌∙◌, ◌++◌, ap, map, sym}
-use Rattle.hcl_syntax.specs.Numbered.{numbered}
+use Rattle.hcl_grammar.specs.Numbered.{numbered}
 use Rattle.tf_facts.specs.Found.{declaration}
 use Rattle.tf_facts.proofs.DeclarationLemmas.{locals_more, locals_over}
 use Rattle.tf_facts.proofs.declaration.put_locals.Goals as goal

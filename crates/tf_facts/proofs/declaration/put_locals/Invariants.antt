@@ -1,4 +1,4 @@
-use Rattle.hcl_syntax.specs.Numbered.{numbered}
+use Rattle.hcl_grammar.specs.Numbered.{numbered}
 use Rattle.tf_facts.proofs.DeclarationLemmas.{AreLocals}
 use Rattle.tf_facts.proofs.declaration.put_locals.Given as goal
 

@@ -1,8 +1,8 @@
 use Rattle.std.proofs.Common.{◌≡◌, ap, sym, subst}
 use Rattle.hcl_scan.specs.Scanned.{Scanned, lexeme}
-use Rattle.hcl_syntax.specs.Numbered.{numbered}
-use Rattle.hcl_syntax.specs.Labels.{first_text, text_of}
-use Rattle.hcl_syntax.proofs.WordLemmas.{numbered_here}
+use Rattle.hcl_grammar.specs.Numbered.{numbered}
+use Rattle.hcl_grammar.specs.Labels.{first_text, text_of}
+use Rattle.hcl_grammar.proofs.NumberedLemmas.{numbered_here}
 use Rattle.tf_facts.proofs.declaration.word_at.Goals as goal
 
 pub returns : goal.returns

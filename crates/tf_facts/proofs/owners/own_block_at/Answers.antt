@@ -1,8 +1,8 @@
 use Rattle.std.proofs.Common.{◌∙◌, ap, sym, List, arith}
 use Rattle.std.specs.Prelude.{slice_get}
-use Rattle.hcl_syntax.specs.Numbered.{numbered}
-use Rattle.hcl_syntax.specs.declared.item.Item.{Item}
-use Rattle.hcl_syntax.specs.declared.item.Item.TheVariants as item
+use Rattle.hcl_grammar.specs.Numbered.{numbered}
+use Rattle.hcl_grammar.specs.declared.item.Item.{Item}
+use Rattle.hcl_grammar.specs.declared.item.Item.TheVariants as item
 use Rattle.tf_facts.specs.Inner.FoundViews.{listed}
 use Rattle.tf_facts.proofs.BodyLemmas.{begins_within}
 use Rattle.tf_facts.proofs.OwnerLemmas.{closed_at, owner_none}

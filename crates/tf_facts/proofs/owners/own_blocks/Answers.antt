@@ -1,5 +1,5 @@
 use Rattle.std.proofs.Common.{◌∙◌, ap, sym, subst, List, arith}
-use Rattle.hcl_syntax.specs.Numbered.{numbered}
+use Rattle.hcl_grammar.specs.Numbered.{numbered}
 use Rattle.tf_facts.specs.OwnBlocks.{Apart}
 use Rattle.tf_facts.specs.References.{Own, own_of_items}
 use Rattle.tf_facts.specs.Inner.FoundViews.{own_listed}

@@ -1,4 +1,4 @@
-use Rattle.hcl_syntax.specs.Numbered.{numbered}
+use Rattle.hcl_grammar.specs.Numbered.{numbered}
 use Rattle.tf_facts.proofs.OwnerLemmas.{AreOwners}
 use Rattle.tf_facts.proofs.owners.own_blocks.Given as goal
 

@@ -12,7 +12,7 @@ use Rattle.hcl_source.specs.Load.{IsText}
 use Rattle.hcl_source.specs.Places.{place}
 use Rattle.hcl_scan.specs.Scans.{Scans}
 use Rattle.hcl_source.specs.declared.fault.FaultKind.{FaultKind}
-use Rattle.hcl_syntax.specs.Verdict.{verdict}
+use Rattle.hcl_grammar.specs.Verdict.{verdict}
 use Rattle.command_line.specs.Rows.{Row}
 use Rattle.tffmt_command.specs.Line.{options_by, options_of, tffmt, usage_of_kind}
 use Rattle.tffmt_command.specs.Answer.{IsAnswerBy, IsFileAnswer, IsTextAnswer, refused, row_by, usage_line}

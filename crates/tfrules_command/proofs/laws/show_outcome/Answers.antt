@@ -8,7 +8,7 @@ use Rattle.hcl_source.specs.Load.{IsText}
 use Rattle.hcl_source.specs.Places.{place}
 use Rattle.hcl_source.specs.declared.fault.Fault.{Fault}
 use Rattle.hcl_source.specs.declared.fault.FaultKind.{FaultKind}
-use Rattle.hcl_syntax.specs.Verdict.{verdict}
+use Rattle.hcl_grammar.specs.Verdict.{verdict}
 use Rattle.tfrules_command.specs.Files.{IsOutcome}
 use Rattle.tfrules_command.specs.Inner.Outcomes.{HasOutcome}
 use Rattle.tfrules_command.proofs.laws.show_outcome.Goals as goal

@@ -1,7 +1,7 @@
 use Rattle.std.proofs.Common.{◌+◌, ◌<◌, ◌≤◌, ◌^◌, [], ◌∷◌, length, Ok, ◌*◌}
-use Rattle.hcl_syntax.specs.Grammar.{◌at◌, expr, after, args, tuple_item, object_item, parts, inside}
+use Rattle.hcl_grammar.specs.Grammar.{◌at◌, expr, after, args, tuple_item, object_item, parts, inside}
 use Rattle.hcl_syntax.specs.Inner.Parsing.{Advances, waits}
-use Rattle.hcl_syntax.specs.declared.expected.Newlines.TheVariants.{Seen, Dropped}
+use Rattle.hcl_grammar.specs.declared.expected.Newlines.TheVariants.{Seen, Dropped}
 use Rattle.hcl_syntax.proofs.cursor.Cursor.+parser.Given as goal
 
 abbrev pub decreases-args : goal.decreases-args

@@ -1,7 +1,7 @@
 use Rattle.std.proofs.Common.{[], ◌∷◌}
-use Rattle.hcl_syntax.specs.declared.expected.Newlines.TheVariants.{Seen}
-use Rattle.hcl_syntax.specs.declared.expected.Terminal.TheVariants.{EndBrace}
-use Rattle.hcl_syntax.specs.Grammar.{◌at◌, the, expr, eol}
+use Rattle.hcl_grammar.specs.declared.expected.Newlines.TheVariants.{Seen}
+use Rattle.hcl_grammar.specs.declared.expected.Terminal.TheVariants.{EndBrace}
+use Rattle.hcl_grammar.specs.Grammar.{◌at◌, the, expr, eol}
 use Rattle.hcl_syntax.proofs.StepLemmas.{onward, beside, quits}
 use Rattle.hcl_syntax.proofs.cursor.Cursor.attribute_line.Goals as goal
 

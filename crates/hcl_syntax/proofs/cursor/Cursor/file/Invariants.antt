@@ -1,7 +1,7 @@
 use Rattle.std.proofs.Common.{[], ◌∷◌, length, Ok, ◌≤◌, ◌<◌, ◌+◌, ◌^◌}
-use Rattle.hcl_syntax.specs.Grammar.{◌at◌, file}
+use Rattle.hcl_grammar.specs.Grammar.{◌at◌, file}
 use Rattle.hcl_syntax.specs.Inner.Parsing.{Advances, bodies}
-use Rattle.hcl_syntax.specs.declared.expected.Newlines.TheVariants.{Seen}
+use Rattle.hcl_grammar.specs.declared.expected.Newlines.TheVariants.{Seen}
 use Rattle.hcl_syntax.proofs.cursor.Cursor.file.Given as goal
 
 abbrev pub invariant-loop-token : goal.invariant-loop-token

@@ -1,6 +1,6 @@
 use Rattle.std.proofs.Common.{refl, [], ◌∷◌}
-use Rattle.hcl_syntax.specs.declared.expected.Newlines.TheVariants.{Seen}
-use Rattle.hcl_syntax.specs.Grammar.{◌at◌, eol, labels, rest}
+use Rattle.hcl_grammar.specs.declared.expected.Newlines.TheVariants.{Seen}
+use Rattle.hcl_grammar.specs.Grammar.{◌at◌, eol, labels, rest}
 use Rattle.hcl_syntax.proofs.StepLemmas.{reading, onward, beside, quits, done, alike, rest-equals, rest-else}
 use Rattle.hcl_syntax.proofs.cursor.Cursor.item.Goals as goal
 

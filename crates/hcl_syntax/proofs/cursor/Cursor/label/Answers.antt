@@ -1,7 +1,7 @@
 use Rattle.std.proofs.Common.{rules, refl, [], ◌∷◌}
-use Rattle.hcl_syntax.specs.declared.expected.Newlines.TheVariants.{Seen}
-use Rattle.hcl_syntax.specs.declared.expected.Terminal.TheVariants.{EndQuote}
-use Rattle.hcl_syntax.specs.Grammar.{◌at◌, the}
+use Rattle.hcl_grammar.specs.declared.expected.Newlines.TheVariants.{Seen}
+use Rattle.hcl_grammar.specs.declared.expected.Terminal.TheVariants.{EndQuote}
+use Rattle.hcl_grammar.specs.Grammar.{◌at◌, the}
 use Rattle.hcl_syntax.proofs.LookaheadLemmas.{shown-again}
 use Rattle.hcl_syntax.proofs.StepLemmas.{looks, reading, vanishing, refusing, refusing-end, onward, beside, failed, done}
 use Rattle.hcl_syntax.proofs.cursor.Cursor.label.Goals as goal

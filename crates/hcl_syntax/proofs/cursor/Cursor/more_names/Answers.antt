@@ -1,7 +1,7 @@
 use Rattle.std.proofs.Common.{refl, [], ◌∷◌}
-use Rattle.hcl_syntax.specs.declared.expected.Newlines.TheVariants.{Dropped}
-use Rattle.hcl_syntax.specs.declared.expected.Terminal.TheVariants.{Name, InWord, CommaSign}
-use Rattle.hcl_syntax.specs.Grammar.{◌at◌, the}
+use Rattle.hcl_grammar.specs.declared.expected.Newlines.TheVariants.{Dropped}
+use Rattle.hcl_grammar.specs.declared.expected.Terminal.TheVariants.{Name, InWord, CommaSign}
+use Rattle.hcl_grammar.specs.Grammar.{◌at◌, the}
 use Rattle.hcl_syntax.proofs.StepLemmas.{reading, onward, beside, quits, done, begins, the-stays, names-in, names-else}
 use Rattle.hcl_syntax.proofs.cursor.Cursor.more_names.Goals as goal
 

@@ -1,6 +1,6 @@
 use Rattle.std.proofs.Common.{[], ◌∷◌}
-use Rattle.hcl_syntax.specs.declared.expected.Newlines.TheVariants.{Dropped}
-use Rattle.hcl_syntax.specs.Grammar.{◌at◌, names}
+use Rattle.hcl_grammar.specs.declared.expected.Newlines.TheVariants.{Dropped}
+use Rattle.hcl_grammar.specs.Grammar.{◌at◌, names}
 use Rattle.hcl_syntax.proofs.StepLemmas.{onward, beside, quits}
 use Rattle.hcl_syntax.proofs.cursor.Cursor.names.Goals as goal
 

@@ -1,5 +1,5 @@
 use Rattle.std.proofs.Common.{rules, arith, refl, [], ◌∷◌}
-use Rattle.hcl_syntax.specs.Grammar.{◌at◌, path}
+use Rattle.hcl_grammar.specs.Grammar.{◌at◌, path}
 use Rattle.hcl_syntax.proofs.StepLemmas.{looks, reading, refusing, refusing-end, onward, beside, quits, done}
 use Rattle.hcl_syntax.proofs.cursor.Cursor.path.Goals as goal
 

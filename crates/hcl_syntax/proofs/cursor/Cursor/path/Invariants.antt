@@ -1,6 +1,6 @@
 use Rattle.std.proofs.Common.{ℕ, [], ◌∷◌, length, Ok, ◌≤◌}
-use Rattle.hcl_syntax.specs.declared.expected.Terminal.TheVariants.{Name}
-use Rattle.hcl_syntax.specs.Grammar.{◌at◌, the, path}
+use Rattle.hcl_grammar.specs.declared.expected.Terminal.TheVariants.{Name}
+use Rattle.hcl_grammar.specs.Grammar.{◌at◌, the, path}
 use Rattle.hcl_syntax.specs.Inner.Parsing.{Advances}
 use Rattle.hcl_syntax.proofs.cursor.Cursor.path.Given as goal
 

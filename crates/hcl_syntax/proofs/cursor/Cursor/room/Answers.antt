@@ -1,5 +1,5 @@
 use Rattle.std.proofs.Common.{arith, length-drop, drop, length, ap, ◌≤◌}
-use Rattle.hcl_syntax.specs.Classes.{lookaheads_from}
+use Rattle.hcl_grammar.specs.Classes.{lookaheads_from}
 use Rattle.hcl_syntax.proofs.LookaheadLemmas.{length-lookaheads}
 use Rattle.hcl_syntax.proofs.cursor.Cursor.room.Goals as goal
 

@@ -1,5 +1,5 @@
 use Rattle.std.proofs.Common.{ℕ, [], ◌∷◌, length, Ok, ◌≤◌}
-use Rattle.hcl_syntax.specs.Grammar.{◌at◌, expr}
+use Rattle.hcl_grammar.specs.Grammar.{◌at◌, expr}
 use Rattle.hcl_syntax.specs.Inner.Parsing.{Advances}
 use Rattle.hcl_syntax.proofs.cursor.Cursor.start.Given as goal
 

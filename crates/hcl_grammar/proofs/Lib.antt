@@ -1,0 +1,15 @@
+pub mod OwedLemmas
+pub mod RowLemmas
+pub mod MoveLemmas
+pub mod BalanceLemmas
+pub mod RelationLemmas
+pub mod NumberedLemmas
+pub mod PopLemmas
+pub mod ItemOrderLemmas
+pub mod TopBlockLemmas
+pub mod InnerLemmas
+pub mod TurnLemmas
+pub mod NameLemmas
+pub mod PieceTurnLemmas
+pub mod ReadingLemmas
+pub mod PlainLabelLemmas

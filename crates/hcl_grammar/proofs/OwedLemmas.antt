@@ -1,0 +1,73 @@
+-- What a state of the predictor owes: the openers whose closers its symbols still read, the innermost first. Row by row
+-- this is what the scan has open.
+use Rattle.std.proofs.Common.{◌≡◌, ℕ, List, [], ◌∷◌, ◌++◌}
+use Rattle.hcl_scan.specs.Lexemes.{Opener, Quote, Heredoc, Sequence, Brace, Bracket, Paren}
+use Rattle.hcl_grammar.specs.declared.class.Class.{Class}
+use Rattle.hcl_grammar.specs.declared.class.Class.TheVariants.{HeredocOpen, HeredocClose, QuoteOpen, QuoteClose, InterpOpen, ControlOpen, SeqClose, ParenOpen, ParenClose, BracketOpen, BracketClose, BraceOpen, BraceClose}
+use Rattle.hcl_grammar.specs.declared.expected.Terminal.{Terminal}
+use Rattle.hcl_grammar.specs.declared.expected.Terminal.TheVariants.{EndParen, EndBracket, EndBrace, EndSequence, EndQuote, EndHeredoc}
+use Rattle.hcl_grammar.specs.Grammar.{Symbol, the, start, index, tuple, tuple_next, tuple_item, tuple_if, object, object_next, object_item, group, object_if, args, arg_next, directive, section_directive, Marked, ◌at◌, Action, none, nothing, reads, opens, closes}
+
+abbrev pub awaits : Terminal → List Opener
+awaits EndParen = Paren ∷ []
+awaits EndBracket = Bracket ∷ []
+awaits EndBrace = Brace ∷ []
+awaits EndSequence = Sequence ∷ []
+awaits EndQuote = Quote ∷ []
+awaits EndHeredoc = Heredoc ∷ []
+awaits _ = []
+
+abbrev pub owes : Symbol → List Opener
+owes (the e) = awaits e
+owes start = Brace ∷ []
+owes index = Bracket ∷ []
+owes tuple = Bracket ∷ []
+owes tuple_next = Bracket ∷ []
+owes tuple_item = Bracket ∷ []
+owes tuple_if = Bracket ∷ []
+owes object = Brace ∷ []
+owes object_next = Brace ∷ []
+owes object_item = Brace ∷ []
+owes group = Brace ∷ []
+owes object_if = Brace ∷ []
+owes args = Paren ∷ []
+owes arg_next = Paren ∷ []
+owes (directive n) = Sequence ∷ []
+owes (section_directive e n) = Sequence ∷ []
+owes _ = []
+
+abbrev pub owes_all : List Marked → List Opener
+owes_all [] = []
+owes_all (s at m ∷ ss) = owes s ++ owes_all ss
+
+-- what a token of the class does to what is open
+abbrev pub Shift : Class → List Opener → List Opener → Type 0
+Shift ParenOpen a b = b ≡ Paren ∷ a
+Shift BracketOpen a b = b ≡ Bracket ∷ a
+Shift BraceOpen a b = b ≡ Brace ∷ a
+Shift InterpOpen a b = b ≡ Sequence ∷ a
+Shift ControlOpen a b = b ≡ Sequence ∷ a
+Shift QuoteOpen a b = b ≡ Quote ∷ a
+Shift HeredocOpen a b = b ≡ Heredoc ∷ a
+Shift ParenClose a b = a ≡ Paren ∷ b
+Shift BracketClose a b = a ≡ Bracket ∷ b
+Shift BraceClose a b = a ≡ Brace ∷ b
+Shift SeqClose a b = a ≡ Sequence ∷ b
+Shift QuoteClose a b = a ≡ Quote ∷ b
+Shift HeredocClose a b = a ≡ Heredoc ∷ b
+Shift _ a b = b ≡ a
+
+-- P holds of the number of each directive's `%{` in the state
+abbrev pub HaveNumbers : (ℕ → Type 0) → List Marked → Type 0
+HaveNumbers P [] = Unit {0}
+HaveNumbers P (directive n at m ∷ ss) = P n × HaveNumbers P ss
+HaveNumbers P (section_directive e n at m ∷ ss) = P n × HaveNumbers P ss
+HaveNumbers P (s at m ∷ ss) = HaveNumbers P ss
+
+-- what a row does for a symbol that owes a, at a token of the class
+abbrev pub RowMoves : (ℕ → Type 0) → Action → List Opener → Class → Type 0
+RowMoves P none a c = Unit {0}
+RowMoves P nothing a c = [] ≡ a
+RowMoves P (reads xs) a c = Shift c a (owes_all xs) × HaveNumbers P xs
+RowMoves P (opens n xs) a c = Shift c a (owes_all xs) × HaveNumbers P xs × P n
+RowMoves P (closes xs) a c = Shift c a (owes_all xs) × HaveNumbers P xs

@@ -1,0 +1,5 @@
+use Rattle.hcl_grammar.proofs.BalanceLemmas.{balance}
+use Rattle.hcl_grammar.proofs.laws.balanced.Goals as goal
+
+pub returns : goal.returns
+returns c = balance

@@ -1,0 +1,39 @@
+-- Items in the order of their tokens: what the laws say of an outline. Our own words.
+use Rattle.std.specs.Prelude.{◌≤◌, ◌<◌, ◌+◌, ℕ, max, Bool, true, false, List, [], ◌∷◌}
+use Rattle.hcl_grammar.specs.Items.{is_closed}
+use Rattle.hcl_grammar.specs.declared.item.Item.{Item}
+use Rattle.hcl_grammar.specs.declared.item.Item.TheVariants as item
+
+-- the token with which an item begins
+abbrev pub lead : Item → ℕ
+lead (item.Attribute level name first end) = name
+lead (item.Block level kind end) = kind
+lead (item.Label l) = l.first
+
+-- where the next item may begin: behind the value of an attribute, or the first token of a block or a label
+abbrev pub past : Item → ℕ
+past (item.Attribute level name first end) = end
+past (item.Block level kind end) = kind + 1
+past (item.Label l) = l.first + 1
+
+-- the tokens that an item names are in order, from a number on to before another
+abbrev pub Spans : ℕ → Item → ℕ → Type 0
+Spans from (item.Attribute level name first end) to = (from ≤ name) × (name < first) × (first ≤ end) × (end ≤ to)
+Spans from (item.Block level kind end) to = (from ≤ kind) × (end ≤ to)
+Spans from (item.Label l) to = (from ≤ l.first) × (l.first < to)
+
+-- each begins behind the one before, from a number on to before another, and reaches no further
+abbrev pub Climbs : ℕ → List Item → ℕ → Type 0
+Climbs from [] to = from ≤ to
+Climbs from (i ∷ is) to = Spans from i to × Climbs (past i) is to
+
+abbrev pub Either : Bool → Type 0 → Type 0 → Type 0
+Either true A B = A
+Either false A B = B
+
+-- each top-level block begins behind the end of the one before, from a number on; all end before another
+abbrev pub TopsApart : ℕ → List Item → ℕ → Type 0
+TopsApart from [] to = from ≤ to
+TopsApart from (item.Block level kind end ∷ is) to = Either (is_closed level) ((from ≤ kind) × TopsApart (max kind end) is to) (TopsApart from is to)
+TopsApart from (item.Attribute level name first end ∷ is) to = TopsApart from is to
+TopsApart from (item.Label l ∷ is) to = TopsApart from is to

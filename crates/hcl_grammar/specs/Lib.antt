@@ -1,0 +1,12 @@
+pub mod Classes
+pub mod Grammar
+pub mod Predictor
+pub mod Relation
+pub mod Verdict
+pub mod Numbered
+pub mod Items
+pub mod Labels
+pub mod ItemOrder
+pub mod Examples
+pub mod ItemExamples
+pub mod Inner

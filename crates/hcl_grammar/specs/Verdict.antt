@@ -1,0 +1,35 @@
+-- Which token lists are files, and the one fault of those that are none. Tokens are refused at the first token that has
+-- no row in the grammar's table, or at the end of the text where that has none. Our own choice is the bound on open
+-- directives, with its fault at the `%{` of the first that is too many.
+use Rattle.std.specs.Prelude.{◌≡◌, ℕ, List, Option, Some, None, Result, Ok, Err, map, length, get_or}
+use Rattle.hcl_scan.specs.Lexemes.{Lexeme}
+use Rattle.hcl_scan.specs.Scanned.{Scanned}
+use Rattle.hcl_source.specs.Places.{place}
+use Rattle.hcl_source.specs.declared.fault.Fault.{Fault}
+use Rattle.hcl_source.specs.declared.fault.FaultKind.TheVariants as fault
+use Rattle.hcl_grammar.specs.declared.refusal.Refusal.{Refusal}
+use Rattle.hcl_grammar.specs.declared.refusal.Refusal.TheVariants.{UnexpectedToken, UnexpectedEnd, TooDeep}
+use Rattle.hcl_grammar.specs.Classes.{lookaheads}
+use Rattle.hcl_grammar.specs.Predictor.{refusal_of}
+
+-- the tokens are a file
+abbrev pub IsAccepted : List Lexeme → Type 0
+IsAccepted tokens = refusal_of (lookaheads tokens) ≡ None
+
+-- the offset at which the token of this number begins
+abbrev pub start_of : List Lexeme → ℕ → ℕ
+start_of tokens n = get_or (map (λ t. t.start) tokens) n 0
+
+-- the fault that a refusal of a source's tokens is reported as
+abbrev pub fault_at : Scanned → Refusal → Fault
+fault_at s (UnexpectedToken n) = record { kind = fault.UnexpectedToken; at = place s.text (start_of s.tokens n) }
+fault_at s UnexpectedEnd = record { kind = fault.UnexpectedEnd; at = place s.text (length s.text) }
+fault_at s (TooDeep n) = record { kind = fault.TooDeep; at = place s.text (start_of s.tokens n) }
+
+abbrev pub verdict_by : Scanned → Option Refusal → Result Scanned Fault
+verdict_by s None = Ok s
+verdict_by s (Some r) = Err (fault_at s r)
+
+-- the tokens of a source, where they are a file, and else their one fault
+abbrev pub verdict : Scanned → Result Scanned Fault
+verdict s = verdict_by s (refusal_of (lookaheads s.tokens))

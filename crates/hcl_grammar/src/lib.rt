@@ -1,0 +1,25 @@
+//! What the second layer of the front end for HCL native syntax is about: which token lists are files, what items a file
+//! holds, and the types that say so.
+//!
+//! The grammar and the outline stand in the definitions. Here are the words that they are written in, a file's tokens as
+//! [`Accepted`] and its items as [`Outline`], so that who reads items waits for no parser. `hcl_syntax` finds both, and
+//! hands on what callers need.
+#![tactic(auto)]
+
+mod accepted;
+mod class;
+mod entry;
+mod expected;
+mod item;
+mod item_list;
+mod label;
+pub mod laws;
+mod refusal;
+
+pub use accepted::Accepted;
+pub use class::{Class, Lookahead, Word};
+pub use expected::{Newlines, Section, Terminal};
+pub use item::{Item, Label};
+pub use item_list::Outline;
+pub use label::label_text;
+pub use refusal::Refusal;

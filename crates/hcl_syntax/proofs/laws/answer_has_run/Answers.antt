@@ -1,5 +1,0 @@
-use Rattle.hcl_syntax.proofs.RelationLemmas.{answers}
-use Rattle.hcl_syntax.proofs.laws.answer_has_run.Goals as goal
-
-pub returns : goal.returns
-returns c = λ ts. answers 0 _ ts
