@@ -1,13 +1,13 @@
 -- Accepted tokens of a scan are balanced.
 use Rattle.std.proofs.Common.{◌≡◌, ℕ, ◌+◌, ◌≤◌, List, [], ◌∷◌, ◌++◌, length, arith, subst, sym, ap, ◌∙◌}
-use Rattle.hcl_scan.specs.Lexemes.{Lexeme, Opener, Quote, Heredoc, moved, opened}
-use Rattle.hcl_scan.specs.Scans.{Scans}
-use Rattle.hcl_scan.specs.declared.token.Kind.{Kind}
-use Rattle.hcl_scan.specs.declared.token.Kind.TheVariants.{ParenOpen, ParenClose, BracketClose, SeqClose, BraceClose, QuoteClose, HeredocClose}
-use Rattle.hcl_scan.proofs.RunLemmas.{scan_bounded}
+use Rattle.hcl_tokens.specs.Lexemes.{Lexeme, Opener, Quote, Heredoc, moved, opened}
+use Rattle.hcl_tokens.specs.Scans.{Scans}
+use Rattle.hcl_tokens.specs.declared.token.Kind.{Kind}
+use Rattle.hcl_tokens.specs.declared.token.Kind.TheVariants.{ParenOpen, ParenClose, BracketClose, SeqClose, BraceClose, QuoteClose, HeredocClose}
+use Rattle.hcl_tokens.proofs.RunLemmas.{scan_bounded}
 use Rattle.hcl_grammar.specs.Classes.{class_at}
 use Rattle.hcl_grammar.specs.Verdict.{IsAccepted}
-use Rattle.hcl_scan.specs.Balanced.{max_open, opening, closing, openers, closers, IsWithin, IsBalanced}
+use Rattle.hcl_tokens.specs.Balanced.{max_open, opening, closing, openers, closers, IsWithin, IsBalanced}
 use Rattle.hcl_grammar.proofs.OwedLemmas.{Shift}
 use Rattle.hcl_grammar.proofs.MoveLemmas.{Shifts, accepted-shifts}
 

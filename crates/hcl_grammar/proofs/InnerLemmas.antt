@@ -2,7 +2,7 @@
 -- and templates are read, only where a closer is owed.
 use Rattle.std.proofs.Common.{◌≡◌, ◌⊎◌, inl, inr, ℕ, ◌+◌, nat_lt, Bool, true, false, cond, List, [], ◌∷◌, ◌++◌, length, arith, refl, sym, ap, subst, ◌∙◌, append_assoc, true≢false}
 use Rattle.std.specs.Prelude.{◌||◌, ◌-◌, None, Some}
-use Rattle.hcl_scan.specs.Lexemes.{Opener}
+use Rattle.hcl_tokens.specs.Lexemes.{Opener}
 use Rattle.hcl_grammar.specs.declared.class.Class.{Class}
 use Rattle.hcl_grammar.specs.declared.class.Class.TheVariants.{Newline, Ident, Number, HeredocOpen, HeredocClose, QuoteOpen, QuoteClose, Lit, InterpOpen, ControlOpen, ParenOpen, ParenClose, BracketOpen, BracketClose, BraceOpen, BraceClose, Dot, Comma, Ellipsis, Question, Colon, ColonColon, Assign, Not, Minus, Star, Binary}
 use Rattle.hcl_grammar.specs.declared.class.Word.TheVariants.{For, In, If, Else, Endif, Endfor}

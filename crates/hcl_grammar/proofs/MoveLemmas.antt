@@ -1,6 +1,6 @@
 -- What the predictor owes over whole runs, and which numbers its refusals and symbols have.
 use Rattle.std.proofs.Common.{◌≡◌, ℕ, ◌+◌, nat_lt, Bool, true, false, cond, List, [], ◌∷◌, ◌++◌, Some, None, refl, subst, sym}
-use Rattle.hcl_scan.specs.Lexemes.{Lexeme, Opener}
+use Rattle.hcl_tokens.specs.Lexemes.{Lexeme, Opener}
 use Rattle.hcl_grammar.specs.declared.class.Class.{Class}
 use Rattle.hcl_grammar.specs.declared.class.Class.TheVariants.{Newline, Trivia}
 use Rattle.hcl_grammar.specs.declared.class.Lookahead.{Lookahead}

@@ -2,9 +2,9 @@
 use Rattle.std.proofs.Common.{◌≡◌, ◌⊎◌, inl, inr, ℕ, ◌+◌, Bool, true, false, cond, not, List, [], ◌∷◌, drop, refl, sym, ap, subst, ◌∙◌, true≢false}
 use Rattle.std.specs.Prelude.{◌&&◌, ◌||◌, Some, None}
 use Rattle.std.proofs.lemmas.List.{drop-drop}
-use Rattle.hcl_scan.specs.Kinds.{is}
-use Rattle.hcl_scan.specs.declared.token.Kind.{Kind}
-use Rattle.hcl_scan.specs.declared.token.Kind.TheVariants as kind
+use Rattle.hcl_tokens.specs.Kinds.{is}
+use Rattle.hcl_tokens.specs.declared.token.Kind.{Kind}
+use Rattle.hcl_tokens.specs.declared.token.Kind.TheVariants as kind
 use Rattle.hcl_grammar.specs.Classes.{class_at, drops, is_trivia}
 use Rattle.hcl_grammar.specs.Grammar.{Symbol, the, after, after_ident, step, section_directive, Marked, ◌at◌, none, reads, row_of, fits}
 use Rattle.hcl_grammar.specs.Numbered.{Numbered, is_comment, is_passed_over, significant, uncommented}

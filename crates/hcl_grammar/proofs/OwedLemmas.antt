@@ -1,7 +1,7 @@
 -- What a state of the predictor owes: the openers whose closers its symbols still read, the innermost first. Row by row
 -- this is what the scan has open.
 use Rattle.std.proofs.Common.{◌≡◌, ℕ, List, [], ◌∷◌, ◌++◌}
-use Rattle.hcl_scan.specs.Lexemes.{Opener, Quote, Heredoc, Sequence, Brace, Bracket, Paren}
+use Rattle.hcl_tokens.specs.Lexemes.{Opener, Quote, Heredoc, Sequence, Brace, Bracket, Paren}
 use Rattle.hcl_grammar.specs.declared.class.Class.{Class}
 use Rattle.hcl_grammar.specs.declared.class.Class.TheVariants.{HeredocOpen, HeredocClose, QuoteOpen, QuoteClose, InterpOpen, ControlOpen, SeqClose, ParenOpen, ParenClose, BracketOpen, BracketClose, BraceOpen, BraceClose}
 use Rattle.hcl_grammar.specs.declared.expected.Terminal.{Terminal}

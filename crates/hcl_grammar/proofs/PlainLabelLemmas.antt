@@ -1,8 +1,8 @@
 -- Between the quotes of a label stands nothing, or one literal; and labels and the names of attributes stand beside no dot.
 use Rattle.std.proofs.Common.{◌≡◌, ℕ, zero, suc, ◌+◌, ◌-◌, ◌<◌, List, [], ◌∷◌, length, arith, refl, subst, inl}
 use Rattle.std.specs.Prelude.{Some, None, slice_get, not}
-use Rattle.hcl_scan.specs.Lexemes.{Lexeme}
-use Rattle.hcl_scan.specs.Scans.{Scans}
+use Rattle.hcl_tokens.specs.Lexemes.{Lexeme}
+use Rattle.hcl_tokens.specs.Scans.{Scans}
 use Rattle.hcl_grammar.specs.Items.{outline, pieces}
 use Rattle.hcl_grammar.specs.Labels.{IsAsWritten, label_text, quoted}
 use Rattle.hcl_grammar.specs.Numbered.{Numbered, is_comment, numbered, uncommented}

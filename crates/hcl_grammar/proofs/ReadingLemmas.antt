@@ -2,15 +2,15 @@
 use Rattle.std.proofs.Common.{◌≡◌, inl, inr, ℕ, zero, suc, ◌+◌, Bool, true, false, cond, not, List, [], ◌∷◌, ◌++◌, drop, arith, refl, sym, ap, subst, ◌∙◌, true≢false}
 use Rattle.std.specs.Prelude.{◌&&◌, Option, Some, None}
 use Rattle.std.proofs.lemmas.List.{drop-drop}
-use Rattle.hcl_scan.specs.Kinds.{is}
-use Rattle.hcl_scan.specs.Lexemes.{Lexeme, Opener, Quote, Heredoc, Sequence, Brace, Bracket, Paren, in_heredoc, moved}
-use Rattle.hcl_scan.specs.Scans.{State, Next, Scans, begin}
-use Rattle.hcl_scan.specs.Scans as scan
-use Rattle.hcl_scan.specs.Spelling.{IsSpelling, IsTemplateText, IsTextIn, context}
-use Rattle.hcl_scan.specs.declared.token.Kind.{Kind}
-use Rattle.hcl_scan.specs.declared.token.Kind.TheVariants as kind
-use Rattle.hcl_scan.proofs.KindPlaceLemmas.{in_expressions}
-use Rattle.hcl_scan.specs.Balanced.{opening, closing, is_closer}
+use Rattle.hcl_tokens.specs.Kinds.{is}
+use Rattle.hcl_tokens.specs.Lexemes.{Lexeme, Opener, Quote, Heredoc, Sequence, Brace, Bracket, Paren, in_heredoc, moved}
+use Rattle.hcl_tokens.specs.Scans.{State, Next, Scans, begin}
+use Rattle.hcl_tokens.specs.Scans as scan
+use Rattle.hcl_tokens.specs.Spelling.{IsSpelling, IsTemplateText, IsTextIn, context}
+use Rattle.hcl_tokens.specs.declared.token.Kind.{Kind}
+use Rattle.hcl_tokens.specs.declared.token.Kind.TheVariants as kind
+use Rattle.hcl_tokens.proofs.ExpressionKindLemmas.{in_expressions}
+use Rattle.hcl_tokens.specs.Balanced.{opening, closing, is_closer}
 use Rattle.hcl_grammar.specs.Classes.{class_at, class_of, is_trivia, lookaheads_from}
 use Rattle.hcl_grammar.specs.Items.{deepen, is_closed}
 use Rattle.hcl_grammar.specs.Numbered.{Numbered, is_comment, is_passed_over, numbered, numbered_from, uncommented}

@@ -2,11 +2,11 @@
 -- leads no other way.
 use Rattle.std.proofs.Common.{◌≡◌, ◌⊎◌, inl, inr, ℕ, zero, suc, ◌+◌, ◌≤◌, Bool, true, false, cond, arith, refl, sym, subst, ◌∙◌, true≢false}
 use Rattle.std.specs.Prelude.{◌&&◌, Option, Some, None}
-use Rattle.hcl_scan.specs.declared.token.Kind.{Kind}
-use Rattle.hcl_scan.specs.declared.token.Kind.TheVariants as kind
-use Rattle.hcl_scan.specs.Balanced.{closing, is_closer}
+use Rattle.hcl_tokens.specs.declared.token.Kind.{Kind}
+use Rattle.hcl_tokens.specs.declared.token.Kind.TheVariants as kind
+use Rattle.hcl_tokens.specs.Balanced.{closing, is_closer}
 use Rattle.hcl_grammar.specs.Items.{deepen, is_closed}
-use Rattle.hcl_scan.specs.Kinds.{is}
+use Rattle.hcl_tokens.specs.Kinds.{is}
 
 -- where a reader stands: at the begin of a line; among the labels, where an `=` may come yet or not; behind a label's
 -- quote, and behind its literal; behind a block's brace, and behind the name there; in the value there, or of a line,

@@ -1,8 +1,8 @@
 -- Worked examples of items: small files, by computation.
 use Rattle.std.specs.Prelude.{◌≡◌, ℕ, refl, List, [], ◌∷◌, codes, false}
-use Rattle.hcl_scan.specs.Lexemes.{Lexeme}
-use Rattle.hcl_scan.specs.declared.token.Kind.{Kind}
-use Rattle.hcl_scan.specs.declared.token.Kind.TheVariants.{Newline, LineComment, Ident, Number, QuoteOpen, BraceOpen, BraceClose, Dot, Assign, Lit, QuoteClose, NotEqual}
+use Rattle.hcl_tokens.specs.Lexemes.{Lexeme}
+use Rattle.hcl_tokens.specs.declared.token.Kind.{Kind}
+use Rattle.hcl_tokens.specs.declared.token.Kind.TheVariants.{Newline, LineComment, Ident, Number, QuoteOpen, BraceOpen, BraceClose, Dot, Assign, Lit, QuoteClose, NotEqual}
 use Rattle.hcl_grammar.specs.Items.{outline}
 use Rattle.hcl_grammar.specs.declared.item.Item.TheVariants as item
 

@@ -3,11 +3,11 @@
 -- outside all openers; each piece that is left with a token is one item.
 use Rattle.std.specs.Prelude.{ℕ, suc, zero, ◌+◌, ◌-◌, ◌&&◌, Bool, true, false, List, [], ◌∷◌, ◌++◌, length, filter, nat_lt, if◌then◌else◌}
 use Rattle.std.specs.List.{flat_map}
-use Rattle.hcl_scan.specs.Kinds.{is}
-use Rattle.hcl_scan.specs.declared.token.Kind.TheVariants.{Assign, BraceClose, BraceOpen, Ident, Newline, QuoteClose, QuoteOpen}
-use Rattle.hcl_scan.specs.Lexemes.{Lexeme}
-use Rattle.hcl_scan.specs.declared.token.Kind.{Kind}
-use Rattle.hcl_scan.specs.Balanced.{opening, closing}
+use Rattle.hcl_tokens.specs.Kinds.{is}
+use Rattle.hcl_tokens.specs.declared.token.Kind.TheVariants.{Assign, BraceClose, BraceOpen, Ident, Newline, QuoteClose, QuoteOpen}
+use Rattle.hcl_tokens.specs.Lexemes.{Lexeme}
+use Rattle.hcl_tokens.specs.declared.token.Kind.{Kind}
+use Rattle.hcl_tokens.specs.Balanced.{opening, closing}
 use Rattle.hcl_grammar.specs.Numbered.{Numbered, numbered, uncommented, end_of}
 use Rattle.hcl_grammar.specs.declared.item.Item.{Item}
 use Rattle.hcl_grammar.specs.declared.item.Item.TheVariants as item

@@ -1,8 +1,8 @@
 -- The texts of labels: an identifier, or the literal between the quotes as written, empty where there is none (HCL Native
 -- Syntax Specification, "Structural Elements", on the labels of blocks; escapes are kept, which is our own choice).
 use Rattle.std.specs.Prelude.{◌≡◌, ℕ, ◌+◌, ◌-◌, ◌==◌, true, List, [], ◌∷◌, drop, take, if◌then◌else◌}
-use Rattle.hcl_scan.specs.Kinds.{is}
-use Rattle.hcl_scan.specs.declared.token.Kind.TheVariants as kind
+use Rattle.hcl_tokens.specs.Kinds.{is}
+use Rattle.hcl_tokens.specs.declared.token.Kind.TheVariants as kind
 use Rattle.hcl_grammar.specs.Numbered.{Numbered}
 use Rattle.hcl_grammar.specs.declared.item.Label.{Label}
 

@@ -1,10 +1,10 @@
 //! Tokens that are a file.
 
 ghost use Rattle.std.specs.Prelude.{◌≡◌};
-ghost use Rattle.hcl_scan.specs.Balanced.{IsBalanced};
+ghost use Rattle.hcl_tokens.specs.Balanced.{IsBalanced};
 ghost use Rattle.hcl_grammar.specs.Verdict.{IsAccepted};
 
-use hcl_scan::Tokens;
+use hcl_tokens::Tokens;
 use std::marker::Model;
 
 /// Tokens that are a file. `hcl_syntax::accepts` finds out whether they are.
@@ -14,7 +14,7 @@ pub struct Accepted<'t, 's> {
 }
 
 impl<'t, 's> Model for Accepted<'t, 's> {
-    ghost use Rattle.hcl_scan.specs.Scanned.{Scanned};
+    ghost use Rattle.hcl_tokens.specs.Scanned.{Scanned};
     ghost use Rattle.hcl_grammar.specs.Verdict.{IsAccepted};
 
     ghost Value = { Scanned };

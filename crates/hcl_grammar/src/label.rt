@@ -1,14 +1,14 @@
 //! The texts of labels.
 
 ghost use Rattle.std.specs.Prelude.{◌≡◌, ◌<◌, ◌+◌, length, drop};
-ghost use Rattle.hcl_scan.specs.Kinds.{is};
-ghost use Rattle.hcl_scan.specs.declared.token.Kind.TheVariants.{Lit};
+ghost use Rattle.hcl_tokens.specs.Kinds.{is};
+ghost use Rattle.hcl_tokens.specs.declared.token.Kind.TheVariants.{Lit};
 ghost use Rattle.hcl_grammar.specs.Labels.{first_literal, label_text};
 ghost use Rattle.hcl_grammar.specs.Numbered.{numbered};
 
 use crate::accepted::Accepted;
 use crate::item::Label;
-use hcl_scan::{Kind, Tokens};
+use hcl_tokens::{Kind, Tokens};
 
 fn is_lit(kind: Kind) -> bool
     ensures { result ≡ is Lit kind }

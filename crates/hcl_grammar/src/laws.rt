@@ -1,8 +1,8 @@
 //! What is proved of the definitions alone. No program calls these functions: their contracts are the laws.
 
 ghost use Rattle.std.specs.Prelude.{◌≡◌, ◌<◌, ℕ, List, [], ◌∷◌, Option, Some, length, slice_get};
-ghost use Rattle.hcl_scan.specs.Lexemes.{Lexeme};
-ghost use Rattle.hcl_scan.specs.Scans.{Scans};
+ghost use Rattle.hcl_tokens.specs.Lexemes.{Lexeme};
+ghost use Rattle.hcl_tokens.specs.Scans.{Scans};
 ghost use Rattle.hcl_grammar.specs.declared.class.Lookahead.{Lookahead};
 ghost use Rattle.hcl_grammar.specs.declared.expected.Newlines.TheVariants.{Seen};
 ghost use Rattle.hcl_grammar.specs.declared.refusal.Refusal.{Refusal};
@@ -10,7 +10,7 @@ ghost use Rattle.hcl_grammar.specs.Grammar.{file, ◌at◌};
 ghost use Rattle.hcl_grammar.specs.Predictor.{refusal_of};
 ghost use Rattle.hcl_grammar.specs.Relation.{ComesTo};
 ghost use Rattle.hcl_grammar.specs.Verdict.{IsAccepted};
-ghost use Rattle.hcl_scan.specs.Balanced.{IsBalanced};
+ghost use Rattle.hcl_tokens.specs.Balanced.{IsBalanced};
 ghost use Rattle.hcl_grammar.specs.ItemOrder.{Climbs, TopsApart};
 ghost use Rattle.hcl_grammar.specs.Items.{outline};
 ghost use Rattle.hcl_grammar.specs.Labels.{IsAsWritten, label_text, quoted};

@@ -1,9 +1,9 @@
 -- Only no tokens print nothing.
 use Rattle.std.proofs.Common.{◌≡◌, ◌==◌, ◌++◌, ◌<◌, ◌∙◌, ℕ, false, sym, List, [], ◌∷◌, inl, inr, length, ap, arith, refl, replicate, length-append}
 use Rattle.std.proofs.lemmas.Bool.Decides.{nat_tests}
-use Rattle.hcl_scan.specs.Lexemes.{Lexeme, Opener}
-use Rattle.hcl_scan.specs.Scans.{Next, Scans, State, begin}
-use Rattle.hcl_scan.proofs.RunLemmas.{Nonempty}
+use Rattle.hcl_tokens.specs.Lexemes.{Lexeme, Opener}
+use Rattle.hcl_tokens.specs.Scans.{Next, Scans, State, begin}
+use Rattle.hcl_tokens.proofs.RunLemmas.{Nonempty}
 use Rattle.hcl_scan.proofs.SpellingLemmas.{nonempty}
 use Rattle.hcl_layout.specs.Gaps.{gaps}
 use Rattle.hcl_layout.specs.Print.{print, printed}

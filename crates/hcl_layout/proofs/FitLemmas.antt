@@ -2,16 +2,16 @@
 use Rattle.std.proofs.Common.{◌≡◌, ℕ, zero, suc, ◌&&◌, ◌||◌, ◌==◌, not, Bool, true, false, Option, Some, None, inl, inr, refl, sym, ap, subst, ◌∙◌, arith, cond}
 use Rattle.std.specs.Prelude.{if◌then◌else◌}
 use Rattle.std.proofs.lemmas.Bool.Decides.{nat_tests}
-use Rattle.hcl_scan.specs.Lexemes.{Lexeme}
+use Rattle.hcl_tokens.specs.Lexemes.{Lexeme}
 use Rattle.hcl_scan.specs.Neighbours as neighbours
 use Rattle.hcl_scan.specs.Regapped as regapped
 use Rattle.hcl_scan.specs.SideBySide.{Beside, opens_template}
-use Rattle.hcl_scan.specs.declared.token.Kind.{Kind}
-use Rattle.hcl_scan.specs.declared.token.Kind.TheVariants as kind
+use Rattle.hcl_tokens.specs.declared.token.Kind.{Kind}
+use Rattle.hcl_tokens.specs.declared.token.Kind.TheVariants as kind
 use Rattle.hcl_scan.proofs.BooleanLemmas.{or_true}
 use Rattle.hcl_scan.proofs.OtherStepLemmas.{touching}
 use Rattle.hcl_scan.proofs.GapLemmas.{template_touches}
-use Rattle.hcl_scan.specs.Kinds.{is}
+use Rattle.hcl_tokens.specs.Kinds.{is}
 use Rattle.hcl_spacing.specs.Spacing.{stands_before, spaced}
 use Rattle.hcl_layout.specs.Gaps.{blanks}
 use Rattle.hcl_spacing.proofs.SpacingLemmas as rows

@@ -2,7 +2,7 @@
 use Rattle.std.proofs.Common.{◌≡◌, ◌∙◌, ◌+◌, ℕ, zero, suc, Bool, true, false, List, [], ◌∷◌, ◌++◌, Option, Some, None, refl, arith, map, length, length-append}
 use Rattle.std.specs.Prelude.{if◌then◌else◌, slice_set}
 use Rattle.std.specs.List.{flat_map}
-use Rattle.hcl_scan.specs.Lexemes.{Lexeme}
+use Rattle.hcl_tokens.specs.Lexemes.{Lexeme}
 use Rattle.hcl_layout.specs.Lines.{Line, ends_line, lines, onto_line}
 use Rattle.hcl_layout.specs.Levels.{Net, level, levels_after, net_of}
 use Rattle.hcl_layout.specs.Cells.{assign_cell, running_comment, trailing_comment}

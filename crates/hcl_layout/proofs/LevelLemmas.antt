@@ -4,7 +4,7 @@ use Rattle.std.specs.Prelude.{◌&&◌, filter, if◌then◌else◌, nat_lt, sli
 use Rattle.std.proofs.Common.{length-set}
 use Rattle.std.proofs.lemmas.List.{get_or-set_other}
 use Rattle.std.proofs.lemmas.Grind.{get_or-set_at}
-use Rattle.hcl_scan.specs.Balanced.{max_open}
+use Rattle.hcl_tokens.specs.Balanced.{max_open}
 use Rattle.hcl_layout.specs.Levels.{Net, is_above, level, levels_after, no_net, plus, stays_above}
 use Rattle.hcl_layout.specs.Inner.Depths.{Sound, raised, levels_behind}
 

@@ -3,9 +3,9 @@ use Rattle.std.proofs.Common.{◌≡◌, ℕ, zero, suc, ◌≤◌, false, List,
 use Rattle.std.proofs.lemmas.Str.{IsUtf8-append, IsUtf8-nil}
 use Rattle.std.specs.Prelude.{encode_utf8_all}
 use lib.Utf8.{encode}
-use Rattle.hcl_scan.specs.Lexemes.{Lexeme}
+use Rattle.hcl_tokens.specs.Lexemes.{Lexeme}
 use Rattle.hcl_source.specs.Load.{IsText, has_byte_order_mark, max_source}
-use Rattle.hcl_scan.specs.Scans.{Scans}
+use Rattle.hcl_tokens.specs.Scans.{Scans}
 use Rattle.hcl_scan.specs.SideBySide.{AreTexts}
 use Rattle.hcl_scan.proofs.TokenTextLemmas.{texts_are}
 use Rattle.hcl_scan.proofs.ByteOrderMarkLemmas.{unmarked}

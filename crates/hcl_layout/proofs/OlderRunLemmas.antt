@@ -4,9 +4,9 @@ use Rattle.std.proofs.Common.{◌≡◌, ◌≢◌, ℕ, suc, zero, ◌+◌, ◌
 use Rattle.std.specs.Prelude.{nat_lt}
 use Rattle.std.specs.List.{list_all}
 use Rattle.std.proofs.lemmas.Bool.Decides.{nat_tests}
-use Rattle.hcl_scan.specs.Lexemes.{Lexeme}
-use Rattle.hcl_scan.specs.declared.token.Kind.{Kind}
-use Rattle.hcl_scan.specs.declared.token.Kind.TheVariants as kind
+use Rattle.hcl_tokens.specs.Lexemes.{Lexeme}
+use Rattle.hcl_tokens.specs.declared.token.Kind.{Kind}
+use Rattle.hcl_tokens.specs.declared.token.Kind.TheVariants as kind
 use Rattle.hcl_scan.proofs.BooleanLemmas.{and_true}
 use Rattle.hcl_grammar.specs.Classes.{class_at, class_of, drops, is_trivia, lookaheads, lookaheads_from}
 use Rattle.hcl_grammar.specs.declared.class.Class.{Class}
@@ -24,7 +24,7 @@ use Rattle.hcl_grammar.specs.Predictor.{Effect, on, stop, taken, effect, next, r
 use Rattle.hcl_grammar.specs.Relation.{Step, dropped, read, opened, closed, gone, ComesTo, at_end, step as one_step, refused}
 use Rattle.hcl_grammar.specs.Verdict.{IsAccepted}
 use Rattle.hcl_grammar.proofs.RelationLemmas.{answers}
-use Rattle.hcl_scan.specs.Kinds.{is}
+use Rattle.hcl_tokens.specs.Kinds.{is}
 use Rattle.hcl_layout.specs.Older.Rows.{is_path_sign, was_turn, was_run, WasAccepted}
 use Rattle.hcl_layout.proofs.OlderScanLemmas.{Apart, Older, starts_colon}
 

@@ -5,12 +5,12 @@ use Rattle.std.specs.Char.{is_ascii_digit}
 use Rattle.std.specs.List.{list_all, prefix_len}
 use Rattle.std.proofs.lemmas.List.{append-nil}
 use Rattle.std.proofs.lemmas.Bool.Decides.{nat_tests}
-use Rattle.hcl_scan.specs.Lexemes.{Lexeme, Opener, in_heredoc, moved}
-use Rattle.hcl_scan.specs.Spelling.{punctuation, IsPunctuation, IsSpelling, IsExpressionText, context, Expression, is_blank, starts}
-use Rattle.hcl_scan.specs.Scans.{State, begin, ahead, gap_in, has_gaps_in, Leaves, Reads, Closes, Run, IsComplete, Scans}
+use Rattle.hcl_tokens.specs.Lexemes.{Lexeme, Opener, in_heredoc, moved}
+use Rattle.hcl_tokens.specs.Spelling.{punctuation, IsPunctuation, IsSpelling, IsExpressionText, context, Expression, is_blank, starts}
+use Rattle.hcl_tokens.specs.Scans.{State, begin, ahead, gap_in, has_gaps_in, Leaves, Reads, Closes, Run, IsComplete, Scans}
 use Rattle.hcl_scan.specs.SideBySide.{is_coloned}
-use Rattle.hcl_scan.specs.declared.token.Kind.{Kind}
-use Rattle.hcl_scan.specs.declared.token.Kind.TheVariants as kind
+use Rattle.hcl_tokens.specs.declared.token.Kind.{Kind}
+use Rattle.hcl_tokens.specs.declared.token.Kind.TheVariants as kind
 use Rattle.hcl_scan.proofs.BooleanLemmas.{and_true}
 use Rattle.hcl_scan.proofs.CommentLemmas.{or_cases, starts_split}
 use Rattle.hcl_scan.proofs.ContextLemmas.{not_both}
@@ -20,7 +20,7 @@ use Rattle.hcl_scan.proofs.KindPlaceLemmas.{Side, expression, template, side}
 use Rattle.hcl_scan.proofs.TemplateLemmas.{Way, lit, interp, control, quote}
 use Rattle.hcl_scan.proofs.WordLemmas.{begins_word, ident_word}
 use Rattle.hcl_scan.proofs.WayLemmas.{Ways, ways, newline, line_comment, inline_comment, blanks, ident, digits, number, heredoc, seq_close, brace_close, slash, mark, mark_passes}
-use Rattle.hcl_scan.specs.Kinds.{is}
+use Rattle.hcl_tokens.specs.Kinds.{is}
 use Rattle.hcl_layout.specs.Older.Tokens.{WasSpelling, WasRead, WasRun, WasScanned}
 
 abbrev pub starts_colon : List Lexeme → Bool

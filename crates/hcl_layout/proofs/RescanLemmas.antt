@@ -2,15 +2,15 @@
 use Rattle.std.proofs.Common.{◌≡◌, ℕ, suc, ◌&&◌, not, Bool, true, false, List, [], ◌∷◌, ◌++◌, length, replicate, Option, Some, None, refl, sym, ap, subst, ◌∙◌, append_assoc}
 use Rattle.std.specs.Prelude.{if◌then◌else◌}
 use Rattle.std.specs.List.{flat_map}
-use Rattle.hcl_scan.specs.Lexemes.{Lexeme}
-use Rattle.hcl_scan.specs.Scans.{Scans}
+use Rattle.hcl_tokens.specs.Lexemes.{Lexeme}
+use Rattle.hcl_tokens.specs.Scans.{Scans}
 use Rattle.hcl_scan.specs.Regapped.{AllFit, without_gaps, text_with_gaps}
 use Rattle.hcl_scan.specs.SideBySide.{Besides}
-use Rattle.hcl_scan.specs.declared.token.Kind.{Kind}
-use Rattle.hcl_scan.specs.declared.token.Kind.TheVariants as kind
+use Rattle.hcl_tokens.specs.declared.token.Kind.{Kind}
+use Rattle.hcl_tokens.specs.declared.token.Kind.TheVariants as kind
 use Rattle.hcl_scan.proofs.OtherGapLemmas.{other_gaps}
 use Rattle.hcl_scan.proofs.SideBySideLemmas.{besides}
-use Rattle.hcl_scan.specs.Kinds.{is}
+use Rattle.hcl_tokens.specs.Kinds.{is}
 use Rattle.hcl_layout.specs.Lines.{Line, lines, onto_line, ends_line}
 use Rattle.hcl_layout.specs.Gaps.{gaps, line_gaps}
 use Rattle.hcl_layout.specs.Print.{print, printed}

@@ -4,11 +4,11 @@ use Rattle.std.specs.Prelude.{count_by}
 use Rattle.std.specs.List.{flat_map}
 use Rattle.std.proofs.lemmas.Bool.{cases_lt}
 use Rattle.std.proofs.lemmas.List.{length-map}
-use Rattle.hcl_scan.specs.Lexemes.{Lexeme}
+use Rattle.hcl_tokens.specs.Lexemes.{Lexeme}
 use Rattle.hcl_source.specs.Places.{line_of}
-use Rattle.hcl_scan.specs.Scans.{Scans}
+use Rattle.hcl_tokens.specs.Scans.{Scans}
 use Rattle.hcl_scan.proofs.TokenLineLemmas.{line_is}
-use Rattle.hcl_scan.proofs.RunLemmas.{one_scan}
+use Rattle.hcl_tokens.proofs.RunLemmas.{one_scan}
 use Rattle.hcl_scan.proofs.SpellingLemmas.{one_kind, nonempty}
 use Rattle.hcl_grammar.specs.Numbered.{Numbered, numbered, numbered_from}
 use Rattle.hcl_grammar.specs.Verdict.{start_of}

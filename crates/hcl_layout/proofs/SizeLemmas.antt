@@ -1,9 +1,9 @@
 -- The texts of scanned tokens are parts of the source, one behind another, so they are no longer than it.
 use Rattle.std.proofs.Common.{◌≡◌, ◌∙◌, ◌+◌, ◌≤◌, ℕ, suc, zero, List, [], ◌∷◌, length, ap, refl, sym, arith, take, drop, length-append, length-drop, ⊎_elim}
-use Rattle.hcl_scan.specs.Lexemes.{Lexeme, marker_of}
-use Rattle.hcl_scan.specs.Scans.{Closes, Hidden, Next, Reads, Run, Scans, Leaves, State, ahead, begin, gap_len, closer_len}
-use Rattle.hcl_scan.specs.declared.token.Kind.{Kind}
-use Rattle.hcl_scan.specs.declared.token.Kind.TheVariants as kind
+use Rattle.hcl_tokens.specs.Lexemes.{Lexeme, marker_of}
+use Rattle.hcl_tokens.specs.Scans.{Closes, Hidden, Next, Reads, Run, Scans, Leaves, State, ahead, begin, gap_len, closer_len}
+use Rattle.hcl_tokens.specs.declared.token.Kind.{Kind}
+use Rattle.hcl_tokens.specs.declared.token.Kind.TheVariants as kind
 use Rattle.hcl_layout.specs.Inner.LineGaps.{len_with_blanks}
 
 cut_length : (n : ℕ) (xs : List ℕ) → length (take n xs) + length (drop n xs) ≡ length xs

@@ -4,13 +4,13 @@ use Rattle.std.specs.Prelude.{filter, nat_lt, if◌then◌else◌, map, IsTrue}
 use Rattle.std.specs.List.{flat_map}
 use Rattle.std.proofs.lemmas.List.{append-nil, length-replicate}
 use Rattle.std.proofs.lemmas.List.Elements.{filter-append}
-use Rattle.hcl_scan.specs.Lexemes.{Lexeme}
-use Rattle.hcl_scan.specs.declared.token.Kind.{Kind}
+use Rattle.hcl_tokens.specs.Lexemes.{Lexeme}
+use Rattle.hcl_tokens.specs.declared.token.Kind.{Kind}
 use Rattle.hcl_layout.specs.Cells.{assign_cell, running_comment, trailing_comment}
 use Rattle.hcl_grammar.specs.Items.{deepen}
 use Rattle.hcl_layout.specs.Inner.Depths.{net_of_kind, BalancedFrom, Steps, depth_after, fresh, level_at, levels_behind}
 use Rattle.hcl_layout.specs.Gaps.{aligned, aligned_by, align, gaps, indented, line_gaps, plain_gaps, zip_with}
-use Rattle.hcl_scan.specs.Balanced.{is_closer, is_opener, max_open}
+use Rattle.hcl_tokens.specs.Balanced.{is_closer, is_opener, max_open}
 use Rattle.hcl_layout.specs.Levels.{Net, is_above, levels, net_of, no_net, plus}
 use Rattle.hcl_layout.specs.Lines.{Line, ends_line, lines, onto_line}
 use Rattle.hcl_layout.specs.Inner.Stream.{assign_column, assign_widths, assigned, comment_column, comment_widths, commented, leveled, plain}

@@ -1,8 +1,8 @@
 -- The layout at work on small texts, by computation: levels, columns, and blanks.
 use Rattle.std.specs.Prelude.{◌≡◌, ℕ, refl, List, [], ◌∷◌, Some, None, codes, false}
-use Rattle.hcl_scan.specs.Lexemes.{Lexeme}
-use Rattle.hcl_scan.specs.declared.token.Kind.{Kind}
-use Rattle.hcl_scan.specs.declared.token.Kind.TheVariants.{Newline, LineComment, Ident, Number, QuoteOpen, ParenOpen, BracketOpen, BraceOpen, ParenClose, BracketClose, BraceClose, Dot, Comma, Assign, Minus, Lit, InterpOpen, SeqClose, QuoteClose}
+use Rattle.hcl_tokens.specs.Lexemes.{Lexeme}
+use Rattle.hcl_tokens.specs.declared.token.Kind.{Kind}
+use Rattle.hcl_tokens.specs.declared.token.Kind.TheVariants.{Newline, LineComment, Ident, Number, QuoteOpen, ParenOpen, BracketOpen, BraceOpen, ParenClose, BracketClose, BraceClose, Dot, Comma, Assign, Minus, Lit, InterpOpen, SeqClose, QuoteClose}
 use Rattle.hcl_layout.specs.Lines.{Line}
 use Rattle.hcl_layout.specs.Levels.{Net, levels}
 use Rattle.hcl_layout.specs.Cells.{assign_cell, trailing_comment}

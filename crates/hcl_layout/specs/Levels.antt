@@ -2,7 +2,7 @@
 -- more openers than closers, and is open as long as the lines from there on have more openers than closers.
 -- Our own choice, in the style of `terraform fmt`: two openers on one line indent by one level.
 use Rattle.std.specs.Prelude.{◌+◌, ◌&&◌, ℕ, Bool, true, List, [], ◌∷◌, ◌++◌, nat_lt, if◌then◌else◌}
-use Rattle.hcl_scan.specs.Balanced.{closers, openers}
+use Rattle.hcl_tokens.specs.Balanced.{closers, openers}
 use Rattle.hcl_layout.specs.Lines.{Line}
 
 -- so many openers and closers

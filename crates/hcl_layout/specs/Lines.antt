@@ -2,9 +2,9 @@
 -- without a last newline ends in a line without one.
 -- Our own choice: a heredoc's body is kept as it is, so it belongs to the line on which it began.
 use Rattle.std.specs.Prelude.{◌&&◌, Bool, not, List, [], ◌∷◌, if◌then◌else◌}
-use Rattle.hcl_scan.specs.Lexemes.{Lexeme}
-use Rattle.hcl_scan.specs.Kinds.{is}
-use Rattle.hcl_scan.specs.declared.token.Kind.TheVariants as kind
+use Rattle.hcl_tokens.specs.Lexemes.{Lexeme}
+use Rattle.hcl_tokens.specs.Kinds.{is}
+use Rattle.hcl_tokens.specs.declared.token.Kind.TheVariants as kind
 
 abbrev pub Line : Type 0
 Line = List Lexeme

@@ -1,7 +1,7 @@
 -- The tokens of a print: those of which it is made, each where it stands there. Our own words, for the laws that a print
 -- is scanned back to them and printed again as it is.
 use Rattle.std.specs.Prelude.{ℕ, List, [], ◌∷◌}
-use Rattle.hcl_scan.specs.Lexemes.{Lexeme}
+use Rattle.hcl_tokens.specs.Lexemes.{Lexeme}
 use Rattle.hcl_scan.specs.Regapped.{placed}
 use Rattle.hcl_layout.specs.Gaps.{gaps}
 

@@ -16,7 +16,7 @@
 //! Here no sign's column is more than 7, and no comment's more than 7 + 15, so the print has at most 50 bytes for the tokens
 //! with a blank each, 6 for the indents, and 2 * 7 + 2 * 22 for the cells.
 ghost use Rattle.std.specs.Prelude.{◌≡◌, ◌↔◌, ◌<◌, ◌≤◌, ◌+◌, ◌*◌, ◌^◌, ℕ, IsTrue, Some, length, take, drop};
-ghost use Rattle.hcl_scan.specs.Balanced.{max_open};
+ghost use Rattle.hcl_tokens.specs.Balanced.{max_open};
 ghost use Rattle.hcl_layout.specs.Inner.Depths.{BalancedFrom};
 ghost use Rattle.hcl_layout.specs.Inner.Extents.{IsSmall, IsSmallCell, extra_of, no_cell, nothing, with_cell as with_cell_of, with_line as with_line_of, with_lines};
 ghost use Rattle.hcl_layout.specs.Inner.LineGaps.{len_with_blanks};

@@ -1,8 +1,8 @@
 //! The gaps of one line, and the widths before its cells.
 ghost use Rattle.std.specs.Prelude.{◌*◌, ◌≡◌, ◌<◌, ◌≤◌, ◌+◌, ◌-◌, ◌^◌, ℕ, true, None, Some, length, take, drop, option_map, slice_get};
-ghost use Rattle.hcl_scan.specs.Lexemes.{Lexeme};
-ghost use Rattle.hcl_scan.specs.Scanned.{lexeme};
-ghost use Rattle.hcl_scan.specs.Balanced.{max_open};
+ghost use Rattle.hcl_tokens.specs.Lexemes.{Lexeme};
+ghost use Rattle.hcl_tokens.specs.Scanned.{lexeme};
+ghost use Rattle.hcl_tokens.specs.Balanced.{max_open};
 ghost use Rattle.hcl_layout.specs.Gaps.{indent as indent_of, plain_gaps, width as width_of};
 ghost use Rattle.hcl_layout.specs.Inner.Left.{token_before};
 ghost use Rattle.hcl_layout.specs.Inner.LineGaps.{ArePlain, IsKnown, IsUntold, known_place, known_width, len_with_blanks, cell_gap as cell_gap_of, gap_of, gaps_in, given_or, plain_gap as plain_gap_of, plain_of};

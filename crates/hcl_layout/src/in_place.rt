@@ -13,8 +13,8 @@
 //!                                          -                    -         2 > 1: not in place
 //! ```
 ghost use Rattle.std.specs.Prelude.{◌≡◌, ◌<◌, ◌≤◌, ◌+◌, ◌-◌, ◌^◌, ◌++◌, ℕ, List, None, Some, IsTrue, Option, IfSome, length, drop, max};
-ghost use Rattle.hcl_scan.specs.Lexemes.{Lexeme};
-ghost use Rattle.hcl_scan.specs.Balanced.{IsBalanced};
+ghost use Rattle.hcl_tokens.specs.Lexemes.{Lexeme};
+ghost use Rattle.hcl_tokens.specs.Balanced.{IsBalanced};
 ghost use Rattle.hcl_layout.specs.Print.{print};
 ghost use Rattle.hcl_layout.specs.Inner.InPlace.{EndsWell, Enters, GoOn, HoldsBefore, InPlace, Laid, since as since_of};
 ghost use Rattle.hcl_layout.specs.Inner.Left.{bytes_of};

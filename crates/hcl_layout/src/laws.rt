@@ -2,8 +2,8 @@
 //! the laws.
 
 ghost use Rattle.std.specs.Prelude.{◌≡◌, ◌≤◌, ℕ, List, length};
-ghost use Rattle.hcl_scan.specs.Lexemes.{Lexeme};
-ghost use Rattle.hcl_scan.specs.Scans.{Scans};
+ghost use Rattle.hcl_tokens.specs.Lexemes.{Lexeme};
+ghost use Rattle.hcl_tokens.specs.Scans.{Scans};
 ghost use Rattle.hcl_layout.specs.Gaps.{gaps};
 ghost use Rattle.hcl_layout.specs.Older.Prints.{was_print};
 ghost use Rattle.hcl_layout.specs.Older.Rows.{WasAccepted};

@@ -15,7 +15,7 @@
 //! }]                    0            0      0
 //! ```
 ghost use Rattle.std.specs.Prelude.{◌≡◌, ◌≤◌, ◌+◌, ◌*◌, ◌-◌};
-ghost use Rattle.hcl_scan.specs.Balanced.{max_open};
+ghost use Rattle.hcl_tokens.specs.Balanced.{max_open};
 ghost use Rattle.hcl_layout.specs.Inner.Depths.{Sound, level_at, levels_behind, raised};
 
 use hcl_scan::MAX_OPEN;

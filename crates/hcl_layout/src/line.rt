@@ -1,11 +1,11 @@
 //! One line, in one walk: where it ends, how deep, and which cells it has.
 ghost use Rattle.std.specs.Prelude.{◌≡◌, false, ◌<◌, ◌≤◌, ◌+◌, ◌^◌, ◌==◌, length, drop, slice_get, Some};
 ghost use Rattle.std.specs.List.{list_any};
-ghost use Rattle.hcl_scan.specs.Kinds.{is};
-ghost use Rattle.hcl_scan.specs.declared.token.Kind.TheVariants.{InlineComment};
-ghost use Rattle.hcl_scan.specs.Lexemes.{Lexeme};
-ghost use Rattle.hcl_scan.specs.Scanned.{lexeme};
-ghost use Rattle.hcl_scan.specs.Balanced.{is_closer, is_opener, max_open};
+ghost use Rattle.hcl_tokens.specs.Kinds.{is};
+ghost use Rattle.hcl_tokens.specs.declared.token.Kind.TheVariants.{InlineComment};
+ghost use Rattle.hcl_tokens.specs.Lexemes.{Lexeme};
+ghost use Rattle.hcl_tokens.specs.Scanned.{lexeme};
+ghost use Rattle.hcl_tokens.specs.Balanced.{is_closer, is_opener, max_open};
 ghost use Rattle.hcl_layout.specs.Lines.{ends_line};
 ghost use Rattle.hcl_layout.specs.Cells.{is_assignment as is_assignment_of, is_multiline as is_multiline_of, is_trailing as is_trailing_of};
 ghost use Rattle.hcl_grammar.specs.Items.{deepen};

@@ -1,9 +1,9 @@
 //! The tokens to lay out, and how wide their texts are.
 ghost use Rattle.std.specs.Prelude.{◌≡◌, ◌<◌, ◌≤◌, ◌+◌, ◌^◌, IfSome, IsTrue, Some, true, length, drop, slice_get, take};
 ghost use Rattle.unicode_segmentation.specs.Grapheme.{graphemes};
-ghost use Rattle.hcl_scan.specs.Lexemes.{Lexeme};
-ghost use Rattle.hcl_scan.specs.Scanned.{lexeme};
-ghost use Rattle.hcl_scan.specs.Balanced.{IsBalanced};
+ghost use Rattle.hcl_tokens.specs.Lexemes.{Lexeme};
+ghost use Rattle.hcl_tokens.specs.Scanned.{lexeme};
+ghost use Rattle.hcl_tokens.specs.Balanced.{IsBalanced};
 ghost use Rattle.hcl_layout.specs.Inner.Simple.{IsFrom, is_alone as is_alone_of, is_simple as is_simple_of};
 ghost use Rattle.hcl_layout.specs.Inner.LineGaps.{len_with_blanks};
 
@@ -22,7 +22,7 @@ pub struct Measured<'t, 's> {
 
 impl<'t, 's> Model for Measured<'t, 's> {
     ghost use Rattle.std.specs.Prelude.{◌≡◌, true};
-    ghost use Rattle.hcl_scan.specs.Scanned.{Scanned};
+    ghost use Rattle.hcl_tokens.specs.Scanned.{Scanned};
     ghost use Rattle.hcl_layout.specs.Inner.Simple.{is_simple};
 
     ghost Value = { Scanned };

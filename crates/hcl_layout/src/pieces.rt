@@ -10,7 +10,7 @@
 //! The line at hand has been surveyed, so its level and the gaps of its cells are known; the other gaps come from the table
 //! of spacing, token by token. At the end of the line the next one is surveyed.
 ghost use Rattle.std.specs.Prelude.{◌≡◌, ◌<◌, ◌≤◌, ◌+◌, ◌*◌, ◌^◌, ◌++◌, ◌∷◌, [], List, Some, length, replicate, slice_get, IfSome, MatchOption};
-ghost use Rattle.hcl_scan.specs.Lexemes.{Lexeme};
+ghost use Rattle.hcl_tokens.specs.Lexemes.{Lexeme};
 ghost use Rattle.hcl_layout.specs.Inner.Depths.{BalancedFrom};
 ghost use Rattle.hcl_layout.specs.Inner.Left.{Ready, bytes_of, gaps_left, rest_gaps, to_print};
 ghost use Rattle.hcl_layout.specs.Inner.LineGaps.{len_with_blanks};

@@ -1,7 +1,7 @@
 //! How long the print is, and whether the source is its own print.
 ghost use Rattle.std.specs.Prelude.{◌≡◌, ◌≢◌, ◌↔◌, ◌<◌, ◌≤◌, ◌+◌, ◌^◌, ◌++◌, ◌==◌, ◌&&◌, ℕ, List, IsTrue, length, drop, take, nat_eq, nat_le, IfSome, MatchOption};
 ghost use Rattle.std.specs.List.{list_all, starts_with};
-ghost use Rattle.hcl_scan.specs.Balanced.{IsBalanced};
+ghost use Rattle.hcl_tokens.specs.Balanced.{IsBalanced};
 ghost use Rattle.hcl_layout.specs.Inner.Left.{bytes_of};
 ghost use Rattle.hcl_layout.specs.Inner.Simple.{IsFrom};
 ghost use Rattle.hcl_layout.specs.Print.{print};

@@ -16,7 +16,7 @@
 //! are measured up to its end, and the lines behind the first take the column of the line before. The comments' widths
 //! are measured with the assignment signs in their columns, so both runs are looked ahead at their first lines.
 ghost use Rattle.std.specs.Prelude.{◌*◌, ◌≡◌, ◌<◌, ◌≤◌, ◌+◌, ◌-◌, ◌^◌, ℕ, length, take, drop, Some, None, ◌∷◌, IfSome, option_map};
-ghost use Rattle.hcl_scan.specs.Balanced.{max_open};
+ghost use Rattle.hcl_tokens.specs.Balanced.{max_open};
 ghost use Rattle.hcl_layout.specs.Columns.{widest};
 ghost use Rattle.hcl_layout.specs.Cells.{running_comment, trailing_comment};
 ghost use Rattle.hcl_layout.specs.Inner.Depths.{depth_after, fresh, levels_behind};

@@ -1,13 +1,13 @@
 -- One kind for each text and no empty text, for all places from expressions and templates; and a reading that lacks something can't go on.
 use Rattle.std.proofs.Common.{◌≡◌, ℕ, ◌<◌, Bool, List, [], ◌∷◌, ◌++◌, length, get_or, None, ◌⊎◌, inl, inr, ⊎_elim, refl, sym, ap, subst, ◌∙◌, arith, length-drop}
-use Rattle.hcl_scan.specs.Lexemes.{Lexeme, Opener, marker_of, moved, max_open}
-use Rattle.hcl_scan.specs.Spelling.{IsExpressionText, IsTextIn, Context, Template, Expression, context, element_len, IsLiteral}
-use Rattle.hcl_scan.specs.Scans.{State, gap_len, owed, ahead, IsLongest, IsMarkerLine, Leaves, Reads, Next, Run}
-use Rattle.hcl_scan.specs.Faults.{Lacks, at_end, no_token, too_deep, no_marker_line, end_fault}
+use Rattle.hcl_tokens.specs.Lexemes.{Lexeme, Opener, marker_of, moved, max_open}
+use Rattle.hcl_tokens.specs.Spelling.{IsExpressionText, IsTextIn, Context, Template, Expression, context, element_len, IsLiteral}
+use Rattle.hcl_tokens.specs.Scans.{State, gap_len, owed, ahead, IsLongest, IsMarkerLine, Leaves, Reads, Next, Run}
+use Rattle.hcl_tokens.specs.Faults.{Lacks, at_end, no_token, too_deep, no_marker_line, end_fault}
 use Rattle.hcl_source.specs.declared.fault.FaultKind.{FaultKind}
-use Rattle.hcl_scan.specs.declared.token.Kind.{Kind}
-use Rattle.hcl_scan.specs.declared.token.Kind.TheVariants.{HeredocOpen, Lit}
-use Rattle.hcl_scan.proofs.RunLemmas.{OneKind, Nonempty, Stuck, one_longest, some_ahead, nothing_ahead}
+use Rattle.hcl_tokens.specs.declared.token.Kind.{Kind}
+use Rattle.hcl_tokens.specs.declared.token.Kind.TheVariants.{HeredocOpen, Lit}
+use Rattle.hcl_tokens.proofs.RunLemmas.{OneKind, Nonempty, Stuck, one_longest, some_ahead, nothing_ahead}
 use Rattle.hcl_scan.proofs.TemplateLemmas.{Way, ways, lit, interp, control, quote, no_lit, no_element}
 
 -- the laws of expressions

@@ -6,14 +6,14 @@ use Rattle.std.specs.Prelude.{encode_utf8, encode_utf8_all}
 use Rattle.std.specs.List.{list_all}
 use Rattle.std.proofs.lemmas.Str.{encode_same}
 use Rattle.std.proofs.lemmas.List.{get_or_append_left}
-use Rattle.hcl_scan.specs.Lexemes.{Lexeme}
-use Rattle.hcl_scan.specs.Spelling.{IsIdent, IsExpressionText, are_ident, starts_ident, continues_ident}
-use Rattle.hcl_scan.specs.Scans.{Scans, begin}
+use Rattle.hcl_tokens.specs.Lexemes.{Lexeme}
+use Rattle.hcl_tokens.specs.Spelling.{IsIdent, IsExpressionText, are_ident, starts_ident, continues_ident}
+use Rattle.hcl_tokens.specs.Scans.{Scans, begin}
 use Rattle.hcl_source.specs.Load.{has_byte_order_mark}
 use Rattle.hcl_scan.specs.Inner.Leads.{lead_of, lead_bytes}
 use Rattle.hcl_scan.specs.declared.expression.Lead.TheVariants.{Letter}
-use Rattle.hcl_scan.specs.declared.token.Kind.{Kind}
-use Rattle.hcl_scan.specs.declared.token.Kind.TheVariants.{Ident}
+use Rattle.hcl_tokens.specs.declared.token.Kind.{Kind}
+use Rattle.hcl_tokens.specs.declared.token.Kind.TheVariants.{Ident}
 use Rattle.hcl_scan.proofs.BooleanLemmas.{and_true}
 use Rattle.hcl_scan.proofs.FrontLemmas.{begins}
 use Rattle.hcl_scan.proofs.WayLemmas.{ways}

@@ -6,7 +6,7 @@ use Rattle.std.specs.List.{list_all, list_any, prefix_len, starts_with}
 use Rattle.std.proofs.lemmas.List.{take-append-drop, get_or_append_left, get_or-append-add}
 use Rattle.std.proofs.lemmas.List.Sums.{prefix_len-le-length}
 use Rattle.std.proofs.lemmas.Bool.Decides.{nat_tests}
-use Rattle.hcl_scan.specs.Spelling.{starts, Holds, IsLineComment, IsInlineComment}
+use Rattle.hcl_tokens.specs.Spelling.{starts, Holds, IsLineComment, IsInlineComment}
 use Rattle.hcl_scan.specs.Inner.Found.{IsLongestFront, HasNoFront, EndsComment}
 use Rattle.hcl_scan.proofs.BooleanLemmas.{and_true}
 use Rattle.hcl_scan.proofs.FrontLemmas.{begins, longest_is, run_passes, run_longest}

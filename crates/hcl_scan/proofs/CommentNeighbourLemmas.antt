@@ -2,14 +2,14 @@
 -- for a slash where no comment begins with it.
 use Rattle.std.proofs.Common.{◌≡◌, ℕ, suc, ◌+◌, ◌<◌, ◌||◌, ◌==◌, Bool, true, false, cond, List, [], ◌∷◌, ◌++◌, length, take, drop, get_or, inl, inr, ⊎_elim, refl, sym, ap, subst, ◌∙◌, arith, length-append, append_assoc}
 use Rattle.std.specs.List.{list_any}
-use Rattle.hcl_scan.specs.Lexemes.{Opener}
-use Rattle.hcl_scan.specs.Spelling.{IsNewline, IsLineComment, IsInlineComment, IsExpressionText, starts}
+use Rattle.hcl_tokens.specs.Lexemes.{Opener}
+use Rattle.hcl_tokens.specs.Spelling.{IsNewline, IsLineComment, IsInlineComment, IsExpressionText, starts}
 use Rattle.hcl_scan.specs.Inner.Found.{EndsComment}
 use Rattle.hcl_scan.specs.Inner.Leads.{lead_of}
 use Rattle.hcl_scan.specs.Neighbours.{grows, ends_comment}
 use Rattle.hcl_scan.specs.declared.expression.Lead.TheVariants.{LineEnd, HashOrSlashes, SlashStar, OneSlash}
-use Rattle.hcl_scan.specs.declared.token.Kind.{Kind}
-use Rattle.hcl_scan.specs.declared.token.Kind.TheVariants.{Newline, LineComment, InlineComment, Slash}
+use Rattle.hcl_tokens.specs.declared.token.Kind.{Kind}
+use Rattle.hcl_tokens.specs.declared.token.Kind.TheVariants.{Newline, LineComment, InlineComment, Slash}
 use Rattle.hcl_scan.proofs.BooleanLemmas.{or_true}
 use Rattle.hcl_scan.proofs.CommentLemmas.{starts_split, or_cases, end_cut, ends_in, ends_less, star_moved}
 use Rattle.hcl_scan.proofs.LeadLemmas.{line_kind, hash_kind, star_kind, slash_kind}

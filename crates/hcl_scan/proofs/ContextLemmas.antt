@@ -1,8 +1,8 @@
 -- What the top of what is open says of a place, and that it says one thing.
 use Rattle.std.proofs.Common.{◌≡◌, Bool, true, false, List, [], ◌∷◌, Some, sym, ap, refl, ◌∙◌}
-use Rattle.hcl_scan.specs.Lexemes.{Opener, Quote, Heredoc, Sequence, Brace, Bracket, Paren, in_heredoc}
-use Rattle.hcl_scan.specs.Spelling.{context, Context, Template, Expression}
-use Rattle.hcl_scan.specs.Scans.{owed}
+use Rattle.hcl_tokens.specs.Lexemes.{Opener, Quote, Heredoc, Sequence, Brace, Bracket, Paren, in_heredoc}
+use Rattle.hcl_tokens.specs.Spelling.{context, Context, Template, Expression}
+use Rattle.hcl_tokens.specs.Scans.{owed}
 
 abbrev pub is_expression : Context → Bool
 is_expression Expression = true

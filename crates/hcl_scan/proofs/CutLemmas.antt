@@ -10,9 +10,9 @@ use Rattle.std.proofs.lemmas.List.Folds.{list_all-append}
 use Rattle.std.proofs.lemmas.Bool.{cases_order}
 use Rattle.std.proofs.lemmas.List.Sums.{prefix_len-le-length, prefix_len_passes, prefix_len_stops}
 use Rattle.std.proofs.lemmas.Bool.Decides.{nat_tests}
-use Rattle.hcl_scan.specs.Spelling.{punctuation, IsPunctuation, IsNewline, IsDigits, IsSign, IsFraction, IsExponent, IsInlineComment, IsHeredocOpen, is_blank}
+use Rattle.hcl_tokens.specs.Spelling.{punctuation, IsPunctuation, IsNewline, IsDigits, IsSign, IsFraction, IsExponent, IsInlineComment, IsHeredocOpen, is_blank}
 use Rattle.hcl_scan.specs.Inner.Found.{BlankText, NumberText, CloserText}
-use Rattle.hcl_scan.specs.declared.token.Kind.{Kind}
+use Rattle.hcl_tokens.specs.declared.token.Kind.{Kind}
 use Rattle.hcl_scan.proofs.WordLemmas.{all_to}
 use Rattle.hcl_scan.proofs.WayLemmas.{mark_passes}
 use Rattle.hcl_scan.proofs.NumeralLemmas.{all_at, inside, powers, Powers, is_e}

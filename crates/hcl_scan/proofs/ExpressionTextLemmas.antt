@@ -6,17 +6,17 @@ use Rattle.std.specs.Str.{IsCharBoundary}
 use Rattle.std.proofs.lemmas.Str.{IsCharBoundary-after_ascii}
 use Rattle.std.proofs.lemmas.List.{take-append-drop}
 use Rattle.std.proofs.lemmas.Bool.Decides.{nat_tests}
-use Rattle.hcl_scan.specs.Lexemes.{Opener, in_heredoc, closes_sequence}
-use Rattle.hcl_scan.specs.Spelling.{punctuation, IsPunctuation, IsNewline, IsLineComment, IsInlineComment, IsIdent, IsHeredocOpen, IsSpelling, IsTextIn, IsExpressionText, Context, starts}
+use Rattle.hcl_tokens.specs.Lexemes.{Opener, in_heredoc, closes_sequence}
+use Rattle.hcl_tokens.specs.Spelling.{punctuation, IsPunctuation, IsNewline, IsLineComment, IsInlineComment, IsIdent, IsHeredocOpen, IsSpelling, IsTextIn, IsExpressionText, Context, starts}
 use Rattle.hcl_scan.specs.Inner.Found.{Finds, AreSurroundings, FindsAt, HasNoneAt, IsLongestFront, HasNoFront, BlankText, NumberText, CloserText, closer_kind, IsLongestPunctuation, HasNoPunctuation}
-use Rattle.hcl_scan.specs.Scans.{HasNone}
+use Rattle.hcl_tokens.specs.Scans.{HasNone}
 use Rattle.hcl_scan.specs.Inner.Leads.{lead_of, lead_bytes, slash_lead}
 use Rattle.hcl_scan.specs.SideBySide.{may_begin_ident}
 use Rattle.hcl_scan.specs.declared.expression.Lead.{Lead}
 use Rattle.hcl_scan.specs.declared.expression.Lead.TheVariants.{LineEnd, Space, Letter, Digit, HashOrSlashes, SlashStar, OneSlash, LessLess, Closer, Sign}
-use Rattle.hcl_scan.specs.declared.token.Found.{Found}
-use Rattle.hcl_scan.specs.declared.token.Kind.{Kind}
-use Rattle.hcl_scan.specs.declared.token.Kind.TheVariants.{Newline, LineComment, InlineComment, Blank, Ident, Number, HeredocOpen, SeqClose, BraceClose, Slash, Less}
+use Rattle.hcl_scan.specs.declared.found.Found.{Found}
+use Rattle.hcl_tokens.specs.declared.token.Kind.{Kind}
+use Rattle.hcl_tokens.specs.declared.token.Kind.TheVariants.{Newline, LineComment, InlineComment, Blank, Ident, Number, HeredocOpen, SeqClose, BraceClose, Slash, Less}
 use Rattle.hcl_scan.proofs.WayLemmas.{ways}
 use Rattle.hcl_scan.proofs.LeadLemmas.{kind_lead, leads, some, is_settled, front_lead, front_settled, line_kind, space_kind, letter_kind, digit_kind, hash_kind, star_kind, slash_kind, less_kind, closer_kinds, sign_mark, mark_lead}
 use Rattle.hcl_scan.proofs.CommentLemmas.{goes_on, line_comment_found}

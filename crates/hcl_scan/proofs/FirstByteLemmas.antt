@@ -3,12 +3,12 @@ use Rattle.std.proofs.Common.{◌≡◌, ℕ, ◌==◌, Bool, true, false, List,
 use Rattle.std.proofs.lemmas.List.{append-nil}
 use Rattle.std.specs.Char.{is_ascii_digit}
 use Rattle.std.proofs.lemmas.Bool.Decides.{nat_tests}
-use Rattle.hcl_scan.specs.Lexemes.{Opener, in_heredoc}
-use Rattle.hcl_scan.specs.Spelling.{punctuation, IsPunctuation, IsDigits, starts}
-use Rattle.hcl_scan.specs.Kinds.{is}
+use Rattle.hcl_tokens.specs.Lexemes.{Opener, in_heredoc}
+use Rattle.hcl_tokens.specs.Spelling.{punctuation, IsPunctuation, IsDigits, starts}
+use Rattle.hcl_tokens.specs.Kinds.{is}
 use Rattle.hcl_scan.specs.SideBySide.{begins_as, is_pointed, is_coloned, is_equals, is_greater, is_less, is_slashed, may_begin_ident}
-use Rattle.hcl_scan.specs.declared.token.Kind.{Kind}
-use Rattle.hcl_scan.specs.declared.token.Kind.TheVariants.{Ident, Number, Minus, SeqClose, Star}
+use Rattle.hcl_tokens.specs.declared.token.Kind.{Kind}
+use Rattle.hcl_tokens.specs.declared.token.Kind.TheVariants.{Ident, Number, Minus, SeqClose, Star}
 use Rattle.hcl_scan.proofs.WayLemmas.{Ways, newline, line_comment, inline_comment, blanks, ident, digits, number, heredoc, seq_close, brace_close, slash, mark, mark_passes}
 use Rattle.hcl_scan.proofs.WordLemmas.{ident_word, begins_word}
 use Rattle.hcl_scan.proofs.CommentLemmas.{starts_split, or_cases}

@@ -3,14 +3,14 @@
 use Rattle.std.proofs.Common.{◌≡◌, ℕ, zero, suc, ◌+◌, ◌<◌, ◌&&◌, ◌||◌, ◌==◌, not, Bool, true, false, cond, List, [], ◌∷◌, ◌++◌, length, drop, get_or, replicate, inl, inr, ⊎_elim, refl, sym, ap, subst, ◌∙◌, arith, IsTrue}
 use Rattle.std.specs.List.{prefix_len}
 use Rattle.std.proofs.lemmas.Bool.Decides.{nat_tests}
-use Rattle.hcl_scan.specs.Lexemes.{Lexeme, Opener, in_heredoc}
-use Rattle.hcl_scan.specs.Spelling.{IsNewline, IsTextIn, IsExpressionText, is_blank, starts, context, Context, Template, Expression}
-use Rattle.hcl_scan.specs.Scans.{State, gap_in, gap_len, has_gaps_in, skip_blanks, at_line_end, Reads, Closes, Run, IsComplete}
+use Rattle.hcl_tokens.specs.Lexemes.{Lexeme, Opener, in_heredoc}
+use Rattle.hcl_tokens.specs.Spelling.{IsNewline, IsTextIn, IsExpressionText, is_blank, starts, context, Context, Template, Expression}
+use Rattle.hcl_tokens.specs.Scans.{State, gap_in, gap_len, has_gaps_in, skip_blanks, at_line_end, Reads, Closes, Run, IsComplete}
 use Rattle.hcl_scan.specs.Inner.Leads.{lead_of}
 use Rattle.hcl_scan.specs.Regapped.{without_gaps, text_with_gaps, is_template, touches, gap_fits}
 use Rattle.hcl_scan.specs.declared.expression.Lead.TheVariants.{LineEnd}
-use Rattle.hcl_scan.specs.declared.token.Kind.{Kind}
-use Rattle.hcl_scan.specs.declared.token.Kind.TheVariants.{LineComment}
+use Rattle.hcl_tokens.specs.declared.token.Kind.{Kind}
+use Rattle.hcl_tokens.specs.declared.token.Kind.TheVariants.{LineComment}
 use Rattle.hcl_scan.proofs.WayLemmas.{ways}
 use Rattle.hcl_scan.proofs.TemplateLemmas.{way_template}
 use Rattle.hcl_scan.proofs.TemplateLemmas as templates

@@ -3,12 +3,12 @@
 use Rattle.std.proofs.Common.{◌≡◌, ℕ, ◌+◌, ◌<◌, Bool, true, cond, List, [], ◌∷◌, ◌++◌, length, ◌⊎◌, inl, inr, sym, ap, subst, ◌∙◌, arith, length-append, append_assoc}
 use Rattle.std.specs.List.{list_all, prefix_len}
 use Rattle.std.proofs.lemmas.Bool.Decides.{nat_tests}
-use Rattle.hcl_scan.specs.Lexemes.{Opener}
-use Rattle.hcl_scan.specs.Spelling.{IsNewline, IsHeredocOpen, IsExpressionText}
+use Rattle.hcl_tokens.specs.Lexemes.{Opener}
+use Rattle.hcl_tokens.specs.Spelling.{IsNewline, IsHeredocOpen, IsExpressionText}
 use Rattle.hcl_scan.specs.Inner.Leads.{lead_of}
 use Rattle.hcl_scan.specs.declared.expression.Lead.TheVariants.{Closer}
-use Rattle.hcl_scan.specs.declared.token.Kind.{Kind}
-use Rattle.hcl_scan.specs.declared.token.Kind.TheVariants.{HeredocOpen, SeqClose, BraceClose}
+use Rattle.hcl_tokens.specs.declared.token.Kind.{Kind}
+use Rattle.hcl_tokens.specs.declared.token.Kind.TheVariants.{HeredocOpen, SeqClose, BraceClose}
 use Rattle.hcl_scan.proofs.BooleanLemmas.{and_true}
 use Rattle.hcl_scan.proofs.CommentLemmas.{goes_on}
 use Rattle.hcl_scan.proofs.WordLemmas.{ident_word, is_word, all_to, all_append}

@@ -4,7 +4,7 @@ use Rattle.std.specs.Str.{IsCharBoundary}
 use Rattle.std.proofs.lemmas.Str.{IsCharBoundary-after_ascii}
 use Rattle.std.proofs.lemmas.List.{take-append-drop}
 use Rattle.std.proofs.lemmas.Bool.Decides.{nat_tests}
-use Rattle.hcl_scan.specs.Spelling.{IsIdent, IsNewline, IsHeredocOpen, starts}
+use Rattle.hcl_tokens.specs.Spelling.{IsIdent, IsNewline, IsHeredocOpen, starts}
 use Rattle.hcl_scan.specs.Inner.Found.{IsLongestFront, HasNoFront, IsMarker, heredoc_mark_len}
 use Rattle.hcl_scan.proofs.WordLemmas.{ident_word, is_word, begins_word}
 use Rattle.hcl_scan.proofs.NumeralLemmas.{behind, inside, all_at}

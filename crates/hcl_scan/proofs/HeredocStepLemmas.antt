@@ -7,21 +7,21 @@ use Rattle.std.proofs.lemmas.Bool.{cases_order}
 use Rattle.std.proofs.lemmas.Bool.Decides.{nat_tests}
 use Rattle.std.proofs.lemmas.List.{length-map}
 use Rattle.std.proofs.lemmas.List.Sums.{prefix_len-le-length}
-use Rattle.hcl_scan.specs.Lexemes.{Opener, Heredoc, marker_of, moved, max_open}
-use Rattle.hcl_scan.specs.Spelling.{is_blank, starts, context, Expression, IsHeredocOpen}
-use Rattle.hcl_scan.specs.Kinds.{is}
-use Rattle.hcl_scan.specs.Scans.{Leaves, hides, IsLongest, IsMarkerLine, IsFirstMarkerLine, closer_len, is_marker_line, skip_blanks, at_line_end, ahead}
-use Rattle.hcl_scan.specs.Faults.{too_deep, no_marker_line}
+use Rattle.hcl_tokens.specs.Lexemes.{Opener, Heredoc, marker_of, moved, max_open}
+use Rattle.hcl_tokens.specs.Spelling.{is_blank, starts, context, Expression, IsHeredocOpen}
+use Rattle.hcl_tokens.specs.Kinds.{is}
+use Rattle.hcl_tokens.specs.Scans.{Leaves, hides, IsLongest, IsMarkerLine, IsFirstMarkerLine, closer_len, is_marker_line, skip_blanks, at_line_end, ahead}
+use Rattle.hcl_tokens.specs.Faults.{too_deep, no_marker_line}
 use Rattle.hcl_scan.specs.Inner.Openings.{opener_of, openers_of, offsets_in, hidden_of, opened_by, opened_on}
 use Rattle.hcl_scan.specs.Inner.Scanners.{state_of, IsSound, IsNext, IsStopped, Moves, fits_in}
-use Rattle.hcl_scan.specs.declared.token.Entry.{Entry}
+use Rattle.hcl_tokens.specs.declared.token.Entry.{Entry}
 use Rattle.hcl_scan.specs.declared.stack.Opener as kept
 use Rattle.hcl_scan.specs.declared.stack.Opener.TheVariants as by
 use Rattle.hcl_scan.specs.declared.stack.Opened.{Opened}
 use Rattle.hcl_scan.specs.declared.scanner.Scanner.{Scanner}
 use Rattle.hcl_source.specs.declared.fault.FaultKind.TheVariants.{TooDeep, UnterminatedHeredoc}
-use Rattle.hcl_scan.specs.declared.token.Kind.{Kind}
-use Rattle.hcl_scan.specs.declared.token.Kind.TheVariants.{HeredocOpen, Dot}
+use Rattle.hcl_tokens.specs.declared.token.Kind.{Kind}
+use Rattle.hcl_tokens.specs.declared.token.Kind.TheVariants.{HeredocOpen, Dot}
 use Rattle.hcl_scan.proofs.SliceLemmas.{front_of, back_of, slice_len, part_boundary}
 use Rattle.hcl_scan.proofs.StackLemmas.{push_offsets, closes_is, opens_so}
 use Rattle.hcl_scan.proofs.LiteralLemmas.{starts_len}

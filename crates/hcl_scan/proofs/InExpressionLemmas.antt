@@ -4,21 +4,22 @@ use Rattle.std.specs.Char.{is_ascii_digit}
 use Rattle.std.specs.Prelude.{nat_le}
 use Rattle.std.proofs.lemmas.List.{get_or_append_left}
 use Rattle.std.proofs.lemmas.Bool.Decides.{nat_tests}
-use Rattle.hcl_scan.specs.Lexemes.{Lexeme, Opener, in_heredoc, moved}
-use Rattle.hcl_scan.specs.Spelling.{punctuation, IsPunctuation, IsExpressionText, context, Expression}
-use Rattle.hcl_scan.specs.Kinds.{is}
-use Rattle.hcl_scan.specs.Scans.{State, ahead, Reads, Closes, Next, Run}
+use Rattle.hcl_tokens.specs.Lexemes.{Lexeme, Opener, in_heredoc, moved}
+use Rattle.hcl_tokens.specs.Spelling.{punctuation, IsPunctuation, IsExpressionText, context, Expression}
+use Rattle.hcl_tokens.specs.Kinds.{is}
+use Rattle.hcl_tokens.specs.Scans.{State, ahead, Reads, Closes, Next, Run}
 use Rattle.hcl_scan.specs.Inner.Leads.{lead_of, lead_bytes}
 use Rattle.hcl_scan.specs.Neighbours.{grows, joins, joins_text, stays}
 use Rattle.hcl_scan.specs.Regapped.{without_gaps, text_with_gaps, is_template, touches, AllFit}
 use Rattle.hcl_scan.specs.declared.expression.Lead.TheVariants.{Sign as SignLead}
-use Rattle.hcl_scan.specs.declared.token.Kind.{Kind}
-use Rattle.hcl_scan.specs.declared.token.Kind.TheVariants.{LineComment, Ident, Number, Dot, Colon, Not, Assign, Less, Greater, Slash, Lit, InterpOpen, ControlOpen, QuoteClose, HeredocClose}
+use Rattle.hcl_tokens.specs.declared.token.Kind.{Kind}
+use Rattle.hcl_tokens.specs.declared.token.Kind.TheVariants.{LineComment, Ident, Number, Dot, Colon, Not, Assign, Less, Greater, Slash, Lit, InterpOpen, ControlOpen, QuoteClose, HeredocClose}
 use Rattle.hcl_scan.proofs.BooleanLemmas.{and_true, not_true}
 use Rattle.hcl_scan.proofs.ContextLemmas.{not_both}
 use Rattle.hcl_scan.proofs.WayLemmas.{Ways, ways, mark_passes}
 use Rattle.hcl_scan.proofs.LeadLemmas.{leads, some, sign_mark}
-use Rattle.hcl_scan.proofs.KindPlaceLemmas.{Side, expression, template, side, in_expressions}
+use Rattle.hcl_tokens.proofs.ExpressionKindLemmas.{in_expressions}
+use Rattle.hcl_scan.proofs.KindPlaceLemmas.{Side, expression, template, side}
 use Rattle.hcl_scan.proofs.TemplateLemmas.{lit, interp, control, quote}
 use Rattle.hcl_scan.proofs.PunctuationNeighbourLemmas.{blank_grows}
 

@@ -1,9 +1,9 @@
 -- Inside an outermost heredoc the tokens don't depend on what stands behind it.
 use Rattle.std.proofs.Common.{◌≡◌, ℕ, ◌+◌, ◌<◌, Bool, true, false, List, [], ◌∷◌, length, drop, ◌≤◌, inl, inr, refl, sym, ap, subst, ◌∙◌, arith}
-use Rattle.hcl_scan.specs.Lexemes.{Lexeme, Opener, in_heredoc, marker_of, moved, max_open}
-use Rattle.hcl_scan.specs.Kinds.{is}
-use Rattle.hcl_scan.specs.declared.token.Kind.TheVariants as kind
-use Rattle.hcl_scan.specs.Scans.{State, Hidden, hides, gap_len, gap_in, ahead, offsets_of, IsLongest, Leaves, Reads, Closes, Next}
+use Rattle.hcl_tokens.specs.Lexemes.{Lexeme, Opener, in_heredoc, marker_of, moved, max_open}
+use Rattle.hcl_tokens.specs.Kinds.{is}
+use Rattle.hcl_tokens.specs.declared.token.Kind.TheVariants as kind
+use Rattle.hcl_tokens.specs.Scans.{State, Hidden, hides, gap_len, gap_in, ahead, offsets_of, IsLongest, Leaves, Reads, Closes, Next}
 use Rattle.hcl_scan.specs.InHeredocs.{behind_last, SameInside, ReadsToo}
 use Rattle.hcl_scan.proofs.ShownLemmas.{Shown, opening, plain, shown, plain_shows, open_shows}
 use Rattle.hcl_scan.proofs.OtherStepLemmas.{gap_in_heredoc}

@@ -1,23 +1,16 @@
 -- Which kinds are read where.
-use Rattle.std.proofs.Common.{◌≡◌, ◌≢◌, ℕ, ◌&&◌, Bool, true, false, List, [], ◌∷◌, Option, Some, None, ⊎_elim, refl, sym, ap, subst, ◌∙◌}
-use Rattle.hcl_scan.specs.Lexemes.{Opener, closes_sequence}
-use Rattle.hcl_scan.specs.Spelling.{punctuation, IsPunctuation, IsHeredocOpen, IsExpressionText, IsTextIn, IsSpelling, Context, Template, Expression, context}
+use Rattle.std.proofs.Common.{◌≡◌, ◌≢◌, ℕ, ◌&&◌, Bool, true, List, [], ◌∷◌, Option, Some, None, ⊎_elim, refl, sym, ap, subst, ◌∙◌}
+use Rattle.hcl_tokens.specs.Lexemes.{Opener, closes_sequence}
+use Rattle.hcl_tokens.specs.Spelling.{punctuation, IsPunctuation, IsHeredocOpen, IsExpressionText, IsTextIn, IsSpelling, Context, Template, Expression, context}
 use Rattle.hcl_scan.specs.Inner.Openings.{opened_by, opener_of}
 use Rattle.hcl_scan.specs.Inner.Scanners.{fits_in}
 use Rattle.hcl_scan.specs.declared.stack.Opener as kept
-use Rattle.hcl_scan.specs.declared.token.Kind.{Kind}
-use Rattle.hcl_scan.specs.declared.token.Kind.TheVariants.{Lit, InterpOpen, ControlOpen, QuoteClose, HeredocClose, HeredocOpen, QuoteOpen, ParenOpen, BracketOpen, BraceOpen, SeqClose}
+use Rattle.hcl_tokens.specs.declared.token.Kind.{Kind}
+use Rattle.hcl_tokens.specs.declared.token.Kind.TheVariants.{Lit, InterpOpen, ControlOpen, QuoteClose, HeredocClose, HeredocOpen, QuoteOpen, ParenOpen, BracketOpen, BraceOpen, SeqClose}
 use Rattle.hcl_scan.proofs.StartLemmas.{both}
 use Rattle.hcl_scan.proofs.TemplateLemmas.{Way, ways, lit, interp, control, quote}
+use Rattle.hcl_tokens.proofs.ExpressionKindLemmas.{in_expressions}
 use Rattle.hcl_scan.proofs.StackLemmas.{Closable}
-
-abbrev pub in_expressions : Kind → Bool
-in_expressions Lit = false
-in_expressions InterpOpen = false
-in_expressions ControlOpen = false
-in_expressions QuoteClose = false
-in_expressions HeredocClose = false
-in_expressions _ = true
 
 abbrev are_in : List (List ℕ × Kind) → Bool
 are_in [] = true

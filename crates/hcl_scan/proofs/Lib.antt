@@ -1,7 +1,5 @@
 pub mod BooleanLemmas
-pub mod RunLemmas
 pub mod ElementLemmas
-pub mod EntryLemmas
 pub mod ToldKindLemmas
 pub mod CandidateLemmas
 pub mod LiteralLemmas

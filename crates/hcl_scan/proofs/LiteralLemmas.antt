@@ -3,7 +3,7 @@ use Rattle.std.proofs.Common.{◌≡◌, ℕ, zero, suc, ◌+◌, ◌<◌, ◌�
 use Rattle.std.specs.List.{list_all}
 use Rattle.std.specs.Char.{is_ascii_hexdigit}
 use Rattle.hcl_scan.proofs.StartLemmas.{both}
-use Rattle.hcl_scan.specs.Spelling.{starts, escape_len, element_len, ends_quoted, is_dollar_or_percent, hex_digits_after}
+use Rattle.hcl_tokens.specs.Spelling.{starts, escape_len, element_len, ends_quoted, is_dollar_or_percent, hex_digits_after}
 
 pub starts_len : (text front : List ℕ) → starts text front ≡ true → length front ≤ length text
 starts_len text [] h = omega arith

@@ -3,7 +3,7 @@ use Rattle.std.proofs.Common.{◌≡◌, ℕ, zero, suc, ◌-◌, ◌<◌, ◌�
 use Rattle.std.specs.List.{list_all}
 use Rattle.std.specs.Option.{option_map_or}
 use Rattle.std.specs.Char.{is_ascii_hexdigit}
-use Rattle.hcl_scan.specs.Spelling.{starts, element_len, escape_len, are_elements, ends_quoted, is_dollar_or_percent, hex_digits_after}
+use Rattle.hcl_tokens.specs.Spelling.{starts, element_len, escape_len, are_elements, ends_quoted, is_dollar_or_percent, hex_digits_after}
 use Rattle.hcl_scan.proofs.ElementLemmas.{no_longer_lit}
 
 -- a front that is short looks at nothing behind

@@ -1,10 +1,10 @@
 -- A text that is longer than another at the same place: it goes on that one, and begins as that does.
 use Rattle.std.proofs.Common.{◌≡◌, ℕ, ◌<◌, Bool, true, List, [], ◌∷◌, ◌++◌, length, drop, get_or, refl, sym, ap, ◌∙◌, arith}
 use Rattle.std.specs.List.{list_all}
-use Rattle.hcl_scan.specs.Lexemes.{Opener}
-use Rattle.hcl_scan.specs.Spelling.{IsExpressionText}
+use Rattle.hcl_tokens.specs.Lexemes.{Opener}
+use Rattle.hcl_tokens.specs.Spelling.{IsExpressionText}
 use Rattle.hcl_scan.specs.Inner.Leads.{lead_of}
-use Rattle.hcl_scan.specs.declared.token.Kind.{Kind}
+use Rattle.hcl_tokens.specs.declared.token.Kind.{Kind}
 use Rattle.hcl_scan.proofs.BooleanLemmas.{and_true}
 use Rattle.hcl_scan.proofs.WayLemmas.{ways}
 use Rattle.hcl_scan.proofs.LeadLemmas.{kind_lead, leads, front_lead}

@@ -3,8 +3,8 @@ use Rattle.std.proofs.Common.{◌≡◌, ℕ, ◌+◌, ◌<◌, ◌≤◌, ◌&&
 use Rattle.std.specs.List.{position_or_len, before_first}
 use Rattle.std.proofs.Math.Numerals.{one-add}
 use Rattle.std.proofs.lemmas.Bool.Decides.{nat_tests}
-use Rattle.hcl_scan.specs.Lexemes.{marker_of, is_newline_byte}
-use Rattle.hcl_scan.specs.Spelling.{is_blank, IsHeredocOpen}
+use Rattle.hcl_tokens.specs.Lexemes.{marker_of, is_newline_byte}
+use Rattle.hcl_tokens.specs.Spelling.{is_blank, IsHeredocOpen}
 use Rattle.hcl_scan.proofs.WordLemmas.{ident_word, begins_word}
 
 -- there is a first byte, and it is no blank

@@ -6,8 +6,8 @@ use Rattle.std.proofs.lemmas.Bool.Decides.{nat_tests}
 use Rattle.std.proofs.lemmas.List.{take-append-drop, drop-drop, drop-append-le, drop-take}
 use Rattle.std.proofs.lemmas.List.Sums.{prefix_len_passes, prefix_len_stops, prefix_len_is, prefix_len-le-length}
 use Rattle.std.proofs.Math.Seq.{take-append_seam, drop-append_seam}
-use Rattle.hcl_scan.specs.Spelling.{is_blank, starts}
-use Rattle.hcl_scan.specs.Scans.{hides, skip_blanks, at_line_end, closer_len, is_marker_line, IsFirstMarkerLine}
+use Rattle.hcl_tokens.specs.Spelling.{is_blank, starts}
+use Rattle.hcl_tokens.specs.Scans.{hides, skip_blanks, at_line_end, closer_len, is_marker_line, IsFirstMarkerLine}
 use Rattle.hcl_scan.proofs.BooleanLemmas.{and_true}
 use Rattle.hcl_scan.proofs.CommentLemmas.{starts_split}
 use Rattle.hcl_scan.proofs.StartLemmas.{starts_so}

@@ -3,13 +3,13 @@
 -- same two bytes, and so be of the same kind, or of one more.
 use Rattle.std.proofs.Common.{◌≡◌, ℕ, ◌<◌, ◌&&◌, ◌||◌, ◌==◌, not, Bool, true, false, List, [], ◌∷◌, ◌++◌, length, take, drop, get_or, if◌then◌else◌, ◌⊎◌, inl, inr, ⊎_elim, refl, sym, ap, subst, ◌∙◌, arith, length-append, None}
 use Rattle.std.specs.Char.{is_ascii_digit}
-use Rattle.hcl_scan.specs.Lexemes.{Opener, in_heredoc}
-use Rattle.hcl_scan.specs.Spelling.{IsExpressionText, IsSpelling, IsTextIn, IsLiteral, context, Context, Template, Expression, starts, are_elements, element_len}
-use Rattle.hcl_scan.specs.Scans.{IsLongest}
-use Rattle.hcl_scan.specs.Kinds.{is}
+use Rattle.hcl_tokens.specs.Lexemes.{Opener, in_heredoc}
+use Rattle.hcl_tokens.specs.Spelling.{IsExpressionText, IsSpelling, IsTextIn, IsLiteral, context, Context, Template, Expression, starts, are_elements, element_len}
+use Rattle.hcl_tokens.specs.Scans.{IsLongest}
+use Rattle.hcl_tokens.specs.Kinds.{is}
 use Rattle.hcl_scan.specs.Neighbours.{grows, joins_text, same_close, stays}
-use Rattle.hcl_scan.specs.declared.token.Kind.{Kind}
-use Rattle.hcl_scan.specs.declared.token.Kind.TheVariants.{Newline, LineComment, InlineComment, Blank, Ident, Number, HeredocOpen, SeqClose, BraceClose, Slash, Lit, InterpOpen, ControlOpen, QuoteClose}
+use Rattle.hcl_tokens.specs.declared.token.Kind.{Kind}
+use Rattle.hcl_tokens.specs.declared.token.Kind.TheVariants.{Newline, LineComment, InlineComment, Blank, Ident, Number, HeredocOpen, SeqClose, BraceClose, Slash, Lit, InterpOpen, ControlOpen, QuoteClose}
 use Rattle.hcl_scan.proofs.BooleanLemmas.{and_true, none_of, not_true}
 use Rattle.hcl_scan.proofs.WayLemmas.{Ways, ways, newline, line_comment, inline_comment, blanks, ident, digits, number, heredoc, seq_close, brace_close, slash, mark, is_marked, mark_kind}
 use Rattle.hcl_scan.proofs.TemplateLemmas.{lit_found, interp_found, control_found, quote_found, of_template}

@@ -4,7 +4,7 @@ use Rattle.std.specs.Char.{is_ascii_digit}
 use Rattle.std.specs.List.{list_all}
 use Rattle.std.proofs.lemmas.List.{take-append-drop, get_or_append_left, get_or-append-add}
 use Rattle.std.proofs.lemmas.Bool.Decides.{nat_tests}
-use Rattle.hcl_scan.specs.Spelling.{IsDigits, IsSign, IsFraction, IsExponent, IsNumber}
+use Rattle.hcl_tokens.specs.Spelling.{IsDigits, IsSign, IsFraction, IsExponent, IsNumber}
 use Rattle.hcl_scan.specs.Inner.Found.{IsLongestFront}
 use Rattle.hcl_scan.proofs.BooleanLemmas.{and_true}
 use Rattle.hcl_scan.proofs.WordLemmas.{all_to}

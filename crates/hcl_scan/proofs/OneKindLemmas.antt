@@ -4,10 +4,10 @@ use Rattle.std.specs.Prelude.{nat_eq}
 use Rattle.std.specs.List.{list_all}
 use Rattle.std.specs.Cmp.Lexicographic.{pointwise}
 use Rattle.std.proofs.lemmas.Bool.Decides.{nat_tests}
-use Rattle.hcl_scan.specs.Lexemes.{Opener, closes_sequence}
-use Rattle.hcl_scan.specs.Spelling.{punctuation, IsPunctuation, IsExpressionText}
-use Rattle.hcl_scan.specs.declared.token.Kind.{Kind}
-use Rattle.hcl_scan.specs.declared.token.Kind.TheVariants.{SeqClose, BraceClose}
+use Rattle.hcl_tokens.specs.Lexemes.{Opener, closes_sequence}
+use Rattle.hcl_tokens.specs.Spelling.{punctuation, IsPunctuation, IsExpressionText}
+use Rattle.hcl_tokens.specs.declared.token.Kind.{Kind}
+use Rattle.hcl_tokens.specs.declared.token.Kind.TheVariants.{SeqClose, BraceClose}
 use Rattle.hcl_scan.proofs.BooleanLemmas.{and_true}
 use Rattle.hcl_scan.proofs.WayLemmas.{Ways, ways, newline, line_comment, inline_comment, blanks, ident, digits, number, heredoc, seq_close, brace_close, slash, mark}
 use Rattle.hcl_scan.proofs.LeadLemmas.{kind_lead, leads, some, line_kind, space_kind, letter_kind, digit_kind, hash_kind, star_kind, slash_kind, less_kind, closer_kinds, sign_mark, mark_lead}

@@ -1,11 +1,11 @@
 -- What is open agrees with what is hidden: as many heredocs are open as are hidden. And all but a sequence is opened
 -- in an expression, so what a quote, a heredoc or a group leads back to when it is closed is one.
 use Rattle.std.proofs.Common.{◌≡◌, ℕ, ◌&&◌, ◌||◌, Bool, true, false, cond, List, [], ◌∷◌, length, drop, None, ◌+◌, ◌<◌, if◌then◌else◌, ⊎_elim, refl, sym, ap, subst, ◌∙◌, arith}
-use Rattle.hcl_scan.specs.Lexemes.{Lexeme, Opener, Quote, Heredoc, Sequence, Brace, Bracket, Paren, moved, closes_sequence, below_groups, pop_if, is_paren, is_bracket, is_brace, is_sequence, is_heredoc, in_heredoc}
-use Rattle.hcl_scan.specs.Spelling.{IsSpelling, IsTextIn, context, Context, Template, Expression}
-use Rattle.hcl_scan.specs.Scans.{State, Hidden, Next, Reads, Closes, owed}
-use Rattle.hcl_scan.specs.declared.token.Kind.{Kind}
-use Rattle.hcl_scan.specs.declared.token.Kind.TheVariants.{HeredocOpen, QuoteOpen, ParenOpen, BracketOpen, BraceOpen, ParenClose, BracketClose, SeqClose, BraceClose, Lit, InterpOpen, ControlOpen, QuoteClose, HeredocClose}
+use Rattle.hcl_tokens.specs.Lexemes.{Lexeme, Opener, Quote, Heredoc, Sequence, Brace, Bracket, Paren, moved, closes_sequence, below_groups, pop_if, is_paren, is_bracket, is_brace, is_sequence, is_heredoc, in_heredoc}
+use Rattle.hcl_tokens.specs.Spelling.{IsSpelling, IsTextIn, context, Context, Template, Expression}
+use Rattle.hcl_tokens.specs.Scans.{State, Hidden, Next, Reads, Closes, owed}
+use Rattle.hcl_tokens.specs.declared.token.Kind.{Kind}
+use Rattle.hcl_tokens.specs.declared.token.Kind.TheVariants.{HeredocOpen, QuoteOpen, ParenOpen, BracketOpen, BraceOpen, ParenClose, BracketClose, SeqClose, BraceClose, Lit, InterpOpen, ControlOpen, QuoteClose, HeredocClose}
 use Rattle.hcl_scan.proofs.WayLemmas.{Ways, ways, newline, line_comment, inline_comment, blanks, ident, digits, number, heredoc, seq_close, brace_close, slash, mark, is_marked, mark_kind}
 use Rattle.hcl_scan.proofs.BooleanLemmas.{and_true}
 use Rattle.hcl_scan.proofs.ContextLemmas.{is_expression, is_quoted}

@@ -3,13 +3,13 @@
 -- where the bytes are the same and only what stands behind it is another.
 use Rattle.std.proofs.Common.{◌≡◌, ℕ, ◌+◌, ◌≤◌, Bool, true, false, List, [], ◌∷◌, ◌++◌, length, take, drop, replicate, ⊎_elim, refl, sym, ap, subst, ◌∙◌, arith, length-append, append_assoc}
 use Rattle.std.proofs.lemmas.List.{take-append-drop}
-use Rattle.hcl_scan.specs.Lexemes.{Lexeme, Opener, Heredoc, marker_of, moved, in_heredoc, max_open}
-use Rattle.hcl_scan.specs.Spelling.{IsSpelling, context, Expression}
-use Rattle.hcl_scan.specs.Kinds.{is}
-use Rattle.hcl_scan.specs.Scans.{State, Hidden, hides, gap_len, offsets_of, owed, begin, skip_blanks, at_line_end, closer_len, IsLongest, IsFirstMarkerLine, Leaves, Reads, Closes, Run, Scans, IsComplete}
+use Rattle.hcl_tokens.specs.Lexemes.{Lexeme, Opener, Heredoc, marker_of, moved, in_heredoc, max_open}
+use Rattle.hcl_tokens.specs.Spelling.{IsSpelling, context, Expression}
+use Rattle.hcl_tokens.specs.Kinds.{is}
+use Rattle.hcl_tokens.specs.Scans.{State, Hidden, hides, gap_len, offsets_of, owed, begin, skip_blanks, at_line_end, closer_len, IsLongest, IsFirstMarkerLine, Leaves, Reads, Closes, Run, Scans, IsComplete}
 use Rattle.hcl_scan.specs.Regapped.{without_gaps, text_with_gaps, placed, AllFit}
-use Rattle.hcl_scan.specs.declared.token.Kind.{Kind}
-use Rattle.hcl_scan.specs.declared.token.Kind.TheVariants.{Newline, Dot}
+use Rattle.hcl_tokens.specs.declared.token.Kind.{Kind}
+use Rattle.hcl_tokens.specs.declared.token.Kind.TheVariants.{Newline, Dot}
 use Rattle.hcl_scan.proofs.BooleanLemmas.{and_true}
 use Rattle.hcl_scan.proofs.ContextLemmas.{expression_is}
 use Rattle.hcl_scan.proofs.ShownLemmas.{Shown, opening, plain, shown, plain_shows, open_shows}

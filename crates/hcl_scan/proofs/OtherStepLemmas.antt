@@ -2,13 +2,13 @@
 use Rattle.std.proofs.Common.{◌≡◌, ℕ, ◌+◌, ◌≤◌, ◌||◌, ◌==◌, not, Bool, true, false, cond, IsTrue, List, [], ◌∷◌, length, drop, inl, inr, refl, sym, ap, subst, ◌∙◌, arith}
 use Rattle.std.proofs.lemmas.Bool.Decides.{nat_tests}
 use Rattle.std.specs.List.{prefix_len}
-use Rattle.hcl_scan.specs.Lexemes.{Lexeme, Opener, Heredoc, moved, in_heredoc, max_open}
-use Rattle.hcl_scan.specs.Spelling.{is_blank, context, Context, Template, Expression}
-use Rattle.hcl_scan.specs.Kinds.{is}
-use Rattle.hcl_scan.specs.Scans.{State, Hidden, gap_in, has_gaps_in, offsets_of, IsLongest, Leaves, Run, IsComplete}
+use Rattle.hcl_tokens.specs.Lexemes.{Lexeme, Opener, Heredoc, moved, in_heredoc, max_open}
+use Rattle.hcl_tokens.specs.Spelling.{is_blank, context, Context, Template, Expression}
+use Rattle.hcl_tokens.specs.Kinds.{is}
+use Rattle.hcl_tokens.specs.Scans.{State, Hidden, gap_in, has_gaps_in, offsets_of, IsLongest, Leaves, Run, IsComplete}
 use Rattle.hcl_scan.specs.Regapped.{is_template, touches, gap_fits}
-use Rattle.hcl_scan.specs.declared.token.Kind.{Kind}
-use Rattle.hcl_scan.specs.declared.token.Kind.TheVariants.{HeredocClose, LineComment, Dot}
+use Rattle.hcl_tokens.specs.declared.token.Kind.{Kind}
+use Rattle.hcl_tokens.specs.declared.token.Kind.TheVariants.{HeredocClose, LineComment, Dot}
 use Rattle.hcl_scan.proofs.BooleanLemmas.{or_true}
 
 -- from here the tokens are read, and nothing is left

@@ -4,11 +4,11 @@ use Rattle.std.specs.Prelude.{nat_eq, nat_lt, option_map, IfSome, IfNone}
 use Rattle.std.specs.List.{list_all, starts_with}
 use Rattle.std.proofs.lemmas.Bool.Decides.{nat_tests}
 use Rattle.std.proofs.Math.Seq.{take-append_seam}
-use Rattle.hcl_scan.specs.Spelling.{punctuation, IsPunctuation}
+use Rattle.hcl_tokens.specs.Spelling.{punctuation, IsPunctuation}
 use Rattle.hcl_scan.specs.Inner.Punctuation.{is_longest_first, ordered_punctuation}
 use Rattle.hcl_scan.specs.Inner.Found.{IsLongestPunctuation, HasNoPunctuation}
-use Rattle.hcl_scan.specs.declared.token.Kind.{Kind}
-use Rattle.hcl_scan.specs.declared.token.Kind.TheVariants.{Dot}
+use Rattle.hcl_tokens.specs.declared.token.Kind.{Kind}
+use Rattle.hcl_tokens.specs.declared.token.Kind.TheVariants.{Dot}
 use Rattle.hcl_scan.proofs.BooleanLemmas.{and_true}
 use Rattle.hcl_scan.proofs.FrontLemmas.{begins, begins_not}
 

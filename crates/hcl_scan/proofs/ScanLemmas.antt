@@ -3,15 +3,16 @@ use Rattle.std.proofs.Common.{◌≡◌, ℕ, List, [], ◌∷◌, ◌++◌, len
 use Rattle.std.specs.Prelude.{All, IfOk, IfErr}
 use Rattle.std.proofs.lemmas.List.{map_push}
 use Rattle.std.proofs.lemmas.List.Elements.{All-push}
-use Rattle.hcl_scan.specs.Lexemes.{Lexeme}
-use Rattle.hcl_scan.specs.Scans.{Run, Next, Scans, begin}
-use Rattle.hcl_scan.specs.Faults.{IsScanFault}
-use Rattle.hcl_scan.specs.Inner.Scanners.{state_of, lexeme_of, lexemes_of, IsEntry, IsStopped, Moves}
+use Rattle.hcl_tokens.specs.Lexemes.{Lexeme}
+use Rattle.hcl_tokens.specs.Scans.{Run, Next, Scans, begin}
+use Rattle.hcl_tokens.specs.Faults.{IsScanFault}
+use Rattle.hcl_tokens.specs.Entries.{lexeme_of, lexemes_of, IsEntry}
+use Rattle.hcl_scan.specs.Inner.Scanners.{state_of, IsStopped, Moves}
 use Rattle.hcl_source.specs.declared.fault.FaultKind.{FaultKind}
-use Rattle.hcl_scan.specs.declared.token.Entry.{Entry}
+use Rattle.hcl_tokens.specs.declared.token.Entry.{Entry}
 use Rattle.hcl_scan.specs.declared.scanner.Scanner.{Scanner}
 use Rattle.hcl_scan.specs.declared.scanner.Stopped.{Stopped}
-use Rattle.hcl_scan.proofs.RunLemmas.{no_fault}
+use Rattle.hcl_tokens.proofs.RunLemmas.{no_fault}
 use Rattle.hcl_scan.proofs.AllContextLemmas.{one_kind, nonempty, lacks_stuck, Run-push}
 use Rattle.hcl_scan.proofs.ExpressionLawLemmas.{one_expression, some_expression}
 

@@ -1,9 +1,9 @@
 -- What is seen and hidden after a token: it opens a heredoc, or hides nothing.
 use Rattle.std.proofs.Common.{◌≡◌, ℕ, Bool, true, false, List, ◌∷◌, take, drop, refl, sym, subst}
-use Rattle.hcl_scan.specs.Lexemes.{marker_of}
-use Rattle.hcl_scan.specs.Scans.{Hidden, hides, IsFirstMarkerLine, Leaves}
-use Rattle.hcl_scan.specs.declared.token.Kind.{Kind}
-use Rattle.hcl_scan.specs.declared.token.Kind.TheVariants.{HeredocOpen}
+use Rattle.hcl_tokens.specs.Lexemes.{marker_of}
+use Rattle.hcl_tokens.specs.Scans.{Hidden, hides, IsFirstMarkerLine, Leaves}
+use Rattle.hcl_tokens.specs.declared.token.Kind.{Kind}
+use Rattle.hcl_tokens.specs.declared.token.Kind.TheVariants.{HeredocOpen}
 
 abbrev pub opens_heredoc : Kind → Bool
 opens_heredoc HeredocOpen = true

@@ -1,5 +1,5 @@
 -- No text has two kinds at one place, and no token is empty.
-use Rattle.hcl_scan.proofs.RunLemmas.{OneKind, Nonempty}
+use Rattle.hcl_tokens.proofs.RunLemmas.{OneKind, Nonempty}
 use Rattle.hcl_scan.proofs.AllContextLemmas as places
 use Rattle.hcl_scan.proofs.ExpressionLawLemmas.{one_expression, some_expression}
 

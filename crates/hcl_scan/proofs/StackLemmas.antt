@@ -2,17 +2,17 @@
 use Rattle.std.proofs.Common.{◌≡◌, ◌≢◌, ℕ, suc, ◌+◌, ◌-◌, ◌<◌, ◌≤◌, ◌||◌, Bool, true, false, IsTrue, List, [], ◌∷◌, length, drop, length-drop, if◌then◌else◌, Some, None, refl, sym, ap, subst, ◌∙◌, arith, nat_lt}
 use Rattle.std.proofs.lemmas.List.{length-map, drop-map, drop-drop}
 use Rattle.std.proofs.lemmas.Bool.Decides.{nat_tests}
-use Rattle.hcl_scan.specs.Lexemes.{Opener, Quote, Heredoc, Sequence, Brace, Bracket, Paren, is_heredoc, is_group, is_paren, is_bracket, is_brace, is_sequence, in_heredoc, below_groups, closes_sequence, pop_if, tops_with, moved}
-use Rattle.hcl_scan.specs.Spelling.{Context, Template, Expression, context, context_in}
-use Rattle.hcl_scan.specs.Kinds.{is}
-use Rattle.hcl_scan.specs.Scans.{Hidden, offsets_of, owed, owes}
+use Rattle.hcl_tokens.specs.Lexemes.{Opener, Quote, Heredoc, Sequence, Brace, Bracket, Paren, is_heredoc, is_group, is_paren, is_bracket, is_brace, is_sequence, in_heredoc, below_groups, closes_sequence, pop_if, tops_with, moved}
+use Rattle.hcl_tokens.specs.Spelling.{Context, Template, Expression, context, context_in}
+use Rattle.hcl_tokens.specs.Kinds.{is}
+use Rattle.hcl_tokens.specs.Scans.{Hidden, offsets_of, owed, owes}
 use Rattle.hcl_scan.specs.Inner.Openings.{opener_of, openers_of, offsets_in, hidden_of, hidden_under, popped_groups, popped_if, same_opener, closed, closes_on, top_closes, opens_or_closes, opened_by}
 use Rattle.hcl_scan.specs.Inner.Scanners.{fits_in, AreEndsBy, IsStack}
 use Rattle.hcl_scan.specs.declared.stack.Opener as kept
 use Rattle.hcl_scan.specs.declared.stack.Opener.TheVariants as by
 use Rattle.hcl_scan.specs.declared.stack.Opened.{Opened}
-use Rattle.hcl_scan.specs.declared.token.Kind.{Kind}
-use Rattle.hcl_scan.specs.declared.token.Kind.TheVariants.{Dot, QuoteOpen, HeredocOpen, HeredocClose, InterpOpen, ControlOpen, ParenOpen, BracketOpen, BraceOpen, ParenClose, BracketClose, BraceClose, SeqClose, QuoteClose}
+use Rattle.hcl_tokens.specs.declared.token.Kind.{Kind}
+use Rattle.hcl_tokens.specs.declared.token.Kind.TheVariants.{Dot, QuoteOpen, HeredocOpen, HeredocClose, InterpOpen, ControlOpen, ParenOpen, BracketOpen, BraceOpen, ParenClose, BracketClose, BraceClose, SeqClose, QuoteClose}
 
 -- what is seen ends within the text
 within_by : (text : List ℕ) (end : ℕ) (opener : kept.Opener) (around : ℕ → Type 0) → ((e : ℕ) → around e → e ≤ length text) → AreEndsBy text end opener around → end ≤ length text

@@ -2,7 +2,7 @@
 use Rattle.std.proofs.Common.{◌≡◌, ℕ, ◌&&◌, ◌==◌, Bool, true, false, List, [], ◌∷◌, ◌++◌, refl, nat_eq, drop, length, arith}
 use Rattle.std.specs.List.{starts_with}
 use Rattle.std.proofs.lemmas.Bool.Decides.{nat_tests}
-use Rattle.hcl_scan.specs.Spelling.{starts}
+use Rattle.hcl_tokens.specs.Spelling.{starts}
 
 turned : (b c : ℕ) → (c == b) ≡ (b == c)
 turned b c = grind (arith, nat_tests)

@@ -8,24 +8,25 @@ use Rattle.std.proofs.lemmas.Bool.Decides.{nat_tests}
 use Rattle.std.proofs.lemmas.List.{length-map}
 use Rattle.std.proofs.lemmas.List.Sums.{prefix_len-le-length}
 use Rattle.hcl_source.specs.Load.{max_source}
-use Rattle.hcl_scan.specs.Lexemes.{Opener, in_heredoc, moved, Heredoc, Quote, Sequence, Brace, Bracket, Paren, max_open}
-use Rattle.hcl_scan.specs.Spelling.{is_blank, Context, Template, Expression, context, context_in}
-use Rattle.hcl_scan.specs.Kinds.{is}
-use Rattle.hcl_scan.specs.Scans.{State, Hidden, Leaves, IsLongest, gap_len, ahead, offsets_of, owed, owes, has_gaps_in, HasNone}
-use Rattle.hcl_scan.specs.Faults.{no_token, at_end, no_token_fault, fault_offset, owed_offset, end_fault}
+use Rattle.hcl_tokens.specs.Lexemes.{Opener, in_heredoc, moved, Heredoc, Quote, Sequence, Brace, Bracket, Paren, max_open}
+use Rattle.hcl_tokens.specs.Spelling.{is_blank, Context, Template, Expression, context, context_in}
+use Rattle.hcl_tokens.specs.Kinds.{is}
+use Rattle.hcl_tokens.specs.Scans.{State, Hidden, Leaves, IsLongest, gap_len, ahead, offsets_of, owed, owes, has_gaps_in, HasNone}
+use Rattle.hcl_tokens.specs.Faults.{no_token, at_end, no_token_fault, fault_offset, owed_offset, end_fault}
 use Rattle.hcl_scan.specs.Inner.Found.{Finds}
 use Rattle.hcl_scan.specs.Inner.Openings.{opener_of, openers_of, offsets_in, hidden_of, quoted_in, template_top, option_and, innermost_owed, opened_by, opened_on, closed}
-use Rattle.hcl_scan.specs.Inner.Scanners.{state_of, IsStack, IsSound, IsEntry, IsStart, IsNext, IsStopped, Moves}
-use Rattle.hcl_scan.specs.declared.token.Entry.{Entry}
-use Rattle.hcl_scan.specs.declared.token.Found.{Found}
+use Rattle.hcl_tokens.specs.Entries.{IsEntry}
+use Rattle.hcl_scan.specs.Inner.Scanners.{state_of, IsStack, IsSound, IsStart, IsNext, IsStopped, Moves}
+use Rattle.hcl_tokens.specs.declared.token.Entry.{Entry}
+use Rattle.hcl_scan.specs.declared.found.Found.{Found}
 use Rattle.hcl_scan.specs.declared.stack.Opener as kept
 use Rattle.hcl_scan.specs.declared.stack.Opener.TheVariants as by
 use Rattle.hcl_scan.specs.declared.stack.Opened.{Opened}
 use Rattle.hcl_scan.specs.declared.scanner.Scanner.{Scanner}
 use Rattle.hcl_source.specs.declared.fault.FaultKind.{FaultKind}
 use Rattle.hcl_source.specs.declared.fault.FaultKind.TheVariants.{InvalidCharacter, UnterminatedComment, UnterminatedTemplate}
-use Rattle.hcl_scan.specs.declared.token.Kind.{Kind}
-use Rattle.hcl_scan.specs.declared.token.Kind.TheVariants.{HeredocOpen, Dot}
+use Rattle.hcl_tokens.specs.declared.token.Kind.{Kind}
+use Rattle.hcl_tokens.specs.declared.token.Kind.TheVariants.{HeredocOpen, Dot}
 use Rattle.hcl_scan.proofs.CutLemmas.{run_cut}
 use Rattle.hcl_scan.proofs.SliceLemmas.{front_of, back_of, slice_len, part_boundary}
 use Rattle.hcl_scan.proofs.StackLemmas.{closed_is, closed_drops, drops_offsets, push_offsets, opens_so, ends_of, hidden_on, closes_is, some_around, owed_heredoc}

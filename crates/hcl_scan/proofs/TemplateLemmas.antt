@@ -4,13 +4,13 @@ use Rattle.std.specs.Str.{IsCharBoundary}
 use Rattle.std.proofs.lemmas.Str.{IsCharBoundary-after_ascii, IsCharBoundary-before_ascii}
 use Rattle.std.proofs.lemmas.List.{take-append-drop}
 use Rattle.std.proofs.lemmas.Bool.Decides.{nat_tests}
-use Rattle.hcl_scan.specs.Lexemes.{Opener}
-use Rattle.hcl_scan.specs.Spelling.{starts, is_dollar_or_percent, ends_quoted, escape_len, element_len, are_elements, IsLiteral, IsTemplateText, IsTextIn, IsSpelling, Template, context}
-use Rattle.hcl_scan.specs.Scans.{HasNone}
+use Rattle.hcl_tokens.specs.Lexemes.{Opener}
+use Rattle.hcl_tokens.specs.Spelling.{starts, is_dollar_or_percent, ends_quoted, escape_len, element_len, are_elements, IsLiteral, IsTemplateText, IsTextIn, IsSpelling, Template, context}
+use Rattle.hcl_tokens.specs.Scans.{HasNone}
 use Rattle.hcl_scan.specs.Inner.Found.{Finds}
 use Rattle.hcl_scan.specs.Regapped.{is_template}
-use Rattle.hcl_scan.specs.declared.token.Kind.{Kind}
-use Rattle.hcl_scan.specs.declared.token.Kind.TheVariants.{Lit, InterpOpen, ControlOpen, QuoteClose}
+use Rattle.hcl_tokens.specs.declared.token.Kind.{Kind}
+use Rattle.hcl_tokens.specs.declared.token.Kind.TheVariants.{Lit, InterpOpen, ControlOpen, QuoteClose}
 use Rattle.hcl_scan.proofs.ElementLemmas.{no_longer_lit}
 use Rattle.hcl_scan.proofs.StartLemmas.{starts_is, starts_so}
 

@@ -8,9 +8,9 @@ use Rattle.std.proofs.lemmas.List.{take-append-drop}
 use Rattle.std.proofs.lemmas.List.Folds.{length-prefix_len}
 use Rattle.std.proofs.lemmas.List.Sums.{sum_by-append, sum_by-cons}
 use Rattle.std.proofs.lemmas.Bool.Decides.{nat_tests}
-use Rattle.hcl_scan.specs.Lexemes.{Lexeme, Opener, marker_of, in_heredoc}
-use Rattle.hcl_scan.specs.Spelling.{context, is_blank}
-use Rattle.hcl_scan.specs.Scans.{State, has_gaps_in, gap_in, gap_len, ahead, begin, Reads, Closes, Next, Run, Scans}
+use Rattle.hcl_tokens.specs.Lexemes.{Lexeme, Opener, marker_of, in_heredoc}
+use Rattle.hcl_tokens.specs.Spelling.{context, is_blank}
+use Rattle.hcl_tokens.specs.Scans.{State, has_gaps_in, gap_in, gap_len, ahead, begin, Reads, Closes, Next, Run, Scans}
 use Rattle.hcl_source.specs.Places.{line_of}
 use Rattle.hcl_scan.proofs.BooleanLemmas.{and_true}
 use Rattle.hcl_scan.proofs.FrontLemmas.{run_passes}

@@ -1,8 +1,8 @@
 -- No kind is left out of what tells kinds.
 use Rattle.std.proofs.Common.{◌≡◌, refl, true}
-use Rattle.hcl_scan.specs.Kinds.{is}
-use Rattle.hcl_scan.specs.declared.token.Kind.{Kind}
-use Rattle.hcl_scan.specs.declared.token.Kind.TheVariants as kind
+use Rattle.hcl_tokens.specs.Kinds.{is}
+use Rattle.hcl_tokens.specs.declared.token.Kind.{Kind}
+use Rattle.hcl_tokens.specs.declared.token.Kind.TheVariants as kind
 
 pub told : (it : Kind) → is it it ≡ true
 told kind.Newline = refl

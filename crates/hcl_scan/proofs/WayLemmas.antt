@@ -1,10 +1,10 @@
 -- The ways to be a token of an expression.
 use Rattle.std.proofs.Common.{◌≡◌, ℕ, Bool, true, false, List, [], ◌∷◌, ◌⊎◌, inl, inr, refl, sym, ◌∙◌}
 use Rattle.std.specs.List.{list_all}
-use Rattle.hcl_scan.specs.Lexemes.{Opener, in_heredoc, closes_sequence}
-use Rattle.hcl_scan.specs.Spelling.{punctuation, IsPunctuation, IsNewline, IsLineComment, IsInlineComment, IsBlanks, IsIdent, IsDigits, IsNumber, IsHeredocOpen, starts, IsExpressionText}
-use Rattle.hcl_scan.specs.declared.token.Kind.{Kind}
-use Rattle.hcl_scan.specs.declared.token.Kind.TheVariants.{Newline, LineComment, InlineComment, Blank, Ident, Number, HeredocOpen, SeqClose, BraceClose, Slash, Lit, InterpOpen, ControlOpen, QuoteClose, HeredocClose}
+use Rattle.hcl_tokens.specs.Lexemes.{Opener, in_heredoc, closes_sequence}
+use Rattle.hcl_tokens.specs.Spelling.{punctuation, IsPunctuation, IsNewline, IsLineComment, IsInlineComment, IsBlanks, IsIdent, IsDigits, IsNumber, IsHeredocOpen, starts, IsExpressionText}
+use Rattle.hcl_tokens.specs.declared.token.Kind.{Kind}
+use Rattle.hcl_tokens.specs.declared.token.Kind.TheVariants.{Newline, LineComment, InlineComment, Blank, Ident, Number, HeredocOpen, SeqClose, BraceClose, Slash, Lit, InterpOpen, ControlOpen, QuoteClose, HeredocClose}
 use Rattle.hcl_scan.proofs.BooleanLemmas.{and_true}
 
 pub data Ways (opens : List Opener) (dot : Bool) (kind : Kind) (text rest : List ℕ) : Type 0 where

@@ -7,7 +7,7 @@ use Rattle.std.proofs.lemmas.Bool.Decides.{nat_tests}
 use lib.Utf8.{next, encode}
 use Rattle.unicode_ident.specs.Ident.{is_xid_start}
 use Rattle.unicode_ident.proofs.IdentLemmas.{is_xid_start-ascii, is_xid_continue-ascii, is_xid_start-is_xid_continue}
-use Rattle.hcl_scan.specs.Spelling.{IsIdent, are_ident, starts_ident, continues_ident, IsDigits, IsExponent, IsSign, IsNumber}
+use Rattle.hcl_tokens.specs.Spelling.{IsIdent, are_ident, starts_ident, continues_ident, IsDigits, IsExponent, IsSign, IsNumber}
 use Rattle.hcl_scan.proofs.BooleanLemmas.{and_true}
 
 -- a byte of an identifier

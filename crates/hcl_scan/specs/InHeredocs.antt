@@ -1,8 +1,8 @@
 -- Two readings that stand inside the same heredocs, where other text stands behind the outermost of them. It follows
 -- from the scan: the law `heredoc_kept`.
 use Rattle.std.specs.Prelude.{◌≡◌, ℕ, List, [], ◌∷◌}
-use Rattle.hcl_scan.specs.Lexemes.{Lexeme}
-use Rattle.hcl_scan.specs.Scans.{Hidden, Next, State}
+use Rattle.hcl_tokens.specs.Lexemes.{Lexeme}
+use Rattle.hcl_tokens.specs.Scans.{Hidden, Next, State}
 
 -- what the heredocs hide, with other text behind the closing marker of the outermost
 abbrev pub behind_last : List ℕ → List Hidden → List Hidden

@@ -1,12 +1,5 @@
-pub mod Kinds
-pub mod Lexemes
-pub mod Spelling
-pub mod Scans
-pub mod Faults
-pub mod Scanned
 pub mod Neighbours
 pub mod Regapped
 pub mod SideBySide
 pub mod InHeredocs
-pub mod Balanced
 pub mod Inner

@@ -4,10 +4,10 @@
 -- `neighbours`.
 use Rattle.std.specs.Prelude.{ℕ, ◌==◌, ◌||◌, ◌&&◌, not, Bool, true, false, List, [], ◌∷◌, nat_le, get_or, codes}
 use Rattle.std.specs.Char.{is_ascii_digit, is_ascii_alphanumeric}
-use Rattle.hcl_scan.specs.Kinds.{is}
-use Rattle.hcl_scan.specs.Spelling.{starts}
-use Rattle.hcl_scan.specs.declared.token.Kind.{Kind}
-use Rattle.hcl_scan.specs.declared.token.Kind.TheVariants.{LineComment, Ident, Number, Dot, Colon, Assign, Not, Slash, Less, Greater, Lit, InterpOpen, ControlOpen}
+use Rattle.hcl_tokens.specs.Kinds.{is}
+use Rattle.hcl_tokens.specs.Spelling.{starts}
+use Rattle.hcl_tokens.specs.declared.token.Kind.{Kind}
+use Rattle.hcl_tokens.specs.declared.token.Kind.TheVariants.{LineComment, Ident, Number, Dot, Colon, Assign, Not, Slash, Less, Greater, Lit, InterpOpen, ControlOpen}
 
 -- THE TABLE: behind a token of this kind, a text that begins with this byte may go on it
 abbrev pub grows : Kind → ℕ → Bool

@@ -2,11 +2,11 @@
 -- as they are. Nothing here knows why a blank is put. Our own words; that the numbers leave the tokens so is the law
 -- `other_gaps`.
 use Rattle.std.specs.Prelude.{ℕ, ◌+◌, ◌==◌, ◌||◌, not, Bool, true, false, IsTrue, List, [], ◌∷◌, ◌++◌, length, if◌then◌else◌, replicate, map}
-use Rattle.hcl_scan.specs.Lexemes.{Lexeme}
-use Rattle.hcl_scan.specs.Kinds.{is}
+use Rattle.hcl_tokens.specs.Lexemes.{Lexeme}
+use Rattle.hcl_tokens.specs.Kinds.{is}
 use Rattle.hcl_scan.specs.Neighbours.{joins}
-use Rattle.hcl_scan.specs.declared.token.Kind.{Kind}
-use Rattle.hcl_scan.specs.declared.token.Kind.TheVariants.{LineComment, Lit, InterpOpen, ControlOpen, QuoteClose, HeredocClose, Dot}
+use Rattle.hcl_tokens.specs.declared.token.Kind.{Kind}
+use Rattle.hcl_tokens.specs.declared.token.Kind.TheVariants.{LineComment, Lit, InterpOpen, ControlOpen, QuoteClose, HeredocClose, Dot}
 
 -- the tokens without the gaps
 abbrev pub without_gaps : List (ℕ × Lexeme) → List Lexeme

@@ -2,11 +2,11 @@
 -- blanks between them need not know how a text is read. It follows from the scan: the law `side_by_side`.
 use Rattle.std.specs.Prelude.{◌||◌, ◌≡◌, ℕ, ◌==◌, Bool, true, false, List, [], ◌∷◌, get_or, nat_le, codes, if◌then◌else◌, ◌⊎◌, IsUtf8}
 use Rattle.std.specs.Char.{is_ascii_digit, is_ascii_alphabetic}
-use Rattle.hcl_scan.specs.Lexemes.{Lexeme}
-use Rattle.hcl_scan.specs.Kinds.{is}
+use Rattle.hcl_tokens.specs.Lexemes.{Lexeme}
+use Rattle.hcl_tokens.specs.Kinds.{is}
 use Rattle.hcl_scan.specs.Regapped.{is_template}
-use Rattle.hcl_scan.specs.declared.token.Kind.{Kind}
-use Rattle.hcl_scan.specs.declared.token.Kind.TheVariants.{Newline, LineComment, InlineComment, HeredocOpen, QuoteOpen, SeqClose, Dot, Ellipsis, Colon, ColonColon, Assign, Arrow, Slash, Equal, Less, Greater, LessEqual, GreaterEqual, Lit, HeredocClose, Ident, Minus, Number, Star}
+use Rattle.hcl_tokens.specs.declared.token.Kind.{Kind}
+use Rattle.hcl_tokens.specs.declared.token.Kind.TheVariants.{Newline, LineComment, InlineComment, HeredocOpen, QuoteOpen, SeqClose, Dot, Ellipsis, Colon, ColonColon, Assign, Arrow, Slash, Equal, Less, Greater, LessEqual, GreaterEqual, Lit, HeredocClose, Ident, Minus, Number, Star}
 
 -- an identifier may begin with the byte; beyond ASCII its character decides
 abbrev pub may_begin_ident : ℕ → Bool

@@ -1,7 +1,7 @@
 //! Comments.
 
 ghost use Rattle.std.specs.Prelude.{◌<◌, ℕ, IfSome, IfNone};
-ghost use Rattle.hcl_scan.specs.Spelling.{IsInlineComment};
+ghost use Rattle.hcl_tokens.specs.Spelling.{IsInlineComment};
 ghost use Rattle.hcl_scan.specs.Inner.Found.{IsLongestFront, HasNoFront, EndsComment};
 
 /// Where the first `*/` begins.

@@ -2,18 +2,19 @@
 
 ghost use Rattle.std.specs.Prelude.{◌≡◌, ℕ, Bool, Some, None, IfSome, IfNone};
 ghost use Rattle.std.specs.Str.{IsCharBoundary};
-ghost use Rattle.hcl_scan.specs.Spelling.{punctuation, IsNewline};
+ghost use Rattle.hcl_tokens.specs.Spelling.{punctuation, IsNewline};
 ghost use Rattle.hcl_scan.specs.Inner.Found.{FindsAt, HasNoneAt, IsLongestFront, HasNoFront, IsLongestPunctuation, HasNoPunctuation, BlankText, NumberText, CloserText, closer_kind};
 ghost use Rattle.hcl_scan.specs.Inner.Leads.{lead_of, slash_lead};
 ghost use Rattle.hcl_scan.specs.declared.expression.Lead.TheVariants.{LessLess};
-ghost use Rattle.hcl_scan.specs.declared.token.Kind.TheVariants.{Newline};
+ghost use Rattle.hcl_tokens.specs.declared.token.Kind.TheVariants.{Newline};
 
 use crate::comment::inline_comment_len;
+use crate::found::Found;
 use crate::ident::{begun_ident, heredoc_open_len};
 use crate::number::{digits_len, number_len};
 use crate::punctuation::longest_punctuation;
 use crate::text::{blanks_len, byte_at, line_len, newline_len};
-use crate::token::{Found, Kind};
+use hcl_tokens::Kind;
 
 /// What the next token of an expression depends on, besides the text.
 #[derive(Clone, Copy)]

@@ -2,9 +2,9 @@
 
 ghost use Rattle.std.specs.Prelude.{◌≡◌, ◌≢◌, ◌<◌, ◌≤◌, ◌+◌, ◌-◌, ◌^◌, ℕ, false, get_or, codes, nat_eq, if◌then◌else◌, drop, length, IfSome, IfNone, IsTrue};
 ghost use Rattle.std.specs.List.{position_or_len, starts_with};
-ghost use Rattle.hcl_scan.specs.Lexemes.{is_newline_byte, marker_of};
-ghost use Rattle.hcl_scan.specs.Spelling.{starts, is_blank};
-ghost use Rattle.hcl_scan.specs.Scans.{skip_blanks, at_line_end, closer_len, IsMarkerLine, IsFirstMarkerLine};
+ghost use Rattle.hcl_tokens.specs.Lexemes.{is_newline_byte, marker_of};
+ghost use Rattle.hcl_tokens.specs.Spelling.{starts, is_blank};
+ghost use Rattle.hcl_tokens.specs.Scans.{skip_blanks, at_line_end, closer_len, IsMarkerLine, IsFirstMarkerLine};
 ghost use Rattle.hcl_scan.specs.Inner.MarkerPlaces.{IsPlace, IsBlankFront, EndsLine, IsNextLine, IsPassed};
 
 use crate::text::{count_blanks, is_blank, line_len, past_blanks, skip_blanks};

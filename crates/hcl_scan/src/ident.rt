@@ -4,13 +4,14 @@ ghost use Rattle.std.specs.Prelude.{◌≡◌, ◌==◌, ◌||◌, true, false, 
 ghost use Rattle.std.specs.Char.{is_ascii_alphabetic};
 ghost use Rattle.std.specs.List.{prefix_len};
 ghost use Rattle.std.specs.Str.{IsCharBoundary};
-ghost use Rattle.hcl_scan.specs.Spelling.{continues_ident, starts_ident, IsIdent, IsHeredocOpen};
-ghost use Rattle.hcl_scan.specs.declared.token.Kind.TheVariants.{Ident};
+ghost use Rattle.hcl_tokens.specs.Spelling.{continues_ident, starts_ident, IsIdent, IsHeredocOpen};
+ghost use Rattle.hcl_tokens.specs.declared.token.Kind.TheVariants.{Ident};
 ghost use Rattle.hcl_scan.specs.SideBySide.{may_begin_ident};
 ghost use Rattle.hcl_scan.specs.Inner.Found.{IsLongestFront, HasNoFront, AreContinuing, BeginsWith, BeginsWithout, FirstChar, IsMarker, continues_ascii, heredoc_mark_len};
 
+use crate::found::Found;
 use crate::text::{byte_at, newline_len};
-use crate::token::{Found, Kind};
+use hcl_tokens::Kind;
 
 fn continues_ident(c: char) -> bool
     ensures { result ≡ continues_ident c }

@@ -3,21 +3,21 @@
 
 ghost use Rattle.std.specs.Prelude.{◌≡◌, ◌⊎◌, ◌<◌, ◌≤◌, ◌+◌, ◌==◌, ◌++◌, ℕ, Bool, true, false, IsTrue, IsFalse, IsUtf8, IfSome, IfNone, List, [], ◌∷◌, length, take, drop, count_by};
 ghost use Rattle.std.specs.List.{flat_map};
-ghost use Rattle.hcl_scan.specs.Spelling.{IsSpelling};
-ghost use Rattle.hcl_scan.specs.Lexemes.{Lexeme, Opener, opened, in_heredoc, marker_of, max_open};
-ghost use Rattle.hcl_scan.specs.Scans.{Scans, State, Next, Run, IsLongest, IsFirstMarkerLine, Hidden, hides, at_line_end, skip_blanks};
+ghost use Rattle.hcl_tokens.specs.Spelling.{IsSpelling};
+ghost use Rattle.hcl_tokens.specs.Lexemes.{Lexeme, Opener, opened, in_heredoc, marker_of, max_open};
+ghost use Rattle.hcl_tokens.specs.Scans.{Scans, State, Next, Run, IsLongest, IsFirstMarkerLine, Hidden, hides, at_line_end, skip_blanks};
 ghost use Rattle.hcl_scan.specs.Neighbours.{stays};
 ghost use Rattle.hcl_scan.specs.Regapped.{AllFit, placed, text_with_gaps, without_gaps};
 ghost use Rattle.hcl_scan.specs.SideBySide.{AreTexts, Besides};
 ghost use Rattle.hcl_scan.specs.InHeredocs.{ReadsToo, SameInside};
-ghost use Rattle.hcl_scan.specs.declared.token.Kind.TheVariants.{Newline, HeredocOpen};
-ghost use Rattle.hcl_scan.specs.Kinds.{is};
-ghost use Rattle.hcl_scan.specs.Faults.{IsScanFault};
+ghost use Rattle.hcl_tokens.specs.declared.token.Kind.TheVariants.{Newline, HeredocOpen};
+ghost use Rattle.hcl_tokens.specs.Kinds.{is};
+ghost use Rattle.hcl_tokens.specs.Faults.{IsScanFault};
 ghost use Rattle.hcl_source.specs.Places.{line_of};
 ghost use Rattle.hcl_source.specs.Load.{max_source, IsText, IsLoadFault, has_byte_order_mark};
 ghost use Rattle.hcl_source.specs.declared.fault.Fault.{Fault};
 ghost use Rattle.hcl_source.specs.declared.fault.FaultKind.{FaultKind};
-ghost use Rattle.hcl_scan.specs.declared.token.Kind.{Kind};
+ghost use Rattle.hcl_tokens.specs.declared.token.Kind.{Kind};
 
 use crate::scanner::Scanner;
 use crate::stack::Room;

@@ -1,13 +1,13 @@
 //! The tokens of a file in HCL native syntax.
 //!
-//! Data flows one way: bytes from a [`ByteSource`] become a [`Source`], and [`scan`] makes its
-//! [`Tokens`]. All that `hcl_source` has is handed on, so that the crates above call this one alone.
-//! The module [`laws`] holds what is proved of the definitions alone.
+//! Data flows one way: bytes from a [`ByteSource`] become a [`Source`], and [`scan`] makes its [`Tokens`]. All that
+//! `hcl_source` has is handed on, and what callers need of `hcl_tokens`, so that where a text is scanned this crate is
+//! named alone. The module [`laws`] holds what is proved of the definitions alone.
 #![tactic(auto)]
 
 mod comment;
-mod entries;
 mod expression;
+mod found;
 mod heredoc;
 mod ident;
 pub mod laws;
@@ -18,13 +18,12 @@ mod scanner;
 mod stack;
 mod template;
 mod text;
-mod token;
 mod tokens;
 
-pub use hcl_source::{
-    ByteSink, ByteSource, Failed, Fault, FaultKind, FromRead, LoadError, MAX_SOURCE, MemorySink,
-    MemorySource, Position, SINK_ROOM, Source, ToWrite, WriteFault, write_fully,
+pub use hcl_tokens::{
+    ByteSink, ByteSource, Failed, Fault, FaultKind, FromRead, Kind, LoadError, MAX_SOURCE,
+    MemorySink, MemorySource, Position, SINK_ROOM, ScanError, Source, ToWrite, Token, Tokens,
+    WriteFault, write_fully,
 };
 pub use stack::MAX_OPEN;
-pub use token::{Kind, ScanError, Token};
-pub use tokens::{Tokens, scan};
+pub use tokens::scan;

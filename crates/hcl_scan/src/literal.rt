@@ -3,7 +3,7 @@
 ghost use Rattle.std.specs.Prelude.{◌≡◌, ◌+◌, ◌≤◌, ◌||◌, ◌&&◌, ◌∷◌, codes, take, drop, length, None, IsTrue};
 ghost use Rattle.std.specs.List.{list_all, prefix_len};
 ghost use Rattle.std.specs.Char.{is_ascii_hexdigit};
-ghost use Rattle.hcl_scan.specs.Spelling.{escape_len, element_len, are_elements, ends_quoted, hex_digits_after, is_dollar_or_percent, starts};
+ghost use Rattle.hcl_tokens.specs.Spelling.{escape_len, element_len, are_elements, ends_quoted, hex_digits_after, is_dollar_or_percent, starts};
 ghost use Rattle.hcl_scan.specs.Inner.Found.{is_ordinary};
 
 fn are_hex(bytes: &[u8]) -> bool

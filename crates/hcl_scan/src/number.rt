@@ -3,7 +3,7 @@
 ghost use Rattle.std.specs.Prelude.{◌≡◌, ◌==◌, ◌||◌, ◌≤◌, length, IfSome, IfNone};
 ghost use Rattle.std.specs.List.{prefix_len};
 ghost use Rattle.std.specs.Char.{is_ascii_digit};
-ghost use Rattle.hcl_scan.specs.Spelling.{IsDigits, IsFraction, IsSign, IsExponent, IsNumber};
+ghost use Rattle.hcl_tokens.specs.Spelling.{IsDigits, IsFraction, IsSign, IsExponent, IsNumber};
 ghost use Rattle.hcl_scan.specs.Inner.Found.{IsLongestFront, HasNoFront};
 
 use crate::text::byte_at;

@@ -1,12 +1,12 @@
 //! Operators and the other marks of expressions.
 
 ghost use Rattle.std.specs.Prelude.{◌≡◌, IfSome, IfNone};
-ghost use Rattle.hcl_scan.specs.Spelling.{punctuation};
+ghost use Rattle.hcl_tokens.specs.Spelling.{punctuation};
 ghost use Rattle.hcl_scan.specs.Inner.Found.{IsLongestPunctuation, HasNoPunctuation};
 ghost use Rattle.hcl_scan.specs.Inner.Punctuation.{first_punctuation};
 
 use crate::text::byte_at;
-use crate::token::Kind;
+use hcl_tokens::Kind;
 
 /// The first of the marks, longer ones first, that stands at the front, and its length in bytes.
 /// The second byte is looked at only behind a first one that may go on with one.

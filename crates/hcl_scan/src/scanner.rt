@@ -3,24 +3,25 @@
 ghost use Rattle.std.specs.Prelude.{◌≡◌, ◌<◌, ◌≤◌, ◌≢◌, ◌∷◌, [], List, true, false, None, Some, length, slice_range, IfSome, IfNone, IfOk, IfErr, OnOk};
 ghost use Rattle.std.specs.Str.{IsCharBoundary};
 ghost use Rattle.hcl_source.specs.Load.{max_source};
-ghost use Rattle.hcl_scan.specs.Lexemes.{in_heredoc};
-ghost use Rattle.hcl_scan.specs.Spelling.{context, Template, Expression};
-ghost use Rattle.hcl_scan.specs.Kinds.{is};
-ghost use Rattle.hcl_scan.specs.declared.token.Kind.TheVariants.{Dot, HeredocOpen};
-ghost use Rattle.hcl_scan.specs.Scans.{ahead, begin, HasNone, IsComplete};
-ghost use Rattle.hcl_scan.specs.Faults.{no_token_fault};
+ghost use Rattle.hcl_tokens.specs.Lexemes.{in_heredoc};
+ghost use Rattle.hcl_tokens.specs.Spelling.{context, Template, Expression};
+ghost use Rattle.hcl_tokens.specs.Kinds.{is};
+ghost use Rattle.hcl_tokens.specs.declared.token.Kind.TheVariants.{Dot, HeredocOpen};
+ghost use Rattle.hcl_tokens.specs.Scans.{ahead, begin, HasNone, IsComplete};
+ghost use Rattle.hcl_tokens.specs.Faults.{no_token_fault};
 ghost use Rattle.hcl_scan.specs.Inner.Found.{Finds};
 ghost use Rattle.hcl_scan.specs.Inner.Openings.{openers_of, opens_or_closes, opened_by};
 ghost use Rattle.hcl_scan.specs.declared.stack.Opened.{Opened};
 ghost use Rattle.hcl_scan.specs.Inner.Scanners.{state_of, IsSound, IsStart, IsNext, IsStopped, Moves};
 
 use crate::expression::{Surroundings, next_in_expression};
+use crate::found::Found;
 use crate::heredoc::{closer_len, marker_line, marker_of};
 use crate::stack::{Opener, Room, Stack};
 use crate::template::next_in_template;
 use crate::text::past_blanks;
-use crate::token::{Entry, Found, Kind};
 use hcl_source::FaultKind;
+use hcl_tokens::{Entry, Kind};
 use std::marker::Model;
 
 /// A fault, and the offset at which it stands.
@@ -38,8 +39,8 @@ struct AfterDot {
 
 impl Model for AfterDot {
     ghost use Rattle.std.specs.Prelude.{Bool};
-    ghost use Rattle.hcl_scan.specs.Kinds.{is};
-    ghost use Rattle.hcl_scan.specs.declared.token.Kind.TheVariants.{Dot};
+    ghost use Rattle.hcl_tokens.specs.Kinds.{is};
+    ghost use Rattle.hcl_tokens.specs.declared.token.Kind.TheVariants.{Dot};
 
     ghost Value = { Bool };
 

@@ -2,13 +2,14 @@
 
 ghost use Rattle.std.specs.Prelude.{◌≡◌, ◌≤◌, Bool, List, length, drop, codes, if◌then◌else◌, IfSome, IfNone, IsUtf8};
 ghost use Rattle.std.specs.Str.{IsCharBoundary};
-ghost use Rattle.hcl_scan.specs.Lexemes.{Opener};
-ghost use Rattle.hcl_scan.specs.Spelling.{Template, context, starts};
+ghost use Rattle.hcl_tokens.specs.Lexemes.{Opener};
+ghost use Rattle.hcl_tokens.specs.Spelling.{Template, context, starts};
 ghost use Rattle.hcl_scan.specs.Inner.Found.{Finds};
-ghost use Rattle.hcl_scan.specs.Scans.{HasNone};
+ghost use Rattle.hcl_tokens.specs.Scans.{HasNone};
 
+use crate::found::Found;
 use crate::literal::literal_len;
-use crate::token::{Found, Kind};
+use hcl_tokens::Kind;
 
 /// How many bytes the opener of a sequence has, which is there: the longer one where it fits.
 fn sequence_open_len(seen: &[u8]) -> usize

@@ -2,9 +2,9 @@
 
 ghost use Rattle.std.specs.Prelude.{◌≡◌, ◌==◌, ◌≤◌, ◌+◌, length, get_or, slice_range, IfSome, IfNone};
 ghost use Rattle.std.specs.List.{prefix_len, position_or_len};
-ghost use Rattle.hcl_scan.specs.Spelling.{is_blank, IsNewline, IsBlanks};
+ghost use Rattle.hcl_tokens.specs.Spelling.{is_blank, IsNewline, IsBlanks};
 ghost use Rattle.hcl_scan.specs.Inner.Found.{IsLongestFront, HasNoFront};
-ghost use Rattle.hcl_scan.specs.Scans.{skip_blanks};
+ghost use Rattle.hcl_tokens.specs.Scans.{skip_blanks};
 
 /// The byte at the index, or 0 behind the end.
 pub(crate) fn byte_at(text: &[u8], index: usize) -> u8

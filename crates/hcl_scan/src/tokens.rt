@@ -1,92 +1,14 @@
-//! The tokens of a source.
+//! The scan of a source.
 
-ghost use Rattle.std.specs.Prelude.{◌≡◌, ◌≤◌, ◌<◌, ◌==◌, Some, drop, length, slice_get, take, IfOk, IfErr};
-ghost use Rattle.std.specs.Str.{IsCharBoundary};
-ghost use Rattle.hcl_scan.specs.Lexemes.{Lexeme};
-ghost use Rattle.hcl_scan.specs.Scans.{Scans};
-ghost use Rattle.hcl_scan.specs.Scanned.{lexeme, IsScanError};
+ghost use Rattle.std.specs.Prelude.{◌≡◌, IfOk, IfErr};
+ghost use Rattle.hcl_tokens.specs.Scans.{Scans};
+ghost use Rattle.hcl_tokens.specs.Scanned.{IsScanError};
 
-use crate::entries::Entries;
 use crate::scanner::Scanner;
 use crate::stack::Room;
-use crate::token::{Kind, ScanError, Token};
 use hcl_source::{Fault, Source};
+use hcl_tokens::{Entries, ScanError, Tokens};
 use std::alloc::Global;
-use std::marker::Model;
-
-/// The tokens of a source. Only [`scan`] makes one, so they are always the tokens of that source.
-#[derive(Debug, Drop)]
-pub struct Tokens<'s> {
-    origin: &'s Source,
-    entries: Entries,
-}
-
-impl<'s> Model for Tokens<'s> {
-    ghost use Rattle.hcl_scan.specs.Scanned.{Scanned};
-
-    ghost Value = { Scanned };
-
-    ghost use Rattle.hcl_scan.specs.Inner.Scanners.{lexemes_of};
-    ghost use Rattle.hcl_scan.specs.Inner.Entries.{AreTokens};
-
-    ghost view = { λ t. record { text = t.origin.now; tokens = lexemes_of t.origin.now t.entries } };
-
-    ghost invariant = { λ t. AreTokens t.origin.now t.entries };
-}
-
-impl<'s> Tokens<'s> {
-    /// The source that was scanned.
-    pub fn source(&self) -> &'s Source
-        ensures source { result.now ≡ self.now.text }
-        ensures scanned { Scans self.now.text self.now.tokens }
-    {
-        let _ = &self.entries;
-        self.origin
-    }
-
-    /// How many tokens there are: no more than the source has bytes.
-    pub fn len(&self) -> usize
-        ensures len { result ≡ length self.now.tokens }
-        ensures small { result ≤ length self.now.text }
-    {
-        self.entries.len()
-    }
-
-    /// Whether there is no token.
-    pub fn is_empty(&self) -> bool
-        ensures { result ≡ (length self.now.tokens == 0) }
-    {
-        self.entries.is_empty()
-    }
-
-    /// The token of this number.
-    #[inline(always)]
-    pub fn get(&self, i: usize) -> Token<'s>
-        requires { i < length self.now.tokens }
-        ensures token { slice_get self.now.tokens i ≡ Some (lexeme result) }
-        ensures start { IsCharBoundary self.now.text result.start }
-        ensures text { result.text.now ≡ take (length result.text.now) (drop result.start self.now.text) }
-    {
-        let given = self.entries.get(i);
-        let start = given.start;
-        Token {
-            kind: given.kind,
-            text: &self.origin.text()[start..start + given.length],
-            start,
-            inside_heredoc: given.inside_heredoc,
-        }
-    }
-
-    /// The kind of the token of this number.
-    #[inline(always)]
-    pub fn kind(&self, i: usize) -> Kind
-        requires { i < length self.now.tokens }
-        ensures { (t : Lexeme) → slice_get self.now.tokens i ≡ Some t → result ≡ t.kind }
-    {
-        let _ = &self.origin;
-        self.entries.kind(i)
-    }
-}
 
 /// The tokens of a source, or the one fault that it is refused for.
 pub fn scan<'s>(alloc: Global, source: &'s Source) -> Result<Tokens<'s>, ScanError>
@@ -111,8 +33,5 @@ pub fn scan<'s>(alloc: Global, source: &'s Source) -> Result<Tokens<'s>, ScanErr
             }
         }
     }
-    Ok(Tokens {
-        origin: source,
-        entries,
-    })
+    Ok(Tokens::new(source, entries))
 }

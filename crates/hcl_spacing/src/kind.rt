@@ -1,7 +1,7 @@
 //! Kinds of tokens, as the spacing groups them.
 
 ghost use Rattle.std.specs.Prelude.{◌≡◌};
-ghost use Rattle.hcl_scan.specs.Balanced.{is_opener as is_opener_of};
+ghost use Rattle.hcl_tokens.specs.Balanced.{is_opener as is_opener_of};
 ghost use Rattle.hcl_spacing.specs.Spacing.{closes_group as closes_group_of, is_operator as is_operator_of, awaits_operand as awaits_operand_of};
 
 use hcl_scan::Kind;

@@ -1,12 +1,12 @@
 //! What is proved of the definitions alone. No program calls these functions: their contracts are the laws.
 
 ghost use Rattle.std.specs.Prelude.{◌≡◌, Option, false, true};
-ghost use Rattle.hcl_scan.specs.Lexemes.{Lexeme};
+ghost use Rattle.hcl_tokens.specs.Lexemes.{Lexeme};
 ghost use Rattle.hcl_scan.specs.Neighbours.{joins};
 ghost use Rattle.hcl_scan.specs.Regapped.{is_template};
 ghost use Rattle.hcl_scan.specs.SideBySide.{Beside};
-ghost use Rattle.hcl_scan.specs.Kinds.{is};
-ghost use Rattle.hcl_scan.specs.declared.token.Kind.TheVariants.{Dot, Newline};
+ghost use Rattle.hcl_tokens.specs.Kinds.{is};
+ghost use Rattle.hcl_tokens.specs.declared.token.Kind.TheVariants.{Dot, Newline};
 ghost use Rattle.hcl_spacing.specs.Spacing.{spaced, stands_before};
 
 /// Outside heredocs and templates neighbours are parted that a scan would read otherwise if they stood together.

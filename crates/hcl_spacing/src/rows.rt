@@ -4,7 +4,7 @@
 //! Nearly always two kinds tell their blank, and it is asked of every token: so a row is two sets of kinds, with a bit for
 //! each kind, and a pair is looked up without a jump.
 ghost use Rattle.std.specs.Prelude.{◌≡◌, Option};
-ghost use Rattle.hcl_scan.specs.declared.token.Kind.{Kind};
+ghost use Rattle.hcl_tokens.specs.declared.token.Kind.{Kind};
 ghost use Rattle.hcl_spacing.specs.Inner.KindPairs.{has as has_of, pair_space as pair_space_of, stands_close as stands_close_of, told as told_of};
 
 use hcl_scan::Kind;

@@ -1,10 +1,10 @@
 //! One blank or none between two neighbours on a line. The words in quotation marks are headings of `docs/STYLE.md`, "Between
 //! two words of a line", where each rule stands with its examples.
 ghost use Rattle.std.specs.Prelude.{◌≡◌, ◌||◌, IfNone, IfSome, IsTrue, Option, false, option_map, true};
-ghost use Rattle.hcl_scan.specs.Lexemes.{Lexeme};
-ghost use Rattle.hcl_scan.specs.Scanned.{lexeme};
-ghost use Rattle.hcl_scan.specs.Kinds.{is};
-ghost use Rattle.hcl_scan.specs.declared.token.Kind.TheVariants.{Dot, Ident, Newline};
+ghost use Rattle.hcl_tokens.specs.Lexemes.{Lexeme};
+ghost use Rattle.hcl_tokens.specs.Scanned.{lexeme};
+ghost use Rattle.hcl_tokens.specs.Kinds.{is};
+ghost use Rattle.hcl_tokens.specs.declared.token.Kind.TheVariants.{Dot, Ident, Newline};
 ghost use Rattle.hcl_spacing.specs.Spacing.{asks_more, begins_with_colon as begins_with_colon_of, begins_with_equals as begins_with_equals_of, is_opening as is_opening_of, spaced, stands_before};
 ghost use Rattle.hcl_spacing.specs.Inner.KindPairs.{asked_space as asked_space_of};
 

@@ -2,7 +2,7 @@
 use Rattle.std.proofs.Common.{◌≡◌, ◌∙◌, ap, ap₂, sym, refl, ℕ, suc, zero, ◌+◌, ◌-◌, ◌≤◌, ◌<◌, Bool, true, false, cond, not, min, List, [], ◌∷◌, ◌++◌, append_assoc, take, drop, arith}
 use Rattle.std.specs.Prelude.{filter, nat_lt}
 use borrow.Author.Tests.{ltb-true, ltb-false}
-use Rattle.hcl_scan.specs.Lexemes.{Lexeme}
+use Rattle.hcl_tokens.specs.Lexemes.{Lexeme}
 use Rattle.hcl_grammar.specs.Numbered.{Numbered, numbered_from, uncommented, is_comment}
 use Rattle.hcl_grammar.specs.Items.{behind_brace, block_end, body, labels}
 use Rattle.hcl_syntax.specs.Inner.Pieces.{between, words}

@@ -1,7 +1,7 @@
 use Rattle.std.proofs.Common.{◌≡◌, ℕ, ◌+◌, ◌≤◌, Bool, true, false, List, [], ◌∷◌, length, arith, refl, cond, sym, ap, ◌∙◌, Some, suc, ◌<◌, get_or, drop, drop-cons}
 use Rattle.std.specs.Prelude.{slice_get}
 use Rattle.std.proofs.lemmas.Option.{slice_get_within, get_or_from_slice_get}
-use Rattle.hcl_scan.specs.Lexemes.{Lexeme}
+use Rattle.hcl_tokens.specs.Lexemes.{Lexeme}
 use Rattle.hcl_grammar.specs.Classes.{class_of, lookaheads_from}
 use Rattle.hcl_grammar.specs.declared.class.Lookahead.{Lookahead}
 use Rattle.hcl_grammar.specs.declared.class.Class.{Class}

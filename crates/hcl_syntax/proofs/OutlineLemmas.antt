@@ -2,7 +2,7 @@
 use Rattle.std.proofs.Common.{◌≡◌, ◌∙◌, ap, sym, refl, ℕ, suc, ◌+◌, ◌-◌, ◌≤◌, ◌<◌, not, min, List, [], ◌∷◌, ◌++◌, append_assoc, length, take, arith}
 use Rattle.std.specs.List.{flat_map}
 use Rattle.std.proofs.lemmas.List.{append-nil}
-use Rattle.hcl_scan.specs.Lexemes.{Lexeme}
+use Rattle.hcl_tokens.specs.Lexemes.{Lexeme}
 use Rattle.hcl_grammar.specs.Numbered.{Numbered, numbered, numbered_from, uncommented, is_comment}
 use Rattle.hcl_grammar.specs.Items.{pieces, item_of, outline}
 use Rattle.hcl_syntax.specs.Inner.Pieces.{words, newline_from, items_at}

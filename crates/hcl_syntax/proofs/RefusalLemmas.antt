@@ -1,6 +1,6 @@
 -- Which tokens the refusals of the predictor name.
 use Rattle.std.proofs.Common.{◌≡◌, ℕ, ◌+◌, ◌<◌, ◌≤◌, Bool, true, false, cond, List, [], ◌∷◌, length, Some, arith, subst}
-use Rattle.hcl_scan.specs.Lexemes.{Lexeme, Opener}
+use Rattle.hcl_tokens.specs.Lexemes.{Lexeme, Opener}
 use Rattle.hcl_grammar.specs.declared.class.Lookahead.{Lookahead}
 use Rattle.hcl_grammar.specs.declared.refusal.Refusal.{Refusal}
 use Rattle.hcl_grammar.specs.declared.refusal.Refusal.TheVariants.{UnexpectedToken, UnexpectedEnd, TooDeep}

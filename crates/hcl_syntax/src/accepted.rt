@@ -7,7 +7,7 @@ ghost use Rattle.hcl_syntax.specs.Inner.Parsing.{Names};
 
 use crate::cursor::Cursor;
 use hcl_grammar::{Accepted, Refusal};
-use hcl_scan::{Fault, FaultKind, Position, Tokens};
+use hcl_tokens::{Fault, FaultKind, Position, Tokens};
 
 /// Where the token of this number begins.
 fn position_of(tokens: &Tokens, number: usize) -> Position

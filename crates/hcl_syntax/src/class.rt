@@ -7,7 +7,7 @@ ghost use Rattle.hcl_grammar.specs.Classes.{word_of, class_at, lookaheads_from};
 ghost use Rattle.hcl_grammar.specs.Classes.{is_trivia};
 
 use hcl_grammar::{Class, Lookahead, Word};
-use hcl_scan::{Kind, Tokens};
+use hcl_tokens::{Kind, Tokens};
 
 fn word_of(text: &str) -> Word
     ensures { result ≡ word_of text.now }

@@ -9,7 +9,7 @@ ghost use Rattle.hcl_syntax.specs.Inner.Parsing.{Parses, TookTerminal, LacksTerm
 
 use crate::class::lookahead_at;
 use hcl_grammar::{Class, Lookahead, Newlines, Refusal, Terminal, Word};
-use hcl_scan::Tokens;
+use hcl_tokens::Tokens;
 use std::marker::Model;
 
 /// The tokens from some number on, as the grammar sees them.

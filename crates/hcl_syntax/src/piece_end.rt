@@ -5,7 +5,7 @@ ghost use Rattle.hcl_source.specs.Load.{max_source};
 ghost use Rattle.hcl_syntax.specs.Inner.Pieces.{AreEnds, nesting_of, AreNewlinesAhead};
 
 use crate::nesting::Nesting;
-use hcl_scan::{Kind, MAX_SOURCE, Tokens};
+use hcl_tokens::{Kind, MAX_SOURCE, Tokens};
 use std::alloc::{AllocError, Global};
 
 fn nesting_of(kind: Kind) -> Nesting

@@ -10,7 +10,7 @@ use crate::words::{
     behind_brace, block_end, closing_quote, first_word, is_assign, is_brace_open, words_end,
 };
 use hcl_grammar::Outline;
-use hcl_scan::{Kind, Tokens};
+use hcl_tokens::{Kind, Tokens};
 use std::alloc::AllocError;
 
 /// The tokens between a block's braces, by the number of the first and one past that of the last; it may be empty.

@@ -1,13 +1,13 @@
 //! Tokens that are no comments, and what is looked for among them.
 
 ghost use Rattle.std.specs.Prelude.{◌≡◌, ◌≤◌, [], filter, length, MatchOption};
-ghost use Rattle.hcl_scan.specs.Kinds.{is};
-ghost use Rattle.hcl_scan.specs.declared.token.Kind.TheVariants.{Assign, BraceClose, BraceOpen, QuoteClose};
+ghost use Rattle.hcl_tokens.specs.Kinds.{is};
+ghost use Rattle.hcl_tokens.specs.declared.token.Kind.TheVariants.{Assign, BraceClose, BraceOpen, QuoteClose};
 ghost use Rattle.hcl_syntax.specs.Inner.Pieces.{IsFirst, words};
 ghost use Rattle.hcl_grammar.specs.Items.{behind_brace, block_end, closing_quote};
 ghost use Rattle.hcl_grammar.specs.Numbered.{end_of, is_comment};
 
-use hcl_scan::{Kind, Tokens};
+use hcl_tokens::{Kind, Tokens};
 
 /// A token that is no comment, and its number.
 #[derive(Clone, Copy)]

@@ -3,11 +3,11 @@ use Rattle.std.proofs.Common.{◌≡◌, ◌∙◌, ap, sym, refl, true≢false,
 use Rattle.std.specs.Prelude.{◌==◌, ◌&&◌, Some, slice_get}
 use Rattle.std.proofs.lemmas.List.{reverse-append, get_or-set_same, get_or-set_other, length-set, length-replicate}
 use Rattle.std.proofs.lemmas.Bool.{cases_eq}
-use Rattle.hcl_scan.specs.Kinds.{is}
-use Rattle.hcl_scan.specs.Lexemes.{Lexeme}
-use Rattle.hcl_scan.specs.declared.token.Kind.{Kind}
-use Rattle.hcl_scan.specs.declared.token.Kind.TheVariants as kind
-use Rattle.hcl_scan.specs.Balanced.{opening, closing}
+use Rattle.hcl_tokens.specs.Kinds.{is}
+use Rattle.hcl_tokens.specs.Lexemes.{Lexeme}
+use Rattle.hcl_tokens.specs.declared.token.Kind.{Kind}
+use Rattle.hcl_tokens.specs.declared.token.Kind.TheVariants as kind
+use Rattle.hcl_tokens.specs.Balanced.{opening, closing}
 use Rattle.hcl_grammar.specs.Items.{deepen, is_closed}
 use Rattle.hcl_grammar.specs.Numbered.{is_passed_over}
 use Rattle.tf_facts.specs.Patterns.{begins_with_close, behind_closer}

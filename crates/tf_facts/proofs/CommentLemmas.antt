@@ -3,7 +3,7 @@ use Rattle.std.proofs.Common.{◌≡◌, ◌∙◌, ap, sym, refl, ℕ, ◌+◌,
 use Rattle.std.specs.Prelude.{◌||◌, Some, filter, slice_get}
 use Rattle.std.specs.List.{list_any}
 use Rattle.std.proofs.lemmas.List.{append-nil, map-append}
-use Rattle.hcl_scan.specs.Lexemes.{Lexeme}
+use Rattle.hcl_tokens.specs.Lexemes.{Lexeme}
 use Rattle.hcl_grammar.specs.Numbered.{numbered}
 use Rattle.hcl_grammar.proofs.NumberedLemmas.{numbered_at, numbered_here, numbered_past}
 use Rattle.tf_facts.specs.Comments.{Comment, comment_of, comments, if_telling, is_any}

@@ -5,7 +5,7 @@ use Rattle.std.specs.List.{list_any}
 use Rattle.std.proofs.lemmas.Bool.{lt-ltb, le-ltb, lt-leb}
 use Rattle.std.specs.Str.{bytes_eq}
 use Rattle.tf_facts.specs.OwnBlocks.{own_of, Apart, ArePassed}
-use Rattle.hcl_scan.specs.Lexemes.{Lexeme}
+use Rattle.hcl_tokens.specs.Lexemes.{Lexeme}
 use Rattle.hcl_grammar.specs.Numbered.{Numbered, numbered}
 use Rattle.hcl_grammar.specs.Items.{is_closed, outline}
 use Rattle.hcl_grammar.specs.Labels.{text_of}

@@ -2,11 +2,11 @@
 use Rattle.std.proofs.Common.{◌≡◌, ◌∙◌, ap, sym, refl, true≢false, ℕ, suc, zero, ◌+◌, ◌<◌, ◌≤◌, arith, Bool, true, false, cond, List, [], ◌∷◌, ◌++◌, append_assoc, length}
 use Rattle.std.specs.Prelude.{◌&&◌, Some, slice_get}
 use Rattle.std.proofs.lemmas.List.{append-nil}
-use Rattle.hcl_scan.specs.Lexemes.{Lexeme}
-use Rattle.hcl_scan.specs.declared.token.Kind.{Kind}
-use Rattle.hcl_scan.specs.declared.token.Kind.TheVariants as kind
+use Rattle.hcl_tokens.specs.Lexemes.{Lexeme}
+use Rattle.hcl_tokens.specs.declared.token.Kind.{Kind}
+use Rattle.hcl_tokens.specs.declared.token.Kind.TheVariants as kind
 use Rattle.hcl_grammar.specs.Numbered.{Numbered, is_passed_over}
-use Rattle.hcl_scan.specs.Kinds.{is}
+use Rattle.hcl_tokens.specs.Kinds.{is}
 use Rattle.tf_facts.specs.Patterns.{begins_with_close, behind_closer, is_index, is_wrapped, numbers_where}
 use Rattle.tf_facts.specs.Inner.Seen.{number_of, seen_from}
 use Rattle.tf_facts.proofs.SeenLemmas.{seen_here, seen_none, seen_past}

@@ -1,7 +1,7 @@
 -- What patterns see from a number on, token by token.
 use Rattle.std.proofs.Common.{◌≡◌, ◌∙◌, ap, refl, ℕ, suc, zero, ◌+◌, ◌≤◌, true, false, cond, not, List, [], ◌∷◌, drop, length, arith}
 use Rattle.std.specs.Prelude.{Some, slice_get}
-use Rattle.hcl_scan.specs.Lexemes.{Lexeme}
+use Rattle.hcl_tokens.specs.Lexemes.{Lexeme}
 use Rattle.hcl_grammar.specs.Numbered.{numbered_from, significant, is_passed_over}
 use Rattle.hcl_grammar.proofs.NumberedLemmas.{drop_at}
 use Rattle.tf_facts.specs.Inner.Seen.{number_of, seen_from}

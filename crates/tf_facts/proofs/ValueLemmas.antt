@@ -1,7 +1,7 @@
 -- The tokens of a value, one by one.
 use Rattle.std.proofs.Common.{◌≡◌, ◌∙◌, ap, sym, ℕ, suc, ◌+◌, ◌-◌, ◌<◌, ◌≤◌, true, false, cond, List, [], ◌∷◌, take, drop, arith}
 use Rattle.std.specs.Prelude.{Some, filter, slice_get}
-use Rattle.hcl_scan.specs.Lexemes.{Lexeme}
+use Rattle.hcl_tokens.specs.Lexemes.{Lexeme}
 use Rattle.hcl_grammar.specs.Numbered.{numbered}
 use Rattle.hcl_grammar.proofs.NumberedLemmas.{numbered_at, numbered_here}
 use Rattle.tf_facts.specs.Inner.Seen.{number_of}

@@ -6,8 +6,8 @@ use Rattle.std.specs.List.{list_any}
 use Rattle.std.specs.Str.{bytes_eq}
 use Rattle.hcl_grammar.specs.Numbered.{Numbered, is_comment}
 use Rattle.hcl_grammar.specs.Items.{items_of, is_closed}
-use Rattle.hcl_scan.specs.Kinds.{is}
-use Rattle.hcl_scan.specs.declared.token.Kind.TheVariants.{Lit, Newline, QuoteClose, QuoteOpen}
+use Rattle.hcl_tokens.specs.Kinds.{is}
+use Rattle.hcl_tokens.specs.declared.token.Kind.TheVariants.{Lit, Newline, QuoteClose, QuoteOpen}
 use Rattle.hcl_grammar.specs.Labels.{text_of, label_text}
 use Rattle.hcl_grammar.specs.declared.item.Item.{Item}
 use Rattle.hcl_grammar.specs.declared.item.Item.TheVariants as item

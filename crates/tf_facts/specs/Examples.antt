@@ -1,8 +1,8 @@
 -- The definitions at work on small files, by computation.
 use Rattle.std.specs.Prelude.{◌≡◌, ℕ, refl, List, [], ◌∷◌, ◌++◌, codes, true, false, None}
-use Rattle.hcl_scan.specs.Lexemes.{Lexeme}
-use Rattle.hcl_scan.specs.declared.token.Kind.{Kind}
-use Rattle.hcl_scan.specs.declared.token.Kind.TheVariants.{Newline, LineComment, Ident, QuoteOpen, BraceOpen, BraceClose, Dot, Assign, Lit, InterpOpen, SeqClose, QuoteClose, NotEqual}
+use Rattle.hcl_tokens.specs.Lexemes.{Lexeme}
+use Rattle.hcl_tokens.specs.declared.token.Kind.{Kind}
+use Rattle.hcl_tokens.specs.declared.token.Kind.TheVariants.{Newline, LineComment, Ident, QuoteOpen, BraceOpen, BraceClose, Dot, Assign, Lit, InterpOpen, SeqClose, QuoteClose, NotEqual}
 use Rattle.hcl_grammar.specs.Numbered.{numbered}
 use Rattle.tf_facts.specs.Declarations.{declarations}
 use Rattle.tf_facts.specs.References.{references}

@@ -1,11 +1,11 @@
 -- The two rules that go by tokens alone: the numbers of the tokens that each reports. They run over the tokens of a
 -- file without comments, blanks and newlines.
 use Rattle.std.specs.Prelude.{ℕ, ◌==◌, ◌&&◌, ◌++◌, Bool, false, List, [], ◌∷◌, if◌then◌else◌}
-use Rattle.hcl_scan.specs.declared.token.Kind.TheVariants as kind
-use Rattle.hcl_scan.specs.Balanced.{closing}
+use Rattle.hcl_tokens.specs.declared.token.Kind.TheVariants as kind
+use Rattle.hcl_tokens.specs.Balanced.{closing}
 use Rattle.hcl_grammar.specs.Items.{deepen, is_closed}
 use Rattle.hcl_grammar.specs.Numbered.{Numbered, significant}
-use Rattle.hcl_scan.specs.Kinds.{is}
+use Rattle.hcl_tokens.specs.Kinds.{is}
 
 abbrev pub is_index : List Numbered → Bool
 is_index (d ∷ n ∷ rest) = is kind.Dot d.kind && is kind.Number n.kind

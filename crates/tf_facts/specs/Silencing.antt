@@ -4,7 +4,7 @@
 use Rattle.std.specs.Prelude.{ℕ, ◌==◌, ◌||◌, Bool, List, [], codes, length, drop, filter, if◌then◌else◌}
 use Rattle.std.specs.List.{list_any, before_first, slice_split}
 use Rattle.std.specs.Str.{bytes_eq}
-use Rattle.hcl_scan.specs.Spelling.{is_blank}
+use Rattle.hcl_tokens.specs.Spelling.{is_blank}
 use Rattle.tf_facts.specs.Texts.{begins, without_front, without_end}
 use Rattle.tf_facts.specs.Rules.{all_rules, rule_name}
 use Rattle.tf_facts.specs.declared.rule.Rule.{Rule}

@@ -1,14 +1,14 @@
 //! Which openers are closed directly before a closing quote.
 
 ghost use Rattle.std.specs.Prelude.{◌≡◌, ◌==◌, ◌<◌, ◌+◌, false, length, get_or, reverse, if◌then◌else◌, IfOk, OnOk};
-ghost use Rattle.hcl_scan.specs.Kinds.{is};
-ghost use Rattle.hcl_scan.specs.declared.token.Kind.TheVariants.{QuoteClose};
-ghost use Rattle.hcl_scan.specs.Balanced.{closing, opening};
+ghost use Rattle.hcl_tokens.specs.Kinds.{is};
+ghost use Rattle.hcl_tokens.specs.declared.token.Kind.TheVariants.{QuoteClose};
+ghost use Rattle.hcl_tokens.specs.Balanced.{closing, opening};
 ghost use Rattle.hcl_grammar.specs.Numbered.{is_passed_over};
 ghost use Rattle.tf_facts.specs.Inner.Closings.{AreAhead, AreClosings, quote_from};
 
 use crate::seen::is_passed_over;
-use hcl_scan::{Kind, Tokens};
+use hcl_tokens::{Kind, Tokens};
 use std::alloc::{AllocError, Global};
 
 fn is_opener(kind: Kind) -> bool

@@ -2,9 +2,9 @@
 
 ghost use Rattle.std.specs.Prelude.{◌≡◌, ◌<◌, ◌||◌, length, map, slice_get, Some, IfOk};
 ghost use Rattle.std.specs.List.{list_any};
-ghost use Rattle.hcl_scan.specs.Kinds.{is};
-ghost use Rattle.hcl_scan.specs.declared.token.Kind.TheVariants.{LineComment};
-ghost use Rattle.hcl_scan.specs.Lexemes.{Lexeme};
+ghost use Rattle.hcl_tokens.specs.Kinds.{is};
+ghost use Rattle.hcl_tokens.specs.declared.token.Kind.TheVariants.{LineComment};
+ghost use Rattle.hcl_tokens.specs.Lexemes.{Lexeme};
 ghost use Rattle.hcl_grammar.specs.Numbered.{numbered};
 ghost use Rattle.tf_facts.specs.Comments.{comment_of, comments, if_telling, is_any};
 ghost use Rattle.tf_facts.specs.RuleSets.{holds, rules_of};
@@ -17,7 +17,7 @@ use crate::found::FoundComment;
 use crate::rule::{ALL_RULES, Rule};
 use crate::rule_set::RuleSet;
 use crate::silencing::{has_slashes, silenced_rules};
-use hcl_scan::{Kind, Tokens};
+use hcl_tokens::{Kind, Tokens};
 use std::alloc::{AllocError, Global};
 
 fn is_line_comment(kind: Kind) -> bool

@@ -1,7 +1,7 @@
 //! What is proved of the definitions alone. No program calls these functions: their contracts are the laws.
 
 ghost use Rattle.std.specs.Prelude.{List};
-ghost use Rattle.hcl_scan.specs.Lexemes.{Lexeme};
+ghost use Rattle.hcl_tokens.specs.Lexemes.{Lexeme};
 ghost use Rattle.hcl_grammar.specs.Numbered.{numbered};
 ghost use Rattle.tf_facts.specs.OwnBlocks.{Apart};
 ghost use Rattle.tf_facts.specs.References.{own_blocks};

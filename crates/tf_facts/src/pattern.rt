@@ -1,9 +1,9 @@
 //! The patterns of tokens that two rules report.
 
 ghost use Rattle.std.specs.Prelude.{◌≡◌, ◌<◌, ◌∷◌, ◌+◌, ◌^◌, length, slice_get, Some, IfOk};
-ghost use Rattle.hcl_scan.specs.Kinds.{is};
-ghost use Rattle.hcl_scan.specs.declared.token.Kind.TheVariants.{InterpOpen, Number, QuoteOpen};
-ghost use Rattle.hcl_scan.specs.Lexemes.{Lexeme};
+ghost use Rattle.hcl_tokens.specs.Kinds.{is};
+ghost use Rattle.hcl_tokens.specs.declared.token.Kind.TheVariants.{InterpOpen, Number, QuoteOpen};
+ghost use Rattle.hcl_tokens.specs.Lexemes.{Lexeme};
 ghost use Rattle.hcl_grammar.specs.Numbered.{numbered};
 ghost use Rattle.tf_facts.specs.Patterns.{is_index, is_wrapped, legacy_indexes, wrapped_interpolations};
 ghost use Rattle.tf_facts.specs.Inner.Closings.{AreClosings};
@@ -12,7 +12,7 @@ ghost use Rattle.tf_facts.specs.Inner.Seen.{number_of, seen_from};
 use crate::closing::closings;
 use crate::reference::is_dot;
 use crate::seen::next_seen;
-use hcl_scan::{Kind, Tokens};
+use hcl_tokens::{Kind, Tokens};
 use std::alloc::{AllocError, Global};
 
 fn is_number(kind: Kind) -> bool

@@ -2,15 +2,15 @@
 
 ghost use Rattle.std.specs.Prelude.{◌≡◌, ◌≤◌, ◌&&◌, not, [], length, MatchOption};
 ghost use Rattle.std.specs.Option.{option_map};
-ghost use Rattle.hcl_scan.specs.Kinds.{is};
-ghost use Rattle.hcl_scan.specs.declared.token.Kind.TheVariants.{Lit, Newline, QuoteClose, QuoteOpen};
+ghost use Rattle.hcl_tokens.specs.Kinds.{is};
+ghost use Rattle.hcl_tokens.specs.declared.token.Kind.TheVariants.{Lit, Newline, QuoteClose, QuoteOpen};
 ghost use Rattle.hcl_grammar.specs.Numbered.{is_comment};
 ghost use Rattle.tf_facts.specs.Declarations.{plain_text};
 ghost use Rattle.tf_facts.specs.Inner.Values.{IsFirstValue, plain_text_of, values};
 
 use crate::seen::Seen;
 use crate::value::Plain;
-use hcl_scan::{Kind, Tokens};
+use hcl_tokens::{Kind, Tokens};
 
 /// Whether tokens of this kind count in a value: comments and newlines don't.
 fn counts(kind: Kind) -> bool

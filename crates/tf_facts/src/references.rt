@@ -14,7 +14,7 @@ use crate::own_block::OwnBlock;
 use crate::reference::{Reference, is_dot, reference_at};
 use crate::seen::{Seen, is_passed_over};
 use crate::text_set::TextSet;
-use hcl_scan::Tokens;
+use hcl_tokens::Tokens;
 use std::alloc::{AllocError, Global};
 
 /// The text by which a reference is told.

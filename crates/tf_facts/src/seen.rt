@@ -4,7 +4,7 @@ ghost use Rattle.std.specs.Prelude.{◌≡◌, ◌<◌, ◌≤◌, ◌+◌, ◌�
 ghost use Rattle.hcl_grammar.specs.Numbered.{is_passed_over};
 ghost use Rattle.tf_facts.specs.Inner.Seen.{seen_from, IsNextSeen};
 
-use hcl_scan::{Kind, Tokens};
+use hcl_tokens::{Kind, Tokens};
 
 /// A token that is seen, and its number.
 #[derive(Clone, Copy)]

@@ -3,7 +3,7 @@
 ghost use Rattle.std.specs.Prelude.{◌≡◌, ◌==◌, ◌||◌};
 ghost use Rattle.std.specs.List.{list_any, slice_split};
 ghost use Rattle.tf_facts.specs.RuleSets.{holds};
-ghost use Rattle.hcl_scan.specs.Spelling.{is_blank};
+ghost use Rattle.hcl_tokens.specs.Spelling.{is_blank};
 ghost use Rattle.tf_facts.specs.Silencing.{has_slashes, is_margin, names, silences, trimmed, unmarked};
 ghost use Rattle.tf_facts.specs.Texts.{without_end, without_front};
 

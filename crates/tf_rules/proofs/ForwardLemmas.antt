@@ -4,10 +4,10 @@ use Rattle.std.specs.Prelude.{◌&&◌, ◌||◌, ◌==◌, Option, Some, None, 
 use Rattle.std.specs.List.{flat_map}
 use Rattle.std.specs.Str.{bytes_eq}
 use Rattle.std.proofs.lemmas.Grind.{flat_map-append}
-use Rattle.hcl_scan.specs.Kinds.{is}
-use Rattle.hcl_scan.specs.declared.token.Kind.TheVariants.{LineComment, Lit, Newline, QuoteClose, QuoteOpen}
-use Rattle.hcl_scan.specs.Lexemes.{Lexeme}
-use Rattle.hcl_scan.specs.Scans.{Scans}
+use Rattle.hcl_tokens.specs.Kinds.{is}
+use Rattle.hcl_tokens.specs.declared.token.Kind.TheVariants.{LineComment, Lit, Newline, QuoteClose, QuoteOpen}
+use Rattle.hcl_tokens.specs.Lexemes.{Lexeme}
+use Rattle.hcl_tokens.specs.Scans.{Scans}
 use Rattle.hcl_grammar.specs.Numbered.{Numbered, numbered, numbered_from, significant, is_comment, is_passed_over}
 use Rattle.hcl_grammar.specs.Items.{is_closed, outline}
 use Rattle.hcl_grammar.specs.ItemOrder.{Climbs}

@@ -2,8 +2,8 @@
 use Rattle.std.proofs.Common.{◌≡◌, ℕ, suc, zero, ◌+◌, ◌≤◌, Bool, true, false, cond, List, [], ◌∷◌, ◌++◌, arith, refl}
 use Rattle.std.specs.Prelude.{◌&&◌, filter, nat_lt}
 use Rattle.std.specs.List.{flat_map}
-use Rattle.hcl_scan.specs.Kinds.{is}
-use Rattle.hcl_scan.specs.declared.token.Kind.TheVariants.{Assign, BraceOpen, Newline}
+use Rattle.hcl_tokens.specs.Kinds.{is}
+use Rattle.hcl_tokens.specs.declared.token.Kind.TheVariants.{Assign, BraceOpen, Newline}
 use Rattle.hcl_grammar.specs.Items.{behind_brace, block, block_end, body, deepen, is_closed, item_of, items, labels, label_at, onto, pieces}
 use Rattle.hcl_grammar.specs.Numbered.{Numbered, end_of}
 use Rattle.hcl_grammar.specs.declared.item.Item.{Item}

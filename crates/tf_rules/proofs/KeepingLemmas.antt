@@ -3,7 +3,7 @@ use Rattle.std.proofs.Common.{◌≡◌, ◌∙◌, ap, sym, subst, refl, ℕ, �
 use Rattle.std.specs.Prelude.{Some, slice_get}
 use Rattle.std.specs.List.{flat_map}
 use Rattle.std.proofs.lemmas.List.{append-nil, drop_all, map-append}
-use Rattle.hcl_scan.specs.Lexemes.{Lexeme}
+use Rattle.hcl_tokens.specs.Lexemes.{Lexeme}
 use Rattle.hcl_grammar.proofs.NumberedLemmas.{drop_at}
 use Rattle.hcl_grammar.specs.Verdict.{start_of}
 use Rattle.tf_rules.specs.Issues.{File}

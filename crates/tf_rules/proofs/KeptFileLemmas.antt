@@ -2,7 +2,7 @@
 use Rattle.std.proofs.Common.{◌≡◌, ◌∙◌, ap, sym, subst, ℕ, List, map}
 use Rattle.std.specs.List.{flat_map}
 use Rattle.std.proofs.lemmas.List.Folds.{flat_map-map}
-use Rattle.hcl_scan.specs.Scans.{Scans}
+use Rattle.hcl_tokens.specs.Scans.{Scans}
 use Rattle.tf_facts.specs.Comments.{Comment}
 use Rattle.tf_facts.specs.Declarations.{Declaration}
 use Rattle.tf_facts.specs.Facts.{Facts, facts_of}

@@ -1,12 +1,12 @@
 -- Attributes and labels weigh what the tokens of their names do, and each `=` one more.
 use Rattle.std.proofs.Common.{◌≡◌, ap, refl, ℕ, ◌+◌, ◌≤◌, Bool, true, false, cond, List, [], ◌∷◌, ◌++◌, arith}
-use Rattle.hcl_scan.specs.Kinds.{is}
-use Rattle.hcl_scan.specs.declared.token.Kind.TheVariants.{Assign, Ident, QuoteOpen}
+use Rattle.hcl_tokens.specs.Kinds.{is}
+use Rattle.hcl_tokens.specs.declared.token.Kind.TheVariants.{Assign, Ident, QuoteOpen}
 use Rattle.hcl_grammar.specs.Items.{closing_quote, label_at}
 use Rattle.hcl_grammar.specs.Numbered.{Numbered}
 use Rattle.hcl_grammar.specs.declared.item.Item.{Item}
 use Rattle.hcl_grammar.specs.declared.item.Item.TheVariants as item
-use Rattle.hcl_scan.specs.declared.token.Kind.{Kind}
+use Rattle.hcl_tokens.specs.declared.token.Kind.{Kind}
 use Rattle.tf_rules.proofs.ItemWeightLemmas.{IsCounted, bit}
 
 -- where the token of a number weighs so much as a name

@@ -5,11 +5,11 @@ use Rattle.std.specs.List.{flat_map, list_any}
 use Rattle.std.specs.Str.{bytes_eq}
 use Rattle.std.proofs.lemmas.List.{drop-drop}
 use Rattle.indexmap.specs.IndexSet.{insert_all, insert_key}
-use Rattle.hcl_scan.specs.Kinds.{is}
-use Rattle.hcl_scan.specs.Lexemes.{Lexeme}
-use Rattle.hcl_scan.specs.Scans.{Scans}
-use Rattle.hcl_scan.specs.declared.token.Kind.{Kind}
-use Rattle.hcl_scan.specs.declared.token.Kind.TheVariants as kind
+use Rattle.hcl_tokens.specs.Kinds.{is}
+use Rattle.hcl_tokens.specs.Lexemes.{Lexeme}
+use Rattle.hcl_tokens.specs.Scans.{Scans}
+use Rattle.hcl_tokens.specs.declared.token.Kind.{Kind}
+use Rattle.hcl_tokens.specs.declared.token.Kind.TheVariants as kind
 use Rattle.hcl_grammar.specs.Items.{items_of}
 use Rattle.hcl_grammar.specs.Labels.{first_literal, first_text, label_text, text_of}
 use Rattle.hcl_grammar.specs.Numbered.{Numbered, is_comment, is_passed_over, numbered_from, significant, uncommented}

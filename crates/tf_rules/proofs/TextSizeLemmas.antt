@@ -2,13 +2,13 @@
 use Rattle.std.proofs.Common.{◌≡◌, ℕ, ◌+◌, ◌≤◌, ◌<◌, Bool, true, false, List, [], ◌∷◌, length, take, drop, inl, inr, arith, sym, ap, ◌∙◌, length-append}
 use Rattle.std.specs.Prelude.{◌||◌}
 use Rattle.std.proofs.lemmas.List.{take-append-drop}
-use Rattle.hcl_scan.specs.Lexemes.{Lexeme}
-use Rattle.hcl_scan.specs.Kinds.{is}
-use Rattle.hcl_scan.specs.Scans.{State, Hidden, Leaves, Next, Run, Scans, begin, closer_len, gap_len}
-use Rattle.hcl_scan.specs.Lexemes.{marker_of}
-use Rattle.hcl_scan.specs.declared.token.Kind.{Kind}
-use Rattle.hcl_scan.specs.declared.token.Kind.TheVariants.{HeredocOpen, Assign, Dot}
-use Rattle.hcl_scan.proofs.RunLemmas.{Nonempty}
+use Rattle.hcl_tokens.specs.Lexemes.{Lexeme}
+use Rattle.hcl_tokens.specs.Kinds.{is}
+use Rattle.hcl_tokens.specs.Scans.{State, Hidden, Leaves, Next, Run, Scans, begin, closer_len, gap_len}
+use Rattle.hcl_tokens.specs.Lexemes.{marker_of}
+use Rattle.hcl_tokens.specs.declared.token.Kind.{Kind}
+use Rattle.hcl_tokens.specs.declared.token.Kind.TheVariants.{HeredocOpen, Assign, Dot}
+use Rattle.hcl_tokens.proofs.RunLemmas.{Nonempty}
 use Rattle.hcl_scan.proofs.SpellingLemmas.{nonempty}
 use Rattle.tf_rules.proofs.ItemWeightLemmas.{bit}
 

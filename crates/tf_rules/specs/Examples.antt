@@ -1,8 +1,8 @@
 -- The definitions at work on small files, by computation.
 use Rattle.std.specs.Prelude.{◌≡◌, ℕ, refl, List, [], ◌∷◌, codes, true, false}
-use Rattle.hcl_scan.specs.Lexemes.{Lexeme}
-use Rattle.hcl_scan.specs.declared.token.Kind.{Kind}
-use Rattle.hcl_scan.specs.declared.token.Kind.TheVariants.{Newline, Ident, Number, QuoteOpen, BraceOpen, BraceClose, Dot, Assign, Lit, InterpOpen, SeqClose, QuoteClose}
+use Rattle.hcl_tokens.specs.Lexemes.{Lexeme}
+use Rattle.hcl_tokens.specs.declared.token.Kind.{Kind}
+use Rattle.hcl_tokens.specs.declared.token.Kind.TheVariants.{Newline, Ident, Number, QuoteOpen, BraceOpen, BraceClose, Dot, Assign, Lit, InterpOpen, SeqClose, QuoteClose}
 use Rattle.hcl_grammar.specs.Numbered.{numbered}
 use Rattle.tf_facts.specs.Facts.{facts_of}
 use Rattle.tf_facts.specs.References.{references}

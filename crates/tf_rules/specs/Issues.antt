@@ -4,7 +4,7 @@
 use Rattle.std.specs.Prelude.{◌≡◌, ◌<◌, ◌+◌, ◌⊎◌, ◌==◌, ◌&&◌, ◌||◌, ℕ, Bool, not, List, filter, map}
 use Rattle.std.specs.List.{flat_map, list_any}
 use Rattle.tf_rules.specs.Ordered.{SameMembers, Ascends}
-use Rattle.hcl_scan.specs.Scanned.{Scanned}
+use Rattle.hcl_tokens.specs.Scanned.{Scanned}
 use Rattle.hcl_source.specs.Places.{place}
 use Rattle.hcl_source.specs.declared.fault.Position.{Position}
 use Rattle.hcl_grammar.specs.Verdict.{start_of}

@@ -4,8 +4,8 @@ ghost use Rattle.std.specs.Prelude.{◌≡◌, ◌++◌, ◌∷◌, ◌+◌, ◌
 ghost use Rattle.std.specs.List.{AllZip};
 ghost use Rattle.tf_rules.specs.Issues.{Asked, File, Issue, IsReport, issues};
 ghost use Rattle.tf_rules.specs.Agreement.{SameTokens, told_all};
-ghost use Rattle.hcl_scan.specs.Lexemes.{Lexeme};
-ghost use Rattle.hcl_scan.specs.Scans.{Scans};
+ghost use Rattle.hcl_tokens.specs.Lexemes.{Lexeme};
+ghost use Rattle.hcl_tokens.specs.Scans.{Scans};
 ghost use Rattle.hcl_grammar.specs.Verdict.{IsAccepted, start_of};
 ghost use Rattle.tf_rules.specs.Growth.{entries, name_bytes};
 ghost use Rattle.tf_rules.specs.Kept.{Kept, kept_of, with_file, issues_of_kept};

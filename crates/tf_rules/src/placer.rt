@@ -1,7 +1,7 @@
 //! The places of a file's tokens, by one walk through it.
 
 ghost use Rattle.std.specs.Prelude.{◌≡◌, [], ◌∷◌};
-ghost use Rattle.hcl_scan.specs.Scans.{Scans};
+ghost use Rattle.hcl_tokens.specs.Scans.{Scans};
 ghost use Rattle.tf_rules.specs.Issues.{place_in};
 ghost use Rattle.tf_rules.specs.Inner.KeptViews.{place_of};
 ghost use Rattle.tf_rules.specs.Inner.Placing.{CanGo, gone};

@@ -5,15 +5,15 @@ use Rattle.std.specs.Prelude.{Result, Ok, Err, nat_lt, ◌||◌}
 use Rattle.std.specs.Str.{bytes_eq}
 use Rattle.std.proofs.lemmas.Bool.Decides.{nat_tests}
 use Rattle.hcl_layout.specs.Print.{print}
-use Rattle.hcl_scan.specs.Scanned.{Scanned}
+use Rattle.hcl_tokens.specs.Scanned.{Scanned}
 use Rattle.hcl_source.specs.Places.{place}
-use Rattle.hcl_scan.specs.Lexemes.{Lexeme}
+use Rattle.hcl_tokens.specs.Lexemes.{Lexeme}
 use Rattle.hcl_source.specs.Load.{max_source, IsText, IsLoadFault, Loads, is_failed_load}
 use Rattle.hcl_source.specs.declared.fault.LoadError.{LoadError}
 use Rattle.hcl_source.specs.declared.fault.LoadError.TheVariants as error
 use Rattle.hcl_source.specs.declared.fault.Fault.{Fault}
 use Rattle.hcl_source.proofs.LoadLemmas.{one_load_fault, text_or_fault, too_large_too}
-use Rattle.hcl_scan.proofs.RunLemmas.{one_scan, one_fault, no_fault}
+use Rattle.hcl_tokens.proofs.RunLemmas.{one_scan, one_fault, no_fault}
 use Rattle.hcl_scan.proofs.SpellingLemmas.{one_kind, nonempty}
 use Rattle.command_line.specs.Rows.{Row, End, Shows, OrOutOfMemory}
 use Rattle.tffmt_command.specs.Rows.{IsRow, OfInput, formatter}

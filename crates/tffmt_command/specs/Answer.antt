@@ -4,10 +4,10 @@ use Rattle.std.specs.Prelude.{◌≡◌, ◌⊎◌, ℕ, List, [], Result, Ok, E
 use Rattle.std.specs.Str.{bytes_eq}
 use Rattle.hcl_source.specs.Places.{place}
 use Rattle.hcl_source.specs.Load.{max_source, IsText, IsLoadFault}
-use Rattle.hcl_scan.specs.Lexemes.{Lexeme}
-use Rattle.hcl_scan.specs.Scanned.{Scanned}
-use Rattle.hcl_scan.specs.Scans.{Scans}
-use Rattle.hcl_scan.specs.Faults.{IsScanFault}
+use Rattle.hcl_tokens.specs.Lexemes.{Lexeme}
+use Rattle.hcl_tokens.specs.Scanned.{Scanned}
+use Rattle.hcl_tokens.specs.Scans.{Scans}
+use Rattle.hcl_tokens.specs.Faults.{IsScanFault}
 use Rattle.hcl_source.specs.declared.fault.Fault.{Fault}
 use Rattle.hcl_source.specs.declared.fault.FaultKind.{FaultKind}
 use Rattle.hcl_source.specs.declared.fault.FaultKind.TheVariants.{ResultTooLarge}

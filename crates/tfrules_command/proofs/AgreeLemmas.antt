@@ -6,10 +6,10 @@ use Rattle.std.specs.List.{All, AllZip, list_any}
 use Rattle.hcl_source.specs.Load.{IsText, max_source}
 use Rattle.hcl_source.specs.Places.{line_of, place}
 use Rattle.hcl_source.specs.declared.fault.Fault.{Fault}
-use Rattle.hcl_scan.specs.Lexemes.{Lexeme}
-use Rattle.hcl_scan.specs.Scanned.{Scanned}
-use Rattle.hcl_scan.specs.Scans.{Scans}
-use Rattle.hcl_scan.proofs.RunLemmas.{one_scan}
+use Rattle.hcl_tokens.specs.Lexemes.{Lexeme}
+use Rattle.hcl_tokens.specs.Scanned.{Scanned}
+use Rattle.hcl_tokens.specs.Scans.{Scans}
+use Rattle.hcl_tokens.proofs.RunLemmas.{one_scan}
 use Rattle.hcl_scan.proofs.SpellingLemmas.{one_kind, nonempty}
 use Rattle.hcl_grammar.specs.declared.refusal.Refusal.{Refusal}
 use Rattle.hcl_grammar.specs.Predictor.{refusal_of}

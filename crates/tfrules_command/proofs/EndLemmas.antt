@@ -5,7 +5,7 @@ use Rattle.std.proofs.lemmas.List.{map-append}
 use Rattle.std.proofs.lemmas.List.Elements.{All-append, All-cons, All-nil}
 use Rattle.command_line.specs.Rows.{Program, Row, End, Shows, ShowsOne, OrOutOfMemory, out_of_memory}
 use Rattle.command_line.proofs.EndLemmas.{shows_as}
-use Rattle.hcl_scan.specs.Scanned.{Scanned}
+use Rattle.hcl_tokens.specs.Scanned.{Scanned}
 use Rattle.tf_rules.specs.Answers as rules
 use Rattle.tf_rules.specs.Kept.{Kept}
 use Rattle.tf_rules.specs.Ordered.{BeforeAll}

@@ -7,9 +7,9 @@ use Rattle.std.proofs.lemmas.List.{get_or_default, length-map, length-take-le, m
 use Rattle.std.proofs.lemmas.List.Elements.{All-append, All-cons, All-nil}
 use Rattle.std.proofs.lemmas.List.Sums.{sum_by-append}
 use Rattle.hcl_source.specs.Load.{IsLoadFault, IsText, Loads, is_failed_load, max_source}
-use Rattle.hcl_scan.specs.Scanned.{IsScanError, Scanned}
-use Rattle.hcl_scan.specs.declared.token.ScanError.{ScanError}
-use Rattle.hcl_scan.specs.declared.token.ScanError.TheVariants as scan_error
+use Rattle.hcl_tokens.specs.Scanned.{IsScanError, Scanned}
+use Rattle.hcl_tokens.specs.declared.token.ScanError.{ScanError}
+use Rattle.hcl_tokens.specs.declared.token.ScanError.TheVariants as scan_error
 use Rattle.hcl_source.specs.declared.fault.Fault.{Fault}
 use Rattle.hcl_source.specs.declared.fault.Position.{Position}
 use Rattle.hcl_source.specs.declared.fault.LoadError.{LoadError}

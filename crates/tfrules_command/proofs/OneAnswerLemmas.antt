@@ -7,9 +7,9 @@ use Rattle.command_line.specs.Rows.{Row}
 use Rattle.hcl_source.specs.Places.{place}
 use Rattle.hcl_source.specs.declared.fault.Fault.{Fault}
 use Rattle.hcl_source.proofs.LoadLemmas.{one_load_fault, text_or_fault}
-use Rattle.hcl_scan.specs.Lexemes.{Lexeme}
-use Rattle.hcl_scan.specs.Scanned.{Scanned}
-use Rattle.hcl_scan.proofs.RunLemmas.{no_fault, one_fault, one_scan}
+use Rattle.hcl_tokens.specs.Lexemes.{Lexeme}
+use Rattle.hcl_tokens.specs.Scanned.{Scanned}
+use Rattle.hcl_tokens.proofs.RunLemmas.{no_fault, one_fault, one_scan}
 use Rattle.hcl_scan.proofs.SpellingLemmas.{nonempty, one_kind}
 use Rattle.hcl_grammar.specs.Verdict.{verdict}
 use Rattle.tf_rules.specs.Answers.{answered}

@@ -14,7 +14,7 @@ use Rattle.command_line.specs.Faults.{IsOfWords, One}
 use Rattle.command_line.specs.Rows.{Row, fails_with}
 use Rattle.hcl_source.specs.Load.{IsText}
 use Rattle.hcl_source.specs.declared.fault.Fault.{Fault}
-use Rattle.hcl_scan.specs.Scanned.{Scanned}
+use Rattle.hcl_tokens.specs.Scanned.{Scanned}
 use Rattle.tf_rules.specs.Answers.{answered}
 use Rattle.tf_rules.specs.Issues.{Issue, IsReport}
 use Rattle.tf_facts.specs.Rules.{all_rules, is_recommended}

@@ -2,7 +2,7 @@
 -- files are refused are our own choice.
 use Rattle.std.specs.Prelude.{◌≡◌, ◌⊎◌, ℕ, List, [], ◌∷◌, ◌++◌, Result, Ok, Err, codes, map}
 use Rattle.command_line.specs.Rows.{Program, Row, error, fails_with, fault_words, line}
-use Rattle.hcl_scan.specs.Scanned.{Scanned}
+use Rattle.hcl_tokens.specs.Scanned.{Scanned}
 use Rattle.hcl_source.specs.declared.fault.Fault.{Fault}
 use Rattle.tf_rules.specs.Answers as rules
 use Rattle.tf_rules.specs.declared.issue.Issue.{Issue}

@@ -1,7 +1,7 @@
 -- The files of a module formatted, and issues without their columns. Our own words, for the law `agree`.
 use Rattle.std.specs.Prelude.{◌≡◌, ℕ, List, map}
-use Rattle.hcl_scan.specs.Lexemes.{Lexeme}
-use Rattle.hcl_scan.specs.Scans.{Scans}
+use Rattle.hcl_tokens.specs.Lexemes.{Lexeme}
+use Rattle.hcl_tokens.specs.Scans.{Scans}
 use Rattle.hcl_layout.specs.Print.{print}
 use Rattle.tf_facts.specs.declared.rule.Rule.{Rule}
 use Rattle.tf_rules.specs.declared.issue.Issue.{Issue}

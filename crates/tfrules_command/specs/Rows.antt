@@ -1,7 +1,7 @@
 -- The rows of `tfrules` where an opening or a read failed or memory ran out, beside those of its answers: our own choice.
 use Rattle.std.specs.Prelude.{◌≡◌, ℕ, Bool, true, false, List, ◌∷◌, ◌++◌, Option, Some, None, Result, Ok, Err, All, codes}
 use Rattle.command_line.specs.Rows.{Row, OrOutOfMemory}
-use Rattle.hcl_scan.specs.Scanned.{Scanned}
+use Rattle.hcl_tokens.specs.Scanned.{Scanned}
 use Rattle.tfrules_command.specs.Answer.{IsAnswerBy, file_error, linter, names_of}
 use Rattle.tfrules_command.specs.Files.{NamedFile, AreAccepted}
 use Rattle.tfrules_command.specs.Line.{Asking}

@@ -3,7 +3,7 @@
 ghost use Rattle.std.specs.Prelude.{◌≡◌, ◌≤◌, ℕ, List, length, map};
 ghost use Rattle.std.specs.List.{All, AllZip};
 ghost use Rattle.hcl_source.specs.Load.{max_source};
-ghost use Rattle.hcl_scan.specs.Scanned.{Scanned};
+ghost use Rattle.hcl_tokens.specs.Scanned.{Scanned};
 ghost use Rattle.command_line.specs.Rows.{Row};
 ghost use Rattle.tfrules_command.specs.Answer.{AreNamed, IsAnswer, IsReported};
 ghost use Rattle.tfrules_command.specs.Files.{NamedFile, AreAccepted, max_module, named, size_of};

@@ -1,9 +1,9 @@
 -- How deep a token list stands after each token, and the levels of lines by depth: the form in which the code keeps
 -- what is open. The levels of whole lists give the same (proofs/LevelLemmas).
 use Rattle.std.specs.Prelude.{◌≡◌, ◌<◌, ◌≤◌, ◌+◌, ◌-◌, ℕ, suc, zero, List, [], ◌∷◌, length, get_or, slice_set, min, replicate, IsTrue}
-use Rattle.hcl_scan.specs.Lexemes.{Lexeme}
-use Rattle.hcl_scan.specs.declared.token.Kind.{Kind}
-use Rattle.hcl_scan.specs.Balanced.{closing, is_closer, is_opener, opening, max_open}
+use Rattle.hcl_tokens.specs.Lexemes.{Lexeme}
+use Rattle.hcl_tokens.specs.declared.token.Kind.{Kind}
+use Rattle.hcl_tokens.specs.Balanced.{closing, is_closer, is_opener, opening, max_open}
 use Rattle.hcl_grammar.specs.Items.{deepen}
 use Rattle.hcl_layout.specs.Levels.{Net}
 

@@ -1,6 +1,6 @@
 -- What bounds the gaps of lines, line by line: their indents, and the greatest width that there may be before a cell.
 use Rattle.std.specs.Prelude.{◌≤◌, ◌+◌, ◌*◌, ◌^◌, ℕ, List, [], ◌∷◌, Option, Some, None, max, take}
-use Rattle.hcl_scan.specs.Balanced.{max_open}
+use Rattle.hcl_tokens.specs.Balanced.{max_open}
 use Rattle.hcl_layout.specs.Cells.{assign_cell, trailing_comment}
 use Rattle.hcl_layout.specs.Inner.Depths.{depth_after}
 use Rattle.hcl_layout.specs.Inner.LineGaps.{len_with_blanks}

@@ -1,12 +1,12 @@
 -- What one walk along a line finds, token by token, and what it is of the whole line.
 use Rattle.std.specs.Prelude.{◌≡◌, ◌<◌, ◌≤◌, ◌+◌, ◌==◌, ◌||◌, ◌&&◌, ℕ, Bool, true, false, not, List, [], ◌∷◌, Option, Some, None, length, take, drop, if◌then◌else◌, is_some}
-use Rattle.hcl_scan.specs.Lexemes.{Lexeme}
-use Rattle.hcl_scan.specs.declared.token.Kind.{Kind}
-use Rattle.hcl_scan.specs.declared.token.Kind.TheVariants as kind
+use Rattle.hcl_tokens.specs.Lexemes.{Lexeme}
+use Rattle.hcl_tokens.specs.declared.token.Kind.{Kind}
+use Rattle.hcl_tokens.specs.declared.token.Kind.TheVariants as kind
 use Rattle.hcl_layout.specs.Lines.{Line, ends_line, lines}
-use Rattle.hcl_scan.specs.Kinds.{is}
+use Rattle.hcl_tokens.specs.Kinds.{is}
 use Rattle.hcl_layout.specs.Cells.{assign_cell, is_assignment, is_multiline, is_trailing, running_comment, trailing_comment}
-use Rattle.hcl_scan.specs.Balanced.{is_closer, is_opener, max_open}
+use Rattle.hcl_tokens.specs.Balanced.{is_closer, is_opener, max_open}
 use Rattle.hcl_grammar.specs.Items.{deepen}
 use Rattle.hcl_layout.specs.Inner.Depths.{BalancedFrom, depth_after}
 use Rattle.hcl_layout.specs.declared.line.Survey.{Survey}

@@ -1,7 +1,7 @@
 -- Where a walk along the lines stands.
 use Rattle.std.specs.Prelude.{◌≤◌, ℕ, List, drop}
-use Rattle.hcl_scan.specs.Lexemes.{Lexeme}
-use Rattle.hcl_scan.specs.Balanced.{max_open}
+use Rattle.hcl_tokens.specs.Lexemes.{Lexeme}
+use Rattle.hcl_tokens.specs.Balanced.{max_open}
 use Rattle.hcl_layout.specs.Inner.Depths.{BalancedFrom, Sound}
 
 -- what is left is balanced from the depth at hand on, and the levels fit it

@@ -1,13 +1,13 @@
 -- Tokens by the table before names with `::`, to state that older files are read as before: no kind was ColonColon. All
 -- else was as it is now, so only what goes by the spelling of a kind is written once more (`Spelling` and `Scans` of
--- `hcl_scan`).
+-- `hcl_tokens`).
 use Rattle.std.specs.Prelude.{◌≡◌, ◌≢◌, ◌+◌, ◌<◌, ◌≤◌, ℕ, Bool, List, [], ◌∷◌, ◌++◌, length, ◌⊎◌}
-use Rattle.hcl_scan.specs.Lexemes.{Lexeme, Opener, in_heredoc, moved, max_open}
-use Rattle.hcl_scan.specs.Spelling.{IsSpelling}
-use Rattle.hcl_scan.specs.Kinds.{is}
-use Rattle.hcl_scan.specs.Scans.{State, begin, ahead, gap_len, offsets_of, Leaves, Closes, IsComplete}
-use Rattle.hcl_scan.specs.declared.token.Kind.{Kind}
-use Rattle.hcl_scan.specs.declared.token.Kind.TheVariants.{ColonColon, Dot}
+use Rattle.hcl_tokens.specs.Lexemes.{Lexeme, Opener, in_heredoc, moved, max_open}
+use Rattle.hcl_tokens.specs.Spelling.{IsSpelling}
+use Rattle.hcl_tokens.specs.Kinds.{is}
+use Rattle.hcl_tokens.specs.Scans.{State, begin, ahead, gap_len, offsets_of, Leaves, Closes, IsComplete}
+use Rattle.hcl_tokens.specs.declared.token.Kind.{Kind}
+use Rattle.hcl_tokens.specs.declared.token.Kind.TheVariants.{ColonColon, Dot}
 
 abbrev pub WasSpelling : List Opener → Bool → Kind → List ℕ → List ℕ → Type 0
 WasSpelling opens after_dot kind text rest = (kind ≢ ColonColon) × IsSpelling opens after_dot kind text rest

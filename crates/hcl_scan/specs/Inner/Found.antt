@@ -3,11 +3,11 @@
 use Rattle.std.specs.Prelude.{◌≡◌, ℕ, ◌+◌, ◌<◌, ◌≤◌, ◌==◌, ◌||◌, not, Bool, true, false, List, [], ◌++◌, length, take, drop, if◌then◌else◌, get_or, codes, encode_utf8, encode_utf8_all, ◌⊎◌}
 use Rattle.std.specs.Char.{is_ascii_alphanumeric}
 use Rattle.std.specs.List.{list_all}
-use Rattle.hcl_scan.specs.Lexemes.{Opener, in_heredoc, closes_sequence}
-use Rattle.hcl_scan.specs.Spelling.{IsPunctuation, IsBlanks, IsDigits, IsNumber, IsIdent, IsNewline, starts, is_dollar_or_percent, continues_ident, context, Expression}
-use Rattle.hcl_scan.specs.Scans.{IsLongest, HasNone}
-use Rattle.hcl_scan.specs.declared.token.Kind.{Kind}
-use Rattle.hcl_scan.specs.declared.token.Kind.TheVariants.{SeqClose, BraceClose}
+use Rattle.hcl_tokens.specs.Lexemes.{Opener, in_heredoc, closes_sequence}
+use Rattle.hcl_tokens.specs.Spelling.{IsPunctuation, IsBlanks, IsDigits, IsNumber, IsIdent, IsNewline, starts, is_dollar_or_percent, continues_ident, context, Expression}
+use Rattle.hcl_tokens.specs.Scans.{IsLongest, HasNone}
+use Rattle.hcl_tokens.specs.declared.token.Kind.{Kind}
+use Rattle.hcl_tokens.specs.declared.token.Kind.TheVariants.{SeqClose, BraceClose}
 
 -- the first n bytes are the longest spelling, of this kind
 pub record Finds (opens : List Opener) (after_dot : Bool) (seen : List ℕ) (kind : Kind) (n : ℕ) : Type 0 where

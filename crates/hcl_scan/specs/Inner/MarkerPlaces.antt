@@ -2,8 +2,8 @@
 use Rattle.std.specs.Prelude.{◌≡◌, ◌≢◌, ℕ, ◌+◌, ◌-◌, ◌<◌, ◌≤◌, true, IsTrue, List, length, drop, get_or}
 use Rattle.std.specs.List.{prefix_len}
 use Rattle.memchr.specs.Find.{OccursAt}
-use Rattle.hcl_scan.specs.Spelling.{is_blank}
-use Rattle.hcl_scan.specs.Scans.{skip_blanks, at_line_end, IsMarkerLine}
+use Rattle.hcl_tokens.specs.Spelling.{is_blank}
+use Rattle.hcl_tokens.specs.Scans.{skip_blanks, at_line_end, IsMarkerLine}
 
 -- the marker stands after n bytes, and in no marker line from `at` on before that
 pub record IsPlace (marker text : List ℕ) (at n : ℕ) : Type 0 where

@@ -1,15 +1,15 @@
 -- What the scanner keeps of what is open, and what this stands for: the openers, their offsets, what heredocs hide.
 -- Our own choice of representation: a heredoc is kept by where its closing marker ends and where what was seen around it ends.
 use Rattle.std.specs.Prelude.{◌≡◌, ℕ, ◌-◌, Bool, true, false, List, [], ◌∷◌, length, map, drop, if◌then◌else◌, slice_range, Option, Some, None}
-use Rattle.hcl_scan.specs.Lexemes as lexemes
-use Rattle.hcl_scan.specs.Lexemes.{is_group, moved}
-use Rattle.hcl_scan.specs.Spelling.{Context, Template, Expression, context_in}
-use Rattle.hcl_scan.specs.Scans.{Hidden, owes}
+use Rattle.hcl_tokens.specs.Lexemes as lexemes
+use Rattle.hcl_tokens.specs.Lexemes.{is_group, moved}
+use Rattle.hcl_tokens.specs.Spelling.{Context, Template, Expression, context_in}
+use Rattle.hcl_tokens.specs.Scans.{Hidden, owes}
 use Rattle.hcl_scan.specs.declared.stack.Opener.{Opener}
 use Rattle.hcl_scan.specs.declared.stack.Opener.TheVariants.{Quote, Heredoc, Sequence, Brace, Bracket, Paren}
 use Rattle.hcl_scan.specs.declared.stack.Opened.{Opened}
-use Rattle.hcl_scan.specs.declared.token.Kind.{Kind}
-use Rattle.hcl_scan.specs.declared.token.Kind.TheVariants.{HeredocOpen, QuoteOpen, InterpOpen, ControlOpen, ParenOpen, BracketOpen, BraceOpen, ParenClose, BracketClose, SeqClose, BraceClose, QuoteClose, HeredocClose}
+use Rattle.hcl_tokens.specs.declared.token.Kind.{Kind}
+use Rattle.hcl_tokens.specs.declared.token.Kind.TheVariants.{HeredocOpen, QuoteOpen, InterpOpen, ControlOpen, ParenOpen, BracketOpen, BraceOpen, ParenClose, BracketClose, SeqClose, BraceClose, QuoteClose, HeredocClose}
 
 abbrev pub opener_of : Opener → lexemes.Opener
 opener_of Quote = lexemes.Quote

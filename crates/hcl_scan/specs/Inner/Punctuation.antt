@@ -1,8 +1,8 @@
 -- The scanner's order of the marks, where longer ones come first.
 use Rattle.std.specs.Prelude.{ℕ, ◌&&◌, Bool, true, List, [], ◌∷◌, Option, option_map, find, length, nat_eq, nat_le, codes}
 use Rattle.std.specs.List.{list_all, starts_with}
-use Rattle.hcl_scan.specs.declared.token.Kind.{Kind}
-use Rattle.hcl_scan.specs.declared.token.Kind.TheVariants.{And, Arrow, Assign, BraceOpen, BracketClose, BracketOpen, Colon, ColonColon, Comma, Dot, Ellipsis, Equal, Greater, GreaterEqual, Less, LessEqual, Minus, Not, NotEqual, Or, ParenClose, ParenOpen, Percent, Plus, Question, QuoteOpen, Star}
+use Rattle.hcl_tokens.specs.declared.token.Kind.{Kind}
+use Rattle.hcl_tokens.specs.declared.token.Kind.TheVariants.{And, Arrow, Assign, BraceOpen, BracketClose, BracketOpen, Colon, ColonColon, Comma, Dot, Ellipsis, Equal, Greater, GreaterEqual, Less, LessEqual, Minus, Not, NotEqual, Or, ParenClose, ParenOpen, Percent, Plus, Question, QuoteOpen, Star}
 
 -- no mark is shorter than one behind it
 abbrev pub is_longest_first : List (List ℕ × Kind) → Bool

@@ -1,14 +1,15 @@
 -- Where the scanner stands, as a state of the reading, and what it comes to next: a token, or the fault.
 -- Our own choice of representation: offsets into one text in place of its parts.
-use Rattle.std.specs.Prelude.{◌≡◌, ℕ, ◌+◌, ◌<◌, ◌≤◌, Bool, true, false, IsTrue, List, [], ◌∷◌, length, slice_range, map}
+use Rattle.std.specs.Prelude.{◌≡◌, ℕ, ◌+◌, ◌<◌, ◌≤◌, Bool, true, false, IsTrue, List, [], ◌∷◌, length, slice_range}
 use Rattle.std.specs.Str.{IsCharBoundary}
 use Rattle.hcl_source.specs.Load.{max_source}
-use Rattle.hcl_scan.specs.Lexemes.{Lexeme, Opener, Sequence, in_heredoc, closes_sequence, max_open}
-use Rattle.hcl_scan.specs.Spelling.{Context, Template, Expression, context}
-use Rattle.hcl_scan.specs.Scans.{State, Next, IsLongest, gap_len}
-use Rattle.hcl_scan.specs.Faults.{Lacks, fault_offset}
+use Rattle.hcl_tokens.specs.Lexemes.{Opener, Sequence, in_heredoc, closes_sequence, max_open}
+use Rattle.hcl_tokens.specs.Spelling.{Context, Template, Expression, context}
+use Rattle.hcl_tokens.specs.Scans.{State, Next, IsLongest, gap_len}
+use Rattle.hcl_tokens.specs.Faults.{Lacks, fault_offset}
+use Rattle.hcl_tokens.specs.Entries.{IsEntry, lexeme_of}
 use Rattle.hcl_scan.specs.Inner.Openings.{opener_of, openers_of, offsets_in, hidden_of}
-use Rattle.hcl_scan.specs.declared.token.Entry.{Entry}
+use Rattle.hcl_tokens.specs.declared.token.Entry.{Entry}
 use Rattle.hcl_scan.specs.declared.stack.Opener as kept
 use Rattle.hcl_scan.specs.declared.stack.Opener.TheVariants.{Heredoc}
 use Rattle.hcl_scan.specs.declared.stack.Opened.{Opened}
@@ -44,19 +45,6 @@ pub record IsSound (s : Scanner) : Type 0 where
   pub end : IsCharBoundary s.text.now s.end
   pub stack : IsStack s.text.now s.stack s.end
   pub depth : length s.stack ≤ max_open
-
--- the token of an entry
-abbrev pub lexeme_of : List ℕ → Entry → Lexeme
-lexeme_of text e = record { kind = e.kind; text = slice_range text e.start e.end; start = e.start; inside_heredoc = e.inside_heredoc }
-
-abbrev pub lexemes_of : List ℕ → List Entry → List Lexeme
-lexemes_of text es = map (lexeme_of text) es
-
--- the entry's text is a part of the text, between characters
-pub record IsEntry (text : List ℕ) (e : Entry) : Type 0 where
-  pub order : e.start ≤ e.end
-  pub start : IsCharBoundary text e.start
-  pub end : IsCharBoundary text e.end
 
 -- a token begins here
 pub record IsStart (s : Scanner) (start : ℕ) : Type 0 where

@@ -1,6 +1,6 @@
 -- What is put out of a piece before the items of its body.
 use Rattle.std.specs.Prelude.{◌≡◌, ◌<◌, ◌≤◌, ◌+◌, ℕ, List, [], ◌++◌}
-use Rattle.hcl_scan.specs.Lexemes.{Lexeme}
+use Rattle.hcl_tokens.specs.Lexemes.{Lexeme}
 use Rattle.hcl_grammar.specs.Numbered.{Numbered}
 use Rattle.hcl_grammar.specs.Items.{block, item_of}
 use Rattle.hcl_syntax.specs.Inner.Pieces.{words}

@@ -1,10 +1,10 @@
 -- Pieces of items by token numbers, as the code finds them.
 use Rattle.std.specs.Prelude.{◌≡◌, ◌<◌, ◌≤◌, ℕ, ◌+◌, ◌-◌, ◌&&◌, List, [], ◌∷◌, drop, take, length, get_or, reverse, ◌==◌, if◌then◌else◌}
-use Rattle.hcl_scan.specs.Kinds.{is}
-use Rattle.hcl_scan.specs.declared.token.Kind.TheVariants as kind
-use Rattle.hcl_scan.specs.Lexemes.{Lexeme}
-use Rattle.hcl_scan.specs.declared.token.Kind.{Kind}
-use Rattle.hcl_scan.specs.Balanced.{opening, closing}
+use Rattle.hcl_tokens.specs.Kinds.{is}
+use Rattle.hcl_tokens.specs.declared.token.Kind.TheVariants as kind
+use Rattle.hcl_tokens.specs.Lexemes.{Lexeme}
+use Rattle.hcl_tokens.specs.declared.token.Kind.{Kind}
+use Rattle.hcl_tokens.specs.Balanced.{opening, closing}
 use Rattle.hcl_syntax.specs.declared.nesting.Nesting.{Nesting}
 use Rattle.hcl_syntax.specs.declared.nesting.Nesting.TheVariants as nesting
 use Rattle.hcl_grammar.specs.Numbered.{Numbered, numbered_from, uncommented}

@@ -1,6 +1,6 @@
 -- Whether what is open is closed directly before a closing quote, token by token, as the code finds it.
 use Rattle.std.specs.Prelude.{◌≡◌, ◌<◌, ◌+◌, ℕ, Bool, false, List, length, get_or, reverse}
-use Rattle.hcl_scan.specs.Lexemes.{Lexeme}
+use Rattle.hcl_tokens.specs.Lexemes.{Lexeme}
 use Rattle.tf_facts.specs.Patterns.{begins_with_close, behind_closer}
 use Rattle.tf_facts.specs.Inner.Seen.{seen_from}
 

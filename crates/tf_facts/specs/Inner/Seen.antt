@@ -1,6 +1,6 @@
 -- What patterns see of a token list from a number on.
 use Rattle.std.specs.Prelude.{◌≡◌, ◌<◌, ◌≤◌, ◌+◌, ◌^◌, ℕ, List, ◌∷◌, drop, length}
-use Rattle.hcl_scan.specs.Lexemes.{Lexeme}
+use Rattle.hcl_tokens.specs.Lexemes.{Lexeme}
 use Rattle.hcl_grammar.specs.Numbered.{Numbered, numbered_from, significant}
 use Rattle.tf_facts.specs.declared.seen.Seen.{Seen}
 

@@ -1,6 +1,6 @@
 -- The text by which a reference is told.
 use Rattle.std.specs.Prelude.{◌≡◌, ◌<◌, ◌+◌, ◌^◌, ℕ, List, drop, length, Some}
-use Rattle.hcl_scan.specs.Lexemes.{Lexeme}
+use Rattle.hcl_tokens.specs.Lexemes.{Lexeme}
 use Rattle.tf_facts.specs.References.{name_behind, variable_reference, local_reference, data_reference}
 use Rattle.tf_facts.specs.Inner.Seen.{seen_from, numbered_of}
 use Rattle.tf_facts.specs.declared.seen.Seen.{Seen}

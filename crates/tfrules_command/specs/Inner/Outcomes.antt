@@ -1,6 +1,6 @@
 -- What becomes of the bytes of a file, the other files aside.
 use Rattle.std.specs.Prelude.{◌⊎◌, ℕ, List, Result}
-use Rattle.hcl_scan.specs.Scanned.{Scanned}
+use Rattle.hcl_tokens.specs.Scanned.{Scanned}
 use Rattle.hcl_source.specs.Load.{IsLoadFault, IsText}
 use Rattle.hcl_source.specs.declared.fault.Fault.{Fault}
 use Rattle.tfrules_command.specs.Files.{IsOutcome}

@@ -1,5 +1,5 @@
 use Rattle.std.proofs.Common.{◌∙◌, ap, sym, cond, eq-eqb, drop, ◌+◌}
-use Rattle.hcl_scan.specs.Scanned.{lexeme}
+use Rattle.hcl_tokens.specs.Scanned.{lexeme}
 use Rattle.hcl_grammar.specs.Labels.{first_literal, first_text, label_text}
 use Rattle.hcl_grammar.specs.Numbered.{numbered}
 use Rattle.hcl_grammar.proofs.NumberedLemmas.{numbered_here}

@@ -1,5 +1,5 @@
 use Rattle.std.proofs.Common.{◌∙◌, ap, sym, cond, [], ◌+◌, arith}
-use Rattle.hcl_scan.specs.Scanned.{lexeme}
+use Rattle.hcl_tokens.specs.Scanned.{lexeme}
 use Rattle.hcl_grammar.specs.Labels.{first_literal}
 use Rattle.hcl_grammar.proofs.NumberedLemmas.{numbered_here, numbered_past}
 use Rattle.hcl_grammar.proofs.label.literal_behind.Goals as goal

@@ -1,5 +1,5 @@
 use Rattle.std.proofs.Common.{◌≡◌, ◌≤◌, ◌-◌, drop, length}
-use Rattle.hcl_scan.specs.Balanced.{max_open}
+use Rattle.hcl_tokens.specs.Balanced.{max_open}
 use Rattle.hcl_layout.specs.Inner.Depths.{BalancedFrom}
 use Rattle.hcl_layout.specs.Inner.Extents.{IsSmall, nothing, with_lines}
 use Rattle.hcl_layout.specs.Lines.{lines}

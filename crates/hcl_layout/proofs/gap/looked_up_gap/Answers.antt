@@ -1,4 +1,4 @@
-use Rattle.hcl_scan.specs.Scanned.{lexeme}
+use Rattle.hcl_tokens.specs.Scanned.{lexeme}
 use Rattle.hcl_layout.proofs.gap.looked_up_gap.Goals as goal
 
 pub space_by_texts-requires-clause-untold : goal.space_by_texts-requires-clause-untold

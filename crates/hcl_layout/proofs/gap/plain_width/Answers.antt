@@ -1,5 +1,5 @@
 use Rattle.std.proofs.Common.{ap, arith, drop, take}
-use Rattle.hcl_scan.specs.Scanned.{lexeme}
+use Rattle.hcl_tokens.specs.Scanned.{lexeme}
 use Rattle.hcl_layout.specs.Gaps.{width}
 use Rattle.hcl_layout.specs.Inner.LineGaps.{plain_of}
 use Rattle.hcl_layout.specs.Lines.{Line}

@@ -1,5 +1,5 @@
 use Rattle.std.proofs.Common.{◌≡◌, ◌∙◌, ap, arith, drop, sym, take}
-use Rattle.hcl_scan.specs.Scanned.{lexeme}
+use Rattle.hcl_tokens.specs.Scanned.{lexeme}
 use Rattle.hcl_layout.specs.Inner.LineGaps.{cell_gap, gaps_in}
 use Rattle.hcl_layout.specs.Gaps.{width}
 use Rattle.hcl_layout.specs.Lines.{Line}

@@ -1,6 +1,6 @@
 use Rattle.std.proofs.Common.{◌≡◌, ◌∙◌, ◌-◌, ◌++◌, ℕ, List, arith, drop, subst, sym}
 use Rattle.std.specs.Prelude.{IfSome}
-use Rattle.hcl_scan.specs.Scanned.{lexeme}
+use Rattle.hcl_tokens.specs.Scanned.{lexeme}
 use Rattle.hcl_layout.specs.Inner.Left.{bytes_of, token_before}
 use Rattle.hcl_layout.specs.Inner.LineGaps.{plain_gap}
 use Rattle.hcl_layout.proofs.InPlaceLemmas.{goes_to}

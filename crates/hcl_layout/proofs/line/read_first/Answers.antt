@@ -1,5 +1,5 @@
 use Rattle.std.proofs.Common.{◌∙◌, ap, sym}
-use Rattle.hcl_scan.specs.Scanned.{lexeme}
+use Rattle.hcl_tokens.specs.Scanned.{lexeme}
 use Rattle.hcl_layout.specs.Inner.Survey.{is_noted}
 use Rattle.hcl_layout.specs.Inner.Survey.{first_noted}
 use Rattle.hcl_layout.specs.Lines.{ends_line}

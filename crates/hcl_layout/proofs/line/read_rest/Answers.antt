@@ -1,7 +1,7 @@
 use Rattle.std.proofs.Common.{◌≡◌, ◌∙◌, ◌+◌, ◌≤◌, ℕ, Some, ap, drop, sym, subst, arith}
 use Rattle.std.specs.Prelude.{slice_get}
-use Rattle.hcl_scan.specs.Scanned.{lexeme}
-use Rattle.hcl_scan.specs.Balanced.{max_open}
+use Rattle.hcl_tokens.specs.Scanned.{lexeme}
+use Rattle.hcl_tokens.specs.Balanced.{max_open}
 use Rattle.hcl_grammar.specs.Items.{deepen}
 use Rattle.hcl_layout.specs.Inner.Depths.{BalancedFrom}
 use Rattle.hcl_layout.specs.Inner.Survey.{going, noted}

@@ -1,5 +1,5 @@
 use Rattle.std.proofs.Common.{◌∙◌, ◌++◌, ℕ, List, ap, ap₂, arith, length, replicate, sym}
-use Rattle.hcl_scan.specs.Scanned.{lexeme}
+use Rattle.hcl_tokens.specs.Scanned.{lexeme}
 use Rattle.hcl_layout.specs.Inner.Left.{to_print}
 use Rattle.hcl_layout.proofs.LeftLemmas.{text_len_with_blanks}
 use Rattle.hcl_layout.proofs.pieces.next_piece.Goals as goal

@@ -1,5 +1,5 @@
 use Rattle.std.proofs.Common.{◌∙◌, ap, arith}
-use Rattle.hcl_scan.specs.Scanned.{lexeme}
+use Rattle.hcl_tokens.specs.Scanned.{lexeme}
 use Rattle.hcl_layout.specs.Gaps.{indent}
 use Rattle.hcl_layout.specs.Inner.Left.{rest_gaps}
 use Rattle.hcl_layout.proofs.LeftLemmas.{front_gap, piece_left}

@@ -1,5 +1,5 @@
 use Rattle.std.proofs.Common.{◌∙◌, ◌-◌, arith, sym}
-use Rattle.hcl_scan.specs.Scanned.{lexeme}
+use Rattle.hcl_tokens.specs.Scanned.{lexeme}
 use Rattle.hcl_layout.specs.Inner.Left.{token_before, rest_gaps}
 use Rattle.hcl_layout.specs.Inner.LineGaps.{plain_gap}
 use Rattle.hcl_layout.proofs.LeftLemmas.{gap_small, piece_left, text_len_with_blanks}

@@ -1,5 +1,5 @@
 use Rattle.std.proofs.Common.{◌==◌, ◌∙◌, ap, length}
-use Rattle.hcl_scan.specs.Scanned.{Scanned}
+use Rattle.hcl_tokens.specs.Scanned.{Scanned}
 use Rattle.hcl_layout.specs.Print.{print}
 use Rattle.hcl_layout.proofs.EmptyLemmas.{none_alike}
 use Rattle.hcl_layout.proofs.print.prints_nothing.Goals as goal

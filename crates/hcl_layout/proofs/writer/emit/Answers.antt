@@ -1,8 +1,8 @@
 use Rattle.std.proofs.Common.{◌≡◌, ◌<◌, ◌+◌, ◌++◌, ◌∙◌, ℕ, List, [], Option, arith, ap, drop, length, subst, sym, take, length-append, replicate}
 use Rattle.std.specs.Io.KnownBytes.{Appends}
 use Rattle.std.proofs.lemmas.List.{length-replicate}
-use Rattle.hcl_scan.specs.Scanned.{Scanned}
-use Rattle.hcl_scan.specs.Balanced.{IsBalanced}
+use Rattle.hcl_tokens.specs.Scanned.{Scanned}
+use Rattle.hcl_tokens.specs.Balanced.{IsBalanced}
 use Rattle.hcl_layout.specs.Inner.Depths.{BalancedFrom}
 use Rattle.hcl_layout.specs.Inner.Left.{bytes_of, to_print}
 use Rattle.hcl_layout.specs.Inner.Out.{Out, CutShort, stretched}

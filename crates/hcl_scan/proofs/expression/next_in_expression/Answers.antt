@@ -3,8 +3,8 @@ use Rattle.std.specs.List.{prefix_len}
 use Rattle.hcl_scan.specs.Inner.Leads.{lead_of}
 use Rattle.hcl_scan.specs.Inner.Found.{CloserText}
 use Rattle.hcl_scan.specs.declared.expression.Lead.TheVariants.{Closer}
-use Rattle.hcl_scan.specs.declared.token.Kind.{Kind}
-use Rattle.hcl_scan.specs.declared.token.Kind.TheVariants.{Newline, InlineComment, Blank, Number}
+use Rattle.hcl_tokens.specs.declared.token.Kind.{Kind}
+use Rattle.hcl_tokens.specs.declared.token.Kind.TheVariants.{Newline, InlineComment, Blank, Number}
 use Rattle.hcl_scan.proofs.ExpressionTextLemmas.{Reading, some_found, none_found, some_cut, kind_found, kind_none, kind_cut, comment_none, some_mark, no_mark, mark_cut, slash_found, slash_cut, line_comment, line_reading, space_reading, letter_reading, digit_reading, closer_reading, star_reading}
 use Rattle.hcl_scan.proofs.LeadLemmas.{letter_begins}
 use Rattle.hcl_scan.proofs.CommentLemmas.{goes_on}

@@ -1,5 +1,5 @@
 use Rattle.std.proofs.Common.{◌≡◌, ℕ, ◌≤◌, ◌<◌, true, get_or}
-use Rattle.hcl_scan.specs.Spelling.{is_blank}
+use Rattle.hcl_tokens.specs.Spelling.{is_blank}
 use Rattle.hcl_scan.proofs.heredoc.blank_line_start.Given as goal
 
 -- only blanks stand from here up to the place

@@ -1,7 +1,7 @@
 use Rattle.std.proofs.Common.{arith, length-drop}
 use Rattle.std.specs.List.{prefix_len}
-use Rattle.hcl_scan.specs.Spelling.{is_blank}
-use Rattle.hcl_scan.specs.Scans.{skip_blanks}
+use Rattle.hcl_tokens.specs.Spelling.{is_blank}
+use Rattle.hcl_tokens.specs.Scans.{skip_blanks}
 use Rattle.hcl_scan.proofs.LiteralLemmas.{starts_len}
 use Rattle.hcl_scan.proofs.heredoc.closer_len.Goals as goal
 

@@ -1,5 +1,5 @@
 use Rattle.std.proofs.Common.{ℕ, IfNone, sym, subst}
-use Rattle.hcl_scan.specs.Scans.{IsMarkerLine}
+use Rattle.hcl_tokens.specs.Scans.{IsMarkerLine}
 use Rattle.hcl_scan.specs.Inner.MarkerPlaces.{IsPlace}
 use Rattle.hcl_scan.proofs.CandidateLemmas.{first_line, none_before, none_at_all, none_passed}
 use Rattle.hcl_scan.proofs.heredoc.marker_line.Goals as goal

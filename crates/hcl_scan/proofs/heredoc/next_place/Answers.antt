@@ -1,5 +1,5 @@
 use Rattle.std.proofs.Common.{arith, ℕ, ◌≤◌, IfNone, subst, sym}
-use Rattle.hcl_scan.specs.Scans.{IsMarkerLine}
+use Rattle.hcl_tokens.specs.Scans.{IsMarkerLine}
 use Rattle.hcl_scan.proofs.CandidateLemmas.{no_place, not_before, occurs_in}
 use Rattle.hcl_scan.proofs.heredoc.next_place.Goals as goal
 

@@ -1,5 +1,5 @@
 use Rattle.std.proofs.Common.{sym, ◌∙◌}
-use Rattle.hcl_scan.specs.Spelling.{continues_ident}
+use Rattle.hcl_tokens.specs.Spelling.{continues_ident}
 use Rattle.hcl_scan.proofs.IdentLemmas.{char_found}
 use Rattle.hcl_scan.proofs.ident.continuing_char.Goals as goal
 

@@ -1,8 +1,9 @@
 use Rattle.std.proofs.Common.{◌≡◌, ℕ, List, [], ◌∷◌, ◌++◌, ap, sym, subst, ◌∙◌, inl, inr}
-use Rattle.hcl_scan.specs.Lexemes.{Lexeme}
-use Rattle.hcl_scan.specs.Scans.{Next, Run, begin}
-use Rattle.hcl_scan.specs.Inner.Scanners.{state_of, lexeme_of, Moves}
-use Rattle.hcl_scan.specs.declared.token.Entry.{Entry}
+use Rattle.hcl_tokens.specs.Lexemes.{Lexeme}
+use Rattle.hcl_tokens.specs.Scans.{Next, Run, begin}
+use Rattle.hcl_tokens.specs.Entries.{lexeme_of}
+use Rattle.hcl_scan.specs.Inner.Scanners.{state_of, Moves}
+use Rattle.hcl_tokens.specs.declared.token.Entry.{Entry}
 use Rattle.hcl_scan.specs.declared.scanner.Scanner.{Scanner}
 use Rattle.hcl_scan.proofs.AllContextLemmas.{Run-push}
 use Rattle.hcl_scan.proofs.ScanLemmas.{token_read, stopped_there, scan_fault}

@@ -1,6 +1,6 @@
 use Rattle.std.proofs.Common.{◌≡◌, ◌-◌, List, length}
-use Rattle.hcl_scan.specs.Lexemes.{Lexeme}
-use Rattle.hcl_scan.specs.Scans.{Run, begin}
+use Rattle.hcl_tokens.specs.Lexemes.{Lexeme}
+use Rattle.hcl_tokens.specs.Scans.{Run, begin}
 use Rattle.hcl_scan.specs.Inner.Scanners.{state_of, IsSound}
 use Rattle.hcl_scan.proofs.laws.list_or_fault.Given as goal
 

@@ -1,5 +1,5 @@
 use Rattle.std.proofs.Common.{◌&&◌, drop, sym, ap, ◌∙◌}
-use Rattle.hcl_scan.specs.Spelling.{hex_digits_after}
+use Rattle.hcl_tokens.specs.Spelling.{hex_digits_after}
 use Rattle.hcl_scan.proofs.StartLemmas.{starts_same}
 use Rattle.hcl_scan.proofs.literal.is_code_escape.Goals as goal
 

@@ -1,5 +1,5 @@
 use Rattle.std.proofs.Common.{◌+◌, drop, arith, refl, sym, ap, ◌∙◌, length-drop}
-use Rattle.hcl_scan.specs.Spelling.{element_len}
+use Rattle.hcl_tokens.specs.Spelling.{element_len}
 use Rattle.hcl_scan.proofs.ElementLemmas.{next_element, next_ordinary}
 use Rattle.hcl_scan.proofs.LiteralLemmas.{element_is, IsPart}
 use Rattle.hcl_scan.proofs.literal.literal_len.Goals as goal

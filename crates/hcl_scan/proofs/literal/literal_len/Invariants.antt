@@ -1,6 +1,6 @@
 use Rattle.std.proofs.Common.{◌-◌, ◌≤◌, length, take, drop}
 use Rattle.std.specs.Prelude.{IsTrue}
-use Rattle.hcl_scan.specs.Spelling.{are_elements}
+use Rattle.hcl_tokens.specs.Spelling.{are_elements}
 use Rattle.hcl_scan.proofs.literal.literal_len.Given as goal
 
 abbrev pub invariant-loop-len : goal.invariant-loop-len

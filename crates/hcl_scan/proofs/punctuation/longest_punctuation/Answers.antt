@@ -1,6 +1,6 @@
 use Rattle.std.proofs.Common.{refl, subst, sym}
 use Rattle.std.specs.Prelude.{IfSome, IfNone}
-use Rattle.hcl_scan.specs.Spelling.{punctuation}
+use Rattle.hcl_tokens.specs.Spelling.{punctuation}
 use Rattle.hcl_scan.specs.Inner.Found.{IsLongestPunctuation, HasNoPunctuation}
 use Rattle.hcl_scan.proofs.PunctuationOrderLemmas.{first_found, first_none}
 use Rattle.hcl_scan.proofs.punctuation.longest_punctuation.Goals as goal

@@ -1,5 +1,5 @@
 use Rattle.std.proofs.Common.{arith}
-use Rattle.hcl_scan.specs.Spelling.{is_blank}
+use Rattle.hcl_tokens.specs.Spelling.{is_blank}
 use Rattle.hcl_scan.proofs.FrontLemmas.{run_found, run_none}
 use Rattle.hcl_scan.proofs.text.blanks_len.Goals as goal
 

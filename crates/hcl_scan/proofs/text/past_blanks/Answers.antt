@@ -1,6 +1,6 @@
 use Rattle.std.proofs.Common.{ℕ, ◌+◌, slice_range, if◌then◌else◌, arith, sym, ap, ◌∙◌}
 use Rattle.std.specs.List.{prefix_len}
-use Rattle.hcl_scan.specs.Spelling.{is_blank}
+use Rattle.hcl_tokens.specs.Spelling.{is_blank}
 use Rattle.hcl_scan.proofs.SliceLemmas.{slice_first}
 use Rattle.hcl_scan.proofs.text.past_blanks.Goals as goal
 

@@ -1,6 +1,6 @@
 use Rattle.std.proofs.Common.{◌≡◌, ◌≤◌, ◌+◌, ◌-◌, slice_range}
 use Rattle.std.specs.List.{prefix_len}
-use Rattle.hcl_scan.specs.Spelling.{is_blank}
+use Rattle.hcl_tokens.specs.Spelling.{is_blank}
 use Rattle.hcl_scan.proofs.text.past_blanks.Given as goal
 
 -- the blanks end at the same place from here on

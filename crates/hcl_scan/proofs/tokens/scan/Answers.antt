@@ -1,6 +1,6 @@
 use Rattle.std.proofs.Common.{arith, ap, length}
 use Rattle.std.proofs.lemmas.List.{length_push}
-use Rattle.hcl_scan.specs.Inner.Scanners.{lexemes_of}
+use Rattle.hcl_tokens.specs.Entries.{lexemes_of}
 use Rattle.hcl_scan.proofs.ScanLemmas.{token_read, stopped_there, more_parts, same_still, more_run, no_tokens, scan_fault}
 use Rattle.hcl_scan.proofs.tokens.scan.Goals as goal
 

@@ -1,7 +1,8 @@
 use Rattle.std.proofs.Common.{◌≡◌, ◌≤◌, ◌-◌, length}
 use Rattle.std.specs.Prelude.{All}
-use Rattle.hcl_scan.specs.Scans.{Run, begin}
-use Rattle.hcl_scan.specs.Inner.Scanners.{state_of, lexemes_of, IsSound, IsEntry}
+use Rattle.hcl_tokens.specs.Scans.{Run, begin}
+use Rattle.hcl_tokens.specs.Entries.{lexemes_of, IsEntry}
+use Rattle.hcl_scan.specs.Inner.Scanners.{state_of, IsSound}
 use Rattle.hcl_scan.proofs.tokens.scan.Given as goal
 
 -- the tokens so far were read, up to here

@@ -1,7 +1,7 @@
 use Rattle.std.proofs.Common.{◌∙◌, ◌||◌, ap}
 use Rattle.hcl_scan.proofs.BooleanLemmas.{or_true}
-use Rattle.hcl_scan.specs.Kinds.{is}
-use Rattle.hcl_scan.specs.declared.token.Kind.TheVariants as kind
+use Rattle.hcl_tokens.specs.Kinds.{is}
+use Rattle.hcl_tokens.specs.declared.token.Kind.TheVariants as kind
 use Rattle.hcl_spacing.proofs.SpacingLemmas.{row_one, template_touches}
 use Rattle.hcl_spacing.proofs.laws.kept.Goals as goal
 

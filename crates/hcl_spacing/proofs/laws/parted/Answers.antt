@@ -1,5 +1,5 @@
-use Rattle.hcl_scan.specs.Kinds.{is}
-use Rattle.hcl_scan.specs.declared.token.Kind.TheVariants as kind
+use Rattle.hcl_tokens.specs.Kinds.{is}
+use Rattle.hcl_tokens.specs.declared.token.Kind.TheVariants as kind
 use Rattle.hcl_spacing.specs.Spacing.{stands_before}
 use Rattle.hcl_spacing.proofs.JoiningLemmas.{joined_apart}
 use Rattle.hcl_spacing.proofs.laws.parted.Goals as goal

@@ -1,10 +1,10 @@
 use Rattle.std.proofs.Common.{◌∙◌, ◌≡◌, Bool, false, true, Option, Some, None, sym}
 use Rattle.std.specs.Prelude.{IfNone, IfSome}
-use Rattle.hcl_scan.specs.Kinds.{is}
-use Rattle.hcl_scan.specs.declared.token.Kind.TheVariants.{Newline}
-use Rattle.hcl_scan.specs.Lexemes.{Lexeme}
-use Rattle.hcl_scan.specs.Scanned.{lexeme}
-use Rattle.hcl_scan.specs.declared.token.Kind.{Kind}
+use Rattle.hcl_tokens.specs.Kinds.{is}
+use Rattle.hcl_tokens.specs.declared.token.Kind.TheVariants.{Newline}
+use Rattle.hcl_tokens.specs.Lexemes.{Lexeme}
+use Rattle.hcl_tokens.specs.Scanned.{lexeme}
+use Rattle.hcl_tokens.specs.declared.token.Kind.{Kind}
 use Rattle.hcl_spacing.specs.Inner.KindPairs.{asked_space, pair_space}
 use Rattle.hcl_spacing.specs.Spacing.{asks_more, spaced}
 use Rattle.hcl_spacing.proofs.KindPairLemmas.{asked_is, given, same_line, untold}

@@ -1,6 +1,6 @@
 use Rattle.std.proofs.Common.{◌∙◌}
 use Rattle.std.specs.Prelude.{option_map}
-use Rattle.hcl_scan.specs.Scanned.{lexeme}
+use Rattle.hcl_tokens.specs.Scanned.{lexeme}
 use Rattle.hcl_spacing.proofs.KindPairLemmas.{asked_is, untold_pair}
 use Rattle.hcl_spacing.proofs.spacing.space_by_texts.Goals as goal
 

@@ -1,5 +1,5 @@
 use Rattle.std.proofs.Common.{◌∙◌, ap, sym, get_or, reverse, arith}
-use Rattle.hcl_scan.specs.Scanned.{lexeme}
+use Rattle.hcl_tokens.specs.Scanned.{lexeme}
 use Rattle.hcl_syntax.proofs.PieceEndLemmas.{newline, opens, closes, passes}
 use Rattle.hcl_grammar.proofs.PopLemmas.{popped}
 use Rattle.hcl_syntax.proofs.piece_end.pass.Goals as goal

@@ -1,5 +1,5 @@
 use Rattle.std.proofs.Common.{◌∙◌, sym}
-use Rattle.hcl_scan.specs.Scanned.{lexeme}
+use Rattle.hcl_tokens.specs.Scanned.{lexeme}
 use Rattle.hcl_syntax.proofs.LabelLemmas.{labels_brace, labels_more}
 use Rattle.hcl_syntax.proofs.pieces.put_labels.Goals as goal
 

@@ -1,5 +1,5 @@
 use Rattle.std.proofs.Common.{◌∙◌, ◌-◌, sym, arith}
-use Rattle.hcl_scan.specs.Scanned.{lexeme}
+use Rattle.hcl_tokens.specs.Scanned.{lexeme}
 use Rattle.hcl_syntax.proofs.SoughtLemmas.{close_here, close_past, no_close}
 use Rattle.hcl_syntax.proofs.words.block_end.Goals as goal
 

@@ -1,5 +1,5 @@
 use Rattle.std.proofs.Common.{◌∙◌, sym}
-use Rattle.hcl_scan.specs.Scanned.{lexeme}
+use Rattle.hcl_tokens.specs.Scanned.{lexeme}
 use Rattle.hcl_syntax.proofs.SoughtLemmas.{closing_here, closing_past}
 use Rattle.hcl_syntax.proofs.words.closing_quote.Goals as goal
 

@@ -1,5 +1,5 @@
 use Rattle.std.proofs.Common.{◌∙◌, ◌-◌, sym, arith}
-use Rattle.hcl_scan.specs.Scanned.{lexeme}
+use Rattle.hcl_tokens.specs.Scanned.{lexeme}
 use Rattle.hcl_syntax.proofs.SoughtLemmas.{word_here, word_past, no_word}
 use Rattle.hcl_syntax.proofs.words.words_end.Goals as goal
 

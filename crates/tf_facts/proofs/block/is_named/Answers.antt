@@ -1,6 +1,6 @@
 use Rattle.std.proofs.Common.{◌≡◌, ◌<◌, sym, subst, [], length, eq-eqb}
 use Rattle.std.specs.Prelude.{Some, slice_get}
-use Rattle.hcl_scan.specs.Scanned.{Scanned, lexeme}
+use Rattle.hcl_tokens.specs.Scanned.{Scanned, lexeme}
 use Rattle.hcl_grammar.specs.Items.{outline}
 use Rattle.hcl_grammar.specs.Numbered.{numbered}
 use Rattle.hcl_grammar.specs.declared.item.Item.{Item}

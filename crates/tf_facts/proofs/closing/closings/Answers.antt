@@ -1,5 +1,5 @@
 use Rattle.std.proofs.Common.{◌≡◌, ◌∙◌, ◌+◌, ◌-◌, ap, reverse, get_or, set, false, refl, arith}
-use Rattle.hcl_scan.specs.Scanned.{lexeme}
+use Rattle.hcl_tokens.specs.Scanned.{lexeme}
 use Rattle.tf_facts.specs.Inner.Closings.{quote_from}
 use Rattle.tf_facts.proofs.ClosingLemmas.{fills, quote_here}
 use Rattle.tf_facts.proofs.closing.closings.Goals as goal

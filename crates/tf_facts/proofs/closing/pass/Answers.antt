@@ -1,5 +1,5 @@
 use Rattle.std.proofs.Common.{◌∙◌, sym, arith}
-use Rattle.hcl_scan.specs.Scanned.{lexeme}
+use Rattle.hcl_tokens.specs.Scanned.{lexeme}
 use Rattle.hcl_grammar.proofs.PopLemmas.{popped}
 use Rattle.tf_facts.proofs.ClosingLemmas.{closes, opens, passes}
 use Rattle.tf_facts.proofs.closing.pass.Goals as goal

@@ -2,7 +2,7 @@ use Rattle.std.proofs.Common.{◌≡◌, ◌∙◌, ◌≤◌, ap, sym, refl, su
 use Rattle.std.specs.Prelude.{Some, codes, find}
 use Rattle.std.specs.Option.{option_map}
 use Rattle.std.specs.Str.{bytes_eq}
-use Rattle.hcl_scan.specs.Scanned.{Scanned}
+use Rattle.hcl_tokens.specs.Scanned.{Scanned}
 use Rattle.hcl_grammar.specs.Numbered.{numbered}
 use Rattle.hcl_grammar.specs.declared.item.Item.{Item}
 use Rattle.tf_facts.specs.Declarations.{attributes_in, plain_text}

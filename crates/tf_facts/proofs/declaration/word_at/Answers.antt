@@ -1,5 +1,5 @@
 use Rattle.std.proofs.Common.{◌≡◌, ap, sym, subst}
-use Rattle.hcl_scan.specs.Scanned.{Scanned, lexeme}
+use Rattle.hcl_tokens.specs.Scanned.{Scanned, lexeme}
 use Rattle.hcl_grammar.specs.Numbered.{numbered}
 use Rattle.hcl_grammar.specs.Labels.{first_text, text_of}
 use Rattle.hcl_grammar.proofs.NumberedLemmas.{numbered_here}

@@ -1,5 +1,5 @@
 use Rattle.std.proofs.Common.{◌∙◌, sym}
-use Rattle.hcl_scan.specs.Scanned.{lexeme}
+use Rattle.hcl_tokens.specs.Scanned.{lexeme}
 use Rattle.tf_facts.proofs.ValueLemmas.{values_here, values_past}
 use Rattle.tf_facts.proofs.plain_text.next_value.Goals as goal
 

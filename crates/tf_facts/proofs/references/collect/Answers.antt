@@ -1,5 +1,5 @@
 use Rattle.std.proofs.Common.{◌∙◌, sym, map, ◌+◌, arith}
-use Rattle.hcl_scan.specs.Scanned.{lexeme}
+use Rattle.hcl_tokens.specs.Scanned.{lexeme}
 use Rattle.tf_facts.specs.OwnBlocks.{own_of, ArePassed}
 use Rattle.tf_facts.proofs.CollectLemmas.{collected, passes, skipped}
 use Rattle.tf_facts.proofs.OwnLemmas.{still_passed}

@@ -1,6 +1,6 @@
 use Rattle.std.proofs.Common.{◌∙◌, sym, arith}
 use Rattle.std.proofs.lemmas.Option.{slice_get_within}
-use Rattle.hcl_scan.specs.Scanned.{lexeme}
+use Rattle.hcl_tokens.specs.Scanned.{lexeme}
 use Rattle.tf_facts.proofs.SeenLemmas.{seen_here, seen_past}
 use Rattle.tf_facts.proofs.seen.next_seen.Goals as goal
 

@@ -1,6 +1,6 @@
 use Rattle.std.proofs.Common.{◌∙◌, sym}
 use Rattle.std.proofs.lemmas.List.{take_rest}
-use Rattle.hcl_scan.specs.Spelling.{is_blank}
+use Rattle.hcl_tokens.specs.Spelling.{is_blank}
 use Rattle.tf_facts.proofs.FrontLemmas.{front_here, front_past}
 use Rattle.tf_facts.proofs.silencing.without_blanks.Goals as goal
 

@@ -1,6 +1,6 @@
 use Rattle.std.proofs.Common.{◌≡◌, ◌∙◌, ap, subst, ℕ, map}
-use Rattle.hcl_scan.specs.Scanned.{Scanned}
-use Rattle.hcl_scan.specs.Scans.{Scans}
+use Rattle.hcl_tokens.specs.Scanned.{Scanned}
+use Rattle.hcl_tokens.specs.Scans.{Scans}
 use Rattle.tf_rules.specs.Issues.{File, comment_at, place_in}
 use Rattle.tf_rules.specs.Kept.{declaration_at}
 use Rattle.tf_facts.specs.Found.{comment, declaration}

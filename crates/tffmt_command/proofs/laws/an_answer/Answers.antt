@@ -6,11 +6,11 @@ use Rattle.clap.specs.declared.error.ErrorKind.{ErrorKind}
 use Rattle.clap.specs.declared.error.ErrorKind.TheVariants as kind
 use Rattle.command_line.specs.Faults.{IsOfWords, One}
 use Rattle.command_line.proofs.OneFaultLemmas.{one_fault}
-use Rattle.hcl_scan.specs.Faults.{IsScanFault}
-use Rattle.hcl_scan.specs.Lexemes.{Lexeme}
+use Rattle.hcl_tokens.specs.Faults.{IsScanFault}
+use Rattle.hcl_tokens.specs.Lexemes.{Lexeme}
 use Rattle.hcl_source.specs.Load.{IsText}
 use Rattle.hcl_source.specs.Places.{place}
-use Rattle.hcl_scan.specs.Scans.{Scans}
+use Rattle.hcl_tokens.specs.Scans.{Scans}
 use Rattle.hcl_source.specs.declared.fault.FaultKind.{FaultKind}
 use Rattle.hcl_grammar.specs.Verdict.{verdict}
 use Rattle.command_line.specs.Rows.{Row}

@@ -1,9 +1,9 @@
 use Rattle.std.proofs.Common.{◌≡◌, ◌⊎◌, inl, inr, refl, subst, ℕ, List}
 use Rattle.std.specs.Prelude.{Result, Err}
-use Rattle.hcl_scan.specs.Faults.{IsScanFault}
-use Rattle.hcl_scan.specs.Lexemes.{Lexeme}
-use Rattle.hcl_scan.specs.Scanned.{Scanned}
-use Rattle.hcl_scan.specs.Scans.{Scans}
+use Rattle.hcl_tokens.specs.Faults.{IsScanFault}
+use Rattle.hcl_tokens.specs.Lexemes.{Lexeme}
+use Rattle.hcl_tokens.specs.Scanned.{Scanned}
+use Rattle.hcl_tokens.specs.Scans.{Scans}
 use Rattle.hcl_source.specs.Load.{IsText}
 use Rattle.hcl_source.specs.Places.{place}
 use Rattle.hcl_source.specs.declared.fault.Fault.{Fault}

@@ -1,5 +1,5 @@
 use Rattle.std.proofs.Common.{subst}
-use Rattle.hcl_scan.specs.Balanced.{IsBalanced}
+use Rattle.hcl_tokens.specs.Balanced.{IsBalanced}
 use Rattle.hcl_grammar.proofs.BalanceLemmas.{balance}
 use Rattle.hcl_grammar.proofs.accepted.Accepted.tokens.Goals as goal
 

@@ -1,5 +1,5 @@
 use Rattle.std.proofs.Common.{◌∙◌, subst, sym}
-use Rattle.hcl_scan.specs.Scanned.{Scanned}
+use Rattle.hcl_tokens.specs.Scanned.{Scanned}
 use Rattle.hcl_layout.specs.Inner.Simple.{IsFrom}
 use Rattle.hcl_layout.proofs.ClusterLemmas.{clusters_part, clusters_simple}
 use Rattle.hcl_layout.proofs.measured.Measured.clusters.Goals as goal

@@ -1,5 +1,5 @@
 use Rattle.std.proofs.Common.{ap, arith, length}
-use Rattle.hcl_scan.specs.Scanned.{Scanned}
+use Rattle.hcl_tokens.specs.Scanned.{Scanned}
 use Rattle.hcl_layout.specs.Inner.LineGaps.{len_with_blanks}
 use Rattle.hcl_layout.proofs.SizeLemmas.{scanned_len_with_blanks}
 use Rattle.hcl_layout.proofs.measured.Measured.len_bound.Goals as goal

@@ -1,5 +1,5 @@
 use Rattle.std.proofs.Common.{sym, ◌∙◌, slice_range}
-use Rattle.hcl_scan.specs.Spelling.{context}
+use Rattle.hcl_tokens.specs.Spelling.{context}
 use Rattle.hcl_scan.specs.Inner.Openings.{openers_of}
 use Rattle.hcl_scan.proofs.StepLemmas.{template_found, quoted_some}
 use Rattle.hcl_scan.proofs.scanner.Scanner.find.Goals as goal

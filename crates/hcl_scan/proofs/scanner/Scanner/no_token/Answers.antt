@@ -1,8 +1,8 @@
 use Rattle.std.proofs.Common.{◌≡◌, List, [], ◌∷◌, ℕ, sym, ap, ◌∙◌, slice_range}
-use Rattle.hcl_scan.specs.Spelling.{context, starts, Expression}
+use Rattle.hcl_tokens.specs.Spelling.{context, starts, Expression}
 use Rattle.hcl_scan.specs.Inner.Openings.{openers_of}
 use Rattle.hcl_scan.specs.Inner.Scanners.{state_of}
-use Rattle.hcl_scan.specs.Faults.{no_token_fault, fault_offset}
+use Rattle.hcl_tokens.specs.Faults.{no_token_fault, fault_offset}
 use Rattle.hcl_scan.proofs.StepLemmas.{no_token_here, template_none, expression_offset}
 use Rattle.hcl_scan.proofs.scanner.Scanner.no_token.Goals as goal
 

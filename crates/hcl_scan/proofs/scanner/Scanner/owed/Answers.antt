@@ -1,6 +1,6 @@
 use Rattle.std.proofs.Common.{Some, sym, ap, ◌∙◌}
 use Rattle.hcl_scan.specs.Inner.Openings.{opener_of}
-use Rattle.hcl_scan.specs.Faults.{end_fault}
+use Rattle.hcl_tokens.specs.Faults.{end_fault}
 use Rattle.hcl_source.specs.declared.fault.FaultKind.TheVariants.{UnterminatedQuote, UnterminatedTemplate}
 use Rattle.hcl_scan.proofs.StepLemmas.{owed_none, owed_some, owed_stops, owed_template}
 use Rattle.hcl_scan.proofs.scanner.Scanner.owed.Goals as goal

@@ -1,7 +1,7 @@
 use Rattle.std.proofs.Common.{◌≡◌, ◌<◌, ℕ, false, List, length, drop, get_or, slice_range, sym, ap, subst, ◌∙◌, IsUtf8}
-use Rattle.hcl_scan.specs.Lexemes.{marker_of}
-use Rattle.hcl_scan.specs.Spelling.{is_blank}
-use Rattle.hcl_scan.specs.Scans.{IsMarkerLine, IsFirstMarkerLine, closer_len}
+use Rattle.hcl_tokens.specs.Lexemes.{marker_of}
+use Rattle.hcl_tokens.specs.Spelling.{is_blank}
+use Rattle.hcl_tokens.specs.Scans.{IsMarkerLine, IsFirstMarkerLine, closer_len}
 use Rattle.hcl_scan.proofs.HeredocStepLemmas.{deep_heredoc, is_full, has_room, marker_some, marker_begins, no_line, opens_heredoc}
 use Rattle.hcl_scan.proofs.scanner.Scanner.read_heredoc.Goals as goal
 

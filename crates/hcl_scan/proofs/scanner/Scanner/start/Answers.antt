@@ -1,7 +1,7 @@
 use Rattle.std.proofs.Common.{◌+◌, slice_range, sym, ap, subst, ◌∙◌, IsUtf8}
 use Rattle.std.specs.List.{prefix_len}
-use Rattle.hcl_scan.specs.Lexemes.{in_heredoc}
-use Rattle.hcl_scan.specs.Spelling.{context, is_blank}
+use Rattle.hcl_tokens.specs.Lexemes.{in_heredoc}
+use Rattle.hcl_tokens.specs.Spelling.{context, is_blank}
 use Rattle.hcl_scan.specs.Inner.Openings.{openers_of}
 use Rattle.hcl_scan.proofs.StepLemmas.{start_gap, gaps_plain}
 use Rattle.hcl_scan.proofs.scanner.Scanner.start.Goals as goal

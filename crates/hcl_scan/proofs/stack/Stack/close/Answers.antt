@@ -1,7 +1,7 @@
 use Rattle.std.proofs.Common.{◌∙◌, ap, drop, sym}
-use Rattle.hcl_scan.specs.Lexemes.{Brace}
+use Rattle.hcl_tokens.specs.Lexemes.{Brace}
 use Rattle.hcl_scan.specs.Inner.Openings.{closed, popped_if}
-use Rattle.hcl_scan.specs.declared.token.Kind.TheVariants.{BraceClose, SeqClose}
+use Rattle.hcl_tokens.specs.declared.token.Kind.TheVariants.{BraceClose, SeqClose}
 use Rattle.hcl_scan.proofs.StackLemmas.{dropped_so}
 use Rattle.hcl_scan.proofs.stack.Stack.close.Goals as goal
 

@@ -3,8 +3,8 @@
 -- How much may be open at once is our own choice.
 use Rattle.std.specs.Prelude.{ℕ, ◌==◌, ◌||◌, Bool, true, false, List, [], ◌∷◌, drop, if◌then◌else◌, nat_eq, codes}
 use Rattle.std.specs.List.{starts_with, before_first, list_any}
-use Rattle.hcl_scan.specs.declared.token.Kind.{Kind}
-use Rattle.hcl_scan.specs.declared.token.Kind.TheVariants.{HeredocOpen, QuoteOpen, ParenOpen, BracketOpen, BraceOpen, ParenClose, BracketClose, SeqClose, BraceClose, InterpOpen, ControlOpen, QuoteClose, HeredocClose}
+use Rattle.hcl_tokens.specs.declared.token.Kind.{Kind}
+use Rattle.hcl_tokens.specs.declared.token.Kind.TheVariants.{HeredocOpen, QuoteOpen, ParenOpen, BracketOpen, BraceOpen, ParenClose, BracketClose, SeqClose, BraceClose, InterpOpen, ControlOpen, QuoteClose, HeredocClose}
 
 -- a token, its text as bytes
 pub record Lexeme : Type 0 where

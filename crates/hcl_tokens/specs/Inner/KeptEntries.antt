@@ -1,12 +1,10 @@
 -- What a `Tokens` keeps of its tokens.
 -- Our own choice of representation: 8 bytes a token, and where a long one stands is in a second list.
-use Rattle.std.specs.Prelude.{◌≡◌, ℕ, ◌+◌, ◌<◌, ◌≤◌, ◌==◌, List, length, map, get_or, All, if◌then◌else◌}
-use Rattle.hcl_scan.specs.Scans.{Scans}
-use Rattle.hcl_scan.specs.Inner.Scanners.{lexemes_of, IsEntry}
-use Rattle.hcl_scan.specs.declared.token.Entry.{Entry}
-use Rattle.hcl_scan.specs.declared.entries.Kept.{Kept}
-use Rattle.hcl_scan.specs.declared.entries.Span.{Span}
-use Rattle.hcl_scan.specs.declared.entries.Given.{Given}
+use Rattle.std.specs.Prelude.{◌≡◌, ℕ, ◌+◌, ◌<◌, ◌==◌, List, length, map, get_or, if◌then◌else◌}
+use Rattle.hcl_tokens.specs.declared.token.Entry.{Entry}
+use Rattle.hcl_tokens.specs.declared.entries.Kept.{Kept}
+use Rattle.hcl_tokens.specs.declared.entries.Span.{Span}
+use Rattle.hcl_tokens.specs.declared.entries.Given.{Given}
 
 -- the length that marks a long token
 abbrev pub long_mark : ℕ
@@ -32,9 +30,3 @@ entry_given g = record { start = g.start; end = g.start + g.length; kind = g.kin
 -- a long token stands among the long ones
 pub record IsKept (long : List Span) (k : Kept) : Type 0 where
   pub found : k.length ≡ long_mark → k.place < length long
-
--- the entries are the tokens of the text
-pub record AreTokens (text : List ℕ) (es : List Entry) : Type 0 where
-  pub parts : All (IsEntry text) es
-  pub within : length es ≤ length text
-  pub scanned : Scans text (lexemes_of text es)

@@ -1,7 +1,7 @@
 use Rattle.std.proofs.Common.{◌≡◌, ◌+◌, ◌-◌, ◌++◌, ◌∷◌, [], ◌∙◌, ap, refl, rules, arith}
-use Rattle.hcl_scan.specs.Inner.Entries.{entries_of}
-use Rattle.hcl_scan.proofs.EntryLemmas.{ended, long_pushed}
-use Rattle.hcl_scan.proofs.entries.Entries.push_long.Goals as goal
+use Rattle.hcl_tokens.specs.Inner.KeptEntries.{entries_of}
+use Rattle.hcl_tokens.proofs.EntryLemmas.{ended, long_pushed}
+use Rattle.hcl_tokens.proofs.entries.Entries.push_long.Goals as goal
 
 pub returns : goal.returns
 returns c =

@@ -1,9 +1,9 @@
 use Rattle.std.proofs.Common.{◌≡◌, ◌+◌, ◌-◌, ◌==◌, ◌++◌, ◌∷◌, [], ◌∙◌, ap, false, length, rules, arith}
 use Rattle.std.specs.Vec.{vec_len}
-use Rattle.hcl_scan.specs.Inner.Entries.{entries_of, long_mark}
-use Rattle.hcl_scan.specs.declared.entries.Kept.{Kept}
-use Rattle.hcl_scan.proofs.EntryLemmas.{ended, short_pushed}
-use Rattle.hcl_scan.proofs.entries.Entries.push.Goals as goal
+use Rattle.hcl_tokens.specs.Inner.KeptEntries.{entries_of, long_mark}
+use Rattle.hcl_tokens.specs.declared.entries.Kept.{Kept}
+use Rattle.hcl_tokens.proofs.EntryLemmas.{ended, short_pushed}
+use Rattle.hcl_tokens.proofs.entries.Entries.push.Goals as goal
 
 pub returns : goal.returns
 returns c =

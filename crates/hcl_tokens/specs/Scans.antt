@@ -3,11 +3,11 @@
 -- since the specification leaves it open: the first later line that is the marker, blanks at both ends aside.
 use Rattle.std.specs.Prelude.{◌≡◌, ℕ, ◌+◌, ◌-◌, ◌<◌, ◌≤◌, ◌||◌, ◌&&◌, not, Bool, true, false, IsTrue, List, [], ◌∷◌, ◌++◌, length, drop, take, if◌then◌else◌, nat_lt, codes, get_or, Option, Some, None, ◌⊎◌}
 use Rattle.std.specs.List.{prefix_len}
-use Rattle.hcl_scan.specs.Kinds.{is}
-use Rattle.hcl_scan.specs.Lexemes.{Lexeme, Opener, Heredoc, Brace, Bracket, Paren, marker_of, in_heredoc, moved, max_open}
-use Rattle.hcl_scan.specs.Spelling.{IsSpelling, is_blank, starts, context, Context, Template, Expression}
-use Rattle.hcl_scan.specs.declared.token.Kind.{Kind}
-use Rattle.hcl_scan.specs.declared.token.Kind.TheVariants.{HeredocOpen, HeredocClose, Dot}
+use Rattle.hcl_tokens.specs.Kinds.{is}
+use Rattle.hcl_tokens.specs.Lexemes.{Lexeme, Opener, Heredoc, Brace, Bracket, Paren, marker_of, in_heredoc, moved, max_open}
+use Rattle.hcl_tokens.specs.Spelling.{IsSpelling, is_blank, starts, context, Context, Template, Expression}
+use Rattle.hcl_tokens.specs.declared.token.Kind.{Kind}
+use Rattle.hcl_tokens.specs.declared.token.Kind.TheVariants.{HeredocOpen, HeredocClose, Dot}
 
 -- what a heredoc hides: its closing marker's token, and what follows that
 pub record Hidden : Type 0 where

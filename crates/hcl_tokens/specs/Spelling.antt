@@ -7,9 +7,9 @@ use Rattle.std.specs.Char.{is_ascii_digit, is_ascii_hexdigit}
 use Rattle.std.specs.List.{list_all, list_any}
 use Rattle.std.specs.Str.{all_scalars}
 use Rattle.unicode_ident.specs.Ident.{is_xid_start, is_xid_continue}
-use Rattle.hcl_scan.specs.Lexemes.{Opener, in_heredoc, closes_sequence, Quote, Heredoc}
-use Rattle.hcl_scan.specs.declared.token.Kind.{Kind}
-use Rattle.hcl_scan.specs.declared.token.Kind.TheVariants.{Newline, LineComment, InlineComment, Blank, Ident, Number, HeredocOpen, QuoteOpen, ParenOpen, BracketOpen, BraceOpen, ParenClose, BracketClose, SeqClose, BraceClose, Dot, Comma, Ellipsis, Question, Colon, ColonColon, Assign, Arrow, Not, Minus, Plus, Star, Slash, Percent, And, Or, Equal, NotEqual, Less, Greater, LessEqual, GreaterEqual, Lit, InterpOpen, ControlOpen, QuoteClose}
+use Rattle.hcl_tokens.specs.Lexemes.{Opener, in_heredoc, closes_sequence, Quote, Heredoc}
+use Rattle.hcl_tokens.specs.declared.token.Kind.{Kind}
+use Rattle.hcl_tokens.specs.declared.token.Kind.TheVariants.{Newline, LineComment, InlineComment, Blank, Ident, Number, HeredocOpen, QuoteOpen, ParenOpen, BracketOpen, BraceOpen, ParenClose, BracketClose, SeqClose, BraceClose, Dot, Comma, Ellipsis, Question, Colon, ColonColon, Assign, Arrow, Not, Minus, Plus, Star, Slash, Percent, And, Or, Equal, NotEqual, Less, Greater, LessEqual, GreaterEqual, Lit, InterpOpen, ControlOpen, QuoteClose}
 
 abbrev pub starts : List ℕ → List ℕ → Bool
 starts text [] = true

@@ -2,10 +2,10 @@
 -- `${` or `%{`, and a closer its counterpart (HCL Native Syntax Specification, "Operators and Delimiters" and
 -- "Templates"); quotes and heredocs don't count. That `max_open` are open at most is the scan's bound, and our own choice.
 use Rattle.std.specs.Prelude.{◌≡◌, ◌≤◌, ◌+◌, ℕ, Bool, true, false, List, [], ◌∷◌, ◌++◌, if◌then◌else◌}
-use Rattle.hcl_scan.specs.Lexemes.{Lexeme}
-pub use Rattle.hcl_scan.specs.Lexemes.{max_open}
-use Rattle.hcl_scan.specs.declared.token.Kind.{Kind}
-use Rattle.hcl_scan.specs.declared.token.Kind.TheVariants.{ParenOpen, BracketOpen, BraceOpen, InterpOpen, ControlOpen, ParenClose, BracketClose, SeqClose, BraceClose}
+use Rattle.hcl_tokens.specs.Lexemes.{Lexeme}
+pub use Rattle.hcl_tokens.specs.Lexemes.{max_open}
+use Rattle.hcl_tokens.specs.declared.token.Kind.{Kind}
+use Rattle.hcl_tokens.specs.declared.token.Kind.TheVariants.{ParenOpen, BracketOpen, BraceOpen, InterpOpen, ControlOpen, ParenClose, BracketClose, SeqClose, BraceClose}
 
 abbrev pub is_opener : Kind → Bool
 is_opener ParenOpen = true

@@ -1,11 +1,11 @@
 use Rattle.std.proofs.Common.{◌≡◌, ℕ, List, Option, Some, None, slice_get, refl, sym, ap, ◌∙◌}
 use Rattle.std.specs.Prelude.{option_map}
 use Rattle.std.proofs.lemmas.Option.{slice_get-map}
-use Rattle.hcl_scan.specs.Lexemes.{Lexeme}
-use Rattle.hcl_scan.specs.Inner.Scanners.{lexeme_of}
-use Rattle.hcl_scan.specs.declared.token.Entry.{Entry}
-use Rattle.hcl_scan.specs.declared.token.Kind.{Kind}
-use Rattle.hcl_scan.proofs.tokens.Tokens.kind.Goals as goal
+use Rattle.hcl_tokens.specs.Lexemes.{Lexeme}
+use Rattle.hcl_tokens.specs.Entries.{lexeme_of}
+use Rattle.hcl_tokens.specs.declared.token.Entry.{Entry}
+use Rattle.hcl_tokens.specs.declared.token.Kind.{Kind}
+use Rattle.hcl_tokens.proofs.tokens.Tokens.kind.Goals as goal
 
 -- a token has the kind of its entry
 kind_of_entry : (text : List ℕ) (o : Option Entry) (k : Kind) → ((e : Entry) → o ≡ Some e → k ≡ e.kind) → (t : Lexeme) → option_map (lexeme_of text) o ≡ Some t → k ≡ t.kind

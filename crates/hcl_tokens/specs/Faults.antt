@@ -1,13 +1,13 @@
 -- Why a text has no tokens: the one thing that is lacking where its longest reading ends. The kinds of faults
 -- and their places are our own choice.
 use Rattle.std.specs.Prelude.{◌≡◌, ℕ, ◌+◌, ◌<◌, List, [], ◌∷◌, length, if◌then◌else◌, codes, Option, Some, None}
-use Rattle.hcl_scan.specs.Lexemes.{Lexeme, Opener, Quote, Sequence, marker_of, moved, max_open}
-use Rattle.hcl_scan.specs.Spelling.{starts, context, Context, Template, Expression}
-use Rattle.hcl_scan.specs.Scans.{State, begin, ahead, gap_len, owes, owed, IsLongest, HasNone, IsMarkerLine, Next, Run}
+use Rattle.hcl_tokens.specs.Lexemes.{Lexeme, Opener, Quote, Sequence, marker_of, moved, max_open}
+use Rattle.hcl_tokens.specs.Spelling.{starts, context, Context, Template, Expression}
+use Rattle.hcl_tokens.specs.Scans.{State, begin, ahead, gap_len, owes, owed, IsLongest, HasNone, IsMarkerLine, Next, Run}
 use Rattle.hcl_source.specs.declared.fault.FaultKind.{FaultKind}
 use Rattle.hcl_source.specs.declared.fault.FaultKind.TheVariants.{InvalidCharacter, UnterminatedQuote, UnterminatedComment, UnterminatedHeredoc, UnterminatedTemplate, InvalidEscape, TooDeep}
-use Rattle.hcl_scan.specs.declared.token.Kind.{Kind}
-use Rattle.hcl_scan.specs.declared.token.Kind.TheVariants.{HeredocOpen}
+use Rattle.hcl_tokens.specs.declared.token.Kind.{Kind}
+use Rattle.hcl_tokens.specs.declared.token.Kind.TheVariants.{HeredocOpen}
 
 -- where all that is seen was read: what is owed
 abbrev pub end_fault : Option Opener → Option FaultKind

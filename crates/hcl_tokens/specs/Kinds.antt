@@ -1,8 +1,8 @@
 -- Kinds of tokens, told one by one: for the scan, the items, the rules and the layout. Which kinds there are is the scan's
 -- own choice, after the HCL Native Syntax Specification.
 use Rattle.std.specs.Prelude.{Bool, true, false}
-use Rattle.hcl_scan.specs.declared.token.Kind.{Kind}
-use Rattle.hcl_scan.specs.declared.token.Kind.TheVariants as kind
+use Rattle.hcl_tokens.specs.declared.token.Kind.{Kind}
+use Rattle.hcl_tokens.specs.declared.token.Kind.TheVariants as kind
 
 -- whether the second is the first
 abbrev pub is : Kind → Kind → Bool

@@ -1,8 +1,8 @@
 //! Entries, kept in 8 bytes each but for those of long tokens.
 
 ghost use Rattle.std.specs.Prelude.{◌≡◌, ◌≤◌, ◌<◌, ◌==◌, ◌++◌, ◌∷◌, [], length, slice_get, Some, OnOk};
-ghost use Rattle.hcl_scan.specs.declared.token.Entry.{Entry};
-ghost use Rattle.hcl_scan.specs.Inner.Entries.{entry_given};
+ghost use Rattle.hcl_tokens.specs.declared.token.Entry.{Entry};
+ghost use Rattle.hcl_tokens.specs.Inner.KeptEntries.{entry_given};
 
 use crate::token::{Entry, Kind};
 use std::alloc::{AllocError, Global};
@@ -40,7 +40,7 @@ pub struct Given {
     pub inside_heredoc: bool,
 }
 
-/// A list of entries.
+/// A list of entries, as a scan fills it.
 #[derive(Debug, Drop)]
 pub struct Entries {
     kept: Vec<Kept>,
@@ -50,11 +50,11 @@ pub struct Entries {
 
 impl Model for Entries {
     ghost use Rattle.std.specs.Prelude.{List, All};
-    ghost use Rattle.hcl_scan.specs.declared.token.Entry.{Entry};
+    ghost use Rattle.hcl_tokens.specs.declared.token.Entry.{Entry};
 
     ghost Value = { List Entry };
 
-    ghost use Rattle.hcl_scan.specs.Inner.Entries.{entries_of, IsKept};
+    ghost use Rattle.hcl_tokens.specs.Inner.KeptEntries.{entries_of, IsKept};
 
     ghost view = { λ e. entries_of e.long.items e.kept.items };
 
@@ -62,6 +62,7 @@ impl Model for Entries {
 }
 
 impl Entries {
+    /// No entries.
     pub fn new(alloc: Global) -> Entries
         ensures { result ≡ [] }
     {
@@ -71,13 +72,13 @@ impl Entries {
         }
     }
 
-    pub fn len(&self) -> usize
+    pub(crate) fn len(&self) -> usize
         ensures { result ≡ length self.now }
     {
         self.kept.len()
     }
 
-    pub fn is_empty(&self) -> bool
+    pub(crate) fn is_empty(&self) -> bool
         ensures { result ≡ (length self.now == 0) }
     {
         self.kept.is_empty()
@@ -85,7 +86,7 @@ impl Entries {
 
     /// The entry of this number.
     #[inline(always)]
-    pub fn get(&self, i: usize) -> Given
+    pub(crate) fn get(&self, i: usize) -> Given
         requires { i < length self.now }
         ensures { slice_get self.now i ≡ Some (entry_given result) }
     {
@@ -108,7 +109,7 @@ impl Entries {
 
     /// The kind of the entry of this number, wherever that stands.
     #[inline(always)]
-    pub fn kind(&self, i: usize) -> Kind
+    pub(crate) fn kind(&self, i: usize) -> Kind
         requires { i < length self.now }
         ensures { (e : Entry) → slice_get self.now i ≡ Some e → result ≡ e.kind }
     {

@@ -4,10 +4,10 @@ use Rattle.std.specs.Prelude.{All}
 use Rattle.std.proofs.lemmas.List.{get_or_append_left, get_or_push, map_push}
 use Rattle.std.proofs.lemmas.List.Elements.{All-head, All-tail}
 use Rattle.std.proofs.Math.Seq.{set-append_seam}
-use Rattle.hcl_scan.specs.Inner.Entries.{span_of, entry_of, entries_of, short_span, long_mark, IsKept}
-use Rattle.hcl_scan.specs.declared.token.Entry.{Entry}
-use Rattle.hcl_scan.specs.declared.entries.Kept.{Kept}
-use Rattle.hcl_scan.specs.declared.entries.Span.{Span}
+use Rattle.hcl_tokens.specs.Inner.KeptEntries.{span_of, entry_of, entries_of, short_span, long_mark, IsKept}
+use Rattle.hcl_tokens.specs.declared.token.Entry.{Entry}
+use Rattle.hcl_tokens.specs.declared.entries.Kept.{Kept}
+use Rattle.hcl_tokens.specs.declared.entries.Span.{Span}
 
 -- the entry of a token that stands here
 abbrev pub entry_at : Kept → Span → Entry

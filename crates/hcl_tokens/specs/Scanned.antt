@@ -1,12 +1,12 @@
 -- What contracts see of the tokens of a source, and of the errors of a scan: our own types.
 use Rattle.std.specs.Prelude.{◌≡◌, ℕ, List}
-use Rattle.hcl_scan.specs.Lexemes.{Lexeme}
+use Rattle.hcl_tokens.specs.Lexemes.{Lexeme}
 use Rattle.hcl_source.specs.Places.{place}
-use Rattle.hcl_scan.specs.Scans.{Scans}
-use Rattle.hcl_scan.specs.Faults.{IsScanFault}
-use Rattle.hcl_scan.specs.declared.token.Token.{Token}
-use Rattle.hcl_scan.specs.declared.token.ScanError.{ScanError}
-use Rattle.hcl_scan.specs.declared.token.ScanError.TheVariants as error
+use Rattle.hcl_tokens.specs.Scans.{Scans}
+use Rattle.hcl_tokens.specs.Faults.{IsScanFault}
+use Rattle.hcl_tokens.specs.declared.token.Token.{Token}
+use Rattle.hcl_tokens.specs.declared.token.ScanError.{ScanError}
+use Rattle.hcl_tokens.specs.declared.token.ScanError.TheVariants as error
 
 -- a text and its tokens
 pub record Scanned : Type 0 where

@@ -1,0 +1,3 @@
+pub mod EntryLemmas
+pub mod RunLemmas
+pub mod ExpressionKindLemmas

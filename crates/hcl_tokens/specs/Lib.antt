@@ -1,0 +1,9 @@
+pub mod Kinds
+pub mod Lexemes
+pub mod Spelling
+pub mod Scans
+pub mod Faults
+pub mod Scanned
+pub mod Balanced
+pub mod Entries
+pub mod Inner

@@ -1,0 +1,95 @@
+//! The tokens of a source.
+
+ghost use Rattle.std.specs.Prelude.{◌≡◌, ◌≤◌, ◌<◌, ◌==◌, Some, drop, length, slice_get, take};
+ghost use Rattle.std.specs.Str.{IsCharBoundary};
+ghost use Rattle.hcl_tokens.specs.Entries.{AreTokens, lexemes_of};
+ghost use Rattle.hcl_tokens.specs.Lexemes.{Lexeme};
+ghost use Rattle.hcl_tokens.specs.Scans.{Scans};
+ghost use Rattle.hcl_tokens.specs.Scanned.{lexeme};
+
+use crate::entries::Entries;
+use crate::token::{Kind, Token};
+use hcl_source::Source;
+use std::marker::Model;
+
+/// The tokens of a source. `hcl_scan::scan` finds them.
+#[derive(Debug, Drop)]
+pub struct Tokens<'s> {
+    origin: &'s Source,
+    entries: Entries,
+}
+
+impl<'s> Model for Tokens<'s> {
+    ghost use Rattle.hcl_tokens.specs.Scanned.{Scanned};
+
+    ghost Value = { Scanned };
+
+    ghost use Rattle.hcl_tokens.specs.Entries.{AreTokens, lexemes_of};
+
+    ghost view = { λ t. record { text = t.origin.now; tokens = lexemes_of t.origin.now t.entries } };
+
+    ghost invariant = { λ t. AreTokens t.origin.now t.entries };
+}
+
+impl<'s> Tokens<'s> {
+    /// The tokens of a source, for who has shown that the entries tell them.
+    pub fn new(origin: &'s Source, entries: Entries) -> Tokens<'s>
+        requires { AreTokens origin.now entries }
+        ensures text { result.text ≡ origin.now }
+        ensures tokens { result.tokens ≡ lexemes_of origin.now entries }
+    {
+        Tokens { origin, entries }
+    }
+
+    /// The source that was scanned.
+    pub fn source(&self) -> &'s Source
+        ensures source { result.now ≡ self.now.text }
+        ensures scanned { Scans self.now.text self.now.tokens }
+    {
+        let _ = &self.entries;
+        self.origin
+    }
+
+    /// How many tokens there are: no more than the source has bytes.
+    pub fn len(&self) -> usize
+        ensures len { result ≡ length self.now.tokens }
+        ensures small { result ≤ length self.now.text }
+    {
+        self.entries.len()
+    }
+
+    /// Whether there is no token.
+    pub fn is_empty(&self) -> bool
+        ensures { result ≡ (length self.now.tokens == 0) }
+    {
+        self.entries.is_empty()
+    }
+
+    /// The token of this number.
+    #[inline(always)]
+    pub fn get(&self, i: usize) -> Token<'s>
+        requires { i < length self.now.tokens }
+        ensures token { slice_get self.now.tokens i ≡ Some (lexeme result) }
+        ensures start { IsCharBoundary self.now.text result.start }
+        ensures text { result.text.now ≡ take (length result.text.now) (drop result.start self.now.text) }
+    {
+        let given = self.entries.get(i);
+        let start = given.start;
+        Token {
+            kind: given.kind,
+            text: &self.origin.text()[start..start + given.length],
+            start,
+            inside_heredoc: given.inside_heredoc,
+        }
+    }
+
+    /// The kind of the token of this number.
+    #[inline(always)]
+    pub fn kind(&self, i: usize) -> Kind
+        requires { i < length self.now.tokens }
+        ensures { (t : Lexeme) → slice_get self.now.tokens i ≡ Some t → result ≡ t.kind }
+    {
+        let _ = &self.origin;
+        self.entries.kind(i)
+    }
+}
