@@ -1,6 +1,6 @@
 //! What a file is made of, as a list.
 
-ghost use Rattle.std.specs.Prelude.{◌≡◌, ◌<◌, ◌==◌, ◌∷◌, ◌++◌, [], length, slice_get, OnOk, Some};
+ghost use Rattle.std.specs.Prelude.{◌≡◌, ◌<◌, ◌==◌, ◌∷◌, ◌++◌, [], length, slice_get, OnErr, OnOk, Some};
 ghost use Rattle.hcl_grammar.specs.Inner.Entries.{item_in};
 ghost use Rattle.hcl_grammar.specs.declared.item.Item.TheVariants as item;
 
@@ -38,13 +38,14 @@ impl Outline {
     }
 
     fn push(&mut self, entry: Entry) -> Result<(), AllocError>
-        ensures { OnOk result (self.new ≡ self.old ++ item_in entry ∷ []) }
+        ensures pushed { OnOk result (self.new ≡ self.old ++ item_in entry ∷ []) }
+        ensures unchanged { OnErr result (self.new ≡ self.old) }
     {
         self.entries.push(entry)?;
         Ok(())
     }
 
-    /// Puts an attribute behind the items.
+    /// Puts an attribute after the items. A refused growth leaves them as they were.
     pub fn push_attribute(
         &mut self,
         level: u32,
@@ -52,7 +53,8 @@ impl Outline {
         first: u32,
         end: u32,
     ) -> Result<(), AllocError>
-        ensures { OnOk result (self.new ≡ self.old ++ item.Attribute level name first end ∷ []) }
+        ensures pushed { OnOk result (self.new ≡ self.old ++ item.Attribute level name first end ∷ []) }
+        ensures unchanged { OnErr result (self.new ≡ self.old) }
     {
         self.push(Entry::Attribute {
             level,
@@ -62,16 +64,18 @@ impl Outline {
         })
     }
 
-    /// Puts a block behind the items.
+    /// Puts a block after the items. A refused growth leaves them as they were.
     pub fn push_block(&mut self, level: u32, kind: u32, end: u32) -> Result<(), AllocError>
-        ensures { OnOk result (self.new ≡ self.old ++ item.Block level kind end ∷ []) }
+        ensures pushed { OnOk result (self.new ≡ self.old ++ item.Block level kind end ∷ []) }
+        ensures unchanged { OnErr result (self.new ≡ self.old) }
     {
         self.push(Entry::Block { level, kind, end })
     }
 
-    /// Puts a label behind the items.
+    /// Puts a label after the items. A refused growth leaves them as they were.
     pub fn push_label(&mut self, first: u32, last: u32) -> Result<(), AllocError>
-        ensures { OnOk result (self.new ≡ self.old ++ item.Label (record { first = first; last = last }) ∷ []) }
+        ensures pushed { OnOk result (self.new ≡ self.old ++ item.Label (record { first = first; last = last }) ∷ []) }
+        ensures unchanged { OnErr result (self.new ≡ self.old) }
     {
         self.push(Entry::Label { first, last })
     }

@@ -1,6 +1,7 @@
 //! Entries, kept in 8 bytes each but for those of long tokens.
 
-ghost use Rattle.std.specs.Prelude.{◌≡◌, ◌≤◌, ◌<◌, ◌==◌, ◌++◌, ◌∷◌, [], length, slice_get, Some, OnOk};
+ghost use Rattle.std.specs.Prelude.{◌≡◌, ◌≤◌, ◌<◌, ◌==◌, ◌++◌, ◌∷◌, [], length, slice_get, Some, OnErr, OnOk};
+ghost use Rattle.hcl_source.specs.Load.{max_source};
 ghost use Rattle.hcl_tokens.specs.declared.token.Entry.{Entry};
 ghost use Rattle.hcl_tokens.specs.Inner.KeptEntries.{entry_given};
 
@@ -49,7 +50,7 @@ pub struct Entries {
 }
 
 impl Model for Entries {
-    ghost use Rattle.std.specs.Prelude.{List, All};
+    ghost use Rattle.std.specs.Prelude.{◌≤◌, List, All, length};
     ghost use Rattle.hcl_tokens.specs.declared.token.Entry.{Entry};
 
     ghost Value = { List Entry };
@@ -58,7 +59,7 @@ impl Model for Entries {
 
     ghost view = { λ e. entries_of e.long.items e.kept.items };
 
-    ghost invariant = { λ e. All (IsKept e.long.items) e.kept.items };
+    ghost invariant = { λ e. All (IsKept e.long.items) e.kept.items × (length e.long.items ≤ length e.kept.items) };
 }
 
 impl Entries {
@@ -116,10 +117,13 @@ impl Entries {
         self.kept[i].kind
     }
 
-    /// Puts an entry at the end.
+    /// Puts an entry at the end. Of a source there are no more entries than it has bytes. A refused growth leaves the list
+    /// as it was.
     pub fn push(&mut self, entry: Entry) -> Result<(), AllocError>
-        requires { entry.start ≤ entry.end }
-        ensures { OnOk result (self.new ≡ self.old ++ entry ∷ []) }
+        requires order { entry.start ≤ entry.end }
+        requires room { length self.old < max_source }
+        ensures pushed { OnOk result (self.new ≡ self.old ++ entry ∷ []) }
+        ensures unchanged { OnErr result (self.new ≡ self.old) }
     {
         let length = entry.end - entry.start;
         if length >= LONG as u32 {
@@ -143,22 +147,28 @@ impl Entries {
 
     /// Puts the entry of a long token at the end.
     fn push_long(&mut self, entry: Entry) -> Result<(), AllocError>
-        requires { entry.start ≤ entry.end }
-        ensures { OnOk result (self.new ≡ self.old ++ entry ∷ []) }
+        requires order { entry.start ≤ entry.end }
+        requires room { length self.old < max_source }
+        ensures pushed { OnOk result (self.new ≡ self.old ++ entry ∷ []) }
+        ensures unchanged { OnErr result (self.new ≡ self.old) }
     {
-        let Ok(place) = u32::try_from(self.long.len()) else {
-            return Err(AllocError);
-        };
-        self.long.push(Span {
-            start: entry.start,
-            length: entry.end - entry.start,
-        })?;
+        let count = self.kept.len();
         self.kept.push(Kept {
-            place,
+            place: self.long.len() as u32,
             length: LONG,
             kind: entry.kind,
             inside_heredoc: entry.inside_heredoc,
         })?;
-        Ok(())
+        let span = Span {
+            start: entry.start,
+            length: entry.end - entry.start,
+        };
+        match self.long.push(span) {
+            Ok(()) => Ok(()),
+            Err(_) => {
+                self.kept.truncate(count);
+                Err(AllocError)
+            }
+        }
     }
 }

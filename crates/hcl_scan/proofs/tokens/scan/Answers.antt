@@ -8,11 +8,11 @@ pub loop-read-preserved : goal.loop-read-preserved
 loop-read-preserved c =
     let moved = token_read c.in-Some.read c.loop-read.scanner c.next_token.new.self c.in-Ok.entry c.in-Ok.is c.in-Some.ensures.read in
     record {
-      same_text = same_still c.args.source.now c.loop-read.entries c.push.new.self c.loop-read.scanner c.next_token.new.self c.in-Ok.entry c.loop-read.invariant.same_text moved c.in-Ok-push.ensures;
+      same_text = same_still c.args.source.now c.loop-read.entries c.push.new.self c.loop-read.scanner c.next_token.new.self c.in-Ok.entry c.loop-read.invariant.same_text moved c.in-Ok-push.ensures.pushed;
       sound = moved.sound;
-      within = omega (arith, ap length c.in-Ok-push.ensures, length_push c.loop-read.entries c.in-Ok.entry, c.loop-read.invariant.within, moved.further);
-      parts = more_parts c.args.source.now c.loop-read.entries c.push.new.self c.loop-read.scanner c.next_token.new.self c.in-Ok.entry c.loop-read.invariant.same_text moved c.in-Ok-push.ensures c.loop-read.invariant.parts;
-      read = more_run c.args.source.now c.loop-read.entries c.push.new.self c.loop-read.scanner c.next_token.new.self c.in-Ok.entry c.loop-read.invariant.same_text moved c.in-Ok-push.ensures c.loop-read.invariant.read;
+      within = omega (arith, ap length c.in-Ok-push.ensures.pushed, length_push c.loop-read.entries c.in-Ok.entry, c.loop-read.invariant.within, moved.further);
+      parts = more_parts c.args.source.now c.loop-read.entries c.push.new.self c.loop-read.scanner c.next_token.new.self c.in-Ok.entry c.loop-read.invariant.same_text moved c.in-Ok-push.ensures.pushed c.loop-read.invariant.parts;
+      read = more_run c.args.source.now c.loop-read.entries c.push.new.self c.loop-read.scanner c.next_token.new.self c.in-Ok.entry c.loop-read.invariant.same_text moved c.in-Ok-push.ensures.pushed c.loop-read.invariant.read;
     }
 
 pub returns-in-Err-clause-err : goal.returns-in-Err-clause-err
