@@ -6,6 +6,7 @@ ghost use Rattle.std.specs.String.{string_bytes};
 ghost use Rattle.std.specs.Str.{bytes_eq};
 ghost use Rattle.indexmap.specs.IndexSet.{insert_key};
 
+use crate::hashing::Hashing;
 use indexmap::IndexSet;
 use std::alloc::{AllocError, Global};
 use std::marker::Model;
@@ -13,7 +14,7 @@ use std::marker::Model;
 /// Texts, each once.
 #[derive(Drop)]
 pub struct TextSet {
-    texts: IndexSet<String>,
+    texts: IndexSet<String, Hashing>,
 }
 
 impl Model for TextSet {
@@ -26,12 +27,19 @@ impl Model for TextSet {
 }
 
 impl TextSet {
-    /// No text.
+    /// No text. Texts are hashed by a seed that all runs share.
     pub fn new(alloc: Global) -> TextSet
         ensures { result ≡ [] }
     {
+        TextSet::with_hashing(alloc, Hashing::shared())
+    }
+
+    /// No text.
+    pub fn with_hashing(alloc: Global, hashing: Hashing) -> TextSet
+        ensures { result ≡ [] }
+    {
         TextSet {
-            texts: IndexSet::new(alloc),
+            texts: IndexSet::with_hasher(alloc, hashing),
         }
     }
 

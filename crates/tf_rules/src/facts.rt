@@ -27,7 +27,7 @@ use hcl_syntax::{Accepted, Outline, outline};
 use std::alloc::{AllocError, Global};
 use std::marker::Model;
 use std::mem::swap;
-use tf_facts::{ALL_RULES, Rule, TextSet, add_references_of};
+use tf_facts::{ALL_RULES, Hashing, Rule, TextSet, add_references_of};
 
 /// What is kept of the files of a module: places, names and flags, and no source.
 #[derive(Drop)]
@@ -84,8 +84,15 @@ fn move_behind<T>(from: &mut Vec<T>, into: &mut Vec<T>)
 }
 
 impl Facts {
-    /// The facts of no file.
+    /// The facts of no file. References are hashed by a seed that all runs share.
     pub fn new(alloc: Global) -> Result<Facts, AllocError>
+        ensures { IfOk result (λ facts. facts ≡ nothing) }
+    {
+        Facts::with_hashing(alloc, Hashing::shared())
+    }
+
+    /// The facts of no file.
+    pub fn with_hashing(alloc: Global, hashing: Hashing) -> Result<Facts, AllocError>
         ensures { IfOk result (λ facts. facts ≡ nothing) }
     {
         Ok(Facts {
@@ -94,7 +101,7 @@ impl Facts {
             indexes: Vec::new(alloc),
             interpolations: Vec::new(alloc),
             declarations: Vec::new(alloc),
-            references: TextSet::new(alloc),
+            references: TextSet::with_hashing(alloc, hashing),
         })
     }
 

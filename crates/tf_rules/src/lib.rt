@@ -24,4 +24,4 @@ pub use facts::Facts;
 pub use issue::{Issue, Message};
 pub use naming::Naming;
 pub use settings::Settings;
-pub use tf_facts::{Rule, RuleSet, Severity};
+pub use tf_facts::{Hashing, Rule, RuleSet, Severity};
