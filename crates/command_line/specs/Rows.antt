@@ -2,7 +2,9 @@
 -- by which they call themselves, and in the status where a device failed or memory ran out. Our own choice.
 use Rattle.std.specs.Prelude.{◌≡◌, ◌⊎◌, ◌||◌, ◌≤◌, ◌<◌, ℕ, Bool, true, false, List, [], ◌∷◌, ◌++◌, Option, codes, decimal, length, take, if◌then◌else◌}
 use Rattle.std.specs.Io.KnownBytes.{Appends}
+use Rattle.hcl_source.specs.Devices.{one_more}
 use Rattle.hcl_source.specs.FaultTexts.{fault_text}
+use Rattle.hcl_source.specs.declared.device.Flushes.{Flushes}
 use Rattle.hcl_source.specs.declared.fault.Fault.{Fault}
 
 -- what tells a program from the other
@@ -49,9 +51,18 @@ pub record Writer : Type 0 where
   pub after : Option (List ℕ)
   pub failed : Bool  -- a call of it failed
   pub flushed : Bool  -- all that it took has been flushed
+  pub flushes_before : Flushes  -- how often it had been flushed
+  pub flushes_after : Flushes
 
-abbrev pub writer : {D : Type 0} → (D → Option (List ℕ)) → (D → Bool) → (D → Bool) → D → D → Writer
-writer taken failed flushed old new = record { before = taken old; after = taken new; failed = failed new; flushed = flushed new }
+abbrev pub writer : {D : Type 0} → (D → Option (List ℕ)) → (D → Bool) → (D → Bool) → (D → Flushes) → D → D → Writer
+writer taken failed flushed flushes old new = record {
+  before = taken old;
+  after = taken new;
+  failed = failed new;
+  flushed = flushed new;
+  flushes_before = flushes old;
+  flushes_after = flushes new;
+}
 
 -- the two writers of a run, and its exit status
 pub record End : Type 0 where
@@ -60,12 +71,19 @@ pub record End : Type 0 where
   pub status : ℕ
 
 -- a writer took the text, or where it failed a part of it from its front
-abbrev pub TookBy : Bool → Writer → List ℕ → Type 0
-TookBy false w text = Appends w.before w.after text
-TookBy true w text = (n : ℕ) × (n ≤ length text) × Appends w.before w.after (take n text)
+abbrev pub TookBy : Bool → Option (List ℕ) → Option (List ℕ) → List ℕ → Type 0
+TookBy false before after text = Appends before after text
+TookBy true before after text = (n : ℕ) × (n ≤ length text) × Appends before after (take n text)
 
 abbrev pub Took : Writer → List ℕ → Type 0
-Took w text = TookBy w.failed w text
+Took w text = TookBy w.failed w.before w.after text
+
+-- it was flushed once in this run, or not at all
+abbrev pub IsFlushedOnce : Writer → Type 0
+IsFlushedOnce w = w.flushes_after ≡ one_more w.flushes_before
+
+abbrev pub IsUnflushed : Writer → Type 0
+IsUnflushed w = w.flushes_after ≡ w.flushes_before
 
 -- what goes to standard error
 abbrev pub error_output : Program → Bool → Row → List ℕ
@@ -73,14 +91,17 @@ error_output program out_failed row = if out_failed then write_failed program el
 
 -- A run that is to show the row ends so: each writer took its text, standard error that of the failed write
 -- where standard output failed, and the status is that of a failure where a writer failed. Standard output is flushed
--- behind its text, and standard error isn't. Where there is no text a writer is not called, so it can't fail.
+-- once, after its text, and standard error isn't. Where there is no text a writer is not called, so it can't fail.
 pub record Shows (program : Program) (row : Row) (end : End) : Type 0 where
   pub output : Took end.out row.out
   pub message : Took end.err (error_output program end.out.failed row)
   pub exit : end.status ≡ (if end.out.failed || end.err.failed then program.failure else row.status)
   pub flush : end.out.failed ≡ false → 0 < length row.out → end.out.flushed ≡ true
+  pub once : end.out.failed ≡ false → 0 < length row.out → IsFlushedOnce end.out
   pub unflushed : end.err.failed ≡ false → 0 < length (error_output program end.out.failed row) → end.err.flushed ≡ false
+  pub no_flush : IsUnflushed end.err
   pub no_output : length row.out ≡ 0 → end.out.failed ≡ false
+  pub no_output_flush : length row.out ≡ 0 → IsUnflushed end.out
   pub no_message : length (error_output program end.out.failed row) ≡ 0 → end.err.failed ≡ false
 
 -- a run shows a row of which this holds

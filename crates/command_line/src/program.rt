@@ -1,6 +1,7 @@
 //! A run's shell over its devices: what a program says, and with which status it ends.
 
 ghost use Rattle.std.specs.Prelude.{◌≡◌, ◌||◌, ◌<◌, List, [], ℕ, false, true, length, if◌then◌else◌, string_bytes, MatchResult, is_err};
+ghost use Rattle.hcl_source.specs.Devices.{one_more};
 ghost use Rattle.command_line.specs.Rows.{Row, Took, Shows, ShowsOne, out_of_memory, write_failed, writer};
 
 use crate::texts::Program;
@@ -11,10 +12,11 @@ impl Program {
     /// Writes a message, and gives the status, or that of a failure where the write failed.
     fn complain<E: ByteSink>(&self, err: &mut E, message: &str, status: u8) -> u8
         requires { E.failed err.old ≡ false }
-        ensures took { Took (writer E.taken E.failed E.flushed err.old err.new) message.now }
+        ensures took { Took (writer E.taken E.failed E.flushed E.flushes err.old err.new) message.now }
         ensures exit { result ≡ (if E.failed err.new then self.now.failure else status) }
         ensures unflushed { E.failed err.new ≡ false → 0 < length message.now → E.flushed err.new ≡ false }
         ensures untouched { length message.now ≡ 0 → E.failed err.new ≡ false }
+        ensures no_flush { E.flushes err.new ≡ E.flushes err.old }
     {
         match write_fully(err, message.as_bytes()) {
             Ok(()) => status,
@@ -33,7 +35,7 @@ impl Program {
         requires out { O.failed out.old ≡ false }
         requires err { E.failed err.old ≡ false }
         ensures { Shows self.now (record { out = []; err = message.now; status = status })
-            (record { out = writer O.taken O.failed O.flushed out.old out.new; err = writer E.taken E.failed E.flushed err.old err.new; status = result }) }
+            (record { out = writer O.taken O.failed O.flushed O.flushes out.old out.new; err = writer E.taken E.failed E.flushed E.flushes err.old err.new; status = result }) }
     {
         let _ = &*out;
         self.complain(err, message, status)
@@ -44,7 +46,7 @@ impl Program {
         requires out { O.failed out.old ≡ false }
         requires err { E.failed err.old ≡ false }
         ensures { Shows self.now (out_of_memory self.now)
-            (record { out = writer O.taken O.failed O.flushed out.old out.new; err = writer E.taken E.failed E.flushed err.old err.new; status = result }) }
+            (record { out = writer O.taken O.failed O.flushed O.flushes out.old out.new; err = writer E.taken E.failed E.flushed E.flushes err.old err.new; status = result }) }
     {
         self.tell(out, err, self.out_of_memory(), self.failure())
     }
@@ -60,7 +62,7 @@ impl Program {
         requires out { O.failed out.old ≡ false }
         requires err { E.failed err.old ≡ false }
         ensures { ShowsOne self.now (λ row. MatchResult line (λ text. row ≡ record { out = []; err = string_bytes text; status = status }) (λ _. row ≡ out_of_memory self.now))
-            (record { out = writer O.taken O.failed O.flushed out.old out.new; err = writer E.taken E.failed E.flushed err.old err.new; status = result }) }
+            (record { out = writer O.taken O.failed O.flushed O.flushes out.old out.new; err = writer E.taken E.failed E.flushed E.flushes err.old err.new; status = result }) }
     {
         match line {
             Ok(line) => self.tell(out, err, line.as_str(), status),
@@ -71,10 +73,11 @@ impl Program {
     /// Ends a run that wrote to standard output: gives the status, or says that a write failed.
     pub fn finish<O: ByteSink, E: ByteSink>(&self, out: &O, err: &mut E, status: u8) -> u8
         requires err { E.failed err.old ≡ false }
-        ensures took { Took (writer E.taken E.failed E.flushed err.old err.new) (if O.failed out.now then write_failed self.now else []) }
+        ensures took { Took (writer E.taken E.failed E.flushed E.flushes err.old err.new) (if O.failed out.now then write_failed self.now else []) }
         ensures exit { result ≡ (if O.failed out.now || E.failed err.new then self.now.failure else status) }
         ensures unflushed { E.failed err.new ≡ false → O.failed out.now ≡ true → E.flushed err.new ≡ false }
         ensures untouched { O.failed out.now ≡ false → E.failed err.new ≡ false }
+        ensures no_flush { E.flushes err.new ≡ E.flushes err.old }
     {
         if out.has_failed() {
             return self.complain(err, self.write_failed(), self.failure());
@@ -93,7 +96,7 @@ impl Program {
         requires out { O.failed out.old ≡ false }
         requires err { E.failed err.old ≡ false }
         ensures { Shows self.now (record { out = text.now; err = []; status = status })
-            (record { out = writer O.taken O.failed O.flushed out.old out.new; err = writer E.taken E.failed E.flushed err.old err.new; status = result }) }
+            (record { out = writer O.taken O.failed O.flushed O.flushes out.old out.new; err = writer E.taken E.failed E.flushed E.flushes err.old err.new; status = result }) }
     {
         say(out, text);
         self.finish(out, err, status)
@@ -103,9 +106,11 @@ impl Program {
 /// Writes a text, and flushes it where it isn't empty.
 fn say<O: ByteSink>(out: &mut O, text: &str)
     requires { O.failed out.old ≡ false }
-    ensures took { Took (writer O.taken O.failed O.flushed out.old out.new) text.now }
+    ensures took { Took (writer O.taken O.failed O.flushed O.flushes out.old out.new) text.now }
     ensures flushed { O.failed out.new ≡ false → 0 < length text.now → O.flushed out.new ≡ true }
+    ensures once { O.failed out.new ≡ false → 0 < length text.now → O.flushes out.new ≡ one_more (O.flushes out.old) }
     ensures untouched { length text.now ≡ 0 → O.failed out.new ≡ false }
+    ensures no_flush { length text.now ≡ 0 → O.flushes out.new ≡ O.flushes out.old }
 {
     if write_fully(out, text.as_bytes()).is_ok() && !text.is_empty() {
         let _ = out.flush();

@@ -24,3 +24,4 @@ pub mod NotedKindLemmas
 pub mod OlderScanLemmas
 pub mod OlderRunLemmas
 pub mod OlderPrintLemmas
+pub mod OlderPremiseLemmas

@@ -62,6 +62,9 @@ run_same count ss (t ∷ ts) o = ap (λ u. next u (λ n rest. was_run n rest ts)
 pub accepted_too : (ts : List Lexeme) → Older ts → WasAccepted ts → IsAccepted ts
 accepted_too ts o was = sym (run_same 0 (file at Seen ∷ []) (lookaheads ts) (classes_older 0 ts o)) ∙ was
 
+pub accepted_before : (ts : List Lexeme) → Older ts → IsAccepted ts → WasAccepted ts
+accepted_before ts o is = run_same 0 (file at Seen ∷ []) (lookaheads ts) (classes_older 0 ts o) ∙ is
+
 -- ---- what each class gives, all give
 abbrev classes : List Class
 classes = class.Trivia ∷ class.Newline ∷ class.Ident Plain ∷ class.Ident For ∷ class.Ident In ∷ class.Ident If ∷ class.Ident Else ∷ class.Ident Endif ∷ class.Ident Endfor ∷ class.Number true ∷ class.Number false ∷ class.HeredocOpen ∷ class.HeredocClose ∷ class.QuoteOpen ∷ class.QuoteClose ∷ class.Lit ∷ class.InterpOpen ∷ class.ControlOpen ∷ class.SeqClose ∷ class.ParenOpen ∷ class.ParenClose ∷ class.BracketOpen ∷ class.BracketClose ∷ class.BraceOpen ∷ class.BraceClose ∷ class.Dot ∷ class.Comma ∷ class.Ellipsis ∷ class.Question ∷ class.Colon ∷ class.ColonColon ∷ class.Assign ∷ class.Arrow ∷ class.Not ∷ class.Minus ∷ class.Star ∷ class.Binary ∷ []

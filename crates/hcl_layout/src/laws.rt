@@ -7,7 +7,7 @@ ghost use Rattle.hcl_tokens.specs.Scans.{Scans};
 ghost use Rattle.hcl_layout.specs.Gaps.{gaps};
 ghost use Rattle.hcl_layout.specs.Older.Prints.{was_print};
 ghost use Rattle.hcl_layout.specs.Older.Rows.{WasAccepted};
-ghost use Rattle.hcl_layout.specs.Older.Tokens.{WasScanned};
+ghost use Rattle.hcl_layout.specs.Older.Tokens.{HasNoPath, WasScanned};
 ghost use Rattle.hcl_layout.specs.Print.{print};
 ghost use Rattle.hcl_layout.specs.Reprinted.{printed_tokens};
 ghost use Rattle.hcl_grammar.specs.Classes.{lookaheads};
@@ -50,4 +50,11 @@ pub fn same_lines()
 /// now, is accepted, and has the same print.
 pub fn older_files()
     ensures { (text : List ℕ) (ts : List Lexeme) → WasScanned text ts → WasAccepted ts → Scans text ts × IsAccepted ts × (was_print ts ≡ print ts) }
+{}
+
+/// What has no `::` was scanned to the same tokens before there were names with `::`, and accepted where it is accepted
+/// now: so [`older_files`] speaks of all such files.
+pub fn older_without_paths()
+    ensures scanned { (text : List ℕ) (ts : List Lexeme) → Scans text ts → HasNoPath ts → WasScanned text ts }
+    ensures accepted { (ts : List Lexeme) → IsAccepted ts → HasNoPath ts → WasAccepted ts }
 {}

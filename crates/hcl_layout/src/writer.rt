@@ -103,6 +103,7 @@ fn send<W: ByteSink>(to: &mut W, buffer: &mut Buffer) -> Result<(), WriteFault>
     ensures ok { OnOk result ((base : Option (List ℕ)) (front : List ℕ) → Out base (W.taken to.old) buffer.old front → Out base (W.taken to.new) buffer.new front) }
     ensures err { IfErr result (λ fault. (base : Option (List ℕ)) (front : List ℕ) → Out base (W.taken to.old) buffer.old front → CutShort base (W.taken to.new) front fault) }
     ensures failed { W.failed to.new ≡ is_err result }
+    ensures flushes { W.flushes to.new ≡ W.flushes to.old }
     ensures empty { OnOk result (buffer.new.len ≡ 0) }
     ensures sent { OnOk result (buffer.new.sent ≡ buffer.old.sent + buffer.old.len) }
 {
@@ -124,6 +125,7 @@ fn send_past<W: ByteSink>(to: &mut W, buffer: &mut Buffer, text: &[u8]) -> Resul
     ensures ok { OnOk result (Puts (W.taken to.old) (W.taken to.new) buffer.old buffer.new text.now) }
     ensures err { IfErr result (Fails (W.taken to.old) (W.taken to.new) buffer.old text.now) }
     ensures failed { W.failed to.new ≡ is_err result }
+    ensures flushes { W.flushes to.new ≡ W.flushes to.old }
     ensures count { OnOk result (buffer.new.sent + buffer.new.len ≡ buffer.old.sent + buffer.old.len + length text.now) }
 {
     if let Err(fault) = write_fully(to, text) {
@@ -143,6 +145,7 @@ fn put<W: ByteSink>(to: &mut W, buffer: &mut Buffer, text: &[u8]) -> Result<(), 
     ensures ok { OnOk result (Puts (W.taken to.old) (W.taken to.new) buffer.old buffer.new text.now) }
     ensures err { IfErr result (Fails (W.taken to.old) (W.taken to.new) buffer.old text.now) }
     ensures failed { W.failed to.new ≡ is_err result }
+    ensures flushes { W.flushes to.new ≡ W.flushes to.old }
     ensures count { OnOk result (buffer.new.sent + buffer.new.len ≡ buffer.old.sent + buffer.old.len + length text.now) }
 {
     if text.len() <= 8192 - buffer.len {
@@ -167,6 +170,7 @@ fn put_blanks<W: ByteSink>(to: &mut W, buffer: &mut Buffer, gap: u64) -> Result<
     ensures ok { OnOk result (Puts (W.taken to.old) (W.taken to.new) buffer.old buffer.new (replicate gap 32)) }
     ensures err { IfErr result (Fails (W.taken to.old) (W.taken to.new) buffer.old (replicate gap 32)) }
     ensures failed { W.failed to.new ≡ is_err result }
+    ensures flushes { W.flushes to.new ≡ W.flushes to.old }
     ensures count { OnOk result (buffer.new.sent + buffer.new.len ≡ buffer.old.sent + buffer.old.len + gap) }
 {
     // a single blank is put quicker by itself
@@ -195,6 +199,7 @@ fn put_text<W: ByteSink>(
     ensures ok { OnOk result (Puts (W.taken to.old) (W.taken to.new) buffer.old buffer.new (replicate gap 32 ++ text.now)) }
     ensures err { IfErr result (Fails (W.taken to.old) (W.taken to.new) buffer.old (replicate gap 32 ++ text.now)) }
     ensures failed { W.failed to.new ≡ is_err result }
+    ensures flushes { W.flushes to.new ≡ W.flushes to.old }
     ensures count { OnOk result (buffer.new.sent + buffer.new.len ≡ buffer.old.sent + buffer.old.len + gap + length text.now) }
 {
     if let Err(fault) = put_blanks(to, buffer, gap) {
@@ -218,6 +223,7 @@ fn put_stretch<W: ByteSink>(
     ensures ok { OnOk result (Puts (W.taken to.old) (W.taken to.new) buffer.old buffer.new (stretched source.now stretch)) }
     ensures err { IfErr result (Fails (W.taken to.old) (W.taken to.new) buffer.old (stretched source.now stretch)) }
     ensures failed { W.failed to.new ≡ is_err result }
+    ensures flushes { W.flushes to.new ≡ W.flushes to.old }
     ensures count { OnOk result (buffer.new.sent + buffer.new.len ≡ buffer.old.sent + buffer.old.len + stretch.gap + (stretch.end - stretch.start)) }
 {
     let (start, end) = (stretch.start, stretch.end);
@@ -242,6 +248,7 @@ fn finish<W: ByteSink>(
     ensures ok { OnOk result ((base : Option (List ℕ)) (front : List ℕ) → Out base (W.taken to.old) buffer.old front → Appends base (W.taken to.new) (front ++ stretched source.now stretch)) }
     ensures err { IfErr result (Fails (W.taken to.old) (W.taken to.new) buffer.old (stretched source.now stretch)) }
     ensures failed { W.failed to.new ≡ is_err result }
+    ensures flushes { W.flushes to.new ≡ W.flushes to.old }
 {
     if let Err(fault) = put_stretch(to, buffer, source, stretch) {
         return Err(fault);
@@ -274,6 +281,7 @@ pub fn emit<W: ByteSink>(accepted: &Accepted<'_, '_>, to: &mut W) -> Result<(), 
     ensures err { IfErr result (λ fault. Appends (W.taken to.old) (W.taken to.new) (take fault.written (print accepted.now.tokens))) }
     ensures written { IfErr result (λ fault. fault.written < length (print accepted.now.tokens)) }
     ensures failed { W.failed to.new ≡ is_err result }
+    ensures flushes { W.flushes to.new ≡ W.flushes to.old }
 {
     let tokens = Measured::new(accepted);
     let source = tokens.source();

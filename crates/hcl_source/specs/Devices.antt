@@ -2,6 +2,8 @@
 use Rattle.std.specs.Prelude.{ℕ, ◌<◌, Bool, true, false, Result, Ok, Err}
 use Rattle.hcl_source.specs.declared.device.ReadError.{ReadError}
 use Rattle.hcl_source.specs.declared.device.ReadError.TheVariants.{Failed}
+use Rattle.hcl_source.specs.declared.device.Flushes.{Flushes}
+use Rattle.hcl_source.specs.declared.device.Flushes.TheVariants.{Never, Once, Often}
 
 -- a write took a byte or more
 abbrev pub TookSome : {E : Type 0} → Result ℕ E → Type 0
@@ -12,3 +14,9 @@ TookSome (Err e) = ⊥
 abbrev pub is_read_failed : {X : Type 0} → Result X ReadError → Bool
 is_read_failed (Err Failed) = true
 is_read_failed _ = false
+
+-- how often a sink was flushed, after one more flush
+abbrev pub one_more : Flushes → Flushes
+one_more Never = Once
+one_more Once = Often
+one_more Often = Often

@@ -1,5 +1,6 @@
 -- Devices in memory, for tests: how many bytes a call moves, and which call fails. Our own choice.
 use Rattle.std.specs.Prelude.{ℕ, ◌-◌, ◌==◌, ◌||◌, ◌&&◌, Bool, false, not, List, length, min, Option, Some, None}
+use Rattle.hcl_source.specs.declared.device.Flushes.{Flushes}
 
 -- What a source in memory is: the bytes that are left; how many a read gives at most; how many reads go well before
 -- the one that fails, where one is to fail; and whether one has failed.
@@ -10,8 +11,8 @@ pub record Giving : Type 0 where
   pub has_failed : Bool
 
 -- What a sink in memory is: the bytes that it took; how many a write takes at most; how many writes go well before the
--- one that fails, where one is to fail; whether a flush is to fail; whether a call has failed; and whether all that was
--- taken has been flushed.
+-- one that fails, where one is to fail; whether a flush is to fail; whether a call has failed; whether all that was taken has
+-- been flushed; and how often it was flushed.
 pub record Taking : Type 0 where
   pub bytes : List ℕ
   pub most : ℕ
@@ -19,6 +20,7 @@ pub record Taking : Type 0 where
   pub flush_fails : Bool
   pub has_failed : Bool
   pub is_flushed : Bool
+  pub flushes : Flushes
 
 -- the most bytes that a sink takes
 abbrev pub sink_room : ℕ

@@ -5,7 +5,8 @@ ghost use Rattle.std.specs.Io.KnownBytes.{Keeps, Appends, WriteAppends, Consumes
 ghost use Rattle.std.specs.Io.{ReadsAtMost};
 ghost use Rattle.std.specs.Vec.{vec_len};
 ghost use Rattle.hcl_source.specs.Load.{max_source};
-ghost use Rattle.hcl_source.specs.Devices.{is_read_failed, TookSome};
+ghost use Rattle.hcl_source.specs.Devices.{is_read_failed, one_more, TookSome};
+ghost use Rattle.hcl_source.specs.declared.device.Flushes.{Flushes};
 
 use std::alloc::Global;
 use std::io::{Read, Write};
@@ -35,6 +36,27 @@ pub trait ByteSource {
         ensures { result ≡ failed self.now };
 }
 
+/// How often a sink was flushed, as far as a run has to tell it.
+#[derive(Clone, Copy, Debug, PartialEq, Eq)]
+pub enum Flushes {
+    Never,
+    Once,
+    /// Twice or more.
+    Often,
+}
+
+impl Flushes {
+    /// How often after one more flush.
+    pub fn one_more(self) -> Flushes
+        ensures { result ≡ one_more self }
+    {
+        match self {
+            Flushes::Never => Flushes::Once,
+            Flushes::Once | Flushes::Often => Flushes::Often,
+        }
+    }
+}
+
 /// What takes bytes.
 pub trait ByteSink {
     /// The bytes taken so far, where the device tells them.
@@ -46,6 +68,9 @@ pub trait ByteSink {
     /// All that was taken has been flushed.
     ghost flushed: { Self → Bool };
 
+    /// How often it was flushed. A flush that fails counts too.
+    ghost flushes: { Self → Flushes };
+
     /// Takes a part of the bytes from their front, and answers how many: at least one, where there
     /// is one.
     fn write(&mut self, bytes: &[u8]) -> Result<usize, Failed>
@@ -54,14 +79,16 @@ pub trait ByteSink {
         ensures some { IfOk result (λ n. 0 < length bytes.now → 0 < n) }
         ensures bytes { WriteAppends (taken self.old) (taken self.new) result bytes.now }
         ensures failed { failed self.new ≡ is_err result }
-        ensures pending { TookSome result → flushed self.new ≡ false };
+        ensures pending { TookSome result → flushed self.new ≡ false }
+        ensures flushes { flushes self.new ≡ flushes self.old };
 
     /// Hands on what was taken and not yet handed on.
     fn flush(&mut self) -> Result<(), Failed>
         requires { failed self.old ≡ false }
         ensures bytes { Keeps (taken self.old) (taken self.new) }
         ensures failed { failed self.new ≡ is_err result }
-        ensures flushed { OnOk result (flushed self.new ≡ true) };
+        ensures flushed { OnOk result (flushed self.new ≡ true) }
+        ensures flushes { flushes self.new ≡ one_more (flushes self.old) };
 
     /// Whether a call has failed so far.
     fn has_failed(&self) -> bool
@@ -114,17 +141,20 @@ pub struct ToWrite<W: Drop> {
     writer: W,
     has_failed: bool,
     is_flushed: bool,
+    flushes: Flushes,
 }
 
 impl<W: Write + Drop> ToWrite<W> {
     pub fn new(writer: W) -> Self
         ensures taken { ⟦<ToWrite<W> as ByteSink>⟧.taken result ≡ W.contents writer }
         ensures fresh { ⟦<ToWrite<W> as ByteSink>⟧.failed result ≡ false }
+        ensures flushes { ⟦<ToWrite<W> as ByteSink>⟧.flushes result ≡ Flushes.Never }
     {
         ToWrite {
             writer,
             has_failed: false,
             is_flushed: false,
+            flushes: Flushes::Never,
         }
     }
 }
@@ -135,6 +165,8 @@ impl<W: Write + Drop> ByteSink for ToWrite<W> {
     ghost failed = { λ s. s.has_failed };
 
     ghost flushed = { λ s. s.is_flushed };
+
+    ghost flushes = { λ s. s.flushes };
 
     fn write(&mut self, bytes: &[u8]) -> Result<usize, Failed> {
         match self.writer.write(bytes) {
@@ -150,6 +182,7 @@ impl<W: Write + Drop> ByteSink for ToWrite<W> {
     }
 
     fn flush(&mut self) -> Result<(), Failed> {
+        self.flushes = self.flushes.one_more();
         match self.writer.flush() {
             Ok(()) => {
                 self.is_flushed = true;
@@ -173,7 +206,7 @@ pub struct WriteFault {
     pub written: u64,
 }
 
-/// Writes all of the bytes, or those before the first write that fails.
+/// Writes all of the bytes, or those before the first write that fails. Nothing is flushed.
 pub fn write_fully<W: ByteSink>(sink: &mut W, bytes: &[u8]) -> Result<(), WriteFault>
     requires { W.failed sink.old ≡ false }
     ensures ok { OnOk result (Appends (W.taken sink.old) (W.taken sink.new) bytes.now) }
@@ -181,6 +214,7 @@ pub fn write_fully<W: ByteSink>(sink: &mut W, bytes: &[u8]) -> Result<(), WriteF
     ensures written { IfErr result (λ fault. fault.written < length bytes.now) }
     ensures pending { OnOk result (0 < length bytes.now → W.flushed sink.new ≡ false) }
     ensures failed { W.failed sink.new ≡ is_err result }
+    ensures flushes { W.flushes sink.new ≡ W.flushes sink.old }
 {
     let mut done = 0;
     while done < bytes.len() {

@@ -11,7 +11,9 @@ pub mod laws;
 mod memory;
 mod source;
 
-pub use device::{ByteSink, ByteSource, Failed, FromRead, ToWrite, WriteFault, write_fully};
+pub use device::{
+    ByteSink, ByteSource, Failed, Flushes, FromRead, ToWrite, WriteFault, write_fully,
+};
 pub use fault::{Fault, FaultKind, LoadError, Position};
 pub use memory::{MemorySink, MemorySource, SINK_ROOM};
 pub use source::{MAX_SOURCE, Source, line_start};

@@ -1,9 +1,10 @@
 //! Devices in memory, for tests of what stands on devices.
 
 ghost use Rattle.std.specs.Prelude.{◌≡◌, ◌<◌, ◌≤◌, ◌==◌, ◌&&◌, ◌++◌, [], Some, None, true, false, length, take, drop, IfOk, OnOk, OnErr, is_err};
+ghost use Rattle.hcl_source.specs.Devices.{one_more};
 ghost use Rattle.hcl_source.specs.Memory.{sink_room, is_due, one_less, given, accepted, write_fails};
 
-use crate::device::{ByteSink, ByteSource, Failed};
+use crate::device::{ByteSink, ByteSource, Failed, Flushes};
 use std::marker::Model;
 
 /// The most bytes that a `MemorySink` takes.
@@ -133,6 +134,7 @@ pub struct MemorySink {
     flush_fails: bool,
     has_failed: bool,
     is_flushed: bool,
+    flushes: Flushes,
 }
 
 impl Model for MemorySink {
@@ -141,7 +143,7 @@ impl Model for MemorySink {
 
     ghost Value = { Taking };
 
-    ghost view = { λ s. record { bytes = take s.len s.buffer; most = s.most; good_writes = s.good_writes; flush_fails = s.flush_fails; has_failed = s.has_failed; is_flushed = s.is_flushed } };
+    ghost view = { λ s. record { bytes = take s.len s.buffer; most = s.most; good_writes = s.good_writes; flush_fails = s.flush_fails; has_failed = s.has_failed; is_flushed = s.is_flushed; flushes = s.flushes } };
 
     ghost invariant = { λ s. s.len ≤ sink_room };
 }
@@ -149,7 +151,7 @@ impl Model for MemorySink {
 impl MemorySink {
     /// An empty sink that fails only where it can take none of some bytes.
     pub fn new(most: usize) -> Self
-        ensures { result ≡ record { bytes = []; most = most; good_writes = None; flush_fails = false; has_failed = false; is_flushed = true } }
+        ensures { result ≡ record { bytes = []; most = most; good_writes = None; flush_fails = false; has_failed = false; is_flushed = true; flushes = Flushes.Never } }
     {
         MemorySink {
             buffer: [0; SINK_ROOM],
@@ -159,6 +161,7 @@ impl MemorySink {
             flush_fails: false,
             has_failed: false,
             is_flushed: true,
+            flushes: Flushes::Never,
         }
     }
 
@@ -193,6 +196,13 @@ impl MemorySink {
         self.is_flushed
     }
 
+    /// How often it was flushed.
+    pub fn flushes(&self) -> Flushes
+        ensures { result ≡ self.now.flushes }
+    {
+        self.flushes
+    }
+
     /// Takes as many of the bytes from their front as a call takes, or fails.
     pub fn accept(&mut self, bytes: &[u8]) -> Result<usize, Failed>
         requires { self.old.has_failed ≡ false }
@@ -217,9 +227,10 @@ impl MemorySink {
     pub fn hand_on(&mut self) -> Result<(), Failed>
         requires { self.old.has_failed ≡ false }
         ensures fails { is_err result ≡ self.old.flush_fails }
-        ensures ok { OnOk result (self.new ≡ record self.old { is_flushed = true }) }
-        ensures err { OnErr result (self.new ≡ record self.old { has_failed = true }) }
+        ensures ok { OnOk result (self.new ≡ record self.old { is_flushed = true; flushes = one_more self.old.flushes }) }
+        ensures err { OnErr result (self.new ≡ record self.old { has_failed = true; flushes = one_more self.old.flushes }) }
     {
+        self.flushes = self.flushes.one_more();
         if self.flush_fails {
             self.has_failed = true;
             return Err(Failed);
@@ -235,6 +246,8 @@ impl ByteSink for MemorySink {
     ghost failed = { λ s. s.has_failed };
 
     ghost flushed = { λ s. s.is_flushed };
+
+    ghost flushes = { λ s. s.flushes };
 
     fn write(&mut self, bytes: &[u8]) -> Result<usize, Failed> {
         self.accept(bytes)

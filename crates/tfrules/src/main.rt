@@ -8,6 +8,7 @@ mod system_files;
 use crate::system_files::SystemFiles;
 use hcl_scan::{ByteSink, ToWrite};
 use std::alloc::{AllocError, Global};
+use std::hash::RandomState;
 use std::io::{BufWriter, Write};
 use std::process::ExitCode;
 use std::{env, io};
@@ -87,6 +88,6 @@ fn lint_files<O: ByteSink, E: ByteSink>(
     let Ok(own) = rt.clone() else {
         return NO_WORDS;
     };
-    let mut files = SystemFiles::new(own);
+    let mut files = SystemFiles::new(own, RandomState::new(rt).ok());
     program(rt.alloc(), words, &mut files, out, err)
 }

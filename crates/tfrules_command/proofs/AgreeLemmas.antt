@@ -94,7 +94,7 @@ accepted_print file formatted source is a small =
 abbrev Small : NamedFile → Type 0
 Small f = length f.bytes ≤ max_source
 
-prints_accepted : (files formatted : List NamedFile) (sources : List Scanned) → AllZip IsAcceptedAs files sources → AllZip IsFormatted files formatted → All (λ f. length f.bytes ≤ max_source) formatted
+pub prints_accepted : (files formatted : List NamedFile) (sources : List Scanned) → AllZip IsAcceptedAs files sources → AllZip IsFormatted files formatted → All (λ f. length f.bytes ≤ max_source) formatted
     → (others : List Scanned) × AllZip IsAcceptedAs formatted others
 prints_accepted [] [] sources a z small = ([], z)
 prints_accepted [] (g ∷ gs) sources a z small = absurd z
@@ -124,6 +124,12 @@ without_tokens [] = refl
 without_tokens (i ∷ is) = ap (λ l. without_column (answered i) ∷ l) (without_tokens is)
 
 -- ---- THE LAWS
+pub reports_again : (asked : issues.Asked) (files formatted : List NamedFile) (sources others : List Scanned) (report other : List issues.Issue) → AllZip IsFormatted files formatted
+    → AllZip IsAcceptedAs files sources → AllZip IsAcceptedAs formatted others → issues.IsReport asked (numbered_files 0 sources) report → issues.IsReport asked (numbered_files 0 others) other
+    → rules.told_all report ≡ rules.told_all other
+reports_again asked files formatted sources others report other z a b first again =
+    reports_agree asked (numbered_files 0 sources) (numbered_files 0 others) report other (all_same 0 files formatted sources others z a b) first again
+
 pub accepted_again : (files formatted : List NamedFile) (sources : List Scanned) → AreAccepted files sources → AllZip IsFormatted files formatted → All (λ f. length f.bytes ≤ max_source) formatted → size_of formatted ≤ max_module
     → (others : List Scanned) × AreAccepted formatted others
 accepted_again files formatted sources are z small fit =
@@ -134,8 +140,7 @@ pub agree : (asking : Asking) (files formatted : List NamedFile) (row other : Ro
     → without_columns first.issues ≡ without_columns again.issues
 agree asking files formatted row other z first again =
     let e : rules.told_all first.found.report ≡ rules.told_all again.found.report =
-    reports_agree asking.asked (numbered_files 0 first.sources) (numbered_files 0 again.sources) first.found.report again.found.report
-    (all_same 0 files formatted first.sources again.sources z first.accepted.each again.accepted.each) first.found.is again.found.is in
+    reports_again asking.asked files formatted first.sources again.sources first.found.report again.found.report z first.accepted.each again.accepted.each first.found.is again.found.is in
     ap without_columns (sym first.found.same) ∙ without_tokens first.found.report ∙ ap (map without_token) e ∙ sym (without_tokens again.found.report) ∙ ap without_columns again.found.same
 
 -- the status goes by the rules of the issues

@@ -1,4 +1,5 @@
 pub mod ListLemmas
+pub mod NameLemmas
 pub mod WriterLemmas
 pub mod PieceLemmas
 pub mod RuleLemmas

@@ -15,16 +15,16 @@ use Rattle.tfrules_command.proofs.WriterLemmas.{took_behind, took_front}
 
 -- a text is written, and another is to come
 abbrev pub Goes : Option (List ℕ) → Option (List ℕ) → List ℕ → List ℕ → Type 0
-Goes start now rest whole = (after : Option (List ℕ)) (f u : Bool)
-    → TookBy f (record { before = now; after = after; failed = f; flushed = u }) rest → TookBy f (record { before = start; after = after; failed = f; flushed = u }) whole
+Goes start now rest whole = (after : Option (List ℕ)) (f : Bool)
+    → TookBy f now after rest → TookBy f start after whole
 
 pub goes_on : (start now next : Option (List ℕ)) (text rest all whole : List ℕ) → all ≡ text ++ rest → Appends now next text → Goes start now all whole → Goes start next rest whole
-goes_on start now next text rest all whole e taken go = λ after f u t. go after f u (subst (TookBy f (record { before = now; after = after; failed = f; flushed = u })) (sym e) (took_behind now next after f u text rest taken t))
+goes_on start now next text rest all whole e taken go = λ after f t. go after f (subst (TookBy f now after) (sym e) (took_behind now next after f text rest taken t))
 
-pub goes_wrong : (start now after : Option (List ℕ)) (f u : Bool) (text rest all whole : List ℕ) → all ≡ text ++ rest → f ≡ true → TookBy f (record { before = now; after = after; failed = f; flushed = u }) text → Goes start now all whole
-    → TookBy f (record { before = start; after = after; failed = f; flushed = u }) whole
-goes_wrong start now after f u text rest all whole e failed t go =
-    go after f u (subst (TookBy f (record { before = now; after = after; failed = f; flushed = u })) (sym e) (took_front now after f u text rest failed t))
+pub goes_wrong : (start now after : Option (List ℕ)) (f : Bool) (text rest all whole : List ℕ) → all ≡ text ++ rest → f ≡ true → TookBy f now after text → Goes start now all whole
+    → TookBy f start after whole
+goes_wrong start now after f text rest all whole e failed t go =
+    go after f (subst (TookBy f now after) (sym e) (took_front now after f text rest failed t))
 
 pub piece_here : (xs : List (Bor (List ℕ))) (i : ℕ) (d : Bor (List ℕ)) (text : List ℕ) → i < length xs → text ≡ (get_or xs i d).now → concat (map (λ piece. piece.now) (drop i xs)) ≡ text ++ concat (map (λ piece. piece.now) (drop (i + 1) xs))
 piece_here xs i d text lt is =
@@ -44,18 +44,18 @@ line_is names i n l c s m r en el ec es em er =
     regroup : (a b d e f g h : List ℕ) → (a ++ (b ++ (d ++ (e ++ (f ++ g))))) ++ h ≡ a ++ (b ++ (d ++ (e ++ (f ++ (g ++ h)))))
     regroup a b d e f g h = simp append_assoc
 
-pub place_failed : (a b : Option (List ℕ)) (f u : Bool) (names : List (List ℕ)) (i : Issue) (n l c : List ℕ) → n ≡ get_or names i.file [] → l ≡ decimal i.at.line → c ≡ decimal i.at.column → f ≡ true
-    → TookBy f (record { before = a; after = b; failed = f; flushed = u }) (place_words n l c) → TookBy f (record { before = a; after = b; failed = f; flushed = u }) (issue_line names i)
-place_failed a b f u names i n l c en el ec failed t =
+pub place_failed : (a b : Option (List ℕ)) (f : Bool) (names : List (List ℕ)) (i : Issue) (n l c : List ℕ) → n ≡ get_or names i.file [] → l ≡ decimal i.at.line → c ≡ decimal i.at.column → f ≡ true
+    → TookBy f a b (place_words n l c) → TookBy f a b (issue_line names i)
+place_failed a b f names i n l c en el ec failed t =
     let words = issue_words (severity_text (severity i.rule)) i.message (rule_name i.rule) in
-    subst (TookBy f (record { before = a; after = b; failed = f; flushed = u })) (line_is names i n l c (severity_text (severity i.rule)) i.message (rule_name i.rule) en el ec refl refl refl)
-    (took_front a b f u (place_words n l c) words failed t)
+    subst (TookBy f a b) (line_is names i n l c (severity_text (severity i.rule)) i.message (rule_name i.rule) en el ec refl refl refl)
+    (took_front a b f (place_words n l c) words failed t)
 
-pub line_written : (a b d : Option (List ℕ)) (f u : Bool) (names : List (List ℕ)) (i : Issue) (n l c s m r : List ℕ) → n ≡ get_or names i.file [] → l ≡ decimal i.at.line → c ≡ decimal i.at.column
+pub line_written : (a b d : Option (List ℕ)) (f : Bool) (names : List (List ℕ)) (i : Issue) (n l c s m r : List ℕ) → n ≡ get_or names i.file [] → l ≡ decimal i.at.line → c ≡ decimal i.at.column
     → s ≡ severity_text (severity i.rule) → m ≡ i.message → r ≡ rule_name i.rule → Appends a b (place_words n l c)
-    → TookBy f (record { before = b; after = d; failed = f; flushed = u }) (issue_words s m r) → TookBy f (record { before = a; after = d; failed = f; flushed = u }) (issue_line names i)
-line_written a b d f u names i n l c s m r en el ec es em er p t =
-    subst (TookBy f (record { before = a; after = d; failed = f; flushed = u })) (line_is names i n l c s m r en el ec es em er) (took_behind a b d f u (place_words n l c) (issue_words s m r) p t)
+    → TookBy f b d (issue_words s m r) → TookBy f a d (issue_line names i)
+line_written a b d f names i n l c s m r en el ec es em er p t =
+    subst (TookBy f a d) (line_is names i n l c s m r en el ec es em er) (took_behind a b d f (place_words n l c) (issue_words s m r) p t)
 
 -- ---- the report
 
@@ -64,8 +64,8 @@ report_is names [] e is f = absurd (cc)
 report_is names (i ∷ is) e same f = append_assoc (decimal (length (i ∷ is))) (line (line (codes " issue(s) found:"))) (flat_map (issue_line names) (i ∷ is))
 
 -- a text was written, and then flushed
-pub flushed_behind : (a b c : Option (List ℕ)) (f u : Bool) (s t : List ℕ) → s ≡ t → Appends a b s → Keeps b c → TookBy f (record { before = a; after = c; failed = f; flushed = u }) t
-flushed_behind a b c f u s t same p k = subst (TookBy f (record { before = a; after = c; failed = f; flushed = u })) same (by f (kept a b c s p k))
+pub flushed_behind : (a b c : Option (List ℕ)) (f : Bool) (s t : List ℕ) → s ≡ t → Appends a b s → Keeps b c → TookBy f a c t
+flushed_behind a b c f s t same p k = subst (TookBy f a c) same (by f (kept a b c s p k))
   where
     kept : (a b c : Option (List ℕ)) (s : List ℕ) → Appends a b s → Keeps b c → Appends a c s
     kept None b c s p k = tt
@@ -73,9 +73,9 @@ flushed_behind a b c f u s t same p k = subst (TookBy f (record { before = a; af
     kept (Some x) (Some y) None s p k = absurd k
     kept (Some x) (Some y) (Some z) s p k = k ∙ p
 
-    by : (g : Bool) → Appends a c s → TookBy g (record { before = a; after = c; failed = f; flushed = u }) s
+    by : (g : Bool) → Appends a c s → TookBy g a c s
     by false p = p
     by true p = let within : length s ≤ length s = omega arith in (length s, within, subst (Appends a c) (sym (take_all (length s) s within)) p)
 
-pub retold : (a b : Option (List ℕ)) (f u : Bool) (s t : List ℕ) → s ≡ t → TookBy f (record { before = a; after = b; failed = f; flushed = u }) s → TookBy f (record { before = a; after = b; failed = f; flushed = u }) t
-retold a b f u s t e p = subst (TookBy f (record { before = a; after = b; failed = f; flushed = u })) e p
+pub retold : (a b : Option (List ℕ)) (f : Bool) (s t : List ℕ) → s ≡ t → TookBy f a b s → TookBy f a b t
+retold a b f s t e p = subst (TookBy f a b) e p

@@ -1,6 +1,6 @@
 -- What the words of a `tfrules` line ask for. clap reads them as a simple command: its own definitions of the matches and
 -- the faults of a line decide. What its options may say is our own choice.
-use Rattle.std.specs.Prelude.{ℕ, ◌==◌, ◌++◌, Bool, true, List, [], ◌∷◌, Option, Some, None, Result, Ok, Err, codes, filter, fold, length, nat_lt, unwrap_or, if◌then◌else◌}
+use Rattle.std.specs.Prelude.{◌≡◌, ℕ, ◌==◌, ◌++◌, Bool, true, false, List, [], ◌∷◌, Option, Some, None, Result, Ok, Err, codes, filter, fold, length, nat_lt, unwrap_or, if◌then◌else◌}
 use Rattle.std.specs.List.{list_all, list_any, slice_split}
 use Rattle.std.specs.Str.{bytes_eq}
 use Rattle.command_line.specs.Flags.{is_set}
@@ -86,6 +86,11 @@ with_name names name = if list_any (λ known. bytes_eq known name) names then na
 -- each once, in the order of their first mention
 abbrev pub each_once : List Text → List Text
 each_once names = fold with_name [] names
+
+-- no name stands among those behind it
+abbrev pub NoneTwice : List Text → Type 0
+NoneTwice [] = Unit {0}
+NoneTwice (n ∷ ns) = (list_any (bytes_eq n) ns ≡ false) × NoneTwice ns
 
 abbrev pub max_files : ℕ
 max_files = 256

@@ -3,7 +3,7 @@
 ghost use Rattle.std.specs.Prelude.{◌≡◌, ◌≤◌, ◌<◌, ◌+◌, [], length, map, get_or, IfOk, OnOk};
 ghost use Rattle.std.specs.List.{list_any};
 ghost use Rattle.std.specs.Str.{bytes_eq};
-ghost use Rattle.tfrules_command.specs.Line.{each_once, max_files, with_name};
+ghost use Rattle.tfrules_command.specs.Line.{NoneTwice, each_once, max_files, with_name};
 
 use std::alloc::{AllocError, Global};
 use std::marker::Model;
@@ -11,21 +11,21 @@ use std::marker::Model;
 /// The most files that a line may give.
 pub const MAX_FILES: usize = 256;
 
-/// At most `MAX_FILES` names of files, none twice. Only the reading of a line makes them.
+/// One to `MAX_FILES` names of files, none twice. Only the reading of a line makes them.
 #[derive(Debug, Drop)]
 pub struct FileNames<'a> {
     names: Vec<&'a str>,
 }
 
 impl<'a> Model for FileNames<'a> {
-    ghost use Rattle.std.specs.Prelude.{◌≤◌, List, ℕ, length, map};
-    ghost use Rattle.tfrules_command.specs.Line.{max_files};
+    ghost use Rattle.std.specs.Prelude.{◌≤◌, ◌<◌, List, ℕ, length, map};
+    ghost use Rattle.tfrules_command.specs.Line.{NoneTwice, max_files};
 
     ghost Value = { List (List ℕ) };
 
     ghost view = { λ f. map (λ name. name.now) f.names.items };
 
-    ghost invariant = { λ f. length f.names.items ≤ max_files };
+    ghost invariant = { λ f. (length f.names.items ≤ max_files) × (0 < length f.names.items) × NoneTwice (map (λ name. name.now) f.names.items) };
 }
 
 /// Whether the name is among them.
@@ -39,6 +39,8 @@ fn is_known(names: &[&str], name: &str) -> bool
 fn add_name<'a>(names: &mut Vec<&'a str>, name: &'a str) -> Result<(), AllocError>
     ensures names { OnOk result (map (λ known. known.now) names.new.items ≡ with_name (map (λ known. known.now) names.old.items) name.entry.now) }
     ensures few { OnOk result (length names.new.items ≤ length names.old.items + 1) }
+    ensures some { OnOk result (0 < length names.new.items) }
+    ensures apart { OnOk result (NoneTwice (map (λ known. known.now) names.old.items) → NoneTwice (map (λ known. known.now) names.new.items)) }
 {
     if is_known(names.as_slice(), name) {
         return Ok(());
@@ -52,7 +54,8 @@ fn add_name<'a>(names: &mut Vec<&'a str>, name: &'a str) -> Result<(), AllocErro
 impl<'a> FileNames<'a> {
     /// These names, each once, in the order of their first mention.
     pub(crate) fn new(alloc: Global, given: &[&'a str]) -> Result<FileNames<'a>, AllocError>
-        requires { length given.now ≤ max_files }
+        requires few { length given.now ≤ max_files }
+        requires some { 0 < length given.now }
         ensures { IfOk result (λ names. names ≡ each_once (map (λ name. name.now) given.now)) }
     {
         let mut names = Vec::new(alloc);
@@ -68,6 +71,8 @@ impl<'a> FileNames<'a> {
     pub fn len(&self) -> usize
         ensures len { result ≡ length self.now }
         ensures few { result ≤ max_files }
+        ensures some { 0 < result }
+        ensures apart { NoneTwice self.now }
     {
         self.names.len()
     }

@@ -32,8 +32,10 @@ fn stop_of(loaded: Result<Source, LoadError>) -> Result<Source, Stop>
 fn read_file<M: ModuleFiles>(alloc: Global, name: &str, files: &mut M) -> Result<Source, Stop>
     requires opened { M.open_failed files.old ≡ false }
     requires read { M.read_failed files.old ≡ false }
+    requires back { M.is_out files.old ≡ false }
     ensures reads { ReadsFile (M.told files.old name.now) (M.open_failed files.new) (M.read_failed files.new) result }
     ensures told { (other : List ℕ) → M.told files.new other ≡ M.told files.old other }
+    ensures back { M.is_out files.new ≡ false }
 {
     let Ok(mut reader) = files.reader(name) else {
         return Err(Stop::NotOpened);
@@ -105,9 +107,11 @@ fn add_file<M: ModuleFiles>(
 ) -> Result<usize, Stop>
     requires opened { M.open_failed files.old ≡ false }
     requires read { M.read_failed files.old ≡ false }
+    requires back { M.is_out files.old ≡ false }
     requires small { size ≤ max_module }
     ensures adds { Adds (M.told files.old name.now) size number (M.open_failed files.new) (M.read_failed files.new) facts.old facts.new result }
     ensures told { (other : List ℕ) → M.told files.new other ≡ M.told files.old other }
+    ensures back { M.is_out files.new ≡ false }
 {
     match read_file(alloc, name, files) {
         Ok(source) => keep_file(alloc, number, size, &source, facts),
@@ -124,8 +128,10 @@ pub fn gather<'a, M: ModuleFiles>(
 ) -> Result<(), Stopped<'a>>
     requires opened { M.open_failed files.old ≡ false }
     requires read { M.read_failed files.old ≡ false }
+    requires back { M.is_out files.old ≡ false }
     requires none { facts.old ≡ nothing }
-    ensures { Gathers (M.told files.old) names.now (M.open_failed files.new) (M.read_failed files.new) facts.new result }
+    ensures gathers { Gathers (M.told files.old) names.now (M.open_failed files.new) (M.read_failed files.new) facts.new result }
+    ensures back { M.is_out files.new ≡ false }
 {
     let mut size = 0;
     for number in 0..names.len() {

@@ -5,8 +5,10 @@ ghost use Rattle.std.specs.List.{All, AllZip};
 ghost use Rattle.hcl_source.specs.Load.{max_source};
 ghost use Rattle.hcl_tokens.specs.Scanned.{Scanned};
 ghost use Rattle.command_line.specs.Rows.{Row};
+ghost use Rattle.tf_rules.specs.Agreement.{told_all};
+ghost use Rattle.tf_rules.specs.Issues as issues;
 ghost use Rattle.tfrules_command.specs.Answer.{AreNamed, IsAnswer, IsReported};
-ghost use Rattle.tfrules_command.specs.Files.{NamedFile, AreAccepted, max_module, named, size_of};
+ghost use Rattle.tfrules_command.specs.Files.{NamedFile, AreAccepted, IsAcceptedAs, max_module, named, numbered_files, size_of};
 ghost use Rattle.tfrules_command.specs.Formatted.{IsFormatted, without_columns};
 ghost use Rattle.tfrules_command.specs.Line.{Asking, options_of};
 ghost use Rattle.tfrules_command.specs.Inner.Outcomes.{HasOutcome};
@@ -38,6 +40,17 @@ pub fn an_answer(words: &[&str], files: &[(&str, &[u8])])
 /// A line of words and the files that it names have one answer at most.
 pub fn one_answer()
     ensures { (words : List (List ℕ)) (files : List NamedFile) (row other : Row) → IsAnswer words files row → IsAnswer words files other → row ≡ other }
+{}
+
+/// Where all files of a module are accepted, of whatever size the module is, so are the formatted files, unless one of
+/// them is too large for a source; and a report of the formatted files has the same issues in the same order, with the
+/// same lines, rules and messages: columns alone may differ.
+pub fn agree_at_any_size()
+    ensures accepted { (files formatted : List NamedFile) (sources : List Scanned) → AllZip IsAcceptedAs files sources → AllZip IsFormatted files formatted
+        → All (λ f. length f.bytes ≤ max_source) formatted → (others : List Scanned) × AllZip IsAcceptedAs formatted others }
+    ensures reports { (asked : issues.Asked) (files formatted : List NamedFile) (sources others : List Scanned) (report other : List issues.Issue) → AllZip IsFormatted files formatted
+        → AllZip IsAcceptedAs files sources → AllZip IsAcceptedAs formatted others → issues.IsReport asked (numbered_files 0 sources) report
+        → issues.IsReport asked (numbered_files 0 others) other → told_all report ≡ told_all other }
 {}
 
 /// Where the files of a module are accepted, so are the formatted files, unless they are too large, and a run over them

@@ -11,3 +11,5 @@ mod report;
 pub mod run;
 mod stop;
 pub mod usage;
+
+pub use tf_rules::Hashing;

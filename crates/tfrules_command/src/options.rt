@@ -1,6 +1,6 @@
 //! The words of the command line.
 
-ghost use Rattle.std.specs.Prelude.{◌≡◌, false, ◌⊎◌, ◌==◌, ◌++◌, ◌∷◌, ◌≤◌, [], List, ℕ, Err, Some, IfOk, map, option_map, length};
+ghost use Rattle.std.specs.Prelude.{◌≡◌, ◌<◌, false, ◌⊎◌, ◌==◌, ◌++◌, ◌∷◌, ◌≤◌, [], List, ℕ, Err, Some, IfOk, map, option_map, length};
 ghost use Rattle.std.specs.List.{slice_split};
 ghost use Rattle.clap.specs.Words.{app_of, found_of, kind_of, rows_of, rule_of};
 ghost use Rattle.tf_facts.specs.RuleSets.{rules_of};
@@ -165,6 +165,7 @@ fn options_for<'a>(
     minimum: Severity,
     force: bool,
 ) -> Result<LintOptions<'a>, Usage>
+    requires { 0 < length given.now }
     ensures { (result ≡ Err OutOfMemory)
         ⊎ (asked_by result ≡ asking_for force (map (λ name. name.now) given.now) (Some (rules_of settings.rules)) (Some settings.naming) (Some minimum)) }
 {

@@ -2,6 +2,7 @@
 
 ghost use Rattle.std.specs.Prelude.{◌≡◌, ◌<◌, ◌≤◌, [], ◌∷◌, false, true, map, length, is_err, if◌then◌else◌};
 ghost use Rattle.std.specs.List.{concat, flat_map, list_any};
+ghost use Rattle.hcl_source.specs.Devices.{one_more};
 ghost use Rattle.command_line.specs.Rows.{Took, writer};
 ghost use Rattle.tfrules_command.specs.Report.{issue_line, report, weighs, weight};
 ghost use Rattle.tfrules_command.specs.Inner.Pieces.{count_lines, issue_words, lines_of_report, place_words};
@@ -35,8 +36,9 @@ pub fn has_severe(minimum: Severity, issues: &[Issue]) -> bool
 /// Writes the pieces one behind the other, up to the first write that fails.
 fn write_pieces<O: ByteSink>(out: &mut O, pieces: &[&str]) -> Result<(), WriteFault>
     requires { O.failed out.old ≡ false }
-    ensures took { Took (writer O.taken O.failed O.flushed out.old out.new) (concat (map (λ piece. piece.now) pieces.now)) }
+    ensures took { Took (writer O.taken O.failed O.flushed O.flushes out.old out.new) (concat (map (λ piece. piece.now) pieces.now)) }
     ensures failed { O.failed out.new ≡ is_err result }
+    ensures flushes { O.flushes out.new ≡ O.flushes out.old }
 {
     for piece in pieces {
         if let Err(fault) = write_fully(out, piece.as_bytes()) {
@@ -54,8 +56,9 @@ fn write_place<'p, O: ByteSink>(
     column: &'p str,
 ) -> Result<(), WriteFault>
     requires { O.failed out.old ≡ false }
-    ensures took { Took (writer O.taken O.failed O.flushed out.old out.new) (place_words name.now line.now column.now) }
+    ensures took { Took (writer O.taken O.failed O.flushed O.flushes out.old out.new) (place_words name.now line.now column.now) }
     ensures failed { O.failed out.new ≡ is_err result }
+    ensures flushes { O.flushes out.new ≡ O.flushes out.old }
 {
     write_pieces(out, &[name, ":", line, ":", column, ": "])
 }
@@ -68,8 +71,9 @@ fn write_words<'p, O: ByteSink>(
     rule: &'p str,
 ) -> Result<(), WriteFault>
     requires { O.failed out.old ≡ false }
-    ensures took { Took (writer O.taken O.failed O.flushed out.old out.new) (issue_words severity.now message.now rule.now) }
+    ensures took { Took (writer O.taken O.failed O.flushed O.flushes out.old out.new) (issue_words severity.now message.now rule.now) }
     ensures failed { O.failed out.new ≡ is_err result }
+    ensures flushes { O.flushes out.new ≡ O.flushes out.old }
 {
     write_pieces(out, &[severity, " - ", message, " (", rule, ")\n"])
 }
@@ -81,8 +85,9 @@ fn write_issue<O: ByteSink>(
     issue: &Issue,
 ) -> Result<(), WriteFault>
     requires { O.failed out.old ≡ false }
-    ensures took { Took (writer O.taken O.failed O.flushed out.old out.new) (issue_line names.now issue.now) }
+    ensures took { Took (writer O.taken O.failed O.flushed O.flushes out.old out.new) (issue_line names.now issue.now) }
     ensures failed { O.failed out.new ≡ is_err result }
+    ensures flushes { O.flushes out.new ≡ O.flushes out.old }
 {
     let name = names.name_of(issue.file);
     let mut line = Buffer::new();
@@ -99,8 +104,9 @@ fn write_issue<O: ByteSink>(
 /// Writes how many issues there are, and an empty line.
 fn write_count<O: ByteSink>(out: &mut O, count: usize) -> Result<(), WriteFault>
     requires { O.failed out.old ≡ false }
-    ensures took { Took (writer O.taken O.failed O.flushed out.old out.new) (count_lines count) }
+    ensures took { Took (writer O.taken O.failed O.flushed O.flushes out.old out.new) (count_lines count) }
     ensures failed { O.failed out.new ≡ is_err result }
+    ensures flushes { O.flushes out.new ≡ O.flushes out.old }
 {
     let mut digits = Buffer::new();
     write_pieces(out, &[digits.format(count), " issue(s) found:\n\n"])
@@ -113,8 +119,9 @@ fn write_issues<O: ByteSink>(
     issues: &[Issue],
 ) -> Result<(), WriteFault>
     requires { O.failed out.old ≡ false }
-    ensures took { Took (writer O.taken O.failed O.flushed out.old out.new) (flat_map (issue_line names.now) issues.now) }
+    ensures took { Took (writer O.taken O.failed O.flushed O.flushes out.old out.new) (flat_map (issue_line names.now) issues.now) }
     ensures failed { O.failed out.new ≡ is_err result }
+    ensures flushes { O.flushes out.new ≡ O.flushes out.old }
 {
     for issue in issues {
         if let Err(fault) = write_issue(out, names, issue) {
@@ -131,8 +138,9 @@ fn write_report<O: ByteSink>(
     issues: &[Issue],
 ) -> Result<(), WriteFault>
     requires { O.failed out.old ≡ false }
-    ensures took { Took (writer O.taken O.failed O.flushed out.old out.new) (lines_of_report names.now issues.now) }
+    ensures took { Took (writer O.taken O.failed O.flushed O.flushes out.old out.new) (lines_of_report names.now issues.now) }
     ensures failed { O.failed out.new ≡ is_err result }
+    ensures flushes { O.flushes out.new ≡ O.flushes out.old }
 {
     if let Err(fault) = write_count(out, issues.len()) {
         return Err(fault);
@@ -143,9 +151,11 @@ fn write_report<O: ByteSink>(
 /// Writes the report and flushes it, or leaves standard output alone where there is no issue.
 pub fn show_issues<O: ByteSink>(out: &mut O, names: &FileNames<'_>, issues: &[Issue])
     requires { O.failed out.old ≡ false }
-    ensures took { Took (writer O.taken O.failed O.flushed out.old out.new) (report names.now issues.now) }
+    ensures took { Took (writer O.taken O.failed O.flushed O.flushes out.old out.new) (report names.now issues.now) }
     ensures flushed { O.failed out.new ≡ false → 0 < length (report names.now issues.now) → O.flushed out.new ≡ true }
+    ensures once { O.failed out.new ≡ false → 0 < length (report names.now issues.now) → O.flushes out.new ≡ one_more (O.flushes out.old) }
     ensures untouched { length (report names.now issues.now) ≡ 0 → O.failed out.new ≡ false }
+    ensures no_flush { length (report names.now issues.now) ≡ 0 → O.flushes out.new ≡ O.flushes out.old }
 {
     if issues.is_empty() {
         return;

@@ -78,7 +78,7 @@ fn refuse<O: ByteSink, E: ByteSink>(
     requires out { O.failed out.old ≡ false }
     requires err { E.failed err.old ≡ false }
     ensures { ShowsOne linter (OrOutOfMemory linter (λ row. row ≡ stop_row name.now why))
-        (record { out = writer O.taken O.failed O.flushed out.old out.new; err = writer E.taken E.failed E.flushed err.old err.new; status = result }) }
+        (record { out = writer O.taken O.failed O.flushed O.flushes out.old out.new; err = writer E.taken E.failed E.flushed E.flushes err.old err.new; status = result }) }
 {
     linter().tell_line(out, err, stop_line(alloc, name, why), 1)
 }
@@ -103,7 +103,7 @@ fn show<O: ByteSink, E: ByteSink>(
     requires out { O.failed out.old ≡ false }
     requires err { E.failed err.old ≡ false }
     ensures { Shows linter (report_row (asking_of options.now) issues.now)
-        (record { out = writer O.taken O.failed O.flushed out.old out.new; err = writer E.taken E.failed E.flushed err.old err.new; status = result }) }
+        (record { out = writer O.taken O.failed O.flushed O.flushes out.old out.new; err = writer E.taken E.failed E.flushed E.flushes err.old err.new; status = result }) }
 {
     let status = status_of(options, issues);
     show_issues(out, &options.files, issues);
@@ -122,10 +122,13 @@ fn run_over<M: ModuleFiles, O: ByteSink, E: ByteSink>(
     requires empty { facts.old ≡ nothing }
     requires opened { M.open_failed files.old ≡ false }
     requires read { M.read_failed files.old ≡ false }
+    requires back { M.is_out files.old ≡ false }
     requires out { O.failed out.old ≡ false }
     requires err { E.failed err.old ≡ false }
-    ensures { ShowsOne linter (IsRow (M.told files.old) (Ok (asking_of options.now)) (M.open_failed files.new) (M.read_failed files.new))
-        (record { out = writer O.taken O.failed O.flushed out.old out.new; err = writer E.taken E.failed E.flushed err.old err.new; status = result }) }
+    ensures row { ShowsOne linter (IsRow (M.told files.old) (Ok (asking_of options.now)) (M.open_failed files.new) (M.read_failed files.new))
+        (record { out = writer O.taken O.failed O.flushed O.flushes out.old out.new; err = writer E.taken E.failed E.flushed E.flushes err.old err.new; status = result }) }
+    // No file is left open.
+    ensures back { M.is_out files.new ≡ false }
 {
     if let Err(stopped) = gather(alloc, &options.files, files, facts) {
         return refuse(alloc, out, err, stopped.name, stopped.why);
@@ -148,13 +151,16 @@ pub fn run<M: ModuleFiles, O: ByteSink, E: ByteSink>(
 ) -> u8
     requires opened { M.open_failed files.old ≡ false }
     requires read { M.read_failed files.old ≡ false }
+    requires back { M.is_out files.old ≡ false }
     requires out { O.failed out.old ≡ false }
     requires err { E.failed err.old ≡ false }
     // However the run goes, it shows a row.
-    ensures { ShowsOne linter (IsRow (M.told files.old) (Ok (asking_of options.now)) (M.open_failed files.new) (M.read_failed files.new))
-        (record { out = writer O.taken O.failed O.flushed out.old out.new; err = writer E.taken E.failed E.flushed err.old err.new; status = result }) }
+    ensures row { ShowsOne linter (IsRow (M.told files.old) (Ok (asking_of options.now)) (M.open_failed files.new) (M.read_failed files.new))
+        (record { out = writer O.taken O.failed O.flushed O.flushes out.old out.new; err = writer E.taken E.failed E.flushed E.flushes err.old err.new; status = result }) }
+    // No file is left open.
+    ensures back { M.is_out files.new ≡ false }
 {
-    let Ok(mut facts) = Facts::new(alloc) else {
+    let Ok(mut facts) = Facts::with_hashing(alloc, files.hashing()) else {
         return linter().tell_out_of_memory(out, err);
     };
     run_over(alloc, &mut facts, options, files, out, err)
@@ -166,7 +172,7 @@ pub fn bad_line<O: ByteSink, E: ByteSink>(out: &mut O, err: &mut E) -> u8
     requires err { E.failed err.old ≡ false }
     ensures { let row : Row = record { out = []; err = usage_line; status = 1 } in
         Shows linter row
-        (record { out = writer O.taken O.failed O.flushed out.old out.new; err = writer E.taken E.failed E.flushed err.old err.new; status = result }) }
+        (record { out = writer O.taken O.failed O.flushed O.flushes out.old out.new; err = writer E.taken E.failed E.flushed E.flushes err.old err.new; status = result }) }
 {
     linter().tell(out, err, USAGE, 1)
 }
@@ -190,7 +196,7 @@ fn tell_usage<O: ByteSink, E: ByteSink>(usage: Usage, out: &mut O, err: &mut E) 
     requires out { O.failed out.old ≡ false }
     requires err { E.failed err.old ≡ false }
     ensures { Shows linter (usage_row usage)
-        (record { out = writer O.taken O.failed O.flushed out.old out.new; err = writer E.taken E.failed E.flushed err.old err.new; status = result }) }
+        (record { out = writer O.taken O.failed O.flushed O.flushes out.old out.new; err = writer E.taken E.failed E.flushed E.flushes err.old err.new; status = result }) }
 {
     match usage {
         Usage::Help => linter().deliver(out, err, USAGE, 0),
@@ -209,11 +215,14 @@ pub fn program<M: ModuleFiles, O: ByteSink, E: ByteSink>(
 ) -> u8
     requires opened { M.open_failed files.old ≡ false }
     requires read { M.read_failed files.old ≡ false }
+    requires back { M.is_out files.old ≡ false }
     requires out { O.failed out.old ≡ false }
     requires err { E.failed err.old ≡ false }
     // However the run goes, it shows a row.
     ensures row { ShowsOne linter (IsRow (M.told files.old) (options_of (map (λ word. word.now) words.now)) (M.open_failed files.new) (M.read_failed files.new))
-        (record { out = writer O.taken O.failed O.flushed out.old out.new; err = writer E.taken E.failed E.flushed err.old err.new; status = result }) }
+        (record { out = writer O.taken O.failed O.flushed O.flushes out.old out.new; err = writer E.taken E.failed E.flushed E.flushes err.old err.new; status = result }) }
+    // No file is left open.
+    ensures back { M.is_out files.new ≡ false }
     // Where the words give no options, nothing is opened.
     ensures unopened { IfErr (options_of (map (λ word. word.now) words.now)) (λ _. (M.open_failed files.new ≡ false) × (M.read_failed files.new ≡ false)) }
 {

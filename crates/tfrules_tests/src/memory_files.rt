@@ -45,6 +45,7 @@ pub struct MemoryFiles<'a> {
     given_back: usize,
     has_unopened: bool,
     has_unread: bool,
+    is_out: bool,
 }
 
 impl<'a> MemoryFiles<'a> {
@@ -56,6 +57,7 @@ impl<'a> MemoryFiles<'a> {
     ) -> MemoryFiles<'a>
         ensures opened { ⟦<MemoryFiles<'a> as ModuleFiles>⟧.open_failed result ≡ false }
         ensures read { ⟦<MemoryFiles<'a> as ModuleFiles>⟧.read_failed result ≡ false }
+        ensures back { ⟦<MemoryFiles<'a> as ModuleFiles>⟧.is_out result ≡ false }
     {
         MemoryFiles {
             files,
@@ -65,6 +67,7 @@ impl<'a> MemoryFiles<'a> {
             given_back: 0,
             has_unopened: false,
             has_unread: false,
+            is_out: false,
         }
     }
 
@@ -110,11 +113,14 @@ impl<'a> ModuleFiles for MemoryFiles<'a> {
 
     ghost read_failed = { λ s. s.has_unread };
 
+    ghost is_out = { λ s. s.is_out };
+
     fn reader(&mut self, name: &str) -> Result<MemoryReader<'a>, OpenFault> {
         let number = self.opened;
         self.opened = number.saturating_add(1);
         if self.failure != FileFailure::Opening(number) {
             if let Some(bytes) = self.bytes_of(name) {
+                self.is_out = true;
                 return Ok(self.reader_of(bytes, number));
             }
         }
@@ -124,6 +130,7 @@ impl<'a> ModuleFiles for MemoryFiles<'a> {
 
     fn give_back(&mut self, reader: MemoryReader<'a>) {
         self.given_back = self.given_back.saturating_add(1);
+        self.is_out = false;
         if reader.has_failed() {
             self.has_unread = true;
         }

@@ -38,3 +38,8 @@ WasRun s (t ∷ ts) end = (next : State) × WasNext s t next × WasRun next ts e
 
 abbrev pub WasScanned : List ℕ → List Lexeme → Type 0
 WasScanned text ts = (end : State) × WasRun (begin text) ts end × IsComplete end
+
+-- no token is a `::`
+abbrev pub HasNoPath : List Lexeme → Type 0
+HasNoPath [] = Unit {0}
+HasNoPath (t ∷ ts) = (t.kind ≢ ColonColon) × HasNoPath ts

@@ -1,4 +1,4 @@
-use Rattle.std.proofs.Common.{◌≡◌, ◌<◌, ◌+◌, ◌++◌, ◌∙◌, ℕ, List, [], Option, arith, ap, drop, length, subst, sym, take, length-append, replicate}
+use Rattle.std.proofs.Common.{◌≡◌, ◌<◌, ◌+◌, ◌++◌, ◌∙◌, ℕ, List, [], Option, arith, ap, drop, length, refl, subst, sym, take, length-append, replicate}
 use Rattle.std.specs.Io.KnownBytes.{Appends}
 use Rattle.std.proofs.lemmas.List.{length-replicate}
 use Rattle.hcl_tokens.specs.Scanned.{Scanned}
@@ -22,6 +22,7 @@ loop-piece-init g c =
       lies = (omega arith, omega arith);
       within = omega (arith, c.start-pieces.ensures.first);
       small = omega (arith, c.start-pieces.ensures.first, c.new-buffer.ensures.len, c.new-buffer.ensures.sent);
+      flushes = refl;
     }
 
 pub loop-piece-preserved-then-goes_on : goal.loop-piece-preserved-then-goes_on
@@ -48,6 +49,7 @@ loop-piece-preserved-then-goes_on g c =
       lies = (omega (arith, end, lies.0), c.stretch_of-alone.ensures.lies.1);
       within = c.next_piece.ensures.within;
       small = omega (arith, end, at, c.stretch_of-alone.ensures.end, c.in-Some.ensures.next, c.in-Some.ensures.gap, c.in-Some.ensures.text, c.loop-piece.invariant.small, lies.0);
+      flushes = c.loop-piece.invariant.flushes;
     }
 
 pub returns-in-Err-clause-err : goal.returns-in-Err-clause-err
@@ -84,6 +86,7 @@ loop-piece-preserved g c =
       lies = c.stretch_of-alone.ensures.lies;
       within = c.next_piece.ensures.within;
       small = omega (arith, c.in_default-put_stretch.ensures.count, c.stretch_of-alone.ensures.gap, c.stretch_of-alone.ensures.len, c.in-Some.ensures.next, c.in-Some.ensures.gap, c.in-Some.ensures.text, c.loop-piece.invariant.small);
+      flushes = c.in_default-put_stretch.ensures.flushes ∙ c.loop-piece.invariant.flushes;
     }
 
 pub returns-clause-ok : goal.returns-clause-ok

@@ -12,6 +12,7 @@ invariant-loop-piece g l = record {
   lies : Lies l.source l.waiting;
   within : l.pieces.next ≤ length l.tokens.tokens;
   small : l.buffer.sent + l.buffer.len + l.waiting.gap + (l.waiting.end - l.waiting.start) ≤ l.pieces.next * 2 ^ 35;
+  flushes : g.W.ByteSink.flushes l.to ≡ g.W.ByteSink.flushes l.initial.to;
 }
 
 abbrev pub decreases-loop-piece : goal.decreases-loop-piece

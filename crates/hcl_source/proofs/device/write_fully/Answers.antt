@@ -17,4 +17,5 @@ loop-done-preserved g c = record {
   bytes = both_append _ (g.W.ByteSink.taken c.loop-done.sink) _ c.args.bytes.now c.split_at.result.1.now c.loop-done.done c.in-Ok.n c.loop-done.invariant.bytes c.split_at.ensures.back c.in-Ok.ensures.bytes;
   failed = c.in-Ok.ensures.failed;
   pending = λ _. c.in-Ok.ensures.pending (c.in-Ok.ensures.some (omega (arith, c.split_at.ensures.back_len, c.loop-done-test.true)));
+  flushes = c.in-Ok.ensures.flushes ∙ c.loop-done.invariant.flushes;
 }

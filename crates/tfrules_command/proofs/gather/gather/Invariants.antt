@@ -1,3 +1,4 @@
+use Rattle.std.specs.Prelude.{false}
 use Rattle.std.proofs.Common.{◌≡◌, ◌≤◌, ℕ, List, take}
 use Rattle.tfrules_command.specs.Files.{max_module}
 use Rattle.tfrules_command.specs.Inner.Steps.{AreFine, Reached}
@@ -9,3 +10,4 @@ invariant-loop-number g l =
     × ((other : List ℕ) → g.M.ModuleFiles.told l.files other ≡ g.M.ModuleFiles.told l.initial.files other)
     × (l.size ≤ max_module)
     × Reached (g.M.ModuleFiles.told l.initial.files) (take l.number l.names) l.size l.facts
+    × (g.M.ModuleFiles.is_out l.files ≡ false)

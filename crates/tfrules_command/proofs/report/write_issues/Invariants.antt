@@ -8,6 +8,7 @@ use Rattle.tfrules_command.proofs.report.write_issues.Given as goal
 abbrev pub invariant-loop-issue : goal.invariant-loop-issue
 invariant-loop-issue g l =
     (g.O.ByteSink.failed l.out ≡ false)
-    × ((after : Option (List ℕ)) (f u : Bool)
-    → TookBy f (record { before = g.O.ByteSink.taken l.out; after = after; failed = f; flushed = u }) (flat_map (issue_line l.names) (drop l.issue-index l.issues))
-    → TookBy f (record { before = g.O.ByteSink.taken l.initial.out; after = after; failed = f; flushed = u }) (flat_map (issue_line l.names) l.issues))
+    × ((after : Option (List ℕ)) (f : Bool)
+    → TookBy f (g.O.ByteSink.taken l.out) after (flat_map (issue_line l.names) (drop l.issue-index l.issues))
+    → TookBy f (g.O.ByteSink.taken l.initial.out) after (flat_map (issue_line l.names) l.issues))
+    × (g.O.ByteSink.flushes l.out ≡ g.O.ByteSink.flushes l.initial.out)

@@ -7,6 +7,7 @@ use Rattle.tfrules_command.proofs.report.write_pieces.Given as goal
 abbrev pub invariant-loop-piece : goal.invariant-loop-piece
 invariant-loop-piece g l =
     (g.O.ByteSink.failed l.out ≡ false)
-    × ((after : Option (List ℕ)) (f u : Bool)
-    → TookBy f (record { before = g.O.ByteSink.taken l.out; after = after; failed = f; flushed = u }) (concat (map (λ piece. piece.now) (drop l.piece-index l.pieces)))
-    → TookBy f (record { before = g.O.ByteSink.taken l.initial.out; after = after; failed = f; flushed = u }) (concat (map (λ piece. piece.now) l.pieces)))
+    × ((after : Option (List ℕ)) (f : Bool)
+    → TookBy f (g.O.ByteSink.taken l.out) after (concat (map (λ piece. piece.now) (drop l.piece-index l.pieces)))
+    → TookBy f (g.O.ByteSink.taken l.initial.out) after (concat (map (λ piece. piece.now) l.pieces)))
+    × (g.O.ByteSink.flushes l.out ≡ g.O.ByteSink.flushes l.initial.out)

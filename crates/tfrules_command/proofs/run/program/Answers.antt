@@ -7,7 +7,7 @@ use Rattle.tfrules_command.proofs.run.program.Goals as goal
 
 pub returns-in-Ok-clause-row : goal.returns-in-Ok-clause-row
 returns-in-Ok-clause-row g c =
-    let w = c.run.ensures in
+    let w = c.run.ensures.row in
     (w.0, options_row (g.M.ModuleFiles.told c.args.files.now) (options_of (map (λ word. word.now) c.args.words.now)) c.in-Ok.options _ _ w.0 c.in-Ok.ensures w.1, w.2)
 
 pub returns-in-Err-clause-row : goal.returns-in-Err-clause-row
