@@ -35,16 +35,17 @@ def contents(top):
 
 
 class Script:
-    """A script under one shell, which is also the `sh` that it calls; busybox brings its own find and the like."""
+    """A script under one shell, which is also the `sh` that it calls; under busybox its own tools are all that there is."""
 
     def __init__(self, group, shell, name='tffmt-all'):
         self.group = group
         folder = group.fresh()
         (folder / 'sh').symlink_to(shutil.which(shell))
-        if shell == 'busybox':
-            for tool in set(group.call(shell, '--list', cwd='/')[1].decode().split()) - {'sh', 'mount', 'unshare', 'tail'}:
-                (folder / tool).symlink_to(shutil.which(shell))
         self.path = group.before_path(folder)
+        if shell == 'busybox':
+            for tool in set(group.call(shell, '--list', cwd='/')[1].decode().split()) - {'sh'}:
+                (folder / tool).symlink_to(shutil.which(shell))
+            self.path = str(folder)
         self.words = ['sh', group.contrib / name]
 
     def __call__(self, *words, cwd, **more):
@@ -60,7 +61,7 @@ def run_shell(group):
         return
     script = Script(group, shell)
     for part in (walk, checks, writes, links, refusals, options, names_from_input, diffs, failing_tools,
-                 full_devices, full_folder, rights, signals, many):
+                 missing_tools, racing_writer, full_devices, full_folder, rights, signals, many):
         part(group, script)
     left = list(group.folder('tmp').iterdir())
     group.check('nothing is left in the temporary folder', left, [])
@@ -218,6 +219,57 @@ def failing_tools(group, script):
     group.check('a diff that fails', script('--diff', cwd=top, PATH='%s:%s' % (diff, script.path))[0], 4)
 
 
+def missing_tools(group, script):
+    """Each tool that is missing is told once, whatever there is to do, and no file is touched."""
+    top = tree(group)
+    before = contents(top)
+    always = ['cat', 'cp', 'find', 'mkdir', 'mktemp', 'rm', 'tr', 'wc', 'xargs']
+    needed = {'': always + ['cmp', 'mv', 'readlink'], '--check': always, '--list': always, '--diff': always + ['diff']}
+    everything = group.fresh()
+    for tool in sorted(set(sum(needed.values(), ['sh', 'sort', 'sleep', 'nproc', 'chmod']))):
+        found = shutil.which(tool, path=script.path)
+        if found:
+            (everything / tool).symlink_to(found)
+    for mode, tools in needed.items():
+        words = [mode] if mode else []
+        for tool in tools:
+            hidden = everything / tool
+            target = os.readlink(str(hidden))
+            hidden.unlink()
+            group.check('%s without %s' % (mode or 'a run', tool), (script(*words, cwd=top, PATH=str(everything)), contents(top)),
+                        ((4, b'', lines('tffmt-all: %s: not found' % tool)), before))
+            hidden.symlink_to(target)
+    bare = group.fresh()
+    (bare / 'sh').symlink_to(shutil.which('sh', path=script.path))
+    group.check('without any tool', (script(cwd=top, PATH=str(bare), TFFMT='no-such-program'), contents(top)),
+                ((4, b'', lines('tffmt-all: no-such-program: not found', *[
+                    'tffmt-all: %s: not found' % tool for tool in always + ['cmp', 'mv', 'readlink']])), before))
+    group.check('with these tools alone', script(cwd=top, PATH=str(everything))[:2], (0, lines(*WALKED)))
+
+
+def racing_writer(group, script):
+    """A save of another program, as late as a tool of the comparison can make it, is kept."""
+    top, kept = group.fresh(), OTHER + b'new=1\n'
+    real = {name: shutil.which(name, path=script.path) for name in ('tr', 'cmp')}
+    # The last tr that reads a text reads the old file: the save is made before it begins.
+    count = group.fresh()
+    saving = 'case $* in "-d  "*) echo >>%s/calls; [ "$(wc -l <%s/calls)" -ne 2 ] || echo "new=1" >>a.tf ;; esac\nexec %s "$@"\n'
+    tools = group.script('tr', saving % (count, count, real['tr'])).parent
+    put(top, {'a.tf': OTHER})
+    group.check('a save before the old file is read', (script('a.tf', cwd=top, PATH='%s:%s' % (tools, script.path))[0],
+                contents(top)), (4, {'a.tf': kept}))
+    for name, text, what in (('cmp', 'exit 2\n', 'a comparison that fails'), ('cmp', 'kill -9 $$\n', 'a comparison that is killed'),
+                             ('tr', 'case $* in "-d  "*) exit 1 ;; esac\nexec %s "$@"\n' % real['tr'], 'texts that cannot be read')):
+        tools = group.script(name, text).parent
+        put(top, {'a.tf': OTHER})
+        group.check(what, (script('a.tf', cwd=top, PATH='%s:%s' % (tools, script.path))[0], contents(top)), (4, {'a.tf': OTHER}))
+    # This file has nothing but blanks, so that nothing at all is not to be taken for what it has.
+    tools = group.script('tr', 'case $(readlink /proc/$$/fd/0) in */a.tf) exit 1 ;; esac\nexec %s "$@"\n' % real['tr']).parent
+    put(top, {'a.tf': b'  '})
+    group.check('an old file that cannot be read', (script('a.tf', cwd=top, PATH='%s:%s' % (tools, script.path))[0],
+                contents(top)), (4, {'a.tf': b'  '}))
+
+
 def full_devices(group, script):
     """A limit on the size of a file stands for a full device."""
     top = group.fresh()
@@ -228,7 +280,7 @@ def full_devices(group, script):
         group.check('a write past %d bytes' % limit, (status, out, contents(top)), (4, b'', {'a.tf': text}))
     put(top, {'a.tf': OTHER})
     for mode in ('--list', '--diff'):
-        done = script.group.call('sh', '-c', 'sh "$1" %s a.tf >/dev/full' % mode, 'sh', script.words[1], cwd=top,
+        done = group.call('sh', '-c', 'sh "$1" %s a.tf >/dev/full' % mode, 'sh', script.words[1], cwd=top,
                                  PATH=script.path)
         group.check('a full device under ' + mode, done[0], 4)
 
@@ -240,7 +292,7 @@ def full_folder(group, script):
     works = 'yes a=1 | head -c "$2" >a.tf; sh "$3" >/dev/null 2>&1; echo $?; ls -A; wc -c <a.tf; grep -c "a=1" a.tf; true'
 
     def run(size):
-        return group.call('unshare', '-m', 'sh', '-c', mounted + works, 'sh', top, str(size), script.words[1],
+        return group.call(shutil.which('unshare'), '-m', 'sh', '-c', mounted + works, 'sh', top, str(size), script.words[1],
                           cwd='/', PATH=script.path)
 
     if not shutil.which('unshare') or run(4)[0] != 0:
