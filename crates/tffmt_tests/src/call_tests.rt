@@ -3,6 +3,7 @@
 
 use crate::compared::{Shown, same_number, same_shown};
 use crate::devices::{Reader, Writer, run};
+use crate::row_tests::{CHECK, PRINT, repeated};
 use std::alloc::Global;
 use std::process::Abort;
 
@@ -64,6 +65,38 @@ static PRINTS: [Row<'static>; 2] = [
 #[test]
 fn output_is_flushed_once(rt: HostRuntime) {
     check_all(&rt, rt.alloc(), &PRINTS);
+}
+
+// That a run shows what is wanted, and flushes once all is written, or nothing where nothing is.
+fn flushes_at_the_end(
+    rt: &impl Abort,
+    alloc: Global,
+    words: &[&str],
+    input: &[u8],
+    wanted: Shown<'_>,
+) {
+    let mut reader = Reader::new(input, 0);
+    let mut written = Writer::new(alloc, 0, 0);
+    let mut told = Writer::new(alloc, 0, 0);
+    let status = run(alloc, words, &mut reader, &mut written, &mut told);
+    let shown = (written.taken.as_slice(), told.taken.as_slice(), status);
+    same_shown(rt, shown, wanted, input);
+    let flushes = u64::from(!wanted.0.is_empty());
+    same_number(rt, u64::from(written.flushes), flushes, input);
+    same_number(rt, written.at_flush, wanted.0.len() as u64, input);
+    same_number(rt, u64::from(told.flushes), 0, input);
+}
+
+// 16,000 and 24,000 bytes, which no buffer of 8 KiB holds.
+#[test]
+fn long_output_is_flushed_once(rt: HostRuntime) {
+    let alloc = rt.alloc();
+    let input = repeated(&rt, alloc, &[(b"a=1\n", 4000)]);
+    let print = repeated(&rt, alloc, &[(b"a = 1\n", 4000)]);
+    flushes_at_the_end(&rt, alloc, &PRINT, &input, (&print, b"", 0));
+    flushes_at_the_end(&rt, alloc, &PRINT, &print, (&print, b"", 0));
+    flushes_at_the_end(&rt, alloc, &CHECK, &input, (b"", b"", 3));
+    flushes_at_the_end(&rt, alloc, &CHECK, &print, (b"", b"", 0));
 }
 
 static NO_TEXTS: [Row<'static>; 4] = [

@@ -43,6 +43,8 @@ pub struct Writer {
     pub taken: Vec<u8>,
     pub writes: u32,
     pub flushes: u32,
+    /// How many bytes it had taken at the last flush.
+    pub at_flush: u64,
     pub bad_write: u32,
     pub bad_flush: u32,
 }
@@ -53,6 +55,7 @@ impl Writer {
             taken: Vec::new(alloc),
             writes: 0,
             flushes: 0,
+            at_flush: 0,
             bad_write,
             bad_flush,
         }
@@ -71,6 +74,7 @@ impl Write for Writer {
 
     fn flush(&mut self) -> io::Result<()> {
         self.flushes = self.flushes.saturating_add(1);
+        self.at_flush = self.taken.len() as u64;
         if self.flushes == self.bad_flush {
             return Err(io::Error::from(ErrorKind::Interrupted));
         }

@@ -45,6 +45,13 @@ fn lengths_of_prints(rt: HostRuntime) {
     }
 }
 
+// A file of nearly 4 MiB is scanned and accepted whole.
+#[test]
+fn lengths_of_large_files(rt: HostRuntime) {
+    let text = repeated(&rt, rt.alloc(), &[(b"a = 1\n", 699_050)]);
+    prints(&rt, rt.alloc(), &text, 4_194_300);
+}
+
 // Each line takes 1,005 bytes in the column of the first, so that no more than a source may have is told only by measuring:
 // 4,173 lines fit, and one more doesn't.
 #[test]

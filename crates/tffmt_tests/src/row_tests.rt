@@ -398,12 +398,17 @@ fn limits_openers(rt: HostRuntime) {
     all_parts_refused(&rt, rt.alloc(), &TOO_DEEP);
 }
 
-static LARGE: [(Parts, Parts); 2] = [
+static LARGE: [(Parts, Parts); 3] = [
+    (&[(b"a=1\n", 699_050)], &[(b"a = 1\n", 699_050)]),
     (&[(b"\n", 1_048_577)], &[(b"\n", 1_048_577)]),
     (&[(b"\n", 4_194_304)], &[(b"\n", 4_194_304)]),
 ];
 
-static TOO_LARGE: [(Parts, &[u8]); 2] = [
+static TOO_LARGE: [(Parts, &[u8]); 3] = [
+    (
+        &[(b"\n", 150_000), (b"a=\n", 1)],
+        b"tffmt: error: 150001:3: unexpected token\n",
+    ),
     (
         &[(b"\n", 4_194_305)],
         b"tffmt: error: 1:1: source too large\n",

@@ -34,7 +34,19 @@ fn shows_usage(rt: HostRuntime) {
     }
 }
 
-static LINES: [(&[&str], Result<FmtOptions, Usage>); 5] = [
+static LINES: [(&[&str], Result<FmtOptions, Usage>); 7] = [
+    (
+        &[
+            "tffmt", "--check", "a", "b", "c", "d", "e", "f", "g", "h", "i", "--help",
+        ],
+        Err(Usage::BadLine),
+    ),
+    (
+        &[
+            "tffmt", "--help", "--check", "a", "b", "c", "d", "e", "f", "g", "h", "i",
+        ],
+        Err(Usage::Help),
+    ),
     (&["tffmt"], Ok(FmtOptions { check: false })),
     (&["tffmt", "--check"], Ok(FmtOptions { check: true })),
     (&["tffmt", "-h"], Err(Usage::Help)),

@@ -2,10 +2,12 @@
 
 ghost use Rattle.std.specs.Prelude.{◌≡◌, false};
 
-use crate::compared::{Files, Shown, first_text, same_shown};
+use crate::compared::{Files, Shown, first_text, same_number, same_shown};
 use crate::memory_files::{FileFailure, MemoryFiles};
-use hcl_scan::{ByteSink, MemorySink};
+use hcl_scan::{ByteSink, MemorySink, SINK_ROOM, ToWrite};
 use std::alloc::Global;
+use std::io;
+use std::io::Write;
 use std::process::Abort;
 use tfrules_command::module_files::ModuleFiles;
 use tfrules_command::run::program;
@@ -77,4 +79,60 @@ pub fn run(alloc: Global, words: &[&str], files: Files<'_>, devices: &Devices) -
         err,
         status,
     }
+}
+
+/// Takes all, and counts its flushes.
+#[derive(Drop)]
+pub struct Writer {
+    pub taken: Vec<u8>,
+    pub flushes: u32,
+    /// How many bytes it had taken at the last flush.
+    pub at_flush: u64,
+}
+
+impl Writer {
+    pub fn new(alloc: Global) -> Writer {
+        Writer {
+            taken: Vec::new(alloc),
+            flushes: 0,
+            at_flush: 0,
+        }
+    }
+}
+
+impl Write for Writer {
+    fn write(&mut self, buf: &[u8]) -> io::Result<usize> {
+        self.taken.extend_from_slice(buf)?;
+        Ok(buf.len())
+    }
+
+    fn flush(&mut self) -> io::Result<()> {
+        self.flushes = self.flushes.saturating_add(1);
+        self.at_flush = self.taken.len() as u64;
+        Ok(())
+    }
+}
+
+/// Runs the program on a module over writers that count, and compares what it shows, and that it flushes once all is
+/// written, or nothing where nothing is.
+pub fn flushes_at_the_end(
+    rt: &impl Abort,
+    alloc: Global,
+    words: &[&str],
+    files: Files<'_>,
+    wanted: Shown<'_>,
+) {
+    let mut module = MemoryFiles::new(files, SINK_ROOM, FileFailure::None);
+    let mut written = Writer::new(alloc);
+    let mut told = Writer::new(alloc);
+    let mut out = ToWrite::new(&mut written);
+    let mut err = ToWrite::new(&mut told);
+    let status = program(alloc, words, &mut module, &mut out, &mut err);
+    let text = first_text(files);
+    let shown = (written.taken.as_slice(), told.taken.as_slice(), status);
+    same_shown(rt, shown, wanted, text);
+    let flushes = u64::from(!wanted.0.is_empty());
+    same_number(rt, u64::from(written.flushes), flushes, text);
+    same_number(rt, written.at_flush, wanted.0.len() as u64, text);
+    same_number(rt, u64::from(told.flushes), 0, text);
 }

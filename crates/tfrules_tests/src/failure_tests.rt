@@ -2,7 +2,7 @@
 //! and then each write of the message too, with one byte a call and with many.
 
 use crate::compared::{Files, Shown, first_text, holds, joined, same_bytes, same_number};
-use crate::devices::{Devices, run, steady};
+use crate::devices::{Devices, flushes_at_the_end, run, steady};
 use crate::memory_files::FileFailure;
 use crate::tests::{USAGE, Words};
 use hcl_scan::{ByteSink, SINK_ROOM};
@@ -382,6 +382,7 @@ fn each_call_fails(rt: HostRuntime) {
         };
         fail_each(&rt, rt.alloc(), &row, 1, *one);
         fail_each(&rt, rt.alloc(), &row, SINK_ROOM, *many);
+        flushes_at_the_end(&rt, rt.alloc(), words, files, row.shown);
     }
 }
 
@@ -426,4 +427,25 @@ fn a_full_writer_fails(rt: HostRuntime) {
     );
     same_bytes(&rt, message, WRITE_FAILED, &text);
     same_number(&rt, u64::from(status), 1, &text);
+}
+
+// Of a variable without a type on each of 1,000 lines: some 80 bytes each, which no buffer of 8 KiB holds.
+#[test]
+fn a_long_report_is_flushed_once(rt: HostRuntime) {
+    let alloc = rt.alloc();
+    let mut text = Vec::new(alloc);
+    let mut report = joined(&rt, alloc, &["1000 issue(s) found:\n\n"]);
+    for line in 1..1001_u32 {
+        let issue = format!(in alloc;
+            "a.tf:{line}:1: Warning - variable \"n\" has no type (terraform_typed_variables)\n"
+        ).expect(&rt, "memory");
+        report
+            .extend_from_slice(issue.as_bytes())
+            .expect(&rt, "memory");
+        text.extend_from_slice(b"variable \"n\" {}\n")
+            .expect(&rt, "memory");
+    }
+    let words = ["tfrules", "--rules", "terraform_typed_variables", "a.tf"];
+    let files = [("a.tf", text.as_slice())];
+    flushes_at_the_end(&rt, alloc, &words, &files, (&report, b"", 2));
 }

@@ -232,3 +232,49 @@ fn operands_are_counted_as_given(rt: HostRuntime) {
     let line = "tfrules: error: more than 256 files\n";
     is_refused(&rt, alloc, &operands(&rt, alloc, 257), module, line, (0, 0));
 }
+
+// So many times a text, and another one behind them.
+fn repeated(rt: &impl Abort, alloc: Global, text: &[u8], count: usize, last: &[u8]) -> Vec<u8> {
+    let mut bytes = Vec::new(alloc);
+    for _ in 0..count {
+        bytes.extend_from_slice(text).expect(rt, "memory");
+    }
+    bytes.extend_from_slice(last).expect(rt, "memory");
+    bytes
+}
+
+// A dozen words, and a file of nearly 4 MiB with an issue in its last line.
+#[test]
+fn a_large_file_is_linted(rt: HostRuntime) {
+    let alloc = rt.alloc();
+    let text = repeated(&rt, alloc, b"a = 1\n", 699_046, b"variable \"n\" {}\n");
+    let words = [
+        "tfrules",
+        "--rules",
+        "terraform_typed_variables",
+        "--naming",
+        "mixed_snake_case",
+        "--minimum-failure-severity",
+        "error",
+        "a.tf",
+        "b.tf",
+        "a.tf",
+        "b.tf",
+        "--force",
+    ];
+    let files = [("a.tf", text.as_slice()), ("b.tf", b"b = 1\n".as_slice())];
+    let report =
+        b"1 issue(s) found:\n\na.tf:699047:1: Warning - variable \"n\" has no type (terraform_typed_variables)\n";
+    let module = (files.as_slice(), FileFailure::None);
+    check(&rt, alloc, &words, module, (report, b"", 0), (2, 2));
+}
+
+#[test]
+fn a_fault_far_down_has_its_line(rt: HostRuntime) {
+    let alloc = rt.alloc();
+    let text = repeated(&rt, alloc, b"\n", 150_000, b"a=\n");
+    let files = [("a.tf", text.as_slice())];
+    let line = "tfrules: error: a.tf:150001:3: unexpected token\n";
+    let module = (files.as_slice(), FileFailure::None);
+    is_refused(&rt, alloc, &["tfrules", "a.tf"], module, line, (1, 1));
+}
