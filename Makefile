@@ -1,13 +1,19 @@
-# `make` proves the crates and builds the programs as bin/tffmt and bin/tfrules, `make bin/tffmt` what that one stands
-# on alone; `make test` runs the whole gate;
-# `make install PREFIX=FOLDER` puts the programs, the scripts round them, their man pages, completions and examples
-# below the folder.
-.PHONY: all test install uninstall clean
+# `make try` formats the README's example at once, with nothing proved; `make` proves the crates and builds the programs
+# as bin/tffmt and bin/tfrules, `make bin/tffmt` what that one stands on alone; `make test` runs the whole gate;
+# `make install PREFIX=FOLDER` puts the programs, the scripts around them, their man pages, completions and examples
+# below the folder; `make dist` packs the same as a release, into dist.
+.PHONY: all try test install uninstall dist clean FORCE
 
 PREFIX = /usr/local
 DESTDIR =
 
-COMMANDS = tffmt tfrules tffmt-all tffmt-hook tfrules-modules
+# A crate that is a program is installed under its name, with `-` for `_`. A script of that name is not installed.
+CRATES := $(patsubst crates/%/src/main.rt,%,$(wildcard crates/*/src/main.rt))
+PROGRAMS := $(subst _,-,$(CRATES))
+SCRIPTS := $(filter-out $(PROGRAMS),$(patsubst contrib/%,%,$(wildcard contrib/tffmt-* contrib/tfrules-*)))
+COMMANDS = $(PROGRAMS) $(SCRIPTS)
+BUILT := $(addprefix bin/,$(PROGRAMS))
+SOURCES := $(shell find crates -name out -prune -o -type f -print) crates.txt
 BIN = $(DESTDIR)$(PREFIX)/bin
 MAN = $(DESTDIR)$(PREFIX)/share/man/man1
 DOC = $(DESTDIR)$(PREFIX)/share/doc/tffmt
@@ -15,19 +21,45 @@ BASH = $(DESTDIR)$(PREFIX)/share/bash-completion/completions
 ZSH = $(DESTDIR)$(PREFIX)/share/zsh/site-functions
 FISH = $(DESTDIR)$(PREFIX)/share/fish/vendor_completions.d
 
-all: bin/tffmt bin/tfrules
+# What a command needs is looked for before anything else is done, so that one line says what is missing.
+NEEDS_PYTHON = @python3 -c 'import sys; sys.exit(sys.version_info < (3, 8))' 2>/dev/null || \
+  { echo 'make: there is no python3 of version 3.8 or later on the path' >&2; exit 1; }
+NEEDS_KIT = @command -v rt >/dev/null 2>&1 || { echo 'make: there is no rt on the path: the proofs need the' \
+  'Rattle kit, of the line rattle-kit-13b' >&2; exit 1; }
 
-bin/tffmt bin/tfrules: $(shell find crates -name out -prune -o -type f -print) crates.txt
-	./tools/prove $(notdir $@)
+all: bin/programs
+
+# All programs are built by one call, side by side; the file says that they were. Where one is missing, they are again.
+bin/programs: $(SOURCES) $(if $(filter-out $(wildcard $(BUILT)),$(BUILT)),FORCE)
+	$(NEEDS_PYTHON)
+	$(NEEDS_KIT)
+	@./tools/prove
+	@echo $(PROGRAMS) >$@
+
+$(BUILT): $(SOURCES)
+	$(NEEDS_PYTHON)
+	$(NEEDS_KIT)
+	@./tools/prove $(notdir $@)
+
+try:
+	$(NEEDS_PYTHON)
+	$(NEEDS_KIT)
+	@./tools/try
 
 test:
+	$(NEEDS_PYTHON)
+	$(NEEDS_KIT)
 	./tests/gate
 
-install: bin/tffmt bin/tfrules
+dist: bin/programs
+	@./tools/dist
+
+install: bin/programs
 	install -d "$(BIN)" "$(MAN)" "$(DOC)/examples/ci" "$(DOC)/examples/editors/vscode" \
 	  "$(DOC)/examples/editors/jetbrains" "$(BASH)" "$(ZSH)" "$(FISH)"
-	install -m 755 bin/tffmt bin/tfrules contrib/tffmt-all contrib/tffmt-hook contrib/tfrules-modules "$(BIN)"
-	install -m 644 man/tffmt.1 man/tfrules.1 man/tffmt-all.1 man/tffmt-hook.1 man/tfrules-modules.1 "$(MAN)"
+	install -m 755 $(BUILT) "$(BIN)"
+	install -m 755 $(addprefix contrib/,$(SCRIPTS)) "$(BIN)"
+	install -m 644 $(patsubst %,man/%.1,$(COMMANDS)) "$(MAN)"
 	install -m 644 VERSION CHANGELOG.md docs/STYLE.md docs/RULES.md "$(DOC)"
 	install -m 644 contrib/pre-commit-config.yaml contrib/treefmt.toml "$(DOC)/examples"
 	install -m 644 contrib/ci/* "$(DOC)/examples/ci"
@@ -46,4 +78,4 @@ uninstall:
 	rm -rf "$(DOC)"
 
 clean:
-	rm -rf bin crates/*/out
+	rm -rf bin dist crates/*/out

@@ -181,8 +181,7 @@ def installing(group):
     if not group.has('make', checks=10):
         return
     top = group.fresh()
-    words = ['make', '-s', '-C', TOP, '-o', 'bin/tffmt', '-o', 'bin/tfrules', 'DESTDIR=%s' % (top / 'a folder'),
-             'PREFIX=/usr']
+    words = ['make', '-s', '-C', TOP, '-o', 'bin/programs', 'DESTDIR=%s' % (top / 'a folder'), 'PREFIX=/usr']
     group.check('make install', group.call(*words, 'install', cwd=top), (0, b'', b''))
     usr = top / 'a folder' / 'usr'
     got = sorted(str(p.relative_to(usr)) for p in usr.rglob('*') if not p.is_dir())
