@@ -7,9 +7,9 @@ _tffmt() {
   case ${1##*/} in
     tffmt) options='--check --help' ;;
     tfrules) options='--rules --naming --minimum-failure-severity --force --help' ;;
-    tffmt-all) options='--check --diff --list --jobs --null --help' ;;
-    tffmt-hook) options='--install --help' ;;
-    tfrules-modules) options='--rules --naming --minimum-failure-severity --force --null --help' ;;
+    tffmt-all) options='--check --diff --list --jobs --null --help --version' ;;
+    tffmt-hook) options='--install --help --version' ;;
+    tfrules-modules) options='--rules --naming --minimum-failure-severity --force --null --help --version' ;;
   esac
   for ((i = 1; i < COMP_CWORD; i++)); do
     [[ ${COMP_WORDS[i]} != -- ]] || options=

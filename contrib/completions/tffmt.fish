@@ -15,6 +15,7 @@ complete -c tfrules-modules -x -l minimum-failure-severity -a 'error warning not
 complete -c tfrules-modules -l force -d 'Do not fail because of issues'
 complete -c tfrules-modules -f -s 0 -l null -d 'Read names from standard input'
 complete -c tfrules-modules -f -s h -l help -d 'Print help'
+complete -c tfrules-modules -f -l version -d 'Print the version'
 
 complete -c tffmt-all -l check -d 'Report each file that is not formatted'
 complete -c tffmt-all -l diff -d 'Show what would change'
@@ -22,6 +23,8 @@ complete -c tffmt-all -l list -d 'Print the names of files that would change'
 complete -c tffmt-all -x -s j -l jobs -d 'Files to work on at a time'
 complete -c tffmt-all -f -s 0 -l null -d 'Read names from standard input'
 complete -c tffmt-all -f -s h -l help -d 'Print help'
+complete -c tffmt-all -f -l version -d 'Print the version'
 
 complete -c tffmt-hook -f -l install -d 'Make this the hook of the repository here'
 complete -c tffmt-hook -f -s h -l help -d 'Print help'
+complete -c tffmt-hook -f -l version -d 'Print the version'

@@ -29,7 +29,7 @@ def completions(group):
                       % (' '.join('"%s"' % w for w in words), len(words) - 1, words[0]))
             return sorted(group.call('bash', '-c', script, 'bash', folder / 'tffmt.bash', cwd=here)[1].split())
         group.check('bash: options', bash('tffmt-all --'),
-                    [b'--check', b'--diff', b'--help', b'--jobs', b'--list', b'--null'])
+                    [b'--check', b'--diff', b'--help', b'--jobs', b'--list', b'--null', b'--version'])
         group.check('bash: one option', (bash('tffmt --c'), bash('tffmt-hook --i')), ([b'--check'], [b'--install']))
         group.check('bash: files and folders', bash('tffmt-all --check '), [b'good.tf', b'in'])
         group.check('bash: no option behind --', bash('tffmt-all -- --'), [])
@@ -56,7 +56,7 @@ def completions(group):
                               cwd=here)
             return sorted(each.split(b'\t')[0] for each in done[1].splitlines())
         group.check('fish: options', fish('tffmt-all --'),
-                    [b'--check', b'--diff', b'--help', b'--jobs', b'--list', b'--null'])
+                    [b'--check', b'--diff', b'--help', b'--jobs', b'--list', b'--null', b'--version'])
         group.check('fish: one option', (fish('tffmt --c'), fish('tffmt-hook --i')), ([b'--check'], [b'--install']))
         group.check('fish: files', fish('tffmt-all g'), [b'good.tf'])
         group.check('fish: the linter', (fish('tfrules-modules --nu'), fish('tfrules --rules a')), ([b'--null'], [b'all']))
@@ -153,6 +153,9 @@ def plain(roff):
 def pages(group):
     version = (TOP / 'VERSION').read_text().strip()
     group.holds('the changes tell of this version', '\n## %s\n' % version in (TOP / 'CHANGELOG.md').read_text())
+    for name in SCRIPTS:
+        group.check('%s --version' % name, group.call(group.contrib / name, '--version', cwd=group.top),
+                    (0, lines('%s %s' % (name, version)), b''))
     for name in PAGES:
         page = TOP / 'man' / (name + '.1')
         first = page.read_text().split('\n')[0]
