@@ -62,7 +62,9 @@ def interrupted(group, copy, calls, stand_in):
     """After a signal nothing is half done, and no prover is left; begun again, the work ends."""
     setting = dict(group.setting, PATH='%s:%s' % (stand_in, group.setting['PATH']), CALLS=str(calls), PAUSE='2',
                    PROGRAM=group.program)
-    process = subprocess.Popen([str(copy / 'tools/prove'), 'tffmt'], cwd=str(copy), env=setting, stdout=subprocess.PIPE,
+    # A shell's job in the background ignores the signal of Ctrl-C.
+    words = ['sh', '-c', 'trap "" INT; exec "$@"', 'sh', str(copy / 'tools/prove'), 'tffmt']
+    process = subprocess.Popen(words, cwd=str(copy), env=setting, stdout=subprocess.PIPE,
                                stderr=subprocess.PIPE)
     deadline = time.monotonic() + 20
     while not calls.read_bytes() and time.monotonic() < deadline:
