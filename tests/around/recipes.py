@@ -133,9 +133,9 @@ def lint_matchers(group):
 
 
 def scripts(group):
-    if group.has('shellcheck', checks=7):
+    if group.has('shellcheck', checks=9):
         for shell in ('dash', 'bash'):
-            for name in SCRIPTS:
+            for name in SCRIPTS + ['release/install.sh']:
                 group.check('shellcheck of %s for %s' % (name, shell), group.call(
                     'shellcheck', '-s', shell, group.contrib / name, cwd=group.top), (0, b'', b''))
         group.check('shellcheck of the completion', group.call(
