@@ -16,8 +16,8 @@ NOBODY = 65534
 SHELLS = ['sh', 'dash', 'bash', 'busybox']
 
 # A tree, and the files of it that a walk takes.
-WALKED = ['[x]/a.tf', 'a b/bad\\c.tf', 'a.tofu', 'b.tftest.hcl', 'c.tfmock.hcl', 'd.tfvars', 'link.tf', 'new\nline.tf',
-          'tab\t"quote".tf', 'x/y/-z.tf', '\u00e9.tf']
+WALKED = ['[x]/a.tf', 'a b/bad\\c.tf', 'a.tofu', 'b.tftest.hcl', 'b.tofutest.hcl', 'c.tfmock.hcl', 'c.tfquery.hcl', 'd.tfvars',
+          'link.tf', 'new\nline.tf', 'tab\t"quote".tf', 'x/y/-z.tf', '\u00e9.tf']
 PASSED_OVER = ['.hidden.tf', '.terraform/m.tf', 'old~/o.tf', '#x#/o.tf', 'e.hcl', 'f.tf.json', 'g.tf~', 'h.txt']
 
 
@@ -61,7 +61,7 @@ def run_shell(group):
         return
     script = Script(group, shell)
     for part in (walk, checks, writes, links, refusals, options, names_from_input, diffs, failing_tools,
-                 missing_tools, racing_writer, full_devices, full_folder, rights, signals, many):
+                 missing_tools, racing_writer, full_devices, full_folder, rights, signals, many, shards):
         part(group, script)
     left = list(group.folder('tmp').iterdir())
     group.check('nothing is left in the temporary folder', left, [])
@@ -148,6 +148,8 @@ def refusals(group, script):
                 ((2, lines('b.tf'), lines('a.tf' + REFUSED)), {'a.tf': BAD, 'b.tf': GOOD, 'c.tf': GOOD}))
     for name, said in (('nowhere.tf', 'no such file or folder'), ('nowhere/', 'no such file or folder')):
         group.check('%s alone' % name, script('--check', name, cwd=top), (4, b'', lines('%s: %s' % (name, said))))
+    group.check('a dash is no file', script('--check', '-', cwd=top), (4, b'', lines(
+        '-: no such file or folder; tffmt reads standard input, and tffmt-all formats files')))
     os.mkfifo(str(top / 'pipe.tf'))
     group.check('what cannot be read', script('--check', 'nowhere.tf', 'pipe.tf', 'c.tf', cwd=top),
                 (4, b'', lines('nowhere.tf: no such file or folder', 'pipe.tf: not a file')))
@@ -160,7 +162,8 @@ def options(group, script):
     group.check('--help', (status, out.startswith(b'usage: tffmt-all '), err), (0, True, b''))
     group.check('-h', script('-h', cwd=top), (status, out, err))
     usage = out.split(b'\n')[0] + b'\n'
-    for words in (['--bogus'], ['--check', '--diff'], ['-j', '0'], ['--jobs', 'x'], ['--jobs'], ['-0', 'a.tf']):
+    for words in (['--bogus'], ['--check', '--diff'], ['-j', '0'], ['--jobs', 'x'], ['--jobs'], ['-0', 'a.tf'],
+                  ['--shard', '0/2'], ['--shard=3/2'], ['--shard', '1']):
         group.check('a wrong line %r' % words, script(*words, cwd=top), (2, b'', usage))
     group.check('an option after an operand', (script('a.tf', '--check', cwd=top), contents(top)),
                 ((3, b'', lines('a.tf: not formatted')), {'a.tf': OTHER}))
@@ -368,6 +371,28 @@ def many(group, script):
         (running / 'most').unlink()
         group.holds('%s at a time' % number, most in fits, most)
     progress(group, script, top, slow)
+
+
+def shards(group, script):
+    """Each file is in one shard, which is told by its name alone."""
+    names = sorted(['new\nline.tf', 'a b/\u00e9.tf'] + ['d/%d.tf' % i for i in range(40)], key=os.fsencode)
+    top = group.fresh()
+    put(top, {name: OTHER for name in names})
+    parts = [script('--list', '--shard', '%d/3' % k, cwd=top)[1] for k in range(1, 4)]
+    wanted = [lines(*[name for name in names if shard_of(name, 3) == k]) for k in range(3)]
+    group.check('each file in the shard that the guide says', parts, wanted)
+    given = b'\0'.join(b'.//' + os.fsencode(name) for name in names[:9]) + b'\0'
+    group.check('the same among fewer files, however they are named', [
+        script('--null', '--list', '--shard=%d/3' % k, cwd=top, stdin=given)[1] for k in range(1, 4)],
+        [lines(*[name for name in names[:9] if shard_of(name, 3) == k]) for k in range(3)])
+
+
+def shard_of(name, count):
+    """The sum of docs/SCALE.md."""
+    total = 0
+    for byte in os.fsencode(name):
+        total = (total * 31 + (1 if byte == 10 else byte)) % 4294967291
+    return total % count
 
 
 def progress(group, script, top, slow):

@@ -31,7 +31,8 @@ class Group:
         self.setting = {name: value for name, value in os.environ.items() if not name.startswith('GIT_')}
         beside = pathlib.Path(program).with_name('tfrules')
         self.linter = str(beside if beside.exists() else TOP / 'bin' / 'tfrules')
-        self.setting.update(TFFMT=program, TFRULES=self.linter, HOME=str(self.folder('home')), TMPDIR=str(self.folder('tmp')),
+        self.setting.update(TFFMT=program, TFRULES=self.linter, TFFMT_ALL=str(contrib / 'tffmt-all'),
+                             HOME=str(self.folder('home')), TMPDIR=str(self.folder('tmp')),
                             GIT_CONFIG_NOSYSTEM='1', LC_ALL='C.UTF-8', TERM='dumb')
         self.top.joinpath('tmp').chmod(0o777)
 

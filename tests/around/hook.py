@@ -7,7 +7,7 @@ import shutil
 
 from harness import BAD, GOOD, OTHER, REFUSED, TOP, lines, put
 
-FORMAT = 'tffmt-hook: the commit is refused: format these files, as with tffmt-all, and stage them again'
+FORMAT = 'tffmt-hook: the commit is refused: format these files and stage them again:'
 MEND = 'tffmt-hook: the commit is refused: mend these files and stage them again'
 BLIND = 'tffmt-hook: the commit is refused: not every staged file could be looked at'
 
@@ -44,9 +44,15 @@ def said(*each):
     return b''.join(sorted(lines(*each).splitlines(True)))
 
 
+def mend(*names):
+    """The line that the hook prints for files with plain names."""
+    return '  tffmt-all -- ' + ' '.join(names)
+
+
 def run(group):
     if group.has('git', checks=40):
-        for part in (first_commit, later_commits, alone, odd_names, without_program, failing_tools, filters, installing,
+        for part in (first_commit, later_commits, alone, odd_names, mended, many_files, without_program, failing_tools, filters,
+                     sparse, installing,
                      other_hooks, with_the_linter, command_line):
             part(group)
         group.check('nothing is left in the temporary folder', list(group.folder('tmp').iterdir()), [])
@@ -62,13 +68,19 @@ def first_commit(group):
     here = installed(group)
     here.stage({'good.tf': GOOD, 'other.tf': OTHER, 'vars.tfvars': OTHER, 'b.tofu': OTHER, 'c.tftest.hcl': OTHER,
                 'd.tfmock.hcl': OTHER, 'text.txt': OTHER, 'e.hcl': OTHER, 'a folder/bad.tf': BAD, '\u00e9.tf': OTHER,
+                'f.tfquery.hcl': OTHER, 'g.tofutest.hcl': OTHER, '.config/h.tf': OTHER, 'old~/#i#/i.tf': OTHER,
                 'link.tf': b'->other.tf'})
     group.check('first commit, all reported', here.commit(), (False, said(
         'other.tf: not formatted', 'vars.tfvars: not formatted', '\u00e9.tf: not formatted', 'b.tofu: not formatted',
-        'c.tftest.hcl: not formatted', 'd.tfmock.hcl: not formatted', 'a folder/bad.tf' + REFUSED, MEND)))
+        'c.tftest.hcl: not formatted', 'd.tfmock.hcl: not formatted', 'a folder/bad.tf' + REFUSED,
+        'f.tfquery.hcl: not formatted', 'g.tofutest.hcl: not formatted', '.config/h.tf: not formatted',
+        'old~/#i#/i.tf: not formatted', MEND, mend(
+            '.config/h.tf', 'b.tofu', 'c.tftest.hcl', 'd.tfmock.hcl', 'f.tfquery.hcl', 'g.tofutest.hcl', "'old~/#i#/i.tf'",
+            'other.tf', 'vars.tfvars', "'\u00e9.tf'"))))
     group.check('the status is the worst', here.run_hook()[0], 2)
     here.stage({name: GOOD for name in ('other.tf', 'vars.tfvars', 'b.tofu', 'c.tftest.hcl', 'd.tfmock.hcl',
-                                        'a folder/bad.tf', '\u00e9.tf')})
+                                        'a folder/bad.tf', '\u00e9.tf', 'f.tfquery.hcl', 'g.tofutest.hcl', '.config/h.tf',
+                                        'old~/#i#/i.tf')})
     put(here.top, {'other.tf': OTHER})
     group.check('what is staged counts, not the working tree', here.commit(), (True, b''))
 
@@ -83,14 +95,14 @@ def later_commits(group):
     group.check('nor one that is removed', here.commit(), (True, b''))
     here.stage({'in/x.tf': OTHER})
     group.check('a changed file, from a folder below', here.commit(cwd=here.top / 'in'),
-                (False, said('in/x.tf: not formatted', FORMAT)))
+                (False, said('in/x.tf: not formatted', FORMAT, mend('../in/x.tf'))))
     here.git('reset', '-q', '--hard')
     (here.top / 'link.tf').unlink()
     here.stage({'link.tf': OTHER})
-    group.check('a link that became a file', here.commit(), (False, said('link.tf: not formatted', FORMAT)))
+    group.check('a link that became a file', here.commit(), (False, said('link.tf: not formatted', FORMAT, mend('link.tf'))))
     here.git('reset', '-q', '--hard')
     here.git('mv', 'old.tf', 'moved.tf')
-    group.check('a file under a new name', here.commit(), (False, said('moved.tf: not formatted', FORMAT)))
+    group.check('a file under a new name', here.commit(), (False, said('moved.tf: not formatted', FORMAT, mend('moved.tf'))))
     here.git('reset', '-q', '--hard')
     put(here.top, {'good.tf': b'a = 1\nb = 2\n', 'in/x.tf': OTHER})
     here.git('add', 'in/x.tf')
@@ -99,12 +111,12 @@ def later_commits(group):
 
 def alone(group):
     """Each kind of fault by itself refuses."""
-    for name, text, status, line, last in (('bad.tf', BAD, 2, 'bad.tf' + REFUSED, MEND),
-                                           ('other.tf', OTHER, 3, 'other.tf: not formatted', FORMAT)):
+    for name, text, status, line, last in (('bad.tf', BAD, 2, 'bad.tf' + REFUSED, [MEND]),
+                                           ('other.tf', OTHER, 3, 'other.tf: not formatted', [FORMAT, mend('other.tf')])):
         here = installed(group)
         here.stage({name: text, 'good.tf': GOOD})
-        group.check(name + ' alone', here.commit(), (False, said(line, last)))
-        group.check(name + ' alone, the status', here.run_hook(), (status, b'', lines(line, last)))
+        group.check(name + ' alone', here.commit(), (False, said(line, *last)))
+        group.check(name + ' alone, the status', here.run_hook(), (status, b'', lines(line, *last)))
 
 
 def odd_names(group):
@@ -113,33 +125,88 @@ def odd_names(group):
     here.stage({name: GOOD for name in names})
     group.check('formatted files of any name', here.commit(), (True, b''))
     here.stage({name: OTHER for name in names})
-    group.check('other files of any name', here.commit(),
-                (False, said(*([name + ': not formatted' for name in names] + [FORMAT]))))
+    ordered = sorted(names)
+    quoted = ["'%s'" % name if set(name) & set(' \n\t"\\*') else name for name in ordered]
+    group.check('other files of any name', here.run_hook(), (3, b'', lines(
+        *([name + ': not formatted' for name in ordered] + [FORMAT, mend(*quoted)]))))
+    group.check('refuse', here.commit()[0], False)
     here = installed(group)
     here.stage({b'caf\xe9.tf': OTHER})
-    group.check('a name that is not UTF-8', here.commit(), (False, said(b'caf\xe9.tf: not formatted', FORMAT)))
+    group.check('a name that is not UTF-8', here.commit(), (False, said(
+        b'caf\xe9.tf: not formatted', FORMAT, b"  tffmt-all -- 'caf\xe9.tf'")))
+
+
+def mended(group):
+    """The command that is printed formats just the files that were reported, from where git was called."""
+    names = ['.config/x.tf', 'in/a b.tf', "in/it's.tf", 'in/new\nline.tf', '-n.tf', 'in/$x`y`.tf', 'x.tf~/y.tf', 'a:1:1.tf']
+    for folder in ('.', 'in', 'in/deep'):
+        here = installed(group)
+        put(here.top, {'in/deep/text.txt': b''})
+        here.stage(dict({name: OTHER for name in names}, **{'good.tf': GOOD, 'in/good.tf': GOOD}))
+        put(here.top, {'other.tf': OTHER})
+        done = here.git('commit', '-q', '-m', 'x', cwd=here.top / folder)
+        command = re.search(rb'^  (tffmt-all -- .*)', done[2], re.M | re.S).group(1)
+        told = group.call('sh', '-c', command, cwd=here.top / folder, PATH=group.before_path(group.contrib))
+        group.check('the command works, from ' + folder, (told[0], told[2]), (0, b''))
+        group.check('the files are formatted, and no other, from ' + folder, {
+            name: (here.top / name).read_bytes() for name in names + ['other.tf']},
+            dict({name: GOOD for name in names}, **{'other.tf': OTHER}))
+        here.git('add', '--', *names)
+        group.check('and the commit passes, from ' + folder, here.commit(), (True, b''))
+
+
+def many_files(group):
+    """Of many files no names are printed, and it is still the command that mends them. All are checked in a few processes."""
+    here = installed(group)
+    names = ['in/%03d.tf' % i for i in range(120)]
+    here.stage(dict({name: OTHER for name in names}, **{'in/text.txt': OTHER, '.h/x.tf': OTHER}))
+    done = here.git('commit', '-q', '-m', 'x', cwd=here.top / 'in')
+    command = done[2].splitlines()[-1].strip()
+    group.check('one line', (len(done[2].splitlines()), b'--null' in command), (len(names) + 3, True))
+    told = group.call('sh', '-c', command, cwd=here.top / 'in', PATH=group.before_path(group.contrib))
+    group.check('the command works', (told[0], told[2]), (0, b''))
+    group.check('the files are formatted, and no other', ({(here.top / name).read_bytes() for name in names + ['.h/x.tf']},
+                (here.top / 'in' / 'text.txt').read_bytes()), ({GOOD}, OTHER))
+    here.git('add', '-A')
+    calls = group.fresh() / 'calls'
+    counting = group.script('git', 'echo >>"%s"\nexec %s "$@"\n' % (calls, shutil.which('git'))).parent
+    formatter = group.script('t', 'echo >>"%s"\nexec "%s" "$@"\n' % (calls, group.contrib / 'tffmt-all'))
+    group.check('they pass', here.run_hook(PATH=group.before_path(counting), TFFMT_ALL=str(formatter)), (0, b'', b''))
+    group.holds('a few processes for all of them', len(calls.read_text()) < 10, len(calls.read_text()))
+
+
+def sparse(group):
+    """What is staged counts where a sparse checkout has no file of it."""
+    here = installed(group)
+    here.stage({'in/x.tf': OTHER, 'out/y.tf': OTHER})
+    here.git('update-index', '--skip-worktree', 'out/y.tf')
+    (here.top / 'out' / 'y.tf').unlink()
+    group.check('a file that is not in the working tree', here.run_hook(), (3, b'', lines(
+        'in/x.tf: not formatted', 'out/y.tf: not formatted', FORMAT, mend('in/x.tf', 'out/y.tf'))))
 
 
 def without_program(group):
     here = installed(group)
     here.stage({'text.txt': OTHER, 'link.tf': b'->text.txt'})
-    group.check('without the program and such a file', here.commit(TFFMT='no-such-program'), (True, b''))
+    group.check('without the program and such a file', here.commit(TFFMT_ALL='no-such-program'), (True, b''))
     here.stage({'good.tf': GOOD})
-    group.check('without the program', here.commit(TFFMT='no-such-program'), (False, said(
-        'good.tf: not looked at, since there is no no-such-program on the path', BLIND)))
-    group.check('without the program, the status', here.run_hook(TFFMT='no-such-program')[0], 4)
+    group.check('without the program', here.commit(TFFMT_ALL='no-such-program'), (False, said(
+        'tffmt-hook: no-such-program: not found', BLIND)))
+    group.check('without the program, the status', here.run_hook(TFFMT_ALL='no-such-program')[0], 4)
 
 
 def failing_tools(group):
     here = installed(group)
     here.stage({'good.tf': GOOD})
-    failing = group.script('t', 'echo "tffmt: error: read failed" >&2\nexit 4\n')
-    group.check('a program that fails', here.commit(TFFMT=str(failing)), (False, said('good.tf: read failed', BLIND)))
-    other = group.script('t', 'exit 2\n')
-    group.check('another program', here.run_hook(TFFMT=str(other))[0], 4)
-    for tool, text in (('xargs', 'exit 1\n'), ('git', 'case $* in *diff-index*|*cat-file*) exit 1 ;; esac\n%s "$@"\n'),
-                       ('git', 'case $* in *cat-file*) exit 1 ;; esac\n%s "$@"\n'),
-                       ('git', 'case $* in *ls-files*) exit 1 ;; esac\n%s "$@"\n')):
+    failing = group.script('t', 'echo "good.tf: read failed" >&2\nexit 4\n')
+    group.check('a program that fails', here.commit(TFFMT_ALL=str(failing)), (False, said('good.tf: read failed', BLIND)))
+    for status in (1, 139):
+        other = str(group.script('t', 'exit %d\n' % status))
+        group.check('another program', here.run_hook(TFFMT_ALL=other), (4, b'', lines(
+            'tffmt-hook: %s failed with status %d' % (other, status), BLIND)))
+    for tool, text in (('xargs', 'exit 1\n'), ('git', 'case $* in *diff-index*) exit 1 ;; esac\n%s "$@"\n'),
+                       ('git', 'case $* in *--stdin*) exit 1 ;; esac\n%s "$@"\n'),
+                       ('git', 'case $* in *--stdin*) exit 0 ;; esac\n%s "$@"\n')):
         made = group.script(tool, text.replace('%s', shutil.which('git')))
         group.check('a %s that fails' % tool, here.run_hook(PATH=group.before_path(made.parent))[0], 4)
     group.check('without a temporary folder', here.run_hook(TMPDIR='/nowhere')[0], 4)
@@ -155,14 +222,14 @@ def filters(group):
     group.check('a filter turns the text', here.git('cat-file', 'blob', ':secret.tfvars')[1] != GOOD, True)
     group.check('a formatted file behind a filter', here.commit(), (True, b''))
     here.stage({'secret.tfvars': OTHER})
-    group.check('another one', here.commit(), (False, said('secret.tfvars: not formatted', FORMAT)))
+    group.check('another one', here.commit(), (False, said('secret.tfvars: not formatted', FORMAT, mend('secret.tfvars'))))
 
 
 def refuses(group, name, here, top):
     """Whether a hook is at work in a working tree."""
     put(top, {'other.tf': OTHER})
     here.git('add', 'other.tf', cwd=top)
-    group.check('the hook works ' + name, here.commit(cwd=top), (False, said('other.tf: not formatted', FORMAT)))
+    group.check('the hook works ' + name, here.commit(cwd=top), (False, said('other.tf: not formatted', FORMAT, mend('other.tf'))))
 
 
 def installing(group):
@@ -180,7 +247,7 @@ def installing(group):
     group.check('installing in a worktree', here.install(cwd=tree), (0, place, b''))
     put(tree, {'new.tf': OTHER})
     here.git('add', '-A', cwd=tree)
-    group.check('the hook works in a worktree', here.commit(cwd=tree), (False, said('new.tf: not formatted', FORMAT)))
+    group.check('the hook works in a worktree', here.commit(cwd=tree), (False, said('new.tf: not formatted', FORMAT, mend('new.tf'))))
     # a submodule has hooks of its own
     outer = Repository(group)
     outer.git('-c', 'protocol.file.allow=always', 'submodule', '--quiet', 'add', here.top, 'sub')
@@ -191,7 +258,7 @@ def installing(group):
                 (0, lines('installed %s/.git/modules/sub/hooks/pre-commit' % outer.top), b''))
     put(sub, {'new.tf': OTHER})
     outer.git('add', '-A', cwd=sub)
-    group.check('the hook works in a submodule', outer.commit(cwd=sub), (False, said('new.tf: not formatted', FORMAT)))
+    group.check('the hook works in a submodule', outer.commit(cwd=sub), (False, said('new.tf: not formatted', FORMAT, mend('new.tf'))))
     # core.hooksPath
     here = Repository(group)
     here.git('config', 'core.hooksPath', '.githooks')
@@ -231,7 +298,7 @@ def with_the_linter(group):
     here.stage({'m/a b.tf': b'variable "n" { type = number }\n'})
     group.check('with one file of a module staged', here.commit(PATH=path), (True, b''))
     here.stage({'m/u.tf': b'x=var.n\n'})
-    group.check('and refuses a file that is not formatted', here.commit(PATH=path), (False, said('m/u.tf: not formatted', FORMAT)))
+    group.check('and refuses a file that is not formatted', here.commit(PATH=path), (False, said('m/u.tf: not formatted', FORMAT, mend('m/u.tf'))))
     here.stage({'m/u.tf': b'x = 1\n'})
     done = here.git('commit', '-q', '-m', 'x', PATH=path)
     group.holds('and an issue', done[0] == 1 and b'm/a b.tf:1:1: Warning - variable "n" is declared but not used' in done[1] + done[2],

@@ -2,12 +2,13 @@
 is where something fails."""
 
 import os
+import re
 import shutil
 import signal
 import time
 
-from files import NOBODY, Script
-from harness import BAD, is_sh, lines, put
+from files import NOBODY, Script, shard_of
+from harness import BAD, TOP, is_sh, lines, put
 
 DECLARED, USED = b'variable "n" { type = string }\n', b'x = var.n\n'
 UNUSED = '%s:1:1: Warning - variable "n" is declared but not used (terraform_unused_declarations)'
@@ -31,7 +32,8 @@ def run_shell(group):
     if not group.has(shell, checks=65):
         return
     script = Script(group, shell, 'tfrules-modules')
-    for part in (whole_modules, names, walk, statuses, options, limits, names_from_input, failing_tools, rights, signals):
+    for part in (whole_modules, names, walk, statuses, options, lists_of_rules, config, bad_config, where_config_stands, comments,
+                 deleted, limits, names_from_input, side_by_side, shards, failing_tools, rights, signals):
         part(group, script)
     group.check('nothing is left in the temporary folder', list(group.folder('tmp').iterdir()), [])
 
@@ -67,9 +69,9 @@ def names(group, script):
     group.check('any name', script('--', *every, cwd=top), (2, unused(*every), b''))
     group.check('a file with a dash in front', script('--', '-z.tf', cwd=top / '-d'), (2, unused('-z.tf'), b''))
     group.check('any name in a walk', script(cwd=top), (2, unused(*every), b''))
-    top = _put(group, {b'caf\xe9.tf': DECLARED})
+    top = _put(group, {b'caf\xe9 "\\.tf': DECLARED, 'good.tf': DECLARED})
     group.check('a name that is not UTF-8', script(cwd=top), (1, b'', lines(
-        "tfrules-modules: .: the name of a file isn't UTF-8")))
+        'tfrules-modules: "caf\\351 \\"\\\\.tf": the name isn\'t UTF-8')))
 
 
 def walk(group, script):
@@ -103,8 +105,9 @@ def statuses(group, script):
     group.check('two issues', script('e', cwd=top), (2, report(UNTYPED % 'e/e.tf', UNUSED % 'e/e.tf'), b''))
     os.mkfifo(str(top / 'd' / 'pipe.tf'))
     group.check('what is no file', script('d', cwd=top), (1, b'', lines('tfrules-modules: d/pipe.tf: not a file')))
-    group.check('a name that leads nowhere', script('a', 'nowhere.tf', 'c', cwd=top), (
-        1, unused('a/a.tf', 'c/c.tf'), lines('tfrules-modules: nowhere.tf: no such file or folder')))
+    for name in ('nowhere', 'nowhere/a.tf', 'nowhere.txt'):
+        group.check('a name that leads nowhere: ' + name, script('a', name, 'c', cwd=top), (
+            1, unused('a/a.tf', 'c/c.tf'), lines('tfrules-modules: %s: no such file or folder' % name)))
 
 
 def options(group, script):
@@ -113,13 +116,16 @@ def options(group, script):
     group.check('--help', (status, out.startswith(b'usage: tfrules-modules '), err), (0, True, b''))
     group.check('-h', script('-h', cwd=top), (status, out, err))
     usage = out.split(b'\n')[0] + b'\n'
-    for words in (['--bogus'], ['--rules'], ['-0', 'a.tf']):
+    for words in (['--bogus'], ['--rules'], ['-0', 'a.tf'], ['--shard', '0/2'], ['--shard=3/2'], ['--shard', '1'],
+                  ['--jobs', 'x'], ['-j0']):
         group.check('a wrong line %r' % words, script(*words, cwd=top), (1, b'', usage))
     two = _put(group, {'a.tf': b'', 'b/b.tf': b''})
-    for words, told in ((['--rules', 'x y'], 'rule'), (['--naming', ''], 'naming'),
-                        (['--minimum-failure-severity=x'], 'severity')):
-        group.check('a wrong word is told once: %r' % words, script(*words, cwd=two),
-                    (1, b'', lines('tfrules: error: unknown ' + told)))
+    for words, told in ((['--rules', 'default,x y,z'], 'tfrules-modules: unknown rule "x y"'),
+                        (['--rules='], 'tfrules-modules: unknown rule ""'),
+                        (['--force', '--force'], 'tfrules-modules: --force is given twice'),
+                        (['--naming', ''], 'tfrules: error: unknown naming'),
+                        (['--minimum-failure-severity=x'], 'tfrules: error: unknown severity')):
+        group.check('a wrong word is told once: %r' % words, script(*words, cwd=two), (1, b'', lines(told)))
     undescribed = report('a.tf:1:1: Notice - variable "n" has no description (terraform_documented_variables)')
     for words in (['--rules', 'terraform_documented_variables', 'a.tf'],
                   ['a.tf', '--rules=terraform_documented_variables', '--naming', 'snake_case']):
@@ -127,6 +133,177 @@ def options(group, script):
     group.check('without the program', script(cwd=top, TFRULES='no-such-program'),
                 (1, b'', b'tfrules-modules: no-such-program: not found\n'))
     group.check('without a temporary folder', script(cwd=top, TMPDIR='/nowhere')[:2], (1, b''))
+
+
+ALL = sorted(re.findall(r'^## (terraform_\w+)$', (TOP / 'docs' / 'RULES.md').read_text(encoding='utf-8'), re.M))
+DEFAULT = sorted(re.findall(r'^\| \[`(\w+)`\]\S+ \| \w+ \| yes \|', (TOP / 'docs' / 'RULES.md').read_text(encoding='utf-8'), re.M))
+
+
+def asked(group):
+    """A program that says which words it was given, and how often it was called."""
+    return str(group.script('t', 'case $* in *" /dev/null") exit 0 ;; esac\nprintf "%s " "$@" >&2\necho >&2\n'))
+
+
+def rules_of(said):
+    return sorted(re.search(rb'--rules=(\S+) ', said).group(1).decode().split(','))
+
+
+def lists_of_rules(group, script):
+    """A list of rules is resolved into the names that tfrules takes."""
+    top = _put(group, {'a.tf': b''})
+    group.check('the ten rules of the guide, of which six are the default', (len(ALL), len(DEFAULT)), (10, 6))
+    for given, wanted in (('all', set(ALL)), ('default', set(DEFAULT)),
+                          ('default,terraform_naming_convention', set(DEFAULT) | {'terraform_naming_convention'}),
+                          ('all,-terraform_typed_variables', set(ALL) - {'terraform_typed_variables'}),
+                          ('all,-default', set(ALL) - set(DEFAULT)), ('terraform_typed_variables,-all,default', set(DEFAULT)),
+                          ('default,default,-terraform_comment_syntax', set(DEFAULT))):
+        group.check('--rules ' + given, rules_of(script('--rules', given, cwd=top, TFRULES=asked(group))[2]), sorted(wanted))
+    group.check('a rule that is not there is taken away', script('--rules', 'all,-terraform_x', cwd=top),
+                (1, b'', lines('tfrules-modules: unknown rule "terraform_x"')))
+    group.check('no rule is left', script('--rules', 'default,-all', cwd=top),
+                (1, b'', lines('tfrules-modules: no rule is left in "default,-all"')))
+    group.check('no rule is looked at without a word', script(cwd=top, TFRULES=asked(group))[2], b'-- a.tf \n')
+
+
+def config(group, script):
+    """A project's options stand in .tfrules, one a line; those of the command line go before them."""
+    text = (b'# ours\n\n  --rules   default,terraform_naming_convention  # and names\r\n--naming=mixed_snake_case\n'
+            b'\t--minimum-failure-severity error\n--force')
+    top = _put(group, {'a.tf': b'', '.tfrules': text, '-m/b.tf': b''})
+    both = ['--rules=' + ','.join(DEFAULT + ['terraform_naming_convention']), '--naming=mixed_snake_case',
+            '--minimum-failure-severity=error', '--force']
+    group.check('the options of a project', script(cwd=top, TFRULES=asked(group))[2], lines(
+        ' '.join(both + ['-- -m/b.tf ']), ' '.join(both + ['-- a.tf '])))
+    words = script('--rules', 'terraform_typed_variables', '--force', 'a.tf', cwd=top, TFRULES=asked(group))[2]
+    group.check('those of the command line go before', words, lines(
+        '--rules=terraform_typed_variables --force --naming=mixed_snake_case --minimum-failure-severity=error -- a.tf '))
+    group.check('--no-config', script('--no-config', 'a.tf', cwd=top, TFRULES=asked(group))[2], b'-- a.tf \n')
+    put(top, {'.tfrules': b'--rules terraform_documented_variables\n', 'a.tf': b'variable "n" {}\n'})
+    undescribed = report('a.tf:1:1: Notice - variable "n" has no description (terraform_documented_variables)')
+    group.check('in a real run', script('a.tf', cwd=top), (2, undescribed, b''))
+
+
+def bad_config(group, script):
+    top = _put(group, {'m/a.tf': DECLARED, 'm/in/b.tf': DECLARED, 'n/a.tf': DECLARED})
+    for text, told in (
+            (b'--force\n--bogus\n', '2: "--bogus" is no option of a project'),
+            (b'force\n', '1: "force" is no option of a project'),
+            (b'--null\n', '1: "--null" is no option of a project'),
+            (b'\n--rules terraform_typed,all\n', '2: unknown rule "terraform_typed"'),
+            (b'--rules\n', '1: --rules has no value'),
+            (b'--rules all --force\n', '1: more than one option'),
+            (b'--rules=all\n--rules=default\n', '2: --rules is given twice'),
+            (b'--naming camel', '1: unknown naming "camel"'),
+            (b'--minimum-failure-severity *\n', '1: unknown severity "*"')):
+        put(top, {'m/.tfrules': text})
+        group.check('a bad line is told once: %r' % text, script('m', 'n', cwd=top), (
+            1, unused('n/a.tf'), lines('tfrules-modules: m/.tfrules:' + told)))
+    put(top, {'m/.tfrules': b'--x\n--force\n--y\n'})
+    group.check('each bad line', script('m/in/b.tf', cwd=top), (1, b'', lines(
+        'tfrules-modules: m/.tfrules:1: "--x" is no option of a project',
+        'tfrules-modules: m/.tfrules:3: "--y" is no option of a project')))
+    group.check('not with --no-config', script('--no-config', 'm/in', cwd=top), (2, unused('m/in/b.tf'), b''))
+    (top / 'm' / '.tfrules').unlink()
+    put(top, {'m/.tfrules': b'->nowhere'})
+    group.check('one that cannot be read', script('m/a.tf', cwd=top), (
+        1, b'', lines('tfrules-modules: m/.tfrules: cannot be read')))
+
+
+def where_config_stands(group, script):
+    """In the folder of the module or the nearest above, up to the top of the repository."""
+    force, quiet = b'--force\n', b'--minimum-failure-severity error\n'
+    top = _put(group, {'.tfrules': force, 'r/.git/HEAD': b'', 'r/m/a.tf': DECLARED, 'w/m/a.tf': DECLARED})
+    group.check('not above the top of the repository', script('r/m', cwd=top)[0], 2)
+    put(top, {'r/.tfrules': force})
+    group.check('at the top of the repository', script('r/m', cwd=top)[0], 0)
+    group.check('from a folder below', script('.', cwd=top / 'r' / 'm')[0], 0)
+    group.check('without a repository, up to the current folder', script('w/m', cwd=top)[0], 0)
+    group.check('and not above it', script('m', cwd=top / 'w')[0], 2)
+    group.check('nor beside it', script('../w/m', cwd=top / 'r')[0], 2)
+    put(top, {'r/m/.tfrules': b'--rules terraform_typed_variables\n', 'r/n/a.tf': DECLARED, 'r/linked': b'->m'})
+    group.check('the nearest alone counts', script('r/m', cwd=top), (0, b'', b''))
+    group.check('each module has its own', script('r', cwd=top), (0, unused('r/n/a.tf'), b''))
+    group.check('of a linked folder that of where it leads', script('linked', cwd=top / 'r'), (0, b'', b''))
+    put(top, {'w/m/.tfrules': quiet})
+    group.check('in the folder itself', script('.', cwd=top / 'w' / 'm')[0], 0)
+
+
+def comments(group, script):
+    """Names in silencing comments that no rule has."""
+    top = _put(group, {
+        'a.tf': b'# tflint-ignore: terraform_typed_variable, all # why, so\nx = "# tflint-ignore: quoted"\n'
+                b'y = 1 //\ttflint-ignore:terraform_unused_declarations,aws_x\r\n## tflint-ignore: none\n# see tflint-ignore: a\n',
+        'x=1.tf': b'#tflint-ignore:'})
+    told = ['a.tf:1: no rule is called "terraform_typed_variable"', 'a.tf:3: no rule is called "aws_x"',
+            'x=1.tf:1: no rule is called ""']
+    said = lines(*['tfrules-modules: ' + each for each in told])
+    group.check('--check-comments', script('--check-comments', cwd=top), (2, b'', said))
+    group.check('under --force', script('--check-comments', '--force', cwd=top), (0, b'', said))
+    group.check('not without it', script(cwd=top), (0, b'', b''))
+    put(top, {'.tfrules': b'--check-comments\n'})
+    group.check('as an option of a project', script(cwd=top), (2, b'', said))
+    good = _put(group, {'a.tf': b'# tflint-ignore: %s\n' % ','.join(ALL).encode()})
+    group.check('names of rules', script('--check-comments', cwd=good), (0, b'', b''))
+
+
+def deleted(group, script):
+    """A file that was deleted stands for its folder, which may lack now what it declared or used."""
+    top = _put(group, {'m/a.tf': DECLARED, 'm/b.tf': USED, 'gone/a.tf': DECLARED, 'gone/b.tf': USED, 'n/a.tf': DECLARED,
+                       'n/b.txt': b''})
+    group.check('a name that was never there, in a folder that is', script('m/c.tf', 'm/d.tofu', cwd=top), (0, b'', b''))
+    if not group.has('git', checks=4):
+        return
+    def git(*words, **more):
+        return group.call('git', '-c', 'user.name=n', '-c', 'user.email=n@localhost', *words, cwd=top, **more)
+    for words in (['init', '-q', '-b', 'main'], ['add', '-A'], ['commit', '-q', '-m', 'x'], ['checkout', '-q', '-b', 'other'],
+                  ['rm', '-q', '-r', 'm/b.tf', 'gone', 'n/b.txt'], ['commit', '-q', '-m', 'y']):
+        git(*words)
+    diff = git('diff', '--name-only', '-z', 'main', '--', '*.tf')[1]
+    group.check('what is deleted, by its names', diff.split(b'\0'), [b'gone/a.tf', b'gone/b.tf', b'm/b.tf', b''])
+    group.check('a module of which a file was only deleted', script('--null', cwd=top, stdin=diff), (2, unused('m/a.tf'), b''))
+    group.check('a deleted file of another kind', script('n/b.txt', cwd=top), (2, unused('n/a.tf'), b''))
+    group.check('names of another folder are not those of deleted files', script('--null', cwd=top / 'm', stdin=diff), (
+        1, b'', lines(*['tfrules-modules: %s: no such file or folder' % name for name in ('gone/a.tf', 'gone/b.tf', 'm/b.tf')])))
+
+
+def side_by_side(group, script):
+    """Several modules at a time, reports in order, and no more than two processes a module."""
+    names = ['%03d/main.tf' % i for i in range(70)]
+    top = _put(group, {name: DECLARED for name in names})
+    group.check('many modules, in order', script('-j', '5', cwd=top), (2, unused(*names), b''))
+    running = group.fresh()
+    counting = group.script('t', 'case $* in */dev/null) exit 0 ;; esac\ncd "%s"; : >$$; sleep 0.4; set -- [0-9]*; '
+                                 'echo $# >>most; rm $$\n' % running)
+    some = _put(group, {'%d/a.tf' % i: b'' for i in range(4)})
+    for number, fits in (('1', {1}), ('4', {2, 3, 4})):
+        script('--jobs', number, cwd=some, TFRULES=str(counting))
+        most = max(int(count) for count in (running / 'most').read_text().split())
+        (running / 'most').unlink()
+        group.holds('%s at a time' % number, most in fits, most)
+    if group.has('strace', checks=1):
+        def processes(count):
+            here = _put(group, {'%d/a.tf' % i: DECLARED for i in range(count)})
+            log = group.fresh() / 'log'
+            group.call('strace', '-f', '-e', 'trace=process', '-o', log, *script.words, '--check-comments', '-j', '1', cwd=here,
+                       PATH=script.path)
+            return len(re.findall(r' (?:clone3?|v?fork)\(', log.read_text()))
+        group.holds('no more than two processes a module', (processes(60) - processes(20)) / 40 <= 2.3)
+
+
+def shards(group, script):
+    """Each module is in one shard, which is told by its name alone."""
+    names = ['a b/m.tf', 'm.tf', 'new\nline/m.tf', '\u00e9/m.tf'] + ['d/%d/m.tf' % i for i in range(40)]
+    top = _put(group, {name: DECLARED for name in names})
+    def reported(*words, **more):
+        return re.findall(r'(?:^|\n\n)(?!\d+ issue)((?:(?!issue\(s\))[^:])+):1:1', script(*words, cwd=top, **more)[1].decode())
+    parts = [reported('--shard', '%d/4' % k) for k in range(1, 5)]
+    group.check('every module in one shard', sorted(sum(parts, [])), sorted(names))
+    group.holds('none is empty', all(parts), parts)
+    given = b'\0'.join(name.encode() for name in reversed(names[:20])) + b'\0'
+    group.check('the same among fewer modules', [sorted(reported('--null', '--shard=%d/4' % k, stdin=given)) for k in range(1, 5)],
+                [sorted(name for name in part if name in names[:20]) for part in parts])
+    group.check('as the guide says', [k for name in names for k in range(4) if name in parts[k]],
+                [shard_of(os.path.dirname(name) or '.', 4) for name in names])
 
 
 def limits(group, script):
@@ -166,7 +343,7 @@ def failing_tools(group, script):
     done = script.group.call('sh', '-c', 'sh "$1" a >/dev/full', 'sh', script.words[1], cwd=top, PATH=script.path)
     group.check('a full device', done[0], 1)
     for tool, text in (('find', '"%s" "$@"\nexit 1\n'), ('xargs', 'exit 0\n'), ('xargs', 'exit 1\n'),
-                       ('xargs', 'case $* in *--lint*) exit 0 ;; esac\nexec "%s" "$@"\n')):
+                       ('xargs', 'case $* in *--batch*) exit 0 ;; esac\nexec "%s" "$@"\n')):
         made = group.script(tool, text.replace('%s', shutil.which(tool)))
         group.check('%s that ends so: %r' % (tool, text), script('a', cwd=top, PATH='%s:%s' % (made.parent, script.path))[0], 1)
 
