@@ -60,7 +60,7 @@ install: bin/programs
 	install -m 755 $(BUILT) "$(BIN)"
 	install -m 755 $(addprefix contrib/,$(SCRIPTS)) "$(BIN)"
 	install -m 644 $(patsubst %,man/%.1,$(COMMANDS)) "$(MAN)"
-	install -m 644 VERSION CHANGELOG.md docs/STYLE.md docs/RULES.md "$(DOC)"
+	install -m 644 VERSION CHANGELOG.md docs/STYLE.md docs/RULES.md docs/TFLINT.md docs/SCALE.md "$(DOC)"
 	install -m 644 contrib/pre-commit-config.yaml contrib/treefmt.toml "$(DOC)/examples"
 	install -m 644 contrib/ci/* "$(DOC)/examples/ci"
 	install -m 644 contrib/editors/*.* "$(DOC)/examples/editors"
@@ -70,6 +70,7 @@ install: bin/programs
 	for name in $(COMMANDS); do \
 	  install -m 644 contrib/completions/tffmt.bash "$(BASH)/$$name" && \
 	  install -m 644 contrib/completions/tffmt.fish "$(FISH)/$$name.fish" || exit 1; done
+	[ -n "$(DESTDIR)" ] || sh tools/where-shells-look "$(BASH)" "$(ZSH)" "$(FISH)"
 
 uninstall:
 	for name in $(COMMANDS); do \

@@ -1,41 +1,61 @@
-# Completion of tffmt, tfrules, tffmt-all, tffmt-hook and tfrules-modules for bash. `make install` puts it where
-# bash-completion finds it; without that, source it in ~/.bashrc.
+# Completion of tffmt, tfrules, tffmt-all, tffmt-hook, tfrules-modules and tfrules-report for bash. `make install` puts it
+# where bash-completion finds it; without that, source it in ~/.bashrc.
 
 _tffmt() {
-  local word=${COMP_WORDS[COMP_CWORD]} before=${COMP_WORDS[COMP_CWORD - 1]} options values i found
+  local word=${COMP_WORDS[COMP_CWORD]} before=${COMP_WORDS[COMP_CWORD - 1]} options='' values='' files='' first='' i found
+  local rules='terraform_comment_syntax terraform_deprecated_index terraform_deprecated_interpolation
+    terraform_documented_outputs terraform_documented_variables terraform_module_pinned_source terraform_module_version
+    terraform_naming_convention terraform_typed_variables terraform_unused_declarations'
   COMPREPLY=()
+  # `--rules=x` is three words where `=` parts words, and one where it doesn't.
+  if [[ $word == = ]]; then
+    word=
+  elif [[ $before == = ]]; then
+    before=${COMP_WORDS[COMP_CWORD - 2]}
+  elif [[ $word == --*=* ]]; then
+    before=${word%%=*} first=$before= word=${word#*=}
+  fi
   case ${1##*/} in
     tffmt) options='--check --help' ;;
-    tfrules) options='--rules --naming --minimum-failure-severity --force --help' ;;
-    tffmt-all) options='--check --diff --list --jobs --null --help --version' ;;
+    tfrules) options='--rules --naming --minimum-failure-severity --force --help' files=linted ;;
+    tffmt-all) options='--check --diff --list --jobs --shard --null --help --version' files=formatted ;;
     tffmt-hook) options='--install --help --version' ;;
-    tfrules-modules) options='--rules --naming --minimum-failure-severity --force --null --help --version' ;;
+    tfrules-modules)
+      options='--rules --naming --minimum-failure-severity --force --check-comments --no-config --shard --jobs --null --help --version'
+      files=linted ;;
+    tfrules-report) options='--format --help' ;;
   esac
   for ((i = 1; i < COMP_CWORD; i++)); do
     [[ ${COMP_WORDS[i]} != -- ]] || options=
   done
   case ${1##*/}:$before in
-    tfrules*:--rules) values='default all' ;;
+    tfrules-report:--format) values='sarif checkstyle junit gitlab json github' ;;
+    tfrules*:--rules)
+      values="default all $rules"
+      [[ $word != *,* ]] || first=$first${word%,*}, word=${word##*,} ;;
     tfrules*:--naming) values='snake_case mixed_snake_case' ;;
     tfrules*:--minimum-failure-severity) values='error warning notice' ;;
+    *:-j | *:--jobs | *:--shard) return ;;
   esac
   if [[ -n $values ]]; then
     while IFS= read -r found; do
-      COMPREPLY+=("$found")
+      COMPREPLY+=("$first$found")
     done < <(compgen -W "$values" -- "$word")
   elif [[ $word == -* && -n $options ]]; then
     while IFS= read -r found; do
       COMPREPLY+=("$found")
     done < <(compgen -W "$options" -- "$word")
-  elif [[ ${1##*/} == tfrules* || ${1##*/} == tffmt-all && $before != -j && $before != --jobs ]]; then
+  elif [[ -n $files ]]; then
     compopt -o filenames 2>/dev/null
     while IFS= read -r found; do
-      case $found in
-        *.tf | *.tfvars | *.tofu | *.tftest.hcl | *.tfmock.hcl) COMPREPLY+=("$found") ;;
+      case $files:$found in
+        *:*.tf | *:*.tofu) COMPREPLY+=("$found") ;;
+        formatted:*.tfvars | formatted:*.tftest.hcl | formatted:*.tfmock.hcl) COMPREPLY+=("$found") ;;
+        formatted:*.tfquery.hcl | formatted:*.tofutest.hcl) COMPREPLY+=("$found") ;;
         *) [[ ! -d $found ]] || COMPREPLY+=("$found") ;;
       esac
     done < <(compgen -f -- "$word")
   fi
 }
 
-complete -F _tffmt tffmt tfrules tffmt-all tffmt-hook tfrules-modules
+complete -F _tffmt tffmt tfrules tffmt-all tffmt-hook tfrules-modules tfrules-report

@@ -1,26 +1,50 @@
-# Completion of tffmt, tfrules, tffmt-all, tffmt-hook and tfrules-modules for fish.
+# Completion of tffmt, tfrules, tffmt-all, tffmt-hook, tfrules-modules and tfrules-report for fish.
+
+function __tffmt_rules
+    set -l rules default all terraform_comment_syntax terraform_deprecated_index terraform_deprecated_interpolation \
+        terraform_documented_outputs terraform_documented_variables terraform_module_pinned_source \
+        terraform_module_version terraform_naming_convention terraform_typed_variables terraform_unused_declarations
+    # what stands before the last comma stays
+    set -l before (string replace -r '^--rules=' '' -- (commandline -ct) | string match -r '.*,')
+    printf '%s\n' "$before"$rules
+end
+
+# Words that are no option are names of files, or folders on the way to them.
+function __tffmt_files
+    for file in (__fish_complete_path (commandline -ct))
+        string match -qr '(/|\.('$argv[1]'))$' -- (string split -f1 \t -- $file); and echo $file
+    end
+end
 
 complete -c tffmt -f -l check -d 'Say by the status whether standard input is formatted'
 complete -c tffmt -f -s h -l help -d 'Print the usage line'
 
-complete -c tfrules -x -l rules -a 'default all' -d 'The rules that are looked at'
-complete -c tfrules -x -l naming -a 'snake_case mixed_snake_case' -d 'How names are to be written'
-complete -c tfrules -x -l minimum-failure-severity -a 'error warning notice' -d 'Fail only where an issue is as severe'
-complete -c tfrules -l force -d 'Do not fail because of issues'
+for command in tfrules tfrules-modules
+    complete -c $command -f -a "(__tffmt_files 'tf|tofu')"
+    complete -c $command -x -l rules -a '(__tffmt_rules)' -d 'The rules that are looked at'
+    complete -c $command -x -l naming -a 'snake_case mixed_snake_case' -d 'How names are to be written'
+    complete -c $command -x -l minimum-failure-severity -a 'error warning notice' -d 'Fail only where an issue is as severe'
+    complete -c $command -l force -d 'Do not fail because of issues'
+end
 complete -c tfrules -f -s h -l help -d 'Print the usage line'
 
-complete -c tfrules-modules -x -l rules -a 'default all' -d 'The rules that are looked at'
-complete -c tfrules-modules -x -l naming -a 'snake_case mixed_snake_case' -d 'How names are to be written'
-complete -c tfrules-modules -x -l minimum-failure-severity -a 'error warning notice' -d 'Fail only where an issue is as severe'
-complete -c tfrules-modules -l force -d 'Do not fail because of issues'
+complete -c tfrules-modules -l check-comments -d 'Tell names in silencing comments that no rule has'
+complete -c tfrules-modules -l no-config -d 'Read no .tfrules'
+complete -c tfrules-modules -x -l shard -d 'Take a part of the modules, K/N'
+complete -c tfrules-modules -x -s j -l jobs -d 'Modules to lint at a time'
 complete -c tfrules-modules -f -s 0 -l null -d 'Read names from standard input'
 complete -c tfrules-modules -f -s h -l help -d 'Print help'
 complete -c tfrules-modules -f -l version -d 'Print the version'
 
+complete -c tfrules-report -x -l format -a 'sarif checkstyle junit gitlab json github' -d 'What to write'
+complete -c tfrules-report -f -s h -l help -d 'Print help'
+
+complete -c tffmt-all -f -a "(__tffmt_files 'tf|tfvars|tofu|tftest\.hcl|tfmock\.hcl|tfquery\.hcl|tofutest\.hcl')"
 complete -c tffmt-all -l check -d 'Report each file that is not formatted'
 complete -c tffmt-all -l diff -d 'Show what would change'
 complete -c tffmt-all -l list -d 'Print the names of files that would change'
 complete -c tffmt-all -x -s j -l jobs -d 'Files to work on at a time'
+complete -c tffmt-all -x -l shard -d 'Take a part of the files, K/N'
 complete -c tffmt-all -f -s 0 -l null -d 'Read names from standard input'
 complete -c tffmt-all -f -s h -l help -d 'Print help'
 complete -c tffmt-all -f -l version -d 'Print the version'

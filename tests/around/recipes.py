@@ -3,6 +3,7 @@ pages, and what `make install` installs."""
 
 import json
 import os
+import pathlib
 import re
 import shutil
 import subprocess
@@ -11,54 +12,87 @@ import xml.etree.ElementTree
 from editors import on_terminal
 from harness import BAD, GOOD, OTHER, TOP, lines, put
 
-PAGES = ['tffmt', 'tfrules', 'tffmt-all', 'tffmt-hook', 'tfrules-modules']
-SCRIPTS = PAGES[2:]
+PAGES = ['tffmt', 'tfrules', 'tffmt-all', 'tffmt-hook', 'tfrules-modules', 'tfrules-report']
+SCRIPTS = PAGES[2:5]
 
 
 # --- completions -----------------------------------------------------------------------------------------------
 
+DEPRECATED = [b'deprecated_index', b'deprecated_interpolation', b'documented_outputs', b'documented_variables']
+
+
 def completions(group):
     folder = group.contrib / 'completions'
     here = group.fresh()
-    put(here, {'good.tf': GOOD, 'text.txt': GOOD, 'in/x.tf': GOOD})
+    put(here, {'good.tf': GOOD, 'text.txt': GOOD, 'in/x.tf': GOOD, 't.tftest.hcl': GOOD, 'v.tfvars': GOOD})
     path = group.before_path(group.script('tffmt', 'exit 0\n').parent, group.contrib)
-    if group.has('bash', checks=8):
+    if group.has('bash', checks=21):
         def bash(line):
             words = line.split(' ')
             script = ('source "$1"; COMP_WORDS=(%s); COMP_CWORD=%d; _tffmt %s; printf "%%s\\n" "${COMPREPLY[@]}"'
                       % (' '.join('"%s"' % w for w in words), len(words) - 1, words[0]))
             return sorted(group.call('bash', '-c', script, 'bash', folder / 'tffmt.bash', cwd=here)[1].split())
         group.check('bash: options', bash('tffmt-all --'),
-                    [b'--check', b'--diff', b'--help', b'--jobs', b'--list', b'--null', b'--version'])
+                    [b'--check', b'--diff', b'--help', b'--jobs', b'--list', b'--null', b'--shard', b'--version'])
         group.check('bash: one option', (bash('tffmt --c'), bash('tffmt-hook --i')), ([b'--check'], [b'--install']))
-        group.check('bash: files and folders', bash('tffmt-all --check '), [b'good.tf', b'in'])
+        group.check('bash: files and folders', bash('tffmt-all --check '), [b'good.tf', b'in', b't.tftest.hcl', b'v.tfvars'])
         group.check('bash: no option behind --', bash('tffmt-all -- --'), [])
         for name in ('tfrules', 'tfrules-modules'):
             group.check('bash: ' + name, (bash(name + ' --f'), bash(name + ' --rules a'), bash(name + ' g')),
                         ([b'--force'], [b'all'], [b'good.tf']))
         group.check('bash: its own option', (bash('tfrules-modules --nu'), bash('tfrules --nu')), ([b'--null'], []))
+        for name in ('tfrules', 'tfrules-modules'):
+            group.check('bash: files of ' + name, bash(name + ' '), [b'good.tf', b'in'])
+            group.check('bash: rules of ' + name, bash(name + ' --rules terraform_d'), [b'terraform_' + rule for rule in DEPRECATED])
+            for words in ('--rules = terraform_typ', '--rules=terraform_typ'):
+                group.check('bash: %s %s' % (name, words), [w.split(b'=')[-1] for w in bash('%s %s' % (name, words))],
+                            [b'terraform_typed_variables'])
+            group.check('bash: --naming= of ' + name, bash(name + ' --naming ='), [b'mixed_snake_case', b'snake_case'])
+            group.check('bash: several rules of ' + name, bash(name + ' --rules default,terraform_n'), [b'default,terraform_naming_convention'])
+        group.check('bash: formats', bash('tfrules-report --format s'), [b'sarif'])
+        said = on_terminal(group, ['bash', '--norc', '-i'], here, PATH=path, PS1='> ', keys=[
+            (b'> ', b'source "%s"; echo rea""dy\n' % os.fsencode(str(folder / 'tffmt.bash'))),
+            (b'ready.*> ', b'tfrules --rules=terraform_ty\t'), (b'', b'\x15exit\n')])
+        group.holds('bash: --rules= on a terminal', b'tfrules --rules=terraform_typed_variables' in said, said)
         said = on_terminal(group, ['bash', '--norc', '-i'], here, PATH=path, PS1='> ', keys=[
             (b'> ', b'source "%s"; echo rea""dy\n' % os.fsencode(str(folder / 'tffmt.bash'))),
             (b'ready.*> ', b'tffmt-hook --in\t'), (b'--install', b'\x15exit\n')])
         group.holds('bash: on a terminal', b'tffmt-hook --install' in said, said)
-    if group.has('zsh', checks=5):
+    if group.has('zsh', checks=13):
         setup = b'fpath=("%s" $fpath); autoload -U compinit; compinit -u -D; print rea""dy\n' % os.fsencode(str(folder))
         for typed, wanted in ((b'tffmt-all --ch\t', b'tffmt-all --check'), (b'tffmt-hook --in\t', b'tffmt-hook --install'),
                               (b'tffmt --c\t', b'tffmt --check'), (b'tffmt-all goo\t', b'tffmt-all good.tf'),
-                              (b'tfrules-modules --nu\t', b'tfrules-modules --null')):
+                              (b'tfrules-modules --nu\t', b'tfrules-modules --null'),
+                              (b'tfrules --rules terraform_ty\t', b'tfrules --rules terraform_typed_variables'),
+                              (b'tfrules --rules=terraform_ty\t', b'tfrules --rules=terraform_typed_variables'),
+                              (b'tfrules --rules=default,terraform_n\t', b'tfrules --rules=default,terraform_naming_convention'),
+                              (b'tfrules-modules --rules ter\t', b'tfrules-modules --rules terraform_'),
+                              (b'tfrules-modules --naming=mi\t', b'tfrules-modules --naming=mixed_snake_case'),
+                              (b'tfrules --naming=\t', b'snake_case'), (b'tfrules t\t', b'tfrules t'),
+                              (b'tfrules-report --format sa\t', b'tfrules-report --format sarif')):
             said = on_terminal(group, ['zsh', '-f', '-i'], here, PATH=path, PS1='> ', keys=[
                 (b'> ', setup), (b'ready.*> ', typed), (b'', b'\x15exit\n')])
             shown = re.sub(rb'\x1b\[[0-9;?]*[a-zA-Z]|.\x08', b'', said)
-            group.holds('zsh: ' + typed.decode().strip(), wanted in shown, said)
-    if group.has('fish', checks=4):
+            group.holds('zsh: ' + typed.decode().strip(), wanted in shown and (typed != b'tfrules t\t' or b'tftest' not in shown), said)
+    if group.has('fish', checks=13):
         def fish(line):
             done = group.call('fish', '--no-config', '-c', 'source "%s"; complete -C "%s"' % (folder / 'tffmt.fish', line),
                               cwd=here)
             return sorted(each.split(b'\t')[0] for each in done[1].splitlines())
         group.check('fish: options', fish('tffmt-all --'),
-                    [b'--check', b'--diff', b'--help', b'--jobs', b'--list', b'--null', b'--version'])
+                    [b'--check', b'--diff', b'--help', b'--jobs', b'--list', b'--null', b'--shard', b'--version'])
         group.check('fish: one option', (fish('tffmt --c'), fish('tffmt-hook --i')), ([b'--check'], [b'--install']))
         group.check('fish: files', fish('tffmt-all g'), [b'good.tf'])
+        group.check('fish: files of each kind', (fish('tffmt-all '), fish('tfrules ')), (
+            [b'good.tf', b'in/', b't.tftest.hcl', b'v.tfvars'], [b'good.tf', b'in/']))
+        for name in ('tfrules', 'tfrules-modules'):
+            for words in ('--rules terraform_d', '--rules=terraform_d'):
+                group.check('fish: %s %s' % (name, words), [w.split(b'=')[-1] for w in fish('%s %s' % (name, words))],
+                            [b'terraform_' + rule for rule in DEPRECATED])
+            group.check('fish: --naming= of ' + name, [w.split(b'=')[-1] for w in fish(name + ' --naming=')],
+                        [b'mixed_snake_case', b'snake_case'])
+        group.check('fish: several rules', fish('tfrules --rules default,terraform_n'), [b'default,terraform_naming_convention'])
+        group.check('fish: formats', fish('tfrules-report --format s'), [b'sarif'])
         group.check('fish: the linter', (fish('tfrules-modules --nu'), fish('tfrules --rules a')), ([b'--null'], [b'all']))
 
 
@@ -133,11 +167,13 @@ def lint_matchers(group):
 
 
 def scripts(group):
-    if group.has('shellcheck', checks=9):
+    if group.has('shellcheck', checks=10):
         for shell in ('dash', 'bash'):
             for name in SCRIPTS + ['release/install.sh']:
                 group.check('shellcheck of %s for %s' % (name, shell), group.call(
                     'shellcheck', '-s', shell, group.contrib / name, cwd=group.top), (0, b'', b''))
+        group.check('shellcheck of where-shells-look', group.call(
+            'shellcheck', '-s', 'dash', TOP / 'tools' / 'where-shells-look', cwd=group.top), (0, b'', b''))
         group.check('shellcheck of the completion', group.call(
             'shellcheck', '-s', 'bash', group.contrib / 'completions' / 'tffmt.bash', cwd=group.top), (0, b'', b''))
 
@@ -177,6 +213,36 @@ def pages(group):
                     wanted.encode())
 
 
+def told_shells(group):
+    """Where a shell doesn't look into the folder that its completions were put in, a line says what to add; and then it
+    finds them, and nothing more is said."""
+    home = pathlib.Path(group.setting['HOME'])
+    prefix = home / 'a place'
+    setting = {'PATH': '%s:%s' % (prefix / 'bin', group.setting['PATH']), 'XDG_DATA_DIRS': '/usr/local/share:/usr/share'}
+    words = ['make', '-s', '-C', TOP, '-o', 'bin/tffmt', '-o', 'bin/tfrules', 'PREFIX=%s' % prefix, 'install']
+    status, out, err = group.call(*words, cwd=home, **setting)
+    shells = [shell for shell in ('bash', 'zsh', 'fish') if shutil.which(shell)]
+    told = dict(line.split(': ', 1) for line in out.decode().splitlines())
+    group.check('what make install says', (status, sorted(told), err), (0, sorted(shells), b''))
+    for shell, line in told.items():
+        file, added = re.match('add to ~/([a-z./]+)(?:, before compinit)?: (.*)', line).groups()
+        put(home, {file: os.fsencode(added + '\n')})
+    group.check('once it is added', group.call(*words, cwd=home, **setting), (0, b'', b''))
+    if group.has('bash'):
+        group.check('bash finds it', group.call('bash', '-c', '. ~/.bashrc; complete -p tfrules-report', cwd=home, **setting)[1],
+                    b'complete -F _tffmt tfrules-report\n')
+    if group.has('zsh'):
+        group.check('zsh finds it', group.call('zsh', '-c', '. ~/.zshrc; autoload -U compinit; compinit -u -D; print $_comps[tfrules-report]',
+                                               cwd=home, **setting)[1], b'_tffmt\n')
+    if group.has('fish'):
+        said = group.call('fish', '-c', 'complete -C "tfrules-report --fo"', cwd=home, **setting)
+        group.holds('fish finds it', said[1].startswith(b'--format'), said)
+    usual = {'bash': '/usr/share/bash-completion/completions', 'zsh': '/usr/local/share/zsh/site-functions',
+             'fish': '/usr/share/fish/vendor_completions.d'}
+    group.check('nothing of usual places', group.call('sh', TOP / 'tools' / 'where-shells-look', *usual.values(), cwd=home,
+                                                      HOME=str(group.fresh())), (0, b'', b''))
+
+
 def installing(group):
     if not os.access(str(TOP / 'bin' / 'tffmt'), os.X_OK):
         group.skip('make install', 10, 'bin/tffmt is not built')
@@ -191,7 +257,7 @@ def installing(group):
     wanted = ['bin/' + name for name in PAGES] + ['share/man/man1/%s.1' % name for name in PAGES]
     wanted += ['share/bash-completion/completions/' + name for name in PAGES]
     wanted += ['share/fish/vendor_completions.d/%s.fish' % name for name in PAGES] + ['share/zsh/site-functions/_tffmt']
-    wanted += ['share/doc/tffmt/' + name for name in ('VERSION', 'CHANGELOG.md', 'STYLE.md', 'RULES.md')]
+    wanted += ['share/doc/tffmt/' + name for name in ('VERSION', 'CHANGELOG.md', 'STYLE.md', 'RULES.md', 'TFLINT.md', 'SCALE.md')]
     examples = ['pre-commit-config.yaml', 'treefmt.toml'] + [
         str(p.relative_to(TOP / 'contrib')) for folder in ('ci', 'editors') for p in (TOP / 'contrib' / folder).rglob('*')
         if not p.is_dir()]
@@ -222,5 +288,6 @@ def installing(group):
                     lines('%s/share/man/man1/tffmt-all.1' % usr))
     else:
         group.skip('man', 1)
+    told_shells(group)
     group.check('make uninstall', (group.call(*words, 'uninstall', cwd=top), [p for p in usr.rglob('*') if not p.is_dir()]),
                 ((0, b'', b''), []))
