@@ -52,6 +52,6 @@ command! Tffmt call s:Show(s:Format())
 
 augroup tffmt
   autocmd!
-  autocmd BufWritePre *.tf,*.tfvars,*.tofu,*.tftest.hcl,*.tfmock.hcl call s:BeforeWrite()
-  autocmd BufWritePost *.tf,*.tfvars,*.tofu,*.tftest.hcl,*.tfmock.hcl call s:AfterWrite()
+  autocmd BufWritePre *.tf,*.tfvars,*.tofu,*.tftest.hcl,*.tfmock.hcl,*.tfquery.hcl,*.tofutest.hcl call s:BeforeWrite()
+  autocmd BufWritePost *.tf,*.tfvars,*.tofu,*.tftest.hcl,*.tfmock.hcl,*.tfquery.hcl,*.tofutest.hcl call s:AfterWrite()
 augroup END

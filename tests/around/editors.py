@@ -87,7 +87,7 @@ def run_vim(group):
     shown, buffer, file = edit('a.tf', OTHER)
     group.check('a file is formatted when it is written', (buffer, file), (GOOD, GOOD))
     group.holds('and Vim says that it was written', 'written' in shown, shown)
-    for name in ('a.tfvars', 'a.tofu', 'a.tftest.hcl', 'a.tfmock.hcl'):
+    for name in ('a.tfvars', 'a.tofu', 'a.tftest.hcl', 'a.tfmock.hcl', 'a.tfquery.hcl', 'a.tofutest.hcl'):
         group.check(name, edit(name, OTHER)[2], GOOD)
     group.check('a refused buffer: the message is seen in the end', edit('a.tf', BAD),
                 ('tffmt: error: 1:3: unexpected token', BAD, BAD))

@@ -124,23 +124,67 @@ def recipes(group):
         text = (contrib / 'ci' / name).read_text()
         steps = re.findall(r'^ +- (?:run: )?((?:echo|tffmt|tfrules).*)$', text, re.M)
         done = [group.call('sh', '-e', '-c', step, cwd=here, PATH=path)[0] for step in steps]
-        group.check('the steps of ' + name, done, [0] * before + [2] + [0] * before + [1])
+        group.check('the steps of ' + name, done, [0] * before + [2] + [0] * before + [1] * (2 - before))
         group.check('pass on formatted files ' + name, [
             group.call('sh', '-e', '-c', step, cwd=group.fresh(), PATH=path)[0] for step in steps], [0] * len(steps))
-    suffixes = {'tf', 'tfvars', 'tofu', 'tftest.hcl', 'tfmock.hcl'}
+    suffixes = {'tf', 'tfvars', 'tofu', 'tftest.hcl', 'tfmock.hcl', 'tfquery.hcl', 'tofutest.hcl'}
+    sharded(group, path, suffixes)
+    scanning(group, here, path)
     jobs = (contrib / 'ci' / 'gitlab.yml').read_text().split('\ntfrules:\n')
+    jobs[1:] = jobs[1].split('\ncode-quality:\n')
     gitlab = [set(re.findall(r'\*\*/\*\.([a-z.]+)', job)) for job in jobs]
+    for job in jobs:
+        group.check('when a job of GitLab runs', re.findall(r'if: (.*)', job), [
+            '$CI_PIPELINE_SOURCE == "merge_request_event"', '$CI_COMMIT_BRANCH == $CI_DEFAULT_BRANCH'])
+    kinds = [set(re.search(r'files: \\\.\((.*?)\)\$', (TOP / name).read_text()).group(1).replace('\\.', '.').split('|'))
+             for name in ('.pre-commit-hooks.yaml', 'contrib/pre-commit-config.yaml')]
+    group.check('the kinds of files for pre-commit', kinds, [suffixes] * 2)
     treefmt = set(re.findall(r'"\*\.([a-z.]+)"', (contrib / 'treefmt.toml').read_text()))
-    group.check('the kinds of files', (gitlab, treefmt), ([suffixes, {'tf', 'tofu'}], suffixes))
+    group.check('the kinds of files', (gitlab, treefmt), ([suffixes, {'tf', 'tofu'}, {'tf', 'tofu'}], suffixes))
     python = next((p for p in ('/usr/bin/python3', 'python3')
                    if subprocess.run([p, '-c', 'import yaml'], stderr=subprocess.DEVNULL).returncode == 0), None)
     if python is None:
-        group.skip('yaml', 4, 'no PyYAML')
+        group.skip('yaml', 7, 'no PyYAML')
     else:
-        for name in (contrib / 'ci' / 'github.yml', contrib / 'ci' / 'gitlab.yml', contrib / 'pre-commit-config.yaml',
+        for name in (*sorted((contrib / 'ci').glob('*.yml')), contrib / 'pre-commit-config.yaml',
                      TOP / '.pre-commit-hooks.yaml'):
             group.check('%s is YAML' % name.name, group.call(python, '-c', 'import sys, yaml; yaml.safe_load(sys.stdin)',
                                                              cwd=here, stdin=name.read_bytes()), (0, b'', b''))
+
+
+def sharded(group, path, suffixes):
+    """The jobs for very many files: what the shards say together is what one run says."""
+    if not group.has('git', checks=6):
+        return
+    here = group.fresh()
+    put(here, dict({'d%d/a.%s' % (i, kind): OTHER for i in range(8) for kind in suffixes},
+                   **{'e%d/a.tf' % i: b'variable "n" {}\n' for i in range(30)}))
+    for words in (['init', '-q'], ['add', '-A']):
+        group.call('git', *words, cwd=here)
+    for name in ('github-shards.yml', 'gitlab-shards.yml'):
+        text = (group.contrib / 'ci' / name).read_text()
+        steps = re.findall(r'^ +- (?:run: )?(git ls-files .*)$', text, re.M)
+        group.check('the kinds of files of ' + name, [set(re.findall(r"'\*\.([a-z.]+)'", step)) for step in steps],
+                    [suffixes, {'tf', 'tofu'}])
+        for step, words in zip(steps, (['tffmt-all', '--check'], ['tfrules-modules'])):
+            parts = [group.call('sh', '-e', '-c', step.replace('${{ matrix.shard }}', str(k)), cwd=here, PATH=path,
+                                CI_NODE_INDEX=str(k), CI_NODE_TOTAL='10') for k in range(1, 11)]
+            def issues(each):
+                return [line for line in (each[1] + each[2]).splitlines() if line and b'issue(s)' not in line]
+            group.check('the shards of %s and %s' % (words[0], name), sorted(line for part in parts for line in issues(part)),
+                        sorted(issues(group.call(*words, cwd=here, PATH=path))))
+
+
+def scanning(group, here, path):
+    """The steps of the job for code scanning. A module that has issues doesn't fail it, and a refused one does."""
+    step = re.search(r'run: (tfrules-report .*)', (group.contrib / 'ci' / 'github-code-scanning.yml').read_text()).group(1)
+    issues = group.fresh()
+    put(issues, {'m/a.tf': b'variable "n" {}\n'})
+    for folder, wanted, count in ((here, 1, 0), (issues, 0, 2)):
+        status = group.call('sh', '-e', '-c', step, cwd=folder, PATH=path)[0]
+        run = json.loads((folder / 'tfrules.sarif').read_text())['runs'][0]
+        group.check('code scanning', (status, len(run['results'])), (wanted, count))
+        (folder / 'tfrules.sarif').unlink()
 
 
 def lint_matchers(group):
