@@ -57,7 +57,7 @@ def run_shell(group):
     shell = group.name.split()[-1]
     if is_sh(shell):
         return
-    if not group.has(shell, checks=70):
+    if not group.has(shell, checks=84):
         return
     script = Script(group, shell)
     for part in (walk, checks, writes, links, refusals, options, names_from_input, diffs, failing_tools,

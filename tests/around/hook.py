@@ -50,7 +50,7 @@ def mend(*names):
 
 
 def run(group):
-    if group.has('git', checks=40):
+    if group.has('git', checks=70):
         for part in (first_commit, later_commits, alone, odd_names, mended, many_files, without_program, failing_tools, filters,
                      sparse, installing,
                      other_hooks, with_the_linter, command_line):

@@ -29,7 +29,7 @@ def run_shell(group):
     shell = group.name.split()[-1]
     if is_sh(shell):
         return
-    if not group.has(shell, checks=65):
+    if not group.has(shell, checks=129):
         return
     script = Script(group, shell, 'tfrules-modules')
     for part in (whole_modules, names, walk, statuses, options, lists_of_rules, config, bad_config, where_config_stands, comments,
@@ -287,7 +287,8 @@ def side_by_side(group, script):
             group.call('strace', '-f', '-e', 'trace=process', '-o', log, *script.words, '--check-comments', '-j', '1', cwd=here,
                        PATH=script.path)
             return len(re.findall(r' (?:clone3?|v?fork)\(', log.read_text()))
-        group.holds('no more than two processes a module', (processes(60) - processes(20)) / 40 <= 2.3)
+        each = (processes(60) - processes(20)) / 40
+        group.holds('no more than two processes a module', each <= 2.3, each)
 
 
 def shards(group, script):

@@ -1,5 +1,6 @@
 """The program itself, where tests/cases can't go: devices that fail, and what the documents show."""
 
+import json
 import os
 import re
 import subprocess
@@ -29,25 +30,33 @@ def run(group):
 
 
 def walk(group):
-    """The README's first walk, line by line. A line that says `refused: TEXT` must fail and say so."""
-    if not group.has('git', checks=2):
+    """The README's first walk, line by line. A line that says `refused: TEXT` or `status 2: TEXT` must fail and say so."""
+    if not group.has('git', checks=6):
         return
     text = (TOP / 'README.md').read_text(encoding='utf-8')
-    lines = re.search(r'### A first walk\n.*?```sh\n(.*?)```', text, re.S).group(1).splitlines()
+    section = text.split('### A first walk\n')[1].split('\n### ')[0]
+    lines = ''.join(re.findall(r'```sh\n(.*?)```', section, re.S)).splitlines()
     script = 'git config --global user.name n && git config --global user.email n@localhost\n'
     script += ''.join('%s || echo "failed: %d"\n' % (line.partition('#')[0].rstrip(), i) for i, line in enumerate(lines))
-    path = group.before_path(group.contrib, group.script('tffmt', 'exec %s "$@"\n' % group.program).parent)
-    del group.setting['TFFMT']
+    path = group.before_path(group.contrib, group.script('tffmt', 'exec %s "$@"\n' % group.program).parent,
+                             group.script('tfrules', 'exec %s "$@"\n' % group.linter).parent)
+    for name in ('TFFMT', 'TFFMT_ALL', 'TFRULES'):
+        del group.setting[name]
     here = group.fresh()
     status, out, err = group.call('sh', '-c', script, cwd=here, PATH=path)
-    refused = [i for i, line in enumerate(lines) if 'refused: ' in line]
+    refused = [i for i, line in enumerate(lines) if re.search('# (refused|status 2)', line)]
     group.check('what fails in the first walk', (re.findall('failed: ([0-9]+)', out.decode()), len(refused)),
-                ([str(i) for i in refused], 1))
-    wanted = lines[refused[0]].partition('refused: ')[2]
-    group.holds('says what the README says', wanted in err.decode().splitlines(), err)
+                ([str(i) for i in refused], 3))
+    for line in refused[:2]:
+        wanted = re.search('# (?:refused|status 2): (.*)', lines[line]).group(1)
+        group.holds('says what the README says', wanted in (out + err).decode().splitlines(), out + err)
+    printed = next(line for line in lines if 'the hook printed' in line).partition(' #')[0].rstrip()
+    group.holds('the hook prints the command of the README', '  ' + printed in err.decode().splitlines(), err)
     group.holds('and the formatted file is named', '\nmodules/web/main.tf\n' in out.decode(), out)
     made = group.call('git', 'log', '--format=%s', cwd=here / 'walk')[1]
-    group.check('one commit was made', made, b'Add a module\n')
+    group.check('the commits that were made', made, b'Drop its use\nAdd a variable\nAdd a module\n')
+    log = json.loads((here / 'walk' / 'tfrules.sarif').read_text())
+    group.check('SARIF was written', [each['ruleId'] for each in log['runs'][0]['results']], ['terraform_unused_declarations'])
 
 
 def readme(group):

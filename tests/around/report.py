@@ -61,7 +61,7 @@ def misses(kind, value):
 
 
 def run(group):
-    if not group.has('python3', checks=60):
+    if not group.has('python3', checks=91):
         return
     for part in (formats, odd_names, several, nothing, fingerprints, statuses, not_reports, command_line, texts, failures):
         part(group)
