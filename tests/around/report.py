@@ -61,7 +61,7 @@ def misses(kind, value):
 
 
 def run(group):
-    if not group.has('python3', checks=91):
+    if not group.has('python3', checks=92):
         return
     for part in (formats, odd_names, several, nothing, fingerprints, statuses, not_reports, command_line, texts, failures):
         part(group)
@@ -142,6 +142,9 @@ def odd_names(group):
     for form in FORMS:
         status, out, err = report(group, form, 'tfrules-modules', cwd=here)
         group.check(form + ': names', (status, sorted(read(form, out)), err), (2, sorted(wanted_of(form, issues)), b''))
+    run = json.loads(report(group, 'sarif', 'tfrules-modules', cwd=here)[1].decode())['runs'][0]
+    uris = {result['locations'][0]['physicalLocation']['artifactLocation']['uri'] for result in run['results']}
+    group.check('sarif: names as URIs', [uri for uri in uris if not re.fullmatch('[A-Za-z0-9._~/%-]+', uri)], [])
     control = group.fresh()
     put(control, {'a\x01b.tf': b'variable "n" {}\n'})
     for form in ('checkstyle', 'junit'):
