@@ -35,9 +35,10 @@ def contents(top):
 
 
 class Script:
-    """A script under one shell, which is also the `sh` that it calls; under busybox its own tools are all that there is."""
+    """A script under one shell, which is also the `sh` that it calls; under busybox its own tools, and those that are
+    named, are all that there is."""
 
-    def __init__(self, group, shell, name='tffmt-all'):
+    def __init__(self, group, shell, name='tffmt-all', besides=()):
         self.group = group
         folder = group.fresh()
         (folder / 'sh').symlink_to(shutil.which(shell))
@@ -45,6 +46,8 @@ class Script:
         if shell == 'busybox':
             for tool in set(group.call(shell, '--list', cwd='/')[1].decode().split()) - {'sh'}:
                 (folder / tool).symlink_to(shutil.which(shell))
+            for tool in filter(shutil.which, besides):
+                (folder / tool).symlink_to(shutil.which(tool))
             self.path = str(folder)
         self.words = ['sh', group.contrib / name]
 

@@ -31,7 +31,7 @@ def run_shell(group):
         return
     if not group.has(shell, checks=129):
         return
-    script = Script(group, shell, 'tfrules-modules')
+    script = Script(group, shell, 'tfrules-modules', besides=('git', 'strace'))
     for part in (whole_modules, names, walk, statuses, options, lists_of_rules, config, bad_config, where_config_stands, comments,
                  deleted, limits, names_from_input, side_by_side, shards, failing_tools, rights, signals):
         part(group, script)

@@ -263,7 +263,7 @@ def told_shells(group):
     home = pathlib.Path(group.setting['HOME'])
     prefix = home / 'a place'
     setting = {'PATH': '%s:%s' % (prefix / 'bin', group.setting['PATH']), 'XDG_DATA_DIRS': '/usr/local/share:/usr/share'}
-    words = ['make', '-s', '-C', TOP, '-o', 'bin/tffmt', '-o', 'bin/tfrules', 'PREFIX=%s' % prefix, 'install']
+    words = ['make', '-s', '-C', TOP, '-o', 'bin/programs', 'PREFIX=%s' % prefix, 'install']
     status, out, err = group.call(*words, cwd=home, **setting)
     shells = [shell for shell in ('bash', 'zsh', 'fish') if shutil.which(shell)]
     told = dict(line.split(': ', 1) for line in out.decode().splitlines())
