@@ -1,0 +1,49 @@
+//! Why something can't be done with a file or a folder.
+
+/// Why something can't be done with a file or a folder.
+#[derive(Clone, Copy, Debug, PartialEq, Eq, PartialOrd, Ord)]
+pub enum TreeFault {
+    /// The name isn't UTF-8, which the device can't take.
+    NotUtf8,
+    Missing,
+    DeadLink,
+    NotAFile,
+    Unreadable,
+    UnreadableFolder,
+    /// A link leads to links without end.
+    EndlessLink,
+    NotWritable,
+    /// No file can be made beside it.
+    NoneBeside,
+    NotWritten,
+    /// Another program changed the file after it was read.
+    Changed,
+    NotReplaced,
+    /// It was to be written in place, and has a part of the new bytes.
+    WrittenInPart,
+    ReadFailed,
+    OutOfMemory,
+}
+
+impl TreeFault {
+    /// What is said of it, after the name and a colon.
+    pub fn text(self) -> &'static str {
+        match self {
+            TreeFault::NotUtf8 => "the name isn't UTF-8",
+            TreeFault::Missing => "no such file or folder",
+            TreeFault::DeadLink => "the link leads nowhere",
+            TreeFault::NotAFile => "not a file",
+            TreeFault::Unreadable => "cannot be read",
+            TreeFault::UnreadableFolder => "the folder cannot be read",
+            TreeFault::EndlessLink => "the link cannot be followed",
+            TreeFault::NotWritable => "cannot be written",
+            TreeFault::NoneBeside => "no file can be made beside it",
+            TreeFault::NotWritten => "could not be written; left as it is",
+            TreeFault::Changed => "changed while it was read; left as it is",
+            TreeFault::NotReplaced => "cannot be replaced",
+            TreeFault::WrittenInPart => "could not be written whole",
+            TreeFault::ReadFailed => "read failed",
+            TreeFault::OutOfMemory => "out of memory",
+        }
+    }
+}

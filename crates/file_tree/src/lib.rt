@@ -1,0 +1,9 @@
+//! Folders and files by their names, on any device, and the files that names stand for.
+#![tactic(auto)]
+
+pub mod fault;
+pub mod kind;
+pub mod names;
+pub mod path;
+pub mod tree;
+pub mod walk;

@@ -1,0 +1,73 @@
+//! What files are found in, read from and written to.
+
+ghost use Rattle.std.specs.Prelude.{◌≡◌, true, false, Option, Some, OnOk, OnErr, IfOk};
+ghost use Rattle.file_tree.specs.Files.{Files, Tells, fault_of, put};
+ghost use Rattle.file_tree.specs.declared.fault.TreeFault.{TreeFault};
+ghost use Rattle.file_tree.specs.declared.fault.TreeFault.TheVariants.{ReadFailed};
+
+use crate::fault::TreeFault;
+use crate::kind::Kind;
+use hcl_source::ByteSource;
+
+/// How files are replaced.
+#[derive(Clone, Copy, Debug, PartialEq, Eq)]
+pub struct Writing {
+    /// A file beside which none can be made is written over, where it may end half written.
+    pub in_place: bool,
+    /// Each new file and its folder are on the disk before the next one is looked at.
+    pub sync: bool,
+}
+
+/// Folders and files by their names, which are bytes.
+pub trait Tree {
+    type Reader: ByteSource + Drop;
+
+    /// What the device tells of its folders and files.
+    ghost files: { Self → Files };
+
+    /// Why the last call failed, if it did.
+    ghost fault: { Self → Option TreeFault };
+
+    /// What a name stands for, links followed.
+    fn kind(&mut self, name: &[u8]) -> Result<Kind, TreeFault>
+        ensures kind { IfOk result (Tells ((files self.old).kind name.now)) }
+        ensures files { files self.new ≡ files self.old }
+        ensures fault { fault self.new ≡ fault_of result };
+
+    /// What a name stands for, a link being one.
+    fn entry_kind(&mut self, name: &[u8]) -> Result<Kind, TreeFault>
+        ensures kind { IfOk result (Tells ((files self.old).entry name.now)) }
+        ensures files { files self.new ≡ files self.old }
+        ensures fault { fault self.new ≡ fault_of result };
+
+    /// The names in a folder, in any order, each ended by NUL.
+    fn listing(&mut self, folder: &[u8]) -> Result<Vec<u8>, TreeFault>
+        ensures names { IfOk result (λ names. Tells ((files self.old).listing folder.now) names.items) }
+        ensures files { files self.new ≡ files self.old }
+        ensures fault { fault self.new ≡ fault_of result };
+
+    /// A reader of the file of this name, from its start.
+    fn reader(&mut self, name: &[u8]) -> Result<Self::Reader, TreeFault>
+        ensures fresh { IfOk result (λ r. Self.Reader.failed r ≡ false) }
+        ensures bytes { IfOk result (λ r. Self.Reader.left r ≡ (files self.old).told ((files self.old).real name.now)) }
+        ensures files { files self.new ≡ files self.old }
+        ensures fault { fault self.new ≡ fault_of result };
+
+    /// Takes a reader back after its last read. A reader that failed is a fault of this call.
+    fn give_back(&mut self, reader: Self::Reader)
+        ensures files { files self.new ≡ files self.old }
+        ensures fault { Self.Reader.failed reader ≡ true → fault self.new ≡ Some ReadFailed };
+
+    /// Puts new bytes in place of the old ones, all or none: where that fails, or the file has other bytes by now, it stays
+    /// as it is.
+    fn replace(
+        &mut self,
+        name: &[u8],
+        old: &[u8],
+        new: &[u8],
+        writing: Writing,
+    ) -> Result<(), TreeFault>
+        ensures ok { OnOk result (files self.new ≡ put (files self.old) ((files self.old).real name.now) new.now) }
+        ensures err { OnErr result (files self.new ≡ files self.old) }
+        ensures fault { fault self.new ≡ fault_of result };
+}
