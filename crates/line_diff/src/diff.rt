@@ -3,7 +3,7 @@
 use itoa::Buffer;
 use std::alloc::{AllocError, Global};
 
-/// How many lines stand round a change.
+/// How many lines stand around a change.
 const AROUND: usize = 3;
 
 /// Adds bytes.
@@ -44,7 +44,7 @@ fn lines_of<'a>(alloc: Global, text: &'a [u8]) -> Result<Vec<&'a [u8]>, AllocErr
     Ok(lines)
 }
 
-/// The line of this number, or nothing behind the last.
+/// The line of this number, or nothing after the last.
 fn line_at<'a>(lines: &[&'a [u8]], number: usize) -> &'a [u8] {
     if number < lines.len() {
         return lines[number];

@@ -1,0 +1,356 @@
+-- What a run may make of a file, one look after the other.
+use Rattle.std.proofs.Common.{◌≡◌, ◌∙◌, ◌≤◌, ◌++◌, ◌⊎◌, ◌<◌, ℕ, Bool, true, false, List, [], Option, Some, None, refl, sym, ap, subst, inl, inr, length, append-nil, arith, ⊎_elim, cond}
+use Rattle.std.specs.Prelude.{Result, Ok, Err, option_map, if◌then◌else◌}
+use Rattle.std.specs.Str.{bytes_eq}
+use Rattle.std.proofs.lemmas.Slice.Eq.{bytes_eq-Decides}
+use Rattle.std.specs.Io.KnownBytes.{Consumes, IsAtEnd}
+use Rattle.hcl_source.specs.Load.{max_source, IsText, IsLoadFault, Loads, is_failed_load}
+use Rattle.hcl_source.specs.declared.fault.Fault.{Fault}
+use Rattle.hcl_source.specs.declared.fault.LoadError.{LoadError}
+use Rattle.hcl_source.specs.declared.fault.LoadError.TheVariants as error
+use Rattle.hcl_tokens.specs.Scanned.{Scanned}
+use Rattle.hcl_grammar.specs.Classes.{lookaheads}
+use Rattle.hcl_grammar.specs.Predictor.{refusal_of}
+use Rattle.hcl_grammar.specs.Verdict.{IsAccepted, fault_at, verdict, verdict_by}
+use Rattle.hcl_grammar.specs.declared.refusal.Refusal.{Refusal}
+use Rattle.hcl_source.proofs.LoadLemmas.{text_or_fault, too_large_too}
+use Rattle.hcl_tokens.specs.Lexemes.{Lexeme}
+use Rattle.hcl_tokens.specs.Scans.{Scans}
+use Rattle.hcl_tokens.proofs.RunLemmas.{no_fault, one_scan}
+use Rattle.std.specs.Prelude.{All, get_or, take, ◌+◌}
+use Rattle.std.proofs.lemmas.List.Elements.{All-more, All-weaker}
+use Rattle.hcl_scan.proofs.SpellingLemmas.{one_kind, nonempty}
+use Rattle.hcl_layout.specs.Print.{print}
+use Rattle.hcl_layout.specs.Reprinted.{printed_tokens}
+use Rattle.hcl_layout.proofs.PlaceLemmas.{print_again}
+use Rattle.hcl_layout.proofs.RescanLemmas.{scans_again}
+use Rattle.file_tree.specs.Files.{Files, Name, Tells, put}
+use Rattle.file_tree.specs.declared.fault.TreeFault.{TreeFault}
+use Rattle.file_tree.specs.declared.fault.TreeFault.TheVariants.{OutOfMemory, ReadFailed}
+use Rattle.file_tree.specs.declared.tree.Writing.{Writing}
+use Rattle.tree_format.specs.Format.{IsFault, IsFormat}
+use Rattle.tree_format.specs.Looks.{Changes, IsReal, Left, Looks, Visits}
+use Rattle.tree_format.specs.Runs.{IsSafe, Kept, Settled, is_failed}
+use Rattle.tree_format.specs.Inner.Steps.{LoadsFile, Makes, outcome_by}
+use Rattle.tree_format.specs.declared.mode.Mode.{Mode}
+use Rattle.tree_format.specs.declared.mode.Mode.TheVariants.{Write, Check, List as Listed, Diff}
+use Rattle.tree_format.specs.declared.outcome.Outcome.{Outcome}
+use Rattle.tree_format.specs.declared.outcome.Outcome.TheVariants as outcome
+
+-- ---- formatted once, formatted for good
+
+pub format_once : (x y z : List ℕ) → IsFormat x y → IsFormat y z → z ≡ y
+format_once x y z f g =
+    let again : Scans y (printed_tokens f.tokens) = subst (λ l. Scans l (printed_tokens f.tokens)) (sym f.printed) (scans_again x f.tokens f.scanned) in
+    g.printed ∙ ap print (one_scan one_kind nonempty y g.tokens (printed_tokens f.tokens) g.scanned again) ∙ print_again f.tokens ∙ sym f.printed
+
+-- ---- runs one behind the other
+
+pub kept_same : (mode : Mode) (a b : Option (List ℕ)) → b ≡ a → Kept mode a b
+kept_same (Write w) None b e = e
+kept_same (Write w) (Some x) b e = inl e
+kept_same Check a b e = e
+kept_same Listed a b e = e
+kept_same Diff a b e = e
+
+kept_on : (w : Writing) (x y : List ℕ) (c : Option (List ℕ)) → IsFormat x y → Kept (Write w) (Some y) c → Kept (Write w) (Some x) c
+kept_on w x y c f (inl e) = inr (y, f, e)
+kept_on w x y c f (inr (z, g, e)) = inr (y, f, e ∙ ap (λ l. Some l) (format_once x y z f g))
+
+pub kept_trans : (mode : Mode) (a b c : Option (List ℕ)) → Kept mode a b → Kept mode b c → Kept mode a c
+kept_trans (Write w) None b c e k = subst (λ o. Kept (Write w) o c) e k
+kept_trans (Write w) (Some x) b c (inl e) k = subst (λ o. Kept (Write w) o c) e k
+kept_trans (Write w) (Some x) b c (inr (y, f, e)) k = kept_on w x y c f (subst (λ o. Kept (Write w) o c) e k)
+kept_trans Check a b c e k = k ∙ e
+kept_trans Listed a b c e k = k ∙ e
+kept_trans Diff a b c e k = k ∙ e
+
+-- ---- one look
+
+written : (w : Writing) (a : Option (List ℕ)) (bytes formatted : List ℕ) → Tells a bytes → IsFormat bytes formatted → Kept (Write w) a (option_map (λ _. formatted) a)
+written w None bytes formatted t f = refl
+written w (Some x) bytes formatted t f = inr (formatted, subst (λ l. IsFormat l formatted) (sym t) f, refl)
+
+put_kept : (w : Writing) (old : Files) (name bytes formatted other : List ℕ) → Tells (old.told name) bytes → IsFormat bytes formatted
+    → Kept (Write w) (old.told other) ((put old name formatted).told other)
+put_kept w old name bytes formatted other t f = by (bytes_eq other name) refl
+  where
+    by : (v : Bool) → bytes_eq other name ≡ v → Kept (Write w) (old.told other) (if v then option_map (λ _. formatted) (old.told other) else old.told other)
+    by true e = written w (old.told other) bytes formatted (subst (λ n. Tells (old.told n) bytes) (sym ((bytes_eq-Decides other name).0 e)) t) f
+    by false e = kept_same (Write w) (old.told other) (old.told other) refl
+
+same_told : (old new : Files) (other : Name) → new ≡ old → new.told other ≡ old.told other
+same_told old new other e = ap (λ (f : Files). f.told other) e
+
+left_kept : (mode : Mode) (old new : Files) (name bytes formatted other : List ℕ) → Tells (old.told name) bytes → IsFormat bytes formatted → Left mode old new name formatted
+    → Kept mode (old.told other) (new.told other)
+left_kept (Write w) old new name bytes formatted other t f l =
+    subst (λ (files : Files). Kept (Write w) (old.told other) (files.told other)) (sym l) (put_kept w old name bytes formatted other t f)
+left_kept Check old new name bytes formatted other t f l = same_told old new other l
+left_kept Listed old new name bytes formatted other t f l = same_told old new other l
+left_kept Diff old new name bytes formatted other t f l = same_told old new other l
+
+unmoved : (mode : Mode) (old new : Files) (other : Name) → new ≡ old → Kept mode (old.told other) (new.told other)
+unmoved mode old new other e = kept_same mode (old.told other) (new.told other) (same_told old new other e)
+
+pub visit_kept : (mode : Mode) (old new : Files) (last : Option TreeFault) (name : Name) (answer : Outcome) → Visits mode old new last name answer → (other : Name)
+    → Kept mode (old.told other) (new.told other)
+visit_kept mode old new last name outcome.Formatted v other = unmoved mode old new other v.2.1
+visit_kept mode old new last name outcome.Changed v other = left_kept mode old new name v.0 v.2.formatted other v.1 v.2.is v.2.left
+visit_kept mode old new last name (outcome.Differs text) v other = unmoved mode old new other v.2.1.left
+visit_kept mode old new last name (outcome.Refused fault) v other = unmoved mode old new other v.2.1
+visit_kept mode old new last name (outcome.Failed fault) v other = unmoved mode old new other v.0
+
+same_real : (old new : Files) (other : Name) → new ≡ old → new.real other ≡ old.real other
+same_real old new other e = ap (λ (f : Files). f.real other) e
+
+left_real : (mode : Mode) (old new : Files) (name formatted other : List ℕ) → Left mode old new name formatted → new.real other ≡ old.real other
+left_real (Write w) old new name formatted other l = ap (λ (f : Files). f.real other) l
+left_real Check old new name formatted other l = same_real old new other l
+left_real Listed old new name formatted other l = same_real old new other l
+left_real Diff old new name formatted other l = same_real old new other l
+
+-- where names lead, no look changes
+pub visit_real : (mode : Mode) (old new : Files) (last : Option TreeFault) (name : Name) (answer : Outcome) → Visits mode old new last name answer → (other : Name)
+    → new.real other ≡ old.real other
+visit_real mode old new last name outcome.Formatted v other = same_real old new other v.2.1
+visit_real mode old new last name outcome.Changed v other = left_real mode old new name v.2.formatted other v.2.left
+visit_real mode old new last name (outcome.Differs text) v other = same_real old new other v.2.1.left
+visit_real mode old new last name (outcome.Refused fault) v other = same_real old new other v.2.1
+visit_real mode old new last name (outcome.Failed fault) v other = same_real old new other v.0
+
+-- ---- other files than the one that is looked at
+
+elsewhere : (old : Files) (name formatted other : List ℕ) → ((other ≡ name) → ⊥) → (put old name formatted).told other ≡ old.told other
+elsewhere old name formatted other ne = by (bytes_eq other name) refl
+  where
+    by : (v : Bool) → bytes_eq other name ≡ v → (if v then option_map (λ _. formatted) (old.told other) else old.told other) ≡ old.told other
+    by true e = absurd (ne ((bytes_eq-Decides other name).0 e))
+    by false e = refl
+
+left_elsewhere : (mode : Mode) (old new : Files) (name formatted other : List ℕ) → Left mode old new name formatted → ((other ≡ name) → ⊥) → new.told other ≡ old.told other
+left_elsewhere (Write w) old new name formatted other l ne = ap (λ (f : Files). f.told other) l ∙ elsewhere old name formatted other ne
+left_elsewhere Check old new name formatted other l ne = same_told old new other l
+left_elsewhere Listed old new name formatted other l ne = same_told old new other l
+left_elsewhere Diff old new name formatted other l ne = same_told old new other l
+
+pub visit_elsewhere : (mode : Mode) (old new : Files) (last : Option TreeFault) (name : Name) (answer : Outcome) → Visits mode old new last name answer → (other : Name)
+    → ((other ≡ name) → ⊥) → new.told other ≡ old.told other
+visit_elsewhere mode old new last name outcome.Formatted v other ne = same_told old new other v.2.1
+visit_elsewhere mode old new last name outcome.Changed v other ne = left_elsewhere mode old new name v.2.formatted other v.2.left ne
+visit_elsewhere mode old new last name (outcome.Differs text) v other ne = same_told old new other v.2.1.left
+visit_elsewhere mode old new last name (outcome.Refused fault) v other ne = same_told old new other v.2.1
+visit_elsewhere mode old new last name (outcome.Failed fault) v other ne = same_told old new other v.0
+
+-- ---- the bytes of a file that was read
+
+tells_all : (left left' : Option (List ℕ)) (bytes : List ℕ) → Consumes left left' bytes → IsAtEnd left' → Tells left bytes
+tells_all None left' bytes taken done = tt
+tells_all (Some xs) None bytes taken done = absurd taken
+tells_all (Some xs) (Some ys) bytes taken done = taken ∙ ap (λ l. bytes ++ l) done ∙ append-nil bytes
+
+pub text_told : (told left left' : Option (List ℕ)) (bytes text : List ℕ) → left ≡ told → Consumes left left' bytes → Loads bytes left' (Ok text) → Tells told text × IsText text
+text_told told left left' bytes text same taken l =
+    (subst (λ t. Tells t text) same (subst (Tells left) (sym l.0) (tells_all left left' bytes taken l.2)), subst IsText (sym l.0) l.1)
+
+pub fault_told : (told left left' : Option (List ℕ)) (bytes : List ℕ) (fault : Fault) → left ≡ told → Consumes left left' bytes → IsLoadFault bytes fault → (length bytes ≤ max_source → IsAtEnd left')
+    → (whole : List ℕ) × Tells told whole × IsLoadFault whole fault
+fault_told told left left' bytes fault same taken x done = subst (λ t. (whole : List ℕ) × Tells t whole × IsLoadFault whole fault) same (by left left' taken done)
+  where
+    below : (a b : ℕ) → (a ≤ b) ⊎ (b < a)
+    below a b = grind arith
+
+    by : (l l' : Option (List ℕ)) → Consumes l l' bytes → (length bytes ≤ max_source → IsAtEnd l') → (whole : List ℕ) × Tells l whole × IsLoadFault whole fault
+    by None l' t d = (bytes, tt, x)
+    by (Some xs) None t d = absurd t
+    by (Some xs) (Some ys) t d =
+        ⊎_elim (λ le. (xs, refl, subst (λ l. IsLoadFault l fault) (sym (t ∙ ap (λ l. bytes ++ l) (d le) ∙ append-nil bytes)) x))
+        (λ gt. (xs, refl, subst (λ l. IsLoadFault l fault) (sym t) (too_large_too bytes ys fault gt x)))
+        (below (length bytes) max_source)
+
+pub loads_told : (told left left' : Option (List ℕ)) (last : Option TreeFault) (bytes : List ℕ) (loaded : Result (List ℕ) LoadError) (answer : Result (List ℕ) Outcome)
+    → answer ≡ outcome_by loaded → left ≡ told → Consumes left left' bytes → Loads bytes left' loaded → (is_failed_load loaded ≡ true → last ≡ Some ReadFailed)
+    → LoadsFile told last answer
+loads_told told left left' last bytes loaded answer is same taken l failed = subst (LoadsFile told last) (sym is) (by loaded l failed)
+  where
+    by : (loaded : Result (List ℕ) LoadError) → Loads bytes left' loaded → (is_failed_load loaded ≡ true → last ≡ Some ReadFailed) → LoadsFile told last (outcome_by loaded)
+    by (Ok text) l failed = text_told told left left' bytes text same taken l
+    by (Err (error.Fault fault)) l failed = fault_told told left left' bytes fault same taken l.0 l.1
+    by (Err error.ReadFailed) l failed = failed refl
+    by (Err error.OutOfMemory) l failed = tt
+
+-- ---- accepted tokens of a text
+
+module _ (mode : Mode) (old new : Files) (last : Option TreeFault) (name : Name) where
+  looks_by : (s : Scanned) (answer : Outcome) → IsText s.text → Scans s.text s.tokens → IsAccepted s.tokens → Makes mode old new last name s answer → Looks mode old new last name s.text answer
+  looks_by s outcome.Formatted is scans accepted m =
+      (record { text = is; tokens = s.tokens; scanned = scans; accepted = accepted; printed = sym m.0; fits = is.small }, m.1)
+  looks_by s outcome.Changed is scans accepted m = record {
+    formatted = print s.tokens;
+    is = record { text = is; tokens = s.tokens; scanned = scans; accepted = accepted; printed = refl; fits = m.1 };
+    changed = m.0;
+    left = m.2;
+  }
+  looks_by s (outcome.Differs text) is scans accepted m = (
+    m.0,
+    record {
+      formatted = print s.tokens;
+      is = record { text = is; tokens = s.tokens; scanned = scans; accepted = accepted; printed = refl; fits = m.2 };
+      changed = m.1;
+      left = m.3;
+    },
+  )
+  looks_by s (outcome.Refused fault) is scans accepted m = (inr (is, inr (s.tokens, scans, inr (accepted, m.0, m.1))), m.2)
+  looks_by s (outcome.Failed fault) is scans accepted m = m
+
+  not_ok : (s : Scanned) (f : Fault) → (Ok s ≡ Err f) → ⊥
+  not_ok s f e = cc
+
+  abbrev ok_or : Scanned → Result Scanned Fault → Scanned
+  ok_or s (Ok u) = u
+  ok_or s (Err f) = s
+
+  pub makes_looks : (s accepted : Scanned) (answer : Outcome) → IsText s.text → Scans s.text s.tokens → Ok accepted ≡ verdict s → Makes mode old new last name accepted answer → Looks mode old new last name s.text answer
+  makes_looks s accepted answer is scans v m = by (refusal_of (lookaheads s.tokens)) refl v
+    where
+      by : (r : Option Refusal) → refusal_of (lookaheads s.tokens) ≡ r → Ok accepted ≡ verdict_by s r → Looks mode old new last name s.text answer
+      by None e h = looks_by s answer is scans e (subst (λ (t : Scanned). Makes mode old new last name t answer) (ap (ok_or accepted) h) m)
+      by (Some r) e h = absurd (not_ok accepted (fault_at s r) h)
+
+  pub text_looks : (text : List ℕ) (s accepted : Scanned) (answer : Outcome) → s.text ≡ text → IsText text → Scans text s.tokens → Ok accepted ≡ verdict s → Makes mode old new last name accepted answer → Looks mode old new last name text answer
+  text_looks text s accepted answer same is scans v m =
+      subst (λ t. Looks mode old new last name t answer) same
+      (makes_looks s accepted answer (subst IsText (sym same) is) (subst (λ t. Scans t s.tokens) (sym same) scans) v m)
+
+-- ---- a look at a file that was read, or wasn't
+
+visits_by : (mode : Mode) (old new : Files) (last : Option TreeFault) (name text : List ℕ) (answer : Outcome) → Tells (old.told name) text → Looks mode old new last name text answer
+    → Visits mode old new last name answer
+visits_by mode old new last name text outcome.Formatted t l = (text, t, l)
+visits_by mode old new last name text outcome.Changed t l = (text, t, l)
+visits_by mode old new last name text (outcome.Differs shown) t l = (text, t, l)
+visits_by mode old new last name text (outcome.Refused fault) t l = (text, t, l)
+visits_by mode old new last name text (outcome.Failed fault) t l = l
+
+pub visits_loaded : (mode : Mode) (old mid new : Files) (last : Option TreeFault) (name text : List ℕ) (answer : Outcome) → mid ≡ old → Tells (old.told (old.real name)) text
+    → Looks mode mid new last (mid.real name) text answer → Visits mode old new last (old.real name) answer
+visits_loaded mode old mid new last name text answer same t l =
+    visits_by mode old new last (old.real name) text answer t (subst (λ (files : Files). Looks mode files new last (files.real name) text answer) same l)
+
+pub visits_unloaded : (mode : Mode) (old new : Files) (last : Option TreeFault) (name : List ℕ) (answer : Outcome) → new ≡ old → LoadsFile (old.told name) last (Err answer)
+    → Visits mode old new last name answer
+visits_unloaded mode old new last name outcome.Formatted same l = absurd l
+visits_unloaded mode old new last name outcome.Changed same l = absurd l
+visits_unloaded mode old new last name (outcome.Differs shown) same l = absurd l
+visits_unloaded mode old new last name (outcome.Refused fault) same l = (l.0, l.1, (inl l.2, same))
+visits_unloaded mode old new last name (outcome.Failed fault) same l = (same, l)
+
+-- ---- nothing is left to do
+
+refused_here : (s : Scanned) (f : Fault) → verdict s ≡ Err f → IsAccepted s.tokens → ⊥
+refused_here s f e accepted = absurd (no (ap (verdict_by s) (sym accepted) ∙ e))
+  where
+    no : Ok s ≡ Err f → ⊥
+    no h = cc
+
+pub no_format : (x y : List ℕ) (f : Fault) → IsFault x f → IsFormat x y → ⊥
+no_format x y f (inl l) g = text_or_fault x f g.text l
+no_format x y f (inr (is, inl l)) g = no_fault one_kind nonempty x g.tokens f.kind l.0 g.scanned l.1
+no_format x y f (inr (is, inr (ts, scans, inl v))) g =
+    refused_here (record { text = x; tokens = ts }) f v (subst IsAccepted (one_scan one_kind nonempty x g.tokens ts g.scanned scans) g.accepted)
+no_format x y f (inr (is, inr (ts, scans, inr l))) g =
+    let same : length y ≡ length (print ts) = ap length g.printed ∙ ap (λ us. length (print us)) (one_scan one_kind nonempty x g.tokens ts g.scanned scans) in
+    omega (arith, same, l.1, g.fits)
+
+settled_on : (w : Writing) (x y : List ℕ) (c : Option (List ℕ)) → IsFormat x y → Kept (Write w) (Some y) c → Settled (Write w) (Some x) c
+settled_on w x y c f (inl e) = inl (y, f, e)
+settled_on w x y c f (inr (z, g, e)) = inl (y, f, e ∙ ap (λ l. Some l) (format_once x y z f g))
+
+refused_on : (w : Writing) (x : List ℕ) (c : Option (List ℕ)) (f : Fault) → IsFault x f → Kept (Write w) (Some x) c → Settled (Write w) (Some x) c
+refused_on w x c f is (inl e) = inr (f, is, e)
+refused_on w x c f is (inr (z, g, e)) = absurd (no_format x z f is g)
+
+pub settled_kept : (mode : Mode) (a b c : Option (List ℕ)) → Settled mode a b → Kept mode b c → Settled mode a c
+settled_kept (Write w) None b c s k = tt
+settled_kept (Write w) (Some x) b c (inl (y, f, e)) k = settled_on w x y c f (subst (λ o. Kept (Write w) o c) e k)
+settled_kept (Write w) (Some x) b c (inr (f, is, e)) k = refused_on w x c f is (subst (λ o. Kept (Write w) o c) e k)
+settled_kept Check a b c s k = tt
+settled_kept Listed a b c s k = tt
+settled_kept Diff a b c s k = tt
+
+own_format : (w : Writing) (a b : Option (List ℕ)) (bytes y : List ℕ) → Tells a bytes → IsFormat bytes y → b ≡ option_map (λ _. y) a → Settled (Write w) a b
+own_format w None b bytes y t f e = tt
+own_format w (Some x) b bytes y t f e = inl (y, subst (λ l. IsFormat l y) (sym t) f, e)
+
+same_format : (w : Writing) (a b : Option (List ℕ)) (bytes : List ℕ) → Tells a bytes → IsFormat bytes bytes → b ≡ a → Settled (Write w) a b
+same_format w None b bytes t f e = tt
+same_format w (Some x) b bytes t f e = inl (x, subst (λ l. IsFormat l l) (sym t) f, e)
+
+own_fault : (w : Writing) (a b : Option (List ℕ)) (bytes : List ℕ) (fault : Fault) → Tells a bytes → IsFault bytes fault → b ≡ a → Settled (Write w) a b
+own_fault w None b bytes fault t f e = tt
+own_fault w (Some x) b bytes fault t f e = inr (fault, subst (λ l. IsFault l fault) (sym t) f, e)
+
+put_here : (old : Files) (name bytes : List ℕ) → (put old name bytes).told name ≡ option_map (λ _. bytes) (old.told name)
+put_here old name bytes = ap (λ b. if b then option_map (λ _. bytes) (old.told name) else old.told name) ((bytes_eq-Decides name name).1 refl)
+
+visit_writes : (w : Writing) (old new : Files) (last : Option TreeFault) (name : Name) (answer : Outcome) → Visits (Write w) old new last name answer → is_failed answer ≡ false
+    → Settled (Write w) (old.told name) (new.told name)
+visit_writes w old new last name outcome.Formatted v good = same_format w (old.told name) (new.told name) v.0 v.1 v.2.0 (same_told old new name v.2.1)
+visit_writes w old new last name outcome.Changed v good =
+    own_format w (old.told name) (new.told name) v.0 v.2.formatted v.1 v.2.is (ap (λ (f : Files). f.told name) v.2.left ∙ put_here old name v.2.formatted)
+visit_writes w old new last name (outcome.Differs text) v good = absurd (no v.2.0)
+  where
+    no : Write w ≡ Diff → ⊥
+    no h = cc
+visit_writes w old new last name (outcome.Refused fault) v good = own_fault w (old.told name) (new.told name) v.0 fault v.1 v.2.0 (same_told old new name v.2.1)
+visit_writes w old new last name (outcome.Failed fault) v good = absurd (no good)
+  where
+    no : true ≡ false → ⊥
+    no h = cc
+
+pub visit_settled : (mode : Mode) (old new : Files) (last : Option TreeFault) (name : Name) (answer : Outcome) → Visits mode old new last name answer → is_failed answer ≡ false
+    → Settled mode (old.told name) (new.told name)
+visit_settled (Write w) old new last name answer v good = visit_writes w old new last name answer v good
+visit_settled Check old new last name answer v good = tt
+visit_settled Listed old new last name answer v good = tt
+visit_settled Diff old new last name answer v good = tt
+
+-- one file more, of the files of these names
+module _ {X : Type 0} (mode : Mode) (name : X → List ℕ) (first old new : Name → Option (List ℕ)) (kept : (n : Name) → Kept mode (old n) (new n)) where
+  pub all_settled : (xs : List X) (i : ℕ) (x : X) → i < length xs → All (λ x. Settled mode (first (name x)) (old (name x))) (take i xs)
+      → Settled mode (first (name (get_or xs i x))) (new (name (get_or xs i x))) → All (λ x. Settled mode (first (name x)) (new (name x))) (take (i + 1) xs)
+  all_settled xs i x lt all here =
+      All-more (λ x. Settled mode (first (name x)) (new (name x))) xs i x lt
+      (All-weaker (λ x. Settled mode (first (name x)) (old (name x))) (λ x. Settled mode (first (name x)) (new (name x))) (λ x s. settled_kept mode (first (name x)) (old (name x)) (new (name x)) s (kept (name x))) (take i xs) all)
+      here
+
+pub settled_after : (mode : Mode) (a b c : Option (List ℕ)) → Kept mode a b → Settled mode b c → Settled mode a c
+settled_after (Write w) None b c k s = tt
+settled_after (Write w) (Some x) b c (inl e) s = subst (λ o. Settled (Write w) o c) e s
+settled_after (Write w) (Some x) b c (inr (y, f, e)) s = by (subst (λ o. Settled (Write w) o c) e s)
+  where
+    by : Settled (Write w) (Some y) c → Settled (Write w) (Some x) c
+    by (inl (z, g, h)) = inl (y, f, h ∙ ap (λ l. Some l) (format_once x y z f g))
+    by (inr (fault, is, h)) = inl (y, f, h)
+settled_after Check a b c k s = tt
+settled_after Listed a b c k s = tt
+settled_after Diff a b c k s = tt
+
+-- ---- whole runs
+
+-- a run over files of which a walk changed nothing
+pub kept_from : (mode : Mode) (old mid new : Files) → mid ≡ old → ((name : Name) → Kept mode (mid.told name) (new.told name)) → (name : Name) → Kept mode (old.told name) (new.told name)
+kept_from mode old mid new same k name = subst (λ (files : Files). Kept mode (files.told name) (new.told name)) same (k name)
+
+pub kept_still : (mode : Mode) (old new : Files) → new ≡ old → (name : Name) → Kept mode (old.told name) (new.told name)
+kept_still mode old new same name = unmoved mode old new name same
+
+pub safe_same : (a b : Option (List ℕ)) → b ≡ a → IsSafe a b
+safe_same None b e = e
+safe_same (Some x) b e = inl e
+
+pub safe_kept : (mode : Mode) (a b : Option (List ℕ)) → Kept mode a b → IsSafe a b
+safe_kept (Write w) a b k = k
+safe_kept Check a b k = safe_same a b k
+safe_kept Listed a b k = safe_same a b k
+safe_kept Diff a b k = safe_same a b k

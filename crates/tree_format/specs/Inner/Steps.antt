@@ -1,0 +1,55 @@
+-- One look at a file, step by step.
+use Rattle.std.specs.Prelude.{◌≡◌, ◌≢◌, ◌≤◌, ◌<◌, ℕ, List, Option, Result, Ok, Err, length}
+use Rattle.hcl_source.specs.Load.{max_source, IsText, IsLoadFault}
+use Rattle.hcl_source.specs.declared.fault.LoadError.{LoadError}
+use Rattle.hcl_source.specs.declared.fault.LoadError.TheVariants as error
+use Rattle.hcl_tokens.specs.Scanned.{Scanned}
+use Rattle.hcl_tokens.specs.declared.token.ScanError.{ScanError}
+use Rattle.hcl_tokens.specs.declared.token.ScanError.TheVariants as scan_error
+use Rattle.hcl_layout.specs.Print.{print}
+use Rattle.tree_format.specs.Looks.{IsReal, Left}
+use Rattle.tree_format.specs.Format.{too_large}
+use Rattle.file_tree.specs.Files.{Files, Name, Tells}
+use Rattle.file_tree.specs.declared.fault.TreeFault.{TreeFault}
+use Rattle.tree_format.specs.declared.mode.Mode.{Mode}
+use Rattle.tree_format.specs.declared.mode.Mode.TheVariants.{Diff}
+use Rattle.tree_format.specs.declared.outcome.Outcome.{Outcome}
+use Rattle.tree_format.specs.declared.outcome.Outcome.TheVariants as outcome
+use Rattle.file_tree.specs.declared.fault.TreeFault.TheVariants.{ReadFailed, OutOfMemory}
+
+-- what a loaded text is for a look
+abbrev pub outcome_by : Result (List ℕ) LoadError → Result (List ℕ) Outcome
+outcome_by (Ok text) = Ok text
+outcome_by (Err (error.Fault fault)) = Err (outcome.Refused fault)
+outcome_by (Err error.ReadFailed) = Err (outcome.Failed ReadFailed)
+outcome_by (Err error.OutOfMemory) = Err (outcome.Failed OutOfMemory)
+
+-- what the error of a scan is for a look
+abbrev pub outcome_of_scan : ScanError → Outcome
+outcome_of_scan (scan_error.Fault fault) = outcome.Refused fault
+outcome_of_scan scan_error.OutOfMemory = outcome.Failed OutOfMemory
+
+-- what loading a file answers, of which the device tells these bytes, and the fault of the device's last call
+abbrev pub LoadsFile : Option (List ℕ) → Option TreeFault → Result (List ℕ) Outcome → Type 0
+LoadsFile told last (Ok text) = Tells told text × IsText text
+LoadsFile told last (Err (outcome.Refused fault)) = (bytes : List ℕ) × Tells told bytes × IsLoadFault bytes fault
+LoadsFile told last (Err (outcome.Failed fault)) = IsReal fault last
+LoadsFile told last (Err outcome.Formatted) = ⊥
+LoadsFile told last (Err outcome.Changed) = ⊥
+LoadsFile told last (Err (outcome.Differs text)) = ⊥
+
+-- what is answered of accepted tokens, what the files are then, and the fault of the device's last call
+abbrev pub Makes : Mode → Files → Files → Option TreeFault → Name → Scanned → Outcome → Type 0
+Makes mode old new last name s outcome.Formatted = (print s.tokens ≡ s.text) × (new ≡ old)
+Makes mode old new last name s outcome.Changed = (print s.tokens ≢ s.text) × (length (print s.tokens) ≤ max_source) × Left mode old new name (print s.tokens)
+Makes mode old new last name s (outcome.Differs text) = (mode ≡ Diff) × (print s.tokens ≢ s.text) × (length (print s.tokens) ≤ max_source) × (new ≡ old)
+Makes mode old new last name s (outcome.Refused fault) = (max_source < length (print s.tokens)) × (fault ≡ too_large) × (new ≡ old)
+Makes mode old new last name s (outcome.Failed fault) = (new ≡ old) × IsReal fault last
+
+-- the difference is shown, or memory ran out
+abbrev pub IsShown : Outcome → Type 0
+IsShown (outcome.Differs text) = Unit {0}
+IsShown (outcome.Failed fault) = fault ≡ OutOfMemory
+IsShown outcome.Formatted = ⊥
+IsShown outcome.Changed = ⊥
+IsShown (outcome.Refused fault) = ⊥

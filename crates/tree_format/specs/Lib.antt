@@ -1,0 +1,4 @@
+pub mod Format
+pub mod Looks
+pub mod Runs
+pub mod Inner

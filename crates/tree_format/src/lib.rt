@@ -1,0 +1,10 @@
+//! Formats the files that were found, one after the other, or says which of them aren't formatted.
+#![tactic(auto)]
+
+pub mod look;
+pub mod mode;
+pub mod outcome;
+mod printed;
+pub mod progress;
+pub mod report;
+pub mod run;

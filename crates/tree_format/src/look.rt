@@ -1,0 +1,165 @@
+//! One file.
+
+ghost use Rattle.std.specs.Prelude.{◌≡◌, ◌≢◌, ◌≤◌, Some, length, IfOk, IfErr};
+ghost use Rattle.hcl_layout.specs.Print.{print};
+ghost use Rattle.hcl_source.specs.Load.{max_source, IsText};
+ghost use Rattle.tree_format.specs.Looks.{Looks, Visits};
+ghost use Rattle.tree_format.specs.declared.mode.Mode.TheVariants.{Write};
+ghost use Rattle.file_tree.specs.declared.fault.TreeFault.TheVariants.{OutOfMemory};
+ghost use Rattle.tree_format.specs.Inner.Steps.{IsShown, LoadsFile, Makes, outcome_by, outcome_of_scan};
+
+use crate::mode::Mode;
+use crate::outcome::Outcome;
+use crate::printed::Printed;
+use file_tree::fault::TreeFault;
+use file_tree::tree::{Tree, Writing};
+use hcl_layout::{emit, fits, is_formatted};
+use hcl_scan::{
+    ByteSink, Fault, FaultKind, LoadError, MAX_SOURCE, Position, ScanError, Source, scan,
+};
+use hcl_syntax::{Accepted, accepts};
+use line_diff::diff::diff;
+use std::alloc::Global;
+
+/// The print, in memory.
+fn print_of(alloc: Global, accepted: &Accepted<'_, '_>) -> Result<Printed, TreeFault>
+    ensures print { IfOk result (λ p. ⟦<Printed as ByteSink>⟧.taken p ≡ Some (print accepted.now.tokens)) }
+    ensures fault { IfErr result (λ fault. fault ≡ OutOfMemory) }
+{
+    let mut printed = Printed::new(alloc);
+    match emit(accepted, &mut printed) {
+        Ok(()) => Ok(printed),
+        Err(_) => Err(TreeFault::OutOfMemory),
+    }
+}
+
+/// Puts the print in place of a file.
+fn write_print<T: Tree>(
+    alloc: Global,
+    name: &[u8],
+    accepted: &Accepted<'_, '_>,
+    writing: Writing,
+    tree: &mut T,
+) -> Outcome
+    requires changed { print accepted.now.tokens ≢ accepted.now.text }
+    requires fits { length (print accepted.now.tokens) ≤ max_source }
+    ensures { Makes (Write writing) (T.files tree.old) (T.files tree.new) (T.fault tree.new) ((T.files tree.old).real name.now) accepted.now result }
+{
+    let printed = match print_of(alloc, accepted) {
+        Ok(printed) => printed,
+        Err(fault) => return Outcome::Failed(fault),
+    };
+    let old = accepted.tokens().source().text().as_bytes();
+    match tree.replace(name, old, printed.bytes(), writing) {
+        Ok(()) => Outcome::Changed,
+        Err(fault) => Outcome::Failed(fault),
+    }
+}
+
+/// Shows what the print changes.
+fn show_print(alloc: Global, name: &[u8], accepted: &Accepted<'_, '_>) -> Outcome
+    ensures { IsShown result }
+{
+    let printed = match print_of(alloc, accepted) {
+        Ok(printed) => printed,
+        Err(fault) => return Outcome::Failed(fault),
+    };
+    let old = accepted.tokens().source().text().as_bytes();
+    match diff(alloc, name, old, printed.bytes()) {
+        Ok(text) => Outcome::Differs(text),
+        Err(_) => Outcome::Failed(TreeFault::OutOfMemory),
+    }
+}
+
+/// Does with an accepted file what is asked for.
+fn change<T: Tree>(
+    alloc: Global,
+    mode: Mode,
+    name: &[u8],
+    accepted: &Accepted<'_, '_>,
+    tree: &mut T,
+) -> Outcome
+    ensures { Makes mode (T.files tree.old) (T.files tree.new) (T.fault tree.new) ((T.files tree.old).real name.now) accepted.now result }
+{
+    if is_formatted(accepted) {
+        return Outcome::Formatted;
+    }
+    if !fits(accepted, MAX_SOURCE as u64) {
+        return Outcome::Refused(Fault {
+            kind: FaultKind::ResultTooLarge,
+            at: Position { line: 1, column: 1 },
+        });
+    }
+    match mode {
+        Mode::Check | Mode::List => Outcome::Changed,
+        Mode::Diff => show_print(alloc, name, accepted),
+        Mode::Write(writing) => write_print(alloc, name, accepted, writing, tree),
+    }
+}
+
+/// Does with a source what is asked for.
+fn change_source<T: Tree>(
+    alloc: Global,
+    mode: Mode,
+    name: &[u8],
+    source: &Source,
+    tree: &mut T,
+) -> Outcome
+    requires { IsText source.now }
+    ensures { Looks mode (T.files tree.old) (T.files tree.new) (T.fault tree.new) ((T.files tree.old).real name.now) source.now result }
+{
+    match scan(alloc, source) {
+        Ok(tokens) => match accepts(&tokens) {
+            Ok(accepted) => change(alloc, mode, name, &accepted, tree),
+            Err(fault) => Outcome::Refused(fault),
+        },
+        Err(error) => outcome_of_scan(error),
+    }
+}
+
+/// What a loaded text is for a look.
+fn outcome_of(loaded: Result<Source, LoadError>) -> Result<Source, Outcome>
+    ensures { result ≡ outcome_by loaded }
+{
+    match loaded {
+        Ok(source) => Ok(source),
+        Err(LoadError::Fault(fault)) => Err(Outcome::Refused(fault)),
+        Err(LoadError::ReadFailed) => Err(Outcome::Failed(TreeFault::ReadFailed)),
+        Err(LoadError::OutOfMemory) => Err(Outcome::Failed(TreeFault::OutOfMemory)),
+    }
+}
+
+/// What the error of a scan is for a look.
+fn outcome_of_scan(error: ScanError) -> Outcome
+    ensures { result ≡ outcome_of_scan error }
+{
+    match error {
+        ScanError::Fault(fault) => Outcome::Refused(fault),
+        ScanError::OutOfMemory => Outcome::Failed(TreeFault::OutOfMemory),
+    }
+}
+
+/// The text of a file.
+fn load<T: Tree>(alloc: Global, name: &[u8], tree: &mut T) -> Result<Source, Outcome>
+    ensures loads { LoadsFile ((T.files tree.old).told ((T.files tree.old).real name.now)) (T.fault tree.new) result }
+    ensures files { T.files tree.new ≡ T.files tree.old }
+{
+    let mut reader = match tree.reader(name) {
+        Ok(reader) => reader,
+        Err(fault) => return Err(Outcome::Failed(fault)),
+    };
+    let loaded = Source::read_from(alloc, &mut reader);
+    tree.give_back(reader);
+    outcome_of(loaded)
+}
+
+/// Looks at one file and does what is asked for.
+#[tactic(auto, using(crate::proofs::KeptLemmas::visits_loaded, crate::proofs::KeptLemmas::visits_unloaded))]
+pub fn visit<T: Tree>(alloc: Global, mode: Mode, name: &[u8], tree: &mut T) -> Outcome
+    ensures { Visits mode (T.files tree.old) (T.files tree.new) (T.fault tree.new) ((T.files tree.old).real name.now) result }
+{
+    match load(alloc, name, tree) {
+        Ok(source) => change_source(alloc, mode, name, &source, tree),
+        Err(outcome) => outcome,
+    }
+}

@@ -1,0 +1,19 @@
+//! What became of a file.
+
+use file_tree::fault::TreeFault;
+use hcl_scan::Fault;
+
+/// What became of a file.
+#[derive(Debug, Drop)]
+pub enum Outcome {
+    /// It is formatted.
+    Formatted,
+    /// It isn't formatted, or wasn't before.
+    Changed,
+    /// It isn't formatted; this shows what would change.
+    Differs(Vec<u8>),
+    /// It has no format.
+    Refused(Fault),
+    /// It could not be read, written or shown.
+    Failed(TreeFault),
+}

@@ -1,0 +1,63 @@
+//! A print in memory.
+
+ghost use Rattle.std.specs.Prelude.{◌≡◌, Some, [], false};
+
+use hcl_scan::{ByteSink, Failed};
+use std::alloc::Global;
+
+/// A sink that keeps what it takes. It fails where there is no memory.
+#[derive(Debug, Drop)]
+pub struct Printed {
+    bytes: Vec<u8>,
+    has_failed: bool,
+    is_flushed: bool,
+}
+
+impl Printed {
+    pub fn new(alloc: Global) -> Printed
+        ensures empty { ⟦<Printed as ByteSink>⟧.taken result ≡ Some [] }
+        ensures fresh { ⟦<Printed as ByteSink>⟧.failed result ≡ false }
+    {
+        Printed {
+            bytes: Vec::new(alloc),
+            has_failed: false,
+            is_flushed: true,
+        }
+    }
+
+    pub fn bytes(&self) -> &[u8]
+        ensures { Some result.now ≡ ⟦<Printed as ByteSink>⟧.taken self.now }
+    {
+        self.bytes.as_slice()
+    }
+}
+
+impl ByteSink for Printed {
+    ghost taken = { λ s. Some s.bytes.items };
+
+    ghost failed = { λ s. s.has_failed };
+
+    ghost flushed = { λ s. s.is_flushed };
+
+    fn write(&mut self, bytes: &[u8]) -> Result<usize, Failed> {
+        match self.bytes.extend_from_slice(bytes) {
+            Ok(()) => {
+                self.is_flushed = false;
+                Ok(bytes.len())
+            }
+            Err(_) => {
+                self.has_failed = true;
+                Err(Failed)
+            }
+        }
+    }
+
+    fn flush(&mut self) -> Result<(), Failed> {
+        self.is_flushed = true;
+        Ok(())
+    }
+
+    fn has_failed(&self) -> bool {
+        self.has_failed
+    }
+}

@@ -1,0 +1,62 @@
+//! A run over files that were found.
+
+ghost use Rattle.std.specs.Prelude.{◌≡◌, ◌≢◌, ℕ, List, All, false};
+ghost use Rattle.tree_format.specs.Runs.{Kept, Settled, is_failed};
+
+use crate::look::visit;
+use crate::mode::Mode;
+use crate::outcome::Outcome;
+use crate::progress::Progress;
+use crate::report::{report, status_of, worse};
+use file_tree::tree::Tree;
+use file_tree::walk::Found;
+use hcl_scan::ByteSink;
+use std::alloc::Global;
+
+/// Looks at one name.
+#[tactic(auto, using(crate::proofs::KeptLemmas::kept_same, crate::proofs::KeptLemmas::visit_kept, crate::proofs::KeptLemmas::visit_real, crate::proofs::KeptLemmas::visit_elsewhere))]
+fn look<T: Tree>(alloc: Global, mode: Mode, found: &Found, tree: &mut T) -> Outcome
+    ensures kept { (name : List ℕ) → Kept mode ((T.files tree.old).told name) ((T.files tree.new).told name) }
+    ensures settled { let real = (T.files tree.old).real found.now.name.items in
+        is_failed result ≡ false → Settled mode ((T.files tree.old).told real) ((T.files tree.new).told real) }
+    ensures elsewhere { (name : List ℕ) → name ≢ (T.files tree.old).real found.now.name.items → (T.files tree.new).told name ≡ (T.files tree.old).told name }
+    ensures real { (name : List ℕ) → (T.files tree.new).real name ≡ (T.files tree.old).real name }
+{
+    match found.fault {
+        Some(fault) => Outcome::Failed(fault),
+        None => visit(alloc, mode, found.name.as_slice(), tree),
+    }
+}
+
+/// Goes over the files.
+#[tactic(auto, using(crate::proofs::KeptLemmas::kept_same, crate::proofs::KeptLemmas::kept_trans))]
+pub fn run_over<T: Tree, P: Progress, O: ByteSink, E: ByteSink>(
+    alloc: Global,
+    mode: Mode,
+    all: &[Found],
+    tree: &mut T,
+    progress: &mut P,
+    out: &mut O,
+    err: &mut E,
+) -> u8
+    requires out { O.failed out.old ≡ false }
+    requires err { E.failed err.old ≡ false }
+    // However the run goes, each file is then as it was, or, where files are to be written, it has the format of its bytes.
+    ensures kept { (name : List ℕ) → Kept mode ((T.files tree.old).told name) ((T.files tree.new).told name) }
+    // Where nothing failed, nothing is left to do for the files that were found.
+    ensures done { result ≢ 4 → All (λ f. Settled mode ((T.files tree.old).told ((T.files tree.old).real f.name.items)) ((T.files tree.new).told ((T.files tree.old).real f.name.items))) all.now }
+    // A file to which no name that was found leads keeps its bytes.
+    ensures untouched { (name : List ℕ) → All (λ f. name ≢ (T.files tree.old).real f.name.items) all.now → (T.files tree.new).told name ≡ (T.files tree.old).told name }
+{
+    let mut status = 0;
+    for found in all {
+        let outcome = look(alloc, mode, found, tree);
+        progress.looked(&outcome);
+        if report(mode, found.name.as_slice(), &outcome, out, err).is_err() {
+            return 4;
+        }
+        progress.reported();
+        status = worse(status, status_of(mode, &outcome));
+    }
+    status
+}
