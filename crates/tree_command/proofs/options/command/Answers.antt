@@ -1,0 +1,15 @@
+use Rattle.std.proofs.Common.{◌∙◌, ap₂}
+use Rattle.std.proofs.lemmas.Result.{IfOk-weaker}
+use Rattle.clap.specs.Words.{with_rule}
+use Rattle.tree_command.proofs.options.command.Goals as goal
+
+pub returns : goal.returns
+returns c =
+    let shape1 = c.in_ok-arg.ensures.shape c.flag.ensures.local ∙ ap₂ with_rule c.new.ensures.app c.flag.ensures.rule in
+    let shape2 = c.in_ok-arg-2.ensures.shape c.flag-2.ensures.local ∙ ap₂ with_rule shape1 c.flag-2.ensures.rule in
+    let shape3 = c.in_ok-arg-3.ensures.shape c.flag-3.ensures.local ∙ ap₂ with_rule shape2 c.flag-3.ensures.rule in
+    let shape4 = c.in_ok-arg-4.ensures.shape c.flag-4.ensures.local ∙ ap₂ with_rule shape3 c.flag-4.ensures.rule in
+    let shape5 = c.in_ok-arg-5.ensures.shape c.flag-5.ensures.local ∙ ap₂ with_rule shape4 c.flag-5.ensures.rule in
+    let shape6 = c.in_ok-arg-6.ensures.shape c.null.ensures.local ∙ ap₂ with_rule shape5 c.null.ensures.rule in
+    let shape7 = c.in_ok-arg-7.ensures.shape c.jobs.ensures.local ∙ ap₂ with_rule shape6 c.jobs.ensures.rule in
+    IfOk-weaker c.arg-8.result _ _ (λ r h. h.shape c.file.ensures.local ∙ ap₂ with_rule shape7 c.file.ensures.rule) c.arg-8.ensures

@@ -1,0 +1,220 @@
+//! A run over any tree and any devices.
+
+ghost use Rattle.std.specs.Prelude.{◌≡◌, ℕ, List, false, map};
+ghost use Rattle.tree_command.specs.Line.{mode_of_words};
+ghost use Rattle.tree_format.specs.declared.mode.Mode.{Mode};
+ghost use Rattle.tree_format.specs.Runs.{IsSafe, Kept};
+
+use crate::options::options;
+use crate::usage::{HELP, USAGE, Usage};
+use command_line::Program;
+use file_tree::tree::Tree;
+use file_tree::walk::find;
+use hcl_scan::{ByteSink, ByteSource, Failed};
+use std::alloc::{AllocError, Global};
+use tree_format::mode::Mode;
+use tree_format::progress::Progress;
+use tree_format::run::run_over;
+
+/// The status of a run in which something failed.
+const FAILURE: u8 = 4;
+
+static READ_FAILED: &str = "tffmt-all: error: read failed\n";
+
+/// This program as its messages have it.
+fn formatter() -> Program {
+    Program::new(
+        "tffmt-all",
+        4,
+        "tffmt-all: error: write failed\n",
+        "tffmt-all: error: out of memory\n",
+    )
+}
+
+/// Finds the files and goes over them.
+#[tactic(auto, using(tree_format::proofs::KeptLemmas::kept_same, tree_format::proofs::KeptLemmas::kept_still, tree_format::proofs::KeptLemmas::kept_from))]
+fn run<T: Tree, P: Progress, O: ByteSink, E: ByteSink>(
+    alloc: Global,
+    mode: Mode,
+    operands: &[&[u8]],
+    tree: &mut T,
+    progress: &mut P,
+    out: &mut O,
+    err: &mut E,
+) -> u8
+    requires out { O.failed out.old ≡ false }
+    requires err { E.failed err.old ≡ false }
+    // However the run goes, each file is then as it was, or, where files are to be written, it has the format of its bytes.
+    ensures { (name : List ℕ) → Kept mode ((T.files tree.old).told name) ((T.files tree.new).told name) }
+{
+    match find(alloc, operands, tree) {
+        Ok(found) => {
+            let status = run_over(alloc, mode, found.as_slice(), tree, progress, out, err);
+            progress.end();
+            if err.has_failed() {
+                return FAILURE;
+            }
+            formatter().finish(out, err, status)
+        }
+        Err(_) => formatter().tell_out_of_memory(out, err),
+    }
+}
+
+/// Why no names were read.
+enum NoNames {
+    ReadFailed,
+    OutOfMemory,
+}
+
+/// All that a device has left.
+fn read_names<R: ByteSource>(alloc: Global, input: &mut R) -> Result<Vec<u8>, NoNames>
+    requires { R.failed input.old ≡ false }
+{
+    let mut bytes = Vec::new(alloc);
+    let mut buffer = [0; 16_384];
+    for _ in 0..u64::MAX {
+        match input.read(&mut buffer) {
+            Ok(0) => return Ok(bytes),
+            Ok(n) => {
+                if bytes.extend_from_slice(&buffer[..n]).is_err() {
+                    return Err(NoNames::OutOfMemory);
+                }
+            }
+            Err(Failed) => return Err(NoNames::ReadFailed),
+        }
+    }
+    Err(NoNames::ReadFailed)
+}
+
+/// The names, each ended by NUL, but for the last, which needs none.
+fn operands_in<'a>(alloc: Global, names: &'a [u8]) -> Result<Vec<&'a [u8]>, AllocError> {
+    let mut operands = Vec::new(alloc);
+    let names = names.strip_suffix(b"\0").unwrap_or(names);
+    if names.is_empty() {
+        return Ok(operands);
+    }
+    for name in names.split(|b| *b == 0) {
+        if operands.push(name).is_err() {
+            return Err(AllocError);
+        }
+    }
+    Ok(operands)
+}
+
+/// The names of a line, or the current folder where there is none.
+fn operands_of<'a>(alloc: Global, names: &[&'a str]) -> Result<Vec<&'a [u8]>, AllocError> {
+    let mut operands = Vec::new(alloc);
+    if names.is_empty() && operands.push(b".".as_slice()).is_err() {
+        return Err(AllocError);
+    }
+    for name in names {
+        if operands.push(name.as_bytes()).is_err() {
+            return Err(AllocError);
+        }
+    }
+    Ok(operands)
+}
+
+/// Takes the names from a device.
+#[tactic(auto, using(tree_format::proofs::KeptLemmas::kept_same, tree_format::proofs::KeptLemmas::kept_still, tree_format::proofs::KeptLemmas::kept_from))]
+fn run_null<T: Tree, P: Progress, R: ByteSource, O: ByteSink, E: ByteSink>(
+    alloc: Global,
+    mode: Mode,
+    input: &mut R,
+    tree: &mut T,
+    progress: &mut P,
+    out: &mut O,
+    err: &mut E,
+) -> u8
+    requires input { R.failed input.old ≡ false }
+    requires out { O.failed out.old ≡ false }
+    requires err { E.failed err.old ≡ false }
+    // However the run goes, each file is then as it was, or, where files are to be written, it has the format of its bytes.
+    ensures { (name : List ℕ) → Kept mode ((T.files tree.old).told name) ((T.files tree.new).told name) }
+{
+    let names = match read_names(alloc, input) {
+        Ok(names) => names,
+        Err(NoNames::ReadFailed) => {
+            return formatter().tell(out, err, READ_FAILED, FAILURE);
+        }
+        Err(NoNames::OutOfMemory) => return formatter().tell_out_of_memory(out, err),
+    };
+    match operands_in(alloc, names.as_slice()) {
+        Ok(operands) => run(alloc, mode, operands.as_slice(), tree, progress, out, err),
+        Err(_) => formatter().tell_out_of_memory(out, err),
+    }
+}
+
+/// Takes the names from the line.
+#[tactic(auto, using(tree_format::proofs::KeptLemmas::kept_same, tree_format::proofs::KeptLemmas::kept_still, tree_format::proofs::KeptLemmas::kept_from))]
+fn run_named<T: Tree, P: Progress, O: ByteSink, E: ByteSink>(
+    alloc: Global,
+    mode: Mode,
+    names: &[&str],
+    tree: &mut T,
+    progress: &mut P,
+    out: &mut O,
+    err: &mut E,
+) -> u8
+    requires out { O.failed out.old ≡ false }
+    requires err { E.failed err.old ≡ false }
+    // However the run goes, each file is then as it was, or, where files are to be written, it has the format of its bytes.
+    ensures { (name : List ℕ) → Kept mode ((T.files tree.old).told name) ((T.files tree.new).told name) }
+{
+    match operands_of(alloc, names) {
+        Ok(operands) => run(alloc, mode, operands.as_slice(), tree, progress, out, err),
+        Err(_) => formatter().tell_out_of_memory(out, err),
+    }
+}
+
+/// Says what the lines of this program are.
+pub fn bad_line<O: ByteSink, E: ByteSink>(out: &mut O, err: &mut E) -> u8
+    requires out { O.failed out.old ≡ false }
+    requires err { E.failed err.old ≡ false }
+{
+    formatter().tell(out, err, USAGE, 2)
+}
+
+/// The whole program over any tree and any devices.
+#[tactic(auto, using(tree_format::proofs::KeptLemmas::safe_same, tree_format::proofs::KeptLemmas::safe_kept))]
+pub fn program<T: Tree, P: Progress, R: ByteSource, O: ByteSink, E: ByteSink>(
+    alloc: Global,
+    words: &[&str],
+    tree: &mut T,
+    progress: &mut P,
+    input: &mut R,
+    out: &mut O,
+    err: &mut E,
+) -> u8
+    requires input { R.failed input.old ≡ false }
+    requires out { O.failed out.old ≡ false }
+    requires err { E.failed err.old ≡ false }
+    // However the run goes, each file is then as it was, or has the format of its bytes.
+    ensures safe { (name : List ℕ) → IsSafe ((T.files tree.old).told name) ((T.files tree.new).told name) }
+    // It has its format only where the words ask for that.
+    ensures kept { (mode : Mode) → mode_of_words (map (λ word. word.now) words.now) ≡ Some mode → (name : List ℕ) → Kept mode ((T.files tree.old).told name) ((T.files tree.new).told name) }
+{
+    match options(alloc, words) {
+        Ok(options) if options.null => run_null(
+            alloc,
+            options.mode,
+            input,
+            tree,
+            progress,
+            out,
+            err,
+        ),
+        Ok(options) => run_named(
+            alloc,
+            options.mode,
+            options.names.as_slice(),
+            tree,
+            progress,
+            out,
+            err,
+        ),
+        Err(Usage::Help) => formatter().deliver(out, err, HELP, 0),
+        Err(Usage::BadLine) => bad_line(out, err),
+        Err(Usage::OutOfMemory) => formatter().tell_out_of_memory(out, err),
+    }
+}
