@@ -21,7 +21,7 @@ mod text;
 mod tokens;
 
 pub use hcl_tokens::{
-    ByteSink, ByteSource, Failed, Fault, FaultKind, FromRead, Kind, LoadError, MAX_SOURCE,
+    ByteSink, ByteSource, Failed, Fault, FaultKind, Flushes, FromRead, Kind, LoadError, MAX_SOURCE,
     MemorySink, MemorySource, Position, SINK_ROOM, ScanError, Source, ToWrite, Token, Tokens,
     WriteFault, write_fully,
 };

@@ -12,8 +12,8 @@ mod tokens;
 
 pub use entries::Entries;
 pub use hcl_source::{
-    ByteSink, ByteSource, Failed, Fault, FaultKind, FromRead, LoadError, MAX_SOURCE, MemorySink,
-    MemorySource, Position, SINK_ROOM, Source, ToWrite, WriteFault, write_fully,
+    ByteSink, ByteSource, Failed, Fault, FaultKind, Flushes, FromRead, LoadError, MAX_SOURCE,
+    MemorySink, MemorySource, Position, SINK_ROOM, Source, ToWrite, WriteFault, write_fully,
 };
 pub use token::{Entry, Kind, ScanError, Token};
 pub use tokens::Tokens;

@@ -2,7 +2,7 @@
 
 ghost use Rattle.std.specs.Prelude.{◌≡◌, Some, [], false};
 
-use hcl_scan::{ByteSink, Failed};
+use hcl_scan::{ByteSink, Failed, Flushes};
 use std::alloc::Global;
 
 /// A sink that keeps what it takes. It fails where there is no memory.
@@ -11,6 +11,7 @@ pub struct Printed {
     bytes: Vec<u8>,
     has_failed: bool,
     is_flushed: bool,
+    flushes: Flushes,
 }
 
 impl Printed {
@@ -22,6 +23,7 @@ impl Printed {
             bytes: Vec::new(alloc),
             has_failed: false,
             is_flushed: true,
+            flushes: Flushes::Never,
         }
     }
 
@@ -39,6 +41,8 @@ impl ByteSink for Printed {
 
     ghost flushed = { λ s. s.is_flushed };
 
+    ghost flushes = { λ s. s.flushes };
+
     fn write(&mut self, bytes: &[u8]) -> Result<usize, Failed> {
         match self.bytes.extend_from_slice(bytes) {
             Ok(()) => {
@@ -53,6 +57,7 @@ impl ByteSink for Printed {
     }
 
     fn flush(&mut self) -> Result<(), Failed> {
+        self.flushes = self.flushes.one_more();
         self.is_flushed = true;
         Ok(())
     }
