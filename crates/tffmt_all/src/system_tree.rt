@@ -1,0 +1,261 @@
+//! The folders and files of the system.
+
+ghost use Rattle.std.specs.Prelude.{◌≡◌, false, None, IfOk};
+ghost use Rattle.file_tree.specs.Files.{fault_of, silent};
+
+use crate::in_place::write_over;
+use crate::new_file::{Old, replace};
+use file_tree::fault::TreeFault;
+use file_tree::kind::Kind;
+use file_tree::tree::{Tree, Writing};
+use hcl_scan::{ByteSource, Failed, FromRead};
+use std::fs::{File, Metadata, OpenOptions};
+use std::io::{ErrorKind, Read};
+use std::path::PathBuf;
+use std::rt::Files;
+use std::{fs, io};
+
+/// A file that was opened. It tells no bytes.
+#[derive(Drop)]
+pub struct FileReader {
+    reader: FromRead<File>,
+}
+
+impl ByteSource for FileReader {
+    ghost left = { λ s. None };
+
+    ghost failed = { λ s. ⟦<FromRead<File> as ByteSource>⟧.failed s.reader };
+
+    fn read(&mut self, buffer: &mut [u8]) -> Result<usize, Failed> {
+        self.reader.read(buffer)
+    }
+
+    fn has_failed(&self) -> bool {
+        self.reader.has_failed()
+    }
+}
+
+/// The tree of the system, by std. It tells nothing.
+#[derive(Drop)]
+pub struct SystemTree {
+    rt: HostRuntime,
+    /// Why the last call failed, if it did.
+    fault: Option<TreeFault>,
+}
+
+fn kind_in(metadata: &Metadata) -> Kind {
+    if metadata.is_file() {
+        return Kind::File;
+    }
+    if metadata.is_dir() {
+        return Kind::Folder;
+    }
+    if metadata.is_symlink() {
+        return Kind::Link;
+    }
+    Kind::Other
+}
+
+/// A name as the system's calls take it.
+fn text_of(name: &[u8]) -> Result<&str, TreeFault> {
+    match std::str::from_utf8(name) {
+        Ok(text) => Ok(text),
+        Err(_) => Err(TreeFault::NotUtf8),
+    }
+}
+
+/// Why an answer is none.
+fn fault_in<X>(answer: &Result<X, TreeFault>) -> Option<TreeFault>
+    ensures { result ≡ fault_of answer.now }
+{
+    match answer {
+        Ok(_) => None,
+        Err(fault) => Some(*fault),
+    }
+}
+
+impl SystemTree {
+    pub fn new(rt: HostRuntime) -> SystemTree {
+        SystemTree { rt, fault: None }
+    }
+
+    /// Why a name has no metadata.
+    fn metadata_fault(&self, name: &str, error: &io::Error) -> TreeFault {
+        match fs::symlink_metadata(&self.rt, name) {
+            Ok(metadata) if metadata.is_symlink() => TreeFault::DeadLink,
+            _ => match error.kind() {
+                ErrorKind::NotFound | ErrorKind::NotADirectory => TreeFault::Missing,
+                _ => TreeFault::Unreadable,
+            },
+        }
+    }
+
+    fn kind_of(&self, name: &[u8]) -> Result<Kind, TreeFault> {
+        let name = text_of(name)?;
+        match fs::metadata(&self.rt, name) {
+            Ok(metadata) => Ok(kind_in(&metadata)),
+            Err(error) => Err(self.metadata_fault(name, &error)),
+        }
+    }
+
+    fn entry_kind_of(&self, name: &[u8]) -> Result<Kind, TreeFault> {
+        let name = text_of(name)?;
+        match fs::symlink_metadata(&self.rt, name) {
+            Ok(metadata) => Ok(kind_in(&metadata)),
+            Err(error) => Err(self.metadata_fault(name, &error)),
+        }
+    }
+
+    fn names_in(&self, folder: &[u8]) -> Result<Vec<u8>, TreeFault> {
+        let folder = text_of(folder)?;
+        let Ok(mut dir) = self.rt.open_dir(folder) else {
+            return Err(TreeFault::UnreadableFolder);
+        };
+        let mut names = Vec::new(self.rt.alloc());
+        let mut buffer = [0; 16_384];
+        for _ in 0..u64::MAX {
+            match dir.read(&mut buffer) {
+                Ok(0) => return Ok(names),
+                Ok(n) => {
+                    if names.extend_from_slice(&buffer[..n]).is_err() {
+                        return Err(TreeFault::OutOfMemory);
+                    }
+                }
+                Err(_) => return Err(TreeFault::UnreadableFolder),
+            }
+        }
+        Err(TreeFault::UnreadableFolder)
+    }
+
+    /// Opens a file. What it is is asked first, so that no pipe is waited for.
+    fn open(&self, name: &[u8]) -> Result<FileReader, TreeFault>
+        ensures { IfOk result (λ r. ⟦<FileReader as ByteSource>⟧.failed r ≡ false) }
+    {
+        match self.kind_of(name) {
+            Ok(Kind::File) => {}
+            Ok(_) => return Err(TreeFault::NotAFile),
+            Err(fault) => return Err(fault),
+        }
+        let name = text_of(name)?;
+        match File::open(&self.rt, name) {
+            Ok(file) => Ok(FileReader {
+                reader: FromRead::new(file),
+            }),
+            Err(_) => Err(TreeFault::Unreadable),
+        }
+    }
+
+    /// The path of the file that a name leads to.
+    fn real_path(&self, name: &str) -> Result<PathBuf, TreeFault> {
+        match fs::symlink_metadata(&self.rt, name) {
+            Ok(metadata) if metadata.is_symlink() => {}
+            _ => {
+                return match PathBuf::from_str(self.rt.alloc(), name) {
+                    Ok(path) => Ok(path),
+                    Err(_) => Err(TreeFault::OutOfMemory),
+                };
+            }
+        }
+        match fs::canonicalize(&self.rt, name) {
+            Ok(path) => Ok(path),
+            Err(_) => Err(TreeFault::EndlessLink),
+        }
+    }
+
+    /// Replaces the file of this path, which is no link.
+    fn replace_at(
+        &self,
+        path: &str,
+        bytes: &[u8],
+        new: &[u8],
+        writing: Writing,
+    ) -> Result<(), TreeFault> {
+        let Ok(mut file) = OpenOptions::new()
+            .read(true)
+            .write(true)
+            .open(&self.rt, path)
+        else {
+            return Err(TreeFault::NotWritable);
+        };
+        let Ok(metadata) = file.metadata() else {
+            return Err(TreeFault::Unreadable);
+        };
+        let old = Old {
+            path,
+            bytes,
+            metadata,
+        };
+        match replace(&self.rt, &mut file, &old, new, writing) {
+            Err(TreeFault::NoneBeside | TreeFault::NotReplaced) if writing.in_place => {
+                write_over(&mut file, bytes, new, writing.sync)
+            }
+            done => done,
+        }
+    }
+
+    fn replace_named(
+        &self,
+        name: &[u8],
+        old: &[u8],
+        new: &[u8],
+        writing: Writing,
+    ) -> Result<(), TreeFault> {
+        let name = text_of(name)?;
+        let path = self.real_path(name)?;
+        match path.to_str() {
+            Some(path) => self.replace_at(path, old, new, writing),
+            None => Err(TreeFault::NotUtf8),
+        }
+    }
+}
+
+impl Tree for SystemTree {
+    type Reader = FileReader;
+
+    ghost files = { λ s. silent };
+
+    ghost fault = { λ s. s.fault };
+
+    fn kind(&mut self, name: &[u8]) -> Result<Kind, TreeFault> {
+        let answer = self.kind_of(name);
+        self.fault = fault_in(&answer);
+        answer
+    }
+
+    fn entry_kind(&mut self, name: &[u8]) -> Result<Kind, TreeFault> {
+        let answer = self.entry_kind_of(name);
+        self.fault = fault_in(&answer);
+        answer
+    }
+
+    fn listing(&mut self, folder: &[u8]) -> Result<Vec<u8>, TreeFault> {
+        let answer = self.names_in(folder);
+        self.fault = fault_in(&answer);
+        answer
+    }
+
+    fn reader(&mut self, name: &[u8]) -> Result<FileReader, TreeFault> {
+        let answer = self.open(name);
+        self.fault = fault_in(&answer);
+        answer
+    }
+
+    fn give_back(&mut self, reader: FileReader) {
+        if reader.has_failed() {
+            self.fault = Some(TreeFault::ReadFailed);
+        }
+    }
+
+    #[tactic(auto, using(file_tree::proofs::FileLemmas::silent_replace))]
+    fn replace(
+        &mut self,
+        name: &[u8],
+        old: &[u8],
+        new: &[u8],
+        writing: Writing,
+    ) -> Result<(), TreeFault> {
+        let answer = self.replace_named(name, old, new, writing);
+        self.fault = fault_in(&answer);
+        answer
+    }
+}
