@@ -52,13 +52,25 @@ fn fill(made: &File, old: &Old<'_>, new: &[u8], sync: bool) -> Result<(), TreeFa
     Ok(())
 }
 
-/// Whether the old file has its bytes still, and its path leads to it still.
+/// Whether nothing was done to a file between these two readings, as far as its times tell.
+fn is_same(one: &Metadata, other: &Metadata) -> bool {
+    one.dev() == other.dev()
+        && one.ino() == other.ino()
+        && one.len() == other.len()
+        && one.mtime() == other.mtime()
+        && one.mtime_nsec() == other.mtime_nsec()
+        && one.ctime() == other.ctime()
+        && one.ctime_nsec() == other.ctime_nsec()
+}
+
+/// Whether the old file has its bytes still, and its path leads to it still. The path is asked last: what another program
+/// saves after that is lost.
 fn is_unchanged(rt: &HostRuntime, file: &mut File, old: &Old<'_>) -> bool {
     if !has_bytes(file, old.bytes) {
         return false;
     }
     match fs::symlink_metadata(rt, old.path) {
-        Ok(now) => now.dev() == old.metadata.dev() && now.ino() == old.metadata.ino(),
+        Ok(now) => is_same(&now, &old.metadata),
         Err(_) => false,
     }
 }
