@@ -1,5 +1,5 @@
 # `make try` formats the README's example at once, with nothing proved; `make` proves the crates and builds the programs
-# as bin/tffmt and bin/tfrules, `make bin/tffmt` what that one stands on alone; `make test` runs the whole gate;
+# as bin/tffmt, bin/tfrules and bin/tffmt-all, `make bin/tffmt` what that one stands on alone; `make test` runs the whole gate;
 # `make install PREFIX=FOLDER` puts the programs, the scripts around them, their man pages, completions and examples
 # below the folder; `make dist` packs the same as a release, into dist.
 .PHONY: all try test install uninstall dist clean FORCE
@@ -7,11 +7,9 @@
 PREFIX = /usr/local
 DESTDIR =
 
-# A crate that is a program is installed under its name, with `-` for `_`. A script of that name is not installed. The
-# program tffmt-all doesn't do yet all that the script does, so it is built by the gate alone.
-CRATES := $(filter-out tffmt_all,$(patsubst crates/%/src/main.rt,%,$(wildcard crates/*/src/main.rt)))
-PROGRAMS := $(subst _,-,$(CRATES))
-SCRIPTS := $(filter-out $(PROGRAMS),$(patsubst contrib/%,%,$(wildcard contrib/tffmt-* contrib/tfrules-*)))
+# A crate that is a program is installed under its name, with `-` for `_`.
+PROGRAMS := $(subst _,-,$(patsubst crates/%/src/main.rt,%,$(wildcard crates/*/src/main.rt)))
+SCRIPTS := $(patsubst contrib/%,%,$(wildcard contrib/tffmt-* contrib/tfrules-*))
 COMMANDS = $(PROGRAMS) $(SCRIPTS)
 BUILT := $(addprefix bin/,$(PROGRAMS))
 SOURCES := $(shell find crates -name out -prune -o -type f -print) crates.txt
@@ -26,7 +24,7 @@ FISH = $(DESTDIR)$(PREFIX)/share/fish/vendor_completions.d
 NEEDS_PYTHON = @python3 -c 'import sys; sys.exit(sys.version_info < (3, 8))' 2>/dev/null || \
   { echo 'make: there is no python3 of version 3.8 or later on the path' >&2; exit 1; }
 NEEDS_KIT = @command -v rt >/dev/null 2>&1 || { echo 'make: there is no rt on the path: the proofs need the' \
-  'Rattle kit, of the line rattle-kit-13b' >&2; exit 1; }
+  'Rattle kit; README.md says which' >&2; exit 1; }
 
 all: bin/programs
 
@@ -56,6 +54,8 @@ dist: bin/programs
 	@./tools/dist
 
 install: bin/programs
+	@mkdir -p "$(BIN)" 2>/dev/null && [ -w "$(BIN)" ] || { echo \
+	  "make: $(BIN) can't be written; PREFIX=FOLDER installs elsewhere" >&2; exit 1; }
 	install -d "$(BIN)" "$(MAN)" "$(DOC)/examples/ci" "$(DOC)/examples/editors/vscode" \
 	  "$(DOC)/examples/editors/jetbrains" "$(BASH)" "$(ZSH)" "$(FISH)"
 	install -m 755 $(BUILT) "$(BIN)"

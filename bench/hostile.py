@@ -13,14 +13,16 @@ from measure import MAX, MIB, best, in_ms, instructions, table
 TOP = pathlib.Path(__file__).resolve().parent.parent
 TIMES = 10
 LIMIT = 60
-# How many instructions a byte of a hostile input may take: five times the 85 that are the goal for ordinary configuration
-# that isn't formatted.
+# How many instructions a byte of a hostile input may take: five times the 85 that are the goal for ordinary
+# configuration that isn't formatted.
 MOST = 425
 
 
 def main(name, cases, most={}):
-    """Times the cases, or counts their instructions; `most` says of which a byte may take more than `MOST`."""
-    read = argparse.ArgumentParser(usage='%s [--limit N] [--keep FOLDER] [PROGRAM]\n       %s --count [PROGRAM]' % (name, name))
+    """Times the cases, or counts their instructions; `most` has those of which a byte may take more than `MOST`."""
+    read = argparse.ArgumentParser(
+        usage='%s [--limit N] [--keep FOLDER] [PROGRAM]\n       %s --count [PROGRAM]' % (name, name)
+    )
     read.add_argument('--limit', type=float, default=12)
     read.add_argument('--keep')
     read.add_argument('--count', action='store_true')
@@ -54,8 +56,17 @@ def main(name, cases, most={}):
         high = []
         for (label, _), text, (taken, status), (less, _) in zip(cases, texts, found[::2], found[1::2]):
             ratio = taken / usual
-            rows.append([label, format(len(text), ','), shown(status), in_ms(less), in_ms(taken), '%.1f' % ratio,
-                         '%.1f' % (taken / less)])
+            rows.append(
+                [
+                    label,
+                    format(len(text), ','),
+                    shown(status),
+                    in_ms(less),
+                    in_ms(taken),
+                    '%.1f' % ratio,
+                    '%.1f' % (taken / less),
+                ]
+            )
             if given.limit and ratio > given.limit or status is None or status not in (0, 2):
                 high.append(label)
         print(table(['input', 'bytes', 'status', '1 MiB', '4 MiB', 'ratio', 'growth'], rows))
@@ -65,7 +76,8 @@ def main(name, cases, most={}):
 
 
 def counted(name, program, cases, most):
-    """Prints the instructions a byte of each case, by callgrind, and gives 1 where one takes more than it may."""
+    """Prints the instructions a byte of each case, by callgrind, and returns 1 if one takes more than it may."""
+
     def a_byte(case):
         label, make = case
         with tempfile.NamedTemporaryFile(suffix='.tf') as file:
@@ -79,8 +91,12 @@ def counted(name, program, cases, most):
 
     with concurrent.futures.ThreadPoolExecutor(os.cpu_count()) as pool:
         found = list(pool.map(a_byte, cases))
-    print(table(['input', 'bytes', 'instructions a byte', 'at most'],
-                [[label, format(size, ','), '%.1f' % taken, str(limit)] for label, size, taken, limit in found]))
+    print(
+        table(
+            ['input', 'bytes', 'instructions a byte', 'at most'],
+            [[label, format(size, ','), '%.1f' % taken, str(limit)] for label, size, taken, limit in found],
+        )
+    )
     high = [label for label, _, taken, limit in found if taken > limit]
     for label in high:
         print('too many instructions: %s' % label)

@@ -12,25 +12,33 @@ import subprocess
 import time
 
 MIB = 1048576
-MAX = 4 * MIB           # the largest file, and the largest result
+MAX = 4 * MIB  # the largest file, and the largest result
 
 
 def _spawn(words, path):
-    return os.posix_spawn(words[0], words, os.environ, file_actions=[
-        (os.POSIX_SPAWN_OPEN, 0, path, os.O_RDONLY, 0),
-        (os.POSIX_SPAWN_OPEN, 1, '/dev/null', os.O_WRONLY, 0),
-        (os.POSIX_SPAWN_OPEN, 2, '/dev/null', os.O_WRONLY, 0)])
+    return os.posix_spawn(
+        words[0],
+        words,
+        os.environ,
+        file_actions=[
+            (os.POSIX_SPAWN_OPEN, 0, path, os.O_RDONLY, 0),
+            (os.POSIX_SPAWN_OPEN, 1, '/dev/null', os.O_WRONLY, 0),
+            (os.POSIX_SPAWN_OPEN, 2, '/dev/null', os.O_WRONLY, 0),
+        ],
+    )
 
 
 def once(words, path, limit=None):
-    """(seconds, status) of one run; status None where it took longer than `limit` seconds and was ended."""
+    """(seconds, status) of one run; status None if it took longer than `limit` seconds and was ended."""
     begin = time.perf_counter()
     child = _spawn(words, path)
     late = []
     if limit:
+
         def end(*_):
             late.append(True)
             os.kill(child, signal.SIGKILL)
+
         signal.signal(signal.SIGALRM, end)
         signal.setitimer(signal.ITIMER_REAL, limit)
     _, code = os.waitpid(child, 0)
@@ -43,10 +51,10 @@ def once(words, path, limit=None):
 
 
 def best(jobs, times, limit=None):
-    """(least seconds, status) of so many runs of each job, which is the words of a program and a file.
+    """(least seconds, status) of a number of runs of each job, which is the words of a program and a file.
 
-    The jobs take turns, so that a slow spell of the machine doesn't fall on one of them alone. A job that
-    took longer than `limit` seconds isn't run again.
+    The jobs take turns, so that a slow spell of the machine doesn't hit just one of them. A job that took
+    longer than `limit` seconds isn't run again.
     """
     found = [once(words, path, limit) for words, path in jobs]
     for _ in range(times - 1):
@@ -70,14 +78,15 @@ def memory(words, path):
     if tool is None:
         return None
     with open(path, 'rb') as given:
-        done = subprocess.run([tool, '-f', 'peak %M'] + words, stdin=given, stdout=subprocess.DEVNULL,
-                              stderr=subprocess.PIPE)
+        done = subprocess.run(
+            [tool, '-f', 'peak %M'] + words, stdin=given, stdout=subprocess.DEVNULL, stderr=subprocess.PIPE
+        )
     found = re.findall(r'^peak (\d+)$', done.stderr.decode('utf-8', 'replace'), re.M)
     return int(found[-1]) * 1024 if found else None
 
 
 def instructions(words, path):
-    """Instructions in user space by callgrind, or None where it isn't there or fails. Slow.
+    """Instructions in user space by callgrind, or None if it isn't there or fails. Slow.
 
     A Go program runs under valgrind only with one processor and without preemption by signals; the variables
     that ask for that mean nothing to other programs.
@@ -86,8 +95,13 @@ def instructions(words, path):
         return None
     setting = dict(os.environ, GOMAXPROCS='1', GODEBUG='asyncpreemptoff=1')
     with open(path, 'rb') as given:
-        done = subprocess.run(['valgrind', '--tool=callgrind', '--callgrind-out-file=/dev/null'] + words,
-                              stdin=given, stdout=subprocess.DEVNULL, stderr=subprocess.PIPE, env=setting)
+        done = subprocess.run(
+            ['valgrind', '--tool=callgrind', '--callgrind-out-file=/dev/null'] + words,
+            stdin=given,
+            stdout=subprocess.DEVNULL,
+            stderr=subprocess.PIPE,
+            env=setting,
+        )
     found = re.findall(r'Collected\s*:\s*(\d+)', done.stderr.decode('utf-8', 'replace'))
     return int(found[-1]) if found else None
 
@@ -101,7 +115,11 @@ def table(heads, rows):
     widths = [max(len(r[i]) for r in [heads] + rows) for i in range(len(heads))]
 
     def line(cells):
-        return '| ' + ' | '.join(c.ljust(w) if i == 0 else c.rjust(w)
-                                 for i, (c, w) in enumerate(zip(cells, widths))) + ' |'
+        return (
+            '| '
+            + ' | '.join(c.ljust(w) if i == 0 else c.rjust(w) for i, (c, w) in enumerate(zip(cells, widths)))
+            + ' |'
+        )
+
     rule = '|' + '|'.join('-' * (w + 1) + ('-' if i == 0 else ':') for i, w in enumerate(widths)) + '|'
     return '\n'.join([line(heads), rule] + [line(r) for r in rows])

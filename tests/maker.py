@@ -1,11 +1,11 @@
-"""Makes files of HCL at will, for tests that run the programs on many of them.
+"""Makes random files of HCL, for tests that run the programs on many of them.
 
-A file has all constructs of the language, with blanks put at will: blocks, groups, templates with directives, heredocs
-in templates in heredocs, comments, LF and CR LF. It is accepted.
+A file has all constructs of the language, with random blanks: blocks, groups, templates with directives, heredocs in
+templates in heredocs, comments, LF and CR LF. It is accepted.
 """
 
 WORD = 'abcdefghijklmnopqrstuvwxyzABCDEFGHIJKLMNOPQRSTUVWXYZ0123456789_-'
-# Marks that a blank parts from one another here, lest two of them be read as one.
+# Marks that a blank separates here, so that two of them are not read as one.
 JOINING = '.<>=!&|/*~-'
 NAMES = 'a b count x-y _z é Ω4 日本 in for2 tags name e5 E'.split()
 NUMBERS = '0 1 42 1.5 1e5 2E-3 3.25e+10'.split()
@@ -31,9 +31,16 @@ class Maker:
     def put(self, piece):
         """A token of an expression, with some blanks before it."""
         last = self.text[-1:]
-        parted = (last in WORD or last > '\x7f') and (piece[0] in WORD or piece[0] > '\x7f') \
-            or last in JOINING and piece[0] in JOINING or last.isdigit() and piece[0] == '.' \
-            or last == '{' and piece[0] == '~'
+        parted = (
+            (last in WORD or last > '\x7f')
+            and (piece[0] in WORD or piece[0] > '\x7f')
+            or last in JOINING
+            and piece[0] in JOINING
+            or last.isdigit()
+            and piece[0] == '.'
+            or last == '{'
+            and piece[0] == '~'
+        )
         self.text += ('' if self.touching else self.blanks(1 if last and parted else 0)) + piece
         self.touching = False
 
@@ -75,8 +82,9 @@ class Maker:
         self.depth -= 1
 
     def operand(self, newlines):
-        kinds = [self.name, self.number] + ([self.call, self.paren, self.tuple, self.object, self.quote,
-                                             self.heredoc] if self.depth < 5 else [])
+        kinds = [self.name, self.number] + (
+            [self.call, self.paren, self.tuple, self.object, self.quote, self.heredoc] if self.depth < 5 else []
+        )
         kind = self.chance.choice(kinds)
         if kind == self.heredoc and not newlines:
             kind = self.quote
@@ -96,8 +104,11 @@ class Maker:
             if step in ('name', 'number', 'splat'):
                 self.put('.')
                 self.touching = self.heredocs > 0
-                self.put({'name': self.chance.choice(NAMES), 'number': self.chance.choice('0 1 25'.split()),
-                          'splat': '*'}[step])
+                self.put(
+                    {'name': self.chance.choice(NAMES), 'number': self.chance.choice('0 1 25'.split()), 'splat': '*'}[
+                        step
+                    ]
+                )
                 self.touching = False
             else:
                 self.put('[')
@@ -189,7 +200,7 @@ class Maker:
         self.join('"')
 
     def heredoc(self):
-        """A heredoc with a marker of its own; the newline behind it counts for nothing where this is called."""
+        """A heredoc with a marker of its own; the newline after it means nothing to the callers."""
         marker = 'E%d' % self.text.count('<<')
         self.put('<<' + self.chance.choice(('', '-')) + marker + self.newline())
         self.heredocs += 1

@@ -1,9 +1,16 @@
-/* Preloaded by tests/refused, this takes the place of the C library's allocator, of its open, read and write, and of its
-   start of a program.
+/* Preloaded by tests/refused, this takes the place of the C library's allocator, of its calls on files, and of its start
+   of a program.
 
-   REFUSE=N      the Nth call since `main` began is refused, and a byte is written to the descriptor REFUSE_FD
-   REFUSED=KIND  which calls are counted: those for `memory` (where it isn't set), `open`, `read` or `write`
+   REFUSE=N      the Nth call since `main` began is refused, and the first four letters of its kind are written to the
+                 descriptor REFUSE_FD
+   REFUSED=KIND  which calls are counted: those for `memory` (where it isn't set), or one of `kind_names`, or `any` of
+                 them but memory
    FROM_THEN=1   all such calls from the Nth on are refused
+   SAVE=TEXT     no call is refused: before the Nth, another program's save is made, which gives the file SAVE_TO this text
+   SAVE_BY=HOW   in place, where it isn't set, or by `rename`
+   TIMES_FD=FD   before the bytes of an old file are compared, a line is written there: when that is, as the monotonic
+                 clock has it; and before each rename again, with the new name
+   PAUSE=N       each opening, and each comparison of an old file, takes N microseconds longer
    NO_WORDS=1    the program gets no words, not even its name
    HELD_FD=FD    before each opening since `main` began, a line is written there: the bytes of memory that are held, and the
                  most that were since the opening before
@@ -20,6 +27,8 @@
 #include <stdio.h>
 #include <stdlib.h>
 #include <string.h>
+#include <sys/stat.h>
+#include <time.h>
 #include <unistd.h>
 
 extern void *__libc_malloc(size_t);
@@ -28,26 +37,74 @@ extern void *__libc_realloc(void *, size_t);
 extern void *__libc_memalign(size_t, size_t);
 extern void __libc_free(void *);
 
-enum kind { MEMORY, OPEN, READ, WRITE };
+enum kind { MEMORY, OPEN, READ, WRITE, STAT, LIST, RENAME, UNLINK, CHMOD, OWNER, SYNC, SEEK, TRUNCATE, FOLLOW, ANY };
+
+static const char *const kind_names[] = {"memory", "open",  "read", "write", "stat",     "list",   "rename", "unlink",
+                                         "chmod",  "owner", "sync", "seek",  "truncate", "follow", "any"};
 
 typedef int open_function(const char *, int, ...);
 typedef ssize_t read_function(int, void *, size_t);
 typedef ssize_t write_function(int, const void *, size_t);
+typedef int statx_function(int, const char *, int, unsigned int, struct statx *);
+typedef ssize_t list_function(int, void *, size_t);
+typedef int rename_function(const char *, const char *);
+typedef int unlink_function(const char *);
+typedef int chmod_function(int, mode_t);
+typedef int chown_function(int, uid_t, gid_t);
+typedef int sync_function(int);
+typedef off_t seek_function(int, off_t, int);
+typedef int truncate_function(int, off_t);
+typedef char *realpath_function(const char *, char *);
 
 static open_function *real_open;
 static read_function *real_read;
 static write_function *real_write;
+static statx_function *real_statx;
+static list_function *real_list;
+static rename_function *real_rename;
+static unlink_function *real_unlink;
+static chmod_function *real_chmod;
+static chown_function *real_chown;
+static sync_function *real_sync;
+static seek_function *real_seek;
+static truncate_function *real_truncate;
+static realpath_function *real_realpath;
 static enum kind counted = MEMORY;
+static const char *saved, *saved_to, *saved_by;
+static int times_descriptor = -1;
+static long long last_seek;
+static useconds_t pause_time;
 static long refused, requests;
 static int from_then, descriptor = -1;
 static long held, most_held;
 static int held_descriptor = -1;
 
-static int is_refused(enum kind kind, int reason) {
-    if (refused == 0 || kind != counted || ++requests < refused || (requests > refused && !from_then))
-        return 0;
-    if (real_write(descriptor, "r", 1) != 1)
+static void write_text(const char *path, int flags) {
+    int to = real_open(path, flags | O_WRONLY, 0644);
+    if (to < 0 || real_write(to, saved, strlen(saved)) != (ssize_t)strlen(saved) || close(to) != 0)
         abort();
+}
+
+static void save(void) {
+    if (!saved_by) {
+        write_text(saved_to, O_TRUNC);
+        return;
+    }
+    write_text(".saved", O_CREAT | O_EXCL);
+    if (real_rename(".saved", saved_to) != 0)
+        abort();
+}
+
+static int is_refused(enum kind kind, int reason) {
+    int is_counted = kind == counted || (counted == ANY && kind != MEMORY);
+    if (refused == 0 || !is_counted || ++requests < refused || (requests > refused && !from_then))
+        return 0;
+    if (real_write(descriptor, kind_names[kind], 4) != 4)
+        abort();
+    if (saved) {
+        save();
+        return 0;
+    }
     errno = reason;
     return 1;
 }
@@ -97,6 +154,16 @@ static void find_real(void) {
     if (!real_write) {
         real_open = (open_function *)dlsym(RTLD_NEXT, "open");
         real_read = (read_function *)dlsym(RTLD_NEXT, "read");
+        real_statx = (statx_function *)dlsym(RTLD_NEXT, "statx");
+        real_list = (list_function *)dlsym(RTLD_NEXT, "getdents64");
+        real_rename = (rename_function *)dlsym(RTLD_NEXT, "rename");
+        real_unlink = (unlink_function *)dlsym(RTLD_NEXT, "unlink");
+        real_chmod = (chmod_function *)dlsym(RTLD_NEXT, "fchmod");
+        real_chown = (chown_function *)dlsym(RTLD_NEXT, "fchown");
+        real_sync = (sync_function *)dlsym(RTLD_NEXT, "fsync");
+        real_seek = (seek_function *)dlsym(RTLD_NEXT, "lseek");
+        real_truncate = (truncate_function *)dlsym(RTLD_NEXT, "ftruncate");
+        real_realpath = (realpath_function *)dlsym(RTLD_NEXT, "realpath");
         real_write = (write_function *)dlsym(RTLD_NEXT, "write");
     }
 }
@@ -117,6 +184,8 @@ int open(const char *path, int flags, ...) {
     find_real();
     if (held_descriptor >= 0)
         tell_held();
+    if (pause_time)
+        usleep(pause_time);
     return is_refused(OPEN, EACCES) ? -1 : real_open(path, flags, mode);
 }
 
@@ -130,6 +199,74 @@ ssize_t write(int to, const void *bytes, size_t size) {
     return is_refused(WRITE, EIO) ? -1 : real_write(to, bytes, size);
 }
 
+int statx(int folder, const char *restrict path, int flags, unsigned int mask, struct statx *restrict into) {
+    find_real();
+    return is_refused(STAT, EACCES) ? -1 : real_statx(folder, path, flags, mask, into);
+}
+
+ssize_t getdents64(int folder, void *into, size_t size) {
+    find_real();
+    return is_refused(LIST, EIO) ? -1 : real_list(folder, into, size);
+}
+
+static long long now(void) {
+    struct timespec time;
+    clock_gettime(CLOCK_MONOTONIC, &time);
+    return time.tv_sec * 1000000000LL + time.tv_nsec;
+}
+
+static void tell_time(const char *name) {
+    char line[4200];
+    int length = snprintf(line, sizeof line, "%lld%s%s\n", last_seek, *name ? " " : "", name);
+    if (times_descriptor >= 0 && real_write(times_descriptor, line, (size_t)length) != length)
+        abort();
+}
+
+int rename(const char *from, const char *to) {
+    find_real();
+    tell_time(to);
+    return is_refused(RENAME, EACCES) ? -1 : real_rename(from, to);
+}
+
+int unlink(const char *path) {
+    find_real();
+    return is_refused(UNLINK, EACCES) ? -1 : real_unlink(path);
+}
+
+int fchmod(int file, mode_t mode) {
+    find_real();
+    return is_refused(CHMOD, EPERM) ? -1 : real_chmod(file, mode);
+}
+
+int fchown(int file, uid_t owner, gid_t group) {
+    find_real();
+    return is_refused(OWNER, EPERM) ? -1 : real_chown(file, owner, group);
+}
+
+int fsync(int file) {
+    find_real();
+    return is_refused(SYNC, EIO) ? -1 : real_sync(file);
+}
+
+off_t lseek(int file, off_t offset, int whence) {
+    find_real();
+    last_seek = now();
+    tell_time("");
+    if (pause_time)
+        usleep(pause_time);
+    return is_refused(SEEK, EIO) ? -1 : real_seek(file, offset, whence);
+}
+
+int ftruncate(int file, off_t size) {
+    find_real();
+    return is_refused(TRUNCATE, EIO) ? -1 : real_truncate(file, size);
+}
+
+char *realpath(const char *restrict path, char *restrict into) {
+    find_real();
+    return is_refused(FOLLOW, ELOOP) ? NULL : real_realpath(path, into);
+}
+
 ssize_t __write(int to, const void *bytes, size_t size) { return write(to, bytes, size); }
 
 typedef int main_function(int, char **, char **);
@@ -137,12 +274,19 @@ typedef int main_function(int, char **, char **);
 static main_function *real_main;
 
 static int begin(int argc, char **argv, char **environment) {
-    static const char *const names[] = {"memory", "open", "read", "write"};
+    const char *times_fd = getenv("TIMES_FD"), *pause = getenv("PAUSE");
     const char *number = getenv("REFUSE"), *told = getenv("REFUSE_FD"), *name = getenv("REFUSED"), *held_fd = getenv("HELD_FD");
     find_real();
-    for (int kind = MEMORY; name && kind <= WRITE; kind++)
-        if (strcmp(name, names[kind]) == 0)
+    for (int kind = MEMORY; name && kind <= ANY; kind++)
+        if (strcmp(name, kind_names[kind]) == 0)
             counted = kind;
+    saved = getenv("SAVE");
+    saved_to = getenv("SAVE_TO");
+    saved_by = getenv("SAVE_BY");
+    if (pause)
+        pause_time = (useconds_t)atoi(pause);
+    if (times_fd)
+        times_descriptor = atoi(times_fd);
     from_then = getenv("FROM_THEN") != NULL;
     if (number && told) {
         descriptor = atoi(told);

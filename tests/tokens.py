@@ -21,14 +21,15 @@ class Refused(Exception):
 def identifier(text, at):
     """The end of the identifier that begins at a place, or the place."""
     end = at
-    while end < len(text) and (text[end].isidentifier() if end == at
-                               else text[end] == '-' or ('a' + text[end]).isidentifier()):
+    while end < len(text) and (
+        text[end].isidentifier() if end == at else text[end] == '-' or ('a' + text[end]).isidentifier()
+    ):
         end += 1
     return end
 
 
 def newline(text, at):
-    """The end of the newline that stands at a place, or the place."""
+    """The end of the newline at a place, or the place itself."""
     return at + 1 if text.startswith('\n', at) else at + 2 if text.startswith('\r\n', at) else at
 
 
@@ -46,8 +47,8 @@ def lines(text, at):
 class Scanner:
     def __init__(self, text):
         self.text, self.at, self.found = text, 0, []
-        self.open = []     # what is open, the innermost last
-        self.hidden = []   # for each open heredoc the offset of its marker line, and its marker
+        self.open = []  # what is open, the innermost last
+        self.hidden = []  # for each open heredoc the offset of its marker line, and its marker
 
     def seen(self):
         return self.hidden[-1][0] if self.hidden else len(self.text)
@@ -55,7 +56,7 @@ class Scanner:
     def take(self, kind, end):
         if end > self.seen():
             raise Refused('%s past what is seen' % kind)
-        self.found.append((kind, self.text[self.at:end]))
+        self.found.append((kind, self.text[self.at : end]))
         self.at = end
 
     def all(self):
@@ -82,7 +83,7 @@ class Scanner:
 
     def template(self, quoted):
         text, at = self.text, self.at
-        if text[at:at + 2] in ('${', '%{') and self.seen() > at + 1:
+        if text[at : at + 2] in ('${', '%{') and self.seen() > at + 1:
             self.open.append('sequence')
             self.take('sequence open', at + (3 if text.startswith('~', at + 2) and self.seen() > at + 2 else 2))
         elif quoted and text[at] == '"':
@@ -92,12 +93,12 @@ class Scanner:
             self.literal(quoted)
 
     def literal(self, quoted):
-        text, at, seen = self.text[:self.seen()], self.at, self.seen()
+        text, at, seen = self.text[: self.seen()], self.at, self.seen()
         while at < seen:
-            if text[at:at + 3] in ('$${', '%%{'):
+            if text[at : at + 3] in ('$${', '%%{'):
                 at += 3
             elif text[at] in '$%':
-                if text[at + 1:at + 2] == '{':
+                if text[at + 1 : at + 2] == '{':
                     break
                 at += 1
             elif quoted and text[at] == '\\':
@@ -105,7 +106,7 @@ class Scanner:
                 if not escape:
                     break
                 at = escape.end()
-            elif quoted and (text[at] in '"\n' or text[at:at + 2] == '\r\n'):
+            elif quoted and (text[at] in '"\n' or text[at : at + 2] == '\r\n'):
                 break
             else:
                 at += 1
@@ -116,7 +117,7 @@ class Scanner:
     # ---- expressions
 
     def expression(self):
-        text, at = self.text[:self.seen()], self.at
+        text, at = self.text[: self.seen()], self.at
         blanks = at
         while blanks < len(text) and text[blanks] in ' \t':
             blanks += 1
@@ -156,7 +157,7 @@ class Scanner:
         raise Refused('no token begins with %r' % text[at])
 
     def heredoc(self, text):
-        """Takes the opener of a heredoc, where one stands here."""
+        """Takes the opener of a heredoc, if there is one here."""
         begin = self.at + (3 if text.startswith('-', self.at + 2) else 2)
         end = identifier(text, begin)
         after = newline(text, end)
@@ -176,7 +177,7 @@ class Scanner:
         while groups and self.open[groups - 1] in ('paren', 'bracket'):
             groups -= 1
         if groups and self.open[groups - 1] == 'sequence':
-            del self.open[groups - 1:]
+            del self.open[groups - 1 :]
             return self.take('sequence close', self.at + (1 if text[self.at] == '}' else 2))
         if text[self.at] == '~':
             raise Refused('no sequence is open')
@@ -194,5 +195,5 @@ class Scanner:
 
 
 def tokens(text):
-    """The tokens of a text; Refused where it has none."""
+    """The tokens of a text; Refused if it has none."""
     return Scanner(text).all()

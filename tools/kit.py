@@ -1,10 +1,10 @@
 """The kit's own command `rt`, as a module, so that tools/prove can work on several crates side by side.
 
-`rt lib` and `rt run` lock the crate that they work on and each crate below it, so that two crates over the same
-library wait for one another, though neither writes into what the other reads. Called with words of `rt`, this file does
-what `rt` does with them, in the current folder, but leaves the lock to its caller, which holds it for all crates. It
-differs in one more thing: where a crate below isn't built, or was changed since, it ends with status 1 and builds
-nothing, since another call may be at work there. Proof, kept work and built files are those of `rt`.
+`rt lib` and `rt run` lock the crate that they work on and each crate below it, so two crates over the same library wait
+for each other, though neither writes into what the other reads. Called with words of `rt`, this file does what `rt` does
+with them, in the current folder, but leaves the lock to its caller, which holds it for all crates. There is one more
+difference: if a crate below isn't built, or was changed since, it ends with status 1 and builds nothing, since another
+call may be working there. Proof, kept work and built files are those of `rt`.
 """
 
 import ctypes
@@ -25,7 +25,7 @@ def find():
 
 
 def load(path):
-    """`rt` as a module, or None where this kit's isn't made as the one that this file was written for."""
+    """`rt` as a module, or None if this kit's isn't like the one that this file was written for."""
     sys.dont_write_bytecode = True
     try:
         loader = importlib.machinery.SourceFileLoader('kit_rt', path)
@@ -39,7 +39,7 @@ def load(path):
 
 
 def main(words):
-    # Where tools/prove is killed, so is this; and where this ends, `rt` sees to it that the prover does.
+    # If tools/prove is killed, so is this; and when this ends, `rt` makes sure that the prover does.
     ctypes.CDLL(None).prctl(PARENT_DEATH_SIGNAL, signal.SIGKILL)
     kit = load(find())
     library, own = kit.rtlib, os.path.basename(os.getcwd())
@@ -52,6 +52,7 @@ def main(words):
             return 0
         print('%s was changed after it was proved' % crate.name, flush=True)
         return 1
+
     library.lock = lambda crates: []
     library.Crate.build_rlib = build_own
     return kit.main(words)

@@ -18,12 +18,12 @@ _tffmt() {
   case ${1##*/} in
     tffmt) options='--check --help' ;;
     tfrules) options='--rules --naming --minimum-failure-severity --force --help' files=linted ;;
-    tffmt-all) options='--check --diff --list --jobs --shard --null --help --version' files=formatted ;;
+    tffmt-all) options='--check --diff --list --in-place --sync --jobs --shard --null --help --version' files=formatted ;;
     tffmt-hook) options='--install --help --version' ;;
     tfrules-modules)
       options='--rules --naming --minimum-failure-severity --force --check-comments --no-config --shard --jobs --null --help --version'
       files=linted ;;
-    tfrules-report) options='--format --help' ;;
+    tfrules-report) options='--format --help --version' ;;
   esac
   for ((i = 1; i < COMP_CWORD; i++)); do
     [[ ${COMP_WORDS[i]} != -- ]] || options=

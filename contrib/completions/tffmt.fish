@@ -38,12 +38,15 @@ complete -c tfrules-modules -f -l version -d 'Print the version'
 
 complete -c tfrules-report -x -l format -a 'sarif checkstyle junit gitlab json github' -d 'What to write'
 complete -c tfrules-report -f -s h -l help -d 'Print help'
+complete -c tfrules-report -f -l version -d 'Print the version'
 
 complete -c tffmt-all -f -a "(__tffmt_files 'tf|tfvars|tofu|tftest\.hcl|tfmock\.hcl|tfquery\.hcl|tofutest\.hcl')"
 complete -c tffmt-all -l check -d 'Report each file that is not formatted'
 complete -c tffmt-all -l diff -d 'Show what would change'
 complete -c tffmt-all -l list -d 'Print the names of files that would change'
-complete -c tffmt-all -x -s j -l jobs -d 'Files to work on at a time'
+complete -c tffmt-all -l in-place -d 'Write over a file that cannot be replaced'
+complete -c tffmt-all -l sync -d 'Have each new file on the disk'
+complete -c tffmt-all -x -s j -l jobs -d 'Taken, and of no use'
 complete -c tffmt-all -x -l shard -d 'Take a part of the files, K/N'
 complete -c tffmt-all -f -s 0 -l null -d 'Read names from standard input'
 complete -c tffmt-all -f -s h -l help -d 'Print help'

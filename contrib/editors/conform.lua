@@ -1,4 +1,4 @@
--- Neovim with conform.nvim: formats Terraform files when they are written. Where tffmt refuses the text, conform
+-- Neovim with conform.nvim: formats Terraform files when they are written. If tffmt refuses the text, conform
 -- leaves the buffer as it is and `:ConformInfo` shows the message. Merge this into the call of `setup` that you have.
 require("conform").setup({
   formatters = {

@@ -1,12 +1,12 @@
 ;;; tffmt.el --- Format Terraform files with tffmt  -*- lexical-binding: t -*-
 
 ;; Load this file, then `M-x tffmt' formats the buffer, and the minor mode `tffmt-on-save-mode' formats it whenever
-;; it is saved.  Loading alone turns nothing on; to have the mode wherever `terraform-mode' is, add
+;; it is saved.  Loading alone turns nothing on; to have the mode together with `terraform-mode', add
 ;;
 ;;     (add-hook 'terraform-mode-hook #'tffmt-on-save-mode)
 ;;
-;; Where tffmt refuses the text, or can't be run, the buffer stays as it is, the file is saved as it stands, and
-;; the message is shown after the one that the file was written.  Emacs 26.1 or later.
+;; If tffmt refuses the text, or can't be run, the buffer stays as it is, the file is saved as it is, and the
+;; message is shown after the one that the file was written.  Emacs 26.1 or later.
 
 ;;; Code:
 

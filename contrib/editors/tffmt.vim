@@ -1,14 +1,14 @@
 " Vim and Neovim: formats a Terraform file when it is written.
 "
 " Put this file into ~/.vim/plugin/ (Vim) or ~/.config/nvim/plugin/ (Neovim). `:Tffmt` formats the buffer by hand.
-" Where tffmt refuses the text, the buffer stays as it is, the file is written as it stands, and the message is
-" shown after Vim's own that the file was written. The same holds where tffmt can't be run.
+" If tffmt refuses the text, the buffer stays as it is, the file is written as it is, and the message is shown
+" after Vim's own that the file was written. The same holds if tffmt can't be run.
 "
-" g:tffmt_program names the program where it isn't `tffmt` on the path; with `let g:tffmt_on_save = 0` nothing
-" is formatted on writing.
+" g:tffmt_program names the program if it isn't `tffmt` on the path; with `let g:tffmt_on_save = 0` nothing is
+" formatted on writing.
 "
-" 'formatprg' and 'equalprg' are not the place for tffmt: they hand it a part of a file, and Vim puts what a
-" failed filter said in place of the text.
+" 'formatprg' and 'equalprg' are not the place for tffmt: they pass it a part of a file, and Vim replaces the text
+" by what a failed filter said.
 
 " Formats the buffer; what went wrong, or nothing.
 function! s:Format() abort

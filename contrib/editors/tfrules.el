@@ -5,7 +5,7 @@
 ;;     (add-hook 'terraform-mode-hook #'tfrules-mode)
 ;;
 ;; Then flymake shows what tfrules finds in the file, when it is opened and whenever it is saved.  The module of the
-;; file is linted with all its files, as they were saved last.  `M-x compile' with `tfrules-modules' lists what is
+;; file is linted with all its files, as last saved.  `M-x compile' with `tfrules-modules' lists what is
 ;; found in all modules, with no settings.  Emacs 26.1 or later.
 
 ;;; Code:

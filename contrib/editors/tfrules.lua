@@ -1,10 +1,10 @@
 -- Neovim 0.7 or later: shows as diagnostics what tfrules finds, when a Terraform file is opened or written.
 --
--- Put this file into ~/.config/nvim/plugin/. The module of the file is linted with all its files, as they were written
--- last. vim.g.tfrules_command names the program and its options, where it isn't { "tfrules-modules" }.
+-- Put this file into ~/.config/nvim/plugin/. The module of the file is linted with all its files, as last saved.
+-- vim.g.tfrules_command names the program and its options, if it isn't { "tfrules-modules" }.
 --
--- A column is that of a character as a reader sees it, and Neovim takes it for that of a byte: behind letters that
--- aren't ASCII the mark stands too far to the left on the line.
+-- A column counts characters as a reader sees them, and Neovim takes it for a byte's: after letters that aren't ASCII
+-- the mark is too far to the left on the line.
 
 local space = vim.api.nvim_create_namespace("tfrules")
 local severities = {

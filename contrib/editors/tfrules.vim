@@ -1,16 +1,15 @@
 " Vim and Neovim: lints the module of the file at hand, and lists what is found.
 "
 " Put this file into ~/.vim/compiler/ (Vim) or ~/.config/nvim/compiler/ (Neovim). After `:compiler tfrules`, `:make`
-" lints the folder of the file with all its files, as they were written last, and fills the quickfix list; `:lmake`
+" lints the folder of the file with all its files, as last saved, and fills the quickfix list; `:lmake`
 " fills the location list. To have it for all Terraform files:
 "
 "     autocmd FileType terraform,hcl compiler tfrules
 "
-" g:tfrules_program names the program where it isn't `tfrules-modules` on the path. Words that are put behind `:make`
-" are options, as in `:make --rules all`.
+" g:tfrules_program names the program if it isn't `tfrules-modules` on the path. Words after `:make` are options, as in `:make --rules all`.
 "
-" A column is that of a character as a reader sees it, and Vim takes it for that of a byte: behind letters that aren't
-" ASCII the cursor stands too far to the left on the line.
+" A column counts characters as a reader sees them, and Vim takes it for a byte's: after letters that aren't ASCII the
+" cursor is too far to the left on the line.
 
 if exists('current_compiler')
   finish

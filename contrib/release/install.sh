@@ -1,13 +1,13 @@
 #!/bin/sh
-# Installs what lies beside this script below a folder, /usr/local where none is named, or removes it again:
+# Installs what is beside this script under a prefix, by default /usr/local, or removes it again:
 #
 #     sh install.sh [PREFIX]
 #     sh install.sh --remove [PREFIX]
 #
-# What was installed is listed in PREFIX/share/doc/tffmt/installed, and the removal goes by that list alone, so it takes
-# away the files of that version and the folders that were made for them, where they are empty. This script lies
-# there too. The status is 1 where a file can't be written or removed, or the programs don't run here, and then nothing
-# is installed; and 2 where the command line is wrong.
+# What was installed is listed in PREFIX/share/doc/tffmt/installed, and the removal uses that list alone, so it removes
+# the files of that version and the folders that were made for them, if they are empty. This script is there too. The
+# status is 1 if a file can't be written or removed, or the programs don't run here, and then nothing is installed; and 2
+# if the command line is wrong.
 set -u
 LC_ALL=C
 export LC_ALL

@@ -24,8 +24,15 @@ def on_terminal(group, words, cwd, seconds=20, keys=(), **setting):
         os.setsid()
         fcntl.ioctl(0, termios.TIOCSCTTY, 0)
 
-    process = subprocess.Popen([str(w) for w in words], cwd=str(cwd), stdin=slave, stdout=slave, stderr=slave,
-                               preexec_fn=own_terminal, env=dict(group.setting, TERM='xterm', **setting))
+    process = subprocess.Popen(
+        [str(w) for w in words],
+        cwd=str(cwd),
+        stdin=slave,
+        stdout=slave,
+        stderr=slave,
+        preexec_fn=own_terminal,
+        env=dict(group.setting, TERM='xterm', **setting),
+    )
     os.close(slave)
     said, end, keys, seen = b'', time.monotonic() + seconds, list(keys), 0
     while process.poll() is None and time.monotonic() < end:
@@ -89,12 +96,21 @@ def run_vim(group):
     group.holds('and Vim says that it was written', 'written' in shown, shown)
     for name in ('a.tfvars', 'a.tofu', 'a.tftest.hcl', 'a.tfmock.hcl', 'a.tfquery.hcl', 'a.tofutest.hcl'):
         group.check(name, edit(name, OTHER)[2], GOOD)
-    group.check('a refused buffer: the message is seen in the end', edit('a.tf', BAD),
-                ('tffmt: error: 1:3: unexpected token', BAD, BAD))
-    group.check('without the program, on writing', edit('a.tf', OTHER, program='no-such-program'),
-                ('no-such-program: not found', OTHER, OTHER))
-    group.check('without the program, by hand', edit('a.tf', OTHER, ':Tffmt', program='no-such-program'),
-                ('no-such-program: not found', OTHER, OTHER))
+    group.check(
+        'a refused buffer: the message is seen in the end',
+        edit('a.tf', BAD),
+        ('tffmt: error: 1:3: unexpected token', BAD, BAD),
+    )
+    group.check(
+        'without the program, on writing',
+        edit('a.tf', OTHER, program='no-such-program'),
+        ('no-such-program: not found', OTHER, OTHER),
+    )
+    group.check(
+        'without the program, by hand',
+        edit('a.tf', OTHER, ':Tffmt', program='no-such-program'),
+        ('no-such-program: not found', OTHER, OTHER),
+    )
     group.check('by hand, refused', edit('a.tf', BAD, ':Tffmt'), ('tffmt: error: 1:3: unexpected token', BAD, BAD))
     group.check('by hand', edit('a.tf', OTHER, ':Tffmt')[1:], (GOOD, OTHER))
     group.check('turned off', edit('a.tf', OTHER, ':let g:tffmt_on_save = 0|w')[2], OTHER)
@@ -125,8 +141,11 @@ def run_emacs(group):
         here = group.fresh()
         put(here, {name: text})
         (here / 'test.el').write_text(
-            EMACS.replace('PLUGIN', str(group.contrib / 'editors' / 'tffmt.el')).replace('PROGRAM', program)
-            .replace('NAME', name).replace('FORM', form))
+            EMACS.replace('PLUGIN', str(group.contrib / 'editors' / 'tffmt.el'))
+            .replace('PROGRAM', program)
+            .replace('NAME', name)
+            .replace('FORM', form)
+        )
         said = on_terminal(group, ['emacs', '-Q', '-nw', '-l', 'test.el'], here)
         if not (here / 'shown').exists():
             return 'nothing was noted: %r' % said[-300:], b'', b''
@@ -136,8 +155,11 @@ def run_emacs(group):
     shown, buffer, file = edit('a.tf', OTHER, saving)
     group.check('a buffer is formatted when it is saved', (buffer, file), (GOOD, GOOD))
     group.holds('and Emacs says that it was written', shown.startswith('Wrote'), shown)
-    group.check('a refused buffer: the message is seen in the end', edit('a.tf', BAD, saving),
-                ('tffmt: error: 1:3: unexpected token', BAD, BAD))
+    group.check(
+        'a refused buffer: the message is seen in the end',
+        edit('a.tf', BAD, saving),
+        ('tffmt: error: 1:3: unexpected token', BAD, BAD),
+    )
     shown, buffer, file = edit('a.tf', OTHER, saving, program='no-such-program')
     group.holds('without the program, on saving', 'no-such-program' in shown, shown)
     group.check('the file is saved then', (buffer, file), (OTHER, OTHER))
@@ -172,34 +194,72 @@ BATCH = '''
 def batch(group):
     here = group.fresh()
     text = b''.join(b'a%d=%d # x  y\n' % (i, i) for i in range(20000))
-    put(here, {'big.tf': text, 'test.el': BATCH.replace('PLUGIN', str(group.contrib / 'editors' / 'tffmt.el'))
-                                             .replace('PROGRAM', group.program).encode()})
+    put(
+        here,
+        {
+            'big.tf': text,
+            'test.el': BATCH.replace('PLUGIN', str(group.contrib / 'editors' / 'tffmt.el'))
+            .replace('PROGRAM', group.program)
+            .encode(),
+        },
+    )
     status, out, err = group.call('emacs', '-Q', '--batch', '-l', 'test.el', cwd=here)
-    group.check('20,000 changed lines', out.decode().splitlines(), [
-        'loading turns on: nil', 'undo restores: t', 'in time: t', 'point stands behind: "a777   ="', 'a marker stands behind: "a0     = 0"'])
+    group.check(
+        '20,000 changed lines',
+        out.decode().splitlines(),
+        [
+            'loading turns on: nil',
+            'undo restores: t',
+            'in time: t',
+            'point stands behind: "a777   ="',
+            'a marker stands behind: "a0     = 0"',
+        ],
+    )
     group.check('with no other message', err.decode().splitlines()[1:], [])
-    group.check('are what tffmt prints', (here / 'big.tf').read_bytes(), group.call(group.program, cwd=here, stdin=text)[1])
-    put(here, {'mixed.tf': b'b{\n\tx   =[1,  2]\t\n\n  long=<<E\n  k  \nE\n}\r\n\xc3\xa9 = 1', 'other.el': (
-        '(load "%s/editors/tffmt.el" nil t) (setq tffmt-program "%s") (find-file-literally "mixed.tf") '
-        '(set-buffer-multibyte t) (tffmt) (save-buffer)' % (group.contrib, group.program)).encode()})
+    group.check(
+        'are what tffmt prints', (here / 'big.tf').read_bytes(), group.call(group.program, cwd=here, stdin=text)[1]
+    )
+    put(
+        here,
+        {
+            'mixed.tf': b'b{\n\tx   =[1,  2]\t\n\n  long=<<E\n  k  \nE\n}\r\n\xc3\xa9 = 1',
+            'other.el': (
+                '(load "%s/editors/tffmt.el" nil t) (setq tffmt-program "%s") (find-file-literally "mixed.tf") '
+                '(set-buffer-multibyte t) (tffmt) (save-buffer)' % (group.contrib, group.program)
+            ).encode(),
+        },
+    )
     wanted = group.call(group.program, cwd=here, stdin=(here / 'mixed.tf').read_bytes())[1]
     group.call('emacs', '-Q', '--batch', '-l', 'other.el', cwd=here)
     group.check('a text of all kinds', (here / 'mixed.tf').read_bytes(), wanted)
-    warnings = group.call('emacs', '-Q', '--batch', '--eval', '(setq byte-compile-dest-file-function (lambda (_) "%s"))'
-                          % (here / 'x.elc'), '-f', 'batch-byte-compile', group.contrib / 'editors' / 'tffmt.el', cwd=here)
+    warnings = group.call(
+        'emacs',
+        '-Q',
+        '--batch',
+        '--eval',
+        '(setq byte-compile-dest-file-function (lambda (_) "%s"))' % (here / 'x.elc'),
+        '-f',
+        'batch-byte-compile',
+        group.contrib / 'editors' / 'tffmt.el',
+        cwd=here,
+    )
     group.check('compiles without a warning', (warnings[0], warnings[2]), (0, b''))
 
 
 # --- what tfrules finds, in the editors --------------------------------------------------------------------------
 
 # A module with a find of each severity that there is, in a folder with a blank in its name.
-MODULE = {'a b/m.tf': b'variable "one" { type = string }\nvariable "Two" { type = string }\nx = var.Two\n',
-          'a b/o.tf': b'output "o" {\n  value = var.Two\n}\n\nvariable "t" {}\ny = var.t\n'}
+MODULE = {
+    'a b/m.tf': b'variable "one" { type = string }\nvariable "Two" { type = string }\nx = var.Two\n',
+    'a b/o.tf': b'output "o" {\n  value = var.Two\n}\n\nvariable "t" {}\ny = var.t\n',
+}
 OTHERS = {'a b/m.tf': b'x =\n', 'a b/o.tf': b''}
 RULES = ['--rules', 'terraform_unused_declarations,terraform_naming_convention,terraform_typed_variables']
-FOUND = [('a b/m.tf', 1, 1, 'W', 'variable "one" is declared but not used', 'terraform_unused_declarations'),
-         ('a b/m.tf', 2, 1, 'N', 'variable name "Two" must match snake_case', 'terraform_naming_convention'),
-         ('a b/o.tf', 5, 1, 'W', 'variable "t" has no type', 'terraform_typed_variables')]
+FOUND = [
+    ('a b/m.tf', 1, 1, 'W', 'variable "one" is declared but not used', 'terraform_unused_declarations'),
+    ('a b/m.tf', 2, 1, 'N', 'variable name "Two" must match snake_case', 'terraform_naming_convention'),
+    ('a b/o.tf', 5, 1, 'W', 'variable "t" has no type', 'terraform_typed_variables'),
+]
 
 
 def run_linting_vim(group):
@@ -213,7 +273,8 @@ def run_linting_vim(group):
 let g:tfrules_program = '%s'
 compiler tfrules
 silent make! %s
-call writefile([json_encode(map(getqflist(), {_, it -> [it.bufnr ? bufname(it.bufnr) : '', it.lnum, it.col, it.type, it.text]}))], 'list')
+let Shown = {_, it -> [it.bufnr ? bufname(it.bufnr) : '', it.lnum, it.col, it.type, it.text]}
+call writefile([json_encode(map(getqflist(), Shown))], 'list')
 qall!
 """
 
@@ -221,20 +282,29 @@ qall!
         here = group.fresh()
         put(here, files)
         (here / 'test.vim').write_text(script % (group.top / 'runtime', program, words))
-        words = ['vim', '-u', 'NONE', '-N', '-i', 'NONE', '-es'] if editor == 'vim' else [
-            'nvim', '-u', 'NONE', '-i', 'NONE', '--headless']
+        words = (
+            ['vim', '-u', 'NONE', '-N', '-i', 'NONE', '-es']
+            if editor == 'vim'
+            else ['nvim', '-u', 'NONE', '-i', 'NONE', '--headless']
+        )
         done = group.call(*words, 'a b/m.tf', '-S', 'test.vim', cwd=here)
         return json.loads((here / 'list').read_text()) if (here / 'list').exists() else done
 
-    group.check('the list has the report of the module', made(MODULE, ' '.join(RULES)), [
-        [file, line, column, kind, '%s (%s)' % (text, rule)] for file, line, column, kind, text, rule in FOUND])
+    group.check(
+        'the list has the report of the module',
+        made(MODULE, ' '.join(RULES)),
+        [[file, line, column, kind, '%s (%s)' % (text, rule)] for file, line, column, kind, text, rule in FOUND],
+    )
     group.check('and a refusal', made(OTHERS), [['a b/m.tf', 1, 4, 'e', 'unexpected token']])
     group.check('no issue, an empty list', made({'a b/m.tf': b'x = 1\n'}), [])
     spaced = group.fresh() / 'a b'
     spaced.symlink_to(group.contrib / 'tfrules-modules')
     group.check('a program with a blank in its path', made(OTHERS, program=spaced)[0][4], 'unexpected token')
-    group.check('what is said of a whole module is shown', [it[4] for it in made(
-        dict({'a b/%03d.tf' % i: b'' for i in range(257)}, **MODULE))], ['tfrules-modules: a b: more than 256 files'])
+    group.check(
+        'what is said of a whole module is shown',
+        [it[4] for it in made(dict({'a b/%03d.tf' % i: b'' for i in range(257)}, **MODULE))],
+        ['tfrules-modules: a b: more than 256 files'],
+    )
 
 
 DIAGNOSED = """
@@ -265,19 +335,29 @@ def run_diagnostics(group):
     if not group.has('nvim', checks=3):
         return
     for name, files, wanted in (
-            ('the report of the file at hand', MODULE, [
-                [1, 1, 2, FOUND[0][4], FOUND[0][5]], [2, 1, 3, FOUND[1][4], FOUND[1][5]]]),
-            ('a refusal', OTHERS, [[1, 4, 1, 'unexpected token', '']])):
+        (
+            'the report of the file at hand',
+            MODULE,
+            [[1, 1, 2, FOUND[0][4], FOUND[0][5]], [2, 1, 3, FOUND[1][4], FOUND[1][5]]],
+        ),
+        ('a refusal', OTHERS, [[1, 4, 1, 'unexpected token', '']]),
+    ):
         here = group.fresh()
         put(here, files)
-        (here / 'test.lua').write_text(DIAGNOSED % (group.contrib / 'tfrules-modules', RULES[1], group.contrib, len(wanted)))
-        done = group.call('nvim', '-u', 'NONE', '-i', 'NONE', '--headless', '-c', 'luafile test.lua', '-c', 'qall!', cwd=here)
+        (here / 'test.lua').write_text(
+            DIAGNOSED % (group.contrib / 'tfrules-modules', RULES[1], group.contrib, len(wanted))
+        )
+        done = group.call(
+            'nvim', '-u', 'NONE', '-i', 'NONE', '--headless', '-c', 'luafile test.lua', '-c', 'qall!', cwd=here
+        )
         told = [json.loads((here / kept).read_text()) if (here / kept).exists() else done for kept in ('list', 'after')]
         group.check(name + ', and nothing once it is mended', told, [wanted, []])
     here = group.fresh()
     put(here, OTHERS)
     (here / 'test.lua').write_text((DIAGNOSED % ('no-such-program', '', group.contrib, 0)))
-    done = group.call('nvim', '-u', 'NONE', '-i', 'NONE', '--headless', '-c', 'luafile test.lua', '-c', 'qall!', cwd=here)
+    done = group.call(
+        'nvim', '-u', 'NONE', '-i', 'NONE', '--headless', '-c', 'luafile test.lua', '-c', 'qall!', cwd=here
+    )
     group.holds('without the program', b'no-such-program: not found' in done[2], done)
 
 
@@ -307,15 +387,32 @@ def run_flymake(group):
     if not group.has('emacs', checks=3):
         return
     for name, files, wanted in (
-            ('the report of the file at hand', MODULE, ['1:1 :warning %s (%s)' % FOUND[0][4:], '2:1 :note %s (%s)' % FOUND[1][4:]]),
-            ('a refusal', OTHERS, ['1:1 :error unexpected token'])):
+        (
+            'the report of the file at hand',
+            MODULE,
+            ['1:1 :warning %s (%s)' % FOUND[0][4:], '2:1 :note %s (%s)' % FOUND[1][4:]],
+        ),
+        ('a refusal', OTHERS, ['1:1 :error unexpected token']),
+    ):
         here = group.fresh()
         put(here, files)
         (here / 'test.el').write_text(FLYMAKE % (group.contrib, group.contrib / 'tfrules-modules', RULES[1]))
         status, out, err = group.call('emacs', '-Q', '--batch', '-l', 'test.el', cwd=here)
-        group.check(name + ', and nothing once it is mended', (sorted(out.decode().splitlines()), status),
-                    (sorted(wanted + ['mended']), 0))
+        group.check(
+            name + ', and nothing once it is mended',
+            (sorted(out.decode().splitlines()), status),
+            (sorted(wanted + ['mended']), 0),
+        )
     here = group.fresh()
-    warnings = group.call('emacs', '-Q', '--batch', '--eval', '(setq byte-compile-dest-file-function (lambda (_) "%s"))'
-                          % (here / 'x.elc'), '-f', 'batch-byte-compile', group.contrib / 'editors' / 'tfrules.el', cwd=here)
+    warnings = group.call(
+        'emacs',
+        '-Q',
+        '--batch',
+        '--eval',
+        '(setq byte-compile-dest-file-function (lambda (_) "%s"))' % (here / 'x.elc'),
+        '-f',
+        'batch-byte-compile',
+        group.contrib / 'editors' / 'tfrules.el',
+        cwd=here,
+    )
     group.check('compiles without a warning', (warnings[0], warnings[2]), (0, b''))

@@ -8,6 +8,8 @@ import subprocess
 import tempfile
 
 TOP = pathlib.Path(__file__).resolve().parent.parent.parent
+NOBODY = 65534
+SHELLS = ['sh', 'dash', 'bash', 'busybox']
 GOOD, OTHER, BAD = b'a = 1\n', b'a=1\n', b'a=\n'
 REFUSED = ':1:3: unexpected token'
 LIMIT = 60
@@ -31,9 +33,19 @@ class Group:
         self.setting = {name: value for name, value in os.environ.items() if not name.startswith('GIT_')}
         beside = pathlib.Path(program).with_name('tfrules')
         self.linter = str(beside if beside.exists() else TOP / 'bin' / 'tfrules')
-        self.setting.update(TFFMT=program, TFRULES=self.linter, TFFMT_ALL=str(contrib / 'tffmt-all'),
-                             HOME=str(self.folder('home')), TMPDIR=str(self.folder('tmp')),
-                            GIT_CONFIG_NOSYSTEM='1', LC_ALL='C.UTF-8', TERM='dumb')
+        beside = pathlib.Path(program).with_name('tffmt-all')
+        self.trees = str(beside if beside.exists() else TOP / 'bin' / 'tffmt-all')
+        (self.folder('trees') / 'tffmt-all').symlink_to(self.trees)
+        self.setting.update(
+            TFFMT=program,
+            TFRULES=self.linter,
+            TFFMT_ALL=self.trees,
+            HOME=str(self.folder('home')),
+            TMPDIR=str(self.folder('tmp')),
+            GIT_CONFIG_NOSYSTEM='1',
+            LC_ALL='C.UTF-8',
+            TERM='dumb',
+        )
         self.top.joinpath('tmp').chmod(0o777)
 
     def folder(self, name):
@@ -73,26 +85,44 @@ class Group:
 
     def call(self, *words, cwd, stdin=b'', user=None, limit=None, **setting):
         """(status, standard output, standard error) of a command; a status below 0 is a signal."""
+
         def prepare():
             if limit is not None:
                 import resource
+
                 resource.setrlimit(resource.RLIMIT_FSIZE, (limit, limit))
+                signal.signal(signal.SIGXFSZ, signal.SIG_IGN)  # so that a write fails, as on a full device
             if user is not None:
                 os.setgroups([])
                 os.setgid(user)
                 os.setuid(user)
-        done = subprocess.run([os.fspath(w) for w in words], cwd=str(cwd), env=dict(self.setting, **setting),
-                              input=stdin, stdout=subprocess.PIPE, stderr=subprocess.PIPE, timeout=LIMIT,
-                              preexec_fn=prepare)
+
+        done = subprocess.run(
+            [os.fspath(w) for w in words],
+            cwd=str(cwd),
+            env=dict(self.setting, **setting),
+            input=stdin,
+            stdout=subprocess.PIPE,
+            stderr=subprocess.PIPE,
+            timeout=LIMIT,
+            preexec_fn=prepare,
+        )
         return done.returncode, done.stdout, done.stderr
 
     def start(self, *words, cwd, **setting):
         def hear():
             # A shell's job in the background ignores this signal, and so would all that is started below it.
             signal.signal(signal.SIGINT, signal.SIG_DFL)
-        return subprocess.Popen([os.fspath(w) for w in words], cwd=str(cwd), env=dict(self.setting, **setting),
-                                stdin=subprocess.DEVNULL, stdout=subprocess.PIPE, stderr=subprocess.PIPE,
-                                preexec_fn=hear)
+
+        return subprocess.Popen(
+            [os.fspath(w) for w in words],
+            cwd=str(cwd),
+            env=dict(self.setting, **setting),
+            stdin=subprocess.DEVNULL,
+            stdout=subprocess.PIPE,
+            stderr=subprocess.PIPE,
+            preexec_fn=hear,
+        )
 
     def end(self, process, sent=signal.SIGTERM):
         """(status, standard output, standard error) of a started command after a signal."""
@@ -113,7 +143,30 @@ class Group:
         return made
 
     def before_path(self, *folders):
-        return ':'.join([str(f) for f in folders] + [self.setting['PATH']])
+        """The path with these folders first, and then one that has tffmt-all alone."""
+        return ':'.join([str(f) for f in folders] + [str(self.top / 'trees'), self.setting['PATH']])
+
+
+class Script:
+    """A script under one shell, which is also the `sh` that it calls; under busybox its own tools, and those that are
+    named, are all that there is."""
+
+    def __init__(self, group, shell, name, besides=()):
+        self.group = group
+        folder = group.fresh()
+        (folder / 'sh').symlink_to(shutil.which(shell))
+        self.path = group.before_path(folder)
+        if shell == 'busybox':
+            for tool in set(group.call(shell, '--list', cwd='/')[1].decode().split()) - {'sh'}:
+                (folder / tool).symlink_to(shutil.which(shell))
+            for tool in filter(shutil.which, besides):
+                (folder / tool).symlink_to(shutil.which(tool))
+            self.path = str(folder)
+        self.words = ['sh', group.contrib / name]
+
+    def __call__(self, *words, cwd, **more):
+        more.setdefault('PATH', self.path)
+        return self.group.call(*(self.words + list(words)), cwd=cwd, **more)
 
 
 def put(folder, files):
@@ -128,6 +181,14 @@ def put(folder, files):
                 file.write(text)
 
 
+def shard_of(name, count):
+    """The sum of docs/SCALE.md."""
+    total = 0
+    for byte in os.fsencode(name):
+        total = (total * 31 + (1 if byte == 10 else byte)) % 4294967291
+    return total % count
+
+
 def lines(*each):
     """The bytes of lines of text."""
     return b''.join((one if isinstance(one, bytes) else one.encode()) + b'\n' for one in each)
@@ -139,7 +200,7 @@ def run(subject):
     group = Group(name, program, contrib)
     try:
         function(group)
-    except Exception as fault:                                   # one group's fault must not hide another's
+    except Exception as fault:  # one group's fault must not hide another's
         group.failed += 1
         group.lines.append('%s: broke off: %r' % (name, fault))
     group.made.cleanup()

@@ -8,7 +8,7 @@ import shutil
 from harness import BAD, GOOD, OTHER, REFUSED, TOP, lines, put
 
 FORMAT = 'tffmt-hook: the commit is refused: format these files and stage them again:'
-MEND = 'tffmt-hook: the commit is refused: mend these files and stage them again'
+MEND = 'tffmt-hook: the commit is refused: fix these files and stage them again'
 BLIND = 'tffmt-hook: the commit is refused: not every staged file could be looked at'
 
 
@@ -51,9 +51,22 @@ def mend(*names):
 
 def run(group):
     if group.has('git', checks=70):
-        for part in (first_commit, later_commits, alone, odd_names, mended, many_files, without_program, failing_tools, filters,
-                     sparse, installing,
-                     other_hooks, with_the_linter, command_line):
+        for part in (
+            first_commit,
+            later_commits,
+            alone,
+            odd_names,
+            mended,
+            many_files,
+            without_program,
+            failing_tools,
+            filters,
+            sparse,
+            installing,
+            other_hooks,
+            with_the_linter,
+            command_line,
+        ):
             part(group)
         group.check('nothing is left in the temporary folder', list(group.folder('tmp').iterdir()), [])
 
@@ -66,21 +79,77 @@ def installed(group):
 
 def first_commit(group):
     here = installed(group)
-    here.stage({'good.tf': GOOD, 'other.tf': OTHER, 'vars.tfvars': OTHER, 'b.tofu': OTHER, 'c.tftest.hcl': OTHER,
-                'd.tfmock.hcl': OTHER, 'text.txt': OTHER, 'e.hcl': OTHER, 'a folder/bad.tf': BAD, '\u00e9.tf': OTHER,
-                'f.tfquery.hcl': OTHER, 'g.tofutest.hcl': OTHER, '.config/h.tf': OTHER, 'old~/#i#/i.tf': OTHER,
-                'link.tf': b'->other.tf'})
-    group.check('first commit, all reported', here.commit(), (False, said(
-        'other.tf: not formatted', 'vars.tfvars: not formatted', '\u00e9.tf: not formatted', 'b.tofu: not formatted',
-        'c.tftest.hcl: not formatted', 'd.tfmock.hcl: not formatted', 'a folder/bad.tf' + REFUSED,
-        'f.tfquery.hcl: not formatted', 'g.tofutest.hcl: not formatted', '.config/h.tf: not formatted',
-        'old~/#i#/i.tf: not formatted', MEND, mend(
-            '.config/h.tf', 'b.tofu', 'c.tftest.hcl', 'd.tfmock.hcl', 'f.tfquery.hcl', 'g.tofutest.hcl', "'old~/#i#/i.tf'",
-            'other.tf', 'vars.tfvars', "'\u00e9.tf'"))))
+    here.stage(
+        {
+            'good.tf': GOOD,
+            'other.tf': OTHER,
+            'vars.tfvars': OTHER,
+            'b.tofu': OTHER,
+            'c.tftest.hcl': OTHER,
+            'd.tfmock.hcl': OTHER,
+            'text.txt': OTHER,
+            'e.hcl': OTHER,
+            'a folder/bad.tf': BAD,
+            '\u00e9.tf': OTHER,
+            'f.tfquery.hcl': OTHER,
+            'g.tofutest.hcl': OTHER,
+            '.config/h.tf': OTHER,
+            'old~/#i#/i.tf': OTHER,
+            'link.tf': b'->other.tf',
+        }
+    )
+    group.check(
+        'first commit, all reported',
+        here.commit(),
+        (
+            False,
+            said(
+                'other.tf: not formatted',
+                'vars.tfvars: not formatted',
+                '\u00e9.tf: not formatted',
+                'b.tofu: not formatted',
+                'c.tftest.hcl: not formatted',
+                'd.tfmock.hcl: not formatted',
+                'a folder/bad.tf' + REFUSED,
+                'f.tfquery.hcl: not formatted',
+                'g.tofutest.hcl: not formatted',
+                '.config/h.tf: not formatted',
+                'old~/#i#/i.tf: not formatted',
+                MEND,
+                mend(
+                    '.config/h.tf',
+                    'b.tofu',
+                    'c.tftest.hcl',
+                    'd.tfmock.hcl',
+                    'f.tfquery.hcl',
+                    'g.tofutest.hcl',
+                    "'old~/#i#/i.tf'",
+                    'other.tf',
+                    'vars.tfvars',
+                    "'\u00e9.tf'",
+                ),
+            ),
+        ),
+    )
     group.check('the status is the worst', here.run_hook()[0], 2)
-    here.stage({name: GOOD for name in ('other.tf', 'vars.tfvars', 'b.tofu', 'c.tftest.hcl', 'd.tfmock.hcl',
-                                        'a folder/bad.tf', '\u00e9.tf', 'f.tfquery.hcl', 'g.tofutest.hcl', '.config/h.tf',
-                                        'old~/#i#/i.tf')})
+    here.stage(
+        {
+            name: GOOD
+            for name in (
+                'other.tf',
+                'vars.tfvars',
+                'b.tofu',
+                'c.tftest.hcl',
+                'd.tfmock.hcl',
+                'a folder/bad.tf',
+                '\u00e9.tf',
+                'f.tfquery.hcl',
+                'g.tofutest.hcl',
+                '.config/h.tf',
+                'old~/#i#/i.tf',
+            )
+        }
+    )
     put(here.top, {'other.tf': OTHER})
     group.check('what is staged counts, not the working tree', here.commit(), (True, b''))
 
@@ -94,15 +163,22 @@ def later_commits(group):
     here.git('rm', '-q', 'gone.tf')
     group.check('nor one that is removed', here.commit(), (True, b''))
     here.stage({'in/x.tf': OTHER})
-    group.check('a changed file, from a folder below', here.commit(cwd=here.top / 'in'),
-                (False, said('in/x.tf: not formatted', FORMAT, mend('../in/x.tf'))))
+    group.check(
+        'a changed file, from a folder below',
+        here.commit(cwd=here.top / 'in'),
+        (False, said('in/x.tf: not formatted', FORMAT, mend('../in/x.tf'))),
+    )
     here.git('reset', '-q', '--hard')
     (here.top / 'link.tf').unlink()
     here.stage({'link.tf': OTHER})
-    group.check('a link that became a file', here.commit(), (False, said('link.tf: not formatted', FORMAT, mend('link.tf'))))
+    group.check(
+        'a link that became a file', here.commit(), (False, said('link.tf: not formatted', FORMAT, mend('link.tf')))
+    )
     here.git('reset', '-q', '--hard')
     here.git('mv', 'old.tf', 'moved.tf')
-    group.check('a file under a new name', here.commit(), (False, said('moved.tf: not formatted', FORMAT, mend('moved.tf'))))
+    group.check(
+        'a file under a new name', here.commit(), (False, said('moved.tf: not formatted', FORMAT, mend('moved.tf')))
+    )
     here.git('reset', '-q', '--hard')
     put(here.top, {'good.tf': b'a = 1\nb = 2\n', 'in/x.tf': OTHER})
     here.git('add', 'in/x.tf')
@@ -111,8 +187,10 @@ def later_commits(group):
 
 def alone(group):
     """Each kind of fault by itself refuses."""
-    for name, text, status, line, last in (('bad.tf', BAD, 2, 'bad.tf' + REFUSED, [MEND]),
-                                           ('other.tf', OTHER, 3, 'other.tf: not formatted', [FORMAT, mend('other.tf')])):
+    for name, text, status, line, last in (
+        ('bad.tf', BAD, 2, 'bad.tf' + REFUSED, [MEND]),
+        ('other.tf', OTHER, 3, 'other.tf: not formatted', [FORMAT, mend('other.tf')]),
+    ):
         here = installed(group)
         here.stage({name: text, 'good.tf': GOOD})
         group.check(name + ' alone', here.commit(), (False, said(line, *last)))
@@ -127,18 +205,29 @@ def odd_names(group):
     here.stage({name: OTHER for name in names})
     ordered = sorted(names)
     quoted = ["'%s'" % name if set(name) & set(' \n\t"\\*') else name for name in ordered]
-    group.check('other files of any name', here.run_hook(), (3, b'', lines(
-        *([name + ': not formatted' for name in ordered] + [FORMAT, mend(*quoted)]))))
+    group.check(
+        'other files of any name',
+        here.run_hook(),
+        (3, b'', lines(*([name + ': not formatted' for name in ordered] + [FORMAT, mend(*quoted)]))),
+    )
     group.check('refuse', here.commit()[0], False)
     here = installed(group)
     here.stage({b'caf\xe9.tf': OTHER})
-    group.check('a name that is not UTF-8', here.commit(), (False, said(
-        b'caf\xe9.tf: not formatted', FORMAT, b"  tffmt-all -- 'caf\xe9.tf'")))
+    group.check('a name that is not UTF-8', here.commit(), (False, said(b"caf\xe9.tf: the name isn't UTF-8", BLIND)))
 
 
 def mended(group):
     """The command that is printed formats just the files that were reported, from where git was called."""
-    names = ['.config/x.tf', 'in/a b.tf', "in/it's.tf", 'in/new\nline.tf', '-n.tf', 'in/$x`y`.tf', 'x.tf~/y.tf', 'a:1:1.tf']
+    names = [
+        '.config/x.tf',
+        'in/a b.tf',
+        "in/it's.tf",
+        'in/new\nline.tf',
+        '-n.tf',
+        'in/$x`y`.tf',
+        'x.tf~/y.tf',
+        'a:1:1.tf',
+    ]
     for folder in ('.', 'in', 'in/deep'):
         here = installed(group)
         put(here.top, {'in/deep/text.txt': b''})
@@ -148,15 +237,17 @@ def mended(group):
         command = re.search(rb'^  (tffmt-all -- .*)', done[2], re.M | re.S).group(1)
         told = group.call('sh', '-c', command, cwd=here.top / folder, PATH=group.before_path(group.contrib))
         group.check('the command works, from ' + folder, (told[0], told[2]), (0, b''))
-        group.check('the files are formatted, and no other, from ' + folder, {
-            name: (here.top / name).read_bytes() for name in names + ['other.tf']},
-            dict({name: GOOD for name in names}, **{'other.tf': OTHER}))
+        group.check(
+            'the files are formatted, and no other, from ' + folder,
+            {name: (here.top / name).read_bytes() for name in names + ['other.tf']},
+            dict({name: GOOD for name in names}, **{'other.tf': OTHER}),
+        )
         here.git('add', '--', *names)
         group.check('and the commit passes, from ' + folder, here.commit(), (True, b''))
 
 
 def many_files(group):
-    """Of many files no names are printed, and it is still the command that mends them. All are checked in a few processes."""
+    """Of many files no names are printed, but still the command that formats them. All are checked in a few processes."""
     here = installed(group)
     names = ['in/%03d.tf' % i for i in range(120)]
     here.stage(dict({name: OTHER for name in names}, **{'in/text.txt': OTHER, '.h/x.tf': OTHER}))
@@ -165,12 +256,15 @@ def many_files(group):
     group.check('one line', (len(done[2].splitlines()), b'--null' in command), (len(names) + 3, True))
     told = group.call('sh', '-c', command, cwd=here.top / 'in', PATH=group.before_path(group.contrib))
     group.check('the command works', (told[0], told[2]), (0, b''))
-    group.check('the files are formatted, and no other', ({(here.top / name).read_bytes() for name in names + ['.h/x.tf']},
-                (here.top / 'in' / 'text.txt').read_bytes()), ({GOOD}, OTHER))
+    group.check(
+        'the files are formatted, and no other',
+        ({(here.top / name).read_bytes() for name in names + ['.h/x.tf']}, (here.top / 'in' / 'text.txt').read_bytes()),
+        ({GOOD}, OTHER),
+    )
     here.git('add', '-A')
     calls = group.fresh() / 'calls'
     counting = group.script('git', 'echo >>"%s"\nexec %s "$@"\n' % (calls, shutil.which('git'))).parent
-    formatter = group.script('t', 'echo >>"%s"\nexec "%s" "$@"\n' % (calls, group.contrib / 'tffmt-all'))
+    formatter = group.script('t', 'echo >>"%s"\nexec "%s" "$@"\n' % (calls, group.trees))
     group.check('they pass', here.run_hook(PATH=group.before_path(counting), TFFMT_ALL=str(formatter)), (0, b'', b''))
     group.holds('a few processes for all of them', len(calls.read_text()) < 10, len(calls.read_text()))
 
@@ -181,8 +275,11 @@ def sparse(group):
     here.stage({'in/x.tf': OTHER, 'out/y.tf': OTHER})
     here.git('update-index', '--skip-worktree', 'out/y.tf')
     (here.top / 'out' / 'y.tf').unlink()
-    group.check('a file that is not in the working tree', here.run_hook(), (3, b'', lines(
-        'in/x.tf: not formatted', 'out/y.tf: not formatted', FORMAT, mend('in/x.tf', 'out/y.tf'))))
+    group.check(
+        'a file that is not in the working tree',
+        here.run_hook(),
+        (3, b'', lines('in/x.tf: not formatted', 'out/y.tf: not formatted', FORMAT, mend('in/x.tf', 'out/y.tf'))),
+    )
 
 
 def without_program(group):
@@ -190,8 +287,11 @@ def without_program(group):
     here.stage({'text.txt': OTHER, 'link.tf': b'->text.txt'})
     group.check('without the program and such a file', here.commit(TFFMT_ALL='no-such-program'), (True, b''))
     here.stage({'good.tf': GOOD})
-    group.check('without the program', here.commit(TFFMT_ALL='no-such-program'), (False, said(
-        'tffmt-hook: no-such-program: not found', BLIND)))
+    group.check(
+        'without the program',
+        here.commit(TFFMT_ALL='no-such-program'),
+        (False, said('tffmt-hook: no-such-program: not found', BLIND)),
+    )
     group.check('without the program, the status', here.run_hook(TFFMT_ALL='no-such-program')[0], 4)
 
 
@@ -199,14 +299,22 @@ def failing_tools(group):
     here = installed(group)
     here.stage({'good.tf': GOOD})
     failing = group.script('t', 'echo "good.tf: read failed" >&2\nexit 4\n')
-    group.check('a program that fails', here.commit(TFFMT_ALL=str(failing)), (False, said('good.tf: read failed', BLIND)))
+    group.check(
+        'a program that fails', here.commit(TFFMT_ALL=str(failing)), (False, said('good.tf: read failed', BLIND))
+    )
     for status in (1, 139):
         other = str(group.script('t', 'exit %d\n' % status))
-        group.check('another program', here.run_hook(TFFMT_ALL=other), (4, b'', lines(
-            'tffmt-hook: %s failed with status %d' % (other, status), BLIND)))
-    for tool, text in (('xargs', 'exit 1\n'), ('git', 'case $* in *diff-index*) exit 1 ;; esac\n%s "$@"\n'),
-                       ('git', 'case $* in *--stdin*) exit 1 ;; esac\n%s "$@"\n'),
-                       ('git', 'case $* in *--stdin*) exit 0 ;; esac\n%s "$@"\n')):
+        group.check(
+            'another program',
+            here.run_hook(TFFMT_ALL=other),
+            (4, b'', lines('tffmt-hook: %s failed with status %d' % (other, status), BLIND)),
+        )
+    for tool, text in (
+        ('xargs', 'exit 1\n'),
+        ('git', 'case $* in *diff-index*) exit 1 ;; esac\n%s "$@"\n'),
+        ('git', 'case $* in *--stdin*) exit 1 ;; esac\n%s "$@"\n'),
+        ('git', 'case $* in *--stdin*) exit 0 ;; esac\n%s "$@"\n'),
+    ):
         made = group.script(tool, text.replace('%s', shutil.which('git')))
         group.check('a %s that fails' % tool, here.run_hook(PATH=group.before_path(made.parent))[0], 4)
     group.check('without a temporary folder', here.run_hook(TMPDIR='/nowhere')[0], 4)
@@ -222,14 +330,20 @@ def filters(group):
     group.check('a filter turns the text', here.git('cat-file', 'blob', ':secret.tfvars')[1] != GOOD, True)
     group.check('a formatted file behind a filter', here.commit(), (True, b''))
     here.stage({'secret.tfvars': OTHER})
-    group.check('another one', here.commit(), (False, said('secret.tfvars: not formatted', FORMAT, mend('secret.tfvars'))))
+    group.check(
+        'another one', here.commit(), (False, said('secret.tfvars: not formatted', FORMAT, mend('secret.tfvars')))
+    )
 
 
 def refuses(group, name, here, top):
     """Whether a hook is at work in a working tree."""
     put(top, {'other.tf': OTHER})
     here.git('add', 'other.tf', cwd=top)
-    group.check('the hook works ' + name, here.commit(cwd=top), (False, said('other.tf: not formatted', FORMAT, mend('other.tf'))))
+    group.check(
+        'the hook works ' + name,
+        here.commit(cwd=top),
+        (False, said('other.tf: not formatted', FORMAT, mend('other.tf'))),
+    )
 
 
 def installing(group):
@@ -247,23 +361,37 @@ def installing(group):
     group.check('installing in a worktree', here.install(cwd=tree), (0, place, b''))
     put(tree, {'new.tf': OTHER})
     here.git('add', '-A', cwd=tree)
-    group.check('the hook works in a worktree', here.commit(cwd=tree), (False, said('new.tf: not formatted', FORMAT, mend('new.tf'))))
+    group.check(
+        'the hook works in a worktree',
+        here.commit(cwd=tree),
+        (False, said('new.tf: not formatted', FORMAT, mend('new.tf'))),
+    )
     # a submodule has hooks of its own
     outer = Repository(group)
     outer.git('-c', 'protocol.file.allow=always', 'submodule', '--quiet', 'add', here.top, 'sub')
     sub = outer.top / 'sub'
     for words in (['user.name', 'n'], ['user.email', 'n@localhost']):
         outer.git('config', *words, cwd=sub)
-    group.check('installing in a submodule', outer.install(cwd=sub),
-                (0, lines('installed %s/.git/modules/sub/hooks/pre-commit' % outer.top), b''))
+    group.check(
+        'installing in a submodule',
+        outer.install(cwd=sub),
+        (0, lines('installed %s/.git/modules/sub/hooks/pre-commit' % outer.top), b''),
+    )
     put(sub, {'new.tf': OTHER})
     outer.git('add', '-A', cwd=sub)
-    group.check('the hook works in a submodule', outer.commit(cwd=sub), (False, said('new.tf: not formatted', FORMAT, mend('new.tf'))))
+    group.check(
+        'the hook works in a submodule',
+        outer.commit(cwd=sub),
+        (False, said('new.tf: not formatted', FORMAT, mend('new.tf'))),
+    )
     # core.hooksPath
     here = Repository(group)
     here.git('config', 'core.hooksPath', '.githooks')
-    group.check('installing under core.hooksPath', here.install(cwd=group.folder(str(here.top / 'in'))),
-                (0, lines('installed %s/.githooks/pre-commit' % here.top), b''))
+    group.check(
+        'installing under core.hooksPath',
+        here.install(cwd=group.folder(str(here.top / 'in'))),
+        (0, lines('installed %s/.githooks/pre-commit' % here.top), b''),
+    )
     refuses(group, 'under core.hooksPath', here, here.top)
 
 
@@ -271,8 +399,14 @@ def other_hooks(group):
     here = Repository(group)
     theirs = here.top / '.git' / 'hooks' / 'pre-commit'
     theirs.write_text('#!/bin/sh\nexit 0\n')
-    group.check('another hook is left alone', (here.install(), theirs.read_text()), ((4, b'', lines(
-        'tffmt-hook: %s: there is another hook already; have it call tffmt-hook' % theirs)), '#!/bin/sh\nexit 0\n'))
+    group.check(
+        'another hook is left alone',
+        (here.install(), theirs.read_text()),
+        (
+            (4, b'', lines('tffmt-hook: %s: there is another hook already; have it call tffmt-hook' % theirs)),
+            '#!/bin/sh\nexit 0\n',
+        ),
+    )
     theirs.write_text('#!/bin/sh\n"%s" || exit\n' % here.hook)
     theirs.chmod(0o755)
     refuses(group, 'when another hook calls it', here, here.top)
@@ -298,23 +432,38 @@ def with_the_linter(group):
     here.stage({'m/a b.tf': b'variable "n" { type = number }\n'})
     group.check('with one file of a module staged', here.commit(PATH=path), (True, b''))
     here.stage({'m/u.tf': b'x=var.n\n'})
-    group.check('and refuses a file that is not formatted', here.commit(PATH=path), (False, said('m/u.tf: not formatted', FORMAT, mend('m/u.tf'))))
+    group.check(
+        'and refuses a file that is not formatted',
+        here.commit(PATH=path),
+        (False, said('m/u.tf: not formatted', FORMAT, mend('m/u.tf'))),
+    )
     here.stage({'m/u.tf': b'x = 1\n'})
     done = here.git('commit', '-q', '-m', 'x', PATH=path)
-    group.holds('and an issue', done[0] == 1 and b'm/a b.tf:1:1: Warning - variable "n" is declared but not used' in done[1] + done[2],
-                done)
+    group.holds(
+        'and an issue',
+        done[0] == 1 and b'm/a b.tf:1:1: Warning - variable "n" is declared but not used' in done[1] + done[2],
+        done,
+    )
 
 
 def command_line(group):
     here = Repository(group)
+    group.check(
+        'without git',
+        group.call(here.hook, '--install', cwd=here.top, PATH='/nowhere'),
+        (4, b'', b'tffmt-hook: git: not found\n'),
+    )
     status, out, err = group.call(here.hook, '--help', cwd=here.top)
     group.check('--help', (status, out.startswith(b'usage: tffmt-hook '), err), (0, True, b''))
     usage = out.split(b'\n')[0] + b'\n'
     for words in (['--bogus'], ['--install', 'x'], ['']):
         group.check('a wrong line %r' % words, group.call(here.hook, *words, cwd=here.top), (2, b'', usage))
     for words in ([], ['--install']):
-        group.check('outside a repository %r' % words,
-                    group.call(here.hook, *words, cwd=group.fresh(), GIT_CEILING_DIRECTORIES=str(group.top))[0], 4)
+        group.check(
+            'outside a repository %r' % words,
+            group.call(here.hook, *words, cwd=group.fresh(), GIT_CEILING_DIRECTORIES=str(group.top))[0],
+            4,
+        )
 
 
 def run_framework(group):
@@ -329,35 +478,45 @@ def run_framework(group):
     revision = source.git('rev-parse', 'HEAD')[1].decode().strip()
     home = str(group.fresh())
     # this test's own Python may hide that of pre-commit
-    path = '%s:%s:/usr/bin:/bin' % tuple(group.script(name, 'exec %s "$@"\n' % program).parent for name, program in (
-        ('tffmt', group.program), ('tfrules', group.linter)))
+    path = '%s:%s:/usr/bin:/bin' % tuple(
+        group.script(name, 'exec %s "$@"\n' % program).parent
+        for name, program in (('tffmt-all', group.trees), ('tfrules', group.linter))
+    )
 
     def framework(here, identity, *words):
         (here.top / '.pre-commit-config.yaml').write_text(
-            'repos:\n- repo: %s\n  rev: %s\n  hooks:\n  - id: %s\n' % (source.top, revision, identity))
+            'repos:\n- repo: %s\n  rev: %s\n  hooks:\n  - id: %s\n' % (source.top, revision, identity)
+        )
         return call(here, *words)
 
     def call(here, *words):
         here.git('add', '.pre-commit-config.yaml')
-        status, out, _ = group.call('pre-commit', *words, cwd=here.top, PATH=path, TFFMT='tffmt', TFRULES='tfrules',
-                                    PRE_COMMIT_HOME=home)
+        status, out, _ = group.call(
+            'pre-commit', *words, cwd=here.top, PATH=path, TFRULES='tfrules', PRE_COMMIT_HOME=home
+        )
         return status, out.decode('utf-8', 'replace')
 
     here = Repository(group)
     here.stage({'good.tf': GOOD, 'a b.tf': OTHER, '-x.tfvars': OTHER, 'e.hcl': OTHER})
     status, out = framework(here, 'tffmt-check', 'run', '--all-files')
-    group.check('tffmt-check refuses', (status, [line for line in out.splitlines() if 'not formatted' in line]),
-                (1, ['-x.tfvars: not formatted', 'a b.tf: not formatted']))
+    group.check(
+        'tffmt-check refuses',
+        (status, [line for line in out.splitlines() if 'not formatted' in line]),
+        (1, ['-x.tfvars: not formatted', 'a b.tf: not formatted']),
+    )
     status, out = framework(here, 'tffmt', 'run', '--all-files')
     group.check('tffmt formats, and fails once', (status, 'files were modified by this hook' in out), (1, True))
-    group.check('in place', {name: (here.top / name).read_bytes() for name in ('a b.tf', '-x.tfvars', 'e.hcl')},
-                {'a b.tf': GOOD, '-x.tfvars': GOOD, 'e.hcl': OTHER})
+    group.check(
+        'in place',
+        {name: (here.top / name).read_bytes() for name in ('a b.tf', '-x.tfvars', 'e.hcl')},
+        {'a b.tf': GOOD, '-x.tfvars': GOOD, 'e.hcl': OTHER},
+    )
     here.git('add', '-A')
     for identity in ('tffmt', 'tffmt-check'):
         group.check(identity + ' passes', framework(here, identity, 'run', '--all-files')[0], 0)
     group.check('as the hook of a commit', framework(here, 'tffmt-check', 'install')[0], 0)
     here.stage({'bad.tf': BAD})
-    status, _, err = here.git('commit', '-q', '-m', 'x', PATH=path, TFFMT='tffmt', PRE_COMMIT_HOME=home)
+    status, _, err = here.git('commit', '-q', '-m', 'x', PATH=path, PRE_COMMIT_HOME=home)
     group.holds('a refused file refuses the commit', status == 1 and b'bad.tf:1:3: unexpected token' in err, err)
     # a module whose files use one another, of which one was changed
     here = Repository(group)
@@ -368,8 +527,11 @@ def run_framework(group):
     group.check('tfrules lints the whole module', framework(here, 'tfrules', 'run')[0], 0)
     here.stage({'m/-u.tf': b'x = 1\n'})
     status, out = framework(here, 'tfrules', 'run')
-    group.check('and sees what a changed file uses no more', (status, [line for line in out.splitlines() if 'm/' in line]),
-                (1, ['m/a b.tf:1:1: Warning - variable "n" is declared but not used (terraform_unused_declarations)']))
+    group.check(
+        'and sees what a changed file uses no more',
+        (status, [line for line in out.splitlines() if 'm/' in line]),
+        (1, ['m/a b.tf:1:1: Warning - variable "n" is declared but not used (terraform_unused_declarations)']),
+    )
     # the example for installed programs
     here = Repository(group)
     here.stage({'a.tf': OTHER, 'b.txt': OTHER})

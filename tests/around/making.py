@@ -1,4 +1,4 @@
-"""What `make` says where it can't do its work, on a copy of the repository, with a kit that proves nothing."""
+"""What `make` says if it can't do its work, on a copy of the repository, with a kit that proves nothing."""
 
 import os
 import shutil
@@ -28,21 +28,43 @@ def run(group):
     tools = tools_alone(group)
 
     def make(*words, path, user=None, **setting):
-        status, out, err = group.call('make', '-s', '-C', copy, *words, cwd=copy, PATH=path, user=user, CALLS=str(calls),
-                                      PROGRAM=group.program, **setting)
+        status, out, err = group.call(
+            'make',
+            '-s',
+            '-C',
+            copy,
+            *words,
+            cwd=copy,
+            PATH=path,
+            user=user,
+            CALLS=str(calls),
+            PROGRAM=group.program,
+            **setting,
+        )
         own = [it for it in err.decode().splitlines() if not it.startswith('make: ***') and ' Error 1' not in it]
         return status, out.decode(), own
 
-    kit = 'there is no rt on the path: the proofs need the Rattle kit, of the line rattle-kit-13b'
+    kit = 'there is no rt on the path: the proofs need the Rattle kit; README.md says which'
     for target in ('all', 'bin/tffmt', 'try', 'test'):
-        group.check('make %s without rt' % target, make(target, path='%s:%s' % (nothing, tools)), (2, '', ['make: ' + kit]))
-    group.check('tools/prove without rt', group.call(copy / 'tools/prove', cwd=copy, PATH='%s:%s' % (nothing, tools)),
-                (1, b'', b'tools/prove: %s\n' % kit.encode()))
-    group.check('make without Python', make(path='%s:%s' % (stand_in, tools)),
-                (2, '', ['make: there is no python3 of version 3.8 or later on the path']))
+        group.check(
+            'make %s without rt' % target, make(target, path='%s:%s' % (nothing, tools)), (2, '', ['make: ' + kit])
+        )
+    group.check(
+        'tools/prove without rt',
+        group.call(copy / 'tools/prove', cwd=copy, PATH='%s:%s' % (nothing, tools)),
+        (1, b'', b'tools/prove: %s\n' % kit.encode()),
+    )
+    group.check(
+        'make without Python',
+        make(path='%s:%s' % (stand_in, tools)),
+        (2, '', ['make: there is no python3 of version 3.8 or later on the path']),
+    )
     old = group.script('python3', 'exit 1\n').parent
-    group.check('make with an old Python', make(path='%s:%s:%s' % (old, stand_in, tools)),
-                (2, '', ['make: there is no python3 of version 3.8 or later on the path']))
+    group.check(
+        'make with an old Python',
+        make(path='%s:%s:%s' % (old, stand_in, tools)),
+        (2, '', ['make: there is no python3 of version 3.8 or later on the path']),
+    )
     group.check('nothing was made, and rt was not called', ((copy / 'bin').exists(), calls.exists()), (False, False))
     calls.touch()
     calls.chmod(0o666)
@@ -60,23 +82,33 @@ def tools_alone(group):
 
 def interrupted(group, copy, calls, stand_in):
     """After a signal nothing is half done, and no prover is left; begun again, the work ends."""
-    setting = dict(group.setting, PATH='%s:%s' % (stand_in, group.setting['PATH']), CALLS=str(calls), PAUSE='2',
-                   PROGRAM=group.program)
+    setting = dict(
+        group.setting,
+        PATH='%s:%s' % (stand_in, group.setting['PATH']),
+        CALLS=str(calls),
+        PAUSE='2',
+        PROGRAM=group.program,
+    )
     # A shell's job in the background ignores the signal of Ctrl-C.
     words = ['sh', '-c', 'trap "" INT; exec "$@"', 'sh', str(copy / 'tools/prove'), 'tffmt']
-    process = subprocess.Popen(words, cwd=str(copy), env=setting, stdout=subprocess.PIPE,
-                               stderr=subprocess.PIPE)
+    process = subprocess.Popen(words, cwd=str(copy), env=setting, stdout=subprocess.PIPE, stderr=subprocess.PIPE)
     deadline = time.monotonic() + 20
     while not calls.read_bytes() and time.monotonic() < deadline:
         time.sleep(0.05)
     status, out, err = group.end(process, signal.SIGTERM)
-    group.check('interrupted', (status, err), (
-        1, b'tools/prove: interrupted; what is proved is kept, and `make` goes on from there\n'))
+    group.check(
+        'interrupted',
+        (status, err),
+        (1, b'tools/prove: interrupted; what is proved is kept, and `make` continues from there\n'),
+    )
     group.check('nothing half done', [it.name for it in (copy / 'bin').iterdir() if not it.name.endswith('.log')], [])
     done = group.call(copy / 'tools/prove', 'tffmt', cwd=copy, **dict(setting, PAUSE='0'))
     group.check('begun again', (done[0], done[2], os.access(str(copy / 'bin/tffmt'), os.X_OK)), (0, b'', True))
-    group.check('the last line', 'proved and built as bin/tffmt, and its stored run is right' in
-                done[1].decode().splitlines()[-1], True)
+    group.check(
+        'the last line',
+        'proved and built as bin/tffmt, and its stored run is right' in done[1].decode().splitlines()[-1],
+        True,
+    )
 
 
 def unwritable(group, copy, calls, make, path):
@@ -88,9 +120,15 @@ def unwritable(group, copy, calls, make, path):
     for it in copy.glob('crates/*/out'):
         shutil.rmtree(str(it))
     calls.write_bytes(b'')
-    group.check("a folder that can't be written", (make('bin/tffmt', path=path, user=65534), calls.read_bytes()),
-                ((2, '', ["tools/prove: bin can't be written: Permission denied"]), b''))
+    group.check(
+        "a folder that can't be written",
+        (make('bin/tffmt', path=path, user=65534), calls.read_bytes()),
+        ((2, '', ["tools/prove: bin can't be written: Permission denied"]), b''),
+    )
     (copy / 'bin').mkdir()
     (copy / 'bin').chmod(0o777)
-    group.check("a crate that can't be written", (make('bin/tffmt', path=path, user=65534), calls.read_bytes()), (
-        (2, '', ["tools/prove: crates/hcl_source/out can't be written: Permission denied"]), b''))
+    group.check(
+        "a crate that can't be written",
+        (make('bin/tffmt', path=path, user=65534), calls.read_bytes()),
+        ((2, '', ["tools/prove: crates/hcl_source/out can't be written: Permission denied"]), b''),
+    )

@@ -12,8 +12,9 @@ def run(group):
     work = group.fresh()
 
     def call(words, stdin, stdout=subprocess.PIPE):
-        done = subprocess.run([group.program] + words, stdin=stdin, stdout=stdout, stderr=subprocess.PIPE,
-                              cwd=str(work))
+        done = subprocess.run(
+            [group.program] + words, stdin=stdin, stdout=stdout, stderr=subprocess.PIPE, cwd=str(work)
+        )
         return done.returncode, done.stderr
 
     (work / 'a.tf').write_bytes(b'a=1\n')
@@ -37,16 +38,24 @@ def walk(group):
     section = text.split('### A first walk\n')[1].split('\n### ')[0]
     lines = ''.join(re.findall(r'```sh\n(.*?)```', section, re.S)).splitlines()
     script = 'git config --global user.name n && git config --global user.email n@localhost\n'
-    script += ''.join('%s || echo "failed: %d"\n' % (line.partition('#')[0].rstrip(), i) for i, line in enumerate(lines))
-    path = group.before_path(group.contrib, group.script('tffmt', 'exec %s "$@"\n' % group.program).parent,
-                             group.script('tfrules', 'exec %s "$@"\n' % group.linter).parent)
+    script += ''.join(
+        '%s || echo "failed: %d"\n' % (line.partition('#')[0].rstrip(), i) for i, line in enumerate(lines)
+    )
+    path = group.before_path(
+        group.contrib,
+        group.script('tffmt', 'exec %s "$@"\n' % group.program).parent,
+        group.script('tfrules', 'exec %s "$@"\n' % group.linter).parent,
+    )
     for name in ('TFFMT', 'TFFMT_ALL', 'TFRULES'):
         del group.setting[name]
     here = group.fresh()
     status, out, err = group.call('sh', '-c', script, cwd=here, PATH=path)
     refused = [i for i, line in enumerate(lines) if re.search('# (refused|status 2)', line)]
-    group.check('what fails in the first walk', (re.findall('failed: ([0-9]+)', out.decode()), len(refused)),
-                ([str(i) for i in refused], 3))
+    group.check(
+        'what fails in the first walk',
+        (re.findall('failed: ([0-9]+)', out.decode()), len(refused)),
+        ([str(i) for i in refused], 3),
+    )
     for line in refused[:2]:
         wanted = re.search('# (?:refused|status 2): (.*)', lines[line]).group(1)
         group.holds('says what the README says', wanted in (out + err).decode().splitlines(), out + err)
@@ -56,14 +65,19 @@ def walk(group):
     made = group.call('git', 'log', '--format=%s', cwd=here / 'walk')[1]
     group.check('the commits that were made', made, b'Drop its use\nAdd a variable\nAdd a module\n')
     log = json.loads((here / 'walk' / 'tfrules.sarif').read_text())
-    group.check('SARIF was written', [each['ruleId'] for each in log['runs'][0]['results']], ['terraform_unused_declarations'])
+    group.check(
+        'SARIF was written', [each['ruleId'] for each in log['runs'][0]['results']], ['terraform_unused_declarations']
+    )
 
 
 def readme(group):
     """The example of the README, and the text that it explains."""
     text = (TOP / 'README.md').read_text(encoding='utf-8')
     blocks = re.findall(r'```hcl\n(.*?)```', text, re.S)
-    group.check('the example of the README', group.call(group.program, cwd=group.top, stdin=blocks[0].encode()),
-                (0, blocks[1].encode(), b''))
+    group.check(
+        'the example of the README',
+        group.call(group.program, cwd=group.top, stdin=blocks[0].encode()),
+        (0, blocks[1].encode(), b''),
+    )
     group.check('1.2.3', group.call(group.program, cwd=group.top, stdin=b'v = 1.2.3\n'), (0, b'v = 1.2 .3\n', b''))
     group.holds('1.2.3 is explained', '1.2 .3' in text)

@@ -13,7 +13,7 @@ from editors import on_terminal
 from harness import BAD, GOOD, OTHER, TOP, lines, put
 
 PAGES = ['tffmt', 'tfrules', 'tffmt-all', 'tffmt-hook', 'tfrules-modules', 'tfrules-report']
-SCRIPTS = PAGES[2:5]
+SCRIPTS = PAGES[3:5]
 
 
 # --- completions -----------------------------------------------------------------------------------------------
@@ -27,76 +27,175 @@ def completions(group):
     put(here, {'good.tf': GOOD, 'text.txt': GOOD, 'in/x.tf': GOOD, 't.tftest.hcl': GOOD, 'v.tfvars': GOOD})
     path = group.before_path(group.script('tffmt', 'exit 0\n').parent, group.contrib)
     if group.has('bash', checks=21):
+
         def bash(line):
             words = line.split(' ')
-            script = ('source "$1"; COMP_WORDS=(%s); COMP_CWORD=%d; _tffmt %s; printf "%%s\\n" "${COMPREPLY[@]}"'
-                      % (' '.join('"%s"' % w for w in words), len(words) - 1, words[0]))
+            script = 'source "$1"; COMP_WORDS=(%s); COMP_CWORD=%d; _tffmt %s; printf "%%s\\n" "${COMPREPLY[@]}"' % (
+                ' '.join('"%s"' % w for w in words),
+                len(words) - 1,
+                words[0],
+            )
             return sorted(group.call('bash', '-c', script, 'bash', folder / 'tffmt.bash', cwd=here)[1].split())
-        group.check('bash: options', bash('tffmt-all --'),
-                    [b'--check', b'--diff', b'--help', b'--jobs', b'--list', b'--null', b'--shard', b'--version'])
+
+        group.check(
+            'bash: options',
+            bash('tffmt-all --'),
+            [
+                b'--check',
+                b'--diff',
+                b'--help',
+                b'--in-place',
+                b'--jobs',
+                b'--list',
+                b'--null',
+                b'--shard',
+                b'--sync',
+                b'--version',
+            ],
+        )
         group.check('bash: one option', (bash('tffmt --c'), bash('tffmt-hook --i')), ([b'--check'], [b'--install']))
-        group.check('bash: files and folders', bash('tffmt-all --check '), [b'good.tf', b'in', b't.tftest.hcl', b'v.tfvars'])
+        group.check(
+            'bash: files and folders', bash('tffmt-all --check '), [b'good.tf', b'in', b't.tftest.hcl', b'v.tfvars']
+        )
         group.check('bash: no option behind --', bash('tffmt-all -- --'), [])
         for name in ('tfrules', 'tfrules-modules'):
-            group.check('bash: ' + name, (bash(name + ' --f'), bash(name + ' --rules a'), bash(name + ' g')),
-                        ([b'--force'], [b'all'], [b'good.tf']))
+            group.check(
+                'bash: ' + name,
+                (bash(name + ' --f'), bash(name + ' --rules a'), bash(name + ' g')),
+                ([b'--force'], [b'all'], [b'good.tf']),
+            )
         group.check('bash: its own option', (bash('tfrules-modules --nu'), bash('tfrules --nu')), ([b'--null'], []))
         for name in ('tfrules', 'tfrules-modules'):
             group.check('bash: files of ' + name, bash(name + ' '), [b'good.tf', b'in'])
-            group.check('bash: rules of ' + name, bash(name + ' --rules terraform_d'), [b'terraform_' + rule for rule in DEPRECATED])
+            group.check(
+                'bash: rules of ' + name,
+                bash(name + ' --rules terraform_d'),
+                [b'terraform_' + rule for rule in DEPRECATED],
+            )
             for words in ('--rules = terraform_typ', '--rules=terraform_typ'):
-                group.check('bash: %s %s' % (name, words), [w.split(b'=')[-1] for w in bash('%s %s' % (name, words))],
-                            [b'terraform_typed_variables'])
+                group.check(
+                    'bash: %s %s' % (name, words),
+                    [w.split(b'=')[-1] for w in bash('%s %s' % (name, words))],
+                    [b'terraform_typed_variables'],
+                )
             group.check('bash: --naming= of ' + name, bash(name + ' --naming ='), [b'mixed_snake_case', b'snake_case'])
-            group.check('bash: several rules of ' + name, bash(name + ' --rules default,terraform_n'), [b'default,terraform_naming_convention'])
+            group.check(
+                'bash: several rules of ' + name,
+                bash(name + ' --rules default,terraform_n'),
+                [b'default,terraform_naming_convention'],
+            )
         group.check('bash: formats', bash('tfrules-report --format s'), [b'sarif'])
-        said = on_terminal(group, ['bash', '--norc', '-i'], here, PATH=path, PS1='> ', keys=[
-            (b'> ', b'source "%s"; echo rea""dy\n' % os.fsencode(str(folder / 'tffmt.bash'))),
-            (b'ready.*> ', b'tfrules --rules=terraform_ty\t'), (b'', b'\x15exit\n')])
+        said = on_terminal(
+            group,
+            ['bash', '--norc', '-i'],
+            here,
+            PATH=path,
+            PS1='> ',
+            keys=[
+                (b'> ', b'source "%s"; echo rea""dy\n' % os.fsencode(str(folder / 'tffmt.bash'))),
+                (b'ready.*> ', b'tfrules --rules=terraform_ty\t'),
+                (b'', b'\x15exit\n'),
+            ],
+        )
         group.holds('bash: --rules= on a terminal', b'tfrules --rules=terraform_typed_variables' in said, said)
-        said = on_terminal(group, ['bash', '--norc', '-i'], here, PATH=path, PS1='> ', keys=[
-            (b'> ', b'source "%s"; echo rea""dy\n' % os.fsencode(str(folder / 'tffmt.bash'))),
-            (b'ready.*> ', b'tffmt-hook --in\t'), (b'--install', b'\x15exit\n')])
+        said = on_terminal(
+            group,
+            ['bash', '--norc', '-i'],
+            here,
+            PATH=path,
+            PS1='> ',
+            keys=[
+                (b'> ', b'source "%s"; echo rea""dy\n' % os.fsencode(str(folder / 'tffmt.bash'))),
+                (b'ready.*> ', b'tffmt-hook --in\t'),
+                (b'--install', b'\x15exit\n'),
+            ],
+        )
         group.holds('bash: on a terminal', b'tffmt-hook --install' in said, said)
     if group.has('zsh', checks=13):
         setup = b'fpath=("%s" $fpath); autoload -U compinit; compinit -u -D; print rea""dy\n' % os.fsencode(str(folder))
-        for typed, wanted in ((b'tffmt-all --ch\t', b'tffmt-all --check'), (b'tffmt-hook --in\t', b'tffmt-hook --install'),
-                              (b'tffmt --c\t', b'tffmt --check'), (b'tffmt-all goo\t', b'tffmt-all good.tf'),
-                              (b'tfrules-modules --nu\t', b'tfrules-modules --null'),
-                              (b'tfrules --rules terraform_ty\t', b'tfrules --rules terraform_typed_variables'),
-                              (b'tfrules --rules=terraform_ty\t', b'tfrules --rules=terraform_typed_variables'),
-                              (b'tfrules --rules=default,terraform_n\t', b'tfrules --rules=default,terraform_naming_convention'),
-                              (b'tfrules-modules --rules ter\t', b'tfrules-modules --rules terraform_'),
-                              (b'tfrules-modules --naming=mi\t', b'tfrules-modules --naming=mixed_snake_case'),
-                              (b'tfrules --naming=\t', b'snake_case'), (b'tfrules t\t', b'tfrules t'),
-                              (b'tfrules-report --format sa\t', b'tfrules-report --format sarif')):
-            said = on_terminal(group, ['zsh', '-f', '-i'], here, PATH=path, PS1='> ', keys=[
-                (b'> ', setup), (b'ready.*> ', typed), (b'', b'\x15exit\n')])
+        for typed, wanted in (
+            (b'tffmt-all --ch\t', b'tffmt-all --check'),
+            (b'tffmt-hook --in\t', b'tffmt-hook --install'),
+            (b'tffmt --c\t', b'tffmt --check'),
+            (b'tffmt-all goo\t', b'tffmt-all good.tf'),
+            (b'tfrules-modules --nu\t', b'tfrules-modules --null'),
+            (b'tfrules --rules terraform_ty\t', b'tfrules --rules terraform_typed_variables'),
+            (b'tfrules --rules=terraform_ty\t', b'tfrules --rules=terraform_typed_variables'),
+            (b'tfrules --rules=default,terraform_n\t', b'tfrules --rules=default,terraform_naming_convention'),
+            (b'tfrules-modules --rules ter\t', b'tfrules-modules --rules terraform_'),
+            (b'tfrules-modules --naming=mi\t', b'tfrules-modules --naming=mixed_snake_case'),
+            (b'tfrules --naming=\t', b'snake_case'),
+            (b'tfrules t\t', b'tfrules t'),
+            (b'tfrules-report --format sa\t', b'tfrules-report --format sarif'),
+        ):
+            said = on_terminal(
+                group,
+                ['zsh', '-f', '-i'],
+                here,
+                PATH=path,
+                PS1='> ',
+                keys=[(b'> ', setup), (b'ready.*> ', typed), (b'', b'\x15exit\n')],
+            )
             shown = re.sub(rb'\x1b\[[0-9;?]*[a-zA-Z]|.\x08', b'', said)
-            group.holds('zsh: ' + typed.decode().strip(), wanted in shown and (typed != b'tfrules t\t' or b'tftest' not in shown), said)
+            group.holds(
+                'zsh: ' + typed.decode().strip(),
+                wanted in shown and (typed != b'tfrules t\t' or b'tftest' not in shown),
+                said,
+            )
     if group.has('fish', checks=13):
+
         def fish(line):
-            done = group.call('fish', '--no-config', '-c', 'source "%s"; complete -C "%s"' % (folder / 'tffmt.fish', line),
-                              cwd=here)
+            done = group.call(
+                'fish', '--no-config', '-c', 'source "%s"; complete -C "%s"' % (folder / 'tffmt.fish', line), cwd=here
+            )
             return sorted(each.split(b'\t')[0] for each in done[1].splitlines())
-        group.check('fish: options', fish('tffmt-all --'),
-                    [b'--check', b'--diff', b'--help', b'--jobs', b'--list', b'--null', b'--shard', b'--version'])
+
+        group.check(
+            'fish: options',
+            fish('tffmt-all --'),
+            [
+                b'--check',
+                b'--diff',
+                b'--help',
+                b'--in-place',
+                b'--jobs',
+                b'--list',
+                b'--null',
+                b'--shard',
+                b'--sync',
+                b'--version',
+            ],
+        )
         group.check('fish: one option', (fish('tffmt --c'), fish('tffmt-hook --i')), ([b'--check'], [b'--install']))
         group.check('fish: files', fish('tffmt-all g'), [b'good.tf'])
-        group.check('fish: files of each kind', (fish('tffmt-all '), fish('tfrules ')), (
-            [b'good.tf', b'in/', b't.tftest.hcl', b'v.tfvars'], [b'good.tf', b'in/']))
+        group.check(
+            'fish: files of each kind',
+            (fish('tffmt-all '), fish('tfrules ')),
+            ([b'good.tf', b'in/', b't.tftest.hcl', b'v.tfvars'], [b'good.tf', b'in/']),
+        )
         for name in ('tfrules', 'tfrules-modules'):
             for words in ('--rules terraform_d', '--rules=terraform_d'):
-                group.check('fish: %s %s' % (name, words), [w.split(b'=')[-1] for w in fish('%s %s' % (name, words))],
-                            [b'terraform_' + rule for rule in DEPRECATED])
-            group.check('fish: --naming= of ' + name, [w.split(b'=')[-1] for w in fish(name + ' --naming=')],
-                        [b'mixed_snake_case', b'snake_case'])
-        group.check('fish: several rules', fish('tfrules --rules default,terraform_n'), [b'default,terraform_naming_convention'])
+                group.check(
+                    'fish: %s %s' % (name, words),
+                    [w.split(b'=')[-1] for w in fish('%s %s' % (name, words))],
+                    [b'terraform_' + rule for rule in DEPRECATED],
+                )
+            group.check(
+                'fish: --naming= of ' + name,
+                [w.split(b'=')[-1] for w in fish(name + ' --naming=')],
+                [b'mixed_snake_case', b'snake_case'],
+            )
+        group.check(
+            'fish: several rules', fish('tfrules --rules default,terraform_n'), [b'default,terraform_naming_convention']
+        )
         group.check('fish: formats', fish('tfrules-report --format s'), [b'sarif'])
-        group.check('fish: the linter', (fish('tfrules-modules --nu'), fish('tfrules --rules a')), ([b'--null'], [b'all']))
+        group.check(
+            'fish: the linter', (fish('tfrules-modules --nu'), fish('tfrules --rules a')), ([b'--null'], [b'all'])
+        )
 
 
 # --- recipes ---------------------------------------------------------------------------------------------------
+
 
 def recipes(group):
     contrib = group.contrib
@@ -105,28 +204,44 @@ def recipes(group):
     tasks = json.loads((contrib / 'editors' / 'vscode' / 'tasks.json').read_text())
     json.loads((contrib / 'editors' / 'vscode' / 'settings.json').read_text())
     tree = xml.etree.ElementTree.parse(str(contrib / 'editors' / 'jetbrains' / 'watcherTasks.xml'))
-    group.check('JetBrains: a program and an argument', [
-        tree.find('.//TaskOptions/option[@name="%s"]' % name).get('value') for name in ('program', 'arguments')],
-        ['tffmt-all', '-- "$FilePath$"'])
+    group.check(
+        'JetBrains: a program and an argument',
+        [tree.find('.//TaskOptions/option[@name="%s"]' % name).get('value') for name in ('program', 'arguments')],
+        ['tffmt-all', '-- "$FilePath$"'],
+    )
     here = group.fresh()
     put(here, {'a b:1/bad.tf': BAD, 'other.tf': OTHER, 'good.tf': GOOD})
     path = group.before_path(group.contrib)
     said = group.call('tffmt-all', '--check', cwd=here, PATH=path)[2].decode()
-    for name, problems in (('GitHub', [p['pattern'][0] for p in matcher['problemMatcher']]),
-                           ('VS Code', [p['pattern'] for p in tasks['tasks'][0]['problemMatcher']])):
-        found = [{key: match.group(number) for key, number in pattern.items() if isinstance(number, int)}
-                 for line in said.splitlines() for pattern in problems for match in [re.match(pattern['regexp'], line)]
-                 if match]
-        group.check('the matchers of %s read the reports' % name, found, [
-            {'file': 'a b:1/bad.tf', 'line': '1', 'column': '3', 'message': 'unexpected token'},
-            {'file': 'other.tf', 'message': 'not formatted'}])
+    for name, problems in (
+        ('GitHub', [p['pattern'][0] for p in matcher['problemMatcher']]),
+        ('VS Code', [p['pattern'] for p in tasks['tasks'][0]['problemMatcher']]),
+    ):
+        found = [
+            {key: match.group(number) for key, number in pattern.items() if isinstance(number, int)}
+            for line in said.splitlines()
+            for pattern in problems
+            for match in [re.match(pattern['regexp'], line)]
+            if match
+        ]
+        group.check(
+            'the matchers of %s read the reports' % name,
+            found,
+            [
+                {'file': 'a b:1/bad.tf', 'line': '1', 'column': '3', 'message': 'unexpected token'},
+                {'file': 'other.tf', 'message': 'not formatted'},
+            ],
+        )
     for name, before in (('github.yml', 1), ('gitlab.yml', 0)):
         text = (contrib / 'ci' / name).read_text()
         steps = re.findall(r'^ +- (?:run: )?((?:echo|tffmt|tfrules).*)$', text, re.M)
         done = [group.call('sh', '-e', '-c', step, cwd=here, PATH=path)[0] for step in steps]
         group.check('the steps of ' + name, done, [0] * before + [2] + [0] * before + [1] * (2 - before))
-        group.check('pass on formatted files ' + name, [
-            group.call('sh', '-e', '-c', step, cwd=group.fresh(), PATH=path)[0] for step in steps], [0] * len(steps))
+        group.check(
+            'pass on formatted files ' + name,
+            [group.call('sh', '-e', '-c', step, cwd=group.fresh(), PATH=path)[0] for step in steps],
+            [0] * len(steps),
+        )
     suffixes = {'tf', 'tfvars', 'tofu', 'tftest.hcl', 'tfmock.hcl', 'tfquery.hcl', 'tofutest.hcl'}
     sharded(group, path, suffixes)
     scanning(group, here, path)
@@ -134,22 +249,41 @@ def recipes(group):
     jobs[1:] = jobs[1].split('\ncode-quality:\n')
     gitlab = [set(re.findall(r'\*\*/\*\.([a-z.]+)', job)) for job in jobs]
     for job in jobs:
-        group.check('when a job of GitLab runs', re.findall(r'if: (.*)', job), [
-            '$CI_PIPELINE_SOURCE == "merge_request_event"', '$CI_COMMIT_BRANCH == $CI_DEFAULT_BRANCH'])
-    kinds = [set(re.search(r'files: \\\.\((.*?)\)\$', (TOP / name).read_text()).group(1).replace('\\.', '.').split('|'))
-             for name in ('.pre-commit-hooks.yaml', 'contrib/pre-commit-config.yaml')]
+        group.check(
+            'when a job of GitLab runs',
+            re.findall(r'if: (.*)', job),
+            ['$CI_PIPELINE_SOURCE == "merge_request_event"', '$CI_COMMIT_BRANCH == $CI_DEFAULT_BRANCH'],
+        )
+    kinds = [
+        set(re.search(r'files: \\\.\((.*?)\)\$', (TOP / name).read_text()).group(1).replace('\\.', '.').split('|'))
+        for name in ('.pre-commit-hooks.yaml', 'contrib/pre-commit-config.yaml')
+    ]
     group.check('the kinds of files for pre-commit', kinds, [suffixes] * 2)
     treefmt = set(re.findall(r'"\*\.([a-z.]+)"', (contrib / 'treefmt.toml').read_text()))
     group.check('the kinds of files', (gitlab, treefmt), ([suffixes, {'tf', 'tofu'}, {'tf', 'tofu'}], suffixes))
-    python = next((p for p in ('/usr/bin/python3', 'python3')
-                   if subprocess.run([p, '-c', 'import yaml'], stderr=subprocess.DEVNULL).returncode == 0), None)
+    python = next(
+        (
+            p
+            for p in ('/usr/bin/python3', 'python3')
+            if subprocess.run([p, '-c', 'import yaml'], stderr=subprocess.DEVNULL).returncode == 0
+        ),
+        None,
+    )
     if python is None:
         group.skip('yaml', 7, 'no PyYAML')
     else:
-        for name in (*sorted((contrib / 'ci').glob('*.yml')), contrib / 'pre-commit-config.yaml',
-                     TOP / '.pre-commit-hooks.yaml'):
-            group.check('%s is YAML' % name.name, group.call(python, '-c', 'import sys, yaml; yaml.safe_load(sys.stdin)',
-                                                             cwd=here, stdin=name.read_bytes()), (0, b'', b''))
+        for name in (
+            *sorted((contrib / 'ci').glob('*.yml')),
+            contrib / 'pre-commit-config.yaml',
+            TOP / '.pre-commit-hooks.yaml',
+        ):
+            group.check(
+                '%s is YAML' % name.name,
+                group.call(
+                    python, '-c', 'import sys, yaml; yaml.safe_load(sys.stdin)', cwd=here, stdin=name.read_bytes()
+                ),
+                (0, b'', b''),
+            )
 
 
 def sharded(group, path, suffixes):
@@ -157,27 +291,53 @@ def sharded(group, path, suffixes):
     if not group.has('git', checks=6):
         return
     here = group.fresh()
-    put(here, dict({'d%d/a.%s' % (i, kind): OTHER for i in range(8) for kind in suffixes},
-                   **{'e%d/a.tf' % i: b'variable "n" {}\n' for i in range(30)}))
+    put(
+        here,
+        dict(
+            {'d%d/a.%s' % (i, kind): OTHER for i in range(8) for kind in suffixes},
+            **{'e%d/a.tf' % i: b'variable "n" {}\n' for i in range(30)},
+        ),
+    )
     for words in (['init', '-q'], ['add', '-A']):
         group.call('git', *words, cwd=here)
     for name in ('github-shards.yml', 'gitlab-shards.yml'):
         text = (group.contrib / 'ci' / name).read_text()
         steps = re.findall(r'^ +- (?:run: )?(git ls-files .*)$', text, re.M)
-        group.check('the kinds of files of ' + name, [set(re.findall(r"'\*\.([a-z.]+)'", step)) for step in steps],
-                    [suffixes, {'tf', 'tofu'}])
+        group.check(
+            'the kinds of files of ' + name,
+            [set(re.findall(r"'\*\.([a-z.]+)'", step)) for step in steps],
+            [suffixes, {'tf', 'tofu'}],
+        )
         for step, words in zip(steps, (['tffmt-all', '--check'], ['tfrules-modules'])):
-            parts = [group.call('sh', '-e', '-c', step.replace('${{ matrix.shard }}', str(k)), cwd=here, PATH=path,
-                                CI_NODE_INDEX=str(k), CI_NODE_TOTAL='10') for k in range(1, 11)]
+            parts = [
+                group.call(
+                    'sh',
+                    '-e',
+                    '-c',
+                    step.replace('${{ matrix.shard }}', str(k)),
+                    cwd=here,
+                    PATH=path,
+                    CI_NODE_INDEX=str(k),
+                    CI_NODE_TOTAL='10',
+                )
+                for k in range(1, 11)
+            ]
+
             def issues(each):
                 return [line for line in (each[1] + each[2]).splitlines() if line and b'issue(s)' not in line]
-            group.check('the shards of %s and %s' % (words[0], name), sorted(line for part in parts for line in issues(part)),
-                        sorted(issues(group.call(*words, cwd=here, PATH=path))))
+
+            group.check(
+                'the shards of %s and %s' % (words[0], name),
+                sorted(line for part in parts for line in issues(part)),
+                sorted(issues(group.call(*words, cwd=here, PATH=path))),
+            )
 
 
 def scanning(group, here, path):
     """The steps of the job for code scanning. A module that has issues doesn't fail it, and a refused one does."""
-    step = re.search(r'run: (tfrules-report .*)', (group.contrib / 'ci' / 'github-code-scanning.yml').read_text()).group(1)
+    step = re.search(
+        r'run: (tfrules-report .*)', (group.contrib / 'ci' / 'github-code-scanning.yml').read_text()
+    ).group(1)
     issues = group.fresh()
     put(issues, {'m/a.tf': b'variable "n" {}\n'})
     for folder, wanted, count in ((here, 1, 0), (issues, 0, 2)):
@@ -194,38 +354,76 @@ def lint_matchers(group):
     tasks = json.loads((contrib / 'editors' / 'vscode' / 'tasks.json').read_text())
     here = group.fresh()
     put(here, {'a b:1/m.tf': b'variable "n" {}\n', 'bad/m.tf': BAD, 'gone/m.tf': b'->nowhere'})
-    done = group.call('tfrules-modules', '--rules', 'terraform_typed_variables,terraform_documented_variables', cwd=here,
-                      PATH=group.before_path(group.contrib))
+    done = group.call(
+        'tfrules-modules',
+        '--rules',
+        'terraform_typed_variables,terraform_documented_variables',
+        cwd=here,
+        PATH=group.before_path(group.contrib),
+    )
     group.check('what is found, the status', done[0], 1)
-    for name, problems in (('GitHub', [p['pattern'][0] for p in matcher['problemMatcher']]),
-                           ('VS Code', [p['pattern'] for p in tasks['tasks'][1]['problemMatcher']])):
-        found = [{key: match.group(number) for key, number in pattern.items() if isinstance(number, int)}
-                 for line in (done[1] + done[2]).decode().splitlines()
-                 for match, pattern in [(re.match(p['regexp'], line), p) for p in problems] if match]
+    for name, problems in (
+        ('GitHub', [p['pattern'][0] for p in matcher['problemMatcher']]),
+        ('VS Code', [p['pattern'] for p in tasks['tasks'][1]['problemMatcher']]),
+    ):
+        found = [
+            {key: match.group(number) for key, number in pattern.items() if isinstance(number, int)}
+            for line in (done[1] + done[2]).decode().splitlines()
+            for match, pattern in [(re.match(p['regexp'], line), p) for p in problems]
+            if match
+        ]
         place = {'file': 'a b:1/m.tf', 'line': '1', 'column': '1'}
-        group.check('the matchers of %s read the reports of tfrules' % name, found, [
-            dict(place, severity='Notice', message='variable "n" has no description', code='terraform_documented_variables'),
-            dict(place, severity='Warning', message='variable "n" has no type', code='terraform_typed_variables'),
-            {'file': 'bad/m.tf', 'line': '1', 'column': '3', 'message': 'unexpected token'},
-            {'file': 'gone/m.tf', 'message': 'cannot be opened'}])
+        group.check(
+            'the matchers of %s read the reports of tfrules' % name,
+            found,
+            [
+                dict(
+                    place,
+                    severity='Notice',
+                    message='variable "n" has no description',
+                    code='terraform_documented_variables',
+                ),
+                dict(place, severity='Warning', message='variable "n" has no type', code='terraform_typed_variables'),
+                {'file': 'bad/m.tf', 'line': '1', 'column': '3', 'message': 'unexpected token'},
+                {'file': 'gone/m.tf', 'message': 'cannot be opened'},
+            ],
+        )
 
 
 def scripts(group):
-    if group.has('shellcheck', checks=10):
+    if group.has('shellcheck', checks=8):
         for shell in ('dash', 'bash'):
             for name in SCRIPTS + ['release/install.sh']:
-                group.check('shellcheck of %s for %s' % (name, shell), group.call(
-                    'shellcheck', '-s', shell, group.contrib / name, cwd=group.top), (0, b'', b''))
-        group.check('shellcheck of where-shells-look', group.call(
-            'shellcheck', '-s', 'dash', TOP / 'tools' / 'where-shells-look', cwd=group.top), (0, b'', b''))
-        group.check('shellcheck of the completion', group.call(
-            'shellcheck', '-s', 'bash', group.contrib / 'completions' / 'tffmt.bash', cwd=group.top), (0, b'', b''))
+                group.check(
+                    'shellcheck of %s for %s' % (name, shell),
+                    group.call('shellcheck', '-s', shell, group.contrib / name, cwd=group.top),
+                    (0, b'', b''),
+                )
+        group.check(
+            'shellcheck of where-shells-look',
+            group.call('shellcheck', '-s', 'dash', TOP / 'tools' / 'where-shells-look', cwd=group.top),
+            (0, b'', b''),
+        )
+        group.check(
+            'shellcheck of the completion',
+            group.call('shellcheck', '-s', 'bash', group.contrib / 'completions' / 'tffmt.bash', cwd=group.top),
+            (0, b'', b''),
+        )
 
 
 # --- man pages and installation --------------------------------------------------------------------------------
 
+
 def plain(roff):
-    for old, new in (('\\(aq', "'"), ('\\(dq', '"'), ('\\(ha', '^'), ('\\(ti', '~'), ('\\(ga', '`'), ('\\-', '-'), ('\\e', '\\')):
+    for old, new in (
+        ('\\(aq', "'"),
+        ('\\(dq', '"'),
+        ('\\(ha', '^'),
+        ('\\(ti', '~'),
+        ('\\(ga', '`'),
+        ('\\-', '-'),
+        ('\\e', '\\'),
+    ):
         roff = roff.replace(old, new)
     return roff
 
@@ -233,28 +431,42 @@ def plain(roff):
 def pages(group):
     version = (TOP / 'VERSION').read_text().strip()
     group.holds('the changes tell of this version', '\n## %s\n' % version in (TOP / 'CHANGELOG.md').read_text())
-    for name in SCRIPTS:
-        group.check('%s --version' % name, group.call(group.contrib / name, '--version', cwd=group.top),
-                    (0, lines('%s %s' % (name, version)), b''))
+    for name, path in [('tffmt-all', group.trees)] + [(name, group.contrib / name) for name in PAGES[3:]]:
+        group.check(
+            '%s --version' % name,
+            group.call(path, '--version', cwd=group.top),
+            (0, lines('%s %s' % (name, version)), b''),
+        )
     for name in PAGES:
         page = TOP / 'man' / (name + '.1')
         first = page.read_text().split('\n')[0]
-        group.holds('%s has a date and the version' % name, re.match(
-            r'\.TH %s 1 20\d\d-\d\d-\d\d "tffmt %s" ' % (name.upper(), re.escape(version)), first), first)
+        group.holds(
+            '%s has a date and the version' % name,
+            re.match(r'\.TH %s 1 20\d\d-\d\d-\d\d "tffmt %s" ' % (name.upper(), re.escape(version)), first),
+            first,
+        )
         if group.has('mandoc'):
             group.check('mandoc -Tlint ' + name, group.call('mandoc', '-Tlint', page, cwd=group.top), (0, b'', b''))
     text = (TOP / 'man' / 'tffmt.1').read_text()
     for name in ('README.md', 'man/tffmt.1'):
-        group.check('%s redirects nothing to a file that was read' % name,
-                    re.findall(r'.*\.new\b.*|.*cat .*>.*\.tf\b.*', (TOP / name).read_text()), [])
-    sessions = [(name, plain(shown)) for name, shown in re.findall(r'\.SS (.*)\n(?:.*\n)*?\.EX\n\.RS 4\n((?:.*\n)*?)\.RE', text)]
+        group.check(
+            '%s redirects nothing to a file that was read' % name,
+            re.findall(r'.*\.new\b.*|.*cat .*>.*\.tf\b.*', (TOP / name).read_text()),
+            [],
+        )
+    sessions = [
+        (name, plain(shown)) for name, shown in re.findall(r'\.SS (.*)\n(?:.*\n)*?\.EX\n\.RS 4\n((?:.*\n)*?)\.RE', text)
+    ]
     group.check('thirteen refusals', len({name for name, _ in sessions}), 13)
     path = group.before_path(group.script('tffmt', 'exec %s "$@"\n' % group.program).parent)
     for name, shown in sessions:
         command, _, wanted = shown.partition('\n')
         group.holds('the example is of ' + name, wanted.endswith(': %s\n' % name), shown)
-        group.check('the example of ' + name, group.call('sh', '-c', command[2:] + ' 2>&1', cwd=group.top, PATH=path)[1],
-                    wanted.encode())
+        group.check(
+            'the example of ' + name,
+            group.call('sh', '-c', command[2:] + ' 2>&1', cwd=group.top, PATH=path)[1],
+            wanted.encode(),
+        )
 
 
 def told_shells(group):
@@ -262,7 +474,10 @@ def told_shells(group):
     finds them, and nothing more is said."""
     home = pathlib.Path(group.setting['HOME'])
     prefix = home / 'a place'
-    setting = {'PATH': '%s:%s' % (prefix / 'bin', group.setting['PATH']), 'XDG_DATA_DIRS': '/usr/local/share:/usr/share'}
+    setting = {
+        'PATH': '%s:%s' % (prefix / 'bin', group.setting['PATH']),
+        'XDG_DATA_DIRS': '/usr/local/share:/usr/share',
+    }
     words = ['make', '-s', '-C', TOP, '-o', 'bin/programs', 'PREFIX=%s' % prefix, 'install']
     status, out, err = group.call(*words, cwd=home, **setting)
     shells = [shell for shell in ('bash', 'zsh', 'fish') if shutil.which(shell)]
@@ -273,23 +488,41 @@ def told_shells(group):
         put(home, {file: os.fsencode(added + '\n')})
     group.check('once it is added', group.call(*words, cwd=home, **setting), (0, b'', b''))
     if group.has('bash'):
-        group.check('bash finds it', group.call('bash', '-c', '. ~/.bashrc; complete -p tfrules-report', cwd=home, **setting)[1],
-                    b'complete -F _tffmt tfrules-report\n')
+        group.check(
+            'bash finds it',
+            group.call('bash', '-c', '. ~/.bashrc; complete -p tfrules-report', cwd=home, **setting)[1],
+            b'complete -F _tffmt tfrules-report\n',
+        )
     if group.has('zsh'):
-        group.check('zsh finds it', group.call('zsh', '-c', '. ~/.zshrc; autoload -U compinit; compinit -u -D; print $_comps[tfrules-report]',
-                                               cwd=home, **setting)[1], b'_tffmt\n')
+        group.check(
+            'zsh finds it',
+            group.call(
+                'zsh',
+                '-c',
+                '. ~/.zshrc; autoload -U compinit; compinit -u -D; print $_comps[tfrules-report]',
+                cwd=home,
+                **setting,
+            )[1],
+            b'_tffmt\n',
+        )
     if group.has('fish'):
         said = group.call('fish', '-c', 'complete -C "tfrules-report --fo"', cwd=home, **setting)
         group.holds('fish finds it', said[1].startswith(b'--format'), said)
-    usual = {'bash': '/usr/share/bash-completion/completions', 'zsh': '/usr/local/share/zsh/site-functions',
-             'fish': '/usr/share/fish/vendor_completions.d'}
-    group.check('nothing of usual places', group.call('sh', TOP / 'tools' / 'where-shells-look', *usual.values(), cwd=home,
-                                                      HOME=str(group.fresh())), (0, b'', b''))
+    usual = {
+        'bash': '/usr/share/bash-completion/completions',
+        'zsh': '/usr/local/share/zsh/site-functions',
+        'fish': '/usr/share/fish/vendor_completions.d',
+    }
+    group.check(
+        'nothing of usual places',
+        group.call('sh', TOP / 'tools' / 'where-shells-look', *usual.values(), cwd=home, HOME=str(group.fresh())),
+        (0, b'', b''),
+    )
 
 
 def installing(group):
-    if not os.access(str(TOP / 'bin' / 'tffmt'), os.X_OK):
-        group.skip('make install', 10, 'bin/tffmt is not built')
+    if not all(os.access(str(TOP / 'bin' / name), os.X_OK) for name in PAGES[:3]):
+        group.skip('make install', 10, 'the programs are not built')
         return
     if not group.has('make', checks=10):
         return
@@ -301,10 +534,16 @@ def installing(group):
     wanted = ['bin/' + name for name in PAGES] + ['share/man/man1/%s.1' % name for name in PAGES]
     wanted += ['share/bash-completion/completions/' + name for name in PAGES]
     wanted += ['share/fish/vendor_completions.d/%s.fish' % name for name in PAGES] + ['share/zsh/site-functions/_tffmt']
-    wanted += ['share/doc/tffmt/' + name for name in ('VERSION', 'CHANGELOG.md', 'STYLE.md', 'RULES.md', 'TFLINT.md', 'SCALE.md')]
+    wanted += [
+        'share/doc/tffmt/' + name
+        for name in ('VERSION', 'CHANGELOG.md', 'STYLE.md', 'RULES.md', 'TFLINT.md', 'SCALE.md')
+    ]
     examples = ['pre-commit-config.yaml', 'treefmt.toml'] + [
-        str(p.relative_to(TOP / 'contrib')) for folder in ('ci', 'editors') for p in (TOP / 'contrib' / folder).rglob('*')
-        if not p.is_dir()]
+        str(p.relative_to(TOP / 'contrib'))
+        for folder in ('ci', 'editors')
+        for p in (TOP / 'contrib' / folder).rglob('*')
+        if not p.is_dir()
+    ]
     group.check('what is installed', got, sorted(wanted + ['share/doc/tffmt/examples/' + name for name in examples]))
     named = set()
     for name in PAGES:
@@ -315,23 +554,36 @@ def installing(group):
     put(here, {'a.tf': OTHER})
     path = '%s:%s' % (usr / 'bin', group.setting['PATH'])
     del group.setting['TFFMT']
-    group.check('what is installed works', (group.call('tffmt-all', cwd=here, PATH=path), (here / 'a.tf').read_bytes()),
-                ((0, lines('a.tf'), b''), GOOD))
+    group.check(
+        'what is installed works',
+        (group.call('tffmt-all', cwd=here, PATH=path), (here / 'a.tf').read_bytes()),
+        ((0, lines('a.tf'), b''), GOOD),
+    )
     if group.has('bash') and os.path.exists('/usr/share/bash-completion/bash_completion'):
         script = '. /usr/share/bash-completion/bash_completion; _completion_loader tffmt-all; complete -p tffmt-all'
-        group.check('bash-completion finds it', group.call('bash', '-c', script, cwd=here, PATH=path,
-                                                           XDG_DATA_DIRS=str(usr / 'share'))[1],
-                    b'complete -F _tffmt tffmt-all\n')
+        group.check(
+            'bash-completion finds it',
+            group.call('bash', '-c', script, cwd=here, PATH=path, XDG_DATA_DIRS=str(usr / 'share'))[1],
+            b'complete -F _tffmt tffmt-all\n',
+        )
     else:
         group.skip('bash-completion', 1)
     if group.has('fish'):
-        said = group.call('fish', '-c', 'complete -C "tffmt-hook --i"', cwd=here, PATH=path, XDG_DATA_DIRS=str(usr / 'share'))
+        said = group.call(
+            'fish', '-c', 'complete -C "tffmt-hook --i"', cwd=here, PATH=path, XDG_DATA_DIRS=str(usr / 'share')
+        )
         group.holds('fish finds it', said[1].startswith(b'--install'), said)
     if group.has('man') and shutil.which('groff'):
-        group.check('man finds it', group.call('man', '-w', '-M', usr / 'share/man', 'tffmt-all', cwd=here)[1],
-                    lines('%s/share/man/man1/tffmt-all.1' % usr))
+        group.check(
+            'man finds it',
+            group.call('man', '-w', '-M', usr / 'share/man', 'tffmt-all', cwd=here)[1],
+            lines('%s/share/man/man1/tffmt-all.1' % usr),
+        )
     else:
         group.skip('man', 1)
     told_shells(group)
-    group.check('make uninstall', (group.call(*words, 'uninstall', cwd=top), [p for p in usr.rglob('*') if not p.is_dir()]),
-                ((0, b'', b''), []))
+    group.check(
+        'make uninstall',
+        (group.call(*words, 'uninstall', cwd=top), [p for p in usr.rglob('*') if not p.is_dir()]),
+        ((0, b'', b''), []),
+    )

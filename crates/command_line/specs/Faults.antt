@@ -4,7 +4,7 @@ use Rattle.clap.specs.Kinds.{Kinds}
 use Rattle.clap.specs.declared.error.kind.ErrorKind.{ErrorKind}
 use Rattle.clap.specs.declared.error.kind.ErrorKind.TheVariants.{OutOfMemory}
 
--- a fault of the words themselves: no want of memory
+-- a fault of the words themselves: not running out of memory
 abbrev pub IsOfWords : ErrorKind → Type 0
 IsOfWords OutOfMemory = ⊥
 IsOfWords _ = Unit {0}

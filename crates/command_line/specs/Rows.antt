@@ -108,6 +108,6 @@ pub record Shows (program : Program) (row : Row) (end : End) : Type 0 where
 abbrev pub ShowsOne : Program → (Row → Type 0) → End → Type 0
 ShowsOne program P end = (row : Row) × P row × Shows program row end
 
--- the row for want of memory, or one of which this holds
+-- the row for running out of memory, or one of which this holds
 abbrev pub OrOutOfMemory : Program → (Row → Type 0) → Row → Type 0
 OrOutOfMemory program P row = (row ≡ out_of_memory program) ⊎ P row

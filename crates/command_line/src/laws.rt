@@ -8,7 +8,7 @@ ghost use Rattle.clap.specs.Faults.{fault_of};
 ghost use Rattle.command_line.specs.Faults.{One};
 
 /// A line of words for a command without subcommands has one fault at most, so which fault a
-/// program answers is a function of the words; and it is never want of memory.
+/// program answers is a function of the words; and it is never running out of memory.
 pub fn one_fault()
     ensures { (app : App) (words : List Text) → (built app).subs ≡ [] → (built app).top.is_leaf ≡ true → One (fault_of app words) }
 {}

@@ -85,7 +85,7 @@ impl Program {
         status
     }
 
-    /// Shows a text on standard output, which is flushed behind it, and nothing else.
+    /// Shows a text on standard output, which is flushed after it, and nothing else.
     pub fn deliver<O: ByteSink, E: ByteSink>(
         &self,
         out: &mut O,

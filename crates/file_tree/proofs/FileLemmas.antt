@@ -1,8 +1,9 @@
 -- A device that tells nothing.
-use Rattle.std.proofs.Common.{◌≡◌, Bool, true, false, List, ℕ, Option, None, refl}
+use Rattle.std.proofs.Common.{◌≡◌, Bool, true, false, List, [], ◌∷◌, ◌++◌, ℕ, Option, Some, None, ap, append_assoc, append-nil, refl, sym}
 use Rattle.std.specs.Prelude.{Result, Ok, Err, OnOk, option_map, if◌then◌else◌}
 use Rattle.std.specs.Str.{bytes_eq}
-use Rattle.file_tree.specs.Files.{Files, Name, put, silent}
+use Rattle.file_tree.specs.Files.{Faults, Files, Name, noted, noted_all, put, silent}
+use Rattle.file_tree.specs.declared.fault.TreeFault.{TreeFault}
 
 abbrev untold : Option (List ℕ)
 untold = None
@@ -18,3 +19,23 @@ put_silent name bytes = λ i. record silent { told = λ other. still_untold byte
 pub silent_replace : {X Y : Type 0} (r : Result X Y) (name : Name) (bytes : List ℕ) → OnOk r (silent ≡ put silent name bytes)
 silent_replace (Ok x) name bytes = put_silent name bytes
 silent_replace (Err y) name bytes = tt
+
+-- it tells no fault
+pub silent_noted : (fault : Option TreeFault) → None ≡ noted None fault
+silent_noted None = refl
+silent_noted (Some fault) = refl
+
+-- ---- the faults of calls, one after the other
+
+abbrev pub list_of : Option TreeFault → List TreeFault
+list_of None = []
+list_of (Some fault) = fault ∷ []
+
+pub none_noted : (faults : Faults) → faults ≡ noted_all faults []
+none_noted None = refl
+none_noted (Some all) = ap (λ l. Some l) (sym (append-nil all))
+
+pub noted_more : (faults : Faults) (more : List TreeFault) (fault : Option TreeFault) → noted (noted_all faults more) fault ≡ noted_all faults (more ++ list_of fault)
+noted_more faults more None = ap (noted_all faults) (sym (append-nil more))
+noted_more None more (Some fault) = refl
+noted_more (Some all) more (Some fault) = ap (λ l. Some l) (append_assoc all more (fault ∷ []))

@@ -1,8 +1,9 @@
 -- What a device tells of its folders and files. Names are bytes. Our own choice.
-use Rattle.std.specs.Prelude.{◌≡◌, ℕ, List, Option, Some, None, Result, Ok, Err, option_map, if◌then◌else◌}
+use Rattle.std.specs.Prelude.{◌≡◌, ℕ, Bool, true, false, List, [], ◌∷◌, ◌++◌, Option, Some, None, Result, Ok, Err, option_map, if◌then◌else◌}
 use Rattle.std.specs.Str.{bytes_eq}
 use Rattle.file_tree.specs.declared.kind.Kind.{Kind}
 use Rattle.file_tree.specs.declared.fault.TreeFault.{TreeFault}
+use Rattle.file_tree.specs.declared.fault.TreeFault.TheVariants.{ReadFailed}
 
 abbrev pub Name : Type 0
 Name = List ℕ
@@ -28,7 +29,30 @@ abbrev pub Tells : {X : Type 0} → Option X → X → Type 0
 Tells None x = Unit {0}
 Tells (Some told) x = told ≡ x
 
+-- the faults that calls of the device had so far, where it tells them
+abbrev pub Faults : Type 0
+Faults = Option (List TreeFault)
+
+-- these, and then those of some calls more
+abbrev pub noted_all : Faults → List TreeFault → Faults
+noted_all faults more = option_map (λ all. all ++ more) faults
+
+-- these, and then that of one call more, where it failed
+abbrev pub noted : Faults → Option TreeFault → Faults
+noted faults None = faults
+noted faults (Some fault) = noted_all faults (fault ∷ [])
+
 -- why a call failed, if it did
 abbrev pub fault_of : {X : Type 0} → Result X TreeFault → Option TreeFault
 fault_of (Ok x) = None
 fault_of (Err fault) = Some fault
+
+-- the same of a reader that is given back, which failed or didn't
+abbrev pub fault_of_reader : Bool → Option TreeFault
+fault_of_reader false = None
+fault_of_reader true = Some ReadFailed
+
+-- what a device tells at some time
+pub record State : Type 0 where
+  pub files : Files
+  pub faults : Faults

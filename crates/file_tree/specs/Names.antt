@@ -1,4 +1,5 @@
--- Which names are passed over and which files are taken: those of `terraform fmt -recursive`, and OpenTofu's `.tofu`.
+-- Which names are passed over and which files are taken: those of `terraform fmt -recursive`, and OpenTofu's `.tofu` and
+-- `.tofutest.hcl`.
 use Rattle.std.specs.Prelude.{ℕ, Bool, ◌||◌, ◌&&◌, ◌==◌, List, codes, length, nat_lt}
 use Rattle.std.specs.List as list
 
@@ -14,4 +15,6 @@ is_passed_over name = begins (codes ".") name || ends (codes "~") name || (nat_l
 
 -- a file of this name is taken
 abbrev pub is_taken : List ℕ → Bool
-is_taken name = ends (codes ".tf") name || ends (codes ".tfvars") name || ends (codes ".tofu") name || ends (codes ".tftest.hcl") name || ends (codes ".tfmock.hcl") name
+is_taken name =
+    ends (codes ".tf") name || ends (codes ".tfvars") name || ends (codes ".tofu") name || ends (codes ".tftest.hcl") name || ends (codes ".tfmock.hcl") name
+    || ends (codes ".tfquery.hcl") name || ends (codes ".tofutest.hcl") name

@@ -1,11 +1,16 @@
 //! Why something can't be done with a file or a folder.
 
+ghost use Rattle.std.specs.Prelude.{◌≡◌};
+ghost use Rattle.file_tree.specs.FaultTexts.{tree_fault_text};
+
 /// Why something can't be done with a file or a folder.
 #[derive(Clone, Copy, Debug, PartialEq, Eq, PartialOrd, Ord)]
 pub enum TreeFault {
     /// The name isn't UTF-8, which the device can't take.
     NotUtf8,
     Missing,
+    /// `-` names no file: it isn't standard input.
+    NoInput,
     DeadLink,
     NotAFile,
     Unreadable,
@@ -21,16 +26,22 @@ pub enum TreeFault {
     NotReplaced,
     /// It was to be written in place, and has a part of the new bytes.
     WrittenInPart,
+    /// It has its new bytes, which a power cut may still take.
+    NotSynced,
     ReadFailed,
     OutOfMemory,
 }
 
 impl TreeFault {
     /// What is said of it, after the name and a colon.
-    pub fn text(self) -> &'static str {
+    pub fn text(self) -> &'static str
+        ensures { result.now ≡ tree_fault_text self }
+    {
         match self {
             TreeFault::NotUtf8 => "the name isn't UTF-8",
             TreeFault::Missing => "no such file or folder",
+            TreeFault::NoInput =>
+                "no such file or folder; tffmt reads standard input, and tffmt-all formats files",
             TreeFault::DeadLink => "the link leads nowhere",
             TreeFault::NotAFile => "not a file",
             TreeFault::Unreadable => "cannot be read",
@@ -42,6 +53,7 @@ impl TreeFault {
             TreeFault::Changed => "changed while it was read; left as it is",
             TreeFault::NotReplaced => "cannot be replaced",
             TreeFault::WrittenInPart => "could not be written whole",
+            TreeFault::NotSynced => "written, but may not be on the disk",
             TreeFault::ReadFailed => "read failed",
             TreeFault::OutOfMemory => "out of memory",
         }

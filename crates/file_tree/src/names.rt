@@ -21,4 +21,6 @@ pub fn is_taken(name: &[u8]) -> bool
         || name.ends_with(b".tofu")
         || name.ends_with(b".tftest.hcl")
         || name.ends_with(b".tfmock.hcl")
+        || name.ends_with(b".tfquery.hcl")
+        || name.ends_with(b".tofutest.hcl")
 }

@@ -1,9 +1,7 @@
 //! What files are found in, read from and written to.
 
-ghost use Rattle.std.specs.Prelude.{◌≡◌, true, false, Option, Some, OnOk, OnErr, IfOk};
-ghost use Rattle.file_tree.specs.Files.{Files, Tells, fault_of, put};
-ghost use Rattle.file_tree.specs.declared.fault.TreeFault.{TreeFault};
-ghost use Rattle.file_tree.specs.declared.fault.TreeFault.TheVariants.{ReadFailed};
+ghost use Rattle.std.specs.Prelude.{◌≡◌, false, OnOk, OnErr, IfOk};
+ghost use Rattle.file_tree.specs.Files.{Faults, Files, Tells, fault_of, fault_of_reader, noted, put};
 
 use crate::fault::TreeFault;
 use crate::kind::Kind;
@@ -25,38 +23,38 @@ pub trait Tree {
     /// What the device tells of its folders and files.
     ghost files: { Self → Files };
 
-    /// Why the last call failed, if it did.
-    ghost fault: { Self → Option TreeFault };
+    /// The faults that its calls had so far, where the device tells them.
+    ghost faults: { Self → Faults };
 
     /// What a name stands for, links followed.
     fn kind(&mut self, name: &[u8]) -> Result<Kind, TreeFault>
         ensures kind { IfOk result (Tells ((files self.old).kind name.now)) }
         ensures files { files self.new ≡ files self.old }
-        ensures fault { fault self.new ≡ fault_of result };
+        ensures faults { faults self.new ≡ noted (faults self.old) (fault_of result) };
 
     /// What a name stands for, a link being one.
     fn entry_kind(&mut self, name: &[u8]) -> Result<Kind, TreeFault>
         ensures kind { IfOk result (Tells ((files self.old).entry name.now)) }
         ensures files { files self.new ≡ files self.old }
-        ensures fault { fault self.new ≡ fault_of result };
+        ensures faults { faults self.new ≡ noted (faults self.old) (fault_of result) };
 
     /// The names in a folder, in any order, each ended by NUL.
     fn listing(&mut self, folder: &[u8]) -> Result<Vec<u8>, TreeFault>
         ensures names { IfOk result (λ names. Tells ((files self.old).listing folder.now) names.items) }
         ensures files { files self.new ≡ files self.old }
-        ensures fault { fault self.new ≡ fault_of result };
+        ensures faults { faults self.new ≡ noted (faults self.old) (fault_of result) };
 
     /// A reader of the file of this name, from its start.
     fn reader(&mut self, name: &[u8]) -> Result<Self::Reader, TreeFault>
         ensures fresh { IfOk result (λ r. Self.Reader.failed r ≡ false) }
         ensures bytes { IfOk result (λ r. Self.Reader.left r ≡ (files self.old).told ((files self.old).real name.now)) }
         ensures files { files self.new ≡ files self.old }
-        ensures fault { fault self.new ≡ fault_of result };
+        ensures faults { faults self.new ≡ noted (faults self.old) (fault_of result) };
 
     /// Takes a reader back after its last read. A reader that failed is a fault of this call.
     fn give_back(&mut self, reader: Self::Reader)
         ensures files { files self.new ≡ files self.old }
-        ensures fault { Self.Reader.failed reader ≡ true → fault self.new ≡ Some ReadFailed };
+        ensures faults { faults self.new ≡ noted (faults self.old) (fault_of_reader (Self.Reader.failed reader)) };
 
     /// Puts new bytes in place of the old ones, all or none: where that fails, or the file has other bytes by now, it stays
     /// as it is.
@@ -69,5 +67,5 @@ pub trait Tree {
     ) -> Result<(), TreeFault>
         ensures ok { OnOk result (files self.new ≡ put (files self.old) ((files self.old).real name.now) new.now) }
         ensures err { OnErr result (files self.new ≡ files self.old) }
-        ensures fault { fault self.new ≡ fault_of result };
+        ensures faults { faults self.new ≡ noted (faults self.old) (fault_of result) };
 }

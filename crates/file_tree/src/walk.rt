@@ -34,6 +34,20 @@ fn names_in<'a>(alloc: Global, listing: &'a [u8]) -> Result<Vec<&'a [u8]>, Alloc
     Ok(names)
 }
 
+/// By which name something that was given is reported that can't be looked at: tidied, unless nothing is left of it.
+fn reported(alloc: Global, name: &[u8], tidied: &[u8]) -> Result<Vec<u8>, AllocError> {
+    if tidied.is_empty() {
+        return joined(alloc, name, b"");
+    }
+    // A slash at the end stays: `file/` isn't `file`.
+    let end = if name.ends_with(b"/") {
+        b"/".as_slice()
+    } else {
+        b"".as_slice()
+    };
+    joined(alloc, tidied, end)
+}
+
 impl Walk {
     fn add(&mut self, name: Vec<u8>, fault: Option<TreeFault>) -> Result<(), AllocError> {
         match self.found.push(Found { name, fault }) {
@@ -125,13 +139,7 @@ impl Walk {
             }
             Ok(_) => self.add(tidied, None),
             Err(fault) => {
-                // A slash at the end stays: `file/` isn't `file`.
-                let end = if name.ends_with(b"/") {
-                    b"/".as_slice()
-                } else {
-                    b"".as_slice()
-                };
-                let path = joined(alloc, tidied.as_slice(), end)?;
+                let path = reported(alloc, name, tidied.as_slice())?;
                 self.add(path, Some(fault))
             }
         }

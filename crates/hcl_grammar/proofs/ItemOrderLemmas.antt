@@ -77,7 +77,7 @@ climbs_both : (from mid to : ℕ) (is js : List Item) → Climbs from is mid →
 climbs_both from mid to [] js h k = climbs_from from mid to js h k
 climbs_both from mid to (i ∷ is) js h k = (spans_to from mid to i (climbs_wide mid to js k) h.0, climbs_both (past i) mid to is js h.1 k)
 
--- pieces one behind the other
+-- pieces one after another
 abbrev pub AllRise : ℕ → List (List Numbered) → ℕ → Type 0
 AllRise from [] to = from ≤ to
 AllRise from (p ∷ ps) to = (mid : ℕ) × Rises from p mid × AllRise mid ps to
@@ -107,7 +107,7 @@ end_behind : (to : ℕ) (t : Numbered) (ts : List Numbered) → Rises (t.number 
 end_behind to t [] h = omega arith
 end_behind to t (u ∷ us) h = omega (arith, h.0, end_behind to u us h.1)
 
--- the labels in front of the first opening brace, and what stands behind it
+-- the labels in front of the first opening brace, and what follows it
 label_climbs : (n : ℕ) (k : Kind) (rest : List Numbered) → Climbs n (label_at n k rest) (n + 1)
 label_climbs n k rest = by (is Ident k) (is QuoteOpen k)
   where

@@ -7,9 +7,3 @@ pub mod NumberedLemmas
 pub mod PopLemmas
 pub mod ItemOrderLemmas
 pub mod TopBlockLemmas
-pub mod InnerLemmas
-pub mod TurnLemmas
-pub mod NameLemmas
-pub mod PieceTurnLemmas
-pub mod ReadingLemmas
-pub mod PlainLabelLemmas

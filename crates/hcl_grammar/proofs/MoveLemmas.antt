@@ -26,7 +26,7 @@ abbrev pub EffectMoves : (ℕ → Type 0) → Effect → List Opener → Class �
 EffectMoves P (on o ss) a c = Shift c a (owes_all ss) × HaveNumbers P ss
 EffectMoves P (stop r) a c = Named P r
 
--- the first symbol alone, and those behind it
+-- the first symbol alone, and those after it
 first-number : (P : ℕ → Type 0) (s : Symbol) (m : Newlines) (ss : List Marked) → HaveNumbers P (s at m ∷ ss) → HaveNumbers P (s at m ∷ [])
 first-number P (directive n) m ss h = (h.0, tt)
 first-number P (section_directive e n) m ss h = (h.0, tt)

@@ -1,4 +1,4 @@
--- The blocks at the top stand one behind the other.
+-- The blocks at the top follow one another.
 use Rattle.std.proofs.Common.{◌≡◌, ap, sym, subst, ℕ, suc, zero, ◌+◌, ◌≤◌, max, Bool, true, false, cond, not, List, [], ◌∷◌, ◌++◌, length, arith}
 use Rattle.std.specs.Prelude.{filter}
 use Rattle.std.specs.List.{flat_map}

@@ -41,7 +41,7 @@ pub data Action : Type 0 where
   opens : ℕ → List Marked → Action
   closes : List Marked → Action
 
--- the row of a symbol that another begins, with these symbols behind it
+-- the row of a symbol that another begins, with these symbols after it
 infixl 5 ◌then◌
 abbrev pub ◌then◌ : Action → List Marked → Action
 none then ss = none

@@ -10,7 +10,7 @@ lead (item.Attribute level name first end) = name
 lead (item.Block level kind end) = kind
 lead (item.Label l) = l.first
 
--- where the next item may begin: behind the value of an attribute, or the first token of a block or a label
+-- where the next item may begin: after the value of an attribute, or the first token of a block or a label
 abbrev pub past : Item → ℕ
 past (item.Attribute level name first end) = end
 past (item.Block level kind end) = kind + 1
@@ -22,7 +22,7 @@ Spans from (item.Attribute level name first end) to = (from ≤ name) × (name <
 Spans from (item.Block level kind end) to = (from ≤ kind) × (end ≤ to)
 Spans from (item.Label l) to = (from ≤ l.first) × (l.first < to)
 
--- each begins behind the one before, from a number on to before another, and reaches no further
+-- each begins after the one before, from a number on to before another, and reaches no further
 abbrev pub Climbs : ℕ → List Item → ℕ → Type 0
 Climbs from [] to = from ≤ to
 Climbs from (i ∷ is) to = Spans from i to × Climbs (past i) is to
@@ -31,7 +31,7 @@ abbrev pub Either : Bool → Type 0 → Type 0 → Type 0
 Either true A B = A
 Either false A B = B
 
--- each top-level block begins behind the end of the one before, from a number on; all end before another
+-- each top-level block begins after the end of the one before, from a number on; all end before another
 abbrev pub TopsApart : ℕ → List Item → ℕ → Type 0
 TopsApart from [] to = from ≤ to
 TopsApart from (item.Block level kind end ∷ is) to = Either (is_closed level) ((from ≤ kind) × TopsApart (max kind end) is to) (TopsApart from is to)

@@ -50,7 +50,7 @@ abbrev pub labels : List Numbered → List Item
 labels [] = []
 labels (t ∷ ts) = if is BraceOpen t.kind then [] else label_at t.number t.kind ts ++ labels ts
 
--- what stands behind the first opening brace
+-- what follows the first opening brace
 abbrev pub behind_brace : List Numbered → List Numbered
 behind_brace [] = []
 behind_brace (t ∷ ts) = if is BraceOpen t.kind then ts else behind_brace ts

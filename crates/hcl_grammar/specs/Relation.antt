@@ -19,7 +19,7 @@ pub data Step : ℕ → List Marked → Lookahead → ℕ → List Marked → Ty
   opened : (count n : ℕ) (s : Symbol) (m : Newlines) (xs ss : List Marked) (t : Lookahead) → drops m t.class ≡ false → row s m t ≡ opens n xs → count < max_directives → Step count (s at m ∷ ss) t (count + 1) (xs ++ ss)
   -- a directive ends
   closed : (count : ℕ) (s : Symbol) (m : Newlines) (xs ss : List Marked) (t : Lookahead) → drops m t.class ≡ false → row s m t ≡ closes xs → Step count (s at m ∷ ss) t (count - 1) (xs ++ ss)
-  -- the first symbol goes away, and the token is for those behind it
+  -- the first symbol goes away, and the token is for those after it
   gone : (count : ℕ) (s : Symbol) (m : Newlines) (ss : List Marked) (t : Lookahead) (later : ℕ) (us : List Marked) → drops m t.class ≡ false → row s m t ≡ nothing → Step count ss t later us → Step count (s at m ∷ ss) t later us
 
 -- no state comes after a token

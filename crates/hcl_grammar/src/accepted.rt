@@ -25,7 +25,7 @@ impl<'t, 's> Model for Accepted<'t, 's> {
 }
 
 impl<'t, 's> Accepted<'t, 's> {
-    /// The tokens, for who has shown that they are a file.
+    /// The tokens, for a caller that has proved that they are a file.
     pub fn new(tokens: &'t Tokens<'s>) -> Accepted<'t, 's>
         requires { IsAccepted tokens.now.tokens }
         ensures { result ≡ tokens.now }

@@ -1,6 +1,6 @@
 //! What is proved of the definitions alone. No program calls these functions: their contracts are the laws.
 
-ghost use Rattle.std.specs.Prelude.{◌≡◌, ◌<◌, ℕ, List, [], ◌∷◌, Option, Some, length, slice_get};
+ghost use Rattle.std.specs.Prelude.{◌≡◌, ℕ, List, [], ◌∷◌, Option, length};
 ghost use Rattle.hcl_tokens.specs.Lexemes.{Lexeme};
 ghost use Rattle.hcl_tokens.specs.Scans.{Scans};
 ghost use Rattle.hcl_grammar.specs.declared.class.Lookahead.{Lookahead};
@@ -13,10 +13,6 @@ ghost use Rattle.hcl_grammar.specs.Verdict.{IsAccepted};
 ghost use Rattle.hcl_tokens.specs.Balanced.{IsBalanced};
 ghost use Rattle.hcl_grammar.specs.ItemOrder.{Climbs, TopsApart};
 ghost use Rattle.hcl_grammar.specs.Items.{outline};
-ghost use Rattle.hcl_grammar.specs.Labels.{IsAsWritten, label_text, quoted};
-ghost use Rattle.hcl_grammar.specs.Numbered.{numbered};
-ghost use Rattle.hcl_grammar.specs.declared.item.Item.TheVariants as item;
-ghost use Rattle.hcl_grammar.specs.declared.item.Label.{Label};
 
 /// In each front of the tokens of a file there are 0 to 256 more openers than closers.
 pub fn balanced()
@@ -33,19 +29,13 @@ pub fn answer_has_run()
     ensures { (tokens : List Lookahead) → ComesTo 0 (file at Seen ∷ []) tokens (refusal_of tokens) }
 {}
 
-/// Each item begins behind the one before it, an attribute's value and a label's or block's first token included, and
+/// Each item begins after the one before it, an attribute's value and a label's or block's first token included, and
 /// reaches no further than the tokens.
 pub fn climbs()
     ensures { (tokens : List Lexeme) → Climbs 0 (outline tokens) (length tokens) }
 {}
 
-/// Each top-level block begins behind the end of the one before it.
+/// Each top-level block begins after the end of the one before it.
 pub fn tops_apart()
     ensures { (tokens : List Lexeme) → TopsApart 0 (outline tokens) (length tokens) }
-{}
-
-/// Between the quotes of a label of a file stands nothing, or one literal, which is its text as written.
-pub fn one_literal()
-    ensures { (text : List ℕ) (tokens : List Lexeme) → Scans text tokens → IsAccepted tokens
-        → (i : ℕ) (l : Label) → slice_get (outline tokens) i ≡ Some (item.Label l) → l.first < l.last → IsAsWritten (quoted (numbered tokens) l) (label_text (numbered tokens) l) }
 {}

@@ -2,8 +2,8 @@
 //! holds, and the types that say so.
 //!
 //! The grammar and the outline stand in the definitions. Here are the words that they are written in, a file's tokens as
-//! [`Accepted`] and its items as [`Outline`], so that who reads items waits for no parser. `hcl_syntax` finds both, and
-//! hands on what callers need.
+//! [`Accepted`] and its items as [`Outline`], so that code that reads items waits for no parser. `hcl_syntax` finds both, and
+//! re-exports what callers need.
 #![tactic(auto)]
 
 mod accepted;

@@ -1,21 +1,27 @@
 -- No more grapheme clusters than bytes, as many as characters in a text whose characters are alone, and as many as bytes in
 -- one that is ASCII without CR.
-use Rattle.std.proofs.Common.{get_or, not, ◌≡◌, ◌∙◌, ◌+◌, ◌-◌, ◌*◌, ◌≤◌, ◌<◌, ◌==◌, ◌&&◌, ap, ap₂, sym, refl, true≢false, ℕ, suc, zero, Bool, true, false, List, [], ◌∷◌, length, arith, drop, take, add-one, drop-cons}
-use Rattle.std.specs.Prelude.{encode_utf8_all, ◌++◌, nat_eq, nat_lt, slice_index_or, unwrap_or}
-use Rattle.hcl_layout.specs.Inner.Simple.{IsFrom, are_alone, first_joining, is_simple}
+use Rattle.std.proofs.Common.{get_or, not, ◌≡◌, ◌∙◌, ◌+◌, ◌-◌, ◌*◌, ◌≤◌, ◌<◌, ◌==◌, ◌&&◌, ap, ap₂, sym, refl, true≢false, ℕ, suc, zero, Bool, true, false, List, [], ◌∷◌, length, arith, drop, take, add-one, drop-cons, inl, inr}
+use Rattle.std.specs.Prelude.{encode_utf8_all, ◌++◌, ◌||◌, map, nat_eq, nat_le, nat_lt, slice_index_or, unwrap_or}
+use Rattle.hcl_layout.specs.Inner.Simple.{IsFrom, are_alone, first_alone, further_alone, is_alone, is_simple, within_any}
 use Rattle.std.proofs.Math.ListN.{drop_of_length-le}
 use Rattle.std.proofs.lemmas.List.{length-map}
 use Rattle.std.proofs.lemmas.Str.{chars-IsAscii}
+use Rattle.std.proofs.lemmas.Bool.{and_from, and_parts, and_right, cases_lt, le-leb, not-true, or_left, or_right}
 use Rattle.std.proofs.lemmas.Bool.Decides.{nat_tests}
 use Rattle.std.specs.Str.{chars, chars_after, continuation_len, lead_bits}
 use Rattle.ucd_breaks.specs.GraphemeClusterBreak.{grapheme_cluster_break}
 use Rattle.ucd_breaks.specs.declared.GraphemeClusterBreak.{GraphemeClusterBreak}
 use Rattle.ucd_breaks.specs.declared.GraphemeClusterBreak.TheVariants.{Control, Cr, Extend, L, Lf, Lv, Lvt, Prepend, RegionalIndicator, SpacingMark, T, V, Other, Zwj}
-use Rattle.ucd_breaks.proofs.Computing.{ucd_breaks}
 use Rattle.ucd_breaks.proofs.GraphemeClusterBreakLemmas.{grapheme_cluster_break_stepped}
-use Rattle.ucd_table.proofs.Facts.{Stepped-below}
-use Rattle.unicode_segmentation.specs.Grapheme.{break_by_pair, graphemes, is_grapheme_break}
-use Rattle.unicode_segmentation.proofs.GraphemeLemmas.{is_grapheme_break-inside, is_grapheme_break-others}
+use Rattle.ucd_derived.specs.IndicConjunctBreak.{indic_conjunct_break}
+use Rattle.ucd_derived.specs.declared.IndicConjunctBreak.{IndicConjunctBreak}
+use Rattle.ucd_derived.proofs.IndicConjunctBreakLemmas.{indic_conjunct_break_stepped}
+use Rattle.ucd_table.specs.Rows.{Range, in_ranges}
+use Rattle.ucd_table.proofs.Computing.{tables}
+use Rattle.ucd_table.proofs.Facts.{Stepped-everywhere}
+use Rattle.ucd_table.proofs.Stepped.{of_ranges, zip_stepped}
+use Rattle.unicode_segmentation.specs.Grapheme.{break_by_pair, ends_in_half_flag, ends_in_linker, graphemes, is_consonant, is_grapheme_break, is_regional, is_zwj, joins_conjunct, joins_emoji, joins_flag}
+use Rattle.unicode_segmentation.proofs.GraphemeLemmas.{is_grapheme_break-inside, joins_emoji-not_zwj}
 use Rattle.unicode_segmentation.specs.Segments.{Rule, cut, prepend, segments}
 
 chars_after_few : (bs : List ℕ) (n c : ℕ) → length (chars_after n c bs) ≤ 1 + length bs
@@ -47,95 +53,120 @@ unfolding segments
 clusters_few text =
     omega (arith, length-map (cut (is_grapheme_break true) [] (chars text) []) encode_utf8_all, cut_few (is_grapheme_break true) [] (chars text) [], chars_few text)
 
--- ---- characters below the first that joins
+-- ---- characters that are alone
 
--- what the table gives on them: the ends of lines apart, only what breaks on both sides
-abbrev alone_class : ℕ → GraphemeClusterBreak → Bool
-alone_class c Other = true
-alone_class c Control = true
-alone_class c Cr = c == 13
-alone_class c Lf = c == 10
-alone_class c _ = false
+-- what breaks on both sides, but for the ends of lines and what looks further back
+abbrev lone : GraphemeClusterBreak → Bool
+lone Other = true
+lone Control = true
+lone Lf = true
+lone _ = false
 
-class_of_alone : (c : ℕ) → c < first_joining → alone_class c (grapheme_cluster_break c) ≡ true
-unfolding ucd_breaks
-class_of_alone c below = Stepped-below grapheme_cluster_break grapheme_cluster_break_stepped alone_class first_joining refl c below
+abbrev alone_ranges : List Range
+alone_ranges = first_alone ∷ further_alone
+
+within_any_is : (r : Range) (rs : List Range) (c : ℕ) → within_any r rs c ≡ in_ranges (r ∷ rs) c
+unfolding in_ranges
+within_any_is r [] c = or_false (nat_le r.0 c && nat_le c r.1)
+  where
+    or_false : (v : Bool) → v ≡ (v || false)
+    or_false true = refl
+    or_false false = refl
+within_any_is r (s ∷ rs) c = ap (λ v. (nat_le r.0 c && nat_le c r.1) || v) (within_any_is s rs c)
+
+-- the tables have such classes in the ranges, and no consonant of GB9c
+abbrev apart : Bool → GraphemeClusterBreak → IndicConjunctBreak → Bool
+apart within class conjunct = not within || (lone class && not (is_consonant conjunct))
+
+alone_apart : (c : ℕ) → apart (in_ranges alone_ranges c) (grapheme_cluster_break c) (indic_conjunct_break c) ≡ true
+unfolding tables grapheme_cluster_break_stepped indic_conjunct_break_stepped
+alone_apart =
+    let class = λ (b : GraphemeClusterBreak) (i : IndicConjunctBreak). lone b && not (is_consonant i) in
+    let classes = zip_stepped class grapheme_cluster_break indic_conjunct_break grapheme_cluster_break_stepped indic_conjunct_break_stepped in
+    let either = λ (within fine : Bool). not within || fine in
+    let steps = zip_stepped either (in_ranges alone_ranges) (λ c. class (grapheme_cluster_break c) (indic_conjunct_break c)) (of_ranges alone_ranges refl) classes in
+    Stepped-everywhere (λ c. either (in_ranges alone_ranges c) (class (grapheme_cluster_break c) (indic_conjunct_break c))) steps refl
+
+alone_class : (c : ℕ) → is_alone c ≡ true → (lone (grapheme_cluster_break c) ≡ true) × (is_consonant (indic_conjunct_break c) ≡ false)
+alone_class c e = go (in_ranges alone_ranges c) (sym (within_any_is first_alone further_alone c) ∙ e) (alone_apart c)
+  where
+    go : (v : Bool) → v ≡ true → apart v (grapheme_cluster_break c) (indic_conjunct_break c) ≡ true → (lone (grapheme_cluster_break c) ≡ true) × (is_consonant (indic_conjunct_break c) ≡ false)
+    go true p h =
+        let parts = and_parts (lone (grapheme_cluster_break c)) (not (is_consonant (indic_conjunct_break c))) h in
+        (parts.0, not-true (is_consonant (indic_conjunct_break c)) parts.1)
+    go false p h = absurd (true≢false (sym p))
 
 -- whether two characters of these classes break, where the tables' further rules say so of two others
-pair_breaks : (l r : GraphemeClusterBreak) (c n : ℕ) (more : Bool) → alone_class c l ≡ true → alone_class n r ≡ true → ((c == 13) && (n == 10)) ≡ false
-    → (Other ≡ l → Other ≡ r → unwrap_or (break_by_pair true l r) more ≡ true) → unwrap_or (break_by_pair true l r) more ≡ true
-pair_breaks Control Control c n more p q e f = refl
-pair_breaks Control Cr c n more p q e f = refl
-pair_breaks Control Extend c n more p q e f = absurd (true≢false (sym q))
-pair_breaks Control L c n more p q e f = absurd (true≢false (sym q))
-pair_breaks Control Lf c n more p q e f = refl
-pair_breaks Control Lv c n more p q e f = absurd (true≢false (sym q))
-pair_breaks Control Lvt c n more p q e f = absurd (true≢false (sym q))
-pair_breaks Control Prepend c n more p q e f = absurd (true≢false (sym q))
-pair_breaks Control RegionalIndicator c n more p q e f = absurd (true≢false (sym q))
-pair_breaks Control SpacingMark c n more p q e f = absurd (true≢false (sym q))
-pair_breaks Control T c n more p q e f = absurd (true≢false (sym q))
-pair_breaks Control V c n more p q e f = absurd (true≢false (sym q))
-pair_breaks Control Other c n more p q e f = refl
-pair_breaks Control Zwj c n more p q e f = absurd (true≢false (sym q))
-pair_breaks Cr Control c n more p q e f = refl
-pair_breaks Cr Cr c n more p q e f = refl
-pair_breaks Cr Extend c n more p q e f = absurd (true≢false (sym q))
-pair_breaks Cr L c n more p q e f = absurd (true≢false (sym q))
-pair_breaks Cr Lf c n more p q e f = absurd (true≢false (sym (ap₂ ◌&&◌ p q) ∙ e))
-pair_breaks Cr Lv c n more p q e f = absurd (true≢false (sym q))
-pair_breaks Cr Lvt c n more p q e f = absurd (true≢false (sym q))
-pair_breaks Cr Prepend c n more p q e f = absurd (true≢false (sym q))
-pair_breaks Cr RegionalIndicator c n more p q e f = absurd (true≢false (sym q))
-pair_breaks Cr SpacingMark c n more p q e f = absurd (true≢false (sym q))
-pair_breaks Cr T c n more p q e f = absurd (true≢false (sym q))
-pair_breaks Cr V c n more p q e f = absurd (true≢false (sym q))
-pair_breaks Cr Other c n more p q e f = refl
-pair_breaks Cr Zwj c n more p q e f = absurd (true≢false (sym q))
-pair_breaks Extend r c n more p q e f = absurd (true≢false (sym p))
-pair_breaks L r c n more p q e f = absurd (true≢false (sym p))
-pair_breaks Lf Control c n more p q e f = refl
-pair_breaks Lf Cr c n more p q e f = refl
-pair_breaks Lf Extend c n more p q e f = absurd (true≢false (sym q))
-pair_breaks Lf L c n more p q e f = absurd (true≢false (sym q))
-pair_breaks Lf Lf c n more p q e f = refl
-pair_breaks Lf Lv c n more p q e f = absurd (true≢false (sym q))
-pair_breaks Lf Lvt c n more p q e f = absurd (true≢false (sym q))
-pair_breaks Lf Prepend c n more p q e f = absurd (true≢false (sym q))
-pair_breaks Lf RegionalIndicator c n more p q e f = absurd (true≢false (sym q))
-pair_breaks Lf SpacingMark c n more p q e f = absurd (true≢false (sym q))
-pair_breaks Lf T c n more p q e f = absurd (true≢false (sym q))
-pair_breaks Lf V c n more p q e f = absurd (true≢false (sym q))
-pair_breaks Lf Other c n more p q e f = refl
-pair_breaks Lf Zwj c n more p q e f = absurd (true≢false (sym q))
-pair_breaks Lv r c n more p q e f = absurd (true≢false (sym p))
-pair_breaks Lvt r c n more p q e f = absurd (true≢false (sym p))
-pair_breaks Prepend r c n more p q e f = absurd (true≢false (sym p))
-pair_breaks RegionalIndicator r c n more p q e f = absurd (true≢false (sym p))
-pair_breaks SpacingMark r c n more p q e f = absurd (true≢false (sym p))
-pair_breaks T r c n more p q e f = absurd (true≢false (sym p))
-pair_breaks V r c n more p q e f = absurd (true≢false (sym p))
-pair_breaks Other Control c n more p q e f = refl
-pair_breaks Other Cr c n more p q e f = refl
-pair_breaks Other Extend c n more p q e f = absurd (true≢false (sym q))
-pair_breaks Other L c n more p q e f = absurd (true≢false (sym q))
-pair_breaks Other Lf c n more p q e f = refl
-pair_breaks Other Lv c n more p q e f = absurd (true≢false (sym q))
-pair_breaks Other Lvt c n more p q e f = absurd (true≢false (sym q))
-pair_breaks Other Prepend c n more p q e f = absurd (true≢false (sym q))
-pair_breaks Other RegionalIndicator c n more p q e f = absurd (true≢false (sym q))
-pair_breaks Other SpacingMark c n more p q e f = absurd (true≢false (sym q))
-pair_breaks Other T c n more p q e f = absurd (true≢false (sym q))
-pair_breaks Other V c n more p q e f = absurd (true≢false (sym q))
-pair_breaks Other Other c n more p q e f = f refl refl
-pair_breaks Other Zwj c n more p q e f = absurd (true≢false (sym q))
-pair_breaks Zwj r c n more p q e f = absurd (true≢false (sym p))
+pair_breaks : (l r : GraphemeClusterBreak) (more : Bool) → lone l ≡ true → lone r ≡ true → (Other ≡ l → Other ≡ r → more ≡ true) → unwrap_or (break_by_pair true l r) more ≡ true
+pair_breaks Control Control more p q f = refl
+pair_breaks Control Cr more p q f = absurd (true≢false (sym q))
+pair_breaks Control Extend more p q f = absurd (true≢false (sym q))
+pair_breaks Control L more p q f = absurd (true≢false (sym q))
+pair_breaks Control Lf more p q f = refl
+pair_breaks Control Lv more p q f = absurd (true≢false (sym q))
+pair_breaks Control Lvt more p q f = absurd (true≢false (sym q))
+pair_breaks Control Prepend more p q f = absurd (true≢false (sym q))
+pair_breaks Control RegionalIndicator more p q f = absurd (true≢false (sym q))
+pair_breaks Control SpacingMark more p q f = absurd (true≢false (sym q))
+pair_breaks Control T more p q f = absurd (true≢false (sym q))
+pair_breaks Control V more p q f = absurd (true≢false (sym q))
+pair_breaks Control Other more p q f = refl
+pair_breaks Control Zwj more p q f = absurd (true≢false (sym q))
+pair_breaks Cr r more p q f = absurd (true≢false (sym p))
+pair_breaks Extend r more p q f = absurd (true≢false (sym p))
+pair_breaks L r more p q f = absurd (true≢false (sym p))
+pair_breaks Lf Control more p q f = refl
+pair_breaks Lf Cr more p q f = absurd (true≢false (sym q))
+pair_breaks Lf Extend more p q f = absurd (true≢false (sym q))
+pair_breaks Lf L more p q f = absurd (true≢false (sym q))
+pair_breaks Lf Lf more p q f = refl
+pair_breaks Lf Lv more p q f = absurd (true≢false (sym q))
+pair_breaks Lf Lvt more p q f = absurd (true≢false (sym q))
+pair_breaks Lf Prepend more p q f = absurd (true≢false (sym q))
+pair_breaks Lf RegionalIndicator more p q f = absurd (true≢false (sym q))
+pair_breaks Lf SpacingMark more p q f = absurd (true≢false (sym q))
+pair_breaks Lf T more p q f = absurd (true≢false (sym q))
+pair_breaks Lf V more p q f = absurd (true≢false (sym q))
+pair_breaks Lf Other more p q f = refl
+pair_breaks Lf Zwj more p q f = absurd (true≢false (sym q))
+pair_breaks Lv r more p q f = absurd (true≢false (sym p))
+pair_breaks Lvt r more p q f = absurd (true≢false (sym p))
+pair_breaks Prepend r more p q f = absurd (true≢false (sym p))
+pair_breaks RegionalIndicator r more p q f = absurd (true≢false (sym p))
+pair_breaks SpacingMark r more p q f = absurd (true≢false (sym p))
+pair_breaks T r more p q f = absurd (true≢false (sym p))
+pair_breaks V r more p q f = absurd (true≢false (sym p))
+pair_breaks Other Control more p q f = refl
+pair_breaks Other Cr more p q f = absurd (true≢false (sym q))
+pair_breaks Other Extend more p q f = absurd (true≢false (sym q))
+pair_breaks Other L more p q f = absurd (true≢false (sym q))
+pair_breaks Other Lf more p q f = refl
+pair_breaks Other Lv more p q f = absurd (true≢false (sym q))
+pair_breaks Other Lvt more p q f = absurd (true≢false (sym q))
+pair_breaks Other Prepend more p q f = absurd (true≢false (sym q))
+pair_breaks Other RegionalIndicator more p q f = absurd (true≢false (sym q))
+pair_breaks Other SpacingMark more p q f = absurd (true≢false (sym q))
+pair_breaks Other T more p q f = absurd (true≢false (sym q))
+pair_breaks Other V more p q f = absurd (true≢false (sym q))
+pair_breaks Other Other more p q f = f refl refl
+pair_breaks Other Zwj more p q f = absurd (true≢false (sym q))
+pair_breaks Zwj r more p q f = absurd (true≢false (sym p))
 
-alone_breaks : (c n : ℕ) (before after : List ℕ) → c < first_joining → n < first_joining → ((c == 13) && (n == 10)) ≡ false → is_grapheme_break true (c ∷ before) (n ∷ after) ≡ true
-alone_breaks c n before after p q e =
-    let inside = is_grapheme_break-inside true (c ∷ before) n after (omega arith) in
-    inside ∙ pair_breaks (grapheme_cluster_break c) (grapheme_cluster_break n) c n _ (class_of_alone c p) (class_of_alone n q) e
-    (λ l r. sym inside ∙ sym (is_grapheme_break-others true (c ∷ before) n after (omega arith) (omega arith) l r))
+-- the rules that look further back part two others, if the second is no consonant
+others_break : (c n : ℕ) (before : List ℕ) → Other ≡ grapheme_cluster_break c → Other ≡ grapheme_cluster_break n → is_consonant (indic_conjunct_break n) ≡ false
+    → not ((true && joins_conjunct (c ∷ before) n) || joins_emoji (c ∷ before) n || joins_flag (c ∷ before) n) ≡ true
+others_break c n before left right e =
+    let conjunct = and_right (ends_in_linker (map indic_conjunct_break (c ∷ before))) (is_consonant (indic_conjunct_break n)) e in
+    let emoji = joins_emoji-not_zwj (c ∷ before) n (ap is_zwj (sym left)) in
+    let flag = and_right (ends_in_half_flag (c ∷ before)) (is_regional (grapheme_cluster_break n)) (ap is_regional (sym right)) in
+    ap not (ap₂ ◌||◌ (ap₂ ◌||◌ conjunct emoji) flag)
+
+alone_breaks : (c n : ℕ) (before after : List ℕ) → is_alone c ≡ true → is_alone n ≡ true → is_grapheme_break true (c ∷ before) (n ∷ after) ≡ true
+alone_breaks c n before after p q =
+    let here = alone_class c p in
+    let next = alone_class n q in
+    is_grapheme_break-inside true (c ∷ before) n after (omega arith)
+    ∙ pair_breaks (grapheme_cluster_break c) (grapheme_cluster_break n) _ here.0 next.0 (λ l r. others_break c n before l r next.1)
 
 cut_step : (rule : Rule) (before : List ℕ) (c : ℕ) (cs after : List ℕ) → rule (c ∷ before) (cs ++ after) ≡ true → length (cut rule before (c ∷ cs) after) ≡ suc (length (cut rule (c ∷ before) cs after))
 unfolding cut
@@ -149,27 +180,18 @@ last_breaks : (c : ℕ) (before : List ℕ) → is_grapheme_break true (c ∷ be
 unfolding is_grapheme_break
 last_breaks c before = refl
 
--- a character more that is alone
-alone_parts : (c : ℕ) (cs : List ℕ) → are_alone (c ∷ cs) ≡ true → (c < first_joining) × ((c == 13) ≡ false) × (are_alone cs ≡ true)
-alone_parts c cs e = go (nat_lt c first_joining) refl (c == 13) refl e
-  where
-    go : (v : Bool) → nat_lt c first_joining ≡ v → (w : Bool) → (c == 13) ≡ w → ((v && not w) && are_alone cs) ≡ true → (c < first_joining) × ((c == 13) ≡ false) × (are_alone cs ≡ true)
-    go true v false w h = (grind (arith, nat_tests), w, h)
-    go true v true w h = cc
-    go false v w q h = cc
-
--- a cluster for each character, behind the character before
-alone_cut : (cs : List ℕ) (c : ℕ) (before : List ℕ) → c < first_joining → (c == 13) ≡ false → are_alone cs ≡ true → length (cut (is_grapheme_break true) before (c ∷ cs) []) ≡ suc (length cs)
-alone_cut [] c before p q e = cut_step (is_grapheme_break true) before c [] [] (last_breaks c before) ∙ ap suc (cut_end (is_grapheme_break true) (c ∷ before) [])
-alone_cut (n ∷ cs) c before p q e =
-    let parts = alone_parts n cs e in
-    cut_step (is_grapheme_break true) before c (n ∷ cs) [] (alone_breaks c n before (cs ++ []) p parts.0 (ap (λ v. v && (n == 10)) q)) ∙ ap suc (alone_cut cs n (c ∷ before) parts.0 parts.1 parts.2)
+-- a cluster for each character, after the character before
+alone_cut : (cs : List ℕ) (c : ℕ) (before : List ℕ) → is_alone c ≡ true → are_alone cs ≡ true → length (cut (is_grapheme_break true) before (c ∷ cs) []) ≡ suc (length cs)
+alone_cut [] c before p e = cut_step (is_grapheme_break true) before c [] [] (last_breaks c before) ∙ ap suc (cut_end (is_grapheme_break true) (c ∷ before) [])
+alone_cut (n ∷ cs) c before p e =
+    let parts = and_parts (is_alone n) (are_alone cs) e in
+    cut_step (is_grapheme_break true) before c (n ∷ cs) [] (alone_breaks c n before (cs ++ []) p parts.0) ∙ ap suc (alone_cut cs n (c ∷ before) parts.0 parts.1)
 
 alone_cuts : (cs : List ℕ) → are_alone cs ≡ true → length (cut (is_grapheme_break true) [] cs []) ≡ length cs
 alone_cuts [] e = cut_end (is_grapheme_break true) [] []
 alone_cuts (c ∷ cs) e =
-    let parts = alone_parts c cs e in
-    alone_cut cs c [] parts.0 parts.1 parts.2
+    let parts = and_parts (is_alone c) (are_alone cs) e in
+    alone_cut cs c [] parts.0 parts.1
 
 pub clusters_alone : (text : List ℕ) → are_alone (chars text) ≡ true → length (graphemes true text) ≡ length (chars text)
 unfolding segments
@@ -191,12 +213,20 @@ simple_ascii [] i e = omega arith
 simple_ascii (b ∷ text) zero e = (simple_parts b text e).0
 simple_ascii (b ∷ text) (suc i) e = simple_ascii text i (simple_parts b text e).2
 
+simple_is_alone : (b : ℕ) → b < 128 → (b == 13) ≡ false → is_alone b ≡ true
+simple_is_alone b lt ne =
+    elim (cases_lt b 13) [
+      | inl low ↦ or_left (nat_le 0 b && nat_le b 12) _ (and_from (nat_le 0 b) (nat_le b 12) (le-leb 0 b (omega arith)) (le-leb b 12 (omega arith)))
+      | inr high ↦
+          let past : 14 ≤ b = grind (arith, nat_tests, ne, high) in
+          or_right (nat_le 0 b && nat_le b 12) _ (or_left (nat_le 14 b && nat_le b 767) _ (and_from (nat_le 14 b) (nat_le b 767) (le-leb 14 b past) (le-leb b 767 (omega arith))))
+    ]
+
 simple_alone : (text : List ℕ) → is_simple text ≡ true → are_alone text ≡ true
 simple_alone [] e = refl
 simple_alone (b ∷ text) e =
     let parts = simple_parts b text e in
-    let below : nat_lt b first_joining ≡ true = grind (arith, nat_tests, parts.0) in
-    rw (below, parts.1) (simple_alone text parts.2)
+    and_from (is_alone b) (are_alone text) (simple_is_alone b parts.0 parts.1) (simple_alone text parts.2)
 
 pub clusters_simple : (text : List ℕ) → is_simple text ≡ true → length (graphemes true text) ≡ length text
 clusters_simple text e =

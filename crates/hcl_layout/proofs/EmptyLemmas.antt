@@ -4,7 +4,7 @@ use Rattle.std.proofs.lemmas.Bool.Decides.{nat_tests}
 use Rattle.hcl_tokens.specs.Lexemes.{Lexeme, Opener}
 use Rattle.hcl_tokens.specs.Scans.{Next, Scans, State, begin}
 use Rattle.hcl_tokens.proofs.RunLemmas.{Nonempty}
-use Rattle.hcl_scan.proofs.SpellingLemmas.{nonempty}
+use Rattle.hcl_tokens.proofs.NonemptyLemmas.{nonempty}
 use Rattle.hcl_layout.specs.Gaps.{gaps}
 use Rattle.hcl_layout.specs.Print.{print, printed}
 use Rattle.hcl_layout.proofs.GapCountLemmas.{one_each}

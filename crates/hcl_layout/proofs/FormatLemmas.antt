@@ -71,7 +71,7 @@ piece_found xs at gap text e f =
     let there : drop (length text) (drop gap (drop at xs)) ≡ drop (at + gap + length text) xs = grind (arith, common_steps) in
     e ∙ ap (λ l. replicate gap 32 ++ l) (f ∙ ap (λ l. text ++ l) there) ∙ sym (append_assoc (replicate gap 32) text (drop (at + gap + length text) xs))
 
--- a piece of the source, behind so many blanks there
+-- a piece of the source, after so many blanks there
 pub piece_there : (xs : List ℕ) (at gap start : ℕ) (text : List ℕ) → at + gap ≡ start → text ≡ take (length text) (drop start xs) → drop at xs ≡ replicate gap 32 ++ drop gap (drop at xs)
     → drop at xs ≡ (replicate gap 32 ++ text) ++ drop (start + length text) xs
 piece_there xs at gap start text e s b =

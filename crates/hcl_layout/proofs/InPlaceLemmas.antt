@@ -119,7 +119,7 @@ laid : LineGaps → ℕ → ℕ → LaidLine
 laid g first end = record { first = first; end = end; gaps = g }
 
 -- from its first token on
-front_gaps : (ts : List Lexeme) (g : LineGaps) (first len : ℕ)
+pub front_gaps : (ts : List Lexeme) (g : LineGaps) (first len : ℕ)
     → gaps_from g (first - first) (token_before ts first (first - 1)) (token_before ts first first) (take ((first + len) - first) (drop first ts)) ≡ gaps_in g (take len (drop first ts))
 front_gaps ts g first len =
     let place : first - first ≡ 0 = omega arith in
@@ -214,7 +214,7 @@ pub goes_to : (ts : List Lexeme) (text : List ℕ) (l : LaidLine) (n from : ℕ)
 goes_to ts text l n from None t gap p e lt le g same_gap same_text here = tt
 goes_to ts text l n from (Some k) t gap p e lt le g same_gap same_text here = goes ts text l n from k t gap p e lt le g same_gap same_text here
 
--- behind its last piece the lines behind it are left
+-- after its last piece the lines after it are left
 pub line_over : (ts : List Lexeme) (l : LaidLine) (rest : List ℕ) → left_at ts l rest l.end ≡ printed rest (drop l.end ts)
 line_over ts l rest =
     let none : l.end - l.end ≡ 0 = omega arith in

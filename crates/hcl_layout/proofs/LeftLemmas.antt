@@ -24,21 +24,21 @@ start_all ts d levels column p e f g =
     ap₂ (λ (x : ℕ) (y : List ℕ). flat_map (λ g. g) (commented x y column None (lines ts))) e f
     ∙ ap (λ (x : Option ℕ). flat_map (λ g. g) (commented 0 fresh x None (lines ts))) g ∙ sym (gaps_all ts p)
 
--- the first token of a line has none behind it
+-- the first token of a line has none after it
 pub none_behind : (ts : List Lexeme) (at n : ℕ) → n ≤ at → token_before ts at n ≡ None
 none_behind ts at n le = rw (not_less at n le) refl
   where
     not_less : (a b : ℕ) → b ≤ a → nat_lt a b ≡ false
     not_less a b h = grind (arith, nat_tests)
 
--- the token that was printed is behind the next
+-- the token that was printed is after the next
 pub printed_behind : (ts : List Lexeme) (start next : ℕ) (t : Lexeme) → slice_get ts next ≡ Some t → start ≤ next → token_before ts start (next + 1) ≡ Some t
 printed_behind ts start next t e le = rw (less start next le) (ap (slice_get ts) (omega arith) ∙ e)
   where
     less : (a b : ℕ) → a ≤ b → nat_lt a (b + 1) ≡ true
     less a b h = grind (arith, nat_tests)
 
--- the width on from a place of the line, by the tokens behind it, is that of the token there and that on from the next
+-- the width on from a place of the line, by the tokens after it, is that of the token there and that on from the next
 pub width_behind : (g : LineGaps) (ts : List Lexeme) (at len k i : ℕ) (t : Lexeme) → slice_get ts (at + k) ≡ Some t → i ≤ len → k < i
     → width (i - k) (gaps_from g k (token_before ts at ((at + k) - 1)) (token_before ts at (at + k)) (take (len - k) (drop (at + k) ts))) (take (len - k) (drop (at + k) ts))
     ≡ gap_of g k (token_before ts at ((at + k) - 1)) (token_before ts at (at + k)) t + clusters t
@@ -53,7 +53,7 @@ width_behind g ts at len k i t e le lt =
     width_next g ts at len k i b s t e le lt
     ∙ ap₂ (λ (n : ℕ) (u : Option Lexeme). gap_of g k b s t + clusters t + width (i - (k + 1)) (gaps_from g (k + 1) (token_before ts at n) u rest) rest) last there
 
--- no token behind the first of a line is of that line
+-- no token after the first of a line is of that line
 pub width_front : (g : LineGaps) (ts : List Lexeme) (at len i : ℕ)
     → 0 + width (i - 0) (gaps_from g 0 (token_before ts at ((at + 0) - 1)) (token_before ts at (at + 0)) (take (len - 0) (drop (at + 0) ts))) (take (len - 0) (drop (at + 0) ts))
     ≡ width i (gaps_in g (take len (drop at ts))) (take len (drop at ts))
@@ -70,7 +70,7 @@ width_front g ts at len i =
     zero_plus : (n : ℕ) → 0 + n ≡ n
     zero_plus n = omega arith
 
--- the first token stands behind the indent
+-- the first token follows the indent
 pub width_first : (level : ℕ) (ts : List Lexeme) (at len i : ℕ) (t : Lexeme) → slice_get ts at ≡ Some t → i ≤ len → 0 < i
     → (indent level t + clusters t) + width (i - 1) (gaps_from (plain_of level) 1 (token_before ts at ((at + 1) - 1)) (token_before ts at (at + 1)) (take (len - 1) (drop (at + 1) ts))) (take (len - 1) (drop (at + 1) ts))
     ≡ width i (gaps_in (plain_of level) (take len (drop at ts))) (take len (drop at ts))

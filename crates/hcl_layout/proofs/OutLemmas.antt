@@ -53,7 +53,7 @@ out_past base now new b b' front text e e' f q p =
       out = Appends-then base now new p.sent text p.out q;
     }
 
--- a write of a piece failed behind what was sent
+-- a write of a piece failed after what was sent
 cut_short_piece : (base now new : Option (List ℕ)) (sent piece : List ℕ) (n : ℕ) (fault : WriteFault) → fault.written ≡ length sent + n → n < length piece → Appends base now sent → Appends now new (take n piece)
     → CutShort base new (sent ++ piece) fault
 cut_short_piece base now new sent piece n fault e lt p q =

@@ -73,7 +73,7 @@ assign_sign : (t : Lexeme) (line : Line) (i : ℕ) → assign_cell (t ∷ line) 
 assign_sign t line i e =
     level_some (t ∷ until is_trailing line) (found_from is_assignment 1 (until is_trailing line)) i (multiline_some (has_multiline (t ∷ line)) (if_level (before_comment (t ∷ line)) (found_from is_assignment 1 (until is_trailing line))) i e)
 
-assign_within : (line : Line) (i : ℕ) → assign_cell line ≡ Some i → i < length line
+pub assign_within : (line : Line) (i : ℕ) → assign_cell line ≡ Some i → i < length line
 assign_within [] i e = let h : None ≡ Some i = multiline_some (has_multiline []) None i e in cc
 assign_within (t ∷ line) i e =
     omega (arith, (place_within is_assignment 1 (until is_trailing line) i (assign_sign t line i e)).1, until_short is_trailing line)
@@ -82,6 +82,10 @@ assign_within (t ∷ line) i e =
 pub assign_before : (line : Line) (i j : ℕ) → assign_cell line ≡ Some i → trailing_comment line ≡ Some j → i ≤ j
 assign_before [] i j e f = let h : None ≡ Some i = multiline_some (has_multiline []) None i e in cc
 assign_before (t ∷ line) i j e f = omega (arith, (place_within is_assignment 1 (until is_trailing line) i (assign_sign t line i e)).1, until_found is_trailing 1 line j f)
+
+pub assign_apart : (line : Line) (i j : ℕ) → assign_cell line ≡ Some i → trailing_comment line ≡ Some j → i < j
+assign_apart [] i j e f = let h : None ≡ Some i = multiline_some (has_multiline []) None i e in cc
+assign_apart (t ∷ line) i j e f = omega (arith, (place_within is_assignment 1 (until is_trailing line) i (assign_sign t line i e)).1, until_found is_trailing 1 line j f)
 
 -- no cell stands at the line's front
 pub assign_behind : (line : Line) (i : ℕ) → assign_cell line ≡ Some i → 0 < i
@@ -119,6 +123,10 @@ running_inside ts at n i cell room e f =
 
 pub aligned_none : (gaps : List ℕ) (l : Line) (column : Option ℕ) → assign_cell l ≡ None → gaps ≡ align assign_cell gaps l column
 aligned_none gaps l column e = rw e refl
+
+-- one blank after what stands before it
+pub aligned_one : (gaps : List ℕ) (l : Line) (i : ℕ) → assign_cell l ≡ Some i → slice_set gaps i 1 ≡ align assign_cell gaps l None
+aligned_one gaps l i e = rw e refl
 
 pub aligned_some : (gaps : List ℕ) (l : Line) (column i gap : ℕ) → assign_cell l ≡ Some i → gap ≡ column - width i gaps l + 1 → slice_set gaps i gap ≡ align assign_cell gaps l (Some column)
 aligned_some gaps l column i gap e f = rw (e, f) refl

@@ -1,4 +1,4 @@
--- The texts of scanned tokens are parts of the source, one behind another, so they are no longer than it.
+-- The texts of scanned tokens are parts of the source, one after another, so they are no longer than it.
 use Rattle.std.proofs.Common.{◌≡◌, ◌∙◌, ◌+◌, ◌≤◌, ℕ, suc, zero, List, [], ◌∷◌, length, ap, refl, sym, arith, take, drop, length-append, length-drop, ⊎_elim}
 use Rattle.hcl_tokens.specs.Lexemes.{Lexeme, marker_of}
 use Rattle.hcl_tokens.specs.Scans.{Closes, Hidden, Next, Reads, Run, Scans, Leaves, State, ahead, begin, gap_len, closer_len}

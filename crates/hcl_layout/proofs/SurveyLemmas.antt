@@ -17,7 +17,7 @@ use Rattle.hcl_layout.specs.declared.line.Survey.{Survey}
 use Rattle.hcl_layout.specs.declared.line.LineFacts.{LineFacts}
 use Rattle.hcl_layout.proofs.StreamLemmas.{after_is, after_low, deepen_low}
 
--- the token at a place, and what is behind it
+-- the token at a place, and what is after it
 pub drop_at : (ts : List Lexeme) (i : ℕ) (t : Lexeme) → slice_get ts i ≡ Some t → drop i ts ≡ t ∷ drop (i + 1) ts
 drop_at ts i t e =
     let within : i < length ts = slice_get_within ts i t e in
@@ -104,7 +104,7 @@ fold_multiline [] s = go s.multiline
     go false = refl
 fold_multiline (t ∷ l) s = fold_multiline l (noted s t) ∙ or_assoc s.multiline (is_multiline t) (list_any is_multiline l)
 
--- behind the trailing comment nothing changes
+-- after the trailing comment nothing changes
 record Same (s r : Survey) : Type 0 where
   comment : r.comment ≡ s.comment
   body : r.body_depth ≡ s.body_depth
@@ -237,7 +237,7 @@ balanced_drop zero d ts p = p
 balanced_drop (suc n) d [] p = tt
 balanced_drop (suc n) d (t ∷ ts) p = balanced_drop n (deepen d t.kind) ts p.1
 
--- what is behind a place closes what it opens where the depths are the same
+-- what is after a place closes what it opens where the depths are the same
 level_same : (n d : ℕ) (l : Line) → BalancedFrom d l → is_level (net_of (drop n l)) ≡ (depth_after d (take n l) == depth_after d l)
 level_same n d l p =
     let before : ℕ = depth_after d (take n l) in
@@ -351,7 +351,7 @@ surveyed_going (t ∷ ts) s last e = rw e refl
 pub going_more : (ts : List Lexeme) (i : ℕ) (t : Lexeme) (s whole : Survey) → slice_get ts i ≡ Some t → whole ≡ going s (drop i ts) → whole ≡ surveyed (noted s t) t (drop (i + 1) ts)
 going_more ts i t s whole e p = p ∙ ap (going s) (drop_at ts i t e)
 
--- a token more of a line that goes on behind it
+-- a token more of a line that goes on after it
 pub going_on : (ts : List Lexeme) (i : ℕ) (t : Lexeme) (s new whole : Survey) → slice_get ts i ≡ Some t → new ≡ noted s t → ends_line t ≡ false → whole ≡ going s (drop i ts) → whole ≡ going new (drop (i + 1) ts)
 going_on ts i t s new whole e same goes p = going_more ts i t s whole e p ∙ surveyed_going (drop (i + 1) ts) (noted s t) t goes ∙ ap (λ u. going u (drop (i + 1) ts)) (sym same)
 
@@ -362,7 +362,7 @@ surveyed_end (x ∷ xs) last s whole e p = sym (p ∙ rw e refl)
 pub going_out : (ts : List Lexeme) (i : ℕ) (s whole : Survey) → length ts ≤ i → whole ≡ going s (drop i ts) → s ≡ whole
 going_out ts i s whole le p = sym (p ∙ ap (going s) (drop_of_length-le ts le))
 
--- what is left behind a token that was noted
+-- what is left after a token that was noted
 pub behind_token : (ts : List Lexeme) (i : ℕ) (s new : Survey) (t : Lexeme) → slice_get ts i ≡ Some t → new ≡ noted s t → BalancedFrom s.depth (drop i ts) → s.depth ≤ max_open
     → BalancedFrom new.depth (drop (i + 1) ts) × (new.depth ≤ max_open)
 behind_token ts i s new t e same p low =

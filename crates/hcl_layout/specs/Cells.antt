@@ -1,5 +1,5 @@
 -- What of a line is aligned with the lines beside it: its trailing comment, and its assign cell, which begins at an
--- assignment sign. Cells are told by their place in the line.
+-- assignment sign. Cells are identified by their place in the line.
 -- Our own choice, in the style of `terraform fmt`.
 use Rattle.std.specs.Prelude.{◌+◌, ◌==◌, ◌&&◌, ℕ, Bool, not, [], ◌∷◌, Option, Some, None, if◌then◌else◌, drop}
 use Rattle.std.specs.List.{list_any}

@@ -97,6 +97,6 @@ braces =
 braces_spaced : plain_gaps 0 braces ≡ 0 ∷ 1 ∷ 1 ∷ 1 ∷ 1 ∷ 0 ∷ 1 ∷ []
 braces_spaced = refl
 
--- the brace before the sign is closed behind it, so the line has no cell
+-- the brace before the sign is closed after it, so the line has no cell
 braces_assign_nothing : assign_cell braces ≡ None
 braces_assign_nothing = refl

@@ -25,7 +25,7 @@ zip_with f (x ∷ xs) (y ∷ ys) = f x y ∷ zip_with f xs ys
 abbrev pub blanks : Option Lexeme → Lexeme → Lexeme → ℕ
 blanks before subject after = if spaced before subject after then 1 else 0
 
--- the gaps behind the subject
+-- the gaps after the subject
 abbrev pub gaps_after : Option Lexeme → Lexeme → Line → List ℕ
 gaps_after before subject [] = []
 gaps_after before subject (after ∷ line) = blanks before subject after ∷ gaps_after (Some subject) after line

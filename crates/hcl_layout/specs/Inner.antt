@@ -5,6 +5,7 @@ pub mod InPlace
 pub mod Left
 pub mod LineGaps
 pub mod Out
+pub mod Padding
 pub mod Simple
 pub mod Stream
 pub mod Survey

@@ -4,7 +4,5 @@ pub mod Cells
 pub mod Columns
 pub mod Gaps
 pub mod Print
-pub mod Reprinted
 pub mod Examples
-pub mod Older
 pub mod Inner

@@ -1,6 +1,6 @@
 //! Whether a print fits into so many bytes.
 //!
-//! A bound, which is found in one pass over the lines, tells most prints: it asks for no spacing, keeps no levels and reads
+//! A bound, which is found in one pass over the lines, tells most prints that aren't nearly as long as that: it asks for no spacing, keeps no levels and reads
 //! no run ahead. What stands between two tokens is a blank at most, but for the indent of a line and the gap before a cell. A
 //! line is indented by two blanks at most for each opener that is open before it, and the gap before a cell is, without its
 //! one blank, no wider than the column: the width before some cell of that kind.
@@ -15,6 +15,10 @@
 //!
 //! Here no sign's column is more than 7, and no comment's more than 7 + 15, so the print has at most 50 bytes for the tokens
 //! with a blank each, 6 for the indents, and 2 * 7 + 2 * 22 for the cells.
+//!
+//! Where the tokens with a blank each may be too long already, as in a file that is nearly as large as may be, the bound
+//! isn't asked for, and where it tells nothing either, the lines are counted as they will be printed (`lengths`), which takes
+//! three times as long. Only where that doesn't tell, the print is measured with all that it looks ahead for.
 ghost use Rattle.std.specs.Prelude.{◌≡◌, ◌↔◌, ◌<◌, ◌≤◌, ◌+◌, ◌*◌, ◌^◌, ℕ, IsTrue, Some, length, take, drop};
 ghost use Rattle.hcl_tokens.specs.Balanced.{max_open};
 ghost use Rattle.hcl_layout.specs.Inner.Depths.{BalancedFrom};
@@ -24,6 +28,7 @@ ghost use Rattle.hcl_layout.specs.Inner.Survey.{IsLine, text_at};
 ghost use Rattle.hcl_layout.specs.Lines.{lines};
 ghost use Rattle.hcl_layout.specs.Print.{print};
 
+use crate::lengths::is_told_to_fit;
 use crate::line::{LineFacts, line_at};
 use crate::measured::Measured;
 use crate::print::printed_len;
@@ -173,12 +178,21 @@ fn len_bound(tokens: &Measured<'_, '_>) -> u64
     tokens.len_bound() + extent_of(tokens).extra()
 }
 
-/// Whether the print has no more bytes than that. Where the bound doesn't tell, it is measured.
+/// Whether the bound tells that the print has no more bytes than that.
+fn is_bound_to_fit(tokens: &Measured<'_, '_>, most: u64) -> bool
+    requires balanced { BalancedFrom 0 tokens.now.tokens }
+    ensures { IsTrue result → length (print tokens.now.tokens) ≤ most }
+{
+    tokens.len_bound() <= most && len_bound(tokens) <= most
+}
+
+/// Whether the print has no more bytes than that. Where its lines don't tell it one by one, it is measured.
 pub fn fits(accepted: &Accepted<'_, '_>, most: u64) -> bool
     ensures { IsTrue result ↔ (length (print accepted.now.tokens) ≤ most) }
 {
     let tokens = Measured::new(accepted);
-    if len_bound(&tokens) <= most {
+    let _source = tokens.source();
+    if is_bound_to_fit(&tokens, most) || is_told_to_fit(&tokens, most) {
         return true;
     }
     printed_len(accepted) <= most

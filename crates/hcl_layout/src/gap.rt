@@ -8,8 +8,8 @@ ghost use Rattle.hcl_layout.specs.Inner.Left.{token_before};
 ghost use Rattle.hcl_layout.specs.Inner.LineGaps.{ArePlain, IsKnown, IsUntold, known_place, known_width, len_with_blanks, cell_gap as cell_gap_of, gap_of, gaps_in, given_or, plain_gap as plain_gap_of, plain_of};
 
 use crate::measured::Measured;
-use hcl_scan::{Kind, Token};
 use hcl_spacing::{space_by_kinds, space_by_texts};
+use hcl_tokens::{Kind, Token};
 
 /// A cell: its place in the line, the width before it, and the gap that then sets it into its column.
 #[derive(Clone, Copy)]
@@ -167,7 +167,7 @@ pub fn gap_at(tokens: &Measured<'_, '_>, gaps: LineGaps, start: usize, at: usize
     plain_gap_at(tokens, gaps.level, start, at, tokens.get(at))
 }
 
-/// A place behind another of a line, up to which the cell doesn't stand: its own, if it stands behind, or else the end.
+/// A place after another of a line, up to which the cell doesn't stand: its own, if it follows, or else the end.
 #[inline(always)]
 fn before_cell(cell: Option<Cell>, place: usize, end: usize) -> usize
     ensures within { result ≤ end }
@@ -203,7 +203,7 @@ pub fn first_cell(gaps: LineGaps, len: usize) -> usize
     up_to_cell(gaps.comment, up_to_cell(gaps.assign, len))
 }
 
-/// The place of the first cell behind another place of a line of that length, or else the line's end.
+/// The place of the first cell after another place of a line of that length, or else the line's end.
 #[inline(always)]
 pub fn next_cell(gaps: LineGaps, place: usize, len: usize) -> usize
     ensures within { result ≤ len }

@@ -1,7 +1,8 @@
 //! Whether each piece of the print stands where the source has it, at one look at each line.
 //!
-//! The column of a run is taken from the source, at the run's first line: it is where the cell stands there. At the end of the
-//! run it is asked whether it is the greatest width. So nothing is looked ahead, as it has to be where the column is unknown.
+//! The column of a run is taken from the source, at the run's first line: it is where the cell stands there, in columns. At
+//! the end of the run it is asked whether it is the greatest width. So nothing is looked ahead, as it has to be where the
+//! column is unknown.
 //!
 //! ```text
 //!                                column in the source    greatest width
@@ -38,7 +39,7 @@ pub struct Runs {
     pub comment: u64,
 }
 
-/// A line: the numbers of its first token and of that behind it, and its gaps.
+/// A line: the numbers of its first token and of that after it, and its gaps.
 #[derive(Clone, Copy)]
 pub struct LaidLine {
     pub first: usize,
@@ -79,6 +80,23 @@ fn ends_well(column: Option<u64>, greatest: u64, cell: Option<usize>) -> bool
     cell.is_some() || column == greatest
 }
 
+/// By how many bytes the texts before a place of a line are longer than they are wide. Nothing rests on it: a column that
+/// is taken from the source is asked for at the end of its run.
+#[inline(never)]
+fn surplus(tokens: &Measured<'_, '_>, first: usize, place: usize) -> u64
+    requires there { first + place ≤ length tokens.now.tokens }
+    requires few { len_with_blanks tokens.now.tokens < 2 ^ 32 }
+{
+    let mut bytes: u64 = 0;
+    let mut columns: u64 = 0;
+    for k in 0..place {
+        let token = tokens.get(first + k);
+        bytes = bytes.saturating_add(token.text.len() as u64);
+        columns = columns.saturating_add(tokens.clusters(token));
+    }
+    bytes.saturating_sub(columns)
+}
+
 /// The column with which a line is entered: that of its run, or that in which its cell stands in the source, whose line
 /// begins at a byte offset.
 #[inline(always)]
@@ -102,7 +120,11 @@ fn entered(
         return None;
     };
     let token = tokens.get(first + place);
-    Some(token.start.saturating_sub(at).saturating_sub(1) as u64)
+    let bytes = token.start.saturating_sub(at).saturating_sub(1) as u64;
+    if tokens.is_simple() {
+        return Some(bytes);
+    }
+    Some(bytes.saturating_sub(surplus(tokens, first, place)))
 }
 
 /// Passes the next line, which begins at a byte offset of the source, unless a run ended before it in another column than its
@@ -182,7 +204,7 @@ fn first_end(tokens: &Measured<'_, '_>, source: &[u8], line: LaidLine, from: usi
     end_of(source, from, piece_of(token, gap))
 }
 
-/// Where a piece behind the first of a line ends that is no cell, if it goes on from a byte offset of the source.
+/// Where a piece after the first of a line ends that is no cell, if it goes on from a byte offset of the source.
 #[inline(always)]
 fn plain_end(
     tokens: &Measured<'_, '_>,
@@ -265,9 +287,9 @@ fn plain_ends(
     Some(end)
 }
 
-/// The place of the next cell of a line behind a token of it, or the line's end.
+/// The place of the next cell of a line after a token of it, or the line's end.
 #[inline(always)]
-fn cell_behind(line: LaidLine, at: usize) -> usize
+pub fn cell_behind(line: LaidLine, at: usize) -> usize
     requires order { line.first ≤ at }
     requires there { at < line.end }
     ensures on { at < result }
@@ -311,7 +333,7 @@ fn line_end(tokens: &Measured<'_, '_>, source: &[u8], line: LaidLine, from: usiz
     Some(at)
 }
 
-/// Passes the next line, and gives the number of the token behind it and where it ends, if each of its pieces goes on from a
+/// Passes the next line, and gives the number of the token after it and where it ends, if each of its pieces goes on from a
 /// byte offset of the source and no run ended before it in another column than its greatest width.
 #[inline(always)]
 fn pass_line(
@@ -357,7 +379,7 @@ fn end_well(column: Option<u64>, runs: Runs) -> bool
 }
 
 /// Whether the source was found to be its print, with the columns of its runs taken from the source. Where it wasn't, it
-/// may yet be, as by a run whose lines aren't ASCII.
+/// may yet be: nothing is promised of that.
 #[inline(never)]
 pub fn stands_in_place(tokens: &Measured<'_, '_>) -> bool
     requires balanced { IsBalanced tokens.now.tokens }

@@ -5,7 +5,7 @@
 //! ends.
 //!
 //! ```text
-//!                  depth behind    level    levels of the depths 0, 1, 2, 3 behind it
+//!                  depth after    level    levels of the depths 0, 1, 2, 3 after it
 //!                       0                   0
 //! rules = [{            2            0      0 1 1
 //!   port = 80           2            1      0 1 1
@@ -18,7 +18,7 @@ ghost use Rattle.std.specs.Prelude.{◌≡◌, ◌≤◌, ◌+◌, ◌*◌, ◌-
 ghost use Rattle.hcl_tokens.specs.Balanced.{max_open};
 ghost use Rattle.hcl_layout.specs.Inner.Depths.{Sound, level_at, levels_behind, raised};
 
-use hcl_scan::MAX_OPEN;
+use hcl_tokens::MAX_OPEN;
 
 /// The depths at which a line can end: from 0 to as many openers as may be open.
 pub const DEPTHS: usize = MAX_OPEN + 1;
@@ -35,7 +35,7 @@ fn raise(levels: &mut [u32; DEPTHS], level: u32, from: u32, to: u32)
     }
 }
 
-/// The level of a line, by the depths before and behind it. The levels are then those behind it.
+/// The level of a line, by the depths before and after it. The levels are then those after it.
 #[inline(always)]
 pub fn next_level(levels: &mut [u32; DEPTHS], before: u32, now: u32) -> u32
     requires before { before ≤ max_open }

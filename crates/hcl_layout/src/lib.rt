@@ -15,7 +15,7 @@
 //! ```
 //!
 //! The two lines that have an assign cell are a run, and so are the two that have a comment at their end. The column of a
-//! run is its greatest width, 6 and 12 here, and the gap before a cell goes from the width before it to one blank behind
+//! run is its greatest width, 6 and 12 here, and the gap before a cell goes from the width before it to one blank after
 //! the column: 6 - 3 + 1 and 12 - 10 + 1 in the second line. The other gaps are those of the indent and of the spacing.
 #![tactic(auto)]
 
@@ -24,9 +24,11 @@ mod extent;
 mod gap;
 mod in_place;
 pub mod laws;
+mod lengths;
 mod levels;
 mod line;
 mod measured;
+mod padding;
 mod pieces;
 mod print;
 mod runs;

@@ -13,9 +13,9 @@ ghost use Rattle.hcl_layout.specs.Inner.Depths.{BalancedFrom, Steps};
 ghost use Rattle.hcl_layout.specs.Inner.Survey.{IsLine, assign_of, changes, first_noted, going, is_noted as is_noted_of, marks, noted, running_of, stops as stops_of, surveyed};
 
 use crate::measured::Measured;
-use hcl_scan::{Kind, Token};
+use hcl_tokens::{Kind, Token};
 
-/// What is known behind a token of a line.
+/// What is known after a token of a line.
 #[derive(Clone, Copy)]
 pub struct Survey {
     /// So many tokens were passed.
@@ -25,7 +25,7 @@ pub struct Survey {
     pub multiline: bool,
     /// The place of the trailing comment.
     pub comment: Option<usize>,
-    /// The depth behind what stands before the trailing comment.
+    /// The depth after what stands before the trailing comment.
     pub body_depth: u32,
     /// The place of the first assignment sign.
     pub sign: Option<usize>,
@@ -33,7 +33,7 @@ pub struct Survey {
     pub sign_depth: u32,
 }
 
-/// What a line is: its tokens, the depth behind it, and the places of its cells.
+/// What a line is: its tokens, the depth after it, and the places of its cells.
 #[derive(Clone, Copy)]
 pub struct LineFacts {
     pub len: usize,
@@ -87,7 +87,7 @@ fn is_multiline(token: Token<'_>) -> bool
     is_inline_comment(token.kind) && !token.inside_heredoc && holds_newline(token.text)
 }
 
-/// What opens, as a set of kinds with a bit for each: the depth is asked behind every token, and thus without a jump.
+/// What opens, as a set of kinds with a bit for each: the depth is asked after every token, and thus without a branch.
 const OPENERS: u64 = 1 << Kind::ParenOpen as u64
     | 1 << Kind::BracketOpen as u64
     | 1 << Kind::BraceOpen as u64
@@ -114,7 +114,7 @@ fn closes(kind: Kind) -> bool
     (CLOSERS >> kind as u64) & 1 == 1
 }
 
-/// The depth behind a token.
+/// The depth after a token.
 #[inline(always)]
 fn deepened(depth: u32, kind: Kind) -> u32
     requires steps { Steps depth kind }
@@ -124,7 +124,7 @@ fn deepened(depth: u32, kind: Kind) -> u32
     depth + u32::from(opens(kind)) - u32::from(closes(kind))
 }
 
-/// Behind the first token of a line, of a kind that changes nothing.
+/// After the first token of a line, of a kind that changes nothing.
 #[inline(always)]
 fn bare_survey(depth: u32) -> Survey
     ensures { (t : Lexeme) → changes t.kind ≡ false → result ≡ first_noted depth t }
@@ -140,7 +140,7 @@ fn bare_survey(depth: u32) -> Survey
     }
 }
 
-/// Behind the first token of a line.
+/// After the first token of a line.
 #[inline(always)]
 fn first_survey(depth: u32, token: Token<'_>) -> Survey
     requires steps { Steps depth token.kind }
@@ -159,7 +159,7 @@ fn first_survey(depth: u32, token: Token<'_>) -> Survey
     }
 }
 
-/// Behind the first token of the line that begins at a place, and whether the line ends with it.
+/// After the first token of the line that begins at a place, and whether the line ends with it.
 #[inline(always)]
 fn read_first(tokens: &Measured<'_, '_>, at: usize, depth: u32) -> (Survey, bool)
     requires within { at < length tokens.now.tokens }
@@ -220,7 +220,7 @@ impl Survey {
         Survey { len, ..self }
     }
 
-    /// Behind one token more, of a kind that changes nothing.
+    /// After one token more, of a kind that changes nothing.
     #[inline(always)]
     fn passed(self) -> Survey
         requires room { self.len + 1 < 2 ^ 64 }
@@ -237,7 +237,7 @@ impl Survey {
         }
     }
 
-    /// Behind one token more, of a kind that changes the depth at most.
+    /// After one token more, of a kind that changes the depth at most.
     #[inline(always)]
     fn turned(self, kind: Kind) -> Survey
         requires steps { Steps self.depth kind }
@@ -259,7 +259,7 @@ impl Survey {
         }
     }
 
-    /// Behind one token more, of any kind.
+    /// After one token more, of any kind.
     #[inline(always)]
     fn with(self, token: Token<'_>) -> Survey
         requires steps { Steps self.depth token.kind }
@@ -320,7 +320,7 @@ impl Survey {
     }
 }
 
-/// Behind the rest of the line of which so many tokens were passed.
+/// After the rest of the line of which so many tokens were passed.
 #[inline(always)]
 fn read_rest(tokens: &Measured<'_, '_>, at: usize, passed: Survey) -> Survey
     requires within { at + passed.len ≤ length tokens.now.tokens }
@@ -341,7 +341,7 @@ fn read_rest(tokens: &Measured<'_, '_>, at: usize, passed: Survey) -> Survey
 }
 
 /// The tokens of a line, from the one at a place on, each noted. Most open or close, or change nothing: of them the kind
-/// alone is asked, and of inline comments alone the text. What stands behind a trailing comment, as a rule the newline
+/// alone is asked, and of inline comments alone the text. What follows a trailing comment, as a rule the newline
 /// alone, is read apart, so that up to there less has to be kept.
 #[inline(always)]
 fn read_line(tokens: &Measured<'_, '_>, at: usize, depth: u32) -> Survey

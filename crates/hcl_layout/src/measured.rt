@@ -1,5 +1,5 @@
 //! The tokens to lay out, and how wide their texts are.
-ghost use Rattle.std.specs.Prelude.{◌≡◌, ◌<◌, ◌≤◌, ◌+◌, ◌^◌, IfSome, IsTrue, Some, true, length, drop, slice_get, take};
+ghost use Rattle.std.specs.Prelude.{◌≡◌, ◌<◌, ◌≤◌, ◌+◌, ◌^◌, ◌&&◌, IfSome, IsTrue, Some, true, length, drop, nat_le, slice_get, take};
 ghost use Rattle.unicode_segmentation.specs.Grapheme.{graphemes};
 ghost use Rattle.hcl_tokens.specs.Lexemes.{Lexeme};
 ghost use Rattle.hcl_tokens.specs.Scanned.{lexeme};
@@ -8,7 +8,7 @@ ghost use Rattle.hcl_layout.specs.Inner.Simple.{IsFrom, is_alone as is_alone_of,
 ghost use Rattle.hcl_layout.specs.Inner.LineGaps.{len_with_blanks};
 
 use hcl_grammar::Accepted;
-use hcl_scan::{Kind, Token, Tokens};
+use hcl_tokens::{Kind, Token, Tokens};
 use std::marker::Model;
 use unicode_segmentation::UnicodeSegmentation;
 
@@ -33,7 +33,7 @@ impl<'t, 's> Model for Measured<'t, 's> {
 }
 
 /// Whether the bytes are ASCII without CR, so that each is a grapheme cluster. All of them are looked at, whatever the
-/// first are, so that the compiler takes many at a time.
+/// first are, so that the loop can be vectorised.
 fn is_simple(bytes: &[u8]) -> bool
     ensures { result ≡ is_simple_of bytes.now }
 {
@@ -44,13 +44,35 @@ fn is_simple(bytes: &[u8]) -> bool
     simple
 }
 
-/// Whether a character is a grapheme cluster by itself among such: below U+0300, the first that joins with the one before
-/// it, and no CR, which joins with LF.
+#[inline(always)]
+fn is_between(c: char, first: char, last: char) -> bool
+    ensures { result ≡ (nat_le first c && nat_le c last) }
+{
+    first <= c && c <= last
+}
+
+/// Whether a character is a grapheme cluster by itself among such, as nearly all are outside a few scripts: one that never
+/// joins with the one before it or after it, as combining accents, CR and half of a flag do.
 #[inline(always)]
 fn is_alone(c: char) -> bool
     ensures { result ≡ is_alone_of c }
 {
-    c < '\u{300}' && c != '\r'
+    is_between(c, '\u{0}', '\u{c}')
+        || is_between(c, '\u{e}', '\u{2ff}')
+        || is_between(c, '\u{370}', '\u{482}')
+        || is_between(c, '\u{48a}', '\u{590}')
+        || is_between(c, '\u{1e00}', '\u{200b}')
+        || is_between(c, '\u{2010}', '\u{20cf}')
+        || is_between(c, '\u{2100}', '\u{2cee}')
+        || is_between(c, '\u{2e00}', '\u{3029}')
+        || is_between(c, '\u{3030}', '\u{3098}')
+        || is_between(c, '\u{309b}', '\u{a66e}')
+        || is_between(c, '\u{f900}', '\u{fb1d}')
+        || is_between(c, '\u{ff00}', '\u{ff9d}')
+        || is_between(c, '\u{1f000}', '\u{1f1e5}')
+        || is_between(c, '\u{1f200}', '\u{1f3fa}')
+        || is_between(c, '\u{1f400}', '\u{1faff}')
+        || is_between(c, '\u{20000}', '\u{3ffff}')
 }
 
 /// How many characters a text has, where each of them is a grapheme cluster by itself.
@@ -123,6 +145,15 @@ impl<'t, 's> Measured<'t, 's> {
         ensures small { result ≤ 2 ^ 23 }
     {
         (self.tokens.len() + self.tokens.source().text().len()) as u64
+    }
+
+    /// Whether all texts are as wide as they have bytes.
+    #[inline(always)]
+    pub fn is_simple(&self) -> bool
+        ensures { IsTrue result → is_simple_of self.now.text ≡ true }
+    {
+        let _ = &self.tokens;
+        self.simple
     }
 
     /// How many tokens there are.

@@ -21,7 +21,7 @@ use crate::gap::{LineGaps, first_cell, gap_at, gap_behind, indent, next_cell, pl
 use crate::line::line_at;
 use crate::measured::Measured;
 use crate::runs::{Walk, start_walk};
-use hcl_scan::Token;
+use hcl_tokens::Token;
 
 /// Where the next piece stands: the number of its token, where its line begins and ends, the
 /// line's gaps, and what is known of the lines up to its end.

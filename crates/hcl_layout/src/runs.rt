@@ -13,7 +13,7 @@
 //! ```
 //!
 //! A tab writer keeps the lines of a block until it ends. Here nothing is kept: at the first line of a run the lines ahead
-//! are measured up to its end, and the lines behind the first take the column of the line before. The comments' widths
+//! are measured up to its end, and the lines after the first take the column of the line before. The comments' widths
 //! are measured with the assignment signs in their columns, so both runs are looked ahead at their first lines.
 ghost use Rattle.std.specs.Prelude.{◌*◌, ◌≡◌, ◌<◌, ◌≤◌, ◌+◌, ◌-◌, ◌^◌, ℕ, length, take, drop, Some, None, ◌∷◌, IfSome, option_map};
 ghost use Rattle.hcl_tokens.specs.Balanced.{max_open};
@@ -211,7 +211,7 @@ fn comment_ahead(walk: &Walk, tokens: &Measured<'_, '_>, from: usize) -> u64
     greatest
 }
 
-/// The column of a trailing comment behind that width: that of the line before it, where the run goes on, or else the
+/// The column of a trailing comment after that width: that of the line before it, where the run goes on, or else the
 /// greatest width of the run that it begins. `next` is where the line after it begins.
 #[inline(always)]
 fn comment_run_column(

@@ -11,7 +11,7 @@ use crate::measured::Measured;
 use crate::pieces::{Piece, next_piece, start};
 use crate::print::goes_on;
 use hcl_grammar::Accepted;
-use hcl_scan::{ByteSink, WriteFault, write_fully};
+use hcl_tokens::{ByteSink, WriteFault, write_fully};
 
 impl Buffer {
     fn new() -> Self
@@ -137,7 +137,7 @@ fn send_past<W: ByteSink>(to: &mut W, buffer: &mut Buffer, text: &[u8]) -> Resul
     Ok(())
 }
 
-/// Writes bytes behind those before, or lets them wait.
+/// Writes bytes after those before, or lets them wait.
 #[inline(always)]
 fn put<W: ByteSink>(to: &mut W, buffer: &mut Buffer, text: &[u8]) -> Result<(), WriteFault>
     requires fresh { W.failed to.old ≡ false }
@@ -209,7 +209,7 @@ fn put_text<W: ByteSink>(
 }
 
 /// Writes a stretch of the source. Most are a few bytes: blocks of a fixed length are written quicker than so few bytes,
-/// and what was written behind them is written over.
+/// and what was written after them is written over.
 #[inline(always)]
 fn put_stretch<W: ByteSink>(
     to: &mut W,

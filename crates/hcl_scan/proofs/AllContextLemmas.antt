@@ -1,4 +1,4 @@
--- One kind for each text and no empty text, for all places from expressions and templates; and a reading that lacks something can't go on.
+-- One kind for each text, for all places from expressions and templates; and a reading that lacks something can't go on.
 use Rattle.std.proofs.Common.{◌≡◌, ℕ, ◌<◌, Bool, List, [], ◌∷◌, ◌++◌, length, get_or, None, ◌⊎◌, inl, inr, ⊎_elim, refl, sym, ap, subst, ◌∙◌, arith, length-drop}
 use Rattle.hcl_tokens.specs.Lexemes.{Lexeme, Opener, marker_of, moved, max_open}
 use Rattle.hcl_tokens.specs.Spelling.{IsExpressionText, IsTextIn, Context, Template, Expression, context, element_len, IsLiteral}
@@ -10,20 +10,11 @@ use Rattle.hcl_tokens.specs.declared.token.Kind.TheVariants.{HeredocOpen, Lit}
 use Rattle.hcl_tokens.proofs.RunLemmas.{OneKind, Nonempty, Stuck, one_longest, some_ahead, nothing_ahead}
 use Rattle.hcl_scan.proofs.TemplateLemmas.{Way, ways, lit, interp, control, quote, no_lit, no_element}
 
--- the laws of expressions
+-- the law of expressions
 unfoldable pub OneExpression : Type 0
 OneExpression = (opens : List Opener) (dot : Bool) (kind other : Kind) (text rest : List ℕ) → IsExpressionText opens dot kind text rest → IsExpressionText opens dot other text rest → kind ≡ other
 
-unfoldable pub SomeExpression : Type 0
-SomeExpression = (opens : List Opener) (dot : Bool) (kind : Kind) (text rest : List ℕ) → IsExpressionText opens dot kind text rest → 0 < length text
-
--- the laws of templates
-pub some_template : (quoted : Bool) (kind : Kind) (text rest : List ℕ) → Way quoted kind text rest → 0 < length text
-some_template quoted kind text rest (lit k h) = h.0
-some_template quoted kind text rest (interp k h) = ⊎_elim (λ e. omega (arith, ap length e)) (λ e. omega (arith, ap length e)) h
-some_template quoted kind text rest (control k h) = ⊎_elim (λ e. omega (arith, ap length e)) (λ e. omega (arith, ap length e)) h
-some_template quoted kind text rest (quote k q h) = omega (arith, ap length h)
-
+-- the law of templates
 no_both : (quoted : Bool) (kind : Kind) (text rest : List ℕ) → IsLiteral quoted text rest → element_len quoted (text ++ rest) ≡ None → ⊥
 no_both quoted kind text rest h none = no_lit quoted (text ++ rest) text rest none refl h
 
@@ -46,24 +37,15 @@ one_template quoted kind other text rest (quote k q h) (interp l m) = let e : 34
 one_template quoted kind other text rest (quote k q h) (control l m) = let e : 34 ≡ 37 = sym (ap (λ l. get_or l 0 0) h) ∙ second_head text 37 m in absurd (omega (arith, e))
 one_template quoted kind other text rest (quote k q h) (quote l r m) = k ∙ sym l
 
--- the laws of all places
+-- the law of all places
 one_in : OneExpression → (c : Context) (opens : List Opener) (dot : Bool) (kind other : Kind) (text rest : List ℕ) → IsTextIn c opens dot kind text rest → IsTextIn c opens dot other text rest → kind ≡ other
 unfolding OneExpression
 one_in one Expression opens dot kind other text rest h k = one opens dot kind other text rest h k
 one_in one (Template quoted) opens dot kind other text rest h k = one_template quoted kind other text rest (ways quoted kind text rest h) (ways quoted other text rest k)
 
-some_in : SomeExpression → (c : Context) (opens : List Opener) (dot : Bool) (kind : Kind) (text rest : List ℕ) → IsTextIn c opens dot kind text rest → 0 < length text
-unfolding SomeExpression
-some_in some Expression opens dot kind text rest h = some opens dot kind text rest h
-some_in some (Template quoted) opens dot kind text rest h = some_template quoted kind text rest (ways quoted kind text rest h)
-
 pub one_kind : OneExpression → OneKind
 unfolding OneKind
 one_kind one opens dot kind other text rest h k = one_in one (context opens) opens dot kind other text rest h k
-
-pub nonempty : SomeExpression → Nonempty
-unfolding Nonempty
-nonempty some opens dot kind text rest h = some_in some (context opens) opens dot kind text rest h
 
 -- WHERE SOMETHING IS LACKING nothing is read
 module _ (one : OneKind) (some : Nonempty) where

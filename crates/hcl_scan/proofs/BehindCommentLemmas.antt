@@ -1,15 +1,15 @@
--- Behind a comment to the end of its line comes a newline, or the end: with no gap before it, the comment stays as it is.
+-- After a comment to the end of its line comes a newline, or the end: with no gap before it, the comment stays as it is.
 use Rattle.std.proofs.Common.{◌≡◌, ℕ, zero, suc, ◌+◌, ◌<◌, ◌&&◌, ◌||◌, ◌==◌, not, Bool, true, false, cond, List, [], ◌∷◌, ◌++◌, length, drop, replicate, refl, sym, ap, subst, ◌∙◌, arith, length-append, append_assoc}
 use Rattle.std.specs.List.{list_any, prefix_len}
 use Rattle.std.proofs.lemmas.Bool.Decides.{nat_tests}
 use Rattle.hcl_tokens.specs.Lexemes.{Lexeme, Opener, in_heredoc, moved}
 use Rattle.hcl_tokens.specs.Spelling.{IsLineComment, IsTextIn, context, Expression, starts, is_blank}
 use Rattle.hcl_tokens.specs.Scans.{State, gap_in, has_gaps_in, ahead, IsLongest, Leaves, Reads, Run}
-use Rattle.hcl_scan.specs.Neighbours.{ends_comment, joins}
-use Rattle.hcl_scan.specs.Regapped.{without_gaps, text_with_gaps, gap_fits, AllFit}
+use Rattle.hcl_tokens.specs.Neighbours.{ends_comment, joins}
+use Rattle.hcl_tokens.specs.Regapped.{without_gaps, text_with_gaps, gap_fits, AllFit}
 use Rattle.hcl_tokens.specs.declared.token.Kind.{Kind}
 use Rattle.hcl_tokens.specs.declared.token.Kind.TheVariants.{LineComment}
-use Rattle.hcl_scan.proofs.BooleanLemmas.{and_true, or_true}
+use Rattle.hcl_tokens.proofs.BooleanLemmas.{and_true, or_true}
 use Rattle.hcl_scan.proofs.WayLemmas.{ways}
 use Rattle.hcl_scan.proofs.LeadLemmas.{some}
 use Rattle.hcl_tokens.proofs.ExpressionKindLemmas.{in_expressions}

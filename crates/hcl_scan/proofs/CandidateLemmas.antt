@@ -38,14 +38,14 @@ module _ (marker text rest : List ℕ) (at : ℕ) (rest_is : rest ≡ drop at te
       get_or-drop at text (m + front - at + j) 0 ∙ ap (λ i. get_or text i 0) (omega (arith, low)) ∙ sym (get_or-drop m text (front + j) 0) ∙ sym (get_or-drop front (drop m text) j 0)
       ∙ starts_reads (drop front (drop m text)) marker begun j lt
 
-  -- so the marker occurs behind the line's blanks
+  -- so the marker occurs after the line's blanks
   occurs : OccursAt rest marker (m + front - at)
   occurs = subst (λ l. OccursAt l marker (m + front - at)) (sym rest_is) (record { fits = omega (arith, within, low, length-drop at text); reads = reads })
 
   pub no_place : ((k : ℕ) → 0 ≤ k → k < length rest + 1 → ¬ OccursAt rest marker k) → ⊥
   no_place none = none (m + front - at) (omega arith) (omega (arith, within, low, ap length rest_is, length-drop at text)) occurs
 
-  -- and where it comes first isn't behind that
+  -- and where it comes first isn't after that
   pub not_before : (place : ℕ) → ((k : ℕ) → 0 ≤ k → k < place → ¬ OccursAt rest marker k) → at + place ≤ m + prefix_len is_blank (drop m text)
   not_before place before = ⊎_elim (λ e. omega (arith, e)) (λ other. ⊎_elim (λ below. omega (arith, below)) (λ above. absurd (before (m + front - at) (omega arith) (omega (arith, above, low)) occurs)) other) (cases_order (at + place) (m + front))
 

@@ -1,5 +1,5 @@
 -- Comments at the front of a text.
-use Rattle.std.proofs.Common.{◌≡◌, ℕ, zero, suc, ◌+◌, ◌<◌, ◌≤◌, ◌&&◌, ◌||◌, ◌==◌, not, Bool, true, false, List, [], ◌∷◌, ◌++◌, length, take, drop, get_or, ◌⊎◌, inl, inr, ⊎_elim, refl, sym, ap, subst, ◌∙◌, arith, length-append, append_assoc, length-take-le, add-zero, add-one, drop-cons}
+use Rattle.std.proofs.Common.{◌≡◌, ℕ, zero, suc, ◌+◌, ◌<◌, ◌≤◌, ◌&&◌, ◌||◌, ◌==◌, not, Bool, true, false, List, [], ◌∷◌, ◌++◌, length, take, drop, get_or, ◌⊎◌, ⊎_elim, refl, sym, ap, subst, ◌∙◌, arith, length-append, append_assoc, length-take-le, add-zero, add-one, drop-cons}
 use Rattle.std.proofs.Math.Numerals.{one-add}
 use Rattle.std.specs.Prelude.{nat_eq}
 use Rattle.std.specs.List.{list_all, list_any, prefix_len, starts_with}
@@ -8,7 +8,7 @@ use Rattle.std.proofs.lemmas.List.Sums.{prefix_len-le-length}
 use Rattle.std.proofs.lemmas.Bool.Decides.{nat_tests}
 use Rattle.hcl_tokens.specs.Spelling.{starts, Holds, IsLineComment, IsInlineComment}
 use Rattle.hcl_scan.specs.Inner.Found.{IsLongestFront, HasNoFront, EndsComment}
-use Rattle.hcl_scan.proofs.BooleanLemmas.{and_true}
+use Rattle.hcl_tokens.proofs.BooleanLemmas.{and_true, or_cases}
 use Rattle.hcl_scan.proofs.FrontLemmas.{begins, longest_is, run_passes, run_longest}
 
 -- comments up to the end of the line
@@ -41,10 +41,6 @@ starts_split (b ∷ text) (c ∷ front) h =
   where
     same : (b c : ℕ) → (b == c) ≡ true → b ≡ c
     same b c h = grind (arith, nat_tests)
-
-pub or_cases : (a b : Bool) → (a || b) ≡ true → (a ≡ true) ⊎ (b ≡ true)
-or_cases true b h = inl refl
-or_cases false b h = inr h
 
 abbrev begins_comment : List ℕ → Bool
 begins_comment text = starts text (35 ∷ []) || starts text (47 ∷ 47 ∷ [])
@@ -100,7 +96,7 @@ ends_less text rest n lt h =
 pub star_moved : (body rest : List ℕ) → (body ++ (42 ∷ [])) ++ (47 ∷ rest) ≡ body ++ (42 ∷ 47 ∷ rest)
 star_moved body rest = append_assoc body (42 ∷ []) (47 ∷ rest)
 
--- what a comment leaves of the text behind its `/*`
+-- what a comment leaves of the text after its `/*`
 inner_is : (seen inner body left longer : List ℕ) → seen ≡ 47 ∷ 42 ∷ inner → longer ≡ (47 ∷ 42 ∷ []) ++ body ++ (42 ∷ 47 ∷ []) → longer ++ left ≡ seen → body ++ (42 ∷ 47 ∷ left) ≡ inner
 inner_is seen inner body left longer e is whole =
     sym (append_assoc body (42 ∷ 47 ∷ []) left) ∙ ap (drop 2) (ap (λ l. l ++ left) (sym is) ∙ whole ∙ e)

@@ -1,4 +1,4 @@
--- A text may be cut behind an ASCII byte.
+-- A text may be cut after an ASCII byte.
 use Rattle.std.proofs.Common.{◌≡◌, ℕ, ◌+◌, ◌-◌, ◌<◌, ◌≤◌, ◌&&◌, ◌==◌, not, Bool, true, false, List, [], ◌∷◌, ◌++◌, length, take, drop, get_or, ◌⊎◌, inl, inr, ⊎_elim, refl, sym, ap, subst, ◌∙◌, arith, IsUtf8, length-append, append_assoc, length-take-le}
 use Rattle.std.specs.Prelude.{nat_lt}
 use Rattle.std.specs.List.{list_all, prefix_len}
@@ -44,7 +44,7 @@ low_cut seen n utf8 within e =
     let next : n - 1 + 1 ≡ n = omega (arith, len, e.some) in
     subst (IsCharBoundary seen) next (IsCharBoundary-after_ascii seen (n - 1) utf8 (omega (arith, len, e.some, within)) (omega (arith, byte, low)))
 
--- behind a run of ASCII bytes
+-- after a run of ASCII bytes
 pub run_cut : (q : ℕ → Bool) → ((b : ℕ) → q b ≡ true → b < 128) → (seen : List ℕ) → IsUtf8 seen → IsCharBoundary seen (prefix_len q seen)
 run_cut q ascii seen utf8 =
     ⊎_elim (λ none. subst (IsCharBoundary seen) (sym none) (IsCharBoundary-start seen utf8))

@@ -11,7 +11,7 @@ use Rattle.hcl_tokens.specs.Spelling.{punctuation, IsPunctuation, IsNewline, IsL
 use Rattle.hcl_scan.specs.Inner.Found.{Finds, AreSurroundings, FindsAt, HasNoneAt, IsLongestFront, HasNoFront, BlankText, NumberText, CloserText, closer_kind, IsLongestPunctuation, HasNoPunctuation}
 use Rattle.hcl_tokens.specs.Scans.{HasNone}
 use Rattle.hcl_scan.specs.Inner.Leads.{lead_of, lead_bytes, slash_lead}
-use Rattle.hcl_scan.specs.SideBySide.{may_begin_ident}
+use Rattle.hcl_tokens.specs.SideBySide.{may_begin_ident}
 use Rattle.hcl_scan.specs.declared.expression.Lead.{Lead}
 use Rattle.hcl_scan.specs.declared.expression.Lead.TheVariants.{LineEnd, Space, Letter, Digit, HashOrSlashes, SlashStar, OneSlash, LessLess, Closer, Sign}
 use Rattle.hcl_scan.specs.declared.found.Found.{Found}

@@ -1,4 +1,4 @@
--- Outside heredocs no token begins with a blank: a gap that was put before one is the gap that is read there, and behind
+-- Outside heredocs no token begins with a blank: a gap that was put before one is the gap that is read there, and after
 -- a marker line comes a newline, whatever blanks stand before it.
 use Rattle.std.proofs.Common.{◌≡◌, ℕ, zero, suc, ◌+◌, ◌<◌, ◌&&◌, ◌||◌, ◌==◌, not, Bool, true, false, cond, List, [], ◌∷◌, ◌++◌, length, drop, get_or, replicate, inl, inr, ⊎_elim, refl, sym, ap, subst, ◌∙◌, arith, IsTrue}
 use Rattle.std.specs.List.{prefix_len}
@@ -7,7 +7,7 @@ use Rattle.hcl_tokens.specs.Lexemes.{Lexeme, Opener, in_heredoc}
 use Rattle.hcl_tokens.specs.Spelling.{IsNewline, IsTextIn, IsExpressionText, is_blank, starts, context, Context, Template, Expression}
 use Rattle.hcl_tokens.specs.Scans.{State, gap_in, gap_len, has_gaps_in, skip_blanks, at_line_end, Reads, Closes, Run, IsComplete}
 use Rattle.hcl_scan.specs.Inner.Leads.{lead_of}
-use Rattle.hcl_scan.specs.Regapped.{without_gaps, text_with_gaps, is_template, touches, gap_fits}
+use Rattle.hcl_tokens.specs.Regapped.{without_gaps, text_with_gaps, is_template, touches, gap_fits}
 use Rattle.hcl_scan.specs.declared.expression.Lead.TheVariants.{LineEnd}
 use Rattle.hcl_tokens.specs.declared.token.Kind.{Kind}
 use Rattle.hcl_tokens.specs.declared.token.Kind.TheVariants.{LineComment}
@@ -28,7 +28,7 @@ not_blank opens dot kind text rest plain is = by (is_blank (get_or text 0 0)) re
         let inside : in_heredoc opens ≡ true = (subst (λ (z : Kind). IsExpressionText opens dot z text rest) k is).0 in
         absurd (cc)
 
--- a gap and no blank behind it
+-- a gap and no blank after it
 gap_is : (gap b : ℕ) (more : List ℕ) → is_blank b ≡ false → prefix_len is_blank (replicate gap 32 ++ b ∷ more) ≡ gap
 gap_is zero b more h = ap (λ v. cond v (1 + prefix_len is_blank more) 0) h
 gap_is (suc gap) b more h = omega (arith, gap_is gap b more h)

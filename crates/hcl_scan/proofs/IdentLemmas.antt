@@ -13,9 +13,9 @@ use Rattle.std.proofs.lemmas.Bool.Decides.{nat_tests}
 use Rattle.unicode_ident.specs.Ident.{is_xid_start}
 use Rattle.unicode_ident.proofs.IdentLemmas.{is_xid_start-ascii, is_xid_continue-ascii, is_xid_start-is_xid_continue}
 use Rattle.hcl_tokens.specs.Spelling.{IsIdent, are_ident, starts_ident, continues_ident}
-use Rattle.hcl_scan.specs.SideBySide.{may_begin_ident}
+use Rattle.hcl_tokens.specs.SideBySide.{may_begin_ident}
 use Rattle.hcl_scan.specs.Inner.Found.{IsLongestFront, HasNoFront, BeginsWith, FirstChar, BeginsWithout, AreContinuing, continues_ascii}
-use Rattle.hcl_scan.proofs.BooleanLemmas.{and_true}
+use Rattle.hcl_tokens.proofs.BooleanLemmas.{and_true}
 use Rattle.hcl_scan.proofs.CutLemmas.{run_cut}
 use Rattle.hcl_scan.proofs.FrontLemmas.{run_passes}
 use Rattle.hcl_scan.proofs.WordLemmas.{all_to}

@@ -1,4 +1,4 @@
--- Behind a token that may grow: what is read there in a text of the same tokens doesn't go on it, where the gap fits.
+-- After a token that may grow: what is read there in a text of the same tokens doesn't go on it, where the gap fits.
 use Rattle.std.proofs.Common.{◌≡◌, ℕ, zero, suc, ◌<◌, ◌≤◌, ◌&&◌, ◌||◌, ◌==◌, not, Bool, true, false, cond, List, [], ◌∷◌, ◌++◌, length, get_or, replicate, ⊎_elim, refl, sym, ap, ◌∙◌, arith}
 use Rattle.std.specs.Char.{is_ascii_digit}
 use Rattle.std.specs.Prelude.{nat_le}
@@ -9,12 +9,12 @@ use Rattle.hcl_tokens.specs.Spelling.{punctuation, IsPunctuation, IsExpressionTe
 use Rattle.hcl_tokens.specs.Kinds.{is}
 use Rattle.hcl_tokens.specs.Scans.{State, ahead, Reads, Closes, Next, Run}
 use Rattle.hcl_scan.specs.Inner.Leads.{lead_of, lead_bytes}
-use Rattle.hcl_scan.specs.Neighbours.{grows, joins, joins_text, stays}
-use Rattle.hcl_scan.specs.Regapped.{without_gaps, text_with_gaps, is_template, touches, AllFit}
+use Rattle.hcl_tokens.specs.Neighbours.{grows, joins, joins_text, stays}
+use Rattle.hcl_tokens.specs.Regapped.{without_gaps, text_with_gaps, is_template, touches, AllFit}
 use Rattle.hcl_scan.specs.declared.expression.Lead.TheVariants.{Sign as SignLead}
 use Rattle.hcl_tokens.specs.declared.token.Kind.{Kind}
 use Rattle.hcl_tokens.specs.declared.token.Kind.TheVariants.{LineComment, Ident, Number, Dot, Colon, Not, Assign, Less, Greater, Slash, Lit, InterpOpen, ControlOpen, QuoteClose, HeredocClose}
-use Rattle.hcl_scan.proofs.BooleanLemmas.{and_true, not_true}
+use Rattle.hcl_tokens.proofs.BooleanLemmas.{and_true, not_true}
 use Rattle.hcl_scan.proofs.ContextLemmas.{not_both}
 use Rattle.hcl_scan.proofs.WayLemmas.{Ways, ways, mark_passes}
 use Rattle.hcl_scan.proofs.LeadLemmas.{leads, some, sign_mark}
@@ -136,7 +136,7 @@ no_fraction opens dot kind text rest other this no_dot = by (get_or (text ++ oth
         is_point : (b : ℕ) → (b == 46) ≡ true → b ≡ 46
         is_point b h = grind (arith, nat_tests)
 
--- ---- a token that may grow, and what fits behind it
+-- ---- a token that may grow, and what fits after it
 zero_grows : (kind : Kind) → grows kind 0 ≡ false
 zero_grows Ident = refl
 zero_grows Number = refl

@@ -7,16 +7,16 @@ use Rattle.std.proofs.lemmas.List.{append-nil}
 use Rattle.hcl_tokens.specs.Lexemes.{Opener}
 use Rattle.hcl_tokens.specs.Spelling.{punctuation, IsPunctuation, IsDigits, is_blank, starts}
 use Rattle.hcl_scan.specs.Inner.Leads.{lead_of, lead_bytes, slash_lead}
-use Rattle.hcl_scan.specs.SideBySide.{may_begin_ident}
+use Rattle.hcl_tokens.specs.SideBySide.{may_begin_ident}
 use Rattle.hcl_scan.specs.declared.expression.Lead.{Lead}
 use Rattle.hcl_scan.specs.declared.expression.Lead.TheVariants.{LineEnd, Space, Letter, Digit, HashOrSlashes, SlashStar, OneSlash, LessLess, Closer, Sign}
 use Rattle.hcl_tokens.specs.declared.token.Kind.{Kind}
 use Rattle.hcl_tokens.specs.declared.token.Kind.TheVariants.{Newline, LineComment, InlineComment, Blank, Ident, Number, HeredocOpen, SeqClose, BraceClose, Slash}
-use Rattle.hcl_scan.proofs.BooleanLemmas.{and_true}
+use Rattle.hcl_tokens.proofs.BooleanLemmas.{and_true, or_cases}
 use Rattle.hcl_scan.proofs.WordLemmas.{ident_word}
 use Rattle.hcl_scan.proofs.WayLemmas.{Ways, newline, line_comment, inline_comment, blanks, ident, digits, number, heredoc, seq_close, brace_close, slash, mark, mark_passes}
 use Rattle.hcl_scan.proofs.NumeralLemmas.{digit_head}
-use Rattle.hcl_scan.proofs.CommentLemmas.{starts_split, or_cases}
+use Rattle.hcl_scan.proofs.CommentLemmas.{starts_split}
 
 -- how the texts of each kind begin
 abbrev pub kind_lead : Kind → Lead

@@ -1,4 +1,3 @@
-pub mod BooleanLemmas
 pub mod ElementLemmas
 pub mod ToldKindLemmas
 pub mod CandidateLemmas
@@ -8,6 +7,7 @@ pub mod TableLemmas
 pub mod TemplateLemmas
 pub mod StackLemmas
 pub mod SliceLemmas
+pub mod BlockLemmas
 pub mod WordLemmas
 pub mod WayLemmas
 pub mod MarkerLemmas

@@ -1,4 +1,4 @@
--- Literal text before the token that ends it: whatever stands behind that token, the elements are the same.
+-- Literal text before the token that ends it: whatever follows that token, the elements are the same.
 use Rattle.std.proofs.Common.{◌≡◌, ℕ, zero, suc, ◌-◌, ◌<◌, ◌≤◌, ◌&&◌, ◌||◌, ◌==◌, not, Bool, true, false, List, [], ◌∷◌, ◌++◌, length, if◌then◌else◌, refl, sym, ap, ◌∙◌, arith, Option, Some, None}
 use Rattle.std.specs.List.{list_all}
 use Rattle.std.specs.Option.{option_map_or}
@@ -6,13 +6,13 @@ use Rattle.std.specs.Char.{is_ascii_hexdigit}
 use Rattle.hcl_tokens.specs.Spelling.{starts, element_len, escape_len, are_elements, ends_quoted, is_dollar_or_percent, hex_digits_after}
 use Rattle.hcl_scan.proofs.ElementLemmas.{no_longer_lit}
 
--- a front that is short looks at nothing behind
+-- a front that is short looks at nothing after
 short_front : (w x y front : List ℕ) → length front ≤ length w → starts (w ++ x) front ≡ starts (w ++ y) front
 short_front w x y [] le = refl
 short_front [] x y (c ∷ front) le = absurd (omega arith)
 short_front (b ∷ w) x y (c ∷ front) le = ap (λ v. (b == c) && v) (short_front w x y front (omega arith))
 
--- nor does one that hasn't the byte behind
+-- nor does one that hasn't the byte after
 other_front : (p : List ℕ) (h : ℕ) (x y front : List ℕ) → list_all (λ c. not (h == c)) front ≡ true → starts (p ++ h ∷ x) front ≡ starts (p ++ h ∷ y) front
 other_front p h x y [] f = refl
 other_front [] h x y (c ∷ front) f = by (h == c) (starts x front) (starts y front) (list_all (λ c. not (h == c)) front) f
@@ -57,7 +57,7 @@ onward quoted b after e =
     else (if is_dollar_or_percent b then (if starts after (123 ∷ []) then None else Some 1)
     else (if quoted && ends_quoted b after then e else Some 1))
 
--- the token behind literal text: a quote, or `${` or `%{`
+-- the token after literal text: a quote, or `${` or `%{`
 pub data Behind (x y : List ℕ) : Type 0 where
   quote : (x' y' : List ℕ) → x ≡ 34 ∷ x' → y ≡ 34 ∷ y' → Behind x y
   dollar : (x' y' : List ℕ) → x ≡ 36 ∷ 123 ∷ x' → y ≡ 36 ∷ 123 ∷ y' → Behind x y

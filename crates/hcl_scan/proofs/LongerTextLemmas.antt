@@ -5,7 +5,7 @@ use Rattle.hcl_tokens.specs.Lexemes.{Opener}
 use Rattle.hcl_tokens.specs.Spelling.{IsExpressionText}
 use Rattle.hcl_scan.specs.Inner.Leads.{lead_of}
 use Rattle.hcl_tokens.specs.declared.token.Kind.{Kind}
-use Rattle.hcl_scan.proofs.BooleanLemmas.{and_true}
+use Rattle.hcl_tokens.proofs.BooleanLemmas.{and_true}
 use Rattle.hcl_scan.proofs.WayLemmas.{ways}
 use Rattle.hcl_scan.proofs.LeadLemmas.{kind_lead, leads, front_lead}
 

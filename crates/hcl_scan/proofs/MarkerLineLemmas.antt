@@ -1,4 +1,4 @@
--- A marker line is found at the same place, whatever stands behind it.
+-- A marker line is found at the same place, whatever follows it.
 use Rattle.std.proofs.Common.{◌≡◌, ℕ, ◌+◌, ◌-◌, ◌<◌, ◌≤◌, ◌&&◌, ◌==◌, not, Bool, true, false, cond, List, [], ◌∷◌, ◌++◌, length, take, drop, get_or, ◌⊎◌, inl, inr, ⊎_elim, refl, sym, ap, ◌∙◌, arith, length-append, length-drop, append_assoc, get_or-take, get_or-drop, length-take-le}
 use Rattle.std.proofs.Math.Numerals.{one-add}
 use Rattle.std.specs.List.{list_all, prefix_len}
@@ -8,7 +8,7 @@ use Rattle.std.proofs.lemmas.List.Sums.{prefix_len_passes, prefix_len_stops, pre
 use Rattle.std.proofs.Math.Seq.{take-append_seam, drop-append_seam}
 use Rattle.hcl_tokens.specs.Spelling.{is_blank, starts}
 use Rattle.hcl_tokens.specs.Scans.{hides, skip_blanks, at_line_end, closer_len, is_marker_line, IsFirstMarkerLine}
-use Rattle.hcl_scan.proofs.BooleanLemmas.{and_true}
+use Rattle.hcl_tokens.proofs.BooleanLemmas.{and_true}
 use Rattle.hcl_scan.proofs.CommentLemmas.{starts_split}
 use Rattle.hcl_scan.proofs.StartLemmas.{starts_so}
 
@@ -81,7 +81,7 @@ marked_is m t = ap (λ l. starts (skip_blanks t) m && at_line_end (skip_blanks l
 pub line_only : (m pre x y : List ℕ) → is_lf_free m ≡ true → is_marker_line m (pre ++ 10 ∷ x) ≡ is_marker_line m (pre ++ 10 ∷ y)
 line_only m pre x y free = marked_is m (pre ++ 10 ∷ x) ∙ skipped_only m pre x y free ∙ sym (marked_is m (pre ++ 10 ∷ y))
 
--- a marker line with other text behind it
+-- a marker line with other text after it
 record Stands (m t after : List ℕ) : Type 0 where
   marked : is_marker_line m (take (closer_len m t) t ++ after) ≡ true
   hidden : hides m (take (closer_len m t) t ++ after) ≡ record { closer = take (closer_len m t) t; after = after }
@@ -141,7 +141,7 @@ last_split u n len is = sym (take-append-drop n u) ∙ ap (λ l. take n u ++ l) 
     one (b ∷ []) len is = ap (λ c. c ∷ []) is
     one (b ∷ c ∷ l) len is = absurd (omega (arith, len))
 
--- the first marker line stays the first, with other text behind it
+-- the first marker line stays the first, with other text after it
 module _ (m rest after : List ℕ) (n : ℕ) (some : 0 < length m) (free : is_lf_free m ≡ true) (first : IsFirstMarkerLine m rest n) (ends : at_line_end (skip_blanks after) ≡ true) where
   abbrev closer : List ℕ
   closer = take (closer_len m (drop n rest)) (drop n rest)

@@ -7,10 +7,10 @@ use Rattle.hcl_tokens.specs.Lexemes.{Opener, in_heredoc}
 use Rattle.hcl_tokens.specs.Spelling.{IsExpressionText, IsSpelling, IsTextIn, IsLiteral, context, Context, Template, Expression, starts, are_elements, element_len}
 use Rattle.hcl_tokens.specs.Scans.{IsLongest}
 use Rattle.hcl_tokens.specs.Kinds.{is}
-use Rattle.hcl_scan.specs.Neighbours.{grows, joins_text, same_close, stays}
+use Rattle.hcl_tokens.specs.Neighbours.{grows, joins_text, same_close, stays}
 use Rattle.hcl_tokens.specs.declared.token.Kind.{Kind}
 use Rattle.hcl_tokens.specs.declared.token.Kind.TheVariants.{Newline, LineComment, InlineComment, Blank, Ident, Number, HeredocOpen, SeqClose, BraceClose, Slash, Lit, InterpOpen, ControlOpen, QuoteClose}
-use Rattle.hcl_scan.proofs.BooleanLemmas.{and_true, none_of, not_true}
+use Rattle.hcl_tokens.proofs.BooleanLemmas.{and_true, none_of, not_true, or_cases}
 use Rattle.hcl_scan.proofs.WayLemmas.{Ways, ways, newline, line_comment, inline_comment, blanks, ident, digits, number, heredoc, seq_close, brace_close, slash, mark, is_marked, mark_kind}
 use Rattle.hcl_scan.proofs.TemplateLemmas.{lit_found, interp_found, control_found, quote_found, of_template}
 use Rattle.hcl_scan.proofs.TemplateLemmas.{Way, lit, interp, control, quote as closing}
@@ -20,7 +20,6 @@ use Rattle.std.proofs.Math.Seq.{take-append_seam, drop-append_seam}
 use Rattle.hcl_scan.specs.Inner.Found.{Finds}
 use Rattle.hcl_scan.proofs.ContextLemmas.{heredoc_on_top}
 use Rattle.hcl_scan.proofs.LeadLemmas.{some}
-use Rattle.hcl_scan.proofs.CommentLemmas.{or_cases}
 use Rattle.hcl_scan.proofs.WordLemmas.{stops_number}
 use Rattle.hcl_scan.proofs.LongerTextLemmas.{Alone}
 use Rattle.hcl_scan.proofs.WordNeighbourLemmas.{ident_alone, number_alone, digits_alone, stops_ident, stops_digits}

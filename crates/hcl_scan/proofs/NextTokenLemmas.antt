@@ -5,8 +5,8 @@ use Rattle.std.specs.List.{prefix_len}
 use Rattle.hcl_tokens.specs.Lexemes.{Lexeme, Opener, in_heredoc, moved}
 use Rattle.hcl_tokens.specs.Spelling.{IsTextIn, IsLiteral, context, Template, starts, is_blank, are_elements}
 use Rattle.hcl_tokens.specs.Scans.{State, gap_in, has_gaps_in, owed, IsLongest, Leaves, Reads, Closes, Run, IsComplete}
-use Rattle.hcl_scan.specs.Neighbours.{same_close, stays}
-use Rattle.hcl_scan.specs.Regapped.{without_gaps, text_with_gaps, touches, gap_fits, AllFit}
+use Rattle.hcl_tokens.specs.Neighbours.{same_close, stays}
+use Rattle.hcl_tokens.specs.Regapped.{without_gaps, text_with_gaps, touches, gap_fits, AllFit}
 use Rattle.hcl_tokens.specs.declared.token.Kind.{Kind}
 use Rattle.hcl_tokens.specs.declared.token.Kind.TheVariants.{LineComment, Ident, Number, Dot, Colon, Not, Assign, Less, Greater, Slash, Lit, InterpOpen, ControlOpen}
 use Rattle.hcl_scan.proofs.ContextLemmas.{is_quoted, not_both, heredoc_on_top, quote_owed}

@@ -6,7 +6,7 @@ use Rattle.std.proofs.lemmas.List.{take-append-drop, get_or_append_left, get_or-
 use Rattle.std.proofs.lemmas.Bool.Decides.{nat_tests}
 use Rattle.hcl_tokens.specs.Spelling.{IsDigits, IsSign, IsFraction, IsExponent, IsNumber}
 use Rattle.hcl_scan.specs.Inner.Found.{IsLongestFront}
-use Rattle.hcl_scan.proofs.BooleanLemmas.{and_true}
+use Rattle.hcl_tokens.proofs.BooleanLemmas.{and_true}
 use Rattle.hcl_scan.proofs.WordLemmas.{all_to}
 use Rattle.hcl_scan.proofs.FrontLemmas.{longest_is, front_dropped}
 
@@ -15,7 +15,7 @@ all_at q [] k lt h = absurd (omega arith)
 all_at q (x ∷ xs) zero lt h = (and_true (q x) (list_all q xs) h).0
 all_at q (x ∷ xs) (suc k) lt h = all_at q xs k (omega arith) (and_true (q x) (list_all q xs) h).1
 
--- the byte behind a front
+-- the byte after a front
 pub behind : (front rest text : List ℕ) → front ++ rest ≡ text → get_or text (length front) 0 ≡ get_or rest 0 0
 behind front rest text e = sym (ap (λ t. get_or t (length front) 0) e) ∙ sym (ap (λ n. get_or (front ++ rest) n 0) (add-zero (length front))) ∙ get_or-append-add front rest 0 0
 

@@ -1,5 +1,5 @@
--- LAWS of the texts of an expression: a text has one kind, and no token is empty.
-use Rattle.std.proofs.Common.{◌≡◌, ℕ, ◌<◌, ◌&&◌, not, ◌==◌, Bool, true, false, List, [], ◌∷◌, length, inl, inr, ⊎_elim, refl, sym, ap, subst, ◌∙◌, arith}
+-- LAW of the texts of an expression: a text has one kind.
+use Rattle.std.proofs.Common.{◌≡◌, ℕ, ◌&&◌, not, ◌==◌, Bool, true, false, List, [], ◌∷◌, inl, inr, ⊎_elim, refl, sym, ap, subst, ◌∙◌, arith}
 use Rattle.std.specs.Prelude.{nat_eq}
 use Rattle.std.specs.List.{list_all}
 use Rattle.std.specs.Cmp.Lexicographic.{pointwise}
@@ -8,9 +8,9 @@ use Rattle.hcl_tokens.specs.Lexemes.{Opener, closes_sequence}
 use Rattle.hcl_tokens.specs.Spelling.{punctuation, IsPunctuation, IsExpressionText}
 use Rattle.hcl_tokens.specs.declared.token.Kind.{Kind}
 use Rattle.hcl_tokens.specs.declared.token.Kind.TheVariants.{SeqClose, BraceClose}
-use Rattle.hcl_scan.proofs.BooleanLemmas.{and_true}
+use Rattle.hcl_tokens.proofs.BooleanLemmas.{and_true}
 use Rattle.hcl_scan.proofs.WayLemmas.{Ways, ways, newline, line_comment, inline_comment, blanks, ident, digits, number, heredoc, seq_close, brace_close, slash, mark}
-use Rattle.hcl_scan.proofs.LeadLemmas.{kind_lead, leads, some, line_kind, space_kind, letter_kind, digit_kind, hash_kind, star_kind, slash_kind, less_kind, closer_kinds, sign_mark, mark_lead}
+use Rattle.hcl_scan.proofs.LeadLemmas.{kind_lead, leads, line_kind, space_kind, letter_kind, digit_kind, hash_kind, star_kind, slash_kind, less_kind, closer_kinds, sign_mark, mark_lead}
 
 -- no text is two marks
 abbrev is_other : List ℕ → List ℕ × Kind → Bool
@@ -80,6 +80,3 @@ expression_one_kind opens dot kind other text rest a b =
     let x = ways opens dot kind text rest a in
     let y = ways opens dot other text rest b in
     same_lead opens dot kind other text rest (sym (leads opens dot other text rest y) ∙ leads opens dot kind text rest x) x b
-
-pub expression_nonempty : (opens : List Opener) (dot : Bool) (kind : Kind) (text rest : List ℕ) → IsExpressionText opens dot kind text rest → 0 < length text
-expression_nonempty opens dot kind text rest a = some opens dot kind text rest (ways opens dot kind text rest a)

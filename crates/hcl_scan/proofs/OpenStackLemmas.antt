@@ -7,7 +7,7 @@ use Rattle.hcl_tokens.specs.Scans.{State, Hidden, Next, Reads, Closes, owed}
 use Rattle.hcl_tokens.specs.declared.token.Kind.{Kind}
 use Rattle.hcl_tokens.specs.declared.token.Kind.TheVariants.{HeredocOpen, QuoteOpen, ParenOpen, BracketOpen, BraceOpen, ParenClose, BracketClose, SeqClose, BraceClose, Lit, InterpOpen, ControlOpen, QuoteClose, HeredocClose}
 use Rattle.hcl_scan.proofs.WayLemmas.{Ways, ways, newline, line_comment, inline_comment, blanks, ident, digits, number, heredoc, seq_close, brace_close, slash, mark, is_marked, mark_kind}
-use Rattle.hcl_scan.proofs.BooleanLemmas.{and_true}
+use Rattle.hcl_tokens.proofs.BooleanLemmas.{and_true}
 use Rattle.hcl_scan.proofs.ContextLemmas.{is_expression, is_quoted}
 use Rattle.hcl_scan.proofs.ShownLemmas.{Shown, opening, plain, shown, opens_heredoc}
 

@@ -1,16 +1,16 @@
 -- A text made of the tokens of another, with other gaps that fit, is scanned to the same tokens: by induction on the
 -- list, for readings that stand outside heredocs, where the gaps are others, and for those inside an outermost one,
--- where the bytes are the same and only what stands behind it is another.
+-- where the bytes are the same and only what follows it is different.
 use Rattle.std.proofs.Common.{◌≡◌, ℕ, ◌+◌, ◌≤◌, Bool, true, false, List, [], ◌∷◌, ◌++◌, length, take, drop, replicate, ⊎_elim, refl, sym, ap, subst, ◌∙◌, arith, length-append, append_assoc}
 use Rattle.std.proofs.lemmas.List.{take-append-drop}
 use Rattle.hcl_tokens.specs.Lexemes.{Lexeme, Opener, Heredoc, marker_of, moved, in_heredoc, max_open}
 use Rattle.hcl_tokens.specs.Spelling.{IsSpelling, context, Expression}
 use Rattle.hcl_tokens.specs.Kinds.{is}
 use Rattle.hcl_tokens.specs.Scans.{State, Hidden, hides, gap_len, offsets_of, owed, begin, skip_blanks, at_line_end, closer_len, IsLongest, IsFirstMarkerLine, Leaves, Reads, Closes, Run, Scans, IsComplete}
-use Rattle.hcl_scan.specs.Regapped.{without_gaps, text_with_gaps, placed, AllFit}
+use Rattle.hcl_tokens.specs.Regapped.{without_gaps, text_with_gaps, placed, AllFit}
 use Rattle.hcl_tokens.specs.declared.token.Kind.{Kind}
 use Rattle.hcl_tokens.specs.declared.token.Kind.TheVariants.{Newline, Dot}
-use Rattle.hcl_scan.proofs.BooleanLemmas.{and_true}
+use Rattle.hcl_tokens.proofs.BooleanLemmas.{and_true}
 use Rattle.hcl_scan.proofs.ContextLemmas.{expression_is}
 use Rattle.hcl_scan.proofs.ShownLemmas.{Shown, opening, plain, shown, plain_shows, open_shows}
 use Rattle.hcl_scan.proofs.OpenStackLemmas.{Sound, is_grounded, count, if_heredoc, no_heredoc, owes_heredoc, stacks}
@@ -29,7 +29,7 @@ abbrev Outside : List (ℕ × Lexeme) → Type 0
 Outside ps = (s end : State) (dot : Bool) (before : Kind) (at : ℕ) (offsets : List ℕ) → Run s (without_gaps ps) end → IsComplete end → s.hidden ≡ [] → Sound s.opens s.hidden → s.after_dot ≡ is Dot before → AllFit dot before ps →
     Again (record { at = at; opens = s.opens; offsets = offsets; after_dot = s.after_dot; seen = text_with_gaps ps; hidden = [] }) (placed at ps)
 
--- what the text holds behind the outermost heredoc
+-- what the text holds after the outermost heredoc
 pub record Within (s : State) (hs : List Hidden) (last : Hidden) (ps : List (ℕ × Lexeme)) (at : ℕ) (offsets : List ℕ) : Type 0 where
   pub after : List ℕ
   pub whole : text_with_gaps ps ≡ s.seen ++ behind hs (last.closer ++ after)
@@ -44,7 +44,7 @@ Inside ps = (s end : State) (dot : Bool) (before : Kind) (at : ℕ) (offsets : L
 no_blanks : (gap : ℕ) (more : List ℕ) → gap ≡ 0 → replicate gap 32 ++ more ≡ more
 no_blanks gap more h = ap (λ n. replicate n 32 ++ more) h
 
--- the texts of what is seen, with what is behind
+-- the texts of what is seen, with what is after
 join_seen : (text more rest seen tail : List ℕ) → text ++ rest ≡ seen → more ≡ rest ++ tail → text ++ more ≡ seen ++ tail
 join_seen text more rest seen tail whole e = ap (λ l. text ++ l) e ∙ sym (append_assoc text rest tail) ∙ ap (λ l. l ++ tail) whole
 

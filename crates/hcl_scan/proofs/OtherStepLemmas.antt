@@ -6,10 +6,10 @@ use Rattle.hcl_tokens.specs.Lexemes.{Lexeme, Opener, Heredoc, moved, in_heredoc,
 use Rattle.hcl_tokens.specs.Spelling.{is_blank, context, Context, Template, Expression}
 use Rattle.hcl_tokens.specs.Kinds.{is}
 use Rattle.hcl_tokens.specs.Scans.{State, Hidden, gap_in, has_gaps_in, offsets_of, IsLongest, Leaves, Run, IsComplete}
-use Rattle.hcl_scan.specs.Regapped.{is_template, touches, gap_fits}
+use Rattle.hcl_tokens.specs.Regapped.{is_template, touches, gap_fits}
 use Rattle.hcl_tokens.specs.declared.token.Kind.{Kind}
 use Rattle.hcl_tokens.specs.declared.token.Kind.TheVariants.{HeredocClose, LineComment, Dot}
-use Rattle.hcl_scan.proofs.BooleanLemmas.{or_true}
+use Rattle.hcl_tokens.proofs.BooleanLemmas.{or_true}
 
 -- from here the tokens are read, and nothing is left
 abbrev pub Again : State → List Lexeme → Type 0

@@ -7,10 +7,10 @@ use Rattle.std.proofs.lemmas.Bool.Decides.{nat_tests}
 use Rattle.std.proofs.lemmas.List.{get_or-append-add, append-nil}
 use Rattle.hcl_tokens.specs.Lexemes.{Opener, in_heredoc}
 use Rattle.hcl_tokens.specs.Spelling.{punctuation, IsPunctuation, IsNumber, starts}
-use Rattle.hcl_scan.specs.Neighbours.{grows}
+use Rattle.hcl_tokens.specs.Neighbours.{grows}
 use Rattle.hcl_tokens.specs.declared.token.Kind.{Kind}
 use Rattle.hcl_tokens.specs.declared.token.Kind.TheVariants.{Ident, Number, Dot, Colon, Not, Assign, Less, Greater, Slash, InterpOpen, ControlOpen}
-use Rattle.hcl_scan.proofs.BooleanLemmas.{and_true}
+use Rattle.hcl_tokens.proofs.BooleanLemmas.{and_true}
 use Rattle.hcl_scan.proofs.StartLemmas.{starts_so}
 use Rattle.hcl_scan.proofs.NumeralLemmas.{digit_head}
 use Rattle.hcl_scan.proofs.WayLemmas.{Ways, ways, newline, line_comment, inline_comment, blanks, ident, digits, number, heredoc, seq_close, brace_close, slash, mark, mark_passes}

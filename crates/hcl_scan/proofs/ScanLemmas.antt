@@ -13,8 +13,9 @@ use Rattle.hcl_tokens.specs.declared.token.Entry.{Entry}
 use Rattle.hcl_scan.specs.declared.scanner.Scanner.{Scanner}
 use Rattle.hcl_scan.specs.declared.scanner.Stopped.{Stopped}
 use Rattle.hcl_tokens.proofs.RunLemmas.{no_fault}
-use Rattle.hcl_scan.proofs.AllContextLemmas.{one_kind, nonempty, lacks_stuck, Run-push}
-use Rattle.hcl_scan.proofs.ExpressionLawLemmas.{one_expression, some_expression}
+use Rattle.hcl_scan.proofs.AllContextLemmas.{one_kind, lacks_stuck, Run-push}
+use Rattle.hcl_scan.proofs.ExpressionLawLemmas.{one_expression}
+use Rattle.hcl_tokens.proofs.NonemptyLemmas.{nonempty}
 
 -- what the scanner came to
 pub token_read : (read : Result Entry Stopped) (s next : Scanner) (e : Entry) → read ≡ Ok e → IfOk read (λ x. Moves s x next) → Moves s e next
@@ -51,11 +52,11 @@ scan_fault text ts s fault same run stopped = record {
   tokens = ts;
   end = state_of s;
   read = run;
-  longest = lacks_stuck (one_kind one_expression) (nonempty some_expression) (state_of s) fault.kind stopped.lacks;
+  longest = lacks_stuck (one_kind one_expression) nonempty (state_of s) fault.kind stopped.lacks;
   lacks = stopped.lacks;
   at_is = stopped.at;
 }
 
 -- a text with a fault has no tokens
 pub no_tokens : (text : List ℕ) (kind : FaultKind) (at : ℕ) → IsScanFault text kind at → (ts : List Lexeme) → ¬ Scans text ts
-no_tokens text kind at fault ts scans = no_fault (one_kind one_expression) (nonempty some_expression) text ts kind at scans fault
+no_tokens text kind at fault ts scans = no_fault (one_kind one_expression) nonempty text ts kind at scans fault

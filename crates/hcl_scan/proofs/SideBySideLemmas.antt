@@ -7,15 +7,15 @@ use Rattle.hcl_scan.specs.Inner.Leads.{lead_of}
 use Rattle.hcl_scan.specs.declared.expression.Lead.TheVariants.{LineEnd}
 use Rattle.hcl_tokens.specs.declared.token.Kind.{Kind}
 use Rattle.hcl_tokens.specs.declared.token.Kind.TheVariants.{Newline, LineComment, HeredocOpen, QuoteOpen, ParenOpen, BracketOpen, BraceOpen, ParenClose, BracketClose, SeqClose, BraceClose, Lit, InterpOpen, ControlOpen, QuoteClose, HeredocClose}
-use Rattle.hcl_scan.proofs.BooleanLemmas.{and_true}
+use Rattle.hcl_tokens.proofs.BooleanLemmas.{and_true}
 use Rattle.hcl_scan.proofs.WayLemmas.{ways}
 use Rattle.hcl_scan.proofs.LeadLemmas.{leads, some, newline_leads, line_kind}
 use Rattle.hcl_tokens.proofs.ExpressionKindLemmas.{in_expressions}
 use Rattle.hcl_scan.proofs.KindPlaceLemmas.{Side, expression, template, side}
 use Rattle.hcl_scan.proofs.TemplateLemmas.{Way, lit, interp, control, quote, way_template}
-use Rattle.hcl_scan.specs.Neighbours.{ends_comment}
-use Rattle.hcl_scan.specs.Regapped.{is_template}
-use Rattle.hcl_scan.specs.SideBySide.{opens_template, Beside, Besides}
+use Rattle.hcl_tokens.specs.Neighbours.{ends_comment}
+use Rattle.hcl_tokens.specs.Regapped.{is_template}
+use Rattle.hcl_tokens.specs.SideBySide.{opens_template, Beside, Besides}
 use Rattle.hcl_scan.proofs.ContextLemmas.{is_expression, expression_is, not_both}
 use Rattle.hcl_scan.proofs.OpenStackLemmas.{Sound, is_grounded, stacks, below}
 use Rattle.hcl_scan.proofs.FirstByteLemmas.{begins}

@@ -1,10 +1,7 @@
--- No text has two kinds at one place, and no token is empty.
-use Rattle.hcl_tokens.proofs.RunLemmas.{OneKind, Nonempty}
+-- No text has two kinds at one place.
+use Rattle.hcl_tokens.proofs.RunLemmas.{OneKind}
 use Rattle.hcl_scan.proofs.AllContextLemmas as places
-use Rattle.hcl_scan.proofs.ExpressionLawLemmas.{one_expression, some_expression}
+use Rattle.hcl_scan.proofs.ExpressionLawLemmas.{one_expression}
 
 pub one_kind : OneKind
 one_kind = places.one_kind one_expression
-
-pub nonempty : Nonempty
-nonempty = places.nonempty some_expression

@@ -247,7 +247,7 @@ by_count old new left b e =
     b.is ∙ ap (λ k. drop k old) (sym n)
 
 module _ (stack : List Opened) where
-  -- by what is open behind it
+  -- by what is open after it
   leaves_open : (new : List Opened) (opens : List Opener) → IsBack stack new → openers_of new ≡ opens → new ≡ drop (length stack - length opens) stack
   leaves_open new opens b e = by_count stack new (length opens) b (sym (length-map new (λ (o : Opened). opener_of o.by)) ∙ ap length e)
 

@@ -1,4 +1,4 @@
--- The tokens of templates: which is found, and where the text may be cut behind it.
+-- The tokens of templates: which is found, and where the text may be cut after it.
 use Rattle.std.proofs.Common.{◌≡◌, ℕ, zero, suc, ◌<◌, ◌≤◌, ◌&&◌, ◌||◌, ◌==◌, Bool, true, false, List, [], ◌∷◌, ◌++◌, length, take, drop, get_or, if◌then◌else◌, Option, Some, None, ◌⊎◌, inl, inr, ⊎_elim, refl, sym, ap, subst, ◌∙◌, arith, length-take-le, codes, IsUtf8}
 use Rattle.std.specs.Str.{IsCharBoundary}
 use Rattle.std.proofs.lemmas.Str.{IsCharBoundary-after_ascii, IsCharBoundary-before_ascii}
@@ -8,7 +8,7 @@ use Rattle.hcl_tokens.specs.Lexemes.{Opener}
 use Rattle.hcl_tokens.specs.Spelling.{starts, is_dollar_or_percent, ends_quoted, escape_len, element_len, are_elements, IsLiteral, IsTemplateText, IsTextIn, IsSpelling, Template, context}
 use Rattle.hcl_tokens.specs.Scans.{HasNone}
 use Rattle.hcl_scan.specs.Inner.Found.{Finds}
-use Rattle.hcl_scan.specs.Regapped.{is_template}
+use Rattle.hcl_tokens.specs.Regapped.{is_template}
 use Rattle.hcl_tokens.specs.declared.token.Kind.{Kind}
 use Rattle.hcl_tokens.specs.declared.token.Kind.TheVariants.{Lit, InterpOpen, ControlOpen, QuoteClose}
 use Rattle.hcl_scan.proofs.ElementLemmas.{no_longer_lit}

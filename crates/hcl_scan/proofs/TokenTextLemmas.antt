@@ -9,11 +9,11 @@ use Rattle.std.proofs.lemmas.Bool.Decides.{nat_tests}
 use Rattle.hcl_tokens.specs.Lexemes.{Lexeme, Opener, in_heredoc, marker_of}
 use Rattle.hcl_tokens.specs.Spelling.{IsTextIn, IsLiteral, context, Template, Expression, is_blank, are_elements, element_len, starts}
 use Rattle.hcl_tokens.specs.Scans.{State, Hidden, hides, gap_in, has_gaps_in, ahead, begin, skip_blanks, at_line_end, closer_len, IsLongest, IsFirstMarkerLine, Next, Run, Scans}
-use Rattle.hcl_scan.specs.Neighbours.{ends_comment}
-use Rattle.hcl_scan.specs.SideBySide.{AreTexts}
+use Rattle.hcl_tokens.specs.Neighbours.{ends_comment}
+use Rattle.hcl_tokens.specs.SideBySide.{AreTexts}
 use Rattle.hcl_tokens.specs.declared.token.Kind.{Kind}
 use Rattle.hcl_tokens.specs.declared.token.Kind.TheVariants.{LineComment, Lit}
-use Rattle.hcl_scan.proofs.BooleanLemmas.{and_true}
+use Rattle.hcl_tokens.proofs.BooleanLemmas.{and_true}
 use Rattle.hcl_scan.proofs.ShownLemmas.{Shown, opening, plain, shown}
 use Rattle.hcl_scan.proofs.WayLemmas.{Ways, ways, newline, line_comment, inline_comment, blanks, ident, digits, number, heredoc, seq_close, brace_close, slash, mark}
 use Rattle.hcl_scan.proofs.KindPlaceLemmas.{Side, expression, template, side}

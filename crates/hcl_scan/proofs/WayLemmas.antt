@@ -5,7 +5,7 @@ use Rattle.hcl_tokens.specs.Lexemes.{Opener, in_heredoc, closes_sequence}
 use Rattle.hcl_tokens.specs.Spelling.{punctuation, IsPunctuation, IsNewline, IsLineComment, IsInlineComment, IsBlanks, IsIdent, IsDigits, IsNumber, IsHeredocOpen, starts, IsExpressionText}
 use Rattle.hcl_tokens.specs.declared.token.Kind.{Kind}
 use Rattle.hcl_tokens.specs.declared.token.Kind.TheVariants.{Newline, LineComment, InlineComment, Blank, Ident, Number, HeredocOpen, SeqClose, BraceClose, Slash, Lit, InterpOpen, ControlOpen, QuoteClose, HeredocClose}
-use Rattle.hcl_scan.proofs.BooleanLemmas.{and_true}
+use Rattle.hcl_tokens.proofs.BooleanLemmas.{and_true}
 
 pub data Ways (opens : List Opener) (dot : Bool) (kind : Kind) (text rest : List ℕ) : Type 0 where
   newline : kind ≡ Newline → IsNewline text → Ways opens dot kind text rest

@@ -8,7 +8,7 @@ use lib.Utf8.{next, encode}
 use Rattle.unicode_ident.specs.Ident.{is_xid_start}
 use Rattle.unicode_ident.proofs.IdentLemmas.{is_xid_start-ascii, is_xid_continue-ascii, is_xid_start-is_xid_continue}
 use Rattle.hcl_tokens.specs.Spelling.{IsIdent, are_ident, starts_ident, continues_ident, IsDigits, IsExponent, IsSign, IsNumber}
-use Rattle.hcl_scan.proofs.BooleanLemmas.{and_true}
+use Rattle.hcl_tokens.proofs.BooleanLemmas.{and_true}
 
 -- a byte of an identifier
 abbrev pub is_word : ℕ → Bool
@@ -158,7 +158,7 @@ ends_number Mark (b ∷ bs) = if is_ascii_digit b then ends_number Power bs else
 ends_number Sign (b ∷ bs) = is_ascii_digit b && ends_number Power bs
 ends_number Power (b ∷ bs) = is_ascii_digit b && ends_number Power bs
 
--- behind a number neither a digit nor `e` nor `E` nor a point with a digit
+-- after a number neither a digit nor `e` nor `E` nor a point with a digit
 abbrev pub stops_number : List ℕ → Bool
 stops_number [] = true
 stops_number (b ∷ bs) = not (is_ascii_digit b) && not (is_e b) && (not (b == 46) || not (is_ascii_digit (get_or bs 0 0)))
@@ -205,7 +205,7 @@ and_both : (v a a' : Bool) → (a ≡ true → a' ≡ true → ⊥) → (v && a)
 and_both true a a' f h k = f h k
 and_both false a a' f h k = cc
 
--- a number can't go on behind its end
+-- a number can't go on after its end
 pub no_longer_number : (st : Stage) (text bs left : List ℕ) → stops_number (bs ++ left) ≡ true → 0 < length bs → ends_number st text ≡ true → ends_number st (text ++ bs) ≡ true → ⊥
 no_longer_number st [] bs left h some x y = stuck_number st x bs left h some y
 no_longer_number Whole (b ∷ text) bs left h some x y = cond_both (is_ascii_digit b) _ _ _ _ (no_longer_number Whole text bs left h some)

@@ -5,11 +5,11 @@ use Rattle.std.specs.Char.{is_ascii_digit}
 use Rattle.hcl_tokens.specs.Lexemes.{Opener}
 use Rattle.hcl_tokens.specs.Spelling.{IsDigits, IsIdent, IsNumber, IsExpressionText}
 use Rattle.hcl_scan.specs.Inner.Leads.{lead_of}
-use Rattle.hcl_scan.specs.Neighbours.{grows}
+use Rattle.hcl_tokens.specs.Neighbours.{grows}
 use Rattle.hcl_scan.specs.declared.expression.Lead.TheVariants.{Letter, Digit}
 use Rattle.hcl_tokens.specs.declared.token.Kind.{Kind}
 use Rattle.hcl_tokens.specs.declared.token.Kind.TheVariants.{Ident, Number}
-use Rattle.hcl_scan.proofs.BooleanLemmas.{and_true}
+use Rattle.hcl_tokens.proofs.BooleanLemmas.{and_true}
 use Rattle.hcl_scan.proofs.WordLemmas.{IsWord, ident_word, is_word, number_ends, no_longer_number, stops_number, Whole, ends_number}
 use Rattle.hcl_scan.proofs.LeadLemmas.{letter_leads, digits_lead, letter_kind, digit_kind}
 use Rattle.hcl_scan.proofs.LongerTextLemmas.{Alone, Longer, longer_is, lead_kind, all_behind}

@@ -1,16 +1,16 @@
--- Two readings that stand inside the same heredocs, where other text stands behind the outermost of them. It follows
+-- Two readings that stand inside the same heredocs, where other text follows the outermost of them. It follows
 -- from the scan: the law `heredoc_kept`.
 use Rattle.std.specs.Prelude.{◌≡◌, ℕ, List, [], ◌∷◌}
 use Rattle.hcl_tokens.specs.Lexemes.{Lexeme}
 use Rattle.hcl_tokens.specs.Scans.{Hidden, Next, State}
 
--- what the heredocs hide, with other text behind the closing marker of the outermost
+-- what the heredocs hide, with other text after the closing marker of the outermost
 abbrev pub behind_last : List ℕ → List Hidden → List Hidden
 behind_last other [] = []
 behind_last other (h ∷ []) = record { closer = h.closer; after = other } ∷ []
 behind_last other (h ∷ k ∷ hs) = h ∷ behind_last other (k ∷ hs)
 
--- the same is open, seen and hidden, but for what stands behind the outermost; the offsets may differ
+-- the same is open, seen and hidden, but for what follows the outermost; the offsets may differ
 pub record SameInside (other : List ℕ) (s twin : State) : Type 0 where
   pub opens : twin.opens ≡ s.opens
   pub after_dot : twin.after_dot ≡ s.after_dot

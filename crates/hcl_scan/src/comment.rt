@@ -18,7 +18,7 @@ fn comment_end(seen: &[u8]) -> Option<usize>
     None
 }
 
-/// How many bytes the comment at the front has, from `/*` through the first `*/` behind it.
+/// How many bytes the comment at the front has, from `/*` through the first `*/` after it.
 pub(crate) fn inline_comment_len(seen: &[u8]) -> Option<usize>
     ensures found { IfSome result (IsLongestFront IsInlineComment seen.now) }
     ensures none { IfNone result (HasNoFront IsInlineComment seen.now) }

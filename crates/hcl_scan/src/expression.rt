@@ -54,7 +54,7 @@ fn slash_lead(second: u8) -> Lead
     }
 }
 
-/// The second byte is looked at only behind a first one that asks for it.
+/// The second byte is looked at only after a first one that asks for it.
 fn lead_of(seen: &[u8]) -> Lead
     ensures { result ≡ lead_of seen.now }
 {
@@ -107,7 +107,7 @@ fn blank_len(seen: &[u8], inside_heredoc: bool) -> Option<usize>
     }
 }
 
-/// A number, of which behind a Dot only the digits belong to the token.
+/// A number, of which after a Dot only the digits belong to the token.
 fn numeral_len(seen: &[u8], after_dot: bool) -> Option<usize>
     ensures found { IfSome result (IsLongestFront (NumberText after_dot) seen.now) }
     ensures none { IfNone result (HasNoFront (NumberText after_dot) seen.now) }
@@ -172,7 +172,7 @@ fn found_punctuation(seen: &[u8]) -> Option<Found>
     }
 }
 
-/// The longest token at the front of what is seen, where an expression is read. `seen` is what stands behind the gap.
+/// The longest token at the front of what is seen, where an expression is read. `seen` is what follows the gap.
 pub(crate) fn next_in_expression(seen: &str, around: Surroundings) -> Option<Found>
     ensures found { IfSome result (λ f. FindsAt around.after_dot around.inside_heredoc around.closes_sequence seen.now f.kind f.len) }
     ensures boundary { IfSome result (λ f. IsCharBoundary seen.now f.len) }

@@ -11,7 +11,7 @@ use crate::text::{count_blanks, is_blank, line_len, past_blanks, skip_blanks};
 use memchr::memchr;
 use memchr::memmem::Finder;
 
-/// Behind a line that has the marker in it, short lines are passed byte by byte: the search for the marker takes longer where
+/// After a line that has the marker in it, short lines are passed byte by byte: the search for the marker takes longer where
 /// the next line has it too.
 const SHORT_LINE: usize = 32;
 /// How many lines are passed so before the next search.
@@ -97,7 +97,7 @@ fn line_of_marker(text: &[u8], place: usize, end: usize) -> Option<usize>
     }
 }
 
-/// Where the marker stands that comes first behind a line's beginning.
+/// Where the marker stands that comes first after a line's beginning.
 /// Most lines don't have it in them, and are skipped here without a look at each.
 fn next_place(text: &[u8], marker: &Finder, at: usize) -> Option<usize>
     requires { at ≤ length text.now }
@@ -109,7 +109,7 @@ fn next_place(text: &[u8], marker: &Finder, at: usize) -> Option<usize>
     Some(at + place)
 }
 
-/// Where the next line begins behind a place.
+/// Where the next line begins after a place.
 fn next_line(text: &[u8], place: usize) -> Option<usize>
     requires { place ≤ length text.now }
     ensures found { IfSome result (IsNextLine text.now place) }
@@ -120,7 +120,7 @@ fn next_line(text: &[u8], place: usize) -> Option<usize>
     Some(place + line + 1)
 }
 
-/// The next line behind a place, if it begins up to `end`.
+/// The next line after a place, if it begins up to `end`.
 fn next_line_upto(text: &[u8], place: usize, end: usize) -> Option<usize>
     requires order { place ≤ end }
     requires within { end ≤ length text.now }
@@ -147,7 +147,7 @@ fn behind_other_line(text: &[u8], marker: &[u8], at: usize) -> Option<usize>
     next_line_upto(text, start, end)
 }
 
-/// Behind short lines, a few at most, that begin otherwise than the marker.
+/// After short lines, a few at most, that begin otherwise than the marker.
 fn pass_other_lines(text: &[u8], marker: &[u8], at: usize) -> usize
     requires some { 0 < length marker.now }
     requires within { at ≤ length text.now }

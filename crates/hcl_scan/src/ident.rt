@@ -1,16 +1,16 @@
 //! Identifiers, and the openers of heredocs, whose marker is one.
 
-ghost use Rattle.std.specs.Prelude.{◌≡◌, ◌==◌, ◌||◌, true, false, take, drop, get_or, IfSome, IfNone};
+ghost use Rattle.std.specs.Prelude.{◌≡◌, ◌≤◌, ◌==◌, ◌||◌, true, false, take, drop, length, get_or, IfSome, IfNone};
 ghost use Rattle.std.specs.Char.{is_ascii_alphabetic};
 ghost use Rattle.std.specs.List.{prefix_len};
 ghost use Rattle.std.specs.Str.{IsCharBoundary};
 ghost use Rattle.hcl_tokens.specs.Spelling.{continues_ident, starts_ident, IsIdent, IsHeredocOpen};
 ghost use Rattle.hcl_tokens.specs.declared.token.Kind.TheVariants.{Ident};
-ghost use Rattle.hcl_scan.specs.SideBySide.{may_begin_ident};
+ghost use Rattle.hcl_tokens.specs.SideBySide.{may_begin_ident};
 ghost use Rattle.hcl_scan.specs.Inner.Found.{IsLongestFront, HasNoFront, AreContinuing, BeginsWith, BeginsWithout, FirstChar, IsMarker, continues_ascii, heredoc_mark_len};
 
 use crate::found::Found;
-use crate::text::{byte_at, newline_len};
+use crate::text::{BLOCK, byte_at, newline_len};
 use hcl_tokens::Kind;
 
 fn continues_ident(c: char) -> bool
@@ -83,11 +83,30 @@ fn begins_ident(text: &str) -> bool
     }
 }
 
-/// How many bytes the ASCII characters at the front have that may continue an identifier.
+/// How many bytes the ASCII characters at the front have that may continue an identifier, one after the other.
+#[inline(always)]
+fn continuing_few(bytes: &[u8]) -> usize
+    ensures count { result ≡ prefix_len continues_ascii bytes.now }
+    ensures within { result ≤ length bytes.now }
+{
+    bytes.iter().take_while(|b| continues_ascii(**b)).count()
+}
+
+/// The same, by blocks.
+#[inline(always)]
 fn continuing_ascii(bytes: &[u8]) -> usize
     ensures { result ≡ prefix_len continues_ascii bytes.now }
 {
-    bytes.iter().take_while(|b| continues_ascii(**b)).count()
+    let mut len = 0;
+    while BLOCK <= bytes.len() - len {
+        let more = continuing_few(&bytes[len..len + BLOCK]);
+        if more < BLOCK {
+            return len + more;
+        }
+        len += BLOCK;
+    }
+    let (_, rest) = bytes.split_at(len);
+    len + continuing_few(rest)
 }
 
 /// How many bytes the characters at the front have that may continue an identifier. Nearly always
@@ -160,7 +179,7 @@ fn heredoc_mark_len(seen: &[u8]) -> usize
     }
 }
 
-/// How many bytes the marker and the newline behind it have.
+/// How many bytes the marker and the newline after it have.
 fn marker_len(seen: &str) -> Option<usize>
     ensures found { IfSome result (IsLongestFront IsMarker seen.now) }
     ensures none { IfNone result (HasNoFront IsMarker seen.now) }

@@ -6,9 +6,9 @@ ghost use Rattle.std.specs.List.{flat_map};
 ghost use Rattle.hcl_tokens.specs.Spelling.{IsSpelling};
 ghost use Rattle.hcl_tokens.specs.Lexemes.{Lexeme, Opener, opened, in_heredoc, marker_of, max_open};
 ghost use Rattle.hcl_tokens.specs.Scans.{Scans, State, Next, Run, IsLongest, IsFirstMarkerLine, Hidden, hides, at_line_end, skip_blanks};
-ghost use Rattle.hcl_scan.specs.Neighbours.{stays};
-ghost use Rattle.hcl_scan.specs.Regapped.{AllFit, placed, text_with_gaps, without_gaps};
-ghost use Rattle.hcl_scan.specs.SideBySide.{AreTexts, Besides};
+ghost use Rattle.hcl_tokens.specs.Neighbours.{stays};
+ghost use Rattle.hcl_tokens.specs.Regapped.{AllFit, placed, text_with_gaps, without_gaps};
+ghost use Rattle.hcl_tokens.specs.SideBySide.{AreTexts, Besides};
 ghost use Rattle.hcl_scan.specs.InHeredocs.{ReadsToo, SameInside};
 ghost use Rattle.hcl_tokens.specs.declared.token.Kind.TheVariants.{Newline, HeredocOpen};
 ghost use Rattle.hcl_tokens.specs.Kinds.{is};
@@ -64,7 +64,7 @@ pub fn bounded()
     ensures { (text : List ℕ) (front back : List Lexeme) → Scans text (front ++ back) → length (opened [] front) ≤ max_open }
 {}
 
-/// No kind is left out of what tells kinds.
+/// What tells kinds apart leaves out no kind.
 pub fn all_kinds_told()
     ensures { (kind : Kind) → is kind kind ≡ true }
 {}
@@ -84,7 +84,7 @@ pub fn neighbours()
         → IsLongest opens after_dot (text ++ other) kind text other }
 {}
 
-/// What stands behind the marker line of a heredoc doesn't move it, as long as it ends the line.
+/// What follows the marker line of a heredoc doesn't move it, as long as it ends the line.
 pub fn marker_line_kept()
     ensures { (opens : List Opener) (after_dot : Bool) (text rest after : List ℕ) (n : ℕ) → IsSpelling opens after_dot HeredocOpen text rest
         → IsFirstMarkerLine (marker_of text) rest n → IsTrue (at_line_end (skip_blanks after))
@@ -107,7 +107,7 @@ pub fn texts()
     ensures unmarked { (text : List ℕ) (t : Lexeme) (ts : List Lexeme) (more : List ℕ) → Scans text (t ∷ ts) → IsFalse (has_byte_order_mark (t.text ++ more)) }
 {}
 
-/// Inside an outermost heredoc the tokens are the same, whatever text stands behind it.
+/// Inside an outermost heredoc the tokens are the same, whatever text follows it.
 pub fn heredoc_kept()
     ensures { (other : List ℕ) (s twin : State) (t : Lexeme) (next : State) → SameInside other s twin → IsTrue (in_heredoc s.opens) → 0 < length s.hidden
         → 0 < length next.hidden → Next s t next → ReadsToo other twin t next }

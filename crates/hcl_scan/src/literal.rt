@@ -6,6 +6,8 @@ ghost use Rattle.std.specs.Char.{is_ascii_hexdigit};
 ghost use Rattle.hcl_tokens.specs.Spelling.{escape_len, element_len, are_elements, ends_quoted, hex_digits_after, is_dollar_or_percent, starts};
 ghost use Rattle.hcl_scan.specs.Inner.Found.{is_ordinary};
 
+use crate::text::BLOCK;
+
 fn are_hex(bytes: &[u8]) -> bool
     ensures { result ≡ list_all is_ascii_hexdigit bytes.now }
 {
@@ -101,12 +103,31 @@ fn is_ordinary(b: u8) -> bool
     b > b'\\' || SPECIAL[b as usize] == b'.'
 }
 
-/// How many bytes at the front are each an element of literal text by itself.
-fn ordinary_len(seen: &[u8]) -> usize
+/// How many bytes at the front are each an element of literal text by itself, one after the other.
+#[inline(always)]
+fn ordinary_few(seen: &[u8]) -> usize
     ensures count { result ≡ prefix_len is_ordinary seen.now }
     ensures within { result ≤ length seen.now }
 {
     seen.iter().take_while(|b| is_ordinary(**b)).count()
+}
+
+/// The same, by blocks.
+#[inline(always)]
+fn ordinary_len(seen: &[u8]) -> usize
+    ensures count { result ≡ prefix_len is_ordinary seen.now }
+    ensures within { result ≤ length seen.now }
+{
+    let mut len = 0;
+    while BLOCK <= seen.len() - len {
+        let more = ordinary_few(&seen[len..len + BLOCK]);
+        if more < BLOCK {
+            return len + more;
+        }
+        len += BLOCK;
+    }
+    let (_, rest) = seen.split_at(len);
+    len + ordinary_few(rest)
 }
 
 /// Where the first byte stands from here on that isn't an element of literal text by itself, or the end.

@@ -9,7 +9,7 @@ use crate::text::byte_at;
 use hcl_tokens::Kind;
 
 /// The first of the marks, longer ones first, that stands at the front, and its length in bytes.
-/// The second byte is looked at only behind a first one that may go on with one.
+/// The second byte is looked at only after a first one that may go on with one.
 fn first_punctuation(seen: &[u8]) -> Option<(Kind, usize)>
     ensures { result ≡ first_punctuation seen.now }
 {

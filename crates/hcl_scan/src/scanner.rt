@@ -31,7 +31,7 @@ pub struct Stopped {
     pub at: u32,
 }
 
-/// Whether the token before is a Dot, kept as its kind: hardly a token asks for it.
+/// Whether the token before is a Dot, kept as its kind: few tokens ask for it.
 #[derive(Drop)]
 struct AfterDot {
     before: Kind,
@@ -48,14 +48,14 @@ impl Model for AfterDot {
 }
 
 impl AfterDot {
-    /// Behind a token of this kind.
+    /// After a token of this kind.
     fn behind(before: Kind) -> AfterDot
         ensures { result ≡ is Dot before }
     {
         AfterDot { before }
     }
 
-    /// At the front, or behind a token that is no Dot.
+    /// At the front, or after a token that is no Dot.
     fn no() -> AfterDot
         ensures { result ≡ false }
     {

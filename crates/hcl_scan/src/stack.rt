@@ -7,7 +7,7 @@ ghost use Rattle.hcl_tokens.specs.Scans.{owes};
 ghost use Rattle.hcl_scan.specs.Inner.Openings.{opener_of, openers_of, is_group_by, popped_groups, same_opener, popped_if, closes_on, top_closes, opened_on, closed, quoted_in, template_on, closes_under, template_top, innermost_owed};
 
 use arrayvec::ArrayVec;
-use hcl_tokens::Kind;
+use hcl_tokens::{Kind, MAX_OPEN};
 use std::marker::Model;
 
 /// What opens. A heredoc is kept by where its closing marker ends, and where what was seen around it
@@ -40,9 +40,6 @@ impl Default for Opened {
         }
     }
 }
-
-/// How many quotes, heredocs, sequences, braces, brackets and parens may be open at once.
-pub const MAX_OPEN: usize = 256;
 
 /// Room for what is open. A [`Stack`] borrows it, so that what it says of the innermost stands apart and can be kept in registers.
 pub type Room = ArrayVec<Opened, MAX_OPEN>;

@@ -6,7 +6,18 @@ ghost use Rattle.hcl_tokens.specs.Spelling.{is_blank, IsNewline, IsBlanks};
 ghost use Rattle.hcl_scan.specs.Inner.Found.{IsLongestFront, HasNoFront};
 ghost use Rattle.hcl_tokens.specs.Scans.{skip_blanks};
 
-/// The byte at the index, or 0 behind the end.
+/// How many bytes of a long run are looked at in one step. Between them it isn't asked whether the text ends, which takes
+/// half of the instructions where it is asked of each:
+///
+/// ```text
+/// compute_instance.service_1 = 2
+/// |------||------||------|xx
+/// ```
+///
+/// Three blocks pass, the fourth stops after two bytes. What is left after the last whole block is looked at one by one.
+pub(crate) const BLOCK: usize = 8;
+
+/// The byte at the index, or 0 after the end.
 pub(crate) fn byte_at(text: &[u8], index: usize) -> u8
     ensures { result ≡ get_or text.now index 0 }
 {
@@ -28,12 +39,30 @@ pub(crate) fn newline_len(seen: &[u8]) -> Option<usize>
     }
 }
 
-/// How many bytes stand before the first LF, or before the end.
-pub(crate) fn line_len(seen: &[u8]) -> usize
+/// How many bytes stand before the first LF, or before the end, one after the other.
+#[inline(always)]
+fn few_before_lf(seen: &[u8]) -> usize
     ensures count { result ≡ position_or_len (λ b. b == 10) seen.now }
     ensures within { result ≤ length seen.now }
 {
     seen.iter().take_while(|b| **b != b'\n').count()
+}
+
+/// The same, by blocks.
+pub(crate) fn line_len(seen: &[u8]) -> usize
+    ensures count { result ≡ position_or_len (λ b. b == 10) seen.now }
+    ensures within { result ≤ length seen.now }
+{
+    let mut len = 0;
+    while BLOCK <= seen.len() - len {
+        let more = few_before_lf(&seen[len..len + BLOCK]);
+        if more < BLOCK {
+            return len + more;
+        }
+        len += BLOCK;
+    }
+    let (_, rest) = seen.split_at(len);
+    len + few_before_lf(rest)
 }
 
 pub(crate) fn is_blank(b: u8) -> bool

@@ -1,1 +1,3 @@
 pub mod LoadLemmas
+pub mod LineEndLemmas
+pub mod SimpleLemmas

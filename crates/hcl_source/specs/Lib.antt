@@ -3,3 +3,4 @@ pub mod Memory
 pub mod FaultTexts
 pub mod Places
 pub mod Load
+pub mod Simple

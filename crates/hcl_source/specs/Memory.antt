@@ -31,7 +31,7 @@ abbrev pub is_due : Option ℕ → Bool
 is_due None = false
 is_due (Some good) = good == 0
 
--- the good calls that are left behind one of them
+-- the good calls that are left after one of them
 abbrev pub one_less : Option ℕ → Option ℕ
 one_less None = None
 one_less (Some good) = Some (good - 1)

@@ -82,7 +82,7 @@ pub trait ByteSink {
         ensures pending { TookSome result → flushed self.new ≡ false }
         ensures flushes { flushes self.new ≡ flushes self.old };
 
-    /// Hands on what was taken and not yet handed on.
+    /// Passes on what was taken and not yet passed on.
     fn flush(&mut self) -> Result<(), Failed>
         requires { failed self.old ≡ false }
         ensures bytes { Keeps (taken self.old) (taken self.new) }

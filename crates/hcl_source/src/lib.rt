@@ -5,15 +5,19 @@
 //! words in one place. The module [`laws`] holds what is proved of the definitions alone.
 #![tactic(auto)]
 
+mod columns;
 mod device;
 mod fault;
 pub mod laws;
+mod lines;
 mod memory;
 mod source;
 
+pub use columns::{clusters, is_simple};
 pub use device::{
     ByteSink, ByteSource, Failed, Flushes, FromRead, ToWrite, WriteFault, write_fully,
 };
 pub use fault::{Fault, FaultKind, LoadError, Position};
+pub use lines::line_ends;
 pub use memory::{MemorySink, MemorySource, SINK_ROOM};
 pub use source::{MAX_SOURCE, Source, line_start};

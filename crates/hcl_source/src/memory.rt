@@ -20,7 +20,7 @@ fn is_due(good: Option<usize>) -> bool
     }
 }
 
-/// The good calls that are left behind one of them.
+/// The good calls that are left after one of them.
 fn one_less(good: Option<usize>) -> Option<usize>
     ensures { result ≡ one_less good }
 {
@@ -65,7 +65,7 @@ impl<'a> MemorySource<'a> {
         }
     }
 
-    /// The same source, but the read behind so many fails.
+    /// The same source, but the read after so many fails.
     pub fn failing_after(self, reads: usize) -> Self
         ensures { result ≡ record self.entry { good_reads = Some reads } }
     {
@@ -165,7 +165,7 @@ impl MemorySink {
         }
     }
 
-    /// The same sink, but the write behind so many fails.
+    /// The same sink, but the write after so many fails.
     pub fn failing_after(mut self, writes: usize) -> Self
         ensures { result ≡ record self { good_writes = Some writes } }
     {

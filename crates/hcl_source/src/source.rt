@@ -1,18 +1,18 @@
 //! The text of one file, and the places in it.
 
-ghost use Rattle.std.specs.Prelude.{◌≡◌, ℕ, List, ◌+◌, ◌-◌, ◌<◌, ◌≤◌, ◌==◌, true, false, length, drop, slice_index, count_by, IfOk, IfErr, MatchOption};
+ghost use Rattle.std.specs.Prelude.{◌≡◌, ℕ, List, ◌+◌, ◌-◌, ◌<◌, ◌≤◌, ◌==◌, true, false, length, drop, slice_index, IfOk, IfErr, MatchOption};
 ghost use Rattle.std.specs.List.{after_last};
 ghost use Rattle.std.specs.Str.{IsCharBoundary, IsValidUpTo};
 ghost use Rattle.std.specs.Io.KnownBytes.{Consumes};
-ghost use Rattle.unicode_segmentation.specs.Grapheme.{graphemes};
 ghost use Rattle.hcl_source.specs.Places.{place};
 ghost use Rattle.hcl_source.specs.Load.{max_source, has_byte_order_mark, IsText, IsLoadFault, IsLoadError, Loads, is_failed_load};
 
+use crate::columns::clusters;
 use crate::device::{ByteSource, ReadError, read_up_to};
 use crate::fault::{Fault, FaultKind, LoadError, Position};
+use crate::lines::line_ends;
 use std::alloc::Global;
 use std::marker::Model;
-use unicode_segmentation::UnicodeSegmentation;
 
 /// The most bytes that a source has.
 pub const MAX_SOURCE: usize = 4_194_304;
@@ -36,7 +36,7 @@ impl Model for Source {
     ghost invariant = { λ s. IsText (string_bytes s.content) };
 }
 
-/// Where the last line of a text begins: behind its last LF, or at 0.
+/// Where the last line of a text begins: after its last LF, or at 0.
 pub fn line_start(bytes: &[u8]) -> usize
     ensures within { result ≤ length bytes.now }
     ensures start { drop result bytes.now ≡ after_last (λ b. b == 10) bytes.now }
@@ -47,22 +47,6 @@ pub fn line_start(bytes: &[u8]) -> usize
         start -= 1;
     }
     start
-}
-
-/// How many lines end in a text.
-fn line_ends(bytes: &[u8]) -> usize
-    ensures count { result ≡ count_by (λ b. b == 10) bytes.now }
-    ensures within { result ≤ length bytes.now }
-{
-    bytes.iter().filter(|b| **b == b'\n').count()
-}
-
-/// How many extended grapheme clusters a text has.
-fn clusters(text: &str) -> usize
-    ensures count { result ≡ length (graphemes true text.now) }
-    ensures within { result ≤ length text.now }
-{
-    text.graphemes(true).count()
 }
 
 /// The place of the end of a text.

@@ -8,14 +8,13 @@ use Rattle.std.specs.List.{list_all}
 use Rattle.std.specs.Str.{bytes_eq}
 use Rattle.std.proofs.lemmas.Bool.Decides.{nat_tests}
 use Rattle.hcl_tokens.specs.Lexemes.{Lexeme}
-use Rattle.hcl_scan.specs.SideBySide.{may_begin_ident}
-use Rattle.hcl_scan.specs.Neighbours as neighbours
-use Rattle.hcl_scan.specs.SideBySide as beside
+use Rattle.hcl_tokens.specs.SideBySide.{may_begin_ident}
+use Rattle.hcl_tokens.specs.Neighbours as neighbours
+use Rattle.hcl_tokens.specs.SideBySide as beside
 use Rattle.hcl_tokens.specs.declared.token.Kind.{Kind}
 use Rattle.hcl_tokens.specs.declared.token.Kind.TheVariants as kind
-use Rattle.hcl_scan.proofs.BooleanLemmas.{and_true, or_true, not_true}
-use Rattle.hcl_scan.proofs.CommentLemmas.{or_cases}
-use Rattle.hcl_scan.proofs.FirstByteLemmas.{Says, says}
+use Rattle.hcl_tokens.proofs.BooleanLemmas.{and_true, or_true, not_true, or_cases}
+use Rattle.hcl_tokens.proofs.ByteKindLemmas.{Says, says}
 use Rattle.hcl_tokens.specs.Kinds.{is}
 use Rattle.hcl_spacing.specs.Spacing.{opens_sequence, begins_with_colon, begins_with_equals, stands_before, spaced}
 use Rattle.hcl_spacing.proofs.KindLemmas.{each, kinds, never}

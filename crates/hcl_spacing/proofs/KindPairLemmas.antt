@@ -61,7 +61,7 @@ same false b = not b
 abbrev holds : Kind → Kind → Bool → Bool → Bool → Bool → Bool → Bool → Bool → Bool
 holds l r a b c d e f g = same (answered (pair_space l r) (asked l r a b c d e f g)) (table_by_kinds l r a b c d e f g)
 
--- each answer matters behind one kind alone, so that few are left to try
+-- each answer matters after one kind alone, so that few are left to try
 abbrev by_opening : Kind → Kind → Bool → Bool → Bool → Bool → Bool → Bool → Bool
 by_opening l r a b c d e f = both (is kind.Minus l) (λ g. holds l r a b c d e f g)
 

@@ -3,11 +3,11 @@
 use Rattle.std.proofs.Common.{◌≡◌, ◌&&◌, ◌||◌, not, Bool, true, false, Option, refl, ◌∙◌}
 use Rattle.std.specs.Prelude.{if◌then◌else◌}
 use Rattle.hcl_tokens.specs.Lexemes.{Lexeme}
-use Rattle.hcl_scan.specs.Regapped as regapped
-use Rattle.hcl_scan.specs.SideBySide as beside
+use Rattle.hcl_tokens.specs.Regapped as regapped
+use Rattle.hcl_tokens.specs.SideBySide as beside
 use Rattle.hcl_tokens.specs.declared.token.Kind.{Kind}
 use Rattle.hcl_tokens.specs.declared.token.Kind.TheVariants as kind
-use Rattle.hcl_scan.proofs.BooleanLemmas.{and_true, not_true}
+use Rattle.hcl_tokens.proofs.BooleanLemmas.{and_true, not_true}
 use Rattle.hcl_tokens.specs.Kinds.{is}
 use Rattle.hcl_spacing.proofs.KindLemmas.{never}
 use Rattle.hcl_spacing.specs.Spacing.{opens_sequence, closes_group, ends_operand, is_opening, would_join, is_in, spaced}

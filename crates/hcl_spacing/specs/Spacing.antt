@@ -21,7 +21,7 @@ closes_group kind.BracketClose = true
 closes_group kind.SeqClose = true
 closes_group _ = false
 
--- what an index may stand behind
+-- what an index may follow
 abbrev pub ends_operand : Kind → Bool
 ends_operand kind.Ident = true
 ends_operand kind.Number = true
@@ -49,7 +49,7 @@ is_operator kind.GreaterEqual = true
 is_operator kind.Not = true
 is_operator _ = false
 
--- marks behind which an expression begins
+-- marks after which an expression begins
 abbrev pub awaits_operand : Kind → Bool
 awaits_operand kind.Assign = true
 awaits_operand kind.Arrow = true
@@ -76,7 +76,7 @@ is_opening None = true
 is_opening (Some t) = is_opener t.kind || is_operator t.kind || awaits_operand t.kind
 
 -- neighbours that would be read as one token, or as others: of the pairs that the scan's table of neighbours names
--- (`Neighbours.joins` of `hcl_scan`), those that a row further down would put together
+-- (`Neighbours.joins` of `hcl_tokens`), those that a row further down would put together
 abbrev pub would_join : Option Lexeme → Lexeme → Lexeme → Bool
 would_join before subject after =
     (is kind.Dot subject.kind && (is kind.Dot after.kind || is kind.Ellipsis after.kind))
@@ -85,7 +85,7 @@ would_join before subject after =
     || (opens_sequence subject.kind && is kind.SeqClose after.kind && bytes_eq after.text (codes "~}"))
     || (is kind.Colon subject.kind && begins_with_colon after.text)
 
--- the word `in`, behind the last name that a `for` declares
+-- the word `in`, after the last name that a `for` declares
 abbrev pub is_in : Option Lexeme → Lexeme → Bool
 is_in before subject = is kind.Ident subject.kind && bytes_eq subject.text (codes "in") && stands_before (is kind.Ident) before
 

@@ -4,7 +4,7 @@ ghost use Rattle.std.specs.Prelude.{◌≡◌};
 ghost use Rattle.hcl_tokens.specs.Balanced.{is_opener as is_opener_of};
 ghost use Rattle.hcl_spacing.specs.Spacing.{closes_group as closes_group_of, is_operator as is_operator_of, awaits_operand as awaits_operand_of};
 
-use hcl_scan::Kind;
+use hcl_tokens::Kind;
 
 /// What closes a paren, a bracket or a sequence.
 pub fn closes_group(kind: Kind) -> bool
@@ -36,7 +36,7 @@ pub fn is_operator(kind: Kind) -> bool
     )
 }
 
-/// Marks behind which an expression begins.
+/// Marks after which an expression begins.
 pub fn awaits_operand(kind: Kind) -> bool
     ensures { result ≡ awaits_operand_of kind }
 {

@@ -2,9 +2,9 @@
 
 ghost use Rattle.std.specs.Prelude.{◌≡◌, Option, false, true};
 ghost use Rattle.hcl_tokens.specs.Lexemes.{Lexeme};
-ghost use Rattle.hcl_scan.specs.Neighbours.{joins};
-ghost use Rattle.hcl_scan.specs.Regapped.{is_template};
-ghost use Rattle.hcl_scan.specs.SideBySide.{Beside};
+ghost use Rattle.hcl_tokens.specs.Neighbours.{joins};
+ghost use Rattle.hcl_tokens.specs.Regapped.{is_template};
+ghost use Rattle.hcl_tokens.specs.SideBySide.{Beside};
 ghost use Rattle.hcl_tokens.specs.Kinds.{is};
 ghost use Rattle.hcl_tokens.specs.declared.token.Kind.TheVariants.{Dot, Newline};
 ghost use Rattle.hcl_spacing.specs.Spacing.{spaced, stands_before};

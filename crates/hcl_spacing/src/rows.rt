@@ -1,15 +1,15 @@
-//! The rows of the spacing: before which kinds one blank stands behind a kind. The words in quotation marks are headings of
+//! The rows of the spacing: before which kinds one blank follows a kind. The words in quotation marks are headings of
 //! `docs/STYLE.md`, "Between two words of a line".
 //!
 //! Nearly always two kinds tell their blank, and it is asked of every token: so a row is two sets of kinds, with a bit for
-//! each kind, and a pair is looked up without a jump.
+//! each kind, and a pair is looked up without a branch.
 ghost use Rattle.std.specs.Prelude.{◌≡◌, Option};
 ghost use Rattle.hcl_tokens.specs.declared.token.Kind.{Kind};
 ghost use Rattle.hcl_spacing.specs.Inner.KindPairs.{has as has_of, pair_space as pair_space_of, stands_close as stands_close_of, told as told_of};
 
-use hcl_scan::Kind;
+use hcl_tokens::Kind;
 
-/// What a kind tells of the kinds behind it.
+/// What a kind tells of the kinds after it.
 #[derive(Clone, Copy)]
 struct Row {
     /// Before these stands one blank.
@@ -23,7 +23,7 @@ const NONE: u64 = 0;
 /// "Blanks at the ends of lines" vanish.
 const LINE_END: u64 = 1 << Kind::Newline as u64;
 
-/// By "Dots", "Two colons" and "Commas" these stand close behind whatever they don't join.
+/// By "Dots", "Two colons" and "Commas" these stand close after whatever they don't join.
 const MARKS: u64 = 1 << Kind::Dot as u64
     | 1 << Kind::ColonColon as u64
     | 1 << Kind::Comma as u64
@@ -61,7 +61,7 @@ fn has(kinds: u64, kind: Kind) -> bool
     (kinds >> kind as u64) & 1 == 1
 }
 
-/// Whether the token stands close behind whatever it doesn't join.
+/// Whether the token stands close after whatever it doesn't join.
 #[inline(always)]
 pub fn stands_close(kind: Kind) -> bool
     ensures { result ≡ stands_close_of kind }
@@ -93,7 +93,7 @@ fn row_of(left: Kind) -> Row
         Kind::QuoteOpen | Kind::Lit | Kind::ColonColon => telling(NONE),
         // "Dots": so are attributes of attributes; but two dots would be read as another mark
         Kind::Dot => telling(DOTS),
-        // "Commas": they part what stands behind them from the rest, but not from a comma or dots
+        // "Commas": they part what follows them from the rest, but not from a comma or dots
         Kind::Comma => telling(!(MARKS | LINE_END)),
         // "Brackets, parentheses": they hug what they hold; "Braces": a closing brace never does
         Kind::ParenOpen | Kind::BracketOpen => telling(BRACE_END),

@@ -10,7 +10,7 @@ ghost use Rattle.hcl_spacing.specs.Inner.KindPairs.{asked_space as asked_space_o
 
 use crate::kind::{awaits_operand, closes_group, is_opener, is_operator};
 use crate::rows::{pair_space, stands_close};
-use hcl_scan::{Kind, Token};
+use hcl_tokens::{Kind, Token};
 
 #[inline(always)]
 fn begins_with_equals(text: &str) -> bool
@@ -54,7 +54,7 @@ fn is_behind_ident(before: Option<Token<'_>>) -> bool
     matches!(before.kind, Kind::Ident)
 }
 
-/// Whether an expression begins behind the token before, so that a minus there is a sign.
+/// Whether an expression begins after the token before, so that a minus there is a sign.
 #[inline(always)]
 fn is_opening(before: Option<Token<'_>>) -> bool
     ensures { result ≡ is_opening_of (option_map lexeme before.entry) }
@@ -80,7 +80,7 @@ fn asked_space(before: Option<Token<'_>>, subject: Token<'_>, after: Token<'_>) 
         }
         // "Minus" has none after it where it is a sign: where an expression begins
         Kind::Minus => !(stands_close(after.kind) || is_opening(before)),
-        // "A number and a dot": behind a dot the number is a step, and joins no other dot
+        // "A number and a dot": after a dot the number is a step, and joins no other dot
         Kind::Number => !is_behind_dot(before),
         // "`in`" after a name, as in a `for`
         Kind::Ident => is_behind_ident(before) && subject.text == "in",

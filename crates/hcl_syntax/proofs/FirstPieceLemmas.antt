@@ -19,7 +19,7 @@ use Rattle.hcl_syntax.proofs.WordLemmas.{words_none}
 abbrev pub taken : ℕ → ℕ → List Lexeme → List Numbered
 taken n k xs = uncommented (take k (numbered_from n xs))
 
--- the pieces behind the first, which ends before so many tokens of so many
+-- the pieces after the first, which ends before so many tokens of so many
 abbrev later : ℕ → ℕ → ℕ → List Lexeme → List (List Numbered)
 later m zero n xs = []
 later m (suc k) n [] = []

@@ -10,3 +10,4 @@ pub mod LabelLemmas
 pub mod BlockLemmas
 pub mod PieceLemmas
 pub mod OutlineLemmas
+pub mod ShortLemmas

@@ -53,7 +53,7 @@ end_of-last (x ∷ y ∷ xs) t = end_of-last (y ∷ xs) t
 abbrev closes : Numbered → Bool
 closes t = is kind.BraceClose t.kind
 
--- up to the end and no further: what is behind has no closing brace
+-- up to the end and no further: what is after has no closing brace
 pub record NoClose (ts : List Lexeme) (end to : ℕ) : Type 0 where
   pub none : filter closes (words ts end to) ≡ []
   pub within : end ≤ to

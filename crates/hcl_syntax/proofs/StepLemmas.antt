@@ -105,7 +105,7 @@ pub onward : {A B : Type 0} {a : A} {count : ℕ} {xs ys zs : List Marked} {old 
     Advances count xs old (Ok a) ys mid → Advances count ys mid r zs new → Advances count xs old r zs new
 onward h k = record { same = λ behind. h.same behind ∙ k.same behind }
 
--- The same with more behind it.
+-- The same with more after it.
 pub beside : {A : Type 0} {count : ℕ} {xs ys : List Marked} {old new : List Lookahead} {r : Result A Refusal} (zs : List Marked) →
     Advances count xs old r ys new → Advances count (xs ++ zs) old r (ys ++ zs) new
 beside {count = count} {xs = xs} {ys = ys} {old = old} {new = new} {r = r} zs h = record { same = λ behind. ap (λ l. run count l old) (append_assoc xs zs behind) ∙ h.same (zs ++ behind) ∙ ap (λ l. outcome r (run count l new)) (sym (append_assoc ys zs behind)) }

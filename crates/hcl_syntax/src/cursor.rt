@@ -1,11 +1,11 @@
 //! A place in a token list, and the single tokens that are waited for there.
 
-ghost use Rattle.std.specs.Prelude.{◌≡◌, ◌+◌, ◌<◌, ◌≤◌, ◌^◌, ℕ, [], ◌∷◌, drop, length, Some, None, IsSome, OnOk};
+ghost use Rattle.std.specs.Prelude.{◌≡◌, ◌+◌, ◌<◌, ◌≤◌, ◌^◌, ℕ, [], ◌∷◌, drop, length, Some, None, Ok, IsSome, OnOk};
 ghost use Rattle.std.specs.Bool.{OnTrue, OnFalse};
 ghost use Rattle.hcl_grammar.specs.Classes.{lookaheads, lookaheads_from};
-ghost use Rattle.hcl_grammar.specs.Grammar.{fits, ◌at◌, the};
+ghost use Rattle.hcl_grammar.specs.Grammar.{fits, ◌at◌, the, expr};
 ghost use Rattle.hcl_syntax.specs.Inner.Cursors.{shown, first, after_first, is_shown};
-ghost use Rattle.hcl_syntax.specs.Inner.Parsing.{Parses, TookTerminal, LacksTerminal};
+ghost use Rattle.hcl_syntax.specs.Inner.Parsing.{Parses, TookTerminal, LacksTerminal, is_short_operand, ends_expression};
 
 use crate::class::lookahead_at;
 use hcl_grammar::{Class, Lookahead, Newlines, Refusal, Terminal, Word};
@@ -106,6 +106,34 @@ fn past(tokens: &Tokens, from: usize) -> usize
     number
 }
 
+/// Whether a token of the class is an operand by itself, but for what goes on after it.
+#[inline(always)]
+fn is_short_operand(class: Class) -> bool
+    ensures { result ≡ is_short_operand class }
+{
+    matches!(class, Class::Ident(_) | Class::Number(_))
+}
+
+/// Whether a token of the class goes on with no expression, and isn't passed over.
+#[inline(always)]
+fn ends_expression(newlines: Newlines, class: Class) -> bool
+    ensures { result ≡ ends_expression newlines class }
+{
+    match class {
+        Class::Newline => matches!(newlines, Newlines::Seen),
+        Class::Comma
+        | Class::ParenClose
+        | Class::BracketClose
+        | Class::BraceClose
+        | Class::SeqClose
+        | Class::Assign
+        | Class::Arrow
+        | Class::Colon
+        | Class::Ellipsis => true,
+        _ => false,
+    }
+}
+
 impl<'t, 's> Cursor<'t, 's> {
     /// All tokens.
     pub fn new(tokens: &'t Tokens<'s>) -> Cursor<'t, 's>
@@ -142,6 +170,36 @@ impl<'t, 's> Cursor<'t, 's> {
         ensures shorter { length self.old ≡ length self.new + 1 }
     {
         self.next = past(self.tokens, self.next);
+    }
+
+    /// Reads an expression of one token, where a look at the next two tells that it is one, as in nearly every third place:
+    ///
+    /// ```text
+    /// count = 2
+    ///         ~ and after it a newline
+    /// ```
+    ///
+    /// False says only that these two don't tell it.
+    #[inline(always)]
+    pub fn takes_short(&mut self, newlines: Newlines) -> bool
+        ensures yes { OnTrue result ((count : ℕ) → Parses count (expr at newlines ∷ []) self.old (Ok (tt {0})) self.new) }
+        ensures no { OnFalse result (self.new ≡ self.old) }
+        ensures shorter { OnTrue result (length self.new < length self.old) }
+    {
+        let next = self.next;
+        if self.tokens.len() - next < 2 {
+            return false;
+        }
+        let operand = lookahead_at(self.tokens, next);
+        if !is_short_operand(operand.class) {
+            return false;
+        }
+        let behind = lookahead_at(self.tokens, next + 1);
+        if !ends_expression(newlines, behind.class) {
+            return false;
+        }
+        self.next = next + 1;
+        true
     }
 
     /// Reads the next token, which has to be what the terminal waits for. It is inlined, as `look` is.

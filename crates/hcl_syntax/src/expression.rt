@@ -1,4 +1,4 @@
-//! Expressions. The functions of the cycle call each other only behind an opener or in an open directive, so the depth
+//! Expressions. The functions of the cycle call each other only after an opener or in an open directive, so the depth
 //! of the recursion is bounded; all that can be chained without an opener is a loop with a count.
 
 ghost use Rattle.std.specs.Prelude.{◌≡◌, ◌+◌, ◌<◌, ◌≤◌, ◌^◌, ℕ, List, [], ◌∷◌, length, Some, None, Ok, OnOk, IfOk, IfSome, false};
@@ -14,7 +14,7 @@ use crate::expected::Follow;
 use hcl_grammar::{Class, Lookahead, Newlines, Refusal, Terminal};
 
 impl<'t, 's> Cursor<'t, 's> {
-    /// Passes over the signs before an operand, and looks at the token behind them.
+    /// Passes over the signs before an operand, and looks at the token after them.
     fn start(&mut self, newlines: Newlines) -> Option<Lookahead>
         ensures leads { (count : ℕ) → Advances count (expr at newlines ∷ []) self.old (Ok (tt {0})) (expr at newlines ∷ []) self.new }
         ensures left { self.new ≡ shown newlines self.new }
@@ -99,7 +99,7 @@ impl<'t, 's> Cursor<'t, 's> {
         }
     }
 
-    /// The further names of a function behind its first `::`, and the parenthesis of its call.
+    /// The further names of a function after its first `::`, and the parenthesis of its call.
     fn path(&mut self, newlines: Newlines) -> Result<(), Refusal>
         ensures leads { (count : ℕ) → Advances count (the Name at newlines ∷ path at newlines ∷ []) self.old result (args at Dropped ∷ after at newlines ∷ []) self.new }
         ensures shorter { OnOk result (length self.new ≤ length self.old) }
@@ -153,7 +153,7 @@ impl<'t, 's> Cursor<'t, 's> {
         }
     }
 
-    /// An index behind its bracket.
+    /// An index after its bracket.
     #[cycle(parser)]
     fn index(&mut self, directives: usize) -> Result<(), Refusal>
         ensures parses { Parses directives (index at Dropped ∷ []) self.old result self.new }
@@ -172,6 +172,9 @@ impl<'t, 's> Cursor<'t, 's> {
         ensures parses { Parses directives (expr at newlines ∷ []) self.old result self.new }
         ensures shorter { OnOk result (length self.new < length self.old) }
     {
+        if self.takes_short(newlines) {
+            return Ok(());
+        }
         self.room();
         let mut waiting: usize = 0;
         loop {
@@ -190,7 +193,7 @@ impl<'t, 's> Cursor<'t, 's> {
         }
     }
 
-    /// The arguments of a call behind its parenthesis.
+    /// The arguments of a call after its parenthesis.
     #[cycle(parser)]
     fn args(&mut self, directives: usize) -> Result<(), Refusal>
         ensures parses { Parses directives (args at Dropped ∷ []) self.old result self.new }
@@ -219,7 +222,7 @@ impl<'t, 's> Cursor<'t, 's> {
         }
     }
 
-    /// A tuple behind its bracket.
+    /// A tuple after its bracket.
     #[cycle(parser)]
     fn tuple(&mut self, directives: usize) -> Result<(), Refusal>
         ensures parses { Parses directives (tuple at Dropped ∷ []) self.old result self.new }
@@ -281,7 +284,7 @@ impl<'t, 's> Cursor<'t, 's> {
         self.expect(Newlines::Dropped, Terminal::EndBracket)
     }
 
-    /// An object behind its brace.
+    /// An object after its brace.
     #[cycle(parser)]
     fn object(&mut self, directives: usize) -> Result<(), Refusal>
         ensures parses { Parses directives (object at Seen ∷ []) self.old result self.new }
@@ -293,7 +296,7 @@ impl<'t, 's> Cursor<'t, 's> {
         self.entries(directives)
     }
 
-    /// The entries of an object, through its closing brace. Newlines count only behind an entry.
+    /// The entries of an object, through its closing brace. Newlines count only after an entry.
     #[cycle(parser)]
     fn entries(&mut self, directives: usize) -> Result<(), Refusal>
         ensures parses { Parses directives (object_item at Seen ∷ []) self.old result self.new }
@@ -328,7 +331,7 @@ impl<'t, 's> Cursor<'t, 's> {
         self.expr(Newlines::Seen, directives)
     }
 
-    /// A for-expression in braces behind its `for`.
+    /// A for-expression in braces after its `for`.
     #[cycle(parser)]
     fn object_for(&mut self, directives: usize) -> Result<(), Refusal>
         ensures parses { Parses directives (the Name at Dropped ∷ names at Dropped ∷ expr at Dropped ∷ the Separator at Dropped ∷ expr at Dropped ∷ the FatArrow at Dropped ∷ expr at Dropped ∷ group at Dropped ∷ []) self.old result self.new }
@@ -386,7 +389,7 @@ impl<'t, 's> Cursor<'t, 's> {
         self.expect(Newlines::Dropped, Terminal::InWord)
     }
 
-    /// What stands behind a dot.
+    /// What follows a dot.
     pub fn step(&mut self, newlines: Newlines) -> Result<(), Refusal>
         ensures parses { (count : ℕ) → Parses count (step at newlines ∷ []) self.old result self.new }
         ensures shorter { OnOk result (length self.new < length self.old) }

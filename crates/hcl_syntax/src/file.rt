@@ -10,7 +10,7 @@ use crate::cursor::Cursor;
 use hcl_grammar::{Class, Newlines, Refusal, Terminal};
 
 impl<'t, 's> Cursor<'t, 's> {
-    /// A quoted label behind its opening quote.
+    /// A quoted label after its opening quote.
     fn label(&mut self) -> Result<(), Refusal>
         ensures parses { Parses 0 (label_literal at Seen ∷ the EndQuote at Seen ∷ []) self.old result self.new }
         ensures shorter { OnOk result (length self.new ≤ length self.old) }
@@ -82,7 +82,7 @@ impl<'t, 's> Cursor<'t, 's> {
         }
     }
 
-    /// The one attribute of a block on one line, behind its name, and the rest of that line.
+    /// The one attribute of a block on one line, after its name, and the rest of that line.
     fn attribute_line(&mut self) -> Result<(), Refusal>
         ensures parses { Parses 0 (the Equals at Seen ∷ expr at Seen ∷ the EndBrace at Seen ∷ eol at Seen ∷ []) self.old result self.new }
         ensures shorter { OnOk result (length self.new ≤ length self.old) }
@@ -93,7 +93,7 @@ impl<'t, 's> Cursor<'t, 's> {
         self.end_of_line()
     }
 
-    /// An attribute or a block behind its first identifier.
+    /// An attribute or a block after its first identifier.
     fn item(&mut self) -> Result<bool, Refusal>
         ensures leads { Advances 0 (rest at Seen ∷ []) self.old result (after_item result) self.new }
         ensures shorter { OnOk result (length self.new ≤ length self.old) }

@@ -63,7 +63,7 @@ impl<'t, 's> Cursor<'t, 's> {
         self.expect(Newlines::Dropped, Terminal::EndSequence)
     }
 
-    /// A directive behind its `%{`, which is the token of this number.
+    /// A directive after its `%{`, which is the token of this number.
     #[cycle(parser)]
     fn directive(&mut self, number: u32, directives: usize) -> Result<(), Refusal>
         ensures parses { Parses directives (directive number at Dropped ∷ []) self.old result self.new }

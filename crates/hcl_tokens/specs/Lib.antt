@@ -6,4 +6,7 @@ pub mod Faults
 pub mod Scanned
 pub mod Balanced
 pub mod Entries
+pub mod Neighbours
+pub mod Regapped
+pub mod SideBySide
 pub mod Inner

@@ -83,7 +83,7 @@ pub record IsLongest (opens : List Opener) (after_dot : Bool) (seen : List ℕ) 
 abbrev pub HasNone : List Opener → Bool → List ℕ → Type 0
 HasNone opens after_dot seen = (kind : Kind) (text rest : List ℕ) → text ++ rest ≡ seen → ¬ IsSpelling opens after_dot kind text rest
 
--- what is hidden behind a marker line
+-- what is hidden after a marker line
 abbrev pub hides : List ℕ → List ℕ → Hidden
 hides marker line = record { closer = take (closer_len marker line) line; after = drop (closer_len marker line) line }
 

@@ -2,7 +2,7 @@
 //! kept.
 //!
 //! What a scan may answer stands in the definitions. Here are the words that it is told in, and [`Tokens`], the tokens of
-//! a source, so that who reads tokens waits for no scanner. `hcl_scan` finds them. All that `hcl_source` has is handed
+//! a source, so that code that reads tokens waits for no scanner. `hcl_scan` finds them. All that `hcl_source` has is handed
 //! on.
 #![tactic(auto)]
 
@@ -16,4 +16,4 @@ pub use hcl_source::{
     MemorySink, MemorySource, Position, SINK_ROOM, Source, ToWrite, WriteFault, write_fully,
 };
 pub use token::{Entry, Kind, ScanError, Token};
-pub use tokens::Tokens;
+pub use tokens::{MAX_OPEN, Tokens};

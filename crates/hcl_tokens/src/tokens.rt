@@ -12,6 +12,9 @@ use crate::token::{Kind, Token};
 use hcl_source::Source;
 use std::marker::Model;
 
+/// How many quotes, heredocs, sequences, braces, brackets and parens may be open at once.
+pub const MAX_OPEN: usize = 256;
+
 /// The tokens of a source. `hcl_scan::scan` finds them.
 #[derive(Debug, Drop)]
 pub struct Tokens<'s> {
@@ -32,7 +35,7 @@ impl<'s> Model for Tokens<'s> {
 }
 
 impl<'s> Tokens<'s> {
-    /// The tokens of a source, for who has shown that the entries tell them.
+    /// The tokens of a source, for a caller that has proved that the entries tell them.
     pub fn new(origin: &'s Source, entries: Entries) -> Tokens<'s>
         requires { AreTokens origin.now entries }
         ensures text { result.text ≡ origin.now }

@@ -1,0 +1,2 @@
+pub mod DiffLemmas
+pub mod SplitLemmas

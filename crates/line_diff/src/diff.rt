@@ -1,204 +1,244 @@
 //! What would change, as `diff -u` shows it. A print has the lines of its text, so lines of the same number are compared.
 
+ghost use Rattle.std.specs.Prelude.{◌≡◌, ◌<◌, ◌≤◌, ◌+◌, ◌-◌, ◌++◌, OnOk, IfOk, codes, decimal};
+ghost use Rattle.line_diff.specs.Diffs.{begins, body_at, count, diff_of, each, ended, head, hunk_at, hunks, is_changed, is_shown, line_at, range, range_by, run_length, signed};
+
+use crate::lines::{Lines, lines_of};
 use itoa::Buffer;
 use std::alloc::{AllocError, Global};
 
-/// How many lines stand around a change.
-const AROUND: usize = 3;
-
 /// Adds bytes.
-fn push(to: &mut Vec<u8>, bytes: &[u8]) -> Result<(), AllocError> {
+fn push(to: &mut Vec<u8>, bytes: &[u8]) -> Result<(), AllocError>
+    ensures { OnOk result (to.new.items ≡ to.old.items ++ bytes.now) }
+{
     to.extend_from_slice(bytes)
 }
 
 /// Adds a number in decimal.
-fn push_number(to: &mut Vec<u8>, number: u64) -> Result<(), AllocError> {
+fn push_number(to: &mut Vec<u8>, number: u64) -> Result<(), AllocError>
+    ensures { OnOk result (to.new.items ≡ to.old.items ++ decimal number) }
+{
     let mut digits = Buffer::new();
     push(to, digits.format(number).as_bytes())
 }
 
-/// A text and its print, by lines.
-#[derive(Drop)]
-struct Lines<'a> {
-    old: Vec<&'a [u8]>,
-    new: Vec<&'a [u8]>,
+/// Whether a line is shown: one of those up to three lines from it is changed.
+fn is_shown(lines: &Lines<'_>, number: usize) -> bool
+    requires { number < count lines.now }
+    ensures { result ≡ is_shown lines.now number }
+{
+    lines.is_near(number, 0)
+        || lines.is_near(number, 1)
+        || lines.is_near(number, 2)
+        || lines.is_near(number, 3)
 }
 
-/// The lines of a text, each with its LF, and one without where one is at the end.
-fn lines_of<'a>(alloc: Global, text: &'a [u8]) -> Result<Vec<&'a [u8]>, AllocError> {
-    let mut lines = Vec::new(alloc);
-    let mut start = 0;
-    for at in 0..text.len() {
-        if text[at] == b'\n' && start <= at {
-            if lines.push(&text[start..at + 1]).is_err() {
-                return Err(AllocError);
-            }
-            start = at + 1;
-        }
-    }
-    if start < text.len() {
-        if lines.push(&text[start..]).is_err() {
-            return Err(AllocError);
-        }
-    }
-    Ok(lines)
+/// Whether a run of changed lines begins here.
+fn begins_change(lines: &Lines<'_>, number: usize) -> bool
+    ensures { result ≡ begins (is_changed lines.now) number }
+{
+    lines.is_changed(number) && (number == 0 || !lines.is_changed(number - 1))
 }
 
-/// The line of this number, or nothing after the last.
-fn line_at<'a>(lines: &[&'a [u8]], number: usize) -> &'a [u8] {
-    if number < lines.len() {
-        return lines[number];
-    }
-    b""
+/// Whether a run of shown lines begins here.
+fn begins_hunk(lines: &Lines<'_>, number: usize) -> bool
+    requires { number < count lines.now }
+    ensures { result ≡ begins (is_shown lines.now) number }
+{
+    is_shown(lines, number) && (number == 0 || !is_shown(lines, number - 1))
 }
 
-impl<'a> Lines<'a> {
-    fn len(&self) -> usize {
-        self.old.len().max(self.new.len())
-    }
-
-    fn is_changed(&self, number: usize) -> bool {
-        line_at(self.old.as_slice(), number) != line_at(self.new.as_slice(), number)
-    }
-}
-
-/// Puts a line, with a sign before it.
-fn push_line(to: &mut Vec<u8>, sign: &[u8], line: &[u8]) -> Result<(), AllocError> {
-    if line.is_empty() {
-        return Ok(());
-    }
-    push(to, sign)?;
-    push(to, line)?;
-    if !line.ends_with(b"\n") {
-        push(to, b"\n\\ No newline at end of file\n")?;
-    }
-    Ok(())
-}
-
-/// Puts which lines a hunk has of one of the texts.
-fn push_range(to: &mut Vec<u8>, start: usize, end: usize, len: usize) -> Result<(), AllocError> {
-    let end = end.min(len);
-    let start = start.min(end);
-    let count = end - start;
-    if count == 1 {
-        return push_number(to, end as u64);
-    }
-    push_number(
-        to,
-        if count == 0 {
-            start as u64
-        } else {
-            (start as u64).saturating_add(1)
-        },
-    )?;
-    push(to, b",")?;
-    push_number(to, count as u64)
-}
-
-/// The end of the lines from here on that are all changed, or all unchanged.
-fn end_of_run(lines: &Lines<'_>, start: usize, end: usize) -> usize {
-    let is_changed = lines.is_changed(start);
-    for number in start..end {
-        if lines.is_changed(number) != is_changed {
-            return number;
-        }
-    }
-    end
-}
-
-/// Puts lines that are all changed, or all unchanged.
-fn push_run(
-    to: &mut Vec<u8>,
-    lines: &Lines<'_>,
-    start: usize,
-    end: usize,
-) -> Result<(), AllocError> {
-    if !lines.is_changed(start) {
-        for number in start..end {
-            push_line(to, b" ", line_at(lines.old.as_slice(), number))?;
-        }
-        return Ok(());
-    }
-    for number in start..end {
-        push_line(to, b"-", line_at(lines.old.as_slice(), number))?;
-    }
-    for number in start..end {
-        push_line(to, b"+", line_at(lines.new.as_slice(), number))?;
-    }
-    Ok(())
-}
-
-/// Puts the lines of a hunk.
-fn push_hunk(
-    to: &mut Vec<u8>,
-    lines: &Lines<'_>,
-    start: usize,
-    end: usize,
-) -> Result<(), AllocError> {
-    push(to, b"@@ -")?;
-    push_range(to, start, end, lines.old.len())?;
-    push(to, b" +")?;
-    push_range(to, start, end, lines.new.len())?;
-    push(to, b" @@\n")?;
-    let mut at = start;
-    for _ in start..end {
-        if at >= end {
-            break;
-        }
-        let next = end_of_run(lines, at, end);
-        push_run(to, lines, at, next)?;
-        at = next;
-    }
-    Ok(())
-}
-
-/// The next changed line, or the number of lines.
-fn next_change(lines: &Lines<'_>, from: usize) -> usize {
-    for number in from..lines.len() {
-        if lines.is_changed(number) {
+/// The end of the run of changed lines from here on.
+#[tactic(auto, using(crate::proofs::DiffLemmas::end_goes, crate::proofs::DiffLemmas::end_stops, crate::proofs::DiffLemmas::end_done))]
+fn end_of_change(lines: &Lines<'_>, start: usize) -> usize
+    requires { start ≤ count lines.now }
+    ensures end { result ≡ start + run_length (is_changed lines.now) start (count lines.now - start) }
+    ensures after { start ≤ result }
+    ensures within { result ≤ count lines.now }
+{
+    for number in start..lines.len() {
+        if !lines.is_changed(number) {
             return number;
         }
     }
     lines.len()
 }
 
-/// The last changed line of the hunk in which this changed line stands.
-fn last_change(lines: &Lines<'_>, first: usize) -> usize {
-    let mut last = first;
-    for number in first..lines.len() {
-        if number - first.min(number) > 0 && number.saturating_sub(last) > 2 * AROUND + 1 {
-            return last;
-        }
-        if lines.is_changed(number) {
-            last = number;
+/// The end of the run of shown lines from here on.
+#[tactic(auto, using(crate::proofs::DiffLemmas::end_goes, crate::proofs::DiffLemmas::end_stops, crate::proofs::DiffLemmas::end_done))]
+fn end_of_hunk(lines: &Lines<'_>, start: usize) -> usize
+    requires { start ≤ count lines.now }
+    ensures end { result ≡ start + run_length (is_shown lines.now) start (count lines.now - start) }
+    ensures after { start ≤ result }
+    ensures within { result ≤ count lines.now }
+{
+    for number in start..lines.len() {
+        if !is_shown(lines, number) {
+            return number;
         }
     }
-    last
+    lines.len()
+}
+
+/// Puts a line, and says it where it has no LF.
+fn push_ended(to: &mut Vec<u8>, line: &[u8]) -> Result<(), AllocError>
+    ensures { OnOk result (to.new.items ≡ to.old.items ++ ended line.now) }
+{
+    push(to, line)?;
+    if line.ends_with(b"\n") {
+        return Ok(());
+    }
+    push(to, b"\n\\ No newline at end of file\n")
+}
+
+/// Puts a line, with a sign before it.
+fn push_line(to: &mut Vec<u8>, sign: &[u8], line: &[u8]) -> Result<(), AllocError>
+    ensures { OnOk result (to.new.items ≡ to.old.items ++ signed sign.now line.now) }
+{
+    if line.is_empty() {
+        return Ok(());
+    }
+    push(to, sign)?;
+    push_ended(to, line)
+}
+
+/// Puts the lines that go.
+#[tactic(auto, using(crate::proofs::DiffLemmas::each_goes, crate::proofs::DiffLemmas::each_done))]
+fn push_old(to: &mut Vec<u8>, lines: &Lines<'_>, start: usize, end: usize) -> Result<(), AllocError>
+    requires { start ≤ end }
+    ensures { OnOk result (to.new.items ≡ to.old.items ++ each (λ k. signed (codes "-") (line_at lines.now.old k)) start (end - start)) }
+{
+    for number in start..end {
+        push_line(to, b"-", lines.old(number))?;
+    }
+    Ok(())
+}
+
+/// Puts the lines that come.
+#[tactic(auto, using(crate::proofs::DiffLemmas::each_goes, crate::proofs::DiffLemmas::each_done))]
+fn push_new(to: &mut Vec<u8>, lines: &Lines<'_>, start: usize, end: usize) -> Result<(), AllocError>
+    requires { start ≤ end }
+    ensures { OnOk result (to.new.items ≡ to.old.items ++ each (λ k. signed (codes "+") (line_at lines.now.new k)) start (end - start)) }
+{
+    for number in start..end {
+        push_line(to, b"+", lines.new_at(number))?;
+    }
+    Ok(())
+}
+
+/// Puts a run of changed lines.
+fn push_change(to: &mut Vec<u8>, lines: &Lines<'_>, start: usize) -> Result<(), AllocError>
+    requires { start ≤ count lines.now }
+    ensures { OnOk result (to.new.items ≡ to.old.items ++ (each (λ k. signed (codes "-") (line_at lines.now.old k)) start (run_length (is_changed lines.now) start (count lines.now - start))
+        ++ each (λ k. signed (codes "+") (line_at lines.now.new k)) start (run_length (is_changed lines.now) start (count lines.now - start)))) }
+{
+    let end = end_of_change(lines, start);
+    push_old(to, lines, start, end)?;
+    push_new(to, lines, start, end)
+}
+
+/// Puts what stands at a line of a hunk.
+fn push_at(to: &mut Vec<u8>, lines: &Lines<'_>, number: usize) -> Result<(), AllocError>
+    requires { number < count lines.now }
+    ensures { OnOk result (to.new.items ≡ to.old.items ++ body_at lines.now number) }
+{
+    if !lines.is_changed(number) {
+        return push_line(to, b" ", lines.old(number));
+    }
+    if !begins_change(lines, number) {
+        return Ok(());
+    }
+    push_change(to, lines, number)
+}
+
+/// Puts which lines a hunk has, from one number up to another.
+fn push_range_by(to: &mut Vec<u8>, start: usize, end: usize) -> Result<(), AllocError>
+    requires { start ≤ end }
+    ensures { OnOk result (to.new.items ≡ to.old.items ++ range_by start end) }
+{
+    let count = end - start;
+    if count == 1 {
+        return push_number(to, end as u64);
+    }
+    let first = if count == 0 { start } else { start + 1 };
+    push_number(to, first as u64)?;
+    push(to, b",")?;
+    push_number(to, count as u64)
+}
+
+/// Puts which lines a hunk has of a text of this many.
+fn push_range(to: &mut Vec<u8>, start: usize, end: usize, len: usize) -> Result<(), AllocError>
+    ensures { OnOk result (to.new.items ≡ to.old.items ++ range start end len) }
+{
+    let end = end.min(len);
+    push_range_by(to, start.min(end), end)
+}
+
+/// Puts the head of a hunk.
+fn push_head(
+    to: &mut Vec<u8>,
+    lines: &Lines<'_>,
+    start: usize,
+    end: usize,
+) -> Result<(), AllocError>
+    ensures { OnOk result (to.new.items ≡ to.old.items ++ head lines.now start end) }
+{
+    push(to, b"@@ -")?;
+    push_range(to, start, end, lines.old_len())?;
+    push(to, b" +")?;
+    push_range(to, start, end, lines.new_len())?;
+    push(to, b" @@\n")
+}
+
+/// Puts the lines of a hunk.
+#[tactic(auto, using(crate::proofs::DiffLemmas::each_goes, crate::proofs::DiffLemmas::each_done))]
+fn push_body(
+    to: &mut Vec<u8>,
+    lines: &Lines<'_>,
+    start: usize,
+    end: usize,
+) -> Result<(), AllocError>
+    requires order { start ≤ end }
+    requires within { end ≤ count lines.now }
+    ensures { OnOk result (to.new.items ≡ to.old.items ++ each (body_at lines.now) start (end - start)) }
+{
+    for number in start..end {
+        push_at(to, lines, number)?;
+    }
+    Ok(())
+}
+
+/// Puts the hunk that begins at this line, if one does.
+fn push_hunk_at(to: &mut Vec<u8>, lines: &Lines<'_>, number: usize) -> Result<(), AllocError>
+    requires { number < count lines.now }
+    ensures { OnOk result (to.new.items ≡ to.old.items ++ hunk_at lines.now number) }
+{
+    if !begins_hunk(lines, number) {
+        return Ok(());
+    }
+    let end = end_of_hunk(lines, number);
+    push_head(to, lines, number, end)?;
+    push_body(to, lines, number, end)
 }
 
 /// Puts all hunks.
-fn push_hunks(to: &mut Vec<u8>, lines: &Lines<'_>) -> Result<(), AllocError> {
-    let mut from = 0;
-    let len = lines.len();
-    for _ in 0..len {
-        let first = next_change(lines, from);
-        if first >= len {
-            break;
-        }
-        let last = last_change(lines, first);
-        let end = last.saturating_add(1 + AROUND).min(len);
-        push_hunk(to, lines, first.saturating_sub(AROUND), end)?;
-        from = last.saturating_add(1);
+#[tactic(auto, using(crate::proofs::DiffLemmas::each_goes, crate::proofs::DiffLemmas::each_done))]
+fn push_hunks(to: &mut Vec<u8>, lines: &Lines<'_>) -> Result<(), AllocError>
+    ensures { OnOk result (to.new.items ≡ to.old.items ++ hunks lines.now) }
+{
+    for number in 0..lines.len() {
+        push_hunk_at(to, lines, number)?;
     }
     Ok(())
 }
 
 /// What changes from one text to the other, under a name.
-pub fn diff(alloc: Global, name: &[u8], old: &[u8], new: &[u8]) -> Result<Vec<u8>, AllocError> {
-    let lines = Lines {
-        old: lines_of(alloc, old)?,
-        new: lines_of(alloc, new)?,
-    };
+pub fn diff(alloc: Global, name: &[u8], old: &[u8], new: &[u8]) -> Result<Vec<u8>, AllocError>
+    ensures { IfOk result (λ text. text.items ≡ diff_of name.now old.now new.now) }
+{
+    let old = lines_of(alloc, old)?;
+    let new = lines_of(alloc, new)?;
+    let lines = Lines::new(old, new);
     let mut to = Vec::new(alloc);
     push(&mut to, b"--- old/")?;
     push(&mut to, name)?;

@@ -1,4 +1,4 @@
-//! The comparisons of these tests, each proved once. A failure tells `what` it was at.
+//! The comparisons of these tests, each proved once. A failure says `what` it was at.
 
 use std::process::Abort;
 

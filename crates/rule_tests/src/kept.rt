@@ -41,7 +41,7 @@ fn push_all(all: &mut String, texts: &[&str]) -> Result<(), AllocError> {
     Ok(())
 }
 
-/// That all rules report this, a text behind the other.
+/// That all rules report this, one text after another.
 fn reports(
     rt: &impl Abort,
     alloc: Global,
@@ -66,7 +66,7 @@ fn add_reported(
     Ok(reports(rt, alloc, facts, wanted)?)
 }
 
-/// A file with its number, and what is reported when it is added behind those before it.
+/// A file with its number, and what is reported when it is added after those before it.
 static KEPT: [((u32, &str), &[&str]); 4] = [
     ((0, FIRST), &[OF_FIRST]),
     ((7, SECOND), &[OF_FIRST, OF_SECOND]),

@@ -1,4 +1,4 @@
-//! The comparisons of the tests and the calls of devices, each proved once. A failure tells `what` it was at.
+//! The comparisons of the tests and the calls of devices, each proved once. A failure says `what` it was at.
 
 use hcl_source::{ByteSink, ByteSource, Failed, WriteFault, write_fully};
 use std::fmt::Debug;

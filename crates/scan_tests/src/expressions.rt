@@ -1,4 +1,4 @@
-//! What is found at the front of an expression, and behind a front that says where it stands.
+//! What is found at the front of an expression, and after a front that says where it stands.
 
 use crate::checks::same_text;
 use crate::shown::{push_error, push_length};
@@ -7,12 +7,12 @@ use std::alloc::{AllocError, Global};
 use std::process::Abort;
 use std::test::Fail;
 
-// Behind a dot, and in an expression of a heredoc.
+// After a dot, and in an expression of a heredoc.
 const DOT: &str = "a.";
 
 const HEREDOC: &str = "<<E\n${a";
 
-/// A front, what is behind it, and what is found there.
+/// A front, what is after it, and what is found there.
 static ROWS: [(&str, &str, &str); 61] = [
     // identifiers
     ("", "a.1e5", "Ident 1"),
@@ -106,20 +106,20 @@ fn push_answer(
     }
 }
 
-/// What is found behind the front.
+/// What is found after the front.
 fn found(alloc: Global, front: &str, source: &Source) -> Result<String, Fail> {
     let mut line = String::new(alloc);
     push_answer(&mut line, &scan(alloc, source), front.len())?;
     Ok(line)
 }
 
-/// A front and what is behind it, as a source.
+/// A front and what is after it, as a source.
 fn source_of(alloc: Global, front: &str, rest: &str) -> Result<Source, Fail> {
     let text = format!(in alloc; "{front}{rest}")?;
     Ok(Source::from_bytes(alloc, text.as_bytes())?)
 }
 
-/// That this is found behind each front.
+/// That this is found after each front.
 fn finds(rt: &impl Abort, alloc: Global, rows: &[(&str, &str, &str)]) -> Result<(), Fail> {
     for (front, rest, wanted) in rows {
         let source = source_of(alloc, *front, *rest)?;

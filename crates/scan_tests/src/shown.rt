@@ -10,7 +10,7 @@ pub(crate) fn push_length(line: &mut String, token: &Token<'_>) -> Result<(), Al
     write!(line, "{kind:?} {length}")
 }
 
-/// A token's kind and place, behind a `!` where it is inside a heredoc.
+/// A token's kind and place, after a `!` where it is inside a heredoc.
 fn push_place(line: &mut String, token: &Token<'_>) -> Result<(), AllocError> {
     let mark = if token.inside_heredoc { "!" } else { "" };
     let kind = token.kind;

@@ -365,7 +365,7 @@ fn lines<'a>(front: &'a str, part: &'a str, middle: &'a str, back: &'a str) -> N
     }
 }
 
-/// Puts a part so many times behind the text.
+/// Puts a part so many times after the text.
 fn repeat(text: &mut String, part: &str, count: usize) -> Result<(), AllocError> {
     for _ in 0..count {
         text.push_str(part)?;
@@ -373,7 +373,7 @@ fn repeat(text: &mut String, part: &str, count: usize) -> Result<(), AllocError>
     Ok(())
 }
 
-/// Puts a nest of so many parts behind the text.
+/// Puts a nest of so many parts after the text.
 fn write_nest(text: &mut String, nest: Nest<'_>, count: usize) -> Result<(), AllocError> {
     text.push_str(nest.front)?;
     repeat(text, nest.part, count)?;

@@ -48,7 +48,7 @@ fn has_outline(rt: &impl Abort, alloc: Global, text: &str, wanted: &[Item]) -> R
     Ok(())
 }
 
-/// The texts of the labels among the items, each with a comma behind it.
+/// The texts of the labels among the items, each with a comma after it.
 fn labels(
     alloc: Global,
     accepted: &Accepted<'_, '_>,

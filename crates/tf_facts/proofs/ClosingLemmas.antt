@@ -12,7 +12,7 @@ use Rattle.hcl_grammar.specs.Items.{deepen, is_closed}
 use Rattle.hcl_grammar.specs.Numbered.{is_passed_over}
 use Rattle.tf_facts.specs.Patterns.{begins_with_close, behind_closer}
 use Rattle.tf_facts.specs.Inner.Seen.{seen_from}
-use Rattle.tf_facts.specs.Inner.Closings.{AreAhead, AreClosings, closes_before_quote, quote_from}
+use Rattle.tf_facts.specs.Inner.Closings.{AreAhead, closes_before_quote, quote_from}
 use Rattle.tf_facts.proofs.SeenLemmas.{seen_here, seen_none, seen_past}
 
 -- what a kind does to the depth
@@ -94,50 +94,3 @@ module _ (ts : List Lexeme) (n : ℕ) (t : Lexeme) (e : slice_get ts n ≡ Some 
       by (suc k) =
           let s : suc k - 1 ≡ k = omega arith in
           h k ∙ sym (shut (suc k) ∙ ap (λ j. begins_with_close (behind_closer j (seen_from ts (n + 1)))) s)
-
-  pub quote_here : (quote : Bool) → quote ≡ quote_from ts (n + 1) → cond (is_passed_over t.kind) quote (is kind.QuoteClose t.kind) ≡ quote_from ts n
-  quote_here quote known = by (is_passed_over t.kind) refl
-    where
-      by : (b : Bool) → is_passed_over t.kind ≡ b → cond b quote (is kind.QuoteClose t.kind) ≡ quote_from ts n
-      by true passed = known ∙ ap begins_with_close (sym (seen_past ts n t e passed))
-      by false seen = ap begins_with_close (sym (seen_here ts n t e seen))
-
--- ---- the table
-
-pub record IsFilled (ts : List Lexeme) (table ahead : List Bool) (quote : Bool) (n : ℕ) : Type 0 where
-  pub len : length table ≡ length ts
-  pub within : n ≤ length ts
-  pub behind : AreAhead ts ahead n
-  pub next : quote ≡ quote_from ts n
-  pub each : (i : ℕ) → n ≤ i → i < length ts → get_or table i false ≡ closes_before_quote ts 0 (i + 1)
-
-pub starts : (ts : List Lexeme) (count : ℕ) (table : List Bool) → count ≡ length ts → table ≡ replicate count false → IsFilled ts table [] false count
-starts ts count table is made = record {
-  len = ap length made ∙ length-replicate count false ∙ is;
-  within = omega (arith, is);
-  behind = λ d. sym (ap (λ s. begins_with_close (behind_closer d s)) (seen_none ts count (omega (arith, is))));
-  next = sym (ap begins_with_close (seen_none ts count (omega (arith, is))));
-  each = λ i h k. absurd (omega (arith, h, k, is));
-}
-
-pub fills : (ts : List Lexeme) (old new : List Bool) (before ahead : List Bool) (was quote : Bool) (last n : ℕ) (x : Bool) → last ≡ n + 1 → IsFilled ts old before was last → AreAhead ts ahead n → quote ≡ quote_from ts n → x ≡ get_or (reverse before) 0 false → new ≡ set old n x
-    → IsFilled ts new ahead quote n
-fills ts old new before ahead was quote last n x at h next known top is = record {
-  len = ap length is ∙ length-set old n x ∙ h.len;
-  within = omega (arith, at, h.within);
-  behind = next;
-  next = known;
-  each = λ i from below. ap (λ r. get_or r i false) is ∙ by i from below (cases_eq i n);
-}
-  where
-    here : n < length old
-    here = omega (arith, at, h.within, h.len)
-
-    by : (i : ℕ) → n ≤ i → i < length ts → (i ≡ n) ⊎ (i ≢ n) → get_or (set old n x) i false ≡ closes_before_quote ts 0 (i + 1)
-    by i from below (inl e) =
-        ap (λ k. get_or (set old n x) k false) e ∙ get_or-set_same old n x false here ∙ top ∙ h.behind 0
-        ∙ ap (λ k. closes_before_quote ts 0 k) (at ∙ ap (λ k. k + 1) (sym e))
-    by i from below (inr ne) = get_or-set_other old n i x false ne ∙ h.each i (omega (arith, at, from, ne)) below
-
-pub filled : (ts : List Lexeme) (table ahead : List Bool) (quote : Bool) (n : ℕ) → n ≤ 0 → IsFilled ts table ahead quote n → AreClosings ts table
-filled ts table ahead quote n h f = record { len = f.len; each = λ i below. f.each i (omega (arith, h)) below }

@@ -1,6 +1,6 @@
 -- A walk that puts references into a set, token by token.
-use Rattle.std.proofs.Common.{◌≡◌, ◌∙◌, ap, sym, refl, ℕ, ◌+◌, ◌≤◌, Bool, true, false, cond, List, [], ◌∷◌, ◌++◌, length, append_assoc, subst}
-use Rattle.std.specs.Prelude.{Some, slice_get}
+use Rattle.std.proofs.Common.{◌≡◌, ◌∙◌, ap, sym, refl, drop, ℕ, ◌+◌, ◌≤◌, Bool, true, false, cond, List, [], ◌∷◌, ◌++◌, length, append_assoc, subst}
+use Rattle.std.specs.Prelude.{None, Some, slice_get}
 use Rattle.std.specs.List.{list_any}
 use Rattle.std.specs.Str.{bytes_eq}
 use Rattle.std.proofs.lemmas.List.{append-nil}
@@ -10,7 +10,7 @@ use Rattle.hcl_tokens.specs.Kinds.{is}
 use Rattle.hcl_tokens.specs.declared.token.Kind.TheVariants as kind
 use Rattle.hcl_tokens.specs.Lexemes.{Lexeme}
 use Rattle.hcl_grammar.specs.Numbered.{is_passed_over}
-use Rattle.tf_facts.specs.References.{Own, reference_at, references_from, unless_own}
+use Rattle.tf_facts.specs.References.{Own, by_name, name_behind, reference_at, references_from, unless_own}
 use Rattle.tf_facts.specs.Inner.Seen.{number_of, seen_from}
 use Rattle.tf_facts.specs.OwnBlocks.{ArePassed, Extends}
 use Rattle.tf_facts.proofs.SeenLemmas.{seen_here, seen_past, seen_none}
@@ -41,7 +41,7 @@ module _ (own : List Own) (ts : List Lexeme) (old : List (List ℕ)) where
     kept = h.kept;
   }
 
-  -- behind a dot nothing is put in
+  -- after a dot nothing is put in
   pub skips : (new : List (List ℕ)) (n : ℕ) (t : Lexeme) → slice_get ts n ≡ Some t → is_passed_over t.kind ≡ false → IsCollected own ts old new true n
       → IsCollected own ts old new (is kind.Dot t.kind) (n + 1)
   skips new n t e seen h = record {
@@ -89,3 +89,10 @@ module _ (own : List Own) (ts : List Lexeme) (old : List (List ℕ)) where
   collected new next into after dot n t e seen free is same put h =
       let P : Bool → Type 0 = λ b. IsCollected own ts old new b n in
       rw same (rw is (puts new next n t e seen put (subst P free h)))
+
+  -- a token that is no identifier begins no reference
+  pub no_word : (new : List (List ℕ)) (after dot : Bool) (n : ℕ) (t : Lexeme) → slice_get ts n ≡ Some t → is_passed_over t.kind ≡ false → is kind.Ident t.kind ≡ false → after ≡ false → dot ≡ is kind.Dot t.kind
+      → IsCollected own ts old new after n → IsCollected own ts old new dot (n + 1)
+  no_word new after dot n t e seen none free is h =
+      collected new new new after dot n t e seen free is refl
+      (sym (ap (λ b. insert_all bytes_eq new (unless_own own n (cond b (by_name t.text (name_behind (seen_from ts (n + 1))) (drop 2 (seen_from ts (n + 1)))) None))) none)) h

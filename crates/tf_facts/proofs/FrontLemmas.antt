@@ -32,14 +32,14 @@ module _ (passes : ℕ → Bool) (text : List ℕ) (n : ℕ) (h : n < length tex
       rear ∙ ap (λ b. reverse (cond b (without_front passes (reverse (take n text))) (get_or text n 0 ∷ reverse (take n text)))) e
       ∙ ap reverse (sym last) ∙ reverse-reverse (take (n + 1) text)
 
--- the same with the number of the byte behind
+-- the same with the number of the byte after
 pub end_past_at : (passes : ℕ → Bool) (text : List ℕ) (end n : ℕ) → end ≡ n + 1 → n < length text → passes (get_or text n 0) ≡ true → without_end passes (take end text) ≡ without_end passes (take n text)
 end_past_at passes text end n at h e = ap (λ k. without_end passes (take k text)) at ∙ end_past passes text n h e
 
 pub end_here_at : (passes : ℕ → Bool) (text : List ℕ) (end n : ℕ) → end ≡ n + 1 → n < length text → passes (get_or text n 0) ≡ false → without_end passes (take end text) ≡ take end text
 end_here_at passes text end n at h e = ap (λ k. without_end passes (take k text)) at ∙ end_here passes text n h e ∙ ap (λ k. take k text) (sym at)
 
--- ---- behind the first `?`
+-- ---- after the first `?`
 
 pub question_past : (text : List ℕ) (n : ℕ) → n < length text → (get_or text n 0 == 63) ≡ false → behind_question (drop n text) ≡ behind_question (drop (n + 1) text)
 question_past text n h e = ap behind_question (drop_here text n h) ∙ ap (λ b. cond b (drop (n + 1) text) (behind_question (drop (n + 1) text))) e

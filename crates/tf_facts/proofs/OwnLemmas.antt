@@ -91,7 +91,7 @@ apart_drop from zero own a = (from, a)
 apart_drop from (suc n) [] a = (from, tt)
 apart_drop from (suc n) (o ∷ own) a = apart_drop (max o.first o.end) n own a.1
 
--- where the next block ends behind the token, it alone decides
+-- where the next block ends after the token, it alone decides
 pub decides : (blocks : List OwnBlock) (next number : ℕ) (o : OwnBlock) (name : List ℕ) → slice_get blocks next ≡ Some o → number < o.end → Apart 0 (map own_of blocks) → ArePassed (map own_of blocks) next number
     → (nat_le o.first number && bytes_eq o.name.now name) ≡ is_own (map own_of blocks) number (variable_reference name)
 decides blocks next number o name e inside a p =
@@ -133,7 +133,7 @@ own_other own number (Variable n) h = absurd (h n refl)
 own_other own number (Local n) h = own_local own number n.now
 own_other own number (Data t n) h = own_data own number t.now n.now
 
--- ---- the blocks of a file stand one behind the other
+-- ---- the blocks of a file follow one another
 
 apart_from : (from later : ℕ) (own : List Own) → from ≤ later → Apart later own → Apart from own
 apart_from from later [] h a = tt

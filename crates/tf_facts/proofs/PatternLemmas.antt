@@ -1,14 +1,16 @@
--- The tokens from which on a pattern holds, one by one.
-use Rattle.std.proofs.Common.{◌≡◌, ◌∙◌, ap, sym, refl, true≢false, ℕ, suc, zero, ◌+◌, ◌<◌, ◌≤◌, arith, Bool, true, false, cond, List, [], ◌∷◌, ◌++◌, append_assoc, length}
+-- The patterns of tokens, from the last token to the first.
+use Rattle.std.proofs.Common.{◌≡◌, ◌∙◌, ap, sym, refl, ℕ, suc, zero, ◌+◌, ◌<◌, ◌≤◌, arith, Bool, true, false, cond, List, [], ◌∷◌, ◌++◌, length, reverse, get_or}
 use Rattle.std.specs.Prelude.{◌&&◌, Some, slice_get}
-use Rattle.std.proofs.lemmas.List.{append-nil}
+use Rattle.std.proofs.lemmas.List.{reverse-append, reverse-reverse}
 use Rattle.hcl_tokens.specs.Lexemes.{Lexeme}
 use Rattle.hcl_tokens.specs.declared.token.Kind.{Kind}
 use Rattle.hcl_tokens.specs.declared.token.Kind.TheVariants as kind
 use Rattle.hcl_grammar.specs.Numbered.{Numbered, is_passed_over}
 use Rattle.hcl_tokens.specs.Kinds.{is}
 use Rattle.tf_facts.specs.Patterns.{begins_with_close, behind_closer, is_index, is_wrapped, numbers_where}
+use Rattle.tf_facts.specs.Inner.Closings.{AreAhead, quote_from}
 use Rattle.tf_facts.specs.Inner.Seen.{number_of, seen_from}
+use Rattle.tf_facts.specs.declared.pattern.Ahead.{Ahead}
 use Rattle.tf_facts.proofs.SeenLemmas.{seen_here, seen_none, seen_past}
 
 pub there_is : (ts : List Lexeme) (n : ℕ) → n < length ts → (t : Lexeme) × (slice_get ts n ≡ Some t)
@@ -16,53 +18,115 @@ there_is [] n h = absurd (omega arith)
 there_is (t ∷ ts) zero h = (t, refl)
 there_is (t ∷ ts) (suc n) h = there_is ts n (omega arith)
 
--- what was found, with what is still to be found, is all of it
-abbrev pub AreFound : (List Numbered → Bool) → List Lexeme → List ℕ → ℕ → Type 0
-AreFound test ts found n = found ++ numbers_where test (seen_from ts n) ≡ numbers_where test (seen_from ts 0)
+-- ---- what is ahead
 
-module _ (test : List Numbered → Bool) (ts : List Lexeme) where
-  pub found_all : (found : List ℕ) (n : ℕ) → length ts ≤ n → AreFound test ts found n → found ≡ numbers_where test (seen_from ts 0)
-  found_all found n past h = sym (append-nil found) ∙ ap (λ s. found ++ numbers_where test s) (sym (seen_none ts n past)) ∙ h
+abbrev pub number_first : List Numbered → Bool
+number_first [] = false
+number_first (t ∷ ts) = is kind.Number t.kind
 
-  module _ (n : ℕ) (t : Lexeme) (e : slice_get ts n ≡ Some t) (unseen : is_passed_over t.kind ≡ true → test (number_of n t ∷ seen_from ts (n + 1)) ≡ false) where
-    step : (b : Bool) → test (number_of n t ∷ seen_from ts (n + 1)) ≡ b → numbers_where test (seen_from ts n) ≡ cond b (n ∷ []) [] ++ numbers_where test (seen_from ts (n + 1))
-    step b is = by (is_passed_over t.kind) refl
-      where
-        by : (v : Bool) → is_passed_over t.kind ≡ v → numbers_where test (seen_from ts n) ≡ cond b (n ∷ []) [] ++ numbers_where test (seen_from ts (n + 1))
-        by true passed =
-            ap (numbers_where test) (seen_past ts n t e passed)
-            ∙ ap (λ c. cond c (n ∷ []) [] ++ numbers_where test (seen_from ts (n + 1))) (sym (unseen passed) ∙ is)
-        by false seen =
-            ap (numbers_where test) (seen_here ts n t e seen)
-            ∙ ap (λ c. cond c (n ∷ []) [] ++ numbers_where test (seen_from ts (n + 1))) is
+abbrev pub wrapped_first : List Numbered → Bool
+wrapped_first [] = false
+wrapped_first (t ∷ ts) = is kind.InterpOpen t.kind && begins_with_close (behind_closer 0 ts)
 
-    pub finds : (found next : List ℕ) → test (number_of n t ∷ seen_from ts (n + 1)) ≡ true → next ≡ found ++ n ∷ [] → AreFound test ts found n → AreFound test ts next (n + 1)
-    finds found next is pushed h =
-        ap (λ r. r ++ numbers_where test (seen_from ts (n + 1))) pushed
-        ∙ append_assoc found (n ∷ []) (numbers_where test (seen_from ts (n + 1)))
-        ∙ ap (λ r. found ++ r) (sym (step true is))
-        ∙ h
+and_false : (b : Bool) → (b && false) ≡ false
+and_false true = refl
+and_false false = refl
 
-    pub skips : (found next : List ℕ) → test (number_of n t ∷ seen_from ts (n + 1)) ≡ false → next ≡ found → AreFound test ts found n → AreFound test ts next (n + 1)
-    skips found next is same h = ap (λ r. r ++ numbers_where test (seen_from ts (n + 1))) same ∙ ap (λ r. found ++ r) (sym (step false is)) ∙ h
+and_then : (a b c : Bool) → ((a && b) && c) ≡ (a && (b && c))
+and_then true b c = refl
+and_then false b c = refl
 
-passed_no_dot : (k : Kind) → is_passed_over k ≡ true → is kind.Dot k ≡ false
-passed_no_dot kind.Dot e = absurd (true≢false (sym e))
-passed_no_dot _ e = refl
+index_here : (t : Numbered) (rest : List Numbered) → is_index (t ∷ rest) ≡ (is kind.Dot t.kind && number_first rest)
+index_here t [] = sym (and_false (is kind.Dot t.kind))
+index_here t (x ∷ rest) = refl
 
-passed_no_quote : (k : Kind) → is_passed_over k ≡ true → is kind.QuoteOpen k ≡ false
-passed_no_quote kind.QuoteOpen e = absurd (true≢false (sym e))
-passed_no_quote _ e = refl
+wrapped_here : (t : Numbered) (rest : List Numbered) → is_wrapped (t ∷ rest) ≡ (is kind.QuoteOpen t.kind && wrapped_first rest)
+wrapped_here t [] = sym (and_false (is kind.QuoteOpen t.kind))
+wrapped_here t (x ∷ rest) = and_then (is kind.QuoteOpen t.kind) (is kind.InterpOpen x.kind) (begins_with_close (behind_closer 0 rest))
 
-no_and : (a b : Bool) → a ≡ false → (a && b) ≡ false
-no_and true b e = absurd (true≢false e)
-no_and false b e = refl
+-- what a token is to those before it
+abbrev pub seen_as : Kind → Bool → Ahead
+seen_as k closed = record { is_quote_close = is kind.QuoteClose k; is_number = is kind.Number k; is_wrapped = is kind.InterpOpen k && closed }
 
-pub index_unseen : (n : ℕ) (t : Lexeme) (rest : List Numbered) → is_passed_over t.kind ≡ true → is_index (number_of n t ∷ rest) ≡ false
-index_unseen n t [] passed = refl
-index_unseen n t (x ∷ xs) passed = no_and (is kind.Dot t.kind) (is kind.Number x.kind) (passed_no_dot t.kind passed)
+-- ---- the walk
 
-pub wrapped_unseen : (n : ℕ) (t : Lexeme) (rest : List Numbered) → is_passed_over t.kind ≡ true → is_wrapped (number_of n t ∷ rest) ≡ false
-wrapped_unseen n t [] passed = refl
-wrapped_unseen n t (x ∷ xs) passed =
-    ap (λ b. b && begins_with_close (behind_closer 0 xs)) (no_and (is kind.QuoteOpen t.kind) (is kind.InterpOpen x.kind) (passed_no_quote t.kind passed))
+-- a number more, where the test holds of its token
+found_more : (test : List Numbered → Bool) (t : Numbered) (rest : List Numbered) (b : Bool) (old new : List ℕ) → b ≡ test (t ∷ rest) → new ≡ old ++ cond b (t.number ∷ []) [] → reverse old ≡ numbers_where test rest
+    → reverse new ≡ numbers_where test (t ∷ rest)
+found_more test t rest b old new is pushed h =
+    ap reverse pushed
+    ∙ reverse-append old (cond b (t.number ∷ []) [])
+    ∙ ap (λ r. r ++ reverse old) (turned b)
+    ∙ ap (λ r. cond b (t.number ∷ []) [] ++ r) h
+    ∙ ap (λ v. cond v (t.number ∷ []) [] ++ numbers_where test rest) is
+  where
+    turned : (v : Bool) → reverse (cond v (t.number ∷ []) []) ≡ cond v (t.number ∷ []) []
+    turned true = refl
+    turned false = refl
+
+pub record IsWalkedBack (ts : List Lexeme) (indexes interpolations : List ℕ) (openers : List Bool) (next : Ahead) (n : ℕ) : Type 0 where
+  pub within : n ≤ length ts
+  pub closes : AreAhead ts openers n
+  pub quote : next.is_quote_close ≡ quote_from ts n
+  pub number : next.is_number ≡ number_first (seen_from ts n)
+  pub wrapped : next.is_wrapped ≡ wrapped_first (seen_from ts n)
+  pub dots : reverse indexes ≡ numbers_where is_index (seen_from ts n)
+  pub quotes : reverse interpolations ≡ numbers_where is_wrapped (seen_from ts n)
+
+pub walk_begins : (ts : List Lexeme) (n : ℕ) (indexes interpolations : List ℕ) (openers : List Bool) (next : Ahead) → n ≡ length ts → indexes ≡ [] → interpolations ≡ [] → openers ≡ []
+    → next ≡ record { is_quote_close = false; is_number = false; is_wrapped = false } → IsWalkedBack ts indexes interpolations openers next n
+walk_begins ts n indexes interpolations openers next at is ips ops none = record {
+  within = omega (arith, at);
+  closes = λ d. ap (λ o. get_or (reverse o) d false) ops ∙ sym (ap (λ s. begins_with_close (behind_closer d s)) end);
+  quote = ap (λ (a : Ahead). a.is_quote_close) none ∙ sym (ap begins_with_close end);
+  number = ap (λ (a : Ahead). a.is_number) none ∙ sym (ap number_first end);
+  wrapped = ap (λ (a : Ahead). a.is_wrapped) none ∙ sym (ap wrapped_first end);
+  dots = ap reverse is ∙ sym (ap (numbers_where is_index) end);
+  quotes = ap reverse ips ∙ sym (ap (numbers_where is_wrapped) end);
+}
+  where
+    end : seen_from ts n ≡ []
+    end = seen_none ts n (omega (arith, at))
+
+module _ (ts : List Lexeme) (n : ℕ) (t : Lexeme) (e : slice_get ts n ≡ Some t) where
+  -- a token that is passed over
+  pub walk_past : (indexes interpolations : List ℕ) (openers : List Bool) (next : Ahead) → is_passed_over t.kind ≡ true → IsWalkedBack ts indexes interpolations openers next (n + 1) → IsWalkedBack ts indexes interpolations openers next n
+  walk_past indexes interpolations openers next passed h = record {
+    within = omega (arith, h.within);
+    closes = λ d. h.closes d ∙ ap (λ s. begins_with_close (behind_closer d s)) same;
+    quote = h.quote ∙ ap begins_with_close same;
+    number = h.number ∙ ap number_first same;
+    wrapped = h.wrapped ∙ ap wrapped_first same;
+    dots = h.dots ∙ ap (numbers_where is_index) same;
+    quotes = h.quotes ∙ ap (numbers_where is_wrapped) same;
+  }
+    where
+      same : seen_from ts (n + 1) ≡ seen_from ts n
+      same = sym (seen_past ts n t e passed)
+
+  -- a token that is seen
+  pub walk_over : (indexes dots interpolations quotes : List ℕ) (openers rest : List Bool) (next here : Ahead) (index alone closed : Bool) → is_passed_over t.kind ≡ false → IsWalkedBack ts indexes interpolations openers next (n + 1)
+      → index ≡ (is kind.Dot t.kind && next.is_number) → dots ≡ indexes ++ cond index (n ∷ []) []
+      → alone ≡ (is kind.QuoteOpen t.kind && next.is_wrapped) → quotes ≡ interpolations ++ cond alone (n ∷ []) []
+      → closed ≡ get_or (reverse openers) 0 false → AreAhead ts rest n
+      → here ≡ seen_as t.kind closed
+      → IsWalkedBack ts dots quotes rest here n
+  walk_over indexes dots interpolations quotes openers rest next here index alone closed seen h is_index_here dots_is is_alone quotes_is known behind made = record {
+    within = omega (arith, h.within);
+    closes = behind;
+    quote = ap (λ (a : Ahead). a.is_quote_close) made ∙ sym (ap begins_with_close cut);
+    number = ap (λ (a : Ahead). a.is_number) made ∙ sym (ap number_first cut);
+    wrapped = ap (λ (a : Ahead). a.is_wrapped) made ∙ ap (λ b. is kind.InterpOpen t.kind && b) (known ∙ h.closes 0) ∙ sym (ap wrapped_first cut);
+    dots = found_more is_index (number_of n t) (seen_from ts (n + 1)) index indexes dots
+        (is_index_here ∙ ap (λ b. is kind.Dot t.kind && b) h.number ∙ sym (index_here (number_of n t) (seen_from ts (n + 1)))) dots_is h.dots
+        ∙ sym (ap (numbers_where is_index) cut);
+    quotes = found_more is_wrapped (number_of n t) (seen_from ts (n + 1)) alone interpolations quotes
+        (is_alone ∙ ap (λ b. is kind.QuoteOpen t.kind && b) h.wrapped ∙ sym (wrapped_here (number_of n t) (seen_from ts (n + 1)))) quotes_is h.quotes
+        ∙ sym (ap (numbers_where is_wrapped) cut);
+  }
+    where
+      cut : seen_from ts n ≡ number_of n t ∷ seen_from ts (n + 1)
+      cut = seen_here ts n t e seen
+
+pub walk_ends : (ts : List Lexeme) (test : List Numbered → Bool) (n : ℕ) (found turned : List ℕ) → n ≡ 0 → reverse found ≡ numbers_where test (seen_from ts n) → turned ≡ reverse found → turned ≡ numbers_where test (seen_from ts 0)
+walk_ends ts test n found turned at h is = is ∙ h ∙ ap (λ k. numbers_where test (seen_from ts k)) at

@@ -54,7 +54,7 @@ by_name name =
     (λ rule found. (bytes_eq-Decides (rule_name rule) name).0 found)
     (first_found (λ rule. bytes_eq (rule_name rule) name) all_rules)
 
--- ---- a rule is told by its name
+-- ---- a rule is identified by its name
 
 abbrev both_ways : Bool → Bool → Bool
 both_ways true b = b

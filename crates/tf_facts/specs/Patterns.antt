@@ -11,7 +11,7 @@ abbrev pub is_index : List Numbered → Bool
 is_index (d ∷ n ∷ rest) = is kind.Dot d.kind && is kind.Number n.kind
 is_index _ = false
 
--- what stands behind the closer of what is open, where so many more are open
+-- what follows the closer of what is open, where so many more are open
 abbrev pub behind_closer : ℕ → List Numbered → List Numbered
 behind_closer depth [] = []
 behind_closer depth (t ∷ ts) = if is_closed depth && (closing t.kind == 1) then ts else behind_closer (deepen depth t.kind) ts

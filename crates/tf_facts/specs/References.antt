@@ -1,5 +1,5 @@
 -- The references of a file: `var . n`, `local . n` and `data . t . n`, where n and t are identifiers and the first word
--- isn't directly behind a dot, over the tokens without comments, blanks and newlines, heredocs included. A reference is
+-- isn't directly after a dot, over the tokens without comments, blanks and newlines, heredocs included. A reference is
 -- told by its text, with nothing around the dots. Left out is `var . n` inside the block of a variable declared as n.
 use Rattle.std.specs.Prelude.{ℕ, ◌++◌, ◌&&◌, Bool, true, false, List, [], ◌∷◌, Option, Some, None, codes, nat_le, nat_lt, filter, map, drop, if◌then◌else◌}
 use Rattle.std.specs.List.{list_any}
@@ -23,7 +23,7 @@ local_reference n = codes "local." ++ n
 abbrev pub data_reference : List ℕ → List ℕ → List ℕ
 data_reference t n = codes "data." ++ (t ++ (codes "." ++ n))
 
--- the identifier behind a dot with which these tokens begin
+-- the identifier after a dot with which these tokens begin
 abbrev pub name_behind : List Numbered → Option Numbered
 name_behind (d ∷ n ∷ rest) = if is kind.Dot d.kind && is kind.Ident n.kind then Some n else None
 name_behind _ = None
@@ -32,7 +32,7 @@ abbrev pub data_of : List ℕ → Option Numbered → Option (List ℕ)
 data_of t None = None
 data_of t (Some n) = Some (data_reference t n.text)
 
--- the reference of a first word and a name behind a dot, where `rest` follows
+-- the reference of a first word and a name after a dot, where `rest` follows
 abbrev pub reference_of : List ℕ → List ℕ → List Numbered → Option (List ℕ)
 reference_of word n rest =
     if bytes_eq word (codes "var") then Some (variable_reference n)

@@ -1,4 +1,4 @@
--- Line comments that silence issues. Behind its mark, `#` or `//`, and blanks, such a comment begins with
+-- Line comments that silence issues. After its mark, `#` or `//`, and blanks, such a comment begins with
 -- `tflint-ignore:`; what follows, up to a further `#`, has the names of rules between commas, or `all`. It silences
 -- the issues of these rules on its own line and on the line below. Our own choice, after TFLint's annotations.
 use Rattle.std.specs.Prelude.{ℕ, ◌==◌, ◌||◌, Bool, List, [], codes, length, drop, filter, if◌then◌else◌}

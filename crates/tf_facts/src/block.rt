@@ -13,7 +13,7 @@ use crate::names::Names;
 use crate::value::Value;
 use hcl_grammar::{Accepted, Item, Outline, label_text};
 
-/// The text of a label, and the number of the item behind it.
+/// The text of a label, and the number of the item after it.
 #[derive(Clone, Copy)]
 struct LabelAt<'s> {
     text: &'s str,
@@ -39,7 +39,7 @@ fn label_at<'s>(accepted: &Accepted<'_, 's>, items: &Outline, number: usize) -> 
     }
 }
 
-/// The labels of the block behind which this number stands.
+/// The labels of the block after which this number stands.
 pub fn names<'s>(accepted: &Accepted<'_, 's>, items: &Outline, from: usize) -> Names<'s>
     requires { items.now ≡ outline accepted.now.tokens }
     ensures { AreNames result (labels_in (numbered accepted.now.tokens) (drop from items.now)) }
@@ -80,7 +80,7 @@ fn is_named(accepted: &Accepted<'_, '_>, item: Item, wanted: &str) -> bool
     }
 }
 
-/// Whether the block behind which this number stands has an attribute of this name directly in its body.
+/// Whether the block after which this number stands has an attribute of this name directly in its body.
 pub fn has_attribute(
     accepted: &Accepted<'_, '_>,
     items: &Outline,
@@ -113,7 +113,7 @@ fn value_of_item(item: Item) -> Option<Value>
     }
 }
 
-/// The value of the first attribute of this name directly in the body of the block behind which this number stands.
+/// The value of the first attribute of this name directly in the body of the block after which this number stands.
 pub fn attribute_value(
     accepted: &Accepted<'_, '_>,
     items: &Outline,

@@ -68,10 +68,10 @@ fn comment_at(tokens: &Tokens<'_>, number: usize) -> Option<FoundComment>
     requires { number < length tokens.now.tokens }
     ensures { (t : Lexeme) → slice_get tokens.now.tokens number ≡ Some t → comment_listed result ≡ comment_of (number_of number t) }
 {
-    let token = tokens.get(number);
-    if !is_line_comment(token.kind) {
+    if !is_line_comment(tokens.kind(number)) {
         return None;
     }
+    let token = tokens.get(number);
     telling_comment(number, token.text.as_bytes())
 }
 

@@ -88,7 +88,7 @@ fn is_module(kind: DeclarationKind) -> bool
 }
 
 /// The source that the first attribute `source` of a block gives, where it is a plain text; `from` is the number of the
-/// item behind the block.
+/// item after the block.
 fn module_source(accepted: &Accepted<'_, '_>, items: &Outline, from: usize) -> Option<FoundSource>
     requires { items.now ≡ outline accepted.now.tokens }
     ensures { option_map found_source result ≡ module_source (numbered accepted.now.tokens) (attributes_in (numbered accepted.now.tokens) (drop from items.now)) }
@@ -122,7 +122,7 @@ fn source_in(
     None
 }
 
-/// What a top-level block other than `locals` declares, by the number of its kind and that of the item behind it.
+/// What a top-level block other than `locals` declares, by the number of its kind and that of the item after it.
 pub fn declared_by<'s>(
     accepted: &Accepted<'_, 's>,
     items: &Outline,
@@ -156,7 +156,7 @@ pub fn declared_by<'s>(
     })
 }
 
-/// Puts what is there behind what was found.
+/// Puts what is there after what was found.
 fn put<'s>(declared: Option<Declared<'s>>, found: &mut Vec<Declared<'s>>) -> Result<(), AllocError>
     ensures { OnOk result (map declaration found.new.items ≡ map declaration found.old.items ++ listed declared.entry) }
 {
@@ -189,7 +189,7 @@ fn local_of<'s>(accepted: &Accepted<'_, 's>, item: Item) -> Option<Declared<'s>>
     })
 }
 
-/// Puts the attributes of a `locals` block, by the number of the item behind it, behind what was found.
+/// Puts the attributes of a `locals` block, by the number of the item after it, after what was found.
 fn put_locals<'s>(
     accepted: &Accepted<'_, 's>,
     items: &Outline,
@@ -216,7 +216,7 @@ fn is_unlabelled(names: Names<'_>) -> bool
     matches!(names, Names::None)
 }
 
-/// Puts what a top-level block declares, by the number of its kind and that of the item behind it, behind what was found.
+/// Puts what a top-level block declares, by the number of its kind and that of the item after it, after what was found.
 fn put_block<'s>(
     accepted: &Accepted<'_, 's>,
     items: &Outline,
@@ -238,7 +238,7 @@ fn put_block<'s>(
     put_locals(accepted, items, from, found)
 }
 
-/// Puts what the item of this number declares behind what was found.
+/// Puts what the item of this number declares after what was found.
 fn put_item<'s>(
     accepted: &Accepted<'_, 's>,
     items: &Outline,

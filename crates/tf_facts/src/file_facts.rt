@@ -9,7 +9,7 @@ ghost use Rattle.tf_facts.specs.Found.{facts};
 use crate::comment::comments;
 use crate::declaration::declarations;
 use crate::found::{Declared, FoundComment};
-use crate::pattern::{legacy_indexes, wrapped_interpolations};
+use crate::pattern::found_patterns;
 use hcl_grammar::{Accepted, Outline};
 use std::alloc::{AllocError, Global};
 
@@ -33,13 +33,12 @@ pub fn facts_of<'s>(
 {
     let tokens = accepted.tokens();
     let comments = comments(alloc, tokens)?;
-    let indexes = legacy_indexes(alloc, tokens)?;
-    let interpolations = wrapped_interpolations(alloc, tokens)?;
+    let patterns = found_patterns(alloc, tokens)?;
     let declarations = declarations(alloc, accepted, items)?;
     Ok(FileFacts {
         comments,
-        indexes,
-        interpolations,
+        indexes: patterns.indexes,
+        interpolations: patterns.interpolations,
         declarations,
     })
 }

@@ -10,7 +10,7 @@ ghost use Rattle.tf_facts.specs.References.{own_blocks};
 ghost use Rattle.tf_facts.specs.Rules.{rank, rule_name};
 ghost use Rattle.tf_facts.specs.declared.rule.Rule.{Rule};
 
-/// The blocks of the variables of a file stand one behind the other.
+/// The blocks of the variables of a file follow one another.
 pub fn own_apart()
     ensures { (tokens : List Lexeme) → Apart 0 (own_blocks (numbered tokens)) }
 {}

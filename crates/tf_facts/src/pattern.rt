@@ -1,17 +1,21 @@
-//! The patterns of tokens that two rules report.
+//! The patterns of tokens that two rules report, found by one walk from the last token to the first. So what is ahead of
+//! a token is known when the walk comes to it:
+//!
+//! | Token | Ahead of it |
+//! |---|---|
+//! | a dot | a number: an index |
+//! | an opening quote | an interpolation that is closed directly before a closing quote: an interpolation alone |
+//! | what opens an interpolation | for what is open last, whether a closing quote is directly after its closer |
 
-ghost use Rattle.std.specs.Prelude.{◌≡◌, ◌<◌, ◌∷◌, ◌+◌, ◌^◌, length, slice_get, Some, IfOk};
+ghost use Rattle.std.specs.Prelude.{◌≡◌, ◌&&◌, ◌++◌, ◌∷◌, [], IfOk, OnOk, if◌then◌else◌};
 ghost use Rattle.hcl_tokens.specs.Kinds.{is};
-ghost use Rattle.hcl_tokens.specs.declared.token.Kind.TheVariants.{InterpOpen, Number, QuoteOpen};
-ghost use Rattle.hcl_tokens.specs.Lexemes.{Lexeme};
+ghost use Rattle.hcl_tokens.specs.declared.token.Kind.TheVariants.{InterpOpen, Number, QuoteClose, QuoteOpen};
 ghost use Rattle.hcl_grammar.specs.Numbered.{numbered};
-ghost use Rattle.tf_facts.specs.Patterns.{is_index, is_wrapped, legacy_indexes, wrapped_interpolations};
-ghost use Rattle.tf_facts.specs.Inner.Closings.{AreClosings};
-ghost use Rattle.tf_facts.specs.Inner.Seen.{number_of, seen_from};
+ghost use Rattle.tf_facts.specs.Patterns.{legacy_indexes, wrapped_interpolations};
 
-use crate::closing::closings;
+use crate::closing::{last_flag, pass};
 use crate::reference::is_dot;
-use crate::seen::next_seen;
+use crate::seen::is_passed_over;
 use hcl_tokens::{Kind, Tokens};
 use std::alloc::{AllocError, Global};
 
@@ -27,68 +31,90 @@ fn is_quote_open(kind: Kind) -> bool
     matches!(kind, Kind::QuoteOpen)
 }
 
+fn is_quote_close(kind: Kind) -> bool
+    ensures { result ≡ is QuoteClose kind }
+{
+    matches!(kind, Kind::QuoteClose)
+}
+
 fn is_interpolation(kind: Kind) -> bool
     ensures { result ≡ is InterpOpen kind }
 {
     matches!(kind, Kind::InterpOpen)
 }
 
-/// Whether a token is a dot before a number.
-fn is_index(tokens: &Tokens<'_>, number: usize) -> bool
-    requires within { number < length tokens.now.tokens }
-    requires small { number + 1 < 2 ^ 64 }
-    ensures { (t : Lexeme) → slice_get tokens.now.tokens number ≡ Some t → result ≡ is_index (number_of number t ∷ seen_from tokens.now.tokens (number + 1)) }
+/// What the first token that is seen from a place on is.
+#[derive(Clone, Copy)]
+struct Ahead {
+    is_quote_close: bool,
+    is_number: bool,
+    /// What opens an interpolation that is closed directly before a closing quote.
+    is_wrapped: bool,
+}
+
+/// What a token of this kind is, where it is known whether what it opens is closed directly before a closing quote.
+fn seen_as(kind: Kind, is_closed: bool) -> Ahead
+    ensures { result ≡ record { is_quote_close = is QuoteClose kind; is_number = is Number kind; is_wrapped = is InterpOpen kind && is_closed } }
 {
-    if !is_dot(tokens.get(number).kind) {
-        return false;
-    }
-    match next_seen(tokens, number + 1) {
-        Some(next) => is_number(next.kind),
-        None => false,
+    Ahead {
+        is_quote_close: is_quote_close(kind),
+        is_number: is_number(kind),
+        is_wrapped: is_interpolation(kind) & is_closed,
     }
 }
 
-/// Whether a token is a quote that holds one interpolation and nothing else.
-fn is_wrapped(tokens: &Tokens<'_>, closings: &[bool], number: usize) -> bool
-    requires within { number < length tokens.now.tokens }
-    requires closings { AreClosings tokens.now.tokens closings.now }
-    ensures { (t : Lexeme) → slice_get tokens.now.tokens number ≡ Some t → result ≡ is_wrapped (number_of number t ∷ seen_from tokens.now.tokens (number + 1)) }
+/// Puts a number last, where the test holds.
+#[inline(always)]
+fn push_if(list: &mut Vec<usize>, test: bool, number: usize) -> Result<(), AllocError>
+    ensures { OnOk result (list.new.items ≡ list.old.items ++ (if test then number ∷ [] else [])) }
 {
-    if !is_quote_open(tokens.get(number).kind) {
-        return false;
+    if !test {
+        return Ok(());
     }
-    let Some(next) = next_seen(tokens, number + 1) else {
-        return false;
+    list.push(number)?;
+    Ok(())
+}
+
+/// The numbers of the tokens from which on the patterns hold.
+#[derive(Drop)]
+pub struct Patterns {
+    /// Dots before numbers.
+    pub indexes: Vec<usize>,
+    /// Quotes of interpolations alone.
+    pub interpolations: Vec<usize>,
+}
+
+/// The patterns of a file, in order.
+pub fn found_patterns(alloc: Global, tokens: &Tokens<'_>) -> Result<Patterns, AllocError>
+    ensures indexes { IfOk result (λ found. found.indexes.items ≡ legacy_indexes (numbered tokens.now.tokens)) }
+    ensures interpolations { IfOk result (λ found. found.interpolations.items ≡ wrapped_interpolations (numbered tokens.now.tokens)) }
+{
+    let mut indexes = Vec::new(alloc);
+    let mut interpolations = Vec::new(alloc);
+    let mut openers = Vec::new(alloc);
+    let mut next = Ahead {
+        is_quote_close: false,
+        is_number: false,
+        is_wrapped: false,
     };
-    if !is_interpolation(next.kind) {
-        return false;
-    }
-    closings[next.number]
-}
-
-/// The numbers of the dots before numbers.
-pub fn legacy_indexes(alloc: Global, tokens: &Tokens<'_>) -> Result<Vec<usize>, AllocError>
-    ensures { IfOk result (λ found. found.items ≡ legacy_indexes (numbered tokens.now.tokens)) }
-{
-    let mut found = Vec::new(alloc);
-    for number in 0..tokens.len() {
-        if is_index(tokens, number) {
-            found.push(number)?;
+    let mut number = tokens.len();
+    while number > 0 {
+        number -= 1;
+        let kind = tokens.kind(number);
+        if is_passed_over(kind) {
+            continue;
         }
+        push_if(&mut indexes, is_dot(kind) & next.is_number, number)?;
+        let is_alone = is_quote_open(kind) & next.is_wrapped;
+        push_if(&mut interpolations, is_alone, number)?;
+        let is_closed = last_flag(&openers);
+        pass(tokens, number, next.is_quote_close, &mut openers)?;
+        next = seen_as(kind, is_closed);
     }
-    Ok(found)
-}
-
-/// The numbers of the quotes of interpolations alone.
-pub fn wrapped_interpolations(alloc: Global, tokens: &Tokens<'_>) -> Result<Vec<usize>, AllocError>
-    ensures { IfOk result (λ found. found.items ≡ wrapped_interpolations (numbered tokens.now.tokens)) }
-{
-    let closings = closings(alloc, tokens)?;
-    let mut found = Vec::new(alloc);
-    for number in 0..tokens.len() {
-        if is_wrapped(tokens, &closings, number) {
-            found.push(number)?;
-        }
-    }
-    Ok(found)
+    indexes.reverse();
+    interpolations.reverse();
+    Ok(Patterns {
+        indexes,
+        interpolations,
+    })
 }

@@ -1,6 +1,7 @@
 //! References: `var.n`, `local.n` and `data.t.n`.
 
-ghost use Rattle.std.specs.Prelude.{◌≡◌, ◌<◌, ◌≤◌, ◌+◌, ◌^◌, ◌∷◌, drop, length, MatchOption, None};
+ghost use Rattle.std.specs.Prelude.{◌≡◌, ◌<◌, ◌≤◌, ◌+◌, ◌^◌, ◌∷◌, ◌||◌, codes, drop, length, MatchOption, None};
+ghost use Rattle.std.specs.Str.{bytes_eq};
 ghost use Rattle.std.specs.Option.{option_map};
 ghost use Rattle.hcl_tokens.specs.Kinds.{is};
 ghost use Rattle.hcl_tokens.specs.declared.token.Kind.TheVariants.{Dot, Ident};
@@ -26,13 +27,14 @@ pub fn is_dot(kind: Kind) -> bool
     matches!(kind, Kind::Dot)
 }
 
-fn is_ident(kind: Kind) -> bool
+/// Whether the kind is an identifier.
+pub fn is_ident(kind: Kind) -> bool
     ensures { result ≡ is Ident kind }
 {
     matches!(kind, Kind::Ident)
 }
 
-/// The identifier behind a dot with which the tokens from a number on begin.
+/// The identifier after a dot with which the tokens from a number on begin.
 fn name_behind<'s>(tokens: &Tokens<'s>, from: usize) -> Option<Seen<'s>>
     requires { from ≤ length tokens.now.tokens }
     ensures { MatchOption result (name_behind (seen_from tokens.now.tokens from) ≡ None) (IsBehind tokens.now.tokens from) }
@@ -52,6 +54,13 @@ fn name_behind<'s>(tokens: &Tokens<'s>, from: usize) -> Option<Seen<'s>>
     Some(name)
 }
 
+/// Whether a reference can begin with this word.
+fn is_leading(word: &str) -> bool
+    ensures { result ≡ (bytes_eq word.now (codes "var") || bytes_eq word.now (codes "local") || bytes_eq word.now (codes "data")) }
+{
+    word == "var" || word == "local" || word == "data"
+}
+
 /// The reference that begins with a token.
 pub fn reference_at<'s>(tokens: &Tokens<'s>, word: Seen<'s>) -> Option<Reference<'s>>
     requires within { word.number < length tokens.now.tokens }
@@ -59,6 +68,9 @@ pub fn reference_at<'s>(tokens: &Tokens<'s>, word: Seen<'s>) -> Option<Reference
     ensures { option_map spelled result ≡ reference_at (numbered_of word.entry ∷ seen_from tokens.now.tokens (word.entry.number + 1)) }
 {
     if !is_ident(word.kind) {
+        return None;
+    }
+    if !is_leading(word.text) {
         return None;
     }
     let Some(name) = name_behind(tokens, word.number + 1) else {

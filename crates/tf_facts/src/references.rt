@@ -11,20 +11,35 @@ ghost use Rattle.tf_facts.specs.Inner.Spelled.{spelled};
 ghost use Rattle.tf_facts.specs.OwnBlocks.{own_of, Apart, ArePassed, Extends, IsAhead};
 
 use crate::own_block::OwnBlock;
-use crate::reference::{Reference, is_dot, reference_at};
+use crate::reference::{Reference, is_dot, is_ident, reference_at};
 use crate::seen::{Seen, is_passed_over};
 use crate::text_set::TextSet;
 use hcl_tokens::Tokens;
 use std::alloc::{AllocError, Global};
 
-/// The text by which a reference is told.
-fn spelled(alloc: Global, reference: Reference<'_>) -> Result<String, AllocError>
-    ensures { IfOk result (λ text. string_bytes text ≡ spelled reference.entry) }
+/// Puts the text that identifies a reference in place of another, whose room it takes.
+fn spell(reference: Reference<'_>, text: &mut String) -> Result<(), AllocError>
+    ensures { OnOk result (string_bytes text.new ≡ spelled reference.entry) }
 {
+    text.clear();
     match reference {
-        Reference::Variable(name) => format!(in alloc; "var.{name}"),
-        Reference::Local(name) => format!(in alloc; "local.{name}"),
-        Reference::Data(kind, name) => format!(in alloc; "data.{kind}.{name}"),
+        Reference::Variable(name) => {
+            text.push_str("var.")?;
+            text.push_str(name)?;
+            Ok(())
+        }
+        Reference::Local(name) => {
+            text.push_str("local.")?;
+            text.push_str(name)?;
+            Ok(())
+        }
+        Reference::Data(kind, name) => {
+            text.push_str("data.")?;
+            text.push_str(kind)?;
+            text.push_str(".")?;
+            text.push_str(name)?;
+            Ok(())
+        }
     }
 }
 
@@ -63,7 +78,7 @@ fn passed(blocks: &[OwnBlock<'_>], from: usize, number: usize) -> usize
 }
 
 /// Whether a reference at a token stands in the block of the variable that it names. Blocks before `next` end at or
-/// before the token, and the blocks stand one behind the other, so no other block is asked.
+/// before the token, and the blocks follow one another, so no other block is asked.
 fn is_own(blocks: &[OwnBlock<'_>], next: usize, number: usize, reference: Reference<'_>) -> bool
     requires apart { Apart 0 (map own_of blocks.now) }
     requires passed { ArePassed (map own_of blocks.now) next number }
@@ -81,13 +96,15 @@ fn is_own(blocks: &[OwnBlock<'_>], next: usize, number: usize, reference: Refere
     begins_before(block, number, name)
 }
 
-/// Puts the reference that begins with a token into the set, unless it stands in the block of its own variable.
+/// Puts the reference that begins with a token into the set, unless it stands in the block of its own variable. Its text
+/// is spelled in the room of another's, so that one that is known takes no memory.
 fn put(
     alloc: Global,
     tokens: &Tokens<'_>,
     blocks: &[OwnBlock<'_>],
     next: usize,
     word: Seen<'_>,
+    text: &mut String,
     into: &mut TextSet,
 ) -> Result<(), AllocError>
     requires within { word.number < length tokens.now.tokens }
@@ -105,12 +122,12 @@ fn put(
     if is_own(blocks, next, word.number, reference) {
         return Ok(());
     }
-    let text = spelled(alloc, reference)?;
-    into.insert(text)
+    spell(reference, text)?;
+    into.insert_copy(alloc, text.as_str())
 }
 
-/// Puts the references of the tokens into the set, in order; `blocks` are those of variables, one behind the other. On
-/// refusal the set may have some of them behind what it had.
+/// Puts the references of the tokens into the set, in order; `blocks` are those of variables, one after another. On
+/// refusal the set may have some of them after what it had.
 pub fn collect(
     alloc: Global,
     tokens: &Tokens<'_>,
@@ -123,21 +140,28 @@ pub fn collect(
 {
     let mut after_dot = false;
     let mut next = 0;
+    let mut text = String::new(alloc);
     for number in 0..tokens.len() {
-        let token = tokens.get(number);
-        if is_passed_over(token.kind) {
+        let kind = tokens.kind(number);
+        if is_passed_over(kind) {
+            continue;
+        }
+        let is_behind_dot = after_dot;
+        after_dot = is_dot(kind);
+        if is_behind_dot {
+            continue;
+        }
+        if !is_ident(kind) {
             continue;
         }
         next = passed(blocks, next, number);
-        if !after_dot {
-            let word = Seen {
-                number,
-                kind: token.kind,
-                text: token.text,
-            };
-            put(alloc, tokens, blocks, next, word, into)?;
-        }
-        after_dot = is_dot(token.kind);
+        let token = tokens.get(number);
+        let word = Seen {
+            number,
+            kind: token.kind,
+            text: token.text,
+        };
+        put(alloc, tokens, blocks, next, word, &mut text, into)?;
     }
     Ok(())
 }

@@ -30,8 +30,8 @@ pub fn next_seen<'s>(tokens: &Tokens<'s>, from: usize) -> Option<Seen<'s>>
     ensures { MatchOption result (seen_from tokens.now.tokens from ≡ []) (IsNextSeen tokens.now.tokens from) }
 {
     for number in from..tokens.len() {
-        let token = tokens.get(number);
-        if !is_passed_over(token.kind) {
+        if !is_passed_over(tokens.kind(number)) {
+            let token = tokens.get(number);
             return Some(Seen {
                 number,
                 kind: token.kind,

@@ -11,7 +11,7 @@ use crate::rule::{ALL_RULES, Rule, named};
 use crate::rule_set::RuleSet;
 use crate::texts::{begins, behind, cut, equals};
 
-/// What a silencing comment begins with, behind its mark and blanks.
+/// What a silencing comment begins with, after its mark and blanks.
 const KEYWORD: &[u8] = b"tflint-ignore:";
 
 fn is_blank(byte: u8) -> bool

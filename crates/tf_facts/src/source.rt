@@ -108,7 +108,7 @@ fn before_slashes(text: &[u8]) -> &[u8]
     text
 }
 
-/// What stands behind the first `?`, or nothing.
+/// What follows the first `?`, or nothing.
 fn behind_question(text: &[u8]) -> &[u8]
     ensures { result.now ≡ behind_question text.now }
 {
@@ -120,7 +120,7 @@ fn behind_question(text: &[u8]) -> &[u8]
     &text[text.len()..]
 }
 
-/// What stands behind this front in the first parameter that begins with it, or nothing.
+/// What follows this front in the first parameter that begins with it, or nothing.
 fn revision<'a>(front: &[u8], text: &'a [u8]) -> &'a [u8]
     ensures { result.now ≡ revision front.now text.now }
 {

@@ -68,6 +68,18 @@ impl TextSet {
         Ok(())
     }
 
+    /// Puts a copy of a text last, where it is not there yet.
+    pub(crate) fn insert_copy(&mut self, alloc: Global, text: &str) -> Result<(), AllocError>
+        ensures ok { OnOk result (self.new ≡ insert_key bytes_eq self.old text.now) }
+        ensures err { OnErr result (self.new ≡ self.old) }
+    {
+        if self.contains(text) {
+            return Ok(());
+        }
+        let copy = String::from_str(alloc, text)?;
+        self.insert(copy)
+    }
+
     /// Drops all but the first texts.
     pub(crate) fn truncate(&mut self, len: usize)
         ensures { self.new ≡ take len self.old }

@@ -22,7 +22,7 @@ pub fn equals(text: &[u8], other: &[u8]) -> bool
     text == other
 }
 
-/// What stands behind so many bytes, or nothing.
+/// What follows so many bytes, or nothing.
 pub fn behind(text: &[u8], count: usize) -> &[u8]
     ensures { result.now ≡ drop count text.now }
 {

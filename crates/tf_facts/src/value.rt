@@ -1,6 +1,6 @@
-//! What stands behind an attribute's sign.
+//! What follows an attribute's sign.
 
-/// The tokens of a value, by the number of the first and the one behind the last.
+/// The tokens of a value, by the number of the first and the one after the last.
 #[derive(Clone, Copy, Debug, PartialEq, Eq)]
 pub struct Value {
     pub first: usize,

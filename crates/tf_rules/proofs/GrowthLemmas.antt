@@ -49,7 +49,7 @@ comments_few (t ∷ ts) = by (is kind.LineComment t.kind) (has_slashes t.text ||
     by true false h = omega (arith, h)
     by false b h = omega (arith, h)
 
--- ---- interpolations, by what stands behind their quotes
+-- ---- interpolations, by what follows their quotes
 
 abbrev interpolates : List Numbered → Bool
 interpolates [] = false

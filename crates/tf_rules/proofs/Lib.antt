@@ -8,6 +8,7 @@ pub mod ClusterLemmas
 pub mod WalkLemmas
 pub mod PlaceLemmas
 pub mod EntryLemmas
+pub mod SaidLemmas
 pub mod SortLemmas
 pub mod SilencedLemmas
 pub mod RisingLemmas

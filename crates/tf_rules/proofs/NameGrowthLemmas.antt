@@ -17,9 +17,9 @@ use Rattle.hcl_grammar.specs.Verdict.{IsAccepted}
 use Rattle.hcl_grammar.specs.declared.item.Item.{Item}
 use Rattle.hcl_grammar.specs.declared.item.Item.TheVariants as item
 use Rattle.hcl_grammar.specs.declared.item.Label.{Label}
-use Rattle.hcl_grammar.proofs.NameLemmas.{IsApart, apart, apart_on, begins_dot, behind_dot, first, is_apart}
-use Rattle.hcl_grammar.proofs.PieceTurnLemmas.{AllGood, Good}
-use Rattle.hcl_grammar.proofs.PlainLabelLemmas.{file_good}
+use Rattle.label_laws.proofs.NameLemmas.{IsApart, apart, apart_on, begins_dot, behind_dot, first, is_apart}
+use Rattle.label_laws.proofs.PieceTurnLemmas.{AllGood, Good}
+use Rattle.label_laws.proofs.PlainLabelLemmas.{file_good}
 use Rattle.tf_facts.specs.Declarations.{Declaration, SourceAt, declarations}
 use Rattle.tf_facts.specs.References.{own_blocks, references}
 use Rattle.tf_rules.specs.Growth.{bytes, name_bytes, source_texts, declared_texts}
@@ -31,7 +31,7 @@ use Rattle.tf_rules.proofs.NameCostLemmas.{cost, counted, weigh}
 use Rattle.tf_rules.proofs.ReferenceCostLemmas.{comes_dot, dotted, made_few}
 use Rattle.tf_rules.proofs.TextSizeLemmas.{Solid, text_bytes, tokens_few, tokens_solid}
 
--- ---- what a token weighs that names an item: its text, and the literal behind it
+-- ---- what a token weighs that names an item: its text, and the literal after it
 
 abbrev literal : List Numbered → ℕ
 literal ts = length (first_literal ts)

@@ -40,7 +40,7 @@ abbrev steps_by : Option Numbered → List Numbered → ℕ
 steps_by None rest = 0
 steps_by (Some n) rest = 1 + (length n.text + step_bytes (name_behind rest))
 
--- and another dot and name behind them
+-- and another dot and name after them
 abbrev steps : List Numbered → ℕ
 steps ts = steps_by (name_behind ts) (drop 2 ts)
 
@@ -90,7 +90,7 @@ no_name [] e = refl
 no_name (d ∷ []) e = refl
 no_name (d ∷ n ∷ rest) e = ap (λ b. cond (b && is kind.Ident n.kind) (Some n) None) e
 
--- a reference weighs its first word and the steps behind
+-- a reference weighs its first word and the steps after
 begun_short : (t : Numbered) (ts : List Numbered) → some_bytes (reference_at (t ∷ ts)) ≤ beside (comes_dot ts) t + steps ts
 begun_short t ts = by (is kind.Ident t.kind) (comes_dot ts) refl
   where
@@ -127,7 +127,7 @@ module _ (own : List Own) where
   ident_is kind.Ident e = refl
   ident_is _ e = absurd (true≢false (sym e))
 
-  -- no reference begins at a dot, nor at the name behind it
+  -- no reference begins at a dot, nor at the name after it
   step_made : (after : Bool) (t n : Numbered) (rest : List Numbered) → is kind.Dot t.kind ≡ true → is kind.Ident n.kind ≡ true → made after (t ∷ n ∷ rest) ≤ made false rest
   step_made after t n rest d i = by after
     where

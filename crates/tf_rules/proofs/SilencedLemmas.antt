@@ -4,13 +4,17 @@ use Rattle.std.specs.Prelude.{◌⊎◌, ◌==◌, ◌&&◌, ◌||◌, Option, S
 use Rattle.std.specs.List.{list_any}
 use Rattle.std.proofs.lemmas.Bool.{and_left, and_right, cases_eq, eq-eqb, ne_eqb, or_from}
 use Rattle.std.proofs.lemmas.List.{map-append, take_more}
+use Rattle.std.proofs.lemmas.List.Elements.{filter-append}
 use Rattle.std.proofs.lemmas.List.Folds.{list_any-append}
 use Rattle.tf_facts.specs.Comments.{Comment, is_any}
 use Rattle.tf_rules.specs.Issues.{Issue, Place, covers, is_silenced}
 use Rattle.tf_facts.specs.Rules.{all_rules, is_rule}
 use Rattle.tf_facts.specs.RuleSets.{holds, rules_of}
+use Rattle.tf_rules.specs.Answers.{answered}
+use Rattle.tf_rules.specs.Inner.Entries.{issue_of, issues_of}
 use Rattle.tf_rules.specs.Inner.KeptViews.{kept_comment}
 use Rattle.tf_rules.specs.Inner.SilencedLines.{is_in_set, is_on}
+use Rattle.tf_rules.specs.declared.entry.Entry.{Entry}
 use Rattle.tf_rules.specs.declared.kept.KeptComment.{KeptComment}
 use Rattle.tf_facts.specs.declared.rule.Rule.{Rule}
 use Rattle.tf_facts.specs.declared.rule.Rule.TheVariants.{CommentSyntax, DeprecatedIndex, DeprecatedInterpolation, DocumentedOutputs, DocumentedVariables, ModulePinnedSource, ModuleVersion, NamingConvention, TypedVariables, UnusedDeclarations}
@@ -135,3 +139,13 @@ under_none file line rule (c ∷ comments) e =
     or_from (is_under file line rule c) (list_any (is_under file line rule) comments)
     (and_left ((c.at.file == file) && (c.at.at.line + 1 == line)) (list_any (is_rule rule) c.silences) (and_right (c.at.file == file) (c.at.at.line + 1 == line) (ne_eqb (c.at.at.line + 1) line (λ f. omega (arith, f, e)))))
     (under_none file line rule comments e)
+
+-- ---- the issues that are shown
+
+pub shown_more : (p : Issue → Bool) (xs : List Entry) (i : ℕ) (x : Entry) → i < length xs → x ≡ get_or xs i x
+    → map answered (filter p (issues_of (take i xs))) ++ map answered (filter p (issue_of x ∷ [])) ≡ map answered (filter p (issues_of (take (i + 1) xs)))
+shown_more p xs i x less at =
+    sym (map-append answered (filter p (issues_of (take i xs))) (filter p (issue_of x ∷ [])))
+    ∙ ap (map answered) (sym (filter-append p (issues_of (take i xs)) (issue_of x ∷ [])))
+    ∙ ap (λ is. map answered (filter p is)) (sym (map-append issue_of (take i xs) (x ∷ [])))
+    ∙ ap (λ es. map answered (filter p (issues_of es))) (ap (λ y. take i xs ++ y ∷ []) at ∙ sym (take_more xs i x less))

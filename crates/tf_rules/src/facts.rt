@@ -69,7 +69,7 @@ fn make_room<T>(list: &mut Vec<T>, more: usize) -> Result<(), AllocError>
     list.reserve(more)
 }
 
-/// Moves all that is in one list behind what is in another, which is empty or has room for it.
+/// Moves all that is in one list after what is in another, which is empty or has room for it.
 fn move_behind<T>(from: &mut Vec<T>, into: &mut Vec<T>)
     requires { 0 < vec_len into.old → vec_len into.old + vec_len from.old ≤ vec_capacity into.old }
     ensures { into.new.items ≡ into.old.items ++ from.old.items }
@@ -153,26 +153,24 @@ impl Facts {
         self.add_outlined(number, accepted, &items)
     }
 
-    /// Puts what a rule reports, silenced or not, behind these entries.
-    fn put_reported(
-        &self,
+    /// Puts what a rule reports, silenced or not, after these entries.
+    fn put_reported<'f>(
+        &'f self,
         naming: Naming,
         rule: Rule,
-        entries: &mut Vec<Entry>,
+        entries: &mut Vec<Entry<'f>>,
     ) -> Result<(), AllocError>
         ensures { OnOk result (issues_of entries.new.items ≡ issues_of entries.old.items ++ map (issue_at rule) (findings naming self.now.references self.now.facts rule)) }
     {
         match rule {
-            Rule::CommentSyntax => put_comments(self.alloc, &self.comments, entries),
+            Rule::CommentSyntax => put_comments(&self.comments, entries),
             Rule::DeprecatedIndex => put_places(
-                self.alloc,
                 rule,
                 "list items should be accessed using square brackets",
                 &self.indexes,
                 entries,
             ),
             Rule::DeprecatedInterpolation => put_places(
-                self.alloc,
                 rule,
                 "interpolation-only expressions are deprecated",
                 &self.interpolations,
@@ -189,12 +187,12 @@ impl Facts {
         }
     }
 
-    /// Puts what a rule reports behind these entries, where it is asked for.
-    fn put_asked(
-        &self,
+    /// Puts what a rule reports after these entries, where it is asked for.
+    fn put_asked<'f>(
+        &'f self,
         settings: &Settings,
         rule: Rule,
-        entries: &mut Vec<Entry>,
+        entries: &mut Vec<Entry<'f>>,
     ) -> Result<(), AllocError>
         ensures { OnOk result (issues_of entries.new.items ≡ issues_of entries.old.items ++ (if holds settings.now.rules rule then map (issue_at rule) (findings settings.now.naming self.now.references self.now.facts rule) else [])) }
     {
@@ -205,7 +203,11 @@ impl Facts {
     }
 
     /// All that those of these rules report that are asked for, silenced or not, rule by rule.
-    fn reported(&self, settings: &Settings, rules: &[Rule]) -> Result<Vec<Entry>, AllocError>
+    fn reported<'f>(
+        &'f self,
+        settings: &Settings,
+        rules: &[Rule],
+    ) -> Result<Vec<Entry<'f>>, AllocError>
         ensures { IfOk result (λ entries. issues_of entries.items ≡ flat_map (λ rule. map (issue_at rule) (findings settings.now.naming self.now.references self.now.facts rule)) (filter (holds settings.now.rules) rules.now)) }
     {
         let mut entries = Vec::new(self.alloc);
@@ -222,6 +224,6 @@ impl Facts {
         let entries = self.reported(settings, &ALL_RULES)?;
         let lines = silenced_lines(self.alloc, &self.comments)?;
         let sorted = in_order(entries)?;
-        shown(self.alloc, sorted, &lines)
+        shown(self.alloc, sorted.as_slice(), &lines)
     }
 }

@@ -1,56 +1,21 @@
 //! What the rules report of one declaration.
 
-ghost use Rattle.std.specs.Prelude.{◌≡◌, ◌++◌, ◌&&◌, [], not, codes, IfOk};
-ghost use Rattle.std.specs.String.{string_bytes};
-ghost use Rattle.tf_rules.specs.Findings.{about, both_quoted, finding, is_kind, from_registry, is_unused, kind_text, says_if, unpinned, unpinned_by, uses_of};
-ghost use Rattle.tf_facts.specs.References.{last_of};
+ghost use Rattle.std.specs.Prelude.{◌≡◌, ◌++◌, ◌&&◌, [], not, IfOk};
+ghost use Rattle.std.specs.List.{list_any};
+ghost use Rattle.std.specs.Str.{bytes_eq};
+ghost use Rattle.tf_facts.specs.References.{data_reference};
+ghost use Rattle.tf_rules.specs.Findings.{about, finding, is_kind, from_registry, is_unused, says_if, unpinned, unpinned_by, uses_of};
 ghost use Rattle.tf_rules.specs.Inner.Entries.{finding_listed};
 ghost use Rattle.tf_rules.specs.Inner.KeptViews.{kept_declaration, kept_names, kept_source, place_of};
 ghost use Rattle.tf_facts.specs.Found.{source};
 ghost use Rattle.std.specs.Option.{option_map};
 
-use crate::entry::Finding;
-use crate::issue::Message;
-use crate::kept::{KeptDeclaration, KeptNames, KeptSource, TokenPlace};
+use crate::entry::{Finding, Said};
+use crate::kept::{KeptDeclaration, KeptNames, KeptSource};
 use crate::naming::{Naming, matches_naming};
-use std::alloc::{AllocError, Global};
+use crate::said::last;
+use std::alloc::AllocError;
 use tf_facts::{DeclarationKind, ModuleSource, Rule, TextSet};
-
-/// The word for what is declared.
-fn kind_text(kind: DeclarationKind) -> &'static str
-    ensures { result.now ≡ kind_text kind }
-{
-    match kind {
-        DeclarationKind::Variable => "variable",
-        DeclarationKind::Output => "output",
-        DeclarationKind::Module => "module",
-        DeclarationKind::Resource => "resource",
-        DeclarationKind::Data => "data",
-        DeclarationKind::Local => "local",
-    }
-}
-
-/// The last of up to two labels.
-fn last(names: &KeptNames) -> &str
-    ensures { result.now ≡ last_of (kept_names names.now) }
-{
-    match names {
-        KeptNames::None => "",
-        KeptNames::One(name) => name.as_str(),
-        KeptNames::Two(_, second) => second.as_str(),
-        KeptNames::More => "",
-    }
-}
-
-/// `KIND "NAME"` and what follows.
-fn about(alloc: Global, declaration: &KeptDeclaration, rest: &str) -> Result<Message, AllocError>
-    ensures { IfOk result (λ message. message ≡ about (kept_declaration declaration.now) rest.now) }
-{
-    let kind = kind_text(declaration.kind);
-    let name = last(&declaration.names);
-    let text = format!(in alloc; "{kind} \"{name}\"{rest}")?;
-    Ok(Message::new(text))
-}
 
 fn is_output(kind: DeclarationKind) -> bool
     ensures { result ≡ is_kind DeclarationKind.Output kind }
@@ -65,59 +30,46 @@ fn is_variable(kind: DeclarationKind) -> bool
 }
 
 /// Where a declaration lacks what it should have.
-fn lacking(
-    alloc: Global,
+fn lacking<'f>(
     is_lacking: bool,
-    declaration: &KeptDeclaration,
-    rest: &str,
-) -> Result<Option<Finding>, AllocError>
-    ensures { IfOk result (λ found. finding_listed found ≡ says_if is_lacking (place_of declaration.now.at) (about (kept_declaration declaration.now) rest.now)) }
+    declaration: &'f KeptDeclaration,
+    rest: &'static str,
+) -> Option<Finding<'f>>
+    ensures { finding_listed result ≡ says_if is_lacking (place_of declaration.now.at) (about (kept_declaration declaration.now) rest.now) }
 {
     if !is_lacking {
-        return Ok(None);
+        return None;
     }
-    let message = about(alloc, declaration, rest)?;
-    Ok(Some(Finding {
+    Some(Finding {
         at: declaration.at,
-        message,
-    }))
+        said: Said::About(declaration, rest),
+    })
 }
 
 /// Where a module's source is not pinned.
-fn unpinned_by(
-    alloc: Global,
-    declaration: &KeptDeclaration,
-    found: KeptSource,
-) -> Result<Option<Finding>, AllocError>
-    ensures { IfOk result (λ finding. finding_listed finding ≡ unpinned_by (kept_declaration declaration.now) (place_of found.at) (source found.source)) }
+fn unpinned_by<'f>(declaration: &'f KeptDeclaration, found: KeptSource) -> Option<Finding<'f>>
+    ensures { finding_listed result ≡ unpinned_by (kept_declaration declaration.now) (place_of found.at) (source found.source) }
 {
     match found.source {
-        ModuleSource::Other => Ok(None),
-        ModuleSource::Registry => Ok(None),
-        ModuleSource::NotPinned => {
-            let message = about(alloc, declaration, " source is not pinned")?;
-            Ok(Some(Finding {
-                at: found.at,
-                message,
-            }))
-        }
-        ModuleSource::DefaultBranch(branch) => {
-            let rest = format!(in alloc; " source uses a default branch: {branch}")?;
-            let message = about(alloc, declaration, rest.as_str())?;
-            Ok(Some(Finding {
-                at: found.at,
-                message,
-            }))
-        }
+        ModuleSource::Other => None,
+        ModuleSource::Registry => None,
+        ModuleSource::NotPinned => Some(Finding {
+            at: found.at,
+            said: Said::About(declaration, " source is not pinned"),
+        }),
+        ModuleSource::DefaultBranch(branch) => Some(Finding {
+            at: found.at,
+            said: Said::DefaultBranch(declaration, branch),
+        }),
     }
 }
 
-fn unpinned(alloc: Global, declaration: &KeptDeclaration) -> Result<Option<Finding>, AllocError>
-    ensures { IfOk result (λ found. finding_listed found ≡ unpinned (kept_declaration declaration.now) (option_map kept_source declaration.now.source)) }
+fn unpinned<'f>(declaration: &'f KeptDeclaration) -> Option<Finding<'f>>
+    ensures { finding_listed result ≡ unpinned (kept_declaration declaration.now) (option_map kept_source declaration.now.source) }
 {
     match declaration.source {
-        Some(found) => unpinned_by(alloc, declaration, found),
-        None => Ok(None),
+        Some(found) => unpinned_by(declaration, found),
+        None => None,
     }
 }
 
@@ -132,35 +84,57 @@ fn from_registry(found: Option<KeptSource>) -> bool
 }
 
 /// Where a name doesn't have the naming.
-fn misnamed(
-    alloc: Global,
-    naming: Naming,
-    declaration: &KeptDeclaration,
-) -> Result<Option<Finding>, AllocError>
-    ensures { IfOk result (λ found. finding_listed found ≡ finding naming [] Rule.NamingConvention (kept_declaration declaration.now)) }
+fn misnamed<'f>(naming: Naming, declaration: &'f KeptDeclaration) -> Option<Finding<'f>>
+    ensures { finding_listed result ≡ finding naming [] Rule.NamingConvention (kept_declaration declaration.now) }
 {
     let name = last(&declaration.names);
     if matches_naming(naming, name) {
-        return Ok(None);
+        return None;
     }
-    let kind = kind_text(declaration.kind);
-    let wanted = naming.text();
-    let text = format!(in alloc; "{kind} name \"{name}\" must match {wanted}")?;
-    Ok(Some(Finding {
+    Some(Finding {
         at: declaration.at,
-        message: Message::new(text),
-    }))
+        said: Said::Misnamed(declaration, naming),
+    })
+}
+
+/// Whether there is no reference of this text, which is put together in the room of another.
+fn is_unknown(
+    used: &TextSet,
+    front: &str,
+    name: &str,
+    text: &mut String,
+) -> Result<bool, AllocError>
+    ensures { IfOk result (λ unknown. unknown ≡ not (list_any (bytes_eq (front.now ++ name.now)) used.now)) }
+{
+    text.clear();
+    text.push_str(front)?;
+    text.push_str(name)?;
+    Ok(!used.contains(text.as_str()))
 }
 
 /// Whether there is no reference to the data of this type and name.
-fn is_unused_data(alloc: Global, used: &TextSet, names: &KeptNames) -> Result<bool, AllocError>
+fn is_unknown_data(
+    used: &TextSet,
+    kind: &str,
+    name: &str,
+    text: &mut String,
+) -> Result<bool, AllocError>
+    ensures { IfOk result (λ unknown. unknown ≡ not (list_any (bytes_eq (data_reference kind.now name.now)) used.now)) }
+{
+    text.clear();
+    text.push_str("data.")?;
+    text.push_str(kind)?;
+    text.push_str(".")?;
+    text.push_str(name)?;
+    Ok(!used.contains(text.as_str()))
+}
+
+/// Whether there is no reference to the data of these labels.
+fn is_unused_data(used: &TextSet, names: &KeptNames, text: &mut String) -> Result<bool, AllocError>
     ensures { IfOk result (λ unused. unused ≡ is_unused used.now (uses_of DeclarationKind.Data (kept_names names.now))) }
 {
     match names {
-        KeptNames::Two(kind, name) => {
-            let text = format!(in alloc; "data.{kind}.{name}")?;
-            Ok(!used.contains(text.as_str()))
-        }
+        KeptNames::Two(kind, name) => is_unknown_data(used, kind.as_str(), name.as_str(), text),
         KeptNames::None => Ok(false),
         KeptNames::One(_) => Ok(false),
         KeptNames::More => Ok(false),
@@ -169,101 +143,74 @@ fn is_unused_data(alloc: Global, used: &TextSet, names: &KeptNames) -> Result<bo
 
 /// Whether there is no reference to what could be referred to.
 fn is_unused(
-    alloc: Global,
     used: &TextSet,
     declaration: &KeptDeclaration,
+    text: &mut String,
 ) -> Result<bool, AllocError>
     ensures { IfOk result (λ unused. unused ≡ is_unused used.now (uses_of declaration.now.kind (kept_names declaration.now.names))) }
 {
     match declaration.kind {
-        DeclarationKind::Variable => {
-            let name = last(&declaration.names);
-            let text = format!(in alloc; "var.{name}")?;
-            Ok(!used.contains(text.as_str()))
-        }
-        DeclarationKind::Local => {
-            let name = last(&declaration.names);
-            let text = format!(in alloc; "local.{name}")?;
-            Ok(!used.contains(text.as_str()))
-        }
-        DeclarationKind::Data => is_unused_data(alloc, used, &declaration.names),
+        DeclarationKind::Variable => is_unknown(used, "var.", last(&declaration.names), text),
+        DeclarationKind::Local => is_unknown(used, "local.", last(&declaration.names), text),
+        DeclarationKind::Data => is_unused_data(used, &declaration.names, text),
         DeclarationKind::Output => Ok(false),
         DeclarationKind::Module => Ok(false),
         DeclarationKind::Resource => Ok(false),
     }
 }
 
-/// The message that a declaration is not used, with all its names.
-fn about_unused(alloc: Global, declaration: &KeptDeclaration) -> Result<String, AllocError>
-    ensures { IfOk result (λ text. string_bytes text ≡ kind_text declaration.now.kind ++ both_quoted (kept_names declaration.now.names) (codes " is declared but not used")) }
-{
-    let kind = kind_text(declaration.kind);
-    match &declaration.names {
-        KeptNames::None => format!(in alloc; "{kind} is declared but not used"),
-        KeptNames::One(name) => format!(in alloc; "{kind} \"{name}\" is declared but not used"),
-        KeptNames::Two(first, second) => {
-            format!(in alloc; "{kind} \"{first}\" \"{second}\" is declared but not used")
-        }
-        KeptNames::More => format!(in alloc; "{kind} is declared but not used"),
-    }
-}
-
 /// Where nothing refers to a declaration.
-fn unused(
-    alloc: Global,
+fn unused<'f>(
     used: &TextSet,
-    declaration: &KeptDeclaration,
-) -> Result<Option<Finding>, AllocError>
+    declaration: &'f KeptDeclaration,
+    text: &mut String,
+) -> Result<Option<Finding<'f>>, AllocError>
     ensures { IfOk result (λ found. finding_listed found ≡ finding Naming.SnakeCase used.now Rule.UnusedDeclarations (kept_declaration declaration.now)) }
 {
-    if !is_unused(alloc, used, declaration)? {
+    if !is_unused(used, declaration, text)? {
         return Ok(None);
     }
-    let text = about_unused(alloc, declaration)?;
     Ok(Some(Finding {
         at: declaration.at,
-        message: Message::new(text),
+        said: Said::Unused(declaration),
     }))
 }
 
-/// What a rule reports of a declaration, where all files have these references.
-pub fn finding(
-    alloc: Global,
+/// What a rule reports of a declaration, where all files have these references. A reference to it is put together in the
+/// room of another text.
+pub fn finding<'f>(
     naming: Naming,
     used: &TextSet,
     rule: Rule,
-    declaration: &KeptDeclaration,
-) -> Result<Option<Finding>, AllocError>
+    declaration: &'f KeptDeclaration,
+    text: &mut String,
+) -> Result<Option<Finding<'f>>, AllocError>
     ensures { IfOk result (λ found. finding_listed found ≡ finding naming used.now rule (kept_declaration declaration.now)) }
 {
     match rule {
-        Rule::DocumentedOutputs => lacking(
-            alloc,
+        Rule::DocumentedOutputs => Ok(lacking(
             is_output(declaration.kind) && !declaration.is_described,
             declaration,
             " has no description",
-        ),
-        Rule::DocumentedVariables => lacking(
-            alloc,
+        )),
+        Rule::DocumentedVariables => Ok(lacking(
             is_variable(declaration.kind) && !declaration.is_described,
             declaration,
             " has no description",
-        ),
-        Rule::ModulePinnedSource => unpinned(alloc, declaration),
-        Rule::ModuleVersion => lacking(
-            alloc,
+        )),
+        Rule::ModulePinnedSource => Ok(unpinned(declaration)),
+        Rule::ModuleVersion => Ok(lacking(
             from_registry(declaration.source) && !declaration.is_versioned,
             declaration,
             " has no version",
-        ),
-        Rule::NamingConvention => misnamed(alloc, naming, declaration),
-        Rule::TypedVariables => lacking(
-            alloc,
+        )),
+        Rule::NamingConvention => Ok(misnamed(naming, declaration)),
+        Rule::TypedVariables => Ok(lacking(
             is_variable(declaration.kind) && !declaration.is_typed,
             declaration,
             " has no type",
-        ),
-        Rule::UnusedDeclarations => unused(alloc, used, declaration),
+        )),
+        Rule::UnusedDeclarations => unused(used, declaration, text),
         Rule::CommentSyntax => Ok(None),
         Rule::DeprecatedIndex => Ok(None),
         Rule::DeprecatedInterpolation => Ok(None),

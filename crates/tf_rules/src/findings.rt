@@ -1,23 +1,26 @@
 //! What the rules report of all that is kept.
 
-ghost use Rattle.std.specs.Prelude.{◌≡◌, ◌++◌, map, IfOk, OnOk};
+ghost use Rattle.std.specs.Prelude.{◌≡◌, ◌++◌, map, OnOk};
 ghost use Rattle.std.specs.List.{flat_map};
 ghost use Rattle.tf_rules.specs.Findings.{finding, says_of, slashed};
 ghost use Rattle.tf_rules.specs.Kept.{issue_at};
 ghost use Rattle.tf_rules.specs.Inner.Entries.{issues_of, finding_listed};
 ghost use Rattle.tf_rules.specs.Inner.KeptViews.{kept_comment, kept_declaration, place_of};
 
-use crate::entry::{Entry, Finding};
+use crate::entry::{Entry, Finding, Said};
 use crate::finding::finding;
-use crate::issue::Message;
 use crate::kept::{KeptComment, KeptDeclaration, TokenPlace};
 use crate::naming::Naming;
 use std::alloc::{AllocError, Global};
 use tf_facts::{Rule, TextSet};
 
 /// Puts what was found last, where something was.
-fn put(entries: &mut Vec<Entry>, rule: Rule, found: Option<Finding>) -> Result<(), AllocError>
-    ensures { OnOk result (issues_of entries.new.items ≡ issues_of entries.old.items ++ map (issue_at rule) (finding_listed found)) }
+fn put<'f>(
+    entries: &mut Vec<Entry<'f>>,
+    rule: Rule,
+    found: Option<Finding<'f>>,
+) -> Result<(), AllocError>
+    ensures { OnOk result (issues_of entries.new.items ≡ issues_of entries.old.items ++ map (issue_at rule) (finding_listed found.entry)) }
 {
     let Some(found) = found else {
         return Ok(());
@@ -25,35 +28,33 @@ fn put(entries: &mut Vec<Entry>, rule: Rule, found: Option<Finding>) -> Result<(
     entries.push(Entry {
         at: found.at,
         rule,
-        message: found.message,
+        said: found.said,
     })?;
     Ok(())
 }
 
 /// What is said of a comment that begins with `//`.
-fn slashed(alloc: Global, comment: KeptComment) -> Result<Option<Finding>, AllocError>
-    ensures { IfOk result (λ found. finding_listed found ≡ slashed (kept_comment comment)) }
+fn slashed(comment: KeptComment) -> Option<Finding<'static>>
+    ensures { finding_listed result ≡ slashed (kept_comment comment) }
 {
     if !comment.has_slashes {
-        return Ok(None);
+        return None;
     }
-    let text = String::from_str(alloc, "line comments should begin with #")?;
-    Ok(Some(Finding {
+    Some(Finding {
         at: comment.at,
-        message: Message::new(text),
-    }))
+        said: Said::Fixed("line comments should begin with #"),
+    })
 }
 
 /// Puts what is said of comments last.
 pub fn put_comments(
-    alloc: Global,
     comments: &[KeptComment],
-    entries: &mut Vec<Entry>,
+    entries: &mut Vec<Entry<'_>>,
 ) -> Result<(), AllocError>
     ensures { OnOk result (issues_of entries.new.items ≡ issues_of entries.old.items ++ map (issue_at Rule.CommentSyntax) (flat_map slashed (map kept_comment comments.now))) }
 {
     for comment in comments {
-        let found = slashed(alloc, *comment)?;
+        let found = slashed(*comment);
         put(entries, Rule::CommentSyntax, found)?;
     }
     Ok(())
@@ -61,35 +62,37 @@ pub fn put_comments(
 
 /// Puts an issue for each of these places last, with this text.
 pub fn put_places(
-    alloc: Global,
     rule: Rule,
-    text: &str,
+    text: &'static str,
     places: &[TokenPlace],
-    entries: &mut Vec<Entry>,
+    entries: &mut Vec<Entry<'_>>,
 ) -> Result<(), AllocError>
     ensures { OnOk result (issues_of entries.new.items ≡ issues_of entries.old.items ++ map (issue_at rule) (map (says_of text.now) (map place_of places.now))) }
 {
     for at in places {
-        let message = Message::new(String::from_str(alloc, text)?);
-        let found = Finding { at: *at, message };
+        let found = Finding {
+            at: *at,
+            said: Said::Fixed(text),
+        };
         put(entries, rule, Some(found))?;
     }
     Ok(())
 }
 
 /// Puts what a rule reports of declarations last, where all files have these references.
-pub fn put_declarations(
+pub fn put_declarations<'f>(
     alloc: Global,
     naming: Naming,
     used: &TextSet,
     rule: Rule,
-    declarations: &[KeptDeclaration],
-    entries: &mut Vec<Entry>,
+    declarations: &'f [KeptDeclaration],
+    entries: &mut Vec<Entry<'f>>,
 ) -> Result<(), AllocError>
     ensures { OnOk result (issues_of entries.new.items ≡ issues_of entries.old.items ++ map (issue_at rule) (flat_map (finding naming used.now rule) (map kept_declaration declarations.now))) }
 {
+    let mut text = String::new(alloc);
     for declaration in declarations {
-        let found = finding(alloc, naming, used, rule, declaration)?;
+        let found = finding(naming, used, rule, declaration, &mut text)?;
         put(entries, rule, found)?;
     }
     Ok(())

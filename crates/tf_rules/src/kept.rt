@@ -1,6 +1,6 @@
 //! What is kept of the files of a module: places, names and flags, and no source.
 
-use hcl_scan::Position;
+use hcl_tokens::Position;
 use tf_facts::{DeclarationKind, ModuleSource, RuleSet};
 
 /// The place of a token: the number of its file, its own, and where it begins.

@@ -1,7 +1,7 @@
 //! Ten rules for the files of a Terraform module.
 //!
 //! [`Facts`] keeps what the rules need of each file, as `tf_facts` finds it, and lists the issues of all. What the rules
-//! report is defined in `specs`, with laws in the module [`laws`]. The rules and their sets are handed on.
+//! report is defined in `specs`, with laws in the module [`laws`]. The rules and their sets are re-exported.
 #![tactic(auto)]
 
 mod entry;
@@ -16,6 +16,7 @@ pub mod laws;
 mod naming;
 mod order;
 mod placer;
+mod said;
 mod settings;
 mod silenced;
 mod walker;

@@ -8,8 +8,8 @@ use std::alloc::AllocError;
 use tf_facts::rank;
 
 /// The entries by file, then token, then the name of the rule.
-pub fn in_order(entries: Vec<Entry>) -> Result<Vec<Entry>, AllocError>
-    ensures all { IfOk result (λ sorted. IsPermutation entries.items sorted.items) }
+pub fn in_order<'f>(entries: Vec<Entry<'f>>) -> Result<Vec<Entry<'f>>, AllocError>
+    ensures all { IfOk result (λ sorted. IsPermutation entries.entry.items sorted.items) }
     ensures ordered { IfOk result (λ sorted. IsSorted entry_cmp sorted.items) }
 {
     let mut sorted = entries;

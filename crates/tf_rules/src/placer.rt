@@ -8,7 +8,7 @@ ghost use Rattle.tf_rules.specs.Inner.Placing.{CanGo, gone};
 
 use crate::kept::TokenPlace;
 use crate::walker::Walker;
-use hcl_scan::Tokens;
+use hcl_tokens::Tokens;
 use std::marker::Model;
 
 /// A walk through the tokens of a file.
@@ -44,7 +44,7 @@ impl<'t, 's> Placer<'t, 's> {
         }
     }
 
-    /// The place of the token of this number, where none behind it was asked for.
+    /// The place of the token of this number, where none after it was asked for.
     pub fn place(&mut self, number: usize) -> TokenPlace
         requires { CanGo self.old (number ∷ []) }
         ensures place { place_of result ≡ place_in self.old.file number }

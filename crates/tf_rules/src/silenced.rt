@@ -13,6 +13,7 @@ ghost use Rattle.tf_facts.specs.declared.rule.Rule.{Rule};
 use crate::entry::Entry;
 use crate::issue::Issue;
 use crate::kept::KeptComment;
+use crate::said::message;
 use indexmap::IndexMap;
 use std::alloc::{AllocError, Global};
 use tf_facts::{RuleSet, is_any, rules_of_both};
@@ -67,7 +68,7 @@ pub fn silenced_lines(alloc: Global, comments: &[KeptComment]) -> Result<Silence
 }
 
 /// Whether an issue is silenced, on its own line or by the line above.
-fn is_silenced(lines: &SilencedLines, entry: &Entry) -> bool
+fn is_silenced(lines: &SilencedLines, entry: &Entry<'_>) -> bool
     ensures { (comments : List (Comment Place)) → AreSilenced lines.now comments → result ≡ is_silenced comments (issue_of entry.now) }
 {
     let place = entry.at;
@@ -81,18 +82,24 @@ fn is_silenced(lines: &SilencedLines, entry: &Entry) -> bool
 }
 
 /// Puts an issue last as it is shown, where it isn't silenced.
-fn put_shown(entry: Entry, lines: &SilencedLines, issues: &mut Vec<Issue>) -> Result<(), AllocError>
+fn put_shown(
+    alloc: Global,
+    entry: &Entry<'_>,
+    lines: &SilencedLines,
+    issues: &mut Vec<Issue>,
+) -> Result<(), AllocError>
     ensures { (comments : List (Comment Place)) → AreSilenced lines.now comments
-        → OnOk result (issues.new.items ≡ issues.old.items ++ map answered (filter (λ i. not (is_silenced comments i)) (issue_of entry ∷ []))) }
+        → OnOk result (issues.new.items ≡ issues.old.items ++ map answered (filter (λ i. not (is_silenced comments i)) (issue_of entry.now ∷ []))) }
 {
-    if is_silenced(lines, &entry) {
+    if is_silenced(lines, entry) {
         return Ok(());
     }
+    let message = message(alloc, entry.said)?;
     issues.push(Issue {
         file: entry.at.file,
         at: entry.at.at,
         rule: entry.rule,
-        message: entry.message,
+        message,
     })?;
     Ok(())
 }
@@ -100,15 +107,15 @@ fn put_shown(entry: Entry, lines: &SilencedLines, issues: &mut Vec<Issue>) -> Re
 /// The issues that aren't silenced, as they are shown.
 pub fn shown(
     alloc: Global,
-    entries: Vec<Entry>,
+    entries: &[Entry<'_>],
     lines: &SilencedLines,
 ) -> Result<Vec<Issue>, AllocError>
     ensures { (comments : List (Comment Place)) → AreSilenced lines.now comments
-        → IfOk result (λ issues. issues.items ≡ map answered (filter (λ i. not (is_silenced comments i)) (issues_of entries.items))) }
+        → IfOk result (λ issues. issues.items ≡ map answered (filter (λ i. not (is_silenced comments i)) (issues_of entries.now))) }
 {
     let mut issues = Vec::new(alloc);
     for entry in entries {
-        put_shown(entry, lines, &mut issues)?;
+        put_shown(alloc, entry, lines, &mut issues)?;
     }
     Ok(issues)
 }

@@ -27,6 +27,18 @@ fn folder_of(path: &str) -> &str {
     }
 }
 
+/// Gives a new file the owner and the group of the old one, or the group alone where only that is allowed. Answers whether
+/// it has both.
+fn give_owner(made: &File, own: &Metadata, old: &Metadata) -> bool {
+    let uid = old.uid();
+    let gid = old.gid();
+    if (own.uid() == uid && own.gid() == gid) || fchown(made, Some(uid), Some(gid)).is_ok() {
+        return true;
+    }
+    let _ = fchown(made, None, Some(gid));
+    false
+}
+
 /// Gives a new file its bytes, and the owner and the mode of the old one. Where the owner can't be given, the new file
 /// is the caller's, and runs by nobody else's rights.
 fn fill(made: &File, old: &Old<'_>, new: &[u8], sync: bool) -> Result<(), TreeFault> {
@@ -38,9 +50,7 @@ fn fill(made: &File, old: &Old<'_>, new: &[u8], sync: bool) -> Result<(), TreeFa
         return Err(TreeFault::NotWritten);
     };
     let mut mode = old.metadata.permissions().mode() & 0o7777;
-    let uid = old.metadata.uid();
-    let gid = old.metadata.gid();
-    if (own.uid() != uid || own.gid() != gid) && fchown(made, Some(uid), Some(gid)).is_err() {
+    if !give_owner(made, &own, &old.metadata) {
         mode &= 0o777;
     }
     if made.set_permissions(Permissions::from_mode(mode)).is_err() {
@@ -80,7 +90,7 @@ fn sync_folder(rt: &HostRuntime, folder: &str) -> Result<(), TreeFault> {
     let place = if folder.is_empty() { "." } else { folder };
     match File::open(rt, place) {
         Ok(folder) if folder.sync_all().is_ok() => Ok(()),
-        _ => Err(TreeFault::NotReplaced),
+        _ => Err(TreeFault::NotSynced),
     }
 }
 

@@ -1,7 +1,7 @@
 //! The folders and files of the system.
 
 ghost use Rattle.std.specs.Prelude.{◌≡◌, false, None, IfOk};
-ghost use Rattle.file_tree.specs.Files.{fault_of, silent};
+ghost use Rattle.file_tree.specs.Files.{silent};
 
 use crate::in_place::write_over;
 use crate::new_file::{Old, replace};
@@ -39,8 +39,6 @@ impl ByteSource for FileReader {
 #[derive(Drop)]
 pub struct SystemTree {
     rt: HostRuntime,
-    /// Why the last call failed, if it did.
-    fault: Option<TreeFault>,
 }
 
 fn kind_in(metadata: &Metadata) -> Kind {
@@ -64,25 +62,17 @@ fn text_of(name: &[u8]) -> Result<&str, TreeFault> {
     }
 }
 
-/// Why an answer is none.
-fn fault_in<X>(answer: &Result<X, TreeFault>) -> Option<TreeFault>
-    ensures { result ≡ fault_of answer.now }
-{
-    match answer {
-        Ok(_) => None,
-        Err(fault) => Some(*fault),
-    }
-}
-
 impl SystemTree {
     pub fn new(rt: HostRuntime) -> SystemTree {
-        SystemTree { rt, fault: None }
+        SystemTree { rt }
     }
 
     /// Why a name has no metadata.
     fn metadata_fault(&self, name: &str, error: &io::Error) -> TreeFault {
         match fs::symlink_metadata(&self.rt, name) {
-            Ok(metadata) if metadata.is_symlink() => TreeFault::DeadLink,
+            Ok(metadata) if metadata.is_symlink() && error.kind() != ErrorKind::PermissionDenied =>
+                { TreeFault::DeadLink }
+            Err(_) if name == "-" => TreeFault::NoInput,
             _ => match error.kind() {
                 ErrorKind::NotFound | ErrorKind::NotADirectory => TreeFault::Missing,
                 _ => TreeFault::Unreadable,
@@ -141,6 +131,7 @@ impl SystemTree {
             Ok(file) => Ok(FileReader {
                 reader: FromRead::new(file),
             }),
+            Err(error) if error.kind() == ErrorKind::NotFound => Err(TreeFault::Missing),
             Err(_) => Err(TreeFault::Unreadable),
         }
     }
@@ -149,7 +140,8 @@ impl SystemTree {
     fn real_path(&self, name: &str) -> Result<PathBuf, TreeFault> {
         match fs::symlink_metadata(&self.rt, name) {
             Ok(metadata) if metadata.is_symlink() => {}
-            _ => {
+            Err(_) => return Err(TreeFault::Unreadable),
+            Ok(_) => {
                 return match PathBuf::from_str(self.rt.alloc(), name) {
                     Ok(path) => Ok(path),
                     Err(_) => Err(TreeFault::OutOfMemory),
@@ -214,39 +206,34 @@ impl Tree for SystemTree {
 
     ghost files = { λ s. silent };
 
-    ghost fault = { λ s. s.fault };
+    ghost faults = { λ s. None };
 
+    #[tactic(auto, using(file_tree::proofs::FileLemmas::silent_noted))]
     fn kind(&mut self, name: &[u8]) -> Result<Kind, TreeFault> {
-        let answer = self.kind_of(name);
-        self.fault = fault_in(&answer);
-        answer
+        self.kind_of(name)
     }
 
+    #[tactic(auto, using(file_tree::proofs::FileLemmas::silent_noted))]
     fn entry_kind(&mut self, name: &[u8]) -> Result<Kind, TreeFault> {
-        let answer = self.entry_kind_of(name);
-        self.fault = fault_in(&answer);
-        answer
+        self.entry_kind_of(name)
     }
 
+    #[tactic(auto, using(file_tree::proofs::FileLemmas::silent_noted))]
     fn listing(&mut self, folder: &[u8]) -> Result<Vec<u8>, TreeFault> {
-        let answer = self.names_in(folder);
-        self.fault = fault_in(&answer);
-        answer
+        self.names_in(folder)
     }
 
+    #[tactic(auto, using(file_tree::proofs::FileLemmas::silent_noted))]
     fn reader(&mut self, name: &[u8]) -> Result<FileReader, TreeFault> {
-        let answer = self.open(name);
-        self.fault = fault_in(&answer);
-        answer
+        self.open(name)
     }
 
+    #[tactic(auto, using(file_tree::proofs::FileLemmas::silent_noted))]
     fn give_back(&mut self, reader: FileReader) {
-        if reader.has_failed() {
-            self.fault = Some(TreeFault::ReadFailed);
-        }
+        let _ = &reader;
     }
 
-    #[tactic(auto, using(file_tree::proofs::FileLemmas::silent_replace))]
+    #[tactic(auto, using(file_tree::proofs::FileLemmas::silent_noted, file_tree::proofs::FileLemmas::silent_replace))]
     fn replace(
         &mut self,
         name: &[u8],
@@ -254,8 +241,6 @@ impl Tree for SystemTree {
         new: &[u8],
         writing: Writing,
     ) -> Result<(), TreeFault> {
-        let answer = self.replace_named(name, old, new, writing);
-        self.fault = fault_in(&answer);
-        answer
+        self.replace_named(name, old, new, writing)
     }
 }

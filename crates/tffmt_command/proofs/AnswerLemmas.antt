@@ -14,7 +14,8 @@ use Rattle.hcl_source.specs.declared.fault.LoadError.TheVariants as error
 use Rattle.hcl_source.specs.declared.fault.Fault.{Fault}
 use Rattle.hcl_source.proofs.LoadLemmas.{one_load_fault, text_or_fault, too_large_too}
 use Rattle.hcl_tokens.proofs.RunLemmas.{one_scan, one_fault, no_fault}
-use Rattle.hcl_scan.proofs.SpellingLemmas.{one_kind, nonempty}
+use Rattle.hcl_scan.proofs.SpellingLemmas.{one_kind}
+use Rattle.hcl_tokens.proofs.NonemptyLemmas.{nonempty}
 use Rattle.command_line.specs.Rows.{Row, End, Shows, OrOutOfMemory}
 use Rattle.tffmt_command.specs.Rows.{IsRow, OfInput, formatter}
 use Rattle.tffmt_command.specs.Answer.{refused, too_large, row_of_file, row_by, IsTextAnswer, IsFileAnswer, IsAnswerBy, IsAnswer}

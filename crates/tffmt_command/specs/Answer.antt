@@ -56,7 +56,7 @@ IsFileAnswer options input row = ((fault : Fault) × IsLoadFault input fault × 
 abbrev pub usage_line : List ℕ
 usage_line = line (codes "usage: tffmt [--check] [--help]")
 
--- no line has want of memory as its usage
+-- running out of memory is the usage of no line
 abbrev pub IsAnswerBy : Result FmtOptions Usage → List ℕ → Row → Type 0
 IsAnswerBy (Ok options) input row = IsFileAnswer options input row
 IsAnswerBy (Err usage.Help) input row = row ≡ record { out = usage_line; err = []; status = 0 }

@@ -33,6 +33,6 @@ abbrev pub options_by : Kinds → List clap.Row → Result FmtOptions Usage
 options_by [] rows = Ok (record { check = is_set (codes "check") rows })
 options_by (fault ∷ _) rows = Err (usage_of_kind fault)
 
--- the answer to a line, want of memory aside
+-- the answer to a line, unless memory runs out
 abbrev pub options_of : List Text → Result FmtOptions Usage
 options_of words = options_by (fault_of tffmt words) (matches_of tffmt words)

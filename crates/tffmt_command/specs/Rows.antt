@@ -13,7 +13,7 @@ abbrev pub OfInput : Option (List ℕ) → (List ℕ → Type 0) → Type 0
 OfInput None P = (input : List ℕ) × P input
 OfInput (Some input) P = P input
 
--- the row for a failed read, that for want of memory, or one of the input's
+-- the row for a failed read, that for running out of memory, or one of the input's
 abbrev pub IsRow : (List ℕ → Row → Type 0) → Bool → Option (List ℕ) → Row → Type 0
 IsRow answer true left row = row ≡ read_failed
 IsRow answer false left row = OrOutOfMemory formatter (λ r. OfInput left (λ input. answer input r)) row

@@ -1,4 +1,4 @@
-//! What the tests compare by, with one assertion each, so that it is proved once. A failure tells the input of the row.
+//! What the tests compare by, with one assertion each, so that it is proved once. A failure shows the input of the row.
 
 use std::process::Abort;
 

@@ -26,7 +26,7 @@ struct Row<'a> {
 }
 
 // How many bytes a call of each device moves at most, and which calls fail: of each kind the one
-// behind so many good ones.
+// after so many good ones.
 #[derive(Clone, Copy)]
 struct Devices {
     most_read: usize,
@@ -105,7 +105,7 @@ fn front(text: &[u8], calls: usize, most: usize) -> &[u8] {
     text.split_at(calls.saturating_mul(most).min(text.len())).0
 }
 
-// Runs over devices of which the message's fails behind so many good writes: the run shows what is
+// Runs over devices of which the message's fails after so many good writes: the run shows what is
 // wanted, or of the message only what these wrote. Gives whether that write was reached.
 fn message_fails(
     rt: &impl Abort,
@@ -130,7 +130,7 @@ fn message_fails(
     failed
 }
 
-// Lets each write of a message fail in turn, beside other failures, behind which the run is to show
+// Lets each write of a message fail in turn, beside other failures, after which the run is to show
 // this. Gives how many writes the message takes.
 fn fail_messages(
     rt: &impl Abort,
@@ -155,7 +155,7 @@ enum Kind {
     Flush,
 }
 
-// Devices of which the call of this kind behind so many good ones fails. A flush fails at once.
+// Devices of which the call of this kind after so many good ones fails. A flush fails at once.
 fn failing(kind: Kind, good: usize, most: usize) -> Devices {
     let others = steady(most);
     match kind {
@@ -174,7 +174,7 @@ fn failing(kind: Kind, good: usize, most: usize) -> Devices {
     }
 }
 
-// What a run shows whose call of this kind fails behind so many good ones.
+// What a run shows whose call of this kind fails after so many good ones.
 fn shown_behind<'a>(row: &Row<'a>, kind: Kind, good: usize, most: usize) -> Shown<'a> {
     match kind {
         Kind::Read => (b"", READ_FAILED, 4),
@@ -372,7 +372,7 @@ fn a_device_fails(rt: HostRuntime) {
     shows(&rt, rt.alloc(), &flush, (b"a = 1\n", WRITE_FAILED, 4));
 }
 
-// The text with so many bytes behind it.
+// The text with so many bytes after it.
 fn longer(rt: &impl Abort, alloc: Global, text: &[u8]) -> Vec<u8> {
     let parts = [(text, 1), (b"x", 5_000)];
     repeated(rt, alloc, &parts)

@@ -159,7 +159,7 @@ static CLUSTERS: [Pair; 7] = [
     // U+00E9, and the same letter with an accent of its own
     (b"\xc3\xa9=1\nab=2\n", b"\xc3\xa9  = 1\nab = 2\n"),
     (b"e\xcc\x81e=1\nabc=2\n", b"e\xcc\x81e  = 1\nabc = 2\n"),
-    // U+02FF, the last below, and U+0300 behind a letter and alone
+    // U+02FF, the last below, and U+0300 after a letter and alone
     (
         b"a=\"\xcb\xbf\xcb\xbf\"#x\nb=\"c\"#y\n",
         b"a = \"\xcb\xbf\xcb\xbf\" #x\nb = \"c\"  #y\n",

@@ -27,7 +27,7 @@ help_shown p u end is e s = subst (λ (v : Usage). Shows linter (usage_row v) en
 pub memory_shown : (p : Program) (P : Row → Type 0) (end : End) → p ≡ linter → Shows p (out_of_memory p) end → ShowsOne linter (OrOutOfMemory linter P) end
 memory_shown p P end e s = (out_of_memory linter, inl refl, subst (λ (q : Program). Shows q (out_of_memory q) end) e s)
 
--- ---- the files behind the one at which a run stopped
+-- ---- the files after the one at which a run stopped
 
 abbrev told_or : Option (List ℕ) → List ℕ
 told_or None = []

@@ -6,7 +6,7 @@ pub mod RuleLemmas
 pub mod WordLemmas
 pub mod GatherLemmas
 pub mod EndLemmas
-pub mod AgreeLemmas
+pub mod StatusLemmas
 pub mod OneAnswerLemmas
 pub mod SomeReportLemmas
 pub mod SomeAnswerLemmas

@@ -10,7 +10,8 @@ use Rattle.hcl_source.proofs.LoadLemmas.{one_load_fault, text_or_fault}
 use Rattle.hcl_tokens.specs.Lexemes.{Lexeme}
 use Rattle.hcl_tokens.specs.Scanned.{Scanned}
 use Rattle.hcl_tokens.proofs.RunLemmas.{no_fault, one_fault, one_scan}
-use Rattle.hcl_scan.proofs.SpellingLemmas.{nonempty, one_kind}
+use Rattle.hcl_scan.proofs.SpellingLemmas.{one_kind}
+use Rattle.hcl_tokens.proofs.NonemptyLemmas.{nonempty}
 use Rattle.hcl_grammar.specs.Verdict.{verdict}
 use Rattle.tf_rules.specs.Answers.{answered}
 use Rattle.tf_rules.specs.Issues.{IsReport}

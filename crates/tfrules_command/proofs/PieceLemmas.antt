@@ -1,15 +1,16 @@
--- Pieces that are written one behind the other.
-use Rattle.std.proofs.Common.{◌≡◌, ◌∙◌, ◌<◌, ◌≤◌, ◌+◌, ◌++◌, ◌∷◌, [], ℕ, Bool, true, false, List, Option, Some, None, ap, append_assoc, arith, codes, drop, get_or, length, map, refl, subst, sym}
-use Rattle.std.proofs.lemmas.List.{get_or_default, take_all}
+-- Pieces that are written one after another.
+use Rattle.std.proofs.Common.{◌≡◌, ◌∙◌, ◌<◌, ◌≤◌, ◌+◌, ◌++◌, ◌∷◌, [], ℕ, Bool, true, false, List, Option, Some, None, ap, ap₂, append_assoc, arith, codes, drop, get_or, length, map, refl, subst, sym, take}
+use Rattle.std.proofs.lemmas.List.{append-nil, get_or_default, map-append, take_all, take_more}
+use Rattle.std.proofs.lemmas.List.Folds.{concat-append}
 use Rattle.std.specs.Prelude.{◌==◌, decimal}
 use Rattle.std.specs.Borrow.{Bor}
 use Rattle.std.specs.List.{concat, flat_map}
 use Rattle.std.specs.Io.KnownBytes.{Appends, Keeps}
 use Rattle.command_line.specs.Rows.{TookBy, line}
-use Rattle.tf_facts.specs.Rules.{rule_name, severity, severity_text}
+use Rattle.tf_facts.specs.Rules.{severity, severity_text}
 use Rattle.tf_rules.specs.declared.issue.Issue.{Issue}
 use Rattle.tfrules_command.specs.Report.{issue_line, report}
-use Rattle.tfrules_command.specs.Inner.Pieces.{issue_words, lines_of_report, place_words}
+use Rattle.tfrules_command.specs.Inner.Pieces.{closing_words, line_words, lines_of_report, opening_words}
 use Rattle.tfrules_command.proofs.ListLemmas.{from_here}
 use Rattle.tfrules_command.proofs.WriterLemmas.{took_behind, took_front}
 
@@ -30,32 +31,33 @@ pub piece_here : (xs : List (Bor (List ℕ))) (i : ℕ) (d : Bor (List ℕ)) (te
 piece_here xs i d text lt is =
     ap (λ l. concat (map (λ piece. piece.now) l)) (from_here xs i (get_or xs i d) lt (get_or_default xs i d (get_or xs i d) lt)) ∙ ap (λ t. t ++ concat (map (λ piece. piece.now) (drop (i + 1) xs))) (sym is)
 
+-- a piece more is joined
+pub piece_more : (xs : List (Bor (List ℕ))) (i : ℕ) (d : Bor (List ℕ)) (text old new : List ℕ) → i < length xs → text ≡ (get_or xs i d).now → new ≡ old ++ text → old ≡ concat (map (λ piece. piece.now) (take i xs))
+    → new ≡ concat (map (λ piece. piece.now) (take (i + 1) xs))
+piece_more xs i d text old new lt is pushed so_far =
+    pushed
+    ∙ ap₂ (λ a b. a ++ b) so_far (is ∙ sym (append-nil (get_or xs i d).now))
+    ∙ sym (concat-append (map (λ piece. piece.now) (take i xs)) ((get_or xs i d).now ∷ []))
+    ∙ ap concat (sym (map-append (λ piece. piece.now) (take i xs) (get_or xs i d ∷ [])))
+    ∙ ap (λ l. concat (map (λ piece. piece.now) l)) (sym (take_more xs i d lt))
+
 pub line_here : {X : Type 0} (f : X → List ℕ) (xs : List X) (i : ℕ) (x : X) → i < length xs → x ≡ get_or xs i x → flat_map f (drop i xs) ≡ f x ++ flat_map f (drop (i + 1) xs)
 line_here f xs i x lt is = ap (flat_map f) (from_here xs i x lt is)
 
 -- ---- the line of an issue
 
-line_is : (names : List (List ℕ)) (i : Issue) (n l c s m r : List ℕ) → n ≡ get_or names i.file [] → l ≡ decimal i.at.line → c ≡ decimal i.at.column
-    → s ≡ severity_text (severity i.rule) → m ≡ i.message → r ≡ rule_name i.rule → place_words n l c ++ issue_words s m r ≡ issue_line names i
-line_is names i n l c s m r en el ec es em er =
-    (λ k. place_words (en k) (el k) (ec k) ++ issue_words (es k) (em k) (er k))
-    ∙ regroup (get_or names i.file []) (codes ":") (decimal i.at.line) (codes ":") (decimal i.at.column) (codes ": ") (issue_words (severity_text (severity i.rule)) i.message (rule_name i.rule))
+pub line_written : (a b : Option (List ℕ)) (f : Bool) (names : List (List ℕ)) (i : Issue) (n l c o m e : List ℕ) → n ≡ get_or names i.file [] → l ≡ decimal i.at.line → c ≡ decimal i.at.column
+    → o ≡ opening_words (severity i.rule) → m ≡ i.message → e ≡ closing_words i.rule → TookBy f a b (line_words n l c o m e) → TookBy f a b (issue_line names i)
+line_written a b f names i n l c o m e en el ec eo em ee t = subst (TookBy f a b) is t
   where
-    regroup : (a b d e f g h : List ℕ) → (a ++ (b ++ (d ++ (e ++ (f ++ g))))) ++ h ≡ a ++ (b ++ (d ++ (e ++ (f ++ (g ++ h)))))
-    regroup a b d e f g h = simp append_assoc
+    tail : (x y z w : List ℕ) → (x ++ (y ++ z)) ++ w ≡ x ++ (y ++ (z ++ w))
+    tail x y z w = simp append_assoc
 
-pub place_failed : (a b : Option (List ℕ)) (f : Bool) (names : List (List ℕ)) (i : Issue) (n l c : List ℕ) → n ≡ get_or names i.file [] → l ≡ decimal i.at.line → c ≡ decimal i.at.column → f ≡ true
-    → TookBy f a b (place_words n l c) → TookBy f a b (issue_line names i)
-place_failed a b f names i n l c en el ec failed t =
-    let words = issue_words (severity_text (severity i.rule)) i.message (rule_name i.rule) in
-    subst (TookBy f a b) (line_is names i n l c (severity_text (severity i.rule)) i.message (rule_name i.rule) en el ec refl refl refl)
-    (took_front a b f (place_words n l c) words failed t)
-
-pub line_written : (a b d : Option (List ℕ)) (f : Bool) (names : List (List ℕ)) (i : Issue) (n l c s m r : List ℕ) → n ≡ get_or names i.file [] → l ≡ decimal i.at.line → c ≡ decimal i.at.column
-    → s ≡ severity_text (severity i.rule) → m ≡ i.message → r ≡ rule_name i.rule → Appends a b (place_words n l c)
-    → TookBy f b d (issue_words s m r) → TookBy f a d (issue_line names i)
-line_written a b d f names i n l c s m r en el ec es em er p t =
-    subst (TookBy f a d) (line_is names i n l c s m r en el ec es em er) (took_behind a b d f (place_words n l c) (issue_words s m r) p t)
+    is : line_words n l c o m e ≡ issue_line names i
+    is =
+        (λ k. line_words (en k) (el k) (ec k) (eo k) (em k) (ee k))
+        ∙ ap (λ r. get_or names i.file [] ++ (codes ":" ++ (decimal i.at.line ++ (codes ":" ++ (decimal i.at.column ++ r)))))
+        (tail (codes ": ") (severity_text (severity i.rule)) (codes " - ") (i.message ++ closing_words i.rule))
 
 -- ---- the report
 

@@ -33,7 +33,7 @@ use Rattle.tfrules_command.proofs.GatherLemmas.{all_zip_push}
 use Rattle.tfrules_command.proofs.SomeReportLemmas.{some_report}
 use Rattle.tfrules_command.proofs.WordLemmas.{one}
 
--- ---- no line has want of memory as its usage
+-- ---- running out of memory is the usage of no line
 
 usage_of_words : (k : ErrorKind) → IsOfWords k → usage_of_kind k ≡ usage.OutOfMemory → ⊥
 usage_of_words kind.InvalidValue p e = absurd (cc)

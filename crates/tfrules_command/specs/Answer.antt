@@ -33,7 +33,7 @@ usage_line = line (codes "usage: tfrules [--rules LIST] [--naming snake_case|mix
 
 -- ---- the answer
 
--- behind files of so many bytes, this one ends the run with the row
+-- after files of so many bytes, this one ends the run with the row
 abbrev pub IsRefused : ℕ → NamedFile → Row → Type 0
 IsRefused size file row =
     ((fault : Fault) × IsFault size file.bytes fault × (row ≡ refused file.name fault)) ⊎ (IsTooMuch size file.bytes × (row ≡ too_large file.name))
@@ -59,7 +59,7 @@ pub record IsRefusedFirst (files : List NamedFile) (row : Row) : Type 0 where
 abbrev pub names_of : List NamedFile → List (List ℕ)
 names_of files = map (λ file. file.name) files
 
--- no line has want of memory as its usage
+-- running out of memory is the usage of no line
 abbrev pub IsAnswerBy : Result Asking Usage → List NamedFile → Row → Type 0
 IsAnswerBy (Ok asking) files row = (names_of files ≡ asking.files) × (IsReported asking files row ⊎ IsRefusedFirst files row)
 IsAnswerBy (Err usage.Help) files row = row ≡ record { out = usage_line; err = []; status = 0 }

@@ -42,11 +42,11 @@ pub record AreAccepted (files : List NamedFile) (sources : List Scanned) : Type 
   pub each : AllZip IsAcceptedAs files sources
   pub fit : size_of files ≤ max_module
 
--- behind files of so many bytes this one is too much, which is looked at before its tokens
+-- after files of so many bytes this one is too much, which is looked at before its tokens
 abbrev pub IsTooMuch : ℕ → List ℕ → Type 0
 IsTooMuch size bytes = IsText bytes × (max_module < size + length bytes)
 
--- behind files of so many bytes this is the fault for which the bytes are refused
+-- after files of so many bytes this is the fault for which the bytes are refused
 abbrev pub IsFault : ℕ → List ℕ → Fault → Type 0
 IsFault size bytes fault = IsLoadFault bytes fault ⊎ (IsText bytes × (size + length bytes ≤ max_module) × IsOutcome bytes (Err fault))
 

@@ -4,5 +4,4 @@ pub mod Files
 pub mod Report
 pub mod Answer
 pub mod Rows
-pub mod Formatted
 pub mod Inner

@@ -87,7 +87,7 @@ with_name names name = if list_any (λ known. bytes_eq known name) names then na
 abbrev pub each_once : List Text → List Text
 each_once names = fold with_name [] names
 
--- no name stands among those behind it
+-- no name stands among those after it
 abbrev pub NoneTwice : List Text → Type 0
 NoneTwice [] = Unit {0}
 NoneTwice (n ∷ ns) = (list_any (bytes_eq n) ns ≡ false) × NoneTwice ns
@@ -132,6 +132,6 @@ abbrev pub options_by : Kinds → List Row → Result Asking Usage
 options_by [] rows = asking_of_rows rows
 options_by (fault ∷ _) rows = Err (usage_of_kind fault)
 
--- THE OPTIONS of a line, want of memory aside
+-- THE OPTIONS of a line, unless memory runs out
 abbrev pub options_of : List Text → Result Asking Usage
 options_of words = options_by (fault_of tfrules words) (matches_of tfrules words)

@@ -42,6 +42,6 @@ IsRowBy told options true read_failed = IsUnreadBy (codes "cannot be opened") to
 IsRowBy told options false true = IsUnreadBy (codes "read failed") told options
 IsRowBy told options false false = IsAnswerTo told options
 
--- or that for want of memory
+-- or that for running out of memory
 abbrev pub IsRow : (List ℕ → Option (List ℕ)) → Result Asking Usage → Bool → Bool → Row → Type 0
 IsRow told options open_failed read_failed = OrOutOfMemory linter (IsRowBy told options open_failed read_failed)

@@ -35,7 +35,7 @@ fn is_known(names: &[&str], name: &str) -> bool
     names.iter().any(|known| *known == name)
 }
 
-/// Puts a name behind the others, where it isn't among them.
+/// Puts a name after the others, where it isn't among them.
 fn add_name<'a>(names: &mut Vec<&'a str>, name: &'a str) -> Result<(), AllocError>
     ensures names { OnOk result (map (λ known. known.now) names.new.items ≡ with_name (map (λ known. known.now) names.old.items) name.entry.now) }
     ensures few { OnOk result (length names.new.items ≤ length names.old.items + 1) }

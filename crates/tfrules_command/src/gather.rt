@@ -74,7 +74,7 @@ fn keep_tokens(
     }
 }
 
-/// Keeps the facts of a file behind others of so many bytes, and answers how many it is then. Their size is looked at before
+/// Keeps the facts of a file after others of so many bytes, and answers how many it is then. Their size is looked at before
 /// its tokens.
 fn keep_file(
     alloc: Global,

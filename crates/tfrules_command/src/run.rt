@@ -140,7 +140,7 @@ fn run_over<M: ModuleFiles, O: ByteSink, E: ByteSink>(
 }
 
 /// Reads the files that are named, in their order and each once, and lints them: writes the report of their issues to
-/// standard output, or why one of them is refused to standard error, and gives the exit status. No file is opened behind one
+/// standard output, or why one of them is refused to standard error, and gives the exit status. No file is opened after one
 /// that is refused.
 pub fn run<M: ModuleFiles, O: ByteSink, E: ByteSink>(
     alloc: Global,

@@ -1,4 +1,4 @@
-//! What the tests compare by, with one assertion each, so that it is proved once. A failure tells the text of a file of
+//! What the tests compare by, with one assertion each, so that it is proved once. A failure shows the text of a file of
 //! the run.
 
 use std::alloc::Global;

@@ -12,7 +12,7 @@ use std::process::Abort;
 use tfrules_command::module_files::ModuleFiles;
 use tfrules_command::run::program;
 
-/// How many bytes a call moves at most, and which calls fail: of each kind the one behind so many good ones.
+/// How many bytes a call moves at most, and which calls fail: of each kind the one after so many good ones.
 #[derive(Clone, Copy)]
 pub struct Devices {
     pub most: usize,

@@ -51,7 +51,7 @@ fn message_front(text: &[u8], calls: usize, most: usize) -> &[u8] {
     text.split_at(calls.saturating_mul(most).min(text.len())).0
 }
 
-// Runs over devices of which the message's fails behind so many good writes: the run shows what is wanted, or of the message
+// Runs over devices of which the message's fails after so many good writes: the run shows what is wanted, or of the message
 // only what these wrote. Gives whether that write was reached.
 fn message_fails(
     rt: &impl Abort,
@@ -76,7 +76,7 @@ fn message_fails(
     failed
 }
 
-// Lets each write of a message fail in turn, beside other failures, behind which the run is to show this. Gives how many
+// Lets each write of a message fail in turn, beside other failures, after which the run is to show this. Gives how many
 // writes the message takes.
 fn fail_messages(
     rt: &impl Abort,
@@ -102,7 +102,7 @@ enum Kind {
     Flush,
 }
 
-// Devices of which the call of this kind behind so many good ones fails. A flush fails at once.
+// Devices of which the call of this kind after so many good ones fails. A flush fails at once.
 fn failing(kind: Kind, good: usize, most: usize) -> Devices {
     let others = steady(most);
     match kind {
@@ -140,7 +140,7 @@ fn line_about(
     joined(rt, alloc, &["tfrules: error: ", name, ": ", text, "\n"])
 }
 
-// The message of a run whose call of this kind fails behind so many good ones.
+// The message of a run whose call of this kind fails after so many good ones.
 fn message_behind(
     rt: &impl Abort,
     alloc: Global,
@@ -249,20 +249,8 @@ const REGISTRY: Module = &[(
 
 // The report of that module, as it is written.
 const VERSION: &[&str] = &[
-    "1",
-    " issue(s) found:\n\n",
-    "main.tf",
-    ":",
-    "1",
-    ":",
-    "1",
-    ": ",
-    "Warning",
-    " - ",
-    "module \"m\" has no version",
-    " (",
-    "terraform_module_version",
-    ")\n",
+    "1 issue(s) found:\n\n",
+    "main.tf:1:1: Warning - module \"m\" has no version (terraform_module_version)\n",
 ];
 
 const USED: Module = &[
@@ -291,7 +279,7 @@ static RUNS: [(Words, Module, &[&str], &[u8], u8, Counts, Counts); 9] = [
         b"",
         2,
         (1, 50, 95, 1, 0, 4_823),
-        (1, 2, 14, 1, 0, 36),
+        (1, 2, 2, 1, 0, 12),
     ),
     (
         &["tfrules", "--force", "main.tf"],
@@ -300,7 +288,7 @@ static RUNS: [(Words, Module, &[&str], &[u8], u8, Counts, Counts); 9] = [
         b"",
         0,
         (1, 50, 95, 1, 0, 4_823),
-        (1, 2, 14, 1, 0, 36),
+        (1, 2, 2, 1, 0, 12),
     ),
     // files without issues, of which one comes again
     (

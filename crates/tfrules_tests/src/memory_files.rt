@@ -31,7 +31,7 @@ pub enum FileFailure {
     None,
     /// The opening of this number, from 0 on.
     Opening(usize),
-    /// In the file opened at this number the read behind so many good ones.
+    /// In the file opened at this number the read after so many good ones.
     Read(usize, usize),
 }
 

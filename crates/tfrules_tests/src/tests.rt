@@ -233,7 +233,7 @@ fn operands_are_counted_as_given(rt: HostRuntime) {
     is_refused(&rt, alloc, &operands(&rt, alloc, 257), module, line, (0, 0));
 }
 
-// So many times a text, and another one behind them.
+// So many times a text, and another one after them.
 fn repeated(rt: &impl Abort, alloc: Global, text: &[u8], count: usize, last: &[u8]) -> Vec<u8> {
     let mut bytes = Vec::new(alloc);
     for _ in 0..count {

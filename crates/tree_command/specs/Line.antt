@@ -1,11 +1,30 @@
--- What the words of a `tffmt-all` line ask to be done with files. clap reads them as a simple command: its own definition
--- of the matches of a line decides. Our own choice.
-use Rattle.std.specs.Prelude.{ℕ, Bool, true, false, List, Option, Some, None, codes, nat_lt}
-use Rattle.clap.specs.Words.{App, Row, Rule, Text, count_of, matches_of, new_app, new_rule, with_rule}
-use Rattle.clap.specs.declared.builder.ArgAction.TheVariants.{Append, Count}
+-- What the words of a `tffmt-all` line ask for. clap reads them as a simple command: its own definitions of the matches and
+-- the faults of a line decide. What its options may say is our own choice.
+use Rattle.std.specs.Prelude.{ℕ, ◌==◌, ◌&&◌, ◌||◌, not, Bool, true, false, List, [], ◌∷◌, Option, Some, None, Result, Ok, Err, codes, fold, length, nat_le, nat_lt, option_map, slice_get, unwrap_or, if◌then◌else◌}
+use Rattle.std.specs.List.{after_first, before_first, list_all}
+use Rattle.std.specs.Char.{is_ascii_digit}
+use Rattle.std.specs.Option.{option_map_or}
+use Rattle.std.specs.Str.Parse.{digits_value}
+use Rattle.clap.specs.Words.{App, Kinds, Row, Rule, Text, all_of, count_of, fault_of, first_of, matches_of, new_app, new_rule, with_rule}
+use Rattle.clap.specs.declared.builder.ArgAction.TheVariants.{Append, Count, Set}
+use Rattle.clap.specs.declared.error.ErrorKind.{ErrorKind}
+use Rattle.clap.specs.declared.error.ErrorKind.TheVariants as kind
 use Rattle.file_tree.specs.declared.tree.Writing.{Writing}
 use Rattle.tree_format.specs.declared.mode.Mode.{Mode}
 use Rattle.tree_format.specs.declared.mode.Mode.TheVariants.{Write, Check, List as Listed, Diff}
+use Rattle.tree_command.specs.declared.shard.Shard.{Shard}
+use Rattle.tree_command.specs.declared.usage.Usage.{Usage}
+use Rattle.tree_command.specs.declared.usage.Usage.TheVariants.{Help, Version, BadLine, OutOfMemory}
+
+-- what a line asks for: what is to be done, with which part of the files, whether names are read from standard input, and
+-- the names of the line
+pub record Asking : Type 0 where
+  pub mode : Mode
+  pub shard : Option Shard
+  pub null : Bool
+  pub names : List Text
+
+-- ---- the command
 
 -- `--NAME`, which may be given more than once
 abbrev pub flag_rule : Text → Rule
@@ -15,21 +34,32 @@ flag_rule name = record (new_rule name) { long = Some name; action = Some Count 
 abbrev pub null_rule : Rule
 null_rule = record (new_rule (codes "null")) { long = Some (codes "null"); short = Some 48; action = Some Count }
 
--- `-j NUMBER` and `--jobs NUMBER`
+-- `--NAME VALUE`
+abbrev pub option_rule : Text → Rule
+option_rule name = record (new_rule name) { long = Some name; action = Some Set }
+
+-- `-j NUMBER` and `--jobs NUMBER`, which may be given more than once
 abbrev pub jobs_rule : Rule
 jobs_rule = record (new_rule (codes "jobs")) { long = Some (codes "jobs"); short = Some 106; action = Some Append }
 
 abbrev pub file_rule : Rule
 file_rule = record (new_rule (codes "file")) { action = Some Append }
 
--- `tffmt-all [--check | --diff | --list] [--in-place] [--sync] [--null] [--jobs NUMBER] [--] [FILE|FOLDER]...`
+-- `tffmt-all [--check | --diff | --list] [--in-place] [--sync] [--shard K/N] [--jobs NUMBER] [--null] [--version] [--]
+-- [FILE|FOLDER]...`
 abbrev pub tffmt_all : App
 tffmt_all =
-    with_rule (with_rule (with_rule (with_rule (with_rule (with_rule (with_rule (with_rule (new_app (codes "tffmt-all")) (flag_rule (codes "check")))
-    (flag_rule (codes "diff"))) (flag_rule (codes "list"))) (flag_rule (codes "in-place"))) (flag_rule (codes "sync"))) null_rule) jobs_rule) file_rule
+    fold with_rule (new_app (codes "tffmt-all"))
+    (flag_rule (codes "check") ∷ flag_rule (codes "diff") ∷ flag_rule (codes "list") ∷ flag_rule (codes "in-place") ∷ flag_rule (codes "sync")
+    ∷ flag_rule (codes "version") ∷ null_rule ∷ option_rule (codes "shard") ∷ jobs_rule ∷ file_rule ∷ [])
 
 abbrev pub is_given : Text → List Row → Bool
 is_given name rows = nat_lt 0 (count_of name rows)
+
+abbrev pub texts_of : Text → List Row → List Text
+texts_of id rows = unwrap_or (all_of id rows) []
+
+-- ---- what is to be done
 
 -- one of the three flags, or none of them
 abbrev pub mode_by : Bool → Bool → Bool → Writing → Option Mode
@@ -46,6 +76,74 @@ mode_asked rows =
     mode_by (is_given (codes "check") rows) (is_given (codes "diff") rows) (is_given (codes "list") rows)
     (record { in_place = is_given (codes "in-place") rows; sync = is_given (codes "sync") rows })
 
--- WHAT THE WORDS ASK FOR, where clap finds no fault in them
+-- ---- numbers
+
+abbrev pub most_digits : ℕ
+most_digits = 5
+
+abbrev pub max_jobs : ℕ
+max_jobs = 9999
+
+-- decimal digits, of which the first isn't 0
+abbrev pub is_number : Text → Bool
+is_number text =
+    nat_lt 0 (length text) && (nat_le (length text) most_digits && (not (option_map_or (λ b. b == 48) (slice_get text 0) false) && list_all is_ascii_digit text))
+
+abbrev pub number_in : Text → Option ℕ
+number_in text = if is_number text then Some (digits_value 10 text) else None
+
+abbrev pub is_jobs : Text → Bool
+is_jobs text = option_map_or (λ n. nat_le n max_jobs) (number_in text) false
+
+abbrev pub shard_by : Option ℕ → Option ℕ → Option Shard
+shard_by None count = None
+shard_by (Some number) None = None
+shard_by (Some number) (Some count) = if nat_le 1 number && nat_le number count then Some (record { number = number; count = count }) else None
+
+-- `K/N`
+abbrev pub shard_in : Text → Option Shard
+shard_in text = shard_by (number_in (before_first (λ b. b == 47) text)) (number_in (after_first (λ b. b == 47) text))
+
+-- no part where there is no text, and nothing where it names none
+abbrev pub shard_given : Option Text → Option (Option Shard)
+shard_given None = Some None
+shard_given (Some text) = option_map Some (shard_in text)
+
+-- ---- the line
+
+abbrev pub asking_by : Option Mode → Option (Option Shard) → Bool → Bool → List Text → Result Asking Usage
+asking_by None shard is_good null names = Err BadLine
+asking_by (Some mode) None is_good null names = Err BadLine
+asking_by (Some mode) (Some shard) false null names = Err BadLine
+asking_by (Some mode) (Some shard) true null names = Ok (record { mode = mode; shard = shard; null = null; names = names })
+
+-- names come from the line or from standard input, and not from both
+abbrev pub is_good : Bool → ℕ → Bool → Bool
+is_good null names are_jobs = are_jobs && (not null || names == 0)
+
+abbrev pub asking_with : List Row → List Text → Result Asking Usage
+asking_with rows names =
+    asking_by (mode_asked rows) (shard_given (first_of (codes "shard") rows))
+    (is_good (is_given (codes "null") rows) (length names) (list_all is_jobs (texts_of (codes "jobs") rows))) (is_given (codes "null") rows) names
+
+abbrev pub asking_of_rows : List Row → Result Asking Usage
+asking_of_rows rows = if is_given (codes "version") rows then Err Version else asking_with rows (texts_of (codes "file") rows)
+
+-- what a refusal of clap's becomes
+abbrev pub usage_of_kind : ErrorKind → Usage
+usage_of_kind kind.OutOfMemory = OutOfMemory
+usage_of_kind kind.DisplayHelp = Help
+usage_of_kind _ = BadLine
+
+-- a line in which clap finds no fault gives its matches, a fault that is help gives help, and any other a bad line
+abbrev pub asking_of_faults : Kinds → List Row → Result Asking Usage
+asking_of_faults [] rows = asking_of_rows rows
+asking_of_faults (fault ∷ _) rows = Err (usage_of_kind fault)
+
+-- WHAT THE WORDS ASK FOR, unless memory runs out
+abbrev pub asking_of_words : List Text → Result Asking Usage
+asking_of_words words = asking_of_faults (fault_of tffmt_all words) (matches_of tffmt_all words)
+
+-- what they ask to be done with files, where clap finds no fault in them
 abbrev pub mode_of_words : List Text → Option Mode
 mode_of_words words = mode_asked (matches_of tffmt_all words)

@@ -3,5 +3,7 @@
 #![tactic(auto)]
 
 pub mod options;
+pub mod pick;
 pub mod run;
+pub mod shard;
 pub mod usage;

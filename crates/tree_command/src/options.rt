@@ -1,9 +1,15 @@
 //! The words of the command line.
 
-ghost use Rattle.std.specs.Prelude.{◌≡◌, false, IfOk, map};
-ghost use Rattle.clap.specs.Words.{app_of, found_of, rows_of, rule_of};
-ghost use Rattle.tree_command.specs.Line.{file_rule, flag_rule, is_given, jobs_rule, mode_asked, mode_by, mode_of_words, null_rule, tffmt_all};
+ghost use Rattle.std.specs.Prelude.{◌≡◌, ◌==◌, ◌⊎◌, false, codes, Err, IfOk, Some, length, map, option_map, slice_get};
+ghost use Rattle.std.specs.Char.{is_ascii_digit};
+ghost use Rattle.std.specs.List.{list_all};
+ghost use Rattle.std.specs.Option.{option_map_or};
+ghost use Rattle.clap.specs.Words.{app_of, first_of, found_of, kind_of, rows_of, rule_of};
+ghost use Rattle.tree_command.specs.Asked.{asked_by};
+ghost use Rattle.tree_command.specs.Line.{asking_by, asking_of_rows, asking_of_words, asking_with, file_rule, flag_rule, is_given, is_good, is_jobs, is_number, jobs_rule, mode_asked, mode_by, mode_of_words, null_rule, number_in, option_rule, shard_by, shard_given, shard_in, texts_of, tffmt_all, usage_of_kind};
+ghost use Rattle.tree_command.specs.declared.usage.Usage.TheVariants.{OutOfMemory};
 
+use crate::shard::Shard;
 use crate::usage::Usage;
 use clap::error::ErrorKind;
 use clap::{Arg, ArgAction, ArgMatches, Command, Error};
@@ -11,11 +17,18 @@ use file_tree::tree::Writing;
 use std::alloc::{AllocError, Global};
 use tree_format::mode::Mode;
 
+/// The most digits of a number.
+const MOST_DIGITS: usize = 5;
+
+const MAX_JOBS: u32 = 9_999;
+
 /// What the words ask for.
 #[derive(Debug, Drop)]
 pub struct TreeOptions<'a> {
     /// What is to be done with the files.
     pub mode: Mode,
+    /// The part of the files that is taken, where it isn't all.
+    pub shard: Option<Shard>,
     /// The names are read from standard input.
     pub null: bool,
     /// The names of the line.
@@ -23,7 +36,9 @@ pub struct TreeOptions<'a> {
 }
 
 /// What a refusal of clap's becomes.
-fn usage_for(error: &Error) -> Usage {
+fn usage_for(error: &Error) -> Usage
+    ensures { result ≡ usage_of_kind (kind_of error.now) }
+{
     match error.kind() {
         ErrorKind::OutOfMemory => Usage::OutOfMemory,
         ErrorKind::DisplayHelp => Usage::Help,
@@ -48,6 +63,14 @@ fn null<'a>(alloc: Global) -> Arg<'a>
         .long("null")
         .short('0')
         .action(ArgAction::Count)
+}
+
+/// The option `--NAME VALUE`.
+fn option<'a>(alloc: Global, name: &'a str) -> Arg<'a>
+    ensures rule { rule_of result ≡ option_rule name.entry.now }
+    ensures local { result.global ≡ false }
+{
+    Arg::new(alloc, name).long(name).action(ArgAction::Set)
 }
 
 /// `-j NUMBER` and `--jobs NUMBER`.
@@ -79,7 +102,9 @@ fn command<'a>(alloc: Global) -> Result<Command<'a>, AllocError>
         .arg(flag(alloc, "list"))?
         .arg(flag(alloc, "in-place"))?
         .arg(flag(alloc, "sync"))?
+        .arg(flag(alloc, "version"))?
         .arg(null(alloc))?
+        .arg(option(alloc, "shard"))?
         .arg(jobs(alloc))?
         .arg(file(alloc))
 }
@@ -118,20 +143,149 @@ fn mode_of(matches: &ArgMatches<'_>) -> Option<Mode>
     mode_by(check, diff, list, writing)
 }
 
-/// Whether a text is a number from 1 to 9999, without zeros before it.
-fn is_number(text: &str) -> bool {
+fn begins_with_zero(digits: &[u8]) -> bool
+    ensures { result ≡ option_map_or (λ b. b == 48) (slice_get digits.now 0) false }
+{
+    match digits.first() {
+        Some(digit) => *digit == b'0',
+        None => false,
+    }
+}
+
+fn are_digits(digits: &[u8]) -> bool
+    ensures { result ≡ list_all is_ascii_digit digits.now }
+{
+    digits.iter().all(|b| b.is_ascii_digit())
+}
+
+/// Whether a text is a number without zeros before it.
+fn is_number(text: &str) -> bool
+    ensures { result ≡ is_number text.now }
+{
     let digits = text.as_bytes();
     !digits.is_empty()
-        && digits.len() <= 4
-        && !digits.starts_with(b"0")
-        && digits.iter().all(|b| b.is_ascii_digit())
+        && digits.len() <= MOST_DIGITS
+        && !begins_with_zero(digits)
+        && are_digits(digits)
+}
+
+fn number_in(text: &str) -> Option<u32>
+    ensures { result ≡ number_in text.now }
+{
+    if !is_number(text) {
+        return None;
+    }
+    text.parse().ok()
+}
+
+/// Whether a text is a number of jobs.
+fn is_jobs(text: &str) -> bool
+    ensures { result ≡ is_jobs text.now }
+{
+    match number_in(text) {
+        Some(number) => number <= MAX_JOBS,
+        None => false,
+    }
+}
+
+fn are_jobs(texts: &[&str]) -> bool
+    ensures { result ≡ list_all (λ text. is_jobs text.now) texts.now }
+{
+    texts.iter().all(|text| is_jobs(text))
 }
 
 /// Whether all numbers of jobs are numbers.
-fn are_jobs_good(matches: &ArgMatches<'_>) -> bool {
+fn are_jobs_good(matches: &ArgMatches<'_>) -> bool
+    ensures { result ≡ list_all is_jobs (texts_of (codes "jobs") (rows_of (found_of matches.now))) }
+{
     match matches.get_strs("jobs") {
-        Some(given) => given.iter().all(|number| is_number(number)),
+        Some(texts) => are_jobs(texts),
         None => true,
+    }
+}
+
+/// The part of these numbers.
+fn shard_by(number: Option<u32>, count: Option<u32>) -> Option<Shard>
+    ensures { result ≡ shard_by number count }
+{
+    let Some(number) = number else {
+        return None;
+    };
+    let Some(count) = count else {
+        return None;
+    };
+    if number < 1 || count < number {
+        return None;
+    }
+    Some(Shard { number, count })
+}
+
+/// The part that `K/N` names.
+fn shard_in(text: &str) -> Option<Shard>
+    ensures { result ≡ shard_in text.now }
+{
+    match text.split_once('/') {
+        Some((number, count)) => shard_by(number_in(number), number_in(count)),
+        None => None,
+    }
+}
+
+/// The part that a text names, where there is one, or nothing where it names none.
+fn shard_given(text: Option<&str>) -> Option<Option<Shard>>
+    ensures { result ≡ shard_given (option_map (λ text. text.now) text.entry) }
+{
+    match text {
+        Some(text) => match shard_in(text) {
+            Some(shard) => Some(Some(shard)),
+            None => None,
+        },
+        None => Some(None),
+    }
+}
+
+/// The part that the matches of a line give.
+fn shard_of(matches: &ArgMatches<'_>) -> Option<Option<Shard>>
+    ensures { result ≡ shard_given (first_of (codes "shard") (rows_of (found_of matches.now))) }
+{
+    shard_given(matches.get_str("shard"))
+}
+
+/// Whether names come from the line or from standard input, and not from both, and the numbers of jobs are numbers.
+fn is_good(null: bool, given: &[&str], are_jobs: bool) -> bool
+    ensures { result ≡ is_good null (length given.now) are_jobs }
+{
+    are_jobs && (!null || given.is_empty())
+}
+
+/// The options of these parts of a line.
+fn options_by<'a>(
+    alloc: Global,
+    mode: Option<Mode>,
+    shard: Option<Option<Shard>>,
+    is_good: bool,
+    null: bool,
+    given: &[&'a str],
+) -> Result<TreeOptions<'a>, Usage>
+    ensures asked { (result ≡ Err OutOfMemory) ⊎ (asked_by result ≡ asking_by mode shard is_good null (map (λ name. name.now) given.now)) }
+    ensures mode { IfOk result (λ options. mode ≡ Some options.mode) }
+{
+    let Some(mode) = mode else {
+        return Err(Usage::BadLine);
+    };
+    let Some(shard) = shard else {
+        return Err(Usage::BadLine);
+    };
+    if !is_good {
+        return Err(Usage::BadLine);
+    }
+    match Vec::from_slice(alloc, given) {
+        Ok(names) => Ok(TreeOptions {
+            mode,
+            shard,
+            null,
+            names,
+        }),
+        Err(_) => Err(Usage::OutOfMemory),
     }
 }
 
@@ -141,35 +295,36 @@ fn options_with<'a>(
     given: &[&'a str],
     matches: &ArgMatches<'a>,
 ) -> Result<TreeOptions<'a>, Usage>
-    ensures { IfOk result (λ options. mode_asked (rows_of (found_of matches.now)) ≡ Some options.mode) }
+    ensures asked { (result ≡ Err OutOfMemory) ⊎ (asked_by result ≡ asking_with (rows_of (found_of matches.now)) (map (λ name. name.now) given.now)) }
+    ensures mode { IfOk result (λ options. mode_asked (rows_of (found_of matches.now)) ≡ Some options.mode) }
 {
-    let Some(mode) = mode_of(matches) else {
-        return Err(Usage::BadLine);
-    };
+    let mode = mode_of(matches);
+    let shard = shard_of(matches);
     let null = is_given(matches, "null");
-    if (null && !given.is_empty()) || !are_jobs_good(matches) {
-        return Err(Usage::BadLine);
-    }
-    match Vec::from_slice(alloc, given) {
-        Ok(names) => Ok(TreeOptions { mode, null, names }),
-        Err(_) => Err(Usage::OutOfMemory),
-    }
+    let is_good = is_good(null, given, are_jobs_good(matches));
+    options_by(alloc, mode, shard, is_good, null, given)
 }
 
 /// The options that the matches of a line give.
 fn options_of<'a>(alloc: Global, matches: &ArgMatches<'a>) -> Result<TreeOptions<'a>, Usage>
-    ensures { IfOk result (λ options. mode_asked (rows_of (found_of matches.now)) ≡ Some options.mode) }
+    ensures asked { (result ≡ Err OutOfMemory) ⊎ (asked_by result ≡ asking_of_rows (rows_of (found_of matches.now))) }
+    ensures mode { IfOk result (λ options. mode_asked (rows_of (found_of matches.now)) ≡ Some options.mode) }
 {
+    if is_given(matches, "version") {
+        return Err(Usage::Version);
+    }
     match matches.get_strs("file") {
         Some(given) => options_with(alloc, given, matches),
         None => options_with(alloc, &[], matches),
     }
 }
 
-/// The options that the words give, the program's name first, or the usage that they have.
+/// The options that the words give, the program's name first, or the usage that they have. Where memory runs out it answers
+/// `OutOfMemory`.
 pub fn options<'a>(alloc: Global, words: &'a [&'a str]) -> Result<TreeOptions<'a>, Usage>
+    ensures asked { (result ≡ Err OutOfMemory) ⊎ (asked_by result ≡ asking_of_words (map (λ word. word.now) words.entry.now)) }
     // What is to be done with files is what the words ask for.
-    ensures { IfOk result (λ options. mode_of_words (map (λ word. word.now) words.entry.now) ≡ Some options.mode) }
+    ensures mode { IfOk result (λ options. mode_of_words (map (λ word. word.now) words.entry.now) ≡ Some options.mode) }
 {
     let Ok(command) = command(alloc) else {
         return Err(Usage::OutOfMemory);

@@ -1,15 +1,19 @@
 //! A run over any tree and any devices.
 
 ghost use Rattle.std.specs.Prelude.{◌≡◌, ℕ, List, false, map};
+ghost use Rattle.command_line.specs.Rows.{ShowsOne, writer};
+ghost use Rattle.tree_command.specs.Ends.{FormatsOr, IsBadLine, IsEnd, ReadsAndFormatsOr, formatter};
 ghost use Rattle.tree_command.specs.Line.{mode_of_words};
 ghost use Rattle.tree_format.specs.declared.mode.Mode.{Mode};
 ghost use Rattle.tree_format.specs.Runs.{IsSafe, Kept};
 
 use crate::options::options;
-use crate::usage::{HELP, USAGE, Usage};
+use crate::pick::pick;
+use crate::shard::Shard;
+use crate::usage::{HELP, USAGE, Usage, VERSION};
 use command_line::Program;
 use file_tree::tree::Tree;
-use file_tree::walk::find;
+use file_tree::walk::{Found, find};
 use hcl_scan::{ByteSink, ByteSource, Failed};
 use std::alloc::{AllocError, Global};
 use tree_format::mode::Mode;
@@ -22,7 +26,9 @@ const FAILURE: u8 = 4;
 static READ_FAILED: &str = "tffmt-all: error: read failed\n";
 
 /// This program as its messages have it.
-fn formatter() -> Program {
+fn formatter() -> Program
+    ensures { result ≡ formatter }
+{
     Program::new(
         "tffmt-all",
         4,
@@ -31,11 +37,26 @@ fn formatter() -> Program {
     )
 }
 
+/// The files that these names stand for, as far as they are of the part.
+fn find_part<T: Tree>(
+    alloc: Global,
+    shard: Option<Shard>,
+    operands: &[&[u8]],
+    tree: &mut T,
+) -> Result<Vec<Found>, AllocError>
+    // Nothing is changed.
+    ensures { T.files tree.new ≡ T.files tree.old }
+{
+    let found = find(alloc, operands, tree)?;
+    pick(alloc, found, shard)
+}
+
 /// Finds the files and goes over them.
 #[tactic(auto, using(tree_format::proofs::KeptLemmas::kept_same, tree_format::proofs::KeptLemmas::kept_still, tree_format::proofs::KeptLemmas::kept_from))]
 fn run<T: Tree, P: Progress, O: ByteSink, E: ByteSink>(
     alloc: Global,
     mode: Mode,
+    shard: Option<Shard>,
     operands: &[&[u8]],
     tree: &mut T,
     progress: &mut P,
@@ -45,9 +66,11 @@ fn run<T: Tree, P: Progress, O: ByteSink, E: ByteSink>(
     requires out { O.failed out.old ≡ false }
     requires err { E.failed err.old ≡ false }
     // However the run goes, each file is then as it was, or, where files are to be written, it has the format of its bytes.
-    ensures { (name : List ℕ) → Kept mode ((T.files tree.old).told name) ((T.files tree.new).told name) }
+    ensures kept { (name : List ℕ) → Kept mode ((T.files tree.old).told name) ((T.files tree.new).told name) }
+    ensures ends { FormatsOr mode (record { files = T.files tree.old; faults = T.faults tree.old }) (record { files = T.files tree.new; faults = T.faults tree.new })
+        (record { out = writer O.taken O.failed O.flushed O.flushes out.old out.new; err = writer E.taken E.failed E.flushed E.flushes err.old err.new; status = result }) }
 {
-    match find(alloc, operands, tree) {
+    match find_part(alloc, shard, operands, tree) {
         Ok(found) => {
             let status = run_over(alloc, mode, found.as_slice(), tree, progress, out, err);
             progress.end();
@@ -120,6 +143,7 @@ fn operands_of<'a>(alloc: Global, names: &[&'a str]) -> Result<Vec<&'a [u8]>, Al
 fn run_null<T: Tree, P: Progress, R: ByteSource, O: ByteSink, E: ByteSink>(
     alloc: Global,
     mode: Mode,
+    shard: Option<Shard>,
     input: &mut R,
     tree: &mut T,
     progress: &mut P,
@@ -130,7 +154,9 @@ fn run_null<T: Tree, P: Progress, R: ByteSource, O: ByteSink, E: ByteSink>(
     requires out { O.failed out.old ≡ false }
     requires err { E.failed err.old ≡ false }
     // However the run goes, each file is then as it was, or, where files are to be written, it has the format of its bytes.
-    ensures { (name : List ℕ) → Kept mode ((T.files tree.old).told name) ((T.files tree.new).told name) }
+    ensures kept { (name : List ℕ) → Kept mode ((T.files tree.old).told name) ((T.files tree.new).told name) }
+    ensures ends { ReadsAndFormatsOr mode (record { files = T.files tree.old; faults = T.faults tree.old }) (record { files = T.files tree.new; faults = T.faults tree.new })
+        (record { out = writer O.taken O.failed O.flushed O.flushes out.old out.new; err = writer E.taken E.failed E.flushed E.flushes err.old err.new; status = result }) }
 {
     let names = match read_names(alloc, input) {
         Ok(names) => names,
@@ -140,7 +166,16 @@ fn run_null<T: Tree, P: Progress, R: ByteSource, O: ByteSink, E: ByteSink>(
         Err(NoNames::OutOfMemory) => return formatter().tell_out_of_memory(out, err),
     };
     match operands_in(alloc, names.as_slice()) {
-        Ok(operands) => run(alloc, mode, operands.as_slice(), tree, progress, out, err),
+        Ok(operands) => run(
+            alloc,
+            mode,
+            shard,
+            operands.as_slice(),
+            tree,
+            progress,
+            out,
+            err,
+        ),
         Err(_) => formatter().tell_out_of_memory(out, err),
     }
 }
@@ -150,6 +185,7 @@ fn run_null<T: Tree, P: Progress, R: ByteSource, O: ByteSink, E: ByteSink>(
 fn run_named<T: Tree, P: Progress, O: ByteSink, E: ByteSink>(
     alloc: Global,
     mode: Mode,
+    shard: Option<Shard>,
     names: &[&str],
     tree: &mut T,
     progress: &mut P,
@@ -159,10 +195,21 @@ fn run_named<T: Tree, P: Progress, O: ByteSink, E: ByteSink>(
     requires out { O.failed out.old ≡ false }
     requires err { E.failed err.old ≡ false }
     // However the run goes, each file is then as it was, or, where files are to be written, it has the format of its bytes.
-    ensures { (name : List ℕ) → Kept mode ((T.files tree.old).told name) ((T.files tree.new).told name) }
+    ensures kept { (name : List ℕ) → Kept mode ((T.files tree.old).told name) ((T.files tree.new).told name) }
+    ensures ends { FormatsOr mode (record { files = T.files tree.old; faults = T.faults tree.old }) (record { files = T.files tree.new; faults = T.faults tree.new })
+        (record { out = writer O.taken O.failed O.flushed O.flushes out.old out.new; err = writer E.taken E.failed E.flushed E.flushes err.old err.new; status = result }) }
 {
     match operands_of(alloc, names) {
-        Ok(operands) => run(alloc, mode, operands.as_slice(), tree, progress, out, err),
+        Ok(operands) => run(
+            alloc,
+            mode,
+            shard,
+            operands.as_slice(),
+            tree,
+            progress,
+            out,
+            err,
+        ),
         Err(_) => formatter().tell_out_of_memory(out, err),
     }
 }
@@ -171,6 +218,8 @@ fn run_named<T: Tree, P: Progress, O: ByteSink, E: ByteSink>(
 pub fn bad_line<O: ByteSink, E: ByteSink>(out: &mut O, err: &mut E) -> u8
     requires out { O.failed out.old ≡ false }
     requires err { E.failed err.old ≡ false }
+    ensures { ShowsOne formatter IsBadLine
+        (record { out = writer O.taken O.failed O.flushed O.flushes out.old out.new; err = writer E.taken E.failed E.flushed E.flushes err.old err.new; status = result }) }
 {
     formatter().tell(out, err, USAGE, 2)
 }
@@ -193,11 +242,15 @@ pub fn program<T: Tree, P: Progress, R: ByteSource, O: ByteSink, E: ByteSink>(
     ensures safe { (name : List ℕ) → IsSafe ((T.files tree.old).told name) ((T.files tree.new).told name) }
     // It has its format only where the words ask for that.
     ensures kept { (mode : Mode) → mode_of_words (map (λ word. word.now) words.now) ≡ Some mode → (name : List ℕ) → Kept mode ((T.files tree.old).told name) ((T.files tree.new).told name) }
+    // What was looked at and said, and with which status it ends.
+    ensures ends { IsEnd (mode_of_words (map (λ word. word.now) words.now)) (record { files = T.files tree.old; faults = T.faults tree.old }) (record { files = T.files tree.new; faults = T.faults tree.new })
+        (record { out = writer O.taken O.failed O.flushed O.flushes out.old out.new; err = writer E.taken E.failed E.flushed E.flushes err.old err.new; status = result }) }
 {
     match options(alloc, words) {
         Ok(options) if options.null => run_null(
             alloc,
             options.mode,
+            options.shard,
             input,
             tree,
             progress,
@@ -207,6 +260,7 @@ pub fn program<T: Tree, P: Progress, R: ByteSource, O: ByteSink, E: ByteSink>(
         Ok(options) => run_named(
             alloc,
             options.mode,
+            options.shard,
             options.names.as_slice(),
             tree,
             progress,
@@ -214,6 +268,7 @@ pub fn program<T: Tree, P: Progress, R: ByteSource, O: ByteSink, E: ByteSink>(
             err,
         ),
         Err(Usage::Help) => formatter().deliver(out, err, HELP, 0),
+        Err(Usage::Version) => formatter().deliver(out, err, VERSION, 0),
         Err(Usage::BadLine) => bad_line(out, err),
         Err(Usage::OutOfMemory) => formatter().tell_out_of_memory(out, err),
     }

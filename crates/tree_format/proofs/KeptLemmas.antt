@@ -19,19 +19,20 @@ use Rattle.hcl_tokens.specs.Scans.{Scans}
 use Rattle.hcl_tokens.proofs.RunLemmas.{no_fault, one_scan}
 use Rattle.std.specs.Prelude.{All, get_or, take, ◌+◌}
 use Rattle.std.proofs.lemmas.List.Elements.{All-more, All-weaker}
-use Rattle.hcl_scan.proofs.SpellingLemmas.{one_kind, nonempty}
+use Rattle.hcl_scan.proofs.SpellingLemmas.{one_kind}
+use Rattle.hcl_tokens.proofs.NonemptyLemmas.{nonempty}
 use Rattle.hcl_layout.specs.Print.{print}
-use Rattle.hcl_layout.specs.Reprinted.{printed_tokens}
-use Rattle.hcl_layout.proofs.PlaceLemmas.{print_again}
-use Rattle.hcl_layout.proofs.RescanLemmas.{scans_again}
-use Rattle.file_tree.specs.Files.{Files, Name, Tells, put}
+use Rattle.layout_laws.specs.Reprinted.{printed_tokens}
+use Rattle.layout_laws.proofs.PlaceLemmas.{print_again}
+use Rattle.layout_laws.proofs.RescanLemmas.{scans_again}
+use Rattle.file_tree.specs.Files.{Faults, Files, Name, Tells, fault_of_reader, noted, put}
 use Rattle.file_tree.specs.declared.fault.TreeFault.{TreeFault}
-use Rattle.file_tree.specs.declared.fault.TreeFault.TheVariants.{OutOfMemory, ReadFailed}
+use Rattle.file_tree.specs.declared.fault.TreeFault.TheVariants.{OutOfMemory}
 use Rattle.file_tree.specs.declared.tree.Writing.{Writing}
 use Rattle.tree_format.specs.Format.{IsFault, IsFormat}
-use Rattle.tree_format.specs.Looks.{Changes, IsReal, Left, Looks, Visits}
+use Rattle.tree_format.specs.Looks.{Changes, Left, Looks, Notes, Visits, failure_of}
 use Rattle.tree_format.specs.Runs.{IsSafe, Kept, Settled, is_failed}
-use Rattle.tree_format.specs.Inner.Steps.{LoadsFile, Makes, outcome_by}
+use Rattle.tree_format.specs.Inner.Steps.{IsShown, LoadNotes, LoadsFile, Makes, outcome_by}
 use Rattle.tree_format.specs.declared.mode.Mode.{Mode}
 use Rattle.tree_format.specs.declared.mode.Mode.TheVariants.{Write, Check, List as Listed, Diff}
 use Rattle.tree_format.specs.declared.outcome.Outcome.{Outcome}
@@ -44,7 +45,7 @@ format_once x y z f g =
     let again : Scans y (printed_tokens f.tokens) = subst (λ l. Scans l (printed_tokens f.tokens)) (sym f.printed) (scans_again x f.tokens f.scanned) in
     g.printed ∙ ap print (one_scan one_kind nonempty y g.tokens (printed_tokens f.tokens) g.scanned again) ∙ print_again f.tokens ∙ sym f.printed
 
--- ---- runs one behind the other
+-- ---- runs one after another
 
 pub kept_same : (mode : Mode) (a b : Option (List ℕ)) → b ≡ a → Kept mode a b
 kept_same (Write w) None b e = e
@@ -93,13 +94,13 @@ left_kept Diff old new name bytes formatted other t f l = same_told old new othe
 unmoved : (mode : Mode) (old new : Files) (other : Name) → new ≡ old → Kept mode (old.told other) (new.told other)
 unmoved mode old new other e = kept_same mode (old.told other) (new.told other) (same_told old new other e)
 
-pub visit_kept : (mode : Mode) (old new : Files) (last : Option TreeFault) (name : Name) (answer : Outcome) → Visits mode old new last name answer → (other : Name)
+pub visit_kept : (mode : Mode) (old new : Files) (given : Name) (name : Name) (answer : Outcome) → Visits mode old new given name answer → (other : Name)
     → Kept mode (old.told other) (new.told other)
-visit_kept mode old new last name outcome.Formatted v other = unmoved mode old new other v.2.1
-visit_kept mode old new last name outcome.Changed v other = left_kept mode old new name v.0 v.2.formatted other v.1 v.2.is v.2.left
-visit_kept mode old new last name (outcome.Differs text) v other = unmoved mode old new other v.2.1.left
-visit_kept mode old new last name (outcome.Refused fault) v other = unmoved mode old new other v.2.1
-visit_kept mode old new last name (outcome.Failed fault) v other = unmoved mode old new other v.0
+visit_kept mode old new given name outcome.Formatted v other = unmoved mode old new other v.2.1
+visit_kept mode old new given name outcome.Changed v other = left_kept mode old new name v.0 v.2.formatted other v.1 v.2.is v.2.left
+visit_kept mode old new given name (outcome.Differs text) v other = unmoved mode old new other v.2.1.left
+visit_kept mode old new given name (outcome.Refused fault) v other = unmoved mode old new other v.2.1
+visit_kept mode old new given name (outcome.Failed fault) v other = unmoved mode old new other v
 
 same_real : (old new : Files) (other : Name) → new ≡ old → new.real other ≡ old.real other
 same_real old new other e = ap (λ (f : Files). f.real other) e
@@ -111,13 +112,13 @@ left_real Listed old new name formatted other l = same_real old new other l
 left_real Diff old new name formatted other l = same_real old new other l
 
 -- where names lead, no look changes
-pub visit_real : (mode : Mode) (old new : Files) (last : Option TreeFault) (name : Name) (answer : Outcome) → Visits mode old new last name answer → (other : Name)
+pub visit_real : (mode : Mode) (old new : Files) (given : Name) (name : Name) (answer : Outcome) → Visits mode old new given name answer → (other : Name)
     → new.real other ≡ old.real other
-visit_real mode old new last name outcome.Formatted v other = same_real old new other v.2.1
-visit_real mode old new last name outcome.Changed v other = left_real mode old new name v.2.formatted other v.2.left
-visit_real mode old new last name (outcome.Differs text) v other = same_real old new other v.2.1.left
-visit_real mode old new last name (outcome.Refused fault) v other = same_real old new other v.2.1
-visit_real mode old new last name (outcome.Failed fault) v other = same_real old new other v.0
+visit_real mode old new given name outcome.Formatted v other = same_real old new other v.2.1
+visit_real mode old new given name outcome.Changed v other = left_real mode old new name v.2.formatted other v.2.left
+visit_real mode old new given name (outcome.Differs text) v other = same_real old new other v.2.1.left
+visit_real mode old new given name (outcome.Refused fault) v other = same_real old new other v.2.1
+visit_real mode old new given name (outcome.Failed fault) v other = same_real old new other v
 
 -- ---- other files than the one that is looked at
 
@@ -134,13 +135,13 @@ left_elsewhere Check old new name formatted other l ne = same_told old new other
 left_elsewhere Listed old new name formatted other l ne = same_told old new other l
 left_elsewhere Diff old new name formatted other l ne = same_told old new other l
 
-pub visit_elsewhere : (mode : Mode) (old new : Files) (last : Option TreeFault) (name : Name) (answer : Outcome) → Visits mode old new last name answer → (other : Name)
+pub visit_elsewhere : (mode : Mode) (old new : Files) (given : Name) (name : Name) (answer : Outcome) → Visits mode old new given name answer → (other : Name)
     → ((other ≡ name) → ⊥) → new.told other ≡ old.told other
-visit_elsewhere mode old new last name outcome.Formatted v other ne = same_told old new other v.2.1
-visit_elsewhere mode old new last name outcome.Changed v other ne = left_elsewhere mode old new name v.2.formatted other v.2.left ne
-visit_elsewhere mode old new last name (outcome.Differs text) v other ne = same_told old new other v.2.1.left
-visit_elsewhere mode old new last name (outcome.Refused fault) v other ne = same_told old new other v.2.1
-visit_elsewhere mode old new last name (outcome.Failed fault) v other ne = same_told old new other v.0
+visit_elsewhere mode old new given name outcome.Formatted v other ne = same_told old new other v.2.1
+visit_elsewhere mode old new given name outcome.Changed v other ne = left_elsewhere mode old new name v.2.formatted other v.2.left ne
+visit_elsewhere mode old new given name (outcome.Differs text) v other ne = same_told old new other v.2.1.left
+visit_elsewhere mode old new given name (outcome.Refused fault) v other ne = same_told old new other v.2.1
+visit_elsewhere mode old new given name (outcome.Failed fault) v other ne = same_told old new other v
 
 -- ---- the bytes of a file that was read
 
@@ -168,21 +169,20 @@ fault_told told left left' bytes fault same taken x done = subst (λ t. (whole :
         (λ gt. (xs, refl, subst (λ l. IsLoadFault l fault) (sym t) (too_large_too bytes ys fault gt x)))
         (below (length bytes) max_source)
 
-pub loads_told : (told left left' : Option (List ℕ)) (last : Option TreeFault) (bytes : List ℕ) (loaded : Result (List ℕ) LoadError) (answer : Result (List ℕ) Outcome)
-    → answer ≡ outcome_by loaded → left ≡ told → Consumes left left' bytes → Loads bytes left' loaded → (is_failed_load loaded ≡ true → last ≡ Some ReadFailed)
-    → LoadsFile told last answer
-loads_told told left left' last bytes loaded answer is same taken l failed = subst (LoadsFile told last) (sym is) (by loaded l failed)
+pub loads_told : (told left left' : Option (List ℕ)) (bytes : List ℕ) (loaded : Result (List ℕ) LoadError) (answer : Result (List ℕ) Outcome)
+    → answer ≡ outcome_by loaded → left ≡ told → Consumes left left' bytes → Loads bytes left' loaded → LoadsFile told answer
+loads_told told left left' bytes loaded answer is same taken l = subst (LoadsFile told) (sym is) (by loaded l)
   where
-    by : (loaded : Result (List ℕ) LoadError) → Loads bytes left' loaded → (is_failed_load loaded ≡ true → last ≡ Some ReadFailed) → LoadsFile told last (outcome_by loaded)
-    by (Ok text) l failed = text_told told left left' bytes text same taken l
-    by (Err (error.Fault fault)) l failed = fault_told told left left' bytes fault same taken l.0 l.1
-    by (Err error.ReadFailed) l failed = failed refl
-    by (Err error.OutOfMemory) l failed = tt
+    by : (loaded : Result (List ℕ) LoadError) → Loads bytes left' loaded → LoadsFile told (outcome_by loaded)
+    by (Ok text) l = text_told told left left' bytes text same taken l
+    by (Err (error.Fault fault)) l = fault_told told left left' bytes fault same taken l.0 l.1
+    by (Err error.ReadFailed) l = tt
+    by (Err error.OutOfMemory) l = tt
 
 -- ---- accepted tokens of a text
 
-module _ (mode : Mode) (old new : Files) (last : Option TreeFault) (name : Name) where
-  looks_by : (s : Scanned) (answer : Outcome) → IsText s.text → Scans s.text s.tokens → IsAccepted s.tokens → Makes mode old new last name s answer → Looks mode old new last name s.text answer
+module _ (mode : Mode) (old new : Files) (given : Name) (name : Name) where
+  looks_by : (s : Scanned) (answer : Outcome) → IsText s.text → Scans s.text s.tokens → IsAccepted s.tokens → Makes mode old new given name s answer → Looks mode old new given name s.text answer
   looks_by s outcome.Formatted is scans accepted m =
       (record { text = is; tokens = s.tokens; scanned = scans; accepted = accepted; printed = sym m.0; fits = is.small }, m.1)
   looks_by s outcome.Changed is scans accepted m = record {
@@ -199,6 +199,7 @@ module _ (mode : Mode) (old new : Files) (last : Option TreeFault) (name : Name)
       changed = m.1;
       left = m.3;
     },
+    m.4,
   )
   looks_by s (outcome.Refused fault) is scans accepted m = (inr (is, inr (s.tokens, scans, inr (accepted, m.0, m.1))), m.2)
   looks_by s (outcome.Failed fault) is scans accepted m = m
@@ -210,40 +211,40 @@ module _ (mode : Mode) (old new : Files) (last : Option TreeFault) (name : Name)
   ok_or s (Ok u) = u
   ok_or s (Err f) = s
 
-  pub makes_looks : (s accepted : Scanned) (answer : Outcome) → IsText s.text → Scans s.text s.tokens → Ok accepted ≡ verdict s → Makes mode old new last name accepted answer → Looks mode old new last name s.text answer
+  pub makes_looks : (s accepted : Scanned) (answer : Outcome) → IsText s.text → Scans s.text s.tokens → Ok accepted ≡ verdict s → Makes mode old new given name accepted answer → Looks mode old new given name s.text answer
   makes_looks s accepted answer is scans v m = by (refusal_of (lookaheads s.tokens)) refl v
     where
-      by : (r : Option Refusal) → refusal_of (lookaheads s.tokens) ≡ r → Ok accepted ≡ verdict_by s r → Looks mode old new last name s.text answer
-      by None e h = looks_by s answer is scans e (subst (λ (t : Scanned). Makes mode old new last name t answer) (ap (ok_or accepted) h) m)
+      by : (r : Option Refusal) → refusal_of (lookaheads s.tokens) ≡ r → Ok accepted ≡ verdict_by s r → Looks mode old new given name s.text answer
+      by None e h = looks_by s answer is scans e (subst (λ (t : Scanned). Makes mode old new given name t answer) (ap (ok_or accepted) h) m)
       by (Some r) e h = absurd (not_ok accepted (fault_at s r) h)
 
-  pub text_looks : (text : List ℕ) (s accepted : Scanned) (answer : Outcome) → s.text ≡ text → IsText text → Scans text s.tokens → Ok accepted ≡ verdict s → Makes mode old new last name accepted answer → Looks mode old new last name text answer
+  pub text_looks : (text : List ℕ) (s accepted : Scanned) (answer : Outcome) → s.text ≡ text → IsText text → Scans text s.tokens → Ok accepted ≡ verdict s → Makes mode old new given name accepted answer → Looks mode old new given name text answer
   text_looks text s accepted answer same is scans v m =
-      subst (λ t. Looks mode old new last name t answer) same
+      subst (λ t. Looks mode old new given name t answer) same
       (makes_looks s accepted answer (subst IsText (sym same) is) (subst (λ t. Scans t s.tokens) (sym same) scans) v m)
 
 -- ---- a look at a file that was read, or wasn't
 
-visits_by : (mode : Mode) (old new : Files) (last : Option TreeFault) (name text : List ℕ) (answer : Outcome) → Tells (old.told name) text → Looks mode old new last name text answer
-    → Visits mode old new last name answer
-visits_by mode old new last name text outcome.Formatted t l = (text, t, l)
-visits_by mode old new last name text outcome.Changed t l = (text, t, l)
-visits_by mode old new last name text (outcome.Differs shown) t l = (text, t, l)
-visits_by mode old new last name text (outcome.Refused fault) t l = (text, t, l)
-visits_by mode old new last name text (outcome.Failed fault) t l = l
+visits_by : (mode : Mode) (old new : Files) (given : Name) (name text : List ℕ) (answer : Outcome) → Tells (old.told name) text → Looks mode old new given name text answer
+    → Visits mode old new given name answer
+visits_by mode old new given name text outcome.Formatted t l = (text, t, l)
+visits_by mode old new given name text outcome.Changed t l = (text, t, l)
+visits_by mode old new given name text (outcome.Differs shown) t l = (text, t, l)
+visits_by mode old new given name text (outcome.Refused fault) t l = (text, t, l)
+visits_by mode old new given name text (outcome.Failed fault) t l = l
 
-pub visits_loaded : (mode : Mode) (old mid new : Files) (last : Option TreeFault) (name text : List ℕ) (answer : Outcome) → mid ≡ old → Tells (old.told (old.real name)) text
-    → Looks mode mid new last (mid.real name) text answer → Visits mode old new last (old.real name) answer
-visits_loaded mode old mid new last name text answer same t l =
-    visits_by mode old new last (old.real name) text answer t (subst (λ (files : Files). Looks mode files new last (files.real name) text answer) same l)
+pub visits_loaded : (mode : Mode) (old mid new : Files) (given : Name) (name text : List ℕ) (answer : Outcome) → mid ≡ old → Tells (old.told (old.real name)) text
+    → Looks mode mid new given (mid.real name) text answer → Visits mode old new given (old.real name) answer
+visits_loaded mode old mid new given name text answer same t l =
+    visits_by mode old new given (old.real name) text answer t (subst (λ (files : Files). Looks mode files new given (files.real name) text answer) same l)
 
-pub visits_unloaded : (mode : Mode) (old new : Files) (last : Option TreeFault) (name : List ℕ) (answer : Outcome) → new ≡ old → LoadsFile (old.told name) last (Err answer)
-    → Visits mode old new last name answer
-visits_unloaded mode old new last name outcome.Formatted same l = absurd l
-visits_unloaded mode old new last name outcome.Changed same l = absurd l
-visits_unloaded mode old new last name (outcome.Differs shown) same l = absurd l
-visits_unloaded mode old new last name (outcome.Refused fault) same l = (l.0, l.1, (inl l.2, same))
-visits_unloaded mode old new last name (outcome.Failed fault) same l = (same, l)
+pub visits_unloaded : (mode : Mode) (old new : Files) (given : Name) (name : List ℕ) (answer : Outcome) → new ≡ old → LoadsFile (old.told name) (Err answer)
+    → Visits mode old new given name answer
+visits_unloaded mode old new given name outcome.Formatted same l = absurd l
+visits_unloaded mode old new given name outcome.Changed same l = absurd l
+visits_unloaded mode old new given name (outcome.Differs shown) same l = absurd l
+visits_unloaded mode old new given name (outcome.Refused fault) same l = (l.0, l.1, (inl l.2, same))
+visits_unloaded mode old new given name (outcome.Failed fault) same l = same
 
 -- ---- nothing is left to do
 
@@ -293,27 +294,27 @@ own_fault w (Some x) b bytes fault t f e = inr (fault, subst (λ l. IsFault l fa
 put_here : (old : Files) (name bytes : List ℕ) → (put old name bytes).told name ≡ option_map (λ _. bytes) (old.told name)
 put_here old name bytes = ap (λ b. if b then option_map (λ _. bytes) (old.told name) else old.told name) ((bytes_eq-Decides name name).1 refl)
 
-visit_writes : (w : Writing) (old new : Files) (last : Option TreeFault) (name : Name) (answer : Outcome) → Visits (Write w) old new last name answer → is_failed answer ≡ false
+visit_writes : (w : Writing) (old new : Files) (given : Name) (name : Name) (answer : Outcome) → Visits (Write w) old new given name answer → is_failed answer ≡ false
     → Settled (Write w) (old.told name) (new.told name)
-visit_writes w old new last name outcome.Formatted v good = same_format w (old.told name) (new.told name) v.0 v.1 v.2.0 (same_told old new name v.2.1)
-visit_writes w old new last name outcome.Changed v good =
+visit_writes w old new given name outcome.Formatted v good = same_format w (old.told name) (new.told name) v.0 v.1 v.2.0 (same_told old new name v.2.1)
+visit_writes w old new given name outcome.Changed v good =
     own_format w (old.told name) (new.told name) v.0 v.2.formatted v.1 v.2.is (ap (λ (f : Files). f.told name) v.2.left ∙ put_here old name v.2.formatted)
-visit_writes w old new last name (outcome.Differs text) v good = absurd (no v.2.0)
+visit_writes w old new given name (outcome.Differs text) v good = absurd (no v.2.0)
   where
     no : Write w ≡ Diff → ⊥
     no h = cc
-visit_writes w old new last name (outcome.Refused fault) v good = own_fault w (old.told name) (new.told name) v.0 fault v.1 v.2.0 (same_told old new name v.2.1)
-visit_writes w old new last name (outcome.Failed fault) v good = absurd (no good)
+visit_writes w old new given name (outcome.Refused fault) v good = own_fault w (old.told name) (new.told name) v.0 fault v.1 v.2.0 (same_told old new name v.2.1)
+visit_writes w old new given name (outcome.Failed fault) v good = absurd (no good)
   where
     no : true ≡ false → ⊥
     no h = cc
 
-pub visit_settled : (mode : Mode) (old new : Files) (last : Option TreeFault) (name : Name) (answer : Outcome) → Visits mode old new last name answer → is_failed answer ≡ false
+pub visit_settled : (mode : Mode) (old new : Files) (given : Name) (name : Name) (answer : Outcome) → Visits mode old new given name answer → is_failed answer ≡ false
     → Settled mode (old.told name) (new.told name)
-visit_settled (Write w) old new last name answer v good = visit_writes w old new last name answer v good
-visit_settled Check old new last name answer v good = tt
-visit_settled Listed old new last name answer v good = tt
-visit_settled Diff old new last name answer v good = tt
+visit_settled (Write w) old new given name answer v good = visit_writes w old new given name answer v good
+visit_settled Check old new given name answer v good = tt
+visit_settled Listed old new given name answer v good = tt
+visit_settled Diff old new given name answer v good = tt
 
 -- one file more, of the files of these names
 module _ {X : Type 0} (mode : Mode) (name : X → List ℕ) (first old new : Name → Option (List ℕ)) (kept : (n : Name) → Kept mode (old n) (new n)) where
@@ -354,3 +355,32 @@ safe_kept (Write w) a b k = k
 safe_kept Check a b k = safe_same a b k
 safe_kept Listed a b k = safe_same a b k
 safe_kept Diff a b k = safe_same a b k
+
+-- ---- failures are real
+
+pub notes_call : (before after : Faults) (answer : Outcome) → after ≡ noted before (failure_of answer) → Notes before after answer
+notes_call before after answer e = record { is = inl e }
+
+pub notes_fault : (before after : Faults) (fault : TreeFault) → after ≡ noted before (Some fault) → Notes before after (outcome.Failed fault)
+notes_fault before after fault e = record { is = inl e }
+
+pub notes_memory : (before after : Faults) (fault : TreeFault) → after ≡ before → fault ≡ OutOfMemory → Notes before after (outcome.Failed fault)
+notes_memory before after fault e m = record { is = inr (ap (λ f. Some f) m, e) }
+
+pub notes_shown : (before after : Faults) (given : Name) (s : Scanned) (answer : Outcome) → after ≡ before → IsShown given s answer → Notes before after answer
+notes_shown before after given s outcome.Formatted e shown = absurd shown
+notes_shown before after given s outcome.Changed e shown = absurd shown
+notes_shown before after given s (outcome.Differs text) e shown = record { is = inl e }
+notes_shown before after given s (outcome.Refused fault) e shown = absurd shown
+notes_shown before after given s (outcome.Failed fault) e shown = notes_memory before after fault e shown
+
+-- a reader is given back
+pub notes_load : (before after : Faults) (failed : Bool) (loaded : Result (List ℕ) LoadError) (answer : Result (List ℕ) Outcome)
+    → after ≡ noted before (fault_of_reader failed) → failed ≡ is_failed_load loaded → answer ≡ outcome_by loaded → LoadNotes before after answer
+notes_load before after failed loaded answer e f is = subst (LoadNotes before after) (sym is) (by loaded (e ∙ ap (λ v. noted before (fault_of_reader v)) f))
+  where
+    by : (loaded : Result (List ℕ) LoadError) → after ≡ noted before (fault_of_reader (is_failed_load loaded)) → LoadNotes before after (outcome_by loaded)
+    by (Ok text) e = e
+    by (Err (error.Fault fault)) e = record { is = inl e }
+    by (Err error.ReadFailed) e = record { is = inl e }
+    by (Err error.OutOfMemory) e = record { is = inr (refl, e) }

@@ -1,1 +1,4 @@
 pub mod KeptLemmas
+pub mod RealLemmas
+pub mod RunLemmas
+pub mod WriterLemmas

@@ -1,4 +1,5 @@
 pub mod Format
 pub mod Looks
+pub mod Reports
 pub mod Runs
 pub mod Inner

@@ -1,9 +1,10 @@
 -- One look at a file: what it answers, and what the files are then.
-use Rattle.std.specs.Prelude.{◌≡◌, ◌≢◌, ℕ, Bool, true, false, List, Option, Some}
+use Rattle.std.specs.Prelude.{◌≡◌, ◌≢◌, ◌⊎◌, ℕ, List, Option, Some, None}
 use Rattle.hcl_source.specs.declared.fault.Fault.{Fault}
-use Rattle.file_tree.specs.Files.{Files, Name, Tells, put}
+use Rattle.file_tree.specs.Files.{Faults, Files, Name, Tells, noted, put}
 use Rattle.file_tree.specs.declared.fault.TreeFault.{TreeFault}
 use Rattle.file_tree.specs.declared.fault.TreeFault.TheVariants.{OutOfMemory}
+use Rattle.line_diff.specs.Diffs.{diff_of}
 use Rattle.tree_format.specs.Format.{IsFormat, IsFault}
 use Rattle.tree_format.specs.declared.mode.Mode.{Mode}
 use Rattle.tree_format.specs.declared.mode.Mode.TheVariants.{Write, Check, List as Listed, Diff}
@@ -24,20 +25,29 @@ pub record Changes (mode : Mode) (old new : Files) (name : Name) (bytes : List �
   pub changed : formatted ≢ bytes
   pub left : Left mode old new name formatted
 
--- A failure is real: memory ran out, or it is the fault of the device's last call.
-abbrev pub IsReal : TreeFault → Option TreeFault → Type 0
-IsReal OutOfMemory last = Unit {0}
-IsReal fault last = last ≡ Some fault
-
--- what a look at bytes of this real name answers, what the files are then, and the fault of the device's last call
-abbrev pub Looks : Mode → Files → Files → Option TreeFault → Name → List ℕ → Outcome → Type 0
-Looks mode old new last name bytes outcome.Formatted = IsFormat bytes bytes × (new ≡ old)
-Looks mode old new last name bytes outcome.Changed = Changes mode old new name bytes
-Looks mode old new last name bytes (outcome.Differs text) = (mode ≡ Diff) × Changes Diff old new name bytes
-Looks mode old new last name bytes (outcome.Refused fault) = IsFault bytes fault × (new ≡ old)
-Looks mode old new last name bytes (outcome.Failed fault) = (new ≡ old) × IsReal fault last
+-- what a look at bytes of a file answers, of this real name, that was named so, and what the files are then
+abbrev pub Looks : Mode → Files → Files → Name → Name → List ℕ → Outcome → Type 0
+Looks mode old new given name bytes outcome.Formatted = IsFormat bytes bytes × (new ≡ old)
+Looks mode old new given name bytes outcome.Changed = Changes mode old new name bytes
+Looks mode old new given name bytes (outcome.Differs text) =
+    (mode ≡ Diff) × (changes : Changes Diff old new name bytes) × (text.items ≡ diff_of given bytes changes.formatted)
+Looks mode old new given name bytes (outcome.Refused fault) = IsFault bytes fault × (new ≡ old)
+Looks mode old new given name bytes (outcome.Failed fault) = new ≡ old
 
 -- the same for a file that is read: some bytes, and those that the device tells
-abbrev pub Visits : Mode → Files → Files → Option TreeFault → Name → Outcome → Type 0
-Visits mode old new last name (outcome.Failed fault) = (new ≡ old) × IsReal fault last
-Visits mode old new last name answer = (bytes : List ℕ) × Tells (old.told name) bytes × Looks mode old new last name bytes answer
+abbrev pub Visits : Mode → Files → Files → Name → Name → Outcome → Type 0
+Visits mode old new given name (outcome.Failed fault) = new ≡ old
+Visits mode old new given name answer = (bytes : List ℕ) × Tells (old.told name) bytes × Looks mode old new given name bytes answer
+
+-- why a look failed, if it did
+abbrev pub failure_of : Outcome → Option TreeFault
+failure_of (outcome.Failed fault) = Some fault
+failure_of outcome.Formatted = None
+failure_of outcome.Changed = None
+failure_of (outcome.Differs text) = None
+failure_of (outcome.Refused fault) = None
+
+-- A FAILURE IS REAL: it is that of the one call of the device that failed, or memory ran out. Where a look doesn't fail, no
+-- call failed.
+pub record Notes (before after : Faults) (answer : Outcome) : Type 0 where
+  pub is : (after ≡ noted before (failure_of answer)) ⊎ ((failure_of answer ≡ Some OutOfMemory) × (after ≡ before))

@@ -1,5 +1,12 @@
 -- What a run over files makes of each of them.
-use Rattle.std.specs.Prelude.{◌≡◌, ◌⊎◌, ℕ, Bool, true, false, List, Option, Some, None}
+use Rattle.std.specs.Prelude.{◌≡◌, ◌⊎◌, ◌||◌, ℕ, Bool, true, false, List, [], ◌∷◌, ◌++◌, Option, Some, None, map, if◌then◌else◌}
+use Rattle.std.specs.List.{concat}
+use Rattle.command_line.specs.Rows.{End, Took}
+use Rattle.file_tree.specs.Files.{Name, State}
+use Rattle.file_tree.specs.declared.fault.TreeFault.{TreeFault}
+use Rattle.file_tree.specs.declared.walk.Found.{Found}
+use Rattle.tree_format.specs.Looks.{Notes, Visits}
+use Rattle.tree_format.specs.Reports.{Report, report_of, worst}
 use Rattle.hcl_source.specs.declared.fault.Fault.{Fault}
 use Rattle.tree_format.specs.Format.{IsFormat, IsFault}
 use Rattle.tree_format.specs.declared.mode.Mode.{Mode}
@@ -33,3 +40,39 @@ Settled (Write writing) (Some bytes) after =
 Settled Check before after = Unit {0}
 Settled Listed before after = Unit {0}
 Settled Diff before after = Unit {0}
+
+-- ---- the run
+
+-- a look at a name that was found: it is at the file to which the name leads, unless there is a fault for which it can't be
+abbrev pub SeesBy : Mode → Name → Option TreeFault → Outcome → State → State → Type 0
+SeesBy mode name (Some fault) answer before after = (answer ≡ outcome.Failed fault) × (after ≡ before)
+SeesBy mode name None answer before after = Visits mode before.files after.files name (before.files.real name) answer × Notes before.faults after.faults answer
+
+abbrev pub Sees : Mode → Found → Outcome → State → State → Type 0
+Sees mode found = SeesBy mode found.name.items found.fault
+
+-- looks at names, one after the other, and what each answers
+abbrev pub Looked : Mode → List Found → List Outcome → State → State → Type 0
+Looked mode [] [] before after = after ≡ before
+Looked mode [] (answer ∷ answers) before after = ⊥
+Looked mode (found ∷ more) [] before after = ⊥
+Looked mode (found ∷ more) (answer ∷ answers) before after = (between : State) × Sees mode found answer before between × Looked mode more answers between after
+
+abbrev pub reports_of : Mode → List Found → List Outcome → List Report
+reports_of mode (found ∷ more) (answer ∷ answers) = report_of mode found.name.items answer ∷ reports_of mode more answers
+reports_of mode (found ∷ more) [] = []
+reports_of mode [] answers = []
+
+-- THE RUN over names that were found: each is looked at and reported, up to one whose report can't be written, and then the
+-- last words are said. Each writer took what was reported to it, or a part from the front where it failed, and the status
+-- is the worst one, or 4 where a writer failed.
+pub record IsRun (mode : Mode) (found : List Found) (last : List ℕ) (before after : State) (end : End) : Type 0 where
+  pub seen : List Found
+  pub rest : List Found
+  pub all : found ≡ seen ++ rest
+  pub whole : (end.out.failed || end.err.failed) ≡ false → rest ≡ []
+  pub answers : List Outcome
+  pub looks : Looked mode seen answers before after
+  pub output : Took end.out (concat (map (λ r. r.out) (reports_of mode seen answers)))
+  pub message : Took end.err (concat (map (λ r. r.err) (reports_of mode seen answers)) ++ last)
+  pub exit : end.status ≡ (if end.out.failed || end.err.failed then 4 else worst (map (λ r. r.status) (reports_of mode seen answers)))

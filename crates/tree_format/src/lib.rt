@@ -1,6 +1,7 @@
 //! Formats the files that were found, one after the other, or says which of them aren't formatted.
 #![tactic(auto)]
 
+pub mod laws;
 pub mod look;
 pub mod mode;
 pub mod outcome;

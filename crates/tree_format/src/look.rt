@@ -3,10 +3,10 @@
 ghost use Rattle.std.specs.Prelude.{◌≡◌, ◌≢◌, ◌≤◌, Some, length, IfOk, IfErr};
 ghost use Rattle.hcl_layout.specs.Print.{print};
 ghost use Rattle.hcl_source.specs.Load.{max_source, IsText};
-ghost use Rattle.tree_format.specs.Looks.{Looks, Visits};
+ghost use Rattle.tree_format.specs.Looks.{Looks, Notes, Visits};
 ghost use Rattle.tree_format.specs.declared.mode.Mode.TheVariants.{Write};
 ghost use Rattle.file_tree.specs.declared.fault.TreeFault.TheVariants.{OutOfMemory};
-ghost use Rattle.tree_format.specs.Inner.Steps.{IsShown, LoadsFile, Makes, outcome_by, outcome_of_scan};
+ghost use Rattle.tree_format.specs.Inner.Steps.{IsShown, LoadNotes, LoadsFile, Makes, outcome_by, outcome_of_scan};
 
 use crate::mode::Mode;
 use crate::outcome::Outcome;
@@ -34,6 +34,7 @@ fn print_of(alloc: Global, accepted: &Accepted<'_, '_>) -> Result<Printed, TreeF
 }
 
 /// Puts the print in place of a file.
+#[tactic(auto, using(crate::proofs::KeptLemmas::notes_call, crate::proofs::KeptLemmas::notes_fault, crate::proofs::KeptLemmas::notes_memory))]
 fn write_print<T: Tree>(
     alloc: Global,
     name: &[u8],
@@ -43,7 +44,8 @@ fn write_print<T: Tree>(
 ) -> Outcome
     requires changed { print accepted.now.tokens ≢ accepted.now.text }
     requires fits { length (print accepted.now.tokens) ≤ max_source }
-    ensures { Makes (Write writing) (T.files tree.old) (T.files tree.new) (T.fault tree.new) ((T.files tree.old).real name.now) accepted.now result }
+    ensures makes { Makes (Write writing) (T.files tree.old) (T.files tree.new) name.now ((T.files tree.old).real name.now) accepted.now result }
+    ensures notes { Notes (T.faults tree.old) (T.faults tree.new) result }
 {
     let printed = match print_of(alloc, accepted) {
         Ok(printed) => printed,
@@ -58,7 +60,7 @@ fn write_print<T: Tree>(
 
 /// Shows what the print changes.
 fn show_print(alloc: Global, name: &[u8], accepted: &Accepted<'_, '_>) -> Outcome
-    ensures { IsShown result }
+    ensures { IsShown name.now accepted.now result }
 {
     let printed = match print_of(alloc, accepted) {
         Ok(printed) => printed,
@@ -72,6 +74,7 @@ fn show_print(alloc: Global, name: &[u8], accepted: &Accepted<'_, '_>) -> Outcom
 }
 
 /// Does with an accepted file what is asked for.
+#[tactic(auto, using(crate::proofs::KeptLemmas::notes_call, crate::proofs::KeptLemmas::notes_shown))]
 fn change<T: Tree>(
     alloc: Global,
     mode: Mode,
@@ -79,7 +82,8 @@ fn change<T: Tree>(
     accepted: &Accepted<'_, '_>,
     tree: &mut T,
 ) -> Outcome
-    ensures { Makes mode (T.files tree.old) (T.files tree.new) (T.fault tree.new) ((T.files tree.old).real name.now) accepted.now result }
+    ensures makes { Makes mode (T.files tree.old) (T.files tree.new) name.now ((T.files tree.old).real name.now) accepted.now result }
+    ensures notes { Notes (T.faults tree.old) (T.faults tree.new) result }
 {
     if is_formatted(accepted) {
         return Outcome::Formatted;
@@ -98,6 +102,7 @@ fn change<T: Tree>(
 }
 
 /// Does with a source what is asked for.
+#[tactic(auto, using(crate::proofs::KeptLemmas::notes_call, crate::proofs::KeptLemmas::notes_memory))]
 fn change_source<T: Tree>(
     alloc: Global,
     mode: Mode,
@@ -106,7 +111,8 @@ fn change_source<T: Tree>(
     tree: &mut T,
 ) -> Outcome
     requires { IsText source.now }
-    ensures { Looks mode (T.files tree.old) (T.files tree.new) (T.fault tree.new) ((T.files tree.old).real name.now) source.now result }
+    ensures looks { Looks mode (T.files tree.old) (T.files tree.new) name.now ((T.files tree.old).real name.now) source.now result }
+    ensures notes { Notes (T.faults tree.old) (T.faults tree.new) result }
 {
     match scan(alloc, source) {
         Ok(tokens) => match accepts(&tokens) {
@@ -140,9 +146,11 @@ fn outcome_of_scan(error: ScanError) -> Outcome
 }
 
 /// The text of a file.
+#[tactic(auto, using(crate::proofs::KeptLemmas::notes_fault))]
 fn load<T: Tree>(alloc: Global, name: &[u8], tree: &mut T) -> Result<Source, Outcome>
-    ensures loads { LoadsFile ((T.files tree.old).told ((T.files tree.old).real name.now)) (T.fault tree.new) result }
+    ensures loads { LoadsFile ((T.files tree.old).told ((T.files tree.old).real name.now)) result }
     ensures files { T.files tree.new ≡ T.files tree.old }
+    ensures notes { LoadNotes (T.faults tree.old) (T.faults tree.new) result }
 {
     let mut reader = match tree.reader(name) {
         Ok(reader) => reader,
@@ -156,7 +164,8 @@ fn load<T: Tree>(alloc: Global, name: &[u8], tree: &mut T) -> Result<Source, Out
 /// Looks at one file and does what is asked for.
 #[tactic(auto, using(crate::proofs::KeptLemmas::visits_loaded, crate::proofs::KeptLemmas::visits_unloaded))]
 pub fn visit<T: Tree>(alloc: Global, mode: Mode, name: &[u8], tree: &mut T) -> Outcome
-    ensures { Visits mode (T.files tree.old) (T.files tree.new) (T.fault tree.new) ((T.files tree.old).real name.now) result }
+    ensures visits { Visits mode (T.files tree.old) (T.files tree.new) name.now ((T.files tree.old).real name.now) result }
+    ensures notes { Notes (T.faults tree.old) (T.faults tree.new) result }
 {
     match load(alloc, name, tree) {
         Ok(source) => change_source(alloc, mode, name, &source, tree),

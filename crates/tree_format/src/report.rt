@@ -1,7 +1,11 @@
 //! What is said of a file.
 
-ghost use Rattle.std.specs.Prelude.{◌≡◌, ◌≢◌, false, OnOk, is_err};
-ghost use Rattle.tree_format.specs.Runs.{is_failed};
+ghost use Rattle.std.specs.Prelude.{◌≡◌, ◌||◌, [], false, ◌++◌, codes, is_err, map};
+ghost use Rattle.std.specs.List.{concat};
+ghost use Rattle.command_line.specs.Rows.{Took, fault_words, writer};
+ghost use Rattle.file_tree.specs.Files.{Name};
+ghost use Rattle.tree_format.specs.Reports.{about, report_of, worse};
+ghost use Rattle.tree_format.specs.Inner.Pieces.{place_words};
 
 use crate::mode::Mode;
 use crate::outcome::Outcome;
@@ -11,7 +15,8 @@ use itoa::Buffer;
 /// Writes the pieces one after the other, up to the first write that fails. So a line needs no memory.
 fn write_pieces<S: ByteSink>(sink: &mut S, pieces: &[&[u8]]) -> Result<(), WriteFault>
     requires { S.failed sink.old ≡ false }
-    ensures { S.failed sink.new ≡ is_err result }
+    ensures took { Took (writer S.taken S.failed S.flushed S.flushes sink.old sink.new) (concat (map (λ piece. piece.now) pieces.now)) }
+    ensures failed { S.failed sink.new ≡ is_err result }
 {
     for piece in pieces {
         if let Err(fault) = write_fully(sink, piece) {
@@ -28,7 +33,8 @@ fn tell_about<'p, S: ByteSink>(
     text: &'p str,
 ) -> Result<(), WriteFault>
     requires { S.failed sink.old ≡ false }
-    ensures { S.failed sink.new ≡ is_err result }
+    ensures took { Took (writer S.taken S.failed S.flushed S.flushes sink.old sink.new) (about name.now text.now) }
+    ensures failed { S.failed sink.new ≡ is_err result }
 {
     write_pieces(sink, &[name, b": ", text.as_bytes(), b"\n"])
 }
@@ -42,7 +48,8 @@ fn tell_at<'p, S: ByteSink>(
     text: &'p str,
 ) -> Result<(), WriteFault>
     requires { S.failed sink.old ≡ false }
-    ensures { S.failed sink.new ≡ is_err result }
+    ensures took { Took (writer S.taken S.failed S.flushed S.flushes sink.old sink.new) (place_words name.now line.now column.now text.now) }
+    ensures failed { S.failed sink.new ≡ is_err result }
 {
     let line = line.as_bytes();
     let column = column.as_bytes();
@@ -64,7 +71,8 @@ fn tell_at<'p, S: ByteSink>(
 /// Writes where a file is refused, and why.
 fn tell_fault<S: ByteSink>(sink: &mut S, name: &[u8], fault: &Fault) -> Result<(), WriteFault>
     requires { S.failed sink.old ≡ false }
-    ensures { S.failed sink.new ≡ is_err result }
+    ensures took { Took (writer S.taken S.failed S.flushed S.flushes sink.old sink.new) (name.now ++ (codes ":" ++ fault_words fault.now)) }
+    ensures failed { S.failed sink.new ≡ is_err result }
 {
     let mut line = Buffer::new();
     let mut column = Buffer::new();
@@ -83,8 +91,9 @@ pub fn report<O: ByteSink, E: ByteSink>(
 ) -> Result<(), WriteFault>
     requires out { O.failed out.old ≡ false }
     requires err { E.failed err.old ≡ false }
-    ensures out { OnOk result (O.failed out.new ≡ false) }
-    ensures err { OnOk result (E.failed err.new ≡ false) }
+    ensures out { Took (writer O.taken O.failed O.flushed O.flushes out.old out.new) (report_of mode name.now outcome.now).out }
+    ensures err { Took (writer E.taken E.failed E.flushed E.flushes err.old err.new) (report_of mode name.now outcome.now).err }
+    ensures failed { is_err result ≡ (O.failed out.new || E.failed err.new) }
 {
     match outcome {
         Outcome::Formatted => Ok(()),
@@ -100,7 +109,7 @@ pub fn report<O: ByteSink, E: ByteSink>(
 
 /// The status that a file gives.
 pub fn status_of(mode: Mode, outcome: &Outcome) -> u8
-    ensures { result ≢ 4 → is_failed outcome.now ≡ false }
+    ensures { (name : Name) → result ≡ (report_of mode name outcome.now).status }
 {
     match outcome {
         Outcome::Formatted => 0,
@@ -116,8 +125,7 @@ pub fn status_of(mode: Mode, outcome: &Outcome) -> u8
 
 /// The worse of two statuses: 4 is worse than 2, and 2 than 3.
 pub fn worse(one: u8, other: u8) -> u8
-    ensures first { result ≢ 4 → one ≢ 4 }
-    ensures second { result ≢ 4 → other ≢ 4 }
+    ensures { result ≡ worse one other }
 {
     if one == 4 || other == 4 {
         return 4;

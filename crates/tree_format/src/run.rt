@@ -1,7 +1,8 @@
 //! A run over files that were found.
 
-ghost use Rattle.std.specs.Prelude.{◌≡◌, ◌≢◌, ℕ, List, All, false};
-ghost use Rattle.tree_format.specs.Runs.{Kept, Settled, is_failed};
+ghost use Rattle.std.specs.Prelude.{◌≡◌, ◌≢◌, ℕ, List, [], All, false};
+ghost use Rattle.command_line.specs.Rows.{writer};
+ghost use Rattle.tree_format.specs.Runs.{IsRun, Kept, Sees, Settled, is_failed};
 
 use crate::look::visit;
 use crate::mode::Mode;
@@ -21,6 +22,7 @@ fn look<T: Tree>(alloc: Global, mode: Mode, found: &Found, tree: &mut T) -> Outc
         is_failed result ≡ false → Settled mode ((T.files tree.old).told real) ((T.files tree.new).told real) }
     ensures elsewhere { (name : List ℕ) → name ≢ (T.files tree.old).real found.now.name.items → (T.files tree.new).told name ≡ (T.files tree.old).told name }
     ensures real { (name : List ℕ) → (T.files tree.new).real name ≡ (T.files tree.old).real name }
+    ensures sees { Sees mode found.now result (record { files = T.files tree.old; faults = T.faults tree.old }) (record { files = T.files tree.new; faults = T.faults tree.new }) }
 {
     match found.fault {
         Some(fault) => Outcome::Failed(fault),
@@ -47,6 +49,9 @@ pub fn run_over<T: Tree, P: Progress, O: ByteSink, E: ByteSink>(
     ensures done { result ≢ 4 → All (λ f. Settled mode ((T.files tree.old).told ((T.files tree.old).real f.name.items)) ((T.files tree.new).told ((T.files tree.old).real f.name.items))) all.now }
     // A file to which no name that was found leads keeps its bytes.
     ensures untouched { (name : List ℕ) → All (λ f. name ≢ (T.files tree.old).real f.name.items) all.now → (T.files tree.new).told name ≡ (T.files tree.old).told name }
+    // What was seen, reported and answered.
+    ensures ran { IsRun mode all.now [] (record { files = T.files tree.old; faults = T.faults tree.old }) (record { files = T.files tree.new; faults = T.faults tree.new })
+        (record { out = writer O.taken O.failed O.flushed O.flushes out.old out.new; err = writer E.taken E.failed E.flushed E.flushes err.old err.new; status = result }) }
 {
     let mut status = 0;
     for found in all {

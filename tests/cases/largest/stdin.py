@@ -1,1 +1,3 @@
-import sys; sys.stdout.buffer.write(b"\n" * 4194304)
+import sys
+
+sys.stdout.buffer.write(b"\n" * 4194304)

@@ -1,1 +1,3 @@
-import sys; sys.stdout.buffer.write(b"\n" * 1048577)
+import sys
+
+sys.stdout.buffer.write(b"\n" * 1048577)

@@ -54,7 +54,7 @@ pub record Laid (ts : List Lexeme) (l : LaidLine) : Type 0 where
   pub assign : IfSome l.gaps.assign (λ c. c.gap ≤ 2 ^ 33)
   pub comment : IfSome l.gaps.comment (λ c. c.gap ≤ 2 ^ 34)
 
--- what is left to print from a token of the line on, by the gaps of the lines behind it
+-- what is left to print from a token of the line on, by the gaps of the lines after it
 abbrev pub left_at : List Lexeme → LaidLine → List ℕ → ℕ → List ℕ
 left_at ts l rest n = printed (gaps_from l.gaps (n - l.first) (token_before ts l.first (n - 1)) (token_before ts l.first n) (take (l.end - n) (drop n ts)) ++ rest) (drop n ts)
 
@@ -62,8 +62,8 @@ left_at ts l rest n = printed (gaps_from l.gaps (n - l.first) (token_before ts l
 abbrev pub GoOn : List Lexeme → List ℕ → LaidLine → ℕ → ℕ → ℕ → ℕ → Type 0
 GoOn ts source l n at n' at' = (rest : List ℕ) → left_at ts l rest n' ≡ drop at' source → left_at ts l rest n ≡ drop at source
 
--- where a line and all behind it stand in place, all stands in place from the line on: by the walk and the runs before the
--- line, and by those behind it
+-- where a line and all after it stand in place, all stands in place from the line on: by the walk and the runs before the
+-- line, and by those after it
 abbrev pub HoldsBefore : List Lexeme → List ℕ → LaidLine → ℕ → ℕ → Walk → Runs → Walk → Runs → Type 0
 HoldsBefore ts source l first at w runs w' runs' =
     (end : ℕ) → InPlace ts source w' runs' l.end end → left_at ts l (gaps_on ts l.end w' runs'.column) first ≡ drop at source → InPlace ts source w runs first at

@@ -15,7 +15,7 @@ use Rattle.hcl_layout.specs.declared.pieces.Piece.{Piece}
 abbrev pub line_left : List Lexeme → Pieces → Line
 line_left ts s = take (s.end - s.next) (drop s.next ts)
 
--- the gaps of the lines behind it
+-- the gaps of the lines after it
 abbrev pub rest_gaps : List Lexeme → Pieces → List ℕ
 rest_gaps ts s = flat_map (λ g. g) (commented s.walk.depth s.walk.levels s.walk.column s.comment (lines (drop s.end ts)))
 

@@ -14,7 +14,7 @@ abbrev pub cell_gap : Option Cell → ℕ → ℕ → ℕ
 cell_gap None k gap = gap
 cell_gap (Some c) k gap = if c.place == k then c.gap else gap
 
--- by the level and the spacing alone, behind the two tokens before it
+-- by the level and the spacing alone, after the two tokens before it
 abbrev pub plain_gap : ℕ → Option Lexeme → Option Lexeme → Lexeme → ℕ
 plain_gap level before None t = indent level t
 plain_gap level before (Some subject) t = blanks before subject t

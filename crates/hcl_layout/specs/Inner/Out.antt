@@ -20,7 +20,7 @@ pub record Out (base now : Option (List ℕ)) (b : Buffer) (front : List ℕ) : 
 abbrev pub CutShort : Option (List ℕ) → Option (List ℕ) → List ℕ → WriteFault → Type 0
 CutShort base now front fault = (fault.written < length front) × Appends base now (take fault.written front)
 
--- behind whatever front went out before, the text goes out
+-- after whatever front went out before, the text goes out
 abbrev pub Puts : Option (List ℕ) → Option (List ℕ) → Buffer → Buffer → List ℕ → Type 0
 Puts now new old b text = (base : Option (List ℕ)) (front : List ℕ) → Out base now old front → Out base new b (front ++ text)
 

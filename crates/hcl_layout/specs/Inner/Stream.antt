@@ -49,7 +49,7 @@ comment_widths d levels column ls = widths running_comment (assigned d levels co
 abbrev pub comment_column : ℕ → List ℕ → Option ℕ → Option ℕ → List Line → Option ℕ
 comment_column d levels column comment ls = next_of comment (comment_widths d levels column ls)
 
--- the same, by the first line's gaps with its assign cell in its column, and the widths of the lines behind it
+-- the same, by the first line's gaps with its assign cell in its column, and the widths of the lines after it
 abbrev pub column_behind : List ℕ → Line → Option ℕ → List (Option ℕ) → Option ℕ
 column_behind gaps l comment behind = next_of comment (option_map (λ i. width i gaps l) (running_comment l) ∷ behind)
 
@@ -69,6 +69,6 @@ assign_width d levels l = option_map (λ i. width i (plain d levels l) l) (assig
 abbrev pub comment_width : ℕ → List ℕ → Option ℕ → Line → List Line → Option ℕ
 comment_width d levels column l ls = option_map (λ i. width i (assigned_line d levels column l ls) l) (running_comment l)
 
--- a cell was set behind that width, if it is known
+-- a cell was set after that width, if it is known
 abbrev pub HasWidth : Option Cell → Option ℕ → Type 0
 HasWidth cell width = IfSome width (λ w. option_map (λ (c : Cell). c.width) cell ≡ Some w)

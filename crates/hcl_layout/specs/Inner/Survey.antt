@@ -41,7 +41,7 @@ is_noted kind.LineComment = true
 is_noted kind.InlineComment = true
 is_noted _ = false
 
--- behind the line's first token
+-- after the line's first token
 abbrev pub first_noted : ℕ → Lexeme → Survey
 first_noted d t = record { len = 1; depth = deepen d t.kind; multiline = is_multiline t; comment = None; body_depth = deepen d t.kind; sign = None; sign_depth = 0 }
 
@@ -49,7 +49,7 @@ first_noted d t = record { len = 1; depth = deepen d t.kind; multiline = is_mult
 abbrev pub takes_sign : Survey → Lexeme → Bool
 takes_sign s t = not (is_some s.comment) && not (is_trailing t) && not (is_some s.sign) && is_assignment t
 
--- behind one token more
+-- after one token more
 abbrev pub noted : Survey → Lexeme → Survey
 noted s t = record {
   len = s.len + 1;
@@ -61,12 +61,12 @@ noted s t = record {
   sign_depth = if takes_sign s t then s.depth else s.sign_depth;
 }
 
--- behind the rest of the line, `last` being the token before
+-- after the rest of the line, `last` being the token before
 abbrev pub surveyed : Survey → Lexeme → List Lexeme → Survey
 surveyed s last [] = s
 surveyed s last (t ∷ ts) = if ends_line last then s else surveyed (noted s t) t ts
 
--- the same, where the line goes on behind the token before
+-- the same, where the line goes on after the token before
 abbrev pub going : Survey → List Lexeme → Survey
 going s [] = s
 going s (t ∷ ts) = surveyed (noted s t) t ts

@@ -90,7 +90,7 @@ AreContinuing text = (cs : List ℕ) × (list_all continues_ident cs ≡ true) �
 abbrev pub is_ordinary : ℕ → Bool
 is_ordinary b = not (is_dollar_or_percent b || (b == 34) || (b == 92) || (b == 10) || (b == 13))
 
--- the marker of a heredoc's opener, and the newline behind it
+-- the marker of a heredoc's opener, and the newline after it
 abbrev pub IsMarker : List ℕ → Type 0
 IsMarker text = (marker end : List ℕ) × IsIdent marker × IsNewline end × (text ≡ marker ++ end)
 

@@ -2,7 +2,7 @@
 use Rattle.std.specs.Prelude.{ℕ, ◌==◌, ◌||◌, ◌&&◌, List, if◌then◌else◌, get_or}
 use Rattle.std.specs.Char.{is_ascii_digit}
 use Rattle.hcl_tokens.specs.Spelling.{is_blank}
-use Rattle.hcl_scan.specs.SideBySide.{may_begin_ident}
+use Rattle.hcl_tokens.specs.SideBySide.{may_begin_ident}
 use Rattle.hcl_scan.specs.declared.expression.Lead.{Lead}
 use Rattle.hcl_scan.specs.declared.expression.Lead.TheVariants.{LineEnd, Space, Letter, Digit, HashOrSlashes, SlashStar, OneSlash, LessLess, Closer, Sign}
 

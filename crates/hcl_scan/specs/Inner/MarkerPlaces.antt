@@ -21,7 +21,7 @@ pub record IsBlankFront (text : List ℕ) (place n : ℕ) : Type 0 where
 abbrev pub EndsLine : List ℕ → ℕ → Type 0
 EndsLine text at = IsTrue (at_line_end (skip_blanks (drop at text)))
 
--- the first line behind the place begins after n bytes of the text
+-- the first line after the place begins after n bytes of the text
 pub record IsNextLine (text : List ℕ) (place n : ℕ) : Type 0 where
   pub behind : place < n
   pub within : n ≤ length text

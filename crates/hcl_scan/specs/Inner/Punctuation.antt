@@ -4,7 +4,7 @@ use Rattle.std.specs.List.{list_all, starts_with}
 use Rattle.hcl_tokens.specs.declared.token.Kind.{Kind}
 use Rattle.hcl_tokens.specs.declared.token.Kind.TheVariants.{And, Arrow, Assign, BraceOpen, BracketClose, BracketOpen, Colon, ColonColon, Comma, Dot, Ellipsis, Equal, Greater, GreaterEqual, Less, LessEqual, Minus, Not, NotEqual, Or, ParenClose, ParenOpen, Percent, Plus, Question, QuoteOpen, Star}
 
--- no mark is shorter than one behind it
+-- no mark is shorter than one after it
 abbrev pub is_longest_first : List (List ℕ × Kind) → Bool
 is_longest_first [] = true
 is_longest_first (m ∷ ms) = list_all (λ o. nat_le (length o.0) (length m.0)) ms && is_longest_first ms

@@ -27,7 +27,7 @@ fits_in Sequence Expression = false
 fits_in _ (Template quoted) = false
 fits_in _ Expression = true
 
--- what is seen inside a heredoc ends before its closing marker, and what is seen around it behind
+-- what is seen inside a heredoc ends before its closing marker, and what is seen around it after
 abbrev pub AreEndsBy : List ℕ → ℕ → kept.Opener → (ℕ → Type 0) → Type 0
 AreEndsBy text end (Heredoc closer_end outer_end) around = (end < closer_end) × (closer_end ≤ outer_end) × IsCharBoundary text closer_end × IsCharBoundary text outer_end × around outer_end
 AreEndsBy text end _ around = around end

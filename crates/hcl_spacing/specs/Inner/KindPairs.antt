@@ -1,4 +1,4 @@
--- The table of spacing by pairs of kinds: own words of the code, which nobody has to believe. That they agree with the
+-- The table of spacing by pairs of kinds: own words of the code, which need no trust. That they agree with the
 -- table is proved by trying all pairs of kinds (proofs/KindPairLemmas).
 use Rattle.std.specs.Prelude.{◌&&◌, ◌||◌, ◌==◌, ℕ, Bool, true, false, not, Option, Some, None, if◌then◌else◌, codes}
 use Rattle.std.specs.Str.{bytes_eq}
@@ -10,7 +10,7 @@ use Rattle.hcl_spacing.specs.declared.rows.Row.{Row}
 use Rattle.std.specs.Int.{bit_at}
 use Rattle.hcl_spacing.specs.Spacing.{begins_with_colon, begins_with_equals, closes_group, is_opening, opens_sequence, stands_before}
 
--- what stands close behind whatever it doesn't join
+-- what stands close after whatever it doesn't join
 abbrev pub stands_close : Kind → Bool
 stands_close kind.Newline = true
 stands_close kind.Dot = true
@@ -21,23 +21,23 @@ stands_close kind.Lit = true
 stands_close kind.QuoteClose = true
 stands_close _ = false
 
--- behind what an index may follow
+-- after what an index may follow
 abbrev pub space_behind_operand : Kind → Bool
 space_behind_operand r = not (stands_close r || closes_group r || is kind.BracketOpen r)
 
--- behind `}`
+-- after `}`
 abbrev pub space_behind_brace : Kind → Bool
 space_behind_brace r = is kind.SeqClose r || space_behind_operand r
 
--- behind a number, unless it could join a dot
+-- after a number, unless it could join a dot
 abbrev pub space_behind_number : Kind → Option Bool
 space_behind_number r = if is kind.Dot r then None else Some (space_behind_operand r)
 
--- behind a name, unless it could be the word `in`
+-- after a name, unless it could be the word `in`
 abbrev pub space_behind_name : Kind → Option Bool
 space_behind_name r = if is kind.BracketOpen r || closes_group r then None else Some (not (stands_close r || is kind.ParenOpen r))
 
--- behind `${` and `%{`, unless they could join the `~` of the closer
+-- after `${` and `%{`, unless they could join the `~` of the closer
 abbrev pub space_in_sequence : Kind → Option Bool
 space_in_sequence r = if is kind.SeqClose r then None else Some (is kind.BraceOpen r || is kind.BraceClose r)
 
@@ -71,7 +71,7 @@ pair_space _ r = Some (not (stands_close r || closes_group r))
 
 -- the answer where the kinds don't give it, by what the table asks of the texts and of the token before: whether the
 -- second begins with `=` or `:`, whether it is `~}`, whether the first is `in`, whether an Ident or a Dot stands before,
--- and whether an expression begins behind that
+-- and whether an expression begins after that
 abbrev pub asked : Kind → Kind → Bool → Bool → Bool → Bool → Bool → Bool → Bool → Bool
 asked kind.Not r equals colon tilde word name dot opening = equals
 asked kind.Colon r equals colon tilde word name dot opening = colon || not (stands_close r || closes_group r)

@@ -7,7 +7,7 @@ use Rattle.hcl_syntax.specs.Inner.Pieces.{words}
 use Rattle.hcl_syntax.specs.declared.pieces.Body.{Body}
 use Rattle.hcl_grammar.specs.declared.item.Item.{Item}
 
--- with the items of its body behind, it is the item of the piece, whatever the items of bodies are
+-- with the items of its body after, it is the item of the piece, whatever the items of bodies are
 pub record PutsPiece (tokens : List Lexeme) (level from to : ℕ) (old new : List Item) (body : Body) : Type 0 where
   pub is : (inner : List Numbered → List Item) → inner [] ≡ [] → new ++ inner (words tokens body.first body.end) ≡ old ++ item_of inner level (words tokens from to)
   pub within : body.end ≤ to

@@ -2,7 +2,7 @@
 use Rattle.std.specs.Prelude.{◌≡◌, ◌<◌, ℕ, zero, suc, ◌+◌, Bool, true, false, List, [], ◌∷◌, ◌++◌, Option, Some, Result, Ok, Err}
 use Rattle.hcl_grammar.specs.declared.class.Lookahead.{Lookahead}
 use Rattle.hcl_grammar.specs.declared.class.Class.{Class}
-use Rattle.hcl_grammar.specs.declared.class.Class.TheVariants.{Ident, Not, Minus}
+use Rattle.hcl_grammar.specs.declared.class.Class.TheVariants.{Ident, Number, Newline, Comma, ParenClose, BracketClose, BraceClose, SeqClose, Assign, Arrow, Colon, Ellipsis, Not, Minus}
 use Rattle.hcl_grammar.specs.declared.class.Word.TheVariants.{Else, Endif, Endfor}
 use Rattle.hcl_grammar.specs.declared.expected.Section.{Section}
 use Rattle.hcl_grammar.specs.declared.expected.Section.TheVariants.{InIf, InElse, InFor}
@@ -25,7 +25,7 @@ abbrev pub outcome : {A : Type 0} → Result A Refusal → Option Refusal → Op
 outcome (Ok _) o = o
 outcome (Err f) o = Some f
 
--- With the symbols xs first, whatever comes behind them, the predictor comes from the old tokens to the new ones with
+-- With the symbols xs first, whatever comes after them, the predictor comes from the old tokens to the new ones with
 -- ys in their place, or ends with the refusal.
 pub record Advances {A : Type 0} (count : ℕ) (xs : List Marked) (old : List Lookahead) (result : Result A Refusal) (ys : List Marked) (new : List Lookahead) : Type 0 where
   pub same : (behind : List Marked) → run count (xs ++ behind) old ≡ outcome result (run count (ys ++ behind) new)
@@ -70,7 +70,27 @@ is_prefix Minus = true
 is_prefix Not = true
 is_prefix _ = false
 
--- what stands behind a body's items
+-- an operand by itself, but for what goes on after it
+abbrev pub is_short_operand : Class → Bool
+is_short_operand (Ident w) = true
+is_short_operand (Number d) = true
+is_short_operand _ = false
+
+-- no expression goes on with the token, and it isn't passed over
+abbrev pub ends_expression : Newlines → Class → Bool
+ends_expression Seen Newline = true
+ends_expression m Comma = true
+ends_expression m ParenClose = true
+ends_expression m BracketClose = true
+ends_expression m BraceClose = true
+ends_expression m SeqClose = true
+ends_expression m Assign = true
+ends_expression m Arrow = true
+ends_expression m Colon = true
+ends_expression m Ellipsis = true
+ends_expression m _ = false
+
+-- what follows a body's items
 abbrev pub body_symbols : Bool → List Marked
 body_symbols true = body at Seen ∷ the EndBrace at Seen ∷ eol at Seen ∷ []
 body_symbols false = []

@@ -1,5 +1,5 @@
 -- Whether what is open is closed directly before a closing quote, token by token, as the code finds it.
-use Rattle.std.specs.Prelude.{◌≡◌, ◌<◌, ◌+◌, ℕ, Bool, false, List, length, get_or, reverse}
+use Rattle.std.specs.Prelude.{◌≡◌, ℕ, Bool, false, List, get_or, reverse}
 use Rattle.hcl_tokens.specs.Lexemes.{Lexeme}
 use Rattle.tf_facts.specs.Patterns.{begins_with_close, behind_closer}
 use Rattle.tf_facts.specs.Inner.Seen.{seen_from}
@@ -8,15 +8,10 @@ use Rattle.tf_facts.specs.Inner.Seen.{seen_from}
 abbrev pub quote_from : List Lexeme → ℕ → Bool
 quote_from tokens n = begins_with_close (seen_from tokens n)
 
--- so does what is seen behind the closer of what is open there, where so many more are open
+-- so does what is seen after the closer of what is open there, where so many more are open
 abbrev pub closes_before_quote : List Lexeme → ℕ → ℕ → Bool
 closes_before_quote tokens depth n = begins_with_close (behind_closer depth (seen_from tokens n))
 
 -- the answers by depth: for nothing more open last, for one before it, and so on
 abbrev pub AreAhead : List Lexeme → List Bool → ℕ → Type 0
 AreAhead tokens ahead n = (depth : ℕ) → get_or (reverse ahead) depth false ≡ closes_before_quote tokens depth n
-
--- the table has the answer for what each token opens
-pub record AreClosings (tokens : List Lexeme) (table : List Bool) : Type 0 where
-  pub len : length table ≡ length tokens
-  pub each : (i : ℕ) → i < length tokens → get_or table i false ≡ closes_before_quote tokens 0 (i + 1)

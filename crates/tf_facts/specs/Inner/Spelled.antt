@@ -1,4 +1,4 @@
--- The text by which a reference is told.
+-- The text that identifies a reference.
 use Rattle.std.specs.Prelude.{◌≡◌, ◌<◌, ◌+◌, ◌^◌, ℕ, List, drop, length, Some}
 use Rattle.hcl_tokens.specs.Lexemes.{Lexeme}
 use Rattle.tf_facts.specs.References.{name_behind, variable_reference, local_reference, data_reference}
@@ -12,7 +12,7 @@ spelled (Variable n) = variable_reference n.now
 spelled (Local n) = local_reference n.now
 spelled (Data t n) = data_reference t.now n.now
 
--- the token is the identifier behind a dot with which the tokens from a number on begin
+-- the token is the identifier after a dot with which the tokens from a number on begin
 pub record IsBehind (tokens : List Lexeme) (from : ℕ) (t : Seen) : Type 0 where
   pub named : name_behind (seen_from tokens from) ≡ Some (numbered_of t)
   pub rest : drop 2 (seen_from tokens from) ≡ seen_from tokens (t.number + 1)

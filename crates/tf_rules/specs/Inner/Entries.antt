@@ -1,16 +1,28 @@
 -- What contracts see of issues before they are shown.
-use Rattle.std.specs.Prelude.{List, [], ◌∷◌, Option, Some, None, map}
+use Rattle.std.specs.Prelude.{ℕ, ◌++◌, List, [], ◌∷◌, Option, Some, None, codes, map}
 use Rattle.std.specs.Ordering.{nat_cmp, ordering_then}
 use Rattle.std.specs.declared.cmp.Ordering.{Ordering}
 use Rattle.tf_rules.specs.Findings as findings
 use Rattle.tf_rules.specs.Issues.{Issue, Place}
 use Rattle.tf_facts.specs.Rules.{rank}
-use Rattle.tf_rules.specs.Inner.KeptViews.{place_of}
+use Rattle.tf_rules.specs.Naming.{naming_text}
+use Rattle.tf_rules.specs.Inner.KeptViews.{kept_declaration, kept_names, place_of}
 use Rattle.tf_rules.specs.declared.entry.Entry.{Entry}
 use Rattle.tf_rules.specs.declared.entry.Finding.{Finding}
+use Rattle.tf_rules.specs.declared.entry.Said.{Said}
+use Rattle.tf_rules.specs.declared.entry.Said.TheVariants.{Fixed, About, DefaultBranch, Misnamed, Unused}
+use Rattle.tf_facts.specs.References.{last_of}
+
+-- the text of what is said
+abbrev pub text_of : Said → List ℕ
+text_of (Fixed text) = text.now
+text_of (About d rest) = findings.about (kept_declaration d.now) rest.now
+text_of (DefaultBranch d branch) = findings.about (kept_declaration d.now) (codes " source uses a default branch: " ++ branch.now)
+text_of (Misnamed d naming) = findings.kind_text d.now.kind ++ (codes " name" ++ findings.quoting (last_of (kept_names d.now.names)) (codes " must match " ++ naming_text naming))
+text_of (Unused d) = findings.kind_text d.now.kind ++ findings.both_quoted (kept_names d.now.names) (codes " is declared but not used")
 
 abbrev pub issue_of : Entry → Issue
-issue_of e = record { place = place_of e.at; rule = e.rule; message = e.message }
+issue_of e = record { place = place_of e.at; rule = e.rule; message = text_of e.said }
 
 abbrev pub issues_of : List Entry → List Issue
 issues_of entries = map issue_of entries
@@ -18,7 +30,7 @@ issues_of entries = map issue_of entries
 -- one or none
 abbrev pub finding_listed : Option Finding → List (findings.Finding Place)
 finding_listed None = []
-finding_listed (Some f) = record { at = place_of f.at; message = f.message } ∷ []
+finding_listed (Some f) = record { at = place_of f.at; message = text_of f.said } ∷ []
 
 -- by file, then token, then the name of the rule
 abbrev pub entry_cmp : Entry → Entry → Ordering

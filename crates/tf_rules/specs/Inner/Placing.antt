@@ -1,4 +1,4 @@
--- A walk through the tokens of a file, and the tokens that it can go to one behind the other.
+-- A walk through the tokens of a file, and the tokens that it can go to one after another.
 use Rattle.std.specs.Prelude.{◌≡◌, ◌<◌, ◌≤◌, ◌++◌, ℕ, List, [], ◌∷◌, Option, Some, None, drop, length, map}
 use Rattle.std.specs.List.{flat_map}
 use Rattle.hcl_tokens.specs.Lexemes.{Lexeme}

@@ -2,16 +2,23 @@
 use Rattle.std.specs.Prelude.{ℕ, ◌++◌, List, codes, decimal, length}
 use Rattle.std.specs.List.{flat_map}
 use Rattle.command_line.specs.Rows.{line}
+use Rattle.tf_facts.specs.Rules.{rule_name, severity_text}
+use Rattle.tf_facts.specs.declared.rule.Rule.{Rule}
+use Rattle.tf_facts.specs.declared.rule.Severity.{Severity}
 use Rattle.tf_rules.specs.declared.issue.Issue.{Issue}
 use Rattle.tfrules_command.specs.Report.{issue_line}
 
--- `FILE:LINE:COLUMN: `
-abbrev pub place_words : List ℕ → List ℕ → List ℕ → List ℕ
-place_words name row column = name ++ (codes ":" ++ (row ++ (codes ":" ++ (column ++ codes ": "))))
+-- `: Severity - `
+abbrev pub opening_words : Severity → List ℕ
+opening_words s = codes ": " ++ (severity_text s ++ codes " - ")
 
--- `Severity - message (rule)`
-abbrev pub issue_words : List ℕ → List ℕ → List ℕ → List ℕ
-issue_words severity message rule = severity ++ (codes " - " ++ (message ++ (codes " (" ++ (rule ++ line (codes ")")))))
+-- ` (rule)`, to the end of the line
+abbrev pub closing_words : Rule → List ℕ
+closing_words rule = codes " (" ++ (rule_name rule ++ line (codes ")"))
+
+-- a line of these parts
+abbrev pub line_words : List ℕ → List ℕ → List ℕ → List ℕ → List ℕ → List ℕ → List ℕ
+line_words name row column opening message closing = name ++ (codes ":" ++ (row ++ (codes ":" ++ (column ++ (opening ++ (message ++ closing))))))
 
 abbrev pub count_lines : ℕ → List ℕ
 count_lines count = decimal count ++ line (line (codes " issue(s) found:"))

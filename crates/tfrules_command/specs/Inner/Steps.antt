@@ -53,7 +53,7 @@ KeepsTokens scanned number all old new (Err stop.NotOpened) = ⊥
 KeepsTokens scanned number all old new (Err stop.NotRead) = ⊥
 KeepsTokens scanned number all old new (Err stop.OutOfMemory) = Unit {0}
 
--- what keeping a text behind others of so many bytes answers
+-- what keeping a text after others of so many bytes answers
 abbrev pub Keeps : List ℕ → ℕ → ℕ → Kept → Kept → Result ℕ Stop → Type 0
 Keeps text size number old new (Ok more) =
     (source : Scanned) × IsOutcome text (Ok source) × (more ≡ size + length text) × (more ≤ max_module) × (new ≡ with_file old (record { number = number; source = source }))

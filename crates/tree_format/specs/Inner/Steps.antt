@@ -7,10 +7,10 @@ use Rattle.hcl_tokens.specs.Scanned.{Scanned}
 use Rattle.hcl_tokens.specs.declared.token.ScanError.{ScanError}
 use Rattle.hcl_tokens.specs.declared.token.ScanError.TheVariants as scan_error
 use Rattle.hcl_layout.specs.Print.{print}
-use Rattle.tree_format.specs.Looks.{IsReal, Left}
+use Rattle.line_diff.specs.Diffs.{diff_of}
+use Rattle.tree_format.specs.Looks.{Left, Notes}
 use Rattle.tree_format.specs.Format.{too_large}
-use Rattle.file_tree.specs.Files.{Files, Name, Tells}
-use Rattle.file_tree.specs.declared.fault.TreeFault.{TreeFault}
+use Rattle.file_tree.specs.Files.{Faults, Files, Name, Tells}
 use Rattle.tree_format.specs.declared.mode.Mode.{Mode}
 use Rattle.tree_format.specs.declared.mode.Mode.TheVariants.{Diff}
 use Rattle.tree_format.specs.declared.outcome.Outcome.{Outcome}
@@ -29,27 +29,33 @@ abbrev pub outcome_of_scan : ScanError → Outcome
 outcome_of_scan (scan_error.Fault fault) = outcome.Refused fault
 outcome_of_scan scan_error.OutOfMemory = outcome.Failed OutOfMemory
 
--- what loading a file answers, of which the device tells these bytes, and the fault of the device's last call
-abbrev pub LoadsFile : Option (List ℕ) → Option TreeFault → Result (List ℕ) Outcome → Type 0
-LoadsFile told last (Ok text) = Tells told text × IsText text
-LoadsFile told last (Err (outcome.Refused fault)) = (bytes : List ℕ) × Tells told bytes × IsLoadFault bytes fault
-LoadsFile told last (Err (outcome.Failed fault)) = IsReal fault last
-LoadsFile told last (Err outcome.Formatted) = ⊥
-LoadsFile told last (Err outcome.Changed) = ⊥
-LoadsFile told last (Err (outcome.Differs text)) = ⊥
+-- what loading a file answers, of which the device tells these bytes
+abbrev pub LoadsFile : Option (List ℕ) → Result (List ℕ) Outcome → Type 0
+LoadsFile told (Ok text) = Tells told text × IsText text
+LoadsFile told (Err (outcome.Refused fault)) = (bytes : List ℕ) × Tells told bytes × IsLoadFault bytes fault
+LoadsFile told (Err (outcome.Failed fault)) = Unit {0}
+LoadsFile told (Err outcome.Formatted) = ⊥
+LoadsFile told (Err outcome.Changed) = ⊥
+LoadsFile told (Err (outcome.Differs text)) = ⊥
 
--- what is answered of accepted tokens, what the files are then, and the fault of the device's last call
-abbrev pub Makes : Mode → Files → Files → Option TreeFault → Name → Scanned → Outcome → Type 0
-Makes mode old new last name s outcome.Formatted = (print s.tokens ≡ s.text) × (new ≡ old)
-Makes mode old new last name s outcome.Changed = (print s.tokens ≢ s.text) × (length (print s.tokens) ≤ max_source) × Left mode old new name (print s.tokens)
-Makes mode old new last name s (outcome.Differs text) = (mode ≡ Diff) × (print s.tokens ≢ s.text) × (length (print s.tokens) ≤ max_source) × (new ≡ old)
-Makes mode old new last name s (outcome.Refused fault) = (max_source < length (print s.tokens)) × (fault ≡ too_large) × (new ≡ old)
-Makes mode old new last name s (outcome.Failed fault) = (new ≡ old) × IsReal fault last
+-- what is answered of accepted tokens of a file that was named so, and what the files are then
+abbrev pub Makes : Mode → Files → Files → Name → Name → Scanned → Outcome → Type 0
+Makes mode old new given name s outcome.Formatted = (print s.tokens ≡ s.text) × (new ≡ old)
+Makes mode old new given name s outcome.Changed = (print s.tokens ≢ s.text) × (length (print s.tokens) ≤ max_source) × Left mode old new name (print s.tokens)
+Makes mode old new given name s (outcome.Differs text) =
+    (mode ≡ Diff) × (print s.tokens ≢ s.text) × (length (print s.tokens) ≤ max_source) × (new ≡ old) × (text.items ≡ diff_of given s.text (print s.tokens))
+Makes mode old new given name s (outcome.Refused fault) = (max_source < length (print s.tokens)) × (fault ≡ too_large) × (new ≡ old)
+Makes mode old new given name s (outcome.Failed fault) = new ≡ old
 
--- the difference is shown, or memory ran out
-abbrev pub IsShown : Outcome → Type 0
-IsShown (outcome.Differs text) = Unit {0}
-IsShown (outcome.Failed fault) = fault ≡ OutOfMemory
-IsShown outcome.Formatted = ⊥
-IsShown outcome.Changed = ⊥
-IsShown (outcome.Refused fault) = ⊥
+-- the difference is shown, of a file that was named so, or memory ran out
+abbrev pub IsShown : Name → Scanned → Outcome → Type 0
+IsShown given s (outcome.Differs text) = text.items ≡ diff_of given s.text (print s.tokens)
+IsShown given s (outcome.Failed fault) = fault ≡ OutOfMemory
+IsShown given s outcome.Formatted = ⊥
+IsShown given s outcome.Changed = ⊥
+IsShown given s (outcome.Refused fault) = ⊥
+
+-- the same of a load
+abbrev pub LoadNotes : {X : Type 0} → Faults → Faults → Result X Outcome → Type 0
+LoadNotes before after (Ok x) = after ≡ before
+LoadNotes before after (Err answer) = Notes before after answer

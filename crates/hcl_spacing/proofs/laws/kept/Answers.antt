@@ -1,5 +1,5 @@
 use Rattle.std.proofs.Common.{◌∙◌, ◌||◌, ap}
-use Rattle.hcl_scan.proofs.BooleanLemmas.{or_true}
+use Rattle.hcl_tokens.proofs.BooleanLemmas.{or_true}
 use Rattle.hcl_tokens.specs.Kinds.{is}
 use Rattle.hcl_tokens.specs.declared.token.Kind.TheVariants as kind
 use Rattle.hcl_spacing.proofs.SpacingLemmas.{row_one, template_touches}

@@ -13,8 +13,8 @@ made told indexes interpolations listed = record { comments = told; indexes = in
 
 pub returns : goal.returns
 returns c =
-    ap (λ cs. made cs c.in_ok-indexes.indexes.items c.in_ok-interpolations.interpolations.items (map declaration c.in_ok-declarations.declarations.items)) c.in_ok-comments.ensures
-    ∙ ap (λ is. made (comments (numbered c.tokens-tokens.result.now.tokens)) is c.in_ok-interpolations.interpolations.items (map declaration c.in_ok-declarations.declarations.items)) c.in_ok-indexes.ensures
-    ∙ ap (λ is. made (comments (numbered c.tokens-tokens.result.now.tokens)) (legacy_indexes (numbered c.tokens-tokens.result.now.tokens)) is (map declaration c.in_ok-declarations.declarations.items)) c.in_ok-interpolations.ensures
+    ap (λ cs. made cs c.in_ok-patterns.patterns.indexes.items c.in_ok-patterns.patterns.interpolations.items (map declaration c.in_ok-declarations.declarations.items)) c.in_ok-comments.ensures
+    ∙ ap (λ is. made (comments (numbered c.tokens-tokens.result.now.tokens)) is c.in_ok-patterns.patterns.interpolations.items (map declaration c.in_ok-declarations.declarations.items)) c.in_ok-patterns.ensures.indexes
+    ∙ ap (λ is. made (comments (numbered c.tokens-tokens.result.now.tokens)) (legacy_indexes (numbered c.tokens-tokens.result.now.tokens)) is (map declaration c.in_ok-declarations.declarations.items)) c.in_ok-patterns.ensures.interpolations
     ∙ ap (λ ds. made (comments (numbered c.tokens-tokens.result.now.tokens)) (legacy_indexes (numbered c.tokens-tokens.result.now.tokens)) (wrapped_interpolations (numbered c.tokens-tokens.result.now.tokens)) ds) c.in_ok-declarations.ensures
     ∙ ap (λ (s : Scanned). made (comments (numbered s.tokens)) (legacy_indexes (numbered s.tokens)) (wrapped_interpolations (numbered s.tokens)) (declarations (numbered c.args.accepted.now.tokens))) c.tokens-tokens.ensures.tokens

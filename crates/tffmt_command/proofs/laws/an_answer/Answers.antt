@@ -21,7 +21,7 @@ use Rattle.tffmt_command.specs.declared.options.Usage.{Usage}
 use Rattle.tffmt_command.specs.declared.options.Usage.TheVariants as usage
 use Rattle.tffmt_command.proofs.laws.an_answer.Goals as goal
 
--- ---- no line has want of memory as its usage
+-- ---- running out of memory is the usage of no line
 
 usage_of_words : (k : ErrorKind) → IsOfWords k → usage_of_kind k ≡ usage.OutOfMemory → ⊥
 usage_of_words kind.InvalidValue p e = absurd (cc)

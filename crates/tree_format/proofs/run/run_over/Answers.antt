@@ -1,31 +1,42 @@
-use Rattle.std.proofs.Common.{◌≡◌, ◌∙◌, ◌≤◌, rules, arith, length, refl, subst, sym}
+use Rattle.std.proofs.Common.{◌≡◌, ◌∙◌, ◌≤◌, ◌+◌, ap, arith, drop, false, length, refl, subst, sym, take}
 use Rattle.std.proofs.lemmas.List.{take_all}
 use Rattle.std.proofs.lemmas.List.Elements.{All-get_or, All-nil}
 use Rattle.std.specs.Prelude.{◌≢◌, All}
+use Rattle.command_line.specs.Rows.{TookBy}
+use Rattle.tree_format.specs.Reports.{report_of, worse}
 use Rattle.tree_format.specs.Runs.{Settled}
 use Rattle.file_tree.specs.declared.walk.Found.{Found}
+use Rattle.tree_format.proofs.RunLemmas.{first_good, good_answer, left_good, one_bad, right_good, run_all, run_cut, second_good, so_far_more, so_far_none}
+use Rattle.tree_format.proofs.WriterLemmas.{split_here, take_one}
 use Rattle.tree_format.proofs.KeptLemmas.{all_settled, kept_same, kept_trans, settled_after}
 use Rattle.tree_format.proofs.run.run_over.Goals as goal
 
 pub loop-found-init : goal.loop-found-init
-loop-found-init g c = (c.requires.out, c.requires.err, λ name. kept_same _ _ _ refl, λ name. refl, λ ne. All-nil _, λ name other. refl)
+loop-found-init g c = (c.requires.out, c.requires.err, λ name. kept_same _ _ _ refl, λ name. refl, λ ne. All-nil _, λ name other. refl, so_far_none _ _ _ _)
 
 pub loop-found-preserved : goal.loop-found-preserved
 loop-found-preserved g c =
-    let first = g.T.Tree.files c.args.tree.now in let old = g.T.Tree.files c.loop-found.tree in let new = g.T.Tree.files c.look-outcome.new.tree in (
-      search rules,
-      search rules,
+    let first = g.T.Tree.files c.args.tree.now in let old = g.T.Tree.files c.loop-found.tree in let new = g.T.Tree.files c.look-outcome.new.tree in
+    let good : g.O.ByteSink.failed c.report.new.out ≡ false = left_good _ _ _ (g.E.ByteSink.failed c.report.new.err) c.report.ensures.failed c.is_err.ensures.value c.if-is_err.false in
+    let good' : g.E.ByteSink.failed c.report.new.err ≡ false = right_good _ _ (g.O.ByteSink.failed c.report.new.out) _ c.report.ensures.failed c.is_err.ensures.value c.if-is_err.false in
+    let name = c.found-item.result.name.items in (
+      good,
+      good',
       λ name. kept_trans _ _ _ _ (c.loop-found.invariant.2 name) (c.look-outcome.ensures.kept name),
       λ name. c.look-outcome.ensures.real name ∙ c.loop-found.invariant.3 name,
       λ ne. all_settled c.args.mode (λ f. first.real f.name.items) first.told old.told new.told c.look-outcome.ensures.kept c.args.all.now c.loop-found.found-index c.found-item.result c.loop-found-test.true
-          (c.loop-found.invariant.4 (c.worse-status.ensures.first ne))
+          (c.loop-found.invariant.4 (first_good _ _ (λ e. ne (c.worse-status.ensures ∙ e))))
           (subst (λ (f : Found). Settled c.args.mode (first.told (first.real f.name.items)) (new.told (first.real f.name.items)))
           c.found-item.is
           (settled_after _ _ _ _ (c.loop-found.invariant.2 _)
-          (subst (λ n. Settled c.args.mode (old.told n) (new.told n)) (c.loop-found.invariant.3 c.found-item.result.name.items) (c.look-outcome.ensures.settled (c.status_of.ensures (c.worse-status.ensures.second ne)))))),
+          (subst (λ n. Settled c.args.mode (old.told n) (new.told n)) (c.loop-found.invariant.3 c.found-item.result.name.items) (c.look-outcome.ensures.settled (good_answer c.args.mode name c.look-outcome.result (λ e. second_good _ _ (λ e. ne (c.worse-status.ensures ∙ e)) (c.status_of.ensures name ∙ e))))))),
       λ name other. c.look-outcome.ensures.elsewhere name
           (subst (λ n. name ≢ n) (sym (c.loop-found.invariant.3 c.found-item.result.name.items)) (subst (λ (f : Found). name ≢ first.real f.name.items) (sym c.found-item.is) (All-get_or (λ (f : Found). name ≢ first.real f.name.items) c.args.all.now c.loop-found.found-index c.found-item.result c.loop-found-test.true other)))
           ∙ c.loop-found.invariant.5 name other,
+      so_far_more c.args.mode (take c.loop-found.found-index c.args.all.now) _ c.found-item.result c.look-outcome.result _ _ _ _ _ _ _ _ _ _ _ _ _ (take_one c.args.all.now c.loop-found.found-index c.found-item.result c.loop-found-test.true c.found-item.is)
+          c.loop-found.invariant.6 c.look-outcome.ensures.sees good (subst (λ n. TookBy (g.O.ByteSink.failed c.report.new.out) (g.O.ByteSink.taken c.loop-found.out) (g.O.ByteSink.taken c.report.new.out) (report_of c.args.mode n c.look-outcome.result).out) c.as_slice.ensures.value c.report.ensures.out)
+          good' (subst (λ n. TookBy (g.E.ByteSink.failed c.report.new.err) (g.E.ByteSink.taken c.loop-found.err) (g.E.ByteSink.taken c.report.new.err) (report_of c.args.mode n c.look-outcome.result).err) c.as_slice.ensures.value c.report.ensures.err)
+          (c.worse-status.ensures ∙ ap (worse c.loop-found.status) (c.status_of.ensures name)),
     )
 
 pub returns-then-is_err-clause-kept : goal.returns-then-is_err-clause-kept
@@ -36,3 +47,16 @@ returns-clause-done g c ne =
     let first = g.T.Tree.files c.args.tree.now in let now = g.T.Tree.files c.loop-found.tree in
     let all : length c.args.all.now ≤ c.loop-found.found-index = omega (arith, c.loop-found-test.false) in
     subst (All (λ f. Settled c.args.mode (first.told (first.real f.name.items)) (now.told (first.real f.name.items)))) (take_all c.loop-found.found-index c.args.all.now all) (c.loop-found.invariant.4 ne)
+
+pub returns-then-is_err-clause-ran : goal.returns-then-is_err-clause-ran
+returns-then-is_err-clause-ran g c =
+    run_cut c.args.mode c.args.all.now (take c.loop-found.found-index c.args.all.now) (drop (c.loop-found.found-index + 1) c.args.all.now) c.found-item.result c.look-outcome.result _ _ _ _ _ _ _ _
+    (split_here c.args.all.now c.loop-found.found-index c.found-item.result c.loop-found-test.true c.found-item.is)
+    c.loop-found.invariant.6 c.look-outcome.ensures.sees (one_bad _ _ (g.O.ByteSink.failed c.report.new.out) (g.E.ByteSink.failed c.report.new.err) c.report.ensures.failed c.is_err.ensures.value c.if-is_err.true)
+    (subst (λ n. TookBy (g.O.ByteSink.failed c.report.new.out) (g.O.ByteSink.taken c.loop-found.out) (g.O.ByteSink.taken c.report.new.out) (report_of c.args.mode n c.look-outcome.result).out) c.as_slice.ensures.value c.report.ensures.out)
+    (subst (λ n. TookBy (g.E.ByteSink.failed c.report.new.err) (g.E.ByteSink.taken c.loop-found.err) (g.E.ByteSink.taken c.report.new.err) (report_of c.args.mode n c.look-outcome.result).err) c.as_slice.ensures.value c.report.ensures.err)
+
+pub returns-clause-ran : goal.returns-clause-ran
+returns-clause-ran g c =
+    let all : length c.args.all.now ≤ c.loop-found.found-index = omega (arith, c.loop-found-test.false) in
+    run_all c.args.mode c.args.all.now _ _ _ c.loop-found.status _ _ (take_all c.loop-found.found-index c.args.all.now all) c.loop-found.invariant.6 c.loop-found.invariant.0 c.loop-found.invariant.1

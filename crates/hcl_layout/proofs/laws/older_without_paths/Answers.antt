@@ -1,9 +1,0 @@
-use Rattle.hcl_layout.proofs.OlderPremiseLemmas.{scanned_before}
-use Rattle.hcl_layout.proofs.OlderRunLemmas.{accepted_before}
-use Rattle.hcl_layout.proofs.laws.older_without_paths.Goals as goal
-
-pub returns-clause-scanned : goal.returns-clause-scanned
-returns-clause-scanned c = scanned_before
-
-pub returns-clause-accepted : goal.returns-clause-accepted
-returns-clause-accepted c = λ ts is pathless. accepted_before ts pathless is

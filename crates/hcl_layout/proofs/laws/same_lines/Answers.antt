@@ -1,8 +1,0 @@
-use Rattle.hcl_layout.proofs.SameLineLemmas.{lines_again, numbered_again}
-use Rattle.hcl_layout.proofs.laws.same_lines.Goals as goal
-
-pub returns-clause-tokens : goal.returns-clause-tokens
-returns-clause-tokens c = numbered_again
-
-pub returns-clause-lines : goal.returns-clause-lines
-returns-clause-lines c = lines_again

@@ -1,0 +1,47 @@
+-- A text made of tokens and blanks: each token with the number of spaces before it, and which numbers leave the tokens
+-- as they are. Nothing here knows why a blank is put. Our own words; that the numbers leave the tokens so is the law
+-- `other_gaps` of `hcl_scan`.
+use Rattle.std.specs.Prelude.{ℕ, ◌+◌, ◌==◌, ◌||◌, not, Bool, true, false, IsTrue, List, [], ◌∷◌, ◌++◌, length, if◌then◌else◌, replicate, map}
+use Rattle.hcl_tokens.specs.Lexemes.{Lexeme}
+use Rattle.hcl_tokens.specs.Kinds.{is}
+use Rattle.hcl_tokens.specs.Neighbours.{joins}
+use Rattle.hcl_tokens.specs.declared.token.Kind.{Kind}
+use Rattle.hcl_tokens.specs.declared.token.Kind.TheVariants.{LineComment, Lit, InterpOpen, ControlOpen, QuoteClose, HeredocClose, Dot}
+
+-- the tokens without the gaps
+abbrev pub without_gaps : List (ℕ × Lexeme) → List Lexeme
+without_gaps ps = map (λ p. p.1) ps
+
+-- the gaps, as spaces, and the texts in turn
+abbrev pub text_with_gaps : List (ℕ × Lexeme) → List ℕ
+text_with_gaps [] = []
+text_with_gaps (p ∷ ps) = replicate p.0 32 ++ (p.1.text ++ text_with_gaps ps)
+
+-- the tokens where they stand in that text, its first byte being at an offset
+abbrev pub placed : ℕ → List (ℕ × Lexeme) → List Lexeme
+placed at [] = []
+placed at (p ∷ ps) = record { kind = p.1.kind; text = p.1.text; start = at + p.0; inside_heredoc = p.1.inside_heredoc } ∷ placed (at + p.0 + length p.1.text) ps
+
+-- a token of templates: blanks before it would be literal text
+abbrev pub is_template : Kind → Bool
+is_template Lit = true
+is_template InterpOpen = true
+is_template ControlOpen = true
+is_template QuoteClose = true
+is_template HeredocClose = true
+is_template _ = false
+
+-- nothing may stand between a token of this kind and the next: a comment would go on over the blanks, and in a
+-- template or a heredoc they are text
+abbrev pub touches : Kind → Lexeme → Bool
+touches LineComment t = true
+touches _ t = is_template t.kind || t.inside_heredoc
+
+-- so many blanks may stand between a token of this kind and the next
+abbrev pub gap_fits : Bool → Kind → Lexeme → ℕ → Bool
+gap_fits after_dot before t gap = if touches before t then gap == 0 else (not (gap == 0) || not (joins after_dot before t.kind t.text))
+
+-- every gap fits, after a token of this kind
+abbrev pub AllFit : Bool → Kind → List (ℕ × Lexeme) → Type 0
+AllFit after_dot before [] = Unit {0}
+AllFit after_dot before (p ∷ ps) = IsTrue (gap_fits after_dot before p.1 p.0) × AllFit (is Dot before) p.1.kind ps

@@ -1,0 +1,95 @@
+-- What a scan says of tokens that stand side by side, by the kind before and the first byte, so that whoever puts
+-- blanks between them need not know how a text is read. It follows from the scan: the law `side_by_side` of `hcl_scan`.
+use Rattle.std.specs.Prelude.{◌||◌, ◌≡◌, ℕ, ◌==◌, Bool, true, false, List, [], ◌∷◌, get_or, nat_le, codes, if◌then◌else◌, ◌⊎◌, IsUtf8}
+use Rattle.std.specs.Char.{is_ascii_digit, is_ascii_alphabetic}
+use Rattle.hcl_tokens.specs.Lexemes.{Lexeme}
+use Rattle.hcl_tokens.specs.Kinds.{is}
+use Rattle.hcl_tokens.specs.Regapped.{is_template}
+use Rattle.hcl_tokens.specs.declared.token.Kind.{Kind}
+use Rattle.hcl_tokens.specs.declared.token.Kind.TheVariants.{Newline, LineComment, InlineComment, HeredocOpen, QuoteOpen, SeqClose, Dot, Ellipsis, Colon, ColonColon, Assign, Arrow, Slash, Equal, Less, Greater, LessEqual, GreaterEqual, Lit, HeredocClose, Ident, Minus, Number, Star}
+
+-- an identifier may begin with the byte; beyond ASCII its character decides
+abbrev pub may_begin_ident : ℕ → Bool
+may_begin_ident b = is_ascii_alphabetic b || (b == 95) || nat_le 128 b
+
+-- the kinds whose texts begin with `.`
+abbrev pub is_pointed : Kind → Bool
+is_pointed Dot = true
+is_pointed Ellipsis = true
+is_pointed _ = false
+
+-- with `:`
+abbrev pub is_coloned : Kind → Bool
+is_coloned Colon = true
+is_coloned ColonColon = true
+is_coloned _ = false
+
+-- with `=`
+abbrev pub is_equals : Kind → Bool
+is_equals Assign = true
+is_equals Arrow = true
+is_equals Equal = true
+is_equals _ = false
+
+-- with `>`
+abbrev pub is_greater : Kind → Bool
+is_greater Greater = true
+is_greater GreaterEqual = true
+is_greater _ = false
+
+-- with `<`
+abbrev pub is_less : Kind → Bool
+is_less Less = true
+is_less LessEqual = true
+is_less HeredocOpen = true
+is_less _ = false
+
+-- with `/`
+abbrev pub is_slashed : Kind → Bool
+is_slashed Slash = true
+is_slashed LineComment = true
+is_slashed InlineComment = true
+is_slashed _ = false
+
+-- what the first byte of a token of an expression says of its kind; of the bytes that go on no token it says nothing
+abbrev pub begins_as : Kind → ℕ → Bool
+begins_as kind b =
+    if may_begin_ident b then is Ident kind
+    else if is_ascii_digit b then is Number kind
+    else if b == 45 then is Minus kind
+    else if b == 46 then is_pointed kind
+    else if b == 58 then is_coloned kind
+    else if b == 61 then is_equals kind
+    else if b == 62 then is_greater kind
+    else if b == 60 then is_less kind
+    else if b == 47 then is_slashed kind
+    else if b == 42 then is Star kind
+    else if b == 126 then is SeqClose kind
+    else true
+
+-- after a token of this kind a template may go on
+abbrev pub opens_template : Kind → Bool
+opens_template QuoteOpen = true
+opens_template Lit = true
+opens_template SeqClose = true
+opens_template _ = false
+
+-- a token after one of this kind. Outside heredocs: after a comment to the end of its line comes a Newline; a
+-- template is begun by a quote, and goes on after literal text or a sequence; the first byte tells the kind; a
+-- sequence's closer has two spellings. A heredoc's closer is inside.
+pub record Beside (before : Kind) (t : Lexeme) : Type 0 where
+  pub comment : t.inside_heredoc ≡ false → before ≡ LineComment → t.kind ≡ Newline
+  pub template : t.inside_heredoc ≡ false → is_template t.kind ≡ true → opens_template before ≡ true
+  pub begins : t.inside_heredoc ≡ false → is_template t.kind ≡ false → begins_as t.kind (get_or t.text 0 0) ≡ true
+  pub closer : t.kind ≡ HeredocClose → t.inside_heredoc ≡ true
+  pub tilde : t.inside_heredoc ≡ false → t.kind ≡ SeqClose → (t.text ≡ codes "}") ⊎ (t.text ≡ codes "~}")
+
+-- so for all tokens of a list, the first after one of this kind
+abbrev pub Besides : Kind → List Lexeme → Type 0
+Besides before [] = Unit {0}
+Besides before (t ∷ ts) = Beside before t × Besides t.kind ts
+
+-- the text of each token is UTF-8
+abbrev pub AreTexts : List Lexeme → Type 0
+AreTexts [] = Unit {0}
+AreTexts (t ∷ ts) = IsUtf8 t.text × AreTexts ts

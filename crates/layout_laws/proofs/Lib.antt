@@ -1,0 +1,10 @@
+pub mod GapLemmas
+pub mod FitLemmas
+pub mod RescanLemmas
+pub mod PlaceLemmas
+pub mod LoadLemmas
+pub mod SameLineLemmas
+pub mod OlderScanLemmas
+pub mod OlderRunLemmas
+pub mod OlderPrintLemmas
+pub mod OlderPremiseLemmas

@@ -1,0 +1,8 @@
+use Rattle.layout_laws.proofs.PlaceLemmas.{print_again, seen_again}
+use Rattle.layout_laws.proofs.print_kept.Goals as goal
+
+pub returns-clause-again : goal.returns-clause-again
+returns-clause-again c = print_again
+
+pub returns-clause-seen : goal.returns-clause-seen
+returns-clause-seen c = seen_again

@@ -1,0 +1,2 @@
+pub mod Reprinted
+pub mod Older

@@ -1,0 +1,15 @@
+-- The tokens of a print: those of which it is made, each where it stands there. Our own words, for the laws that a print
+-- is scanned back to them and printed again as it is.
+use Rattle.std.specs.Prelude.{ℕ, List, [], ◌∷◌}
+use Rattle.hcl_tokens.specs.Lexemes.{Lexeme}
+use Rattle.hcl_tokens.specs.Regapped.{placed}
+use Rattle.hcl_layout.specs.Gaps.{gaps}
+
+-- each token with the gap before it
+abbrev pub with_gaps : List ℕ → List Lexeme → List (ℕ × Lexeme)
+with_gaps [] ts = []
+with_gaps (g ∷ gs) [] = []
+with_gaps (g ∷ gs) (t ∷ ts) = (g, t) ∷ with_gaps gs ts
+
+abbrev pub printed_tokens : List Lexeme → List Lexeme
+printed_tokens ts = placed 0 (with_gaps (gaps ts) ts)

@@ -1,0 +1,57 @@
+//! What is proved of a print: that it is scanned to the same tokens, that printing twice changes nothing, and that files of
+//! the tables before are read and printed as before. No program calls these functions: their contracts are the laws.
+//!
+//! They stand apart from the layout, since they need what is proved of a scan, and its code doesn't.
+#![tactic(auto)]
+
+ghost use Rattle.std.specs.Prelude.{◌≡◌, ◌≤◌, ℕ, List, length};
+ghost use Rattle.hcl_tokens.specs.Lexemes.{Lexeme};
+ghost use Rattle.hcl_tokens.specs.Scans.{Scans};
+ghost use Rattle.layout_laws.specs.Older.Prints.{was_print};
+ghost use Rattle.layout_laws.specs.Older.Rows.{WasAccepted};
+ghost use Rattle.layout_laws.specs.Older.Tokens.{HasNoPath, WasScanned};
+ghost use Rattle.hcl_layout.specs.Print.{print};
+ghost use Rattle.layout_laws.specs.Reprinted.{printed_tokens};
+ghost use Rattle.hcl_grammar.specs.Classes.{lookaheads};
+ghost use Rattle.hcl_grammar.specs.Numbered.{numbered};
+ghost use Rattle.hcl_grammar.specs.Verdict.{IsAccepted, start_of};
+ghost use Rattle.hcl_source.specs.Load.{IsText, max_source};
+ghost use Rattle.hcl_source.specs.Places.{line_of};
+
+/// A print is scanned to the tokens of which it is made: none join, split or change their kind.
+pub fn rescan()
+    ensures { (text : List ℕ) (ts : List Lexeme) → Scans text ts → Scans (print ts) (printed_tokens ts) }
+{}
+
+/// The tokens of a print print it again, and the grammar sees them as it saw the first.
+pub fn print_kept()
+    ensures again { (ts : List Lexeme) → print (printed_tokens ts) ≡ print ts }
+    ensures seen { (ts : List Lexeme) → lookaheads (printed_tokens ts) ≡ lookaheads ts }
+{}
+
+/// Printing twice changes nothing: a print that isn't too large is a source, its tokens are a file,
+/// and their print is the same.
+pub fn idempotent()
+    ensures { (text : List ℕ) (ts : List Lexeme) → IsText text → Scans text ts → IsAccepted ts → length (print ts) ≤ max_source
+        → IsText (print ts) × Scans (print ts) (printed_tokens ts) × IsAccepted (printed_tokens ts) × (print (printed_tokens ts) ≡ print ts) }
+{}
+
+/// A print has the tokens of its text, by kind and text in the same order, and each on the same line.
+pub fn same_lines()
+    ensures tokens { (text : List ℕ) (ts us : List Lexeme) → Scans text ts → Scans (print ts) us → numbered us ≡ numbered ts }
+    ensures lines { (text : List ℕ) (ts us : List Lexeme) → Scans text ts → Scans (print ts) us
+        → (n : ℕ) → line_of (print ts) (start_of us n) ≡ line_of text (start_of ts n) }
+{}
+
+/// A text that was accepted by the tables before names with `::` has the same tokens by those of
+/// now, is accepted, and has the same print.
+pub fn older_files()
+    ensures { (text : List ℕ) (ts : List Lexeme) → WasScanned text ts → WasAccepted ts → Scans text ts × IsAccepted ts × (was_print ts ≡ print ts) }
+{}
+
+/// What has no `::` was scanned to the same tokens before there were names with `::`, and accepted where it is accepted
+/// now: so [`older_files`] speaks of all such files.
+pub fn older_without_paths()
+    ensures scanned { (text : List ℕ) (ts : List Lexeme) → Scans text ts → HasNoPath ts → WasScanned text ts }
+    ensures accepted { (ts : List Lexeme) → IsAccepted ts → HasNoPath ts → WasAccepted ts }
+{}

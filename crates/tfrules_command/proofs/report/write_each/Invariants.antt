@@ -1,0 +1,13 @@
+use Rattle.std.proofs.Common.{◌≡◌, ℕ, Bool, false, List, Option, drop, map}
+use Rattle.std.specs.List.{concat}
+use Rattle.command_line.specs.Rows.{TookBy}
+use Rattle.tfrules_command.proofs.report.write_each.Given as goal
+
+-- what is taken of the rest from now on is taken of all from the start on
+abbrev pub invariant-loop-piece : goal.invariant-loop-piece
+invariant-loop-piece g l =
+    (g.O.ByteSink.failed l.out ≡ false)
+    × ((after : Option (List ℕ)) (f : Bool)
+    → TookBy f (g.O.ByteSink.taken l.out) after (concat (map (λ piece. piece.now) (drop l.piece-index l.pieces)))
+    → TookBy f (g.O.ByteSink.taken l.initial.out) after (concat (map (λ piece. piece.now) l.pieces)))
+    × (g.O.ByteSink.flushes l.out ≡ g.O.ByteSink.flushes l.initial.out)

@@ -1,0 +1,40 @@
+-- What is said of each file that a run looks at, and the status of the run. The texts and statuses are our own choice.
+use Rattle.std.specs.Prelude.{ℕ, List, [], ◌++◌, ◌==◌, ◌||◌, codes, fold, map, max, if◌then◌else◌}
+use Rattle.command_line.specs.Rows.{fault_words, line}
+use Rattle.file_tree.specs.Files.{Name}
+use Rattle.file_tree.specs.FaultTexts.{tree_fault_text}
+use Rattle.tree_format.specs.declared.mode.Mode.{Mode}
+use Rattle.tree_format.specs.declared.mode.Mode.TheVariants.{Write, Check, List as Listed, Diff}
+use Rattle.tree_format.specs.declared.outcome.Outcome.{Outcome}
+use Rattle.tree_format.specs.declared.outcome.Outcome.TheVariants as outcome
+
+-- what goes to standard output and to standard error, and the status that the file gives
+pub record Report : Type 0 where
+  pub out : List ℕ
+  pub err : List ℕ
+  pub status : ℕ
+
+-- `NAME: TEXT`
+abbrev pub about : Name → List ℕ → List ℕ
+about name text = name ++ (codes ": " ++ line text)
+
+-- a file isn't formatted, or wasn't before
+abbrev pub changed : Mode → Name → Report
+changed (Write writing) name = record { out = line name; err = []; status = 0 }
+changed Check name = record { out = []; err = about name (codes "not formatted"); status = 3 }
+changed Listed name = record { out = line name; err = []; status = 3 }
+changed Diff name = record { out = line name; err = []; status = 3 }
+
+abbrev pub report_of : Mode → Name → Outcome → Report
+report_of mode name outcome.Formatted = record { out = []; err = []; status = 0 }
+report_of mode name outcome.Changed = changed mode name
+report_of mode name (outcome.Differs text) = record { out = text.items; err = []; status = 3 }
+report_of mode name (outcome.Refused fault) = record { out = []; err = name ++ (codes ":" ++ fault_words fault); status = 2 }
+report_of mode name (outcome.Failed fault) = record { out = []; err = about name (tree_fault_text fault); status = 4 }
+
+-- 4 is worse than 2, 2 is worse than 3, and 3 than 0
+abbrev pub worse : ℕ → ℕ → ℕ
+worse one other = if one == 4 || other == 4 then 4 else (if one == 2 || other == 2 then 2 else max one other)
+
+abbrev pub worst : List ℕ → ℕ
+worst statuses = fold worse 0 statuses
