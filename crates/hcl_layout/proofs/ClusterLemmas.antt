@@ -1,14 +1,17 @@
 -- No more grapheme clusters than bytes, as many as characters in a text whose characters are alone, and as many as bytes in
 -- one that is ASCII without CR.
-use Rattle.std.proofs.Common.{get_or, not, ◌≡◌, ◌∙◌, ◌+◌, ◌-◌, ◌*◌, ◌≤◌, ◌<◌, ◌==◌, ◌&&◌, ap, ap₂, sym, refl, true≢false, ℕ, suc, zero, Bool, true, false, List, [], ◌∷◌, length, arith, drop, take, add-one, drop-cons, inl, inr}
+use Rattle.std.proofs.Common.{IsUtf8, cond, get_or, not, one-add, subst, length-append, length-take-le, ◌≡◌, ◌∙◌, ◌+◌, ◌-◌, ◌*◌, ◌≤◌, ◌<◌, ◌==◌, ◌&&◌, ap, ap₂, sym, refl, true≢false, ℕ, suc, zero, Bool, true, false, List, [], ◌∷◌, length, arith, drop, take, add-one, drop-cons, inl, inr}
 use Rattle.std.specs.Prelude.{encode_utf8_all, ◌++◌, ◌||◌, map, nat_eq, nat_le, nat_lt, slice_index_or, unwrap_or}
-use Rattle.hcl_layout.specs.Inner.Simple.{IsFrom, are_alone, first_alone, further_alone, is_alone, is_simple, within_any}
+use Rattle.hcl_layout.specs.Inner.Simple.{IsFrom, are_alone, first_alone, further_alone, is_alone, is_simple, is_simple_byte, within_any}
 use Rattle.std.proofs.Math.ListN.{drop_of_length-le}
-use Rattle.std.proofs.lemmas.List.{length-map}
-use Rattle.std.proofs.lemmas.Str.{chars-IsAscii}
+use Rattle.std.proofs.lemmas.List.{length-map, take-append-drop}
+use Rattle.std.proofs.lemmas.List.Folds.{list_all-append}
+use Rattle.std.proofs.lemmas.List.Sums.{prefix_len-le-length, prefix_len_passes}
+use Rattle.std.specs.List.{prefix_len}
+use Rattle.std.proofs.lemmas.Str.{IsCharBoundary-after_ascii, IsCharBoundary-start, IsUtf8-from_ascii, chars-IsAscii, chars-append}
 use Rattle.std.proofs.lemmas.Bool.{and_from, and_parts, and_right, cases_lt, le-leb, not-true, or_left, or_right}
 use Rattle.std.proofs.lemmas.Bool.Decides.{nat_tests}
-use Rattle.std.specs.Str.{chars, chars_after, continuation_len, lead_bits}
+use Rattle.std.specs.Str.{IsAscii, IsCharBoundary, chars, chars_after, continuation_len, lead_bits}
 use Rattle.ucd_breaks.specs.GraphemeClusterBreak.{grapheme_cluster_break}
 use Rattle.ucd_breaks.specs.declared.GraphemeClusterBreak.{GraphemeClusterBreak}
 use Rattle.ucd_breaks.specs.declared.GraphemeClusterBreak.TheVariants.{Control, Cr, Extend, L, Lf, Lv, Lvt, Prepend, RegionalIndicator, SpacingMark, T, V, Other, Zwj}
@@ -197,6 +200,32 @@ pub clusters_alone : (text : List ℕ) → are_alone (chars text) ≡ true → l
 unfolding segments
 clusters_alone text e = length-map (cut (is_grapheme_break true) [] (chars text) []) encode_utf8_all ∙ alone_cuts (chars text) e
 
+-- ---- below U+0300, and from there on
+
+below_alone : (c : ℕ) → c < 768 → (c == 13) ≡ false → is_alone c ≡ true
+below_alone c lt ne =
+    elim (cases_lt c 13) [
+      | inl low ↦ or_left (nat_le 0 c && nat_le c 12) _ (and_from (nat_le 0 c) (nat_le c 12) (le-leb 0 c (omega arith)) (le-leb c 12 (omega arith)))
+      | inr high ↦
+          let past : 14 ≤ c = grind (arith, nat_tests, ne, high) in
+          or_right (nat_le 0 c && nat_le c 12) _ (or_left (nat_le 14 c && nat_le c 767) _ (and_from (nat_le 14 c) (nat_le c 767) (le-leb 14 c past) (le-leb c 767 (omega arith))))
+    ]
+
+pub alone_below : (c : ℕ) → c < 768 → not (c == 13) ≡ is_alone c
+alone_below c lt = go (c == 13) refl
+  where
+    go : (v : Bool) → (c == 13) ≡ v → not v ≡ is_alone c
+    go true e =
+        let same : c ≡ 13 = grind (arith, nat_tests, e) in
+        sym (ap is_alone same)
+    go false e = sym (below_alone c lt e)
+
+pub alone_above : (c : ℕ) → 768 ≤ c → is_alone c ≡ within_any (0x370, 0x482) (drop 2 further_alone) c
+alone_above c le =
+    let first : (nat_le 0 c && nat_le c 12) ≡ false = and_right (nat_le 0 c) (nat_le c 12) (grind (arith, nat_tests, le)) in
+    let second : (nat_le 14 c && nat_le c 767) ≡ false = and_right (nat_le 14 c) (nat_le c 767) (grind (arith, nat_tests, le)) in
+    ap₂ (λ v w. v || (w || within_any (0x370, 0x482) (drop 2 further_alone) c)) first second
+
 -- ---- ASCII
 
 -- a byte more that is simple
@@ -214,13 +243,7 @@ simple_ascii (b ∷ text) zero e = (simple_parts b text e).0
 simple_ascii (b ∷ text) (suc i) e = simple_ascii text i (simple_parts b text e).2
 
 simple_is_alone : (b : ℕ) → b < 128 → (b == 13) ≡ false → is_alone b ≡ true
-simple_is_alone b lt ne =
-    elim (cases_lt b 13) [
-      | inl low ↦ or_left (nat_le 0 b && nat_le b 12) _ (and_from (nat_le 0 b) (nat_le b 12) (le-leb 0 b (omega arith)) (le-leb b 12 (omega arith)))
-      | inr high ↦
-          let past : 14 ≤ b = grind (arith, nat_tests, ne, high) in
-          or_right (nat_le 0 b && nat_le b 12) _ (or_left (nat_le 14 b && nat_le b 767) _ (and_from (nat_le 14 b) (nat_le b 767) (le-leb 14 b past) (le-leb b 767 (omega arith))))
-    ]
+simple_is_alone b lt ne = below_alone b (omega (arith, lt)) ne
 
 simple_alone : (text : List ℕ) → is_simple text ≡ true → are_alone text ≡ true
 simple_alone [] e = refl
@@ -232,6 +255,38 @@ pub clusters_simple : (text : List ℕ) → is_simple text ≡ true → length (
 clusters_simple text e =
     let same = chars-IsAscii text (λ i. simple_ascii text i e) in
     clusters_alone text (ap are_alone same ∙ simple_alone text e) ∙ ap length same
+
+-- ---- a front of ASCII
+
+front_simple : (text : List ℕ) → is_simple (take (prefix_len is_simple_byte text) text) ≡ true
+front_simple [] = refl
+front_simple (b ∷ text) =
+    elim (is_simple_byte b) as (λ v. is_simple_byte b ≡ v → is_simple (take (cond v (1 + prefix_len is_simple_byte text) 0) (b ∷ text)) ≡ true) [
+      | true ↦ λ h. rw one-add (and_from (is_simple_byte b) _ h (front_simple text))
+      | false ↦ λ h. refl
+    ] refl
+
+simple_low : (b : ℕ) → is_simple_byte b ≡ true → b < 128
+simple_low b e = grind (arith, nat_tests, e)
+
+pub front_boundary : (text : List ℕ) (n : ℕ) → IsUtf8 text → n ≡ prefix_len is_simple_byte text → IsCharBoundary text n
+front_boundary text zero utf8 is = IsCharBoundary-start text utf8
+front_boundary text (suc n) utf8 is =
+    let there : n < prefix_len is_simple_byte text = omega (arith, is) in
+    let low = simple_low (get_or text n 0) (prefix_len_passes is_simple_byte text n 0 there) in
+    subst (IsCharBoundary text) (add-one n) (IsCharBoundary-after_ascii text n utf8 (omega (arith, there, prefix_len-le-length is_simple_byte text)) low)
+
+-- as many as bytes there, and as characters after it
+pub clusters_front : (text : List ℕ) (n count : ℕ) → IsUtf8 text → n ≡ prefix_len is_simple_byte text → are_alone (chars (drop n text)) ≡ true → count ≡ length (chars (drop n text)) → n + count ≡ length (graphemes true text)
+clusters_front text n count utf8 is alone counted =
+    let front : List ℕ = take n text in
+    let rest : List ℕ = drop n text in
+    let simple : is_simple front ≡ true = ap (λ k. is_simple (take k text)) is ∙ front_simple text in
+    let ascii : IsAscii front = λ i. simple_ascii front i simple in
+    let same : chars text ≡ front ++ chars rest = ap chars (sym (take-append-drop n text)) ∙ chars-append front rest (IsUtf8-from_ascii front ascii) ∙ ap (λ x. x ++ chars rest) (chars-IsAscii front ascii) in
+    let all : are_alone (chars text) ≡ true = ap are_alone same ∙ list_all-append is_alone front (chars rest) ∙ and_from (are_alone front) (are_alone (chars rest)) (simple_alone front simple) alone in
+    let within : n ≤ length text = omega (arith, is, prefix_len-le-length is_simple_byte text) in
+    omega (arith, clusters_alone text all, ap length same, length-append front (chars rest), length-take-le n text within, counted)
 
 -- a part of a text that is simple
 simple_drop : (n : ℕ) (text : List ℕ) → is_simple text ≡ true → is_simple (drop n text) ≡ true

@@ -1,10 +1,12 @@
 //! The tokens to lay out, and how wide their texts are.
 ghost use Rattle.std.specs.Prelude.{◌≡◌, ◌<◌, ◌≤◌, ◌+◌, ◌^◌, ◌&&◌, IfSome, IsTrue, Some, true, length, drop, nat_le, slice_get, take};
+ghost use Rattle.std.specs.List.{prefix_len};
+ghost use Rattle.std.specs.Str.{chars};
 ghost use Rattle.unicode_segmentation.specs.Grapheme.{graphemes};
 ghost use Rattle.hcl_tokens.specs.Lexemes.{Lexeme};
 ghost use Rattle.hcl_tokens.specs.Scanned.{lexeme};
 ghost use Rattle.hcl_tokens.specs.Balanced.{IsBalanced};
-ghost use Rattle.hcl_layout.specs.Inner.Simple.{IsFrom, is_alone as is_alone_of, is_simple as is_simple_of};
+ghost use Rattle.hcl_layout.specs.Inner.Simple.{IsFrom, are_alone, is_alone as is_alone_of, is_simple as is_simple_of, is_simple_byte};
 ghost use Rattle.hcl_layout.specs.Inner.LineGaps.{len_with_blanks};
 
 use hcl_grammar::Accepted;
@@ -51,15 +53,14 @@ fn is_between(c: char, first: char, last: char) -> bool
     first <= c && c <= last
 }
 
-/// Whether a character is a grapheme cluster by itself among such, as nearly all are outside a few scripts: one that never
-/// joins with the one before it or after it, as combining accents, CR and half of a flag do.
-#[inline(always)]
-fn is_alone(c: char) -> bool
+/// The same from U+0300 on, the first that joins with the one before it. It is a call, since the compiler would otherwise ask
+/// for all ranges of each character.
+#[inline(never)]
+fn is_alone_above(c: char) -> bool
+    requires { 0x300 ≤ c }
     ensures { result ≡ is_alone_of c }
 {
-    is_between(c, '\u{0}', '\u{c}')
-        || is_between(c, '\u{e}', '\u{2ff}')
-        || is_between(c, '\u{370}', '\u{482}')
+    is_between(c, '\u{370}', '\u{482}')
         || is_between(c, '\u{48a}', '\u{590}')
         || is_between(c, '\u{1e00}', '\u{200b}')
         || is_between(c, '\u{2010}', '\u{20cf}')
@@ -75,10 +76,35 @@ fn is_alone(c: char) -> bool
         || is_between(c, '\u{20000}', '\u{3ffff}')
 }
 
+/// Whether a character is a grapheme cluster by itself among such, as nearly all are outside a few scripts: one that never
+/// joins with the one before it or after it, as combining accents, CR and half of a flag do.
+#[inline(always)]
+fn is_alone(c: char) -> bool
+    ensures { result ≡ is_alone_of c }
+{
+    if c < '\u{300}' {
+        return c != '\r';
+    }
+    is_alone_above(c)
+}
+
+/// How many bytes at the front are ASCII and no CR.
+#[inline(always)]
+fn simple_len(bytes: &[u8]) -> usize
+    ensures count { result ≡ prefix_len is_simple_byte bytes.now }
+    ensures within { result ≤ length bytes.now }
+{
+    bytes
+        .iter()
+        .take_while(|b| **b < 128 && **b != b'\r')
+        .count()
+}
+
 /// How many characters a text has, where each of them is a grapheme cluster by itself.
 #[inline(always)]
 fn count_alone(text: &str) -> Option<u64>
-    ensures count { IfSome result (λ n. n ≡ length (graphemes true text.now)) }
+    ensures alone { IfSome result (λ n. are_alone (chars text.now) ≡ true) }
+    ensures count { IfSome result (λ n. n ≡ length (chars text.now)) }
     ensures within { IfSome result (λ n. n ≤ length text.now) }
 {
     // a text's length fits the count, and so does the number of its characters
@@ -93,14 +119,22 @@ fn count_alone(text: &str) -> Option<u64>
     Some(count)
 }
 
-/// How many extended grapheme clusters a text has. Few texts need the tables.
+/// How many extended grapheme clusters a text has. Most texts are ASCII, most others so up to some character and of
+/// characters that are alone after it, and few need the tables:
+///
+/// ```text
+/// size_1        6 bytes
+/// größe_1       2 bytes, and 5 characters
+/// e + U+0301    1 byte; but by the tables it is one cluster with the accent after it
+/// ```
 #[inline(never)]
 fn count_clusters(text: &str) -> u64
     ensures count { result ≡ length (graphemes true text.now) }
     ensures within { result ≤ length text.now }
 {
-    match count_alone(text) {
-        Some(count) => count,
+    let front = simple_len(text.as_bytes());
+    match count_alone(&text[front..]) {
+        Some(count) => front as u64 + count,
         None => text.graphemes(true).count() as u64,
     }
 }

@@ -4,8 +4,11 @@ use Rattle.std.specs.Prelude.{◌≡◌, ◌≤◌, ◌==◌, ◌&&◌, ◌||◌
 use Rattle.std.specs.List.{list_all}
 use Rattle.ucd_table.specs.Rows.{Range}
 
+abbrev pub is_simple_byte : ℕ → Bool
+is_simple_byte b = nat_lt b 128 && not (b == 13)
+
 abbrev pub is_simple : List ℕ → Bool
-is_simple text = list_all (λ b. nat_lt b 128 && not (b == 13)) text
+is_simple text = list_all is_simple_byte text
 
 -- Ranges of characters each of which is a grapheme cluster by itself among such: Latin up to the combining accents, and
 -- controls but CR; Greek, Cyrillic and what stands between; further Latin and Greek; punctuation; signs, arrows and forms;

@@ -3,7 +3,7 @@ use Rattle.std.proofs.lemmas.Grind.{common_steps}
 use Rattle.std.proofs.lemmas.Str.{IsUtf8-past_char, chars_past_char}
 use Rattle.std.proofs.StrCases.{chars_of_empty}
 use Rattle.hcl_layout.specs.Inner.Simple.{are_alone}
-use Rattle.hcl_layout.proofs.ClusterLemmas.{chars_few, clusters_alone}
+use Rattle.hcl_layout.proofs.ClusterLemmas.{chars_few}
 use Rattle.hcl_layout.proofs.measured.count_alone.Goals as goal
 
 pub overflow_add-count : goal.overflow_add-count
@@ -23,11 +23,17 @@ loop-c-preserved c =
     let alone = sym c.is_alone.ensures ∙ c.if-not-is_alone.false in
     (IsUtf8-past_char _ _ c.in-Some.c held.0 parts, rw (step, alone) at held.1, omega (arith, ap length step, held.2))
 
+pub returns-clause-alone : goal.returns-clause-alone
+returns-clause-alone c =
+    let held = c.loop-c.invariant in
+    let end = chars_of_empty _ c.in-None.ensures.steps.0.0 in
+    sym held.1 ∙ ap are_alone end
+
 pub returns-clause-count : goal.returns-clause-count
 returns-clause-count c =
     let held = c.loop-c.invariant in
     let end = chars_of_empty _ c.in-None.ensures.steps.0.0 in
-    omega (arith, ap length end, held.2, clusters_alone c.args.text.now (sym held.1 ∙ ap are_alone end))
+    omega (arith, ap length end, held.2)
 
 pub returns-clause-within : goal.returns-clause-within
 returns-clause-within c =
