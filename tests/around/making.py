@@ -8,17 +8,19 @@ import time
 
 from harness import TOP
 
-# Stands for `rt`: it proves nothing, waits for PAUSE seconds, and has a program that is built already.
+# Stands for `rt`: it proves nothing, waits for PAUSE seconds, fails in the crate NOT_PROVED, and has a program that is
+# built already.
 STAND_IN = '''echo "$PWD $*" >>"$CALLS"
 sleep "${PAUSE-0}"
 mkdir -p out || exit 1
+[ "${PWD##*/}" != "${NOT_PROVED-}" ] || { echo logic=not-proved; exit 1; }
 [ ! -e src/main.rt ] || cp "$PROGRAM" "out/${PWD##*/}"
 echo logic=proved
 '''
 
 
 def run(group):
-    if not group.has('make', checks=9):
+    if not group.has('make', checks=10):
         return
     copy = group.fresh() / 'copy'
     shutil.copytree(str(TOP), str(copy), ignore=shutil.ignore_patterns('.git', 'out', 'bin', 'cases', '__pycache__'))
@@ -69,6 +71,7 @@ def run(group):
     calls.touch()
     calls.chmod(0o666)
     interrupted(group, copy, calls, stand_in)
+    not_proved(group, copy, calls, stand_in)
     unwritable(group, copy, calls, make, '%s:%s' % (stand_in, group.setting['PATH']))
 
 
@@ -108,6 +111,23 @@ def interrupted(group, copy, calls, stand_in):
         'the last line',
         'proved and built as bin/tffmt, and its stored run is right' in done[1].decode().splitlines()[-1],
         True,
+    )
+
+
+def not_proved(group, copy, calls, stand_in):
+    """What stands on a crate that isn't proved, at whatever distance, is not tried, and the work ends."""
+    setting = dict(
+        PATH='%s:%s' % (stand_in, group.setting['PATH']),
+        CALLS=str(calls),
+        NOT_PROVED='hcl_layout',
+        PROGRAM=group.program,
+    )
+    status, out, err = group.call(copy / 'tools/prove', '--in-turn', 'tffmt', cwd=copy, **setting)
+    not_tried = ' not tried, since a crate that it depends on is not proved'
+    group.check(
+        'a crate that is not proved',
+        (status, [line.split()[0] for line in out.decode().splitlines() if line.endswith(not_tried)], err),
+        (1, ['layout_laws', 'tffmt_command', 'tffmt'], b''),
     )
 
 

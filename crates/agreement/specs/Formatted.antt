@@ -3,7 +3,7 @@ use Rattle.std.specs.Prelude.{◌≡◌, ℕ, List, map}
 use Rattle.hcl_tokens.specs.Lexemes.{Lexeme}
 use Rattle.hcl_tokens.specs.Scans.{Scans}
 use Rattle.hcl_layout.specs.Print.{print}
-use Rattle.tf_facts.specs.declared.rule.Rule.{Rule}
+use Rattle.rule_set.specs.declared.rule.Rule.{Rule}
 use Rattle.tf_rules.specs.declared.issue.Issue.{Issue}
 use Rattle.tfrules_command.specs.Files.{NamedFile}
 

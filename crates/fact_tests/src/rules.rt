@@ -2,7 +2,7 @@
 
 use crate::checks::holds;
 use std::process::Abort;
-use tf_facts::{Rule, RuleSet, Severity};
+use rule_set::{Rule, RuleSet, Severity};
 
 /// That the name is the rule's, and the rule the name's.
 fn is_named(rt: &impl Abort, name: &str, rule: Rule) {

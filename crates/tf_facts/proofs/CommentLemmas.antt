@@ -7,14 +7,14 @@ use Rattle.hcl_tokens.specs.Lexemes.{Lexeme}
 use Rattle.hcl_grammar.specs.Numbered.{numbered}
 use Rattle.hcl_grammar.proofs.NumberedLemmas.{numbered_at, numbered_here, numbered_past}
 use Rattle.tf_facts.specs.Comments.{Comment, comment_of, comments, if_telling, is_any}
-use Rattle.tf_facts.specs.Rules.{all_rules}
-use Rattle.tf_facts.specs.RuleSets.{holds, rules_of}
+use Rattle.rule_set.specs.Rules.{all_rules}
+use Rattle.rule_set.specs.RuleSets.{holds, rules_of}
 use Rattle.tf_facts.specs.Silencing.{has_slashes, silenced_rules, silences}
 use Rattle.tf_facts.specs.Found.{comment}
 use Rattle.tf_facts.specs.Inner.Seen.{number_of}
 use Rattle.tf_facts.specs.declared.found.FoundComment.{FoundComment}
-use Rattle.tf_facts.specs.declared.rule.Rule.{Rule}
-use Rattle.tf_facts.specs.declared.rule_set.RuleSet.{RuleSet}
+use Rattle.rule_set.specs.declared.rule.Rule.{Rule}
+use Rattle.rule_set.specs.declared.rule_set.RuleSet.{RuleSet}
 use Rattle.tf_facts.proofs.PatternLemmas.{there_is}
 
 filter_same : {X : Type 0} (p q : X → Bool) (xs : List X) → ((x : X) → p x ≡ q x) → filter p xs ≡ filter q xs

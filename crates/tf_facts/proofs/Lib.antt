@@ -1,6 +1,4 @@
-pub mod RankLemmas
-pub mod RuleLemmas
-pub mod SetLemmas
+pub mod NamedRuleLemmas
 pub mod SeenLemmas
 pub mod TextLemmas
 pub mod CutLemmas

@@ -5,7 +5,7 @@ use Rattle.hcl_tokens.specs.Kinds.{is}
 use Rattle.hcl_tokens.specs.declared.token.Kind.TheVariants as kind
 use Rattle.hcl_grammar.specs.Numbered.{Numbered}
 use Rattle.tf_facts.specs.Silencing.{has_slashes, silenced_rules}
-use Rattle.tf_facts.specs.declared.rule.Rule.{Rule}
+use Rattle.rule_set.specs.declared.rule.Rule.{Rule}
 
 -- A comment, by the place of its token.
 pub record Comment (P : Type 0) : Type 0 where

@@ -7,11 +7,11 @@ use Rattle.hcl_grammar.specs.Numbered.{numbered}
 use Rattle.tf_facts.specs.Declarations.{declarations}
 use Rattle.tf_facts.specs.References.{references}
 use Rattle.tf_facts.specs.Patterns.{wrapped_interpolations}
-use Rattle.tf_facts.specs.declared.rule.Rule.TheVariants.{CommentSyntax, TypedVariables, UnusedDeclarations}
+use Rattle.rule_set.specs.declared.rule.Rule.TheVariants.{CommentSyntax, TypedVariables, UnusedDeclarations}
 use Rattle.tf_facts.specs.Sources.{source_of, Other, NotPinned, DefaultBranch, Registry}
 use Rattle.tf_facts.specs.Silencing.{silenced_rules}
 use Rattle.tf_facts.specs.Comments.{comments}
-use Rattle.tf_facts.specs.Rules.{all_rules}
+use Rattle.rule_set.specs.Rules.{all_rules}
 use Rattle.tf_facts.specs.declared.declaration_kind.DeclarationKind.TheVariants as declares
 
 abbrev token : Kind → List ℕ → Lexeme

@@ -4,7 +4,7 @@ use Rattle.std.specs.Option.{option_map}
 use Rattle.tf_facts.specs.Comments.{Comment}
 use Rattle.tf_facts.specs.Declarations.{Declaration, SourceAt}
 use Rattle.tf_facts.specs.Facts.{Facts}
-use Rattle.tf_facts.specs.RuleSets.{rules_of}
+use Rattle.rule_set.specs.RuleSets.{rules_of}
 use Rattle.tf_facts.specs.Sources.{Source}
 use Rattle.tf_facts.specs.Sources as seen
 use Rattle.tf_facts.specs.declared.file_facts.FileFacts.{FileFacts}

@@ -1,6 +1,4 @@
 pub mod Texts
-pub mod Rules
-pub mod RuleSets
 pub mod Silencing
 pub mod Comments
 pub mod Sources

@@ -6,8 +6,8 @@ use Rattle.std.specs.List.{list_any, before_first, slice_split}
 use Rattle.std.specs.Str.{bytes_eq}
 use Rattle.hcl_tokens.specs.Spelling.{is_blank}
 use Rattle.tf_facts.specs.Texts.{begins, without_front, without_end}
-use Rattle.tf_facts.specs.Rules.{all_rules, rule_name}
-use Rattle.tf_facts.specs.declared.rule.Rule.{Rule}
+use Rattle.rule_set.specs.Rules.{all_rules, rule_name}
+use Rattle.rule_set.specs.declared.rule.Rule.{Rule}
 
 abbrev pub has_slashes : List ℕ → Bool
 has_slashes text = begins (codes "//") text

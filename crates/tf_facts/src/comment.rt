@@ -7,17 +7,16 @@ ghost use Rattle.hcl_tokens.specs.declared.token.Kind.TheVariants.{LineComment};
 ghost use Rattle.hcl_tokens.specs.Lexemes.{Lexeme};
 ghost use Rattle.hcl_grammar.specs.Numbered.{numbered};
 ghost use Rattle.tf_facts.specs.Comments.{comment_of, comments, if_telling, is_any};
-ghost use Rattle.tf_facts.specs.RuleSets.{holds, rules_of};
+ghost use Rattle.rule_set.specs.RuleSets.{holds, rules_of};
 ghost use Rattle.tf_facts.specs.Silencing.{has_slashes, silenced_rules};
 ghost use Rattle.tf_facts.specs.Found.{comment};
 ghost use Rattle.tf_facts.specs.Inner.FoundViews.{comment_listed};
 ghost use Rattle.tf_facts.specs.Inner.Seen.{number_of};
 
 use crate::found::FoundComment;
-use crate::rule::{ALL_RULES, Rule};
-use crate::rule_set::RuleSet;
 use crate::silencing::{has_slashes, silenced_rules};
 use hcl_tokens::{Kind, Tokens};
+use rule_set::{ALL_RULES, Rule, RuleSet};
 use std::alloc::{AllocError, Global};
 
 fn is_line_comment(kind: Kind) -> bool

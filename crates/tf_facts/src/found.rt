@@ -3,7 +3,7 @@
 use crate::declaration_kind::DeclarationKind;
 use crate::module_source::ModuleSource;
 use crate::names::Names;
-use crate::rule_set::RuleSet;
+use rule_set::RuleSet;
 
 /// What a block with a word as its kind declares, and with how many labels.
 #[derive(Clone, Copy)]

@@ -1,7 +1,7 @@
 //! What one file of a Terraform module says, by the numbers of its tokens.
 //!
 //! [`facts_of`] finds what a file declares, the comments that say something and two patterns of tokens, and
-//! [`add_references_of`] collects its references. The rules stand here too, since comments silence them by their names.
+//! [`add_references_of`] collects its references.
 //! The module [`laws`] holds what is proved of the definitions alone.
 #![tactic(auto)]
 
@@ -23,8 +23,6 @@ mod pattern;
 mod plain_text;
 mod reference;
 mod references;
-mod rule;
-mod rule_set;
 mod seen;
 mod silencing;
 mod source;
@@ -40,6 +38,4 @@ pub use hashing::Hashing;
 pub use module_source::ModuleSource;
 pub use names::Names;
 pub use owners::add_references_of;
-pub use rule::{ALL_RULES, Rule, Severity, rank};
-pub use rule_set::{RuleSet, rules_of_both};
 pub use text_set::TextSet;

@@ -2,14 +2,13 @@
 
 ghost use Rattle.std.specs.Prelude.{◌≡◌, ◌==◌, ◌||◌};
 ghost use Rattle.std.specs.List.{list_any, slice_split};
-ghost use Rattle.tf_facts.specs.RuleSets.{holds};
+ghost use Rattle.rule_set.specs.RuleSets.{holds};
 ghost use Rattle.hcl_tokens.specs.Spelling.{is_blank};
 ghost use Rattle.tf_facts.specs.Silencing.{has_slashes, is_margin, names, silences, trimmed, unmarked};
 ghost use Rattle.tf_facts.specs.Texts.{without_end, without_front};
 
-use crate::rule::{ALL_RULES, Rule, named};
-use crate::rule_set::RuleSet;
 use crate::texts::{begins, behind, cut, equals};
+use rule_set::{ALL_RULES, Rule, RuleSet, rule_named};
 
 /// What a silencing comment begins with, after its mark and blanks.
 const KEYWORD: &[u8] = b"tflint-ignore:";
@@ -95,7 +94,7 @@ fn with_named(set: RuleSet, part: &[u8]) -> RuleSet
     if equals(part, b"all") {
         return RuleSet::all();
     }
-    match named(&ALL_RULES, part) {
+    match rule_named(&ALL_RULES, part) {
         Some(rule) => set.with(rule),
         None => set,
     }

@@ -4,13 +4,13 @@ use Rattle.std.specs.Prelude.{◌==◌, ◌&&◌, ◌||◌, filter}
 use Rattle.std.specs.List.{flat_map, list_any, AllZip}
 use Rattle.std.proofs.lemmas.List.Folds.{list_any-append}
 use Rattle.tf_facts.specs.References.{references}
-use Rattle.tf_facts.specs.Rules.{is_rule}
+use Rattle.rule_set.specs.Rules.{is_rule}
 use Rattle.tf_facts.specs.Comments.{Comment, comments}
 use Rattle.tf_rules.specs.Findings.{Finding, findings}
 use Rattle.tf_facts.specs.Facts.{facts_of}
 use Rattle.tf_rules.specs.Issues.{Asked, File, Place, tokens_of, place_in, all_references, all_comments, comment_at, covers, is_beside, issue_in, issues_in, reported, issues}
 use Rattle.tf_rules.specs.Agreement.{SameTokens, Told, told, line_in}
-use Rattle.tf_facts.specs.declared.rule.Rule.{Rule}
+use Rattle.rule_set.specs.declared.rule.Rule.{Rule}
 use Rattle.tf_rules.proofs.FindingLemmas.{map-map, map_same, map-flat_map, flat_map_same}
 
 abbrev told_in : File → Rule → Finding ℕ → Told

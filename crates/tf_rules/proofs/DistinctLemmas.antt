@@ -13,13 +13,13 @@ use Rattle.tf_facts.specs.Facts.{facts_of}
 use Rattle.tf_rules.specs.Issues.{Asked, File, Issue, all_references, asked_of, issue_in, issues_in, reported, tokens_of}
 use Rattle.tf_rules.specs.Ordered.{Member, BeforeAll, Ascends}
 use Rattle.tf_facts.specs.Patterns.{legacy_indexes, wrapped_interpolations}
-use Rattle.tf_facts.specs.Rules.{all_rules, rank}
-use Rattle.tf_facts.specs.RuleSets.{holds, rules_of}
+use Rattle.rule_set.specs.Rules.{all_rules, rank}
+use Rattle.rule_set.specs.RuleSets.{holds, rules_of}
 use Rattle.tf_facts.specs.Sources.{Source, Other, NotPinned, DefaultBranch, Registry}
 use Rattle.tf_rules.specs.Inner.Placing.{numbers_of, quotes}
 use Rattle.tf_rules.specs.declared.naming.Naming.{Naming}
-use Rattle.tf_facts.specs.declared.rule.Rule.{Rule}
-use Rattle.tf_facts.specs.declared.rule.Rule.TheVariants.{CommentSyntax, DeprecatedIndex, DeprecatedInterpolation, DocumentedOutputs, DocumentedVariables, ModulePinnedSource, ModuleVersion, NamingConvention, TypedVariables, UnusedDeclarations}
+use Rattle.rule_set.specs.declared.rule.Rule.{Rule}
+use Rattle.rule_set.specs.declared.rule.Rule.TheVariants.{CommentSyntax, DeprecatedIndex, DeprecatedInterpolation, DocumentedOutputs, DocumentedVariables, ModulePinnedSource, ModuleVersion, NamingConvention, TypedVariables, UnusedDeclarations}
 use Rattle.tf_rules.specs.declared.settings.Settings.{Settings}
 use Rattle.tf_rules.proofs.ForwardLemmas.{Rise, comments_in_order, declarations_in_order, indexes_in_order, interpolations_in_order}
 use Rattle.tf_rules.proofs.ReportLemmas.{from-map}

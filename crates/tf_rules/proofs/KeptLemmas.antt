@@ -15,8 +15,8 @@ use Rattle.tf_facts.specs.Facts.{facts_of}
 use Rattle.tf_rules.specs.Issues.{Asked, File, Place, tokens_of, place_in, all_references, all_comments, comment_at, is_silenced, issues_in, reported, issues}
 use Rattle.tf_rules.specs.Kept.{Kept, nothing, with_file, kept_of, facts_at, issue_at, reported_of_kept, issues_of_kept}
 use Rattle.tf_rules.proofs.FindingLemmas.{map-map, map-flat_map, flat_map_same, finding_at, findings-at, findings-both, SameTexts, findings_same}
-use Rattle.tf_facts.specs.declared.rule.Rule.{Rule}
-use Rattle.tf_facts.specs.declared.rule.Rule.TheVariants.{CommentSyntax, DeprecatedIndex, DeprecatedInterpolation, DocumentedOutputs, DocumentedVariables, ModulePinnedSource, ModuleVersion, NamingConvention, TypedVariables, UnusedDeclarations}
+use Rattle.rule_set.specs.declared.rule.Rule.{Rule}
+use Rattle.rule_set.specs.declared.rule.Rule.TheVariants.{CommentSyntax, DeprecatedIndex, DeprecatedInterpolation, DocumentedOutputs, DocumentedVariables, ModulePinnedSource, ModuleVersion, NamingConvention, TypedVariables, UnusedDeclarations}
 use Rattle.tf_rules.specs.declared.naming.Naming.{Naming}
 
 pub kept_of_more : (files : List File) (file : File) → kept_of (files ++ file ∷ []) ≡ with_file (kept_of files) file

@@ -8,17 +8,17 @@ use Rattle.std.proofs.lemmas.List.Elements.{filter-append}
 use Rattle.std.proofs.lemmas.List.Folds.{list_any-append}
 use Rattle.tf_facts.specs.Comments.{Comment, is_any}
 use Rattle.tf_rules.specs.Issues.{Issue, Place, covers, is_silenced}
-use Rattle.tf_facts.specs.Rules.{all_rules, is_rule}
-use Rattle.tf_facts.specs.RuleSets.{holds, rules_of}
+use Rattle.rule_set.specs.Rules.{all_rules, is_rule}
+use Rattle.rule_set.specs.RuleSets.{holds, rules_of}
 use Rattle.tf_rules.specs.Answers.{answered}
 use Rattle.tf_rules.specs.Inner.Entries.{issue_of, issues_of}
 use Rattle.tf_rules.specs.Inner.KeptViews.{kept_comment}
 use Rattle.tf_rules.specs.Inner.SilencedLines.{is_in_set, is_on}
 use Rattle.tf_rules.specs.declared.entry.Entry.{Entry}
 use Rattle.tf_rules.specs.declared.kept.KeptComment.{KeptComment}
-use Rattle.tf_facts.specs.declared.rule.Rule.{Rule}
-use Rattle.tf_facts.specs.declared.rule.Rule.TheVariants.{CommentSyntax, DeprecatedIndex, DeprecatedInterpolation, DocumentedOutputs, DocumentedVariables, ModulePinnedSource, ModuleVersion, NamingConvention, TypedVariables, UnusedDeclarations}
-use Rattle.tf_facts.specs.declared.rule_set.RuleSet.{RuleSet}
+use Rattle.rule_set.specs.declared.rule.Rule.{Rule}
+use Rattle.rule_set.specs.declared.rule.Rule.TheVariants.{CommentSyntax, DeprecatedIndex, DeprecatedInterpolation, DocumentedOutputs, DocumentedVariables, ModulePinnedSource, ModuleVersion, NamingConvention, TypedVariables, UnusedDeclarations}
+use Rattle.rule_set.specs.declared.rule_set.RuleSet.{RuleSet}
 
 or_false : (b : Bool) → (b || false) ≡ b
 or_false true = refl

@@ -6,7 +6,7 @@ use Rattle.hcl_tokens.specs.declared.token.Kind.TheVariants.{Newline, Ident, Num
 use Rattle.hcl_grammar.specs.Numbered.{numbered}
 use Rattle.tf_facts.specs.Facts.{facts_of}
 use Rattle.tf_facts.specs.References.{references}
-use Rattle.tf_facts.specs.declared.rule.Rule.TheVariants.{NamingConvention, ModulePinnedSource, UnusedDeclarations, DeprecatedIndex as OldIndex}
+use Rattle.rule_set.specs.declared.rule.Rule.TheVariants.{NamingConvention, ModulePinnedSource, UnusedDeclarations, DeprecatedIndex as OldIndex}
 use Rattle.tf_rules.specs.Findings.{findings}
 use Rattle.tf_rules.specs.Naming.{matches_naming}
 use Rattle.tf_rules.specs.declared.naming.Naming.TheVariants.{SnakeCase, MixedSnakeCase}

@@ -9,13 +9,13 @@ use Rattle.hcl_source.specs.Places.{place}
 use Rattle.hcl_source.specs.declared.fault.Position.{Position}
 use Rattle.hcl_grammar.specs.Verdict.{start_of}
 use Rattle.hcl_grammar.specs.Numbered.{Numbered, numbered}
-use Rattle.tf_facts.specs.Rules.{is_rule, rank}
-use Rattle.tf_facts.specs.RuleSets.{rules_of}
+use Rattle.rule_set.specs.Rules.{is_rule, rank}
+use Rattle.rule_set.specs.RuleSets.{rules_of}
 use Rattle.tf_facts.specs.Comments.{Comment, comments}
 use Rattle.tf_facts.specs.References.{references}
 use Rattle.tf_rules.specs.Findings.{Finding, findings}
 use Rattle.tf_facts.specs.Facts.{facts_of}
-use Rattle.tf_facts.specs.declared.rule.Rule.{Rule}
+use Rattle.rule_set.specs.declared.rule.Rule.{Rule}
 use Rattle.tf_rules.specs.declared.naming.Naming.{Naming}
 use Rattle.tf_rules.specs.declared.settings.Settings.{Settings}
 

@@ -8,7 +8,7 @@ use Rattle.tf_facts.specs.References.{references}
 use Rattle.tf_facts.specs.Facts.{Facts, facts_of}
 use Rattle.tf_rules.specs.Findings.{Finding, findings}
 use Rattle.tf_rules.specs.Issues.{File, Place, Issue, Asked, tokens_of, place_in, comment_at, is_silenced}
-use Rattle.tf_facts.specs.declared.rule.Rule.{Rule}
+use Rattle.rule_set.specs.declared.rule.Rule.{Rule}
 
 pub record Kept : Type 0 where
   pub facts : Facts Place

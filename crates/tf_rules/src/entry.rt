@@ -2,7 +2,7 @@
 
 use crate::kept::{KeptDeclaration, TokenPlace};
 use crate::naming::Naming;
-use tf_facts::Rule;
+use rule_set::Rule;
 
 /// What a rule says of a token, by its parts: no text is put together of an issue that isn't shown.
 #[derive(Clone, Copy)]

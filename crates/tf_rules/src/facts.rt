@@ -10,7 +10,7 @@ ghost use Rattle.tf_rules.specs.Findings.{findings};
 ghost use Rattle.tf_rules.specs.Issues.{File, asked_of};
 ghost use Rattle.tf_rules.specs.Kept.{issue_at, kept_of, nothing, with_file};
 ghost use Rattle.tf_facts.specs.References.{references};
-ghost use Rattle.tf_facts.specs.RuleSets.{holds};
+ghost use Rattle.rule_set.specs.RuleSets.{holds};
 ghost use Rattle.tf_rules.specs.Inner.Entries.{issues_of};
 ghost use Rattle.tf_rules.specs.Inner.KeptFacts.{kept_facts, with_found};
 
@@ -27,7 +27,8 @@ use hcl_syntax::{Accepted, Outline, outline};
 use std::alloc::{AllocError, Global};
 use std::marker::Model;
 use std::mem::swap;
-use tf_facts::{ALL_RULES, Hashing, Rule, TextSet, add_references_of};
+use rule_set::{ALL_RULES, Rule};
+use tf_facts::{Hashing, TextSet, add_references_of};
 
 /// What is kept of the files of a module: places, names and flags, and no source.
 #[derive(Drop)]

@@ -15,7 +15,8 @@ use crate::kept::{KeptDeclaration, KeptNames, KeptSource};
 use crate::naming::{Naming, matches_naming};
 use crate::said::last;
 use std::alloc::AllocError;
-use tf_facts::{DeclarationKind, ModuleSource, Rule, TextSet};
+use rule_set::Rule;
+use tf_facts::{DeclarationKind, ModuleSource, TextSet};
 
 fn is_output(kind: DeclarationKind) -> bool
     ensures { result ≡ is_kind DeclarationKind.Output kind }

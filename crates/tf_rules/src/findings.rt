@@ -12,7 +12,8 @@ use crate::finding::finding;
 use crate::kept::{KeptComment, KeptDeclaration, TokenPlace};
 use crate::naming::Naming;
 use std::alloc::{AllocError, Global};
-use tf_facts::{Rule, TextSet};
+use rule_set::Rule;
+use tf_facts::TextSet;
 
 /// Puts what was found last, where something was.
 fn put<'f>(

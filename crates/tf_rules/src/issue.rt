@@ -5,7 +5,7 @@ ghost use Rattle.std.specs.String.{string_bytes};
 
 use hcl_tokens::Position;
 use std::marker::Model;
-use tf_facts::Rule;
+use rule_set::Rule;
 
 /// The text of a message: one of a rule's own, which takes no memory, or one that was put together.
 #[derive(Drop)]

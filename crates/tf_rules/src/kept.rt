@@ -1,7 +1,8 @@
 //! What is kept of the files of a module: places, names and flags, and no source.
 
 use hcl_tokens::Position;
-use tf_facts::{DeclarationKind, ModuleSource, RuleSet};
+use rule_set::RuleSet;
+use tf_facts::{DeclarationKind, ModuleSource};
 
 /// The place of a token: the number of its file, its own, and where it begins.
 #[derive(Clone, Copy)]

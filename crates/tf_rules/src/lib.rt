@@ -24,5 +24,6 @@ mod walker;
 pub use facts::Facts;
 pub use issue::{Issue, Message};
 pub use naming::Naming;
+pub use rule_set::{Rule, RuleSet, Severity};
 pub use settings::Settings;
-pub use tf_facts::{Hashing, Rule, RuleSet, Severity};
+pub use tf_facts::Hashing;

@@ -5,7 +5,7 @@ ghost use Rattle.tf_rules.specs.Inner.Entries.{entry_cmp};
 
 use crate::entry::Entry;
 use std::alloc::AllocError;
-use tf_facts::rank;
+use rule_set::rank;
 
 /// The entries by file, then token, then the name of the rule.
 pub fn in_order<'f>(entries: Vec<Entry<'f>>) -> Result<Vec<Entry<'f>>, AllocError>

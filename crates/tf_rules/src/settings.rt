@@ -1,7 +1,7 @@
 //! What is asked of the linter.
 
 use crate::naming::Naming;
-use tf_facts::RuleSet;
+use rule_set::RuleSet;
 
 /// The rules that are to be looked at, and how names are to be written.
 #[derive(Clone, Copy, Debug, PartialEq, Eq)]

@@ -4,11 +4,11 @@ ghost use Rattle.std.specs.Prelude.{◌≡◌, ◌==◌, ◌&&◌, ◌||◌, ◌
 ghost use Rattle.tf_rules.specs.Answers.{answered};
 ghost use Rattle.tf_facts.specs.Comments.{Comment};
 ghost use Rattle.tf_rules.specs.Issues.{Place, is_silenced};
-ghost use Rattle.tf_facts.specs.RuleSets.{holds};
+ghost use Rattle.rule_set.specs.RuleSets.{holds};
 ghost use Rattle.tf_rules.specs.Inner.Entries.{issue_of, issues_of};
 ghost use Rattle.tf_rules.specs.Inner.KeptViews.{kept_comment};
 ghost use Rattle.tf_rules.specs.Inner.SilencedLines.{AreSilenced, silenced_at};
-ghost use Rattle.tf_facts.specs.declared.rule.Rule.{Rule};
+ghost use Rattle.rule_set.specs.declared.rule.Rule.{Rule};
 
 use crate::entry::Entry;
 use crate::issue::Issue;
@@ -16,7 +16,8 @@ use crate::kept::KeptComment;
 use crate::said::message;
 use indexmap::IndexMap;
 use std::alloc::{AllocError, Global};
-use tf_facts::{RuleSet, is_any, rules_of_both};
+use rule_set::{RuleSet, rules_of_both};
+use tf_facts::is_any;
 
 /// The silenced rules by the number of the file and the line.
 pub type SilencedLines = IndexMap<(u32, u32), RuleSet>;

@@ -7,7 +7,7 @@ use Rattle.std.specs.Borrow.{Bor}
 use Rattle.std.specs.List.{concat, flat_map}
 use Rattle.std.specs.Io.KnownBytes.{Appends, Keeps}
 use Rattle.command_line.specs.Rows.{TookBy, line}
-use Rattle.tf_facts.specs.Rules.{severity, severity_text}
+use Rattle.rule_set.specs.Rules.{severity, severity_text}
 use Rattle.tf_rules.specs.declared.issue.Issue.{Issue}
 use Rattle.tfrules_command.specs.Report.{issue_line, report}
 use Rattle.tfrules_command.specs.Inner.Pieces.{closing_words, line_words, lines_of_report, opening_words}

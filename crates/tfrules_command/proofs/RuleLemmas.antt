@@ -9,13 +9,13 @@ use Rattle.std.specs.Borrow.{Bor}
 use Rattle.std.specs.Str.{bytes_eq}
 use Rattle.std.proofs.lemmas.List.Folds.{list_all-append}
 use Rattle.std.proofs.lemmas.Slice.Eq.{bytes_eq-Decides}
-use Rattle.tf_facts.specs.RuleSets.{holds, rules_of}
-use Rattle.tf_facts.specs.Rules.{all_rules, is_recommended, rule_name}
+use Rattle.rule_set.specs.RuleSets.{holds, rules_of}
+use Rattle.rule_set.specs.Rules.{all_rules, is_recommended, rule_name}
 use Rattle.tf_rules.specs.declared.naming.Naming.{Naming}
-use Rattle.tf_facts.specs.declared.rule.Severity.{Severity}
+use Rattle.rule_set.specs.declared.rule.Severity.{Severity}
 use Rattle.tfrules_command.specs.declared.usage.Usage.TheVariants as usage
-use Rattle.tf_facts.specs.declared.rule.Rule.{Rule}
-use Rattle.tf_facts.specs.declared.rule_set.RuleSet.{RuleSet}
+use Rattle.rule_set.specs.declared.rule.Rule.{Rule}
+use Rattle.rule_set.specs.declared.rule_set.RuleSet.{RuleSet}
 use Rattle.tfrules_command.specs.Line.{asking_for, asking_with, each_once, has_name, max_files, naming_asked, rules_asked, rules_named, severity_asked, value_or}
 use Rattle.tfrules_command.specs.Inner.Named.{Named}
 use Rattle.tfrules_command.proofs.ListLemmas.{filter_same}

@@ -17,10 +17,10 @@ use Rattle.hcl_source.specs.declared.fault.Fault.{Fault}
 use Rattle.hcl_tokens.specs.Scanned.{Scanned}
 use Rattle.tf_rules.specs.Answers.{answered}
 use Rattle.tf_rules.specs.Issues.{Issue, IsReport}
-use Rattle.tf_facts.specs.Rules.{all_rules, is_recommended}
+use Rattle.rule_set.specs.Rules.{all_rules, is_recommended}
 use Rattle.tf_rules.specs.declared.naming.Naming.{Naming}
-use Rattle.tf_facts.specs.declared.rule.Rule.{Rule}
-use Rattle.tf_facts.specs.declared.rule.Severity.{Severity}
+use Rattle.rule_set.specs.declared.rule.Rule.{Rule}
+use Rattle.rule_set.specs.declared.rule.Severity.{Severity}
 use Rattle.tfrules_command.specs.Answer.{AreNamed, IsAnswer, IsAnswerBy, IsRefused, IsRefusedFirst, IsReported, linter, refused, too_large, usage_line}
 use Rattle.tfrules_command.specs.Files.{NamedFile, AreAccepted, IsAcceptedAs, IsOutcome, max_module, named, numbered_files, size_of}
 use Rattle.tfrules_command.specs.Line.{Asking, asking_for, asking_with, each_once, has_name, options_by, max_files, options_of, rules_asked, rules_named, tfrules, usage_of_kind, value_or}

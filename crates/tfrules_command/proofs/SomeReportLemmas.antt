@@ -5,11 +5,11 @@ use Rattle.std.proofs.lemmas.Bool.{and_from, cases_order, eq-eqb}
 use Rattle.tf_rules.specs.Answers.{Rising}
 use Rattle.tf_rules.specs.Issues.{Asked, Before, File, IsReport, Issue, Key, Precedes, all_comments, asked_of, is_silenced, issues, key_of, reported}
 use Rattle.tf_rules.specs.Ordered.{Ascends, BeforeAll, Member, SameMembers}
-use Rattle.tf_facts.specs.RuleSets.{holds, rules_of}
-use Rattle.tf_facts.specs.Rules.{all_rules}
-use Rattle.tf_facts.specs.declared.rule.Rule.{Rule}
-use Rattle.tf_facts.specs.declared.rule.Rule.TheVariants.{CommentSyntax, DeprecatedIndex, DeprecatedInterpolation, DocumentedOutputs, DocumentedVariables, ModulePinnedSource, ModuleVersion, NamingConvention, TypedVariables, UnusedDeclarations}
-use Rattle.tf_facts.specs.declared.rule_set.RuleSet.{RuleSet}
+use Rattle.rule_set.specs.RuleSets.{holds, rules_of}
+use Rattle.rule_set.specs.Rules.{all_rules}
+use Rattle.rule_set.specs.declared.rule.Rule.{Rule}
+use Rattle.rule_set.specs.declared.rule.Rule.TheVariants.{CommentSyntax, DeprecatedIndex, DeprecatedInterpolation, DocumentedOutputs, DocumentedVariables, ModulePinnedSource, ModuleVersion, NamingConvention, TypedVariables, UnusedDeclarations}
+use Rattle.rule_set.specs.declared.rule_set.RuleSet.{RuleSet}
 use Rattle.tf_rules.specs.declared.settings.Settings.{Settings}
 use Rattle.tf_rules.proofs.DistinctLemmas.{reported_apart}
 use Rattle.tf_rules.proofs.ReportLemmas.{in_turn}

@@ -1,8 +1,8 @@
 -- The status of a report goes by the rules of its issues alone.
 use Rattle.std.proofs.Common.{◌≡◌, ◌∙◌, ◌&&◌, ◌||◌, ap, refl, sym, List, [], ◌∷◌, map, not, nat_le, if◌then◌else◌}
 use Rattle.std.specs.List.{list_any}
-use Rattle.tf_facts.specs.Rules.{severity}
-use Rattle.tf_facts.specs.declared.rule.Severity.{Severity}
+use Rattle.rule_set.specs.Rules.{severity}
+use Rattle.rule_set.specs.declared.rule.Severity.{Severity}
 use Rattle.tf_rules.specs.declared.issue.Issue.{Issue}
 use Rattle.tfrules_command.specs.Line.{Asking}
 use Rattle.tfrules_command.specs.Report.{status, weighs, weight}

@@ -11,10 +11,10 @@ use Rattle.clap.specs.declared.builder.ArgAction.TheVariants.{Append, Set, SetTr
 use Rattle.clap.specs.declared.error.ErrorKind.{ErrorKind}
 use Rattle.clap.specs.declared.error.ErrorKind.TheVariants as kind
 use Rattle.tf_rules.specs.Issues.{Asked}
-use Rattle.tf_facts.specs.Rules.{all_rules, is_recommended, rule_name}
-use Rattle.tf_facts.specs.declared.rule.Rule.{Rule}
-use Rattle.tf_facts.specs.declared.rule.Severity.{Severity}
-use Rattle.tf_facts.specs.declared.rule.Severity.TheVariants.{Notice, Warning, Error}
+use Rattle.rule_set.specs.Rules.{all_rules, is_recommended, rule_name}
+use Rattle.rule_set.specs.declared.rule.Rule.{Rule}
+use Rattle.rule_set.specs.declared.rule.Severity.{Severity}
+use Rattle.rule_set.specs.declared.rule.Severity.TheVariants.{Notice, Warning, Error}
 use Rattle.tf_rules.specs.declared.naming.Naming.{Naming}
 use Rattle.tf_rules.specs.declared.naming.Naming.TheVariants.{SnakeCase, MixedSnakeCase}
 use Rattle.tfrules_command.specs.declared.usage.Usage.{Usage}

@@ -2,10 +2,10 @@
 use Rattle.std.specs.Prelude.{ℕ, ◌++◌, ◌&&◌, Bool, not, List, [], ◌∷◌, codes, decimal, get_or, length, nat_le, if◌then◌else◌}
 use Rattle.std.specs.List.{flat_map, list_any}
 use Rattle.command_line.specs.Rows.{Row, line}
-use Rattle.tf_facts.specs.Rules.{rule_name, severity, severity_text}
+use Rattle.rule_set.specs.Rules.{rule_name, severity, severity_text}
 use Rattle.tf_rules.specs.declared.issue.Issue.{Issue}
-use Rattle.tf_facts.specs.declared.rule.Severity.{Severity}
-use Rattle.tf_facts.specs.declared.rule.Severity.TheVariants.{Notice, Warning, Error}
+use Rattle.rule_set.specs.declared.rule.Severity.{Severity}
+use Rattle.rule_set.specs.declared.rule.Severity.TheVariants.{Notice, Warning, Error}
 use Rattle.tfrules_command.specs.Line.{Asking}
 
 -- `FILE:LINE:COLUMN: Severity - message (rule)`

@@ -3,7 +3,7 @@
 ghost use Rattle.std.specs.Prelude.{◌≡◌, ◌<◌, false, ◌⊎◌, ◌==◌, ◌++◌, ◌∷◌, ◌≤◌, [], List, ℕ, Err, Some, IfOk, map, option_map, length};
 ghost use Rattle.std.specs.List.{slice_split};
 ghost use Rattle.clap.specs.Words.{app_of, found_of, kind_of, rows_of, rule_of};
-ghost use Rattle.tf_facts.specs.RuleSets.{rules_of};
+ghost use Rattle.rule_set.specs.RuleSets.{rules_of};
 ghost use Rattle.tfrules_command.specs.Line.{asking_for, asking_of_rows, asking_with, file_rule, force_rule, naming_asked, options_of, option_rule, rules_asked, severity_asked, tfrules, usage_of_kind, value_or};
 ghost use Rattle.tfrules_command.specs.Asked.{asked_by};
 ghost use Rattle.tfrules_command.specs.Inner.Named.{Named};

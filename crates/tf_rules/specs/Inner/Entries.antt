@@ -4,7 +4,7 @@ use Rattle.std.specs.Ordering.{nat_cmp, ordering_then}
 use Rattle.std.specs.declared.cmp.Ordering.{Ordering}
 use Rattle.tf_rules.specs.Findings as findings
 use Rattle.tf_rules.specs.Issues.{Issue, Place}
-use Rattle.tf_facts.specs.Rules.{rank}
+use Rattle.rule_set.specs.Rules.{rank}
 use Rattle.tf_rules.specs.Naming.{naming_text}
 use Rattle.tf_rules.specs.Inner.KeptViews.{kept_declaration, kept_names, place_of}
 use Rattle.tf_rules.specs.declared.entry.Entry.{Entry}

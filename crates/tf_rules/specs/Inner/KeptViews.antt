@@ -5,7 +5,7 @@ use Rattle.std.specs.String.{string_bytes}
 use Rattle.tf_facts.specs.Comments.{Comment}
 use Rattle.tf_facts.specs.Declarations.{Declaration, SourceAt}
 use Rattle.tf_rules.specs.Issues.{Place}
-use Rattle.tf_facts.specs.RuleSets.{rules_of}
+use Rattle.rule_set.specs.RuleSets.{rules_of}
 use Rattle.tf_facts.specs.Found.{source}
 use Rattle.tf_rules.specs.declared.kept.KeptComment.{KeptComment}
 use Rattle.tf_rules.specs.declared.kept.KeptDeclaration.{KeptDeclaration}

@@ -4,10 +4,10 @@ use Rattle.std.specs.List.{list_any}
 use Rattle.indexmap.specs.IndexMap.{IndexMap, get}
 use Rattle.tf_facts.specs.Comments.{Comment}
 use Rattle.tf_rules.specs.Issues.{Place}
-use Rattle.tf_facts.specs.Rules.{is_rule}
-use Rattle.tf_facts.specs.RuleSets.{holds}
-use Rattle.tf_facts.specs.declared.rule.Rule.{Rule}
-use Rattle.tf_facts.specs.declared.rule_set.RuleSet.{RuleSet}
+use Rattle.rule_set.specs.Rules.{is_rule}
+use Rattle.rule_set.specs.RuleSets.{holds}
+use Rattle.rule_set.specs.declared.rule.Rule.{Rule}
+use Rattle.rule_set.specs.declared.rule_set.RuleSet.{RuleSet}
 
 abbrev pub is_in_set : Option RuleSet → Rule → Bool
 is_in_set None rule = false

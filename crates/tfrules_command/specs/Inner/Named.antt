@@ -1,10 +1,10 @@
 -- A set of rules that is built name by name.
 use Rattle.std.specs.Prelude.{◌≡◌, ℕ, true, false, List, Option, Some, None}
 use Rattle.std.specs.List.{list_all, list_any}
-use Rattle.tf_facts.specs.RuleSets.{holds}
-use Rattle.tf_facts.specs.Rules.{all_rules}
-use Rattle.tf_facts.specs.declared.rule.Rule.{Rule}
-use Rattle.tf_facts.specs.declared.rule_set.RuleSet.{RuleSet}
+use Rattle.rule_set.specs.RuleSets.{holds}
+use Rattle.rule_set.specs.Rules.{all_rules}
+use Rattle.rule_set.specs.declared.rule.Rule.{Rule}
+use Rattle.rule_set.specs.declared.rule_set.RuleSet.{RuleSet}
 use Rattle.tfrules_command.specs.Line.{has_name}
 
 -- each is the name of a rule, and the set has the rules of these names; or one is no rule's name

@@ -2,9 +2,9 @@
 use Rattle.std.specs.Prelude.{ℕ, ◌++◌, List, codes, decimal, length}
 use Rattle.std.specs.List.{flat_map}
 use Rattle.command_line.specs.Rows.{line}
-use Rattle.tf_facts.specs.Rules.{rule_name, severity_text}
-use Rattle.tf_facts.specs.declared.rule.Rule.{Rule}
-use Rattle.tf_facts.specs.declared.rule.Severity.{Severity}
+use Rattle.rule_set.specs.Rules.{rule_name, severity_text}
+use Rattle.rule_set.specs.declared.rule.Rule.{Rule}
+use Rattle.rule_set.specs.declared.rule.Severity.{Severity}
 use Rattle.tf_rules.specs.declared.issue.Issue.{Issue}
 use Rattle.tfrules_command.specs.Report.{issue_line}
 

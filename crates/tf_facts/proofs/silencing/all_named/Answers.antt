@@ -4,7 +4,7 @@ use Rattle.std.specs.List.{list_any, slice_split}
 use Rattle.std.proofs.lemmas.List.{length_push, take_all}
 use Rattle.std.proofs.lemmas.Iterator.Consumers.{YieldsList-at, YieldsList-end, YieldsList-turn}
 use Rattle.std.proofs.lemmas.Iterator.Splits.{YieldsList-from_slice_split}
-use Rattle.tf_facts.specs.RuleSets.{holds}
+use Rattle.rule_set.specs.RuleSets.{holds}
 use Rattle.tf_facts.specs.Silencing.{names, trimmed}
 use Rattle.tf_facts.proofs.CutLemmas.{any_more}
 use Rattle.tf_facts.proofs.silencing.all_named.Goals as goal

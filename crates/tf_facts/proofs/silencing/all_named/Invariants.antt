@@ -1,9 +1,9 @@
 use Rattle.std.proofs.Common.{◌≡◌, length, take}
 use Rattle.std.specs.Prelude.{◌==◌}
 use Rattle.std.specs.List.{list_any, slice_split}
-use Rattle.tf_facts.specs.RuleSets.{holds}
+use Rattle.rule_set.specs.RuleSets.{holds}
 use Rattle.tf_facts.specs.Silencing.{names, trimmed}
-use Rattle.tf_facts.specs.declared.rule.Rule.{Rule}
+use Rattle.rule_set.specs.declared.rule.Rule.{Rule}
 use Rattle.tf_facts.proofs.silencing.all_named.Given as goal
 
 abbrev pub invariant-loop-part : goal.invariant-loop-part

@@ -4,7 +4,7 @@ use Rattle.std.specs.List.{before_first, list_any, slice_split}
 use Rattle.tf_facts.specs.Texts.{without_front}
 use Rattle.hcl_tokens.specs.Spelling.{is_blank}
 use Rattle.tf_facts.specs.Silencing.{keyword, names, parts, trimmed}
-use Rattle.tf_facts.specs.declared.rule.Rule.{Rule}
+use Rattle.rule_set.specs.declared.rule.Rule.{Rule}
 use Rattle.tf_facts.proofs.CutLemmas.{part_is}
 use Rattle.tf_facts.proofs.silencing.silenced_rules.Goals as goal
 

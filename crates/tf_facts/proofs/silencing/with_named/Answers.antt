@@ -1,7 +1,7 @@
 use Rattle.std.proofs.Common.{◌∙◌, ap, sym}
 use Rattle.std.specs.Prelude.{◌||◌}
-use Rattle.tf_facts.specs.RuleSets.{holds}
-use Rattle.tf_facts.proofs.RuleLemmas.{names_none, names_one, or_false}
+use Rattle.rule_set.specs.RuleSets.{holds}
+use Rattle.tf_facts.proofs.NamedRuleLemmas.{names_none, names_one, or_false}
 use Rattle.tf_facts.proofs.silencing.with_named.Goals as goal
 
 pub returns-in-Some : goal.returns-in-Some

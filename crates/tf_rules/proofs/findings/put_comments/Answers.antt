@@ -3,7 +3,7 @@ use Rattle.tf_rules.specs.Findings.{slashed}
 use Rattle.tf_rules.specs.Kept.{issue_at}
 use Rattle.tf_rules.specs.Inner.Entries.{issues_of}
 use Rattle.tf_rules.specs.Inner.KeptViews.{kept_comment}
-use Rattle.tf_facts.specs.declared.rule.Rule.TheVariants.{CommentSyntax}
+use Rattle.rule_set.specs.declared.rule.Rule.TheVariants.{CommentSyntax}
 use Rattle.tf_rules.proofs.EntryLemmas.{put_all, put_map}
 use Rattle.tf_rules.proofs.findings.put_comments.Goals as goal
 

@@ -1,6 +1,6 @@
 use Rattle.std.proofs.Common.{rules}
 use Rattle.std.proofs.lemmas.List.Sorted.{answers_always}
-use Rattle.tf_facts.specs.Rules.{rank}
+use Rattle.rule_set.specs.Rules.{rank}
 use Rattle.tf_rules.proofs.order.in_order.Goals as goal
 
 pub returns-clause-ordered : goal.returns-clause-ordered

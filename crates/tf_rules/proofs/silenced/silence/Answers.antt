@@ -2,7 +2,7 @@ use Rattle.std.proofs.Common.{◌∙◌, ap, ap₂}
 use Rattle.std.specs.Prelude.{◌||◌, ◌==◌}
 use Rattle.std.proofs.lemmas.Bool.{and_parts, eqb-true}
 use Rattle.indexmap.specs.IndexMap.{get}
-use Rattle.tf_facts.specs.RuleSets.{holds}
+use Rattle.rule_set.specs.RuleSets.{holds}
 use Rattle.tf_rules.specs.Inner.SilencedLines.{same_line, silenced_at}
 use Rattle.tf_rules.proofs.SilencedLemmas.{silence_step}
 use Rattle.tf_rules.proofs.silenced.silence.Goals as goal

@@ -1,6 +1,6 @@
 use Rattle.std.proofs.Common.{◌∙◌, ap}
 use Rattle.std.specs.Prelude.{◌||◌, ◌&&◌, ◌==◌}
-use Rattle.tf_facts.specs.RuleSets.{holds}
+use Rattle.rule_set.specs.RuleSets.{holds}
 use Rattle.tf_rules.proofs.SilencedLemmas.{on_more}
 use Rattle.tf_rules.proofs.silenced.silence_by.Goals as goal
 

@@ -2,7 +2,7 @@ use Rattle.std.proofs.Common.{◌<◌, ◌≤◌, arith, inr, length, map}
 use Rattle.std.proofs.lemmas.List.{length-map}
 use Rattle.std.specs.Borrow.{Bor}
 use Rattle.std.specs.Prelude.{List, ℕ}
-use Rattle.tf_facts.specs.RuleSets.{rules_of}
+use Rattle.rule_set.specs.RuleSets.{rules_of}
 use Rattle.tfrules_command.specs.Line.{max_files}
 use Rattle.tfrules_command.proofs.RuleLemmas.{few_enough, too_many}
 use Rattle.tfrules_command.proofs.options.options_for.Goals as goal

@@ -2,7 +2,7 @@ use Rattle.std.proofs.Common.{◌∙◌, inr, map, sym, List, ℕ}
 use Rattle.std.specs.Borrow.{Bor}
 use Rattle.std.specs.Prelude.{option_map}
 use Rattle.clap.specs.Words.{found_of, rows_of}
-use Rattle.tf_facts.specs.RuleSets.{rules_of}
+use Rattle.rule_set.specs.RuleSets.{rules_of}
 use Rattle.tfrules_command.specs.Line.{asking_for}
 use Rattle.tfrules_command.proofs.RuleLemmas.{with_parts}
 use Rattle.tfrules_command.proofs.WordLemmas.{asked_more}

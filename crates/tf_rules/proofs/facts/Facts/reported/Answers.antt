@@ -3,7 +3,7 @@ use Rattle.std.specs.List.{flat_map}
 use Rattle.std.proofs.lemmas.List.{take_all}
 use Rattle.tf_rules.specs.Findings.{findings}
 use Rattle.tf_rules.specs.Kept.{issue_at}
-use Rattle.tf_facts.specs.RuleSets.{holds}
+use Rattle.rule_set.specs.RuleSets.{holds}
 use Rattle.tf_rules.proofs.EntryLemmas.{put_passing}
 use Rattle.tf_rules.proofs.facts.Facts.reported.Goals as goal
 

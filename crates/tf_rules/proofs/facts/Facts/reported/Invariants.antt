@@ -2,7 +2,7 @@ use Rattle.std.proofs.Common.{◌≡◌, [], cond, map, take}
 use Rattle.std.specs.List.{flat_map}
 use Rattle.tf_rules.specs.Findings.{findings}
 use Rattle.tf_rules.specs.Kept.{issue_at}
-use Rattle.tf_facts.specs.RuleSets.{holds}
+use Rattle.rule_set.specs.RuleSets.{holds}
 use Rattle.tf_rules.specs.Inner.Entries.{issues_of}
 use Rattle.tf_rules.proofs.facts.Facts.reported.Given as goal
 

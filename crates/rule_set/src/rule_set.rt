@@ -1,8 +1,8 @@
 //! Sets of rules.
 
 ghost use Rattle.std.specs.Prelude.{◌≡◌, ◌||◌, false, true};
-ghost use Rattle.tf_facts.specs.Rules.{is_recommended, is_rule};
-ghost use Rattle.tf_facts.specs.RuleSets.{holds};
+ghost use Rattle.rule_set.specs.Rules.{is_recommended, is_rule};
+ghost use Rattle.rule_set.specs.RuleSets.{holds};
 
 use crate::rule::{Rule, rank};
 

@@ -2,9 +2,7 @@
 
 ghost use Rattle.std.specs.Prelude.{◌≡◌, ◌<◌, MatchOption, find, None};
 ghost use Rattle.std.specs.Str.{bytes_eq};
-ghost use Rattle.tf_facts.specs.Rules.{all_rules, rank, rule_name, severity, severity_text};
-
-use crate::texts::equals;
+ghost use Rattle.rule_set.specs.Rules.{all_rules, rank, rule_name, severity, severity_text};
 
 /// A rule. The variants stand in the order of the names.
 #[derive(Clone, Copy, Debug, PartialEq, Eq)]
@@ -56,8 +54,14 @@ impl Severity {
     }
 }
 
-/// The first of these rules that has a name.
-pub(crate) fn named(rules: &[Rule], name: &[u8]) -> Option<Rule>
+fn equals(text: &[u8], other: &[u8]) -> bool
+    ensures { result ≡ bytes_eq text.now other.now }
+{
+    text == other
+}
+
+/// The first of these rules that has this name.
+pub fn rule_named(rules: &[Rule], name: &[u8]) -> Option<Rule>
     ensures { result ≡ find (λ rule. bytes_eq (rule_name rule) name.now) rules.now }
 {
     rules
@@ -101,7 +105,7 @@ impl Rule {
     pub fn from_name(name: &str) -> Option<Rule>
         ensures { MatchOption result ((rule : Rule) → rule_name rule ≡ name.now → ⊥) (λ rule. rule_name rule ≡ name.now) }
     {
-        named(&ALL_RULES, name.as_bytes())
+        rule_named(&ALL_RULES, name.as_bytes())
     }
 }
 

@@ -1,8 +1,8 @@
 -- Sets of rules.
 use Rattle.std.specs.Prelude.{Bool, false, List, filter, get_or}
-use Rattle.tf_facts.specs.Rules.{all_rules, rank}
-use Rattle.tf_facts.specs.declared.rule.Rule.{Rule}
-use Rattle.tf_facts.specs.declared.rule_set.RuleSet.{RuleSet}
+use Rattle.rule_set.specs.Rules.{all_rules, rank}
+use Rattle.rule_set.specs.declared.rule.Rule.{Rule}
+use Rattle.rule_set.specs.declared.rule_set.RuleSet.{RuleSet}
 
 -- the rule is in the set
 abbrev pub holds : RuleSet → Rule → Bool

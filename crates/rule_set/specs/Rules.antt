@@ -1,10 +1,10 @@
 -- The ten rules, their names, and how severe their issues are. The names are those of rules of TFLint's Terraform rule
 -- set; what each reports, the severities and the recommended set are our own choice.
 use Rattle.std.specs.Prelude.{ℕ, ◌==◌, Bool, true, false, List, [], ◌∷◌, codes}
-use Rattle.tf_facts.specs.declared.rule.Rule.{Rule}
-use Rattle.tf_facts.specs.declared.rule.Rule.TheVariants.{CommentSyntax, DeprecatedIndex, DeprecatedInterpolation, DocumentedOutputs, DocumentedVariables, ModulePinnedSource, ModuleVersion, NamingConvention, TypedVariables, UnusedDeclarations}
-use Rattle.tf_facts.specs.declared.rule.Severity.{Severity}
-use Rattle.tf_facts.specs.declared.rule.Severity.TheVariants.{Notice, Warning, Error}
+use Rattle.rule_set.specs.declared.rule.Rule.{Rule}
+use Rattle.rule_set.specs.declared.rule.Rule.TheVariants.{CommentSyntax, DeprecatedIndex, DeprecatedInterpolation, DocumentedOutputs, DocumentedVariables, ModulePinnedSource, ModuleVersion, NamingConvention, TypedVariables, UnusedDeclarations}
+use Rattle.rule_set.specs.declared.rule.Severity.{Severity}
+use Rattle.rule_set.specs.declared.rule.Severity.TheVariants.{Notice, Warning, Error}
 
 abbrev pub rule_name : Rule → List ℕ
 rule_name CommentSyntax = codes "terraform_comment_syntax"

@@ -1,6 +1,6 @@
 use Rattle.std.proofs.Common.{arith}
-use Rattle.tf_facts.proofs.SetLemmas.{joined_more}
-use Rattle.tf_facts.proofs.rule_set.rules_of_both.Goals as goal
+use Rattle.rule_set.proofs.SetLemmas.{joined_more}
+use Rattle.rule_set.proofs.rule_set.rules_of_both.Goals as goal
 
 pub loop-number-preserved : goal.loop-number-preserved
 loop-number-preserved c =

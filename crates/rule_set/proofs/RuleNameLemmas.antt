@@ -4,19 +4,14 @@ use Rattle.std.specs.Prelude.{◌&&◌, ◌||◌, ◌⊎◌, not, Option, Some, 
 use Rattle.std.specs.List.{list_all}
 use Rattle.std.specs.Str.{bytes_eq}
 use Rattle.std.proofs.lemmas.Slice.Eq.{bytes_eq-Decides}
-use Rattle.tf_facts.specs.Rules.{all_rules, is_rule, rule_name}
-use Rattle.tf_facts.specs.Silencing.{names}
-use Rattle.tf_facts.specs.declared.rule.Rule.{Rule}
-use Rattle.tf_facts.specs.declared.rule.Rule.TheVariants.{CommentSyntax, DeprecatedIndex, DeprecatedInterpolation, DocumentedOutputs, DocumentedVariables, ModulePinnedSource, ModuleVersion, NamingConvention, TypedVariables, UnusedDeclarations}
+use Rattle.rule_set.specs.Rules.{all_rules, is_rule, rule_name}
+use Rattle.rule_set.specs.declared.rule.Rule.{Rule}
+use Rattle.rule_set.specs.declared.rule.Rule.TheVariants.{CommentSyntax, DeprecatedIndex, DeprecatedInterpolation, DocumentedOutputs, DocumentedVariables, ModulePinnedSource, ModuleVersion, NamingConvention, TypedVariables, UnusedDeclarations}
 
 -- the element is in the list
 abbrev Among : {X : Type 0} → X → List X → Type 0
 Among x [] = ⊥
 Among x (y ∷ ys) = (x ≡ y) ⊎ Among x ys
-
-pub or_false : (b : Bool) → (b || false) ≡ b
-or_false true = refl
-or_false false = refl
 
 match_weaker : {X P R : Type 0} {Q S : X → Type 0} (o : Option X) → (P → R) → ((x : X) → Q x → S x) → MatchOption o P Q → MatchOption o R S
 match_weaker None f g h = f h
@@ -78,23 +73,8 @@ all_pass {X} p (y ∷ ys) x e m = by (p y) refl e m (λ rest k. all_pass p ys x 
 by_names : list_all (λ a. list_all (λ b. both_ways (is_rule a b) (bytes_eq (rule_name b) (rule_name a))) all_rules) all_rules ≡ true
 by_names = refl
 
-is_rule_by_name : (a b : Rule) → is_rule a b ≡ bytes_eq (rule_name b) (rule_name a)
+pub is_rule_by_name : (a b : Rule) → is_rule a b ≡ bytes_eq (rule_name b) (rule_name a)
 is_rule_by_name a b =
     same_tests (is_rule a b) (bytes_eq (rule_name b) (rule_name a))
     (all_pass (λ y. both_ways (is_rule a y) (bytes_eq (rule_name y) (rule_name a))) all_rules b
     (all_pass (λ x. list_all (λ y. both_ways (is_rule x y) (bytes_eq (rule_name y) (rule_name x))) all_rules) all_rules a by_names (among_all a)) (among_all b))
-
--- what a part names, where it is not `all`
-pub names_one : (part : List ℕ) (found : Rule) → bytes_eq part (codes "all") ≡ false → Some found ≡ find (λ rule. bytes_eq (rule_name rule) part) all_rules → (rule : Rule) → is_rule rule found ≡ names rule part
-names_one part found other is rule =
-    let same : rule_name found ≡ part = subst (λ (o : Option Rule). MatchOption o ((r : Rule) → rule_name r ≡ part → ⊥) (λ r. rule_name r ≡ part)) (sym is) (by_name part) in
-    is_rule_by_name rule found ∙ ap (λ text. bytes_eq text (rule_name rule)) same ∙ ap (λ b. b || bytes_eq part (rule_name rule)) (sym other)
-
-pub names_none : (part : List ℕ) → bytes_eq part (codes "all") ≡ false → None ≡ find (λ rule. bytes_eq (rule_name rule) part) all_rules → (rule : Rule) → names rule part ≡ false
-names_none part other is rule =
-    let none : (r : Rule) → rule_name r ≡ part → ⊥ = subst (λ (o : Option Rule). MatchOption o ((r : Rule) → rule_name r ≡ part → ⊥) (λ r. rule_name r ≡ part)) (sym is) (by_name part) in
-    ap (λ b. b || bytes_eq part (rule_name rule)) other ∙ by (bytes_eq part (rule_name rule)) refl none
-  where
-    by : (b : Bool) → bytes_eq part (rule_name rule) ≡ b → ((r : Rule) → rule_name r ≡ part → ⊥) → b ≡ false
-    by true e h = absurd (h rule (sym ((bytes_eq-Decides part (rule_name rule)).0 e)))
-    by false e h = refl

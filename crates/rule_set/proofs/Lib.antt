@@ -1,0 +1,3 @@
+pub mod RankLemmas
+pub mod RuleNameLemmas
+pub mod SetLemmas
