@@ -19,7 +19,7 @@ use Rattle.hcl_layout.specs.declared.gap.LineGaps.{LineGaps}
 use Rattle.hcl_layout.specs.declared.in_place.LaidLine.{LaidLine}
 use Rattle.hcl_layout.specs.declared.in_place.Runs.{Runs}
 use Rattle.hcl_layout.specs.declared.line.LineFacts.{LineFacts}
-use Rattle.hcl_layout.specs.declared.pieces.Piece.{Piece}
+use Rattle.hcl_layout.specs.declared.piece.Piece.{Piece}
 use Rattle.hcl_layout.specs.declared.runs.Walk.{Walk}
 use Rattle.hcl_layout.proofs.LeftLemmas.{none_behind, piece_left, start_all}
 

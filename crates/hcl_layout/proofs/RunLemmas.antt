@@ -1,14 +1,15 @@
 -- Reading a run ahead, line by line.
 use Rattle.std.proofs.Common.{◌*◌, ◌≡◌, ◌∙◌, ◌+◌, ◌-◌, ◌<◌, ◌≤◌, ◌^◌, ℕ, suc, zero, Bool, true, false, List, [], ◌∷◌, Option, Some, None, length, ap, refl, sym, arith, take, drop, length-take}
-use Rattle.std.specs.Prelude.{slice_set, if◌then◌else◌}
+use Rattle.std.specs.Prelude.{IfSome, slice_set, if◌then◌else◌}
 use Rattle.hcl_tokens.specs.Lexemes.{Lexeme}
 use Rattle.hcl_tokens.specs.Balanced.{max_open}
 use Rattle.hcl_layout.specs.Cells.{assign_cell, before_comment, has_multiline, if_level, is_level, is_assignment, is_trailing, found_from, running_comment, trailing_comment, until}
 use Rattle.hcl_layout.specs.Gaps.{align, gap_to, plain_gaps, width}
 use Rattle.hcl_layout.specs.Levels.{net_of}
-use Rattle.hcl_layout.specs.Inner.LineGaps.{IsKnown, len_with_blanks, gaps_in, plain_of, set_cell}
+use Rattle.hcl_layout.specs.Inner.LineGaps.{IsKnown, IsSigned, len_with_blanks, gaps_in, plain_of, set_cell}
 use Rattle.hcl_layout.specs.Lines.{Line}
 use Rattle.hcl_layout.specs.declared.gap.Cell.{Cell}
+use Rattle.hcl_layout.specs.declared.gap.LineGaps.{LineGaps}
 use Rattle.hcl_layout.proofs.LineLemmas.{gaps_in_is, width_before, width_set, width_small}
 use Rattle.hcl_layout.proofs.SurveyLemmas.{place_within}
 
@@ -138,15 +139,33 @@ assigned_in level i own gap line = gaps_in_is (record { level = level; assign = 
 pub known_set : (level i own gap : ℕ) (line : Line) → own ≡ width i (plain_gaps level line) line → IsKnown (record { level = level; assign = Some (record { place = i; width = own; gap = gap }); comment = None }) line
 known_set level i own gap line e = e ∙ sym (ap (λ g. width i g line) (assigned_in level i own gap line) ∙ width_before (plain_gaps level line) line i gap)
 
-pub narrow_plain : (ts : List Lexeme) (at n level : ℕ) → level ≤ max_open → len_with_blanks ts < 2 ^ 32 → (k : ℕ) → width k (gaps_in (plain_of level) (take n (drop at ts))) (take n (drop at ts)) < 2 ^ 34
-narrow_plain ts at n level low small k =
-    omega (arith, ap (λ g. width k g (take n (drop at ts))) (plain_in level (take n (drop at ts))), plain_low ts at n level k low, small)
+signed_wide : (assign : Option Cell) (level : ℕ) (line : Line) (k n : ℕ) → IfSome assign (λ c. c.gap ≤ n) → width k (set_cell assign (plain_gaps level line)) line ≤ 2 * level + len_with_blanks line + n
+signed_wide None level line k n p = omega (arith, width_small level k line)
+signed_wide (Some c) level line k n p = omega (arith, p, width_set (plain_gaps level line) line c.place k c.gap, width_small level k line)
 
-pub narrow_set : (ts : List Lexeme) (at n level i own gap : ℕ) → level ≤ max_open → len_with_blanks ts < 2 ^ 32 → gap ≤ 2 ^ 33
-    → (k : ℕ) → width k (gaps_in (record { level = level; assign = Some (record { place = i; width = own; gap = gap }); comment = None }) (take n (drop at ts))) (take n (drop at ts)) < 2 ^ 34
-narrow_set ts at n level i own gap low small tight k =
-    let line : Line = take n (drop at ts) in
-    omega (arith, ap (λ g. width k g line) (assigned_in level i own gap line), width_set (plain_gaps level line) line i k gap, plain_low ts at n level k low, small, tight)
+-- with a sign whose gap is so much at most
+pub signed_narrow : (ts : List Lexeme) (at len : ℕ) (g : LineGaps) (k n : ℕ) → g.level ≤ max_open → g.comment ≡ None → IfSome g.assign (λ c. c.gap ≤ n)
+    → width k (gaps_in g (take len (drop at ts))) (take len (drop at ts)) ≤ 2 * max_open + len_with_blanks ts + n
+signed_narrow ts at len g k n low plain small =
+    let line : Line = take len (drop at ts) in
+    let same = ap (λ gs. width k gs line) (gaps_in_is g line ∙ ap (λ (o : Option Cell). set_cell o (set_cell g.assign (plain_gaps g.level line))) plain) in
+    omega (arith, same, signed_wide g.assign g.level line k n small, len_with_blanks_line ts at len, low)
+
+-- ---- a line with its sign
+
+pub signed_none : (level : ℕ) (line : Line) → level ≤ max_open → IsSigned (plain_of level) line
+signed_none level line low = record { level = low; plain = refl; known = refl; gap = tt; front = tt; order = λ i e. omega arith }
+
+pub signed_set : (level i own gap : ℕ) (line : Line) → level ≤ max_open → assign_cell line ≡ Some i → own ≡ width i (plain_gaps level line) line → gap ≤ 2 ^ 33
+    → IsSigned (record { level = level; assign = Some (record { place = i; width = own; gap = gap }); comment = None }) line
+signed_set level i own gap line low e w small = record {
+  level = low;
+  plain = refl;
+  known = known_set level i own gap line w;
+  gap = small;
+  front = assign_behind line i e;
+  order = λ j f. assign_before line i j e f;
+}
 
 pub commented_in : (level : ℕ) (assign comment : Option Cell) (i own gap : ℕ) (line : Line) → comment ≡ None
     → gaps_in (record { level = level; assign = assign; comment = Some (record { place = i; width = own; gap = gap }) }) line ≡ slice_set (gaps_in (record { level = level; assign = assign; comment = comment }) line) i gap

@@ -1,5 +1,5 @@
 -- One walk along a line finds what the line is.
-use Rattle.std.proofs.Common.{◌≡◌, ◌∙◌, ◌+◌, ◌-◌, ◌<◌, ◌≤◌, ◌==◌, ◌&&◌, ◌||◌, not, ℕ, suc, zero, Bool, true, false, List, [], ◌∷◌, Option, Some, None, length, ap, ap₂, refl, sym, arith, subst, take, drop, add-one, get_or, drop-cons}
+use Rattle.std.proofs.Common.{◌≡◌, ◌∙◌, ◌+◌, ◌-◌, ◌<◌, ◌≤◌, ◌==◌, ◌^◌, ◌&&◌, ◌||◌, not, ℕ, suc, zero, Bool, true, false, List, [], ◌∷◌, Option, Some, None, length, ap, ap₂, refl, sym, arith, subst, take, drop, add-one, get_or, drop-cons}
 use Rattle.std.specs.Prelude.{if◌then◌else◌, is_some, slice_get, nat_eq}
 use Rattle.std.specs.List.{list_any}
 use Rattle.std.proofs.Math.ListN.{drop_of_length-le}
@@ -294,9 +294,9 @@ running_is a x y e = ap (λ (z : Option ℕ). if a then None else z) e
 abbrev pub facts_of : Survey → LineFacts
 facts_of s = record { len = s.len; depth = s.depth; assign = assign_of s; comment = s.comment; running = running_of s }
 
-pub is_line : (ts : List Lexeme) (at d : ℕ) (t : Lexeme) (s : Survey) → slice_get ts at ≡ Some t → BalancedFrom d (drop at ts) → d ≤ max_open
+pub is_line : (ts : List Lexeme) (at d : ℕ) (t : Lexeme) (s : Survey) → slice_get ts at ≡ Some t → length ts ≤ 2 ^ 22 → BalancedFrom d (drop at ts) → d ≤ max_open
     → s ≡ surveyed (first_noted d t) t (drop (at + 1) ts) → IsLine ts at d (facts_of s)
-is_line ts at d t s e p low q =
+is_line ts at d t s e few p low q =
     let rest : List Lexeme = drop (at + 1) ts in
     let l : Line = tail_of t rest in
     let n : ℕ = length l in
@@ -316,6 +316,7 @@ is_line ts at d t s e p low q =
     record {
       some = omega arith;
       within = omega arith;
+      fits = omega (arith, few);
       cut = ap lines cut ∙ lines_tail rest t ∙ ap₂ (λ (a : Line) (b : List Lexeme). a ∷ lines b) (sym line) (sym behind);
       depth = depth ∙ ap (depth_after d) (sym line);
       low = subst (λ k. k ≤ max_open) (sym depth) (after_low (t ∷ l) d balanced low);

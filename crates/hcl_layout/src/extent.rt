@@ -54,10 +54,11 @@ pub struct Extent {
 #[inline(always)]
 fn len_of(tokens: &Measured<'_, '_>, at: usize, count: usize) -> u64
     requires within { at + count ≤ length tokens.now.tokens }
-    requires small { len_with_blanks tokens.now.tokens ≤ 2 ^ 23 }
     ensures value { result ≡ len_with_blanks (take count (drop at tokens.now.tokens)) }
     ensures small { result ≤ 2 ^ 23 }
 {
+    // so the number of each token and the sum fit
+    let _all = tokens.len();
     let mut len = 0;
     for k in 0..count {
         len += 1 + tokens.get(at + k).text.len() as u64;
@@ -87,7 +88,6 @@ impl CellExtent {
         requires there { (i : ℕ) → cell ≡ Some i → i ≤ len }
         requires some { 0 < len }
         requires indent { indent ≤ 2 * max_open }
-        requires small { len_with_blanks tokens.now.tokens ≤ 2 ^ 23 }
         requires few { IsSmallCell at self }
         ensures value { result ≡ with_cell_of indent (take len (drop at tokens.now.tokens)) cell self }
         ensures few { IsSmallCell (at + len) result }
@@ -95,6 +95,8 @@ impl CellExtent {
         let Some(place) = cell else {
             return self;
         };
+        // so the count of lines fits
+        let _all = tokens.len();
         let width = indent + len_of(tokens, at, place);
         CellExtent {
             count: self.count + 1,
@@ -120,7 +122,6 @@ impl Extent {
     fn with_line(self, tokens: &Measured<'_, '_>, at: usize, depth: u32, line: LineFacts) -> Extent
         requires line { IsLine tokens.now.tokens at depth line }
         requires depth { depth ≤ max_open }
-        requires small { len_with_blanks tokens.now.tokens ≤ 2 ^ 23 }
         requires few { IsSmall at self }
         ensures value { result ≡ with_line_of depth (text_at tokens.now.tokens at line) self }
         ensures few { IsSmall (at + line.len) result }
@@ -153,7 +154,6 @@ impl Extent {
 #[inline(never)]
 fn extent_of(tokens: &Measured<'_, '_>) -> Extent
     requires balanced { BalancedFrom 0 tokens.now.tokens }
-    requires small { len_with_blanks tokens.now.tokens ≤ 2 ^ 23 }
     ensures value { result ≡ with_lines 0 (lines tokens.now.tokens) nothing }
     ensures few { IsSmall (2 ^ 23) result }
 {
@@ -191,7 +191,6 @@ pub fn fits(accepted: &Accepted<'_, '_>, most: u64) -> bool
     ensures { IsTrue result ↔ (length (print accepted.now.tokens) ≤ most) }
 {
     let tokens = Measured::new(accepted);
-    let _source = tokens.source();
     if is_bound_to_fit(&tokens, most) || is_told_to_fit(&tokens, most) {
         return true;
     }

@@ -1,11 +1,11 @@
 //! The gaps of one line, and the widths before its cells.
-ghost use Rattle.std.specs.Prelude.{◌*◌, ◌≡◌, ◌<◌, ◌≤◌, ◌+◌, ◌-◌, ◌^◌, ℕ, true, None, Some, length, take, drop, option_map, slice_get};
+ghost use Rattle.std.specs.Prelude.{◌*◌, ◌≡◌, ◌<◌, ◌≤◌, ◌+◌, ◌-◌, ◌^◌, ℕ, true, None, Some, IfSome, length, take, drop, option_map, slice_get};
 ghost use Rattle.hcl_tokens.specs.Lexemes.{Lexeme};
 ghost use Rattle.hcl_tokens.specs.Scanned.{lexeme};
 ghost use Rattle.hcl_tokens.specs.Balanced.{max_open};
 ghost use Rattle.hcl_layout.specs.Gaps.{indent as indent_of, plain_gaps, width as width_of};
 ghost use Rattle.hcl_layout.specs.Inner.Left.{token_before};
-ghost use Rattle.hcl_layout.specs.Inner.LineGaps.{ArePlain, IsKnown, IsUntold, known_place, known_width, len_with_blanks, cell_gap as cell_gap_of, gap_of, gaps_in, given_or, plain_gap as plain_gap_of, plain_of};
+ghost use Rattle.hcl_layout.specs.Inner.LineGaps.{ArePlain, IsSigned, IsUntold, known_place, known_width, cell_gap as cell_gap_of, gap_of, gaps_in, given_or, plain_gap as plain_gap_of, plain_of};
 
 use crate::measured::Measured;
 use hcl_spacing::{space_by_kinds, space_by_texts};
@@ -224,10 +224,11 @@ pub fn plain_width(
     requires within { at + len ≤ length tokens.now.tokens }
     requires there { place ≤ len }
     requires level { level ≤ max_open }
-    requires small { len_with_blanks tokens.now.tokens < 2 ^ 32 }
     ensures value { result ≡ width_of place (plain_gaps level (take len (drop at tokens.now.tokens))) (take len (drop at tokens.now.tokens)) }
-    ensures small { result ≤ 2 * max_open + len_with_blanks tokens.now.tokens }
+    ensures small { result ≤ 2 ^ 24 }
 {
+    // so the number of each token fits
+    let _count = tokens.len();
     if place == 0 {
         return 0;
     }
@@ -258,14 +259,14 @@ fn known(gaps: LineGaps) -> (usize, u64)
 pub fn width(tokens: &Measured<'_, '_>, at: usize, len: usize, place: usize, gaps: LineGaps) -> u64
     requires within { at + len ≤ length tokens.now.tokens }
     requires there { place ≤ len }
-    requires level { gaps.level ≤ max_open }
-    requires plain { gaps.comment ≡ None }
+    requires signed { IsSigned gaps (take len (drop at tokens.now.tokens)) }
     requires order { known_place gaps.assign ≤ place }
-    requires known { IsKnown gaps (take len (drop at tokens.now.tokens)) }
-    requires small { len_with_blanks tokens.now.tokens < 2 ^ 32 }
-    requires fits { width_of place (gaps_in gaps (take len (drop at tokens.now.tokens))) (take len (drop at tokens.now.tokens)) < 2 ^ 64 }
-    ensures { result ≡ width_of place (gaps_in gaps (take len (drop at tokens.now.tokens))) (take len (drop at tokens.now.tokens)) }
+    ensures value { result ≡ width_of place (gaps_in gaps (take len (drop at tokens.now.tokens))) (take len (drop at tokens.now.tokens)) }
+    ensures narrow { result < 2 ^ 34 }
+    ensures small { (n : ℕ) → IfSome gaps.assign (λ c. c.gap ≤ n) → result ≤ 2 * max_open + 2 ^ 23 + n }
 {
+    // so the number of each token fits
+    let _count = tokens.len();
     let (from, mut sum) = known(gaps);
     for k in from..place {
         let token = tokens.get(at + k);

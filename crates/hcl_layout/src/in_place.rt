@@ -19,7 +19,7 @@ ghost use Rattle.hcl_tokens.specs.Balanced.{IsBalanced};
 ghost use Rattle.hcl_layout.specs.Print.{print};
 ghost use Rattle.hcl_layout.specs.Inner.InPlace.{EndsWell, Enters, GoOn, HoldsBefore, InPlace, Laid, since as since_of};
 ghost use Rattle.hcl_layout.specs.Inner.Left.{bytes_of};
-ghost use Rattle.hcl_layout.specs.Inner.LineGaps.{ArePlain, len_with_blanks};
+ghost use Rattle.hcl_layout.specs.Inner.LineGaps.{ArePlain};
 ghost use Rattle.hcl_layout.specs.Inner.Simple.{IsFrom};
 ghost use Rattle.hcl_layout.specs.Inner.Stream.{HasWidth};
 ghost use Rattle.hcl_layout.specs.Inner.Walks.{Stands};
@@ -27,8 +27,7 @@ ghost use Rattle.hcl_layout.specs.Inner.Walks.{Stands};
 use crate::gap::{Cell, LineGaps, gap_at, gap_behind, next_cell, plain_gap_at};
 use crate::line::line_at;
 use crate::measured::Measured;
-use crate::pieces::{Piece, piece_of};
-use crate::print::goes_on;
+use crate::piece::{Piece, goes_on, piece_of};
 use crate::runs::{Walk, start_walk};
 
 /// The runs at hand: the column of the comments, and the greatest widths passed before the signs and before the comments.
@@ -85,8 +84,9 @@ fn ends_well(column: Option<u64>, greatest: u64, cell: Option<usize>) -> bool
 #[inline(never)]
 fn surplus(tokens: &Measured<'_, '_>, first: usize, place: usize) -> u64
     requires there { first + place ≤ length tokens.now.tokens }
-    requires few { len_with_blanks tokens.now.tokens < 2 ^ 32 }
 {
+    // so the sum of a place and its line's number fits
+    let _count = tokens.len();
     let mut bytes: u64 = 0;
     let mut columns: u64 = 0;
     for k in 0..place {
@@ -105,11 +105,9 @@ fn entered(
     column: Option<u64>,
     first: usize,
     cell: Option<usize>,
-    at: usize,
+    offset: usize,
 ) -> Option<u64>
-    requires small { length tokens.now.text < 2 ^ 32 }
     requires there { (i : ℕ) → cell ≡ Some i → first + i < length tokens.now.tokens }
-    requires few { len_with_blanks tokens.now.tokens < 2 ^ 32 }
     ensures enters { Enters column cell result }
     ensures fits { column ≡ None → IfSome result (λ c. c < 2 ^ 32) }
 {
@@ -119,8 +117,10 @@ fn entered(
     let Some(place) = cell else {
         return None;
     };
+    // so the token's number fits
+    let _count = tokens.len();
     let token = tokens.get(first + place);
-    let bytes = token.start.saturating_sub(at).saturating_sub(1) as u64;
+    let bytes = token.start.saturating_sub(offset).saturating_sub(1) as u64;
     if tokens.is_simple() {
         return Some(bytes);
     }
@@ -135,20 +135,18 @@ fn enter(
     runs: &mut Runs,
     tokens: &Measured<'_, '_>,
     first: usize,
-    at: usize,
+    offset: usize,
 ) -> Option<LaidLine>
     requires within { first < length tokens.now.tokens }
     requires stands { Stands tokens.now.tokens first walk.old.depth walk.old.levels }
     requires fits { IfSome walk.old.column (λ c. c < 2 ^ 33) }
     requires narrow { IfSome runs.old.column (λ c. c < 2 ^ 34) }
-    requires small { len_with_blanks tokens.now.tokens < 2 ^ 32 }
-    requires short { length tokens.now.text < 2 ^ 32 }
     ensures laid { IfSome result (λ line. Laid tokens.now.tokens line) }
     ensures first { IfSome result (λ line. line.first ≡ first) }
     ensures stands { IfSome result (λ line. Stands tokens.now.tokens line.end walk.new.depth walk.new.levels) }
     ensures fits { IfSome result (λ line. IfSome walk.new.column (λ c. c < 2 ^ 33)) }
     ensures narrow { IfSome result (λ line. IfSome runs.new.column (λ c. c < 2 ^ 34)) }
-    ensures step { IfSome result (λ line. HoldsBefore tokens.now.tokens tokens.now.text line first at walk.old runs.old walk.new runs.new) }
+    ensures step { IfSome result (λ line. HoldsBefore tokens.now.tokens tokens.now.text line first offset walk.old runs.old walk.new runs.new) }
 {
     let line = line_at(tokens, first, walk.depth);
     if !ends_well(walk.column, runs.assign, line.assign) {
@@ -159,8 +157,8 @@ fn enter(
     }
     let assign = since(walk.column, runs.assign);
     let comment = since(runs.column, runs.comment);
-    walk.column = entered(tokens, walk.column, first, line.assign, at);
-    let before = entered(tokens, runs.column, first, line.running, at);
+    walk.column = entered(tokens, walk.column, first, line.assign, offset);
+    let before = entered(tokens, runs.column, first, line.running, offset);
     let (gaps, column) = walk.pass_commented(before, tokens, first, line);
     runs.column = column;
     runs.assign = widened(assign, gaps.assign);
@@ -174,15 +172,15 @@ fn enter(
 
 /// Where a piece ends that goes on from a byte offset of the source.
 #[inline(always)]
-fn end_of(source: &[u8], from: usize, piece: Piece<'_>) -> Option<usize>
-    requires within { from ≤ length source.now }
+fn end_of(source: &[u8], offset: usize, piece: Piece<'_>) -> Option<usize>
+    requires within { offset ≤ length source.now }
     requires source { IsFrom source.now piece.start piece.text.now }
     requires gap { piece.gap ≤ 2 ^ 34 }
     requires small { length source.now < 2 ^ 32 }
     ensures within { IfSome result (λ end. end ≤ length source.now) }
-    ensures goes { IfSome result (λ end. drop from source.now ≡ bytes_of piece.entry ++ drop end source.now) }
+    ensures goes { IfSome result (λ end. drop offset source.now ≡ bytes_of piece.entry ++ drop end source.now) }
 {
-    if !goes_on(source, from, piece) {
+    if !goes_on(source, offset, piece) {
         return None;
     }
     Some(piece.start + piece.text.len())
@@ -190,69 +188,69 @@ fn end_of(source: &[u8], from: usize, piece: Piece<'_>) -> Option<usize>
 
 /// Where the first piece of a line ends, if it goes on from a byte offset of the source.
 #[inline(always)]
-fn first_end(tokens: &Measured<'_, '_>, source: &[u8], line: LaidLine, from: usize) -> Option<usize>
+fn first_end(
+    tokens: &Measured<'_, '_>,
+    source: &[u8],
+    line: LaidLine,
+    offset: usize,
+) -> Option<usize>
     requires laid { Laid tokens.now.tokens line }
     requires source { source.now ≡ tokens.now.text }
-    requires within { from ≤ length source.now }
-    requires small { len_with_blanks tokens.now.tokens < 2 ^ 32 }
-    requires short { length tokens.now.text < 2 ^ 32 }
+    requires within { offset ≤ length source.now }
     ensures within { IfSome result (λ end. end ≤ length source.now) }
-    ensures left { IfSome result (λ end. GoOn tokens.now.tokens tokens.now.text line line.first from (line.first + 1) end) }
+    ensures left { IfSome result (λ end. GoOn tokens.now.tokens tokens.now.text line line.first offset (line.first + 1) end) }
 {
     let token = tokens.get(line.first);
     let gap = plain_gap_at(tokens, line.gaps.level, line.first, line.first, token);
-    end_of(source, from, piece_of(token, gap))
+    end_of(source, offset, piece_of(token, gap))
 }
 
-/// Where a piece after the first of a line ends that is no cell, if it goes on from a byte offset of the source.
+/// Where the piece of a token after the first of a line ends that is no cell, if it goes on from a byte offset of the
+/// source.
 #[inline(always)]
 fn plain_end(
     tokens: &Measured<'_, '_>,
     source: &[u8],
     line: LaidLine,
-    at: usize,
-    from: usize,
+    number: usize,
+    offset: usize,
 ) -> Option<usize>
     requires laid { Laid tokens.now.tokens line }
-    requires behind { line.first < at }
-    requires there { at < line.end }
-    requires plain { ArePlain line.gaps (at - line.first) (at + 1 - line.first) }
+    requires behind { line.first < number }
+    requires there { number < line.end }
+    requires plain { ArePlain line.gaps (number - line.first) (number + 1 - line.first) }
     requires source { source.now ≡ tokens.now.text }
-    requires within { from ≤ length source.now }
-    requires small { len_with_blanks tokens.now.tokens < 2 ^ 32 }
-    requires short { length tokens.now.text < 2 ^ 32 }
+    requires within { offset ≤ length source.now }
     ensures within { IfSome result (λ end. end ≤ length source.now) }
-    ensures left { IfSome result (λ end. GoOn tokens.now.tokens tokens.now.text line at from (at + 1) end) }
+    ensures left { IfSome result (λ end. GoOn tokens.now.tokens tokens.now.text line number offset (number + 1) end) }
 {
-    let token = tokens.get(at);
-    let gap = gap_behind(tokens, line.first, at, token);
-    end_of(source, from, piece_of(token, gap))
+    let token = tokens.get(number);
+    let gap = gap_behind(tokens, line.first, number, token);
+    end_of(source, offset, piece_of(token, gap))
 }
 
-/// Where the cell at a place of a line ends, if it goes on from a byte offset of the source.
+/// Where the piece of a token of a line ends that may be a cell, if it goes on from a byte offset of the source.
 #[inline(always)]
 fn cell_end(
     tokens: &Measured<'_, '_>,
     source: &[u8],
     line: LaidLine,
-    at: usize,
-    from: usize,
+    number: usize,
+    offset: usize,
 ) -> Option<usize>
     requires laid { Laid tokens.now.tokens line }
-    requires order { line.first ≤ at }
-    requires there { at < line.end }
+    requires order { line.first ≤ number }
+    requires there { number < line.end }
     requires source { source.now ≡ tokens.now.text }
-    requires within { from ≤ length source.now }
-    requires small { len_with_blanks tokens.now.tokens < 2 ^ 32 }
-    requires short { length tokens.now.text < 2 ^ 32 }
+    requires within { offset ≤ length source.now }
     ensures within { IfSome result (λ end. end ≤ length source.now) }
-    ensures left { IfSome result (λ end. GoOn tokens.now.tokens tokens.now.text line at from (at + 1) end) }
+    ensures left { IfSome result (λ end. GoOn tokens.now.tokens tokens.now.text line number offset (number + 1) end) }
 {
-    let gap = gap_at(tokens, line.gaps, line.first, at);
-    end_of(source, from, piece_of(tokens.get(at), gap))
+    let gap = gap_at(tokens, line.gaps, line.first, number);
+    end_of(source, offset, piece_of(tokens.get(number), gap))
 }
 
-/// Where the last of the pieces from one place to another ends, which are no cells, if each goes on from a byte offset of
+/// Where the last of the pieces from one token to another ends, which are no cells, if they go on from a byte offset of
 /// the source.
 #[inline(always)]
 fn plain_ends(
@@ -261,7 +259,7 @@ fn plain_ends(
     line: LaidLine,
     next: usize,
     stop: usize,
-    from: usize,
+    offset: usize,
 ) -> Option<usize>
     requires laid { Laid tokens.now.tokens line }
     requires behind { line.first < next }
@@ -269,58 +267,59 @@ fn plain_ends(
     requires there { stop ≤ line.end }
     requires plain { ArePlain line.gaps (next - line.first) (stop - line.first) }
     requires source { source.now ≡ tokens.now.text }
-    requires within { from ≤ length source.now }
-    requires small { len_with_blanks tokens.now.tokens < 2 ^ 32 }
-    requires short { length tokens.now.text < 2 ^ 32 }
+    requires within { offset ≤ length source.now }
     ensures within { IfSome result (λ end. end ≤ length source.now) }
-    ensures left { IfSome result (λ end. GoOn tokens.now.tokens tokens.now.text line next from stop end) }
+    ensures left { IfSome result (λ end. GoOn tokens.now.tokens tokens.now.text line next offset stop end) }
 {
-    let mut at = next;
-    let mut end = from;
-    while at < stop {
-        let Some(behind) = plain_end(tokens, source, line, at, end) else {
+    let mut number = next;
+    let mut reached = offset;
+    while number < stop {
+        let Some(end) = plain_end(tokens, source, line, number, reached) else {
             return None;
         };
-        end = behind;
-        at += 1;
+        reached = end;
+        number += 1;
     }
-    Some(end)
+    Some(reached)
 }
 
-/// The place of the next cell of a line after a token of it, or the line's end.
+/// The number of the next cell of a line after a token of it, or of the token after the line.
 #[inline(always)]
-pub fn cell_behind(line: LaidLine, at: usize) -> usize
-    requires order { line.first ≤ at }
-    requires there { at < line.end }
-    ensures on { at < result }
+pub fn cell_behind(line: LaidLine, number: usize) -> usize
+    requires order { line.first ≤ number }
+    requires there { number < line.end }
+    ensures on { number < result }
     ensures within { result ≤ line.end }
-    ensures plain { ArePlain line.gaps (at + 1 - line.first) (result - line.first) }
+    ensures plain { ArePlain line.gaps (number + 1 - line.first) (result - line.first) }
 {
-    let place = next_cell(line.gaps, at - line.first, line.end - line.first);
-    (line.first + place).max(at + 1)
+    let place = next_cell(line.gaps, number - line.first, line.end - line.first);
+    (line.first + place).max(number + 1)
 }
 
 /// Where a line ends, if each of its pieces goes on from a byte offset of the source.
 #[inline(always)]
-fn line_end(tokens: &Measured<'_, '_>, source: &[u8], line: LaidLine, from: usize) -> Option<usize>
+fn line_end(
+    tokens: &Measured<'_, '_>,
+    source: &[u8],
+    line: LaidLine,
+    offset: usize,
+) -> Option<usize>
     requires laid { Laid tokens.now.tokens line }
     requires source { source.now ≡ tokens.now.text }
-    requires within { from ≤ length source.now }
-    requires small { len_with_blanks tokens.now.tokens < 2 ^ 32 }
-    requires short { length tokens.now.text < 2 ^ 32 }
+    requires within { offset ≤ length source.now }
     ensures within { IfSome result (λ end. end ≤ length source.now) }
-    ensures left { IfSome result (λ end. GoOn tokens.now.tokens tokens.now.text line line.first from line.end end) }
+    ensures left { IfSome result (λ end. GoOn tokens.now.tokens tokens.now.text line line.first offset line.end end) }
 {
-    let Some(end) = first_end(tokens, source, line, from) else {
+    let Some(end) = first_end(tokens, source, line, offset) else {
         return None;
     };
     let mut cell = cell_behind(line, line.first);
     let Some(end) = plain_ends(tokens, source, line, line.first + 1, cell, end) else {
         return None;
     };
-    let mut at = end;
+    let mut reached = end;
     while cell < line.end {
-        let Some(end) = cell_end(tokens, source, line, cell, at) else {
+        let Some(end) = cell_end(tokens, source, line, cell, reached) else {
             return None;
         };
         let next = cell + 1;
@@ -328,9 +327,9 @@ fn line_end(tokens: &Measured<'_, '_>, source: &[u8], line: LaidLine, from: usiz
         let Some(end) = plain_ends(tokens, source, line, next, cell, end) else {
             return None;
         };
-        at = end;
+        reached = end;
     }
-    Some(at)
+    Some(reached)
 }
 
 /// Passes the next line, and gives the number of the token after it and where it ends, if each of its pieces goes on from a
@@ -342,28 +341,26 @@ fn pass_line(
     tokens: &Measured<'_, '_>,
     source: &[u8],
     first: usize,
-    from: usize,
+    offset: usize,
 ) -> Option<(usize, usize)>
     requires some { first < length tokens.now.tokens }
     requires stands { Stands tokens.now.tokens first walk.old.depth walk.old.levels }
     requires fits { IfSome walk.old.column (λ c. c < 2 ^ 33) }
     requires narrow { IfSome runs.old.column (λ c. c < 2 ^ 34) }
     requires source { source.now ≡ tokens.now.text }
-    requires within { from ≤ length source.now }
-    requires small { len_with_blanks tokens.now.tokens < 2 ^ 32 }
-    requires short { length tokens.now.text < 2 ^ 32 }
+    requires within { offset ≤ length source.now }
     ensures on { IfSome result (λ p. first < p.0) }
     ensures tokens { IfSome result (λ p. p.0 ≤ length tokens.now.tokens) }
     ensures stands { IfSome result (λ p. Stands tokens.now.tokens p.0 walk.new.depth walk.new.levels) }
     ensures fits { IfSome result (λ p. IfSome walk.new.column (λ c. c < 2 ^ 33)) }
     ensures narrow { IfSome result (λ p. IfSome runs.new.column (λ c. c < 2 ^ 34)) }
     ensures within { IfSome result (λ p. p.1 ≤ length source.now) }
-    ensures step { IfSome result (λ p. InPlace tokens.now.tokens tokens.now.text walk.new runs.new p.0 p.1 → InPlace tokens.now.tokens tokens.now.text walk.old runs.old first from) }
+    ensures step { IfSome result (λ p. InPlace tokens.now.tokens tokens.now.text walk.new runs.new p.0 p.1 → InPlace tokens.now.tokens tokens.now.text walk.old runs.old first offset) }
 {
-    let Some(line) = enter(walk, runs, tokens, first, from) else {
+    let Some(line) = enter(walk, runs, tokens, first, offset) else {
         return None;
     };
-    let Some(end) = line_end(tokens, source, line, from) else {
+    let Some(end) = line_end(tokens, source, line, offset) else {
         return None;
     };
     Some((line.end, end))
@@ -394,13 +391,14 @@ pub fn stands_in_place(tokens: &Measured<'_, '_>) -> bool
         comment: 0,
     };
     let mut next = 0;
-    let mut at = 0;
+    let mut offset = 0;
     while next < count {
-        let Some((first, end)) = pass_line(&mut walk, &mut runs, tokens, source, next, at) else {
+        let Some((after, end)) = pass_line(&mut walk, &mut runs, tokens, source, next, offset)
+        else {
             return false;
         };
-        next = first;
-        at = end;
+        next = after;
+        offset = end;
     }
-    at == source.len() && end_well(walk.column, runs)
+    offset == source.len() && end_well(walk.column, runs)
 }

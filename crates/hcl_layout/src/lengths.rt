@@ -14,10 +14,10 @@
 ghost use Rattle.std.specs.Prelude.{◌≡◌, ◌↔◌, ◌<◌, ◌≤◌, ◌+◌, ◌-◌, ◌*◌, ◌^◌, ℕ, IfSome, IsTrue, None, Some, length, option_map, take, drop};
 ghost use Rattle.hcl_tokens.specs.Balanced.{max_open};
 ghost use Rattle.hcl_layout.specs.Cells.{assign_cell, running_comment, trailing_comment};
-ghost use Rattle.hcl_layout.specs.Gaps.{align, plain_gaps, width as width_of};
+ghost use Rattle.hcl_layout.specs.Gaps.{align, plain_gaps};
 ghost use Rattle.hcl_layout.specs.Inner.Depths.{BalancedFrom};
 ghost use Rattle.hcl_layout.specs.Inner.InPlace.{Laid};
-ghost use Rattle.hcl_layout.specs.Inner.LineGaps.{ArePlain, IsKnown, gaps_in, known_place, len_with_blanks};
+ghost use Rattle.hcl_layout.specs.Inner.LineGaps.{ArePlain, IsSigned, gaps_in, kept_width, width_to};
 ghost use Rattle.hcl_layout.specs.Inner.Padding.{Adds, texts, total};
 ghost use Rattle.hcl_layout.specs.Inner.Survey.{IsLine, text_at};
 ghost use Rattle.hcl_layout.specs.Print.{print};
@@ -38,7 +38,6 @@ const MOST_BLANKS: u64 = 1 << 32;
 #[inline(always)]
 fn first_len(tokens: &Measured<'_, '_>, line: LaidLine) -> u64
     requires laid { Laid tokens.now.tokens line }
-    requires small { len_with_blanks tokens.now.tokens ≤ 2 ^ 23 }
     ensures adds { Adds tokens.now.tokens line line.first (line.first + 1) result }
     ensures small { result ≤ 2 ^ 35 }
 {
@@ -54,7 +53,6 @@ fn plain_len(tokens: &Measured<'_, '_>, line: LaidLine, at: usize) -> u64
     requires behind { line.first < at }
     requires there { at < line.end }
     requires plain { ArePlain line.gaps (at - line.first) (at + 1 - line.first) }
-    requires small { len_with_blanks tokens.now.tokens ≤ 2 ^ 23 }
     ensures adds { Adds tokens.now.tokens line at (at + 1) result }
     ensures small { result ≤ 2 ^ 35 }
 {
@@ -68,7 +66,6 @@ fn cell_len(tokens: &Measured<'_, '_>, line: LaidLine, at: usize) -> u64
     requires laid { Laid tokens.now.tokens line }
     requires order { line.first ≤ at }
     requires there { at < line.end }
-    requires small { len_with_blanks tokens.now.tokens ≤ 2 ^ 23 }
     ensures adds { Adds tokens.now.tokens line at (at + 1) result }
     ensures small { result ≤ 2 ^ 35 }
 {
@@ -84,10 +81,11 @@ fn plain_lens(tokens: &Measured<'_, '_>, line: LaidLine, next: usize, stop: usiz
     requires order { next ≤ stop }
     requires there { stop ≤ line.end }
     requires plain { ArePlain line.gaps (next - line.first) (stop - line.first) }
-    requires small { len_with_blanks tokens.now.tokens ≤ 2 ^ 23 }
     ensures adds { Adds tokens.now.tokens line next stop result }
     ensures small { result ≤ (stop - next) * 2 ^ 35 }
 {
+    // so the sum fits
+    let _count = tokens.len();
     let mut at = next;
     let mut len = 0;
     while at < stop {
@@ -101,10 +99,11 @@ fn plain_lens(tokens: &Measured<'_, '_>, line: LaidLine, next: usize, stop: usiz
 #[inline(always)]
 fn line_len(tokens: &Measured<'_, '_>, line: LaidLine) -> u64
     requires laid { Laid tokens.now.tokens line }
-    requires small { len_with_blanks tokens.now.tokens ≤ 2 ^ 23 }
     ensures adds { Adds tokens.now.tokens line line.first line.end result }
     ensures small { result ≤ (line.end - line.first) * 2 ^ 35 }
 {
+    // so the sum fits
+    let _count = tokens.len();
     let mut cell = cell_behind(line, line.first);
     let front = first_len(tokens, line);
     let mut len = front + plain_lens(tokens, line, line.first + 1, cell);
@@ -122,17 +121,12 @@ fn signed_line(tokens: &Measured<'_, '_>, at: usize, line: LineFacts, level: u32
     requires within { at + line.len ≤ length tokens.now.tokens }
     requires cell { line.assign ≡ assign_cell (text_at tokens.now.tokens at line) }
     requires level { level ≤ max_open }
-    requires small { len_with_blanks tokens.now.tokens ≤ 2 ^ 23 }
-    ensures gaps { gaps_in result (text_at tokens.now.tokens at line) ≡ align assign_cell (plain_gaps level (text_at tokens.now.tokens at line)) (text_at tokens.now.tokens at line) None }
+    ensures gaps { let text = text_at tokens.now.tokens at line in gaps_in result text ≡ align assign_cell (plain_gaps level text) text None }
     ensures level { result.level ≡ level }
-    ensures plain { result.comment ≡ None }
-    ensures known { IsKnown result (text_at tokens.now.tokens at line) }
-    ensures width { option_map (λ c. c.width) result.assign ≡ option_map (λ i. width_of i (plain_gaps level (text_at tokens.now.tokens at line)) (text_at tokens.now.tokens at line)) (assign_cell (text_at tokens.now.tokens at line)) }
+    ensures signed { IsSigned result (text_at tokens.now.tokens at line) }
+    ensures one { IfSome result.assign (λ c. c.gap ≤ 1) }
+    ensures width { let text = text_at tokens.now.tokens at line in kept_width result.assign ≡ width_to assign_cell (plain_gaps level text) text }
     ensures narrow { IfSome result.assign (λ c. c.width ≤ 2 ^ 24) }
-    ensures assign { IfSome result.assign (λ c. c.gap ≤ 2 ^ 33) }
-    ensures sign_behind { IfSome result.assign (λ c. 0 < c.place) }
-    ensures order { (i : ℕ) → trailing_comment (text_at tokens.now.tokens at line) ≡ Some i → known_place result.assign ≤ i }
-    ensures fits { (k : ℕ) → width_of k (gaps_in result (text_at tokens.now.tokens at line)) (text_at tokens.now.tokens at line) ≤ 2 ^ 24 }
 {
     let Some(place) = line.assign else {
         return plain_line(level);
@@ -154,18 +148,14 @@ fn signed_line(tokens: &Measured<'_, '_>, at: usize, line: LineFacts, level: u32
 fn apart_line(tokens: &Measured<'_, '_>, at: usize, line: LineFacts, gaps: LineGaps) -> LineGaps
     requires within { at + line.len ≤ length tokens.now.tokens }
     requires cell { line.comment ≡ trailing_comment (text_at tokens.now.tokens at line) }
-    requires level { gaps.level ≤ max_open }
-    requires plain { gaps.comment ≡ None }
-    requires known { IsKnown gaps (text_at tokens.now.tokens at line) }
-    requires order { (i : ℕ) → trailing_comment (text_at tokens.now.tokens at line) ≡ Some i → known_place gaps.assign ≤ i }
-    requires small { len_with_blanks tokens.now.tokens ≤ 2 ^ 23 }
-    requires fits { (k : ℕ) → width_of k (gaps_in gaps (text_at tokens.now.tokens at line)) (text_at tokens.now.tokens at line) ≤ 2 ^ 24 }
-    ensures gaps { gaps_in result (text_at tokens.now.tokens at line) ≡ align trailing_comment (gaps_in gaps (text_at tokens.now.tokens at line)) (text_at tokens.now.tokens at line) None }
+    requires signed { IsSigned gaps (text_at tokens.now.tokens at line) }
+    requires one { IfSome gaps.assign (λ c. c.gap ≤ 1) }
+    ensures gaps { let text = text_at tokens.now.tokens at line in gaps_in result text ≡ align trailing_comment (gaps_in gaps text) text None }
     ensures level { result.level ≡ gaps.level }
     ensures assign { result.assign ≡ gaps.assign }
     ensures comment { IfSome result.comment (λ c. c.gap ≤ 2 ^ 34) }
     ensures comment_behind { IfSome result.comment (λ c. 0 < c.place) }
-    ensures width { option_map (λ c. c.width) result.comment ≡ option_map (λ i. width_of i (gaps_in gaps (text_at tokens.now.tokens at line)) (text_at tokens.now.tokens at line)) (trailing_comment (text_at tokens.now.tokens at line)) }
+    ensures width { let text = text_at tokens.now.tokens at line in kept_width result.comment ≡ width_to trailing_comment (gaps_in gaps text) text }
     ensures narrow { IfSome result.comment (λ c. c.width ≤ 2 ^ 24) }
 {
     let Some(place) = line.comment else {
@@ -205,7 +195,6 @@ fn running_width(line: LineFacts, gaps: LineGaps) -> Option<u64>
 #[inline(never)]
 pub fn is_told_to_fit(tokens: &Measured<'_, '_>, most: u64) -> bool
     requires balanced { BalancedFrom 0 tokens.now.tokens }
-    requires small { len_with_blanks tokens.now.tokens ≤ 2 ^ 23 }
     ensures { IsTrue result → length (print tokens.now.tokens) ≤ most }
 {
     let count = tokens.len();

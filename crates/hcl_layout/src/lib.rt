@@ -29,6 +29,7 @@ mod levels;
 mod line;
 mod measured;
 mod padding;
+mod piece;
 mod pieces;
 mod print;
 mod runs;

@@ -390,6 +390,8 @@ pub fn line_at(tokens: &Measured<'_, '_>, at: usize, depth: u32) -> LineFacts
     requires fits { depth ≤ max_open }
     ensures { IsLine tokens.now.tokens at depth result }
 {
+    // so the number of the token after the line fits
+    let _count = tokens.len();
     let line = read_line(tokens, at, depth);
     LineFacts {
         len: line.len,

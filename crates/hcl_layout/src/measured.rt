@@ -6,6 +6,7 @@ ghost use Rattle.unicode_segmentation.specs.Grapheme.{graphemes};
 ghost use Rattle.hcl_tokens.specs.Lexemes.{Lexeme};
 ghost use Rattle.hcl_tokens.specs.Scanned.{lexeme};
 ghost use Rattle.hcl_tokens.specs.Balanced.{IsBalanced};
+ghost use Rattle.hcl_layout.specs.Inner.Bounds.{IsBounded};
 ghost use Rattle.hcl_layout.specs.Inner.Simple.{IsFrom, are_alone, is_alone as is_alone_of, is_simple as is_simple_of, is_simple_byte};
 ghost use Rattle.hcl_layout.specs.Inner.LineGaps.{len_with_blanks};
 
@@ -25,13 +26,14 @@ pub struct Measured<'t, 's> {
 impl<'t, 's> Model for Measured<'t, 's> {
     ghost use Rattle.std.specs.Prelude.{◌≡◌, true};
     ghost use Rattle.hcl_tokens.specs.Scanned.{Scanned};
+    ghost use Rattle.hcl_layout.specs.Inner.Bounds.{IsBounded};
     ghost use Rattle.hcl_layout.specs.Inner.Simple.{is_simple};
 
     ghost Value = { Scanned };
 
     ghost view = { λ m. m.tokens.now };
 
-    ghost invariant = { λ m. m.simple ≡ true → is_simple m.tokens.now.text ≡ true };
+    ghost invariant = { λ m. (m.simple ≡ true → is_simple m.tokens.now.text ≡ true) × IsBounded m.tokens.now };
 }
 
 /// Whether the bytes are ASCII without CR, so that each is a grapheme cluster. All of them are looked at, whatever the
@@ -156,6 +158,8 @@ impl<'t, 's> Measured<'t, 's> {
         ensures balanced { IsBalanced accepted.now.tokens }
     {
         let tokens = accepted.tokens();
+        // its contract says that there are no more tokens than bytes
+        let _count = tokens.len();
         let simple = is_simple(tokens.source().text().as_bytes());
         Measured { tokens, simple }
     }
@@ -164,12 +168,8 @@ impl<'t, 's> Measured<'t, 's> {
     /// the print.
     pub fn source(&self) -> &'s [u8]
         ensures text { result.now ≡ self.now.text }
-        ensures short { length result.now < 2 ^ 32 }
-        ensures few { length self.now.tokens ≤ 2 ^ 22 }
-        ensures small { len_with_blanks self.now.tokens ≤ 2 ^ 23 }
+        ensures bounded { IsBounded self.now }
     {
-        // its contract says that there are no more tokens than bytes
-        let _count = self.tokens.len();
         self.tokens.source().text().as_bytes()
     }
 
@@ -193,7 +193,8 @@ impl<'t, 's> Measured<'t, 's> {
     /// How many tokens there are.
     #[inline(always)]
     pub fn len(&self) -> usize
-        ensures { result ≡ length self.now.tokens }
+        ensures len { result ≡ length self.now.tokens }
+        ensures bounded { IsBounded self.now }
     {
         self.tokens.len()
     }
@@ -204,6 +205,7 @@ impl<'t, 's> Measured<'t, 's> {
         requires { i < length self.now.tokens }
         ensures token { slice_get self.now.tokens i ≡ Some (lexeme result) }
         ensures source { IsFrom self.now.text result.start result.text.now }
+        ensures bounded { IsBounded self.now }
     {
         self.tokens.get(i)
     }

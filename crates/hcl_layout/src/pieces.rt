@@ -13,15 +13,14 @@ ghost use Rattle.std.specs.Prelude.{◌≡◌, ◌<◌, ◌≤◌, ◌+◌, ◌*
 ghost use Rattle.hcl_tokens.specs.Lexemes.{Lexeme};
 ghost use Rattle.hcl_layout.specs.Inner.Depths.{BalancedFrom};
 ghost use Rattle.hcl_layout.specs.Inner.Left.{Ready, bytes_of, gaps_left, rest_gaps, to_print};
-ghost use Rattle.hcl_layout.specs.Inner.LineGaps.{len_with_blanks};
 ghost use Rattle.hcl_layout.specs.Inner.Simple.{IsFrom};
 ghost use Rattle.hcl_layout.specs.Print.{print};
 
 use crate::gap::{LineGaps, first_cell, gap_at, gap_behind, indent, next_cell, plain_line};
 use crate::line::line_at;
 use crate::measured::Measured;
+use crate::piece::{Piece, piece_of};
 use crate::runs::{Walk, start_walk};
-use hcl_tokens::Token;
 
 /// Where the next piece stands: the number of its token, where its line begins and ends, the
 /// line's gaps, and what is known of the lines up to its end.
@@ -35,14 +34,6 @@ pub struct Pieces {
     pub gaps: LineGaps,
     pub walk: Walk,
     pub comment: Option<u64>,
-}
-
-/// A token's text, which begins at a byte offset of the source, and so many blanks before it.
-#[derive(Clone, Copy)]
-pub struct Piece<'s> {
-    pub gap: u64,
-    pub text: &'s str,
-    pub start: usize,
 }
 
 /// Before the first token.
@@ -68,7 +59,6 @@ fn enter_line(pieces: &mut Pieces, tokens: &Measured<'_, '_>)
     requires ready { Ready tokens.now.tokens pieces.old }
     requires done { pieces.old.next ≡ pieces.old.end }
     requires within { pieces.old.end < length tokens.now.tokens }
-    requires small { len_with_blanks tokens.now.tokens < 2 ^ 32 }
     ensures ready { Ready tokens.now.tokens pieces.new }
     ensures left { gaps_left tokens.now.tokens pieces.new ≡ rest_gaps tokens.now.tokens pieces.old }
     ensures same { pieces.new.next ≡ pieces.old.next }
@@ -95,7 +85,6 @@ fn pass_front(pieces: &mut Pieces, tokens: &Measured<'_, '_>) -> u64
     requires front { pieces.old.start ≡ pieces.old.next }
     requires assign { IfSome pieces.old.gaps.assign (λ c. 0 < c.place) }
     requires comment { IfSome pieces.old.gaps.comment (λ c. 0 < c.place) }
-    requires small { len_with_blanks tokens.now.tokens < 2 ^ 32 }
     ensures ready { Ready tokens.now.tokens pieces.new }
     ensures left { (t : Lexeme) → slice_get tokens.now.tokens pieces.old.next ≡ Some t → to_print tokens.now.tokens pieces.old ≡ (replicate result 32 ++ t.text) ++ to_print tokens.now.tokens pieces.new }
     ensures next { pieces.new.next ≡ pieces.old.next + 1 }
@@ -113,7 +102,6 @@ fn pass_front(pieces: &mut Pieces, tokens: &Measured<'_, '_>) -> u64
 fn pass_piece(pieces: &mut Pieces, tokens: &Measured<'_, '_>) -> u64
     requires ready { Ready tokens.now.tokens pieces.old }
     requires some { pieces.old.next < pieces.old.end }
-    requires small { len_with_blanks tokens.now.tokens < 2 ^ 32 }
     ensures ready { Ready tokens.now.tokens pieces.new }
     ensures left { (t : Lexeme) → slice_get tokens.now.tokens pieces.old.next ≡ Some t → to_print tokens.now.tokens pieces.old ≡ (replicate result 32 ++ t.text) ++ to_print tokens.now.tokens pieces.new }
     ensures next { pieces.new.next ≡ pieces.old.next + 1 }
@@ -131,7 +119,6 @@ fn pass_piece(pieces: &mut Pieces, tokens: &Measured<'_, '_>) -> u64
 fn pass_cell(pieces: &mut Pieces, tokens: &Measured<'_, '_>) -> u64
     requires ready { Ready tokens.now.tokens pieces.old }
     requires some { pieces.old.next < pieces.old.end }
-    requires small { len_with_blanks tokens.now.tokens < 2 ^ 32 }
     ensures ready { Ready tokens.now.tokens pieces.new }
     ensures left { (t : Lexeme) → slice_get tokens.now.tokens pieces.old.next ≡ Some t → to_print tokens.now.tokens pieces.old ≡ (replicate result 32 ++ t.text) ++ to_print tokens.now.tokens pieces.new }
     ensures next { pieces.new.next ≡ pieces.old.next + 1 }
@@ -146,7 +133,6 @@ fn pass_first(pieces: &mut Pieces, tokens: &Measured<'_, '_>) -> u64
     requires ready { Ready tokens.now.tokens pieces.old }
     requires done { pieces.old.next ≡ pieces.old.end }
     requires within { pieces.old.end < length tokens.now.tokens }
-    requires small { len_with_blanks tokens.now.tokens < 2 ^ 32 }
     ensures ready { Ready tokens.now.tokens pieces.new }
     ensures left { (t : Lexeme) → slice_get tokens.now.tokens pieces.old.next ≡ Some t → to_print tokens.now.tokens pieces.old ≡ (replicate result 32 ++ t.text) ++ to_print tokens.now.tokens pieces.new }
     ensures next { pieces.new.next ≡ pieces.old.next + 1 }
@@ -156,27 +142,11 @@ fn pass_first(pieces: &mut Pieces, tokens: &Measured<'_, '_>) -> u64
     pass_front(pieces, tokens)
 }
 
-/// The piece of a token that was passed. The calls that pass one give its gap alone, since they would give a piece by way
-/// of the memory.
-#[inline(always)]
-pub fn piece_of(token: Token<'_>, gap: u64) -> Piece<'_>
-    ensures gap { result.gap ≡ gap }
-    ensures text { result.text.now ≡ token.entry.text.now }
-    ensures start { result.start ≡ token.entry.start }
-{
-    Piece {
-        gap,
-        text: token.text,
-        start: token.start,
-    }
-}
-
 /// The piece at hand, which is no cell and not the first of its line, as most are.
 #[inline(always)]
 fn take_plain_piece<'s>(pieces: &mut Pieces, tokens: &Measured<'_, 's>) -> Piece<'s>
     requires ready { Ready tokens.now.tokens pieces.old }
     requires some { pieces.old.next < pieces.old.stop }
-    requires small { len_with_blanks tokens.now.tokens < 2 ^ 32 }
     ensures ready { Ready tokens.now.tokens pieces.new }
     ensures left { to_print tokens.now.tokens pieces.old ≡ bytes_of result ++ to_print tokens.now.tokens pieces.new }
     ensures next { pieces.new.next ≡ pieces.old.next + 1 }
@@ -199,7 +169,6 @@ fn take_plain_piece<'s>(pieces: &mut Pieces, tokens: &Measured<'_, 's>) -> Piece
 #[inline(always)]
 pub fn next_piece<'s>(pieces: &mut Pieces, tokens: &Measured<'_, 's>) -> Option<Piece<'s>>
     requires ready { Ready tokens.now.tokens pieces.old }
-    requires small { len_with_blanks tokens.now.tokens < 2 ^ 32 }
     ensures ready { Ready tokens.now.tokens pieces.new }
     ensures left { MatchOption result (to_print tokens.now.tokens pieces.old ≡ []) (λ p. to_print tokens.now.tokens pieces.old ≡ bytes_of p ++ to_print tokens.now.tokens pieces.new) }
     ensures next { IfSome result (λ p. pieces.new.next ≡ pieces.old.next + 1) }

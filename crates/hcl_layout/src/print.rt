@@ -8,7 +8,8 @@ ghost use Rattle.hcl_layout.specs.Print.{print};
 
 use crate::in_place::stands_in_place;
 use crate::measured::Measured;
-use crate::pieces::{Piece, next_piece, start};
+use crate::piece::{Piece, are_spaces, goes_on};
+use crate::pieces::{next_piece, start};
 use hcl_grammar::Accepted;
 
 /// The length of the print, in bytes.
@@ -33,13 +34,6 @@ pub fn prints_nothing(accepted: &Accepted<'_, '_>) -> bool
     // its contract says that the tokens are a scan
     let _scanned = tokens.source();
     tokens.is_empty()
-}
-
-#[inline(always)]
-fn are_spaces(bytes: &[u8]) -> bool
-    ensures { result ≡ list_all (λ b. b == 32) bytes.now }
-{
-    bytes.iter().all(|b| *b == b' ')
 }
 
 /// Whether so many spaces stand at the front.
@@ -67,23 +61,6 @@ fn stands_at(bytes: &[u8], at: usize, piece: Piece<'_>) -> bool
     }
     let (_, left) = bytes.split_at(at);
     left.starts_with(piece.text.as_bytes())
-}
-
-/// Whether the source has so many blanks from the place on where the text before a piece ends, and then the piece, which
-/// thus stands where it stood and isn't compared.
-#[inline(always)]
-pub fn goes_on(source: &[u8], at: usize, piece: Piece<'_>) -> bool
-    requires within { at ≤ length source.now }
-    requires source { IsFrom source.now piece.start piece.text.now }
-    requires gap { piece.gap ≤ 2 ^ 34 }
-    requires small { length source.now < 2 ^ 32 }
-    ensures goes { IsTrue result → drop at source.now ≡ bytes_of piece.entry ++ drop (piece.entry.start + length piece.entry.text.now) source.now }
-    ensures end { IsTrue result → at + piece.entry.gap ≡ piece.entry.start }
-{
-    if at as u64 + piece.gap != piece.start as u64 {
-        return false;
-    }
-    are_spaces(&source[at..piece.start])
 }
 
 /// Where a piece of the source ends that stands at a place, if it stands there. It is compared with what stands there.

@@ -21,7 +21,7 @@ ghost use Rattle.hcl_layout.specs.Columns.{widest};
 ghost use Rattle.hcl_layout.specs.Cells.{running_comment, trailing_comment};
 ghost use Rattle.hcl_layout.specs.Inner.Depths.{depth_after, fresh, levels_behind};
 ghost use Rattle.hcl_layout.specs.Gaps.{align, plain_gaps, width as width_of};
-ghost use Rattle.hcl_layout.specs.Inner.LineGaps.{IsKnown, gaps_in, known_place, len_with_blanks};
+ghost use Rattle.hcl_layout.specs.Inner.LineGaps.{IsSigned, gaps_in};
 ghost use Rattle.hcl_layout.specs.Lines.{lines};
 ghost use Rattle.hcl_layout.specs.Inner.Stream.{HasWidth, assign_column, assign_width, assigned_line, assign_widths, next_of, column_behind, comment_column, comment_width, comment_widths};
 ghost use Rattle.hcl_layout.specs.Inner.Survey.{IsLine, text_at};
@@ -65,9 +65,8 @@ fn assign_ahead_deepening(
 ) -> u64
     requires within { from ≤ length tokens.now.tokens }
     requires stands { Stands tokens.now.tokens from from_depth from_levels.now }
-    requires small { len_with_blanks tokens.now.tokens < 2 ^ 32 }
     ensures value { result ≡ widest (assign_widths from_depth from_levels.now (lines (drop from tokens.now.tokens))) }
-    ensures small { result ≤ 2 * max_open + len_with_blanks tokens.now.tokens }
+    ensures small { result ≤ 2 ^ 24 }
 {
     let count = tokens.len();
     let mut depth = from_depth;
@@ -94,9 +93,8 @@ fn assign_ahead_deepening(
 fn assign_ahead(walk: &Walk, tokens: &Measured<'_, '_>, from: usize) -> u64
     requires within { from ≤ length tokens.now.tokens }
     requires stands { Stands tokens.now.tokens from walk.now.depth walk.now.levels }
-    requires small { len_with_blanks tokens.now.tokens < 2 ^ 32 }
     ensures value { result ≡ widest (assign_widths walk.now.depth walk.now.levels (lines (drop from tokens.now.tokens))) }
-    ensures small { result ≤ 2 * max_open + len_with_blanks tokens.now.tokens }
+    ensures small { result ≤ 2 ^ 24 }
 {
     let count = tokens.len();
     let mut depth = walk.depth;
@@ -125,9 +123,8 @@ fn assign_ahead(walk: &Walk, tokens: &Measured<'_, '_>, from: usize) -> u64
 fn run_column(walk: &Walk, tokens: &Measured<'_, '_>, next: usize, own: u64) -> u64
     requires within { next ≤ length tokens.now.tokens }
     requires stands { Stands tokens.now.tokens next walk.now.depth walk.now.levels }
-    requires small { len_with_blanks tokens.now.tokens < 2 ^ 32 }
     requires fits { IfSome walk.now.column (λ c. c < 2 ^ 33) }
-    requires own { own ≤ 2 * max_open + len_with_blanks tokens.now.tokens }
+    requires own { own ≤ 2 ^ 24 }
     ensures value { Some result ≡ next_of walk.now.column (Some own ∷ assign_widths walk.now.depth walk.now.levels (lines (drop next tokens.now.tokens))) }
     ensures fits { result < 2 ^ 33 }
 {
@@ -144,17 +141,10 @@ impl Walk {
         requires within { at < length tokens.now.tokens }
         requires stands { Stands tokens.now.tokens at self.old.depth self.old.levels }
         requires line { IsLine tokens.now.tokens at self.old.depth line }
-        requires small { len_with_blanks tokens.now.tokens < 2 ^ 32 }
         requires fits { IfSome self.old.column (λ c. c < 2 ^ 33) }
         ensures gaps { gaps_in result (text_at tokens.now.tokens at line) ≡ assigned_line self.old.depth self.old.levels self.old.column (text_at tokens.now.tokens at line) (lines (drop at tokens.now.tokens)) }
-        ensures level { result.level ≤ max_open }
-        ensures comment { result.comment ≡ None }
-        ensures assign { IfSome result.assign (λ c. c.gap ≤ 2 ^ 33) }
-        ensures known { IsKnown result (text_at tokens.now.tokens at line) }
-        ensures order { (i : ℕ) → trailing_comment (text_at tokens.now.tokens at line) ≡ Some i → known_place result.assign ≤ i }
-        ensures narrow { (k : ℕ) → width_of k (gaps_in result (text_at tokens.now.tokens at line)) (text_at tokens.now.tokens at line) < 2 ^ 34 }
+        ensures signed { IsSigned result (text_at tokens.now.tokens at line) }
         ensures before_sign { HasWidth result.assign (assign_width self.old.depth self.old.levels (text_at tokens.now.tokens at line)) }
-        ensures sign_behind { IfSome result.assign (λ c. 0 < c.place) }
         ensures depth { self.new.depth ≡ depth_after self.old.depth (text_at tokens.now.tokens at line) }
         ensures levels { self.new.levels ≡ levels_behind self.old.depth (depth_after self.old.depth (text_at tokens.now.tokens at line)) self.old.levels }
         ensures column { self.new.column ≡ assign_column self.old.depth self.old.levels self.old.column (lines (drop at tokens.now.tokens)) }
@@ -189,7 +179,6 @@ impl Walk {
 fn comment_ahead(walk: &Walk, tokens: &Measured<'_, '_>, from: usize) -> u64
     requires within { from ≤ length tokens.now.tokens }
     requires stands { Stands tokens.now.tokens from walk.now.depth walk.now.levels }
-    requires small { len_with_blanks tokens.now.tokens < 2 ^ 32 }
     requires fits { IfSome walk.now.column (λ c. c < 2 ^ 33) }
     ensures value { result ≡ widest (comment_widths walk.now.depth walk.now.levels walk.now.column (lines (drop from tokens.now.tokens))) }
     ensures small { result < 2 ^ 34 }
@@ -223,7 +212,6 @@ fn comment_run_column(
 ) -> u64
     requires within { next ≤ length tokens.now.tokens }
     requires stands { Stands tokens.now.tokens next walk.now.depth walk.now.levels }
-    requires small { len_with_blanks tokens.now.tokens < 2 ^ 32 }
     requires column { IfSome walk.now.column (λ c. c < 2 ^ 33) }
     requires fits { IfSome comment (λ c. c < 2 ^ 34) }
     requires own { own < 2 ^ 34 }
@@ -251,12 +239,7 @@ fn commented_line(
     requires stands { Stands tokens.now.tokens (at + line.len) walk.now.depth walk.now.levels }
     requires cell { line.comment ≡ trailing_comment (text_at tokens.now.tokens at line) }
     requires running { line.running ≡ running_comment (text_at tokens.now.tokens at line) }
-    requires level { gaps.level ≤ max_open }
-    requires plain { gaps.comment ≡ None }
-    requires known { IsKnown gaps (text_at tokens.now.tokens at line) }
-    requires order { (i : ℕ) → trailing_comment (text_at tokens.now.tokens at line) ≡ Some i → known_place gaps.assign ≤ i }
-    requires small { len_with_blanks tokens.now.tokens < 2 ^ 32 }
-    requires narrow { (k : ℕ) → width_of k (gaps_in gaps (text_at tokens.now.tokens at line)) (text_at tokens.now.tokens at line) < 2 ^ 34 }
+    requires signed { IsSigned gaps (text_at tokens.now.tokens at line) }
     requires column { IfSome walk.now.column (λ c. c < 2 ^ 33) }
     requires fits { IfSome comment (λ c. c < 2 ^ 34) }
     ensures column { result.1 ≡ column_behind (gaps_in gaps (text_at tokens.now.tokens at line)) (text_at tokens.now.tokens at line) comment (comment_widths walk.now.depth walk.now.levels walk.now.column (lines (drop (at + line.len) tokens.now.tokens))) }
@@ -268,6 +251,8 @@ fn commented_line(
     ensures comment_behind { IfSome result.0.comment (λ c. 0 < c.place) }
     ensures fits { IfSome result.1 (λ c. c < 2 ^ 34) }
 {
+    // so the number of the token after the line fits
+    let _count = tokens.len();
     let Some(place) = line.comment else {
         return (gaps, None);
     };
@@ -294,7 +279,6 @@ impl Walk {
         requires within { at < length tokens.now.tokens }
         requires stands { Stands tokens.now.tokens at self.old.depth self.old.levels }
         requires line { IsLine tokens.now.tokens at self.old.depth line }
-        requires small { len_with_blanks tokens.now.tokens < 2 ^ 32 }
         requires fits { IfSome self.old.column (λ c. c < 2 ^ 33) }
         requires narrow { IfSome comment (λ c. c < 2 ^ 34) }
         ensures gaps { gaps_in result.0 (text_at tokens.now.tokens at line) ≡ align trailing_comment (assigned_line self.old.depth self.old.levels self.old.column (text_at tokens.now.tokens at line) (lines (drop at tokens.now.tokens))) (text_at tokens.now.tokens at line) result.1 }

@@ -8,8 +8,8 @@ ghost use Rattle.hcl_layout.specs.Print.{print};
 
 use crate::buffer::{Buffer, Stretch};
 use crate::measured::Measured;
-use crate::pieces::{Piece, next_piece, start};
-use crate::print::goes_on;
+use crate::piece::{Piece, goes_on};
+use crate::pieces::{next_piece, start};
 use hcl_grammar::Accepted;
 use hcl_tokens::{ByteSink, WriteFault, write_fully};
 

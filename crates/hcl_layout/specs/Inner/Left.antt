@@ -9,7 +9,7 @@ use Rattle.hcl_layout.specs.Print.{printed}
 use Rattle.hcl_layout.specs.Inner.Stream.{commented}
 use Rattle.hcl_layout.specs.Inner.Walks.{Stands}
 use Rattle.hcl_layout.specs.declared.pieces.Pieces.{Pieces}
-use Rattle.hcl_layout.specs.declared.pieces.Piece.{Piece}
+use Rattle.hcl_layout.specs.declared.piece.Piece.{Piece}
 
 -- the rest of the line at hand
 abbrev pub line_left : List Lexeme → Pieces → Line

@@ -1,10 +1,12 @@
 -- The gaps of a line from its level and two cells, token by token.
-use Rattle.std.specs.Prelude.{true, false, ◌≡◌, ◌<◌, ◌≤◌, ◌+◌, ◌==◌, ℕ, List, [], ◌∷◌, Option, Some, None, length, slice_set, if◌then◌else◌}
+use Rattle.std.specs.Prelude.{true, false, ◌≡◌, ◌<◌, ◌≤◌, ◌+◌, ◌^◌, ◌==◌, ℕ, List, [], ◌∷◌, Option, Some, None, IfSome, length, option_map, slice_set, if◌then◌else◌}
 use Rattle.hcl_tokens.specs.Lexemes.{Lexeme}
 use Rattle.hcl_tokens.specs.declared.token.Kind.TheVariants as kind
 use Rattle.hcl_tokens.specs.Kinds.{is}
+use Rattle.hcl_tokens.specs.Balanced.{max_open}
 use Rattle.hcl_spacing.specs.Spacing.{asks_more}
 use Rattle.hcl_layout.specs.Lines.{Line}
+use Rattle.hcl_layout.specs.Cells.{trailing_comment}
 use Rattle.hcl_layout.specs.Gaps.{blanks, indent, width}
 use Rattle.hcl_layout.specs.declared.gap.Cell.{Cell}
 use Rattle.hcl_layout.specs.declared.gap.LineGaps.{LineGaps}
@@ -68,3 +70,20 @@ known_width (Some c) = c.width
 -- the width that is kept with the assign cell is the one before it
 abbrev pub IsKnown : LineGaps → Line → Type 0
 IsKnown g line = known_width g.assign ≡ width (known_place g.assign) (gaps_in g line) line
+
+-- the line's sign is set, if it has one, and its comment isn't yet
+pub record IsSigned (g : LineGaps) (line : Line) : Type 0 where
+  pub level : g.level ≤ max_open
+  pub plain : g.comment ≡ None
+  pub known : IsKnown g line
+  pub gap : IfSome g.assign (λ c. c.gap ≤ 2 ^ 33)
+  pub front : IfSome g.assign (λ c. 0 < c.place)
+  pub order : (i : ℕ) → trailing_comment line ≡ Some i → known_place g.assign ≤ i
+
+-- the width that is kept with a cell
+abbrev pub kept_width : Option Cell → Option ℕ
+kept_width = option_map (λ (c : Cell). c.width)
+
+-- the width before the cell of a line, if it has one
+abbrev pub width_to : (Line → Option ℕ) → List ℕ → Line → Option ℕ
+width_to cell gaps line = option_map (λ i. width i gaps line) (cell line)

@@ -1,5 +1,5 @@
 -- What one walk along a line finds, token by token, and what it is of the whole line.
-use Rattle.std.specs.Prelude.{◌≡◌, ◌<◌, ◌≤◌, ◌+◌, ◌==◌, ◌||◌, ◌&&◌, ℕ, Bool, true, false, not, List, [], ◌∷◌, Option, Some, None, length, take, drop, if◌then◌else◌, is_some}
+use Rattle.std.specs.Prelude.{◌≡◌, ◌<◌, ◌≤◌, ◌+◌, ◌^◌, ◌==◌, ◌||◌, ◌&&◌, ℕ, Bool, true, false, not, List, [], ◌∷◌, Option, Some, None, length, take, drop, if◌then◌else◌, is_some}
 use Rattle.hcl_tokens.specs.Lexemes.{Lexeme}
 use Rattle.hcl_tokens.specs.declared.token.Kind.{Kind}
 use Rattle.hcl_tokens.specs.declared.token.Kind.TheVariants as kind
@@ -90,6 +90,7 @@ text_at ts at f = take f.len (drop at ts)
 pub record IsLine (ts : List Lexeme) (at d : ℕ) (f : LineFacts) : Type 0 where
   pub some : 0 < f.len
   pub within : at + f.len ≤ length ts
+  pub fits : at + f.len ≤ 2 ^ 22
   pub cut : lines (drop at ts) ≡ take f.len (drop at ts) ∷ lines (drop (at + f.len) ts)
   pub depth : f.depth ≡ depth_after d (take f.len (drop at ts))
   pub low : f.depth ≤ max_open

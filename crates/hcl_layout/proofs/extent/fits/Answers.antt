@@ -8,6 +8,6 @@ pub is_bound_to_fit-requires : goal.is_bound_to_fit-requires
 is_bound_to_fit-requires c =
     record { balanced = balanced_from c.new-tokens.result.tokens (subst (λ (s : Scanned). IsBalanced s.tokens) (sym c.new-tokens.ensures.same) c.new-tokens.ensures.balanced) }
 
-pub is_told_to_fit-requires-clause-balanced : goal.is_told_to_fit-requires-clause-balanced
-is_told_to_fit-requires-clause-balanced c =
-    balanced_from c.new-tokens.result.tokens (subst (λ (s : Scanned). IsBalanced s.tokens) (sym c.new-tokens.ensures.same) c.new-tokens.ensures.balanced)
+pub is_told_to_fit-requires : goal.is_told_to_fit-requires
+is_told_to_fit-requires c =
+    record { balanced = balanced_from c.new-tokens.result.tokens (subst (λ (s : Scanned). IsBalanced s.tokens) (sym c.new-tokens.ensures.same) c.new-tokens.ensures.balanced) }

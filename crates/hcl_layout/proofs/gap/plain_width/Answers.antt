@@ -4,14 +4,14 @@ use Rattle.hcl_layout.specs.Gaps.{width}
 use Rattle.hcl_layout.specs.Inner.LineGaps.{plain_of}
 use Rattle.hcl_layout.specs.Lines.{Line}
 use Rattle.hcl_layout.proofs.LeftLemmas.{width_behind, width_first}
-use Rattle.hcl_layout.proofs.RunLemmas.{length_len_with_blanks, plain_in, plain_low}
+use Rattle.hcl_layout.proofs.RunLemmas.{plain_in, plain_low}
 use Rattle.hcl_layout.proofs.gap.plain_width.Goals as goal
 
 pub overflow_add-at : goal.overflow_add-at
-overflow_add-at c = omega (arith, length_len_with_blanks c.args.tokens.now.tokens, c.requires.within, c.requires.there, c.requires.small)
+overflow_add-at c = omega (arith, c.len-count.ensures.bounded.tokens, c.requires.within, c.requires.there)
 
 pub overflow_add-at-in-loop-k : goal.overflow_add-at-in-loop-k
-overflow_add-at-in-loop-k c = omega (arith, length_len_with_blanks c.args.tokens.now.tokens, c.requires.within, c.requires.there, c.requires.small)
+overflow_add-at-in-loop-k c = omega (arith, c.len-count.ensures.bounded.tokens, c.requires.within, c.requires.there)
 
 pub overflow_add-sum : goal.overflow_add-sum
 overflow_add-sum c =
@@ -19,7 +19,7 @@ overflow_add-sum c =
     let line : Line = take c.args.len (drop c.args.at ts) in
     let first = width_first c.args.level ts c.args.at c.args.len c.args.place (lexeme c.get-first.result) c.get-first.ensures.token c.requires.there (omega arith) in
     let whole = ap (λ g. width c.args.place g line) (plain_in c.args.level line) in
-    omega (arith, first, whole, c.indent.ensures, c.clusters.ensures.count, plain_low ts c.args.at c.args.len c.args.level c.args.place c.requires.level, c.requires.small)
+    omega (arith, first, whole, c.indent.ensures, c.clusters.ensures.count, plain_low ts c.args.at c.args.len c.args.level c.args.place c.requires.level, c.len-count.ensures.bounded.blanks)
 
 pub loop-k-init : goal.loop-k-init
 loop-k-init c =
@@ -32,12 +32,12 @@ loop-k-init c =
 pub overflow_add-sum-in-loop-k : goal.overflow_add-sum-in-loop-k
 overflow_add-sum-in-loop-k c =
     let next = width_behind (plain_of c.args.level) c.args.tokens.now.tokens c.args.at c.args.len c.loop-k.k c.args.place (lexeme c.get-token.result) c.get-token.ensures.token c.requires.there c.loop-k-test.true in
-    omega (arith, next, c.loop-k.invariant, c.gap_behind.ensures c.args.level, c.clusters-in-loop-k.ensures.count, plain_low c.args.tokens.now.tokens c.args.at c.args.len c.args.level c.args.place c.requires.level, c.requires.small)
+    omega (arith, next, c.loop-k.invariant, c.gap_behind.ensures c.args.level, c.clusters-in-loop-k.ensures.count, plain_low c.args.tokens.now.tokens c.args.at c.args.len c.args.level c.args.place c.requires.level, c.len-count.ensures.bounded.blanks)
 
 pub overflow_add-sum-in-loop-k-2 : goal.overflow_add-sum-in-loop-k-2
 overflow_add-sum-in-loop-k-2 c =
     let next = width_behind (plain_of c.args.level) c.args.tokens.now.tokens c.args.at c.args.len c.loop-k.k c.args.place (lexeme c.get-token.result) c.get-token.ensures.token c.requires.there c.loop-k-test.true in
-    omega (arith, next, c.loop-k.invariant, c.gap_behind.ensures c.args.level, c.clusters-in-loop-k.ensures.count, plain_low c.args.tokens.now.tokens c.args.at c.args.len c.args.level c.args.place c.requires.level, c.requires.small)
+    omega (arith, next, c.loop-k.invariant, c.gap_behind.ensures c.args.level, c.clusters-in-loop-k.ensures.count, plain_low c.args.tokens.now.tokens c.args.at c.args.len c.args.level c.args.place c.requires.level, c.len-count.ensures.bounded.blanks)
 
 pub loop-k-preserved : goal.loop-k-preserved
 loop-k-preserved c =
@@ -45,4 +45,4 @@ loop-k-preserved c =
     omega (arith, next, c.loop-k.invariant, c.gap_behind.ensures c.args.level, c.clusters-in-loop-k.ensures.count)
 
 pub returns-clause-small : goal.returns-clause-small
-returns-clause-small c = omega (arith, c.loop-k.invariant, plain_low c.args.tokens.now.tokens c.args.at c.args.len c.args.level c.args.place c.requires.level)
+returns-clause-small c = omega (arith, c.loop-k.invariant, plain_low c.args.tokens.now.tokens c.args.at c.args.len c.args.level c.args.place c.requires.level, c.len-count.ensures.bounded.blanks)

@@ -3,19 +3,19 @@ use Rattle.std.specs.Prelude.{IfSome}
 use Rattle.hcl_layout.specs.Inner.Stream.{assign_width, comment_width}
 use Rattle.hcl_layout.specs.Lines.{lines}
 use Rattle.hcl_layout.proofs.InPlaceLemmas.{entered_before}
-use Rattle.hcl_layout.proofs.RunLemmas.{assign_inside, length_len_with_blanks, running_inside}
+use Rattle.hcl_layout.proofs.RunLemmas.{assign_inside, running_inside}
 use Rattle.hcl_layout.proofs.in_place.enter.Goals as goal
 
-pub entered-walk-requires-clause-there : goal.entered-walk-requires-clause-there
-entered-walk-requires-clause-there c i =
-    assign_inside c.args.tokens.now.tokens c.args.first c.line_at-line.result.len i c.line_at-line.result.assign c.line_at-line.ensures.within c.line_at-line.ensures.assign
+pub entered-walk-requires : goal.entered-walk-requires
+entered-walk-requires c =
+    record { there = λ i. assign_inside c.args.tokens.now.tokens c.args.first c.line_at-line.result.len i c.line_at-line.result.assign c.line_at-line.ensures.within c.line_at-line.ensures.assign }
 
-pub entered-before-requires-clause-there : goal.entered-before-requires-clause-there
-entered-before-requires-clause-there c i =
-    running_inside c.args.tokens.now.tokens c.args.first c.line_at-line.result.len i c.line_at-line.result.running c.line_at-line.ensures.within c.line_at-line.ensures.running
+pub entered-before-requires : goal.entered-before-requires
+entered-before-requires c =
+    record { there = λ i. running_inside c.args.tokens.now.tokens c.args.first c.line_at-line.result.len i c.line_at-line.result.running c.line_at-line.ensures.within c.line_at-line.ensures.running }
 
 pub overflow_add-result : goal.overflow_add-result
-overflow_add-result c = omega (arith, length_len_with_blanks c.args.tokens.now.tokens, c.line_at-line.ensures.within, c.requires.small)
+overflow_add-result c = omega (arith, c.line_at-line.ensures.fits)
 
 pub returns-clause-step : goal.returns-clause-step
 returns-clause-step c end h left =
@@ -28,7 +28,7 @@ returns-clause-step c end h left =
     let own = assign_width w.depth w.levels (take line.len (drop first ts)) in
     let comment = comment_width w.depth w.levels column (take line.len (drop first ts)) (lines (drop first ts)) in
     entered_before ts c.args.tokens.now.text w c.pass_commented-column.new.self c.args.runs.now (record { column = c.pass_commented-column.result.1; assign = c.widened-runs.result; comment = c.widened-runs-2.result }) line
-    c.pass_commented-column.result.0 column c.entered-before.result first c.args.at end c.line_at-line.ensures
+    c.pass_commented-column.result.0 column c.entered-before.result first c.args.offset end c.line_at-line.ensures
     (c.ends_well.ensures c.if-not-ends_well.false) (c.ends_well-2.ensures c.if-not-ends_well-2.false) c.entered-walk.ensures.enters c.entered-before.ensures.enters
     (subst (λ n. IfSome own (λ x. c.widened-runs.result ≡ max n x)) c.since-assign.ensures (c.widened-runs.ensures own e.before_sign))
     (subst (λ n. IfSome comment (λ x. c.widened-runs-2.result ≡ max n x)) c.since-comment.ensures (c.widened-runs-2.ensures comment e.before_comment))

@@ -15,5 +15,5 @@ returns-clause-left c =
     let end = c.end_of.result in
     let plain = plain_gap l.gaps.level (token_before ts l.first (l.first - 1)) (token_before ts l.first l.first) t in
     let gap = c.plain_gap_at-gap.ensures ∙ sym (c.requires.laid.front (l.first - l.first) plain (omega arith) (omega arith)) in
-    goes_to ts c.args.tokens.now.text l l.first c.args.from end t c.plain_gap_at-gap.result p c.get-token.ensures.token c.requires.laid.some (omega arith) gap c.piece_of.ensures.gap c.piece_of.ensures.text
-    (subst (λ (s : List ℕ). IfSome end (λ k. drop c.args.from s ≡ bytes_of p ++ drop k s)) c.requires.source c.end_of.ensures.goes)
+    goes_to ts c.args.tokens.now.text l l.first c.args.offset end t c.plain_gap_at-gap.result p c.get-token.ensures.token c.requires.laid.some (omega arith) gap c.piece_of.ensures.gap c.piece_of.ensures.text
+    (subst (λ (s : List ℕ). IfSome end (λ k. drop c.args.offset s ≡ bytes_of p ++ drop k s)) c.requires.source c.end_of.ensures.goes)

@@ -6,8 +6,8 @@ abbrev pub invariant-loop-cell : goal.invariant-loop-cell
 invariant-loop-cell l = record {
   behind : l.line.first < l.cell;
   within : l.cell ≤ l.line.end;
-  inside : l.at ≤ length l.source;
-  left : GoOn l.tokens.tokens l.tokens.text l.line l.line.first l.fn.from l.cell l.at;
+  inside : l.reached ≤ length l.source;
+  left : GoOn l.tokens.tokens l.tokens.text l.line l.line.first l.fn.offset l.cell l.reached;
 }
 
 abbrev pub decreases-loop-cell : goal.decreases-loop-cell

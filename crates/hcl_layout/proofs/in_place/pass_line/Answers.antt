@@ -9,5 +9,5 @@ returns-clause-step c h =
     let line = c.in-Some.line in
     let end = c.in-Some-line_end.end in
     let rest = gaps_on ts line.end c.enter.new.walk c.enter.new.runs.column in
-    let left : left_at ts line rest line.first ≡ drop c.args.from c.args.tokens.now.text = c.in-Some-line_end.ensures.left rest (line_over ts line rest ∙ h.left) in
-    c.in-Some.ensures.step end h (subst (λ n. left_at ts line rest n ≡ drop c.args.from c.args.tokens.now.text) c.in-Some.ensures.first left)
+    let left : left_at ts line rest line.first ≡ drop c.args.offset c.args.tokens.now.text = c.in-Some-line_end.ensures.left rest (line_over ts line rest ∙ h.left) in
+    c.in-Some.ensures.step end h (subst (λ n. left_at ts line rest n ≡ drop c.args.offset c.args.tokens.now.text) c.in-Some.ensures.first left)

@@ -10,7 +10,7 @@ use Rattle.hcl_layout.proofs.in_place.plain_end.Goals as goal
 pub end_of-requires-clause-gap : goal.end_of-requires-clause-gap
 end_of-requires-clause-gap c =
     let l = c.args.line in
-    let at = c.args.at in
+    let at = c.args.number in
     let ts = c.args.tokens.now.tokens in
     let t = lexeme c.get-token.result in
     let plain = plain_gap l.gaps.level (token_before ts l.first (at - 1)) (token_before ts l.first at) t in
@@ -20,12 +20,12 @@ end_of-requires-clause-gap c =
 pub returns-clause-left : goal.returns-clause-left
 returns-clause-left c =
     let l = c.args.line in
-    let at = c.args.at in
+    let at = c.args.number in
     let ts = c.args.tokens.now.tokens in
     let t = lexeme c.get-token.result in
     let p = c.piece_of.result in
     let end = c.end_of.result in
     let plain = plain_gap l.gaps.level (token_before ts l.first (at - 1)) (token_before ts l.first at) t in
     let gap = c.gap_behind-gap.ensures l.gaps.level ∙ sym (c.requires.plain (at - l.first) plain (omega arith) (omega (arith, c.requires.behind))) in
-    goes_to ts c.args.tokens.now.text l at c.args.from end t c.gap_behind-gap.result p c.get-token.ensures.token c.requires.there (omega (arith, c.requires.behind)) gap c.piece_of.ensures.gap c.piece_of.ensures.text
-    (subst (λ (s : List ℕ). IfSome end (λ k. drop c.args.from s ≡ bytes_of p ++ drop k s)) c.requires.source c.end_of.ensures.goes)
+    goes_to ts c.args.tokens.now.text l at c.args.offset end t c.gap_behind-gap.result p c.get-token.ensures.token c.requires.there (omega (arith, c.requires.behind)) gap c.piece_of.ensures.gap c.piece_of.ensures.text
+    (subst (λ (s : List ℕ). IfSome end (λ k. drop c.args.offset s ≡ bytes_of p ++ drop k s)) c.requires.source c.end_of.ensures.goes)

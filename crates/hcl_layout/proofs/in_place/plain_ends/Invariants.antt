@@ -2,13 +2,13 @@ use Rattle.std.proofs.Common.{◌≤◌, ◌-◌, length}
 use Rattle.hcl_layout.specs.Inner.InPlace.{GoOn}
 use Rattle.hcl_layout.proofs.in_place.plain_ends.Given as goal
 
-abbrev pub invariant-loop-at : goal.invariant-loop-at
-invariant-loop-at l = record {
-  behind : l.next ≤ l.at;
-  within : l.at ≤ l.stop;
-  inside : l.end ≤ length l.source;
-  left : GoOn l.tokens.tokens l.tokens.text l.line l.next l.from l.at l.end;
+abbrev pub invariant-loop-number : goal.invariant-loop-number
+invariant-loop-number l = record {
+  behind : l.next ≤ l.number;
+  within : l.number ≤ l.stop;
+  inside : l.reached ≤ length l.source;
+  left : GoOn l.tokens.tokens l.tokens.text l.line l.next l.offset l.number l.reached;
 }
 
-abbrev pub decreases-loop-at : goal.decreases-loop-at
-decreases-loop-at l = l.stop - l.at
+abbrev pub decreases-loop-number : goal.decreases-loop-number
+decreases-loop-number l = l.stop - l.number

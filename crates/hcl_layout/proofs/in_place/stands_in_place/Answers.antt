@@ -18,11 +18,11 @@ loop-next-init c =
       step = begun ts c.args.tokens.now.text w.result (record { column = None; assign = 0; comment = 0 }) balanced w.ensures.depth w.ensures.levels w.ensures.column refl;
     }
 
-pub returns-then-at-source : goal.returns-then-at-source
-returns-then-at-source c t =
+pub returns-then-offset-source : goal.returns-then-offset-source
+returns-then-offset-source c t =
     let l = c.loop-next in
     let ts = c.args.tokens.now.tokens in
     let text = c.args.tokens.now.text in
-    let passed : length ts ≤ l.next = omega (arith, c.loop-next-test.false, c.len-count.ensures) in
+    let passed : length ts ≤ l.next = omega (arith, c.loop-next-test.false, c.len-count.ensures.len) in
     l.invariant.step
-    (all_passed ts text l.walk l.runs l.next l.at passed (omega (arith, c.if-at-source.true, ap length c.source-source.ensures.text)) (c.end_well.ensures.assign t) (c.end_well.ensures.comment t))
+    (all_passed ts text l.walk l.runs l.next l.offset passed (omega (arith, c.if-offset-source.true, ap length c.source-source.ensures.text)) (c.end_well.ensures.assign t) (c.end_well.ensures.comment t))

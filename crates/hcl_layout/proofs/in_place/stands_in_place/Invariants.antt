@@ -11,8 +11,8 @@ invariant-loop-next l = record {
   fits : IfSome l.walk.column (λ c. c < 2 ^ 33);
   narrow : IfSome l.runs.column (λ c. c < 2 ^ 34);
   within : l.next ≤ length l.tokens.tokens;
-  inside : l.at ≤ length l.source;
-  step : InPlace l.tokens.tokens l.tokens.text l.walk l.runs l.next l.at → print l.tokens.tokens ≡ l.tokens.text;
+  inside : l.offset ≤ length l.source;
+  step : InPlace l.tokens.tokens l.tokens.text l.walk l.runs l.next l.offset → print l.tokens.tokens ≡ l.tokens.text;
 }
 
 abbrev pub decreases-loop-next : goal.decreases-loop-next

@@ -11,7 +11,7 @@ overflow_add-result c =
     let at = c.args.at in
     let ts = c.args.tokens.now.tokens in
     let t = lexeme c.get.result in
-    omega (arith, c.gap_at-gap.ensures t c.get.ensures.token, gap_small l.gaps (at - l.first) (token_before ts l.first (at - 1)) (token_before ts l.first at) t c.requires.laid.level c.requires.laid.assign c.requires.laid.comment, text_len_with_blanks ts at t c.get.ensures.token, c.requires.small)
+    omega (arith, c.gap_at-gap.ensures t c.get.ensures.token, gap_small l.gaps (at - l.first) (token_before ts l.first (at - 1)) (token_before ts l.first at) t c.requires.laid.level c.requires.laid.assign c.requires.laid.comment, text_len_with_blanks ts at t c.get.ensures.token, c.get.ensures.bounded.blanks)
 
 pub returns-clause-adds : goal.returns-clause-adds
 returns-clause-adds c =
@@ -24,4 +24,4 @@ returns-clause-small c =
     let at = c.args.at in
     let ts = c.args.tokens.now.tokens in
     let t = lexeme c.get.result in
-    omega (arith, c.gap_at-gap.ensures t c.get.ensures.token, gap_small l.gaps (at - l.first) (token_before ts l.first (at - 1)) (token_before ts l.first at) t c.requires.laid.level c.requires.laid.assign c.requires.laid.comment, text_len_with_blanks ts at t c.get.ensures.token, c.requires.small)
+    omega (arith, c.gap_at-gap.ensures t c.get.ensures.token, gap_small l.gaps (at - l.first) (token_before ts l.first (at - 1)) (token_before ts l.first at) t c.requires.laid.level c.requires.laid.assign c.requires.laid.comment, text_len_with_blanks ts at t c.get.ensures.token, c.get.ensures.bounded.blanks)

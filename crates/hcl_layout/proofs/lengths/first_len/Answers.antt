@@ -22,4 +22,4 @@ returns-clause-small c =
     let t = lexeme c.get-token.result in
     let plain = plain_gap l.gaps.level (token_before ts l.first (l.first - 1)) (token_before ts l.first l.first) t in
     let gap = c.plain_gap_at-gap.ensures ∙ sym (c.requires.laid.front (l.first - l.first) plain (omega arith) (omega arith)) in
-    omega (arith, gap, gap_small l.gaps (l.first - l.first) (token_before ts l.first (l.first - 1)) (token_before ts l.first l.first) t c.requires.laid.level c.requires.laid.assign c.requires.laid.comment, text_len_with_blanks ts l.first t c.get-token.ensures.token, c.requires.small)
+    omega (arith, gap, gap_small l.gaps (l.first - l.first) (token_before ts l.first (l.first - 1)) (token_before ts l.first l.first) t c.requires.laid.level c.requires.laid.assign c.requires.laid.comment, text_len_with_blanks ts l.first t c.get-token.ensures.token, c.get-token.ensures.bounded.blanks)

@@ -9,16 +9,16 @@ use Rattle.hcl_layout.specs.Inner.LineGaps.{gaps_in}
 use Rattle.hcl_layout.specs.Inner.Padding.{len_apart, with_lines}
 use Rattle.hcl_layout.specs.Lines.{Line, lines}
 use Rattle.hcl_layout.proofs.PaddingLemmas.{line_counted, line_passed, none_left, print_within, running_apart, small_more}
-use Rattle.hcl_layout.proofs.RunLemmas.{length_len_with_blanks, multiline_some}
+use Rattle.hcl_layout.proofs.RunLemmas.{multiline_some}
 use Rattle.hcl_layout.proofs.lengths.is_told_to_fit.Goals as goal
 
 pub with_line-padding-requires-clause-small : goal.with_line-padding-requires-clause-small
 with_line-padding-requires-clause-small c =
-    small_more c.loop-at.at (2 ^ 23) c.loop-at.padding (omega (arith, c.loop-at.invariant.within, length_len_with_blanks c.args.tokens.now.tokens, c.requires.small)) c.loop-at.invariant.few
+    small_more c.loop-at.at (2 ^ 23) c.loop-at.padding (omega (arith, c.loop-at.invariant.within, c.len-count.ensures.bounded.tokens)) c.loop-at.invariant.few
 
 pub overflow_add-len : goal.overflow_add-len
 overflow_add-len c =
-    omega (arith, c.loop-at.invariant.small, c.line_len-len.ensures.small, c.line_at-line.ensures.within, length_len_with_blanks c.args.tokens.now.tokens, c.requires.small)
+    omega (arith, c.loop-at.invariant.small, c.line_len-len.ensures.small, c.line_at-line.ensures.within, c.len-count.ensures.bounded.tokens)
 
 pub loop-at-preserved : goal.loop-at-preserved
 loop-at-preserved c =
@@ -52,13 +52,13 @@ loop-at-preserved c =
 
 pub overflow_add-result : goal.overflow_add-result
 overflow_add-result c =
-    omega (arith, c.loop-at.invariant.small, c.loop-at.invariant.blanks, c.loop-at.invariant.within, length_len_with_blanks c.args.tokens.now.tokens, c.requires.small)
+    omega (arith, c.loop-at.invariant.small, c.loop-at.invariant.blanks, c.loop-at.invariant.within, c.len-count.ensures.bounded.tokens)
 
 pub returns : goal.returns
 returns c t =
     let ts = c.args.tokens.now.tokens in
     let l = c.loop-at in
-    let none = none_left ts l.at (omega (arith, c.loop-at-test.false, c.len-count.ensures)) in
+    let none = none_left ts l.at (omega (arith, c.loop-at-test.false, c.len-count.ensures.len)) in
     omega (
       arith,
       print_within ts c.requires.balanced,

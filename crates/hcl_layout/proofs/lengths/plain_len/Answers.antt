@@ -14,7 +14,7 @@ overflow_add-result c =
     let t = lexeme c.get-token.result in
     let plain = plain_gap l.gaps.level (token_before ts l.first (at - 1)) (token_before ts l.first at) t in
     let gap = c.gap_behind.ensures l.gaps.level ∙ sym (c.requires.plain (at - l.first) plain (omega arith) (omega (arith, c.requires.behind))) in
-    omega (arith, gap, gap_small l.gaps (at - l.first) (token_before ts l.first (at - 1)) (token_before ts l.first at) t c.requires.laid.level c.requires.laid.assign c.requires.laid.comment, text_len_with_blanks ts at t c.get-token.ensures.token, c.requires.small)
+    omega (arith, gap, gap_small l.gaps (at - l.first) (token_before ts l.first (at - 1)) (token_before ts l.first at) t c.requires.laid.level c.requires.laid.assign c.requires.laid.comment, text_len_with_blanks ts at t c.get-token.ensures.token, c.get-token.ensures.bounded.blanks)
 
 pub returns-clause-adds : goal.returns-clause-adds
 returns-clause-adds c =
@@ -34,4 +34,4 @@ returns-clause-small c =
     let t = lexeme c.get-token.result in
     let plain = plain_gap l.gaps.level (token_before ts l.first (at - 1)) (token_before ts l.first at) t in
     let gap = c.gap_behind.ensures l.gaps.level ∙ sym (c.requires.plain (at - l.first) plain (omega arith) (omega (arith, c.requires.behind))) in
-    omega (arith, gap, gap_small l.gaps (at - l.first) (token_before ts l.first (at - 1)) (token_before ts l.first at) t c.requires.laid.level c.requires.laid.assign c.requires.laid.comment, text_len_with_blanks ts at t c.get-token.ensures.token, c.requires.small)
+    omega (arith, gap, gap_small l.gaps (at - l.first) (token_before ts l.first (at - 1)) (token_before ts l.first at) t c.requires.laid.level c.requires.laid.assign c.requires.laid.comment, text_len_with_blanks ts at t c.get-token.ensures.token, c.get-token.ensures.bounded.blanks)

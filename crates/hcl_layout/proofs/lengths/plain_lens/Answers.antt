@@ -1,7 +1,6 @@
 use Rattle.std.proofs.Common.{arith}
-use Rattle.hcl_layout.proofs.RunLemmas.{length_len_with_blanks}
 use Rattle.hcl_layout.proofs.lengths.plain_lens.Goals as goal
 
 pub overflow_add-len : goal.overflow_add-len
 overflow_add-len c =
-    omega (arith, c.loop-at.invariant.small, c.loop-at-test.true, c.plain_len-len.ensures.small, c.requires.there, c.requires.laid.within, length_len_with_blanks c.args.tokens.now.tokens, c.requires.small)
+    omega (arith, c.loop-at.invariant.small, c.loop-at-test.true, c.plain_len-len.ensures.small, c.requires.there, c.requires.laid.within, c.len-count.ensures.bounded.tokens)

@@ -11,4 +11,4 @@ returns c =
     let t = token_at ts c.args.at c.requires.within in
     let facts : Option ℕ → Option ℕ → LineFacts = λ a r. record { len = s.len; depth = s.depth; assign = a; comment = s.comment; running = r } in
     subst (IsLine ts c.args.at c.args.depth) (sym (ap₂ facts c.assign.ensures c.running.ensures))
-    (is_line ts c.args.at c.args.depth t.0 s t.1 c.requires.balanced c.requires.fits (c.read_line-line.ensures t.0 t.1))
+    (is_line ts c.args.at c.args.depth t.0 s t.1 c.len-count.ensures.bounded.tokens c.requires.balanced c.requires.fits (c.read_line-line.ensures t.0 t.1))

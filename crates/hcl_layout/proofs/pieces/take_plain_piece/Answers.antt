@@ -27,4 +27,4 @@ returns-clause-gap c =
     omega (arith, gap, gap_small s.gaps (s.next - s.start) (token_before ts s.start (s.next - 1)) (token_before ts s.start s.next) t r.level r.assign r.cell)
 
 pub returns-clause-text : goal.returns-clause-text
-returns-clause-text c = omega (arith, text_len_with_blanks c.args.tokens.now.tokens c.args.pieces.now.next (lexeme c.get-token.result) c.get-token.ensures.token, c.requires.small)
+returns-clause-text c = omega (arith, text_len_with_blanks c.args.tokens.now.tokens c.args.pieces.now.next (lexeme c.get-token.result) c.get-token.ensures.token, c.get-token.ensures.bounded.blanks)

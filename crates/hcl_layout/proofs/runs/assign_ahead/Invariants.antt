@@ -1,7 +1,5 @@
-use Rattle.std.proofs.Common.{◌*◌, ◌≡◌, ◌≤◌, ◌+◌, ◌-◌, max, length, drop}
-use Rattle.hcl_tokens.specs.Balanced.{max_open}
+use Rattle.std.proofs.Common.{◌≡◌, ◌≤◌, ◌-◌, ◌^◌, max, length, drop}
 use Rattle.hcl_layout.specs.Columns.{widest}
-use Rattle.hcl_layout.specs.Inner.LineGaps.{len_with_blanks}
 use Rattle.hcl_layout.specs.Lines.{lines}
 use Rattle.hcl_layout.specs.Inner.Stream.{assign_widths}
 use Rattle.hcl_layout.specs.Inner.Walks.{Stands}
@@ -11,7 +9,7 @@ abbrev pub invariant-loop-at : goal.invariant-loop-at
 invariant-loop-at l = record {
   same : widest (assign_widths l.walk.depth l.walk.levels (lines (drop l.fn.from l.tokens.tokens))) ≡ max l.greatest (widest (assign_widths l.depth l.walk.levels (lines (drop l.at l.tokens.tokens))));
   stands : Stands l.tokens.tokens l.at l.depth l.walk.levels;
-  small : l.greatest ≤ 2 * max_open + len_with_blanks l.tokens.tokens;
+  small : l.greatest ≤ 2 ^ 24;
   within : l.at ≤ length l.tokens.tokens;
 }
 

@@ -1,10 +1,10 @@
 use Rattle.std.proofs.Common.{arith, sym}
-use Rattle.hcl_layout.proofs.RunLemmas.{assign_there, comment_there, length_len_with_blanks}
+use Rattle.hcl_layout.proofs.RunLemmas.{assign_there, comment_there}
 use Rattle.hcl_layout.proofs.extent.Extent.with_line.Goals as goal
 
 pub overflow_add-result : goal.overflow_add-result
 overflow_add-result c =
-    omega (arith, c.requires.few.indents, c.from-indent.ensures, c.requires.depth, c.requires.line.within, length_len_with_blanks c.args.tokens.now.tokens, c.requires.small)
+    omega (arith, c.requires.few.indents, c.from-indent.ensures, c.requires.depth, c.requires.line.fits)
 
 pub with_cell-requires-clause-there : goal.with_cell-requires-clause-there
 with_cell-requires-clause-there c i e = assign_there c.args.tokens.now.tokens c.args.at c.args.line.len i c.args.line.assign c.requires.line.assign (sym e)

@@ -7,7 +7,7 @@ use Rattle.hcl_layout.proofs.measured.Measured.clusters.Goals as goal
 pub returns-then-self-clause-count : goal.returns-then-self-clause-count
 returns-then-self-clause-count c =
     let token = c.args.token in
-    sym (clusters_part c.self.inside.tokens.now.text token.start token.text.now (subst (λ (s : Scanned). IsFrom s.text token.start token.text.now) (sym c.self.view_is) c.requires.source) (c.self.invariant c.if-self.true))
+    sym (clusters_part c.self.inside.tokens.now.text token.start token.text.now (subst (λ (s : Scanned). IsFrom s.text token.start token.text.now) (sym c.self.view_is) c.requires.source) (c.self.invariant.0 c.if-self.true))
 
 pub returns-then-is_one_byte-clause-count : goal.returns-then-is_one_byte-clause-count
 returns-then-is_one_byte-clause-count c =

@@ -3,11 +3,11 @@ use Rattle.hcl_layout.specs.Cells.{assign_cell}
 use Rattle.hcl_layout.specs.Inner.Depths.{depth_after, level_at}
 use Rattle.hcl_layout.specs.Gaps.{align, plain_gaps, width}
 use Rattle.std.specs.Prelude.{slice_set}
-use Rattle.hcl_layout.specs.Inner.LineGaps.{IsKnown, gaps_in, known_place}
+use Rattle.hcl_layout.specs.Inner.LineGaps.{IsSigned, gaps_in}
 use Rattle.hcl_layout.specs.Lines.{Line, lines}
 use Rattle.hcl_layout.specs.Inner.Stream.{assign_column, plain}
 use Rattle.hcl_layout.specs.declared.gap.LineGaps.{LineGaps}
-use Rattle.hcl_layout.proofs.RunLemmas.{aligned_none, aligned_some, assign_before, assign_behind, assign_there, assigned_in, known_set, length_len_with_blanks, narrow_plain, narrow_set, plain_in}
+use Rattle.hcl_layout.proofs.RunLemmas.{aligned_none, aligned_some, assign_there, assigned_in, plain_in, signed_none, signed_set}
 use Rattle.hcl_layout.proofs.runs.Walk.pass.Goals as goal
 
 pub returns-in_default-clause-gaps : goal.returns-in_default-clause-gaps
@@ -18,16 +18,11 @@ returns-in_default-clause-gaps c =
     ∙ ap (λ k. plain_gaps k line) (c.next_level-level.ensures.level ∙ ap (λ n. level_at s.depth n s.levels) c.requires.line.depth)
     ∙ aligned_none (plain s.depth s.levels line) line (assign_column s.depth s.levels s.column (lines (drop c.args.at c.args.tokens.now.tokens))) (sym c.requires.line.assign ∙ c.in_default.is)
 
-pub returns-in_default-clause-narrow : goal.returns-in_default-clause-narrow
-returns-in_default-clause-narrow c k =
-    let line : Line = take c.args.line.len (drop c.args.at c.args.tokens.now.tokens) in
-    omega (arith, ap (λ (g : LineGaps). width k (gaps_in g line) line) c.plain_line.ensures, narrow_plain c.args.tokens.now.tokens c.args.at c.args.line.len c.next_level-level.result c.next_level-level.ensures.small c.requires.small k)
-
 pub plain_width-own-requires-clause-there : goal.plain_width-own-requires-clause-there
 plain_width-own-requires-clause-there c = assign_there c.args.tokens.now.tokens c.args.at c.args.line.len c.in-Some.place c.args.line.assign c.requires.line.assign (sym c.in-Some.is)
 
 pub overflow_add-at : goal.overflow_add-at
-overflow_add-at c = omega (arith, length_len_with_blanks c.args.tokens.now.tokens, c.requires.line.within, c.requires.small)
+overflow_add-at c = omega (arith, c.requires.line.fits)
 
 pub returns-clause-gaps : goal.returns-clause-gaps
 returns-clause-gaps c =
@@ -43,26 +38,13 @@ returns-clause-gaps c =
     (ap (λ x. x + 1) (c.saturating_sub-gap.ensures ∙ ap (λ w. c.run_column-column.result - w) (c.plain_width-own.ensures.value ∙ ap (λ k. width i (plain_gaps k line) line) level)))
     ∙ ap (align assign_cell (plain s.depth s.levels line) line) column
 
-pub returns-clause-narrow : goal.returns-clause-narrow
-returns-clause-narrow c =
+pub returns-in_default-clause-signed : goal.returns-in_default-clause-signed
+returns-in_default-clause-signed c =
+    let line : Line = take c.args.line.len (drop c.args.at c.args.tokens.now.tokens) in
+    subst (λ (g : LineGaps). IsSigned g line) (sym c.plain_line.ensures) (signed_none c.next_level-level.result line c.next_level-level.ensures.small)
+
+pub returns-clause-signed : goal.returns-clause-signed
+returns-clause-signed c =
+    let line : Line = take c.args.line.len (drop c.args.at c.args.tokens.now.tokens) in
     let gap : c.saturating_sub-gap.result + 1 ≤ 2 ^ 33 = omega (arith, c.run_column-column.ensures.fits, c.saturating_sub-gap.ensures) in
-    narrow_set c.args.tokens.now.tokens c.args.at c.args.line.len c.next_level-level.result c.in-Some.place c.plain_width-own.result (c.saturating_sub-gap.result + 1) c.next_level-level.ensures.small c.requires.small gap
-
-pub returns-in_default-clause-known : goal.returns-in_default-clause-known
-returns-in_default-clause-known c =
-    let line : Line = take c.args.line.len (drop c.args.at c.args.tokens.now.tokens) in
-    subst (λ (g : LineGaps). IsKnown g line) (sym c.plain_line.ensures) refl
-
-pub returns-in_default-clause-order : goal.returns-in_default-clause-order
-returns-in_default-clause-order c i e = subst (λ (g : LineGaps). known_place g.assign ≤ i) (sym c.plain_line.ensures) (omega arith)
-
-pub returns-clause-known : goal.returns-clause-known
-returns-clause-known c =
-    let line : Line = take c.args.line.len (drop c.args.at c.args.tokens.now.tokens) in
-    known_set c.next_level-level.result c.in-Some.place c.plain_width-own.result (c.saturating_sub-gap.result + 1) line c.plain_width-own.ensures.value
-
-pub returns-clause-order : goal.returns-clause-order
-returns-clause-order c i e = assign_before (take c.args.line.len (drop c.args.at c.args.tokens.now.tokens)) c.in-Some.place i (sym c.requires.line.assign ∙ c.in-Some.is) e
-
-pub returns-clause-sign_behind : goal.returns-clause-sign_behind
-returns-clause-sign_behind c = assign_behind (take c.args.line.len (drop c.args.at c.args.tokens.now.tokens)) c.in-Some.place (sym c.requires.line.assign ∙ c.in-Some.is)
+    signed_set c.next_level-level.result c.in-Some.place c.plain_width-own.result (c.saturating_sub-gap.result + 1) line c.next_level-level.ensures.small (sym c.requires.line.assign ∙ c.in-Some.is) c.plain_width-own.ensures.value gap
