@@ -129,17 +129,17 @@ front_gaps ts g first len =
 
 pub entered_before : (ts : List Lexeme) (text : List ℕ) (w new : Walk) (runs runs' : Runs) (line : LineFacts) (g : LineGaps) (c m : Option ℕ) (first at end : ℕ)
     → IsLine ts first w.depth line
-    → EndsWell w.column runs.assign line.assign → EndsWell runs.column runs.comment line.running
-    → Enters w.column line.assign c → Enters runs.column line.running m
-    → IfSome (assign_width w.depth w.levels (take line.len (drop first ts))) (λ x. runs'.assign ≡ max (since w.column runs.assign) x)
-    → IfSome (comment_width w.depth w.levels c (take line.len (drop first ts)) (lines (drop first ts))) (λ x. runs'.comment ≡ max (since runs.column runs.comment) x)
-    → gaps_in g (take line.len (drop first ts)) ≡ align trailing_comment (assigned_line w.depth w.levels c (take line.len (drop first ts)) (lines (drop first ts))) (take line.len (drop first ts)) runs'.column
+    → EndsWell w.signs runs.assign line.assign → EndsWell w.comments runs.comment line.running
+    → Enters w.signs line.assign c → Enters w.comments line.running m
+    → IfSome (assign_width w.depth w.levels (take line.len (drop first ts))) (λ x. runs'.assign ≡ max (since w.signs runs.assign) x)
+    → IfSome (comment_width w.depth w.levels c (take line.len (drop first ts)) (lines (drop first ts))) (λ x. runs'.comment ≡ max (since w.comments runs.comment) x)
+    → gaps_in g (take line.len (drop first ts)) ≡ align trailing_comment (assigned_line w.depth w.levels c (take line.len (drop first ts)) (lines (drop first ts))) (take line.len (drop first ts)) (comment_column w.depth w.levels c m (lines (drop first ts)))
     → new.depth ≡ depth_after w.depth (take line.len (drop first ts))
     → new.levels ≡ levels_behind w.depth (depth_after w.depth (take line.len (drop first ts))) w.levels
-    → new.column ≡ assign_column w.depth w.levels c (lines (drop first ts))
-    → runs'.column ≡ comment_column w.depth w.levels c m (lines (drop first ts))
+    → new.signs ≡ assign_column w.depth w.levels c (lines (drop first ts))
+    → new.comments ≡ comment_column w.depth w.levels c m (lines (drop first ts))
     → InPlace ts text new runs' (first + line.len) end
-    → left_at ts (record { first = first; end = first + line.len; gaps = g }) (gaps_on ts (first + line.len) new runs'.column) first ≡ drop at text
+    → left_at ts (record { first = first; end = first + line.len; gaps = g }) (gaps_on ts (first + line.len) new) first ≡ drop at text
     → InPlace ts text w runs first at
 entered_before ts text w new runs runs' line g c m first at end is ends_c ends_m enters_c enters_m wide_c wide_m gaps depth levels column comment h left =
     let d = w.depth in
@@ -151,35 +151,35 @@ entered_before ts text w new runs runs' line g c m first at end is ends_c ends_m
     let lv' = levels_behind d d' lv in
     let c' = assign_column d lv c (l ∷ rest) in
     let m' = comment_column d lv c m (l ∷ rest) in
-    let same_c : new.column ≡ c' = column ∙ ap (assign_column d lv c) is.cut in
-    let same_m : runs'.column ≡ m' = comment ∙ ap (comment_column d lv c m) is.cut in
+    let same_c : new.signs ≡ c' = column ∙ ap (assign_column d lv c) is.cut in
+    let same_m : new.comments ≡ m' = comment ∙ ap (comment_column d lv c m) is.cut in
     let ws : assign_widths new.depth new.levels rest ≡ assign_widths d' lv' rest =
     ap₂ (λ (x : ℕ) (y : List ℕ). assign_widths x y rest) depth levels in
-    let vs : comment_widths new.depth new.levels new.column rest ≡ comment_widths d' lv' c' rest =
-    ap₂ (λ (x : ℕ) (y : List ℕ). comment_widths x y new.column rest) depth levels ∙ ap (λ (x : Option ℕ). comment_widths d' lv' x rest) same_c in
+    let vs : comment_widths new.depth new.levels new.signs rest ≡ comment_widths d' lv' c' rest =
+    ap₂ (λ (x : ℕ) (y : List ℕ). comment_widths x y new.signs rest) depth levels ∙ ap (λ (x : Option ℕ). comment_widths d' lv' x rest) same_c in
     let is_c : IsColumn c' runs'.assign (assign_widths d' lv' rest) =
     subst (λ (xs : List (Option ℕ)). IsColumn c' runs'.assign xs) ws (subst (λ (x : Option ℕ). IsColumn x runs'.assign (assign_widths new.depth new.levels rest)) same_c h.assign) in
     let is_m : IsColumn m' runs'.comment (comment_widths d' lv' c' rest) =
-    subst (λ (xs : List (Option ℕ)). IsColumn m' runs'.comment xs) vs (subst (λ (x : Option ℕ). IsColumn x runs'.comment (comment_widths new.depth new.levels new.column rest)) same_m h.comment) in
-    let before = line_back d lv w.column runs.column c m runs.assign runs.comment runs'.assign runs'.comment l rest
-    (subst (λ (x : Option ℕ). EndsWell w.column runs.assign x) is.assign ends_c) (subst (λ (x : Option ℕ). EndsWell runs.column runs.comment x) is.running ends_m)
-    (subst (λ (x : Option ℕ). Enters w.column x c) is.assign enters_c) (subst (λ (x : Option ℕ). Enters runs.column x m) is.running enters_m)
-    wide_c (subst (λ (ls : List Line). IfSome (comment_width d lv c l ls) (λ x. runs'.comment ≡ max (since runs.column runs.comment) x)) is.cut wide_m)
+    subst (λ (xs : List (Option ℕ)). IsColumn m' runs'.comment xs) vs (subst (λ (x : Option ℕ). IsColumn x runs'.comment (comment_widths new.depth new.levels new.signs rest)) same_m h.comment) in
+    let before = line_back d lv w.signs w.comments c m runs.assign runs.comment runs'.assign runs'.comment l rest
+    (subst (λ (x : Option ℕ). EndsWell w.signs runs.assign x) is.assign ends_c) (subst (λ (x : Option ℕ). EndsWell w.comments runs.comment x) is.running ends_m)
+    (subst (λ (x : Option ℕ). Enters w.signs x c) is.assign enters_c) (subst (λ (x : Option ℕ). Enters w.comments x m) is.running enters_m)
+    wide_c (subst (λ (ls : List Line). IfSome (comment_width d lv c l ls) (λ x. runs'.comment ≡ max (since w.comments runs.comment) x)) is.cut wide_m)
     is_c is_m in
     let one : gaps_in g l ≡ align trailing_comment (align assign_cell (plain d lv l) l c') l m' =
-    gaps ∙ ap₂ (λ (ls : List Line) (x : Option ℕ). align trailing_comment (assigned_line d lv c l ls) l x) is.cut same_m in
-    let more : gaps_on ts (first + line.len) new runs'.column ≡ flat_map (λ g. g) (commented d' lv' c' m' rest) =
-    ap₂ (λ (x : ℕ) (y : List ℕ). flat_map (λ g. g) (commented x y new.column runs'.column rest)) depth levels
+    gaps ∙ ap (λ (ls : List Line). align trailing_comment (assigned_line d lv c l ls) l (comment_column d lv c m ls)) is.cut in
+    let more : gaps_on ts (first + line.len) new ≡ flat_map (λ g. g) (commented d' lv' c' m' rest) =
+    ap₂ (λ (x : ℕ) (y : List ℕ). flat_map (λ g. g) (commented x y new.signs new.comments rest)) depth levels
     ∙ ap₂ (λ (x y : Option ℕ). flat_map (λ g. g) (commented d' lv' x y rest)) same_c same_m in
-    let whole : flat_map (λ g. g) (commented d lv c m (l ∷ rest)) ≡ gaps_in g l ++ gaps_on ts (first + line.len) new runs'.column =
+    let whole : flat_map (λ g. g) (commented d lv c m (l ∷ rest)) ≡ gaps_in g l ++ gaps_on ts (first + line.len) new =
     ap₂ (λ (x y : List ℕ). x ++ y) (sym one) (sym more) in
     let front : gaps_in g l ≡ gaps_from g (first - first) (token_before ts first (first - 1)) (token_before ts first first) (take ((first + line.len) - first) (drop first ts)) =
     sym (front_gaps ts g first line.len) in
-    let same : gaps_on ts first w runs.column ≡ gaps_from g (first - first) (token_before ts first (first - 1)) (token_before ts first first) (take ((first + line.len) - first) (drop first ts)) ++ gaps_on ts (first + line.len) new runs'.column =
-    ap (λ (ls : List Line). flat_map (λ g. g) (commented d lv w.column runs.column ls)) is.cut ∙ ap (flat_map (λ g. g)) (sym before.gaps) ∙ whole ∙ ap (λ (x : List ℕ). x ++ gaps_on ts (first + line.len) new runs'.column) front in
+    let same : gaps_on ts first w ≡ gaps_from g (first - first) (token_before ts first (first - 1)) (token_before ts first first) (take ((first + line.len) - first) (drop first ts)) ++ gaps_on ts (first + line.len) new =
+    ap (λ (ls : List Line). flat_map (λ g. g) (commented d lv w.signs w.comments ls)) is.cut ∙ ap (flat_map (λ g. g)) (sym before.gaps) ∙ whole ∙ ap (λ (x : List ℕ). x ++ gaps_on ts (first + line.len) new) front in
     record {
-      assign = subst (λ (ls : List Line). IsColumn w.column runs.assign (assign_widths d lv ls)) (sym is.cut) before.assign;
-      comment = subst (λ (ls : List Line). IsColumn runs.column runs.comment (comment_widths d lv w.column ls)) (sym is.cut) before.comment;
+      assign = subst (λ (ls : List Line). IsColumn w.signs runs.assign (assign_widths d lv ls)) (sym is.cut) before.assign;
+      comment = subst (λ (ls : List Line). IsColumn w.comments runs.comment (comment_widths d lv w.signs ls)) (sym is.cut) before.comment;
       left = ap (λ (x : List ℕ). printed x (drop first ts)) same ∙ left;
     }
 
@@ -222,11 +222,9 @@ line_over ts l rest =
 
 -- ---- at the beginning, and at the end
 
-pub begun : (ts : List Lexeme) (text : List ℕ) (w : Walk) (runs : Runs) → BalancedFrom 0 ts → w.depth ≡ 0 → w.levels ≡ fresh → w.column ≡ None → runs.column ≡ None → InPlace ts text w runs 0 0 → print ts ≡ text
+pub begun : (ts : List Lexeme) (text : List ℕ) (w : Walk) (runs : Runs) → BalancedFrom 0 ts → w.depth ≡ 0 → w.levels ≡ fresh → w.signs ≡ None → w.comments ≡ None → InPlace ts text w runs 0 0 → print ts ≡ text
 begun ts text w runs p e f g none h =
-    let all : gaps_on ts 0 w runs.column ≡ flat_map (λ g. g) (commented w.depth w.levels w.column None (lines ts)) =
-    ap (λ (x : Option ℕ). flat_map (λ g. g) (commented w.depth w.levels w.column x (lines ts))) none in
-    ap (λ gaps. printed gaps ts) (sym (all ∙ start_all ts w.depth w.levels w.column p e f g)) ∙ h.left
+    ap (λ gaps. printed gaps ts) (sym (start_all ts w.depth w.levels w.signs w.comments p e f g none)) ∙ h.left
 
 drop_none : {A : Type 0} (n : ℕ) (xs : List A) → length xs ≤ n → drop n xs ≡ []
 drop_none n xs le = grind (arith, common_steps)
@@ -240,11 +238,11 @@ column_ended None greatest p = tt
 column_ended (Some c) greatest p = omega (arith, p refl)
 
 pub all_passed : (ts : List Lexeme) (text : List ℕ) (w : Walk) (runs : Runs) (first at : ℕ) → length ts ≤ first → length text ≤ at
-    → EndsWell {A = ℕ} w.column runs.assign None → EndsWell {A = ℕ} runs.column runs.comment None → InPlace ts text w runs first at
+    → EndsWell {A = ℕ} w.signs runs.assign None → EndsWell {A = ℕ} w.comments runs.comment None → InPlace ts text w runs first at
 all_passed ts text w runs first at long short p q =
     let none : [] ≡ drop first ts = sym (drop_none first ts long) in
     record {
-      assign = subst (λ (xs : List Lexeme). IsColumn w.column runs.assign (assign_widths w.depth w.levels (lines xs))) none (column_ended w.column runs.assign p);
-      comment = subst (λ (xs : List Lexeme). IsColumn runs.column runs.comment (comment_widths w.depth w.levels w.column (lines xs))) none (column_ended runs.column runs.comment q);
-      left = ap (printed (gaps_on ts first w runs.column)) (sym none) ∙ none_printed (gaps_on ts first w runs.column) ∙ sym (drop_none at text short);
+      assign = subst (λ (xs : List Lexeme). IsColumn w.signs runs.assign (assign_widths w.depth w.levels (lines xs))) none (column_ended w.signs runs.assign p);
+      comment = subst (λ (xs : List Lexeme). IsColumn w.comments runs.comment (comment_widths w.depth w.levels w.signs (lines xs))) none (column_ended w.comments runs.comment q);
+      left = ap (printed (gaps_on ts first w)) (sym none) ∙ none_printed (gaps_on ts first w) ∙ sym (drop_none at text short);
     }

@@ -18,11 +18,11 @@ use Rattle.hcl_layout.proofs.LineLemmas.{blank, indented, width_next}
 use Rattle.hcl_layout.proofs.StreamLemmas.{gaps_all}
 use Rattle.hcl_layout.proofs.SurveyLemmas.{drop_at, token_at}
 
-pub start_all : (ts : List Lexeme) (d : ℕ) (levels : List ℕ) (column : Option ℕ) → BalancedFrom 0 ts → d ≡ 0 → levels ≡ fresh → column ≡ None
-    → flat_map (λ g. g) (commented d levels column None (lines ts)) ≡ gaps ts
-start_all ts d levels column p e f g =
-    ap₂ (λ (x : ℕ) (y : List ℕ). flat_map (λ g. g) (commented x y column None (lines ts))) e f
-    ∙ ap (λ (x : Option ℕ). flat_map (λ g. g) (commented 0 fresh x None (lines ts))) g ∙ sym (gaps_all ts p)
+pub start_all : (ts : List Lexeme) (d : ℕ) (levels : List ℕ) (column comment : Option ℕ) → BalancedFrom 0 ts → d ≡ 0 → levels ≡ fresh → column ≡ None → comment ≡ None
+    → flat_map (λ g. g) (commented d levels column comment (lines ts)) ≡ gaps ts
+start_all ts d levels column comment p e f g h =
+    ap₂ (λ (x : ℕ) (y : List ℕ). flat_map (λ g. g) (commented x y column comment (lines ts))) e f
+    ∙ ap₂ (λ (x y : Option ℕ). flat_map (λ g. g) (commented 0 fresh x y (lines ts))) g h ∙ sym (gaps_all ts p)
 
 -- the first token of a line has none after it
 pub none_behind : (ts : List Lexeme) (at n : ℕ) → n ≤ at → token_before ts at n ≡ None

@@ -1,12 +1,14 @@
 -- Reading a run ahead, line by line.
-use Rattle.std.proofs.Common.{◌*◌, ◌≡◌, ◌∙◌, ◌+◌, ◌-◌, ◌<◌, ◌≤◌, ◌^◌, ℕ, suc, zero, Bool, true, false, List, [], ◌∷◌, Option, Some, None, length, ap, refl, sym, arith, take, drop, length-take}
-use Rattle.std.specs.Prelude.{IfSome, slice_set, if◌then◌else◌}
+use Rattle.std.proofs.Common.{◌*◌, ◌≡◌, ◌∙◌, ◌+◌, ◌-◌, ◌<◌, ◌≤◌, ◌^◌, ℕ, suc, zero, Bool, true, false, List, [], ◌∷◌, Option, Some, None, length, ap, ap₂, refl, subst, sym, arith, take, drop, length-take}
+use Rattle.std.specs.Prelude.{IfSome, option_map, slice_set, if◌then◌else◌}
 use Rattle.hcl_tokens.specs.Lexemes.{Lexeme}
 use Rattle.hcl_tokens.specs.Balanced.{max_open}
 use Rattle.hcl_layout.specs.Cells.{assign_cell, before_comment, has_multiline, if_level, is_level, is_assignment, is_trailing, found_from, running_comment, trailing_comment, until}
 use Rattle.hcl_layout.specs.Gaps.{align, gap_to, plain_gaps, width}
 use Rattle.hcl_layout.specs.Levels.{net_of}
-use Rattle.hcl_layout.specs.Inner.LineGaps.{IsKnown, IsSigned, len_with_blanks, gaps_in, plain_of, set_cell}
+use Rattle.hcl_layout.specs.Inner.LineGaps.{AreSet, IsKnown, IsSigned, len_with_blanks, gaps_in, plain_of, set_cell}
+use Rattle.hcl_layout.specs.Inner.Depths.{depth_after, levels_behind}
+use Rattle.hcl_layout.specs.Inner.Stream.{assign_column, assigned_line, column_behind, comment_column, comment_widths, next_of}
 use Rattle.hcl_layout.specs.Lines.{Line}
 use Rattle.hcl_layout.specs.declared.gap.Cell.{Cell}
 use Rattle.hcl_layout.specs.declared.gap.LineGaps.{LineGaps}
@@ -175,3 +177,55 @@ commented_in level assign comment i own gap line e =
 
 pub comment_cell : (gaps : List ℕ) (l : Line) (column : Option ℕ) (i gap : ℕ) → trailing_comment l ≡ Some i → gap ≡ gap_to column (width i gaps l) → slice_set gaps i gap ≡ align trailing_comment gaps l column
 comment_cell gaps l column i gap e f = rw (e, f) refl
+
+pub comment_none : (gaps : List ℕ) (l : Line) (column : Option ℕ) → trailing_comment l ≡ None → gaps ≡ align trailing_comment gaps l column
+comment_none gaps l column e = rw e refl
+
+pub set_signed : (g : LineGaps) (l : Line) → IsSigned g l → AreSet g
+set_signed g l p = record {
+  level = p.level;
+  sign_gap = p.gap;
+  comment_gap = subst (λ (o : Option Cell). IfSome o (λ c. c.gap ≤ 2 ^ 34)) (sym p.plain) tt;
+  sign_front = p.front;
+  comment_front = subst (λ (o : Option Cell). IfSome o (λ c. 0 < c.place)) (sym p.plain) tt;
+}
+
+pub set_commented : (g : LineGaps) (l : Line) (i own gap : ℕ) → IsSigned g l → trailing_comment l ≡ Some i → gap ≤ 2 ^ 34
+    → AreSet (record { level = g.level; assign = g.assign; comment = Some (record { place = i; width = own; gap = gap }) })
+set_commented g l i own gap p e small = record { level = p.level; sign_gap = p.gap; comment_gap = small; sign_front = p.front; comment_front = comment_behind l i e }
+
+-- ---- the column of a line's comment
+
+pub no_running : (l : Line) → trailing_comment l ≡ None → running_comment l ≡ None
+no_running l e = go (has_multiline l)
+  where
+    go : (v : Bool) → (if v then None else trailing_comment l) ≡ None
+    go true = refl
+    go false = e
+
+pub running_place : (l : Line) (i j : ℕ) → running_comment l ≡ Some j → trailing_comment l ≡ Some i → running_comment l ≡ Some i
+running_place l i j e f = e ∙ sym (multiline_some (has_multiline l) (trailing_comment l) j e) ∙ f
+
+next_none : (column : Option ℕ) (rest : List (Option ℕ)) → None ≡ next_of column (None ∷ rest)
+next_none None rest = refl
+next_none (Some c) rest = refl
+
+-- where it takes part in no run
+pub column_none : (gaps : List ℕ) (l : Line) (column : Option ℕ) (rest : List (Option ℕ)) → running_comment l ≡ None → None ≡ column_behind gaps l column rest
+column_none gaps l column rest e = rw e (next_none column rest)
+
+-- and where it does
+pub column_some : (gaps : List ℕ) (l : Line) (column : Option ℕ) (rest : List (Option ℕ)) (i own c : ℕ) → running_comment l ≡ Some i → own ≡ width i gaps l → Some c ≡ next_of column (Some own ∷ rest)
+    → Some c ≡ column_behind gaps l column rest
+column_some gaps l column rest i own c e f g = g ∙ ap (λ w. next_of column (Some w ∷ rest)) f ∙ ap (λ (x : Option ℕ). next_of column (option_map (λ k. width k gaps l) x ∷ rest)) (sym e)
+
+-- by what is known after the line but for the comment
+pub column_is : (d : ℕ) (levels : List ℕ) (column comment : Option ℕ) (l : Line) (ls rest : List Line) (gaps : List ℕ) (d' : ℕ) (levels' : List ℕ) (column' : Option ℕ)
+    → ls ≡ l ∷ rest → gaps ≡ assigned_line d levels column l ls → d' ≡ depth_after d l → levels' ≡ levels_behind d (depth_after d l) levels → column' ≡ assign_column d levels column ls
+    → column_behind gaps l comment (comment_widths d' levels' column' rest) ≡ comment_column d levels column comment ls
+column_is d levels column comment l ls rest gaps d' levels' column' cut g e f h =
+    let now : List ℕ = assigned_line d levels column l (l ∷ rest) in
+    ap (λ (gs : List ℕ). column_behind gs l comment (comment_widths d' levels' column' rest)) (g ∙ ap (assigned_line d levels column l) cut)
+    ∙ ap₂ (λ (x : ℕ) (y : List ℕ). column_behind now l comment (comment_widths x y column' rest)) e f
+    ∙ ap (λ (x : Option ℕ). column_behind now l comment (comment_widths (depth_after d l) (levels_behind d (depth_after d l) levels) x rest)) (h ∙ ap (assign_column d levels column) cut)
+    ∙ sym (ap (comment_column d levels column comment) cut)

@@ -1,11 +1,11 @@
 //! The gaps of one line, and the widths before its cells.
-ghost use Rattle.std.specs.Prelude.{◌*◌, ◌≡◌, ◌<◌, ◌≤◌, ◌+◌, ◌-◌, ◌^◌, ℕ, true, None, Some, IfSome, length, take, drop, option_map, slice_get};
+ghost use Rattle.std.specs.Prelude.{◌*◌, ◌≡◌, ◌<◌, ◌≤◌, ◌+◌, ◌-◌, ◌^◌, ℕ, None, Some, IfSome, length, take, drop, option_map, slice_get};
 ghost use Rattle.hcl_tokens.specs.Lexemes.{Lexeme};
 ghost use Rattle.hcl_tokens.specs.Scanned.{lexeme};
 ghost use Rattle.hcl_tokens.specs.Balanced.{max_open};
 ghost use Rattle.hcl_layout.specs.Gaps.{indent as indent_of, plain_gaps, width as width_of};
-ghost use Rattle.hcl_layout.specs.Inner.Left.{token_before};
-ghost use Rattle.hcl_layout.specs.Inner.LineGaps.{ArePlain, IsSigned, IsUntold, known_place, known_width, cell_gap as cell_gap_of, gap_of, gaps_in, given_or, plain_gap as plain_gap_of, plain_of};
+ghost use Rattle.hcl_layout.specs.Inner.Left.{gap_before, plain_gap_before, token_before};
+ghost use Rattle.hcl_layout.specs.Inner.LineGaps.{ArePlain, IsSigned, IsUntoldAt, known_place, known_width, cell_gap as cell_gap_of, gaps_in, given_or, plain_of};
 
 use crate::measured::Measured;
 use hcl_spacing::{space_by_kinds, space_by_texts};
@@ -60,45 +60,45 @@ pub fn indent(level: u32, token: Token<'_>) -> u64
     2 * u64::from(level)
 }
 
-/// The token before a place, where it is of the line that begins at `start`.
+/// The token before the one of a number, where it is of the line that begins with token `first`.
 #[inline(always)]
-fn token_before<'s>(tokens: &Measured<'_, 's>, start: usize, at: usize) -> Option<Token<'s>>
-    requires { at ≤ length tokens.now.tokens }
-    ensures { option_map lexeme result ≡ token_before tokens.now.tokens start at }
+fn token_before<'s>(tokens: &Measured<'_, 's>, first: usize, number: usize) -> Option<Token<'s>>
+    requires { number ≤ length tokens.now.tokens }
+    ensures { option_map lexeme result ≡ token_before tokens.now.tokens first number }
 {
-    if start < at {
-        return Some(tokens.get(at - 1));
+    if first < number {
+        return Some(tokens.get(number - 1));
     }
     None
 }
 
-/// The gap before the token at a place of the line that begins at `start`, by the spacing alone, where there is another
+/// The gap before a token of the line that begins with token `first`, by the spacing alone, where there is another
 /// before it and the kinds of the two don't tell the gap. It is a call that looks up all tokens itself, so that its caller
 /// builds none that it seldom needs.
 #[inline(never)]
-fn looked_up_gap(tokens: &Measured<'_, '_>, start: usize, at: usize) -> u64
-    requires within { at < length tokens.now.tokens }
-    requires behind { start < at }
-    requires untold { (subject t : Lexeme) → slice_get tokens.now.tokens (at - 1) ≡ Some subject → slice_get tokens.now.tokens at ≡ Some t → IsUntold subject t }
-    ensures { (level : ℕ) (t : Lexeme) → slice_get tokens.now.tokens at ≡ Some t → result ≡ plain_gap_of level (token_before tokens.now.tokens start (at - 1)) (token_before tokens.now.tokens start at) t }
+fn looked_up_gap(tokens: &Measured<'_, '_>, first: usize, number: usize) -> u64
+    requires within { number < length tokens.now.tokens }
+    requires behind { first < number }
+    requires untold { IsUntoldAt tokens.now.tokens number }
+    ensures { (level : ℕ) (t : Lexeme) → slice_get tokens.now.tokens number ≡ Some t → result ≡ plain_gap_before tokens.now.tokens level first number t }
 {
-    let token = tokens.get(at);
-    let subject = tokens.get(at - 1);
-    let before = token_before(tokens, start, at - 1);
+    let token = tokens.get(number);
+    let subject = tokens.get(number - 1);
+    let before = token_before(tokens, first, number - 1);
     u64::from(space_by_texts(before, subject, token))
 }
 
 /// The same where the kinds may tell it, as they nearly always do.
 #[inline(always)]
-pub fn gap_behind(tokens: &Measured<'_, '_>, start: usize, at: usize, token: Token<'_>) -> u64
-    requires there { slice_get tokens.now.tokens at ≡ Some (lexeme token) }
-    requires within { at < length tokens.now.tokens }
-    requires behind { start < at }
-    ensures { (level : ℕ) → result ≡ plain_gap_of level (token_before tokens.now.tokens start (at - 1)) (token_before tokens.now.tokens start at) (lexeme token.entry) }
+pub fn gap_behind(tokens: &Measured<'_, '_>, first: usize, number: usize, token: Token<'_>) -> u64
+    requires there { slice_get tokens.now.tokens number ≡ Some (lexeme token) }
+    requires within { number < length tokens.now.tokens }
+    requires behind { first < number }
+    ensures { (level : ℕ) → result ≡ plain_gap_before tokens.now.tokens level first number (lexeme token.entry) }
 {
-    match space_by_kinds(tokens.get(at - 1), token) {
+    match space_by_kinds(tokens.get(number - 1), token) {
         Some(space) => u64::from(space),
-        None => looked_up_gap(tokens, start, at),
+        None => looked_up_gap(tokens, first, number),
     }
 }
 
@@ -107,17 +107,17 @@ pub fn gap_behind(tokens: &Measured<'_, '_>, start: usize, at: usize, token: Tok
 pub fn plain_gap_at(
     tokens: &Measured<'_, '_>,
     level: u32,
-    start: usize,
-    at: usize,
+    first: usize,
+    number: usize,
     token: Token<'_>,
 ) -> u64
-    requires there { slice_get tokens.now.tokens at ≡ Some (lexeme token) }
-    requires within { at < length tokens.now.tokens }
+    requires there { slice_get tokens.now.tokens number ≡ Some (lexeme token) }
+    requires within { number < length tokens.now.tokens }
     requires level { level ≤ max_open }
-    ensures { result ≡ plain_gap_of level (token_before tokens.now.tokens start (at - 1)) (token_before tokens.now.tokens start at) (lexeme token.entry) }
+    ensures { result ≡ plain_gap_before tokens.now.tokens level first number (lexeme token.entry) }
 {
-    if start < at {
-        return gap_behind(tokens, start, at, token);
+    if first < number {
+        return gap_behind(tokens, first, number, token);
     }
     indent(level, token)
 }
@@ -150,21 +150,21 @@ fn gap_of_cell(cell: Option<Cell>, place: usize) -> Option<u64>
     None
 }
 
-/// The gap before the token at a place of the line that begins at `start`: that of its cell there, and else the plain one.
+/// The gap before a token of the line that begins with token `first`: that of its cell there, and else the plain one.
 #[inline(always)]
-pub fn gap_at(tokens: &Measured<'_, '_>, gaps: LineGaps, start: usize, at: usize) -> u64
-    requires within { at < length tokens.now.tokens }
-    requires order { start ≤ at }
+pub fn gap_at(tokens: &Measured<'_, '_>, gaps: LineGaps, first: usize, number: usize) -> u64
+    requires within { number < length tokens.now.tokens }
+    requires order { first ≤ number }
     requires level { gaps.level ≤ max_open }
-    ensures { (t : Lexeme) → slice_get tokens.now.tokens at ≡ Some t → result ≡ gap_of gaps (at - start) (token_before tokens.now.tokens start (at - 1)) (token_before tokens.now.tokens start at) t }
+    ensures { (t : Lexeme) → slice_get tokens.now.tokens number ≡ Some t → result ≡ gap_before tokens.now.tokens gaps first number t }
 {
-    if let Some(gap) = gap_of_cell(gaps.comment, at - start) {
+    if let Some(gap) = gap_of_cell(gaps.comment, number - first) {
         return gap;
     }
-    if let Some(gap) = gap_of_cell(gaps.assign, at - start) {
+    if let Some(gap) = gap_of_cell(gaps.assign, number - first) {
         return gap;
     }
-    plain_gap_at(tokens, gaps.level, start, at, tokens.get(at))
+    plain_gap_at(tokens, gaps.level, first, number, tokens.get(number))
 }
 
 /// A place after another of a line, up to which the cell doesn't stand: its own, if it follows, or else the end.
@@ -212,19 +212,19 @@ pub fn next_cell(gaps: LineGaps, place: usize, len: usize) -> usize
     before_cell(gaps.comment, place, before_cell(gaps.assign, place, len))
 }
 
-/// The width before the token at a place of the line that begins at a token, by the level and the spacing alone.
+/// The width before a place of the line that begins with token `first`, by the level and the spacing alone.
 #[inline(always)]
 pub fn plain_width(
     tokens: &Measured<'_, '_>,
-    at: usize,
+    first: usize,
     len: usize,
     place: usize,
     level: u32,
 ) -> u64
-    requires within { at + len ≤ length tokens.now.tokens }
+    requires within { first + len ≤ length tokens.now.tokens }
     requires there { place ≤ len }
     requires level { level ≤ max_open }
-    ensures value { result ≡ width_of place (plain_gaps level (take len (drop at tokens.now.tokens))) (take len (drop at tokens.now.tokens)) }
+    ensures value { result ≡ width_of place (plain_gaps level (take len (drop first tokens.now.tokens))) (take len (drop first tokens.now.tokens)) }
     ensures small { result ≤ 2 ^ 24 }
 {
     // so the number of each token fits
@@ -232,11 +232,11 @@ pub fn plain_width(
     if place == 0 {
         return 0;
     }
-    let first = tokens.get(at);
-    let mut sum = indent(level, first) + tokens.clusters(first);
+    let head = tokens.get(first);
+    let mut sum = indent(level, head) + tokens.clusters(head);
     for k in 1..place {
-        let token = tokens.get(at + k);
-        sum += gap_behind(tokens, at, at + k, token) + tokens.clusters(token);
+        let token = tokens.get(first + k);
+        sum += gap_behind(tokens, first, first + k, token) + tokens.clusters(token);
     }
     sum
 }
@@ -253,15 +253,21 @@ fn known(gaps: LineGaps) -> (usize, u64)
     (cell.place, cell.width)
 }
 
-/// The width before the token at a place of the line that begins at a token, on from the assign cell. Its comment isn't
+/// The width before a place of the line that begins with token `first`, on from the assign cell. Its comment isn't
 /// set yet.
 #[inline(always)]
-pub fn width(tokens: &Measured<'_, '_>, at: usize, len: usize, place: usize, gaps: LineGaps) -> u64
-    requires within { at + len ≤ length tokens.now.tokens }
+pub fn width(
+    tokens: &Measured<'_, '_>,
+    first: usize,
+    len: usize,
+    place: usize,
+    gaps: LineGaps,
+) -> u64
+    requires within { first + len ≤ length tokens.now.tokens }
     requires there { place ≤ len }
-    requires signed { IsSigned gaps (take len (drop at tokens.now.tokens)) }
+    requires signed { IsSigned gaps (take len (drop first tokens.now.tokens)) }
     requires order { known_place gaps.assign ≤ place }
-    ensures value { result ≡ width_of place (gaps_in gaps (take len (drop at tokens.now.tokens))) (take len (drop at tokens.now.tokens)) }
+    ensures value { result ≡ width_of place (gaps_in gaps (take len (drop first tokens.now.tokens))) (take len (drop first tokens.now.tokens)) }
     ensures narrow { result < 2 ^ 34 }
     ensures small { (n : ℕ) → IfSome gaps.assign (λ c. c.gap ≤ n) → result ≤ 2 * max_open + 2 ^ 23 + n }
 {
@@ -269,8 +275,8 @@ pub fn width(tokens: &Measured<'_, '_>, at: usize, len: usize, place: usize, gap
     let _count = tokens.len();
     let (from, mut sum) = known(gaps);
     for k in from..place {
-        let token = tokens.get(at + k);
-        let plain = plain_gap_at(tokens, gaps.level, at, at + k, token);
+        let token = tokens.get(first + k);
+        let plain = plain_gap_at(tokens, gaps.level, first, first + k, token);
         let gap = cell_gap(gaps.assign, k, plain);
         sum += gap + tokens.clusters(token);
     }

@@ -13,16 +13,15 @@
 //! x  = 1                                   2                    1
 //!                                          -                    -         2 > 1: not in place
 //! ```
-ghost use Rattle.std.specs.Prelude.{◌≡◌, ◌<◌, ◌≤◌, ◌+◌, ◌-◌, ◌^◌, ◌++◌, ℕ, List, None, Some, IsTrue, Option, IfSome, length, drop, max};
-ghost use Rattle.hcl_tokens.specs.Lexemes.{Lexeme};
+ghost use Rattle.std.specs.Prelude.{◌≡◌, ◌<◌, ◌≤◌, ◌+◌, ◌-◌, ◌^◌, ◌++◌, ℕ, None, Some, IsTrue, Option, IfSome, length, drop, max};
 ghost use Rattle.hcl_tokens.specs.Balanced.{IsBalanced};
 ghost use Rattle.hcl_layout.specs.Print.{print};
-ghost use Rattle.hcl_layout.specs.Inner.InPlace.{EndsWell, Enters, GoOn, HoldsBefore, InPlace, Laid, since as since_of};
+ghost use Rattle.hcl_layout.specs.Inner.InPlace.{Continues, EndsWell, Enters, GoOn, HoldsBefore, Laid, since as since_of};
 ghost use Rattle.hcl_layout.specs.Inner.Left.{bytes_of};
 ghost use Rattle.hcl_layout.specs.Inner.LineGaps.{ArePlain};
 ghost use Rattle.hcl_layout.specs.Inner.Simple.{IsFrom};
 ghost use Rattle.hcl_layout.specs.Inner.Stream.{HasWidth};
-ghost use Rattle.hcl_layout.specs.Inner.Walks.{Stands};
+ghost use Rattle.hcl_layout.specs.Inner.Walks.{HasCome};
 
 use crate::gap::{Cell, LineGaps, gap_at, gap_behind, next_cell, plain_gap_at};
 use crate::line::line_at;
@@ -30,10 +29,9 @@ use crate::measured::Measured;
 use crate::piece::{Piece, goes_on, piece_of};
 use crate::runs::{Walk, start_walk};
 
-/// The runs at hand: the column of the comments, and the greatest widths passed before the signs and before the comments.
+/// The runs at hand: the greatest widths passed before the signs and before the comments.
 #[derive(Clone, Copy)]
 pub struct Runs {
-    pub column: Option<u64>,
     pub assign: u64,
     pub comment: u64,
 }
@@ -138,29 +136,24 @@ fn enter(
     offset: usize,
 ) -> Option<LaidLine>
     requires within { first < length tokens.now.tokens }
-    requires stands { Stands tokens.now.tokens first walk.old.depth walk.old.levels }
-    requires fits { IfSome walk.old.column (λ c. c < 2 ^ 33) }
-    requires narrow { IfSome runs.old.column (λ c. c < 2 ^ 34) }
+    requires come { HasCome tokens.now.tokens first walk.old }
     ensures laid { IfSome result (λ line. Laid tokens.now.tokens line) }
     ensures first { IfSome result (λ line. line.first ≡ first) }
-    ensures stands { IfSome result (λ line. Stands tokens.now.tokens line.end walk.new.depth walk.new.levels) }
-    ensures fits { IfSome result (λ line. IfSome walk.new.column (λ c. c < 2 ^ 33)) }
-    ensures narrow { IfSome result (λ line. IfSome runs.new.column (λ c. c < 2 ^ 34)) }
+    ensures come { IfSome result (λ line. HasCome tokens.now.tokens line.end walk.new) }
     ensures step { IfSome result (λ line. HoldsBefore tokens.now.tokens tokens.now.text line first offset walk.old runs.old walk.new runs.new) }
 {
     let line = line_at(tokens, first, walk.depth);
-    if !ends_well(walk.column, runs.assign, line.assign) {
+    if !ends_well(walk.signs, runs.assign, line.assign) {
         return None;
     }
-    if !ends_well(runs.column, runs.comment, line.running) {
+    if !ends_well(walk.comments, runs.comment, line.running) {
         return None;
     }
-    let assign = since(walk.column, runs.assign);
-    let comment = since(runs.column, runs.comment);
-    walk.column = entered(tokens, walk.column, first, line.assign, offset);
-    let before = entered(tokens, runs.column, first, line.running, offset);
-    let (gaps, column) = walk.pass_commented(before, tokens, first, line);
-    runs.column = column;
+    let assign = since(walk.signs, runs.assign);
+    let comment = since(walk.comments, runs.comment);
+    walk.signs = entered(tokens, walk.signs, first, line.assign, offset);
+    walk.comments = entered(tokens, walk.comments, first, line.running, offset);
+    let gaps = walk.pass(tokens, first, line);
     runs.assign = widened(assign, gaps.assign);
     runs.comment = widened(comment, gaps.comment);
     Some(LaidLine {
@@ -344,18 +337,14 @@ fn pass_line(
     offset: usize,
 ) -> Option<(usize, usize)>
     requires some { first < length tokens.now.tokens }
-    requires stands { Stands tokens.now.tokens first walk.old.depth walk.old.levels }
-    requires fits { IfSome walk.old.column (λ c. c < 2 ^ 33) }
-    requires narrow { IfSome runs.old.column (λ c. c < 2 ^ 34) }
+    requires come { HasCome tokens.now.tokens first walk.old }
     requires source { source.now ≡ tokens.now.text }
     requires within { offset ≤ length source.now }
     ensures on { IfSome result (λ p. first < p.0) }
     ensures tokens { IfSome result (λ p. p.0 ≤ length tokens.now.tokens) }
-    ensures stands { IfSome result (λ p. Stands tokens.now.tokens p.0 walk.new.depth walk.new.levels) }
-    ensures fits { IfSome result (λ p. IfSome walk.new.column (λ c. c < 2 ^ 33)) }
-    ensures narrow { IfSome result (λ p. IfSome runs.new.column (λ c. c < 2 ^ 34)) }
+    ensures come { IfSome result (λ p. HasCome tokens.now.tokens p.0 walk.new) }
     ensures within { IfSome result (λ p. p.1 ≤ length source.now) }
-    ensures step { IfSome result (λ p. InPlace tokens.now.tokens tokens.now.text walk.new runs.new p.0 p.1 → InPlace tokens.now.tokens tokens.now.text walk.old runs.old first offset) }
+    ensures step { IfSome result (λ p. Continues tokens.now.tokens tokens.now.text walk.old runs.old first offset walk.new runs.new p.0 p.1) }
 {
     let Some(line) = enter(walk, runs, tokens, first, offset) else {
         return None;
@@ -368,11 +357,11 @@ fn pass_line(
 
 /// Whether both runs that end with the text have a width as great as their columns.
 #[inline(always)]
-fn end_well(column: Option<u64>, runs: Runs) -> bool
-    ensures assign { IsTrue result → EndsWell {A = ℕ} column runs.assign None }
-    ensures comment { IsTrue result → EndsWell {A = ℕ} runs.column runs.comment None }
+fn end_well(walk: &Walk, runs: Runs) -> bool
+    ensures assign { IsTrue result → EndsWell {A = ℕ} walk.now.signs runs.assign None }
+    ensures comment { IsTrue result → EndsWell {A = ℕ} walk.now.comments runs.comment None }
 {
-    ends_well(column, runs.assign, None) && ends_well(runs.column, runs.comment, None)
+    ends_well(walk.signs, runs.assign, None) && ends_well(walk.comments, runs.comment, None)
 }
 
 /// Whether the source was found to be its print, with the columns of its runs taken from the source. Where it wasn't, it
@@ -386,7 +375,6 @@ pub fn stands_in_place(tokens: &Measured<'_, '_>) -> bool
     let count = tokens.len();
     let mut walk = start_walk();
     let mut runs = Runs {
-        column: None,
         assign: 0,
         comment: 0,
     };
@@ -400,5 +388,5 @@ pub fn stands_in_place(tokens: &Measured<'_, '_>) -> bool
         next = after;
         offset = end;
     }
-    offset == source.len() && end_well(walk.column, runs)
+    offset == source.len() && end_well(&walk, runs)
 }

@@ -9,10 +9,10 @@
 //!
 //! The line at hand has been surveyed, so its level and the gaps of its cells are known; the other gaps come from the table
 //! of spacing, token by token. At the end of the line the next one is surveyed.
-ghost use Rattle.std.specs.Prelude.{◌≡◌, ◌<◌, ◌≤◌, ◌+◌, ◌*◌, ◌^◌, ◌++◌, ◌∷◌, [], List, Some, length, replicate, slice_get, IfSome, MatchOption};
+ghost use Rattle.std.specs.Prelude.{◌≡◌, ◌<◌, ◌≤◌, ◌+◌, ◌^◌, ◌++◌, List, Some, length, IfSome};
 ghost use Rattle.hcl_tokens.specs.Lexemes.{Lexeme};
 ghost use Rattle.hcl_layout.specs.Inner.Depths.{BalancedFrom};
-ghost use Rattle.hcl_layout.specs.Inner.Left.{Ready, bytes_of, gaps_left, rest_gaps, to_print};
+ghost use Rattle.hcl_layout.specs.Inner.Left.{BeginsWith, PassesPiece, Ready, bytes_of, gaps_left, rest_gaps, to_print};
 ghost use Rattle.hcl_layout.specs.Inner.Simple.{IsFrom};
 ghost use Rattle.hcl_layout.specs.Print.{print};
 
@@ -33,7 +33,6 @@ pub struct Pieces {
     pub end: usize,
     pub gaps: LineGaps,
     pub walk: Walk,
-    pub comment: Option<u64>,
 }
 
 /// Before the first token.
@@ -49,7 +48,6 @@ pub fn start() -> Pieces
         end: 0,
         gaps: plain_line(0),
         walk: start_walk(),
-        comment: None,
     }
 }
 
@@ -64,17 +62,13 @@ fn enter_line(pieces: &mut Pieces, tokens: &Measured<'_, '_>)
     ensures same { pieces.new.next ≡ pieces.old.next }
     ensures some { pieces.new.next < pieces.new.end }
     ensures front { pieces.new.start ≡ pieces.new.next }
-    ensures assign { IfSome pieces.new.gaps.assign (λ c. 0 < c.place) }
-    ensures comment { IfSome pieces.new.gaps.comment (λ c. 0 < c.place) }
 {
     let at = pieces.next;
     let line = line_at(tokens, at, pieces.walk.depth);
-    let (gaps, comment) = pieces.walk.pass_commented(pieces.comment, tokens, at, line);
-    pieces.gaps = gaps;
+    pieces.gaps = pieces.walk.pass(tokens, at, line);
     pieces.start = at;
     pieces.stop = at;
     pieces.end = at + line.len;
-    pieces.comment = comment;
 }
 
 /// Passes the first piece of the line at hand, which is no cell, and gives its gap.
@@ -83,10 +77,8 @@ fn pass_front(pieces: &mut Pieces, tokens: &Measured<'_, '_>) -> u64
     requires ready { Ready tokens.now.tokens pieces.old }
     requires some { pieces.old.next < pieces.old.end }
     requires front { pieces.old.start ≡ pieces.old.next }
-    requires assign { IfSome pieces.old.gaps.assign (λ c. 0 < c.place) }
-    requires comment { IfSome pieces.old.gaps.comment (λ c. 0 < c.place) }
     ensures ready { Ready tokens.now.tokens pieces.new }
-    ensures left { (t : Lexeme) → slice_get tokens.now.tokens pieces.old.next ≡ Some t → to_print tokens.now.tokens pieces.old ≡ (replicate result 32 ++ t.text) ++ to_print tokens.now.tokens pieces.new }
+    ensures left { PassesPiece tokens.now.tokens pieces.old result pieces.new }
     ensures next { pieces.new.next ≡ pieces.old.next + 1 }
     ensures gap { result ≤ 2 ^ 34 }
 {
@@ -103,7 +95,7 @@ fn pass_piece(pieces: &mut Pieces, tokens: &Measured<'_, '_>) -> u64
     requires ready { Ready tokens.now.tokens pieces.old }
     requires some { pieces.old.next < pieces.old.end }
     ensures ready { Ready tokens.now.tokens pieces.new }
-    ensures left { (t : Lexeme) → slice_get tokens.now.tokens pieces.old.next ≡ Some t → to_print tokens.now.tokens pieces.old ≡ (replicate result 32 ++ t.text) ++ to_print tokens.now.tokens pieces.new }
+    ensures left { PassesPiece tokens.now.tokens pieces.old result pieces.new }
     ensures next { pieces.new.next ≡ pieces.old.next + 1 }
     ensures gap { result ≤ 2 ^ 34 }
 {
@@ -120,7 +112,7 @@ fn pass_cell(pieces: &mut Pieces, tokens: &Measured<'_, '_>) -> u64
     requires ready { Ready tokens.now.tokens pieces.old }
     requires some { pieces.old.next < pieces.old.end }
     ensures ready { Ready tokens.now.tokens pieces.new }
-    ensures left { (t : Lexeme) → slice_get tokens.now.tokens pieces.old.next ≡ Some t → to_print tokens.now.tokens pieces.old ≡ (replicate result 32 ++ t.text) ++ to_print tokens.now.tokens pieces.new }
+    ensures left { PassesPiece tokens.now.tokens pieces.old result pieces.new }
     ensures next { pieces.new.next ≡ pieces.old.next + 1 }
     ensures gap { result ≤ 2 ^ 34 }
 {
@@ -134,7 +126,7 @@ fn pass_first(pieces: &mut Pieces, tokens: &Measured<'_, '_>) -> u64
     requires done { pieces.old.next ≡ pieces.old.end }
     requires within { pieces.old.end < length tokens.now.tokens }
     ensures ready { Ready tokens.now.tokens pieces.new }
-    ensures left { (t : Lexeme) → slice_get tokens.now.tokens pieces.old.next ≡ Some t → to_print tokens.now.tokens pieces.old ≡ (replicate result 32 ++ t.text) ++ to_print tokens.now.tokens pieces.new }
+    ensures left { PassesPiece tokens.now.tokens pieces.old result pieces.new }
     ensures next { pieces.new.next ≡ pieces.old.next + 1 }
     ensures gap { result ≤ 2 ^ 34 }
 {
@@ -170,7 +162,7 @@ fn take_plain_piece<'s>(pieces: &mut Pieces, tokens: &Measured<'_, 's>) -> Piece
 pub fn next_piece<'s>(pieces: &mut Pieces, tokens: &Measured<'_, 's>) -> Option<Piece<'s>>
     requires ready { Ready tokens.now.tokens pieces.old }
     ensures ready { Ready tokens.now.tokens pieces.new }
-    ensures left { MatchOption result (to_print tokens.now.tokens pieces.old ≡ []) (λ p. to_print tokens.now.tokens pieces.old ≡ bytes_of p ++ to_print tokens.now.tokens pieces.new) }
+    ensures left { BeginsWith (to_print tokens.now.tokens pieces.old) result (to_print tokens.now.tokens pieces.new) }
     ensures next { IfSome result (λ p. pieces.new.next ≡ pieces.old.next + 1) }
     ensures within { pieces.new.next ≤ length tokens.now.tokens }
     ensures gap { IfSome result (λ p. p.gap ≤ 2 ^ 34) }

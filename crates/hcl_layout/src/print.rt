@@ -1,8 +1,8 @@
 //! How long the print is, and whether the source is its own print.
-ghost use Rattle.std.specs.Prelude.{◌≡◌, ◌≢◌, ◌↔◌, ◌<◌, ◌≤◌, ◌+◌, ◌^◌, ◌++◌, ◌==◌, ◌&&◌, ℕ, List, IsTrue, length, drop, take, nat_eq, nat_le, IfSome, MatchOption};
+ghost use Rattle.std.specs.Prelude.{◌≡◌, ◌↔◌, ◌<◌, ◌≤◌, ◌+◌, ◌^◌, ◌==◌, ◌&&◌, IsTrue, length, drop, take, nat_eq, nat_le, IfSome};
 ghost use Rattle.std.specs.List.{list_all, starts_with};
 ghost use Rattle.hcl_tokens.specs.Balanced.{IsBalanced};
-ghost use Rattle.hcl_layout.specs.Inner.Left.{bytes_of};
+ghost use Rattle.hcl_layout.specs.Inner.Left.{EndsAt};
 ghost use Rattle.hcl_layout.specs.Inner.Simple.{IsFrom};
 ghost use Rattle.hcl_layout.specs.Print.{print};
 
@@ -68,7 +68,7 @@ fn stands_at(bytes: &[u8], at: usize, piece: Piece<'_>) -> bool
 fn moved_end(bytes: &[u8], at: usize, piece: Piece<'_>) -> Option<usize>
     requires within { at ≤ length bytes.now }
     requires source { IsFrom bytes.now piece.start piece.text.now }
-    ensures found { MatchOption result ((rest : List ℕ) → drop at bytes.now ≢ bytes_of piece.entry ++ rest) (λ end. drop at bytes.now ≡ bytes_of piece.entry ++ drop end bytes.now) }
+    ensures found { EndsAt bytes.now at piece.entry result }
     ensures within { IfSome result (λ end. end ≤ length bytes.now) }
 {
     let (_, left) = bytes.split_at(at);
@@ -89,7 +89,7 @@ fn piece_end(bytes: &[u8], at: usize, piece: Piece<'_>) -> Option<usize>
     requires source { IsFrom bytes.now piece.start piece.text.now }
     requires gap { piece.gap ≤ 2 ^ 34 }
     requires small { length bytes.now < 2 ^ 32 }
-    ensures found { MatchOption result ((rest : List ℕ) → drop at bytes.now ≢ bytes_of piece.entry ++ rest) (λ end. drop at bytes.now ≡ bytes_of piece.entry ++ drop end bytes.now) }
+    ensures found { EndsAt bytes.now at piece.entry result }
     ensures within { IfSome result (λ end. end ≤ length bytes.now) }
 {
     if goes_on(bytes, at, piece) {

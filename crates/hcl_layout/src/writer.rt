@@ -1,8 +1,8 @@
 //! The print, written.
-ghost use Rattle.std.specs.Prelude.{◌≡◌, ◌<◌, ◌≤◌, ◌+◌, ◌-◌, ◌^◌, ◌++◌, ℕ, List, Option, IsTrue, false, length, drop, take, replicate, is_err, IfErr, OnOk};
+ghost use Rattle.std.specs.Prelude.{◌≡◌, ◌<◌, ◌≤◌, ◌+◌, ◌-◌, ◌^◌, ◌++◌, IsTrue, false, length, take, replicate, is_err, IfErr, OnOk};
 ghost use Rattle.std.specs.Io.KnownBytes.{Appends};
 ghost use Rattle.hcl_layout.specs.Inner.Left.{bytes_of};
-ghost use Rattle.hcl_layout.specs.Inner.Out.{Fails, Lies, Out, Puts, CutShort, held, stretched};
+ghost use Rattle.hcl_layout.specs.Inner.Out.{Fails, FailsBefore, Finishes, Keeps, Lies, Puts, held, stretched};
 ghost use Rattle.hcl_layout.specs.Inner.Simple.{IsFrom};
 ghost use Rattle.hcl_layout.specs.Print.{print};
 
@@ -100,8 +100,8 @@ impl Buffer {
 fn send<W: ByteSink>(to: &mut W, buffer: &mut Buffer) -> Result<(), WriteFault>
     requires fresh { W.failed to.old ≡ false }
     requires room { buffer.old.sent < 2 ^ 63 }
-    ensures ok { OnOk result ((base : Option (List ℕ)) (front : List ℕ) → Out base (W.taken to.old) buffer.old front → Out base (W.taken to.new) buffer.new front) }
-    ensures err { IfErr result (λ fault. (base : Option (List ℕ)) (front : List ℕ) → Out base (W.taken to.old) buffer.old front → CutShort base (W.taken to.new) front fault) }
+    ensures ok { OnOk result (Keeps (W.taken to.old) (W.taken to.new) buffer.old buffer.new) }
+    ensures err { IfErr result (FailsBefore (W.taken to.old) (W.taken to.new) buffer.old) }
     ensures failed { W.failed to.new ≡ is_err result }
     ensures flushes { W.flushes to.new ≡ W.flushes to.old }
     ensures empty { OnOk result (buffer.new.len ≡ 0) }
@@ -245,7 +245,7 @@ fn finish<W: ByteSink>(
     requires fresh { W.failed to.old ≡ false }
     requires lies { Lies source.now stretch }
     requires room { buffer.old.sent + buffer.old.len + stretch.gap + (stretch.end - stretch.start) < 2 ^ 62 }
-    ensures ok { OnOk result ((base : Option (List ℕ)) (front : List ℕ) → Out base (W.taken to.old) buffer.old front → Appends base (W.taken to.new) (front ++ stretched source.now stretch)) }
+    ensures ok { OnOk result (Finishes (W.taken to.old) (W.taken to.new) buffer.old (stretched source.now stretch)) }
     ensures err { IfErr result (Fails (W.taken to.old) (W.taken to.new) buffer.old (stretched source.now stretch)) }
     ensures failed { W.failed to.new ≡ is_err result }
     ensures flushes { W.flushes to.new ≡ W.flushes to.old }

@@ -1,5 +1,5 @@
 -- What the size of a source bounds: no source is longer than 4 MiB, no two tokens share a byte and none is empty.
-use Rattle.std.specs.Prelude.{◌≤◌, ◌^◌, ℕ, length}
+use Rattle.std.specs.Prelude.{◌≤◌, ◌^◌, length}
 use Rattle.hcl_tokens.specs.Scanned.{Scanned}
 use Rattle.hcl_layout.specs.Inner.LineGaps.{len_with_blanks}
 

@@ -35,14 +35,18 @@ EndsWell column greatest cell = cell ≡ None → IfSome column (λ c. c ≡ gre
 -- ---- between two lines
 
 -- the gaps of the lines from a place on
-abbrev pub gaps_on : List Lexeme → ℕ → Walk → Option ℕ → List ℕ
-gaps_on ts first w comment = flat_map (λ g. g) (commented w.depth w.levels w.column comment (lines (drop first ts)))
+abbrev pub gaps_on : List Lexeme → ℕ → Walk → List ℕ
+gaps_on ts first w = flat_map (λ g. g) (commented w.depth w.levels w.signs w.comments (lines (drop first ts)))
 
 -- what is left to print is what is left of the source, and the columns of both runs are right
 pub record InPlace (ts : List Lexeme) (source : List ℕ) (w : Walk) (runs : Runs) (first at : ℕ) : Type 0 where
-  pub assign : IsColumn w.column runs.assign (assign_widths w.depth w.levels (lines (drop first ts)))
-  pub comment : IsColumn runs.column runs.comment (comment_widths w.depth w.levels w.column (lines (drop first ts)))
-  pub left : printed (gaps_on ts first w runs.column) (drop first ts) ≡ drop at source
+  pub assign : IsColumn w.signs runs.assign (assign_widths w.depth w.levels (lines (drop first ts)))
+  pub comment : IsColumn w.comments runs.comment (comment_widths w.depth w.levels w.signs (lines (drop first ts)))
+  pub left : printed (gaps_on ts first w) (drop first ts) ≡ drop at source
+
+-- what stands in place from the second state on stands so from the first
+abbrev pub Continues : List Lexeme → List ℕ → Walk → Runs → ℕ → ℕ → Walk → Runs → ℕ → ℕ → Type 0
+Continues ts source w runs first at w' runs' first' at' = InPlace ts source w' runs' first' at' → InPlace ts source w runs first at
 
 -- ---- in a line
 
@@ -66,4 +70,4 @@ GoOn ts source l n at n' at' = (rest : List ℕ) → left_at ts l rest n' ≡ dr
 -- line, and by those after it
 abbrev pub HoldsBefore : List Lexeme → List ℕ → LaidLine → ℕ → ℕ → Walk → Runs → Walk → Runs → Type 0
 HoldsBefore ts source l first at w runs w' runs' =
-    (end : ℕ) → InPlace ts source w' runs' l.end end → left_at ts l (gaps_on ts l.end w' runs'.column) first ≡ drop at source → InPlace ts source w runs first at
+    (end : ℕ) → InPlace ts source w' runs' l.end end → left_at ts l (gaps_on ts l.end w') first ≡ drop at source → InPlace ts source w runs first at

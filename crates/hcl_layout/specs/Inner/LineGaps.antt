@@ -1,5 +1,5 @@
 -- The gaps of a line from its level and two cells, token by token.
-use Rattle.std.specs.Prelude.{true, false, ◌≡◌, ◌<◌, ◌≤◌, ◌+◌, ◌^◌, ◌==◌, ℕ, List, [], ◌∷◌, Option, Some, None, IfSome, length, option_map, slice_set, if◌then◌else◌}
+use Rattle.std.specs.Prelude.{true, false, ◌≡◌, ◌<◌, ◌≤◌, ◌+◌, ◌-◌, ◌^◌, ◌==◌, ℕ, List, [], ◌∷◌, Option, Some, None, IfSome, length, option_map, slice_get, slice_set, if◌then◌else◌}
 use Rattle.hcl_tokens.specs.Lexemes.{Lexeme}
 use Rattle.hcl_tokens.specs.declared.token.Kind.TheVariants as kind
 use Rattle.hcl_tokens.specs.Kinds.{is}
@@ -24,6 +24,10 @@ plain_gap level before (Some subject) t = blanks before subject t
 -- the kinds of two neighbours don't tell whether a blank stands between them
 abbrev pub IsUntold : Lexeme → Lexeme → Type 0
 IsUntold subject t = (asks_more subject.kind t.kind ≡ true) × (t.inside_heredoc ≡ false) × (is kind.Newline t.kind ≡ false)
+
+-- nor do those of a token and of the one before it
+abbrev pub IsUntoldAt : List Lexeme → ℕ → Type 0
+IsUntoldAt ts number = (subject t : Lexeme) → slice_get ts (number - 1) ≡ Some subject → slice_get ts number ≡ Some t → IsUntold subject t
 
 abbrev pub gap_of : LineGaps → ℕ → Option Lexeme → Option Lexeme → Lexeme → ℕ
 gap_of g k before subject t = cell_gap g.comment k (cell_gap g.assign k (plain_gap g.level before subject t))
@@ -79,6 +83,14 @@ pub record IsSigned (g : LineGaps) (line : Line) : Type 0 where
   pub gap : IfSome g.assign (λ c. c.gap ≤ 2 ^ 33)
   pub front : IfSome g.assign (λ c. 0 < c.place)
   pub order : (i : ℕ) → trailing_comment line ≡ Some i → known_place g.assign ≤ i
+
+-- the cells of a line are set: none is the line's first token
+pub record AreSet (g : LineGaps) : Type 0 where
+  pub level : g.level ≤ max_open
+  pub sign_gap : IfSome g.assign (λ c. c.gap ≤ 2 ^ 33)
+  pub comment_gap : IfSome g.comment (λ c. c.gap ≤ 2 ^ 34)
+  pub sign_front : IfSome g.assign (λ c. 0 < c.place)
+  pub comment_front : IfSome g.comment (λ c. 0 < c.place)
 
 -- the width that is kept with a cell
 abbrev pub kept_width : Option Cell → Option ℕ

@@ -28,6 +28,18 @@ Puts now new old b text = (base : Option (List ℕ)) (front : List ℕ) → Out 
 abbrev pub Fails : Option (List ℕ) → Option (List ℕ) → Buffer → List ℕ → WriteFault → Type 0
 Fails now new old text fault = (base : Option (List ℕ)) (front : List ℕ) → Out base now old front → CutShort base new (front ++ text) fault
 
+-- what went out before is out still, in the sink or in the buffer
+abbrev pub Keeps : Option (List ℕ) → Option (List ℕ) → Buffer → Buffer → Type 0
+Keeps now new old b = (base : Option (List ℕ)) (front : List ℕ) → Out base now old front → Out base new b front
+
+-- after whatever front went out before, a write failed after a part of it
+abbrev pub FailsBefore : Option (List ℕ) → Option (List ℕ) → Buffer → WriteFault → Type 0
+FailsBefore now new old fault = (base : Option (List ℕ)) (front : List ℕ) → Out base now old front → CutShort base new front fault
+
+-- after whatever front went out before, the text is in the sink, and so is all that waited
+abbrev pub Finishes : Option (List ℕ) → Option (List ℕ) → Buffer → List ℕ → Type 0
+Finishes now new old text = (base : Option (List ℕ)) (front : List ℕ) → Out base now old front → Appends base new (front ++ text)
+
 -- what is printed of a stretch of the source
 abbrev pub stretched : List ℕ → Stretch → List ℕ
 stretched source s = replicate s.gap 32 ++ take (s.end - s.start) (drop s.start source)

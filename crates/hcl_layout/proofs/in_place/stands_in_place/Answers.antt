@@ -1,4 +1,4 @@
-use Rattle.std.proofs.Common.{None, rules, ◌≤◌, ap, arith, length, refl}
+use Rattle.std.proofs.Common.{rules, ◌≤◌, ap, arith, length}
 use Rattle.hcl_layout.specs.Inner.Depths.{BalancedFrom}
 use Rattle.hcl_layout.proofs.BalanceLemmas.{balanced_from}
 use Rattle.hcl_layout.proofs.InPlaceLemmas.{all_passed, begun}
@@ -10,12 +10,10 @@ loop-next-init c =
     let w = c.start_walk-walk in
     let balanced : BalancedFrom 0 ts = balanced_from ts c.requires.balanced in
     record {
-      stands = search rules;
-      fits = search rules;
-      narrow = tt;
+      come = search rules;
       within = omega arith;
       inside = omega arith;
-      step = begun ts c.args.tokens.now.text w.result (record { column = None; assign = 0; comment = 0 }) balanced w.ensures.depth w.ensures.levels w.ensures.column refl;
+      step = begun ts c.args.tokens.now.text w.result (record { assign = 0; comment = 0 }) balanced w.ensures.depth w.ensures.levels w.ensures.signs w.ensures.comments;
     }
 
 pub returns-then-offset-source : goal.returns-then-offset-source

@@ -11,10 +11,10 @@ pub returns-clause-left : goal.returns-clause-left
 returns-clause-left c t there =
     let s = c.args.pieces.now in
     let ts = c.args.tokens.now.tokens in
-    let gap = c.indent-gap.ensures ∙ ap (indent s.gaps.level) (same_token ts s.next (lexeme c.get.result) t c.get.ensures.token there) ∙ front_gap s.gaps ts s.start s.next t c.requires.front c.requires.assign c.requires.comment in
+    let gap = c.indent-gap.ensures ∙ ap (indent s.gaps.level) (same_token ts s.next (lexeme c.get.result) t c.get.ensures.token there) ∙ front_gap s.gaps ts s.start s.next t c.requires.front c.requires.ready.set.sign_front c.requires.ready.set.comment_front in
     piece_left ts s.next s.start s.end s.gaps (rest_gaps ts s) t c.indent-gap.result there c.requires.some c.requires.ready.began gap
 
 pub returns-clause-gap : goal.returns-clause-gap
 returns-clause-gap c =
     let s = c.args.pieces.now in
-    omega (arith, c.indent-gap.ensures, indented s.gaps.level (lexeme c.get.result), c.requires.ready.level)
+    omega (arith, c.indent-gap.ensures, indented s.gaps.level (lexeme c.get.result), c.requires.ready.set.level)

@@ -16,4 +16,4 @@ returns-clause-gap c =
     let ts = c.args.tokens.now.tokens in
     let r = c.requires.ready in
     let here = token_at ts s.next (omega (arith, c.requires.some, r.within)) in
-    omega (arith, c.gap_at-gap.ensures here.0 here.1, gap_small s.gaps (s.next - s.start) (token_before ts s.start (s.next - 1)) (token_before ts s.start s.next) here.0 r.level r.assign r.cell)
+    omega (arith, c.gap_at-gap.ensures here.0 here.1, gap_small s.gaps (s.next - s.start) (token_before ts s.start (s.next - 1)) (token_before ts s.start s.next) here.0 r.set.level r.set.sign_gap r.set.comment_gap)

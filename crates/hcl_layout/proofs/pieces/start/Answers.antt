@@ -6,4 +6,4 @@ use Rattle.hcl_layout.proofs.pieces.start.Goals as goal
 pub returns-clause-all : goal.returns-clause-all
 returns-clause-all c ts p =
     let w = c.start_walk.result in
-    ap (λ g. printed g ts) (start_all ts w.depth w.levels w.column p c.start_walk.ensures.depth c.start_walk.ensures.levels c.start_walk.ensures.column)
+    ap (λ g. printed g ts) (start_all ts w.depth w.levels w.signs w.comments p c.start_walk.ensures.depth c.start_walk.ensures.levels c.start_walk.ensures.signs c.start_walk.ensures.comments)

@@ -24,7 +24,7 @@ returns-clause-gap c =
     let r = c.requires.ready in
     let plain = plain_gap s.gaps.level (token_before ts s.start (s.next - 1)) (token_before ts s.start s.next) t in
     let gap = c.gap_behind-gap.ensures s.gaps.level ∙ sym (r.plain (s.next - s.start) plain (omega arith) (omega (arith, c.requires.some, r.behind c.requires.some))) in
-    omega (arith, gap, gap_small s.gaps (s.next - s.start) (token_before ts s.start (s.next - 1)) (token_before ts s.start s.next) t r.level r.assign r.cell)
+    omega (arith, gap, gap_small s.gaps (s.next - s.start) (token_before ts s.start (s.next - 1)) (token_before ts s.start s.next) t r.set.level r.set.sign_gap r.set.comment_gap)
 
 pub returns-clause-text : goal.returns-clause-text
 returns-clause-text c = omega (arith, text_len_with_blanks c.args.tokens.now.tokens c.args.pieces.now.next (lexeme c.get-token.result) c.get-token.ensures.token, c.get-token.ensures.bounded.blanks)
