@@ -97,7 +97,7 @@ unmoved mode old new other e = kept_same mode (old.told other) (new.told other) 
 pub visit_kept : (mode : Mode) (old new : Files) (given : Name) (name : Name) (answer : Outcome) → Visits mode old new given name answer → (other : Name)
     → Kept mode (old.told other) (new.told other)
 visit_kept mode old new given name outcome.Formatted v other = unmoved mode old new other v.2.1
-visit_kept mode old new given name outcome.Changed v other = left_kept mode old new name v.0 v.2.formatted other v.1 v.2.is v.2.left
+visit_kept mode old new given name outcome.Changed v other = left_kept mode old new name v.0 v.2.1.formatted other v.1 v.2.1.is v.2.1.left
 visit_kept mode old new given name (outcome.Differs text) v other = unmoved mode old new other v.2.1.left
 visit_kept mode old new given name (outcome.Refused fault) v other = unmoved mode old new other v.2.1
 visit_kept mode old new given name (outcome.Failed fault) v other = unmoved mode old new other v
@@ -115,7 +115,7 @@ left_real Diff old new name formatted other l = same_real old new other l
 pub visit_real : (mode : Mode) (old new : Files) (given : Name) (name : Name) (answer : Outcome) → Visits mode old new given name answer → (other : Name)
     → new.real other ≡ old.real other
 visit_real mode old new given name outcome.Formatted v other = same_real old new other v.2.1
-visit_real mode old new given name outcome.Changed v other = left_real mode old new name v.2.formatted other v.2.left
+visit_real mode old new given name outcome.Changed v other = left_real mode old new name v.2.1.formatted other v.2.1.left
 visit_real mode old new given name (outcome.Differs text) v other = same_real old new other v.2.1.left
 visit_real mode old new given name (outcome.Refused fault) v other = same_real old new other v.2.1
 visit_real mode old new given name (outcome.Failed fault) v other = same_real old new other v
@@ -138,7 +138,7 @@ left_elsewhere Diff old new name formatted other l ne = same_told old new other 
 pub visit_elsewhere : (mode : Mode) (old new : Files) (given : Name) (name : Name) (answer : Outcome) → Visits mode old new given name answer → (other : Name)
     → ((other ≡ name) → ⊥) → new.told other ≡ old.told other
 visit_elsewhere mode old new given name outcome.Formatted v other ne = same_told old new other v.2.1
-visit_elsewhere mode old new given name outcome.Changed v other ne = left_elsewhere mode old new name v.2.formatted other v.2.left ne
+visit_elsewhere mode old new given name outcome.Changed v other ne = left_elsewhere mode old new name v.2.1.formatted other v.2.1.left ne
 visit_elsewhere mode old new given name (outcome.Differs text) v other ne = same_told old new other v.2.1.left
 visit_elsewhere mode old new given name (outcome.Refused fault) v other ne = same_told old new other v.2.1
 visit_elsewhere mode old new given name (outcome.Failed fault) v other ne = same_told old new other v
@@ -185,12 +185,15 @@ module _ (mode : Mode) (old new : Files) (given : Name) (name : Name) where
   looks_by : (s : Scanned) (answer : Outcome) → IsText s.text → Scans s.text s.tokens → IsAccepted s.tokens → Makes mode old new given name s answer → Looks mode old new given name s.text answer
   looks_by s outcome.Formatted is scans accepted m =
       (record { text = is; tokens = s.tokens; scanned = scans; accepted = accepted; printed = sym m.0; fits = is.small }, m.1)
-  looks_by s outcome.Changed is scans accepted m = record {
-    formatted = print s.tokens;
-    is = record { text = is; tokens = s.tokens; scanned = scans; accepted = accepted; printed = refl; fits = m.1 };
-    changed = m.0;
-    left = m.2;
-  }
+  looks_by s outcome.Changed is scans accepted m = (
+    m.0,
+    record {
+      formatted = print s.tokens;
+      is = record { text = is; tokens = s.tokens; scanned = scans; accepted = accepted; printed = refl; fits = m.2 };
+      changed = m.1;
+      left = m.3;
+    },
+  )
   looks_by s (outcome.Differs text) is scans accepted m = (
     m.0,
     record {
@@ -248,7 +251,7 @@ visits_unloaded mode old new given name (outcome.Failed fault) same l = same
 
 -- ---- nothing is left to do
 
-refused_here : (s : Scanned) (f : Fault) → verdict s ≡ Err f → IsAccepted s.tokens → ⊥
+pub refused_here : (s : Scanned) (f : Fault) → verdict s ≡ Err f → IsAccepted s.tokens → ⊥
 refused_here s f e accepted = absurd (no (ap (verdict_by s) (sym accepted) ∙ e))
   where
     no : Ok s ≡ Err f → ⊥
@@ -298,7 +301,7 @@ visit_writes : (w : Writing) (old new : Files) (given : Name) (name : Name) (ans
     → Settled (Write w) (old.told name) (new.told name)
 visit_writes w old new given name outcome.Formatted v good = same_format w (old.told name) (new.told name) v.0 v.1 v.2.0 (same_told old new name v.2.1)
 visit_writes w old new given name outcome.Changed v good =
-    own_format w (old.told name) (new.told name) v.0 v.2.formatted v.1 v.2.is (ap (λ (f : Files). f.told name) v.2.left ∙ put_here old name v.2.formatted)
+    own_format w (old.told name) (new.told name) v.0 v.2.1.formatted v.1 v.2.1.is (ap (λ (f : Files). f.told name) v.2.1.left ∙ put_here old name v.2.1.formatted)
 visit_writes w old new given name (outcome.Differs text) v good = absurd (no v.2.0)
   where
     no : Write w ≡ Diff → ⊥

@@ -1,4 +1,6 @@
 pub mod KeptLemmas
+pub mod OneRunLemmas
 pub mod RealLemmas
 pub mod RunLemmas
+pub mod SomeRunLemmas
 pub mod WriterLemmas

@@ -27,7 +27,7 @@ worse_four one other e = by (eqb_tells one 4) (eqb_tells other 4)
         let both : (one == 4 || other == 4) ≡ false = ap (λ v. v || other == 4) p.0 ∙ q.0 in
         absurd (none (one == 2 || other == 2) p.1 q.1 (sym (ap (λ (v : Bool). if v then 4 else (if one == 2 || other == 2 then 2 else max one other)) both) ∙ e))
 
-not_four : (n : ℕ) → n < 4 → n ≢ 4
+pub not_four : (n : ℕ) → n < 4 → n ≢ 4
 not_four n lt h = omega (arith, lt, h)
 
 changed_good : (mode : Mode) (name : Name) → (report_of mode name outcome.Changed).status ≢ 4
@@ -53,7 +53,7 @@ worse_good one other p q e = by (worse_four one other e)
     by (inl h) = p h
     by (inr h) = q h
 
-fold_four : (mode : Mode) (seen : List Found) (answers : List Outcome) (a b : State) (n : ℕ) → n ≢ 4 → Looked mode seen answers a b
+pub fold_four : (mode : Mode) (seen : List Found) (answers : List Outcome) (a b : State) (n : ℕ) → n ≢ 4 → Looked mode seen answers a b
     → fold worse n (map (λ r. r.status) (reports_of mode seen answers)) ≡ 4 → list_any is_failed answers ≡ true
 fold_four mode [] [] a b n good l e = absurd (good e)
 fold_four mode [] (x ∷ answers) a b n good l e = absurd l

@@ -32,3 +32,7 @@ IsTextFault text fault =
 -- THE FAULT for which bytes have no format
 abbrev pub IsFault : List ℕ → Fault → Type 0
 IsFault bytes fault = IsLoadFault bytes fault ⊎ (IsText bytes × IsTextFault bytes fault)
+
+-- each file has a format, or a fault: a law
+abbrev pub HasFormatOrFault : List ℕ → Type 0
+HasFormatOrFault bytes = ((formatted : List ℕ) × IsFormat bytes formatted) ⊎ ((fault : Fault) × IsFault bytes fault)

@@ -25,10 +25,11 @@ pub record Changes (mode : Mode) (old new : Files) (name : Name) (bytes : List �
   pub changed : formatted ≢ bytes
   pub left : Left mode old new name formatted
 
--- what a look at bytes of a file answers, of this real name, that was named so, and what the files are then
+-- What a look at bytes of a file answers, of this real name, that was named so, and what the files are then. Where what changes
+-- is to be shown, it is.
 abbrev pub Looks : Mode → Files → Files → Name → Name → List ℕ → Outcome → Type 0
 Looks mode old new given name bytes outcome.Formatted = IsFormat bytes bytes × (new ≡ old)
-Looks mode old new given name bytes outcome.Changed = Changes mode old new name bytes
+Looks mode old new given name bytes outcome.Changed = (mode ≢ Diff) × Changes mode old new name bytes
 Looks mode old new given name bytes (outcome.Differs text) =
     (mode ≡ Diff) × (changes : Changes Diff old new name bytes) × (text.items ≡ diff_of given bytes changes.formatted)
 Looks mode old new given name bytes (outcome.Refused fault) = IsFault bytes fault × (new ≡ old)

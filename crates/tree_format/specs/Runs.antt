@@ -1,14 +1,15 @@
 -- What a run over files makes of each of them.
-use Rattle.std.specs.Prelude.{◌≡◌, ◌⊎◌, ◌||◌, ℕ, Bool, true, false, List, [], ◌∷◌, ◌++◌, Option, Some, None, map, if◌then◌else◌}
+use Rattle.std.specs.Prelude.{◌≡◌, ◌≢◌, ◌⊎◌, ◌||◌, ℕ, All, Bool, IsSome, true, false, List, [], ◌∷◌, ◌++◌, Option, Some, None, map, if◌then◌else◌}
 use Rattle.std.specs.List.{concat}
 use Rattle.command_line.specs.Rows.{End, Took}
-use Rattle.file_tree.specs.Files.{Name, State}
+use Rattle.file_tree.specs.Files.{Files, Name, State}
 use Rattle.file_tree.specs.declared.fault.TreeFault.{TreeFault}
 use Rattle.file_tree.specs.declared.walk.Found.{Found}
 use Rattle.tree_format.specs.Looks.{Notes, Visits}
 use Rattle.tree_format.specs.Reports.{Report, report_of, worst}
 use Rattle.hcl_source.specs.declared.fault.Fault.{Fault}
-use Rattle.tree_format.specs.Format.{IsFormat, IsFault}
+use Rattle.line_diff.specs.Diffs.{diff_of}
+use Rattle.tree_format.specs.Format.{HasFormatOrFault, IsFormat, IsFault}
 use Rattle.tree_format.specs.declared.mode.Mode.{Mode}
 use Rattle.tree_format.specs.declared.mode.Mode.TheVariants.{Write, Check, List as Listed, Diff}
 use Rattle.tree_format.specs.declared.outcome.Outcome.{Outcome}
@@ -76,3 +77,32 @@ pub record IsRun (mode : Mode) (found : List Found) (last : List ℕ) (before af
   pub output : Took end.out (concat (map (λ r. r.out) (reports_of mode seen answers)))
   pub message : Took end.err (concat (map (λ r. r.err) (reports_of mode seen answers)) ++ last)
   pub exit : end.status ≡ (if end.out.failed || end.err.failed then 4 else worst (map (λ r. r.status) (reports_of mode seen answers)))
+
+-- ---- a run in which nothing fails
+
+-- the device tells the bytes of each file to which a name leads
+abbrev pub AreTold : Files → List Found → Type 0
+AreTold files found = All (λ f. IsSome (files.told (files.real f.name.items))) found
+
+-- a look that shows this text, which is held in memory
+abbrev pub Holds : Outcome → List ℕ → Type 0
+Holds (outcome.Differs text) shown = text.items ≡ shown
+Holds outcome.Formatted shown = ⊥
+Holds outcome.Changed shown = ⊥
+Holds (outcome.Refused fault) shown = ⊥
+Holds (outcome.Failed fault) shown = ⊥
+
+-- where what changes in a file is to be shown, there is room for it
+abbrev pub HasRoom : Mode → Name → List ℕ → Type 0
+HasRoom (Write writing) name bytes = Unit {0}
+HasRoom Check name bytes = Unit {0}
+HasRoom Listed name bytes = Unit {0}
+HasRoom Diff name bytes = (formatted : List ℕ) → IsFormat bytes formatted → formatted ≢ bytes → (answer : Outcome) × Holds answer (diff_of name bytes formatted)
+
+-- the bytes of a file are told, and nothing stands in the way of a look at it
+abbrev pub IsReady : Mode → Name → Option (List ℕ) → Type 0
+IsReady mode name None = ⊥
+IsReady mode name (Some bytes) = HasFormatOrFault bytes × HasRoom mode name bytes
+
+abbrev pub AreReady : Mode → Files → List Found → Type 0
+AreReady mode files found = All (λ f. (f.fault ≡ None) × IsReady mode f.name.items (files.told (files.real f.name.items))) found

@@ -41,7 +41,8 @@ LoadsFile told (Err (outcome.Differs text)) = ⊥
 -- what is answered of accepted tokens of a file that was named so, and what the files are then
 abbrev pub Makes : Mode → Files → Files → Name → Name → Scanned → Outcome → Type 0
 Makes mode old new given name s outcome.Formatted = (print s.tokens ≡ s.text) × (new ≡ old)
-Makes mode old new given name s outcome.Changed = (print s.tokens ≢ s.text) × (length (print s.tokens) ≤ max_source) × Left mode old new name (print s.tokens)
+Makes mode old new given name s outcome.Changed =
+    (mode ≢ Diff) × (print s.tokens ≢ s.text) × (length (print s.tokens) ≤ max_source) × Left mode old new name (print s.tokens)
 Makes mode old new given name s (outcome.Differs text) =
     (mode ≡ Diff) × (print s.tokens ≢ s.text) × (length (print s.tokens) ≤ max_source) × (new ≡ old) × (text.items ≡ diff_of given s.text (print s.tokens))
 Makes mode old new given name s (outcome.Refused fault) = (max_source < length (print s.tokens)) × (fault ≡ too_large) × (new ≡ old)

@@ -1,0 +1,240 @@
+-- Unless something fails, what is seen and done is a function of the files.
+use Rattle.std.proofs.Common.{◌≡◌, ◌∙◌, ◌⊎◌, ◌++◌, ◌∷◌, [], ◌<◌, ℕ, Bool, true, false, List, Option, Some, None, ap, append-nil, inl, inr, length, map, refl, subst, sym}
+use Rattle.std.specs.Prelude.{◌≢◌, ◌||◌, All, IsSome, Result, Ok, Err, fold, if◌then◌else◌}
+use Rattle.std.specs.List.{list_any}
+use Rattle.std.proofs.lemmas.List.Elements.{All-head, All-tail, All-weaker}
+use Rattle.command_line.specs.Rows.{End}
+use Rattle.hcl_source.specs.Load.{IsText, max_source}
+use Rattle.hcl_source.specs.Places.{place}
+use Rattle.hcl_source.specs.declared.fault.Fault.{Fault}
+use Rattle.hcl_source.proofs.LoadLemmas.{one_load_fault, text_or_fault}
+use Rattle.hcl_tokens.specs.Lexemes.{Lexeme}
+use Rattle.hcl_tokens.specs.Scanned.{Scanned}
+use Rattle.hcl_tokens.proofs.RunLemmas.{no_fault, one_fault, one_scan}
+use Rattle.hcl_tokens.proofs.NonemptyLemmas.{nonempty}
+use Rattle.hcl_scan.proofs.SpellingLemmas.{one_kind}
+use Rattle.hcl_grammar.specs.Verdict.{IsAccepted, verdict}
+use Rattle.hcl_layout.specs.Print.{print}
+use Rattle.line_diff.specs.Diffs.{diff_of}
+use Rattle.file_tree.specs.Files.{Files, Name, State, Tells, put}
+use Rattle.file_tree.specs.declared.fault.TreeFault.{TreeFault}
+use Rattle.file_tree.specs.declared.tree.Writing.{Writing}
+use Rattle.file_tree.specs.declared.walk.Found.{Found}
+use Rattle.tree_format.specs.Format.{IsFault, IsFormat, IsTextFault, too_large}
+use Rattle.tree_format.specs.Looks.{Left, Looks, Visits}
+use Rattle.tree_format.specs.Reports.{Report, report_of, worse, worst}
+use Rattle.tree_format.specs.Runs.{AreTold, IsRun, IsSafe, Kept, Looked, Sees, SeesBy, is_failed, reports_of}
+use Rattle.tree_format.specs.declared.mode.Mode.{Mode}
+use Rattle.tree_format.specs.declared.mode.Mode.TheVariants.{Write, Check, List as Listed, Diff}
+use Rattle.tree_format.specs.declared.outcome.Outcome.{Outcome}
+use Rattle.tree_format.specs.declared.outcome.Outcome.TheVariants as outcome
+use Rattle.tree_format.proofs.KeptLemmas.{no_format, refused_here, visit_kept, visit_real}
+use Rattle.tree_format.proofs.RunLemmas.{first_good, good_answer, second_good}
+
+-- ---- bytes have one format, or one fault
+
+one_format : (x y z : List ℕ) → IsFormat x y → IsFormat x z → y ≡ z
+one_format x y z f g = f.printed ∙ ap print (one_scan one_kind nonempty x f.tokens g.tokens f.scanned g.scanned) ∙ sym g.printed
+
+abbrev fault_or : Fault → Result Scanned Fault → Fault
+fault_or other (Ok s) = other
+fault_or other (Err fault) = fault
+
+-- tokens of a text are refused for this
+abbrev Refuses : List ℕ → List Lexeme → Fault → Type 0
+Refuses text ts fault =
+    (verdict (record { text = text; tokens = ts }) ≡ Err fault) ⊎ (IsAccepted ts × (max_source < length (print ts)) × (fault ≡ too_large))
+
+one_refusal : (x : List ℕ) (ts : List Lexeme) (f g : Fault) → Refuses x ts f → Refuses x ts g → f ≡ g
+one_refusal x ts f g (inl v) (inl w) = ap (fault_or f) (sym v ∙ w)
+one_refusal x ts f g (inl v) (inr w) = absurd (refused_here (record { text = x; tokens = ts }) f v w.0)
+one_refusal x ts f g (inr v) (inl w) = absurd (refused_here (record { text = x; tokens = ts }) g w v.0)
+one_refusal x ts f g (inr v) (inr w) = v.2 ∙ sym w.2
+
+one_text_fault : (x : List ℕ) (f g : Fault) → IsTextFault x f → IsTextFault x g → f ≡ g
+one_text_fault x f g (inl l) (inl m) =
+    let same = one_fault one_kind nonempty x f.kind g.kind l.0 m.0 l.1 m.1 in
+    let at = l.2 ∙ ap (place x) same.1 ∙ sym m.2 in
+    λ i. record { kind = same.0 i; at = at i }
+one_text_fault x f g (inl l) (inr m) = absurd (no_fault one_kind nonempty x m.0 f.kind l.0 m.1 l.1)
+one_text_fault x f g (inr l) (inl m) = absurd (no_fault one_kind nonempty x l.0 g.kind m.0 l.1 m.1)
+one_text_fault x f g (inr l) (inr m) =
+    one_refusal x l.0 f g l.2 (subst (λ ts. Refuses x ts g) (one_scan one_kind nonempty x m.0 l.0 m.1 l.1) m.2)
+
+one_reason : (x : List ℕ) (f g : Fault) → IsFault x f → IsFault x g → f ≡ g
+one_reason x f g (inl l) (inl m) = one_load_fault x f g l m
+one_reason x f g (inl l) (inr m) = absurd (text_or_fault x f m.0 l)
+one_reason x f g (inr l) (inl m) = absurd (text_or_fault x g l.0 m)
+one_reason x f g (inr l) (inr m) = one_text_fault x f g l.1 m.1
+
+-- ---- one look
+
+one_left : (mode : Mode) (old new new' : Files) (name y z : List ℕ) → y ≡ z → Left mode old new name y → Left mode old new' name z → new ≡ new'
+one_left (Write w) old new new' name y z e l m = l ∙ ap (put old name) e ∙ sym m
+one_left Check old new new' name y z e l m = l ∙ sym m
+one_left Listed old new new' name y z e l m = l ∙ sym m
+one_left Diff old new new' name y z e l m = l ∙ sym m
+
+no_failure : {X : Type 0} → true ≡ false → X
+no_failure e = absurd (cc)
+
+module _ (mode : Mode) (old new new' : Files) (given name bytes : List ℕ) where
+  abbrev Same : Outcome → Outcome → Type 0
+  Same answer other = (report_of mode given answer ≡ report_of mode given other) × (new ≡ new')
+
+  one_look : (answer other : Outcome) → Looks mode old new given name bytes answer → Looks mode old new' given name bytes other → is_failed answer ≡ false → is_failed other ≡ false
+      → Same answer other
+  one_look (outcome.Failed fault) other l m good good' = no_failure good
+  one_look outcome.Formatted (outcome.Failed fault) l m good good' = no_failure good'
+  one_look outcome.Changed (outcome.Failed fault) l m good good' = no_failure good'
+  one_look (outcome.Differs text) (outcome.Failed fault) l m good good' = no_failure good'
+  one_look (outcome.Refused f) (outcome.Failed fault) l m good good' = no_failure good'
+  one_look outcome.Formatted outcome.Formatted l m good good' = (refl, l.1 ∙ sym m.1)
+  one_look outcome.Formatted outcome.Changed l m good good' = absurd (m.1.changed (one_format bytes m.1.formatted bytes m.1.is l.0))
+  one_look outcome.Formatted (outcome.Differs text) l m good good' = absurd (m.1.changed (one_format bytes m.1.formatted bytes m.1.is l.0))
+  one_look outcome.Formatted (outcome.Refused fault) l m good good' = absurd (no_format bytes bytes fault m.0 l.0)
+  one_look outcome.Changed outcome.Formatted l m good good' = absurd (l.1.changed (one_format bytes l.1.formatted bytes l.1.is m.0))
+  one_look outcome.Changed outcome.Changed l m good good' =
+      (refl, one_left mode old new new' name l.1.formatted m.1.formatted (one_format bytes l.1.formatted m.1.formatted l.1.is m.1.is) l.1.left m.1.left)
+  one_look outcome.Changed (outcome.Differs text) l m good good' = absurd (l.0 m.0)
+  one_look outcome.Changed (outcome.Refused fault) l m good good' = absurd (no_format bytes l.1.formatted fault m.0 l.1.is)
+  one_look (outcome.Differs text) outcome.Formatted l m good good' = absurd (l.1.changed (one_format bytes l.1.formatted bytes l.1.is m.0))
+  one_look (outcome.Differs text) outcome.Changed l m good good' = absurd (m.0 l.0)
+  one_look (outcome.Differs text) (outcome.Differs other) l m good good' =
+      let same = l.2 ∙ ap (diff_of given bytes) (one_format bytes l.1.formatted m.1.formatted l.1.is m.1.is) ∙ sym m.2 in
+      ((λ i. record { out = same i; err = []; status = 3 }), l.1.left ∙ sym m.1.left)
+  one_look (outcome.Differs text) (outcome.Refused fault) l m good good' = absurd (no_format bytes l.1.formatted fault m.0 l.1.is)
+  one_look (outcome.Refused fault) outcome.Formatted l m good good' = absurd (no_format bytes bytes fault l.0 m.0)
+  one_look (outcome.Refused fault) outcome.Changed l m good good' = absurd (no_format bytes m.1.formatted fault l.0 m.1.is)
+  one_look (outcome.Refused fault) (outcome.Differs text) l m good good' = absurd (no_format bytes m.1.formatted fault l.0 m.1.is)
+  one_look (outcome.Refused fault) (outcome.Refused other) l m good good' =
+      (ap (λ (f : Fault). report_of mode given (outcome.Refused f)) (one_reason bytes fault other l.0 m.0), l.1 ∙ sym m.1)
+
+-- ---- of a file whose bytes are told
+
+told_bytes : (told : Option (List ℕ)) (x y : List ℕ) → told ≡ Some x → Tells told y → y ≡ x
+told_bytes told x y e t = sym (subst (λ o. Tells o y) e t)
+
+looks_of : (mode : Mode) (old new : Files) (given name bytes : List ℕ) (answer : Outcome) → old.told name ≡ Some bytes → Visits mode old new given name answer
+    → Looks mode old new given name bytes answer
+looks_of mode old new given name bytes outcome.Formatted e v = subst (λ b. Looks mode old new given name b outcome.Formatted) (told_bytes (old.told name) bytes v.0 e v.1) v.2
+looks_of mode old new given name bytes outcome.Changed e v = subst (λ b. Looks mode old new given name b outcome.Changed) (told_bytes (old.told name) bytes v.0 e v.1) v.2
+looks_of mode old new given name bytes (outcome.Differs text) e v =
+    subst (λ b. Looks mode old new given name b (outcome.Differs text)) (told_bytes (old.told name) bytes v.0 e v.1) v.2
+looks_of mode old new given name bytes (outcome.Refused fault) e v =
+    subst (λ b. Looks mode old new given name b (outcome.Refused fault)) (told_bytes (old.told name) bytes v.0 e v.1) v.2
+looks_of mode old new given name bytes (outcome.Failed fault) e v = v
+
+one_visit : (mode : Mode) (old new new' : Files) (given name : List ℕ) (answer other : Outcome) → IsSome (old.told name) → Visits mode old new given name answer
+    → Visits mode old new' given name other → is_failed answer ≡ false → is_failed other ≡ false
+    → (report_of mode given answer ≡ report_of mode given other) × (new ≡ new')
+one_visit mode old new new' given name answer other some v w good good' = by (old.told name) refl some
+  where
+    by : (told : Option (List ℕ)) → old.told name ≡ told → IsSome told → (report_of mode given answer ≡ report_of mode given other) × (new ≡ new')
+    by None e some = absurd (cc)
+    by (Some bytes) e some =
+        one_look mode old new new' given name bytes answer other (looks_of mode old new given name bytes answer e v) (looks_of mode old new' given name bytes other e w) good good'
+
+one_seen_by : (mode : Mode) (name : Name) (fault : Option TreeFault) (answer other : Outcome) (a b a' b' : State) → IsSome (a.files.told (a.files.real name)) → a'.files ≡ a.files
+    → SeesBy mode name fault answer a b → SeesBy mode name fault other a' b' → is_failed answer ≡ false → is_failed other ≡ false
+    → (report_of mode name answer ≡ report_of mode name other) × (b.files ≡ b'.files)
+one_seen_by mode name (Some fault) answer other a b a' b' some same s t good good' = no_failure (sym (ap is_failed s.0) ∙ good)
+one_seen_by mode name None answer other a b a' b' some same s t good good' =
+    one_visit mode a.files b.files b'.files name (a.files.real name) answer other some s.0
+    (subst (λ (files : Files). Visits mode files b'.files name (files.real name) other) same t.0) good good'
+
+-- ---- what is told stays told
+
+kept_some : (mode : Mode) (x y : Option (List ℕ)) → Kept mode x y → IsSome x → IsSome y
+kept_some (Write w) None y k some = absurd (cc)
+kept_some (Write w) (Some x) y (inl e) some = subst (λ o. IsSome o) (sym e) refl
+kept_some (Write w) (Some x) y (inr f) some = subst (λ o. IsSome o) (sym f.2) refl
+kept_some Check x y k some = subst (λ o. IsSome o) (sym k) some
+kept_some Listed x y k some = subst (λ o. IsSome o) (sym k) some
+kept_some Diff x y k some = subst (λ o. IsSome o) (sym k) some
+
+told_after_visit : (mode : Mode) (old new : Files) (given name other : List ℕ) (answer : Outcome) → Visits mode old new given name answer → IsSome (old.told (old.real other))
+    → IsSome (new.told (new.real other))
+told_after_visit mode old new given name other answer v some =
+    subst (λ n. IsSome (new.told n)) (sym (visit_real mode old new given name answer v other))
+    (kept_some mode (old.told (old.real other)) (new.told (old.real other)) (visit_kept mode old new given name answer v (old.real other)) some)
+
+told_after : (mode : Mode) (name : Name) (fault : Option TreeFault) (answer : Outcome) (a b : State) (other : Name) → SeesBy mode name fault answer a b
+    → IsSome (a.files.told (a.files.real other)) → IsSome (b.files.told (b.files.real other))
+told_after mode name (Some fault) answer a b other s some = subst (λ (state : State). IsSome (state.files.told (state.files.real other))) (sym s.1) some
+told_after mode name None answer a b other s some = told_after_visit mode a.files b.files name (a.files.real name) other answer s.0 some
+
+-- ---- one look after the other
+
+first_false : (v w : Bool) → (v || w) ≡ false → v ≡ false
+first_false true w e = e
+first_false false w e = refl
+
+second_false : (v w : Bool) → (v || w) ≡ false → w ≡ false
+second_false true w e = absurd (cc)
+second_false false w e = e
+
+one_looked : (mode : Mode) (seen : List Found) (answers others : List Outcome) (a b a' b' : State) → AreTold a.files seen → a'.files ≡ a.files → Looked mode seen answers a b → Looked mode seen others a' b'
+    → list_any is_failed answers ≡ false → list_any is_failed others ≡ false
+    → (reports_of mode seen answers ≡ reports_of mode seen others) × (b.files ≡ b'.files)
+one_looked mode [] [] [] a b a' b' told same l m good good' = (refl, ap (λ (s : State). s.files) l ∙ sym same ∙ sym (ap (λ (s : State). s.files) m))
+one_looked mode [] (x ∷ xs) others a b a' b' told same l m good good' = absurd l
+one_looked mode [] [] (y ∷ ys) a b a' b' told same l m good good' = absurd m
+one_looked mode (f ∷ seen) [] others a b a' b' told same l m good good' = absurd l
+one_looked mode (f ∷ seen) (x ∷ xs) [] a b a' b' told same l m good good' = absurd m
+one_looked mode (f ∷ seen) (x ∷ xs) (y ∷ ys) a b a' b' told same l m good good' =
+    let one = one_seen_by mode f.name.items f.fault x y a l.0 a' m.0 (All-head (λ g. IsSome (a.files.told (a.files.real g.name.items))) f seen told) same l.1 m.1 (first_false (is_failed x) (list_any is_failed xs) good)
+    (first_false (is_failed y) (list_any is_failed ys) good') in
+    let rest = one_looked mode seen xs ys l.0 b m.0 b'
+    (All-weaker (λ g. IsSome (a.files.told (a.files.real g.name.items))) (λ g. IsSome (l.0.files.told (l.0.files.real g.name.items)))
+    (λ g some. told_after mode f.name.items f.fault x a l.0 g.name.items l.1 some) seen (All-tail (λ g. IsSome (a.files.told (a.files.real g.name.items))) f seen told))
+    (sym one.1) l.2 m.2 (second_false (is_failed x) (list_any is_failed xs) good) (second_false (is_failed y) (list_any is_failed ys) good') in
+    ((λ i. one.0 i ∷ rest.0 i), rest.1)
+
+-- ---- runs that don't have status 4
+
+good_looks : (mode : Mode) (seen : List Found) (answers : List Outcome) (a b : State) (n : ℕ) → Looked mode seen answers a b
+    → fold worse n (map (λ r. r.status) (reports_of mode seen answers)) ≢ 4 → (n ≢ 4) × (list_any is_failed answers ≡ false)
+good_looks mode [] [] a b n l ne = (ne, refl)
+good_looks mode [] (x ∷ xs) a b n l ne = absurd l
+good_looks mode (f ∷ seen) [] a b n l ne = absurd l
+good_looks mode (f ∷ seen) (x ∷ xs) a b n l ne =
+    let s = (report_of mode f.name.items x).status in
+    let rest = good_looks mode seen xs l.0 b (worse n s) l.2 ne in
+    (first_good n s rest.0, ap (λ v. v || list_any is_failed xs) (good_answer mode f.name.items x (second_good n s rest.0)) ∙ rest.1)
+
+good_writers : (v : Bool) (status n : ℕ) → status ≡ (if v then 4 else n) → status ≢ 4 → (v ≡ false) × (status ≡ n)
+good_writers true status n e ne = absurd (ne e)
+good_writers false status n e ne = (refl, e)
+
+-- what is known of a run that doesn't have status 4
+record Good (mode : Mode) (found : List Found) (before after : State) (answers : List Outcome) (status : ℕ) : Type 0 where
+  pub looks : Looked mode found answers before after
+  pub good : list_any is_failed answers ≡ false
+  pub exit : status ≡ worst (map (λ r. r.status) (reports_of mode found answers))
+
+good_run : (mode : Mode) (found : List Found) (last : List ℕ) (before after : State) (end : End) (run : IsRun mode found last before after end) → end.status ≢ 4
+    → (found ≡ run.seen) × Good mode found before after run.answers end.status
+good_run mode found last before after end run ne =
+    let writers = good_writers (end.out.failed || end.err.failed) end.status (worst (map (λ r. r.status) (reports_of mode run.seen run.answers))) run.exit ne in
+    let all : found ≡ run.seen = run.all ∙ ap (λ l. run.seen ++ l) (run.whole writers.0) ∙ append-nil run.seen in (
+      all,
+      subst (λ l. Good mode l before after run.answers end.status) (sym all) (record {
+        looks = run.looks;
+        good = (good_looks mode run.seen run.answers before after 0 run.looks (λ e. ne (writers.1 ∙ e))).1;
+        exit = writers.1;
+      }),
+    )
+
+pub one_run : (mode : Mode) (found : List Found) (last other_last : List ℕ) (before other_before after other_after : State) (end other_end : End) → AreTold before.files found
+    → other_before.files ≡ before.files → (run : IsRun mode found last before after end) → (other : IsRun mode found other_last other_before other_after other_end)
+    → end.status ≢ 4 → other_end.status ≢ 4
+    → (reports_of mode run.seen run.answers ≡ reports_of mode other.seen other.answers) × (end.status ≡ other_end.status) × (after.files ≡ other_after.files)
+one_run mode found last other_last before other_before after other_after end other_end told same run other ne other_ne =
+    let g = good_run mode found last before after end run ne in
+    let h = good_run mode found other_last other_before other_after other_end other other_ne in
+    let one = one_looked mode found run.answers other.answers before after other_before other_after told same g.1.looks h.1.looks g.1.good h.1.good in (
+      ap (λ l. reports_of mode l run.answers) (sym g.0) ∙ one.0 ∙ ap (λ l. reports_of mode l other.answers) h.0,
+      g.1.exit ∙ ap (λ rs. worst (map (λ r. r.status) rs)) one.0 ∙ sym h.1.exit,
+      one.1,
+    )

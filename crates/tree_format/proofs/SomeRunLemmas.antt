@@ -1,0 +1,221 @@
+-- There is a run in which nothing fails.
+use Rattle.std.proofs.Common.{◌≡◌, ◌∙◌, ◌⊎◌, ◌++◌, ◌∷◌, [], ◌<◌, ◌≤◌, ℕ, Bool, true, false, List, Option, Some, None, ⊎_elim, ap, append-nil, arith, inl, inr, length, lit<, map, refl, subst, sym}
+use Rattle.std.specs.Prelude.{◌≢◌, ◌||◌, All, Result, Ok, Err}
+use Rattle.std.specs.List.{concat, list_any}
+use Rattle.std.specs.Str.{bytes_eq}
+use Rattle.std.proofs.lemmas.List.Elements.{All-head, All-tail, All-weaker}
+use Rattle.std.proofs.lemmas.Slice.Eq.{bytes_eq-Decides}
+use Rattle.command_line.specs.Rows.{End, Writer}
+use Rattle.hcl_source.specs.Load.{IsText, max_source}
+use Rattle.hcl_source.specs.Places.{place}
+use Rattle.hcl_source.specs.declared.device.Flushes.TheVariants.{Never}
+use Rattle.hcl_source.specs.declared.fault.Fault.{Fault}
+use Rattle.hcl_source.specs.declared.fault.FaultKind.{FaultKind}
+use Rattle.hcl_tokens.specs.Faults.{IsScanFault}
+use Rattle.hcl_tokens.specs.Lexemes.{Lexeme}
+use Rattle.hcl_tokens.specs.Scans.{Scans}
+use Rattle.hcl_grammar.specs.Classes.{lookaheads}
+use Rattle.hcl_grammar.specs.Predictor.{refusal_of}
+use Rattle.hcl_grammar.specs.Verdict.{fault_at, verdict_by}
+use Rattle.hcl_grammar.specs.declared.refusal.Refusal.{Refusal}
+use Rattle.hcl_layout.specs.Print.{print}
+use Rattle.layout_laws.specs.Reprinted.{printed_tokens}
+use Rattle.layout_laws.proofs.LoadLemmas.{loads_again}
+use Rattle.layout_laws.proofs.PlaceLemmas.{print_again, seen_again}
+use Rattle.layout_laws.proofs.RescanLemmas.{scans_again}
+use Rattle.file_tree.specs.Files.{Files, Name, State, Tells, noted, put}
+use Rattle.file_tree.specs.declared.fault.TreeFault.{TreeFault}
+use Rattle.file_tree.specs.declared.walk.Found.{Found}
+use Rattle.line_diff.specs.Diffs.{diff_of}
+use Rattle.tree_format.specs.Format.{HasFormatOrFault, IsFault, IsFormat, too_large}
+use Rattle.tree_format.specs.Looks.{Changes, Looks, Visits, failure_of}
+use Rattle.tree_format.specs.Reports.{worst}
+use Rattle.tree_format.specs.Runs.{AreReady, HasRoom, Holds, IsReady, IsRun, Kept, Looked, Sees, SeesBy, is_failed, reports_of}
+use Rattle.tree_format.specs.declared.mode.Mode.{Mode}
+use Rattle.tree_format.specs.declared.mode.Mode.TheVariants.{Write, Check, List as Listed, Diff}
+use Rattle.tree_format.specs.declared.outcome.Outcome.{Outcome}
+use Rattle.tree_format.specs.declared.outcome.Outcome.TheVariants as outcome
+use Rattle.tree_format.proofs.KeptLemmas.{visit_kept, visit_real}
+use Rattle.tree_format.proofs.RealLemmas.{fold_four, not_four}
+
+-- ---- bytes have a format or a fault
+
+either_size : (a b : ℕ) → (a ≤ b) ⊎ (b < a)
+either_size a b = grind arith
+
+-- a text is a list of tokens, or has a fault
+abbrev pub IsRead : List ℕ → Type 0
+IsRead text = ((ts : List Lexeme) × Scans text ts) ⊎ ((kind : FaultKind) × (at : ℕ) × IsScanFault text kind at)
+
+by_tokens : (text : List ℕ) (ts : List Lexeme) → IsText text → Scans text ts → (r : Option Refusal) → refusal_of (lookaheads ts) ≡ r → HasFormatOrFault text
+by_tokens text ts is scans None e =
+    ⊎_elim (λ le. inl (print ts, record { text = is; tokens = ts; scanned = scans; accepted = e; printed = refl; fits = le }))
+    (λ gt. inr (too_large, inr (is, inr (ts, scans, inr (e, gt, refl)))))
+    (either_size (length (print ts)) max_source)
+by_tokens text ts is scans (Some r) e =
+    inr (fault_at (record { text = text; tokens = ts }) r, inr (is, inr (ts, scans, inl (ap (verdict_by (record { text = text; tokens = ts })) e))))
+
+pub by_reading : (text : List ℕ) → IsText text → IsRead text → HasFormatOrFault text
+by_reading text is (inl s) = by_tokens text s.0 is s.1 (refusal_of (lookaheads s.0)) refl
+by_reading text is (inr f) = inr (record { kind = f.0; at = place text f.1 }, inr (is, inl (f.1, f.2, refl)))
+
+-- ---- one look
+
+-- there is a look at these bytes that doesn't fail
+abbrev SomeLook : Mode → Files → Name → Name → List ℕ → Type 0
+SomeLook mode old given name bytes = (answer : Outcome) × (new : Files) × Looks mode old new given name bytes answer × (is_failed answer ≡ false)
+
+shown : (old : Files) (given name bytes formatted : List ℕ) → IsFormat bytes formatted → formatted ≢ bytes → (answer : Outcome) → Holds answer (diff_of given bytes formatted) → SomeLook Diff old given name bytes
+shown old given name bytes formatted is ne (outcome.Differs text) h =
+    (outcome.Differs text, old, (refl, record { formatted = formatted; is = is; changed = ne; left = refl }, h), refl)
+shown old given name bytes formatted is ne outcome.Formatted h = absurd h
+shown old given name bytes formatted is ne outcome.Changed h = absurd h
+shown old given name bytes formatted is ne (outcome.Refused fault) h = absurd h
+shown old given name bytes formatted is ne (outcome.Failed fault) h = absurd h
+
+changed : (mode : Mode) (old : Files) (given name bytes formatted : List ℕ) → HasRoom mode given bytes → IsFormat bytes formatted → formatted ≢ bytes → SomeLook mode old given name bytes
+changed (Write w) old given name bytes formatted room is ne =
+    (outcome.Changed, put old name formatted, (no, record { formatted = formatted; is = is; changed = ne; left = refl }), refl)
+  where
+    no : Write w ≡ Diff → ⊥
+    no e = cc
+changed Check old given name bytes formatted room is ne =
+    (outcome.Changed, old, (no, record { formatted = formatted; is = is; changed = ne; left = refl }), refl)
+  where
+    no : Check ≡ Diff → ⊥
+    no e = cc
+changed Listed old given name bytes formatted room is ne =
+    (outcome.Changed, old, (no, record { formatted = formatted; is = is; changed = ne; left = refl }), refl)
+  where
+    no : Listed ≡ Diff → ⊥
+    no e = cc
+changed Diff old given name bytes formatted room is ne =
+    let answer = room formatted is ne in
+    shown old given name bytes formatted is ne answer.0 answer.1
+
+formatted_look : (mode : Mode) (old : Files) (given name bytes formatted : List ℕ) → HasRoom mode given bytes → IsFormat bytes formatted → (v : Bool) → bytes_eq formatted bytes ≡ v
+    → SomeLook mode old given name bytes
+formatted_look mode old given name bytes formatted room is true e =
+    (outcome.Formatted, old, (subst (IsFormat bytes) ((bytes_eq-Decides formatted bytes).0 e) is, refl), refl)
+formatted_look mode old given name bytes formatted room is false e =
+    changed mode old given name bytes formatted room is (λ same. no (sym ((bytes_eq-Decides formatted bytes).1 same) ∙ e))
+  where
+    no : true ≡ false → ⊥
+    no h = cc
+
+some_look : (mode : Mode) (old : Files) (given name bytes : List ℕ) → HasRoom mode given bytes → HasFormatOrFault bytes → SomeLook mode old given name bytes
+some_look mode old given name bytes room (inl f) = formatted_look mode old given name bytes f.0 room f.1 (bytes_eq f.0 bytes) refl
+some_look mode old given name bytes room (inr f) = (outcome.Refused f.0, old, (f.1, refl), refl)
+
+visits_by : (mode : Mode) (old new : Files) (given name bytes : List ℕ) (answer : Outcome) → old.told name ≡ Some bytes → Looks mode old new given name bytes answer
+    → Visits mode old new given name answer
+visits_by mode old new given name bytes outcome.Formatted e l = (bytes, subst (λ o. Tells o bytes) (sym e) refl, l)
+visits_by mode old new given name bytes outcome.Changed e l = (bytes, subst (λ o. Tells o bytes) (sym e) refl, l)
+visits_by mode old new given name bytes (outcome.Differs text) e l = (bytes, subst (λ o. Tells o bytes) (sym e) refl, l)
+visits_by mode old new given name bytes (outcome.Refused fault) e l = (bytes, subst (λ o. Tells o bytes) (sym e) refl, l)
+visits_by mode old new given name bytes (outcome.Failed fault) e l = l
+
+no_failure_of : (answer : Outcome) → is_failed answer ≡ false → failure_of answer ≡ None
+no_failure_of outcome.Formatted e = refl
+no_failure_of outcome.Changed e = refl
+no_failure_of (outcome.Differs text) e = refl
+no_failure_of (outcome.Refused fault) e = refl
+no_failure_of (outcome.Failed fault) e = absurd (cc)
+
+-- there is a look at what a name leads to that doesn't fail
+abbrev SomeSight : Mode → Name → Option TreeFault → State → Type 0
+SomeSight mode name fault before = (answer : Outcome) × (after : State) × SeesBy mode name fault answer before after × (is_failed answer ≡ false)
+
+some_sight : (mode : Mode) (name : Name) (fault : Option TreeFault) (before : State) → fault ≡ None → IsReady mode name (before.files.told (before.files.real name)) → SomeSight mode name fault before
+some_sight mode name fault before none ready = subst (λ f. SomeSight mode name f before) (sym none) (by (before.files.told (before.files.real name)) refl ready)
+  where
+    by : (told : Option (List ℕ)) → before.files.told (before.files.real name) ≡ told → IsReady mode name told → SomeSight mode name None before
+    by None e ready = absurd ready
+    by (Some bytes) e ready =
+        let look = some_look mode before.files name (before.files.real name) bytes ready.1 ready.0 in (
+          look.0,
+          record { files = look.1; faults = before.faults },
+          (
+            visits_by mode before.files look.1 name (before.files.real name) bytes look.0 e look.2,
+            record { is = inl (sym (ap (noted before.faults) (no_failure_of look.0 look.3))) },
+          ),
+          look.3,
+        )
+
+-- ---- what is ready stays ready
+
+formatted_again : (x y : List ℕ) → IsFormat x y → IsFormat y y
+formatted_again x y f =
+    let text : IsText y = subst IsText (sym f.printed) (loads_again x f.tokens f.text f.scanned (subst (λ l. length l ≤ max_source) f.printed f.fits)) in
+    record {
+      text = text;
+      tokens = printed_tokens f.tokens;
+      scanned = subst (λ l. Scans l (printed_tokens f.tokens)) (sym f.printed) (scans_again x f.tokens f.scanned);
+      accepted = ap refusal_of (seen_again f.tokens) ∙ f.accepted;
+      printed = f.printed ∙ sym (print_again f.tokens);
+      fits = f.fits;
+    }
+
+ready_kept : (mode : Mode) (name : Name) (a b : Option (List ℕ)) → Kept mode a b → IsReady mode name a → IsReady mode name b
+ready_kept (Write w) name None b k ready = absurd ready
+ready_kept (Write w) name (Some x) b (inl e) ready = subst (IsReady (Write w) name) (sym e) ready
+ready_kept (Write w) name (Some x) b (inr f) ready = subst (IsReady (Write w) name) (sym f.2) (inl (f.0, formatted_again x f.0 f.1), tt)
+ready_kept Check name a b k ready = subst (IsReady Check name) (sym k) ready
+ready_kept Listed name a b k ready = subst (IsReady Listed name) (sym k) ready
+ready_kept Diff name a b k ready = subst (IsReady Diff name) (sym k) ready
+
+ready_after_visit : (mode : Mode) (old new : Files) (given name : Name) (answer : Outcome) → Visits mode old new given name answer → (other : Name)
+    → IsReady mode other (old.told (old.real other)) → IsReady mode other (new.told (new.real other))
+ready_after_visit mode old new given name answer v other ready =
+    subst (λ n. IsReady mode other (new.told n)) (sym (visit_real mode old new given name answer v other))
+    (ready_kept mode other (old.told (old.real other)) (new.told (old.real other)) (visit_kept mode old new given name answer v (old.real other)) ready)
+
+ready_after : (mode : Mode) (name : Name) (fault : Option TreeFault) (answer : Outcome) (a b : State) → SeesBy mode name fault answer a b → (other : Name)
+    → IsReady mode other (a.files.told (a.files.real other)) → IsReady mode other (b.files.told (b.files.real other))
+ready_after mode name (Some fault) answer a b s other ready = subst (λ (state : State). IsReady mode other (state.files.told (state.files.real other))) (sym s.1) ready
+ready_after mode name None answer a b s other ready = ready_after_visit mode a.files b.files name (a.files.real name) answer s.0 other ready
+
+-- ---- the run
+
+abbrev SomeLooks : Mode → List Found → State → Type 0
+SomeLooks mode found before = (answers : List Outcome) × (after : State) × Looked mode found answers before after × (list_any is_failed answers ≡ false)
+
+some_looks : (mode : Mode) (found : List Found) (before : State) → AreReady mode before.files found → SomeLooks mode found before
+some_looks mode [] before ready = ([], before, refl, refl)
+some_looks mode (f ∷ more) before ready =
+    let here = All-head (λ g. (g.fault ≡ None) × IsReady mode g.name.items (before.files.told (before.files.real g.name.items))) f more ready in
+    let one = some_sight mode f.name.items f.fault before here.0 here.1 in
+    let rest = some_looks mode more one.1
+    (All-weaker (λ g. (g.fault ≡ None) × IsReady mode g.name.items (before.files.told (before.files.real g.name.items)))
+    (λ g. (g.fault ≡ None) × IsReady mode g.name.items (one.1.files.told (one.1.files.real g.name.items)))
+    (λ g r. (r.0, ready_after mode f.name.items f.fault one.0 before one.1 one.2 g.name.items r.1)) more
+    (All-tail (λ g. (g.fault ≡ None) × IsReady mode g.name.items (before.files.told (before.files.real g.name.items))) f more ready)) in
+    (one.0 ∷ rest.0, rest.1, (one.1, one.2, rest.2), ap (λ v. v || list_any is_failed rest.0) one.3 ∙ rest.3)
+
+-- a writer that tells nothing
+abbrev quiet : Writer
+quiet = record { before = None; after = None; failed = false; flushed = false; flushes_before = Never; flushes_after = Never }
+
+pub a_run : (mode : Mode) (found : List Found) (before : State) → AreReady mode before.files found
+    → (after : State) × (end : End) × (run : IsRun mode found [] before after end) × (end.status ≢ 4)
+a_run mode found before ready =
+    let looks = some_looks mode found before ready in
+    let status = worst (map (λ r. r.status) (reports_of mode found looks.0)) in (
+      looks.1,
+      record { out = quiet; err = quiet; status = status },
+      record {
+        seen = found;
+        rest = [];
+        all = sym (append-nil found);
+        whole = λ _. refl;
+        answers = looks.0;
+        looks = looks.2;
+        output = tt;
+        message = tt;
+        exit = refl;
+      },
+      λ e. no (sym (fold_four mode found looks.0 before looks.1 0 (not_four 0 (lit< tt)) looks.2 e) ∙ looks.3),
+    )
+  where
+    no : true ≡ false → ⊥
+    no h = cc
