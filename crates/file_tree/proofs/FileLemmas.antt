@@ -2,7 +2,7 @@
 use Rattle.std.proofs.Common.{◌≡◌, Bool, true, false, List, [], ◌∷◌, ◌++◌, ℕ, Option, Some, None, ap, append_assoc, append-nil, refl, sym}
 use Rattle.std.specs.Prelude.{Result, Ok, Err, OnOk, option_map, if◌then◌else◌}
 use Rattle.std.specs.Str.{bytes_eq}
-use Rattle.file_tree.specs.Files.{Faults, Files, Name, noted, noted_all, put, silent}
+use Rattle.file_tree.specs.Files.{Faults, Name, noted, noted_all, put, silent}
 use Rattle.file_tree.specs.declared.fault.TreeFault.{TreeFault}
 
 abbrev untold : Option (List ℕ)

@@ -1,8 +1,16 @@
 //! Names put together.
 
-ghost use Rattle.std.specs.Prelude.{◌≡◌, ◌++◌, IfOk};
+ghost use Rattle.std.specs.Prelude.{◌≡◌, ◌&&◌, ◌==◌, ◌++◌, ◌||◌, IfOk, length, map};
+ghost use Rattle.std.specs.Str.{bytes_eq};
+ghost use Rattle.file_tree.specs.Below.{listed};
+ghost use Rattle.file_tree.specs.Inner.Steps.{added, gap};
+ghost use Rattle.file_tree.specs.Paths.{is_step, place, reported, root, tidied, top};
 
 use std::alloc::{AllocError, Global};
+
+static SLASH: &[u8] = b"/";
+
+static NOTHING: &[u8] = b"";
 
 /// The one text and then the other.
 pub fn joined(alloc: Global, front: &[u8], back: &[u8]) -> Result<Vec<u8>, AllocError>
@@ -14,22 +22,98 @@ pub fn joined(alloc: Global, front: &[u8], back: &[u8]) -> Result<Vec<u8>, Alloc
     Ok(all)
 }
 
-/// A path without `.` and empty names in it, but for a `/` at its front.
-pub fn tidy(alloc: Global, path: &[u8]) -> Result<Vec<u8>, AllocError> {
-    let mut tidied = Vec::new(alloc);
-    if path.starts_with(b"/") {
-        tidied.extend_from_slice(b"/")?;
+/// The names between the NULs of a text, and before the first and after the last.
+pub fn names_in<'a>(alloc: Global, text: &'a [u8]) -> Result<Vec<&'a [u8]>, AllocError>
+    ensures { IfOk result (λ names. map (λ name. name.now) names.items ≡ listed text.entry.now) }
+{
+    let mut names = Vec::new(alloc);
+    for name in text.split(|b| *b == 0) {
+        if names.push(name).is_err() {
+            return Err(AllocError);
+        }
     }
-    let mut has_name = false;
-    for name in path.split(|b| *b == b'/') {
-        if name.is_empty() || name == b".".as_slice() {
-            continue;
-        }
-        if has_name {
-            tidied.extend_from_slice(b"/")?;
-        }
-        tidied.extend_from_slice(name)?;
-        has_name = true;
+    Ok(names)
+}
+
+/// What a path begins with: `/`, or nothing.
+fn root(path: &[u8]) -> &'static [u8]
+    ensures { result.now ≡ root path.now }
+{
+    if path.starts_with(b"/") {
+        SLASH
+    } else {
+        NOTHING
+    }
+}
+
+/// Whether a part of a path leads somewhere.
+fn is_step(part: &[u8]) -> bool
+    ensures { result ≡ is_step part.now }
+{
+    !part.is_empty() && part != b".".as_slice()
+}
+
+/// What stands before a part of a path, after others or as the first one.
+fn gap(has_step: bool) -> &'static [u8]
+    ensures { result.now ≡ gap has_step }
+{
+    if has_step { SLASH } else { NOTHING }
+}
+
+/// Adds a part of a path, after others or as the first one, unless it leads nowhere. Answers whether there is a part by now.
+fn add_step(tidied: &mut Vec<u8>, has_step: bool, part: &[u8]) -> Result<bool, AllocError>
+    ensures { IfOk result (λ has. (tidied.new.items ≡ tidied.old.items ++ added has_step part.now) × (has ≡ (has_step || is_step part.now))) }
+{
+    if !is_step(part) {
+        return Ok(has_step);
+    }
+    tidied.extend_from_slice(gap(has_step))?;
+    tidied.extend_from_slice(part)?;
+    Ok(true)
+}
+
+/// A path without `.` and empty names in it, but for a `/` at its front.
+pub fn tidy(alloc: Global, path: &[u8]) -> Result<Vec<u8>, AllocError>
+    ensures { IfOk result (λ path_tidied. path_tidied.items ≡ tidied path.now) }
+{
+    let mut tidied = Vec::new(alloc);
+    tidied.extend_from_slice(root(path))?;
+    let mut has_step = false;
+    for part in path.split(|b| *b == b'/') {
+        has_step = add_step(&mut tidied, has_step, part)?;
     }
     Ok(tidied)
+}
+
+/// A folder that was given, as it is looked into: with a `/` at its end, unless it is the current one.
+pub fn top(alloc: Global, path: &[u8]) -> Result<Vec<u8>, AllocError>
+    ensures { IfOk result (λ folder. folder.items ≡ top path.now) }
+{
+    let tidied = tidy(alloc, path)?;
+    if tidied.is_empty() || tidied.as_slice() == b"/".as_slice() {
+        return Ok(tidied);
+    }
+    joined(alloc, tidied.as_slice(), b"/")
+}
+
+/// By which name something that was given is reported that can't be looked at: tidied, unless nothing is left of it.
+pub fn reported(alloc: Global, path: &[u8]) -> Result<Vec<u8>, AllocError>
+    ensures { IfOk result (λ name. name.items ≡ reported path.now) }
+{
+    let tidied = tidy(alloc, path)?;
+    if tidied.is_empty() {
+        return joined(alloc, path, b"");
+    }
+    // A slash at the end stays: `file/` isn't `file`.
+    if path.ends_with(b"/") {
+        return joined(alloc, tidied.as_slice(), b"/");
+    }
+    Ok(tidied)
+}
+
+/// By which name a folder is listed.
+pub fn place(folder: &[u8]) -> &[u8]
+    ensures { result.now ≡ place folder.now }
+{
+    if folder.is_empty() { b"./" } else { folder }
 }

@@ -1,11 +1,16 @@
 //! The files that names stand for.
 
-ghost use Rattle.std.specs.Prelude.{◌≡◌};
+ghost use Rattle.std.specs.Prelude.{◌≡◌, [], IfOk, List, OnOk, map};
+ghost use Rattle.file_tree.specs.Below.{is_met};
+ghost use Rattle.file_tree.specs.Files.{Name};
+ghost use Rattle.file_tree.specs.Finds.{Finds};
+ghost use Rattle.file_tree.specs.Inner.Walking.{Adds, Enters, Orders, TakesAll, TakesEntry, TakesFolder, TakesGiven, TakesIf, TakesKind, TakesKindGiven, TakesMet, Walked, reached};
+ghost use Rattle.file_tree.specs.Names.{is_taken};
 
 use crate::fault::TreeFault;
 use crate::kind::Kind;
 use crate::names::{is_passed_over, is_taken};
-use crate::path::{joined, tidy};
+use crate::path::{joined, names_in, place, reported, tidy, top};
 use crate::tree::Tree;
 use std::alloc::{AllocError, Global};
 
@@ -23,43 +28,79 @@ struct Walk {
     folders: Vec<Vec<u8>>,
 }
 
-/// The names that are each ended by NUL.
-fn names_in<'a>(alloc: Global, listing: &'a [u8]) -> Result<Vec<&'a [u8]>, AllocError> {
-    let mut names = Vec::new(alloc);
-    for name in listing.split(|b| *b == 0) {
-        if names.push(name).is_err() {
-            return Err(AllocError);
-        }
-    }
-    Ok(names)
-}
-
-/// By which name something that was given is reported that can't be looked at: tidied, unless nothing is left of it.
-fn reported(alloc: Global, name: &[u8], tidied: &[u8]) -> Result<Vec<u8>, AllocError> {
-    if tidied.is_empty() {
-        return joined(alloc, name, b"");
-    }
-    // A slash at the end stays: `file/` isn't `file`.
-    let end = if name.ends_with(b"/") {
-        b"/".as_slice()
-    } else {
-        b"".as_slice()
-    };
-    joined(alloc, tidied, end)
+/// Whether an entry of this name is looked at.
+fn is_met(name: &[u8]) -> bool
+    ensures { result ≡ is_met name.now }
+{
+    !name.is_empty() && !is_passed_over(name)
 }
 
 impl Walk {
-    fn add(&mut self, name: Vec<u8>, fault: Option<TreeFault>) -> Result<(), AllocError> {
+    fn add(&mut self, name: Vec<u8>, fault: Option<TreeFault>) -> Result<(), AllocError>
+        ensures { OnOk result (Adds name.items fault (reached self.old) (reached self.new)) }
+    {
         match self.found.push(Found { name, fault }) {
             Ok(()) => Ok(()),
             Err(_) => Err(AllocError),
         }
     }
 
-    fn add_folder(&mut self, name: Vec<u8>) -> Result<(), AllocError> {
+    fn add_folder(&mut self, name: Vec<u8>) -> Result<(), AllocError>
+        ensures { OnOk result (Enters name.items (reached self.old) (reached self.new)) }
+    {
         match self.folders.push(name) {
             Ok(()) => Ok(()),
             Err(_) => Err(AllocError),
+        }
+    }
+
+    /// Takes a file, if files of this kind of name are taken.
+    fn take_file(&mut self, is_taken: bool, path: Vec<u8>) -> Result<(), AllocError>
+        ensures { OnOk result (TakesIf is_taken path.items (reached self.old) (reached self.new)) }
+    {
+        if is_taken {
+            return self.add(path, None);
+        }
+        Ok(())
+    }
+
+    /// Takes what stands in a folder under a name.
+    fn take_kind(
+        &mut self,
+        alloc: Global,
+        kind: Kind,
+        name: &[u8],
+        path: Vec<u8>,
+    ) -> Result<(), AllocError>
+        ensures { OnOk result (TakesKind kind path.items name.now (reached self.old) (reached self.new)) }
+    {
+        match kind {
+            Kind::Folder => {
+                let folder = joined(alloc, path.as_slice(), b"/")?;
+                self.add_folder(folder)
+            }
+            Kind::File => self.take_file(is_taken(name), path),
+            Kind::Link => self.take_file(is_taken(name), path),
+            Kind::Other => Ok(()),
+        }
+    }
+
+    /// Looks at what stands in a folder under a name that isn't passed over.
+    fn take_met<T: Tree>(
+        &mut self,
+        alloc: Global,
+        folder: &[u8],
+        name: &[u8],
+        tree: &mut T,
+    ) -> Result<(), AllocError>
+        // Nothing is changed.
+        ensures files { T.files tree.new ≡ T.files tree.old }
+        ensures takes { OnOk result (TakesMet (T.files tree.old) folder.now name.now (reached self.old) (reached self.new)) }
+    {
+        let path = joined(alloc, folder, name)?;
+        match tree.entry_kind(path.as_slice()) {
+            Ok(kind) => self.take_kind(alloc, kind, name, path),
+            Err(fault) => self.add(path, Some(fault)),
         }
     }
 
@@ -72,21 +113,31 @@ impl Walk {
         tree: &mut T,
     ) -> Result<(), AllocError>
         // Nothing is changed.
-        ensures { T.files tree.new ≡ T.files tree.old }
+        ensures files { T.files tree.new ≡ T.files tree.old }
+        ensures takes { OnOk result (TakesEntry (T.files tree.old) folder.now name.now (reached self.old) (reached self.new)) }
     {
-        if name.is_empty() || is_passed_over(name) {
+        if !is_met(name) {
             return Ok(());
         }
-        let path = joined(alloc, folder, name)?;
-        match tree.entry_kind(path.as_slice()) {
-            Ok(Kind::Folder) => {
-                let path = joined(alloc, path.as_slice(), b"/")?;
-                self.add_folder(path)
-            }
-            Ok(Kind::File) | Ok(Kind::Link) if is_taken(name) => self.add(path, None),
-            Ok(_) => Ok(()),
-            Err(fault) => self.add(path, Some(fault)),
+        self.take_met(alloc, folder, name, tree)
+    }
+
+    /// Looks at what stands in a folder under these names.
+    fn take_entries<T: Tree>(
+        &mut self,
+        alloc: Global,
+        folder: &[u8],
+        names: &[&[u8]],
+        tree: &mut T,
+    ) -> Result<(), AllocError>
+        // Nothing is changed.
+        ensures files { T.files tree.new ≡ T.files tree.old }
+        ensures takes { OnOk result (TakesAll (T.files tree.old) folder.now (map (λ name. name.now) names.now) (reached self.old) (reached self.new)) }
+    {
+        for name in names {
+            self.take_entry(alloc, folder, name, tree)?;
         }
+        Ok(())
     }
 
     /// Looks at all that stands in a folder.
@@ -97,53 +148,93 @@ impl Walk {
         tree: &mut T,
     ) -> Result<(), AllocError>
         // Nothing is changed.
-        ensures { T.files tree.new ≡ T.files tree.old }
+        ensures files { T.files tree.new ≡ T.files tree.old }
+        ensures takes { OnOk result (TakesFolder (T.files tree.old) folder.now (reached self.old) (reached self.new)) }
     {
-        let place = if folder.is_empty() {
-            b"./".as_slice()
-        } else {
-            folder
-        };
-        let names = match tree.listing(place) {
-            Ok(names) => names,
+        let place = place(folder);
+        match tree.listing(place) {
+            Ok(listing) => {
+                let names = names_in(alloc, listing.as_slice())?;
+                self.take_entries(alloc, folder, names.as_slice(), tree)
+            }
             Err(fault) => {
                 let path = joined(alloc, place, b"")?;
-                return self.add(path, Some(fault));
-            }
-        };
-        let names = names_in(alloc, names.as_slice())?;
-        for name in names.as_slice() {
-            self.take_entry(alloc, folder, name, tree)?;
-        }
-        Ok(())
-    }
-
-    /// Takes a name that was given.
-    fn take_operand<T: Tree>(
-        &mut self,
-        alloc: Global,
-        name: &[u8],
-        tree: &mut T,
-    ) -> Result<(), AllocError>
-        // Nothing is changed.
-        ensures { T.files tree.new ≡ T.files tree.old }
-    {
-        let tidied = tidy(alloc, name)?;
-        match tree.kind(name) {
-            Ok(Kind::Folder) => {
-                if tidied.is_empty() || tidied.as_slice() == b"/".as_slice() {
-                    return self.add_folder(tidied);
-                }
-                let folder = joined(alloc, tidied.as_slice(), b"/")?;
-                self.add_folder(folder)
-            }
-            Ok(_) => self.add(tidied, None),
-            Err(fault) => {
-                let path = reported(alloc, name, tidied.as_slice())?;
                 self.add(path, Some(fault))
             }
         }
     }
+
+    /// Takes what stands under a name that was given.
+    fn take_kind_given(&mut self, alloc: Global, kind: Kind, path: &[u8]) -> Result<(), AllocError>
+        ensures { OnOk result (TakesKindGiven kind path.now (reached self.old) (reached self.new)) }
+    {
+        if kind == Kind::Folder {
+            let folder = top(alloc, path)?;
+            return self.add_folder(folder);
+        }
+        let tidied = tidy(alloc, path)?;
+        self.add(tidied, None)
+    }
+
+    /// Takes a name that was given.
+    fn take_given<T: Tree>(
+        &mut self,
+        alloc: Global,
+        path: &[u8],
+        tree: &mut T,
+    ) -> Result<(), AllocError>
+        // Nothing is changed.
+        ensures files { T.files tree.new ≡ T.files tree.old }
+        ensures takes { OnOk result (TakesGiven (T.files tree.old) path.now (reached self.old) (reached self.new)) }
+    {
+        match tree.kind(path) {
+            Ok(kind) => self.take_kind_given(alloc, kind, path),
+            Err(fault) => {
+                let name = reported(alloc, path)?;
+                self.add(name, Some(fault))
+            }
+        }
+    }
+
+    /// A walk that has taken the names that were given.
+    fn over<T: Tree>(alloc: Global, paths: &[&[u8]], tree: &mut T) -> Result<Walk, AllocError>
+        // Nothing is changed.
+        ensures files { T.files tree.new ≡ T.files tree.old }
+        ensures walked { IfOk result (λ walk. Walked (T.files tree.old) (map (λ path. path.now) paths.now) (reached walk)) }
+    {
+        let mut walk = Walk {
+            found: Vec::new(alloc),
+            folders: Vec::new(alloc),
+        };
+        for path in paths {
+            walk.take_given(alloc, path, tree)?;
+        }
+        Ok(walk)
+    }
+
+    /// Looks into the folders, and those in them, until none is left.
+    fn look_into_all<T: Tree>(&mut self, alloc: Global, tree: &mut T) -> Result<(), AllocError>
+        // Nothing is changed.
+        ensures files { T.files tree.new ≡ T.files tree.old }
+        ensures walked { OnOk result ((paths : List Name) → Walked (T.files tree.old) paths (reached self.old) → Walked (T.files tree.old) paths (record { found = self.new.found.items; folders = [] })) }
+    {
+        for _ in 0..u64::MAX {
+            let Some(folder) = self.folders.pop() else {
+                return Ok(());
+            };
+            self.take_folder(alloc, folder.as_slice(), tree)?;
+        }
+        Err(AllocError)
+    }
+}
+
+/// What was found in the order of the names, each once: where one was found with a fault and without, without.
+fn in_order(mut found: Vec<Found>) -> Vec<Found>
+    ensures { Orders found.items result.items }
+{
+    found.sort_unstable();
+    found.dedup_by(|later, earlier| later.name == earlier.name);
+    found
 }
 
 /// The files that these names stand for, in the order of their names, each once.
@@ -153,23 +244,11 @@ pub fn find<T: Tree>(
     tree: &mut T,
 ) -> Result<Vec<Found>, AllocError>
     // Nothing is changed.
-    ensures { T.files tree.new ≡ T.files tree.old }
+    ensures files { T.files tree.new ≡ T.files tree.old }
+    // All files that the names stand for, and nothing else.
+    ensures finds { IfOk result (λ found. Finds (T.files tree.old) (map (λ operand. operand.now) operands.now) found.items) }
 {
-    let mut walk = Walk {
-        found: Vec::new(alloc),
-        folders: Vec::new(alloc),
-    };
-    for operand in operands {
-        walk.take_operand(alloc, operand, tree)?;
-    }
-    for _ in 0..u64::MAX {
-        match walk.folders.pop() {
-            Some(folder) => walk.take_folder(alloc, folder.as_slice(), tree)?,
-            None => break,
-        }
-    }
-    let mut found = walk.found;
-    found.sort_unstable();
-    found.dedup_by(|later, earlier| later.name == earlier.name);
-    Ok(found)
+    let mut walk = Walk::over(alloc, operands, tree)?;
+    walk.look_into_all(alloc, tree)?;
+    Ok(in_order(walk.found))
 }

@@ -1,2 +1,3 @@
-mod LineLemmas
+pub mod LineLemmas
+pub mod PathLemmas
 pub mod RunLemmas

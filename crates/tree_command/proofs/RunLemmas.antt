@@ -10,7 +10,8 @@ use Rattle.tree_format.specs.Runs.{IsRun, Settled, reports_of}
 use Rattle.tree_format.specs.declared.outcome.Outcome.{Outcome}
 use Rattle.tree_format.specs.declared.mode.Mode.{Mode}
 use Rattle.tree_format.proofs.WriterLemmas.{took_behind, took_front}
-use Rattle.tree_command.specs.Ends.{Formats, formatter, last_words}
+use Rattle.tree_command.specs.Ends.{Formats, IsPartOf, formatter, last_words}
+use Rattle.tree_command.specs.declared.shard.Shard.{Shard}
 
 either_false : (f g : Bool) → g ≡ false → (f || g) ≡ f
 either_false true g e = refl
@@ -71,44 +72,44 @@ status_kept true s s' e ne h = ne e
 status_kept false s s' e ne h = ne (e ∙ h)
 
 -- the files are those of before the walk
-formats_from : (mode : Mode) (files mid : Files) (was walked : Faults) (after : State) (end : End) (found : List Found) → mid ≡ files
+formats_from : (mode : Mode) (shard : Option Shard) (paths : List Name) (files mid : Files) (was walked : Faults) (after : State) (end : End) (found : List Found) → mid ≡ files → IsPartOf files shard paths found
     → IsRun mode found (last_words end.out.failed) (record { files = mid; faults = walked }) after end
     → (end.status ≢ 4 → All (λ f. Settled mode (mid.told (mid.real f.name.items)) (after.files.told (mid.real f.name.items))) found)
     → ((name : Name) → All (λ f. name ≢ mid.real f.name.items) found → after.files.told name ≡ mid.told name)
-    → Formats mode (record { files = files; faults = was }) after end
-formats_from mode files mid was walked after end found same run done untouched =
-    subst (λ (f : Files). Formats mode (record { files = f; faults = was }) after end) same (record { found = found; walked = walked; run = run; done = done; untouched = untouched })
+    → Formats mode shard paths (record { files = files; faults = was }) after end
+formats_from mode shard paths files mid was walked after end found same finds run done untouched =
+    subst (λ (f : Files). Formats mode shard paths (record { files = f; faults = was }) after end) same (record { found = found; finds = subst (λ (f : Files). IsPartOf f shard paths found) (sym same) finds; walked = walked; run = run; done = done; untouched = untouched })
 
 -- standard error failed while the files were reported
-pub formats_stopped : (mode : Mode) (files mid : Files) (was walked : Faults) (after : State) (out err : Writer) (s : ℕ) (found : List Found) → mid ≡ files
+pub formats_stopped : (mode : Mode) (shard : Option Shard) (paths : List Name) (files mid : Files) (was walked : Faults) (after : State) (out err : Writer) (s : ℕ) (found : List Found) → mid ≡ files → IsPartOf files shard paths found
     → IsRun mode found [] (record { files = mid; faults = walked }) after (record { out = out; err = err; status = s })
     → ((name : Name) → All (λ f. name ≢ mid.real f.name.items) found → after.files.told name ≡ mid.told name) → err.failed ≡ true
-    → Formats mode (record { files = files; faults = was }) after (record { out = out; err = err; status = 4 })
-formats_stopped mode files mid was walked after out err s found same run untouched bad =
-    formats_from mode files mid was walked after (record { out = out; err = err; status = 4 }) found same
+    → Formats mode shard paths (record { files = files; faults = was }) after (record { out = out; err = err; status = 4 })
+formats_stopped mode shard paths files mid was walked after out err s found same finds run untouched bad =
+    formats_from mode shard paths files mid was walked after (record { out = out; err = err; status = 4 }) found same finds
     (run_stopped mode found (record { files = mid; faults = walked }) after out err s run (last_words out.failed) bad)
     (λ ne. absurd (ne refl)) untouched
 
 -- it didn't
-formats_said : (mode : Mode) (files mid : Files) (was walked : Faults) (after : State) (out err fin : Writer) (s s' : ℕ) (found : List Found) → mid ≡ files
+formats_said : (mode : Mode) (shard : Option Shard) (paths : List Name) (files mid : Files) (was walked : Faults) (after : State) (out err fin : Writer) (s s' : ℕ) (found : List Found) → mid ≡ files → IsPartOf files shard paths found
     → IsRun mode found [] (record { files = mid; faults = walked }) after (record { out = out; err = err; status = s })
     → (s ≢ 4 → All (λ f. Settled mode (mid.told (mid.real f.name.items)) (after.files.told (mid.real f.name.items))) found)
     → ((name : Name) → All (λ f. name ≢ mid.real f.name.items) found → after.files.told name ≡ mid.told name)
     → err.failed ≡ false → fin.before ≡ err.before → TookBy fin.failed err.after fin.after (last_words out.failed) → s' ≡ (if out.failed || fin.failed then 4 else s)
-    → Formats mode (record { files = files; faults = was }) after (record { out = out; err = fin; status = s' })
-formats_said mode files mid was walked after out err fin s s' found same run done untouched good before took status =
-    formats_from mode files mid was walked after (record { out = out; err = fin; status = s' }) found same
+    → Formats mode shard paths (record { files = files; faults = was }) after (record { out = out; err = fin; status = s' })
+formats_said mode shard paths files mid was walked after out err fin s s' found same finds run done untouched good before took status =
+    formats_from mode shard paths files mid was walked after (record { out = out; err = fin; status = s' }) found same finds
     (run_said mode found (record { files = mid; faults = walked }) after out err s run (last_words out.failed) fin s' good before took status)
     (λ ne. done (status_kept (out.failed || fin.failed) s s' status ne)) untouched
 
-pub formats_finished : (mode : Mode) (files mid : Files) (was walked : Faults) (after : State) (out err fin : Writer) (s s' : ℕ) (found : List Found) (p : Program) → mid ≡ files
+pub formats_finished : (mode : Mode) (shard : Option Shard) (paths : List Name) (files mid : Files) (was walked : Faults) (after : State) (out err fin : Writer) (s s' : ℕ) (found : List Found) (p : Program) → mid ≡ files → IsPartOf files shard paths found
     → IsRun mode found [] (record { files = mid; faults = walked }) after (record { out = out; err = err; status = s })
     → (s ≢ 4 → All (λ f. Settled mode (mid.told (mid.real f.name.items)) (after.files.told (mid.real f.name.items))) found)
     → ((name : Name) → All (λ f. name ≢ mid.real f.name.items) found → after.files.told name ≡ mid.told name)
     → err.failed ≡ false → fin.before ≡ err.before → p ≡ formatter
     → TookBy fin.failed err.after fin.after (if out.failed then write_failed p else []) → s' ≡ (if out.failed || fin.failed then p.failure else s)
-    → Formats mode (record { files = files; faults = was }) after (record { out = out; err = fin; status = s' })
-formats_finished mode files mid was walked after out err fin s s' found p same run done untouched good before is took status =
-    formats_said mode files mid was walked after out err fin s s' found same run done untouched good before
+    → Formats mode shard paths (record { files = files; faults = was }) after (record { out = out; err = fin; status = s' })
+formats_finished mode shard paths files mid was walked after out err fin s s' found p same finds run done untouched good before is took status =
+    formats_said mode shard paths files mid was walked after out err fin s s' found same finds run done untouched good before
     (subst (λ (q : Program). TookBy fin.failed err.after fin.after (if out.failed then write_failed q else [])) is took)
     (subst (λ (q : Program). s' ≡ (if out.failed || fin.failed then q.failure else s)) is status)

@@ -1,9 +1,11 @@
 //! A run over any tree and any devices.
 
-ghost use Rattle.std.specs.Prelude.{◌≡◌, ℕ, List, false, map};
+ghost use Rattle.std.specs.Prelude.{◌≡◌, ℕ, List, [], false, IfOk, map};
 ghost use Rattle.command_line.specs.Rows.{ShowsOne, writer};
-ghost use Rattle.tree_command.specs.Ends.{FormatsOr, IsBadLine, IsEnd, ReadsAndFormatsOr, formatter};
+ghost use Rattle.file_tree.specs.Files.{Tells};
+ghost use Rattle.tree_command.specs.Ends.{FormatsNamed, FormatsOr, IsBadLine, IsEnd, IsPartOf, ReadsAndFormats, formatter};
 ghost use Rattle.tree_command.specs.Line.{mode_of_words};
+ghost use Rattle.tree_command.specs.Paths.{paths_of_input, paths_of_line, without_last_nul};
 ghost use Rattle.tree_format.specs.declared.mode.Mode.{Mode};
 ghost use Rattle.tree_format.specs.Runs.{IsSafe, Kept};
 
@@ -12,6 +14,7 @@ use crate::pick::pick;
 use crate::shard::Shard;
 use crate::usage::{HELP, USAGE, Usage, VERSION};
 use command_line::Program;
+use file_tree::path::names_in;
 use file_tree::tree::Tree;
 use file_tree::walk::{Found, find};
 use hcl_scan::{ByteSink, ByteSource, Failed};
@@ -45,7 +48,8 @@ fn find_part<T: Tree>(
     tree: &mut T,
 ) -> Result<Vec<Found>, AllocError>
     // Nothing is changed.
-    ensures { T.files tree.new ≡ T.files tree.old }
+    ensures files { T.files tree.new ≡ T.files tree.old }
+    ensures finds { IfOk result (λ found. IsPartOf (T.files tree.old) shard (map (λ operand. operand.now) operands.now) found.items) }
 {
     let found = find(alloc, operands, tree)?;
     pick(alloc, found, shard)
@@ -67,7 +71,7 @@ fn run<T: Tree, P: Progress, O: ByteSink, E: ByteSink>(
     requires err { E.failed err.old ≡ false }
     // However the run goes, each file is then as it was, or, where files are to be written, it has the format of its bytes.
     ensures kept { (name : List ℕ) → Kept mode ((T.files tree.old).told name) ((T.files tree.new).told name) }
-    ensures ends { FormatsOr mode (record { files = T.files tree.old; faults = T.faults tree.old }) (record { files = T.files tree.new; faults = T.faults tree.new })
+    ensures ends { FormatsOr mode shard (map (λ operand. operand.now) operands.now) (record { files = T.files tree.old; faults = T.faults tree.old }) (record { files = T.files tree.new; faults = T.faults tree.new })
         (record { out = writer O.taken O.failed O.flushed O.flushes out.old out.new; err = writer E.taken E.failed E.flushed E.flushes err.old err.new; status = result }) }
 {
     match find_part(alloc, shard, operands, tree) {
@@ -92,6 +96,7 @@ enum NoNames {
 /// All that a device has left.
 fn read_names<R: ByteSource>(alloc: Global, input: &mut R) -> Result<Vec<u8>, NoNames>
     requires { R.failed input.old ≡ false }
+    ensures { IfOk result (λ names. Tells (R.left input.old) names.items) }
 {
     let mut bytes = Vec::new(alloc);
     let mut buffer = [0; 16_384];
@@ -109,15 +114,46 @@ fn read_names<R: ByteSource>(alloc: Global, input: &mut R) -> Result<Vec<u8>, No
     Err(NoNames::ReadFailed)
 }
 
-/// The names, each ended by NUL, but for the last, which needs none.
-fn operands_in<'a>(alloc: Global, names: &'a [u8]) -> Result<Vec<&'a [u8]>, AllocError> {
-    let mut operands = Vec::new(alloc);
-    let names = names.strip_suffix(b"\0").unwrap_or(names);
-    if names.is_empty() {
-        return Ok(operands);
+/// Names without the NUL at their end.
+fn without_last_nul(names: &[u8]) -> &[u8]
+    ensures { result.now ≡ without_last_nul names.now }
+{
+    if names.ends_with(b"\0") {
+        &names[..names.len() - 1]
+    } else {
+        names
     }
-    for name in names.split(|b| *b == 0) {
-        if operands.push(name).is_err() {
+}
+
+/// The names, each ended by NUL, but for the last, which needs none.
+fn operands_in<'a>(alloc: Global, names: &'a [u8]) -> Result<Vec<&'a [u8]>, AllocError>
+    ensures { IfOk result (λ operands. map (λ operand. operand.now) operands.items ≡ paths_of_input names.entry.now) }
+{
+    let names = without_last_nul(names);
+    if names.is_empty() {
+        return Ok(Vec::new(alloc));
+    }
+    names_in(alloc, names)
+}
+
+/// The current folder.
+fn here<'a>(alloc: Global) -> Result<Vec<&'a [u8]>, AllocError>
+    ensures { IfOk result (λ operands. map (λ operand. operand.now) operands.items ≡ paths_of_line []) }
+{
+    let mut operands = Vec::new(alloc);
+    match operands.push(b".".as_slice()) {
+        Ok(()) => Ok(operands),
+        Err(_) => Err(AllocError),
+    }
+}
+
+/// Names as bytes.
+fn bytes_of<'a>(alloc: Global, names: &[&'a str]) -> Result<Vec<&'a [u8]>, AllocError>
+    ensures { IfOk result (λ operands. map (λ operand. operand.now) operands.items ≡ map (λ name. name.now) names.now) }
+{
+    let mut operands = Vec::new(alloc);
+    for name in names {
+        if operands.push(name.as_bytes()).is_err() {
             return Err(AllocError);
         }
     }
@@ -125,17 +161,13 @@ fn operands_in<'a>(alloc: Global, names: &'a [u8]) -> Result<Vec<&'a [u8]>, Allo
 }
 
 /// The names of a line, or the current folder where there is none.
-fn operands_of<'a>(alloc: Global, names: &[&'a str]) -> Result<Vec<&'a [u8]>, AllocError> {
-    let mut operands = Vec::new(alloc);
-    if names.is_empty() && operands.push(b".".as_slice()).is_err() {
-        return Err(AllocError);
+fn operands_of<'a>(alloc: Global, names: &[&'a str]) -> Result<Vec<&'a [u8]>, AllocError>
+    ensures { IfOk result (λ operands. map (λ operand. operand.now) operands.items ≡ paths_of_line (map (λ name. name.now) names.now)) }
+{
+    if names.is_empty() {
+        return here(alloc);
     }
-    for name in names {
-        if operands.push(name.as_bytes()).is_err() {
-            return Err(AllocError);
-        }
-    }
-    Ok(operands)
+    bytes_of(alloc, names)
 }
 
 /// Takes the names from a device.
@@ -155,7 +187,7 @@ fn run_null<T: Tree, P: Progress, R: ByteSource, O: ByteSink, E: ByteSink>(
     requires err { E.failed err.old ≡ false }
     // However the run goes, each file is then as it was, or, where files are to be written, it has the format of its bytes.
     ensures kept { (name : List ℕ) → Kept mode ((T.files tree.old).told name) ((T.files tree.new).told name) }
-    ensures ends { ReadsAndFormatsOr mode (record { files = T.files tree.old; faults = T.faults tree.old }) (record { files = T.files tree.new; faults = T.faults tree.new })
+    ensures ends { ReadsAndFormats mode shard (R.left input.old) (record { files = T.files tree.old; faults = T.faults tree.old }) (record { files = T.files tree.new; faults = T.faults tree.new })
         (record { out = writer O.taken O.failed O.flushed O.flushes out.old out.new; err = writer E.taken E.failed E.flushed E.flushes err.old err.new; status = result }) }
 {
     let names = match read_names(alloc, input) {
@@ -196,7 +228,7 @@ fn run_named<T: Tree, P: Progress, O: ByteSink, E: ByteSink>(
     requires err { E.failed err.old ≡ false }
     // However the run goes, each file is then as it was, or, where files are to be written, it has the format of its bytes.
     ensures kept { (name : List ℕ) → Kept mode ((T.files tree.old).told name) ((T.files tree.new).told name) }
-    ensures ends { FormatsOr mode (record { files = T.files tree.old; faults = T.faults tree.old }) (record { files = T.files tree.new; faults = T.faults tree.new })
+    ensures ends { FormatsNamed mode shard (map (λ name. name.now) names.now) (record { files = T.files tree.old; faults = T.faults tree.old }) (record { files = T.files tree.new; faults = T.faults tree.new })
         (record { out = writer O.taken O.failed O.flushed O.flushes out.old out.new; err = writer E.taken E.failed E.flushed E.flushes err.old err.new; status = result }) }
 {
     match operands_of(alloc, names) {
@@ -243,7 +275,7 @@ pub fn program<T: Tree, P: Progress, R: ByteSource, O: ByteSink, E: ByteSink>(
     // It has its format only where the words ask for that.
     ensures kept { (mode : Mode) → mode_of_words (map (λ word. word.now) words.now) ≡ Some mode → (name : List ℕ) → Kept mode ((T.files tree.old).told name) ((T.files tree.new).told name) }
     // What was looked at and said, and with which status it ends.
-    ensures ends { IsEnd (mode_of_words (map (λ word. word.now) words.now)) (record { files = T.files tree.old; faults = T.faults tree.old }) (record { files = T.files tree.new; faults = T.faults tree.new })
+    ensures ends { IsEnd (map (λ word. word.now) words.now) (R.left input.old) (record { files = T.files tree.old; faults = T.faults tree.old }) (record { files = T.files tree.new; faults = T.faults tree.new })
         (record { out = writer O.taken O.failed O.flushed O.flushes out.old out.new; err = writer E.taken E.failed E.flushed E.flushes err.old err.new; status = result }) }
 {
     match options(alloc, words) {

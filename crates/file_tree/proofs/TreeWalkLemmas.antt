@@ -1,0 +1,460 @@
+-- A walk, step by step.
+use Rattle.std.proofs.Common.{◌≡◌, ◌≢◌, ◌∙◌, ◌<◌, ◌+◌, ◌⊎◌, ◌++◌, ◌∷◌, [], ℕ, suc, Bool, true, false, Bor, Global, List, Vec, Option, Some, None, Result, Ok, Err, OnOk, Contains, ap, append_assoc, append-nil, arith, get_or, inl, inr, length, map, refl, subst, sym, take, true≢false}
+use Rattle.std.proofs.lemmas.List.{map-append, map_more}
+use Rattle.std.proofs.lemmas.List.Elements.{Contains-append_left, Contains-push, Contains-push_cases}
+use Rattle.file_tree.specs.Below.{HasFile, HasFolder, IsBelow, IsEntry, IsGiven, Leads, Says, is_met, listed}
+use Rattle.file_tree.specs.Files.{Files, Name, Tells}
+use Rattle.file_tree.specs.Finds.{Accounts, Finds, HasName, IsFolderOf, IsFound, IsOf, IsOfBy}
+use Rattle.file_tree.specs.Names.{is_taken}
+use Rattle.file_tree.specs.Paths.{inside, place, reported, tidied, top, within}
+use Rattle.file_tree.specs.Inner.Walking.{Adds, Covers, Enters, IsFault, Orders, Reached, TakesAll, TakesEntry, TakesFolder, TakesGiven, TakesIf, TakesKind, TakesKindGiven, Walked}
+use Rattle.file_tree.specs.declared.fault.TreeFault.{TreeFault}
+use Rattle.file_tree.specs.declared.kind.Kind.{Kind}
+use Rattle.file_tree.specs.declared.kind.Kind.TheVariants.{File, Folder, Link, Other}
+use Rattle.file_tree.specs.declared.walk.Found.{Found}
+use Rattle.file_tree.proofs.OrderLemmas.{cons_cases, none_in}
+
+-- ---- nothing is taken away
+
+abbrev Grows : Reached → Reached → Type 0
+Grows old new = (found : List Found) × (folders : List Name) × (new.found ≡ old.found ++ found) × (new.folders ≡ old.folders ++ folders)
+
+grows_same : (old new : Reached) → new ≡ old → Grows old new
+grows_same old new e = ([], [], ap (λ (r : Reached). r.found) e ∙ sym (append-nil old.found), ap (λ (r : Reached). r.folders) e ∙ sym (append-nil old.folders))
+
+grows_then : (a b c : Reached) → Grows a b → Grows b c → Grows a c
+grows_then a b c p q = (
+  p.0 ++ q.0,
+  p.1 ++ q.1,
+  q.2 ∙ ap (λ l. l ++ q.0) p.2 ∙ append_assoc a.found p.0 q.0,
+  q.3 ∙ ap (λ l. l ++ q.1) p.3 ∙ append_assoc a.folders p.1 q.1,
+)
+
+grows_adds : (name : Name) (fault : Option TreeFault) (old new : Reached) → Adds name fault old new → Grows old new
+grows_adds name fault old new h = (h.f ∷ [], [], h.found, h.folders ∙ sym (append-nil old.folders))
+
+grows_enters : (folder : Name) (old new : Reached) → Enters folder old new → Grows old new
+grows_enters folder old new h = ([], folder ∷ [], h.found ∙ sym (append-nil old.found), h.folders)
+
+grows_if : (v : Bool) (path : Name) (old new : Reached) → TakesIf v path old new → Grows old new
+grows_if true path old new h = grows_adds path None old new h
+grows_if false path old new h = grows_same old new h
+
+grows_kind : (kind : Kind) (path name : Name) (old new : Reached) → TakesKind kind path name old new → Grows old new
+grows_kind Folder path name old new h = grows_enters _ old new h
+grows_kind File path name old new h = grows_if (is_taken name) path old new h
+grows_kind Link path name old new h = grows_if (is_taken name) path old new h
+grows_kind Other path name old new h = grows_same old new h
+
+grows_entry : (files : Files) (folder name : Name) (old new : Reached) → TakesEntry files folder name old new → Grows old new
+grows_entry files folder name old new (inl h) = grows_same old new h.1
+grows_entry files folder name old new (inr (met, inl h)) = grows_adds (folder ++ name) (Some h.0) old new h.1
+grows_entry files folder name old new (inr (met, inr h)) = grows_kind h.0 (folder ++ name) name old new h.2
+
+grows_all : (files : Files) (folder : Name) (names : List Name) (old new : Reached) → TakesAll files folder names old new → Grows old new
+grows_all files folder [] old new h = grows_same old new h
+grows_all files folder (name ∷ names) old new h = grows_then old h.0 new (grows_entry files folder name old h.0 h.1) (grows_all files folder names h.0 new h.2)
+
+grows_folder : (files : Files) (folder : Name) (old new : Reached) → TakesFolder files folder old new → Grows old new
+grows_folder files folder old new (inl h) = grows_adds (place folder) (Some h.0) old new h.1
+grows_folder files folder old new (inr h) = grows_all files folder (listed h.0) old new h.2
+
+grows_kind_given : (kind : Kind) (path : Name) (old new : Reached) → TakesKindGiven kind path old new → Grows old new
+grows_kind_given Folder path old new h = grows_enters (top path) old new h
+grows_kind_given File path old new h = grows_adds (tidied path) None old new h
+grows_kind_given Link path old new h = grows_adds (tidied path) None old new h
+grows_kind_given Other path old new h = grows_adds (tidied path) None old new h
+
+grows_given : (files : Files) (path : Name) (old new : Reached) → TakesGiven files path old new → Grows old new
+grows_given files path old new (inl h) = grows_adds (reported path) (Some h.0) old new h.1
+grows_given files path old new (inr h) = grows_kind_given h.0 path old new h.2
+
+module _ (old new : Reached) (grows : Grows old new) where
+  stays : (f : Found) → Contains old.found f → Contains new.found f
+  stays f c = subst (λ l. Contains l f) (sym grows.2) (Contains-append_left old.found grows.0 f c)
+
+  folder_stays : (folder : Name) → Contains old.folders folder → Contains new.folders folder
+  folder_stays folder c = subst (λ l. Contains l folder) (sym grows.3) (Contains-append_left old.folders grows.1 folder c)
+
+  found_stays : (name : Name) → IsFound old.found name → IsFound new.found name
+  found_stays name h = (h.0, stays h.0 h.1, h.2, h.3)
+
+  fault_stays : (name : Name) → IsFault old.found name → IsFault new.found name
+  fault_stays name h = (h.0, stays h.0 h.1, h.2, h.3)
+
+covers_stays : (old new : Reached) → Grows old new → (folder : Name) (parts : List Name) (last : Name) → Covers old folder parts last → Covers new folder parts last
+covers_stays old new grows folder [] last (inl c) = inl (folder_stays old new grows folder c)
+covers_stays old new grows folder [] last (inr (inl h)) = inr (inl (fault_stays old new grows (place folder) h))
+covers_stays old new grows folder [] last (inr (inr (inl h))) = inr (inr (inl (fault_stays old new grows (folder ++ last) h)))
+covers_stays old new grows folder [] last (inr (inr (inr h))) = inr (inr (inr (found_stays old new grows (folder ++ last) h)))
+covers_stays old new grows folder (part ∷ parts) last (inl c) = inl (folder_stays old new grows folder c)
+covers_stays old new grows folder (part ∷ parts) last (inr (inl h)) = inr (inl (fault_stays old new grows (place folder) h))
+covers_stays old new grows folder (part ∷ parts) last (inr (inr (inl h))) = inr (inr (inl (fault_stays old new grows (folder ++ part) h)))
+covers_stays old new grows folder (part ∷ parts) last (inr (inr (inr h))) = inr (inr (inr (covers_stays old new grows (inside folder part) parts last h)))
+
+covers_at : (r : Reached) (folder : Name) (parts : List Name) (last : Name) → Contains r.folders folder → Covers r folder parts last
+covers_at r folder [] last c = inl c
+covers_at r folder (part ∷ parts) last c = inl c
+
+-- ---- what a step adds
+
+fault_added : (name : Name) (fault : TreeFault) (old new : Reached) → Adds name (Some fault) old new → IsFault new.found name
+fault_added name fault old new h = (h.f, subst (λ l. Contains l h.f) (sym h.found) (Contains-push old.found h.f), h.name_is, λ none. some_none (sym h.fault_is ∙ none))
+  where
+    some_none : Some fault ≡ None → ⊥
+    some_none e = cc
+
+found_added : (name : Name) (old new : Reached) → Adds name None old new → IsFound new.found name
+found_added name old new h = (h.f, subst (λ l. Contains l h.f) (sym h.found) (Contains-push old.found h.f), h.name_is, h.fault_is)
+
+folder_added : (folder : Name) (old new : Reached) → Enters folder old new → Contains new.folders folder
+folder_added folder old new h = subst (λ l. Contains l folder) (sym h.folders) (Contains-push old.folders folder)
+
+-- what is told of a name
+told_some : {X : Type 0} (told : Option X) (x y : X) → told ≡ Some x → Tells told y → x ≡ y
+told_some told x y e h = subst (λ o. Tells o y) e h
+
+-- ---- an entry of a folder is not passed over
+
+met_folder : (files : Files) (folder name : Name) (old new : Reached) → TakesEntry files folder name old new → is_met name ≡ true → files.entry (folder ++ name) ≡ Some Folder
+    → Contains new.folders (inside folder name) ⊎ IsFault new.found (folder ++ name)
+met_folder files folder name old new (inl h) met is = absurd (true≢false (sym met ∙ h.0))
+met_folder files folder name old new (inr (_, inl h)) met is = inr (fault_added (folder ++ name) h.0 old new h.1)
+met_folder files folder name old new (inr (_, inr h)) met is =
+    inl (folder_added (inside folder name) old new (subst (λ kind. TakesKind kind (folder ++ name) name old new) (sym (told_some (files.entry (folder ++ name)) Folder h.0 is h.1)) h.2))
+
+taken_if : (v : Bool) (path : Name) (old new : Reached) → v ≡ true → TakesIf v path old new → IsFound new.found path
+taken_if v path old new e h = found_added path old new (subst (λ w. TakesIf w path old new) e h)
+
+met_file : (files : Files) (folder name : Name) (old new : Reached) → TakesEntry files folder name old new → is_met name ≡ true
+    → (files.entry (folder ++ name) ≡ Some File) ⊎ (files.entry (folder ++ name) ≡ Some Link) → is_taken name ≡ true
+    → IsFault new.found (folder ++ name) ⊎ IsFound new.found (folder ++ name)
+met_file files folder name old new (inl h) met is taken = absurd (true≢false (sym met ∙ h.0))
+met_file files folder name old new (inr (_, inl h)) met is taken = inl (fault_added (folder ++ name) h.0 old new h.1)
+met_file files folder name old new (inr (_, inr h)) met (inl is) taken =
+    inr (taken_if (is_taken name) (folder ++ name) old new taken (subst (λ kind. TakesKind kind (folder ++ name) name old new) (sym (told_some (files.entry (folder ++ name)) File h.0 is h.1)) h.2))
+met_file files folder name old new (inr (_, inr h)) met (inr is) taken =
+    inr (taken_if (is_taken name) (folder ++ name) old new taken (subst (λ kind. TakesKind kind (folder ++ name) name old new) (sym (told_some (files.entry (folder ++ name)) Link h.0 is h.1)) h.2))
+
+-- ---- nor is one of several
+
+either : {A B C D : Type 0} → (A → C) → (B → D) → A ⊎ B → C ⊎ D
+either f g (inl a) = inl (f a)
+either f g (inr b) = inr (g b)
+
+all_folder : (files : Files) (folder : Name) (names : List Name) (name : Name) (old new : Reached) → TakesAll files folder names old new → Contains names name → is_met name ≡ true
+    → files.entry (folder ++ name) ≡ Some Folder → Contains new.folders (inside folder name) ⊎ IsFault new.found (folder ++ name)
+all_folder files folder [] name old new h c met is = absurd (none_in name c)
+all_folder files folder (first ∷ names) name old new h c met is =
+    here (cons_cases first name names c) (λ d. all_folder files folder names name h.0 new h.2 d met is)
+  where
+    here : (first ≡ name) ⊎ Contains names name → (Contains names name → Contains new.folders (inside folder name) ⊎ IsFault new.found (folder ++ name))
+        → Contains new.folders (inside folder name) ⊎ IsFault new.found (folder ++ name)
+    here (inl e) later =
+        let grows = grows_all files folder names h.0 new h.2 in
+        either (folder_stays h.0 new grows (inside folder name)) (fault_stays h.0 new grows (folder ++ name))
+        (met_folder files folder name old h.0 (subst (λ n. TakesEntry files folder n old h.0) e h.1) met is)
+    here (inr d) later = later d
+
+all_file : (files : Files) (folder : Name) (names : List Name) (name : Name) (old new : Reached) → TakesAll files folder names old new → Contains names name → is_met name ≡ true
+    → (files.entry (folder ++ name) ≡ Some File) ⊎ (files.entry (folder ++ name) ≡ Some Link) → is_taken name ≡ true
+    → IsFault new.found (folder ++ name) ⊎ IsFound new.found (folder ++ name)
+all_file files folder [] name old new h c met is taken = absurd (none_in name c)
+all_file files folder (first ∷ names) name old new h c met is taken =
+    here (cons_cases first name names c) (λ d. all_file files folder names name h.0 new h.2 d met is taken)
+  where
+    here : (first ≡ name) ⊎ Contains names name → (Contains names name → IsFault new.found (folder ++ name) ⊎ IsFound new.found (folder ++ name))
+        → IsFault new.found (folder ++ name) ⊎ IsFound new.found (folder ++ name)
+    here (inl e) later =
+        let grows = grows_all files folder names h.0 new h.2 in
+        either (fault_stays h.0 new grows (folder ++ name)) (found_stays h.0 new grows (folder ++ name))
+        (met_file files folder name old h.0 (subst (λ n. TakesEntry files folder n old h.0) e h.1) met is taken)
+    here (inr d) later = later d
+
+-- ---- a folder is taken off the stack, and looked into
+
+abbrev and_folder : Reached → Name → Reached
+and_folder r folder = record { found = r.found; folders = r.folders ++ folder ∷ [] }
+
+file_met : (files : Files) (folder last : Name) (old new : Reached) → TakesFolder files folder old new → HasFile true files folder last → Covers new folder [] last
+file_met files folder last old new (inl h) has = inr (inl (fault_added (place folder) h.0 old new h.1))
+file_met files folder last old new (inr h) has =
+    let same : has.0.0 ≡ h.0 = told_some (files.listing (place folder)) has.0.0 h.0 has.0.1 h.1 in
+    let within : Contains (listed h.0) last = subst (λ l. Contains (listed l) last) same has.0.2 in
+    inr (inr (all_file files folder (listed h.0) last old new h.2 within has.0.3 has.1 has.2))
+
+folder_met : (files : Files) (folder part : Name) (parts : List Name) (last : Name) (old new : Reached) → TakesFolder files folder old new → HasFolder true files folder part
+    → Covers new folder (part ∷ parts) last
+folder_met files folder part parts last old new (inl h) has = inr (inl (fault_added (place folder) h.0 old new h.1))
+folder_met files folder part parts last old new (inr h) has =
+    let same : has.0.0 ≡ h.0 = told_some (files.listing (place folder)) has.0.0 h.0 has.0.1 h.1 in
+    let within : Contains (listed h.0) part = subst (λ l. Contains (listed l) part) same has.0.2 in
+    turn (all_folder files folder (listed h.0) part old new h.2 within has.0.3 has.1)
+  where
+    turn : Contains new.folders (inside folder part) ⊎ IsFault new.found (folder ++ part) → Covers new folder (part ∷ parts) last
+    turn (inl c) = inr (inr (inr (covers_at new (inside folder part) parts last c)))
+    turn (inr f) = inr (inr (inl f))
+
+covers_step : (files : Files) (taken : Name) (old new : Reached) → TakesFolder files taken old new → (folder : Name) (parts : List Name) (last : Name)
+    → Leads true files folder parts → HasFile true files (within folder parts) last → Covers (and_folder old taken) folder parts last → Covers new folder parts last
+covers_step files taken old new takes folder [] last leads has (inl c) = here (Contains-push_cases old.folders taken folder c)
+  where
+    here : Contains old.folders folder ⊎ (taken ≡ folder) → Covers new folder [] last
+    here (inl d) = inl (folder_stays old new (grows_folder files taken old new takes) folder d)
+    here (inr e) = file_met files folder last old new (subst (λ d. TakesFolder files d old new) e takes) has
+covers_step files taken old new takes folder [] last leads has (inr (inl h)) = inr (inl (fault_stays old new (grows_folder files taken old new takes) (place folder) h))
+covers_step files taken old new takes folder [] last leads has (inr (inr (inl h))) = inr (inr (inl (fault_stays old new (grows_folder files taken old new takes) (folder ++ last) h)))
+covers_step files taken old new takes folder [] last leads has (inr (inr (inr h))) = inr (inr (inr (found_stays old new (grows_folder files taken old new takes) (folder ++ last) h)))
+covers_step files taken old new takes folder (part ∷ parts) last leads has (inl c) = here (Contains-push_cases old.folders taken folder c)
+  where
+    here : Contains old.folders folder ⊎ (taken ≡ folder) → Covers new folder (part ∷ parts) last
+    here (inl d) = inl (folder_stays old new (grows_folder files taken old new takes) folder d)
+    here (inr e) = folder_met files folder part parts last old new (subst (λ d. TakesFolder files d old new) e takes) leads.0
+covers_step files taken old new takes folder (part ∷ parts) last leads has (inr (inl h)) = inr (inl (fault_stays old new (grows_folder files taken old new takes) (place folder) h))
+covers_step files taken old new takes folder (part ∷ parts) last leads has (inr (inr (inl h))) = inr (inr (inl (fault_stays old new (grows_folder files taken old new takes) (folder ++ part) h)))
+covers_step files taken old new takes folder (part ∷ parts) last leads has (inr (inr (inr h))) =
+    inr (inr (inr (covers_step files taken old new takes (inside folder part) parts last leads.1 has h)))
+
+-- ---- nothing else is taken
+
+abbrev Deep : Files → List Name → Name → Type 0
+Deep files paths folder = (path : Name) × Contains paths path × IsFolderOf files path folder
+
+abbrev Sound : Files → List Name → Reached → Type 0
+Sound files paths r = ((f : Found) → Contains r.found f → IsOf files paths f) × ((folder : Name) → Contains r.folders folder → Deep files paths folder)
+
+sound_same : (files : Files) (paths : List Name) (old new : Reached) → new ≡ old → Sound files paths old → Sound files paths new
+sound_same files paths old new e h = subst (λ (r : Reached). Sound files paths r) (sym e) h
+
+sound_adds : (files : Files) (paths : List Name) (path name : Name) (fault : Option TreeFault) (old new : Reached) → Adds name fault old new → Contains paths path → IsOfBy files path name fault
+    → Sound files paths old → Sound files paths new
+sound_adds files paths path name fault old new h c of' sound = (
+  λ f d. here f (Contains-push_cases old.found h.f f (subst (λ l. Contains l f) h.found d)),
+  λ folder d. sound.1 folder (subst (λ l. Contains l folder) h.folders d),
+)
+  where
+    here : (f : Found) → Contains old.found f ⊎ (h.f ≡ f) → IsOf files paths f
+    here f (inl d) = sound.0 f d
+    here f (inr e) = subst (λ (x : Found). IsOf files paths x) e
+        (path, c, subst (λ n. IsOfBy files path n h.f.fault) (sym h.name_is) (subst (λ o. IsOfBy files path name o) (sym h.fault_is) of'))
+
+sound_enters : (files : Files) (paths : List Name) (folder : Name) (old new : Reached) → Enters folder old new → Deep files paths folder → Sound files paths old → Sound files paths new
+sound_enters files paths folder old new h deep sound = (
+  λ f d. sound.0 f (subst (λ l. Contains l f) h.found d),
+  λ x d. here x (Contains-push_cases old.folders folder x (subst (λ l. Contains l x) h.folders d)),
+)
+  where
+    here : (x : Name) → Contains old.folders x ⊎ (folder ≡ x) → Deep files paths x
+    here x (inl d) = sound.1 x d
+    here x (inr e) = subst (λ n. Deep files paths n) e deep
+
+within_more : (folder : Name) (parts : List Name) (name : Name) → within folder (parts ++ name ∷ []) ≡ inside (within folder parts) name
+within_more folder [] name = refl
+within_more folder (part ∷ parts) name = within_more (inside folder part) parts name
+
+leads_more : (sure : Bool) (files : Files) (folder : Name) (parts : List Name) (name : Name) → Leads sure files folder parts → HasFolder sure files (within folder parts) name
+    → Leads sure files folder (parts ++ name ∷ [])
+leads_more sure files folder [] name leads has = (has, tt)
+leads_more sure files folder (part ∷ parts) name leads has = (leads.0, leads_more sure files (inside folder part) parts name leads.1 has)
+
+-- an entry of a folder that is given, or of one below
+module _ (files : Files) (paths : List Name) (path : Name) (c : Contains paths path) (parts : List Name) (is : Says false (files.kind path) Folder) (leads : Leads false files (top path) parts) where
+  sound_if : (name : Name) (v : Bool) (old new : Reached) → v ≡ is_taken name → IsEntry false files (within (top path) parts) name
+      → Says false (files.entry (within (top path) parts ++ name)) File ⊎ Says false (files.entry (within (top path) parts ++ name)) Link
+      → TakesIf v (within (top path) parts ++ name) old new → Sound files paths old → Sound files paths new
+  sound_if name true old new e entry kind h sound =
+      sound_adds files paths path (within (top path) parts ++ name) None old new h c (inr (parts, name, (is, leads, (entry, kind, sym e)), refl)) sound
+  sound_if name false old new e entry kind h sound = sound_same files paths old new h sound
+
+  sound_kind : (kind : Kind) (name : Name) (old new : Reached) → IsEntry false files (within (top path) parts) name → Tells (files.entry (within (top path) parts ++ name)) kind
+      → TakesKind kind (within (top path) parts ++ name) name old new → Sound files paths old → Sound files paths new
+  sound_kind Folder name old new entry tells h sound =
+      sound_enters files paths (inside (within (top path) parts) name) old new h
+      (path, c, (parts ++ name ∷ [], is, leads_more false files (top path) parts name leads (entry, tells), sym (within_more (top path) parts name))) sound
+  sound_kind File name old new entry tells h sound = sound_if name (is_taken name) old new refl entry (inl tells) h sound
+  sound_kind Link name old new entry tells h sound = sound_if name (is_taken name) old new refl entry (inr tells) h sound
+  sound_kind Other name old new entry tells h sound = sound_same files paths old new h sound
+
+  sound_entry : (listing : List ℕ) (name : Name) (old new : Reached) → Tells (files.listing (place (within (top path) parts))) listing → Contains (listed listing) name
+      → TakesEntry files (within (top path) parts) name old new → Sound files paths old → Sound files paths new
+  sound_entry listing name old new tells d (inl h) sound = sound_same files paths old new h.1 sound
+  sound_entry listing name old new tells d (inr (met, inl h)) sound =
+      sound_adds files paths path (within (top path) parts ++ name) (Some h.0) old new h.1 c
+      (inr (within (top path) parts, (parts, is, leads, refl), inr (name, (listing, tells, d, met), refl))) sound
+  sound_entry listing name old new tells d (inr (met, inr h)) sound = sound_kind h.0 name old new (listing, tells, d, met) h.1 h.2 sound
+
+  sound_all : (listing : List ℕ) (names : List Name) (old new : Reached) → Tells (files.listing (place (within (top path) parts))) listing
+      → ((name : Name) → Contains names name → Contains (listed listing) name) → TakesAll files (within (top path) parts) names old new → Sound files paths old → Sound files paths new
+  sound_all listing [] old new tells some h sound = sound_same files paths old new h sound
+  sound_all listing (name ∷ names) old new tells some h sound =
+      sound_all listing names h.0 new tells (λ n d. some n (later n d)) h.2
+      (sound_entry listing name old h.0 tells (some name (0, omega arith, refl)) h.1 sound)
+    where
+      later : (n : Name) → Contains names n → Contains (name ∷ names) n
+      later n d = (suc d.0, omega (arith, d.1), d.2)
+
+  sound_within : (old new : Reached) → TakesFolder files (within (top path) parts) old new → Sound files paths old → Sound files paths new
+  sound_within old new (inl h) sound =
+      sound_adds files paths path (place (within (top path) parts)) (Some h.0) old new h.1 c (inr (within (top path) parts, (parts, is, leads, refl), inl refl)) sound
+  sound_within old new (inr h) sound = sound_all h.0 (listed h.0) old new h.1 (λ n d. d) h.2 sound
+
+sound_folder : (files : Files) (paths : List Name) (folder : Name) (old new : Reached) → Deep files paths folder → TakesFolder files folder old new → Sound files paths old → Sound files paths new
+sound_folder files paths folder old new deep takes sound =
+    sound_within files paths deep.0 deep.1 deep.2.0 deep.2.1 deep.2.2 old new (subst (λ d. TakesFolder files d old new) deep.2.3 takes) sound
+
+-- ---- one entry more
+
+pub takes_more : (files : Files) (folder : Name) (names : List Name) (name : Name) (old between new : Reached) → TakesAll files folder names old between → TakesEntry files folder name between new
+    → TakesAll files folder (names ++ name ∷ []) old new
+takes_more files folder [] name old between new h one = (new, subst (λ (r : Reached). TakesEntry files folder name r new) h one, refl)
+takes_more files folder (first ∷ names) name old between new h one = (h.0, h.1, takes_more files folder names name h.0 between new h.2 one)
+
+-- ---- the walk so far
+
+pub walked_folder : (files : Files) (paths : List Name) (folder : Name) (old new : Reached) → Walked files paths (and_folder old folder) → TakesFolder files folder old new → Walked files paths new
+walked_folder files paths folder old new walked takes = record {
+  real = sound.0;
+  deeper = sound.1;
+  given = λ path c is. either (found_stays old new grows (tidied path)) (fault_stays old new grows (reported path)) (walked.given path c is);
+  below = λ path parts last c is.
+      either (fault_stays old new grows (reported path)) (covers_step files folder old new takes (top path) parts last is.1 is.2) (walked.below path parts last c is);
+}
+  where
+    grows : Grows old new
+    grows = grows_folder files folder old new takes
+
+    before : Sound files paths old
+    before = (walked.real, λ d c. walked.deeper d (Contains-append_left old.folders (folder ∷ []) d c))
+
+    sound : Sound files paths new
+    sound = sound_folder files paths folder old new (walked.deeper folder (Contains-push old.folders folder)) takes before
+
+-- ---- one path more that was given
+
+deep_more : (files : Files) (paths : List Name) (path folder : Name) → Deep files paths folder → Deep files (paths ++ path ∷ []) folder
+deep_more files paths path folder h = (h.0, Contains-append_left paths (path ∷ []) h.0 h.1, h.2)
+
+of_more : (files : Files) (paths : List Name) (path : Name) (f : Found) → IsOf files paths f → IsOf files (paths ++ path ∷ []) f
+of_more files paths path f h = (h.0, Contains-append_left paths (path ∷ []) h.0 h.1, h.2)
+
+sound_kind_given : (files : Files) (paths : List Name) (path : Name) (c : Contains paths path) (kind : Kind) (old new : Reached) → Tells (files.kind path) kind → TakesKindGiven kind path old new
+    → Sound files paths old → Sound files paths new
+sound_kind_given files paths path c Folder old new tells h sound = sound_enters files paths (top path) old new h (path, c, ([], tells, tt, refl)) sound
+sound_kind_given files paths path c File old new tells h sound = sound_adds files paths path (tidied path) None old new h c (inl ((File, tells, λ e. cc), refl)) sound
+sound_kind_given files paths path c Link old new tells h sound = sound_adds files paths path (tidied path) None old new h c (inl ((Link, tells, λ e. cc), refl)) sound
+sound_kind_given files paths path c Other old new tells h sound = sound_adds files paths path (tidied path) None old new h c (inl ((Other, tells, λ e. cc), refl)) sound
+
+sound_given : (files : Files) (paths : List Name) (path : Name) (c : Contains paths path) (old new : Reached) → TakesGiven files path old new → Sound files paths old → Sound files paths new
+sound_given files paths path c old new (inl h) sound = sound_adds files paths path (reported path) (Some h.0) old new h.1 c (inl refl) sound
+sound_given files paths path c old new (inr h) sound = sound_kind_given files paths path c h.0 old new h.1 h.2 sound
+
+given_kind : (kind : Kind) (path : Name) (old new : Reached) → kind ≢ Folder → TakesKindGiven kind path old new → IsFound new.found (tidied path)
+given_kind Folder path old new ne h = absurd (ne refl)
+given_kind File path old new ne h = found_added (tidied path) old new h
+given_kind Link path old new ne h = found_added (tidied path) old new h
+given_kind Other path old new ne h = found_added (tidied path) old new h
+
+given_itself : (files : Files) (path : Name) (old new : Reached) → TakesGiven files path old new → IsGiven true files path → IsFound new.found (tidied path) ⊎ IsFault new.found (reported path)
+given_itself files path old new (inl h) is = inr (fault_added (reported path) h.0 old new h.1)
+given_itself files path old new (inr h) is =
+    inl (given_kind h.0 path old new (subst (λ k. k ≢ Folder) (told_some (files.kind path) is.0 h.0 is.1 h.1) is.2) h.2)
+
+given_folder : (files : Files) (path : Name) (old new : Reached) → TakesGiven files path old new → files.kind path ≡ Some Folder → IsFault new.found (reported path) ⊎ Contains new.folders (top path)
+given_folder files path old new (inl h) is = inl (fault_added (reported path) h.0 old new h.1)
+given_folder files path old new (inr h) is =
+    inr (folder_added (top path) old new (subst (λ k. TakesKindGiven k path old new) (sym (told_some (files.kind path) Folder h.0 is h.1)) h.2))
+
+pub walked_given : (files : Files) (paths : List Name) (path : Name) (old new : Reached) → Walked files paths old → TakesGiven files path old new → Walked files (paths ++ path ∷ []) new
+walked_given files paths path old new walked takes = record {
+  real = sound.0;
+  deeper = sound.1;
+  given = λ other c is. itself other is (Contains-push_cases paths path other c);
+  below = λ other parts last c is. down other parts last is (Contains-push_cases paths path other c);
+}
+  where
+    grows : Grows old new
+    grows = grows_given files path old new takes
+
+    before : Sound files (paths ++ path ∷ []) old
+    before = (λ f c. of_more files paths path f (walked.real f c), λ d c. deep_more files paths path d (walked.deeper d c))
+
+    sound : Sound files (paths ++ path ∷ []) new
+    sound = sound_given files (paths ++ path ∷ []) path (Contains-push paths path) old new takes before
+
+    itself : (other : Name) → IsGiven true files other → Contains paths other ⊎ (path ≡ other) → IsFound new.found (tidied other) ⊎ IsFault new.found (reported other)
+    itself other is (inl c) = either (found_stays old new grows (tidied other)) (fault_stays old new grows (reported other)) (walked.given other c is)
+    itself other is (inr e) = given_itself files other old new (subst (λ p. TakesGiven files p old new) e takes) is
+
+    down : (other : Name) (parts : List Name) (last : Name) → IsBelow true files other parts last → Contains paths other ⊎ (path ≡ other)
+        → IsFault new.found (reported other) ⊎ Covers new (top other) parts last
+    down other parts last is (inl c) =
+        either (fault_stays old new grows (reported other)) (covers_stays old new grows (top other) parts last) (walked.below other parts last c is)
+    down other parts last is (inr e) =
+        either (λ f. f) (covers_at new (top other) parts last) (given_folder files other old new (subst (λ p. TakesGiven files p old new) e takes) is.0)
+
+pub walked_none : (files : Files) (r : Reached) → r.found ≡ [] → r.folders ≡ [] → Walked files [] r
+walked_none files r none nor = record {
+  real = λ f c. absurd (none_in f (subst (λ l. Contains l f) none c));
+  deeper = λ d c. absurd (none_in d (subst (λ l. Contains l d) nor c));
+  given = λ path c is. absurd (none_in path c);
+  below = λ path parts last c is. absurd (none_in path c);
+}
+
+-- ---- its end
+
+fault_named : (found ordered : List Found) (name : Name) → Orders found ordered → IsFault found name → HasName ordered name
+fault_named found ordered name o h = o.named name (h.0, h.1, h.2)
+
+accounts_from : (found ordered : List Found) → Orders found ordered → (folder : Name) (parts : List Name) (last : Name) → Covers (record { found = found; folders = [] }) folder parts last
+    → Accounts ordered folder parts last
+accounts_from found ordered o folder [] last (inl c) = absurd (none_in folder c)
+accounts_from found ordered o folder [] last (inr (inl h)) = inl (fault_named found ordered (place folder) o h)
+accounts_from found ordered o folder [] last (inr (inr (inl h))) = inr (fault_named found ordered (folder ++ last) o h)
+accounts_from found ordered o folder [] last (inr (inr (inr h))) = inr (o.named (folder ++ last) (h.0, h.1, h.2))
+accounts_from found ordered o folder (part ∷ parts) last (inl c) = absurd (none_in folder c)
+accounts_from found ordered o folder (part ∷ parts) last (inr (inl h)) = inl (fault_named found ordered (place folder) o h)
+accounts_from found ordered o folder (part ∷ parts) last (inr (inr (inl h))) = inr (inl (fault_named found ordered (folder ++ part) o h))
+accounts_from found ordered o folder (part ∷ parts) last (inr (inr (inr h))) = inr (inr (accounts_from found ordered o (inside folder part) parts last h))
+
+pub finds_from : (files : Files) (paths : List Name) (found ordered : List Found) → Walked files paths (record { found = found; folders = [] }) → Orders found ordered → Finds files paths ordered
+finds_from files paths found ordered walked o = record {
+  rises = o.rises;
+  real = λ f c. walked.real f (o.only f c);
+  given = λ path c is. either (o.kept (tidied path)) (fault_named found ordered (reported path) o) (walked.given path c is);
+  below = λ path parts last c is. either (fault_named found ordered (reported path) o) (accounts_from found ordered o (top path) parts last) (walked.below path parts last c is);
+}
+
+-- ---- in the code's terms
+
+pub on_ok_more : {A E : Type 0} (r : Result A E) (P Q : Type 0) → OnOk r P → (P → Q) → OnOk r Q
+on_ok_more (Ok a) P Q h f = f h
+on_ok_more (Err e) P Q h f = tt
+
+pub took_more : (files later : Files) (folder : Name) (names : List (Bor (List ℕ))) (i : ℕ) (d : Bor (List ℕ)) (old between new : Reached) → later ≡ files → i < length names
+    → TakesAll files folder (map (λ name. name.now) (take i names)) old between → TakesEntry later folder (get_or names i d).now between new
+    → TakesAll files folder (map (λ name. name.now) (take (i + 1) names)) old new
+took_more files later folder names i d old between new same within so one =
+    subst (λ l. TakesAll files folder l old new) (sym (map_more (λ (name : Bor (List ℕ)). name.now) names i d within))
+    (takes_more files folder (map (λ name. name.now) (take i names)) (get_or names i d).now old between new so
+    (subst (λ f. TakesEntry f folder (get_or names i d).now between new) same one))
+
+pub walked_more : (files later : Files) (paths : List (Bor (List ℕ))) (i : ℕ) (d : Bor (List ℕ)) (old new : Reached) → later ≡ files → i < length paths
+    → Walked files (map (λ path. path.now) (take i paths)) old → TakesGiven later (get_or paths i d).now old new
+    → Walked files (map (λ path. path.now) (take (i + 1) paths)) new
+walked_more files later paths i d old new same within so one =
+    subst (λ l. Walked files l new) (sym (map_more (λ (path : Bor (List ℕ)). path.now) paths i d within))
+    (walked_given files (map (λ path. path.now) (take i paths)) (get_or paths i d).now old new so (subst (λ f. TakesGiven f (get_or paths i d).now old new) same one))
+
+pub walked_popped : (files later : Files) (paths : List Name) (found : List Found) (all rest : List (Vec ℕ Global)) (folder : Vec ℕ Global) (name : Name) (new : Reached) → later ≡ files
+    → all ≡ rest ++ folder ∷ [] → name ≡ folder.items → Walked files paths (record { found = found; folders = map (λ f. f.items) all })
+    → TakesFolder later name (record { found = found; folders = map (λ f. f.items) rest }) new → Walked files paths new
+walked_popped files later paths found all rest folder name new same is named so takes =
+    walked_folder files paths name (record { found = found; folders = map (λ f. f.items) rest }) new
+    (subst (λ l. Walked files paths (record { found = found; folders = l }))
+    (ap (λ l. map (λ (f : Vec ℕ Global). f.items) l) is ∙ map-append (λ (f : Vec ℕ Global). f.items) rest (folder ∷ []) ∙ ap (λ n. map (λ (f : Vec ℕ Global). f.items) rest ++ n ∷ []) (sym named)) so)
+    (subst (λ f. TakesFolder f name (record { found = found; folders = map (λ f. f.items) rest }) new) same takes)
+
+pub finds_found : (files later : Files) (paths : List Name) (r : Reached) (found ordered : List Found) → later ≡ files → Walked files paths r
+    → ((given : List Name) → Walked later given r → Walked later given (record { found = found; folders = [] })) → Orders found ordered → Finds files paths ordered
+finds_found files later paths r found ordered same before all o =
+    finds_from files paths found ordered (subst (λ f. Walked f paths (record { found = found; folders = [] })) same (all paths (subst (λ f. Walked f paths r) (sym same) before))) o

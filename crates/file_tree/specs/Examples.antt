@@ -1,0 +1,103 @@
+-- Names at work, by computation: paths tidied, and what a small tree has.
+use Rattle.std.specs.Prelude.{◌≡◌, ℕ, refl, true, false, List, [], ◌∷◌, ◌++◌, Option, Some, None, codes, if◌then◌else◌}
+use Rattle.std.specs.Str.{bytes_eq}
+use Rattle.std.proofs.Common.{inl, lit<}
+use Rattle.file_tree.specs.Below.{HasFile, HasFolder, IsBelow, is_met, listed}
+use Rattle.file_tree.specs.Files.{Files, Name}
+use Rattle.file_tree.specs.Names.{is_taken}
+use Rattle.file_tree.specs.Paths.{place, reported, tidied, top, within}
+use Rattle.file_tree.specs.declared.kind.Kind.{Kind}
+use Rattle.file_tree.specs.declared.kind.Kind.TheVariants.{File, Folder}
+
+-- ---- paths
+
+dots : tidied (codes "./a//b/./c.tf") ≡ codes "a/b/c.tf"
+dots = refl
+
+up : tidied (codes "../a/") ≡ codes "../a"
+up = refl
+
+from_the_root : tidied (codes "//etc/./x") ≡ codes "/etc/x"
+from_the_root = refl
+
+here : tidied (codes ".") ≡ []
+here = refl
+
+root : tidied (codes "/") ≡ codes "/"
+root = refl
+
+-- a folder that is given, as it is looked into
+folder : top (codes "./a//b") ≡ codes "a/b/"
+folder = refl
+
+this_folder : top (codes "./.") ≡ []
+this_folder = refl
+
+root_folder : top (codes "/") ≡ codes "/"
+root_folder = refl
+
+-- by which name a path is reported
+as_a_folder : reported (codes "./a/b/") ≡ codes "a/b/"
+as_a_folder = refl
+
+nothing_left : reported (codes "./") ≡ codes "./"
+nothing_left = refl
+
+-- parts of a name that lead down
+down : within (codes "a/") (codes "b" ∷ codes "c" ∷ []) ≡ codes "a/b/c/"
+down = refl
+
+listed_here : place [] ≡ codes "./"
+listed_here = refl
+
+listed_there : place (codes "a/") ≡ codes "a/"
+listed_there = refl
+
+-- ---- names in folders
+
+two_names : listed (97 ∷ 0 ∷ 98 ∷ 99 ∷ 0 ∷ []) ≡ codes "a" ∷ codes "bc" ∷ [] ∷ []
+two_names = refl
+
+hidden : is_met (codes ".terraform") ≡ false
+hidden = refl
+
+backup : is_met (codes "main.tf~") ≡ false
+backup = refl
+
+none : is_met [] ≡ false
+none = refl
+
+-- ---- a tree: `modules/net/main.tf`, `modules/net/notes.txt` and the folder `modules/.git`
+
+abbrev kind_of : Name → Option Kind
+kind_of name =
+    if bytes_eq name (codes "modules") then Some Folder
+    else (if bytes_eq name (codes "modules/net") then Some Folder
+    else (if bytes_eq name (codes "modules/.git") then Some Folder
+    else (if bytes_eq name (codes "modules/net/main.tf") then Some File
+    else (if bytes_eq name (codes "modules/net/notes.txt") then Some File else None))))
+
+abbrev listing_of : Name → Option (List ℕ)
+listing_of name =
+    if bytes_eq name (codes "modules/") then Some (codes ".git" ++ (0 ∷ codes "net" ++ 0 ∷ []))
+    else (if bytes_eq name (codes "modules/net/") then Some (codes "notes.txt" ++ (0 ∷ codes "main.tf" ++ 0 ∷ [])) else None)
+
+abbrev small : Files
+small = record { kind = kind_of; entry = kind_of; listing = listing_of; real = λ name. name; told = λ name. None }
+
+-- its file is below what was given
+net : HasFolder true small (codes "modules/") (codes "net")
+net = ((codes ".git" ++ (0 ∷ codes "net" ++ 0 ∷ []), refl, (1, lit< tt, refl), refl), refl)
+
+main : HasFile true small (codes "modules/net/") (codes "main.tf")
+main = ((codes "notes.txt" ++ (0 ∷ codes "main.tf" ++ 0 ∷ []), refl, (1, lit< tt, refl), refl), inl refl, refl)
+
+below : IsBelow true small (codes "modules") (codes "net" ∷ []) (codes "main.tf")
+below = (refl, (net, tt), main)
+
+-- the other isn't, since files of its name aren't taken; nor is anything in the hidden folder
+notes : is_taken (codes "notes.txt") ≡ false
+notes = refl
+
+git : is_met (codes ".git") ≡ false
+git = refl

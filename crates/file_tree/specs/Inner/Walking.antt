@@ -1,0 +1,109 @@
+-- A walk, step by step: what was found, and the folders that are still to be looked into.
+use Rattle.std.specs.Prelude.{◌≡◌, ◌≢◌, ◌⊎◌, ℕ, Bool, true, false, List, [], ◌∷◌, ◌++◌, Option, Some, None, map}
+use Rattle.std.specs.List.{Contains}
+use Rattle.file_tree.specs.Below.{IsBelow, IsGiven, is_met, listed}
+use Rattle.file_tree.specs.Files.{Files, Name, Tells}
+use Rattle.file_tree.specs.Finds.{HasName, IsFolderOf, IsFound, IsOf, Rises}
+use Rattle.file_tree.specs.Names.{is_taken}
+use Rattle.file_tree.specs.Paths.{inside, place, reported, tidied, top}
+use Rattle.file_tree.specs.declared.fault.TreeFault.{TreeFault}
+use Rattle.file_tree.specs.declared.kind.Kind.{Kind}
+use Rattle.file_tree.specs.declared.kind.Kind.TheVariants.{File, Folder, Link}
+use Rattle.file_tree.specs.declared.walk.Found.{Found}
+use Rattle.file_tree.specs.declared.walk.Walk.{Walk}
+
+-- what was found so far, and the folders that are still to be looked into
+pub record Reached : Type 0 where
+  pub found : List Found
+  pub folders : List Name
+
+abbrev pub reached : Walk → Reached
+reached w = record { found = w.found.items; folders = map (λ folder. folder.items) w.folders.items }
+
+-- ---- one step more
+
+-- a name was found, or reported
+pub record Adds (name : Name) (fault : Option TreeFault) (old new : Reached) : Type 0 where
+  pub f : Found
+  pub name_is : f.name.items ≡ name
+  pub fault_is : f.fault ≡ fault
+  pub found : new.found ≡ old.found ++ f ∷ []
+  pub folders : new.folders ≡ old.folders
+
+-- a folder is to be looked into
+pub record Enters (folder : Name) (old new : Reached) : Type 0 where
+  pub found : new.found ≡ old.found
+  pub folders : new.folders ≡ old.folders ++ folder ∷ []
+
+-- a fault was reported under a name
+abbrev pub Reports : Name → Reached → Reached → Type 0
+Reports name old new = (fault : TreeFault) × Adds name (Some fault) old new
+
+abbrev pub is_file : Kind → Bool
+is_file File = true
+is_file Link = true
+is_file _ = false
+
+-- what stands under this name, whose last part this is, is a file that is taken, and it was found; or nothing was
+abbrev pub TakesIf : Bool → Name → Reached → Reached → Type 0
+TakesIf true path old new = Adds path None old new
+TakesIf false path old new = new ≡ old
+
+-- what an entry of this kind adds
+abbrev pub TakesKind : Kind → Name → Name → Reached → Reached → Type 0
+TakesKind Folder path name old new = Enters (path ++ (47 ∷ [])) old new
+TakesKind File path name old new = TakesIf (is_taken name) path old new
+TakesKind Link path name old new = TakesIf (is_taken name) path old new
+TakesKind _ path name old new = new ≡ old
+
+-- what an entry adds that is met
+abbrev pub TakesMet : Files → Name → Name → Reached → Reached → Type 0
+TakesMet files folder name old new = Reports (folder ++ name) old new ⊎ ((kind : Kind) × Tells (files.entry (folder ++ name)) kind × TakesKind kind (folder ++ name) name old new)
+
+-- what an entry adds
+abbrev pub TakesEntry : Files → Name → Name → Reached → Reached → Type 0
+TakesEntry files folder name old new = ((is_met name ≡ false) × (new ≡ old)) ⊎ ((is_met name ≡ true) × TakesMet files folder name old new)
+
+-- what some entries add, one after the other
+abbrev pub TakesAll : Files → Name → List Name → Reached → Reached → Type 0
+TakesAll files folder [] old new = new ≡ old
+TakesAll files folder (name ∷ names) old new = (between : Reached) × TakesEntry files folder name old between × TakesAll files folder names between new
+
+-- what a folder adds
+abbrev pub TakesFolder : Files → Name → Reached → Reached → Type 0
+TakesFolder files folder old new =
+    Reports (place folder) old new ⊎ ((listing : List ℕ) × Tells (files.listing (place folder)) listing × TakesAll files folder (listed listing) old new)
+
+-- what a path adds that is given
+abbrev pub TakesKindGiven : Kind → Name → Reached → Reached → Type 0
+TakesKindGiven Folder path old new = Enters (top path) old new
+TakesKindGiven _ path old new = Adds (tidied path) None old new
+
+abbrev pub TakesGiven : Files → Name → Reached → Reached → Type 0
+TakesGiven files path old new = Reports (reported path) old new ⊎ ((kind : Kind) × Tells (files.kind path) kind × TakesKindGiven kind path old new)
+
+-- ---- the walk so far
+
+abbrev pub IsFault : List Found → Name → Type 0
+IsFault found name = (f : Found) × Contains found f × (f.name.items ≡ name) × (f.fault ≢ None)
+
+-- what is below a folder was found, or reported, or it is still to be met
+abbrev pub Covers : Reached → Name → List Name → Name → Type 0
+Covers r folder [] last = Contains r.folders folder ⊎ (IsFault r.found (place folder) ⊎ (IsFault r.found (folder ++ last) ⊎ IsFound r.found (folder ++ last)))
+Covers r folder (part ∷ parts) last = Contains r.folders folder ⊎ (IsFault r.found (place folder) ⊎ (IsFault r.found (folder ++ part) ⊎ Covers r (inside folder part) parts last))
+
+pub record Walked (files : Files) (paths : List Name) (r : Reached) : Type 0 where
+  pub real : (f : Found) → Contains r.found f → IsOf files paths f
+  pub deeper : (folder : Name) → Contains r.folders folder → (path : Name) × Contains paths path × IsFolderOf files path folder
+  pub given : (path : Name) → Contains paths path → IsGiven true files path → IsFound r.found (tidied path) ⊎ IsFault r.found (reported path)
+  pub below : (path : Name) (parts : List Name) (last : Name) → Contains paths path → IsBelow true files path parts last
+      → IsFault r.found (reported path) ⊎ Covers r (top path) parts last
+
+-- ---- its end
+
+-- what was found, in the order of the names and each once
+pub record Orders (found ordered : List Found) : Type 0 where
+  pub rises : Rises ordered
+  pub only : (f : Found) → Contains ordered f → Contains found f
+  pub kept : (name : Name) → IsFound found name → IsFound ordered name
+  pub named : (name : Name) → HasName found name → HasName ordered name
