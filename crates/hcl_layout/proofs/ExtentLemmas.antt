@@ -1,27 +1,27 @@
 -- A print is no longer than what its lines tell one by one: without its one blank, a gap before a cell is no wider than the
--- greatest width that there may be before any cell.
-use Rattle.std.proofs.Common.{◌≡◌, ◌+◌, ◌-◌, ◌*◌, ◌++◌, ◌≤◌, ℕ, suc, zero, Bool, true, false, List, [], ◌∷◌, Option, Some, None, length, ap, refl, arith, subst, get_or, min, take, replicate, length-append}
+-- greatest width that there may be before any sign, or before any comment of the run and any sign.
+use Rattle.std.proofs.Common.{◌≡◌, ◌+◌, ◌-◌, ◌*◌, ◌++◌, ◌≤◌, ℕ, suc, zero, Bool, true, false, List, [], ◌∷◌, Option, Some, None, length, ap, refl, sym, arith, subst, get_or, max, min, take, replicate, length-append}
 use Rattle.std.specs.Prelude.{IfSome, nat_lt, option_map, slice_set}
 use Rattle.std.specs.List.{flat_map}
 use Rattle.std.proofs.Math.Nat.{add-mul}
 use Rattle.std.proofs.lemmas.List.{length-replicate}
 use Rattle.hcl_tokens.specs.Lexemes.{Lexeme}
 use Rattle.hcl_tokens.specs.Balanced.{max_open}
-use Rattle.hcl_layout.specs.Cells.{assign_cell, has_multiline, running_comment, trailing_comment}
+use Rattle.hcl_layout.specs.Cells.{assign_cell, running_comment, trailing_comment}
 use Rattle.hcl_layout.specs.Columns.{widest}
 use Rattle.hcl_layout.specs.Gaps.{align, gap_to, gaps, gaps_after, plain_gaps, set_gap, width}
 use Rattle.hcl_layout.specs.Lines.{Line, lines}
 use Rattle.hcl_layout.specs.Print.{print, printed}
 use Rattle.hcl_layout.specs.Inner.Depths.{BalancedFrom, Sound, depth_after, fresh, level_at, levels_behind, raised}
-use Rattle.hcl_layout.specs.Inner.Extents.{extra_of, nothing, with_cell, with_line, with_lines}
+use Rattle.hcl_layout.specs.Inner.Extents.{extra_of, nothing, taken, with_cell, with_comment, with_line, with_lines}
 use Rattle.hcl_layout.specs.Inner.LineGaps.{len_with_blanks}
 use Rattle.hcl_layout.specs.Inner.Stream.{assign_column, assign_widths, comment_column, comment_widths, commented, next_of, plain}
 use Rattle.hcl_layout.specs.declared.extent.CellExtent.{CellExtent}
+use Rattle.hcl_layout.specs.declared.extent.CommentExtent.{CommentExtent}
 use Rattle.hcl_layout.specs.declared.extent.Extent.{Extent}
 use Rattle.hcl_layout.proofs.ClusterLemmas.{clusters_few}
 use Rattle.hcl_layout.proofs.LevelLemmas.{levels_behind_sound, sound_less}
 use Rattle.hcl_layout.proofs.LineLemmas.{blank, indented}
-use Rattle.hcl_layout.proofs.RunLemmas.{multiline_some}
 use Rattle.hcl_layout.proofs.StreamLemmas.{BalancedLines, after_low, balanced_lines, gaps_all}
 
 -- ---- the gaps of one line
@@ -136,9 +136,23 @@ signs_keep : (ls : List Line) (d : ℕ) (e : Extent) → e.signs.width ≤ (with
 signs_keep [] d e = omega arith
 signs_keep (l ∷ ls) d e = omega (arith, cell_keeps (2 * d) l (assign_cell l) e.signs, signs_keep ls (depth_after d l) (with_line d l e))
 
-comments_keep : (ls : List Line) (d : ℕ) (e : Extent) → e.comments.width ≤ (with_lines d ls e).comments.width
-comments_keep [] d e = omega arith
-comments_keep (l ∷ ls) d e = omega (arith, cell_keeps (2 * d) l (trailing_comment l) e.comments, comments_keep ls (depth_after d l) (with_line d l e))
+-- the width that the run of comments at hand has at last
+abbrev ahead_with : Option ℕ → ℕ → (ℕ → ℕ) → ℕ
+ahead_with None w f = w
+ahead_with (Some i) w f = f i
+
+abbrev ahead : ℕ → ℕ → List Line → ℕ
+ahead d w [] = w
+ahead d w (l ∷ ls) = ahead_with (running_comment l) w (λ i. ahead (depth_after d l) (max w (2 * d + len_with_blanks (take i l))) ls)
+
+ahead_keeps : (ls : List Line) (d w : ℕ) → w ≤ ahead d w ls
+ahead_keeps [] d w = omega arith
+ahead_keeps (l ∷ ls) d w = go (running_comment l) (λ i. ahead_keeps ls (depth_after d l) (max w (2 * d + len_with_blanks (take i l))))
+  where
+    go : (cell : Option ℕ) → ((i : ℕ) → max w (2 * d + len_with_blanks (take i l)) ≤ ahead (depth_after d l) (max w (2 * d + len_with_blanks (take i l))) ls)
+        → w ≤ ahead_with cell w (λ i. ahead (depth_after d l) (max w (2 * d + len_with_blanks (take i l))) ls)
+    go None keeps = omega arith
+    go (Some i) keeps = omega (arith, keeps i)
 
 -- lines that begin where no more are open than may be
 record Fair (d : ℕ) (levels : List ℕ) (ls : List Line) : Type 0 where
@@ -173,58 +187,113 @@ assigned_excess : (d : ℕ) (levels : List ℕ) (l : Line) (column : Option ℕ)
     → excess (align assign_cell (plain d levels l) l column) ≤ 2 * d + share (assign_cell l) most
 assigned_excess d levels l column most p q = omega (arith, cell_excess most (assign_cell l) (plain d levels l) l column q, plain_low d levels l p)
 
-comments_widest : (ls : List Line) (d : ℕ) (levels : List ℕ) (column : Option ℕ) (e : Extent) (most : ℕ) → Fair d levels ls → (with_lines d ls e).signs.width ≤ most → UpTo most column
-    → widest (comment_widths d levels column ls) ≤ most + (with_lines d ls e).comments.width
-comments_widest [] d levels column e most p le q = omega arith
-comments_widest (l ∷ ls) d levels column e most p le q =
-    let behind = with_line d l e in
+-- the width before the comment of a line
+comment_upto : (d w i : ℕ) (levels : List ℕ) (l : Line) (ls : List Line) (column : Option ℕ) (most : ℕ) → Sound d levels → UpTo most column
+    → width i (align assign_cell (plain d levels l) l column) l ≤ most + ahead (depth_after d l) (max w (2 * d + len_with_blanks (take i l))) ls
+comment_upto d w i levels l ls column most p q =
+    let gs = align assign_cell (plain d levels l) l column in
+    omega (
+      arith,
+      width_excess i gs l,
+      assigned_excess d levels l column most p q,
+      share_most (assign_cell l) most,
+      ahead_keeps ls (depth_after d l) (max w (2 * d + len_with_blanks (take i l))),
+    )
+
+comments_widest : (ls : List Line) (d w : ℕ) (levels : List ℕ) (column : Option ℕ) (e : Extent) (most : ℕ) → Fair d levels ls → (with_lines d ls e).signs.width ≤ most → UpTo most column
+    → widest (comment_widths d levels column ls) ≤ most + ahead d w ls
+comments_widest [] d w levels column e most p le q = omega arith
+comments_widest (l ∷ ls) d w levels column e most p le q =
     let now = depth_after d l in
     let then = levels_behind d now levels in
     let here = assign_column d levels column (l ∷ ls) in
     let within : UpTo most here = column_upto (l ∷ ls) d levels column e most p le q in
     let gs = align assign_cell (plain d levels l) l here in
-    let all = most + (with_lines now ls behind).comments.width in
-    widest_upto all (option_map (λ i. width i gs l) (running_comment l)) (comment_widths now then here ls)
-    (width_upto all (λ i. width i gs l) (running_comment l)
-    (λ i there. omega (
-      arith,
-      width_excess i gs l,
-      assigned_excess d levels l here most p.sound within,
-      share_most (assign_cell l) most,
-      cell_tells (2 * d) l (trailing_comment l) e.comments i (multiline_some (has_multiline l) (trailing_comment l) i there),
-      comments_keep ls now behind,
-    )))
-    (comments_widest ls now then here behind most (fair_behind d levels l ls p) le within)
+    by (λ i. width i gs l) (λ i. ahead now (max w (2 * d + len_with_blanks (take i l))) ls) (comment_widths now then here ls) (running_comment l)
+    (λ i. comment_upto d w i levels l ls here most p.sound within)
+    (λ i. comments_widest ls now (max w (2 * d + len_with_blanks (take i l))) then here (with_line d l e) most (fair_behind d levels l ls p) le within)
+  where
+    by : (f run : ℕ → ℕ) (ws : List (Option ℕ)) (cell : Option ℕ) → ((i : ℕ) → f i ≤ most + run i) → ((i : ℕ) → widest ws ≤ most + run i)
+        → widest (option_map f cell ∷ ws) ≤ most + ahead_with cell w run
+    by f run ws None p q = omega arith
+    by f run ws (Some i) p q = omega (arith, p i, q i)
+
+-- the column of the comment of a line, which is none where the line has none of a run
+comment_beside : (f run : ℕ → ℕ) (w sign : ℕ) (ws : List (Option ℕ)) (cell comment : Option ℕ) → widest (option_map f cell ∷ ws) ≤ sign + ahead_with cell w run
+    → UpTo (sign + ahead_with cell w run) comment → UpTo (share cell (sign + ahead_with cell w run)) (next_of comment (option_map f cell ∷ ws))
+comment_beside f run w sign ws None comment p q = tt
+comment_beside f run w sign ws (Some i) None p q = p
+comment_beside f run w sign ws (Some i) (Some c) p q = q
+
+comment_next : (f run : ℕ → ℕ) (w sign next : ℕ) (ws : List (Option ℕ)) (cell comment : Option ℕ) → IfSome cell (λ i. next ≡ run i)
+    → UpTo (share cell (sign + ahead_with cell w run)) (next_of comment (option_map f cell ∷ ws)) → UpTo (sign + next) (next_of comment (option_map f cell ∷ ws))
+comment_next f run w sign next ws None comment e p = tt
+comment_next f run w sign next ws (Some i) None e p = omega (arith, e, p)
+comment_next f run w sign next ws (Some i) (Some c) e p = omega (arith, e, p)
 
 -- ---- all lines
 
--- so many blanks at most, where the columns are no wider than these
+-- so many blanks at most, where the signs' columns are no wider, and the run of comments at hand no wider than that
 abbrev cost : ℕ → ℕ → Extent → ℕ
-cost sign comment e = e.indents + e.signs.count * sign + e.comments.count * comment
+cost sign run e = e.indents + (e.signs.count + e.comments.count) * sign + (e.comments.ended + e.comments.run.count * run)
 
-cost_more : (d : ℕ) (l : Line) (e : Extent) (sign comment : ℕ) → cost sign comment (with_line d l e) ≡ cost sign comment e + (2 * d + share (assign_cell l) sign + share (trailing_comment l) comment)
-cost_more d l e sign comment = omega (arith, cell_counts (2 * d) l (assign_cell l) e.signs sign, cell_counts (2 * d) l (trailing_comment l) e.comments comment)
+-- what a comment adds, where its run has that width at last
+comment_cost : (indent sign : ℕ) (l : Line) (run : ℕ → ℕ) (cell : Option ℕ) (c : CommentExtent) (next : ℕ) → IfSome cell (λ i. next ≡ run i)
+    → (with_comment indent l cell c).count * sign + ((with_comment indent l cell c).ended + (with_comment indent l cell c).run.count * next)
+    ≡ c.count * sign + (c.ended + c.run.count * ahead_with cell c.run.width run) + share cell (sign + ahead_with cell c.run.width run)
+comment_cost indent sign l run None c next e = omega arith
+comment_cost indent sign l run (Some i) c next e =
+    omega (arith, add-mul c.count 1 sign, add-mul c.run.count 1 next, ap (λ x. c.run.count * x) e, e)
 
-lines_excess : (ls : List Line) (d : ℕ) (levels : List ℕ) (column comment : Option ℕ) (e : Extent) (sign most : ℕ) → Fair d levels ls
-    → (with_lines d ls e).signs.width ≤ sign → sign + (with_lines d ls e).comments.width ≤ most → UpTo sign column → UpTo most comment
-    → excess (flat_map (λ g. g) (commented d levels column comment ls)) + cost sign most e ≤ cost sign most (with_lines d ls e)
-lines_excess [] d levels column comment e sign most p a b q r = omega arith
-lines_excess (l ∷ ls) d levels column comment e sign most p a b q r =
+-- the width that the run has at last is the same after the line
+run_next : (d : ℕ) (l : Line) (ls : List Line) (cell : Option ℕ) (c : CommentExtent)
+    → IfSome cell (λ i. ahead (depth_after d l) (with_comment (2 * d) l cell c).run.width ls ≡ ahead (depth_after d l) (max c.run.width (2 * d + len_with_blanks (take i l))) ls)
+run_next d l ls None c = tt
+run_next d l ls (Some i) c = refl
+
+cost_more : (d : ℕ) (l : Line) (ls : List Line) (e : Extent) (sign : ℕ)
+    → cost sign (ahead (depth_after d l) (with_line d l e).comments.run.width ls) (with_line d l e)
+    ≡ cost sign (ahead d e.comments.run.width (l ∷ ls)) e + (2 * d + share (assign_cell l) sign + share (running_comment l) (sign + ahead d e.comments.run.width (l ∷ ls)))
+cost_more d l ls e sign =
+    let c = with_comment (2 * d) l (running_comment l) e.comments in
+    omega (
+      arith,
+      cell_counts (2 * d) l (assign_cell l) e.signs sign,
+      add-mul e.signs.count e.comments.count sign,
+      add-mul (with_cell (2 * d) l (assign_cell l) e.signs).count c.count sign,
+      comment_cost (2 * d) sign l (λ i. ahead (depth_after d l) (max e.comments.run.width (2 * d + len_with_blanks (take i l))) ls) (running_comment l) e.comments
+          (ahead (depth_after d l) c.run.width ls) (run_next d l ls (running_comment l) e.comments),
+    )
+
+lines_excess : (ls : List Line) (d : ℕ) (levels : List ℕ) (column comment : Option ℕ) (e : Extent) (sign : ℕ) → Fair d levels ls
+    → (with_lines d ls e).signs.width ≤ sign → UpTo sign column → UpTo (sign + ahead d e.comments.run.width ls) comment
+    → excess (flat_map (λ g. g) (commented d levels column comment ls)) + cost sign (ahead d e.comments.run.width ls) e ≤ cost sign (with_lines d ls e).comments.run.width (with_lines d ls e)
+lines_excess [] d levels column comment e sign p a q r = omega arith
+lines_excess (l ∷ ls) d levels column comment e sign p a q r =
     let now = depth_after d l in
     let then = levels_behind d now levels in
     let here = assign_column d levels column (l ∷ ls) in
     let there = comment_column d levels column comment (l ∷ ls) in
-    let within : UpTo sign here = column_upto (l ∷ ls) d levels column e sign p a q in
-    let beside : UpTo most there = next_upto most comment (comment_widths d levels column (l ∷ ls)) (omega (arith, comments_widest (l ∷ ls) d levels column e sign p a q, b)) r in
+    let w = e.comments.run.width in
+    let behind = with_line d l e in
+    let cell = running_comment l in
     let gs = align assign_cell (plain d levels l) l here in
     let set = align trailing_comment gs l there in
+    let f : ℕ → ℕ = λ i. width i gs l in
+    let run : ℕ → ℕ = λ i. ahead now (max w (2 * d + len_with_blanks (take i l))) ls in
+    let takes = share cell (sign + ahead d w (l ∷ ls)) in
+    let within : UpTo sign here = column_upto (l ∷ ls) d levels column e sign p a q in
+    let beside : UpTo takes there = comment_beside f run w sign (comment_widths now then here ls) cell comment (comments_widest (l ∷ ls) d w levels column e sign p a q) r in
+    let next : UpTo (sign + ahead now behind.comments.run.width ls) there =
+    comment_next f run w sign (ahead now behind.comments.run.width ls) (comment_widths now then here ls) cell comment (run_next d l ls cell e.comments) beside in
     omega (
       arith,
       excess_append set (flat_map (λ g. g) (commented now then here there ls)),
-      cell_excess most (trailing_comment l) gs l there beside,
+      cell_excess takes (trailing_comment l) gs l there beside,
+      share_most (trailing_comment l) takes,
       assigned_excess d levels l here sign p.sound within,
-      cost_more d l e sign most,
-      lines_excess ls now then here there (with_line d l e) sign most (fair_behind d levels l ls p) a b within beside,
+      cost_more d l ls e sign,
+      lines_excess ls now then here there behind sign (fair_behind d levels l ls p) a within next,
     )
 
 fresh_sound : Sound 0 fresh
@@ -241,6 +310,5 @@ print_within ts p =
       arith,
       printed_excess (gaps ts) ts,
       ap excess (gaps_all ts p),
-      lines_excess (lines ts) 0 fresh None None nothing all.signs.width (all.signs.width + all.comments.width)
-          (record { sound = fresh_sound; low = omega arith; balanced = balanced_lines ts 0 p }) (omega arith) (omega arith) tt tt,
+      lines_excess (lines ts) 0 fresh None None nothing all.signs.width (record { sound = fresh_sound; low = omega arith; balanced = balanced_lines ts 0 p }) (omega arith) tt tt,
     )

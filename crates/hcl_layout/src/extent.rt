@@ -3,7 +3,8 @@
 //! A bound, which is found in one pass over the lines, tells most prints that aren't nearly as long as that: it asks for no spacing, keeps no levels and reads
 //! no run ahead. What stands between two tokens is a blank at most, but for the indent of a line and the gap before a cell. A
 //! line is indented by two blanks at most for each opener that is open before it, and the gap before a cell is, without its
-//! one blank, no wider than the column: the width before some cell of that kind.
+//! one blank, no wider than the column: the width before some cell of that kind. Of comments it is one of the same run, so
+//! that a long line costs no others:
 //!
 //! ```text
 //! line             tokens, each with a blank    indent    before =    before #
@@ -22,7 +23,7 @@
 ghost use Rattle.std.specs.Prelude.{◌≡◌, ◌↔◌, ◌<◌, ◌≤◌, ◌+◌, ◌*◌, ◌^◌, ℕ, IsTrue, Some, length, take, drop};
 ghost use Rattle.hcl_tokens.specs.Balanced.{max_open};
 ghost use Rattle.hcl_layout.specs.Inner.Depths.{BalancedFrom};
-ghost use Rattle.hcl_layout.specs.Inner.Extents.{IsSmall, IsSmallCell, extra_of, no_cell, nothing, with_cell as with_cell_of, with_line as with_line_of, with_lines};
+ghost use Rattle.hcl_layout.specs.Inner.Extents.{AreSmallRuns, IsSmall, IsSmallCell, extra_of, no_cell, nothing, taken as taken_of, with_cell as with_cell_of, with_comment as with_comment_of, with_line as with_line_of, with_lines};
 ghost use Rattle.hcl_layout.specs.Inner.LineGaps.{len_with_blanks};
 ghost use Rattle.hcl_layout.specs.Inner.Survey.{IsLine, text_at};
 ghost use Rattle.hcl_layout.specs.Lines.{lines};
@@ -41,13 +42,24 @@ pub struct CellExtent {
     pub width: u64,
 }
 
+/// The comments at line ends, run by run.
+#[derive(Clone, Copy)]
+pub struct CommentExtent {
+    /// So many comments stand in runs.
+    pub count: u64,
+    /// What those of the runs that ended take, each as much as the widest of its run.
+    pub ended: u64,
+    /// The run in which the last line stands.
+    pub run: CellExtent,
+}
+
 /// What of the lines that were passed bounds their gaps.
 #[derive(Clone, Copy)]
 pub struct Extent {
     /// All indents together are no wider.
     pub indents: u64,
     pub signs: CellExtent,
-    pub comments: CellExtent,
+    pub comments: CommentExtent,
 }
 
 /// What so many tokens from a place on take, each with a blank.
@@ -105,6 +117,63 @@ impl CellExtent {
     }
 }
 
+impl CommentExtent {
+    /// Of no line.
+    fn new() -> CommentExtent
+        ensures { result ≡ record { count = 0; ended = 0; run = no_cell } }
+    {
+        CommentExtent {
+            count: 0,
+            ended: 0,
+            run: CellExtent::new(),
+        }
+    }
+
+    /// What the comments take, each as much as the widest of its run.
+    #[inline(always)]
+    fn taken(self) -> u64
+        requires run { IsSmallCell (2 ^ 23) self.run }
+        requires ended { self.ended ≤ 2 ^ 50 }
+        ensures { result ≡ taken_of self }
+    {
+        self.ended + self.run.count * self.run.width
+    }
+
+    /// With the comment, if there is one of a run, of a line that begins at a place and is indented by so many blanks at most.
+    #[inline(always)]
+    fn with_comment(
+        self,
+        tokens: &Measured<'_, '_>,
+        at: usize,
+        len: usize,
+        indent: u64,
+        comment: Option<usize>,
+    ) -> CommentExtent
+        requires within { at + len ≤ length tokens.now.tokens }
+        requires there { (i : ℕ) → comment ≡ Some i → i ≤ len }
+        requires some { 0 < len }
+        requires indent { indent ≤ 2 * max_open }
+        requires few { AreSmallRuns at self }
+        ensures value { result ≡ with_comment_of indent (take len (drop at tokens.now.tokens)) comment self }
+        ensures few { AreSmallRuns (at + len) result }
+    {
+        // so the count of comments fits
+        let _all = tokens.len();
+        if comment.is_none() {
+            return CommentExtent {
+                count: self.count,
+                ended: self.taken(),
+                run: CellExtent::new(),
+            };
+        }
+        CommentExtent {
+            count: self.count + 1,
+            ended: self.ended,
+            run: self.run.with_cell(tokens, at, len, indent, comment),
+        }
+    }
+}
+
 impl Extent {
     /// Of no line.
     fn new() -> Extent
@@ -113,7 +182,7 @@ impl Extent {
         Extent {
             indents: 0,
             signs: CellExtent::new(),
-            comments: CellExtent::new(),
+            comments: CommentExtent::new(),
         }
     }
 
@@ -134,7 +203,7 @@ impl Extent {
                 .with_cell(tokens, at, line.len, indent, line.assign),
             comments: self
                 .comments
-                .with_cell(tokens, at, line.len, indent, line.comment),
+                .with_comment(tokens, at, line.len, indent, line.running),
         }
     }
 
@@ -144,9 +213,8 @@ impl Extent {
         ensures value { result ≡ extra_of self }
         ensures small { result < 2 ^ 60 }
     {
-        let sign_column = self.signs.width;
-        let comment_column = sign_column + self.comments.width;
-        self.indents + self.signs.count * sign_column + self.comments.count * comment_column
+        let cells = self.signs.count + self.comments.count;
+        self.indents + cells * self.signs.width + self.comments.taken()
     }
 }
 

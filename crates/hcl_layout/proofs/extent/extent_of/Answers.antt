@@ -8,5 +8,9 @@ returns-clause-few c =
     record {
       indents = omega (arith, few.indents, c.loop-at.invariant.within, size);
       signs = (omega (arith, few.signs.0, c.loop-at.invariant.within, size), few.signs.1);
-      comments = (omega (arith, few.comments.0, c.loop-at.invariant.within, size), few.comments.1);
+      comments = record {
+        count = omega (arith, few.comments.count, c.loop-at.invariant.within, size);
+        ended = omega (arith, few.comments.ended, c.loop-at.invariant.within, size);
+        run = (omega (arith, few.comments.run.0, c.loop-at.invariant.within, size), few.comments.run.1);
+      };
     }

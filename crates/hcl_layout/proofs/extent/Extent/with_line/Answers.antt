@@ -1,5 +1,5 @@
 use Rattle.std.proofs.Common.{arith, sym}
-use Rattle.hcl_layout.proofs.RunLemmas.{assign_there, comment_there}
+use Rattle.hcl_layout.proofs.RunLemmas.{assign_there, running_there}
 use Rattle.hcl_layout.proofs.extent.Extent.with_line.Goals as goal
 
 pub overflow_add-result : goal.overflow_add-result
@@ -9,5 +9,5 @@ overflow_add-result c =
 pub with_cell-requires-clause-there : goal.with_cell-requires-clause-there
 with_cell-requires-clause-there c i e = assign_there c.args.tokens.now.tokens c.args.at c.args.line.len i c.args.line.assign c.requires.line.assign (sym e)
 
-pub with_cell-requires-2-clause-there : goal.with_cell-requires-2-clause-there
-with_cell-requires-2-clause-there c i e = comment_there c.args.tokens.now.tokens c.args.at c.args.line.len i c.args.line.comment c.requires.line.comment (sym e)
+pub with_comment-requires-clause-there : goal.with_comment-requires-clause-there
+with_comment-requires-clause-there c i e = running_there c.args.tokens.now.tokens c.args.at c.args.line.len i c.args.line.running c.requires.line.running (sym e)
