@@ -1,5 +1,5 @@
 -- Whether one blank or none stands between two neighbours on a line: a table whose first row that fits decides.
--- Our own choice, in the style of `terraform fmt`. Row 2 keeps apart what would be read as one token.
+-- Our own choice, in the style of `terraform fmt`.
 use Rattle.std.specs.Prelude.{◌&&◌, ◌||◌, ◌==◌, ℕ, Bool, true, false, not, List, [], ◌∷◌, Option, Some, None, if◌then◌else◌, codes}
 use Rattle.std.specs.Str.{bytes_eq}
 use Rattle.hcl_tokens.specs.Lexemes.{Lexeme}
@@ -89,26 +89,41 @@ would_join before subject after =
 abbrev pub is_in : Option Lexeme → Lexeme → Bool
 is_in before subject = is kind.Ident subject.kind && bytes_eq subject.text (codes "in") && stands_before (is kind.Ident) before
 
--- THE TABLE: one blank between the subject and the token after it; `before` stands before the subject on its line
+-- THE TABLE: one blank between the subject and the token after it; `before` stands before the subject on its line. The
+-- words in quotation marks are headings of docs/STYLE.md, where each row stands with examples.
 abbrev pub spaced : Option Lexeme → Lexeme → Lexeme → Bool
 spaced before subject after =
+    -- "Blanks at the ends of lines" vanish, and "Heredocs" are kept byte for byte
     if is kind.Newline after.kind || after.inside_heredoc then false
+    -- "A number and a dot", and other neighbours that would be read as one token
     else if would_join before subject after then true
+    -- "Calls": a name hugs its parenthesis
     else if is kind.Ident subject.kind && is kind.ParenOpen after.kind then false
+    -- "Dots" and "Two colons": a name is one thing to its reader, and so is an attribute of it
     else if is kind.Dot subject.kind || is kind.Dot after.kind then false
     else if is kind.ColonColon subject.kind || is kind.ColonColon after.kind then false
+    -- "Commas" and `...` belong to what stands before them, and a comma parts it from what follows
     else if is kind.Comma after.kind || is kind.Ellipsis after.kind then false
     else if is kind.Comma subject.kind then true
+    -- "Quotes": what is added there would be text
     else if is kind.QuoteOpen subject.kind || is kind.Lit subject.kind || is kind.Lit after.kind || is kind.QuoteClose after.kind then false
+    -- "`in`" is a word of its own, also before a bracket
     else if is_in before subject then true
+    -- "Indexes": a bracket hugs what it indexes
     else if is kind.BracketOpen after.kind && ends_operand subject.kind then false
+    -- "Not" and "Minus" as a sign stand at their operand
     else if is kind.Not subject.kind then false
     else if is kind.Minus subject.kind then not (is_opening before)
+    -- "Braces": a blank on the inner side of each, none in an empty pair; and since `${{` and `}}` read badly, one between a
+    -- brace and the mark of a sequence
     else if is kind.BraceOpen subject.kind && is kind.BraceClose after.kind then false
     else if is kind.BraceOpen subject.kind || is kind.BraceClose after.kind then true
     else if (opens_sequence subject.kind && is kind.BraceOpen after.kind) || (is kind.BraceClose subject.kind && is kind.SeqClose after.kind) then true
+    -- "Quotes": what is added between a sequence and the next would be text
     else if is kind.SeqClose subject.kind && opens_sequence after.kind then false
+    -- "Brackets, parentheses" and sequences hug what they hold
     else if is kind.ParenOpen subject.kind || is kind.BracketOpen subject.kind || opens_sequence subject.kind then false
+    -- "All else" has one blank, but for what a closer holds
     else not (closes_group after.kind)
 
 -- the kinds of two neighbours don't tell the answer: the table asks for their texts, or for what stands before
