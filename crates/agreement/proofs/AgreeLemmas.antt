@@ -9,7 +9,7 @@ use Rattle.hcl_source.specs.declared.fault.Fault.{Fault}
 use Rattle.hcl_tokens.specs.Lexemes.{Lexeme}
 use Rattle.hcl_tokens.specs.Scanned.{Scanned}
 use Rattle.hcl_tokens.specs.Scans.{Scans}
-use Rattle.hcl_tokens.proofs.RunLemmas.{one_scan}
+use Rattle.hcl_tokens.proofs.OneReadingLemmas.{one_scan}
 use Rattle.hcl_scan.proofs.SpellingLemmas.{one_kind}
 use Rattle.hcl_tokens.proofs.NonemptyLemmas.{nonempty}
 use Rattle.hcl_grammar.specs.declared.refusal.Refusal.{Refusal}
@@ -18,8 +18,8 @@ use Rattle.hcl_grammar.specs.Classes.{lookaheads}
 use Rattle.hcl_grammar.specs.Verdict.{IsAccepted, fault_at, start_of, verdict_by}
 use Rattle.hcl_layout.specs.Print.{print}
 use Rattle.layout_laws.specs.Reprinted.{printed_tokens}
-use Rattle.layout_laws.proofs.PlaceLemmas.{seen_again}
-use Rattle.layout_laws.proofs.LoadLemmas.{loads_again}
+use Rattle.layout_laws.proofs.ForgetPlaceLemmas.{seen_again}
+use Rattle.layout_laws.proofs.PrintLoadLemmas.{loads_again}
 use Rattle.layout_laws.proofs.RescanLemmas.{scans_again}
 use Rattle.layout_laws.proofs.SameLineLemmas.{lines_again, numbered_again}
 use Rattle.tf_rules.specs.Agreement.{SameTokens}
@@ -28,7 +28,7 @@ use Rattle.tf_rules.specs.Issues.{File}
 use Rattle.tf_rules.specs.Issues as issues
 use Rattle.tf_rules.proofs.ReportLemmas.{reports_agree}
 use Rattle.tf_rules.specs.declared.issue.Issue.{Issue}
-use Rattle.tf_rules.specs.Answers.{answered}
+use Rattle.tf_rules.specs.Answers.{shown_issue}
 use Rattle.tfrules_command.specs.Answer.{IsReported}
 use Rattle.tfrules_command.specs.Line.{Asking}
 use Rattle.tfrules_command.proofs.StatusLemmas.{same_status as status_again}
@@ -118,9 +118,9 @@ all_same n (f ∷ fs) (g ∷ gs) (s ∷ ss) (o ∷ os) z a b = (same_tokens n f 
 abbrev without_token : rules.Told → WithoutColumn
 without_token t = record { file = t.file; line = t.line; rule = t.rule; message = t.message }
 
-without_tokens : (report : List issues.Issue) → without_columns (map answered report) ≡ map without_token (rules.told_all report)
+without_tokens : (report : List issues.Issue) → without_columns (map shown_issue report) ≡ map without_token (rules.told_all report)
 without_tokens [] = refl
-without_tokens (i ∷ is) = ap (λ l. without_column (answered i) ∷ l) (without_tokens is)
+without_tokens (i ∷ is) = ap (λ l. without_column (shown_issue i) ∷ l) (without_tokens is)
 
 -- ---- THE LAWS
 pub reports_again : (asked : issues.Asked) (files formatted : List NamedFile) (sources others : List Scanned) (report other : List issues.Issue) → AllZip IsFormatted files formatted

@@ -3,7 +3,8 @@ use Rattle.std.proofs.Common.{◌≡◌, ◌≢◌, ◌∙◌, ◌<◌, ◌+◌,
 use Rattle.std.proofs.lemmas.List.{map-append, map_more}
 use Rattle.std.proofs.lemmas.List.Elements.{Contains-append_left, Contains-push, Contains-push_cases}
 use Rattle.file_tree.specs.Below.{HasFile, HasFolder, IsBelow, IsEntry, IsGiven, Leads, Says, is_met, listed}
-use Rattle.file_tree.specs.Files.{Files, Name, Tells}
+use Rattle.file_tree.specs.Files.{Files, Name}
+use Rattle.hcl_source.specs.Devices.{Tells}
 use Rattle.file_tree.specs.Finds.{Accounts, Finds, HasName, IsFolderOf, IsFound, IsOf, IsOfBy}
 use Rattle.file_tree.specs.Names.{is_taken}
 use Rattle.file_tree.specs.Paths.{inside, place, reported, tidied, top, within}

@@ -1,7 +1,8 @@
 -- What an operand stands for: itself, or the files in it and below.
 use Rattle.std.specs.Prelude.{◌≡◌, ◌≢◌, ◌⊎◌, ℕ, ◌==◌, ◌&&◌, not, Bool, true, false, List, [], ◌∷◌, ◌++◌, Option, Some, length}
 use Rattle.std.specs.List.{Contains, slice_split}
-use Rattle.file_tree.specs.Files.{Files, Name, Tells}
+use Rattle.file_tree.specs.Files.{Files, Name}
+use Rattle.hcl_source.specs.Devices.{Tells}
 use Rattle.file_tree.specs.Names.{is_passed_over, is_taken}
 use Rattle.file_tree.specs.Paths.{inside, place, top, within}
 use Rattle.file_tree.specs.declared.kind.Kind.{Kind}

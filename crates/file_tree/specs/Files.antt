@@ -1,6 +1,7 @@
 -- What a device tells of its folders and files. Names are bytes. Our own choice.
 use Rattle.std.specs.Prelude.{◌≡◌, ℕ, Bool, true, false, List, [], ◌∷◌, ◌++◌, Option, Some, None, Result, Ok, Err, option_map, if◌then◌else◌}
 use Rattle.std.specs.Str.{bytes_eq}
+pub use Rattle.hcl_source.specs.Devices.{Tells}
 use Rattle.file_tree.specs.declared.kind.Kind.{Kind}
 use Rattle.file_tree.specs.declared.fault.TreeFault.{TreeFault}
 use Rattle.file_tree.specs.declared.fault.TreeFault.TheVariants.{ReadFailed}
@@ -24,23 +25,18 @@ silent = record { kind = λ name. None; entry = λ name. None; listing = λ name
 abbrev pub put : Files → Name → List ℕ → Files
 put files name bytes = record files { told = λ other. if bytes_eq other name then option_map (λ _. bytes) (files.told other) else files.told other }
 
--- where the device tells something, this is it
-abbrev pub Tells : {X : Type 0} → Option X → X → Type 0
-Tells None x = Unit {0}
-Tells (Some told) x = told ≡ x
-
 -- the faults that calls of the device had so far, where it tells them
 abbrev pub Faults : Type 0
 Faults = Option (List TreeFault)
 
 -- these, and then those of some calls more
-abbrev pub noted_all : Faults → List TreeFault → Faults
-noted_all faults more = option_map (λ all. all ++ more) faults
+abbrev pub with_faults : Faults → List TreeFault → Faults
+with_faults faults more = option_map (λ all. all ++ more) faults
 
 -- these, and then that of one call more, where it failed
-abbrev pub noted : Faults → Option TreeFault → Faults
-noted faults None = faults
-noted faults (Some fault) = noted_all faults (fault ∷ [])
+abbrev pub with_fault : Faults → Option TreeFault → Faults
+with_fault faults None = faults
+with_fault faults (Some fault) = with_faults faults (fault ∷ [])
 
 -- why a call failed, if it did
 abbrev pub fault_of : {X : Type 0} → Result X TreeFault → Option TreeFault

@@ -1,7 +1,8 @@
 //! What files are found in, read from and written to.
 
 ghost use Rattle.std.specs.Prelude.{◌≡◌, false, OnOk, OnErr, IfOk};
-ghost use Rattle.file_tree.specs.Files.{Faults, Files, Tells, fault_of, fault_of_reader, noted, put};
+ghost use Rattle.file_tree.specs.Files.{Faults, Files, fault_of, fault_of_reader, with_fault, put};
+ghost use Rattle.hcl_source.specs.Devices.{Tells};
 
 use crate::fault::TreeFault;
 use crate::kind::Kind;
@@ -30,31 +31,31 @@ pub trait Tree {
     fn kind(&mut self, name: &[u8]) -> Result<Kind, TreeFault>
         ensures kind { IfOk result (Tells ((files self.old).kind name.now)) }
         ensures files { files self.new ≡ files self.old }
-        ensures faults { faults self.new ≡ noted (faults self.old) (fault_of result) };
+        ensures faults { faults self.new ≡ with_fault (faults self.old) (fault_of result) };
 
     /// What a name stands for, a link being one.
     fn entry_kind(&mut self, name: &[u8]) -> Result<Kind, TreeFault>
         ensures kind { IfOk result (Tells ((files self.old).entry name.now)) }
         ensures files { files self.new ≡ files self.old }
-        ensures faults { faults self.new ≡ noted (faults self.old) (fault_of result) };
+        ensures faults { faults self.new ≡ with_fault (faults self.old) (fault_of result) };
 
     /// The names in a folder, in any order, each ended by NUL.
     fn listing(&mut self, folder: &[u8]) -> Result<Vec<u8>, TreeFault>
         ensures names { IfOk result (λ names. Tells ((files self.old).listing folder.now) names.items) }
         ensures files { files self.new ≡ files self.old }
-        ensures faults { faults self.new ≡ noted (faults self.old) (fault_of result) };
+        ensures faults { faults self.new ≡ with_fault (faults self.old) (fault_of result) };
 
     /// A reader of the file of this name, from its start.
     fn reader(&mut self, name: &[u8]) -> Result<Self::Reader, TreeFault>
         ensures fresh { IfOk result (λ r. Self.Reader.failed r ≡ false) }
         ensures bytes { IfOk result (λ r. Self.Reader.left r ≡ (files self.old).told ((files self.old).real name.now)) }
         ensures files { files self.new ≡ files self.old }
-        ensures faults { faults self.new ≡ noted (faults self.old) (fault_of result) };
+        ensures faults { faults self.new ≡ with_fault (faults self.old) (fault_of result) };
 
     /// Takes a reader back after its last read. A reader that failed is a fault of this call.
     fn give_back(&mut self, reader: Self::Reader)
         ensures files { files self.new ≡ files self.old }
-        ensures faults { faults self.new ≡ noted (faults self.old) (fault_of_reader (Self.Reader.failed reader)) };
+        ensures faults { faults self.new ≡ with_fault (faults self.old) (fault_of_reader (Self.Reader.failed reader)) };
 
     /// Puts new bytes in place of the old ones, all or none: where that fails, or the file has other bytes by now, it stays
     /// as it is.
@@ -67,5 +68,5 @@ pub trait Tree {
     ) -> Result<(), TreeFault>
         ensures ok { OnOk result (files self.new ≡ put (files self.old) ((files self.old).real name.now) new.now) }
         ensures err { OnErr result (files self.new ≡ files self.old) }
-        ensures faults { faults self.new ≡ noted (faults self.old) (fault_of result) };
+        ensures faults { faults self.new ≡ with_fault (faults self.old) (fault_of result) };
 }

@@ -1,7 +1,7 @@
 pub mod OwedLemmas
 pub mod RowLemmas
 pub mod MoveLemmas
-pub mod BalanceLemmas
+pub mod BalancedRowLemmas
 pub mod RelationLemmas
 pub mod NumberedLemmas
 pub mod PopLemmas

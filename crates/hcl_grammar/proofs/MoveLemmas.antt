@@ -11,7 +11,7 @@ use Rattle.hcl_grammar.specs.declared.refusal.Refusal.TheVariants.{UnexpectedTok
 use Rattle.hcl_grammar.specs.Classes.{drops, is_trivia}
 use Rattle.hcl_grammar.specs.Classes.{class_of, lookaheads_from}
 use Rattle.hcl_grammar.specs.Grammar.{Symbol, directive, section_directive, Marked, ◌at◌, Action, none, nothing, reads, opens, closes, row}
-use Rattle.hcl_grammar.specs.Predictor.{max_directives, Effect, on, stop, effect, taken, next, run}
+use Rattle.hcl_grammar.specs.Predictor.{max_directives, Effect, on, stop, effect, row_effect, next, run}
 use Rattle.hcl_grammar.specs.Verdict.{IsAccepted}
 use Rattle.hcl_grammar.proofs.OwedLemmas.{owes, owes_all, Shift, HaveNumbers, RowMoves}
 use Rattle.hcl_grammar.proofs.RowLemmas.{owes_all-append, numbers-append, shift-above, moves-row}
@@ -46,7 +46,7 @@ shift-behind : (c : Class) (a : List Opener) (xs ss : List Marked) → Shift c a
 shift-behind c a xs ss h = subst (λ l. Shift c (a ++ owes_all ss) l) (sym (owes_all-append xs ss)) (shift-above c a (owes_all xs) (owes_all ss) h)
 
 taken-moves : (P : ℕ → Type 0) (count : ℕ) (r : Action) (a : List Opener) (ss : List Marked) (passed : Effect) (t : Lookahead) → RowMoves P r a t.class → P t.number → HaveNumbers P ss →
-    EffectMoves P passed (owes_all ss) t.class → EffectMoves P (taken count r ss passed t) (a ++ owes_all ss) t.class
+    EffectMoves P passed (owes_all ss) t.class → EffectMoves P (row_effect count r ss passed t) (a ++ owes_all ss) t.class
 taken-moves P count none a ss passed t h p k q = p
 taken-moves P count nothing a ss passed t h p k q = subst (λ l. EffectMoves P passed (l ++ owes_all ss) t.class) h q
 taken-moves P count (reads xs) a ss passed t h p k q = (shift-behind t.class a xs ss h.0, numbers-append P xs ss h.1 k)
@@ -55,7 +55,7 @@ taken-moves P count (opens n xs) a ss passed t h p k q = elim (nat_lt count max_
 taken-moves P count (closes xs) a ss passed t h p k q = (shift-behind t.class a xs ss h.0, numbers-append P xs ss h.1 k)
 
 effect-by : (P : ℕ → Type 0) (count : ℕ) (s : Symbol) (m : Newlines) (ss : List Marked) (t : Lookahead) (b : Bool) → drops m t.class ≡ b → P t.number → HaveNumbers P (s at m ∷ ss) →
-    EffectMoves P (effect count ss t) (owes_all ss) t.class → EffectMoves P (cond b (on count (s at m ∷ ss)) (taken count (row s m t) ss (effect count ss t) t)) (owes s ++ owes_all ss) t.class
+    EffectMoves P (effect count ss t) (owes_all ss) t.class → EffectMoves P (cond b (on count (s at m ∷ ss)) (row_effect count (row s m t) ss (effect count ss t) t)) (owes s ++ owes_all ss) t.class
 effect-by P count s m ss t true e p h q = (shift-dropped m t.class (owes s ++ owes_all ss) e, h)
 effect-by P count s m ss t false e p h q = taken-moves P count (row s m t) (owes s) ss (effect count ss t) t (moves-row P s m t.number t.class p (first-number P s m ss h)) p (more-numbers P s m ss h) q
 

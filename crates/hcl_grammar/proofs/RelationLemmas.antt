@@ -7,11 +7,11 @@ use Rattle.hcl_grammar.specs.declared.refusal.Refusal.{Refusal}
 use Rattle.hcl_grammar.specs.declared.refusal.Refusal.TheVariants.{UnexpectedToken, UnexpectedEnd, TooDeep}
 use Rattle.hcl_grammar.specs.Classes.{drops}
 use Rattle.hcl_grammar.specs.Grammar.{Symbol, Marked, ◌at◌, Action, none, nothing, reads, opens, closes, row, ends}
-use Rattle.hcl_grammar.specs.Predictor.{max_directives, ending, on, stop, opening_directive, taken, effect, next, run}
+use Rattle.hcl_grammar.specs.Predictor.{max_directives, ending, on, stop, opening_directive, row_effect, effect, next, run}
 use Rattle.hcl_grammar.specs.Relation.{Step, dropped, read, opened, closed, gone, Refuses, nothing_waited_for, no_row, too_deep, behind, Ending, complete, wanting, ended, ComesTo, at_end, step, refused}
 
-effect-row : (count : ℕ) (s : Symbol) (m : Newlines) (ss : List Marked) (t : Lookahead) (r : Action) → drops m t.class ≡ false → row s m t ≡ r → effect count (s at m ∷ ss) t ≡ taken count r ss (effect count ss t) t
-effect-row count s m ss t r d e = ap (λ b. cond b (on count (s at m ∷ ss)) (taken count (row s m t) ss (effect count ss t) t)) d ∙ ap (λ x. taken count x ss (effect count ss t) t) e
+effect-row : (count : ℕ) (s : Symbol) (m : Newlines) (ss : List Marked) (t : Lookahead) (r : Action) → drops m t.class ≡ false → row s m t ≡ r → effect count (s at m ∷ ss) t ≡ row_effect count r ss (effect count ss t) t
+effect-row count s m ss t r d e = ap (λ b. cond b (on count (s at m ∷ ss)) (row_effect count (row s m t) ss (effect count ss t) t)) d ∙ ap (λ x. row_effect count x ss (effect count ss t) t) e
 
 opening-on : (count n : ℕ) (xs : List Marked) → count < max_directives → opening_directive count n xs ≡ on (count + 1) xs
 opening-on count n xs few = ap (λ b. cond b (on (count + 1) xs) (stop (TooDeep n))) (lt-ltb count max_directives few)
@@ -20,7 +20,7 @@ opening-stop : (count n : ℕ) (xs : List Marked) → max_directives ≤ count �
 opening-stop count n xs many = ap (λ b. cond b (on (count + 1) xs) (stop (TooDeep n))) (le-ltb count max_directives many)
 
 step-effect : (count : ℕ) (ss : List Marked) (t : Lookahead) (later : ℕ) (us : List Marked) → Step count ss t later us → effect count ss t ≡ on later us
-step-effect count ss t later us (dropped c s m vs u d) = ap (λ b. cond b (on c (s at m ∷ vs)) (taken c (row s m u) vs (effect c vs u) u)) d
+step-effect count ss t later us (dropped c s m vs u d) = ap (λ b. cond b (on c (s at m ∷ vs)) (row_effect c (row s m u) vs (effect c vs u) u)) d
 step-effect count ss t later us (read c s m xs vs u d e) = effect-row c s m vs u (reads xs) d e
 step-effect count ss t later us (opened c n s m xs vs u d e few) = effect-row c s m vs u (opens n xs) d e ∙ opening-on c n (xs ++ vs) few
 step-effect count ss t later us (closed c s m xs vs u d e) = effect-row c s m vs u (closes xs) d e

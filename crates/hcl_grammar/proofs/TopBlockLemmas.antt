@@ -6,7 +6,7 @@ use Rattle.hcl_tokens.specs.Kinds.{is}
 use Rattle.hcl_tokens.specs.declared.token.Kind.TheVariants.{Assign, BraceClose, BraceOpen, Ident, QuoteOpen}
 use Rattle.hcl_tokens.specs.Lexemes.{Lexeme}
 use Rattle.hcl_tokens.specs.declared.token.Kind.{Kind}
-use Rattle.hcl_grammar.specs.Numbered.{Numbered, numbered, uncommented, is_comment, end_of}
+use Rattle.hcl_grammar.specs.Numbered.{Numbered, numbered, without_comments, is_comment, end_of}
 use Rattle.hcl_grammar.specs.Items.{is_closed, pieces, block_end, body, block, item_of, items, label_at, labels, outline, closing_quote}
 use Rattle.hcl_grammar.specs.ItemOrder.{Either, TopsApart}
 use Rattle.hcl_grammar.specs.declared.item.Item.{Item}
@@ -129,4 +129,4 @@ pub tops_apart : (tokens : List Lexeme) → TopsApart 0 (outline tokens) (length
 tops_apart tokens =
     let e : 0 + length tokens ≡ length tokens = omega arith in
     let r : Rises 0 (numbered tokens) (length tokens) = subst (λ (to : ℕ). Rises 0 (numbered tokens) to) e (rises_numbered 0 tokens) in
-    items_tops (length (numbered tokens)) 0 0 (length tokens) (uncommented (numbered tokens)) (rises_filter (λ t. not (is_comment t.kind)) 0 (length tokens) (numbered tokens) r)
+    items_tops (length (numbered tokens)) 0 0 (length tokens) (without_comments (numbered tokens)) (rises_filter (λ t. not (is_comment t.kind)) 0 (length tokens) (numbered tokens) r)

@@ -8,7 +8,7 @@ use Rattle.hcl_tokens.specs.declared.token.Kind.TheVariants.{Assign, BraceClose,
 use Rattle.hcl_tokens.specs.Lexemes.{Lexeme}
 use Rattle.hcl_tokens.specs.declared.token.Kind.{Kind}
 use Rattle.hcl_tokens.specs.Balanced.{opening, closing}
-use Rattle.hcl_grammar.specs.Numbered.{Numbered, numbered, uncommented, end_of}
+use Rattle.hcl_grammar.specs.Numbered.{Numbered, numbered, without_comments, end_of}
 use Rattle.hcl_grammar.specs.declared.item.Item.{Item}
 use Rattle.hcl_grammar.specs.declared.item.Item.TheVariants as item
 
@@ -83,7 +83,7 @@ items (suc deeper) level ts = flat_map (item_of (items deeper (level + 1)) level
 
 -- THE ITEMS of numbered tokens, in order, each block followed by its labels and then by the items of its body
 abbrev pub items_of : List Numbered → List Item
-items_of ts = items (length ts) 0 (uncommented ts)
+items_of ts = items (length ts) 0 (without_comments ts)
 
 -- those of a file
 abbrev pub outline : List Lexeme → List Item

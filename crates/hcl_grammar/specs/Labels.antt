@@ -1,6 +1,6 @@
 -- The texts of labels: an identifier, or the literal between the quotes as written, empty where there is none (HCL Native
 -- Syntax Specification, "Structural Elements", on the labels of blocks; escapes are kept, which is our own choice).
-use Rattle.std.specs.Prelude.{◌≡◌, ℕ, ◌+◌, ◌-◌, ◌==◌, true, List, [], ◌∷◌, drop, take, if◌then◌else◌}
+use Rattle.std.specs.Prelude.{ℕ, ◌+◌, ◌==◌, List, [], ◌∷◌, drop, if◌then◌else◌}
 use Rattle.hcl_tokens.specs.Kinds.{is}
 use Rattle.hcl_tokens.specs.declared.token.Kind.TheVariants as kind
 use Rattle.hcl_grammar.specs.Numbered.{Numbered}
@@ -21,14 +21,3 @@ text_of ts n = first_text (drop n ts)
 -- THE TEXT of a label
 abbrev pub label_text : List Numbered → Label → List ℕ
 label_text ts l = if l.first == l.last then text_of ts l.first else first_literal (drop (l.first + 1) ts)
-
--- ---- what stands between the quotes of a label
-
-abbrev pub quoted : List Numbered → Label → List Numbered
-quoted ts l = take (l.last - (l.first + 1)) (drop (l.first + 1) ts)
-
--- nothing, or one literal, which is the text
-abbrev pub IsAsWritten : List Numbered → List ℕ → Type 0
-IsAsWritten [] text = text ≡ []
-IsAsWritten (t ∷ []) text = (is kind.Lit t.kind ≡ true) × (text ≡ t.text)
-IsAsWritten (t ∷ u ∷ ts) text = ⊥

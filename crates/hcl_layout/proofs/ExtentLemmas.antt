@@ -11,7 +11,7 @@ use Rattle.hcl_layout.specs.Cells.{assign_cell, running_comment, trailing_commen
 use Rattle.hcl_layout.specs.Columns.{widest}
 use Rattle.hcl_layout.specs.Gaps.{align, gap_to, gaps, gaps_after, plain_gaps, set_gap, width}
 use Rattle.hcl_layout.specs.Lines.{Line, lines}
-use Rattle.hcl_layout.specs.Print.{print, printed}
+use Rattle.hcl_layout.specs.Print.{print, printed_text}
 use Rattle.hcl_layout.specs.Inner.Depths.{BalancedFrom, Sound, depth_after, fresh, level_at, levels_behind, raised}
 use Rattle.hcl_layout.specs.Inner.Extents.{extra_of, nothing, taken, with_cell, with_comment, with_line, with_lines}
 use Rattle.hcl_layout.specs.Inner.LineGaps.{len_with_blanks}
@@ -35,11 +35,11 @@ excess_append : (xs ys : List ℕ) → excess (xs ++ ys) ≡ excess xs + excess 
 excess_append [] ys = omega arith
 excess_append (x ∷ xs) ys = omega (arith, excess_append xs ys)
 
-printed_excess : (gs : List ℕ) (ts : List Lexeme) → length (printed gs ts) ≤ excess gs + len_with_blanks ts
+printed_excess : (gs : List ℕ) (ts : List Lexeme) → length (printed_text gs ts) ≤ excess gs + len_with_blanks ts
 printed_excess [] ts = omega arith
 printed_excess (g ∷ gs) [] = omega arith
 printed_excess (g ∷ gs) (t ∷ ts) =
-    omega (arith, length-append (replicate g 32 ++ t.text) (printed gs ts), length-append (replicate g 32) t.text, length-replicate {A = ℕ} g 32, printed_excess gs ts)
+    omega (arith, length-append (replicate g 32 ++ t.text) (printed_text gs ts), length-append (replicate g 32) t.text, length-replicate {A = ℕ} g 32, printed_excess gs ts)
 
 width_excess : (i : ℕ) (gs : List ℕ) (l : Line) → width i gs l ≤ excess gs + len_with_blanks (take i l)
 width_excess zero gs l = omega arith

@@ -8,7 +8,7 @@ use Rattle.hcl_layout.specs.Levels.{Net, level, levels_after, net_of}
 use Rattle.hcl_layout.specs.Cells.{assign_cell, running_comment, trailing_comment}
 use Rattle.hcl_layout.specs.Columns.{columns}
 use Rattle.hcl_layout.proofs.ColumnLemmas.{columns_len}
-use Rattle.hcl_layout.specs.Gaps.{aligned, aligned_by, gap_to, gaps, gaps_after, indented, line_gaps, plain_gaps, set_gap, width, widths, zip_with}
+use Rattle.hcl_layout.specs.Gaps.{aligned_gaps, aligned_gaps_by, gap_to, gaps, gaps_after, indented_gaps, line_gaps, plain_gaps, set_gap, width, widths, zip_with}
 
 -- each line has a gap for each token
 abbrev Fit : List (List ℕ) → List Line → Type 0
@@ -46,18 +46,18 @@ zip_length f [] (l ∷ ls) s = absurd s
 zip_length f (g ∷ gs) [] s = absurd s
 zip_length f (g ∷ gs) (l ∷ ls) s = omega (arith, zip_length f gs ls s.1)
 
-aligned_fit : (cell : Line → Option ℕ) (gs : List (List ℕ)) (ls : List Line) (cs : List (Option ℕ)) → length cs ≡ length ls → Fit gs ls → Fit (aligned_by cell gs ls cs) ls
+aligned_fit : (cell : Line → Option ℕ) (gs : List (List ℕ)) (ls : List Line) (cs : List (Option ℕ)) → length cs ≡ length ls → Fit gs ls → Fit (aligned_gaps_by cell gs ls cs) ls
 aligned_fit cell [] [] cs e s = tt
 aligned_fit cell [] (l ∷ ls) cs e s = absurd s
 aligned_fit cell (g ∷ gs) [] cs e s = absurd s
 aligned_fit cell (g ∷ gs) (l ∷ ls) [] e s = absurd (omega (arith, e))
 aligned_fit cell (g ∷ gs) (l ∷ ls) (c ∷ cs) e s = (align_length (cell l) g l c ∙ s.0, aligned_fit cell gs ls cs (omega (arith, e)) s.1)
 
-all_aligned : (cell running : Line → Option ℕ) (gs : List (List ℕ)) (ls : List Line) → Fit gs ls → Fit (aligned cell running gs ls) ls
+all_aligned : (cell running : Line → Option ℕ) (gs : List (List ℕ)) (ls : List Line) → Fit gs ls → Fit (aligned_gaps cell running gs ls) ls
 all_aligned cell running gs ls s = aligned_fit cell gs ls (columns (widths running gs ls)) (columns_len [] (widths running gs ls) ∙ zip_length _ gs ls s) s
 
 lines_fit : (ls : List Line) → Fit (line_gaps ls) ls
-lines_fit ls = all_aligned trailing_comment running_comment (aligned assign_cell assign_cell (indented ls) ls) ls (all_aligned assign_cell assign_cell (indented ls) ls (indented_fit [] ls))
+lines_fit ls = all_aligned trailing_comment running_comment (aligned_gaps assign_cell assign_cell (indented_gaps ls) ls) ls (all_aligned assign_cell assign_cell (indented_gaps ls) ls (indented_fit [] ls))
 
 -- ---- all lines
 abbrev total : List Line → ℕ

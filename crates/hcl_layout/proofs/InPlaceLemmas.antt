@@ -7,7 +7,7 @@ use Rattle.hcl_tokens.specs.Lexemes.{Lexeme}
 use Rattle.hcl_layout.specs.Cells.{assign_cell, running_comment, trailing_comment}
 use Rattle.hcl_layout.specs.Gaps.{align, width}
 use Rattle.hcl_layout.specs.Lines.{Line, lines}
-use Rattle.hcl_layout.specs.Print.{print, printed}
+use Rattle.hcl_layout.specs.Print.{print, printed_text}
 use Rattle.hcl_layout.specs.Inner.Depths.{BalancedFrom, depth_after, fresh, levels_behind}
 use Rattle.hcl_layout.specs.Inner.InPlace.{EndsWell, Enters, GoOn, InPlace, IsColumn, gaps_on, left_at, since}
 use Rattle.hcl_layout.specs.Inner.Left.{bytes_of, token_before}
@@ -180,7 +180,7 @@ entered_before ts text w new runs runs' line g c m first at end is ends_c ends_m
     record {
       assign = subst (λ (ls : List Line). IsColumn w.signs runs.assign (assign_widths d lv ls)) (sym is.cut) before.assign;
       comment = subst (λ (ls : List Line). IsColumn w.comments runs.comment (comment_widths d lv w.signs ls)) (sym is.cut) before.comment;
-      left = ap (λ (x : List ℕ). printed x (drop first ts)) same ∙ left;
+      left = ap (λ (x : List ℕ). printed_text x (drop first ts)) same ∙ left;
     }
 
 -- ---- pieces
@@ -215,21 +215,21 @@ goes_to ts text l n from None t gap p e lt le g same_gap same_text here = tt
 goes_to ts text l n from (Some k) t gap p e lt le g same_gap same_text here = goes ts text l n from k t gap p e lt le g same_gap same_text here
 
 -- after its last piece the lines after it are left
-pub line_over : (ts : List Lexeme) (l : LaidLine) (rest : List ℕ) → left_at ts l rest l.end ≡ printed rest (drop l.end ts)
+pub line_over : (ts : List Lexeme) (l : LaidLine) (rest : List ℕ) → left_at ts l rest l.end ≡ printed_text rest (drop l.end ts)
 line_over ts l rest =
     let none : l.end - l.end ≡ 0 = omega arith in
-    ap (λ n. printed (gaps_from l.gaps (l.end - l.first) (token_before ts l.first (l.end - 1)) (token_before ts l.first l.end) (take n (drop l.end ts)) ++ rest) (drop l.end ts)) none
+    ap (λ n. printed_text (gaps_from l.gaps (l.end - l.first) (token_before ts l.first (l.end - 1)) (token_before ts l.first l.end) (take n (drop l.end ts)) ++ rest) (drop l.end ts)) none
 
 -- ---- at the beginning, and at the end
 
 pub begun : (ts : List Lexeme) (text : List ℕ) (w : Walk) (runs : Runs) → BalancedFrom 0 ts → w.depth ≡ 0 → w.levels ≡ fresh → w.signs ≡ None → w.comments ≡ None → InPlace ts text w runs 0 0 → print ts ≡ text
 begun ts text w runs p e f g none h =
-    ap (λ gaps. printed gaps ts) (sym (start_all ts w.depth w.levels w.signs w.comments p e f g none)) ∙ h.left
+    ap (λ gaps. printed_text gaps ts) (sym (start_all ts w.depth w.levels w.signs w.comments p e f g none)) ∙ h.left
 
 drop_none : {A : Type 0} (n : ℕ) (xs : List A) → length xs ≤ n → drop n xs ≡ []
 drop_none n xs le = grind (arith, common_steps)
 
-none_printed : (gs : List ℕ) → printed gs [] ≡ []
+none_printed : (gs : List ℕ) → printed_text gs [] ≡ []
 none_printed [] = refl
 none_printed (g ∷ gs) = refl
 
@@ -244,5 +244,5 @@ all_passed ts text w runs first at long short p q =
     record {
       assign = subst (λ (xs : List Lexeme). IsColumn w.signs runs.assign (assign_widths w.depth w.levels (lines xs))) none (column_ended w.signs runs.assign p);
       comment = subst (λ (xs : List Lexeme). IsColumn w.comments runs.comment (comment_widths w.depth w.levels w.signs (lines xs))) none (column_ended w.comments runs.comment q);
-      left = ap (printed (gaps_on ts first w)) (sym none) ∙ none_printed (gaps_on ts first w) ∙ sym (drop_none at text short);
+      left = ap (printed_text (gaps_on ts first w)) (sym none) ∙ none_printed (gaps_on ts first w) ∙ sym (drop_none at text short);
     }

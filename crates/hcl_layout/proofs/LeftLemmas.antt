@@ -10,7 +10,7 @@ use Rattle.hcl_layout.specs.Inner.Depths.{BalancedFrom, fresh}
 use Rattle.hcl_layout.specs.Gaps.{clusters, gaps, indent, width}
 use Rattle.hcl_layout.specs.Inner.LineGaps.{len_with_blanks, cell_gap, gap_of, gaps_from, gaps_in, plain_gap, plain_of}
 use Rattle.hcl_layout.specs.Lines.{lines}
-use Rattle.hcl_layout.specs.Print.{printed}
+use Rattle.hcl_layout.specs.Print.{printed_text}
 use Rattle.hcl_layout.specs.Inner.Stream.{commented}
 use Rattle.hcl_layout.specs.declared.gap.Cell.{Cell}
 use Rattle.hcl_layout.specs.declared.gap.LineGaps.{LineGaps}
@@ -106,8 +106,8 @@ width_known g ts at len (suc k) i room le within =
 
 pub piece_left : (ts : List Lexeme) (next start end : ℕ) (set : LineGaps) (rest : List ℕ) (t : Lexeme) (gap : ℕ) → slice_get ts next ≡ Some t → next < end → start ≤ next
     → gap ≡ gap_of set (next - start) (token_before ts start (next - 1)) (token_before ts start next) t
-    → printed (gaps_from set (next - start) (token_before ts start (next - 1)) (token_before ts start next) (take (end - next) (drop next ts)) ++ rest) (drop next ts)
-    ≡ (replicate gap 32 ++ t.text) ++ printed (gaps_from set ((next + 1) - start) (token_before ts start ((next + 1) - 1)) (token_before ts start (next + 1)) (take (end - (next + 1)) (drop (next + 1) ts)) ++ rest) (drop (next + 1) ts)
+    → printed_text (gaps_from set (next - start) (token_before ts start (next - 1)) (token_before ts start next) (take (end - next) (drop next ts)) ++ rest) (drop next ts)
+    ≡ (replicate gap 32 ++ t.text) ++ printed_text (gaps_from set ((next + 1) - start) (token_before ts start ((next + 1) - 1)) (token_before ts start (next + 1)) (take (end - (next + 1)) (drop (next + 1) ts)) ++ rest) (drop (next + 1) ts)
 piece_left ts next start end set rest t gap e lt le g =
     let one : end - next ≡ suc (end - (next + 1)) = omega arith in
     let left : List Lexeme = drop (next + 1) ts in
@@ -115,10 +115,10 @@ piece_left ts next start end set rest t gap e lt le g =
     let s = token_before ts start next in
     let place : (next - start) + 1 ≡ (next + 1) - start = omega arith in
     let last : next ≡ (next + 1) - 1 = omega arith in
-    ap₂ (λ (n : ℕ) (xs : List Lexeme). printed (gaps_from set (next - start) b s (take n xs) ++ rest) xs) one (drop_at ts next t e)
-    ∙ ap (λ k. (replicate k 32 ++ t.text) ++ printed (gaps_from set ((next - start) + 1) s (Some t) (take (end - (next + 1)) left) ++ rest) left) (sym g)
-    ∙ ap (λ k. (replicate gap 32 ++ t.text) ++ printed (gaps_from set k s (Some t) (take (end - (next + 1)) left) ++ rest) left) place
-    ∙ ap₂ (λ (n : ℕ) (u : Option Lexeme). (replicate gap 32 ++ t.text) ++ printed (gaps_from set ((next + 1) - start) (token_before ts start n) u (take (end - (next + 1)) left) ++ rest) left) last (sym (printed_behind ts start next t e le))
+    ap₂ (λ (n : ℕ) (xs : List Lexeme). printed_text (gaps_from set (next - start) b s (take n xs) ++ rest) xs) one (drop_at ts next t e)
+    ∙ ap (λ k. (replicate k 32 ++ t.text) ++ printed_text (gaps_from set ((next - start) + 1) s (Some t) (take (end - (next + 1)) left) ++ rest) left) (sym g)
+    ∙ ap (λ k. (replicate gap 32 ++ t.text) ++ printed_text (gaps_from set k s (Some t) (take (end - (next + 1)) left) ++ rest) left) place
+    ∙ ap₂ (λ (n : ℕ) (u : Option Lexeme). (replicate gap 32 ++ t.text) ++ printed_text (gaps_from set ((next + 1) - start) (token_before ts start n) u (take (end - (next + 1)) left) ++ rest) left) last (sym (printed_behind ts start next t e le))
 
 behind_front : (o : Option Cell) (k gap : ℕ) → IfSome o (λ c. 0 < c.place) → k ≡ 0 → cell_gap o k gap ≡ gap
 behind_front None k gap p e = refl

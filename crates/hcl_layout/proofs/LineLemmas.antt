@@ -7,7 +7,7 @@ use Rattle.hcl_layout.specs.Inner.LineGaps.{len_with_blanks, cell_gap, gap_of, g
 use Rattle.hcl_tokens.specs.Kinds.{is}
 use Rattle.hcl_tokens.specs.declared.token.Kind.TheVariants as kind
 use Rattle.hcl_layout.specs.Lines.{Line}
-use Rattle.hcl_spacing.specs.Spacing.{spaced}
+use Rattle.hcl_spacing.specs.Spacing.{has_blank}
 use Rattle.hcl_layout.specs.declared.gap.Cell.{Cell}
 use Rattle.hcl_layout.specs.declared.gap.LineGaps.{LineGaps}
 use Rattle.hcl_layout.proofs.ClusterLemmas.{clusters_few}
@@ -67,7 +67,7 @@ gaps_in_is g line =
 -- ---- widths are small
 
 pub blank : (b : Option Lexeme) (s a : Lexeme) → blanks b s a ≤ 1
-blank b s a = go (spaced b s a)
+blank b s a = go (has_blank b s a)
   where
     go : (v : Bool) → (if v then 1 else 0) ≤ 1
     go true = omega arith

@@ -11,7 +11,7 @@ use Rattle.hcl_layout.specs.Cells.{assign_cell, has_multiline, running_comment, 
 use Rattle.hcl_layout.specs.Columns.{widest}
 use Rattle.hcl_layout.specs.Gaps.{align, gap_to, gaps, gaps_after, plain_gaps, set_gap, width}
 use Rattle.hcl_layout.specs.Lines.{Line, ends_line, lines, onto_line}
-use Rattle.hcl_layout.specs.Print.{print, printed}
+use Rattle.hcl_layout.specs.Print.{print, printed_text}
 use Rattle.hcl_layout.specs.Inner.Depths.{BalancedFrom, depth_after, fresh, level_at, levels_behind}
 use Rattle.hcl_layout.specs.Inner.Padding.{Adds, IsSmall, IsSmallRun, apart, comment_apart, left_len, len_apart, lines_of, moved_of, on_comment, on_sign, shift_of, shifted, signed, texts, total, with_line, with_lines}
 use Rattle.hcl_layout.specs.Inner.Stream.{assign_column, assign_width, assign_widths, comment_column, comment_widths, commented, next_of, plain}
@@ -286,11 +286,11 @@ total_append : (xs ys : List ℕ) → total (xs ++ ys) ≡ total xs + total ys
 total_append [] ys = omega arith
 total_append (x ∷ xs) ys = omega (arith, total_append xs ys)
 
-printed_total : (gs : List ℕ) (ts : List Lexeme) → length (printed gs ts) ≤ total gs + texts ts
+printed_total : (gs : List ℕ) (ts : List Lexeme) → length (printed_text gs ts) ≤ total gs + texts ts
 printed_total [] ts = omega arith
 printed_total (g ∷ gs) [] = omega arith
 printed_total (g ∷ gs) (t ∷ ts) =
-    omega (arith, length-append (replicate g 32 ++ t.text) (printed gs ts), length-append (replicate g 32) t.text, length-replicate {A = ℕ} g 32, printed_total gs ts)
+    omega (arith, length-append (replicate g 32 ++ t.text) (printed_text gs ts), length-append (replicate g 32) t.text, length-replicate {A = ℕ} g 32, printed_total gs ts)
 
 abbrev owed : Option ℕ → Option ℕ → Padding → ℕ
 owed column comment s = (lines_of s.signs + s.above) * to_grow column s.signs + due (to_grow column s.signs) comment s.comments + s.blanks

@@ -3,7 +3,7 @@ use Rattle.std.proofs.Common.{◌*◌, ◌≡◌, ◌∙◌, ◌+◌, ◌-◌, �
 use Rattle.std.specs.Prelude.{IfSome, option_map, slice_set, if◌then◌else◌}
 use Rattle.hcl_tokens.specs.Lexemes.{Lexeme}
 use Rattle.hcl_tokens.specs.Balanced.{max_open}
-use Rattle.hcl_layout.specs.Cells.{assign_cell, before_comment, has_multiline, if_level, is_level, is_assignment, is_trailing, found_from, running_comment, trailing_comment, until}
+use Rattle.hcl_layout.specs.Cells.{assign_cell, before_comment, has_multiline, if_level, is_level, is_assignment, is_trailing, first_place_from, running_comment, trailing_comment, until}
 use Rattle.hcl_layout.specs.Gaps.{align, gap_to, plain_gaps, width}
 use Rattle.hcl_layout.specs.Levels.{net_of}
 use Rattle.hcl_layout.specs.Inner.LineGaps.{AreSet, IsKnown, IsSigned, len_with_blanks, gaps_in, plain_of, set_cell}
@@ -61,20 +61,20 @@ comment_within : (line : Line) (i : ℕ) → trailing_comment line ≡ Some i �
 comment_within [] i e = cc
 comment_within (t ∷ line) i e = omega (arith, (place_within is_trailing 1 line i e).1)
 
-until_found : (test : Lexeme → Bool) (k : ℕ) (line : Line) (j : ℕ) → found_from test k line ≡ Some j → j ≡ k + length (until test line)
+until_found : (test : Lexeme → Bool) (k : ℕ) (line : Line) (j : ℕ) → first_place_from test k line ≡ Some j → j ≡ k + length (until test line)
 until_found test k [] j e = cc
 until_found test k (t ∷ line) j e = go (λ h. until_found test (k + 1) line j h) (test t) refl
   where
     here : (a b : ℕ) → Some a ≡ Some b → a ≡ b
     here a b h = cc
 
-    go : (found_from test (k + 1) line ≡ Some j → j ≡ (k + 1) + length (until test line)) → (v : Bool) → test t ≡ v → j ≡ k + length (until test (t ∷ line))
+    go : (first_place_from test (k + 1) line ≡ Some j → j ≡ (k + 1) + length (until test line)) → (v : Bool) → test t ≡ v → j ≡ k + length (until test (t ∷ line))
     go r true v = let h : Some k ≡ Some j = rw v at e in rw v (omega (arith, here k j h))
-    go r false v = let h : found_from test (k + 1) line ≡ Some j = rw v at e in rw v (omega (arith, r h))
+    go r false v = let h : first_place_from test (k + 1) line ≡ Some j = rw v at e in rw v (omega (arith, r h))
 
-assign_sign : (t : Lexeme) (line : Line) (i : ℕ) → assign_cell (t ∷ line) ≡ Some i → found_from is_assignment 1 (until is_trailing line) ≡ Some i
+assign_sign : (t : Lexeme) (line : Line) (i : ℕ) → assign_cell (t ∷ line) ≡ Some i → first_place_from is_assignment 1 (until is_trailing line) ≡ Some i
 assign_sign t line i e =
-    level_some (t ∷ until is_trailing line) (found_from is_assignment 1 (until is_trailing line)) i (multiline_some (has_multiline (t ∷ line)) (if_level (before_comment (t ∷ line)) (found_from is_assignment 1 (until is_trailing line))) i e)
+    level_some (t ∷ until is_trailing line) (first_place_from is_assignment 1 (until is_trailing line)) i (multiline_some (has_multiline (t ∷ line)) (if_level (before_comment (t ∷ line)) (first_place_from is_assignment 1 (until is_trailing line))) i e)
 
 pub assign_within : (line : Line) (i : ℕ) → assign_cell line ≡ Some i → i < length line
 assign_within [] i e = let h : None ≡ Some i = multiline_some (has_multiline []) None i e in cc

@@ -9,7 +9,7 @@ use Rattle.hcl_tokens.specs.declared.token.Kind.{Kind}
 use Rattle.hcl_layout.specs.Cells.{assign_cell, running_comment, trailing_comment}
 use Rattle.hcl_grammar.specs.Items.{deepen}
 use Rattle.hcl_layout.specs.Inner.Depths.{net_of_kind, BalancedFrom, Steps, depth_after, fresh, level_at, levels_behind}
-use Rattle.hcl_layout.specs.Gaps.{aligned, aligned_by, align, gaps, indented, line_gaps, plain_gaps, zip_with}
+use Rattle.hcl_layout.specs.Gaps.{aligned_gaps, aligned_gaps_by, align, gaps, indented_gaps, line_gaps, plain_gaps, zip_with}
 use Rattle.hcl_tokens.specs.Balanced.{is_closer, is_opener, max_open}
 use Rattle.hcl_layout.specs.Levels.{Net, is_above, levels, net_of, no_net, plus}
 use Rattle.hcl_layout.specs.Lines.{Line, ends_line, lines, onto_line}
@@ -160,7 +160,7 @@ zeros_get zero k = refl
 zeros_get (suc n) zero = refl
 zeros_get (suc n) (suc k) = zeros_get n k
 
-pub leveled_all : (ls : List Line) → BalancedLines 0 ls → indented ls ≡ leveled 0 fresh ls
+pub leveled_all : (ls : List Line) → BalancedLines 0 ls → indented_gaps ls ≡ leveled 0 fresh ls
 leveled_all ls p =
     ap (λ k. zip_with plain_gaps k ls) (levels_of_state [] (map net_of ls))
     ∙ leveled_is ls 0 no_net [] fresh refl (record { room = length-replicate {A = ℕ} (max_open + 1) 0; below = λ k m r low. sym (zeros_get (max_open + 1) k); all = λ k m r high. refl }) (omega arith) p
@@ -168,29 +168,29 @@ leveled_all ls p =
 -- ---- runs
 
 assigned_is : (ls : List Line) (d : ℕ) (levels : List ℕ) (column : Option ℕ)
-    → aligned_by assign_cell (leveled d levels ls) ls (columns_at column (assign_widths d levels ls)) ≡ assigned d levels column ls
+    → aligned_gaps_by assign_cell (leveled d levels ls) ls (columns_at column (assign_widths d levels ls)) ≡ assigned d levels column ls
 assigned_is [] d levels column = refl
 assigned_is (l ∷ ls) d levels column =
     ap (λ r. align assign_cell (plain d levels l) l (assign_column d levels column (l ∷ ls)) ∷ r)
     (assigned_is ls (depth_after d l) (levels_behind d (depth_after d l) levels) (assign_column d levels column (l ∷ ls)))
 
 commented_is : (ls : List Line) (d : ℕ) (levels : List ℕ) (column comment : Option ℕ)
-    → aligned_by trailing_comment (assigned d levels column ls) ls (columns_at comment (comment_widths d levels column ls)) ≡ commented d levels column comment ls
+    → aligned_gaps_by trailing_comment (assigned d levels column ls) ls (columns_at comment (comment_widths d levels column ls)) ≡ commented d levels column comment ls
 commented_is [] d levels column comment = refl
 commented_is (l ∷ ls) d levels column comment =
     ap (λ r. align trailing_comment (align assign_cell (plain d levels l) l (assign_column d levels column (l ∷ ls))) l (comment_column d levels column comment (l ∷ ls)) ∷ r)
     (commented_is ls (depth_after d l) (levels_behind d (depth_after d l) levels) (assign_column d levels column (l ∷ ls)) (comment_column d levels column comment (l ∷ ls)))
 
-assigned_all : (ls : List Line) → BalancedLines 0 ls → aligned assign_cell assign_cell (indented ls) ls ≡ assigned 0 fresh None ls
+assigned_all : (ls : List Line) → BalancedLines 0 ls → aligned_gaps assign_cell assign_cell (indented_gaps ls) ls ≡ assigned 0 fresh None ls
 assigned_all ls p =
-    ap (λ g. aligned assign_cell assign_cell g ls) (leveled_all ls p)
-    ∙ ap (λ c. aligned_by assign_cell (leveled 0 fresh ls) ls c) (before_run (assign_widths 0 fresh ls))
+    ap (λ g. aligned_gaps assign_cell assign_cell g ls) (leveled_all ls p)
+    ∙ ap (λ c. aligned_gaps_by assign_cell (leveled 0 fresh ls) ls c) (before_run (assign_widths 0 fresh ls))
     ∙ assigned_is ls 0 fresh None
 
 commented_all : (ls : List Line) → BalancedLines 0 ls → line_gaps ls ≡ commented 0 fresh None None ls
 commented_all ls p =
-    ap (λ g. aligned trailing_comment running_comment g ls) (assigned_all ls p)
-    ∙ ap (λ c. aligned_by trailing_comment (assigned 0 fresh None ls) ls c) (before_run (comment_widths 0 fresh None ls))
+    ap (λ g. aligned_gaps trailing_comment running_comment g ls) (assigned_all ls p)
+    ∙ ap (λ c. aligned_gaps_by trailing_comment (assigned 0 fresh None ls) ls c) (before_run (comment_widths 0 fresh None ls))
     ∙ commented_is ls 0 fresh None None
 
 -- the gaps of the text are those that are left at its beginning

@@ -7,7 +7,7 @@ use Rattle.std.proofs.lemmas.Grind.{common_steps}
 use Rattle.std.proofs.lemmas.Option.{get_or_from_slice_get, slice_get_within}
 use Rattle.hcl_tokens.specs.Lexemes.{Lexeme}
 use Rattle.hcl_tokens.specs.Balanced.{max_open}
-use Rattle.hcl_layout.specs.Cells.{assign_cell, has_multiline, if_level, is_level, is_assignment, is_multiline, is_trailing, found_from, running_comment, trailing_comment, until}
+use Rattle.hcl_layout.specs.Cells.{assign_cell, has_multiline, if_level, is_level, is_assignment, is_multiline, is_trailing, first_place_from, running_comment, trailing_comment, until}
 use Rattle.hcl_grammar.specs.Items.{deepen}
 use Rattle.hcl_layout.specs.Inner.Depths.{BalancedFrom, Steps, depth_after}
 use Rattle.hcl_layout.specs.Levels.{Net, net_of}
@@ -123,15 +123,15 @@ stays (t ∷ l) s i e =
 
 -- the comment, and the depth of what is before it
 found : (l : Line) (s : Survey) → s.comment ≡ None → s.body_depth ≡ s.depth
-    → ((fold s l).comment ≡ found_from is_trailing s.len l) × ((fold s l).body_depth ≡ depth_after s.depth (until is_trailing l))
+    → ((fold s l).comment ≡ first_place_from is_trailing s.len l) × ((fold s l).body_depth ≡ depth_after s.depth (until is_trailing l))
 found [] s e f = (e, f)
 found (t ∷ l) s e f =
     go (λ c. stays l (noted s t) s.len c) (λ c d. found l (noted s t) c d) (is_trailing t) refl
   where
     go : ((noted s t).comment ≡ Some s.len → Same (noted s t) (fold (noted s t) l))
-        → ((noted s t).comment ≡ None → (noted s t).body_depth ≡ (noted s t).depth → ((fold (noted s t) l).comment ≡ found_from is_trailing (s.len + 1) l) × ((fold (noted s t) l).body_depth ≡ depth_after (deepen s.depth t.kind) (until is_trailing l)))
+        → ((noted s t).comment ≡ None → (noted s t).body_depth ≡ (noted s t).depth → ((fold (noted s t) l).comment ≡ first_place_from is_trailing (s.len + 1) l) × ((fold (noted s t) l).body_depth ≡ depth_after (deepen s.depth t.kind) (until is_trailing l)))
         → (v : Bool) → is_trailing t ≡ v
-        → ((fold s (t ∷ l)).comment ≡ found_from is_trailing s.len (t ∷ l)) × ((fold s (t ∷ l)).body_depth ≡ depth_after s.depth (until is_trailing (t ∷ l)))
+        → ((fold s (t ∷ l)).comment ≡ first_place_from is_trailing s.len (t ∷ l)) × ((fold s (t ∷ l)).body_depth ≡ depth_after s.depth (until is_trailing (t ∷ l)))
     go a b true v =
         let here : (noted s t).comment ≡ Some s.len = rw (e, v) refl in
         let body : (noted s t).body_depth ≡ s.depth = rw (e, v) f in
@@ -145,13 +145,13 @@ found (t ∷ l) s e f =
 some_same : (a b : ℕ) → Some a ≡ Some b → a ≡ b
 some_same a b e = cc
 
-pub place_within : (test : Lexeme → Bool) (i : ℕ) (line : Line) (j : ℕ) → found_from test i line ≡ Some j → (i ≤ j) × (j < i + length line)
+pub place_within : (test : Lexeme → Bool) (i : ℕ) (line : Line) (j : ℕ) → first_place_from test i line ≡ Some j → (i ≤ j) × (j < i + length line)
 place_within test i [] j p = cc
 place_within test i (t ∷ line) j p = go (place_within test (i + 1) line j) (test t) refl
   where
-    go : (found_from test (i + 1) line ≡ Some j → (i + 1 ≤ j) × (j < (i + 1) + length line)) → (v : Bool) → test t ≡ v → (i ≤ j) × (j < i + length (t ∷ line))
+    go : (first_place_from test (i + 1) line ≡ Some j → (i + 1 ≤ j) × (j < (i + 1) + length line)) → (v : Bool) → test t ≡ v → (i ≤ j) × (j < i + length (t ∷ line))
     go r true e = let h : Some i ≡ Some j = rw e at p in grind arith
-    go r false e = let h : found_from test (i + 1) line ≡ Some j = rw e at p in (omega (arith, (r h).0), omega (arith, (r h).1))
+    go r false e = let h : first_place_from test (i + 1) line ≡ Some j = rw e at p in (omega (arith, (r h).0), omega (arith, (r h).1))
 
 -- a sign that was found stays
 kept : (l : Line) (s : Survey) (i : ℕ) → s.sign ≡ Some i → ((fold s l).sign ≡ Some i) × ((fold s l).sign_depth ≡ s.sign_depth)
@@ -170,8 +170,8 @@ kept (t ∷ l) s i e =
 
 -- the sign is the first before the trailing comment
 signed : (l : Line) (s : Survey) → s.comment ≡ None → s.sign ≡ None
-    → ((fold s l).sign ≡ found_from is_assignment s.len (until is_trailing l))
-    × ((i : ℕ) → found_from is_assignment s.len (until is_trailing l) ≡ Some (s.len + i) → (fold s l).sign_depth ≡ depth_after s.depth (take i (until is_trailing l)))
+    → ((fold s l).sign ≡ first_place_from is_assignment s.len (until is_trailing l))
+    × ((i : ℕ) → first_place_from is_assignment s.len (until is_trailing l) ≡ Some (s.len + i) → (fold s l).sign_depth ≡ depth_after s.depth (take i (until is_trailing l)))
 signed [] s e f = (f, λ i p. cc)
 signed (t ∷ l) s e f =
     go (λ c. stays l (noted s t) s.len c) (λ c. kept l (noted s t) s.len c) (λ c d. signed l (noted s t) c d) (is_trailing t) refl (is_assignment t) refl
@@ -182,10 +182,10 @@ signed (t ∷ l) s e f =
     go : ((noted s t).comment ≡ Some s.len → Same (noted s t) (fold (noted s t) l))
         → ((noted s t).sign ≡ Some s.len → ((fold (noted s t) l).sign ≡ Some s.len) × ((fold (noted s t) l).sign_depth ≡ (noted s t).sign_depth))
         → ((noted s t).comment ≡ None → (noted s t).sign ≡ None
-        → ((fold (noted s t) l).sign ≡ found_from is_assignment (s.len + 1) b) × ((i : ℕ) → found_from is_assignment (s.len + 1) b ≡ Some ((s.len + 1) + i) → (fold (noted s t) l).sign_depth ≡ depth_after (deepen s.depth t.kind) (take i b)))
+        → ((fold (noted s t) l).sign ≡ first_place_from is_assignment (s.len + 1) b) × ((i : ℕ) → first_place_from is_assignment (s.len + 1) b ≡ Some ((s.len + 1) + i) → (fold (noted s t) l).sign_depth ≡ depth_after (deepen s.depth t.kind) (take i b)))
         → (v : Bool) → is_trailing t ≡ v → (w : Bool) → is_assignment t ≡ w
-        → ((fold s (t ∷ l)).sign ≡ found_from is_assignment s.len (until is_trailing (t ∷ l)))
-        × ((i : ℕ) → found_from is_assignment s.len (until is_trailing (t ∷ l)) ≡ Some (s.len + i) → (fold s (t ∷ l)).sign_depth ≡ depth_after s.depth (take i (until is_trailing (t ∷ l))))
+        → ((fold s (t ∷ l)).sign ≡ first_place_from is_assignment s.len (until is_trailing (t ∷ l)))
+        × ((i : ℕ) → first_place_from is_assignment s.len (until is_trailing (t ∷ l)) ≡ Some (s.len + i) → (fold s (t ∷ l)).sign_depth ≡ depth_after s.depth (take i (until is_trailing (t ∷ l))))
     go x y z true v w q =
         let here : (noted s t).comment ≡ Some s.len = rw (e, v) refl in
         let sign : (noted s t).sign ≡ None = rw (e, v) f in
@@ -202,12 +202,12 @@ signed (t ∷ l) s e f =
         let here : (noted s t).comment ≡ None = rw (e, v) refl in
         let sign : (noted s t).sign ≡ None = rw (e, v, f, q) refl in
         let more = z here sign in
-        let later : (i : ℕ) → found_from is_assignment (s.len + 1) b ≡ Some (s.len + i) → (fold s (t ∷ l)).sign_depth ≡ depth_after s.depth (take i (t ∷ b)) =
+        let later : (i : ℕ) → first_place_from is_assignment (s.len + 1) b ≡ Some (s.len + i) → (fold s (t ∷ l)).sign_depth ≡ depth_after s.depth (take i (t ∷ b)) =
         λ i p. later_by i p more.1 in
         rw (v, q) (more.0, later)
       where
-        later_by : (i : ℕ) → found_from is_assignment (s.len + 1) b ≡ Some (s.len + i)
-            → ((j : ℕ) → found_from is_assignment (s.len + 1) b ≡ Some ((s.len + 1) + j) → (fold (noted s t) l).sign_depth ≡ depth_after (deepen s.depth t.kind) (take j b))
+        later_by : (i : ℕ) → first_place_from is_assignment (s.len + 1) b ≡ Some (s.len + i)
+            → ((j : ℕ) → first_place_from is_assignment (s.len + 1) b ≡ Some ((s.len + 1) + j) → (fold (noted s t) l).sign_depth ≡ depth_after (deepen s.depth t.kind) (take j b))
             → (fold s (t ∷ l)).sign_depth ≡ depth_after s.depth (take i (t ∷ b))
         later_by zero p r = absurd (omega (arith, place_within is_assignment (s.len + 1) b (s.len + 0) p))
         later_by (suc i) p r = r i (p ∙ ap (λ (k : ℕ). Some k) (omega arith))
@@ -273,14 +273,14 @@ cell_is l d t p =
     let depth = found l s refl refl in
     let sign = signed l s refl refl in
     let whole : BalancedFrom d (t ∷ b) = (p.0, until_balanced l (deepen d t.kind) p.1) in
-    let level : (i : ℕ) → found_from is_assignment 1 b ≡ Some i → is_level (net_of (drop i (t ∷ b))) ≡ ((fold s l).sign_depth == (fold s l).body_depth) =
+    let level : (i : ℕ) → first_place_from is_assignment 1 b ≡ Some i → is_level (net_of (drop i (t ∷ b))) ≡ ((fold s l).sign_depth == (fold s l).body_depth) =
     λ i e. level_at_sign i e depth.1 sign.1 whole in
-    cell_multiline (fold s l).multiline (if_level (t ∷ b) (found_from is_assignment 1 b)) (fold s l).sign ((fold s l).sign_depth == (fold s l).body_depth)
-    (cell_same (t ∷ b) (found_from is_assignment 1 b) ((fold s l).sign_depth == (fold s l).body_depth) level ∙ ap (cell_if ((fold s l).sign_depth == (fold s l).body_depth)) (sym sign.0))
-    ∙ ap (λ (v : Bool). if v then None else if_level (t ∷ b) (found_from is_assignment 1 b)) (fold_multiline l s)
+    cell_multiline (fold s l).multiline (if_level (t ∷ b) (first_place_from is_assignment 1 b)) (fold s l).sign ((fold s l).sign_depth == (fold s l).body_depth)
+    (cell_same (t ∷ b) (first_place_from is_assignment 1 b) ((fold s l).sign_depth == (fold s l).body_depth) level ∙ ap (cell_if ((fold s l).sign_depth == (fold s l).body_depth)) (sym sign.0))
+    ∙ ap (λ (v : Bool). if v then None else if_level (t ∷ b) (first_place_from is_assignment 1 b)) (fold_multiline l s)
   where
-    level_at_sign : (i : ℕ) → found_from is_assignment 1 (until is_trailing l) ≡ Some i → (fold (first_noted d t) l).body_depth ≡ depth_after (deepen d t.kind) (until is_trailing l)
-        → ((j : ℕ) → found_from is_assignment 1 (until is_trailing l) ≡ Some (1 + j) → (fold (first_noted d t) l).sign_depth ≡ depth_after (deepen d t.kind) (take j (until is_trailing l)))
+    level_at_sign : (i : ℕ) → first_place_from is_assignment 1 (until is_trailing l) ≡ Some i → (fold (first_noted d t) l).body_depth ≡ depth_after (deepen d t.kind) (until is_trailing l)
+        → ((j : ℕ) → first_place_from is_assignment 1 (until is_trailing l) ≡ Some (1 + j) → (fold (first_noted d t) l).sign_depth ≡ depth_after (deepen d t.kind) (take j (until is_trailing l)))
         → BalancedFrom d (t ∷ until is_trailing l)
         → is_level (net_of (drop i (t ∷ until is_trailing l))) ≡ ((fold (first_noted d t) l).sign_depth == (fold (first_noted d t) l).body_depth)
     level_at_sign zero e p q r = absurd (omega (arith, place_within is_assignment 1 (until is_trailing l) 0 e))

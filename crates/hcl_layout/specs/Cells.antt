@@ -10,19 +10,19 @@ use Rattle.hcl_layout.specs.Lines.{Line}
 use Rattle.hcl_layout.specs.Levels.{Net, net_of}
 
 -- the place of the first token that passes the test, counted from a number on
-abbrev pub found_from : (Lexeme → Bool) → ℕ → Line → Option ℕ
-found_from test i [] = None
-found_from test i (t ∷ line) = if test t then Some i else found_from test (i + 1) line
+abbrev pub first_place_from : (Lexeme → Bool) → ℕ → Line → Option ℕ
+first_place_from test i [] = None
+first_place_from test i (t ∷ line) = if test t then Some i else first_place_from test (i + 1) line
 
 -- the same among all tokens but the line's first
-abbrev pub found : (Lexeme → Bool) → Line → Option ℕ
-found test line = found_from test 1 (drop 1 line)
+abbrev pub first_place : (Lexeme → Bool) → Line → Option ℕ
+first_place test line = first_place_from test 1 (drop 1 line)
 
 abbrev pub is_trailing : Lexeme → Bool
 is_trailing t = is kind.LineComment t.kind && not t.inside_heredoc
 
 abbrev pub trailing_comment : Line → Option ℕ
-trailing_comment = found is_trailing
+trailing_comment = first_place is_trailing
 
 -- what stands before the first token that passes the test
 abbrev pub until : (Lexeme → Bool) → Line → Line
@@ -54,7 +54,7 @@ if_level line (Some i) = if is_level (net_of (drop i line)) then Some i else Non
 
 -- the line's first assignment sign, as a cell; a later sign never begins one
 abbrev pub assign_cell : Line → Option ℕ
-assign_cell line = if has_multiline line then None else if_level (before_comment line) (found is_assignment (before_comment line))
+assign_cell line = if has_multiline line then None else if_level (before_comment line) (first_place is_assignment (before_comment line))
 
 -- the trailing comment, where the line takes part in runs of comments
 abbrev pub running_comment : Line → Option ℕ

@@ -10,7 +10,7 @@ use Rattle.hcl_tokens.specs.Kinds.{is}
 use Rattle.hcl_tokens.specs.declared.token.Kind.TheVariants as kind
 use Rattle.hcl_layout.specs.Lines.{Line, lines}
 use Rattle.hcl_layout.specs.Levels.{levels, net_of}
-use Rattle.hcl_spacing.specs.Spacing.{spaced}
+use Rattle.hcl_spacing.specs.Spacing.{has_blank}
 use Rattle.hcl_layout.specs.Cells.{assign_cell, running_comment, trailing_comment}
 use Rattle.hcl_layout.specs.Columns.{columns}
 
@@ -23,7 +23,7 @@ zip_with f (x ∷ xs) (y ∷ ys) = f x y ∷ zip_with f xs ys
 -- ---- a line by itself
 
 abbrev pub blanks : Option Lexeme → Lexeme → Lexeme → ℕ
-blanks before subject after = if spaced before subject after then 1 else 0
+blanks before subject after = if has_blank before subject after then 1 else 0
 
 -- the gaps after the subject
 abbrev pub gaps_after : Option Lexeme → Lexeme → Line → List ℕ
@@ -67,23 +67,23 @@ set_gap (Some i) gaps line column = slice_set gaps i (gap_to column (width i gap
 abbrev pub align : (Line → Option ℕ) → List ℕ → Line → Option ℕ → List ℕ
 align cell gaps line column = set_gap (cell line) gaps line column
 
-abbrev pub aligned_by : (Line → Option ℕ) → List (List ℕ) → List Line → List (Option ℕ) → List (List ℕ)
-aligned_by cell [] ls cs = []
-aligned_by cell (g ∷ gs) [] cs = []
-aligned_by cell (g ∷ gs) (l ∷ ls) [] = []
-aligned_by cell (g ∷ gs) (l ∷ ls) (c ∷ cs) = align cell g l c ∷ aligned_by cell gs ls cs
+abbrev pub aligned_gaps_by : (Line → Option ℕ) → List (List ℕ) → List Line → List (Option ℕ) → List (List ℕ)
+aligned_gaps_by cell [] ls cs = []
+aligned_gaps_by cell (g ∷ gs) [] cs = []
+aligned_gaps_by cell (g ∷ gs) (l ∷ ls) [] = []
+aligned_gaps_by cell (g ∷ gs) (l ∷ ls) (c ∷ cs) = align cell g l c ∷ aligned_gaps_by cell gs ls cs
 
 -- the cells of all lines set to their columns: `running` tells which lines take part in runs
-abbrev pub aligned : (Line → Option ℕ) → (Line → Option ℕ) → List (List ℕ) → List Line → List (List ℕ)
-aligned cell running gaps ls = aligned_by cell gaps ls (columns (widths running gaps ls))
+abbrev pub aligned_gaps : (Line → Option ℕ) → (Line → Option ℕ) → List (List ℕ) → List Line → List (List ℕ)
+aligned_gaps cell running gaps ls = aligned_gaps_by cell gaps ls (columns (widths running gaps ls))
 
 -- ---- all lines
 
-abbrev pub indented : List Line → List (List ℕ)
-indented ls = zip_with plain_gaps (levels (map net_of ls)) ls
+abbrev pub indented_gaps : List Line → List (List ℕ)
+indented_gaps ls = zip_with plain_gaps (levels (map net_of ls)) ls
 
 abbrev pub line_gaps : List Line → List (List ℕ)
-line_gaps ls = aligned trailing_comment running_comment (aligned assign_cell assign_cell (indented ls) ls) ls
+line_gaps ls = aligned_gaps trailing_comment running_comment (aligned_gaps assign_cell assign_cell (indented_gaps ls) ls) ls
 
 -- the gap before each token
 abbrev pub gaps : List Lexeme → List ℕ

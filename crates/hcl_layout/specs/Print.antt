@@ -4,10 +4,10 @@ use Rattle.std.specs.Prelude.{ℕ, List, [], ◌∷◌, ◌++◌, replicate}
 use Rattle.hcl_tokens.specs.Lexemes.{Lexeme}
 use Rattle.hcl_layout.specs.Gaps.{gaps}
 
-abbrev pub printed : List ℕ → List Lexeme → List ℕ
-printed [] ts = []
-printed (g ∷ gs) [] = []
-printed (g ∷ gs) (t ∷ ts) = (replicate g 32 ++ t.text) ++ printed gs ts
+abbrev pub printed_text : List ℕ → List Lexeme → List ℕ
+printed_text [] ts = []
+printed_text (g ∷ gs) [] = []
+printed_text (g ∷ gs) (t ∷ ts) = (replicate g 32 ++ t.text) ++ printed_text gs ts
 
 abbrev pub print : List Lexeme → List ℕ
-print ts = printed (gaps ts) ts
+print ts = printed_text (gaps ts) ts

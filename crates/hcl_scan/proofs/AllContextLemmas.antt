@@ -1,13 +1,13 @@
 -- One kind for each text, for all places from expressions and templates; and a reading that lacks something can't go on.
 use Rattle.std.proofs.Common.{◌≡◌, ℕ, ◌<◌, Bool, List, [], ◌∷◌, ◌++◌, length, get_or, None, ◌⊎◌, inl, inr, ⊎_elim, refl, sym, ap, subst, ◌∙◌, arith, length-drop}
-use Rattle.hcl_tokens.specs.Lexemes.{Lexeme, Opener, marker_of, moved, max_open}
+use Rattle.hcl_tokens.specs.Lexemes.{Lexeme, Opener, marker_of, open_after, max_open}
 use Rattle.hcl_tokens.specs.Spelling.{IsExpressionText, IsTextIn, Context, Template, Expression, context, element_len, IsLiteral}
-use Rattle.hcl_tokens.specs.Scans.{State, gap_len, owed, ahead, IsLongest, IsMarkerLine, Leaves, Reads, Next, Run}
+use Rattle.hcl_tokens.specs.Scans.{State, gap_len, owed_opener, ahead, IsLongest, IsMarkerLine, Leaves, Reads, Next, Run}
 use Rattle.hcl_tokens.specs.Faults.{Lacks, at_end, no_token, too_deep, no_marker_line, end_fault}
 use Rattle.hcl_source.specs.declared.fault.FaultKind.{FaultKind}
 use Rattle.hcl_tokens.specs.declared.token.Kind.{Kind}
 use Rattle.hcl_tokens.specs.declared.token.Kind.TheVariants.{HeredocOpen, Lit}
-use Rattle.hcl_tokens.proofs.RunLemmas.{OneKind, Nonempty, Stuck, one_longest, some_ahead, nothing_ahead}
+use Rattle.hcl_tokens.proofs.OneReadingLemmas.{OneKind, Nonempty, Stuck, one_longest, some_ahead, nothing_ahead}
 use Rattle.hcl_scan.proofs.TemplateLemmas.{Way, ways, lit, interp, control, quote, no_lit, no_element}
 
 -- the law of expressions
@@ -49,10 +49,10 @@ one_kind one opens dot kind other text rest h k = one_in one (context opens) ope
 
 -- WHERE SOMETHING IS LACKING nothing is read
 module _ (one : OneKind) (some : Nonempty) where
-  deep_reads : (s : State) (k : Kind) (text rest : List ℕ) → IsLongest s.opens s.after_dot (ahead s) k text rest → max_open < length (moved k s.opens) → (t : Lexeme) (next : State) → Reads s t next → ⊥
+  deep_reads : (s : State) (k : Kind) (text rest : List ℕ) → IsLongest s.opens s.after_dot (ahead s) k text rest → max_open < length (open_after k s.opens) → (t : Lexeme) (next : State) → Reads s t next → ⊥
   deep_reads s k text rest x deep t next r =
       let same = one_longest one s.opens s.after_dot (ahead s) k t.kind text t.text rest r.rest x r.longest in
-      omega (arith, deep, r.room, ap length r.opens, ap (λ (z : Kind). length (moved z s.opens)) same.kind_is)
+      omega (arith, deep, r.room, ap length r.opens, ap (λ (z : Kind). length (open_after z s.opens)) same.kind_is)
 
   no_marker_reads : (s : State) (text rest : List ℕ) → IsLongest s.opens s.after_dot (ahead s) HeredocOpen text rest → ((n : ℕ) → ¬ IsMarkerLine (marker_of text) rest n) → (t : Lexeme) (next : State) → Reads s t next → ⊥
   no_marker_reads s text rest x none t next r =
@@ -65,7 +65,7 @@ module _ (one : OneKind) (some : Nonempty) where
 
   pub lacks_stuck : (s : State) (kind : FaultKind) → Lacks s kind → Stuck s
   lacks_stuck s kind (at_end e is) t next (inl r) = nothing_ahead some s t next (ap length e) r
-  lacks_stuck s kind (at_end e is) t next (inr c) = let f = ap (λ o. end_fault (owed o)) c.top in let g = sym f ∙ is in absurd (cc)
+  lacks_stuck s kind (at_end e is) t next (inr c) = let f = ap (λ o. end_fault (owed_opener o)) c.top in let g = sym f ∙ is in absurd (cc)
   lacks_stuck s kind (no_token front none is) t next (inl r) = none t.kind t.text r.rest r.longest.whole r.longest.spelled
   lacks_stuck s kind (no_token front none is) t next (inr c) = omega (arith, front, empty_ahead s c.read)
   lacks_stuck s kind (too_deep k text rest x deep is) t next (inl r) = deep_reads s k text rest x deep t next r

@@ -2,7 +2,7 @@
 use Rattle.std.proofs.Common.{◌≡◌, ℕ, zero, suc, ◌+◌, ◌<◌, ◌&&◌, ◌||◌, ◌==◌, not, Bool, true, false, cond, List, [], ◌∷◌, ◌++◌, length, drop, replicate, refl, sym, ap, subst, ◌∙◌, arith, length-append, append_assoc}
 use Rattle.std.specs.List.{list_any, prefix_len}
 use Rattle.std.proofs.lemmas.Bool.Decides.{nat_tests}
-use Rattle.hcl_tokens.specs.Lexemes.{Lexeme, Opener, in_heredoc, moved}
+use Rattle.hcl_tokens.specs.Lexemes.{Lexeme, Opener, in_heredoc, open_after}
 use Rattle.hcl_tokens.specs.Spelling.{IsLineComment, IsTextIn, context, Expression, starts, is_blank}
 use Rattle.hcl_tokens.specs.Scans.{State, gap_in, has_gaps_in, ahead, IsLongest, Leaves, Reads, Run}
 use Rattle.hcl_tokens.specs.Neighbours.{ends_comment, joins}
@@ -98,7 +98,7 @@ comment_on s t next end r plain k (p ∷ ps) run parts =
     rest_ends = comment_ends s.opens s.after_dot t.text r.rest spelled.0 spelled.1 longest
 
     opens_same : next.opens ≡ s.opens
-    opens_same = r.opens ∙ ap (λ (z : Kind). moved z s.opens) k
+    opens_same = r.opens ∙ ap (λ (z : Kind). open_after z s.opens) k
 
     seen_is : next.seen ≡ r.rest
     seen_is = (subst (λ (z : Kind). Leaves z t.text r.rest s.hidden next.seen next.hidden) k r.leaves).0

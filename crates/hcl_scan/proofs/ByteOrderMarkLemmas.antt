@@ -15,7 +15,7 @@ use Rattle.hcl_scan.specs.declared.expression.Lead.TheVariants.{Letter}
 use Rattle.hcl_tokens.specs.declared.token.Kind.{Kind}
 use Rattle.hcl_tokens.specs.declared.token.Kind.TheVariants.{Ident}
 use Rattle.hcl_tokens.proofs.BooleanLemmas.{and_true}
-use Rattle.hcl_scan.proofs.FrontLemmas.{begins}
+use Rattle.hcl_scan.proofs.LongestFrontLemmas.{begins}
 use Rattle.hcl_scan.proofs.WayLemmas.{ways}
 use Rattle.hcl_scan.proofs.LeadLemmas.{leads, some, letter_kind}
 use Rattle.hcl_scan.proofs.InExpressionLemmas.{ReadPlain, read_plain}

@@ -9,7 +9,7 @@ use Rattle.memchr.specs.Find.{OccursAt}
 use Rattle.hcl_tokens.specs.Spelling.{starts, is_blank}
 use Rattle.hcl_tokens.specs.Scans.{IsMarkerLine, IsFirstMarkerLine, skip_blanks, at_line_end, closer_len}
 use Rattle.hcl_scan.specs.Inner.MarkerPlaces.{IsPlace, IsBlankFront, EndsLine, IsNextLine, IsPassed}
-use Rattle.hcl_scan.proofs.StartLemmas.{both}
+use Rattle.hcl_scan.proofs.TextStartLemmas.{both}
 use Rattle.hcl_scan.proofs.SliceLemmas.{slice_len}
 use Rattle.hcl_scan.proofs.LiteralLemmas.{starts_len}
 

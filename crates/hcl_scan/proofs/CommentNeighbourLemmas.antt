@@ -11,7 +11,7 @@ use Rattle.hcl_scan.specs.declared.expression.Lead.TheVariants.{LineEnd, HashOrS
 use Rattle.hcl_tokens.specs.declared.token.Kind.{Kind}
 use Rattle.hcl_tokens.specs.declared.token.Kind.TheVariants.{Newline, LineComment, InlineComment, Slash}
 use Rattle.hcl_tokens.proofs.BooleanLemmas.{or_true, or_cases}
-use Rattle.hcl_scan.proofs.CommentLemmas.{starts_split, end_cut, ends_in, ends_less, star_moved}
+use Rattle.hcl_scan.proofs.CommentTextLemmas.{starts_split, end_cut, ends_in, ends_less, star_moved}
 use Rattle.hcl_scan.proofs.LeadLemmas.{line_kind, hash_kind, star_kind, slash_kind}
 use Rattle.hcl_scan.proofs.LongerTextLemmas.{Alone, Longer, longer_is, lead_kind, first_same}
 

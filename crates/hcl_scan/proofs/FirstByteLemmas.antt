@@ -11,7 +11,7 @@ use Rattle.hcl_tokens.specs.declared.token.Kind.{Kind}
 use Rattle.hcl_tokens.specs.declared.token.Kind.TheVariants.{Ident, Number}
 use Rattle.hcl_scan.proofs.WayLemmas.{Ways, newline, line_comment, inline_comment, blanks, ident, digits, number, heredoc, seq_close, brace_close, slash, mark, mark_passes}
 use Rattle.hcl_scan.proofs.WordLemmas.{ident_word, begins_word}
-use Rattle.hcl_scan.proofs.CommentLemmas.{starts_split}
+use Rattle.hcl_scan.proofs.CommentTextLemmas.{starts_split}
 use Rattle.hcl_scan.proofs.NumeralLemmas.{digit_head}
 use Rattle.hcl_tokens.proofs.BooleanLemmas.{or_cases}
 

@@ -7,7 +7,7 @@ use Rattle.std.proofs.lemmas.Bool.Decides.{nat_tests}
 use Rattle.hcl_tokens.specs.Lexemes.{Opener, marker_of, is_newline_byte}
 use Rattle.hcl_tokens.specs.Scans.{Hidden, hides, skip_blanks, at_line_end, IsFirstMarkerLine}
 use Rattle.hcl_tokens.specs.Spelling.{IsSpelling, IsHeredocOpen, IsTextIn, context, Context, Template, Expression}
-use Rattle.hcl_scan.proofs.FrontLemmas.{run_passes}
+use Rattle.hcl_scan.proofs.LongestFrontLemmas.{run_passes}
 use Rattle.hcl_scan.proofs.WordLemmas.{ident_word, all_to, begins_word}
 use Rattle.hcl_scan.proofs.MarkerLineLemmas.{first_z, take_z, hidden_z}
 use Rattle.hcl_tokens.specs.declared.token.Kind.TheVariants.{HeredocOpen}

@@ -10,7 +10,7 @@ use Rattle.hcl_scan.specs.declared.expression.Lead.TheVariants.{Closer}
 use Rattle.hcl_tokens.specs.declared.token.Kind.{Kind}
 use Rattle.hcl_tokens.specs.declared.token.Kind.TheVariants.{HeredocOpen, SeqClose, BraceClose}
 use Rattle.hcl_tokens.proofs.BooleanLemmas.{and_true}
-use Rattle.hcl_scan.proofs.CommentLemmas.{goes_on}
+use Rattle.hcl_scan.proofs.CommentTextLemmas.{goes_on}
 use Rattle.hcl_scan.proofs.WordLemmas.{ident_word, is_word, all_to, all_append}
 use Rattle.hcl_scan.proofs.LeadLemmas.{less_kind, closer_kinds}
 use Rattle.hcl_scan.proofs.LongerTextLemmas.{Alone, lead_kind, first_same}

@@ -8,8 +8,8 @@ use Rattle.hcl_tokens.specs.Spelling.{IsIdent, IsNewline, IsHeredocOpen, starts}
 use Rattle.hcl_scan.specs.Inner.Found.{IsLongestFront, HasNoFront, IsMarker, heredoc_mark_len}
 use Rattle.hcl_scan.proofs.WordLemmas.{ident_word, is_word, begins_word}
 use Rattle.hcl_scan.proofs.NumeralLemmas.{behind, inside, all_at}
-use Rattle.hcl_scan.proofs.FrontLemmas.{longest_is, front_dropped}
-use Rattle.hcl_scan.proofs.CommentLemmas.{starts_split}
+use Rattle.hcl_scan.proofs.LongestFrontLemmas.{longest_is, front_dropped}
+use Rattle.hcl_scan.proofs.CommentTextLemmas.{starts_split}
 
 -- a marker is all of the identifier at the front
 newline_head : (end left : List ℕ) → IsNewline end → is_word (get_or (end ++ left) 0 0) ≡ false

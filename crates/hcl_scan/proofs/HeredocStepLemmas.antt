@@ -7,7 +7,7 @@ use Rattle.std.proofs.lemmas.Bool.{cases_order}
 use Rattle.std.proofs.lemmas.Bool.Decides.{nat_tests}
 use Rattle.std.proofs.lemmas.List.{length-map}
 use Rattle.std.proofs.lemmas.List.Sums.{prefix_len-le-length}
-use Rattle.hcl_tokens.specs.Lexemes.{Opener, Heredoc, marker_of, moved, max_open}
+use Rattle.hcl_tokens.specs.Lexemes.{Opener, Heredoc, marker_of, open_after, max_open}
 use Rattle.hcl_tokens.specs.Spelling.{is_blank, starts, context, Expression, IsHeredocOpen}
 use Rattle.hcl_tokens.specs.Kinds.{is}
 use Rattle.hcl_tokens.specs.Scans.{Leaves, hides, IsLongest, IsMarkerLine, IsFirstMarkerLine, closer_len, is_marker_line, skip_blanks, at_line_end, ahead}
@@ -27,7 +27,7 @@ use Rattle.hcl_scan.proofs.StackLemmas.{push_offsets, closes_is, opens_so}
 use Rattle.hcl_scan.proofs.LiteralLemmas.{starts_len}
 use Rattle.hcl_scan.proofs.MarkerLemmas.{some_marker, marker_no_blank, long_opener}
 use Rattle.hcl_scan.proofs.KindPlaceLemmas.{heredoc}
-use Rattle.hcl_scan.proofs.StartLemmas.{both}
+use Rattle.hcl_scan.proofs.TextStartLemmas.{both}
 use Rattle.hcl_scan.proofs.StepLemmas.{ahead_is, entry_is, text_len, blank_ascii}
 
 heredoc_kind : (kind : Kind) → is HeredocOpen kind ≡ true → kind ≡ HeredocOpen
@@ -158,7 +158,7 @@ module _ (s : Scanner) (e : Entry) (sound : IsSound s) (this : IsNext s e) (open
           start = this.start.gap;
           inside = this.inside;
           at = text_len s e sound this;
-          opens = ap (λ (k : Kind). moved k (openers_of s.stack)) (sym kind_is);
+          opens = ap (λ (k : Kind). open_after k (openers_of s.stack)) (sym kind_is);
           offsets = push_offsets e.start Heredoc (openers_of s.stack) (offsets_in s.stack);
           room = omega (arith, room, length-map s.stack (λ (o : Opened). opener_of o.by));
           after_dot = ap (is Dot) (sym kind_is);
@@ -184,7 +184,7 @@ module _ (s : Scanner) (e : Entry) (sound : IsSound s) (this : IsNext s e) (open
               λ i. record { closer = closer i; after = after i } ∷ hidden_of s.text.now s.stack s.end
 
 -- TOO DEEP
-pub deep : (s : Scanner) (e : Entry) (is : IsNext s e) (opener : Opener) → length s.stack ≡ max_open → moved e.kind (openers_of s.stack) ≡ opener ∷ openers_of s.stack → IsStopped s (record { kind = TooDeep; at = e.start })
+pub deep : (s : Scanner) (e : Entry) (is : IsNext s e) (opener : Opener) → length s.stack ≡ max_open → open_after e.kind (openers_of s.stack) ≡ opener ∷ openers_of s.stack → IsStopped s (record { kind = TooDeep; at = e.start })
 deep s e is opener full moves = record {
   lacks = too_deep e.kind (slice_range s.text.now e.start e.end) (slice_range s.text.now e.end s.end)
       (subst (λ l. IsLongest (openers_of s.stack) s.after_dot l e.kind (slice_range s.text.now e.start e.end) (slice_range s.text.now e.end s.end)) (ahead_is s e.start is.start) is.longest)
@@ -197,7 +197,7 @@ pub deep_opener : (s : Scanner) (e : Entry) (is : IsNext s e) (opener : kept.Ope
 deep_opener s e is opener full opens = deep s e is (opener_of opener) full (sym (opens_so e.kind opener (openers_of s.stack) opens).0)
 
 pub deep_heredoc : (s : Scanner) (e : Entry) (this : IsNext s e) → length s.stack ≡ max_open → is HeredocOpen e.kind ≡ true → IsStopped s (record { kind = TooDeep; at = e.start })
-deep_heredoc s e is full opens = deep s e is Heredoc full (ap (λ (k : Kind). moved k (openers_of s.stack)) (heredoc_kind e.kind opens))
+deep_heredoc s e is full opens = deep s e is Heredoc full (ap (λ (k : Kind). open_after k (openers_of s.stack)) (heredoc_kind e.kind opens))
 
 -- whether the stack is full
 pub is_full : (n : ℕ) → (n == max_open) ≡ true → n ≡ max_open

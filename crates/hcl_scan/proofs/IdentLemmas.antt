@@ -16,8 +16,8 @@ use Rattle.hcl_tokens.specs.Spelling.{IsIdent, are_ident, starts_ident, continue
 use Rattle.hcl_tokens.specs.SideBySide.{may_begin_ident}
 use Rattle.hcl_scan.specs.Inner.Found.{IsLongestFront, HasNoFront, BeginsWith, FirstChar, BeginsWithout, AreContinuing, continues_ascii}
 use Rattle.hcl_tokens.proofs.BooleanLemmas.{and_true}
-use Rattle.hcl_scan.proofs.CutLemmas.{run_cut}
-use Rattle.hcl_scan.proofs.FrontLemmas.{run_passes}
+use Rattle.hcl_scan.proofs.TextCutLemmas.{run_cut}
+use Rattle.hcl_scan.proofs.LongestFrontLemmas.{run_passes}
 use Rattle.hcl_scan.proofs.WordLemmas.{all_to}
 
 -- ASCII bytes

@@ -4,7 +4,7 @@ use Rattle.std.specs.Char.{is_ascii_digit}
 use Rattle.std.specs.Prelude.{nat_le}
 use Rattle.std.proofs.lemmas.List.{get_or_append_left}
 use Rattle.std.proofs.lemmas.Bool.Decides.{nat_tests}
-use Rattle.hcl_tokens.specs.Lexemes.{Lexeme, Opener, in_heredoc, moved}
+use Rattle.hcl_tokens.specs.Lexemes.{Lexeme, Opener, in_heredoc, open_after}
 use Rattle.hcl_tokens.specs.Spelling.{punctuation, IsPunctuation, IsExpressionText, context, Expression}
 use Rattle.hcl_tokens.specs.Kinds.{is}
 use Rattle.hcl_tokens.specs.Scans.{State, ahead, Reads, Closes, Next, Run}
@@ -47,7 +47,7 @@ in_place opens dot kind text rest k (template quoted e (control l h)) = absurd (
 in_place opens dot kind text rest k (template quoted e (quote l q h)) = absurd (let c : true ≡ false = sym k ∙ ap in_expressions l in cc)
 
 abbrev LeavesExpression : Kind → List Opener → Type 0
-LeavesExpression kind opens = (context (moved kind opens) ≡ Expression) × (in_heredoc (moved kind opens) ≡ in_heredoc opens)
+LeavesExpression kind opens = (context (open_after kind opens) ≡ Expression) × (in_heredoc (open_after kind opens) ≡ in_heredoc opens)
 
 grown_place : (opens : List Opener) (dot : Bool) (kind : Kind) (text rest : List ℕ) → grower kind ≡ true → Side opens dot kind text rest → LeavesExpression kind opens
 grown_place opens dot Ident text rest g s = (in_place opens dot Ident text rest refl s, refl)

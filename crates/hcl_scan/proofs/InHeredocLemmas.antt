@@ -1,6 +1,6 @@
 -- Inside an outermost heredoc the tokens don't depend on what follows it.
 use Rattle.std.proofs.Common.{◌≡◌, ℕ, ◌+◌, ◌<◌, Bool, true, false, List, [], ◌∷◌, length, drop, ◌≤◌, inl, inr, refl, sym, ap, subst, ◌∙◌, arith}
-use Rattle.hcl_tokens.specs.Lexemes.{Lexeme, Opener, in_heredoc, marker_of, moved, max_open}
+use Rattle.hcl_tokens.specs.Lexemes.{Lexeme, Opener, in_heredoc, marker_of, open_after, max_open}
 use Rattle.hcl_tokens.specs.Kinds.{is}
 use Rattle.hcl_tokens.specs.declared.token.Kind.TheVariants as kind
 use Rattle.hcl_tokens.specs.Scans.{State, Hidden, hides, gap_len, gap_in, ahead, offsets_of, IsLongest, Leaves, Reads, Closes, Next}
@@ -13,7 +13,7 @@ behind_cons other h [] some = absurd (omega arith)
 behind_cons other h (k ∷ hs) some = refl
 
 abbrev went : State → Lexeme → List ℕ → List Hidden → State
-went twin t seen hidden = record { at = twin.at + length t.text; opens = moved t.kind twin.opens; offsets = offsets_of twin.at twin.opens (moved t.kind twin.opens) twin.offsets; after_dot = is kind.Dot t.kind; seen = seen; hidden = hidden }
+went twin t seen hidden = record { at = twin.at + length t.text; opens = open_after t.kind twin.opens; offsets = offsets_of twin.at twin.opens (open_after t.kind twin.opens) twin.offsets; after_dot = is kind.Dot t.kind; seen = seen; hidden = hidden }
 
 module _ (other : List ℕ) (s twin : State) (t : Lexeme) (next : State) (same : SameInside other s twin) (some : 0 < length s.hidden) where
   reads_too : in_heredoc s.opens ≡ true → Reads s t next → ReadsToo other twin t next
@@ -31,8 +31,8 @@ module _ (other : List ℕ) (s twin : State) (t : Lexeme) (next : State) (same :
       longest : IsLongest twin.opens twin.after_dot (ahead twin) t.kind t.text r.rest
       longest = subst (λ (z : List Opener × Bool × List ℕ). IsLongest z.0 z.1 z.2 t.kind t.text r.rest) (λ i. (sym same.opens i, sym same.after_dot i, ahead_is i)) r.longest
 
-      opens_is : moved t.kind twin.opens ≡ next.opens
-      opens_is = ap (moved t.kind) same.opens ∙ sym r.opens
+      opens_is : open_after t.kind twin.opens ≡ next.opens
+      opens_is = ap (open_after t.kind) same.opens ∙ sym r.opens
 
       with_state : (seen : List ℕ) (hidden : List Hidden) → Leaves t.kind t.text r.rest twin.hidden seen hidden → seen ≡ next.seen → hidden ≡ behind_last other next.hidden → ReadsToo other twin t next
       with_state seen hidden shows e f = record {

@@ -7,7 +7,7 @@ use Rattle.hcl_scan.specs.Inner.Scanners.{fits_in}
 use Rattle.hcl_scan.specs.declared.stack.Opener as kept
 use Rattle.hcl_tokens.specs.declared.token.Kind.{Kind}
 use Rattle.hcl_tokens.specs.declared.token.Kind.TheVariants.{Lit, InterpOpen, ControlOpen, QuoteClose, HeredocClose, HeredocOpen, QuoteOpen, ParenOpen, BracketOpen, BraceOpen, SeqClose}
-use Rattle.hcl_scan.proofs.StartLemmas.{both}
+use Rattle.hcl_scan.proofs.TextStartLemmas.{both}
 use Rattle.hcl_scan.proofs.TemplateLemmas.{Way, ways, lit, interp, control, quote}
 use Rattle.hcl_tokens.proofs.ExpressionKindLemmas.{in_expressions}
 use Rattle.hcl_scan.proofs.StackLemmas.{Closable}

@@ -2,7 +2,7 @@
 use Rattle.std.proofs.Common.{◌≡◌, ℕ, zero, suc, ◌+◌, ◌<◌, ◌≤◌, ◌&&◌, ◌||◌, ◌==◌, Bool, true, false, List, [], ◌∷◌, length, take, drop, if◌then◌else◌, Option, Some, None, refl, ap, subst, arith, length-drop, codes}
 use Rattle.std.specs.List.{list_all}
 use Rattle.std.specs.Char.{is_ascii_hexdigit}
-use Rattle.hcl_scan.proofs.StartLemmas.{both}
+use Rattle.hcl_scan.proofs.TextStartLemmas.{both}
 use Rattle.hcl_tokens.specs.Spelling.{starts, escape_len, element_len, ends_quoted, is_dollar_or_percent, hex_digits_after}
 
 pub starts_len : (text front : List ℕ) → starts text front ≡ true → length front ≤ length text

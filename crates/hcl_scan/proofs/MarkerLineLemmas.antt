@@ -9,8 +9,8 @@ use Rattle.std.proofs.Math.Seq.{take-append_seam, drop-append_seam}
 use Rattle.hcl_tokens.specs.Spelling.{is_blank, starts}
 use Rattle.hcl_tokens.specs.Scans.{hides, skip_blanks, at_line_end, closer_len, is_marker_line, IsFirstMarkerLine}
 use Rattle.hcl_tokens.proofs.BooleanLemmas.{and_true}
-use Rattle.hcl_scan.proofs.CommentLemmas.{starts_split}
-use Rattle.hcl_scan.proofs.StartLemmas.{starts_so}
+use Rattle.hcl_scan.proofs.CommentTextLemmas.{starts_split}
+use Rattle.hcl_scan.proofs.TextStartLemmas.{starts_so}
 
 abbrev is_lf_free : List ℕ → Bool
 is_lf_free m = list_all (λ b. not (b == 10)) m

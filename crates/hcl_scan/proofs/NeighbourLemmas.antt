@@ -15,7 +15,7 @@ use Rattle.hcl_scan.proofs.WayLemmas.{Ways, ways, newline, line_comment, inline_
 use Rattle.hcl_scan.proofs.TemplateLemmas.{lit_found, interp_found, control_found, quote_found, of_template}
 use Rattle.hcl_scan.proofs.TemplateLemmas.{Way, lit, interp, control, quote as closing}
 use Rattle.hcl_scan.proofs.TemplateLemmas as templates
-use Rattle.hcl_scan.proofs.StartLemmas.{starts_is}
+use Rattle.hcl_scan.proofs.TextStartLemmas.{starts_is}
 use Rattle.std.proofs.Math.Seq.{take-append_seam, drop-append_seam}
 use Rattle.hcl_scan.specs.Inner.Found.{Finds}
 use Rattle.hcl_scan.proofs.ContextLemmas.{heredoc_on_top}

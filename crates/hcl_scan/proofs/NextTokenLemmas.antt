@@ -2,9 +2,9 @@
 -- literal text here.
 use Rattle.std.proofs.Common.{◌≡◌, ℕ, ◌&&◌, ◌||◌, Bool, true, false, cond, List, [], ◌∷◌, ◌++◌, drop, replicate, ◌⊎◌, inl, inr, ⊎_elim, refl, sym, ap, subst, ◌∙◌, arith, length-append, append_assoc}
 use Rattle.std.specs.List.{prefix_len}
-use Rattle.hcl_tokens.specs.Lexemes.{Lexeme, Opener, in_heredoc, moved}
+use Rattle.hcl_tokens.specs.Lexemes.{Lexeme, Opener, in_heredoc, open_after}
 use Rattle.hcl_tokens.specs.Spelling.{IsTextIn, IsLiteral, context, Template, starts, is_blank, are_elements}
-use Rattle.hcl_tokens.specs.Scans.{State, gap_in, has_gaps_in, owed, IsLongest, Leaves, Reads, Closes, Run, IsComplete}
+use Rattle.hcl_tokens.specs.Scans.{State, gap_in, has_gaps_in, owed_opener, IsLongest, Leaves, Reads, Closes, Run, IsComplete}
 use Rattle.hcl_tokens.specs.Neighbours.{same_close, stays}
 use Rattle.hcl_tokens.specs.Regapped.{without_gaps, text_with_gaps, touches, gap_fits, AllFit}
 use Rattle.hcl_tokens.specs.declared.token.Kind.{Kind}
@@ -86,7 +86,7 @@ literal_on s t next end r plain k ps run done parts = by ps run parts
     spelled = quoted_place s.opens s.after_dot t.text r.rest plain (side s.opens s.after_dot Lit t.text r.rest longest.spelled)
 
     opens_same : next.opens ≡ s.opens
-    opens_same = r.opens ∙ ap (λ (z : Kind). moved z s.opens) k
+    opens_same = r.opens ∙ ap (λ (z : Kind). open_after z s.opens) k
 
     seen_is : next.seen ≡ r.rest
     seen_is = (subst (λ (z : Kind). Leaves z t.text r.rest s.hidden next.seen next.hidden) k r.leaves).0
@@ -95,7 +95,7 @@ literal_on s t next end r plain k ps run done parts = by ps run parts
     here = ap context opens_same ∙ spelled.0
 
     by : (ps : List (ℕ × Lexeme)) → Run next (without_gaps ps) end → AllFit s.after_dot t.kind ps → same_close r.rest (text_with_gaps ps) ≡ true
-    by [] run parts = absurd (let o = sym (quote_owed next.opens here) ∙ ap (λ (z : State). owed z.opens) run ∙ done.1 in cc)
+    by [] run parts = absurd (let o = sym (quote_owed next.opens here) ∙ ap (λ (z : State). owed_opener z.opens) run ∙ done.1 in cc)
     by (p ∷ ps) run parts = ⊎_elim reads closes run.1
       where
         closes : Closes next p.1 run.0 → same_close r.rest (text_with_gaps (p ∷ ps)) ≡ true

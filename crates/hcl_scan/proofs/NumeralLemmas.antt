@@ -8,7 +8,7 @@ use Rattle.hcl_tokens.specs.Spelling.{IsDigits, IsSign, IsFraction, IsExponent, 
 use Rattle.hcl_scan.specs.Inner.Found.{IsLongestFront}
 use Rattle.hcl_tokens.proofs.BooleanLemmas.{and_true}
 use Rattle.hcl_scan.proofs.WordLemmas.{all_to}
-use Rattle.hcl_scan.proofs.FrontLemmas.{longest_is, front_dropped}
+use Rattle.hcl_scan.proofs.LongestFrontLemmas.{longest_is, front_dropped}
 
 pub all_at : (q : ℕ → Bool) (xs : List ℕ) (k : ℕ) → k < length xs → list_all q xs ≡ true → q (get_or xs k 0) ≡ true
 all_at q [] k lt h = absurd (omega arith)

@@ -1,9 +1,9 @@
 -- What is open agrees with what is hidden: as many heredocs are open as are hidden. And all but a sequence is opened
 -- in an expression, so what a quote, a heredoc or a group leads back to when it is closed is one.
 use Rattle.std.proofs.Common.{◌≡◌, ℕ, ◌&&◌, ◌||◌, Bool, true, false, cond, List, [], ◌∷◌, length, drop, None, ◌+◌, ◌<◌, if◌then◌else◌, ⊎_elim, refl, sym, ap, subst, ◌∙◌, arith}
-use Rattle.hcl_tokens.specs.Lexemes.{Lexeme, Opener, Quote, Heredoc, Sequence, Brace, Bracket, Paren, moved, closes_sequence, below_groups, pop_if, is_paren, is_bracket, is_brace, is_sequence, is_heredoc, in_heredoc}
+use Rattle.hcl_tokens.specs.Lexemes.{Lexeme, Opener, Quote, Heredoc, Sequence, Brace, Bracket, Paren, open_after, closes_sequence, below_groups, pop_if, in_heredoc, same_opener}
 use Rattle.hcl_tokens.specs.Spelling.{IsSpelling, IsTextIn, context, Context, Template, Expression}
-use Rattle.hcl_tokens.specs.Scans.{State, Hidden, Next, Reads, Closes, owed}
+use Rattle.hcl_tokens.specs.Scans.{State, Hidden, Next, Reads, Closes, owed_opener}
 use Rattle.hcl_tokens.specs.declared.token.Kind.{Kind}
 use Rattle.hcl_tokens.specs.declared.token.Kind.TheVariants.{HeredocOpen, QuoteOpen, ParenOpen, BracketOpen, BraceOpen, ParenClose, BracketClose, SeqClose, BraceClose, Lit, InterpOpen, ControlOpen, QuoteClose, HeredocClose}
 use Rattle.hcl_scan.proofs.WayLemmas.{Ways, ways, newline, line_comment, inline_comment, blanks, ident, digits, number, heredoc, seq_close, brace_close, slash, mark, is_marked, mark_kind}
@@ -13,12 +13,12 @@ use Rattle.hcl_scan.proofs.ShownLemmas.{Shown, opening, plain, shown, opens_here
 
 abbrev pub count : List Opener → ℕ
 count [] = 0
-count (o ∷ os) = if is_heredoc o then 1 + count os else count os
+count (o ∷ os) = if same_opener Heredoc o then 1 + count os else count os
 
 -- all but a sequence is opened in an expression
 abbrev pub is_grounded : List Opener → Bool
 is_grounded [] = true
-is_grounded (o ∷ os) = (is_sequence o || is_expression (context os)) && is_grounded os
+is_grounded (o ∷ os) = (same_opener Sequence o || is_expression (context os)) && is_grounded os
 
 pub record Sound (opens : List Opener) (hidden : List Hidden) : Type 0 where
   pub counted : count opens ≡ length hidden
@@ -42,7 +42,7 @@ no_heredoc (Brace ∷ os) h = no_heredoc os h
 no_heredoc (Bracket ∷ os) h = no_heredoc os h
 no_heredoc (Paren ∷ os) h = no_heredoc os h
 
-pub owes_heredoc : (opens : List Opener) → owed opens ≡ None → count opens ≡ 0
+pub owes_heredoc : (opens : List Opener) → owed_opener opens ≡ None → count opens ≡ 0
 owes_heredoc [] h = refl
 owes_heredoc (Heredoc ∷ os) h = absurd (cc)
 owes_heredoc (Quote ∷ os) h = absurd (cc)
@@ -53,13 +53,13 @@ owes_heredoc (Paren ∷ os) h = owes_heredoc os h
 
 -- what a token moves
 abbrev pub Moves : Kind → List Opener → Type 0
-Moves kind opens = (count (moved kind opens) ≡ count opens) × (is_grounded (moved kind opens) ≡ true)
+Moves kind opens = (count (open_after kind opens) ≡ count opens) × (is_grounded (open_after kind opens) ≡ true)
 
 abbrev pub Same : List Opener → List Opener → Type 0
 Same old new = (count new ≡ count old) × (is_grounded new ≡ true)
 
 pub tail : (o : Opener) (os : List Opener) → is_grounded (o ∷ os) ≡ true → is_grounded os ≡ true
-tail o os g = (and_true (is_sequence o || is_expression (context os)) (is_grounded os) g).1
+tail o os g = (and_true (same_opener Sequence o || is_expression (context os)) (is_grounded os) g).1
 
 onto : (opens : List Opener) → context opens ≡ Expression → is_grounded opens ≡ true → (is_expression (context opens) && is_grounded opens) ≡ true
 onto opens c g = λ i. is_expression (c i) && g i
@@ -96,8 +96,8 @@ moves_marked QuoteOpen opens c h g = (refl, onto opens c g)
 moves_marked ParenOpen opens c h g = (refl, onto opens c g)
 moves_marked BracketOpen opens c h g = (refl, onto opens c g)
 moves_marked BraceOpen opens c h g = (refl, onto opens c g)
-moves_marked ParenClose opens c h g = popped is_paren refl opens g
-moves_marked BracketClose opens c h g = popped is_bracket refl opens g
+moves_marked ParenClose opens c h g = popped (same_opener Paren) refl opens g
+moves_marked BracketClose opens c h g = popped (same_opener Bracket) refl opens g
 moves_marked HeredocOpen opens c h g = absurd (cc)
 moves_marked SeqClose opens c h g = absurd (cc)
 moves_marked BraceClose opens c h g = absurd (cc)
@@ -119,7 +119,7 @@ moves_in_expression opens dot kind text rest c never g (heredoc k is) = let e = 
 moves_in_expression opens dot kind text rest c never g (seq_close k h is) = subst (λ (z : Kind). Moves z opens) (sym k) (sequence_closed opens h g)
 moves_in_expression opens dot kind text rest c never g (brace_close k h is) =
     let b = below opens g in
-    let q = popped is_brace refl (below_groups opens) b.1 in
+    let q = popped (same_opener Brace) refl (below_groups opens) b.1 in
     subst (λ (z : Kind). Moves z opens) (sym k) (q.0 ∙ b.0, q.1)
 moves_in_expression opens dot kind text rest c never g (slash k is h) = subst (λ (z : Kind). Moves z opens) (sym k) (refl, g)
 moves_in_expression opens dot kind text rest c never g (mark is) = moves_marked kind opens c (mark_kind text kind is) g
@@ -160,7 +160,7 @@ stacks s t next step sound = ⊎_elim reads closes step
             let m = moves_in (context s.opens) s.opens s.after_dot t.kind t.text r.rest refl k sound.grounded r.longest.spelled in
             record { counted = ap count r.opens ∙ m.0 ∙ sound.counted ∙ ap length (sym e'); grounded = ap is_grounded r.opens ∙ m.1 }
         by (opening k n first e e') =
-            let opens_is : next.opens ≡ Heredoc ∷ s.opens = r.opens ∙ ap (λ (z : Kind). moved z s.opens) k in
+            let opens_is : next.opens ≡ Heredoc ∷ s.opens = r.opens ∙ ap (λ (z : Kind). open_after z s.opens) k in
             let x = open_in_expression (context s.opens) s.opens s.after_dot t.text r.rest (subst (λ (z : Kind). IsSpelling s.opens s.after_dot z t.text r.rest) k r.longest.spelled) in
             let len = ap length e' in
             let cnt = ap count opens_is in

@@ -3,11 +3,11 @@
 -- where the bytes are the same and only what follows it is different.
 use Rattle.std.proofs.Common.{◌≡◌, ℕ, ◌+◌, ◌≤◌, Bool, true, false, List, [], ◌∷◌, ◌++◌, length, take, drop, replicate, ⊎_elim, refl, sym, ap, subst, ◌∙◌, arith, length-append, append_assoc}
 use Rattle.std.proofs.lemmas.List.{take-append-drop}
-use Rattle.hcl_tokens.specs.Lexemes.{Lexeme, Opener, Heredoc, marker_of, moved, in_heredoc, max_open}
+use Rattle.hcl_tokens.specs.Lexemes.{Lexeme, Opener, Heredoc, marker_of, open_after, in_heredoc, max_open}
 use Rattle.hcl_tokens.specs.Spelling.{IsSpelling, context, Expression}
 use Rattle.hcl_tokens.specs.Kinds.{is}
-use Rattle.hcl_tokens.specs.Scans.{State, Hidden, hides, gap_len, offsets_of, owed, begin, skip_blanks, at_line_end, closer_len, IsLongest, IsFirstMarkerLine, Leaves, Reads, Closes, Run, Scans, IsComplete}
-use Rattle.hcl_tokens.specs.Regapped.{without_gaps, text_with_gaps, placed, AllFit}
+use Rattle.hcl_tokens.specs.Scans.{State, Hidden, hides, gap_len, offsets_of, owed_opener, begin, skip_blanks, at_line_end, closer_len, IsLongest, IsFirstMarkerLine, Leaves, Reads, Closes, Run, Scans, IsComplete}
+use Rattle.hcl_tokens.specs.Regapped.{without_gaps, text_with_gaps, placed_tokens, AllFit}
 use Rattle.hcl_tokens.specs.declared.token.Kind.{Kind}
 use Rattle.hcl_tokens.specs.declared.token.Kind.TheVariants.{Newline, Dot}
 use Rattle.hcl_tokens.proofs.BooleanLemmas.{and_true}
@@ -27,14 +27,14 @@ behind (h ∷ hs) z = h.closer ++ (h.after ++ behind hs z)
 -- where the texts are read again, outside of heredocs and inside
 abbrev Outside : List (ℕ × Lexeme) → Type 0
 Outside ps = (s end : State) (dot : Bool) (before : Kind) (at : ℕ) (offsets : List ℕ) → Run s (without_gaps ps) end → IsComplete end → s.hidden ≡ [] → Sound s.opens s.hidden → s.after_dot ≡ is Dot before → AllFit dot before ps →
-    Again (record { at = at; opens = s.opens; offsets = offsets; after_dot = s.after_dot; seen = text_with_gaps ps; hidden = [] }) (placed at ps)
+    Again (record { at = at; opens = s.opens; offsets = offsets; after_dot = s.after_dot; seen = text_with_gaps ps; hidden = [] }) (placed_tokens at ps)
 
 -- what the text holds after the outermost heredoc
 pub record Within (s : State) (hs : List Hidden) (last : Hidden) (ps : List (ℕ × Lexeme)) (at : ℕ) (offsets : List ℕ) : Type 0 where
   pub after : List ℕ
   pub whole : text_with_gaps ps ≡ s.seen ++ behind hs (last.closer ++ after)
   pub ends : at_line_end (skip_blanks after) ≡ true
-  pub again : Again (record { at = at; opens = s.opens; offsets = offsets; after_dot = s.after_dot; seen = s.seen; hidden = hs ++ record { closer = last.closer; after = after } ∷ [] }) (placed at ps)
+  pub again : Again (record { at = at; opens = s.opens; offsets = offsets; after_dot = s.after_dot; seen = s.seen; hidden = hs ++ record { closer = last.closer; after = after } ∷ [] }) (placed_tokens at ps)
 
 abbrev Inside : List (ℕ × Lexeme) → Type 0
 Inside ps = (s end : State) (dot : Bool) (before : Kind) (at : ℕ) (offsets : List ℕ) (hs : List Hidden) (last : Hidden) → Run s (without_gaps ps) end → IsComplete end → s.hidden ≡ hs ++ last ∷ [] → Sound s.opens s.hidden → at_line_end (skip_blanks last.after) ≡ true → s.after_dot ≡ is Dot before → AllFit dot before ps →
@@ -71,12 +71,12 @@ outside_end : Outside []
 outside_end s end dot before at offsets run done no_hidden sound dot_is parts = (
   record { at = at; opens = s.opens; offsets = offsets; after_dot = s.after_dot; seen = []; hidden = [] },
   refl,
-  (ap (λ n. drop {A = ℕ} n []) (gap_of_nothing (context s.opens) (in_heredoc s.opens)), ap (λ (z : State). owed z.opens) run ∙ done.1),
+  (ap (λ n. drop {A = ℕ} n []) (gap_of_nothing (context s.opens) (in_heredoc s.opens)), ap (λ (z : State). owed_opener z.opens) run ∙ done.1),
 )
 
 inside_end : Inside []
 inside_end s end dot before at offsets hs last run done hidden sound ends dot_is parts =
-    let none : count s.opens ≡ 0 = owes_heredoc s.opens (ap (λ (z : State). owed z.opens) run ∙ done.1) in
+    let none : count s.opens ≡ 0 = owes_heredoc s.opens (ap (λ (z : State). owed_opener z.opens) run ∙ done.1) in
     let some = ap length hidden in
     absurd (omega (arith, none, some, sound.counted, length-append hs (last ∷ [])))
 
@@ -91,7 +91,7 @@ module _ (p : ℕ × Lexeme) (ps : List (ℕ × Lexeme)) (outside : Outside ps) 
       t = p.1
 
       goal : Type 0
-      goal = Again (record { at = at; opens = s.opens; offsets = offsets; after_dot = s.after_dot; seen = text_with_gaps (p ∷ ps); hidden = [] }) (placed at (p ∷ ps))
+      goal = Again (record { at = at; opens = s.opens; offsets = offsets; after_dot = s.after_dot; seen = text_with_gaps (p ∷ ps); hidden = [] }) (placed_tokens at (p ∷ ps))
 
       none : in_heredoc s.opens ≡ false
       none = no_heredoc s.opens (sound.counted ∙ ap length no_hidden)
@@ -109,7 +109,7 @@ module _ (p : ℕ × Lexeme) (ps : List (ℕ × Lexeme)) (outside : Outside ps) 
           at' = at + p.0 + length t.text
 
           offsets' : List ℕ
-          offsets' = offsets_of (at + p.0) s.opens (moved t.kind s.opens) offsets
+          offsets' = offsets_of (at + p.0) s.opens (open_after t.kind s.opens) offsets
 
           seen : List ℕ
           seen = text_with_gaps (p ∷ ps)
@@ -118,13 +118,13 @@ module _ (p : ℕ × Lexeme) (ps : List (ℕ × Lexeme)) (outside : Outside ps) 
           longest = subst (λ l. IsLongest s.opens s.after_dot l t.kind t.text (text_with_gaps ps)) (sym (drop_blanks p.0 (t.text ++ text_with_gaps ps)))
               (follows s t next end ps r none run.2 done (subst (λ d. AllFit d t.kind ps) (sym dot_is) parts.1))
 
-          room : length (moved t.kind s.opens) ≤ max_open
+          room : length (open_after t.kind s.opens) ≤ max_open
           room = subst (λ (o : List Opener). length o ≤ max_open) r.opens r.room
 
-          push : (seen' : List ℕ) (hidden' : List Hidden) → Leaves t.kind t.text (text_with_gaps ps) [] seen' hidden' → Again (record { at = at'; opens = next.opens; offsets = offsets'; after_dot = next.after_dot; seen = seen'; hidden = hidden' }) (placed at' ps) → goal
-          push seen' hidden' shows again = push_reads at s.opens offsets s.after_dot seen [] p.0 t (text_with_gaps ps) seen' hidden' (placed at' ps)
+          push : (seen' : List ℕ) (hidden' : List Hidden) → Leaves t.kind t.text (text_with_gaps ps) [] seen' hidden' → Again (record { at = at'; opens = next.opens; offsets = offsets'; after_dot = next.after_dot; seen = seen'; hidden = hidden' }) (placed_tokens at' ps) → goal
+          push seen' hidden' shows again = push_reads at s.opens offsets s.after_dot seen [] p.0 t (text_with_gaps ps) seen' hidden' (placed_tokens at' ps)
               (gaps s t next dot before p.0 (text_with_gaps ps) r none parts.0) longest r.inside room shows
-              (subst (λ (z : List Opener × Bool). Again (record { at = at'; opens = z.0; offsets = offsets'; after_dot = z.1; seen = seen'; hidden = hidden' }) (placed at' ps)) (λ i. (r.opens i, r.after_dot i)) again)
+              (subst (λ (z : List Opener × Bool). Again (record { at = at'; opens = z.0; offsets = offsets'; after_dot = z.1; seen = seen'; hidden = hidden' }) (placed_tokens at' ps)) (λ i. (r.opens i, r.after_dot i)) again)
 
           by : Shown t.kind t.text r.rest s.hidden next.seen next.hidden → goal
           by (plain k e e') = push (text_with_gaps ps) [] (plain_shows t.kind t.text (text_with_gaps ps) [] k)
@@ -167,16 +167,16 @@ module _ (p : ℕ × Lexeme) (ps : List (ℕ × Lexeme)) (outside : Outside ps) 
         longest : IsLongest s.opens s.after_dot (drop p.0 s.seen) t.kind t.text r.rest
         longest = subst (λ n. IsLongest s.opens s.after_dot (drop n s.seen) t.kind t.text r.rest) (no_len ∙ sym gap) r.longest
 
-        room : length (moved t.kind s.opens) ≤ max_open
+        room : length (open_after t.kind s.opens) ≤ max_open
         room = subst (λ (o : List Opener). length o ≤ max_open) r.opens r.room
 
         offsets' : List ℕ
-        offsets' = offsets_of (at + p.0) s.opens (moved t.kind s.opens) offsets
+        offsets' = offsets_of (at + p.0) s.opens (open_after t.kind s.opens) offsets
 
-        push : (seen' : List ℕ) (hidden hidden' : List Hidden) → Leaves t.kind t.text r.rest hidden seen' hidden' → Again (record { at = at'; opens = next.opens; offsets = offsets'; after_dot = next.after_dot; seen = seen'; hidden = hidden' }) (placed at' ps) → Again (record { at = at; opens = s.opens; offsets = offsets; after_dot = s.after_dot; seen = s.seen; hidden = hidden }) (placed at (p ∷ ps))
-        push seen' hidden hidden' shows again = push_reads at s.opens offsets s.after_dot s.seen hidden p.0 t r.rest seen' hidden' (placed at' ps)
+        push : (seen' : List ℕ) (hidden hidden' : List Hidden) → Leaves t.kind t.text r.rest hidden seen' hidden' → Again (record { at = at'; opens = next.opens; offsets = offsets'; after_dot = next.after_dot; seen = seen'; hidden = hidden' }) (placed_tokens at' ps) → Again (record { at = at; opens = s.opens; offsets = offsets; after_dot = s.after_dot; seen = s.seen; hidden = hidden }) (placed_tokens at (p ∷ ps))
+        push seen' hidden hidden' shows again = push_reads at s.opens offsets s.after_dot s.seen hidden p.0 t r.rest seen' hidden' (placed_tokens at' ps)
             (no_len ∙ sym gap) longest r.inside room shows
-            (subst (λ (z : List Opener × Bool). Again (record { at = at'; opens = z.0; offsets = offsets'; after_dot = z.1; seen = seen'; hidden = hidden' }) (placed at' ps)) (λ i. (r.opens i, r.after_dot i)) again)
+            (subst (λ (z : List Opener × Bool). Again (record { at = at'; opens = z.0; offsets = offsets'; after_dot = z.1; seen = seen'; hidden = hidden' }) (placed_tokens at' ps)) (λ i. (r.opens i, r.after_dot i)) again)
 
         by : Shown t.kind t.text r.rest s.hidden next.seen next.hidden → Within s hs last (p ∷ ps) at offsets
         by (plain k e e') =
@@ -227,12 +227,12 @@ module _ (p : ℕ × Lexeme) (ps : List (ℕ × Lexeme)) (outside : Outside ps) 
           let in_expression : context c.below ≡ Expression = expression_is (context c.below) (and_true _ _ grounded).0 in
           let outside_all : in_heredoc c.below ≡ false = no_heredoc c.below (sound_on.counted ∙ ap length above) in
           let again = outside next end (is Dot before) p.1.kind at' (drop 1 offsets) run_on done above sound_on not_dot parts.1 in
-          let pushed = push_closes at p.0 s.opens c.below offsets s.after_dot s.seen (text_with_gaps ps) [] p.1 (placed at' ps) c.top c.read no_gap_here c.kind c.inside again in
+          let pushed = push_closes at p.0 s.opens c.below offsets s.after_dot s.seen (text_with_gaps ps) [] p.1 (placed_tokens at' ps) c.top c.read no_gap_here c.kind c.inside again in
           record {
             after = text_with_gaps ps;
             whole = no_blanks p.0 (p.1.text ++ text_with_gaps ps) no_gap_here ∙ joined s.seen p.1.text last.closer c.read (sym closer) (text_with_gaps ps);
             ends = lines next end ps in_expression outside_all (ap (λ l. at_line_end (skip_blanks l)) (sym after) ∙ ends) run_on done;
-            again = subst (λ l. Again (record { at = at; opens = s.opens; offsets = offsets; after_dot = s.after_dot; seen = s.seen; hidden = record { closer = l; after = text_with_gaps ps } ∷ [] }) (placed at (p ∷ ps))) (sym closer) pushed;
+            again = subst (λ l. Again (record { at = at; opens = s.opens; offsets = offsets; after_dot = s.after_dot; seen = s.seen; hidden = record { closer = l; after = text_with_gaps ps } ∷ [] }) (placed_tokens at (p ∷ ps))) (sym closer) pushed;
           }
       inside_closes (h ∷ hs) hidden =
           let both : h ∷ (hs ++ last ∷ []) ≡ record { closer = p.1.text; after = c.rest } ∷ c.above = sym hidden ∙ c.line in
@@ -242,12 +242,12 @@ module _ (p : ℕ × Lexeme) (ps : List (ℕ × Lexeme)) (outside : Outside ps) 
           let w = inside next end (is Dot before) p.1.kind at' (drop 1 offsets) hs last run_on done above sound_on ends not_dot parts.1 in
           let h' : Hidden = record { closer = last.closer; after = w.after } in
           let tail : List ℕ = behind hs (last.closer ++ w.after) in
-          let pushed = push_closes at p.0 s.opens c.below offsets s.after_dot s.seen c.rest (hs ++ h' ∷ []) p.1 (placed at' ps) c.top c.read no_gap_here c.kind c.inside w.again in
+          let pushed = push_closes at p.0 s.opens c.below offsets s.after_dot s.seen c.rest (hs ++ h' ∷ []) p.1 (placed_tokens at' ps) c.top c.read no_gap_here c.kind c.inside w.again in
           record {
             after = w.after;
             whole = no_blanks p.0 (p.1.text ++ text_with_gaps ps) no_gap_here ∙ ap (λ l. p.1.text ++ l) w.whole ∙ ap (λ l. p.1.text ++ (l ++ tail)) (sym after) ∙ joined s.seen p.1.text h.closer c.read (sym closer) (h.after ++ tail);
             ends = w.ends;
-            again = subst (λ (x : Hidden). Again (record { at = at; opens = s.opens; offsets = offsets; after_dot = s.after_dot; seen = s.seen; hidden = x ∷ (hs ++ h' ∷ []) }) (placed at (p ∷ ps))) (λ i. record { closer = sym closer i; after = sym after i }) pushed;
+            again = subst (λ (x : Hidden). Again (record { at = at; opens = s.opens; offsets = offsets; after_dot = s.after_dot; seen = s.seen; hidden = x ∷ (hs ++ h' ∷ []) }) (placed_tokens at (p ∷ ps))) (λ i. record { closer = sym closer i; after = sym after i }) pushed;
           }
 
   inside_step : Inside (p ∷ ps)
@@ -261,5 +261,5 @@ both [] = (outside_end, inside_end)
 both (p ∷ ps) = let rec = both ps in (outside_step p ps rec.0 rec.1, inside_step p ps rec.0 rec.1)
 
 -- THE LAW
-pub other_gaps : (text : List ℕ) (ps : List (ℕ × Lexeme)) → Scans text (without_gaps ps) → AllFit false Newline ps → Scans (text_with_gaps ps) (placed 0 ps)
+pub other_gaps : (text : List ℕ) (ps : List (ℕ × Lexeme)) → Scans text (without_gaps ps) → AllFit false Newline ps → Scans (text_with_gaps ps) (placed_tokens 0 ps)
 other_gaps text ps scans parts = (both ps).0 (begin text) scans.0 false Newline 0 [] scans.1 scans.2 refl (record { counted = refl; grounded = refl }) refl parts

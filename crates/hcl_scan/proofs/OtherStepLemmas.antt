@@ -2,7 +2,7 @@
 use Rattle.std.proofs.Common.{◌≡◌, ℕ, ◌+◌, ◌≤◌, ◌||◌, ◌==◌, not, Bool, true, false, cond, IsTrue, List, [], ◌∷◌, length, drop, inl, inr, refl, sym, ap, subst, ◌∙◌, arith}
 use Rattle.std.proofs.lemmas.Bool.Decides.{nat_tests}
 use Rattle.std.specs.List.{prefix_len}
-use Rattle.hcl_tokens.specs.Lexemes.{Lexeme, Opener, Heredoc, moved, in_heredoc, max_open}
+use Rattle.hcl_tokens.specs.Lexemes.{Lexeme, Opener, Heredoc, open_after, in_heredoc, max_open}
 use Rattle.hcl_tokens.specs.Spelling.{is_blank, context, Context, Template, Expression}
 use Rattle.hcl_tokens.specs.Kinds.{is}
 use Rattle.hcl_tokens.specs.Scans.{State, Hidden, gap_in, has_gaps_in, offsets_of, IsLongest, Leaves, Run, IsComplete}
@@ -45,9 +45,9 @@ moved_on t start = record { kind = t.kind; text = t.text; start = start; inside_
 -- one token in the other text
 module _ (at : ℕ) (opens : List Opener) (offsets : List ℕ) (dot : Bool) (seen : List ℕ) (hidden : List Hidden) (gap : ℕ) (t : Lexeme) (rest seen' : List ℕ) (hidden' : List Hidden) where
   abbrev pub went : State
-  went = record { at = at + gap + length t.text; opens = moved t.kind opens; offsets = offsets_of (at + gap) opens (moved t.kind opens) offsets; after_dot = is Dot t.kind; seen = seen'; hidden = hidden' }
+  went = record { at = at + gap + length t.text; opens = open_after t.kind opens; offsets = offsets_of (at + gap) opens (open_after t.kind opens) offsets; after_dot = is Dot t.kind; seen = seen'; hidden = hidden' }
 
-  pub push_reads : (ts : List Lexeme) → gap_in opens seen ≡ gap → IsLongest opens dot (drop gap seen) t.kind t.text rest → t.inside_heredoc ≡ in_heredoc opens → length (moved t.kind opens) ≤ max_open → Leaves t.kind t.text rest hidden seen' hidden' → Again went ts → Again (record { at = at; opens = opens; offsets = offsets; after_dot = dot; seen = seen; hidden = hidden }) (moved_on t (at + gap) ∷ ts)
+  pub push_reads : (ts : List Lexeme) → gap_in opens seen ≡ gap → IsLongest opens dot (drop gap seen) t.kind t.text rest → t.inside_heredoc ≡ in_heredoc opens → length (open_after t.kind opens) ≤ max_open → Leaves t.kind t.text rest hidden seen' hidden' → Again went ts → Again (record { at = at; opens = opens; offsets = offsets; after_dot = dot; seen = seen; hidden = hidden }) (moved_on t (at + gap) ∷ ts)
   push_reads ts gap_is longest inside room shows again = (
     again.0,
     (

@@ -11,7 +11,7 @@ use Rattle.hcl_tokens.specs.Neighbours.{grows}
 use Rattle.hcl_tokens.specs.declared.token.Kind.{Kind}
 use Rattle.hcl_tokens.specs.declared.token.Kind.TheVariants.{Ident, Number, Dot, Colon, Not, Assign, Less, Greater, Slash, InterpOpen, ControlOpen}
 use Rattle.hcl_tokens.proofs.BooleanLemmas.{and_true}
-use Rattle.hcl_scan.proofs.StartLemmas.{starts_so}
+use Rattle.hcl_scan.proofs.TextStartLemmas.{starts_so}
 use Rattle.hcl_scan.proofs.NumeralLemmas.{digit_head}
 use Rattle.hcl_scan.proofs.WayLemmas.{Ways, ways, newline, line_comment, inline_comment, blanks, ident, digits, number, heredoc, seq_close, brace_close, slash, mark, mark_passes}
 use Rattle.hcl_scan.proofs.WordLemmas.{ident_word, begins_word}

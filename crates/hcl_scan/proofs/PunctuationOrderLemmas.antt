@@ -10,7 +10,7 @@ use Rattle.hcl_scan.specs.Inner.Found.{IsLongestPunctuation, HasNoPunctuation}
 use Rattle.hcl_tokens.specs.declared.token.Kind.{Kind}
 use Rattle.hcl_tokens.specs.declared.token.Kind.TheVariants.{Dot}
 use Rattle.hcl_tokens.proofs.BooleanLemmas.{and_true}
-use Rattle.hcl_scan.proofs.FrontLemmas.{begins, begins_not}
+use Rattle.hcl_scan.proofs.LongestFrontLemmas.{begins, begins_not}
 
 cond_none : {X : Type 0} (b : Bool) (x : X) (o : Option X) → cond b (Some x) o ≡ None → (b ≡ false) × (o ≡ None)
 cond_none true x o h = cc

@@ -12,7 +12,7 @@ use Rattle.hcl_source.specs.declared.fault.FaultKind.{FaultKind}
 use Rattle.hcl_tokens.specs.declared.token.Entry.{Entry}
 use Rattle.hcl_scan.specs.declared.scanner.Scanner.{Scanner}
 use Rattle.hcl_scan.specs.declared.scanner.Stopped.{Stopped}
-use Rattle.hcl_tokens.proofs.RunLemmas.{no_fault}
+use Rattle.hcl_tokens.proofs.OneReadingLemmas.{no_fault}
 use Rattle.hcl_scan.proofs.AllContextLemmas.{one_kind, lacks_stuck, Run-push}
 use Rattle.hcl_scan.proofs.ExpressionLawLemmas.{one_expression}
 use Rattle.hcl_tokens.proofs.NonemptyLemmas.{nonempty}

@@ -1,6 +1,6 @@
 -- What a scan says of tokens that stand side by side, by one reading from the front.
 use Rattle.std.proofs.Common.{◌≡◌, ℕ, ◌<◌, ◌||◌, ◌==◌, Bool, true, false, cond, List, [], ◌∷◌, ◌++◌, length, drop, get_or, inl, inr, refl, sym, ap, subst, ◌∙◌, arith, length-append}
-use Rattle.hcl_tokens.specs.Lexemes.{Lexeme, Opener, Quote, Heredoc, Sequence, Brace, Bracket, Paren, in_heredoc, moved, pop_if, below_groups, is_paren, is_bracket, is_brace}
+use Rattle.hcl_tokens.specs.Lexemes.{Lexeme, Opener, Quote, Heredoc, Sequence, Brace, Bracket, Paren, in_heredoc, open_after, pop_if, below_groups, same_opener}
 use Rattle.hcl_tokens.specs.Spelling.{IsExpressionText, context, Template, Expression}
 use Rattle.hcl_tokens.specs.Scans.{State, ahead, begin, IsLongest, Leaves, Reads, Closes, Next, Run, Scans}
 use Rattle.hcl_scan.specs.Inner.Leads.{lead_of}
@@ -44,8 +44,8 @@ below_context (Brace ∷ os) e g = e
 -- where a token of an expression leads
 data LeadsTo (kind : Kind) (opens : List Opener) : Type 0 where
   on : opens_template kind ≡ true → LeadsTo kind opens
-  into : in_heredoc (moved kind opens) ≡ true → LeadsTo kind opens
-  stay : context (moved kind opens) ≡ Expression → LeadsTo kind opens
+  into : in_heredoc (open_after kind opens) ≡ true → LeadsTo kind opens
+  stay : context (open_after kind opens) ≡ Expression → LeadsTo kind opens
 
 leads_on : (kind : Kind) (opens : List Opener) → context opens ≡ Expression → is_grounded opens ≡ true → in_expressions kind ≡ true → LeadsTo kind opens
 leads_on QuoteOpen opens e g k = on refl
@@ -54,9 +54,9 @@ leads_on HeredocOpen opens e g k = into refl
 leads_on ParenOpen opens e g k = stay refl
 leads_on BracketOpen opens e g k = stay refl
 leads_on BraceOpen opens e g k = stay refl
-leads_on ParenClose opens e g k = stay (popped_context is_paren refl opens e g)
-leads_on BracketClose opens e g k = stay (popped_context is_bracket refl opens e g)
-leads_on BraceClose opens e g k = stay (popped_context is_brace refl (below_groups opens) (below_context opens e g) (below opens g).1)
+leads_on ParenClose opens e g k = stay (popped_context (same_opener Paren) refl opens e g)
+leads_on BracketClose opens e g k = stay (popped_context (same_opener Bracket) refl opens e g)
+leads_on BraceClose opens e g k = stay (popped_context (same_opener Brace) refl (below_groups opens) (below_context opens e g) (below opens g).1)
 leads_on Lit opens e g k = absurd (cc)
 leads_on InterpOpen opens e g k = absurd (cc)
 leads_on ControlOpen opens e g k = absurd (cc)
@@ -73,17 +73,17 @@ quote_leaves (Brace ∷ os) e g = absurd (not_both Expression true refl e)
 quote_leaves (Bracket ∷ os) e g = absurd (not_both Expression true refl e)
 quote_leaves (Paren ∷ os) e g = absurd (not_both Expression true refl e)
 
-template_after : (opens : List Opener) (dot : Bool) (kind : Kind) (text rest : List ℕ) → is_grounded opens ≡ true → Side opens dot kind text rest → in_heredoc (moved kind opens) ≡ false → (quoted : Bool) → context (moved kind opens) ≡ Template quoted → opens_template kind ≡ true
+template_after : (opens : List Opener) (dot : Bool) (kind : Kind) (text rest : List ℕ) → is_grounded opens ≡ true → Side opens dot kind text rest → in_heredoc (open_after kind opens) ≡ false → (quoted : Bool) → context (open_after kind opens) ≡ Template quoted → opens_template kind ≡ true
 template_after opens dot kind text rest g (expression e k h) plain quoted c = by (leads_on kind opens e g k)
   where
     by : LeadsTo kind opens → opens_template kind ≡ true
     by (on x) = x
     by (into x) = absurd (cc)
-    by (stay x) = absurd (not_both (context (moved kind opens)) quoted x c)
+    by (stay x) = absurd (not_both (context (open_after kind opens)) quoted x c)
 template_after opens dot kind text rest g (template q e (lit k h)) plain quoted c = ap opens_template k
-template_after opens dot kind text rest g (template q e (interp k h)) plain quoted c = absurd (not_both Expression quoted refl (sym (ap (λ (z : Kind). context (moved z opens)) k) ∙ c))
-template_after opens dot kind text rest g (template q e (control k h)) plain quoted c = absurd (not_both Expression quoted refl (sym (ap (λ (z : Kind). context (moved z opens)) k) ∙ c))
-template_after opens dot kind text rest g (template q e (quote k t h)) plain quoted c = absurd (not_both (context (drop 1 opens)) quoted (quote_leaves opens (e ∙ ap Template t) g) (sym (ap (λ (z : Kind). context (moved z opens)) k) ∙ c))
+template_after opens dot kind text rest g (template q e (interp k h)) plain quoted c = absurd (not_both Expression quoted refl (sym (ap (λ (z : Kind). context (open_after z opens)) k) ∙ c))
+template_after opens dot kind text rest g (template q e (control k h)) plain quoted c = absurd (not_both Expression quoted refl (sym (ap (λ (z : Kind). context (open_after z opens)) k) ∙ c))
+template_after opens dot kind text rest g (template q e (quote k t h)) plain quoted c = absurd (not_both (context (drop 1 opens)) quoted (quote_leaves opens (e ∙ ap Template t) g) (sym (ap (λ (z : Kind). context (open_after z opens)) k) ∙ c))
 
 -- ---- one token after the other
 record Stood (before : Kind) (s : State) : Type 0 where
@@ -142,7 +142,7 @@ module _ (before : Kind) (s : State) (t : Lexeme) (next : State) (stood : Stood 
     comment = λ plain k.
         let longest : IsLongest s.opens s.after_dot (t.text ++ r.rest) LineComment t.text r.rest = subst (λ (z : Kind). IsLongest s.opens s.after_dot (t.text ++ r.rest) z t.text r.rest) k (subst (λ l. IsLongest s.opens s.after_dot l t.kind t.text r.rest) (sym r.longest.whole) r.longest) in
         let spelled = comment_spelled s.opens s.after_dot t.text r.rest (side s.opens s.after_dot LineComment t.text r.rest longest.spelled) in
-        let same : next.opens ≡ s.opens = r.opens ∙ ap (λ (z : Kind). moved z s.opens) k in
+        let same : next.opens ≡ s.opens = r.opens ∙ ap (λ (z : Kind). open_after z s.opens) k in
         let seen_is : next.seen ≡ r.rest = (subst (λ (z : Kind). Leaves z t.text r.rest s.hidden next.seen next.hidden) k r.leaves).0 in
         (ap context same ∙ spelled.0, ap ends_comment seen_is ∙ comment_ends s.opens s.after_dot t.text r.rest spelled.0 spelled.1 longest);
     template = λ plain quoted c. template_after s.opens s.after_dot t.kind t.text r.rest stood.sound.grounded (side s.opens s.after_dot t.kind t.text r.rest r.longest.spelled)

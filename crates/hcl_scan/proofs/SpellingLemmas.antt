@@ -1,5 +1,5 @@
 -- No text has two kinds at one place.
-use Rattle.hcl_tokens.proofs.RunLemmas.{OneKind}
+use Rattle.hcl_tokens.proofs.OneReadingLemmas.{OneKind}
 use Rattle.hcl_scan.proofs.AllContextLemmas as places
 use Rattle.hcl_scan.proofs.ExpressionLawLemmas.{one_expression}
 

@@ -2,11 +2,11 @@
 use Rattle.std.proofs.Common.{◌≡◌, ◌≢◌, ℕ, suc, ◌+◌, ◌-◌, ◌<◌, ◌≤◌, ◌||◌, Bool, true, false, IsTrue, List, [], ◌∷◌, length, drop, length-drop, if◌then◌else◌, Some, None, refl, sym, ap, subst, ◌∙◌, arith, nat_lt}
 use Rattle.std.proofs.lemmas.List.{length-map, drop-map, drop-drop}
 use Rattle.std.proofs.lemmas.Bool.Decides.{nat_tests}
-use Rattle.hcl_tokens.specs.Lexemes.{Opener, Quote, Heredoc, Sequence, Brace, Bracket, Paren, is_heredoc, is_group, is_paren, is_bracket, is_brace, is_sequence, in_heredoc, below_groups, closes_sequence, pop_if, tops_with, moved}
+use Rattle.hcl_tokens.specs.Lexemes.{Opener, Quote, Heredoc, Sequence, Brace, Bracket, Paren, is_group, in_heredoc, below_groups, closes_sequence, pop_if, tops_with, open_after, same_opener}
 use Rattle.hcl_tokens.specs.Spelling.{Context, Template, Expression, context, context_in}
 use Rattle.hcl_tokens.specs.Kinds.{is}
-use Rattle.hcl_tokens.specs.Scans.{Hidden, offsets_of, owed, owes}
-use Rattle.hcl_scan.specs.Inner.Openings.{opener_of, openers_of, offsets_in, hidden_of, hidden_under, popped_groups, popped_if, same_opener, closed, closes_on, top_closes, opens_or_closes, opened_by}
+use Rattle.hcl_tokens.specs.Scans.{Hidden, offsets_of, owed_opener, owes}
+use Rattle.hcl_scan.specs.Inner.Openings.{opener_of, openers_of, offsets_in, hidden_of, hidden_under, popped_groups, popped_if, closed, closes_on, top_closes, opens_or_closes, opened_by}
 use Rattle.hcl_scan.specs.Inner.Scanners.{fits_in, AreEndsBy, IsStack}
 use Rattle.hcl_scan.specs.declared.stack.Opener as kept
 use Rattle.hcl_scan.specs.declared.stack.Opener.TheVariants as by
@@ -24,7 +24,7 @@ stack_within text [] end h = omega (arith, h)
 stack_within text (o ∷ stack) end h = within_by text end o.by (IsStack text stack) (λ e. stack_within text stack e) h.3
 
 -- and before the text only inside a heredoc
-inside_by : (text : List ℕ) (end : ℕ) (opener : kept.Opener) (around : ℕ → Type 0) (below : Bool) → ((e : ℕ) → around e → e ≤ length text) → ((e : ℕ) → around e → below ≡ nat_lt e (length text)) → AreEndsBy text end opener around → (is_heredoc (opener_of opener) || below) ≡ nat_lt end (length text)
+inside_by : (text : List ℕ) (end : ℕ) (opener : kept.Opener) (around : ℕ → Type 0) (below : Bool) → ((e : ℕ) → around e → e ≤ length text) → ((e : ℕ) → around e → below ≡ nat_lt e (length text)) → AreEndsBy text end opener around → (same_opener Heredoc (opener_of opener) || below) ≡ nat_lt end (length text)
 inside_by text end (by.Heredoc closer_end outer_end) around below more is h = let lt : end < length text = omega (arith, h.0, h.1, more outer_end h.4) in grind (arith, nat_tests)
 inside_by text end by.Quote around below more is h = is end h
 inside_by text end by.Sequence around below more is h = is end h
@@ -67,15 +67,15 @@ pub record Drops (old new : List Opened) : Type 0 where
 drops_none : (stack : List Opened) → Drops stack stack
 drops_none stack = record { count = 0; within = omega arith; is = refl; less = omega arith; hidden = λ text end. refl; stack = λ text end h. h }
 
-hidden_by : (text : List ℕ) (end : ℕ) (opener : kept.Opener) (above : ℕ → List Hidden) → is_heredoc (opener_of opener) ≡ false → above end ≡ hidden_under text end opener above
+hidden_by : (text : List ℕ) (end : ℕ) (opener : kept.Opener) (above : ℕ → List Hidden) → same_opener Heredoc (opener_of opener) ≡ false → above end ≡ hidden_under text end opener above
 hidden_by text end (by.Heredoc c o) above h = absurd (cc)
 hidden_by text end _ above h = refl
 
-ends_by : (text : List ℕ) (end : ℕ) (opener : kept.Opener) (around : ℕ → Type 0) → is_heredoc (opener_of opener) ≡ false → AreEndsBy text end opener around → around end
+ends_by : (text : List ℕ) (end : ℕ) (opener : kept.Opener) (around : ℕ → Type 0) → same_opener Heredoc (opener_of opener) ≡ false → AreEndsBy text end opener around → around end
 ends_by text end (by.Heredoc c o) around e h = absurd (cc)
 ends_by text end _ around e h = h
 
-drops_one : (o : Opened) (stack new : List Opened) → is_heredoc (opener_of o.by) ≡ false → Drops stack new → Drops (o ∷ stack) new
+drops_one : (o : Opened) (stack new : List Opened) → same_opener Heredoc (opener_of o.by) ≡ false → Drops stack new → Drops (o ∷ stack) new
 drops_one o stack new plain d = record {
   count = suc d.count;
   within = omega (arith, d.within);
@@ -95,7 +95,7 @@ drops_more a b c x y = record {
   stack = λ text end h. y.stack text end (x.stack text end h);
 }
 
-group_plain : (opener : Opener) → is_group opener ≡ true → is_heredoc opener ≡ false
+group_plain : (opener : Opener) → is_group opener ≡ true → same_opener Heredoc opener ≡ false
 group_plain Heredoc h = absurd (cc)
 group_plain _ h = refl
 
@@ -107,7 +107,7 @@ drops_groups : (stack : List Opened) → Drops stack (popped_groups stack)
 drops_groups [] = drops_none []
 drops_groups (o ∷ stack) = groups_if o stack (is_group (opener_of o.by)) refl (drops_groups stack)
 
-same_plain : (opener other : Opener) → is_heredoc other ≡ false → same_opener opener other ≡ true → is_heredoc opener ≡ false
+same_plain : (opener other : Opener) → same_opener Heredoc other ≡ false → same_opener opener other ≡ true → same_opener Heredoc opener ≡ false
 same_plain Heredoc Heredoc p h = p
 same_plain Heredoc Quote p h = absurd (cc)
 same_plain Heredoc Sequence p h = absurd (cc)
@@ -116,16 +116,16 @@ same_plain Heredoc Bracket p h = absurd (cc)
 same_plain Heredoc Paren p h = absurd (cc)
 same_plain _ other p h = refl
 
-pops_if : (o : Opened) (stack : List Opened) (other : Opener) (v : Bool) → is_heredoc other ≡ false → same_opener (opener_of o.by) other ≡ v → Drops (o ∷ stack) (if v then stack else o ∷ stack)
+pops_if : (o : Opened) (stack : List Opened) (other : Opener) (v : Bool) → same_opener Heredoc other ≡ false → same_opener (opener_of o.by) other ≡ v → Drops (o ∷ stack) (if v then stack else o ∷ stack)
 pops_if o stack other true p e = drops_one o stack stack (same_plain (opener_of o.by) other p e) (drops_none stack)
 pops_if o stack other false p e = drops_none (o ∷ stack)
 
-drops_if : (other : Opener) (stack : List Opened) → is_heredoc other ≡ false → Drops stack (popped_if other stack)
+drops_if : (other : Opener) (stack : List Opened) → same_opener Heredoc other ≡ false → Drops stack (popped_if other stack)
 drops_if other [] p = drops_none []
 drops_if other (o ∷ stack) p = pops_if o stack other (same_opener (opener_of o.by) other) p refl
 
 -- the top of a stack, where it is known
-drops_top : (stack : List Opened) → tops_with is_heredoc (openers_of stack) ≡ false → Drops stack (drop 1 stack)
+drops_top : (stack : List Opened) → tops_with (same_opener Heredoc) (openers_of stack) ≡ false → Drops stack (drop 1 stack)
 drops_top [] h = drops_none []
 drops_top (o ∷ stack) h = drops_one o stack stack h (drops_none stack)
 
@@ -150,7 +150,7 @@ top_is_drop : (stack : List Opened) → openers_of (drop 1 stack) ≡ drop 1 (op
 top_is_drop [] = refl
 top_is_drop (o ∷ stack) = refl
 
-is_paren_same : (opener : Opener) → same_opener opener Paren ≡ is_paren opener
+is_paren_same : (opener : Opener) → same_opener opener Paren ≡ same_opener Paren opener
 is_paren_same Paren = refl
 is_paren_same Quote = refl
 is_paren_same Heredoc = refl
@@ -158,7 +158,7 @@ is_paren_same Sequence = refl
 is_paren_same Brace = refl
 is_paren_same Bracket = refl
 
-is_bracket_same : (opener : Opener) → same_opener opener Bracket ≡ is_bracket opener
+is_bracket_same : (opener : Opener) → same_opener opener Bracket ≡ same_opener Bracket opener
 is_bracket_same Paren = refl
 is_bracket_same Quote = refl
 is_bracket_same Heredoc = refl
@@ -166,7 +166,7 @@ is_bracket_same Sequence = refl
 is_bracket_same Brace = refl
 is_bracket_same Bracket = refl
 
-is_brace_same : (opener : Opener) → same_opener opener Brace ≡ is_brace opener
+is_brace_same : (opener : Opener) → same_opener opener Brace ≡ same_opener Brace opener
 is_brace_same Paren = refl
 is_brace_same Quote = refl
 is_brace_same Heredoc = refl
@@ -185,10 +185,10 @@ dropped HeredocClose stack = drop 1 stack
 dropped _ stack = stack
 
 -- of a kind that opens nothing
-pub dropped_is : (kind : Kind) (stack : List Opened) → opened_by kind ≡ None → kind ≢ HeredocOpen → openers_of (dropped kind stack) ≡ moved kind (openers_of stack)
-dropped_is ParenClose stack none no_open = popped_is is_paren Paren is_paren_same stack
-dropped_is BracketClose stack none no_open = popped_is is_bracket Bracket is_bracket_same stack
-dropped_is BraceClose stack none no_open = popped_is is_brace Brace is_brace_same (popped_groups stack) ∙ ap (pop_if is_brace) (groups_are stack)
+pub dropped_is : (kind : Kind) (stack : List Opened) → opened_by kind ≡ None → kind ≢ HeredocOpen → openers_of (dropped kind stack) ≡ open_after kind (openers_of stack)
+dropped_is ParenClose stack none no_open = popped_is (same_opener Paren) Paren is_paren_same stack
+dropped_is BracketClose stack none no_open = popped_is (same_opener Bracket) Bracket is_bracket_same stack
+dropped_is BraceClose stack none no_open = popped_is (same_opener Brace) Brace is_brace_same (popped_groups stack) ∙ ap (pop_if (same_opener Brace)) (groups_are stack)
 dropped_is SeqClose stack none no_open = top_is_drop (popped_groups stack) ∙ ap (drop 1) (groups_are stack)
 dropped_is QuoteClose stack none no_open = top_is_drop stack
 dropped_is HeredocClose stack none no_open = top_is_drop stack
@@ -258,16 +258,16 @@ module _ (stack : List Opened) where
       ap (λ k. drop k stack) (sym n)
 
   pub dropped_so : (kind : Kind) → dropped kind stack ≡ closed kind stack
-  dropped_so ParenClose = leaves_open (dropped ParenClose stack) (moved ParenClose (openers_of stack)) (back_if Paren stack) (dropped_is ParenClose stack refl (λ k. cc))
-  dropped_so BracketClose = leaves_open (dropped BracketClose stack) (moved BracketClose (openers_of stack)) (back_if Bracket stack) (dropped_is BracketClose stack refl (λ k. cc))
+  dropped_so ParenClose = leaves_open (dropped ParenClose stack) (open_after ParenClose (openers_of stack)) (back_if Paren stack) (dropped_is ParenClose stack refl (λ k. cc))
+  dropped_so BracketClose = leaves_open (dropped BracketClose stack) (open_after BracketClose (openers_of stack)) (back_if Bracket stack) (dropped_is BracketClose stack refl (λ k. cc))
   dropped_so BraceClose =
-      leaves_open (dropped BraceClose stack) (moved BraceClose (openers_of stack)) (back_more stack (popped_groups stack) (dropped BraceClose stack) (back_groups stack) (back_if Brace (popped_groups stack)))
+      leaves_open (dropped BraceClose stack) (open_after BraceClose (openers_of stack)) (back_more stack (popped_groups stack) (dropped BraceClose stack) (back_groups stack) (back_if Brace (popped_groups stack)))
       (dropped_is BraceClose stack refl (λ k. cc))
   dropped_so SeqClose =
-      leaves_open (dropped SeqClose stack) (moved SeqClose (openers_of stack)) (back_more stack (popped_groups stack) (dropped SeqClose stack) (back_groups stack) (back_top (popped_groups stack)))
+      leaves_open (dropped SeqClose stack) (open_after SeqClose (openers_of stack)) (back_more stack (popped_groups stack) (dropped SeqClose stack) (back_groups stack) (back_top (popped_groups stack)))
       (dropped_is SeqClose stack refl (λ k. cc))
-  dropped_so QuoteClose = leaves_open (dropped QuoteClose stack) (moved QuoteClose (openers_of stack)) (back_top stack) (dropped_is QuoteClose stack refl (λ k. cc))
-  dropped_so HeredocClose = leaves_open (dropped HeredocClose stack) (moved HeredocClose (openers_of stack)) (back_top stack) (dropped_is HeredocClose stack refl (λ k. cc))
+  dropped_so QuoteClose = leaves_open (dropped QuoteClose stack) (open_after QuoteClose (openers_of stack)) (back_top stack) (dropped_is QuoteClose stack refl (λ k. cc))
+  dropped_so HeredocClose = leaves_open (dropped HeredocClose stack) (open_after HeredocClose (openers_of stack)) (back_top stack) (dropped_is HeredocClose stack refl (λ k. cc))
   dropped_so HeredocOpen = opens_more Heredoc
   dropped_so QuoteOpen = opens_more Quote
   dropped_so InterpOpen = opens_more Sequence
@@ -304,10 +304,10 @@ pub changes_no_dot : (kind : Kind) → opens_or_closes kind ≡ true → false �
 changes_no_dot Dot h = absurd (cc)
 changes_no_dot _ h = refl
 
-pub closed_is : (kind : Kind) (stack : List Opened) → opened_by kind ≡ None → kind ≢ HeredocOpen → openers_of (closed kind stack) ≡ moved kind (openers_of stack)
+pub closed_is : (kind : Kind) (stack : List Opened) → opened_by kind ≡ None → kind ≢ HeredocOpen → openers_of (closed kind stack) ≡ open_after kind (openers_of stack)
 closed_is kind stack none no_open = ap openers_of (sym (dropped_so stack kind)) ∙ dropped_is kind stack none no_open
 
-sequence_plain : (opens : List Opener) → tops_with is_sequence opens ≡ true → tops_with is_heredoc opens ≡ false
+sequence_plain : (opens : List Opener) → tops_with (same_opener Sequence) opens ≡ true → tops_with (same_opener Heredoc) opens ≡ false
 sequence_plain [] h = refl
 sequence_plain (Heredoc ∷ opens) h = absurd (cc)
 sequence_plain (Quote ∷ opens) h = refl
@@ -316,7 +316,7 @@ sequence_plain (Brace ∷ opens) h = refl
 sequence_plain (Bracket ∷ opens) h = refl
 sequence_plain (Paren ∷ opens) h = refl
 
-quote_plain : (opens : List Opener) → context opens ≡ Template true → tops_with is_heredoc opens ≡ false
+quote_plain : (opens : List Opener) → context opens ≡ Template true → tops_with (same_opener Heredoc) opens ≡ false
 quote_plain [] h = refl
 quote_plain (Heredoc ∷ opens) h = absurd (wrong h)
   where
@@ -341,7 +341,7 @@ dropped_drops : (kind : Kind) (stack : List Opened) → kind ≢ HeredocClose �
 dropped_drops ParenClose stack no_close h = drops_if Paren stack refl
 dropped_drops BracketClose stack no_close h = drops_if Bracket stack refl
 dropped_drops BraceClose stack no_close h = drops_more stack (popped_groups stack) (popped_if Brace (popped_groups stack)) (drops_groups stack) (drops_if Brace (popped_groups stack) refl)
-dropped_drops SeqClose stack no_close h = drops_more stack (popped_groups stack) (drop 1 (popped_groups stack)) (drops_groups stack) (drops_top (popped_groups stack) (ap (tops_with is_heredoc) (groups_are stack) ∙ sequence_plain (below_groups (openers_of stack)) (h.sequence refl)))
+dropped_drops SeqClose stack no_close h = drops_more stack (popped_groups stack) (drop 1 (popped_groups stack)) (drops_groups stack) (drops_top (popped_groups stack) (ap (tops_with (same_opener Heredoc)) (groups_are stack) ∙ sequence_plain (below_groups (openers_of stack)) (h.sequence refl)))
 dropped_drops QuoteClose stack no_close h = drops_top stack (quote_plain (openers_of stack) (h.quote refl))
 dropped_drops HeredocClose stack no_close h = absurd (no_close refl)
 dropped_drops _ stack no_close h = drops_none stack
@@ -371,25 +371,25 @@ push_offsets at opener opens offsets = ap (λ v. if v then at ∷ offsets else d
     less n = grind (arith, nat_tests)
 
 -- WHAT OPENS
-pub opens_so : (kind : Kind) (opener : kept.Opener) (opens : List Opener) → opened_by kind ≡ Some opener → (opener_of opener ∷ opens ≡ moved kind opens) × (is_heredoc (opener_of opener) ≡ false)
-opens_so QuoteOpen opener opens h = let e : by.Quote ≡ opener = cc in (ap (λ o. opener_of o ∷ opens) (sym e), ap (λ o. is_heredoc (opener_of o)) (sym e))
-opens_so InterpOpen opener opens h = let e : by.Sequence ≡ opener = cc in (ap (λ o. opener_of o ∷ opens) (sym e), ap (λ o. is_heredoc (opener_of o)) (sym e))
-opens_so ControlOpen opener opens h = let e : by.Sequence ≡ opener = cc in (ap (λ o. opener_of o ∷ opens) (sym e), ap (λ o. is_heredoc (opener_of o)) (sym e))
-opens_so ParenOpen opener opens h = let e : by.Paren ≡ opener = cc in (ap (λ o. opener_of o ∷ opens) (sym e), ap (λ o. is_heredoc (opener_of o)) (sym e))
-opens_so BracketOpen opener opens h = let e : by.Bracket ≡ opener = cc in (ap (λ o. opener_of o ∷ opens) (sym e), ap (λ o. is_heredoc (opener_of o)) (sym e))
-opens_so BraceOpen opener opens h = let e : by.Brace ≡ opener = cc in (ap (λ o. opener_of o ∷ opens) (sym e), ap (λ o. is_heredoc (opener_of o)) (sym e))
+pub opens_so : (kind : Kind) (opener : kept.Opener) (opens : List Opener) → opened_by kind ≡ Some opener → (opener_of opener ∷ opens ≡ open_after kind opens) × (same_opener Heredoc (opener_of opener) ≡ false)
+opens_so QuoteOpen opener opens h = let e : by.Quote ≡ opener = cc in (ap (λ o. opener_of o ∷ opens) (sym e), ap (λ o. same_opener Heredoc (opener_of o)) (sym e))
+opens_so InterpOpen opener opens h = let e : by.Sequence ≡ opener = cc in (ap (λ o. opener_of o ∷ opens) (sym e), ap (λ o. same_opener Heredoc (opener_of o)) (sym e))
+opens_so ControlOpen opener opens h = let e : by.Sequence ≡ opener = cc in (ap (λ o. opener_of o ∷ opens) (sym e), ap (λ o. same_opener Heredoc (opener_of o)) (sym e))
+opens_so ParenOpen opener opens h = let e : by.Paren ≡ opener = cc in (ap (λ o. opener_of o ∷ opens) (sym e), ap (λ o. same_opener Heredoc (opener_of o)) (sym e))
+opens_so BracketOpen opener opens h = let e : by.Bracket ≡ opener = cc in (ap (λ o. opener_of o ∷ opens) (sym e), ap (λ o. same_opener Heredoc (opener_of o)) (sym e))
+opens_so BraceOpen opener opens h = let e : by.Brace ≡ opener = cc in (ap (λ o. opener_of o ∷ opens) (sym e), ap (λ o. same_opener Heredoc (opener_of o)) (sym e))
 opens_so _ opener opens h = absurd (cc)
 
-pub ends_of : (text : List ℕ) (end : ℕ) (opener : kept.Opener) (around : ℕ → Type 0) → is_heredoc (opener_of opener) ≡ false → around end → AreEndsBy text end opener around
+pub ends_of : (text : List ℕ) (end : ℕ) (opener : kept.Opener) (around : ℕ → Type 0) → same_opener Heredoc (opener_of opener) ≡ false → around end → AreEndsBy text end opener around
 ends_of text end (by.Heredoc c o) around e h = absurd (cc)
 ends_of text end _ around e h = h
 
-pub hidden_on : (text : List ℕ) (end : ℕ) (opener : kept.Opener) (above : ℕ → List Hidden) → is_heredoc (opener_of opener) ≡ false → hidden_under text end opener above ≡ above end
+pub hidden_on : (text : List ℕ) (end : ℕ) (opener : kept.Opener) (above : ℕ → List Hidden) → same_opener Heredoc (opener_of opener) ≡ false → hidden_under text end opener above ≡ above end
 hidden_on text end (by.Heredoc c o) above h = absurd (cc)
 hidden_on text end _ above h = refl
 
 -- a heredoc is owed only at once, since expressions are opened only in sequences
-owed_on : (opener : Opener) (opens : List Opener) (v : Bool) → owes opener ≡ v → IsTrue (fits_in opener (context opens)) → (owed opens ≡ Some Heredoc → context opens ≡ Template false) → (if v then Some opener else owed opens) ≡ Some Heredoc → context_in opener ≡ Template false
+owed_on : (opener : Opener) (opens : List Opener) (v : Bool) → owes opener ≡ v → IsTrue (fits_in opener (context opens)) → (owed_opener opens ≡ Some Heredoc → context opens ≡ Template false) → (if v then Some opener else owed_opener opens) ≡ Some Heredoc → context_in opener ≡ Template false
 owed_on Heredoc opens true e fits more h = refl
 owed_on Quote opens true e fits more h = absurd (cc)
 owed_on Sequence opens true e fits more h = absurd (cc)
@@ -411,7 +411,7 @@ some_around text end by.Brace stack h = (end, h)
 some_around text end by.Bracket stack h = (end, h)
 some_around text end by.Paren stack h = (end, h)
 
-pub owed_heredoc : (text : List ℕ) (stack : List Opened) (end : ℕ) → IsStack text stack end → owed (openers_of stack) ≡ Some Heredoc → context (openers_of stack) ≡ Template false
+pub owed_heredoc : (text : List ℕ) (stack : List Opened) (end : ℕ) → IsStack text stack end → owed_opener (openers_of stack) ≡ Some Heredoc → context (openers_of stack) ≡ Template false
 owed_heredoc text [] end h is = absurd (cc)
 owed_heredoc text (o ∷ stack) end h is =
     let around = some_around text end o.by stack h.3 in

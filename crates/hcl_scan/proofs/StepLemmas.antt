@@ -8,10 +8,10 @@ use Rattle.std.proofs.lemmas.Bool.Decides.{nat_tests}
 use Rattle.std.proofs.lemmas.List.{length-map}
 use Rattle.std.proofs.lemmas.List.Sums.{prefix_len-le-length}
 use Rattle.hcl_source.specs.Load.{max_source}
-use Rattle.hcl_tokens.specs.Lexemes.{Opener, in_heredoc, moved, Heredoc, Quote, Sequence, Brace, Bracket, Paren, max_open}
+use Rattle.hcl_tokens.specs.Lexemes.{Opener, in_heredoc, open_after, Heredoc, Quote, Sequence, Brace, Bracket, Paren, max_open}
 use Rattle.hcl_tokens.specs.Spelling.{is_blank, Context, Template, Expression, context, context_in}
 use Rattle.hcl_tokens.specs.Kinds.{is}
-use Rattle.hcl_tokens.specs.Scans.{State, Hidden, Leaves, IsLongest, gap_len, ahead, offsets_of, owed, owes, has_gaps_in, HasNone}
+use Rattle.hcl_tokens.specs.Scans.{State, Hidden, Leaves, IsLongest, gap_len, ahead, offsets_of, owed_opener, owes, has_gaps_in, HasNone}
 use Rattle.hcl_tokens.specs.Faults.{no_token, at_end, no_token_fault, fault_offset, owed_offset, end_fault}
 use Rattle.hcl_scan.specs.Inner.Found.{Finds}
 use Rattle.hcl_scan.specs.Inner.Openings.{opener_of, openers_of, offsets_in, hidden_of, quoted_in, template_top, option_and, innermost_owed, opened_by, opened_on, closed}
@@ -27,7 +27,7 @@ use Rattle.hcl_source.specs.declared.fault.FaultKind.{FaultKind}
 use Rattle.hcl_source.specs.declared.fault.FaultKind.TheVariants.{InvalidCharacter, UnterminatedComment, UnterminatedTemplate}
 use Rattle.hcl_tokens.specs.declared.token.Kind.{Kind}
 use Rattle.hcl_tokens.specs.declared.token.Kind.TheVariants.{HeredocOpen, Dot}
-use Rattle.hcl_scan.proofs.CutLemmas.{run_cut}
+use Rattle.hcl_scan.proofs.TextCutLemmas.{run_cut}
 use Rattle.hcl_scan.proofs.SliceLemmas.{front_of, back_of, slice_len, part_boundary}
 use Rattle.hcl_scan.proofs.StackLemmas.{closed_is, closed_drops, drops_offsets, push_offsets, opens_so, ends_of, hidden_on, closes_is, some_around, owed_heredoc}
 use Rattle.hcl_scan.proofs.KindPlaceLemmas.{no_close, closable, fits}
@@ -48,7 +48,7 @@ module _ (s : Scanner) (e : Entry) (sound : IsSound s) (this : IsNext s e) where
   pub entry_is : IsEntry s.text.now e
   entry_is = record { order = omega (arith, this.order); start = this.start.boundary; end = this.boundary }
 
-  pub moves : (stack : List Opened) (dot : Bool) → dot ≡ is Dot e.kind → e.kind ≢ HeredocOpen → openers_of stack ≡ moved e.kind (openers_of s.stack) → offsets_in stack ≡ offsets_of e.start (openers_of s.stack) (openers_of stack) (offsets_in s.stack) → hidden_of s.text.now stack s.end ≡ hidden_of s.text.now s.stack s.end → IsStack s.text.now stack s.end → length stack ≤ max_open → Moves s e (record { text = s.text; at = e.end; end = s.end; after_dot = dot; stack = stack })
+  pub moves : (stack : List Opened) (dot : Bool) → dot ≡ is Dot e.kind → e.kind ≢ HeredocOpen → openers_of stack ≡ open_after e.kind (openers_of s.stack) → offsets_in stack ≡ offsets_of e.start (openers_of s.stack) (openers_of stack) (offsets_in s.stack) → hidden_of s.text.now stack s.end ≡ hidden_of s.text.now s.stack s.end → IsStack s.text.now stack s.end → length stack ≤ max_open → Moves s e (record { text = s.text; at = e.end; end = s.end; after_dot = dot; stack = stack })
   moves stack dot dot_is kind_is opens_are offsets_are hidden_is stack_is room = record {
     same_text = refl;
     entry = entry_is;
@@ -225,16 +225,16 @@ template_some text (o ∷ stack) end top sound h =
     }
 
 -- WHERE ALL WAS READ
-owed_none_by : (o : Opened) (stack : List Opened) (v : Bool) → (innermost_owed stack ≡ None → owed (openers_of stack) ≡ None) → (if v then Some o else innermost_owed stack) ≡ None → (if v then Some (opener_of o.by) else owed (openers_of stack)) ≡ None
+owed_none_by : (o : Opened) (stack : List Opened) (v : Bool) → (innermost_owed stack ≡ None → owed_opener (openers_of stack) ≡ None) → (if v then Some o else innermost_owed stack) ≡ None → (if v then Some (opener_of o.by) else owed_opener (openers_of stack)) ≡ None
 owed_none_by o stack true more h = absurd (cc)
 owed_none_by o stack false more h = more h
 
-pub owed_none : (stack : List Opened) → innermost_owed stack ≡ None → owed (openers_of stack) ≡ None
+pub owed_none : (stack : List Opened) → innermost_owed stack ≡ None → owed_opener (openers_of stack) ≡ None
 owed_none [] h = refl
 owed_none (o ∷ stack) h = owed_none_by o stack (owes (opener_of o.by)) (owed_none stack) h
 
 pub record OwedTop (text : List ℕ) (stack : List Opened) (top : Opened) : Type 0 where
-  pub opener : owed (openers_of stack) ≡ Some (opener_of top.by)
+  pub opener : owed_opener (openers_of stack) ≡ Some (opener_of top.by)
   pub at : top.at ≡ owed_offset (openers_of stack) (offsets_in stack)
   pub boundary : IsCharBoundary text top.at
   pub owes_so : owes (opener_of top.by) ≡ true
@@ -250,7 +250,7 @@ owed_some text (o ∷ stack) end top sound h =
         let same : o ≡ top = cc in
         let at : top.at ≡ o.at = ap (λ (z : Opened). z.at) (sym same) in
         record {
-          opener = ap (λ v. if v then Some (opener_of o.by) else owed (openers_of stack)) e ∙ ap (λ (z : Opened). Some (opener_of z.by)) same;
+          opener = ap (λ v. if v then Some (opener_of o.by) else owed_opener (openers_of stack)) e ∙ ap (λ (z : Opened). Some (opener_of z.by)) same;
           at = at ∙ sym (ap (λ v. if v then o.at else owed_offset (openers_of stack) (offsets_in stack)) e);
           boundary = subst (IsCharBoundary text) (sym at) sound.2;
           owes_so = ap (λ (z : Opened). owes (opener_of z.by)) (sym same) ∙ e;
@@ -258,13 +258,13 @@ owed_some text (o ∷ stack) end top sound h =
     by false e more h =
         let m = more h in
         record {
-          opener = ap (λ v. if v then Some (opener_of o.by) else owed (openers_of stack)) e ∙ m.opener;
+          opener = ap (λ v. if v then Some (opener_of o.by) else owed_opener (openers_of stack)) e ∙ m.opener;
           at = m.at ∙ sym (ap (λ v. if v then o.at else owed_offset (openers_of stack) (offsets_in stack)) e);
           boundary = m.boundary;
           owes_so = m.owes_so;
         }
 
-pub owed_stops : (s : Scanner) (kind : FaultKind) (at : ℕ) → ahead (state_of s) ≡ [] → end_fault (owed (openers_of s.stack)) ≡ Some kind → at ≡ fault_offset (state_of s) kind → IsCharBoundary s.text.now at → IsStopped s (record { kind = kind; at = at })
+pub owed_stops : (s : Scanner) (kind : FaultKind) (at : ℕ) → ahead (state_of s) ≡ [] → end_fault (owed_opener (openers_of s.stack)) ≡ Some kind → at ≡ fault_offset (state_of s) kind → IsCharBoundary s.text.now at → IsStopped s (record { kind = kind; at = at })
 owed_stops s kind at read kind_is at_is boundary = record { lacks = at_end read kind_is; at = at_is; boundary = boundary }
 
 pub template_found : (found : Option Found) (opens : List Opener) (dot quoted : Bool) (seen part : List ℕ) → context opens ≡ Template quoted → seen ≡ part → IfSome found (λ f. (opens : List Opener) (dot : Bool) → context opens ≡ Template quoted → Finds opens dot seen f.kind f.len) → IfSome found (λ f. Finds opens dot part f.kind f.len)
@@ -280,6 +280,6 @@ owed_template_by by.Brace o no_heredoc no_quote = absurd (cc)
 owed_template_by by.Bracket o no_heredoc no_quote = absurd (cc)
 owed_template_by by.Paren o no_heredoc no_quote = absurd (cc)
 
-pub owed_template : (text : List ℕ) (stack : List Opened) (end : ℕ) (top : Opened) → IsStack text stack end → (context (openers_of stack) ≡ Template false → ⊥) → (top.by ≡ by.Quote → ⊥) → OwedTop text stack top → end_fault (owed (openers_of stack)) ≡ Some UnterminatedTemplate
+pub owed_template : (text : List ℕ) (stack : List Opened) (end : ℕ) (top : Opened) → IsStack text stack end → (context (openers_of stack) ≡ Template false → ⊥) → (top.by ≡ by.Quote → ⊥) → OwedTop text stack top → end_fault (owed_opener (openers_of stack)) ≡ Some UnterminatedTemplate
 owed_template text stack end top sound no_heredoc no_quote is =
     ap end_fault is.opener ∙ owed_template_by top.by is.owes_so (λ e. no_heredoc (owed_heredoc text stack end sound (is.opener ∙ ap (λ o. Some o) e))) no_quote

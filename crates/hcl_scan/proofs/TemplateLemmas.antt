@@ -12,7 +12,7 @@ use Rattle.hcl_tokens.specs.Regapped.{is_template}
 use Rattle.hcl_tokens.specs.declared.token.Kind.{Kind}
 use Rattle.hcl_tokens.specs.declared.token.Kind.TheVariants.{Lit, InterpOpen, ControlOpen, QuoteClose}
 use Rattle.hcl_scan.proofs.ElementLemmas.{no_longer_lit}
-use Rattle.hcl_scan.proofs.StartLemmas.{starts_is, starts_so}
+use Rattle.hcl_scan.proofs.TextStartLemmas.{starts_is, starts_so}
 
 -- the texts of a template, by kind
 pub data Way (quoted : Bool) (kind : Kind) (text rest : List ℕ) : Type 0 where

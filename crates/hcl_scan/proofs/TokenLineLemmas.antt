@@ -13,7 +13,7 @@ use Rattle.hcl_tokens.specs.Spelling.{context, is_blank}
 use Rattle.hcl_tokens.specs.Scans.{State, has_gaps_in, gap_in, gap_len, ahead, begin, Reads, Closes, Next, Run, Scans}
 use Rattle.hcl_source.specs.Places.{line_of}
 use Rattle.hcl_tokens.proofs.BooleanLemmas.{and_true}
-use Rattle.hcl_scan.proofs.FrontLemmas.{run_passes}
+use Rattle.hcl_scan.proofs.LongestFrontLemmas.{run_passes}
 use Rattle.hcl_scan.proofs.OtherGapLemmas.{behind, join_hidden}
 use Rattle.hcl_scan.proofs.ShownLemmas.{Shown, opening, plain, shown}
 

@@ -20,8 +20,8 @@ use Rattle.hcl_scan.proofs.KindPlaceLemmas.{Side, expression, template, side}
 use Rattle.hcl_scan.proofs.TemplateLemmas.{lit, interp, control, quote, lit_boundary}
 use Rattle.hcl_scan.proofs.ElementLemmas.{one_element, are_elements-append}
 use Rattle.hcl_scan.proofs.LiteralLemmas.{element_is}
-use Rattle.hcl_scan.proofs.FrontLemmas.{front_taken, front_dropped, front_within}
-use Rattle.hcl_scan.proofs.CutLemmas.{EndsLow, low_cut, run_cut, newline_low, blanks_low, number_low, inline_low, heredoc_low, closer_low, mark_low}
+use Rattle.hcl_scan.proofs.LongestFrontLemmas.{front_taken, front_dropped, front_within}
+use Rattle.hcl_scan.proofs.TextCutLemmas.{EndsLow, low_cut, run_cut, newline_low, blanks_low, number_low, inline_low, heredoc_low, closer_low, mark_low}
 use Rattle.hcl_scan.proofs.HeredocStepLemmas.{ascii_there, after_marker, line_boundary, closer_within}
 use Rattle.hcl_scan.proofs.BehindCommentLemmas.{comment_ends}
 

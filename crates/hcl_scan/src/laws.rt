@@ -4,10 +4,10 @@
 ghost use Rattle.std.specs.Prelude.{◌≡◌, ◌⊎◌, ◌<◌, ◌≤◌, ◌+◌, ◌==◌, ◌++◌, ℕ, Bool, true, false, IsTrue, IsFalse, IsUtf8, IfSome, IfNone, List, [], ◌∷◌, length, take, drop, count_by};
 ghost use Rattle.std.specs.List.{flat_map};
 ghost use Rattle.hcl_tokens.specs.Spelling.{IsSpelling};
-ghost use Rattle.hcl_tokens.specs.Lexemes.{Lexeme, Opener, opened, in_heredoc, marker_of, max_open};
+ghost use Rattle.hcl_tokens.specs.Lexemes.{Lexeme, Opener, open_after_all, in_heredoc, marker_of, max_open};
 ghost use Rattle.hcl_tokens.specs.Scans.{Scans, State, Next, Run, IsLongest, IsFirstMarkerLine, Hidden, hides, at_line_end, skip_blanks};
 ghost use Rattle.hcl_tokens.specs.Neighbours.{stays};
-ghost use Rattle.hcl_tokens.specs.Regapped.{AllFit, placed, text_with_gaps, without_gaps};
+ghost use Rattle.hcl_tokens.specs.Regapped.{AllFit, placed_tokens, text_with_gaps, without_gaps};
 ghost use Rattle.hcl_tokens.specs.SideBySide.{AreTexts, Besides};
 ghost use Rattle.hcl_scan.specs.InHeredocs.{ReadsToo, SameInside};
 ghost use Rattle.hcl_tokens.specs.declared.token.Kind.TheVariants.{Newline, HeredocOpen};
@@ -56,12 +56,12 @@ pub fn fault_or_list()
 
 /// What is open after a list of tokens is a function of the list.
 pub fn context_of_list()
-    ensures { (s : State) (ts : List Lexeme) (end : State) → Run s ts end → end.opens ≡ opened s.opens ts }
+    ensures { (s : State) (ts : List Lexeme) (end : State) → Run s ts end → end.opens ≡ open_after_all s.opens ts }
 {}
 
 /// After each front of a text's list of tokens at most `max_open` things are open.
 pub fn bounded()
-    ensures { (text : List ℕ) (front back : List Lexeme) → Scans text (front ++ back) → length (opened [] front) ≤ max_open }
+    ensures { (text : List ℕ) (front back : List Lexeme) → Scans text (front ++ back) → length (open_after_all [] front) ≤ max_open }
 {}
 
 /// What tells kinds apart leaves out no kind.
@@ -98,7 +98,7 @@ pub fn side_by_side()
 
 /// The same tokens with other gaps between them, where these fit, are scanned again.
 pub fn other_gaps()
-    ensures { (text : List ℕ) (ps : List (ℕ × Lexeme)) → Scans text (without_gaps ps) → AllFit false Newline ps → Scans (text_with_gaps ps) (placed 0 ps) }
+    ensures { (text : List ℕ) (ps : List (ℕ × Lexeme)) → Scans text (without_gaps ps) → AllFit false Newline ps → Scans (text_with_gaps ps) (placed_tokens 0 ps) }
 {}
 
 /// The tokens of a text that is UTF-8 are UTF-8, and the first begins with no byte order mark.

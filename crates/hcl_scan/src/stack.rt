@@ -1,10 +1,10 @@
 //! What is open while a text is scanned.
 
 ghost use Rattle.std.specs.Prelude.{◌≡◌, ◌==◌, ◌<◌, ◌≤◌, ◌∷◌, [], length, drop, MatchOption};
-ghost use Rattle.hcl_tokens.specs.Lexemes.{max_open};
+ghost use Rattle.hcl_tokens.specs.Lexemes.{max_open, same_opener};
 ghost use Rattle.hcl_tokens.specs.Spelling.{context, context_in};
 ghost use Rattle.hcl_tokens.specs.Scans.{owes};
-ghost use Rattle.hcl_scan.specs.Inner.Openings.{opener_of, openers_of, is_group_by, popped_groups, same_opener, popped_if, closes_on, top_closes, opened_on, closed, quoted_in, template_on, closes_under, template_top, innermost_owed};
+ghost use Rattle.hcl_scan.specs.Inner.Openings.{opener_of, openers_of, is_group_by, popped_groups, popped_if, closes_on, top_closes, opened_on, closed, quoted_in, template_on, closes_under, template_top, innermost_owed};
 
 use arrayvec::ArrayVec;
 use hcl_tokens::{Kind, MAX_OPEN};

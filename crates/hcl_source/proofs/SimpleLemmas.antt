@@ -1,4 +1,5 @@
--- As many grapheme clusters as bytes in a text that is ASCII without CR.
+-- As many grapheme clusters as characters in a text of characters between any two of which a cluster ends, and as many as
+-- bytes in one that is ASCII without CR.
 use Rattle.std.proofs.Common.{get_or, not, ◌≡◌, ◌∙◌, ◌+◌, ◌-◌, ◌*◌, ◌≤◌, ◌<◌, ◌==◌, ◌&&◌, ap, ap₂, sym, refl, true≢false, ℕ, suc, zero, Bool, true, false, List, [], ◌∷◌, length, arith, drop, take, add-one, drop-cons}
 use Rattle.std.specs.Prelude.{encode_utf8_all, ◌++◌, nat_eq, nat_lt, slice_index_or, unwrap_or}
 use Rattle.std.specs.List.{list_all}
@@ -18,6 +19,47 @@ use Rattle.unicode_segmentation.specs.Grapheme.{break_by_pair, graphemes, is_gra
 use Rattle.unicode_segmentation.proofs.GraphemeLemmas.{is_grapheme_break-inside, is_grapheme_break-others}
 use Rattle.unicode_segmentation.specs.Segments.{Rule, cut, prepend, segments}
 
+-- ---- characters that all break
+
+-- between two such characters is the end of a cluster
+abbrev pub Breaks : (ℕ → Bool) → Type 0
+Breaks alone = (c n : ℕ) (before after : List ℕ) → alone c ≡ true → alone n ≡ true → is_grapheme_break true (c ∷ before) (n ∷ after) ≡ true
+
+and_parts : (a b : Bool) → (a && b) ≡ true → (a ≡ true) × (b ≡ true)
+and_parts true b h = (refl, h)
+and_parts false b h = cc
+
+cut_step : (rule : Rule) (before : List ℕ) (c : ℕ) (cs after : List ℕ) → rule (c ∷ before) (cs ++ after) ≡ true → length (cut rule before (c ∷ cs) after) ≡ suc (length (cut rule (c ∷ before) cs after))
+unfolding cut
+cut_step rule before c cs after e = rw e refl
+
+cut_end : (rule : Rule) (before after : List ℕ) → length (cut rule before [] after) ≡ 0
+unfolding cut
+cut_end rule before after = refl
+
+last_breaks : (c : ℕ) (before : List ℕ) → is_grapheme_break true (c ∷ before) [] ≡ true
+unfolding is_grapheme_break
+last_breaks c before = refl
+
+-- a cluster for each character, after the character before
+apart_cut : (alone : ℕ → Bool) → Breaks alone → (cs : List ℕ) (c : ℕ) (before : List ℕ) → alone c ≡ true → list_all alone cs ≡ true → length (cut (is_grapheme_break true) before (c ∷ cs) []) ≡ suc (length cs)
+apart_cut alone breaks [] c before p e = cut_step (is_grapheme_break true) before c [] [] (last_breaks c before) ∙ ap suc (cut_end (is_grapheme_break true) (c ∷ before) [])
+apart_cut alone breaks (n ∷ cs) c before p e =
+    let parts = and_parts (alone n) (list_all alone cs) e in
+    cut_step (is_grapheme_break true) before c (n ∷ cs) [] (breaks c n before (cs ++ []) p parts.0) ∙ ap suc (apart_cut alone breaks cs n (c ∷ before) parts.0 parts.1)
+
+apart_cuts : (alone : ℕ → Bool) → Breaks alone → (cs : List ℕ) → list_all alone cs ≡ true → length (cut (is_grapheme_break true) [] cs []) ≡ length cs
+apart_cuts alone breaks [] e = cut_end (is_grapheme_break true) [] []
+apart_cuts alone breaks (c ∷ cs) e =
+    let parts = and_parts (alone c) (list_all alone cs) e in
+    apart_cut alone breaks cs c [] parts.0 parts.1
+
+pub clusters_apart : (alone : ℕ → Bool) → Breaks alone → (text : List ℕ) → list_all alone (chars text) ≡ true → length (graphemes true text) ≡ length (chars text)
+unfolding segments
+clusters_apart alone breaks text e = length-map (cut (is_grapheme_break true) [] (chars text) []) encode_utf8_all ∙ apart_cuts alone breaks (chars text) e
+
+-- ---- characters below the first that joins
+
 abbrev first_joining : ℕ
 first_joining = 768
 
@@ -26,8 +68,6 @@ is_alone c = nat_lt c first_joining && not (c == 13)
 
 abbrev are_alone : List ℕ → Bool
 are_alone cs = list_all is_alone cs
-
--- ---- characters below the first that joins
 
 -- what the table gives on them: the ends of lines apart, only what breaks on both sides
 abbrev alone_class : ℕ → GraphemeClusterBreak → Bool
@@ -111,54 +151,27 @@ pair_breaks Other Other c n more p q e f = f refl refl
 pair_breaks Other Zwj c n more p q e f = absurd (true≢false (sym q))
 pair_breaks Zwj r c n more p q e f = absurd (true≢false (sym p))
 
-alone_breaks : (c n : ℕ) (before after : List ℕ) → c < first_joining → n < first_joining → ((c == 13) && (n == 10)) ≡ false → is_grapheme_break true (c ∷ before) (n ∷ after) ≡ true
-alone_breaks c n before after p q e =
-    let inside = is_grapheme_break-inside true (c ∷ before) n after (omega arith) in
-    inside ∙ pair_breaks (grapheme_cluster_break c) (grapheme_cluster_break n) c n _ (class_of_alone c p) (class_of_alone n q) e
-    (λ l r. sym inside ∙ sym (is_grapheme_break-others true (c ∷ before) n after (omega arith) (omega arith) l r))
-
-cut_step : (rule : Rule) (before : List ℕ) (c : ℕ) (cs after : List ℕ) → rule (c ∷ before) (cs ++ after) ≡ true → length (cut rule before (c ∷ cs) after) ≡ suc (length (cut rule (c ∷ before) cs after))
-unfolding cut
-cut_step rule before c cs after e = rw e refl
-
-cut_end : (rule : Rule) (before after : List ℕ) → length (cut rule before [] after) ≡ 0
-unfolding cut
-cut_end rule before after = refl
-
-last_breaks : (c : ℕ) (before : List ℕ) → is_grapheme_break true (c ∷ before) [] ≡ true
-unfolding is_grapheme_break
-last_breaks c before = refl
-
--- a character more that is alone
-alone_parts : (c : ℕ) (cs : List ℕ) → are_alone (c ∷ cs) ≡ true → (c < first_joining) × ((c == 13) ≡ false) × (are_alone cs ≡ true)
-alone_parts c cs e = go (nat_lt c first_joining) refl (c == 13) refl e
+-- a character that is alone
+alone_is : (c : ℕ) → is_alone c ≡ true → (c < first_joining) × ((c == 13) ≡ false)
+alone_is c e = go (nat_lt c first_joining) refl (c == 13) refl e
   where
-    go : (v : Bool) → nat_lt c first_joining ≡ v → (w : Bool) → (c == 13) ≡ w → ((v && not w) && are_alone cs) ≡ true → (c < first_joining) × ((c == 13) ≡ false) × (are_alone cs ≡ true)
-    go true v false w h = (grind (arith, nat_tests), w, h)
+    go : (v : Bool) → nat_lt c first_joining ≡ v → (w : Bool) → (c == 13) ≡ w → (v && not w) ≡ true → (c < first_joining) × ((c == 13) ≡ false)
+    go true v false w h = (grind (arith, nat_tests), w)
     go true v true w h = cc
     go false v w q h = cc
 
--- a cluster for each character, after the character before
-alone_cut : (cs : List ℕ) (c : ℕ) (before : List ℕ) → c < first_joining → (c == 13) ≡ false → are_alone cs ≡ true → length (cut (is_grapheme_break true) before (c ∷ cs) []) ≡ suc (length cs)
-alone_cut [] c before p q e = cut_step (is_grapheme_break true) before c [] [] (last_breaks c before) ∙ ap suc (cut_end (is_grapheme_break true) (c ∷ before) [])
-alone_cut (n ∷ cs) c before p q e =
-    let parts = alone_parts n cs e in
-    cut_step (is_grapheme_break true) before c (n ∷ cs) [] (alone_breaks c n before (cs ++ []) p parts.0 (ap (λ v. v && (n == 10)) q)) ∙ ap suc (alone_cut cs n (c ∷ before) parts.0 parts.1 parts.2)
-
-alone_cuts : (cs : List ℕ) → are_alone cs ≡ true → length (cut (is_grapheme_break true) [] cs []) ≡ length cs
-alone_cuts [] e = cut_end (is_grapheme_break true) [] []
-alone_cuts (c ∷ cs) e =
-    let parts = alone_parts c cs e in
-    alone_cut cs c [] parts.0 parts.1 parts.2
-
-pub clusters_alone : (text : List ℕ) → are_alone (chars text) ≡ true → length (graphemes true text) ≡ length (chars text)
-unfolding segments
-clusters_alone text e = length-map (cut (is_grapheme_break true) [] (chars text) []) encode_utf8_all ∙ alone_cuts (chars text) e
+alone_breaks : Breaks is_alone
+alone_breaks c n before after p q =
+    let inside = is_grapheme_break-inside true (c ∷ before) n after (omega arith) in
+    let here = alone_is c p in
+    let next = alone_is n q in
+    inside ∙ pair_breaks (grapheme_cluster_break c) (grapheme_cluster_break n) c n _ (class_of_alone c here.0) (class_of_alone n next.0) (ap (λ v. v && (n == 10)) here.1)
+    (λ l r. sym inside ∙ sym (is_grapheme_break-others true (c ∷ before) n after (omega arith) (omega arith) l r))
 
 -- ---- ASCII
 
 -- a byte more that is simple
-simple_parts : (b : ℕ) (text : List ℕ) → is_simple (b ∷ text) ≡ true → (b < 128) × ((b == 13) ≡ false) × (is_simple text ≡ true)
+pub simple_parts : (b : ℕ) (text : List ℕ) → is_simple (b ∷ text) ≡ true → (b < 128) × ((b == 13) ≡ false) × (is_simple text ≡ true)
 simple_parts b text e = go (nat_lt b 128) refl (b == 13) refl e
   where
     go : (v : Bool) → nat_lt b 128 ≡ v → (w : Bool) → (b == 13) ≡ w → ((v && not w) && is_simple text) ≡ true → (b < 128) × ((b == 13) ≡ false) × (is_simple text ≡ true)
@@ -181,7 +194,7 @@ simple_alone (b ∷ text) e =
 pub clusters_simple : (text : List ℕ) → is_simple text ≡ true → length (graphemes true text) ≡ length text
 clusters_simple text e =
     let same = chars-IsAscii text (λ i. simple_ascii text i e) in
-    clusters_alone text (ap are_alone same ∙ simple_alone text e) ∙ ap length same
+    clusters_apart is_alone alone_breaks text (ap are_alone same ∙ simple_alone text e) ∙ ap length same
 
 -- ---- byte by byte
 

@@ -1,5 +1,5 @@
 -- What answers of devices say: our own words for our own devices.
-use Rattle.std.specs.Prelude.{ℕ, ◌<◌, Bool, true, false, Result, Ok, Err}
+use Rattle.std.specs.Prelude.{◌≡◌, ℕ, ◌<◌, Bool, true, false, Option, Some, None, Result, Ok, Err}
 use Rattle.hcl_source.specs.declared.device.ReadError.{ReadError}
 use Rattle.hcl_source.specs.declared.device.ReadError.TheVariants.{Failed}
 use Rattle.hcl_source.specs.declared.device.Flushes.{Flushes}
@@ -9,6 +9,11 @@ use Rattle.hcl_source.specs.declared.device.Flushes.TheVariants.{Never, Once, Of
 abbrev pub TookSome : {E : Type 0} → Result ℕ E → Type 0
 TookSome (Ok n) = 0 < n
 TookSome (Err e) = ⊥
+
+-- where a device tells something, this is it
+abbrev pub Tells : {X : Type 0} → Option X → X → Type 0
+Tells None x = Unit {0}
+Tells (Some told) x = told ≡ x
 
 -- a reading ended because a read failed
 abbrev pub is_read_failed : {X : Type 0} → Result X ReadError → Bool

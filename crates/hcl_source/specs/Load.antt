@@ -9,7 +9,7 @@ use Rattle.hcl_source.specs.declared.fault.Fault.{Fault}
 use Rattle.hcl_source.specs.declared.fault.LoadError.{LoadError}
 use Rattle.hcl_source.specs.declared.fault.LoadError.TheVariants as error
 use Rattle.hcl_source.specs.declared.fault.FaultKind.{FaultKind}
-use Rattle.hcl_source.specs.declared.fault.FaultKind.TheVariants.{TooLarge, InvalidUtf8, ByteOrderMark}
+use Rattle.hcl_source.specs.declared.fault.FaultKind.TheVariants.{TooLarge, InvalidUtf8, ByteOrderMark, ResultTooLarge}
 
 -- the most bytes that a source has
 abbrev pub max_source : ℕ
@@ -35,6 +35,10 @@ IsLoadFaultAt bytes _ at = ⊥
 -- THE FAULT that bytes are refused for
 abbrev pub IsLoadFault : List ℕ → Fault → Type 0
 IsLoadFault bytes fault = (at : ℕ) × IsLoadFaultAt bytes fault.kind at × (fault.at ≡ place bytes at)
+
+-- the fault of a print that would have more bytes than a source may have: at its front
+abbrev pub print_too_large : Fault
+print_too_large = record { kind = ResultTooLarge; at = record { line = 1; column = 1 } }
 
 -- an error of loading bytes that are there
 abbrev pub IsLoadError : List ℕ → LoadError → Type 0

@@ -37,13 +37,13 @@ one_less None = None
 one_less (Some good) = Some (good - 1)
 
 -- how many bytes a good read gives to so much room
-abbrev pub given : Giving → ℕ → ℕ
-given s room = min s.most (min room (length s.rest))
+abbrev pub read_len : Giving → ℕ → ℕ
+read_len s room = min s.most (min room (length s.rest))
 
 -- how many of the bytes a good write takes
-abbrev pub accepted : Taking → List ℕ → ℕ
-accepted s bytes = min s.most (min (length bytes) (sink_room - length s.bytes))
+abbrev pub write_len : Taking → List ℕ → ℕ
+write_len s bytes = min s.most (min (length bytes) (sink_room - length s.bytes))
 
 -- a write fails where it is the one that is to fail, and where there are bytes and it can take none
 abbrev pub write_fails : Taking → List ℕ → Bool
-write_fails s bytes = is_due s.good_writes || (not (length bytes == 0) && accepted s bytes == 0)
+write_fails s bytes = is_due s.good_writes || (not (length bytes == 0) && write_len s bytes == 0)

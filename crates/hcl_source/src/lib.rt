@@ -20,4 +20,4 @@ pub use device::{
 pub use fault::{Fault, FaultKind, LoadError, Position};
 pub use lines::line_ends;
 pub use memory::{MemorySink, MemorySource, SINK_ROOM};
-pub use source::{MAX_SOURCE, Source, line_start};
+pub use source::{MAX_SOURCE, Source};

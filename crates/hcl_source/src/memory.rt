@@ -2,7 +2,7 @@
 
 ghost use Rattle.std.specs.Prelude.{◌≡◌, ◌<◌, ◌≤◌, ◌==◌, ◌&&◌, ◌++◌, [], Some, None, true, false, length, take, drop, IfOk, OnOk, OnErr, is_err};
 ghost use Rattle.hcl_source.specs.Devices.{one_more};
-ghost use Rattle.hcl_source.specs.Memory.{sink_room, is_due, one_less, given, accepted, write_fails};
+ghost use Rattle.hcl_source.specs.Memory.{sink_room, is_due, one_less, read_len, write_len, write_fails};
 
 use crate::device::{ByteSink, ByteSource, Failed, Flushes};
 use std::marker::Model;
@@ -88,7 +88,7 @@ impl<'a> MemorySource<'a> {
     pub fn give(&mut self, buffer: &mut [u8]) -> Result<usize, Failed>
         requires { self.old.has_failed ≡ false }
         ensures fails { is_err result ≡ is_due self.old.good_reads }
-        ensures count { IfOk result (λ n. n ≡ given self.old (length buffer.old)) }
+        ensures count { IfOk result (λ n. n ≡ read_len self.old (length buffer.old)) }
         ensures bytes { IfOk result (λ n. buffer.new ≡ take n self.old.rest ++ drop n buffer.old) }
         ensures ok { IfOk result (λ n. self.new ≡ record self.old { rest = drop n self.old.rest; good_reads = one_less self.old.good_reads }) }
         ensures end { IfOk result (λ n. n ≡ 0 → 0 < length buffer.old → self.old.rest ≡ []) }
@@ -207,7 +207,7 @@ impl MemorySink {
     pub fn accept(&mut self, bytes: &[u8]) -> Result<usize, Failed>
         requires { self.old.has_failed ≡ false }
         ensures fails { is_err result ≡ write_fails self.old bytes.now }
-        ensures count { IfOk result (λ n. n ≡ accepted self.old bytes.now) }
+        ensures count { IfOk result (λ n. n ≡ write_len self.old bytes.now) }
         ensures ok { IfOk result (λ n. self.new ≡ record self.old { bytes = self.old.bytes ++ take n bytes.now; good_writes = one_less self.old.good_writes; is_flushed = self.old.is_flushed && n == 0 }) }
         ensures err { OnErr result (self.new ≡ record self.old { has_failed = true }) }
     {

@@ -37,7 +37,7 @@ impl Model for Source {
 }
 
 /// Where the last line of a text begins: after its last LF, or at 0.
-pub fn line_start(bytes: &[u8]) -> usize
+fn line_start(bytes: &[u8]) -> usize
     ensures within { result ≤ length bytes.now }
     ensures start { drop result bytes.now ≡ after_last (λ b. b == 10) bytes.now }
     ensures behind_lf { 0 < result → slice_index bytes.now (result - 1) ≡ 10 }

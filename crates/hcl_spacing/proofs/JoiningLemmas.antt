@@ -16,7 +16,7 @@ use Rattle.hcl_tokens.specs.declared.token.Kind.TheVariants as kind
 use Rattle.hcl_tokens.proofs.BooleanLemmas.{and_true, or_true, not_true, or_cases}
 use Rattle.hcl_tokens.proofs.ByteKindLemmas.{Says, says}
 use Rattle.hcl_tokens.specs.Kinds.{is}
-use Rattle.hcl_spacing.specs.Spacing.{opens_sequence, begins_with_colon, begins_with_equals, stands_before, spaced}
+use Rattle.hcl_spacing.specs.Spacing.{opens_sequence, begins_with_colon, begins_with_equals, stands_before, has_blank}
 use Rattle.hcl_spacing.proofs.KindLemmas.{each, kinds, never}
 use Rattle.hcl_spacing.proofs.SpacingLemmas.{plain_pair, by_kinds, by_joining}
 
@@ -50,6 +50,25 @@ so P Q tried k h = by (P k) h (each (λ k. not (P k) || Q k) tried k)
     by true e f = f
     by false e f = cc
 
+-- the kinds whose texts begin with one of these bytes
+abbrev is_pointed : Kind → Bool
+is_pointed k = is kind.Dot k || is kind.Ellipsis k
+
+abbrev is_coloned : Kind → Bool
+is_coloned k = is kind.Colon k || is kind.ColonColon k
+
+abbrev is_equals : Kind → Bool
+is_equals k = is kind.Assign k || is kind.Arrow k || is kind.Equal k
+
+abbrev is_greater : Kind → Bool
+is_greater k = is kind.Greater k || is kind.GreaterEqual k
+
+abbrev is_less : Kind → Bool
+is_less k = is kind.Less k || is kind.LessEqual k || is kind.HeredocOpen k
+
+abbrev is_slashed : Kind → Bool
+is_slashed k = is kind.Slash k || is kind.LineComment k || is kind.InlineComment k
+
 pair_ident : (k : Kind) → (is kind.Ident k ≡ true) ⊎ (is kind.Number k ≡ true) ⊎ (is kind.Minus k ≡ true) → plain_pair kind.Ident k ≡ true
 pair_ident k (inl h) = so (is kind.Ident) (plain_pair kind.Ident) refl k h
 pair_ident k (inr (inl h)) = so (is kind.Number) (plain_pair kind.Ident) refl k h
@@ -59,32 +78,32 @@ pair_number : (k : Kind) → (is kind.Ident k ≡ true) ⊎ (is kind.Number k �
 pair_number k (inl h) = so (is kind.Ident) (plain_pair kind.Number) refl k h
 pair_number k (inr h) = so (is kind.Number) (plain_pair kind.Number) refl k h
 
-pair_assign : (k : Kind) → (beside.is_equals k ≡ true) ⊎ (beside.is_greater k ≡ true) → plain_pair kind.Assign k ≡ true
-pair_assign k (inl h) = so beside.is_equals (plain_pair kind.Assign) refl k h
-pair_assign k (inr h) = so beside.is_greater (plain_pair kind.Assign) refl k h
+pair_assign : (k : Kind) → (is_equals k ≡ true) ⊎ (is_greater k ≡ true) → plain_pair kind.Assign k ≡ true
+pair_assign k (inl h) = so is_equals (plain_pair kind.Assign) refl k h
+pair_assign k (inr h) = so is_greater (plain_pair kind.Assign) refl k h
 
-pair_less : (k : Kind) → (beside.is_less k ≡ true) ⊎ (beside.is_equals k ≡ true) → plain_pair kind.Less k ≡ true
-pair_less k (inl h) = so beside.is_less (plain_pair kind.Less) refl k h
-pair_less k (inr h) = so beside.is_equals (plain_pair kind.Less) refl k h
+pair_less : (k : Kind) → (is_less k ≡ true) ⊎ (is_equals k ≡ true) → plain_pair kind.Less k ≡ true
+pair_less k (inl h) = so is_less (plain_pair kind.Less) refl k h
+pair_less k (inr h) = so is_equals (plain_pair kind.Less) refl k h
 
-pair_greater : (k : Kind) → beside.is_equals k ≡ true → plain_pair kind.Greater k ≡ true
-pair_greater = so beside.is_equals (plain_pair kind.Greater) refl
+pair_greater : (k : Kind) → is_equals k ≡ true → plain_pair kind.Greater k ≡ true
+pair_greater = so is_equals (plain_pair kind.Greater) refl
 
-pair_slash : (k : Kind) → (beside.is_slashed k ≡ true) ⊎ (is kind.Star k ≡ true) → plain_pair kind.Slash k ≡ true
-pair_slash k (inl h) = so beside.is_slashed (plain_pair kind.Slash) refl k h
+pair_slash : (k : Kind) → (is_slashed k ≡ true) ⊎ (is kind.Star k ≡ true) → plain_pair kind.Slash k ≡ true
+pair_slash k (inl h) = so is_slashed (plain_pair kind.Slash) refl k h
 pair_slash k (inr h) = so (is kind.Star) (plain_pair kind.Slash) refl k h
 
-pair_dot : (k : Kind) → beside.is_pointed k ≡ true → (is kind.Dot k || is kind.Ellipsis k) ≡ true
-pair_dot = so beside.is_pointed (λ k. is kind.Dot k || is kind.Ellipsis k) refl
+pair_dot : (k : Kind) → is_pointed k ≡ true → (is kind.Dot k || is kind.Ellipsis k) ≡ true
+pair_dot = so is_pointed (λ k. is kind.Dot k || is kind.Ellipsis k) refl
 
-pointed_on : (k : Kind) → beside.is_pointed k ≡ true → is kind.Newline k ≡ false
-pointed_on k h = not_true (is kind.Newline k) (so beside.is_pointed (λ k. not (is kind.Newline k)) refl k h)
+pointed_on : (k : Kind) → is_pointed k ≡ true → is kind.Newline k ≡ false
+pointed_on k h = not_true (is kind.Newline k) (so is_pointed (λ k. not (is kind.Newline k)) refl k h)
 
-equals_on : (k : Kind) → beside.is_equals k ≡ true → is kind.Newline k ≡ false
-equals_on k h = not_true (is kind.Newline k) (so beside.is_equals (λ k. not (is kind.Newline k)) refl k h)
+equals_on : (k : Kind) → is_equals k ≡ true → is kind.Newline k ≡ false
+equals_on k h = not_true (is kind.Newline k) (so is_equals (λ k. not (is kind.Newline k)) refl k h)
 
-coloned_on : (k : Kind) → beside.is_coloned k ≡ true → is kind.Newline k ≡ false
-coloned_on k h = not_true (is kind.Newline k) (so beside.is_coloned (λ k. not (is kind.Newline k)) refl k h)
+coloned_on : (k : Kind) → is_coloned k ≡ true → is kind.Newline k ≡ false
+coloned_on k h = not_true (is kind.Newline k) (so is_coloned (λ k. not (is kind.Newline k)) refl k h)
 
 dot_on : (k : Kind) → is kind.Dot k ≡ true → is kind.Newline k ≡ false
 dot_on k h = not_true (is kind.Newline k) (so (is kind.Dot) (λ k. not (is kind.Newline k)) refl k h)
@@ -128,7 +147,7 @@ module _ (before : Option Lexeme) (u t : Lexeme) (dot : Bool) (outside_all : t.i
   s : Says t.kind b
   s = says t.kind b begins
 
-  pair : (k : Kind) → u.kind ≡ k → plain_pair k t.kind ≡ true → spaced before u t ≡ true
+  pair : (k : Kind) → u.kind ≡ k → plain_pair k t.kind ≡ true → has_blank before u t ≡ true
   pair k e h = by_kinds before u t outside_all (ap (λ (z : Kind). plain_pair z t.kind) e ∙ h)
 
   -- the parts of row 2
@@ -147,20 +166,20 @@ module _ (before : Option Lexeme) (u t : Lexeme) (dot : Bool) (outside_all : t.i
   abbrev colons : Bool
   colons = is kind.Colon u.kind && begins_with_colon t.text
 
-  two : is kind.Newline t.kind ≡ false → parts_of_two dots point_behind not_equals closed_by_tilde colons ≡ true → spaced before u t ≡ true
+  two : is kind.Newline t.kind ≡ false → parts_of_two dots point_behind not_equals closed_by_tilde colons ≡ true → has_blank before u t ≡ true
   two n h = by_joining before u t (λ i. n i || outside_all i) h
 
   tilde_text : (t.text ≡ codes "}") ⊎ (t.text ≡ codes "~}") → (b == 126) ≡ true → bytes_eq t.text (codes "~}") ≡ true
   tilde_text (inl e) h = absurd (let f : false ≡ true = sym (ap (λ l. get_or l 0 0 == 126) e) ∙ h in cc)
   tilde_text (inr e) h = ap (λ l. bytes_eq l (codes "~}")) e
 
-  sequence : opens_sequence u.kind ≡ true → (b == 126) ≡ true → spaced before u t ≡ true
+  sequence : opens_sequence u.kind ≡ true → (b == 126) ≡ true → has_blank before u t ≡ true
   sequence e h =
       let k = seq_close_is t.kind (s.tilde h) in
       two (ap (is kind.Newline) k) (by_fourth dots point_behind not_equals _ colons (λ i. e i && is kind.SeqClose (k i) && tilde_text (tilde k) h i))
 
   abbrev Grown : Kind → Type 0
-  Grown k = u.kind ≡ k → neighbours.joins dot k t.kind t.text ≡ true → spaced before u t ≡ true
+  Grown k = u.kind ≡ k → neighbours.joins dot k t.kind t.text ≡ true → has_blank before u t ≡ true
 
   plain : (g : Bool) → (g || false) ≡ true → g ≡ true
   plain true k = refl
@@ -181,7 +200,7 @@ module _ (before : Option Lexeme) (u t : Lexeme) (dot : Bool) (outside_all : t.i
       digits (inl x) = inl (s.letter x)
       digits (inr x) = inr (s.digit x)
 
-      by : (neighbours.grows kind.Number b ≡ true) ⊎ ((not dot && is kind.Dot t.kind) ≡ true) → spaced before u t ≡ true
+      by : (neighbours.grows kind.Number b ≡ true) ⊎ ((not dot && is kind.Dot t.kind) ≡ true) → has_blank before u t ≡ true
       by (inl x) = pair kind.Number e (pair_number t.kind (digits (e_byte b x)))
       by (inr x) =
           let p = and_true (not dot) (is kind.Dot t.kind) x in
@@ -238,5 +257,5 @@ module _ (before : Option Lexeme) (u t : Lexeme) (dot : Bool) (outside_all : t.i
   by_kind kind.ControlOpen = grown_control
   by_kind _ = λ e h. never h
 
-  pub joined_apart : neighbours.joins dot u.kind t.kind t.text ≡ true → spaced before u t ≡ true
+  pub joined_apart : neighbours.joins dot u.kind t.kind t.text ≡ true → has_blank before u t ≡ true
   joined_apart h = by_kind u.kind refl h

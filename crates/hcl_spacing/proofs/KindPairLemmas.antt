@@ -7,7 +7,7 @@ use Rattle.hcl_tokens.specs.Lexemes.{Lexeme}
 use Rattle.hcl_tokens.specs.declared.token.Kind.{Kind}
 use Rattle.hcl_tokens.specs.Kinds.{is}
 use Rattle.hcl_tokens.specs.declared.token.Kind.TheVariants as kind
-use Rattle.hcl_spacing.specs.Spacing.{asks_more, begins_with_colon, begins_with_equals, closes_group, ends_operand, is_opening, opens_sequence, spaced, stands_before}
+use Rattle.hcl_spacing.specs.Spacing.{asks_more, begins_with_colon, begins_with_equals, closes_group, ends_operand, is_opening, opens_sequence, has_blank, stands_before}
 use Rattle.hcl_spacing.specs.Inner.KindPairs.{asked, asked_space, pair_space}
 use Rattle.hcl_spacing.proofs.KindLemmas.{each, kinds}
 
@@ -117,7 +117,7 @@ second true w e h = cc
 second false w e h = h
 
 -- outside heredocs, the table says of two tokens what their kinds give, or else what was asked
-pub by_kinds : (before : Option Lexeme) (subject after : Lexeme) → after.inside_heredoc ≡ false → answered (pair_space subject.kind after.kind) (asked_space before subject after) ≡ spaced before subject after
+pub by_kinds : (before : Option Lexeme) (subject after : Lexeme) → after.inside_heredoc ≡ false → answered (pair_space subject.kind after.kind) (asked_space before subject after) ≡ has_blank before subject after
 by_kinds before subject after e =
     let l = subject.kind in
     let r = after.kind in
@@ -134,10 +134,10 @@ by_kinds before subject after e =
     or_false true = refl
     or_false false = refl
 
-pub given : (space : Bool) (subject after : Lexeme) → after.inside_heredoc ≡ false → pair_space subject.kind after.kind ≡ Some space → (before : Option Lexeme) → space ≡ spaced before subject after
+pub given : (space : Bool) (subject after : Lexeme) → after.inside_heredoc ≡ false → pair_space subject.kind after.kind ≡ Some space → (before : Option Lexeme) → space ≡ has_blank before subject after
 given space subject after e f before = sym (ap (λ o. answered o (asked_space before subject after)) f) ∙ by_kinds before subject after e
 
-pub asked_is : (before : Option Lexeme) (subject after : Lexeme) → after.inside_heredoc ≡ false → pair_space subject.kind after.kind ≡ None → asked_space before subject after ≡ spaced before subject after
+pub asked_is : (before : Option Lexeme) (subject after : Lexeme) → after.inside_heredoc ≡ false → pair_space subject.kind after.kind ≡ None → asked_space before subject after ≡ has_blank before subject after
 asked_is before subject after e f = sym (ap (λ o. answered o (asked_space before subject after)) f) ∙ by_kinds before subject after e
 
 -- where the kinds don't tell, the table asks for more

@@ -10,7 +10,7 @@ use Rattle.hcl_tokens.specs.declared.token.Kind.TheVariants as kind
 use Rattle.hcl_tokens.proofs.BooleanLemmas.{and_true, not_true}
 use Rattle.hcl_tokens.specs.Kinds.{is}
 use Rattle.hcl_spacing.proofs.KindLemmas.{never}
-use Rattle.hcl_spacing.specs.Spacing.{opens_sequence, closes_group, ends_operand, is_opening, would_join, is_in, spaced}
+use Rattle.hcl_spacing.specs.Spacing.{opens_sequence, closes_group, ends_operand, is_opening, would_join, is_in, has_blank}
 
 -- ---- rows by kinds alone
 abbrev pub plain_pair : Kind → Kind → Bool
@@ -44,13 +44,13 @@ table_true false false false false false false false false false false false fal
 
 rows : (before : Option Lexeme) (u t : Lexeme) → (is kind.Newline t.kind || t.inside_heredoc) ≡ false → (not (is kind.Ident u.kind && is kind.ParenOpen t.kind) && not (is kind.Dot u.kind || is kind.Dot t.kind) && not (is kind.ColonColon u.kind || is kind.ColonColon t.kind) && not (is kind.Comma t.kind || is kind.Ellipsis t.kind) && not (is kind.QuoteOpen u.kind || is kind.Lit u.kind || is kind.Lit t.kind || is kind.QuoteClose t.kind)
     && not (is kind.BracketOpen t.kind && ends_operand u.kind) && not (is kind.Not u.kind) && not (is kind.Minus u.kind) && not (is kind.BraceOpen u.kind && is kind.BraceClose t.kind) && not (is kind.SeqClose u.kind && opens_sequence t.kind)
-    && not (is kind.ParenOpen u.kind || is kind.BracketOpen u.kind || opens_sequence u.kind) && not (closes_group t.kind)) ≡ true → spaced before u t ≡ true
+    && not (is kind.ParenOpen u.kind || is kind.BracketOpen u.kind || opens_sequence u.kind) && not (closes_group t.kind)) ≡ true → has_blank before u t ≡ true
 rows before u t e h = table_true (is kind.Newline t.kind || t.inside_heredoc) (would_join before u t) (is kind.Ident u.kind && is kind.ParenOpen t.kind) (is kind.Dot u.kind || is kind.Dot t.kind) (is kind.ColonColon u.kind || is kind.ColonColon t.kind) (is kind.Comma t.kind || is kind.Ellipsis t.kind)
     (is kind.Comma u.kind) (is kind.QuoteOpen u.kind || is kind.Lit u.kind || is kind.Lit t.kind || is kind.QuoteClose t.kind) (is_in before u) (is kind.BracketOpen t.kind && ends_operand u.kind) (is kind.Not u.kind) (is kind.Minus u.kind) (not (is_opening before))
     (is kind.BraceOpen u.kind && is kind.BraceClose t.kind) (is kind.BraceOpen u.kind || is kind.BraceClose t.kind) ((opens_sequence u.kind && is kind.BraceOpen t.kind) || (is kind.BraceClose u.kind && is kind.SeqClose t.kind)) (is kind.SeqClose u.kind && opens_sequence t.kind)
     (is kind.ParenOpen u.kind || is kind.BracketOpen u.kind || opens_sequence u.kind) (closes_group t.kind) e h
 
-pub by_kinds : (before : Option Lexeme) (u t : Lexeme) → t.inside_heredoc ≡ false → plain_pair u.kind t.kind ≡ true → spaced before u t ≡ true
+pub by_kinds : (before : Option Lexeme) (u t : Lexeme) → t.inside_heredoc ≡ false → plain_pair u.kind t.kind ≡ true → has_blank before u t ≡ true
 by_kinds before u t outside h =
     let p = and_true (not (is kind.Ident u.kind && is kind.ParenOpen t.kind) && not (is kind.Dot u.kind || is kind.Dot t.kind) && not (is kind.ColonColon u.kind || is kind.ColonColon t.kind) && not (is kind.Comma t.kind || is kind.Ellipsis t.kind) && not (is kind.QuoteOpen u.kind || is kind.Lit u.kind || is kind.Lit t.kind || is kind.QuoteClose t.kind)
     && not (is kind.BracketOpen t.kind && ends_operand u.kind) && not (is kind.Not u.kind) && not (is kind.Minus u.kind) && not (is kind.BraceOpen u.kind && is kind.BraceClose t.kind) && not (is kind.SeqClose u.kind && opens_sequence t.kind)
@@ -59,11 +59,11 @@ by_kinds before u t outside h =
     rows before u t (λ i. n i || outside i) p.0
 
 -- ---- row 2
-pub by_joining : (before : Option Lexeme) (u t : Lexeme) → (is kind.Newline t.kind || t.inside_heredoc) ≡ false → would_join before u t ≡ true → spaced before u t ≡ true
+pub by_joining : (before : Option Lexeme) (u t : Lexeme) → (is kind.Newline t.kind || t.inside_heredoc) ≡ false → would_join before u t ≡ true → has_blank before u t ≡ true
 by_joining before u t e h = rw (e, h) refl
 
 -- ---- row 1
-pub row_one : (before : Option Lexeme) (u t : Lexeme) → (is kind.Newline t.kind || t.inside_heredoc) ≡ true → spaced before u t ≡ false
+pub row_one : (before : Option Lexeme) (u t : Lexeme) → (is kind.Newline t.kind || t.inside_heredoc) ≡ true → has_blank before u t ≡ false
 row_one before u t h = rw h refl
 
 -- ---- rows 7 and 15: where a template goes on
@@ -77,7 +77,7 @@ abbrev is_heredoc_close : Kind → Bool
 is_heredoc_close kind.HeredocClose = true
 is_heredoc_close _ = false
 
-behind_quote : (before : Option Lexeme) (u t : Lexeme) (k : Kind) → regapped.is_template k ≡ true → is_heredoc_close k ≡ false → spaced before (of_kind kind.QuoteOpen u) (outside k t) ≡ false
+behind_quote : (before : Option Lexeme) (u t : Lexeme) (k : Kind) → regapped.is_template k ≡ true → is_heredoc_close k ≡ false → has_blank before (of_kind kind.QuoteOpen u) (outside k t) ≡ false
 behind_quote before u t kind.Lit h c = refl
 behind_quote before u t kind.InterpOpen h c = refl
 behind_quote before u t kind.ControlOpen h c = refl
@@ -85,7 +85,7 @@ behind_quote before u t kind.QuoteClose h c = refl
 behind_quote before u t kind.HeredocClose h c = absurd (cc)
 behind_quote before u t _ h c = never h
 
-behind_lit : (before : Option Lexeme) (u t : Lexeme) (k : Kind) → regapped.is_template k ≡ true → is_heredoc_close k ≡ false → spaced before (of_kind kind.Lit u) (outside k t) ≡ false
+behind_lit : (before : Option Lexeme) (u t : Lexeme) (k : Kind) → regapped.is_template k ≡ true → is_heredoc_close k ≡ false → has_blank before (of_kind kind.Lit u) (outside k t) ≡ false
 behind_lit before u t kind.Lit h c = refl
 behind_lit before u t kind.InterpOpen h c = refl
 behind_lit before u t kind.ControlOpen h c = refl
@@ -93,7 +93,7 @@ behind_lit before u t kind.QuoteClose h c = refl
 behind_lit before u t kind.HeredocClose h c = absurd (cc)
 behind_lit before u t _ h c = never h
 
-behind_sequence : (before : Option Lexeme) (u t : Lexeme) (k : Kind) → regapped.is_template k ≡ true → is_heredoc_close k ≡ false → spaced before (of_kind kind.SeqClose u) (outside k t) ≡ false
+behind_sequence : (before : Option Lexeme) (u t : Lexeme) (k : Kind) → regapped.is_template k ≡ true → is_heredoc_close k ≡ false → has_blank before (of_kind kind.SeqClose u) (outside k t) ≡ false
 behind_sequence before u t kind.Lit h c = refl
 behind_sequence before u t kind.InterpOpen h c = refl
 behind_sequence before u t kind.ControlOpen h c = refl
@@ -101,7 +101,7 @@ behind_sequence before u t kind.QuoteClose h c = refl
 behind_sequence before u t kind.HeredocClose h c = absurd (cc)
 behind_sequence before u t _ h c = never h
 
-template_rows : (before : Option Lexeme) (u t : Lexeme) (k k' : Kind) → beside.opens_template k ≡ true → regapped.is_template k' ≡ true → is_heredoc_close k' ≡ false → spaced before (of_kind k u) (outside k' t) ≡ false
+template_rows : (before : Option Lexeme) (u t : Lexeme) (k k' : Kind) → beside.opens_template k ≡ true → regapped.is_template k' ≡ true → is_heredoc_close k' ≡ false → has_blank before (of_kind k u) (outside k' t) ≡ false
 template_rows before u t kind.QuoteOpen k' h i c = behind_quote before u t k' i c
 template_rows before u t kind.Lit k' h i c = behind_lit before u t k' i c
 template_rows before u t kind.SeqClose k' h i c = behind_sequence before u t k' i c
@@ -111,6 +111,6 @@ not_heredoc_close : (k : Kind) (inside : Bool) → inside ≡ false → (k ≡ k
 not_heredoc_close kind.HeredocClose inside e f = absurd (let g = f refl in cc)
 not_heredoc_close _ inside e f = refl
 
-pub template_touches : (before : Option Lexeme) (u t : Lexeme) → t.inside_heredoc ≡ false → beside.opens_template u.kind ≡ true → regapped.is_template t.kind ≡ true → (t.kind ≡ kind.HeredocClose → t.inside_heredoc ≡ true) → spaced before u t ≡ false
+pub template_touches : (before : Option Lexeme) (u t : Lexeme) → t.inside_heredoc ≡ false → beside.opens_template u.kind ≡ true → regapped.is_template t.kind ≡ true → (t.kind ≡ kind.HeredocClose → t.inside_heredoc ≡ true) → has_blank before u t ≡ false
 template_touches before u t e h i f =
-    (λ j. spaced before u (record { kind = t.kind; text = t.text; start = t.start; inside_heredoc = e j })) ∙ template_rows before u t u.kind t.kind h i (not_heredoc_close t.kind t.inside_heredoc e f)
+    (λ j. has_blank before u (record { kind = t.kind; text = t.text; start = t.start; inside_heredoc = e j })) ∙ template_rows before u t u.kind t.kind h i (not_heredoc_close t.kind t.inside_heredoc e f)

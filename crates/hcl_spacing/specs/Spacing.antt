@@ -10,53 +10,25 @@ use Rattle.hcl_tokens.specs.Kinds.{is}
 
 -- `${` and `%{`
 abbrev pub opens_sequence : Kind → Bool
-opens_sequence kind.InterpOpen = true
-opens_sequence kind.ControlOpen = true
-opens_sequence _ = false
+opens_sequence k = is kind.InterpOpen k || is kind.ControlOpen k
 
 -- what closes a paren, a bracket or a sequence
 abbrev pub closes_group : Kind → Bool
-closes_group kind.ParenClose = true
-closes_group kind.BracketClose = true
-closes_group kind.SeqClose = true
-closes_group _ = false
+closes_group k = is kind.ParenClose k || is kind.BracketClose k || is kind.SeqClose k
 
 -- what an index may follow
 abbrev pub ends_operand : Kind → Bool
-ends_operand kind.Ident = true
-ends_operand kind.Number = true
-ends_operand kind.QuoteClose = true
-ends_operand kind.ParenClose = true
-ends_operand kind.BracketClose = true
-ends_operand kind.BraceClose = true
-ends_operand _ = false
+ends_operand k = is kind.Ident k || is kind.Number k || is kind.QuoteClose k || is kind.ParenClose k || is kind.BracketClose k || is kind.BraceClose k
 
 -- the binary operators and `!`
 abbrev pub is_operator : Kind → Bool
-is_operator kind.Plus = true
-is_operator kind.Minus = true
-is_operator kind.Star = true
-is_operator kind.Slash = true
-is_operator kind.Percent = true
-is_operator kind.And = true
-is_operator kind.Or = true
-is_operator kind.Equal = true
-is_operator kind.NotEqual = true
-is_operator kind.Less = true
-is_operator kind.Greater = true
-is_operator kind.LessEqual = true
-is_operator kind.GreaterEqual = true
-is_operator kind.Not = true
-is_operator _ = false
+is_operator k =
+    is kind.Plus k || is kind.Minus k || is kind.Star k || is kind.Slash k || is kind.Percent k || is kind.And k || is kind.Or k || is kind.Not k
+    || is kind.Equal k || is kind.NotEqual k || is kind.Less k || is kind.Greater k || is kind.LessEqual k || is kind.GreaterEqual k
 
 -- marks after which an expression begins
 abbrev pub awaits_operand : Kind → Bool
-awaits_operand kind.Assign = true
-awaits_operand kind.Arrow = true
-awaits_operand kind.Colon = true
-awaits_operand kind.Comma = true
-awaits_operand kind.Question = true
-awaits_operand _ = false
+awaits_operand k = is kind.Assign k || is kind.Arrow k || is kind.Colon k || is kind.Comma k || is kind.Question k
 
 abbrev pub begins_with_equals : List ℕ → Bool
 begins_with_equals [] = false
@@ -91,8 +63,8 @@ is_in before subject = is kind.Ident subject.kind && bytes_eq subject.text (code
 
 -- THE TABLE: one blank between the subject and the token after it; `before` stands before the subject on its line. The
 -- words in quotation marks are headings of docs/STYLE.md, where each row stands with examples.
-abbrev pub spaced : Option Lexeme → Lexeme → Lexeme → Bool
-spaced before subject after =
+abbrev pub has_blank : Option Lexeme → Lexeme → Lexeme → Bool
+has_blank before subject after =
     -- "Blanks at the ends of lines" vanish, and "Heredocs" are kept byte for byte
     if is kind.Newline after.kind || after.inside_heredoc then false
     -- "A number and a dot", and other neighbours that would be read as one token

@@ -1,21 +1,21 @@
 //! Kinds of tokens, as the spacing groups them.
 
 ghost use Rattle.std.specs.Prelude.{◌≡◌};
-ghost use Rattle.hcl_tokens.specs.Balanced.{is_opener as is_opener_of};
-ghost use Rattle.hcl_spacing.specs.Spacing.{closes_group as closes_group_of, is_operator as is_operator_of, awaits_operand as awaits_operand_of};
+ghost use Rattle.hcl_tokens.specs.Balanced.{is_opener};
+ghost use Rattle.hcl_spacing.specs.Spacing.{closes_group, is_operator, awaits_operand};
 
 use hcl_tokens::Kind;
 
 /// What closes a paren, a bracket or a sequence.
 pub fn closes_group(kind: Kind) -> bool
-    ensures { result ≡ closes_group_of kind }
+    ensures { result ≡ closes_group kind }
 {
     matches!(kind, Kind::ParenClose | Kind::BracketClose | Kind::SeqClose)
 }
 
 /// The binary operators and `!`.
 pub fn is_operator(kind: Kind) -> bool
-    ensures { result ≡ is_operator_of kind }
+    ensures { result ≡ is_operator kind }
 {
     matches!(
         kind,
@@ -38,7 +38,7 @@ pub fn is_operator(kind: Kind) -> bool
 
 /// Marks after which an expression begins.
 pub fn awaits_operand(kind: Kind) -> bool
-    ensures { result ≡ awaits_operand_of kind }
+    ensures { result ≡ awaits_operand kind }
 {
     matches!(
         kind,
@@ -47,7 +47,7 @@ pub fn awaits_operand(kind: Kind) -> bool
 }
 
 pub fn is_opener(kind: Kind) -> bool
-    ensures { result ≡ is_opener_of kind }
+    ensures { result ≡ is_opener kind }
 {
     matches!(
         kind,

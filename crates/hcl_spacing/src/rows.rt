@@ -5,7 +5,7 @@
 //! each kind, and a pair is looked up without a branch.
 ghost use Rattle.std.specs.Prelude.{◌≡◌, Option};
 ghost use Rattle.hcl_tokens.specs.declared.token.Kind.{Kind};
-ghost use Rattle.hcl_spacing.specs.Inner.KindPairs.{has as has_of, pair_space as pair_space_of, stands_close as stands_close_of, told as told_of};
+ghost use Rattle.hcl_spacing.specs.Inner.KindPairs.{has, pair_space, stands_close, told};
 
 use hcl_tokens::Kind;
 
@@ -56,7 +56,7 @@ const BEHIND_OPERAND: u64 = !(CLOSE | CLOSERS | BRACKET);
 
 #[inline(always)]
 fn has(kinds: u64, kind: Kind) -> bool
-    ensures { result ≡ has_of kinds kind }
+    ensures { result ≡ has kinds kind }
 {
     (kinds >> kind as u64) & 1 == 1
 }
@@ -64,7 +64,7 @@ fn has(kinds: u64, kind: Kind) -> bool
 /// Whether the token stands close after whatever it doesn't join.
 #[inline(always)]
 pub fn stands_close(kind: Kind) -> bool
-    ensures { result ≡ stands_close_of kind }
+    ensures { result ≡ stands_close kind }
 {
     has(CLOSE, kind)
 }
@@ -80,7 +80,7 @@ fn telling(blank: u64) -> Row
 /// The row of a kind.
 #[inline(always)]
 fn row_of(left: Kind) -> Row
-    ensures { (right : Kind) → told_of result right ≡ pair_space_of left right }
+    ensures { (right : Kind) → told result right ≡ pair_space left right }
 {
     match left {
         // "Not", "Minus": a sign stands at its operand. What comes before tells a sign, and a `!` may not join a `=`, nor
@@ -129,7 +129,7 @@ fn row_of(left: Kind) -> Row
 /// What two kinds tell alone, outside heredocs.
 #[inline(always)]
 pub fn pair_space(left: Kind, right: Kind) -> Option<bool>
-    ensures { result ≡ pair_space_of left right }
+    ensures { result ≡ pair_space left right }
 {
     let row = row_of(left);
     if has(row.asked, right) {

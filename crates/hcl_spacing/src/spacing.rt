@@ -5,8 +5,8 @@ ghost use Rattle.hcl_tokens.specs.Lexemes.{Lexeme};
 ghost use Rattle.hcl_tokens.specs.Scanned.{lexeme};
 ghost use Rattle.hcl_tokens.specs.Kinds.{is};
 ghost use Rattle.hcl_tokens.specs.declared.token.Kind.TheVariants.{Dot, Ident, Newline};
-ghost use Rattle.hcl_spacing.specs.Spacing.{asks_more, begins_with_colon as begins_with_colon_of, begins_with_equals as begins_with_equals_of, is_opening as is_opening_of, spaced, stands_before};
-ghost use Rattle.hcl_spacing.specs.Inner.KindPairs.{asked_space as asked_space_of};
+ghost use Rattle.hcl_spacing.specs.Spacing.{asks_more, begins_with_colon, begins_with_equals, is_opening, has_blank, stands_before};
+ghost use Rattle.hcl_spacing.specs.Inner.KindPairs.{asked_space};
 
 use crate::kind::{awaits_operand, closes_group, is_opener, is_operator};
 use crate::rows::{pair_space, stands_close};
@@ -14,7 +14,7 @@ use hcl_tokens::{Kind, Token};
 
 #[inline(always)]
 fn begins_with_equals(text: &str) -> bool
-    ensures { result ≡ begins_with_equals_of text.now }
+    ensures { result ≡ begins_with_equals text.now }
 {
     let Some(first) = text.as_bytes().first() else {
         return false;
@@ -24,7 +24,7 @@ fn begins_with_equals(text: &str) -> bool
 
 #[inline(always)]
 fn begins_with_colon(text: &str) -> bool
-    ensures { result ≡ begins_with_colon_of text.now }
+    ensures { result ≡ begins_with_colon text.now }
 {
     let Some(first) = text.as_bytes().first() else {
         return false;
@@ -57,7 +57,7 @@ fn is_behind_ident(before: Option<Token<'_>>) -> bool
 /// Whether an expression begins after the token before, so that a minus there is a sign.
 #[inline(always)]
 fn is_opening(before: Option<Token<'_>>) -> bool
-    ensures { result ≡ is_opening_of (option_map lexeme before.entry) }
+    ensures { result ≡ is_opening (option_map lexeme before.entry) }
 {
     let Some(before) = before else {
         return true;
@@ -69,7 +69,7 @@ fn is_opening(before: Option<Token<'_>>) -> bool
 /// number a dot, or the opening of a sequence the `~` that closes it, whether a minus is a sign, and whether a name is the word `in`.
 #[inline(always)]
 fn asked_space(before: Option<Token<'_>>, subject: Token<'_>, after: Token<'_>) -> bool
-    ensures { result ≡ asked_space_of (option_map lexeme before.entry) (lexeme subject.entry) (lexeme after.entry) }
+    ensures { result ≡ asked_space (option_map lexeme before.entry) (lexeme subject.entry) (lexeme after.entry) }
 {
     match subject.kind {
         // "Not" has no blank after it, unless the two would be read as `!=`
@@ -101,11 +101,11 @@ fn is_kept(after: Token<'_>) -> bool
 /// What their kinds tell of two tokens, and else what has to be asked.
 #[inline(always)]
 fn kinds_space(subject: Token<'_>, after: Token<'_>) -> Option<bool>
-    ensures given { IfSome result (λ space. (before : Option Lexeme) → space ≡ spaced before (lexeme subject.entry) (lexeme after.entry)) }
+    ensures given { IfSome result (λ space. (before : Option Lexeme) → space ≡ has_blank before (lexeme subject.entry) (lexeme after.entry)) }
     ensures untold { IfNone result (asks_more subject.entry.kind after.entry.kind ≡ true) }
     ensures outside { IfNone result (after.entry.inside_heredoc ≡ false) }
     ensures same_line { IfNone result (is Newline after.entry.kind ≡ false) }
-    ensures asked { IfNone result ((before : Option Lexeme) → asked_space_of before (lexeme subject.entry) (lexeme after.entry) ≡ spaced before (lexeme subject.entry) (lexeme after.entry)) }
+    ensures asked { IfNone result ((before : Option Lexeme) → asked_space before (lexeme subject.entry) (lexeme after.entry) ≡ has_blank before (lexeme subject.entry) (lexeme after.entry)) }
 {
     if is_kept(after) {
         return Some(false);
@@ -117,7 +117,7 @@ fn kinds_space(subject: Token<'_>, after: Token<'_>) -> Option<bool>
 /// texts are and whatever stands before them.
 #[inline(always)]
 pub fn space_by_kinds(subject: Token<'_>, after: Token<'_>) -> Option<bool>
-    ensures told { IfSome result (λ space. (before : Option Lexeme) → space ≡ spaced before (lexeme subject.entry) (lexeme after.entry)) }
+    ensures told { IfSome result (λ space. (before : Option Lexeme) → space ≡ has_blank before (lexeme subject.entry) (lexeme after.entry)) }
     ensures untold { IfNone result (asks_more subject.entry.kind after.entry.kind ≡ true) }
     ensures outside { IfNone result (after.entry.inside_heredoc ≡ false) }
     ensures same_line { IfNone result (is Newline after.entry.kind ≡ false) }
@@ -131,7 +131,7 @@ pub fn space_by_texts(before: Option<Token<'_>>, subject: Token<'_>, after: Toke
     requires untold { asks_more subject.kind after.kind ≡ true }
     requires outside { after.inside_heredoc ≡ false }
     requires same_line { is Newline after.kind ≡ false }
-    ensures { result ≡ spaced (option_map lexeme before.entry) (lexeme subject.entry) (lexeme after.entry) }
+    ensures { result ≡ has_blank (option_map lexeme before.entry) (lexeme subject.entry) (lexeme after.entry) }
 {
     asked_space(before, subject, after)
 }
@@ -140,7 +140,7 @@ pub fn space_by_texts(before: Option<Token<'_>>, subject: Token<'_>, after: Toke
 /// is the token before the subject on that line, if there is one.
 #[inline(always)]
 pub fn space_between(before: Option<Token<'_>>, subject: Token<'_>, after: Token<'_>) -> bool
-    ensures { result ≡ spaced (option_map lexeme before.entry) (lexeme subject.entry) (lexeme after.entry) }
+    ensures { result ≡ has_blank (option_map lexeme before.entry) (lexeme subject.entry) (lexeme after.entry) }
 {
     match kinds_space(subject, after) {
         Some(space) => space,

@@ -3,7 +3,7 @@ use Rattle.std.proofs.Common.{◌≡◌, ◌∙◌, ap, ap₂, sym, refl, ℕ, s
 use Rattle.std.specs.Prelude.{filter, nat_lt}
 use borrow.Author.Tests.{ltb-true, ltb-false}
 use Rattle.hcl_tokens.specs.Lexemes.{Lexeme}
-use Rattle.hcl_grammar.specs.Numbered.{Numbered, numbered_from, uncommented, is_comment}
+use Rattle.hcl_grammar.specs.Numbered.{Numbered, numbered_from, without_comments, is_comment}
 use Rattle.hcl_grammar.specs.Items.{behind_brace, block_end, body, labels}
 use Rattle.hcl_syntax.specs.Inner.Pieces.{between, words}
 use Rattle.hcl_syntax.specs.Inner.Bodies.{PutsBlock}
@@ -55,7 +55,7 @@ pub words_before : (ts : List Lexeme) (first to last : ℕ) → last ≤ to → 
 words_before ts first to last h =
     let e : min (to - first) (last - 1 - first) ≡ last - 1 - first = omega (arith, h) in
     filter_filter (λ t. nat_lt (t.number + 1) last) (λ t. not (is_comment t.kind)) (between ts first to)
-    ∙ ap uncommented (before_taken last (to - first) first (drop first ts) ∙ ap (λ j. take j (numbered_from first (drop first ts))) e)
+    ∙ ap without_comments (before_taken last (to - first) first (drop first ts) ∙ ap (λ j. take j (numbered_from first (drop first ts))) e)
 
 pub puts_block : (ts : List Lexeme) (level kind to first last end : ℕ) (old mid new : List Item)
     → words ts first to ≡ behind_brace (words ts (kind + 1) to) → kind + 1 ≤ first → last ≡ block_end (words ts (kind + 1) to) → last ≤ to → end ≡ last - 1

@@ -9,15 +9,15 @@ use Rattle.hcl_tokens.specs.Kinds.{is}
 use Rattle.hcl_tokens.specs.Lexemes.{Lexeme}
 use Rattle.hcl_tokens.specs.declared.token.Kind.{Kind}
 use Rattle.hcl_tokens.specs.declared.token.Kind.TheVariants as kind
-use Rattle.hcl_grammar.specs.Numbered.{Numbered, numbered_from, uncommented, is_comment}
+use Rattle.hcl_grammar.specs.Numbered.{Numbered, numbered_from, without_comments, is_comment}
 use Rattle.hcl_grammar.specs.Items.{deepen, is_closed, onto, pieces}
 use Rattle.hcl_syntax.specs.Inner.Pieces.{words, first_len, newline_from}
 use Rattle.hcl_grammar.specs.declared.item.Item.{Item}
 use Rattle.hcl_grammar.proofs.NumberedLemmas.{number_of}
-use Rattle.hcl_syntax.proofs.WordLemmas.{words_none}
+use Rattle.hcl_syntax.proofs.WordRangeLemmas.{words_none}
 
 abbrev pub taken : ℕ → ℕ → List Lexeme → List Numbered
-taken n k xs = uncommented (take k (numbered_from n xs))
+taken n k xs = without_comments (take k (numbered_from n xs))
 
 -- the pieces after the first, which ends before so many tokens of so many
 abbrev later : ℕ → ℕ → ℕ → List Lexeme → List (List Numbered)
@@ -28,7 +28,7 @@ later (suc m) (suc k) n (x ∷ xs) = later m k (n + 1) xs
 
 -- the first of them
 abbrev first_of_them : ℕ → ℕ → ℕ → List Lexeme → List Numbered
-first_of_them m k n xs = uncommented (take m (take k (numbered_from n xs)))
+first_of_them m k n xs = without_comments (take m (take k (numbered_from n xs)))
 
 pub take_none : {X : Type 0} (k : ℕ) → take {A = X} k [] ≡ []
 take_none zero = refl
@@ -53,8 +53,8 @@ newline_word d _ e = absurd (true≢false (sym e))
 
 pub pieces_cut : (d k n : ℕ) (xs : List Lexeme) → pieces d (taken n k xs) ≡ first_of_them (first_len d xs) k n xs ∷ later (first_len d xs) k n xs
 pieces_cut d zero n xs =
-    ap (λ r. pieces d (uncommented r)) (take_zero (numbered_from n xs))
-    ∙ ap (λ r. uncommented r ∷ []) (sym (ap (λ r. take (first_len d xs) r) (take_zero (numbered_from n xs)) ∙ take_none (first_len d xs)))
+    ap (λ r. pieces d (without_comments r)) (take_zero (numbered_from n xs))
+    ∙ ap (λ r. without_comments r ∷ []) (sym (ap (λ r. take (first_len d xs) r) (take_zero (numbered_from n xs)) ∙ take_none (first_len d xs)))
 pieces_cut d (suc k) n [] = refl
 pieces_cut d (suc k) n (x ∷ xs) = by (is_comment x.kind) (is kind.Newline x.kind && is_closed d) refl refl (pieces_cut (deepen d x.kind) k (n + 1) xs)
   where
@@ -106,9 +106,9 @@ later_pieces : (f : List Numbered → List Item) → f [] ≡ [] → (m k n : �
 later_pieces f none m zero n xs =
     let z : 0 - m - 1 ≡ 0 = omega arith in
     sym (ap (λ j. flat_map f (pieces 0 (taken (n + m + 1) j (drop (m + 1) xs)))) z
-    ∙ ap (λ r. flat_map f (pieces 0 (uncommented r))) (take_zero (numbered_from (n + m + 1) (drop (m + 1) xs))) ∙ ap (λ r. r ++ []) none)
+    ∙ ap (λ r. flat_map f (pieces 0 (without_comments r))) (take_zero (numbered_from (n + m + 1) (drop (m + 1) xs))) ∙ ap (λ r. r ++ []) none)
 later_pieces f none m (suc k) n [] =
-    sym (ap (λ r. flat_map f (pieces 0 (taken (n + m + 1) (suc k - m - 1) r))) (drop-nil {A = Lexeme} (m + 1)) ∙ ap (λ r. flat_map f (pieces 0 (uncommented r))) (take_none (suc k - m - 1)) ∙ ap (λ r. r ++ []) none)
+    sym (ap (λ r. flat_map f (pieces 0 (taken (n + m + 1) (suc k - m - 1) r))) (drop-nil {A = Lexeme} (m + 1)) ∙ ap (λ r. flat_map f (pieces 0 (without_comments r))) (take_none (suc k - m - 1)) ∙ ap (λ r. r ++ []) none)
 later_pieces f none zero (suc k) n (x ∷ xs) =
     let a : n + 0 + 1 ≡ n + 1 = omega arith in
     let b : suc k - 0 - 1 ≡ k = omega arith in
@@ -135,7 +135,7 @@ first_piece f none ts start to end h is =
     F = first_len 0 xs
 
     one : first_of_them F (to - start) start xs ≡ words ts start end
-    one = let e : min F (to - start) ≡ end - start = omega (arith, is, h) in ap uncommented (take_take F (to - start) (numbered_from start xs)) ∙ ap (λ j. uncommented (take j (numbered_from start xs))) e
+    one = let e : min F (to - start) ≡ end - start = omega (arith, is, h) in ap without_comments (take_take F (to - start) (numbered_from start xs)) ∙ ap (λ j. without_comments (take j (numbered_from start xs))) e
 
     cases : (a b : ℕ) → (a < b) ⊎ (b ≤ a)
     cases a b = cases_lt a b
@@ -150,5 +150,5 @@ first_piece f none ts start to end h is =
     rest (inr more) =
         let b : to - start - F - 1 ≡ 0 = omega (arith, is, more) in
         ap (λ j. flat_map f (pieces 0 (taken (start + F + 1) j (drop (F + 1) xs)))) b
-        ∙ ap (λ r. flat_map f (pieces 0 (uncommented r))) (take_zero (numbered_from (start + F + 1) (drop (F + 1) xs)))
+        ∙ ap (λ r. flat_map f (pieces 0 (without_comments r))) (take_zero (numbered_from (start + F + 1) (drop (F + 1) xs)))
         ∙ ap (λ r. flat_map f (pieces 0 r)) (sym (words_none ts (end + 1) to (omega (arith, is, more, h))))

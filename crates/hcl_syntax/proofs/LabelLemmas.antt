@@ -11,7 +11,7 @@ use Rattle.hcl_grammar.specs.Items.{label_at, labels}
 use Rattle.hcl_syntax.specs.Inner.Pieces.{words}
 use Rattle.hcl_grammar.specs.declared.item.Item.{Item}
 use Rattle.hcl_grammar.proofs.NumberedLemmas.{number_of}
-use Rattle.hcl_syntax.proofs.WordLemmas.{words_none, words_step, words_here, open_word}
+use Rattle.hcl_syntax.proofs.WordRangeLemmas.{words_none, words_step, words_here, open_word}
 
 comment_label : (n : ℕ) (k : Kind) (rest : List Numbered) → is_comment k ≡ true → label_at n k rest ≡ []
 comment_label n kind.LineComment rest e = refl

@@ -1,13 +1,13 @@
 pub mod LookaheadLemmas
-pub mod StepLemmas
+pub mod CursorStepLemmas
 pub mod RefusalLemmas
-pub mod WordLemmas
+pub mod WordRangeLemmas
 pub mod SoughtLemmas
 pub mod PieceEndLemmas
 pub mod DeeperLemmas
 pub mod FirstPieceLemmas
 pub mod LabelLemmas
 pub mod BlockLemmas
-pub mod PieceLemmas
+pub mod ItemPieceLemmas
 pub mod OutlineLemmas
 pub mod ShortLemmas

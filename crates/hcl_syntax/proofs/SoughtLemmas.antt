@@ -10,7 +10,7 @@ use Rattle.hcl_grammar.specs.Numbered.{Numbered, is_comment, end_of}
 use Rattle.hcl_grammar.specs.Items.{closing_quote, behind_brace, block_end}
 use Rattle.hcl_syntax.specs.Inner.Pieces.{words}
 use Rattle.hcl_grammar.proofs.NumberedLemmas.{number_of}
-use Rattle.hcl_syntax.proofs.WordLemmas.{words_parts, words_step, words_past, words_here, open_word}
+use Rattle.hcl_syntax.proofs.WordRangeLemmas.{words_parts, words_step, words_past, words_here, open_word}
 
 close_word : (k : Kind) → is kind.QuoteClose k ≡ true → is_comment k ≡ false
 close_word kind.QuoteClose e = refl

@@ -1,22 +1,22 @@
 -- What the first byte of a token of an expression says of its kind, row by row.
-use Rattle.std.proofs.Common.{◌≡◌, ℕ, ◌==◌, true, false, subst, arith}
+use Rattle.std.proofs.Common.{◌≡◌, ℕ, ◌==◌, ◌||◌, true, false, subst, arith}
 use Rattle.std.specs.Char.{is_ascii_digit}
 use Rattle.std.proofs.lemmas.Bool.Decides.{nat_tests}
 use Rattle.hcl_tokens.specs.Kinds.{is}
-use Rattle.hcl_tokens.specs.SideBySide.{begins_as, is_pointed, is_coloned, is_equals, is_greater, is_less, is_slashed, may_begin_ident}
+use Rattle.hcl_tokens.specs.SideBySide.{begins_as, may_begin_ident}
 use Rattle.hcl_tokens.specs.declared.token.Kind.{Kind}
-use Rattle.hcl_tokens.specs.declared.token.Kind.TheVariants.{Ident, Number, Minus, SeqClose, Star}
+use Rattle.hcl_tokens.specs.declared.token.Kind.TheVariants.{LineComment, InlineComment, Ident, Number, HeredocOpen, SeqClose, Dot, Ellipsis, Colon, ColonColon, Assign, Arrow, Minus, Star, Slash, Equal, Less, Greater, LessEqual, GreaterEqual}
 
 pub record Says (kind : Kind) (b : ℕ) : Type 0 where
   pub letter : may_begin_ident b ≡ true → is Ident kind ≡ true
   pub digit : is_ascii_digit b ≡ true → is Number kind ≡ true
   pub minus : (b == 45) ≡ true → is Minus kind ≡ true
-  pub point : (b == 46) ≡ true → is_pointed kind ≡ true
-  pub colons : (b == 58) ≡ true → is_coloned kind ≡ true
-  pub equals : (b == 61) ≡ true → is_equals kind ≡ true
-  pub greater : (b == 62) ≡ true → is_greater kind ≡ true
-  pub less : (b == 60) ≡ true → is_less kind ≡ true
-  pub slashed : (b == 47) ≡ true → is_slashed kind ≡ true
+  pub point : (b == 46) ≡ true → (is Dot kind || is Ellipsis kind) ≡ true
+  pub colons : (b == 58) ≡ true → (is Colon kind || is ColonColon kind) ≡ true
+  pub equals : (b == 61) ≡ true → (is Assign kind || is Arrow kind || is Equal kind) ≡ true
+  pub greater : (b == 62) ≡ true → (is Greater kind || is GreaterEqual kind) ≡ true
+  pub less : (b == 60) ≡ true → (is Less kind || is LessEqual kind || is HeredocOpen kind) ≡ true
+  pub slashed : (b == 47) ≡ true → (is Slash kind || is LineComment kind || is InlineComment kind) ≡ true
   pub star : (b == 42) ≡ true → is Star kind ≡ true
   pub tilde : (b == 126) ≡ true → is SeqClose kind ≡ true
 

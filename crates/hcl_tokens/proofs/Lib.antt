@@ -1,6 +1,6 @@
 pub mod BooleanLemmas
 pub mod ByteKindLemmas
-pub mod EntryLemmas
-pub mod RunLemmas
+pub mod TokenEntryLemmas
+pub mod OneReadingLemmas
 pub mod NonemptyLemmas
 pub mod ExpressionKindLemmas

@@ -7,7 +7,7 @@ use Rattle.hcl_tokens.specs.Spelling.{Context, Expression, IsExpressionText, IsI
 use Rattle.hcl_tokens.specs.declared.token.Kind.{Kind}
 use Rattle.hcl_tokens.specs.declared.token.Kind.TheVariants.{Newline, LineComment, InlineComment, Blank, Ident, Number, HeredocOpen, SeqClose, BraceClose, Slash, Lit, InterpOpen, ControlOpen, QuoteClose}
 use Rattle.hcl_tokens.proofs.BooleanLemmas.{and_true}
-use Rattle.hcl_tokens.proofs.RunLemmas.{Nonempty}
+use Rattle.hcl_tokens.proofs.OneReadingLemmas.{Nonempty}
 
 -- ---- texts of expressions
 abbrev has_some : List ℕ → Bool

@@ -1,26 +1,18 @@
 -- Openers and closers in token lists: what a layout may rest on when it indents by them. An opener is `(`, `[`, `{`,
 -- `${` or `%{`, and a closer its counterpart (HCL Native Syntax Specification, "Operators and Delimiters" and
 -- "Templates"); quotes and heredocs don't count. That `max_open` are open at most is the scan's bound, and our own choice.
-use Rattle.std.specs.Prelude.{◌≡◌, ◌≤◌, ◌+◌, ℕ, Bool, true, false, List, [], ◌∷◌, ◌++◌, if◌then◌else◌}
+use Rattle.std.specs.Prelude.{◌≡◌, ◌≤◌, ◌+◌, ◌||◌, ℕ, Bool, List, [], ◌∷◌, ◌++◌, if◌then◌else◌}
+use Rattle.hcl_tokens.specs.Kinds.{is}
 use Rattle.hcl_tokens.specs.Lexemes.{Lexeme}
 pub use Rattle.hcl_tokens.specs.Lexemes.{max_open}
 use Rattle.hcl_tokens.specs.declared.token.Kind.{Kind}
 use Rattle.hcl_tokens.specs.declared.token.Kind.TheVariants.{ParenOpen, BracketOpen, BraceOpen, InterpOpen, ControlOpen, ParenClose, BracketClose, SeqClose, BraceClose}
 
 abbrev pub is_opener : Kind → Bool
-is_opener ParenOpen = true
-is_opener BracketOpen = true
-is_opener BraceOpen = true
-is_opener InterpOpen = true
-is_opener ControlOpen = true
-is_opener _ = false
+is_opener k = is ParenOpen k || is BracketOpen k || is BraceOpen k || is InterpOpen k || is ControlOpen k
 
 abbrev pub is_closer : Kind → Bool
-is_closer ParenClose = true
-is_closer BracketClose = true
-is_closer BraceClose = true
-is_closer SeqClose = true
-is_closer _ = false
+is_closer k = is ParenClose k || is BracketClose k || is BraceClose k || is SeqClose k
 
 -- each counts as one
 abbrev pub opening : Kind → ℕ

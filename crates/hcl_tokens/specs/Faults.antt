@@ -1,9 +1,9 @@
 -- Why a text has no tokens: the one thing that is lacking where its longest reading ends. The kinds of faults
 -- and their places are our own choice.
 use Rattle.std.specs.Prelude.{◌≡◌, ℕ, ◌+◌, ◌<◌, List, [], ◌∷◌, length, if◌then◌else◌, codes, Option, Some, None}
-use Rattle.hcl_tokens.specs.Lexemes.{Lexeme, Opener, Quote, Sequence, marker_of, moved, max_open}
+use Rattle.hcl_tokens.specs.Lexemes.{Lexeme, Opener, Quote, Sequence, marker_of, open_after, max_open}
 use Rattle.hcl_tokens.specs.Spelling.{starts, context, Context, Template, Expression}
-use Rattle.hcl_tokens.specs.Scans.{State, begin, ahead, gap_len, owes, owed, IsLongest, HasNone, IsMarkerLine, Next, Run}
+use Rattle.hcl_tokens.specs.Scans.{State, begin, ahead, gap_len, owes, owed_opener, IsLongest, HasNone, IsMarkerLine, Next, Run}
 use Rattle.hcl_source.specs.declared.fault.FaultKind.{FaultKind}
 use Rattle.hcl_source.specs.declared.fault.FaultKind.TheVariants.{InvalidCharacter, UnterminatedQuote, UnterminatedComment, UnterminatedHeredoc, UnterminatedTemplate, InvalidEscape, TooDeep}
 use Rattle.hcl_tokens.specs.declared.token.Kind.{Kind}
@@ -22,9 +22,9 @@ no_token_fault (Template _) seen = if starts seen (codes "\\") then InvalidEscap
 
 -- why the reading ends here
 pub data Lacks (s : State) (kind : FaultKind) : Type 0 where
-  at_end : ahead s ≡ [] → end_fault (owed s.opens) ≡ Some kind → Lacks s kind
+  at_end : ahead s ≡ [] → end_fault (owed_opener s.opens) ≡ Some kind → Lacks s kind
   no_token : 0 < length (ahead s) → HasNone s.opens s.after_dot (ahead s) → kind ≡ no_token_fault (context s.opens) (ahead s) → Lacks s kind
-  too_deep : (k : Kind) (text rest : List ℕ) → IsLongest s.opens s.after_dot (ahead s) k text rest → max_open < length (moved k s.opens) → kind ≡ TooDeep → Lacks s kind
+  too_deep : (k : Kind) (text rest : List ℕ) → IsLongest s.opens s.after_dot (ahead s) k text rest → max_open < length (open_after k s.opens) → kind ≡ TooDeep → Lacks s kind
   no_marker_line : (text rest : List ℕ) → IsLongest s.opens s.after_dot (ahead s) HeredocOpen text rest → length s.opens < max_open → ((n : ℕ) → ¬ IsMarkerLine (marker_of text) rest n) → kind ≡ UnterminatedHeredoc → Lacks s kind
 
 -- where the innermost Quote, Heredoc or Sequence was opened

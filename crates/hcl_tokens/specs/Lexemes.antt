@@ -29,18 +29,21 @@ is_newline_byte b = (b == 10) || (b == 13)
 abbrev pub marker_of : List ℕ → List ℕ
 marker_of text = before_first is_newline_byte (if starts_with nat_eq text (codes "<<-") then drop 3 text else drop 2 text)
 
-abbrev pub is_heredoc : Opener → Bool
-is_heredoc Heredoc = true
-is_heredoc _ = false
+abbrev pub same_opener : Opener → Opener → Bool
+same_opener Quote Quote = true
+same_opener Heredoc Heredoc = true
+same_opener Sequence Sequence = true
+same_opener Brace Brace = true
+same_opener Bracket Bracket = true
+same_opener Paren Paren = true
+same_opener _ _ = false
 
 -- some heredoc is open
 abbrev pub in_heredoc : List Opener → Bool
-in_heredoc opens = list_any is_heredoc opens
+in_heredoc opens = list_any (same_opener Heredoc) opens
 
 abbrev pub is_group : Opener → Bool
-is_group Paren = true
-is_group Bracket = true
-is_group _ = false
+is_group o = same_opener Paren o || same_opener Bracket o
 
 -- what is open below the parens and brackets on top
 abbrev pub below_groups : List Opener → List Opener
@@ -51,50 +54,34 @@ abbrev pub tops_with : (Opener → Bool) → List Opener → Bool
 tops_with is [] = false
 tops_with is (o ∷ opens) = is o
 
-abbrev pub is_sequence : Opener → Bool
-is_sequence Sequence = true
-is_sequence _ = false
-
-abbrev pub is_brace : Opener → Bool
-is_brace Brace = true
-is_brace _ = false
-
-abbrev pub is_bracket : Opener → Bool
-is_bracket Bracket = true
-is_bracket _ = false
-
-abbrev pub is_paren : Opener → Bool
-is_paren Paren = true
-is_paren _ = false
-
 -- a `}` closes a sequence
 abbrev pub closes_sequence : List Opener → Bool
-closes_sequence opens = tops_with is_sequence (below_groups opens)
+closes_sequence opens = tops_with (same_opener Sequence) (below_groups opens)
 
 abbrev pub pop_if : (Opener → Bool) → List Opener → List Opener
 pop_if is opens = if tops_with is opens then drop 1 opens else opens
 
 -- what is open after a token of this kind
-abbrev pub moved : Kind → List Opener → List Opener
-moved QuoteOpen opens = Quote ∷ opens
-moved HeredocOpen opens = Heredoc ∷ opens
-moved InterpOpen opens = Sequence ∷ opens
-moved ControlOpen opens = Sequence ∷ opens
-moved ParenOpen opens = Paren ∷ opens
-moved BracketOpen opens = Bracket ∷ opens
-moved BraceOpen opens = Brace ∷ opens
-moved ParenClose opens = pop_if is_paren opens
-moved BracketClose opens = pop_if is_bracket opens
-moved BraceClose opens = pop_if is_brace (below_groups opens)
-moved SeqClose opens = drop 1 (below_groups opens)
-moved QuoteClose opens = drop 1 opens
-moved HeredocClose opens = drop 1 opens
-moved _ opens = opens
+abbrev pub open_after : Kind → List Opener → List Opener
+open_after QuoteOpen opens = Quote ∷ opens
+open_after HeredocOpen opens = Heredoc ∷ opens
+open_after InterpOpen opens = Sequence ∷ opens
+open_after ControlOpen opens = Sequence ∷ opens
+open_after ParenOpen opens = Paren ∷ opens
+open_after BracketOpen opens = Bracket ∷ opens
+open_after BraceOpen opens = Brace ∷ opens
+open_after ParenClose opens = pop_if (same_opener Paren) opens
+open_after BracketClose opens = pop_if (same_opener Bracket) opens
+open_after BraceClose opens = pop_if (same_opener Brace) (below_groups opens)
+open_after SeqClose opens = drop 1 (below_groups opens)
+open_after QuoteClose opens = drop 1 opens
+open_after HeredocClose opens = drop 1 opens
+open_after _ opens = opens
 
 -- what a token list leaves open above what was open before it
-abbrev pub opened : List Opener → List Lexeme → List Opener
-opened opens [] = opens
-opened opens (t ∷ ts) = opened (moved t.kind opens) ts
+abbrev pub open_after_all : List Opener → List Lexeme → List Opener
+open_after_all opens [] = opens
+open_after_all opens (t ∷ ts) = open_after_all (open_after t.kind opens) ts
 
 -- so much may be open at once
 abbrev pub max_open : ℕ

@@ -18,18 +18,13 @@ text_with_gaps [] = []
 text_with_gaps (p ∷ ps) = replicate p.0 32 ++ (p.1.text ++ text_with_gaps ps)
 
 -- the tokens where they stand in that text, its first byte being at an offset
-abbrev pub placed : ℕ → List (ℕ × Lexeme) → List Lexeme
-placed at [] = []
-placed at (p ∷ ps) = record { kind = p.1.kind; text = p.1.text; start = at + p.0; inside_heredoc = p.1.inside_heredoc } ∷ placed (at + p.0 + length p.1.text) ps
+abbrev pub placed_tokens : ℕ → List (ℕ × Lexeme) → List Lexeme
+placed_tokens at [] = []
+placed_tokens at (p ∷ ps) = record { kind = p.1.kind; text = p.1.text; start = at + p.0; inside_heredoc = p.1.inside_heredoc } ∷ placed_tokens (at + p.0 + length p.1.text) ps
 
 -- a token of templates: blanks before it would be literal text
 abbrev pub is_template : Kind → Bool
-is_template Lit = true
-is_template InterpOpen = true
-is_template ControlOpen = true
-is_template QuoteClose = true
-is_template HeredocClose = true
-is_template _ = false
+is_template k = is Lit k || is InterpOpen k || is ControlOpen k || is QuoteClose k || is HeredocClose k
 
 -- nothing may stand between a token of this kind and the next: a comment would go on over the blanks, and in a
 -- template or a heredoc they are text

@@ -4,7 +4,7 @@
 use Rattle.std.specs.Prelude.{◌≡◌, ℕ, ◌+◌, ◌-◌, ◌<◌, ◌≤◌, ◌||◌, ◌&&◌, not, Bool, true, false, IsTrue, List, [], ◌∷◌, ◌++◌, length, drop, take, if◌then◌else◌, nat_lt, codes, get_or, Option, Some, None, ◌⊎◌}
 use Rattle.std.specs.List.{prefix_len}
 use Rattle.hcl_tokens.specs.Kinds.{is}
-use Rattle.hcl_tokens.specs.Lexemes.{Lexeme, Opener, Heredoc, Brace, Bracket, Paren, marker_of, in_heredoc, moved, max_open}
+use Rattle.hcl_tokens.specs.Lexemes.{Lexeme, Opener, Heredoc, Brace, Bracket, Paren, marker_of, in_heredoc, open_after, max_open}
 use Rattle.hcl_tokens.specs.Spelling.{IsSpelling, is_blank, starts, context, Context, Template, Expression}
 use Rattle.hcl_tokens.specs.declared.token.Kind.{Kind}
 use Rattle.hcl_tokens.specs.declared.token.Kind.TheVariants.{HeredocOpen, HeredocClose, Dot}
@@ -99,7 +99,7 @@ pub record Reads (s : State) (t : Lexeme) (next : State) : Type 0 where
   pub start : t.start ≡ s.at + gap_len s
   pub inside : t.inside_heredoc ≡ in_heredoc s.opens
   pub at : next.at ≡ t.start + length t.text
-  pub opens : next.opens ≡ moved t.kind s.opens
+  pub opens : next.opens ≡ open_after t.kind s.opens
   pub offsets : next.offsets ≡ offsets_of t.start s.opens next.opens s.offsets
   pub room : length next.opens ≤ max_open
   pub after_dot : next.after_dot ≡ is Dot t.kind
@@ -134,13 +134,13 @@ owes Bracket = false
 owes Paren = false
 owes _ = true
 
-abbrev pub owed : List Opener → Option Opener
-owed [] = None
-owed (o ∷ opens) = if owes o then Some o else owed opens
+abbrev pub owed_opener : List Opener → Option Opener
+owed_opener [] = None
+owed_opener (o ∷ opens) = if owes o then Some o else owed_opener opens
 
 -- only a gap is left, and no quote, heredoc or sequence is open
 abbrev pub IsComplete : State → Type 0
-IsComplete s = (ahead s ≡ []) × (owed s.opens ≡ None)
+IsComplete s = (ahead s ≡ []) × (owed_opener s.opens ≡ None)
 
 -- THE RELATION: the text is these tokens with gaps between them
 abbrev pub Scans : List ℕ → List Lexeme → Type 0

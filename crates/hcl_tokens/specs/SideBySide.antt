@@ -12,67 +12,25 @@ use Rattle.hcl_tokens.specs.declared.token.Kind.TheVariants.{Newline, LineCommen
 abbrev pub may_begin_ident : ℕ → Bool
 may_begin_ident b = is_ascii_alphabetic b || (b == 95) || nat_le 128 b
 
--- the kinds whose texts begin with `.`
-abbrev pub is_pointed : Kind → Bool
-is_pointed Dot = true
-is_pointed Ellipsis = true
-is_pointed _ = false
-
--- with `:`
-abbrev pub is_coloned : Kind → Bool
-is_coloned Colon = true
-is_coloned ColonColon = true
-is_coloned _ = false
-
--- with `=`
-abbrev pub is_equals : Kind → Bool
-is_equals Assign = true
-is_equals Arrow = true
-is_equals Equal = true
-is_equals _ = false
-
--- with `>`
-abbrev pub is_greater : Kind → Bool
-is_greater Greater = true
-is_greater GreaterEqual = true
-is_greater _ = false
-
--- with `<`
-abbrev pub is_less : Kind → Bool
-is_less Less = true
-is_less LessEqual = true
-is_less HeredocOpen = true
-is_less _ = false
-
--- with `/`
-abbrev pub is_slashed : Kind → Bool
-is_slashed Slash = true
-is_slashed LineComment = true
-is_slashed InlineComment = true
-is_slashed _ = false
-
 -- what the first byte of a token of an expression says of its kind; of the bytes that go on no token it says nothing
 abbrev pub begins_as : Kind → ℕ → Bool
 begins_as kind b =
     if may_begin_ident b then is Ident kind
     else if is_ascii_digit b then is Number kind
     else if b == 45 then is Minus kind
-    else if b == 46 then is_pointed kind
-    else if b == 58 then is_coloned kind
-    else if b == 61 then is_equals kind
-    else if b == 62 then is_greater kind
-    else if b == 60 then is_less kind
-    else if b == 47 then is_slashed kind
+    else if b == 46 then is Dot kind || is Ellipsis kind
+    else if b == 58 then is Colon kind || is ColonColon kind
+    else if b == 61 then is Assign kind || is Arrow kind || is Equal kind
+    else if b == 62 then is Greater kind || is GreaterEqual kind
+    else if b == 60 then is Less kind || is LessEqual kind || is HeredocOpen kind
+    else if b == 47 then is Slash kind || is LineComment kind || is InlineComment kind
     else if b == 42 then is Star kind
     else if b == 126 then is SeqClose kind
     else true
 
 -- after a token of this kind a template may go on
 abbrev pub opens_template : Kind → Bool
-opens_template QuoteOpen = true
-opens_template Lit = true
-opens_template SeqClose = true
-opens_template _ = false
+opens_template k = is QuoteOpen k || is Lit k || is SeqClose k
 
 -- a token after one of this kind. Outside heredocs: after a comment to the end of its line comes a Newline; a
 -- template is begun by a quote, and goes on after literal text or a sequence; the first byte tells the kind; a

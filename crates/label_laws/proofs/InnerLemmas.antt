@@ -17,7 +17,7 @@ use Rattle.hcl_grammar.specs.declared.refusal.Refusal.{Refusal}
 use Rattle.hcl_grammar.specs.declared.refusal.Refusal.TheVariants.{UnexpectedToken, UnexpectedEnd, TooDeep}
 use Rattle.hcl_grammar.specs.Classes.{drops}
 use Rattle.hcl_grammar.specs.Grammar.{Symbol, ends, the, file, rest, labels, label_literal, start, body, eol, expr, after_ident, path, after, step, index, tuple, tuple_next, tuple_item, tuple_if, names, object, separator, object_next, object_item, group, object_if, args, arg_next, parts, directive, inside, section_directive, Marked, ◌at◌, Action, none, nothing, reads, opens, closes, ◌then◌, row, row_of, fits, expr_row, after_ident_row, path_row, after_row, step_row, index_row, tuple_row, tuple_next_row, tuple_item_row, tuple_if_row, names_row, object_row, separator_row, object_next_row, object_item_row, group_row, object_if_row, args_row, arg_next_row, parts_row, directive_row, section_directive_row, inside_row}
-use Rattle.hcl_grammar.specs.Predictor.{max_directives, on, stop, effect, taken, ending}
+use Rattle.hcl_grammar.specs.Predictor.{max_directives, on, stop, effect, row_effect, ending}
 use Rattle.hcl_grammar.proofs.OwedLemmas.{owes, owes_all, HaveNumbers, RowMoves}
 use Rattle.hcl_grammar.proofs.RowLemmas.{moves-row}
 
@@ -267,7 +267,7 @@ put : (count : ℕ) (ys xs ds : List Marked) (t : Lookahead) (later : ℕ) (us :
 put count ys xs ds t later us now h k e = (ys ++ xs, landed now later (ys ++ (xs ++ ds)) us e ∙ sym (append_assoc ys xs ds), inner_both false ys xs h k)
 
 pass_row : (count : ℕ) (s : Symbol) (m : Newlines) (xs ds : List Marked) (t : Lookahead) (later : ℕ) (us : List Marked) (r : Action) → r ≡ row s m t → ([] ≡ owes s ⊎ (r ≡ nothing → ⊥)) → RowInner (owed false xs) r → AreInner false xs
-    → (effect count (xs ++ ds) t ≡ on later us → Passes count xs ds t later us) → taken count r (xs ++ ds) (effect count (xs ++ ds) t) t ≡ on later us → Passes count (s at m ∷ xs) ds t later us
+    → (effect count (xs ++ ds) t ≡ on later us → Passes count xs ds t later us) → row_effect count r (xs ++ ds) (effect count (xs ++ ds) t) t ≡ on later us → Passes count (s at m ∷ xs) ds t later us
 pass_row count s m xs ds t later us none is flat h k more e = absurd (stopped (UnexpectedToken t.number) later us e)
 pass_row count s m xs ds t later us nothing is (inr goes) h k more e = absurd (goes refl)
 pass_row count s m xs ds t later us nothing is (inl flat) h k more e = by (more e)
@@ -303,7 +303,7 @@ pub inner_passes : (count : ℕ) (xs ds : List Marked) (t : Lookahead) (later : 
 inner_passes count [] ds t later us h e = inr (e, refl)
 inner_passes count (s at m ∷ xs) ds t later us h e = by (drops m t.class) e (λ k. inner_passes count xs ds t later us h.1 k)
   where
-    by : (b : Bool) → cond b (on count (s at m ∷ (xs ++ ds))) (taken count (row s m t) (xs ++ ds) (effect count (xs ++ ds) t) t) ≡ on later us
+    by : (b : Bool) → cond b (on count (s at m ∷ (xs ++ ds))) (row_effect count (row s m t) (xs ++ ds) (effect count (xs ++ ds) t) t) ≡ on later us
         → (effect count (xs ++ ds) t ≡ on later us → Passes count xs ds t later us) → Passes count (s at m ∷ xs) ds t later us
     by true e more = inl (s at m ∷ xs, landed count later (s at m ∷ (xs ++ ds)) us e, h)
     by false e more =
@@ -393,9 +393,9 @@ newline_passes count n (s at m ∷ xs) ds later us h flat e =
     seen : m ≡ Seen
     seen = seen_there s m here.0 inner
 
-    by : (row_of s Seen n Newline ≡ nothing) ⊎ (row_of s Seen n Newline ≡ none) → taken count (row_of s Seen n Newline) (xs ++ ds) (effect count (xs ++ ds) t) t ≡ on later us → effect count (xs ++ ds) t ≡ on later us
-    by (inl r) h = sym (ap (λ a. taken count a (xs ++ ds) (effect count (xs ++ ds) t) t) r) ∙ h
-    by (inr r) h = absurd (stopped (UnexpectedToken n) later us (sym (ap (λ a. taken count a (xs ++ ds) (effect count (xs ++ ds) t) t) r) ∙ h))
+    by : (row_of s Seen n Newline ≡ nothing) ⊎ (row_of s Seen n Newline ≡ none) → row_effect count (row_of s Seen n Newline) (xs ++ ds) (effect count (xs ++ ds) t) t ≡ on later us → effect count (xs ++ ds) t ≡ on later us
+    by (inl r) h = sym (ap (λ a. row_effect count a (xs ++ ds) (effect count (xs ++ ds) t) t) r) ∙ h
+    by (inr r) h = absurd (stopped (UnexpectedToken n) later us (sym (ap (λ a. row_effect count a (xs ++ ds) (effect count (xs ++ ds) t) t) r) ∙ h))
 
 -- ---- the end, where these are not needed
 pub inner_ends : (xs ds : List Marked) → AreInner false xs → ending (xs ++ ds) ≡ None → (ending ds ≡ None) × (owes_all xs ≡ [])

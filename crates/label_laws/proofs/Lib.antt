@@ -1,6 +1,6 @@
 pub mod InnerLemmas
 pub mod TurnLemmas
-pub mod NameLemmas
+pub mod NamePlaceLemmas
 pub mod PieceTurnLemmas
 pub mod ReadingLemmas
 pub mod PlainLabelLemmas

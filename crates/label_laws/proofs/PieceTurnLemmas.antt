@@ -9,14 +9,15 @@ use Rattle.hcl_tokens.specs.Kinds.{is}
 use Rattle.hcl_tokens.specs.declared.token.Kind.{Kind}
 use Rattle.hcl_tokens.specs.declared.token.Kind.TheVariants as kind
 use Rattle.hcl_grammar.specs.Items.{behind_brace, block, block_end, body, closing_quote, deepen, is_closed, item_of, items, label_at, labels, onto, pieces}
-use Rattle.hcl_grammar.specs.Labels.{IsAsWritten, first_literal, label_text, quoted, text_of}
+use Rattle.hcl_grammar.specs.Labels.{first_literal, label_text, text_of}
+use Rattle.label_laws.specs.AsWritten.{IsAsWritten, between_quotes}
 use Rattle.hcl_grammar.specs.Numbered.{Numbered, end_of}
 use Rattle.hcl_grammar.specs.declared.item.Item.{Item}
 use Rattle.hcl_grammar.specs.declared.item.Item.TheVariants as item
 use Rattle.hcl_grammar.specs.declared.item.Label.{Label}
 use Rattle.hcl_grammar.proofs.ItemOrderLemmas.{AllRise, Rises, pieces_rise, rises_wide}
 use Rattle.label_laws.proofs.TurnLemmas.{Place, line, labelled, started, named, single, value, ended, level, inside, depth, may_end, may_stop, is_line, turn, goes, Goes, IsLeft, Turns, breaks, moves, turns, from_line, from_labels, from_quote, from_literal, from_start, from_name}
-use Rattle.label_laws.proofs.NameLemmas.{IsApart, is_name}
+use Rattle.label_laws.proofs.NamePlaceLemmas.{IsApart, is_name}
 use Rattle.label_laws.proofs.TurnLemmas as at
 
 abbrev pub in_quotes : Place → Bool
@@ -241,7 +242,7 @@ module _ (all : List Numbered) where
   -- ---- labels and names
 
   abbrev pub GoodLabel : Label → Type 0
-  GoodLabel l = (l.first < l.last → IsAsWritten (quoted all l) (label_text all l)) × IsApart all l.first
+  GoodLabel l = (l.first < l.last → IsAsWritten (between_quotes all l) (label_text all l)) × IsApart all l.first
 
   abbrev pub Good : Item → Type 0
   Good (item.Label l) = GoodLabel l
@@ -286,7 +287,7 @@ module _ (all : List Numbered) where
   unequal n m (inr e) = grind (arith, nat_tests)
 
   as_written : (n m : ℕ) (u : Numbered) (x : List Numbered) (text : List ℕ) → m ≡ n + 1 ⊎ m ≡ n + 2 → drop (n + 1) all ≡ u ∷ drop (n + 2) all → take (m - (n + 1)) (u ∷ drop (n + 2) all) ≡ x → first_literal (u ∷ drop (n + 2) all) ≡ text
-      → IsAsWritten x text → IsAsWritten (quoted all (record { first = n; last = m })) (label_text all (record { first = n; last = m }))
+      → IsAsWritten x text → IsAsWritten (between_quotes all (record { first = n; last = m })) (label_text all (record { first = n; last = m }))
   as_written n m u x text apart here taken first h =
       subst (λ y. IsAsWritten y (label_text all (record { first = n; last = m }))) (sym (ap (λ r. take (m - (n + 1)) r) here ∙ taken))
       (subst (λ y. IsAsWritten x y) (sym (ap (λ b. cond b (text_of all n) (first_literal (drop (n + 1) all))) (unequal n m apart) ∙ ap first_literal here ∙ first)) h)
@@ -301,14 +302,14 @@ module _ (all : List Numbered) where
 
   module _ (k : ℕ) (end : Place) (stops : Stops k end) where
     closed_label : (n : ℕ) (u : Numbered) (us : List Numbered) → u.kind ≡ kind.QuoteClose → u.number ≡ n + 1 → drop u.number all ≡ u ∷ drop (u.number + 1) all
-        → IsAsWritten (quoted all (record { first = n; last = closing_quote (u ∷ us) })) (label_text all (record { first = n; last = closing_quote (u ∷ us) }))
+        → IsAsWritten (between_quotes all (record { first = n; last = closing_quote (u ∷ us) })) (label_text all (record { first = n; last = closing_quote (u ∷ us) }))
     closed_label n u us close e here =
         let m : closing_quote (u ∷ us) ≡ n + 1 = ap (λ b. cond (is kind.QuoteClose b) u.number (closing_quote us)) close ∙ e in
         let z : closing_quote (u ∷ us) - (n + 1) ≡ 0 = omega (arith, m) in
         as_written n (closing_quote (u ∷ us)) u [] [] (inl m) (at_number u n e here) (ap (λ j. take j (u ∷ drop (n + 2) all)) z) (ap (λ b. cond (is kind.Lit b) u.text []) close) refl
 
     literal_label : (n : ℕ) (u v : Numbered) (vs : List Numbered) → u.kind ≡ kind.Lit → v.kind ≡ kind.QuoteClose → u.number ≡ n + 1 → v.number ≡ u.number + 1 → drop u.number all ≡ u ∷ drop (u.number + 1) all
-        → IsAsWritten (quoted all (record { first = n; last = closing_quote (u ∷ v ∷ vs) })) (label_text all (record { first = n; last = closing_quote (u ∷ v ∷ vs) }))
+        → IsAsWritten (between_quotes all (record { first = n; last = closing_quote (u ∷ v ∷ vs) })) (label_text all (record { first = n; last = closing_quote (u ∷ v ∷ vs) }))
     literal_label n u v vs lit close e f here =
         let m : closing_quote (u ∷ v ∷ vs) ≡ n + 2 = ap (λ b. cond (is kind.QuoteClose b) u.number (closing_quote (v ∷ vs))) lit ∙ ap (λ b. cond (is kind.QuoteClose b) v.number (closing_quote vs)) close ∙ (let w : v.number ≡ n + 2 = omega (arith, e, f) in w) in
         let z : closing_quote (u ∷ v ∷ vs) - (n + 1) ≡ 1 = omega (arith, m) in
@@ -320,17 +321,17 @@ module _ (all : List Numbered) where
         take_none (x ∷ xs) = refl
 
     good_quote : (n : ℕ) (ts : List Numbered) → Begins (n + 1) ts → Leads all (Inside k) (at.quoted k) ts end
-        → IsAsWritten (quoted all (record { first = n; last = closing_quote ts })) (label_text all (record { first = n; last = closing_quote ts }))
+        → IsAsWritten (between_quotes all (record { first = n; last = closing_quote ts })) (label_text all (record { first = n; last = closing_quote ts }))
     good_quote n [] next leads = absurd (true≢false (sym stops.0 ∙ ap may_stop (sym leads)))
     good_quote n (u ∷ us) next leads = by (quote_turn k u.kind leads.0 leads.1)
       where
         behind : (vs : List Numbered) → u.kind ≡ kind.Lit → Begins (u.number + 1) vs → Leads all (Inside k) (at.written k) vs end
-            → IsAsWritten (quoted all (record { first = n; last = closing_quote (u ∷ vs) })) (label_text all (record { first = n; last = closing_quote (u ∷ vs) }))
+            → IsAsWritten (between_quotes all (record { first = n; last = closing_quote (u ∷ vs) })) (label_text all (record { first = n; last = closing_quote (u ∷ vs) }))
         behind [] lit begin more = absurd (true≢false (sym stops.0 ∙ ap may_stop (sym more)))
         behind (v ∷ vs) lit begin more = literal_label n u v vs lit (literal_turn k v.kind more.0 more.1).0 next begin leads.3.0
 
         by : ((u.kind ≡ kind.Lit) × (leads.0 ≡ at.written k)) ⊎ ((u.kind ≡ kind.QuoteClose) × (leads.0 ≡ labelled k false))
-            → IsAsWritten (quoted all (record { first = n; last = closing_quote (u ∷ us) })) (label_text all (record { first = n; last = closing_quote (u ∷ us) }))
+            → IsAsWritten (between_quotes all (record { first = n; last = closing_quote (u ∷ us) })) (label_text all (record { first = n; last = closing_quote (u ∷ us) }))
         by (inl h) = behind us h.0 (leads.4 (ap in_quotes h.1)) (subst (λ x. Leads all (Inside k) x us end) h.1 leads.5)
         by (inr h) = closed_label n u us h.0 next leads.3.0
 

@@ -4,8 +4,9 @@ use Rattle.std.specs.Prelude.{Some, None, slice_get, not}
 use Rattle.hcl_tokens.specs.Lexemes.{Lexeme}
 use Rattle.hcl_tokens.specs.Scans.{Scans}
 use Rattle.hcl_grammar.specs.Items.{outline, pieces}
-use Rattle.hcl_grammar.specs.Labels.{IsAsWritten, label_text, quoted}
-use Rattle.hcl_grammar.specs.Numbered.{Numbered, is_comment, numbered, uncommented}
+use Rattle.hcl_grammar.specs.Labels.{label_text}
+use Rattle.label_laws.specs.AsWritten.{IsAsWritten, between_quotes}
+use Rattle.hcl_grammar.specs.Numbered.{Numbered, is_comment, numbered, without_comments}
 use Rattle.hcl_grammar.specs.Verdict.{IsAccepted}
 use Rattle.hcl_grammar.specs.declared.item.Item.{Item}
 use Rattle.hcl_grammar.specs.declared.item.Item.TheVariants as item
@@ -25,10 +26,10 @@ file_good text tokens scans accepted =
     let all = numbered tokens in
     let led = whole_file text tokens scans accepted in
     let z : depth (line 0) - 0 ≡ 0 = omega arith in
-    let ps : Pieces all 0 (line 0) (pieces 0 (uncommented all)) = subst (λ (n : ℕ). Pieces all 0 (line 0) (pieces n (uncommented all))) z (cut all 0 (line 0) (uncommented all) led.0 (omega arith) led.1 led.2) in
-    let rises : Rises 0 (uncommented all) (0 + length tokens) = rises_filter (λ t. not (is_comment t.kind)) 0 (0 + length tokens) all (rises_numbered 0 tokens) in
-    items_good all (length all) 0 0 (line 0) 0 (0 + length tokens) (uncommented all) (inl refl) rises ps
+    let ps : Pieces all 0 (line 0) (pieces 0 (without_comments all)) = subst (λ (n : ℕ). Pieces all 0 (line 0) (pieces n (without_comments all))) z (cut all 0 (line 0) (without_comments all) led.0 (omega arith) led.1 led.2) in
+    let rises : Rises 0 (without_comments all) (0 + length tokens) = rises_filter (λ t. not (is_comment t.kind)) 0 (0 + length tokens) all (rises_numbered 0 tokens) in
+    items_good all (length all) 0 0 (line 0) 0 (0 + length tokens) (without_comments all) (inl refl) rises ps
 
 pub one_literal : (text : List ℕ) (tokens : List Lexeme) → Scans text tokens → IsAccepted tokens → (i : ℕ) (l : Label) → slice_get (outline tokens) i ≡ Some (item.Label l) → l.first < l.last
-    → IsAsWritten (quoted (numbered tokens) l) (label_text (numbered tokens) l)
+    → IsAsWritten (between_quotes (numbered tokens) l) (label_text (numbered tokens) l)
 one_literal text tokens scans accepted i l e = (good_at (numbered tokens) (outline tokens) i (item.Label l) (file_good text tokens scans accepted) e).0

@@ -3,7 +3,7 @@ use Rattle.std.proofs.Common.{◌≡◌, inl, inr, ℕ, zero, suc, ◌+◌, Bool
 use Rattle.std.specs.Prelude.{◌&&◌, Option, Some, None}
 use Rattle.std.proofs.lemmas.List.{drop-drop}
 use Rattle.hcl_tokens.specs.Kinds.{is}
-use Rattle.hcl_tokens.specs.Lexemes.{Lexeme, Opener, Quote, Heredoc, Sequence, Brace, Bracket, Paren, in_heredoc, moved}
+use Rattle.hcl_tokens.specs.Lexemes.{Lexeme, Opener, Quote, Heredoc, Sequence, Brace, Bracket, Paren, in_heredoc, open_after}
 use Rattle.hcl_tokens.specs.Scans.{State, Next, Scans, begin}
 use Rattle.hcl_tokens.specs.Scans as scan
 use Rattle.hcl_tokens.specs.Spelling.{IsSpelling, IsTemplateText, IsTextIn, context}
@@ -13,7 +13,7 @@ use Rattle.hcl_tokens.proofs.ExpressionKindLemmas.{in_expressions}
 use Rattle.hcl_tokens.specs.Balanced.{opening, closing, is_closer}
 use Rattle.hcl_grammar.specs.Classes.{class_at, class_of, is_trivia, lookaheads_from}
 use Rattle.hcl_grammar.specs.Items.{deepen, is_closed}
-use Rattle.hcl_grammar.specs.Numbered.{Numbered, is_comment, is_passed_over, numbered, numbered_from, uncommented}
+use Rattle.hcl_grammar.specs.Numbered.{Numbered, is_comment, is_passed_over, numbered, numbered_from, without_comments}
 use Rattle.hcl_grammar.specs.Verdict.{IsAccepted}
 use Rattle.hcl_grammar.specs.declared.class.Lookahead.{Lookahead}
 use Rattle.hcl_grammar.specs.declared.expected.Newlines.TheVariants.{Seen}
@@ -24,9 +24,9 @@ use Rattle.hcl_grammar.specs.Predictor.{Effect, on, stop, effect, ending, next, 
 use Rattle.hcl_grammar.proofs.OwedLemmas.{HaveNumbers, Shift, owes_all}
 use Rattle.hcl_grammar.proofs.RowLemmas.{owes_all-append}
 use Rattle.hcl_grammar.proofs.MoveLemmas.{EffectMoves, effect-moves}
-use Rattle.hcl_grammar.proofs.BalanceLemmas.{counted, groups, shifted}
+use Rattle.hcl_grammar.proofs.BalancedRowLemmas.{counted, groups, shifted}
 use Rattle.label_laws.proofs.InnerLemmas.{AreInner, Passes, inner_ends, inner_passes, landed, newline_passes, stopped}
-use Rattle.label_laws.proofs.NameLemmas.{Follows, IsApart, apart, apart_on, behind_dot, is_name, name_apart, name_next, step_stays, steps}
+use Rattle.label_laws.proofs.NamePlaceLemmas.{Follows, IsApart, apart, apart_on, behind_dot, is_name, name_apart, name_next, step_stays, steps}
 use Rattle.label_laws.proofs.TurnLemmas.{Place, line, labelled, quoted, written, started, named, single, value, ended, turn}
 use Rattle.label_laws.proofs.PieceTurnLemmas.{Adjoins, Begins, Leads, Stands, Stops, Within, in_quotes}
 
@@ -294,9 +294,9 @@ fitting : (s : State) (t : Lexeme) (after : State) → Next s t after → IsFitt
 fitting s t after (inl x) = spelled_there s.opens s.after_dot t.kind t.text x.rest x.longest.spelled
 fitting s t after (inr y) = record { template = λ e. ap in_expressions y.kind; blank = λ e. absurd (let f : kind.HeredocClose ≡ kind.Blank = sym y.kind ∙ e in let g = ap in_expressions f in true≢false (sym g)) }
 
-opens_after : (s : State) (t : Lexeme) (after : State) → Next s t after → after.opens ≡ moved t.kind s.opens
+opens_after : (s : State) (t : Lexeme) (after : State) → Next s t after → after.opens ≡ open_after t.kind s.opens
 opens_after s t after (inl x) = x.opens
-opens_after s t after (inr y) = ap (λ (z : State). z.opens) y.next_is ∙ ap (λ l. drop 1 l) (sym y.top) ∙ ap (λ k. moved k s.opens) (sym y.kind)
+opens_after s t after (inr y) = ap (λ (z : State). z.opens) y.next_is ∙ ap (λ l. drop 1 l) (sym y.top) ∙ ap (λ k. open_after k s.opens) (sym y.kind)
 
 heredoc_base : (k : ℕ) → in_heredoc (owes_all (base k)) ≡ false
 heredoc_base zero = refl
@@ -336,10 +336,10 @@ newline_kind : (t : Kind) → in_expressions t ≡ false → is kind.Newline t �
 newline_kind kind.Newline e = absurd (true≢false e)
 newline_kind _ e = refl
 
-next_begins : (s end : State) (ts : List Lexeme) (p : Place) (ss : List Marked) (n : ℕ) → scan.Run s ts end → s.opens ≡ owes_all ss → At p ss → in_quotes p ≡ true → Begins n (uncommented (numbered_from n ts))
+next_begins : (s end : State) (ts : List Lexeme) (p : Place) (ss : List Marked) (n : ℕ) → scan.Run s ts end → s.opens ≡ owes_all ss → At p ss → in_quotes p ≡ true → Begins n (without_comments (numbered_from n ts))
 next_begins s end [] p ss n run same a e = tt
 next_begins s end (u ∷ us) p ss n run same a e =
-    subst (λ b. Begins n (cond (not b) (record { number = n; kind = u.kind; text = u.text } ∷ uncommented (numbered_from (n + 1) us)) (uncommented (numbered_from (n + 1) us))))
+    subst (λ b. Begins n (cond (not b) (record { number = n; kind = u.kind; text = u.text } ∷ without_comments (numbered_from (n + 1) us)) (without_comments (numbered_from (n + 1) us))))
     (sym (comment_kind u.kind ((fitting s u run.0 run.1).template (ap in_template same ∙ quotes_template p ss a e)))) refl
 
 -- ---- the whole file
@@ -363,7 +363,7 @@ stop_there (value k h) ss (xs, is, inner, g) e =
     let f = inner_ends xs (eol at Seen ∷ base k) inner (ap ending (sym is) ∙ e) in
     (refl, omega (arith, base_ends k f.0, g, ap groups f.1))
 
-comment_same : (t : Kind) (os : List Opener) → is_comment t ≡ true → moved t os ≡ os
+comment_same : (t : Kind) (os : List Opener) → is_comment t ≡ true → open_after t os ≡ os
 comment_same kind.LineComment os e = refl
 comment_same kind.InlineComment os e = refl
 comment_same _ os e = absurd (true≢false (sym e))
@@ -412,7 +412,7 @@ module _ (all : List Numbered) where
   name_follows p q t (u ∷ us) e turned led i = name_next p q led.1.0 u.kind (sym (ap (λ x. is_name p x) i) ∙ e) (sym (ap (λ x. turn p x) i) ∙ turned) led.1.1
 
   pub lead : (s end : State) (ts : List Lexeme) (p : Place) (ss : List Marked) (count n : ℕ) → scan.Run s ts end → s.opens ≡ owes_all ss → At p ss → run count ss (lookaheads_from n ts) ≡ None → drop n all ≡ numbered_from n ts
-      → (dot : Bool) → (dot ≡ true → steps ss ≡ true) → drop n (apart false all) ≡ apart dot (numbered_from n ts) → Led p (uncommented (numbered_from n ts))
+      → (dot : Bool) → (dot ≡ true → steps ss ≡ true) → drop n (apart false all) ≡ apart dot (numbered_from n ts) → Led p (without_comments (numbered_from n ts))
   unfolding run
   lead s end [] p ss count n scanned same a accepted here dot stepping beside = (p, refl, stop_there p ss a accepted)
   lead s end (t ∷ ts) p ss count n scanned same a accepted here dot stepping beside =
@@ -422,14 +422,14 @@ module _ (all : List Numbered) where
       fits : IsFitting s.opens t.kind
       fits = fitting s t scanned.0 scanned.1
 
-      next_opens : scanned.0.opens ≡ moved t.kind s.opens
+      next_opens : scanned.0.opens ≡ open_after t.kind s.opens
       next_opens = opens_after s t scanned.0 scanned.1
 
       it : Numbered
       it = record { number = n; kind = t.kind; text = t.text }
 
       W : List Numbered
-      W = uncommented (numbered_from (n + 1) ts)
+      W = without_comments (numbered_from (n + 1) ts)
 
       L : List Lookahead
       L = lookaheads_from (n + 1) ts
@@ -448,7 +448,7 @@ module _ (all : List Numbered) where
 
       blank : t.kind ≡ kind.Blank → is_trivia (class_of t) ≡ true → On → Led p (it ∷ W)
       blank e trivial on_ =
-          let o : scanned.0.opens ≡ owes_all ss = next_opens ∙ ap (λ x. moved x s.opens) e ∙ same in
+          let o : scanned.0.opens ≡ owes_all ss = next_opens ∙ ap (λ x. open_after x s.opens) e ∙ same in
           lead_on p p it W (ap (λ x. turn p x) e ∙ blank_turn p ss a (sym (ap in_heredoc same) ∙ fits.blank e))
           (here_it, (λ h. absurd (true≢false (sym h ∙ ap (λ x. is_name p x) e ∙ blank_names p))))
           (adjoins p ss o a) (on_ p ss count o a (skipped trivial) (λ d. stepping (sym (ap (λ x. behind_dot dot x) e) ∙ d)))
@@ -465,7 +465,7 @@ module _ (all : List Numbered) where
       read_by told (stop r) e accepted on_ = absurd (let f : Some r ≡ None = accepted in cc)
       read_by told (on later us) e accepted on_ =
           let m = move count n later t.kind t.text p ss us (λ i. newline_kind t.kind (fits.template (ap in_template same ∙ i))) a e in
-          let o : scanned.0.opens ≡ owes_all us = next_opens ∙ ap (λ r. moved t.kind r) same ∙ shifted t.kind t.text (owes_all ss) (owes_all us) (shift count n later t.kind t.text ss us e) in
+          let o : scanned.0.opens ≡ owes_all us = next_opens ∙ ap (λ r. open_after t.kind r) same ∙ shifted t.kind t.text (owes_all ss) (owes_all us) (shift count n later t.kind t.text ss us e) in
           let led : Led m.0 W = on_ m.0 us later o m.2 accepted (step_stays count n later t.kind t.text ss us dot stepping told e) in
           lead_on p m.0 it W m.1 (here_it, named_there m.0 m.1 led) (adjoins m.0 us o m.2) led
 
@@ -480,5 +480,5 @@ module _ (all : List Numbered) where
           (on_ p ss count (next_opens ∙ comment_same t.kind s.opens e ∙ same) a (skipped (comment_trivia t.kind t.text e)) (λ d. stepping (sym (ap (λ b. cond b dot (is kind.Dot t.kind)) (comment_passed t.kind e)) ∙ d)))
       by false e on_ = subst (λ b. Led p (cond (not b) (it ∷ W) W)) (sym e) (word e (is_trivia (class_of t)) refl on_)
 
-pub whole_file : (text : List ℕ) (tokens : List Lexeme) → Scans text tokens → IsAccepted tokens → Led (numbered tokens) (line 0) (uncommented (numbered tokens))
+pub whole_file : (text : List ℕ) (tokens : List Lexeme) → Scans text tokens → IsAccepted tokens → Led (numbered tokens) (line 0) (without_comments (numbered tokens))
 whole_file text tokens scans accepted = lead (numbered tokens) (begin text) scans.0 tokens (line 0) (base 0) 0 0 scans.1 refl refl accepted refl false (λ e. absurd (true≢false (sym e))) refl

@@ -8,13 +8,14 @@ ghost use Rattle.hcl_tokens.specs.Lexemes.{Lexeme};
 ghost use Rattle.hcl_tokens.specs.Scans.{Scans};
 ghost use Rattle.hcl_grammar.specs.Verdict.{IsAccepted};
 ghost use Rattle.hcl_grammar.specs.Items.{outline};
-ghost use Rattle.hcl_grammar.specs.Labels.{IsAsWritten, label_text, quoted};
+ghost use Rattle.hcl_grammar.specs.Labels.{label_text};
 ghost use Rattle.hcl_grammar.specs.Numbered.{numbered};
 ghost use Rattle.hcl_grammar.specs.declared.item.Item.TheVariants as item;
 ghost use Rattle.hcl_grammar.specs.declared.item.Label.{Label};
+ghost use Rattle.label_laws.specs.AsWritten.{IsAsWritten, between_quotes};
 
 /// Between the quotes of a label of a file stands nothing, or one literal, which is its text as written.
 pub fn one_literal()
     ensures { (text : List ℕ) (tokens : List Lexeme) → Scans text tokens → IsAccepted tokens
-        → (i : ℕ) (l : Label) → slice_get (outline tokens) i ≡ Some (item.Label l) → l.first < l.last → IsAsWritten (quoted (numbered tokens) l) (label_text (numbered tokens) l) }
+        → (i : ℕ) (l : Label) → slice_get (outline tokens) i ≡ Some (item.Label l) → l.first < l.last → IsAsWritten (between_quotes (numbered tokens) l) (label_text (numbered tokens) l) }
 {}

@@ -12,12 +12,12 @@ use Rattle.hcl_tokens.proofs.BooleanLemmas.{or_true}
 use Rattle.hcl_scan.proofs.OtherStepLemmas.{touching}
 use Rattle.hcl_scan.proofs.GapLemmas.{template_touches}
 use Rattle.hcl_tokens.specs.Kinds.{is}
-use Rattle.hcl_spacing.specs.Spacing.{stands_before, spaced}
+use Rattle.hcl_spacing.specs.Spacing.{stands_before, has_blank}
 use Rattle.hcl_layout.specs.Gaps.{blanks}
 use Rattle.hcl_spacing.proofs.SpacingLemmas as rows
 use Rattle.hcl_spacing.proofs.SpacingLemmas.{row_one}
 use Rattle.hcl_spacing.proofs.JoiningLemmas.{joined_apart}
-use Rattle.layout_laws.proofs.GapLemmas.{is_cell, GapFor}
+use Rattle.layout_laws.proofs.PrintGapLemmas.{is_cell, GapFor}
 
 -- ---- one gap
 -- the two tokens before on the line, and what the scan knows of them
@@ -25,10 +25,10 @@ abbrev pub Coherent : Option Lexeme → Option Lexeme → Bool → Kind → Type
 Coherent before None dot k = k ≡ kind.Newline
 Coherent before (Some u) dot k = (k ≡ u.kind) × (dot ≡ false → stands_before (is kind.Dot) before ≡ false)
 
-no_blank : (before : Option Lexeme) (u t : Lexeme) → spaced before u t ≡ false → blanks before u t ≡ 0
+no_blank : (before : Option Lexeme) (u t : Lexeme) → has_blank before u t ≡ false → blanks before u t ≡ 0
 no_blank before u t h = ap (λ v. if v then 1 else 0) h
 
-one_blank : (before : Option Lexeme) (u t : Lexeme) → spaced before u t ≡ true → blanks before u t ≡ 1
+one_blank : (before : Option Lexeme) (u t : Lexeme) → has_blank before u t ≡ true → blanks before u t ≡ 1
 one_blank before u t h = ap (λ v. if v then 1 else 0) h
 
 cell_outside : (t : Lexeme) → t.inside_heredoc ≡ true → is_cell t ≡ false
@@ -49,7 +49,7 @@ template_cell kind.HeredocClose n h = refl
 template_cell _ n h = absurd (cc)
 
 -- no gap, where the spacing gives none and no cell begins
-zero_behind : (before : Option Lexeme) (u t : Lexeme) (g : ℕ) → GapFor before (Some u) g t → spaced before u t ≡ false → is_cell t ≡ false → g ≡ 0
+zero_behind : (before : Option Lexeme) (u t : Lexeme) (g : ℕ) → GapFor before (Some u) g t → has_blank before u t ≡ false → is_cell t ≡ false → g ≡ 0
 zero_behind before u t g (inl e) h c = e ∙ no_blank before u t h
 zero_behind before u t g (inr x) h c = absurd (let y = x.1 in cc)
 

@@ -1,8 +1,8 @@
-pub mod GapLemmas
+pub mod PrintGapLemmas
 pub mod FitLemmas
 pub mod RescanLemmas
-pub mod PlaceLemmas
-pub mod LoadLemmas
+pub mod ForgetPlaceLemmas
+pub mod PrintLoadLemmas
 pub mod SameLineLemmas
 pub mod OlderScanLemmas
 pub mod OlderRunLemmas

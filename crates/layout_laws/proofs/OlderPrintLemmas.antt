@@ -4,20 +4,20 @@ use Rattle.std.specs.Prelude.{if◌then◌else◌}
 use Rattle.std.specs.List.{flat_map}
 use Rattle.hcl_tokens.specs.Lexemes.{Lexeme}
 use Rattle.hcl_tokens.specs.Regapped.{is_template}
-use Rattle.hcl_tokens.specs.SideBySide.{Beside, Besides, opens_template, is_coloned}
+use Rattle.hcl_tokens.specs.SideBySide.{Beside, Besides, opens_template}
 use Rattle.hcl_tokens.specs.declared.token.Kind.{Kind}
 use Rattle.hcl_tokens.specs.declared.token.Kind.TheVariants as kind
 use Rattle.hcl_tokens.proofs.ByteKindLemmas.{says}
 use Rattle.hcl_layout.specs.Lines.{Line, ends_line, lines, onto_line}
 use Rattle.hcl_layout.specs.Levels.{levels, net_of}
 use Rattle.hcl_layout.specs.Cells.{assign_cell, running_comment, trailing_comment}
-use Rattle.hcl_layout.specs.Gaps.{aligned, gaps_after, indent, line_gaps, plain_gaps, zip_with}
-use Rattle.hcl_layout.specs.Print.{print, printed}
+use Rattle.hcl_layout.specs.Gaps.{aligned_gaps, gaps_after, indent, line_gaps, plain_gaps, zip_with}
+use Rattle.hcl_layout.specs.Print.{print, printed_text}
 use Rattle.hcl_tokens.specs.Kinds.{is}
-use Rattle.hcl_spacing.specs.Spacing.{begins_with_colon, closes_group, ends_operand, is_in, is_opening, opens_sequence, spaced, would_join}
-use Rattle.layout_laws.specs.Older.Prints.{were_gaps_after, were_line_gaps, were_plain_gaps, was_print, was_spaced, would_have_joined}
+use Rattle.hcl_spacing.specs.Spacing.{begins_with_colon, closes_group, ends_operand, is_in, is_opening, opens_sequence, has_blank, would_join}
+use Rattle.layout_laws.specs.Older.Prints.{were_gaps_after, were_line_gaps, were_plain_gaps, was_print, had_blank, would_have_joined}
 use Rattle.hcl_spacing.proofs.SpacingLemmas.{row_one}
-use Rattle.layout_laws.proofs.OlderScanLemmas.{Apart, Older, colon_colon_is, coloned_is}
+use Rattle.layout_laws.proofs.OlderScanLemmas.{Apart, Older, colon_colon_is, coloned_is, is_coloned}
 
 -- ---- two neighbours
 record Meets (u t : Lexeme) : Type 0 where
@@ -48,17 +48,17 @@ or_false : (a : Bool) → (a || false) ≡ a
 or_false true = refl
 or_false false = refl
 
-was_row_one : (before : Option Lexeme) (u t : Lexeme) → (is kind.Newline t.kind || t.inside_heredoc) ≡ true → was_spaced before u t ≡ false
+was_row_one : (before : Option Lexeme) (u t : Lexeme) → (is kind.Newline t.kind || t.inside_heredoc) ≡ true → had_blank before u t ≡ false
 was_row_one before u t h = rw h refl
 
 outside : (a b : Bool) → (a || b) ≡ false → b ≡ false
 outside true b h = absurd (cc)
 outside false b h = h
 
-space_same : (before : Option Lexeme) (u t : Lexeme) → Meets u t → was_spaced before u t ≡ spaced before u t
+space_same : (before : Option Lexeme) (u t : Lexeme) → Meets u t → had_blank before u t ≡ has_blank before u t
 space_same before u t m = by (is kind.Newline t.kind || t.inside_heredoc) refl
   where
-    by : (v : Bool) → (is kind.Newline t.kind || t.inside_heredoc) ≡ v → was_spaced before u t ≡ spaced before u t
+    by : (v : Bool) → (is kind.Newline t.kind || t.inside_heredoc) ≡ v → had_blank before u t ≡ has_blank before u t
     by true h = was_row_one before u t h ∙ sym (row_one before u t h)
     by false h =
         let n = m.apart (outside (is kind.Newline t.kind) t.inside_heredoc h) in
@@ -151,7 +151,7 @@ indented_same (n ∷ ns) [] m = refl
 indented_same (n ∷ ns) (l ∷ ls) m = ap₂ (λ (g : List ℕ) (gs : List (List ℕ)). g ∷ gs) (plain_same n l m.0) (indented_same ns ls m.1)
 
 line_gaps_same : (ls : List Line) → LinesMeet ls → were_line_gaps ls ≡ line_gaps ls
-line_gaps_same ls m = ap (λ gs. aligned trailing_comment running_comment (aligned assign_cell assign_cell gs ls) ls) (indented_same (levels (map net_of ls)) ls m)
+line_gaps_same ls m = ap (λ gs. aligned_gaps trailing_comment running_comment (aligned_gaps assign_cell assign_cell gs ls) ls) (indented_same (levels (map net_of ls)) ls m)
 
 pub print_same : (ts : List Lexeme) → Besides kind.Newline ts → Older ts → Apart ts → was_print ts ≡ print ts
-print_same ts b o a = ap (λ gs. printed (flat_map (λ g. g) gs) ts) (line_gaps_same (lines ts) (lines_meet ts (all_meet kind.Newline ts b o a)))
+print_same ts b o a = ap (λ gs. printed_text (flat_map (λ g. g) gs) ts) (line_gaps_same (lines ts) (lines_meet ts (all_meet kind.Newline ts b o a)))

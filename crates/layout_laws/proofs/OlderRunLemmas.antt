@@ -20,7 +20,7 @@ use Rattle.hcl_grammar.specs.declared.expected.Terminal.{Terminal}
 use Rattle.hcl_grammar.specs.declared.expected.Terminal.TheVariants.{Separator}
 use Rattle.hcl_grammar.specs.declared.refusal.Refusal.{Refusal}
 use Rattle.hcl_grammar.specs.Grammar.{Symbol, the, file, rest, labels, label_literal, start, body, eol, expr, after_ident, path, after, step, index, tuple, tuple_next, tuple_item, tuple_if, names, object, separator, object_next, object_item, group, object_if, args, arg_next, parts, directive, inside, section_directive, Marked, ◌at◌, Action, none, nothing, reads, opens, closes, row_of, row, fits}
-use Rattle.hcl_grammar.specs.Predictor.{Effect, on, stop, taken, effect, next, run}
+use Rattle.hcl_grammar.specs.Predictor.{Effect, on, stop, row_effect, effect, next, run}
 use Rattle.hcl_grammar.specs.Relation.{Step, dropped, read, opened, closed, gone, ComesTo, at_end, step as one_step, refused}
 use Rattle.hcl_grammar.specs.Verdict.{IsAccepted}
 use Rattle.hcl_grammar.proofs.RelationLemmas.{answers}
@@ -47,8 +47,8 @@ classes_older n (t ∷ ts) o = elim (is_trivia (class_of t)) as (λ b. OlderClas
 turn_same : (count : ℕ) (ss : List Marked) (t : Lookahead) → is_path_sign t.class ≡ false → was_turn count ss t ≡ effect count ss t
 turn_same count [] t e = refl
 turn_same count (s at m ∷ ss) t e =
-    ap (λ b. cond (drops m t.class) (on count (s at m ∷ ss)) (taken count (cond b none (row s m t)) ss (was_turn count ss t) t)) e
-    ∙ ap (λ u. cond (drops m t.class) (on count (s at m ∷ ss)) (taken count (row s m t) ss u t)) (turn_same count ss t e)
+    ap (λ b. cond (drops m t.class) (on count (s at m ∷ ss)) (row_effect count (cond b none (row s m t)) ss (was_turn count ss t) t)) e
+    ∙ ap (λ u. cond (drops m t.class) (on count (s at m ∷ ss)) (row_effect count (row s m t) ss u t)) (turn_same count ss t e)
 
 next_same : (u : Effect) (f g : ℕ → List Marked → Option Refusal) → ((o : ℕ) (ss : List Marked) → f o ss ≡ g o ss) → next u f ≡ next u g
 next_same (on o ss) f g h = h o ss

@@ -5,14 +5,13 @@ use Rattle.std.specs.Char.{is_ascii_digit}
 use Rattle.std.specs.List.{list_all, prefix_len}
 use Rattle.std.proofs.lemmas.List.{append-nil}
 use Rattle.std.proofs.lemmas.Bool.Decides.{nat_tests}
-use Rattle.hcl_tokens.specs.Lexemes.{Lexeme, Opener, in_heredoc, moved}
+use Rattle.hcl_tokens.specs.Lexemes.{Lexeme, Opener, in_heredoc, open_after}
 use Rattle.hcl_tokens.specs.Spelling.{punctuation, IsPunctuation, IsSpelling, IsExpressionText, context, Expression, is_blank, starts}
 use Rattle.hcl_tokens.specs.Scans.{State, begin, ahead, gap_in, has_gaps_in, Leaves, Reads, Closes, Run, IsComplete, Scans}
-use Rattle.hcl_tokens.specs.SideBySide.{is_coloned}
 use Rattle.hcl_tokens.specs.declared.token.Kind.{Kind}
 use Rattle.hcl_tokens.specs.declared.token.Kind.TheVariants as kind
 use Rattle.hcl_tokens.proofs.BooleanLemmas.{and_true, or_cases}
-use Rattle.hcl_scan.proofs.CommentLemmas.{starts_split}
+use Rattle.hcl_scan.proofs.CommentTextLemmas.{starts_split}
 use Rattle.hcl_scan.proofs.ContextLemmas.{not_both}
 use Rattle.hcl_scan.proofs.NumeralLemmas.{digit_head}
 use Rattle.hcl_scan.proofs.LeadLemmas.{some}
@@ -40,6 +39,10 @@ Older (t ∷ ts) = (t.kind ≢ kind.ColonColon) × Older ts
 pub colon_colon_is : (k : Kind) → is kind.ColonColon k ≡ true → k ≡ kind.ColonColon
 colon_colon_is kind.ColonColon h = refl
 colon_colon_is _ h = absurd (cc)
+
+-- a text that begins with `:`
+abbrev pub is_coloned : Kind → Bool
+is_coloned k = is kind.Colon k || is kind.ColonColon k
 
 pub coloned_is : (k : Kind) → is_coloned k ≡ true → (k ≢ kind.ColonColon) → k ≡ kind.Colon
 coloned_is kind.Colon h n = refl
@@ -170,7 +173,7 @@ module _ (s : State) (t : Lexeme) (next end : State) (ts : List Lexeme) (r : Was
       colon = was_colon s.opens s.after_dot t.kind t.text r.rest (58 ∷ left) c r.longest.spelled whole
 
       opens_same : next.opens ≡ s.opens
-      opens_same = r.opens ∙ ap (λ (z : Kind). moved z s.opens) colon
+      opens_same = r.opens ∙ ap (λ (z : Kind). open_after z s.opens) colon
 
       seen_is : next.seen ≡ 58 ∷ left
       seen_is = (subst (λ (z : Kind). Leaves z t.text r.rest s.hidden next.seen next.hidden) colon r.leaves).0 ∙ one_byte t.text r.rest 58 58 left whole long few

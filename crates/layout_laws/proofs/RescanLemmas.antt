@@ -13,9 +13,9 @@ use Rattle.hcl_scan.proofs.SideBySideLemmas.{besides}
 use Rattle.hcl_tokens.specs.Kinds.{is}
 use Rattle.hcl_layout.specs.Lines.{Line, lines, onto_line, ends_line}
 use Rattle.hcl_layout.specs.Gaps.{gaps, line_gaps}
-use Rattle.hcl_layout.specs.Print.{print, printed}
+use Rattle.hcl_layout.specs.Print.{print, printed_text}
 use Rattle.layout_laws.specs.Reprinted.{with_gaps, printed_tokens}
-use Rattle.layout_laws.proofs.GapLemmas.{Spread, AllSpread, spread_lines}
+use Rattle.layout_laws.proofs.PrintGapLemmas.{Spread, AllSpread, spread_lines}
 use Rattle.layout_laws.proofs.FitLemmas.{Coherent, fits_here, coherent_on}
 
 -- ---- all gaps
@@ -120,10 +120,10 @@ pub tokens_are : (ts : List Lexeme) → without_gaps (with_gaps (gaps ts) ts) �
 tokens_are ts = let q = cut (line_gaps (lines ts)) (lines ts) (spread_lines (lines ts)) in ap (λ l. without_gaps (with_gaps l ts)) q.whole ∙ long_all ts None None q.front q.back q.first q.more
 
 -- ---- the print
-text_is : (gs : List ℕ) (ts : List Lexeme) → text_with_gaps (with_gaps gs ts) ≡ printed gs ts
+text_is : (gs : List ℕ) (ts : List Lexeme) → text_with_gaps (with_gaps gs ts) ≡ printed_text gs ts
 text_is [] ts = refl
 text_is (g ∷ gs) [] = refl
-text_is (g ∷ gs) (t ∷ ts) = ap (λ l. replicate g 32 ++ (t.text ++ l)) (text_is gs ts) ∙ sym (append_assoc (replicate g 32) t.text (printed gs ts))
+text_is (g ∷ gs) (t ∷ ts) = ap (λ l. replicate g 32 ++ (t.text ++ l)) (text_is gs ts) ∙ sym (append_assoc (replicate g 32) t.text (printed_text gs ts))
 
 -- THE PRINT IS SCANNED to the tokens of which it is made
 pub scans_again : (text : List ℕ) (ts : List Lexeme) → Scans text ts → Scans (print ts) (printed_tokens ts)

@@ -8,14 +8,14 @@ use Rattle.hcl_tokens.specs.Lexemes.{Lexeme}
 use Rattle.hcl_source.specs.Places.{line_of}
 use Rattle.hcl_tokens.specs.Scans.{Scans}
 use Rattle.hcl_scan.proofs.TokenLineLemmas.{line_is}
-use Rattle.hcl_tokens.proofs.RunLemmas.{one_scan}
+use Rattle.hcl_tokens.proofs.OneReadingLemmas.{one_scan}
 use Rattle.hcl_scan.proofs.SpellingLemmas.{one_kind}
 use Rattle.hcl_tokens.proofs.NonemptyLemmas.{nonempty}
 use Rattle.hcl_grammar.specs.Numbered.{Numbered, numbered, numbered_from}
 use Rattle.hcl_grammar.specs.Verdict.{start_of}
 use Rattle.hcl_layout.specs.Print.{print}
 use Rattle.layout_laws.specs.Reprinted.{printed_tokens}
-use Rattle.layout_laws.proofs.PlaceLemmas.{forget, forgot, same_tokens}
+use Rattle.layout_laws.proofs.ForgetPlaceLemmas.{forget, forgot, same_tokens}
 use Rattle.layout_laws.proofs.RescanLemmas.{scans_again}
 
 -- ---- tokens without their places

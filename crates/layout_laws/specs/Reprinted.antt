@@ -2,7 +2,7 @@
 -- is scanned back to them and printed again as it is.
 use Rattle.std.specs.Prelude.{ℕ, List, [], ◌∷◌}
 use Rattle.hcl_tokens.specs.Lexemes.{Lexeme}
-use Rattle.hcl_tokens.specs.Regapped.{placed}
+use Rattle.hcl_tokens.specs.Regapped.{placed_tokens}
 use Rattle.hcl_layout.specs.Gaps.{gaps}
 
 -- each token with the gap before it
@@ -12,4 +12,4 @@ with_gaps (g ∷ gs) [] = []
 with_gaps (g ∷ gs) (t ∷ ts) = (g, t) ∷ with_gaps gs ts
 
 abbrev pub printed_tokens : List Lexeme → List Lexeme
-printed_tokens ts = placed 0 (with_gaps (gaps ts) ts)
+printed_tokens ts = placed_tokens 0 (with_gaps (gaps ts) ts)

@@ -53,21 +53,21 @@ abbrev pub each : (ℕ → List ℕ) → ℕ → ℕ → List ℕ
 each text n zero = []
 each text n (suc more) = text n ++ each text (suc n) more
 
-abbrev pub ended : List ℕ → List ℕ
-ended line = if list.ends_with (λ a b. a == b) line (codes "\n") then line else line ++ codes "\n\\ No newline at end of file\n"
+abbrev pub ended_line : List ℕ → List ℕ
+ended_line line = if list.ends_with (λ a b. a == b) line (codes "\n") then line else line ++ codes "\n\\ No newline at end of file\n"
 
 -- a line with its sign; an empty one is none
-abbrev pub signed : List ℕ → List ℕ → List ℕ
-signed sign line = if length line == 0 then [] else sign ++ ended line
+abbrev pub signed_line : List ℕ → List ℕ → List ℕ
+signed_line sign line = if length line == 0 then [] else sign ++ ended_line line
 
 -- what stands at a line of a hunk: where a run of changed lines begins, all that go and then all that come; or the line
 abbrev pub body_at : Texts → ℕ → List ℕ
 body_at ts n =
     if is_changed ts n then (if begins (is_changed ts) n then
-    each (λ k. signed (codes "-") (line_at ts.old k)) n (run_length (is_changed ts) n (count ts - n))
-    ++ each (λ k. signed (codes "+") (line_at ts.new k)) n (run_length (is_changed ts) n (count ts - n))
+    each (λ k. signed_line (codes "-") (line_at ts.old k)) n (run_length (is_changed ts) n (count ts - n))
+    ++ each (λ k. signed_line (codes "+") (line_at ts.new k)) n (run_length (is_changed ts) n (count ts - n))
     else [])
-    else signed (codes " ") (line_at ts.old n)
+    else signed_line (codes " ") (line_at ts.old n)
 
 -- which lines of a text a hunk has, from one number up to another
 abbrev pub range_by : ℕ → ℕ → List ℕ

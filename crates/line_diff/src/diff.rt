@@ -1,7 +1,7 @@
 //! What would change, as `diff -u` shows it. A print has the lines of its text, so lines of the same number are compared.
 
 ghost use Rattle.std.specs.Prelude.{◌≡◌, ◌<◌, ◌≤◌, ◌+◌, ◌-◌, ◌++◌, OnOk, IfOk, codes, decimal};
-ghost use Rattle.line_diff.specs.Diffs.{begins, body_at, count, diff_of, each, ended, head, hunk_at, hunks, is_changed, is_shown, line_at, range, range_by, run_length, signed};
+ghost use Rattle.line_diff.specs.Diffs.{begins, body_at, count, diff_of, each, ended_line, head, hunk_at, hunks, is_changed, is_shown, line_at, range, range_by, run_length, signed_line};
 
 use crate::lines::{Lines, lines_of};
 use itoa::Buffer;
@@ -82,7 +82,7 @@ fn end_of_hunk(lines: &Lines<'_>, start: usize) -> usize
 
 /// Puts a line, and says it where it has no LF.
 fn push_ended(to: &mut Vec<u8>, line: &[u8]) -> Result<(), AllocError>
-    ensures { OnOk result (to.new.items ≡ to.old.items ++ ended line.now) }
+    ensures { OnOk result (to.new.items ≡ to.old.items ++ ended_line line.now) }
 {
     push(to, line)?;
     if line.ends_with(b"\n") {
@@ -93,7 +93,7 @@ fn push_ended(to: &mut Vec<u8>, line: &[u8]) -> Result<(), AllocError>
 
 /// Puts a line, with a sign before it.
 fn push_line(to: &mut Vec<u8>, sign: &[u8], line: &[u8]) -> Result<(), AllocError>
-    ensures { OnOk result (to.new.items ≡ to.old.items ++ signed sign.now line.now) }
+    ensures { OnOk result (to.new.items ≡ to.old.items ++ signed_line sign.now line.now) }
 {
     if line.is_empty() {
         return Ok(());
@@ -106,7 +106,7 @@ fn push_line(to: &mut Vec<u8>, sign: &[u8], line: &[u8]) -> Result<(), AllocErro
 #[tactic(auto, using(crate::proofs::DiffLemmas::each_goes, crate::proofs::DiffLemmas::each_done))]
 fn push_old(to: &mut Vec<u8>, lines: &Lines<'_>, start: usize, end: usize) -> Result<(), AllocError>
     requires { start ≤ end }
-    ensures { OnOk result (to.new.items ≡ to.old.items ++ each (λ k. signed (codes "-") (line_at lines.now.old k)) start (end - start)) }
+    ensures { OnOk result (to.new.items ≡ to.old.items ++ each (λ k. signed_line (codes "-") (line_at lines.now.old k)) start (end - start)) }
 {
     for number in start..end {
         push_line(to, b"-", lines.old(number))?;
@@ -118,7 +118,7 @@ fn push_old(to: &mut Vec<u8>, lines: &Lines<'_>, start: usize, end: usize) -> Re
 #[tactic(auto, using(crate::proofs::DiffLemmas::each_goes, crate::proofs::DiffLemmas::each_done))]
 fn push_new(to: &mut Vec<u8>, lines: &Lines<'_>, start: usize, end: usize) -> Result<(), AllocError>
     requires { start ≤ end }
-    ensures { OnOk result (to.new.items ≡ to.old.items ++ each (λ k. signed (codes "+") (line_at lines.now.new k)) start (end - start)) }
+    ensures { OnOk result (to.new.items ≡ to.old.items ++ each (λ k. signed_line (codes "+") (line_at lines.now.new k)) start (end - start)) }
 {
     for number in start..end {
         push_line(to, b"+", lines.new_at(number))?;
@@ -129,8 +129,8 @@ fn push_new(to: &mut Vec<u8>, lines: &Lines<'_>, start: usize, end: usize) -> Re
 /// Puts a run of changed lines.
 fn push_change(to: &mut Vec<u8>, lines: &Lines<'_>, start: usize) -> Result<(), AllocError>
     requires { start ≤ count lines.now }
-    ensures { OnOk result (to.new.items ≡ to.old.items ++ (each (λ k. signed (codes "-") (line_at lines.now.old k)) start (run_length (is_changed lines.now) start (count lines.now - start))
-        ++ each (λ k. signed (codes "+") (line_at lines.now.new k)) start (run_length (is_changed lines.now) start (count lines.now - start)))) }
+    ensures { OnOk result (to.new.items ≡ to.old.items ++ (each (λ k. signed_line (codes "-") (line_at lines.now.old k)) start (run_length (is_changed lines.now) start (count lines.now - start))
+        ++ each (λ k. signed_line (codes "+") (line_at lines.now.new k)) start (run_length (is_changed lines.now) start (count lines.now - start)))) }
 {
     let end = end_of_change(lines, start);
     push_old(to, lines, start, end)?;

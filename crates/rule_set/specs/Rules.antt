@@ -1,6 +1,8 @@
 -- The ten rules, their names, and how severe their issues are. The names are those of rules of TFLint's Terraform rule
 -- set; what each reports, the severities and the recommended set are our own choice.
-use Rattle.std.specs.Prelude.{ℕ, ◌==◌, Bool, true, false, List, [], ◌∷◌, codes}
+use Rattle.std.specs.Prelude.{ℕ, Bool, true, false, List, [], ◌∷◌, codes}
+use Rattle.std.specs.List.{position_or_len}
+use Rattle.std.specs.Str.{bytes_eq}
 use Rattle.rule_set.specs.declared.rule.Rule.{Rule}
 use Rattle.rule_set.specs.declared.rule.Rule.TheVariants.{CommentSyntax, DeprecatedIndex, DeprecatedInterpolation, DocumentedOutputs, DocumentedVariables, ModulePinnedSource, ModuleVersion, NamingConvention, TypedVariables, UnusedDeclarations}
 use Rattle.rule_set.specs.declared.rule.Severity.{Severity}
@@ -28,21 +30,13 @@ severity _ = Warning
 abbrev pub all_rules : List Rule
 all_rules = CommentSyntax ∷ DeprecatedIndex ∷ DeprecatedInterpolation ∷ DocumentedOutputs ∷ DocumentedVariables ∷ ModulePinnedSource ∷ ModuleVersion ∷ NamingConvention ∷ TypedVariables ∷ UnusedDeclarations ∷ []
 
+-- the same rule, since no two have one name
+abbrev pub is_rule : Rule → Rule → Bool
+is_rule a b = bytes_eq (rule_name a) (rule_name b)
+
 -- the place of a rule in the order of the names
 abbrev pub rank : Rule → ℕ
-rank CommentSyntax = 0
-rank DeprecatedIndex = 1
-rank DeprecatedInterpolation = 2
-rank DocumentedOutputs = 3
-rank DocumentedVariables = 4
-rank ModulePinnedSource = 5
-rank ModuleVersion = 6
-rank NamingConvention = 7
-rank TypedVariables = 8
-rank UnusedDeclarations = 9
-
-abbrev pub is_rule : Rule → Rule → Bool
-is_rule a b = rank a == rank b
+rank rule = position_or_len (is_rule rule) all_rules
 
 -- the rules that are asked for where none is named
 abbrev pub is_recommended : Rule → Bool

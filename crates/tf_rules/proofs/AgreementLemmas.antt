@@ -8,7 +8,7 @@ use Rattle.rule_set.specs.Rules.{is_rule}
 use Rattle.tf_facts.specs.Comments.{Comment, comments}
 use Rattle.tf_rules.specs.Findings.{Finding, findings}
 use Rattle.tf_facts.specs.Facts.{facts_of}
-use Rattle.tf_rules.specs.Issues.{Asked, File, Place, tokens_of, place_in, all_references, all_comments, comment_at, covers, is_beside, issue_in, issues_in, reported, issues}
+use Rattle.tf_rules.specs.Issues.{Asked, File, Place, tokens_of, place_in, all_references, all_comments, comment_at, covers, is_beside, issue_in, issues_in, reported_issues, issues}
 use Rattle.tf_rules.specs.Agreement.{SameTokens, Told, told, line_in}
 use Rattle.rule_set.specs.declared.rule.Rule.{Rule}
 use Rattle.tf_rules.proofs.FindingLemmas.{map-map, map_same, map-flat_map, flat_map_same}
@@ -45,7 +45,7 @@ by_rule asked files others h rule =
     ∙ same_in_all asked (all_references others) rule files others h
     ∙ sym (map-flat_map told (issues_in asked (all_references others) rule) others)
 
-reported_agree : (asked : Asked) (files others : List File) → AllZip SameTokens files others → map told (reported asked files) ≡ map told (reported asked others)
+reported_agree : (asked : Asked) (files others : List File) → AllZip SameTokens files others → map told (reported_issues asked files) ≡ map told (reported_issues asked others)
 reported_agree asked files others h =
     map-flat_map told (λ rule. flat_map (issues_in asked (all_references files) rule) files) asked.rules
     ∙ flat_map_same (λ rule. map told (flat_map (issues_in asked (all_references files) rule) files)) (λ rule. map told (flat_map (issues_in asked (all_references others) rule) others))
@@ -96,7 +96,7 @@ same_mutes (f ∷ files) (g ∷ others) h t =
 
 pub agree : (asked : Asked) (files others : List File) → AllZip SameTokens files others → map told (issues asked files) ≡ map told (issues asked others)
 agree asked files others h =
-    map-filter (λ t. not (mutes (all_comments files) t)) told (reported asked files)
+    map-filter (λ t. not (mutes (all_comments files) t)) told (reported_issues asked files)
     ∙ ap (filter (λ t. not (mutes (all_comments files) t))) (reported_agree asked files others h)
-    ∙ filter_same (λ t. not (mutes (all_comments files) t)) (λ t. not (mutes (all_comments others) t)) (λ t. ap not (same_mutes files others h t)) (map told (reported asked others))
-    ∙ sym (map-filter (λ t. not (mutes (all_comments others) t)) told (reported asked others))
+    ∙ filter_same (λ t. not (mutes (all_comments files) t)) (λ t. not (mutes (all_comments others) t)) (λ t. ap not (same_mutes files others h t)) (map told (reported_issues asked others))
+    ∙ sym (map-filter (λ t. not (mutes (all_comments others) t)) told (reported_issues asked others))

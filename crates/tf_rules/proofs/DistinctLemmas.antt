@@ -8,9 +8,9 @@ use Rattle.hcl_grammar.specs.Numbered.{numbered}
 use Rattle.tf_rules.specs.Answers.{IsBelow, Rising}
 use Rattle.tf_facts.specs.Comments.{Comment, comments}
 use Rattle.tf_facts.specs.Declarations.{Declaration, SourceAt, declarations}
-use Rattle.tf_rules.specs.Findings.{Finding, finding, findings, says_if, says_of, slashed, unpinned, unpinned_by}
+use Rattle.tf_rules.specs.Findings.{Finding, finding, findings, says_if, says_of, slash_findings, unpinned_findings, unpinned_findings_by}
 use Rattle.tf_facts.specs.Facts.{facts_of}
-use Rattle.tf_rules.specs.Issues.{Asked, File, Issue, all_references, asked_of, issue_in, issues_in, reported, tokens_of}
+use Rattle.tf_rules.specs.Issues.{Asked, File, Issue, all_references, asked_of, issue_in, issues_in, reported_issues, tokens_of}
 use Rattle.tf_rules.specs.Ordered.{Member, BeforeAll, Ascends}
 use Rattle.tf_facts.specs.Patterns.{legacy_indexes, wrapped_interpolations}
 use Rattle.rule_set.specs.Rules.{all_rules, rank}
@@ -73,13 +73,13 @@ module _ (naming : Naming) (used : List (List ℕ)) where
       more : List (Finding ℕ)
       more = flat_map (finding naming used ModulePinnedSource) ds
 
-      by_kind : (s : SourceAt ℕ) (v : Source) → from ≤ s.at → Up found_at (s.at + 1) more to → Up found_at from (unpinned_by d s.at v ++ more) to
+      by_kind : (s : SourceAt ℕ) (v : Source) → from ≤ s.at → Up found_at (s.at + 1) more to → Up found_at from (unpinned_findings_by d s.at v ++ more) to
       by_kind s NotPinned low r = (low, r)
       by_kind s (DefaultBranch branch) low r = (low, r)
       by_kind s Other low r = up_from found_at from (s.at + 1) to more (omega (arith, low)) r
       by_kind s Registry low r = up_from found_at from (s.at + 1) to more (omega (arith, low)) r
 
-      by_source : (o : Option (SourceAt ℕ)) → Rise (d.at + 1) (quotes o ++ flat_map numbers_of ds) to → ((n : ℕ) → Rise n (flat_map numbers_of ds) to → Up found_at n more to) → Up found_at from (unpinned d o ++ more) to
+      by_source : (o : Option (SourceAt ℕ)) → Rise (d.at + 1) (quotes o ++ flat_map numbers_of ds) to → ((n : ℕ) → Rise n (flat_map numbers_of ds) to → Up found_at n more to) → Up found_at from (unpinned_findings d o ++ more) to
       by_source None r rest = up_from found_at from (d.at + 1) to more (omega (arith, h.0)) (rest (d.at + 1) r)
       by_source (Some s) r rest = by_kind s s.source (omega (arith, h.0, r.0)) (rest (s.at + 1) r.1)
 
@@ -90,7 +90,7 @@ module _ (naming : Naming) (used : List (List ℕ)) (tokens : List Lexeme) where
 
   findings_up : (rule : Rule) → Up found_at 0 (findings naming used (facts_of (numbered tokens)) rule) (length tokens)
   findings_up CommentSyntax =
-      up_flat comment_number found_at slashed (λ c. says_up c.slashes c.at (codes "line comments should begin with #")) 0 (length tokens) (comments (numbered tokens))
+      up_flat comment_number found_at slash_findings (λ c. says_up c.slashes c.at (codes "line comments should begin with #")) 0 (length tokens) (comments (numbered tokens))
       (rise_up comment_number 0 (length tokens) (comments (numbered tokens)) (comments_in_order tokens))
   findings_up DeprecatedIndex = up_map found_at (says_of (codes "list items should be accessed using square brackets")) 0 (length tokens) (legacy_indexes (numbered tokens)) (rise_is 0 (length tokens) (legacy_indexes (numbered tokens)) (indexes_in_order tokens))
   findings_up DeprecatedInterpolation = up_map found_at (says_of (codes "interpolation-only expressions are deprecated")) 0 (length tokens) (wrapped_interpolations (numbered tokens)) (rise_is 0 (length tokens) (wrapped_interpolations (numbered tokens)) (interpolations_in_order tokens))
@@ -189,7 +189,7 @@ rules_ascend p =
     ))
 
 -- THE LAW
-pub reported_apart : (settings : Settings) (files : List File) → Rising files → Ascends Differ (reported (asked_of settings) files)
+pub reported_apart : (settings : Settings) (files : List File) → Rising files → Ascends Differ (reported_issues (asked_of settings) files)
 reported_apart settings files rising =
     let used = all_references files in
     flat_ascends (λ rule. flat_map (issues_in (asked_of settings) used rule) files) (λ r s. rank r < rank s) Differ

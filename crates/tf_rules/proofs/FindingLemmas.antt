@@ -9,7 +9,7 @@ use Rattle.std.proofs.lemmas.List.Folds.{flat_map-map}
 use Rattle.tf_facts.specs.Sources.{Source, Other, NotPinned, DefaultBranch, Registry}
 use Rattle.tf_facts.specs.Declarations.{Declaration, SourceAt}
 use Rattle.tf_facts.specs.Facts.{Facts}
-use Rattle.tf_rules.specs.Findings.{Finding, findings, finding, says_if, says_of, slashed, about, unpinned, unpinned_by, from_registry, is_unused, uses_of, kind_text, both_quoted}
+use Rattle.tf_rules.specs.Findings.{Finding, findings, finding, says_if, says_of, slash_findings, about, unpinned_findings, unpinned_findings_by, from_registry, is_unused, uses_of, kind_text, both_quoted}
 use Rattle.tf_facts.specs.Comments.{Comment}
 use Rattle.tf_rules.specs.Issues.{comment_at}
 use Rattle.tf_rules.specs.Kept.{source_at, declaration_at, facts_at, both}
@@ -45,13 +45,13 @@ module _ {P Q : Type 0} (f : P → Q) where
   says_if-at true at message = refl
   says_if-at false at message = refl
 
-  unpinned_by-at : (d : Declaration P) (quote : P) (s : Source) → unpinned_by (declaration_at f d) (f quote) s ≡ map (finding_at f) (unpinned_by d quote s)
+  unpinned_by-at : (d : Declaration P) (quote : P) (s : Source) → unpinned_findings_by (declaration_at f d) (f quote) s ≡ map (finding_at f) (unpinned_findings_by d quote s)
   unpinned_by-at d quote NotPinned = refl
   unpinned_by-at d quote (DefaultBranch branch) = refl
   unpinned_by-at d quote Other = refl
   unpinned_by-at d quote Registry = refl
 
-  unpinned-at : (d : Declaration P) (s : Option (SourceAt P)) → unpinned (declaration_at f d) (source_at f s) ≡ map (finding_at f) (unpinned d s)
+  unpinned-at : (d : Declaration P) (s : Option (SourceAt P)) → unpinned_findings (declaration_at f d) (source_at f s) ≡ map (finding_at f) (unpinned_findings d s)
   unpinned-at d None = refl
   unpinned-at d (Some s) = unpinned_by-at d s.at s.source
 
@@ -78,14 +78,14 @@ module _ {P Q : Type 0} (f : P → Q) where
       ∙ flat_map_same (λ d. finding naming used rule (declaration_at f d)) (λ d. map (finding_at f) (finding naming used rule d)) (finding-at naming used rule) ds
       ∙ sym (map-flat_map (finding_at f) (finding naming used rule) ds)
 
-  slashed-at : (c : Comment P) → slashed (comment_at f c) ≡ map (finding_at f) (slashed c)
+  slashed-at : (c : Comment P) → slash_findings (comment_at f c) ≡ map (finding_at f) (slash_findings c)
   slashed-at c = says_if-at _ c.at _
 
-  over_comments : (cs : List (Comment P)) → flat_map slashed (map (comment_at f) cs) ≡ map (finding_at f) (flat_map slashed cs)
+  over_comments : (cs : List (Comment P)) → flat_map slash_findings (map (comment_at f) cs) ≡ map (finding_at f) (flat_map slash_findings cs)
   over_comments cs =
-      flat_map-map slashed (comment_at f) cs
-      ∙ flat_map_same (λ c. slashed (comment_at f c)) (λ c. map (finding_at f) (slashed c)) slashed-at cs
-      ∙ sym (map-flat_map (finding_at f) slashed cs)
+      flat_map-map slash_findings (comment_at f) cs
+      ∙ flat_map_same (λ c. slash_findings (comment_at f c)) (λ c. map (finding_at f) (slash_findings c)) slashed-at cs
+      ∙ sym (map-flat_map (finding_at f) slash_findings cs)
 
   over_places : (message : List ℕ) (xs : List P) → map (says_of message) (map f xs) ≡ map (finding_at f) (map (says_of message) xs)
   over_places message xs = map-map (says_of message) f xs ∙ sym (map-map (finding_at f) (says_of message) xs)

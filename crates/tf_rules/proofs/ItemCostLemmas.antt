@@ -11,7 +11,7 @@ use Rattle.hcl_tokens.specs.declared.token.Kind.TheVariants.{Assign, Ident, Quot
 use Rattle.hcl_tokens.specs.declared.token.Kind.{Kind}
 use Rattle.hcl_grammar.specs.Labels.{text_of}
 use Rattle.hcl_grammar.specs.Items.{closing_quote, is_closed, items_of, label_at}
-use Rattle.hcl_grammar.specs.Numbered.{Numbered, is_comment, uncommented}
+use Rattle.hcl_grammar.specs.Numbered.{Numbered, is_comment, without_comments}
 use Rattle.hcl_grammar.specs.declared.item.Item.{Item}
 use Rattle.hcl_grammar.specs.declared.item.Item.TheVariants as item
 use Rattle.tf_facts.specs.Declarations.{Attribute, Declaration, Declarer, SourceAt, attributes_in, by_declarer, declarations, declarer, has, is_empty, is_module, labels_in, module_source, of_block, of_items, of_local, with_attribute}
@@ -161,6 +161,6 @@ places_few ts =
     omega (
       arith,
       declared_cost ts (items_of ts),
-      items_weigh cost (λ t. bit (is_telling t.kind)) counted (length ts) 0 (uncommented ts),
+      items_weigh cost (λ t. bit (is_telling t.kind)) counted (length ts) 0 (without_comments ts),
       tally_filter is_telling (λ t. not (is_comment t.kind)) ts,
     )

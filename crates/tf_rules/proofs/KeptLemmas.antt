@@ -12,8 +12,9 @@ use Rattle.tf_facts.specs.References.{references}
 use Rattle.tf_facts.specs.Comments.{Comment, comments}
 use Rattle.tf_rules.specs.Findings.{Finding, findings}
 use Rattle.tf_facts.specs.Facts.{facts_of}
-use Rattle.tf_rules.specs.Issues.{Asked, File, Place, tokens_of, place_in, all_references, all_comments, comment_at, is_silenced, issues_in, reported, issues}
-use Rattle.tf_rules.specs.Kept.{Kept, nothing, with_file, kept_of, facts_at, issue_at, reported_of_kept, issues_of_kept}
+use Rattle.tf_rules.specs.Issues.{Asked, File, Place, tokens_of, place_in, all_references, all_comments, comment_at, is_silenced, issues_in, reported_issues, issues}
+use Rattle.tf_rules.specs.Kept.{Kept, nothing, with_file, kept_of, facts_at, issue_at}
+use Rattle.tf_rules.specs.KeptIssues.{reported_of_kept, issues_of_kept}
 use Rattle.tf_rules.proofs.FindingLemmas.{map-map, map-flat_map, flat_map_same, finding_at, findings-at, findings-both, SameTexts, findings_same}
 use Rattle.rule_set.specs.declared.rule.Rule.{Rule}
 use Rattle.rule_set.specs.declared.rule.Rule.TheVariants.{CommentSyntax, DeprecatedIndex, DeprecatedInterpolation, DocumentedOutputs, DocumentedVariables, ModulePinnedSource, ModuleVersion, NamingConvention, TypedVariables, UnusedDeclarations}
@@ -115,7 +116,7 @@ by_rule asked files rule =
     ∙ map-flat_map (issue_at rule) (found_in asked.naming used rule) files
     ∙ flat_map_same (λ file. map (issue_at rule) (found_in asked.naming used rule file)) (issues_in asked used rule) (issues_found asked used rule) files)
 
-pub reported_is : (asked : Asked) (files : List File) → reported asked files ≡ reported_of_kept asked (kept_of files)
+pub reported_is : (asked : Asked) (files : List File) → reported_issues asked files ≡ reported_of_kept asked (kept_of files)
 reported_is asked files =
     flat_map_same (λ rule. flat_map (issues_in asked (all_references files) rule) files)
     (λ rule. map (issue_at rule) (findings asked.naming (kept_of files).references (kept_of files).facts rule)) (by_rule asked files) asked.rules

@@ -4,7 +4,7 @@ pub mod AgreementLemmas
 pub mod OneReportLemmas
 pub mod ReportLemmas
 pub mod StartLemmas
-pub mod ClusterLemmas
+pub mod ColumnClusterLemmas
 pub mod WalkLemmas
 pub mod PlaceLemmas
 pub mod EntryLemmas

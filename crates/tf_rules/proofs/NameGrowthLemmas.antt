@@ -12,12 +12,12 @@ use Rattle.hcl_tokens.specs.declared.token.Kind.{Kind}
 use Rattle.hcl_tokens.specs.declared.token.Kind.TheVariants as kind
 use Rattle.hcl_grammar.specs.Items.{items_of}
 use Rattle.hcl_grammar.specs.Labels.{first_literal, first_text, label_text, text_of}
-use Rattle.hcl_grammar.specs.Numbered.{Numbered, is_comment, is_passed_over, numbered_from, significant, uncommented}
+use Rattle.hcl_grammar.specs.Numbered.{Numbered, is_comment, is_passed_over, numbered_from, significant, without_comments}
 use Rattle.hcl_grammar.specs.Verdict.{IsAccepted}
 use Rattle.hcl_grammar.specs.declared.item.Item.{Item}
 use Rattle.hcl_grammar.specs.declared.item.Item.TheVariants as item
 use Rattle.hcl_grammar.specs.declared.item.Label.{Label}
-use Rattle.label_laws.proofs.NameLemmas.{IsApart, apart, apart_on, begins_dot, behind_dot, first, is_apart}
+use Rattle.label_laws.proofs.NamePlaceLemmas.{IsApart, apart, apart_on, begins_dot, behind_dot, first, is_apart}
 use Rattle.label_laws.proofs.PieceTurnLemmas.{AllGood, Good}
 use Rattle.label_laws.proofs.PlainLabelLemmas.{file_good}
 use Rattle.tf_facts.specs.Declarations.{Declaration, SourceAt, declarations}
@@ -170,7 +170,7 @@ names_grow kept file scans accepted =
       tokens_few file.source.text file.source.tokens scans,
       all_few ts 0 false file.source.tokens refl refl (tokens_solid file.source.text file.source.tokens scans),
       weight_filter (weigh (own_weight ts)) (λ t. not (is_comment t.kind)) ts,
-      items_weigh (cost (own_weight ts)) (weigh (own_weight ts)) (counted (own_weight ts)) (length ts) 0 (uncommented ts),
+      items_weigh (cost (own_weight ts)) (weigh (own_weight ts)) (counted (own_weight ts)) (length ts) 0 (without_comments ts),
       told_few ts (own_weight ts) (items_of ts) (all_weigh ts (items_of ts) (file_good file.source.text file.source.tokens scans accepted)),
       made_few (own_blocks ts) (significant ts) false,
       told_both kept.facts.declarations (map (declaration_at (place_in file)) (declarations ts)),

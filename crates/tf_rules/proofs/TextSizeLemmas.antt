@@ -8,7 +8,7 @@ use Rattle.hcl_tokens.specs.Scans.{State, Hidden, Leaves, Next, Run, Scans, begi
 use Rattle.hcl_tokens.specs.Lexemes.{marker_of}
 use Rattle.hcl_tokens.specs.declared.token.Kind.{Kind}
 use Rattle.hcl_tokens.specs.declared.token.Kind.TheVariants.{HeredocOpen, Assign, Dot}
-use Rattle.hcl_tokens.proofs.RunLemmas.{Nonempty}
+use Rattle.hcl_tokens.proofs.OneReadingLemmas.{Nonempty}
 use Rattle.hcl_tokens.proofs.NonemptyLemmas.{nonempty}
 use Rattle.tf_rules.proofs.ItemWeightLemmas.{bit}
 

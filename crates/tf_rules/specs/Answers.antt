@@ -6,8 +6,8 @@ use Rattle.tf_rules.specs.Issues.{Asked, File, IsReport}
 use Rattle.tf_rules.specs.Issues as issues
 use Rattle.tf_rules.specs.declared.issue.Issue.{Issue}
 
-abbrev pub answered : issues.Issue → Issue
-answered i = record { file = i.place.file; at = i.place.at; rule = i.rule; message = i.message }
+abbrev pub shown_issue : issues.Issue → Issue
+shown_issue i = record { file = i.place.file; at = i.place.at; rule = i.rule; message = i.message }
 
 -- the number of a file is below another's
 abbrev pub IsBelow : File → File → Type 0
@@ -21,4 +21,4 @@ Rising files = Ascends IsBelow files
 pub record AreIssues (asked : Asked) (files : List File) (answer : List Issue) : Type 0 where
   pub report : List issues.Issue
   pub is : IsReport asked files report
-  pub same : map answered report ≡ answer
+  pub same : map shown_issue report ≡ answer

@@ -72,15 +72,15 @@ says_if test at message = if test then record { at = at; message = message } ∷
 abbrev pub says_of : {P : Type 0} → List ℕ → P → Finding P
 says_of message at = record { at = at; message = message }
 
-abbrev pub unpinned_by : {P : Type 0} → Declaration P → P → Source → List (Finding P)
-unpinned_by d quote NotPinned = says_of (about d (codes " source is not pinned")) quote ∷ []
-unpinned_by d quote (DefaultBranch branch) = says_of (about d (codes " source uses a default branch: " ++ branch)) quote ∷ []
-unpinned_by d quote Other = []
-unpinned_by d quote Registry = []
+abbrev pub unpinned_findings_by : {P : Type 0} → Declaration P → P → Source → List (Finding P)
+unpinned_findings_by d quote NotPinned = says_of (about d (codes " source is not pinned")) quote ∷ []
+unpinned_findings_by d quote (DefaultBranch branch) = says_of (about d (codes " source uses a default branch: " ++ branch)) quote ∷ []
+unpinned_findings_by d quote Other = []
+unpinned_findings_by d quote Registry = []
 
-abbrev pub unpinned : {P : Type 0} → Declaration P → Option (SourceAt P) → List (Finding P)
-unpinned d None = []
-unpinned d (Some s) = unpinned_by d s.at s.source
+abbrev pub unpinned_findings : {P : Type 0} → Declaration P → Option (SourceAt P) → List (Finding P)
+unpinned_findings d None = []
+unpinned_findings d (Some s) = unpinned_findings_by d s.at s.source
 
 abbrev pub from_registry : {P : Type 0} → Option (SourceAt P) → Bool
 from_registry None = false
@@ -91,14 +91,14 @@ from_registry (Some s) = is_from s.source
     is_from _ = false
 
 -- of a comment that begins with `//`
-abbrev pub slashed : {P : Type 0} → Comment P → List (Finding P)
-slashed c = says_if c.slashes c.at (codes "line comments should begin with #")
+abbrev pub slash_findings : {P : Type 0} → Comment P → List (Finding P)
+slash_findings c = says_if c.slashes c.at (codes "line comments should begin with #")
 
 -- what a rule reports of one declaration, where all files have these references
 abbrev pub finding : {P : Type 0} → Naming → List (List ℕ) → Rule → Declaration P → List (Finding P)
 finding naming used DocumentedOutputs d = says_if (is_kind declares.Output d.kind && not d.described) d.at (about d (codes " has no description"))
 finding naming used DocumentedVariables d = says_if (is_kind declares.Variable d.kind && not d.described) d.at (about d (codes " has no description"))
-finding naming used ModulePinnedSource d = unpinned d d.source
+finding naming used ModulePinnedSource d = unpinned_findings d d.source
 finding naming used ModuleVersion d = says_if (from_registry d.source && not d.versioned) d.at (about d (codes " has no version"))
 finding naming used NamingConvention d =
     says_if (not (matches_naming naming (last_of d.names))) d.at (kind_text d.kind ++ (codes " name" ++ quoting (last_of d.names) (codes " must match " ++ naming_text naming)))
@@ -111,7 +111,7 @@ finding naming used DeprecatedInterpolation d = []
 
 -- WHAT A RULE REPORTS
 abbrev pub findings : {P : Type 0} → Naming → List (List ℕ) → Facts P → Rule → List (Finding P)
-findings naming used facts CommentSyntax = flat_map slashed facts.comments
+findings naming used facts CommentSyntax = flat_map slash_findings facts.comments
 findings naming used facts DeprecatedIndex = map (says_of (codes "list items should be accessed using square brackets")) facts.indexes
 findings naming used facts DeprecatedInterpolation = map (says_of (codes "interpolation-only expressions are deprecated")) facts.interpolations
 findings naming used facts rule = flat_map (finding naming used rule) facts.declarations

@@ -62,8 +62,8 @@ abbrev pub issues_in : Asked → List (List ℕ) → Rule → File → List Issu
 issues_in asked used rule file = map (issue_in file rule) (findings asked.naming used (facts_of (tokens_of file)) rule)
 
 -- all that the rules report, silenced or not
-abbrev pub reported : Asked → List File → List Issue
-reported asked files = flat_map (λ rule. flat_map (issues_in asked (all_references files) rule) files) asked.rules
+abbrev pub reported_issues : Asked → List File → List Issue
+reported_issues asked files = flat_map (λ rule. flat_map (issues_in asked (all_references files) rule) files) asked.rules
 
 -- ---- silencing
 
@@ -87,7 +87,7 @@ is_silenced comments i = list_any (covers i.place.file i.place.at.line i.rule) c
 
 -- THE SET of issues, rule by rule
 abbrev pub issues : Asked → List File → List Issue
-issues asked files = filter (λ i. not (is_silenced (all_comments files) i)) (reported asked files)
+issues asked files = filter (λ i. not (is_silenced (all_comments files) i)) (reported_issues asked files)
 
 -- what the order goes by
 pub record Key : Type 0 where

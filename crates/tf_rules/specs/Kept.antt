@@ -1,13 +1,12 @@
 -- What is kept of the files of a module: places, names and flags, and no source. The issues are a function of it.
-use Rattle.std.specs.Prelude.{ℕ, ◌++◌, not, List, [], Option, Some, None, filter, map, fold}
-use Rattle.std.specs.List.{flat_map}
+use Rattle.std.specs.Prelude.{ℕ, ◌++◌, List, [], Option, Some, None, map, fold}
 use Rattle.std.specs.Str.{bytes_eq}
 use Rattle.indexmap.specs.IndexSet.{insert_all}
 use Rattle.tf_facts.specs.Declarations.{Declaration, SourceAt}
 use Rattle.tf_facts.specs.References.{references}
 use Rattle.tf_facts.specs.Facts.{Facts, facts_of}
-use Rattle.tf_rules.specs.Findings.{Finding, findings}
-use Rattle.tf_rules.specs.Issues.{File, Place, Issue, Asked, tokens_of, place_in, comment_at, is_silenced}
+use Rattle.tf_rules.specs.Findings.{Finding}
+use Rattle.tf_rules.specs.Issues.{File, Place, Issue, tokens_of, place_in, comment_at}
 use Rattle.rule_set.specs.declared.rule.Rule.{Rule}
 
 pub record Kept : Type 0 where
@@ -42,10 +41,6 @@ nothing = record { facts = record { comments = []; indexes = []; interpolations 
 abbrev pub both : {P : Type 0} → Facts P → Facts P → Facts P
 both a b = record { comments = a.comments ++ b.comments; indexes = a.indexes ++ b.indexes; interpolations = a.interpolations ++ b.interpolations; declarations = a.declarations ++ b.declarations }
 
--- with these references
-abbrev pub with_references : Kept → List (List ℕ) → Kept
-with_references kept texts = record { facts = kept.facts; references = insert_all bytes_eq kept.references texts }
-
 -- with one file more
 abbrev pub with_file : Kept → File → Kept
 with_file kept file = record {
@@ -57,13 +52,7 @@ with_file kept file = record {
 abbrev pub kept_of : List File → Kept
 kept_of files = fold with_file nothing files
 
--- ---- the issues again, of what is kept
+-- ---- what is reported
 
 abbrev pub issue_at : Rule → Finding Place → Issue
 issue_at rule f = record { place = f.at; rule = rule; message = f.message }
-
-abbrev pub reported_of_kept : Asked → Kept → List Issue
-reported_of_kept asked kept = flat_map (λ rule. map (issue_at rule) (findings asked.naming kept.references kept.facts rule)) asked.rules
-
-abbrev pub issues_of_kept : Asked → Kept → List Issue
-issues_of_kept asked kept = filter (λ i. not (is_silenced kept.facts.comments i)) (reported_of_kept asked kept)

@@ -3,6 +3,7 @@ pub mod Findings
 pub mod Ordered
 pub mod Issues
 pub mod Kept
+pub mod KeptIssues
 pub mod Growth
 pub mod Answers
 pub mod Agreement

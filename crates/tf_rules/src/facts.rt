@@ -24,10 +24,10 @@ use crate::order::in_order;
 use crate::settings::Settings;
 use crate::silenced::{shown, silenced_lines};
 use hcl_syntax::{Accepted, Outline, outline};
+use rule_set::{ALL_RULES, Rule};
 use std::alloc::{AllocError, Global};
 use std::marker::Model;
 use std::mem::swap;
-use rule_set::{ALL_RULES, Rule};
 use tf_facts::{Hashing, TextSet, add_references_of};
 
 /// What is kept of the files of a module: places, names and flags, and no source.

@@ -4,7 +4,7 @@ ghost use Rattle.std.specs.Prelude.{◌≡◌, ◌++◌, ◌&&◌, [], not, IfOk
 ghost use Rattle.std.specs.List.{list_any};
 ghost use Rattle.std.specs.Str.{bytes_eq};
 ghost use Rattle.tf_facts.specs.References.{data_reference};
-ghost use Rattle.tf_rules.specs.Findings.{about, finding, is_kind, from_registry, is_unused, says_if, unpinned, unpinned_by, uses_of};
+ghost use Rattle.tf_rules.specs.Findings.{about, finding, is_kind, from_registry, is_unused, says_if, unpinned_findings, unpinned_findings_by, uses_of};
 ghost use Rattle.tf_rules.specs.Inner.Entries.{finding_listed};
 ghost use Rattle.tf_rules.specs.Inner.KeptViews.{kept_declaration, kept_names, kept_source, place_of};
 ghost use Rattle.tf_facts.specs.Found.{source};
@@ -14,8 +14,8 @@ use crate::entry::{Finding, Said};
 use crate::kept::{KeptDeclaration, KeptNames, KeptSource};
 use crate::naming::{Naming, matches_naming};
 use crate::said::last;
-use std::alloc::AllocError;
 use rule_set::Rule;
+use std::alloc::AllocError;
 use tf_facts::{DeclarationKind, ModuleSource, TextSet};
 
 fn is_output(kind: DeclarationKind) -> bool
@@ -49,7 +49,7 @@ fn lacking<'f>(
 
 /// Where a module's source is not pinned.
 fn unpinned_by<'f>(declaration: &'f KeptDeclaration, found: KeptSource) -> Option<Finding<'f>>
-    ensures { finding_listed result ≡ unpinned_by (kept_declaration declaration.now) (place_of found.at) (source found.source) }
+    ensures { finding_listed result ≡ unpinned_findings_by (kept_declaration declaration.now) (place_of found.at) (source found.source) }
 {
     match found.source {
         ModuleSource::Other => None,
@@ -66,7 +66,7 @@ fn unpinned_by<'f>(declaration: &'f KeptDeclaration, found: KeptSource) -> Optio
 }
 
 fn unpinned<'f>(declaration: &'f KeptDeclaration) -> Option<Finding<'f>>
-    ensures { finding_listed result ≡ unpinned (kept_declaration declaration.now) (option_map kept_source declaration.now.source) }
+    ensures { finding_listed result ≡ unpinned_findings (kept_declaration declaration.now) (option_map kept_source declaration.now.source) }
 {
     match declaration.source {
         Some(found) => unpinned_by(declaration, found),

@@ -2,7 +2,7 @@
 
 ghost use Rattle.std.specs.Prelude.{◌≡◌, ◌++◌, map, OnOk};
 ghost use Rattle.std.specs.List.{flat_map};
-ghost use Rattle.tf_rules.specs.Findings.{finding, says_of, slashed};
+ghost use Rattle.tf_rules.specs.Findings.{finding, says_of, slash_findings};
 ghost use Rattle.tf_rules.specs.Kept.{issue_at};
 ghost use Rattle.tf_rules.specs.Inner.Entries.{issues_of, finding_listed};
 ghost use Rattle.tf_rules.specs.Inner.KeptViews.{kept_comment, kept_declaration, place_of};
@@ -11,8 +11,8 @@ use crate::entry::{Entry, Finding, Said};
 use crate::finding::finding;
 use crate::kept::{KeptComment, KeptDeclaration, TokenPlace};
 use crate::naming::Naming;
-use std::alloc::{AllocError, Global};
 use rule_set::Rule;
+use std::alloc::{AllocError, Global};
 use tf_facts::TextSet;
 
 /// Puts what was found last, where something was.
@@ -36,7 +36,7 @@ fn put<'f>(
 
 /// What is said of a comment that begins with `//`.
 fn slashed(comment: KeptComment) -> Option<Finding<'static>>
-    ensures { finding_listed result ≡ slashed (kept_comment comment) }
+    ensures { finding_listed result ≡ slash_findings (kept_comment comment) }
 {
     if !comment.has_slashes {
         return None;
@@ -52,7 +52,7 @@ pub fn put_comments(
     comments: &[KeptComment],
     entries: &mut Vec<Entry<'_>>,
 ) -> Result<(), AllocError>
-    ensures { OnOk result (issues_of entries.new.items ≡ issues_of entries.old.items ++ map (issue_at Rule.CommentSyntax) (flat_map slashed (map kept_comment comments.now))) }
+    ensures { OnOk result (issues_of entries.new.items ≡ issues_of entries.old.items ++ map (issue_at Rule.CommentSyntax) (flat_map slash_findings (map kept_comment comments.now))) }
 {
     for comment in comments {
         let found = slashed(*comment);

@@ -4,8 +4,8 @@ ghost use Rattle.std.specs.Prelude.{◌≡◌};
 ghost use Rattle.std.specs.String.{string_bytes};
 
 use hcl_tokens::Position;
-use std::marker::Model;
 use rule_set::Rule;
+use std::marker::Model;
 
 /// The text of a message: one of a rule's own, which takes no memory, or one that was put together.
 #[derive(Drop)]

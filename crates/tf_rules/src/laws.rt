@@ -8,7 +8,8 @@ ghost use Rattle.hcl_tokens.specs.Lexemes.{Lexeme};
 ghost use Rattle.hcl_tokens.specs.Scans.{Scans};
 ghost use Rattle.hcl_grammar.specs.Verdict.{IsAccepted, start_of};
 ghost use Rattle.tf_rules.specs.Growth.{entries, name_bytes};
-ghost use Rattle.tf_rules.specs.Kept.{Kept, kept_of, with_file, issues_of_kept};
+ghost use Rattle.tf_rules.specs.Kept.{Kept, kept_of, with_file};
+ghost use Rattle.tf_rules.specs.KeptIssues.{issues_of_kept};
 
 pub use tf_facts::laws::own_apart;
 

@@ -4,8 +4,8 @@ ghost use Rattle.std.specs.Prelude.{◌≡◌, IfOk, IsPermutation, IsSorted};
 ghost use Rattle.tf_rules.specs.Inner.Entries.{entry_cmp};
 
 use crate::entry::Entry;
-use std::alloc::AllocError;
 use rule_set::rank;
+use std::alloc::AllocError;
 
 /// The entries by file, then token, then the name of the rule.
 pub fn in_order<'f>(entries: Vec<Entry<'f>>) -> Result<Vec<Entry<'f>>, AllocError>

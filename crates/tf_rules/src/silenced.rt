@@ -1,7 +1,7 @@
 //! Which rules are silenced on which lines.
 
 ghost use Rattle.std.specs.Prelude.{◌≡◌, ◌==◌, ◌&&◌, ◌||◌, ◌++◌, ◌∷◌, [], ℕ, List, filter, map, not, IfOk, OnOk};
-ghost use Rattle.tf_rules.specs.Answers.{answered};
+ghost use Rattle.tf_rules.specs.Answers.{shown_issue};
 ghost use Rattle.tf_facts.specs.Comments.{Comment};
 ghost use Rattle.tf_rules.specs.Issues.{Place, is_silenced};
 ghost use Rattle.rule_set.specs.RuleSets.{holds};
@@ -15,8 +15,8 @@ use crate::issue::Issue;
 use crate::kept::KeptComment;
 use crate::said::message;
 use indexmap::IndexMap;
-use std::alloc::{AllocError, Global};
 use rule_set::{RuleSet, rules_of_both};
+use std::alloc::{AllocError, Global};
 use tf_facts::is_any;
 
 /// The silenced rules by the number of the file and the line.
@@ -90,7 +90,7 @@ fn put_shown(
     issues: &mut Vec<Issue>,
 ) -> Result<(), AllocError>
     ensures { (comments : List (Comment Place)) → AreSilenced lines.now comments
-        → OnOk result (issues.new.items ≡ issues.old.items ++ map answered (filter (λ i. not (is_silenced comments i)) (issue_of entry.now ∷ []))) }
+        → OnOk result (issues.new.items ≡ issues.old.items ++ map shown_issue (filter (λ i. not (is_silenced comments i)) (issue_of entry.now ∷ []))) }
 {
     if is_silenced(lines, entry) {
         return Ok(());
@@ -112,7 +112,7 @@ pub fn shown(
     lines: &SilencedLines,
 ) -> Result<Vec<Issue>, AllocError>
     ensures { (comments : List (Comment Place)) → AreSilenced lines.now comments
-        → IfOk result (λ issues. issues.items ≡ map answered (filter (λ i. not (is_silenced comments i)) (issues_of entries.now))) }
+        → IfOk result (λ issues. issues.items ≡ map shown_issue (filter (λ i. not (is_silenced comments i)) (issues_of entries.now))) }
 {
     let mut issues = Vec::new(alloc);
     for entry in entries {

@@ -8,17 +8,17 @@ use Rattle.hcl_layout.specs.Print.{print}
 use Rattle.hcl_tokens.specs.Scanned.{Scanned}
 use Rattle.hcl_source.specs.Places.{place}
 use Rattle.hcl_tokens.specs.Lexemes.{Lexeme}
-use Rattle.hcl_source.specs.Load.{max_source, IsText, IsLoadFault, Loads, is_failed_load}
+use Rattle.hcl_source.specs.Load.{max_source, IsText, IsLoadFault, Loads, is_failed_load, print_too_large}
 use Rattle.hcl_source.specs.declared.fault.LoadError.{LoadError}
 use Rattle.hcl_source.specs.declared.fault.LoadError.TheVariants as error
 use Rattle.hcl_source.specs.declared.fault.Fault.{Fault}
 use Rattle.hcl_source.proofs.LoadLemmas.{one_load_fault, text_or_fault, too_large_too}
-use Rattle.hcl_tokens.proofs.RunLemmas.{one_scan, one_fault, no_fault}
+use Rattle.hcl_tokens.proofs.OneReadingLemmas.{one_scan, one_fault, no_fault}
 use Rattle.hcl_scan.proofs.SpellingLemmas.{one_kind}
 use Rattle.hcl_tokens.proofs.NonemptyLemmas.{nonempty}
 use Rattle.command_line.specs.Rows.{Row, End, Shows, OrOutOfMemory}
 use Rattle.tffmt_command.specs.Rows.{IsRow, OfInput, formatter}
-use Rattle.tffmt_command.specs.Answer.{refused, too_large, row_of_file, row_by, IsTextAnswer, IsFileAnswer, IsAnswerBy, IsAnswer}
+use Rattle.tffmt_command.specs.Answer.{refusal_row, row_of_file, row_by, IsTextAnswer, IsFileAnswer, IsAnswerBy, IsAnswer}
 use Rattle.tffmt_command.specs.Line.{options_of}
 use Rattle.tffmt_command.specs.declared.options.FmtOptions.{FmtOptions}
 use Rattle.tffmt_command.specs.declared.options.Usage.{Usage}
@@ -29,7 +29,7 @@ module _ (options : FmtOptions) where
   one_text_answer : (text : List ℕ) (row other : Row) → IsTextAnswer options text row → IsTextAnswer options text other → row ≡ other
   one_text_answer text row other (inl x) (inl y) =
       let same = one_fault one_kind nonempty text x.0 y.0 x.1 y.1 x.2 y.2 in
-      x.3 ∙ (λ i. refused (record { kind = same.0 i; at = place text (same.1 i) })) ∙ sym y.3
+      x.3 ∙ (λ i. refusal_row (record { kind = same.0 i; at = place text (same.1 i) })) ∙ sym y.3
   one_text_answer text row other (inl x) (inr y) = absurd (no_fault one_kind nonempty text y.0 x.0 x.1 y.1 x.2)
   one_text_answer text row other (inr x) (inl y) = absurd (no_fault one_kind nonempty text x.0 y.0 y.1 x.1 y.2)
   one_text_answer text row other (inr x) (inr y) =
@@ -37,7 +37,7 @@ module _ (options : FmtOptions) where
       x.2 ∙ ap (λ (ts : List Lexeme). row_by options (verdict (record { text = text; tokens = ts }))) same ∙ sym y.2
 
   one_file_answer : (input : List ℕ) (row other : Row) → IsFileAnswer options input row → IsFileAnswer options input other → row ≡ other
-  one_file_answer input row other (inl x) (inl y) = x.2 ∙ ap refused (one_load_fault input x.0 y.0 x.1 y.1) ∙ sym y.2
+  one_file_answer input row other (inl x) (inl y) = x.2 ∙ ap refusal_row (one_load_fault input x.0 y.0 x.1 y.1) ∙ sym y.2
   one_file_answer input row other (inl x) (inr y) = absurd (text_or_fault input x.0 y.0 x.1)
   one_file_answer input row other (inr x) (inl y) = absurd (text_or_fault input y.0 x.0 y.1)
   one_file_answer input row other (inr x) (inr y) = one_text_answer input row other x.1 y.1
@@ -61,7 +61,7 @@ whole_input (Some xs) (Some ys) bytes P taken done p = subst P (sym (taken ∙ a
 
 -- a fault of what was taken is that of the input
 pub fault_of_input : (options : FmtOptions) (left left' : Option (List ℕ)) (bytes : List ℕ) (fault : Fault) → Consumes left left' bytes → (length bytes ≤ max_source → IsAtEnd left') → IsLoadFault bytes fault
-    → OfInput left (λ input. IsFileAnswer options input (refused fault))
+    → OfInput left (λ input. IsFileAnswer options input (refusal_row fault))
 fault_of_input options None left' bytes fault taken done x = (bytes, inl (fault, x, refl))
 fault_of_input options (Some xs) None bytes fault taken done x = absurd taken
 fault_of_input options (Some xs) (Some ys) bytes fault taken done x =
@@ -104,7 +104,7 @@ module _ (options : FmtOptions) where
       row_at failed left row e (inr (whole_input left left' bytes (λ input. IsFileAnswer options input row) taken done (inr (text, subst (λ l. IsTextAnswer options l row) is a))))
 
   pub row_of_fault : (failed : Bool) (left left' : Option (List ℕ)) (bytes : List ℕ) (fault : Fault) (row : Row) → failed ≡ false → Consumes left left' bytes → IsLoadFault bytes fault → (length bytes ≤ max_source → IsAtEnd left')
-      → OrOutOfMemory formatter (λ r. r ≡ refused fault) row → IsRow (IsFileAnswer options) failed left row
+      → OrOutOfMemory formatter (λ r. r ≡ refusal_row fault) row → IsRow (IsFileAnswer options) failed left row
   row_of_fault failed left left' bytes fault row e taken x done (inl m) = row_at failed left row e (inl m)
   row_of_fault failed left left' bytes fault row e taken x done (inr is) =
       row_at failed left row e (inr (subst (λ (r : Row). OfInput left (λ input. IsFileAnswer options input r)) (sym is) (fault_of_input options left left' bytes fault taken done x)))
@@ -127,9 +127,9 @@ row_of_options r options failed left row (inr e) w = subst (λ (x : Result FmtOp
 lt_true : (a b : ℕ) → a < b → nat_lt a b ≡ true
 lt_true a b h = grind (arith, nat_tests)
 
-pub row_too_large : (options : FmtOptions) (s : Scanned) (row : Row) → max_source < length (print s.tokens) → OrOutOfMemory formatter (λ r. r ≡ refused too_large) row → OrOutOfMemory formatter (λ r. r ≡ row_of_file options s) row
+pub row_too_large : (options : FmtOptions) (s : Scanned) (row : Row) → max_source < length (print s.tokens) → OrOutOfMemory formatter (λ r. r ≡ refusal_row print_too_large) row → OrOutOfMemory formatter (λ r. r ≡ row_of_file options s) row
 row_too_large options s row more (inl m) = inl m
 row_too_large options s row more (inr is) = inr (is ∙ sym (too_large_row (lt_true max_source (length (print s.tokens)) more)))
   where
-    too_large_row : nat_lt max_source (length (print s.tokens)) ≡ true → row_of_file options s ≡ refused too_large
-    too_large_row e = ap (λ b. cond b (refused too_large) (cond options.check (record { out = []; err = []; status = cond (bytes_eq (print s.tokens) s.text) 0 3 }) (record { out = print s.tokens; err = []; status = 0 }))) e
+    too_large_row : nat_lt max_source (length (print s.tokens)) ≡ true → row_of_file options s ≡ refusal_row print_too_large
+    too_large_row e = ap (λ b. cond b (refusal_row print_too_large) (cond options.check (record { out = []; err = []; status = cond (bytes_eq (print s.tokens) s.text) 0 3 }) (record { out = print s.tokens; err = []; status = 0 }))) e

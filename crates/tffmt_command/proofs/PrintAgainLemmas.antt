@@ -4,7 +4,7 @@ use Rattle.std.specs.Prelude.{Result, Ok, nat_lt, if◌then◌else◌}
 use Rattle.std.specs.Str.{bytes_eq}
 use Rattle.std.proofs.lemmas.Bool.Decides.{nat_tests}
 use Rattle.hcl_tokens.specs.Lexemes.{Lexeme}
-use Rattle.hcl_source.specs.Load.{max_source, IsText}
+use Rattle.hcl_source.specs.Load.{max_source, IsText, print_too_large}
 use Rattle.hcl_tokens.specs.Scanned.{Scanned}
 use Rattle.hcl_tokens.specs.Scans.{Scans}
 use Rattle.hcl_source.specs.declared.fault.Fault.{Fault}
@@ -15,10 +15,10 @@ use Rattle.hcl_grammar.specs.declared.refusal.Refusal.{Refusal}
 use Rattle.hcl_layout.specs.Print.{print}
 use Rattle.layout_laws.specs.Reprinted.{printed_tokens}
 use Rattle.layout_laws.proofs.RescanLemmas.{scans_again}
-use Rattle.layout_laws.proofs.PlaceLemmas.{print_again, seen_again}
-use Rattle.layout_laws.proofs.LoadLemmas.{loads_again}
+use Rattle.layout_laws.proofs.ForgetPlaceLemmas.{print_again, seen_again}
+use Rattle.layout_laws.proofs.PrintLoadLemmas.{loads_again}
 use Rattle.command_line.specs.Rows.{Row}
-use Rattle.tffmt_command.specs.Answer.{refused, too_large, row_of_file, row_by, IsFileAnswer, IsAnswerBy, IsAnswer}
+use Rattle.tffmt_command.specs.Answer.{refusal_row, row_of_file, row_by, IsFileAnswer, IsAnswerBy, IsAnswer}
 use Rattle.tffmt_command.specs.Line.{options_of}
 use Rattle.tffmt_command.specs.PrintAgain.{AskForPrint, AskForCheck, row_of_check, row_of_print}
 use Rattle.tffmt_command.specs.declared.options.FmtOptions.{FmtOptions}
@@ -37,18 +37,18 @@ same_bytes (b ∷ l) = (λ i. same b i && same_bytes l i)
 -- an accepted file that is its own print
 own_row : (later : FmtOptions) (s : Scanned) → nat_lt max_source (length (print s.tokens)) ≡ false → print s.tokens ≡ s.text → row_of_file later s ≡ again later s.text
 own_row later s small e =
-    (λ i. if small i then refused too_large else (if later.check then record { out = []; err = []; status = if bytes_eq (e i) s.text then 0 else 3 } else record { out = e i; err = []; status = 0 }))
+    (λ i. if small i then refusal_row print_too_large else (if later.check then record { out = []; err = []; status = if bytes_eq (e i) s.text then 0 else 3 } else record { out = e i; err = []; status = 0 }))
     ∙ (λ i. if later.check then record { out = []; err = []; status = if same_bytes s.text i then 0 else 3 } else record { out = s.text; err = []; status = 0 })
 
 within : (n m : ℕ) → nat_lt m n ≡ false → n ≤ m
 within n m h = grind (arith, nat_tests)
 
-refused_not : (fault : Fault) (row : Row) → row ≡ refused fault → row.status ≡ 0 → ⊥
+refused_not : (fault : Fault) (row : Row) → row ≡ refusal_row fault → row.status ≡ 0 → ⊥
 refused_not fault row e h = let two : 2 ≡ 0 = sym (ap (λ (r : Row). r.status) e) ∙ h in omega (arith, two)
 
 module _ (options : FmtOptions) (plain : options.check ≡ false) (later : FmtOptions) (text : List ℕ) (is : IsText text) (ts : List Lexeme) (scans : Scans text ts) (row : Row) (good : row.status ≡ 0) where
-  small_row : (v : Bool) → nat_lt max_source (length (print ts)) ≡ v → refusal_of (lookaheads ts) ≡ None → row ≡ (if v then refused too_large else (if options.check then record { out = []; err = []; status = if bytes_eq (print ts) text then 0 else 3 } else record { out = print ts; err = []; status = 0 })) → IsFileAnswer later row.out (again later row.out)
-  small_row true l accepted e = absurd (refused_not too_large row e good)
+  small_row : (v : Bool) → nat_lt max_source (length (print ts)) ≡ v → refusal_of (lookaheads ts) ≡ None → row ≡ (if v then refusal_row print_too_large else (if options.check then record { out = []; err = []; status = if bytes_eq (print ts) text then 0 else 3 } else record { out = print ts; err = []; status = 0 })) → IsFileAnswer later row.out (again later row.out)
+  small_row true l accepted e = absurd (refused_not print_too_large row e good)
   small_row false l accepted e =
       let row_is : row ≡ record { out = print ts; err = []; status = 0 } = e ∙ ap (λ b. if b then record { out = []; err = []; status = if bytes_eq (print ts) text then 0 else 3 } else record { out = print ts; err = []; status = 0 }) plain in
       let out_is : print ts ≡ row.out = sym (ap (λ (r : Row). r.out) row_is) in

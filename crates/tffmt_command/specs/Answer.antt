@@ -3,14 +3,13 @@
 use Rattle.std.specs.Prelude.{◌≡◌, ◌⊎◌, ℕ, List, [], Result, Ok, Err, codes, length, nat_lt, if◌then◌else◌}
 use Rattle.std.specs.Str.{bytes_eq}
 use Rattle.hcl_source.specs.Places.{place}
-use Rattle.hcl_source.specs.Load.{max_source, IsText, IsLoadFault}
+use Rattle.hcl_source.specs.Load.{max_source, IsText, IsLoadFault, print_too_large}
 use Rattle.hcl_tokens.specs.Lexemes.{Lexeme}
 use Rattle.hcl_tokens.specs.Scanned.{Scanned}
 use Rattle.hcl_tokens.specs.Scans.{Scans}
 use Rattle.hcl_tokens.specs.Faults.{IsScanFault}
 use Rattle.hcl_source.specs.declared.fault.Fault.{Fault}
 use Rattle.hcl_source.specs.declared.fault.FaultKind.{FaultKind}
-use Rattle.hcl_source.specs.declared.fault.FaultKind.TheVariants.{ResultTooLarge}
 use Rattle.hcl_grammar.specs.Verdict.{verdict}
 use Rattle.hcl_layout.specs.Print.{print}
 use Rattle.command_line.specs.Rows.{Row, line, error, fault_words}
@@ -25,33 +24,29 @@ abbrev pub fault_line : Fault → List ℕ
 fault_line fault = error formatter (fault_words fault)
 
 -- the row of a refused file: nothing but its one fault line
-abbrev pub refused : Fault → Row
-refused fault = record { out = []; err = fault_line fault; status = 2 }
+abbrev pub refusal_row : Fault → Row
+refusal_row fault = record { out = []; err = fault_line fault; status = 2 }
 
--- a print of more than the bytes of a source is none: its fault stands at the front
-abbrev pub too_large : Fault
-too_large = record { kind = ResultTooLarge; at = record { line = 1; column = 1 } }
-
--- the row of an accepted file
+-- the row of an accepted file: a print of more than the bytes of a source is none
 abbrev pub row_of_file : FmtOptions → Scanned → Row
 row_of_file options s =
-    if nat_lt max_source (length (print s.tokens)) then refused too_large
+    if nat_lt max_source (length (print s.tokens)) then refusal_row print_too_large
     else (if options.check then record { out = []; err = []; status = if bytes_eq (print s.tokens) s.text then 0 else 3 }
     else record { out = print s.tokens; err = []; status = 0 })
 
 abbrev pub row_by : FmtOptions → Result Scanned Fault → Row
 row_by options (Ok s) = row_of_file options s
-row_by options (Err fault) = refused fault
+row_by options (Err fault) = refusal_row fault
 
 -- the row of a source: that of its one scan fault, or that of its one list of tokens
 abbrev pub IsTextAnswer : FmtOptions → List ℕ → Row → Type 0
 IsTextAnswer options text row =
-    ((kind : FaultKind) × (at : ℕ) × IsScanFault text kind at × (row ≡ refused (record { kind = kind; at = place text at })))
+    ((kind : FaultKind) × (at : ℕ) × IsScanFault text kind at × (row ≡ refusal_row (record { kind = kind; at = place text at })))
     ⊎ ((ts : List Lexeme) × Scans text ts × (row ≡ row_by options (verdict (record { text = text; tokens = ts }))))
 
 -- the row of an input: that of its one load fault, or that of its text
 abbrev pub IsFileAnswer : FmtOptions → List ℕ → Row → Type 0
-IsFileAnswer options input row = ((fault : Fault) × IsLoadFault input fault × (row ≡ refused fault)) ⊎ (IsText input × IsTextAnswer options input row)
+IsFileAnswer options input row = ((fault : Fault) × IsLoadFault input fault × (row ≡ refusal_row fault)) ⊎ (IsText input × IsTextAnswer options input row)
 
 abbrev pub usage_line : List ℕ
 usage_line = line (codes "usage: tffmt [--check] [--help]")

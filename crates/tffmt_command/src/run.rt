@@ -7,7 +7,7 @@ ghost use Rattle.hcl_source.specs.Devices.{one_more};
 ghost use Rattle.hcl_source.specs.Load.{max_source};
 ghost use Rattle.hcl_layout.specs.Print.{print};
 ghost use Rattle.tffmt_command.specs.Line.{options_of};
-ghost use Rattle.tffmt_command.specs.Answer.{fault_line, refused, usage_line, row_of_file, IsTextAnswer, IsFileAnswer, IsAnswer};
+ghost use Rattle.tffmt_command.specs.Answer.{fault_line, refusal_row, usage_line, row_of_file, IsTextAnswer, IsFileAnswer, IsAnswer};
 
 use crate::options::{FmtOptions, Usage, options};
 use command_line::Program;
@@ -49,7 +49,7 @@ fn fault_line(alloc: Global, fault: &Fault) -> Result<String, AllocError>
 fn refuse<O: ByteSink, E: ByteSink>(alloc: Global, out: &mut O, err: &mut E, fault: &Fault) -> u8
     requires out { O.failed out.old ≡ false }
     requires err { E.failed err.old ≡ false }
-    ensures { ShowsOne formatter (OrOutOfMemory formatter (λ row. row ≡ refused fault.now))
+    ensures { ShowsOne formatter (OrOutOfMemory formatter (λ row. row ≡ refusal_row fault.now))
         (record { out = writer O.taken O.failed O.flushed O.flushes out.old out.new; err = writer E.taken E.failed E.flushed E.flushes err.old err.new; status = result }) }
 {
     formatter().tell_line(out, err, fault_line(alloc, fault), 2)

@@ -18,7 +18,7 @@ use Rattle.hcl_source.proofs.LoadLemmas.{too_large_too}
 use Rattle.tf_rules.specs.Kept.{Kept, kept_of, with_file}
 use Rattle.tf_rules.proofs.KeptLemmas.{kept_of_more}
 use Rattle.tfrules_command.specs.Files.{NamedFile, IsAcceptedAs, max_module, numbered_files, size_of}
-use Rattle.tfrules_command.specs.Rows.{Tells}
+use Rattle.hcl_source.specs.Devices.{Tells}
 use Rattle.tfrules_command.specs.Inner.Steps.{AreFine, Added, Adds, Keeps, Reached, ReadsFile, StopsAt, StopsBy, stop_by, stop_of_scan}
 use Rattle.tfrules_command.specs.declared.stop.Stop.{Stop}
 use Rattle.tfrules_command.specs.declared.stop.Stop.TheVariants as stop

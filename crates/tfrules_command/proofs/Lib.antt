@@ -1,11 +1,11 @@
 pub mod ListLemmas
 pub mod NameLemmas
 pub mod WriterLemmas
-pub mod PieceLemmas
-pub mod RuleLemmas
+pub mod ReportPieceLemmas
+pub mod AskedRuleLemmas
 pub mod WordLemmas
 pub mod GatherLemmas
-pub mod EndLemmas
+pub mod EndRowLemmas
 pub mod StatusLemmas
 pub mod OneAnswerLemmas
 pub mod SomeReportLemmas

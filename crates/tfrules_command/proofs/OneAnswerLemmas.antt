@@ -9,14 +9,15 @@ use Rattle.hcl_source.specs.declared.fault.Fault.{Fault}
 use Rattle.hcl_source.proofs.LoadLemmas.{one_load_fault, text_or_fault}
 use Rattle.hcl_tokens.specs.Lexemes.{Lexeme}
 use Rattle.hcl_tokens.specs.Scanned.{Scanned}
-use Rattle.hcl_tokens.proofs.RunLemmas.{no_fault, one_fault, one_scan}
+use Rattle.hcl_tokens.proofs.OneReadingLemmas.{no_fault, one_fault, one_scan}
 use Rattle.hcl_scan.proofs.SpellingLemmas.{one_kind}
 use Rattle.hcl_tokens.proofs.NonemptyLemmas.{nonempty}
 use Rattle.hcl_grammar.specs.Verdict.{verdict}
-use Rattle.tf_rules.specs.Answers.{answered}
+use Rattle.tf_rules.specs.Answers.{shown_issue}
 use Rattle.tf_rules.specs.Issues.{IsReport}
 use Rattle.tf_rules.proofs.ReportLemmas.{one_report}
-use Rattle.tfrules_command.specs.Answer.{IsAnswer, IsAnswerBy, IsRefused, IsRefusedFirst, IsReported, refused}
+use Rattle.tfrules_command.specs.AnswerLaws.{IsAnswer}
+use Rattle.tfrules_command.specs.Answer.{IsAnswerBy, IsRefused, IsRefusedFirst, IsReported, refusal_row}
 use Rattle.tfrules_command.specs.Files.{NamedFile, AreAccepted, IsAcceptedAs, IsFault, IsOutcome, IsTooMuch, max_module, numbered_files, size_of}
 use Rattle.tfrules_command.specs.Line.{Asking, options_of}
 use Rattle.tfrules_command.specs.Report.{report_row}
@@ -75,7 +76,7 @@ fault_or_much size bytes fault (inl load) much = text_or_fault bytes fault much.
 fault_or_much size bytes fault (inr f) much = omega (arith, f.1, much.1)
 
 one_refusal : (size : ℕ) (file : NamedFile) (row other : Row) → IsRefused size file row → IsRefused size file other → row ≡ other
-one_refusal size file row other (inl x) (inl y) = x.2 ∙ ap (refused file.name) (one_file_fault size file.bytes x.0 y.0 x.1 y.1) ∙ sym y.2
+one_refusal size file row other (inl x) (inl y) = x.2 ∙ ap (refusal_row file.name) (one_file_fault size file.bytes x.0 y.0 x.1 y.1) ∙ sym y.2
 one_refusal size file row other (inl x) (inr y) = absurd (fault_or_much size file.bytes x.0 x.1 y.0)
 one_refusal size file row other (inr x) (inl y) = absurd (fault_or_much size file.bytes y.0 y.1 x.0)
 one_refusal size file row other (inr x) (inr y) = x.1 ∙ sym y.1
@@ -144,7 +145,7 @@ one_reported asking files row other x y =
     let same : x.sources ≡ y.sources = same_sources files x.sources y.sources x.accepted.each y.accepted.each in
     let moved : IsReport asking.asked (numbered_files 0 y.sources) x.found.report = subst (λ ss. IsReport asking.asked (numbered_files 0 ss) x.found.report) same x.found.is in
     let report : x.found.report ≡ y.found.report = one_report asking.asked (numbered_files 0 y.sources) x.found.report y.found.report moved y.found.is in
-    let issues : x.issues ≡ y.issues = sym x.found.same ∙ ap (map answered) report ∙ y.found.same in
+    let issues : x.issues ≡ y.issues = sym x.found.same ∙ ap (map shown_issue) report ∙ y.found.same in
     x.is ∙ ap (report_row asking) issues ∙ sym y.is
 
 one_of_files : (asking : Asking) (files : List NamedFile) (row other : Row) → IsReported asking files row ⊎ IsRefusedFirst files row → IsReported asking files other ⊎ IsRefusedFirst files other → row ≡ other

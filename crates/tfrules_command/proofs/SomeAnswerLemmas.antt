@@ -15,20 +15,21 @@ use Rattle.command_line.specs.Rows.{Row, fails_with}
 use Rattle.hcl_source.specs.Load.{IsText}
 use Rattle.hcl_source.specs.declared.fault.Fault.{Fault}
 use Rattle.hcl_tokens.specs.Scanned.{Scanned}
-use Rattle.tf_rules.specs.Answers.{answered}
+use Rattle.tf_rules.specs.Answers.{shown_issue}
 use Rattle.tf_rules.specs.Issues.{Issue, IsReport}
 use Rattle.rule_set.specs.Rules.{all_rules, is_recommended}
 use Rattle.tf_rules.specs.declared.naming.Naming.{Naming}
 use Rattle.rule_set.specs.declared.rule.Rule.{Rule}
 use Rattle.rule_set.specs.declared.rule.Severity.{Severity}
-use Rattle.tfrules_command.specs.Answer.{AreNamed, IsAnswer, IsAnswerBy, IsRefused, IsRefusedFirst, IsReported, linter, refused, too_large, usage_line}
-use Rattle.tfrules_command.specs.Files.{NamedFile, AreAccepted, IsAcceptedAs, IsOutcome, max_module, named, numbered_files, size_of}
+use Rattle.tfrules_command.specs.AnswerLaws.{AreNamed, IsAnswer, named_file}
+use Rattle.tfrules_command.specs.Answer.{IsAnswerBy, IsRefused, IsRefusedFirst, IsReported, linter, refusal_row, too_large, usage_line}
+use Rattle.tfrules_command.specs.Files.{NamedFile, AreAccepted, IsAcceptedAs, IsOutcome, max_module, numbered_files, size_of}
 use Rattle.tfrules_command.specs.Line.{Asking, asking_for, asking_with, each_once, has_name, options_by, max_files, options_of, rules_asked, rules_named, tfrules, usage_of_kind, value_or}
 use Rattle.tfrules_command.specs.Report.{report_row}
 use Rattle.tfrules_command.specs.Inner.Outcomes.{HasOutcome}
 use Rattle.tfrules_command.specs.declared.usage.Usage.{Usage}
 use Rattle.tfrules_command.specs.declared.usage.Usage.TheVariants as usage
-use Rattle.tfrules_command.proofs.EndLemmas.{rising}
+use Rattle.tfrules_command.proofs.EndRowLemmas.{rising}
 use Rattle.tfrules_command.proofs.GatherLemmas.{all_zip_push}
 use Rattle.tfrules_command.proofs.SomeReportLemmas.{some_report}
 use Rattle.tfrules_command.proofs.WordLemmas.{one}
@@ -147,7 +148,7 @@ module _ (asking : Asking) (reports : (sources : List Scanned) → (report : Lis
   all_reported : (files : List NamedFile) (sources : List Scanned) → AreAccepted files sources → Ends files
   all_reported files sources are =
       let found = reports sources in
-      (report_row asking (map answered found.0), inl (record { sources = sources; accepted = are; issues = map answered found.0; found = record { report = found.0; is = found.1; same = refl }; is = refl }))
+      (report_row asking (map shown_issue found.0), inl (record { sources = sources; accepted = are; issues = map shown_issue found.0; found = record { report = found.0; is = found.1; same = refl }; is = refl }))
 
   refused_at : (before : List NamedFile) (file : NamedFile) (behind : List NamedFile) (sources : List Scanned) → AreAccepted before sources → (row : Row) → IsRefused (size_of before) file row → Ends (before ++ file ∷ behind)
   refused_at before file behind sources are row refusal = (row, inr (record { before = before; file = file; behind = behind; split = refl; sources = sources; accepted = are; refusal = refusal }))
@@ -165,11 +166,11 @@ module _ (asking : Asking) (reports : (sources : List Scanned) → (report : Lis
     text_ends : IsText file.bytes → (outcome : Result Scanned Fault) → IsOutcome file.bytes outcome → (size_of before + length file.bytes ≤ max_module) ⊎ (max_module < size_of before + length file.bytes)
         → Ends (before ++ file ∷ behind)
     text_ends is outcome has (inr more) = refused_at before file behind sources are (too_large file.name) (inr ((is, more), refl))
-    text_ends is (Err fault) has (inl fit) = refused_at before file behind sources are (refused file.name fault) (inl (fault, inr (is, fit, has), refl))
+    text_ends is (Err fault) has (inl fit) = refused_at before file behind sources are (refusal_row file.name fault) (inl (fault, inr (is, fit, has), refl))
     text_ends is (Ok source) has (inl fit) = subst Ends (append_assoc before (file ∷ []) behind) (next source (one_more before file sources source are (is, has) fit))
 
     file_ends : Outcome file → Ends (before ++ file ∷ behind)
-    file_ends (inl fault) = refused_at before file behind sources are (refused file.name fault.0) (inl (fault.0, inl fault.1, refl))
+    file_ends (inl fault) = refused_at before file behind sources are (refusal_row file.name fault.0) (inl (fault.0, inl fault.1, refl))
     file_ends (inr text) = text_ends text.0 text.1.0 text.1.1 (above_or_not (size_of before + length file.bytes) max_module)
 
   files_end : (before rest : List NamedFile) (sources : List Scanned) → AreAccepted before sources → All Outcome rest → Ends (before ++ rest)
@@ -185,11 +186,11 @@ module _ {X : Type 0} (name bytes : X → List ℕ) where
   pub one_more_given : (xs : List X) (i : ℕ) (x : X) → i < length xs → All Given (take i xs) → Given (get_or xs i x) → All Given (take (i + 1) xs)
   one_more_given xs i x lt all here = All-more Given xs i x lt all here
 
-  all_named : (xs : List X) → All Given xs → All Outcome (map (λ x. named (name x) (bytes x)) xs)
+  all_named : (xs : List X) → All Given xs → All Outcome (map (λ x. named_file (name x) (bytes x)) xs)
   all_named [] h = All-nil Outcome
-  all_named (x ∷ xs) h = All-cons Outcome (named (name x) (bytes x)) (map (λ y. named (name y) (bytes y)) xs) (All-head Given x xs h) (all_named xs (All-tail Given x xs h))
+  all_named (x ∷ xs) h = All-cons Outcome (named_file (name x) (bytes x)) (map (λ y. named_file (name y) (bytes y)) xs) (All-head Given x xs h) (all_named xs (All-tail Given x xs h))
 
-  pub all_given : (xs : List X) (i : ℕ) → length xs ≤ i → All Given (take i xs) → All Outcome (map (λ x. named (name x) (bytes x)) xs)
+  pub all_given : (xs : List X) (i : ℕ) → length xs ≤ i → All Given (take i xs) → All Outcome (map (λ x. named_file (name x) (bytes x)) xs)
   all_given xs i long h = all_named xs (subst (All Given) (take_all i xs long) h)
 
 -- ---- THE LAW

@@ -3,7 +3,7 @@ use Rattle.std.proofs.Common.{◌≡◌, ◌∙◌, ◌<◌, inl, inr, refl, sub
 use Rattle.std.specs.Prelude.{◌⊎◌, ◌==◌, ◌&&◌, not}
 use Rattle.std.proofs.lemmas.Bool.{and_from, cases_order, eq-eqb}
 use Rattle.tf_rules.specs.Answers.{Rising}
-use Rattle.tf_rules.specs.Issues.{Asked, Before, File, IsReport, Issue, Key, Precedes, all_comments, asked_of, is_silenced, issues, key_of, reported}
+use Rattle.tf_rules.specs.Issues.{Asked, Before, File, IsReport, Issue, Key, Precedes, all_comments, asked_of, is_silenced, issues, key_of, reported_issues}
 use Rattle.tf_rules.specs.Ordered.{Ascends, BeforeAll, Member, SameMembers}
 use Rattle.rule_set.specs.RuleSets.{holds, rules_of}
 use Rattle.rule_set.specs.Rules.{all_rules}
@@ -132,6 +132,6 @@ settings_of p asked is =
 pub some_report : (p : Rule → Bool) (asked : Asked) (files : List File) → filter p all_rules ≡ asked.rules → Rising files → (report : List Issue) × IsReport asked files report
 some_report p asked files is rising =
     let settings = settings_of p asked is in
-    let apart : Ascends Differ (reported asked files) = subst (λ (a : Asked). Ascends Differ (reported a files)) settings.1 (reported_apart settings.0 files rising) in
-    let s = sorted (issues asked files) (filter_ascends (λ i. not (is_silenced (all_comments files) i)) Differ (reported asked files) apart) in
+    let apart : Ascends Differ (reported_issues asked files) = subst (λ (a : Asked). Ascends Differ (reported_issues a files)) settings.1 (reported_apart settings.0 files rising) in
+    let s = sorted (issues asked files) (filter_ascends (λ i. not (is_silenced (all_comments files) i)) Differ (reported_issues asked files) apart) in
     (s.0, record { members = s.2; ordered = s.1 })

@@ -18,8 +18,8 @@ linter = record { name = codes "tfrules"; failure = 1 }
 -- ---- rows
 
 -- `tfrules: error: FILE:LINE:COLUMN: TEXT`
-abbrev pub refused : List ℕ → Fault → Row
-refused name fault = record { out = []; err = error linter (name ++ (codes ":" ++ fault_words fault)); status = 1 }
+abbrev pub refusal_row : List ℕ → Fault → Row
+refusal_row name fault = record { out = []; err = error linter (name ++ (codes ":" ++ fault_words fault)); status = 1 }
 
 -- `tfrules: error: FILE: TEXT`
 abbrev pub file_error : List ℕ → List ℕ → Row
@@ -36,7 +36,7 @@ usage_line = line (codes "usage: tfrules [--rules LIST] [--naming snake_case|mix
 -- after files of so many bytes, this one ends the run with the row
 abbrev pub IsRefused : ℕ → NamedFile → Row → Type 0
 IsRefused size file row =
-    ((fault : Fault) × IsFault size file.bytes fault × (row ≡ refused file.name fault)) ⊎ (IsTooMuch size file.bytes × (row ≡ too_large file.name))
+    ((fault : Fault) × IsFault size file.bytes fault × (row ≡ refusal_row file.name fault)) ⊎ (IsTooMuch size file.bytes × (row ≡ too_large file.name))
 
 -- all files are accepted, and the row is that of their issues
 pub record IsReported (asking : Asking) (files : List NamedFile) (row : Row) : Type 0 where
@@ -59,7 +59,8 @@ pub record IsRefusedFirst (files : List NamedFile) (row : Row) : Type 0 where
 abbrev pub names_of : List NamedFile → List (List ℕ)
 names_of files = map (λ file. file.name) files
 
--- running out of memory is the usage of no line
+-- THE ANSWER to what a line asks for and the files that it names, each once, in order. Running out of memory is the usage
+-- of no line.
 abbrev pub IsAnswerBy : Result Asking Usage → List NamedFile → Row → Type 0
 IsAnswerBy (Ok asking) files row = (names_of files ≡ asking.files) × (IsReported asking files row ⊎ IsRefusedFirst files row)
 IsAnswerBy (Err usage.Help) files row = row ≡ record { out = usage_line; err = []; status = 0 }
@@ -69,12 +70,3 @@ IsAnswerBy (Err usage.BadNaming) files row = row ≡ fails_with linter (codes "u
 IsAnswerBy (Err usage.BadSeverity) files row = row ≡ fails_with linter (codes "unknown severity")
 IsAnswerBy (Err usage.TooManyFiles) files row = row ≡ fails_with linter (codes "more than 256 files")
 IsAnswerBy (Err usage.OutOfMemory) files row = ⊥
-
--- THE ANSWER to a line of words and the files that it names, each once, in order
-abbrev pub IsAnswer : List (List ℕ) → List NamedFile → Row → Type 0
-IsAnswer words = IsAnswerBy (options_of words)
-
--- the files are those that the line names, where it asks for any
-abbrev pub AreNamed : Result Asking Usage → List NamedFile → Type 0
-AreNamed (Ok asking) files = names_of files ≡ asking.files
-AreNamed (Err usage) files = Unit {0}

@@ -17,9 +17,6 @@ pub record NamedFile : Type 0 where
   pub name : List ℕ
   pub bytes : List ℕ
 
-abbrev pub named : List ℕ → List ℕ → NamedFile
-named name bytes = record { name = name; bytes = bytes }
-
 -- the most bytes that the files of a module have together
 abbrev pub max_module : ℕ
 max_module = 33_554_432

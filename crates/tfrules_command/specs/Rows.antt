@@ -1,16 +1,12 @@
 -- The rows of `tfrules` where an opening or a read failed or memory ran out, beside those of its answers: our own choice.
 use Rattle.std.specs.Prelude.{◌≡◌, ℕ, Bool, true, false, List, ◌∷◌, ◌++◌, Option, Some, None, Result, Ok, Err, All, codes}
 use Rattle.command_line.specs.Rows.{Row, OrOutOfMemory}
+use Rattle.hcl_source.specs.Devices.{Tells}
 use Rattle.hcl_tokens.specs.Scanned.{Scanned}
 use Rattle.tfrules_command.specs.Answer.{IsAnswerBy, file_error, linter, names_of}
 use Rattle.tfrules_command.specs.Files.{NamedFile, AreAccepted}
 use Rattle.tfrules_command.specs.Line.{Asking}
 use Rattle.tfrules_command.specs.declared.usage.Usage.{Usage}
-
--- where the device tells the bytes of a file, these are they
-abbrev pub Tells : Option (List ℕ) → List ℕ → Type 0
-Tells None bytes = Unit {0}
-Tells (Some told) bytes = told ≡ bytes
 
 -- the files of a module, where a device tells the bytes of a name
 abbrev pub AreFiles : (List ℕ → Option (List ℕ)) → List NamedFile → Type 0

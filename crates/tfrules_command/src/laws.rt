@@ -3,8 +3,8 @@
 ghost use Rattle.std.specs.Prelude.{◌≡◌, ℕ, List, map};
 ghost use Rattle.command_line.specs.Rows.{Row};
 ghost use Rattle.tf_rules.specs.declared.issue.Issue.{Issue};
-ghost use Rattle.tfrules_command.specs.Answer.{AreNamed, IsAnswer};
-ghost use Rattle.tfrules_command.specs.Files.{NamedFile, named};
+ghost use Rattle.tfrules_command.specs.AnswerLaws.{AreNamed, IsAnswer, named_file};
+ghost use Rattle.tfrules_command.specs.Files.{NamedFile};
 ghost use Rattle.tfrules_command.specs.Line.{Asking, options_of};
 ghost use Rattle.tfrules_command.specs.Report.{status};
 ghost use Rattle.tfrules_command.specs.Inner.Outcomes.{HasOutcome};
@@ -24,7 +24,7 @@ fn show_outcome(bytes: &[u8])
 /// A line of words and the files that it names have an answer. The body shows it for files that are there: it loads and
 /// scans each.
 pub fn an_answer(words: &[&str], files: &[(&str, &[u8])])
-    ensures { let line = map (λ word. word.now) words.now in let given = map (λ file. named file.0.now file.1.now) files.now in
+    ensures { let line = map (λ word. word.now) words.now in let given = map (λ file. named_file file.0.now file.1.now) files.now in
         AreNamed (options_of line) given → (row : Row) × IsAnswer line given row }
 {
     let _ = words;

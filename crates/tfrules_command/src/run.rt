@@ -3,7 +3,7 @@
 ghost use Rattle.std.specs.Prelude.{◌≡◌, ◌<◌, ◌≤◌, ◌++◌, [], ℕ, List, false, map, length, string_bytes, IfOk, IfErr, Ok};
 ghost use Rattle.command_line.specs.Rows.{Row, Shows, ShowsOne, OrOutOfMemory, writer};
 ghost use Rattle.tf_rules.specs.declared.issue.Issue.{Issue};
-ghost use Rattle.tfrules_command.specs.Answer.{file_error, linter, refused, usage_line};
+ghost use Rattle.tfrules_command.specs.Answer.{file_error, linter, refusal_row, usage_line};
 ghost use Rattle.tfrules_command.specs.Line.{options_of};
 ghost use Rattle.tfrules_command.specs.Report.{report_row, status};
 ghost use Rattle.tfrules_command.specs.Rows.{IsRow};
@@ -39,7 +39,7 @@ fn linter() -> Program
 
 /// The line of a file's fault.
 fn fault_line(alloc: Global, name: &str, fault: &Fault) -> Result<String, AllocError>
-    ensures { IfOk result (λ text. string_bytes text ≡ (refused name.now fault.now).err) }
+    ensures { IfOk result (λ text. string_bytes text ≡ (refusal_row name.now fault.now).err) }
 {
     let line = fault.at.line;
     let column = fault.at.column;

@@ -1,3 +1,3 @@
 pub mod LineLemmas
 pub mod PathLemmas
-pub mod RunLemmas
+pub mod ProgramRunLemmas

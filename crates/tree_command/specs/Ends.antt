@@ -2,7 +2,8 @@
 use Rattle.std.specs.Prelude.{◌≡◌, ◌≢◌, ◌⊎◌, ℕ, Bool, true, false, List, [], Option, Some, Ok, All, codes, if◌then◌else◌}
 use Rattle.command_line.specs.Rows.{End, Program, Row, Shows, ShowsOne, fails_with, out_of_memory, write_failed}
 use Rattle.clap.specs.Words.{Text}
-use Rattle.file_tree.specs.Files.{Faults, Files, Name, State, Tells}
+use Rattle.file_tree.specs.Files.{Faults, Files, Name, State}
+use Rattle.file_tree.specs.Files.{Tells}
 use Rattle.file_tree.specs.Finds.{Finds}
 use Rattle.file_tree.specs.declared.walk.Found.{Found}
 use Rattle.tree_format.specs.Runs.{IsRun, Settled}

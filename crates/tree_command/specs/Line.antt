@@ -67,9 +67,7 @@ mode_by false false false writing = Some (Write writing)
 mode_by true false false writing = Some Check
 mode_by false true false writing = Some Diff
 mode_by false false true writing = Some Listed
-mode_by true true list writing = None
-mode_by true false true writing = None
-mode_by false true true writing = None
+mode_by _ _ _ writing = None
 
 abbrev pub mode_asked : List Row → Option Mode
 mode_asked rows =

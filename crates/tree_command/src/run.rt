@@ -56,7 +56,7 @@ fn find_part<T: Tree>(
 }
 
 /// Finds the files and goes over them.
-#[tactic(auto, using(tree_format::proofs::KeptLemmas::kept_same, tree_format::proofs::KeptLemmas::kept_still, tree_format::proofs::KeptLemmas::kept_from))]
+#[tactic(auto, using(tree_format::proofs::KeptFormatLemmas::kept_same, tree_format::proofs::KeptFormatLemmas::kept_still, tree_format::proofs::KeptFormatLemmas::kept_from))]
 fn run<T: Tree, P: Progress, O: ByteSink, E: ByteSink>(
     alloc: Global,
     mode: Mode,
@@ -171,7 +171,7 @@ fn operands_of<'a>(alloc: Global, names: &[&'a str]) -> Result<Vec<&'a [u8]>, Al
 }
 
 /// Takes the names from a device.
-#[tactic(auto, using(tree_format::proofs::KeptLemmas::kept_same, tree_format::proofs::KeptLemmas::kept_still, tree_format::proofs::KeptLemmas::kept_from))]
+#[tactic(auto, using(tree_format::proofs::KeptFormatLemmas::kept_same, tree_format::proofs::KeptFormatLemmas::kept_still, tree_format::proofs::KeptFormatLemmas::kept_from))]
 fn run_null<T: Tree, P: Progress, R: ByteSource, O: ByteSink, E: ByteSink>(
     alloc: Global,
     mode: Mode,
@@ -213,7 +213,7 @@ fn run_null<T: Tree, P: Progress, R: ByteSource, O: ByteSink, E: ByteSink>(
 }
 
 /// Takes the names from the line.
-#[tactic(auto, using(tree_format::proofs::KeptLemmas::kept_same, tree_format::proofs::KeptLemmas::kept_still, tree_format::proofs::KeptLemmas::kept_from))]
+#[tactic(auto, using(tree_format::proofs::KeptFormatLemmas::kept_same, tree_format::proofs::KeptFormatLemmas::kept_still, tree_format::proofs::KeptFormatLemmas::kept_from))]
 fn run_named<T: Tree, P: Progress, O: ByteSink, E: ByteSink>(
     alloc: Global,
     mode: Mode,
@@ -257,7 +257,7 @@ pub fn bad_line<O: ByteSink, E: ByteSink>(out: &mut O, err: &mut E) -> u8
 }
 
 /// The whole program over any tree and any devices.
-#[tactic(auto, using(tree_format::proofs::KeptLemmas::safe_same, tree_format::proofs::KeptLemmas::safe_kept))]
+#[tactic(auto, using(tree_format::proofs::KeptFormatLemmas::safe_same, tree_format::proofs::KeptFormatLemmas::safe_kept))]
 pub fn program<T: Tree, P: Progress, R: ByteSource, O: ByteSink, E: ByteSink>(
     alloc: Global,
     words: &[&str],

@@ -1,6 +1,6 @@
-pub mod KeptLemmas
+pub mod KeptFormatLemmas
 pub mod OneRunLemmas
 pub mod RealLemmas
-pub mod RunLemmas
+pub mod FileRunLemmas
 pub mod SomeRunLemmas
 pub mod WriterLemmas

@@ -4,32 +4,34 @@ use Rattle.std.specs.Prelude.{◌≢◌, ◌||◌, All, IsSome, Result, Ok, Err,
 use Rattle.std.specs.List.{list_any}
 use Rattle.std.proofs.lemmas.List.Elements.{All-head, All-tail, All-weaker}
 use Rattle.command_line.specs.Rows.{End}
-use Rattle.hcl_source.specs.Load.{IsText, max_source}
+use Rattle.hcl_source.specs.Load.{IsText, max_source, print_too_large}
+use Rattle.hcl_source.specs.Devices.{Tells}
 use Rattle.hcl_source.specs.Places.{place}
 use Rattle.hcl_source.specs.declared.fault.Fault.{Fault}
 use Rattle.hcl_source.proofs.LoadLemmas.{one_load_fault, text_or_fault}
 use Rattle.hcl_tokens.specs.Lexemes.{Lexeme}
 use Rattle.hcl_tokens.specs.Scanned.{Scanned}
-use Rattle.hcl_tokens.proofs.RunLemmas.{no_fault, one_fault, one_scan}
+use Rattle.hcl_tokens.proofs.OneReadingLemmas.{no_fault, one_fault, one_scan}
 use Rattle.hcl_tokens.proofs.NonemptyLemmas.{nonempty}
 use Rattle.hcl_scan.proofs.SpellingLemmas.{one_kind}
 use Rattle.hcl_grammar.specs.Verdict.{IsAccepted, verdict}
 use Rattle.hcl_layout.specs.Print.{print}
 use Rattle.line_diff.specs.Diffs.{diff_of}
-use Rattle.file_tree.specs.Files.{Files, Name, State, Tells, put}
+use Rattle.file_tree.specs.Files.{Files, Name, State, put}
 use Rattle.file_tree.specs.declared.fault.TreeFault.{TreeFault}
 use Rattle.file_tree.specs.declared.tree.Writing.{Writing}
 use Rattle.file_tree.specs.declared.walk.Found.{Found}
-use Rattle.tree_format.specs.Format.{IsFault, IsFormat, IsTextFault, too_large}
+use Rattle.tree_format.specs.GoodRuns.{AreTold}
+use Rattle.tree_format.specs.Format.{IsFault, IsFormat, IsTextFault}
 use Rattle.tree_format.specs.Looks.{Left, Looks, Visits}
 use Rattle.tree_format.specs.Reports.{Report, report_of, worse, worst}
-use Rattle.tree_format.specs.Runs.{AreTold, IsRun, IsSafe, Kept, Looked, Sees, SeesBy, is_failed, reports_of}
+use Rattle.tree_format.specs.Runs.{IsRun, IsSafe, Kept, Looked, Sees, SeesBy, is_failed, reports_of}
 use Rattle.tree_format.specs.declared.mode.Mode.{Mode}
 use Rattle.tree_format.specs.declared.mode.Mode.TheVariants.{Write, Check, List as Listed, Diff}
 use Rattle.tree_format.specs.declared.outcome.Outcome.{Outcome}
 use Rattle.tree_format.specs.declared.outcome.Outcome.TheVariants as outcome
-use Rattle.tree_format.proofs.KeptLemmas.{no_format, refused_here, visit_kept, visit_real}
-use Rattle.tree_format.proofs.RunLemmas.{first_good, good_answer, second_good}
+use Rattle.tree_format.proofs.KeptFormatLemmas.{no_format, refused_here, visit_kept, visit_real}
+use Rattle.tree_format.proofs.FileRunLemmas.{first_good, good_answer, second_good}
 
 -- ---- bytes have one format, or one fault
 
@@ -43,7 +45,7 @@ fault_or other (Err fault) = fault
 -- tokens of a text are refused for this
 abbrev Refuses : List ℕ → List Lexeme → Fault → Type 0
 Refuses text ts fault =
-    (verdict (record { text = text; tokens = ts }) ≡ Err fault) ⊎ (IsAccepted ts × (max_source < length (print ts)) × (fault ≡ too_large))
+    (verdict (record { text = text; tokens = ts }) ≡ Err fault) ⊎ (IsAccepted ts × (max_source < length (print ts)) × (fault ≡ print_too_large))
 
 one_refusal : (x : List ℕ) (ts : List Lexeme) (f g : Fault) → Refuses x ts f → Refuses x ts g → f ≡ g
 one_refusal x ts f g (inl v) (inl w) = ap (fault_or f) (sym v ∙ w)

@@ -6,7 +6,8 @@ use Rattle.std.specs.Str.{bytes_eq}
 use Rattle.std.proofs.lemmas.List.Elements.{All-head, All-tail, All-weaker}
 use Rattle.std.proofs.lemmas.Slice.Eq.{bytes_eq-Decides}
 use Rattle.command_line.specs.Rows.{End, Writer}
-use Rattle.hcl_source.specs.Load.{IsText, max_source}
+use Rattle.hcl_source.specs.Load.{IsText, max_source, print_too_large}
+use Rattle.hcl_source.specs.Devices.{Tells}
 use Rattle.hcl_source.specs.Places.{place}
 use Rattle.hcl_source.specs.declared.device.Flushes.TheVariants.{Never}
 use Rattle.hcl_source.specs.declared.fault.Fault.{Fault}
@@ -20,22 +21,23 @@ use Rattle.hcl_grammar.specs.Verdict.{fault_at, verdict_by}
 use Rattle.hcl_grammar.specs.declared.refusal.Refusal.{Refusal}
 use Rattle.hcl_layout.specs.Print.{print}
 use Rattle.layout_laws.specs.Reprinted.{printed_tokens}
-use Rattle.layout_laws.proofs.LoadLemmas.{loads_again}
-use Rattle.layout_laws.proofs.PlaceLemmas.{print_again, seen_again}
+use Rattle.layout_laws.proofs.PrintLoadLemmas.{loads_again}
+use Rattle.layout_laws.proofs.ForgetPlaceLemmas.{print_again, seen_again}
 use Rattle.layout_laws.proofs.RescanLemmas.{scans_again}
-use Rattle.file_tree.specs.Files.{Files, Name, State, Tells, noted, put}
+use Rattle.file_tree.specs.Files.{Files, Name, State, with_fault, put}
 use Rattle.file_tree.specs.declared.fault.TreeFault.{TreeFault}
 use Rattle.file_tree.specs.declared.walk.Found.{Found}
 use Rattle.line_diff.specs.Diffs.{diff_of}
-use Rattle.tree_format.specs.Format.{HasFormatOrFault, IsFault, IsFormat, too_large}
+use Rattle.tree_format.specs.GoodRuns.{HasFormatOrFault, AreReady, HasRoom, Holds, IsReady}
+use Rattle.tree_format.specs.Format.{IsFault, IsFormat}
 use Rattle.tree_format.specs.Looks.{Changes, Looks, Visits, failure_of}
 use Rattle.tree_format.specs.Reports.{worst}
-use Rattle.tree_format.specs.Runs.{AreReady, HasRoom, Holds, IsReady, IsRun, Kept, Looked, Sees, SeesBy, is_failed, reports_of}
+use Rattle.tree_format.specs.Runs.{IsRun, Kept, Looked, Sees, SeesBy, is_failed, reports_of}
 use Rattle.tree_format.specs.declared.mode.Mode.{Mode}
 use Rattle.tree_format.specs.declared.mode.Mode.TheVariants.{Write, Check, List as Listed, Diff}
 use Rattle.tree_format.specs.declared.outcome.Outcome.{Outcome}
 use Rattle.tree_format.specs.declared.outcome.Outcome.TheVariants as outcome
-use Rattle.tree_format.proofs.KeptLemmas.{visit_kept, visit_real}
+use Rattle.tree_format.proofs.KeptFormatLemmas.{visit_kept, visit_real}
 use Rattle.tree_format.proofs.RealLemmas.{fold_four, not_four}
 
 -- ---- bytes have a format or a fault
@@ -50,7 +52,7 @@ IsRead text = ((ts : List Lexeme) × Scans text ts) ⊎ ((kind : FaultKind) × (
 by_tokens : (text : List ℕ) (ts : List Lexeme) → IsText text → Scans text ts → (r : Option Refusal) → refusal_of (lookaheads ts) ≡ r → HasFormatOrFault text
 by_tokens text ts is scans None e =
     ⊎_elim (λ le. inl (print ts, record { text = is; tokens = ts; scanned = scans; accepted = e; printed = refl; fits = le }))
-    (λ gt. inr (too_large, inr (is, inr (ts, scans, inr (e, gt, refl)))))
+    (λ gt. inr (print_too_large, inr (is, inr (ts, scans, inr (e, gt, refl)))))
     (either_size (length (print ts)) max_source)
 by_tokens text ts is scans (Some r) e =
     inr (fault_at (record { text = text; tokens = ts }) r, inr (is, inr (ts, scans, inl (ap (verdict_by (record { text = text; tokens = ts })) e))))
@@ -137,7 +139,7 @@ some_sight mode name fault before none ready = subst (λ f. SomeSight mode name 
           record { files = look.1; faults = before.faults },
           (
             visits_by mode before.files look.1 name (before.files.real name) bytes look.0 e look.2,
-            record { is = inl (sym (ap (noted before.faults) (no_failure_of look.0 look.3))) },
+            record { is = inl (sym (ap (with_fault before.faults) (no_failure_of look.0 look.3))) },
           ),
           look.3,
         )

@@ -1,22 +1,21 @@
 -- One look at a file: what it answers, and what the files are then.
 use Rattle.std.specs.Prelude.{◌≡◌, ◌≢◌, ◌⊎◌, ℕ, List, Option, Some, None}
 use Rattle.hcl_source.specs.declared.fault.Fault.{Fault}
-use Rattle.file_tree.specs.Files.{Faults, Files, Name, Tells, noted, put}
+use Rattle.file_tree.specs.Files.{Faults, Files, Name, with_fault, put}
+use Rattle.hcl_source.specs.Devices.{Tells}
 use Rattle.file_tree.specs.declared.fault.TreeFault.{TreeFault}
 use Rattle.file_tree.specs.declared.fault.TreeFault.TheVariants.{OutOfMemory}
 use Rattle.line_diff.specs.Diffs.{diff_of}
 use Rattle.tree_format.specs.Format.{IsFormat, IsFault}
 use Rattle.tree_format.specs.declared.mode.Mode.{Mode}
-use Rattle.tree_format.specs.declared.mode.Mode.TheVariants.{Write, Check, List as Listed, Diff}
+use Rattle.tree_format.specs.declared.mode.Mode.TheVariants.{Write, Diff}
 use Rattle.tree_format.specs.declared.outcome.Outcome.{Outcome}
 use Rattle.tree_format.specs.declared.outcome.Outcome.TheVariants as outcome
 
 -- what becomes of the files where the one of this real name isn't formatted
 abbrev pub Left : Mode → Files → Files → Name → List ℕ → Type 0
 Left (Write writing) old new name formatted = new ≡ put old name formatted
-Left Check old new name formatted = new ≡ old
-Left Listed old new name formatted = new ≡ old
-Left Diff old new name formatted = new ≡ old
+Left mode old new name formatted = new ≡ old
 
 -- the bytes of a file aren't its format
 pub record Changes (mode : Mode) (old new : Files) (name : Name) (bytes : List ℕ) : Type 0 where
@@ -43,12 +42,9 @@ Visits mode old new given name answer = (bytes : List ℕ) × Tells (old.told na
 -- why a look failed, if it did
 abbrev pub failure_of : Outcome → Option TreeFault
 failure_of (outcome.Failed fault) = Some fault
-failure_of outcome.Formatted = None
-failure_of outcome.Changed = None
-failure_of (outcome.Differs text) = None
-failure_of (outcome.Refused fault) = None
+failure_of _ = None
 
 -- A FAILURE IS REAL: it is that of the one call of the device that failed, or memory ran out. Where a look doesn't fail, no
 -- call failed.
 pub record Notes (before after : Faults) (answer : Outcome) : Type 0 where
-  pub is : (after ≡ noted before (failure_of answer)) ⊎ ((failure_of answer ≡ Some OutOfMemory) × (after ≡ before))
+  pub is : (after ≡ with_fault before (failure_of answer)) ⊎ ((failure_of answer ≡ Some OutOfMemory) × (after ≡ before))

@@ -19,15 +19,15 @@ abbrev pub about : Name → List ℕ → List ℕ
 about name text = name ++ (codes ": " ++ line text)
 
 -- a file isn't formatted, or wasn't before
-abbrev pub changed : Mode → Name → Report
-changed (Write writing) name = record { out = line name; err = []; status = 0 }
-changed Check name = record { out = []; err = about name (codes "not formatted"); status = 3 }
-changed Listed name = record { out = line name; err = []; status = 3 }
-changed Diff name = record { out = line name; err = []; status = 3 }
+abbrev pub changed_report : Mode → Name → Report
+changed_report (Write writing) name = record { out = line name; err = []; status = 0 }
+changed_report Check name = record { out = []; err = about name (codes "not formatted"); status = 3 }
+changed_report Listed name = record { out = line name; err = []; status = 3 }
+changed_report Diff name = record { out = line name; err = []; status = 3 }
 
 abbrev pub report_of : Mode → Name → Outcome → Report
 report_of mode name outcome.Formatted = record { out = []; err = []; status = 0 }
-report_of mode name outcome.Changed = changed mode name
+report_of mode name outcome.Changed = changed_report mode name
 report_of mode name (outcome.Differs text) = record { out = text.items; err = []; status = 3 }
 report_of mode name (outcome.Refused fault) = record { out = []; err = name ++ (codes ":" ++ fault_words fault); status = 2 }
 report_of mode name (outcome.Failed fault) = record { out = []; err = about name (tree_fault_text fault); status = 4 }

@@ -1,17 +1,16 @@
 -- What a run over files makes of each of them.
-use Rattle.std.specs.Prelude.{◌≡◌, ◌≢◌, ◌⊎◌, ◌||◌, ℕ, All, Bool, IsSome, true, false, List, [], ◌∷◌, ◌++◌, Option, Some, None, map, if◌then◌else◌}
+use Rattle.std.specs.Prelude.{◌≡◌, ◌⊎◌, ◌||◌, ℕ, Bool, true, false, List, [], ◌∷◌, ◌++◌, Option, Some, None, map, if◌then◌else◌}
 use Rattle.std.specs.List.{concat}
 use Rattle.command_line.specs.Rows.{End, Took}
-use Rattle.file_tree.specs.Files.{Files, Name, State}
+use Rattle.file_tree.specs.Files.{Name, State}
 use Rattle.file_tree.specs.declared.fault.TreeFault.{TreeFault}
 use Rattle.file_tree.specs.declared.walk.Found.{Found}
 use Rattle.tree_format.specs.Looks.{Notes, Visits}
 use Rattle.tree_format.specs.Reports.{Report, report_of, worst}
 use Rattle.hcl_source.specs.declared.fault.Fault.{Fault}
-use Rattle.line_diff.specs.Diffs.{diff_of}
-use Rattle.tree_format.specs.Format.{HasFormatOrFault, IsFormat, IsFault}
+use Rattle.tree_format.specs.Format.{IsFormat, IsFault}
 use Rattle.tree_format.specs.declared.mode.Mode.{Mode}
-use Rattle.tree_format.specs.declared.mode.Mode.TheVariants.{Write, Check, List as Listed, Diff}
+use Rattle.tree_format.specs.declared.mode.Mode.TheVariants.{Write}
 use Rattle.tree_format.specs.declared.outcome.Outcome.{Outcome}
 use Rattle.tree_format.specs.declared.outcome.Outcome.TheVariants as outcome
 
@@ -23,9 +22,7 @@ IsSafe (Some bytes) after = (after ≡ Some bytes) ⊎ ((formatted : List ℕ) �
 -- what a run may make of a file: only where files are to be written it may get its format
 abbrev pub Kept : Mode → Option (List ℕ) → Option (List ℕ) → Type 0
 Kept (Write writing) before after = IsSafe before after
-Kept Check before after = after ≡ before
-Kept Listed before after = after ≡ before
-Kept Diff before after = after ≡ before
+Kept mode before after = after ≡ before
 
 -- a look failed
 abbrev pub is_failed : Outcome → Bool
@@ -38,9 +35,7 @@ abbrev pub Settled : Mode → Option (List ℕ) → Option (List ℕ) → Type 0
 Settled (Write writing) None after = Unit {0}
 Settled (Write writing) (Some bytes) after =
     ((formatted : List ℕ) × IsFormat bytes formatted × (after ≡ Some formatted)) ⊎ ((fault : Fault) × IsFault bytes fault × (after ≡ Some bytes))
-Settled Check before after = Unit {0}
-Settled Listed before after = Unit {0}
-Settled Diff before after = Unit {0}
+Settled mode before after = Unit {0}
 
 -- ---- the run
 
@@ -77,32 +72,3 @@ pub record IsRun (mode : Mode) (found : List Found) (last : List ℕ) (before af
   pub output : Took end.out (concat (map (λ r. r.out) (reports_of mode seen answers)))
   pub message : Took end.err (concat (map (λ r. r.err) (reports_of mode seen answers)) ++ last)
   pub exit : end.status ≡ (if end.out.failed || end.err.failed then 4 else worst (map (λ r. r.status) (reports_of mode seen answers)))
-
--- ---- a run in which nothing fails
-
--- the device tells the bytes of each file to which a name leads
-abbrev pub AreTold : Files → List Found → Type 0
-AreTold files found = All (λ f. IsSome (files.told (files.real f.name.items))) found
-
--- a look that shows this text, which is held in memory
-abbrev pub Holds : Outcome → List ℕ → Type 0
-Holds (outcome.Differs text) shown = text.items ≡ shown
-Holds outcome.Formatted shown = ⊥
-Holds outcome.Changed shown = ⊥
-Holds (outcome.Refused fault) shown = ⊥
-Holds (outcome.Failed fault) shown = ⊥
-
--- where what changes in a file is to be shown, there is room for it
-abbrev pub HasRoom : Mode → Name → List ℕ → Type 0
-HasRoom (Write writing) name bytes = Unit {0}
-HasRoom Check name bytes = Unit {0}
-HasRoom Listed name bytes = Unit {0}
-HasRoom Diff name bytes = (formatted : List ℕ) → IsFormat bytes formatted → formatted ≢ bytes → (answer : Outcome) × Holds answer (diff_of name bytes formatted)
-
--- the bytes of a file are told, and nothing stands in the way of a look at it
-abbrev pub IsReady : Mode → Name → Option (List ℕ) → Type 0
-IsReady mode name None = ⊥
-IsReady mode name (Some bytes) = HasFormatOrFault bytes × HasRoom mode name bytes
-
-abbrev pub AreReady : Mode → Files → List Found → Type 0
-AreReady mode files found = All (λ f. (f.fault ≡ None) × IsReady mode f.name.items (files.told (files.real f.name.items))) found

@@ -5,8 +5,8 @@ ghost use Rattle.std.specs.List.{list_any};
 ghost use Rattle.command_line.specs.Rows.{End};
 ghost use Rattle.file_tree.specs.Files.{State};
 ghost use Rattle.file_tree.specs.declared.walk.Found.{Found};
-ghost use Rattle.tree_format.specs.Format.{HasFormatOrFault};
-ghost use Rattle.tree_format.specs.Runs.{AreReady, AreTold, IsRun, is_failed, reports_of};
+ghost use Rattle.tree_format.specs.GoodRuns.{HasFormatOrFault, AreReady, AreTold};
+ghost use Rattle.tree_format.specs.Runs.{IsRun, is_failed, reports_of};
 ghost use Rattle.tree_format.specs.declared.mode.Mode.{Mode};
 
 use hcl_scan::laws::{list_or_fault, text_or_fault};

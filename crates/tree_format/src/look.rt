@@ -34,7 +34,7 @@ fn print_of(alloc: Global, accepted: &Accepted<'_, '_>) -> Result<Printed, TreeF
 }
 
 /// Puts the print in place of a file.
-#[tactic(auto, using(crate::proofs::KeptLemmas::notes_call, crate::proofs::KeptLemmas::notes_fault, crate::proofs::KeptLemmas::notes_memory))]
+#[tactic(auto, using(crate::proofs::KeptFormatLemmas::notes_call, crate::proofs::KeptFormatLemmas::notes_fault, crate::proofs::KeptFormatLemmas::notes_memory))]
 fn write_print<T: Tree>(
     alloc: Global,
     name: &[u8],
@@ -74,7 +74,7 @@ fn show_print(alloc: Global, name: &[u8], accepted: &Accepted<'_, '_>) -> Outcom
 }
 
 /// Does with an accepted file what is asked for.
-#[tactic(auto, using(crate::proofs::KeptLemmas::notes_call, crate::proofs::KeptLemmas::notes_shown))]
+#[tactic(auto, using(crate::proofs::KeptFormatLemmas::notes_call, crate::proofs::KeptFormatLemmas::notes_shown))]
 fn change<T: Tree>(
     alloc: Global,
     mode: Mode,
@@ -102,7 +102,7 @@ fn change<T: Tree>(
 }
 
 /// Does with a source what is asked for.
-#[tactic(auto, using(crate::proofs::KeptLemmas::notes_call, crate::proofs::KeptLemmas::notes_memory))]
+#[tactic(auto, using(crate::proofs::KeptFormatLemmas::notes_call, crate::proofs::KeptFormatLemmas::notes_memory))]
 fn change_source<T: Tree>(
     alloc: Global,
     mode: Mode,
@@ -146,7 +146,7 @@ fn outcome_of_scan(error: ScanError) -> Outcome
 }
 
 /// The text of a file.
-#[tactic(auto, using(crate::proofs::KeptLemmas::notes_fault))]
+#[tactic(auto, using(crate::proofs::KeptFormatLemmas::notes_fault))]
 fn load<T: Tree>(alloc: Global, name: &[u8], tree: &mut T) -> Result<Source, Outcome>
     ensures loads { LoadsFile ((T.files tree.old).told ((T.files tree.old).real name.now)) result }
     ensures files { T.files tree.new ≡ T.files tree.old }
@@ -162,7 +162,7 @@ fn load<T: Tree>(alloc: Global, name: &[u8], tree: &mut T) -> Result<Source, Out
 }
 
 /// Looks at one file and does what is asked for.
-#[tactic(auto, using(crate::proofs::KeptLemmas::visits_loaded, crate::proofs::KeptLemmas::visits_unloaded))]
+#[tactic(auto, using(crate::proofs::KeptFormatLemmas::visits_loaded, crate::proofs::KeptFormatLemmas::visits_unloaded))]
 pub fn visit<T: Tree>(alloc: Global, mode: Mode, name: &[u8], tree: &mut T) -> Outcome
     ensures visits { Visits mode (T.files tree.old) (T.files tree.new) name.now ((T.files tree.old).real name.now) result }
     ensures notes { Notes (T.faults tree.old) (T.faults tree.new) result }

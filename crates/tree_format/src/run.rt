@@ -15,7 +15,7 @@ use hcl_scan::ByteSink;
 use std::alloc::Global;
 
 /// Looks at one name.
-#[tactic(auto, using(crate::proofs::KeptLemmas::kept_same, crate::proofs::KeptLemmas::visit_kept, crate::proofs::KeptLemmas::visit_real, crate::proofs::KeptLemmas::visit_elsewhere))]
+#[tactic(auto, using(crate::proofs::KeptFormatLemmas::kept_same, crate::proofs::KeptFormatLemmas::visit_kept, crate::proofs::KeptFormatLemmas::visit_real, crate::proofs::KeptFormatLemmas::visit_elsewhere))]
 fn look<T: Tree>(alloc: Global, mode: Mode, found: &Found, tree: &mut T) -> Outcome
     ensures kept { (name : List ℕ) → Kept mode ((T.files tree.old).told name) ((T.files tree.new).told name) }
     ensures settled { let real = (T.files tree.old).real found.now.name.items in
@@ -31,7 +31,7 @@ fn look<T: Tree>(alloc: Global, mode: Mode, found: &Found, tree: &mut T) -> Outc
 }
 
 /// Goes over the files.
-#[tactic(auto, using(crate::proofs::KeptLemmas::kept_same, crate::proofs::KeptLemmas::kept_trans))]
+#[tactic(auto, using(crate::proofs::KeptFormatLemmas::kept_same, crate::proofs::KeptFormatLemmas::kept_trans))]
 pub fn run_over<T: Tree, P: Progress, O: ByteSink, E: ByteSink>(
     alloc: Global,
     mode: Mode,

@@ -2,7 +2,8 @@
 use Rattle.std.specs.Prelude.{◌≡◌, ◌≢◌, ◌⊎◌, ℕ, Bool, true, false, List, [], ◌∷◌, ◌++◌, Option, Some, None, map}
 use Rattle.std.specs.List.{Contains}
 use Rattle.file_tree.specs.Below.{IsBelow, IsGiven, is_met, listed}
-use Rattle.file_tree.specs.Files.{Files, Name, Tells}
+use Rattle.file_tree.specs.Files.{Files, Name}
+use Rattle.hcl_source.specs.Devices.{Tells}
 use Rattle.file_tree.specs.Finds.{HasName, IsFolderOf, IsFound, IsOf, Rises}
 use Rattle.file_tree.specs.Names.{is_taken}
 use Rattle.file_tree.specs.Paths.{inside, place, reported, tidied, top}

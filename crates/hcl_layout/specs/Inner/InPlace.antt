@@ -5,7 +5,7 @@ use Rattle.hcl_tokens.specs.Lexemes.{Lexeme}
 use Rattle.hcl_tokens.specs.Balanced.{max_open}
 use Rattle.hcl_layout.specs.Columns.{widest}
 use Rattle.hcl_layout.specs.Lines.{lines}
-use Rattle.hcl_layout.specs.Print.{printed}
+use Rattle.hcl_layout.specs.Print.{printed_text}
 use Rattle.hcl_layout.specs.Inner.Left.{token_before}
 use Rattle.hcl_layout.specs.Inner.LineGaps.{ArePlain, gaps_from}
 use Rattle.hcl_layout.specs.Inner.Stream.{assign_widths, comment_widths, commented}
@@ -42,7 +42,7 @@ gaps_on ts first w = flat_map (λ g. g) (commented w.depth w.levels w.signs w.co
 pub record InPlace (ts : List Lexeme) (source : List ℕ) (w : Walk) (runs : Runs) (first at : ℕ) : Type 0 where
   pub assign : IsColumn w.signs runs.assign (assign_widths w.depth w.levels (lines (drop first ts)))
   pub comment : IsColumn w.comments runs.comment (comment_widths w.depth w.levels w.signs (lines (drop first ts)))
-  pub left : printed (gaps_on ts first w) (drop first ts) ≡ drop at source
+  pub left : printed_text (gaps_on ts first w) (drop first ts) ≡ drop at source
 
 -- what stands in place from the second state on stands so from the first
 abbrev pub Continues : List Lexeme → List ℕ → Walk → Runs → ℕ → ℕ → Walk → Runs → ℕ → ℕ → Type 0
@@ -60,7 +60,7 @@ pub record Laid (ts : List Lexeme) (l : LaidLine) : Type 0 where
 
 -- what is left to print from a token of the line on, by the gaps of the lines after it
 abbrev pub left_at : List Lexeme → LaidLine → List ℕ → ℕ → List ℕ
-left_at ts l rest n = printed (gaps_from l.gaps (n - l.first) (token_before ts l.first (n - 1)) (token_before ts l.first n) (take (l.end - n) (drop n ts)) ++ rest) (drop n ts)
+left_at ts l rest n = printed_text (gaps_from l.gaps (n - l.first) (token_before ts l.first (n - 1)) (token_before ts l.first n) (take (l.end - n) (drop n ts)) ++ rest) (drop n ts)
 
 -- from a token and a place to others the source goes on as the print
 abbrev pub GoOn : List Lexeme → List ℕ → LaidLine → ℕ → ℕ → ℕ → ℕ → Type 0

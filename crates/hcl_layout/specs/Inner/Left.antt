@@ -4,7 +4,7 @@ use Rattle.std.specs.List.{flat_map}
 use Rattle.hcl_tokens.specs.Lexemes.{Lexeme}
 use Rattle.hcl_layout.specs.Inner.LineGaps.{ArePlain, AreSet, gap_of, gaps_from, plain_gap}
 use Rattle.hcl_layout.specs.Lines.{Line, lines}
-use Rattle.hcl_layout.specs.Print.{printed}
+use Rattle.hcl_layout.specs.Print.{printed_text}
 use Rattle.hcl_layout.specs.Inner.Stream.{commented}
 use Rattle.hcl_layout.specs.Inner.Walks.{HasCome}
 use Rattle.hcl_layout.specs.declared.gap.LineGaps.{LineGaps}
@@ -35,7 +35,7 @@ abbrev pub gaps_left : List Lexeme → Pieces → List ℕ
 gaps_left ts s = gaps_from s.gaps (s.next - s.start) (token_before ts s.start (s.next - 1)) (token_before ts s.start s.next) (line_left ts s) ++ rest_gaps ts s
 
 abbrev pub to_print : List Lexeme → Pieces → List ℕ
-to_print ts s = printed (gaps_left ts s) (drop s.next ts)
+to_print ts s = printed_text (gaps_left ts s) (drop s.next ts)
 
 abbrev pub bytes_of : Piece → List ℕ
 bytes_of p = replicate p.gap 32 ++ p.text.now

@@ -2,7 +2,7 @@
 -- Our own choice of representation: a heredoc is kept by where its closing marker ends and where what was seen around it ends.
 use Rattle.std.specs.Prelude.{◌≡◌, ℕ, ◌-◌, Bool, true, false, List, [], ◌∷◌, length, map, drop, if◌then◌else◌, slice_range, Option, Some, None}
 use Rattle.hcl_tokens.specs.Lexemes as lexemes
-use Rattle.hcl_tokens.specs.Lexemes.{is_group, moved}
+use Rattle.hcl_tokens.specs.Lexemes.{is_group, open_after, same_opener}
 use Rattle.hcl_tokens.specs.Spelling.{Context, Template, Expression, context_in}
 use Rattle.hcl_tokens.specs.Scans.{Hidden, owes}
 use Rattle.hcl_scan.specs.declared.stack.Opener.{Opener}
@@ -44,15 +44,6 @@ abbrev pub popped_groups : List Opened → List Opened
 popped_groups [] = []
 popped_groups (o ∷ stack) = if is_group_by o.by then popped_groups stack else o ∷ stack
 
-abbrev pub same_opener : lexemes.Opener → lexemes.Opener → Bool
-same_opener lexemes.Quote lexemes.Quote = true
-same_opener lexemes.Heredoc lexemes.Heredoc = true
-same_opener lexemes.Sequence lexemes.Sequence = true
-same_opener lexemes.Brace lexemes.Brace = true
-same_opener lexemes.Bracket lexemes.Bracket = true
-same_opener lexemes.Paren lexemes.Paren = true
-same_opener _ _ = false
-
 -- without the top, if it is this opener
 abbrev pub popped_if : lexemes.Opener → List Opened → List Opened
 popped_if opener [] = []
@@ -60,7 +51,7 @@ popped_if opener (o ∷ stack) = if same_opener (opener_of o.by) opener then sta
 
 -- without what a token of this kind closes: as much is left as the token leaves open
 abbrev pub closed : Kind → List Opened → List Opened
-closed kind stack = drop (length stack - length (moved kind (openers_of stack))) stack
+closed kind stack = drop (length stack - length (open_after kind (openers_of stack))) stack
 
 -- a `}` closes a sequence in what this opens, where it does so around it or not
 abbrev pub closes_on : Opener → Bool → Bool

@@ -7,7 +7,7 @@ use Rattle.hcl_tokens.specs.declared.token.Kind.{Kind}
 use Rattle.hcl_tokens.specs.Balanced.{opening, closing}
 use Rattle.hcl_syntax.specs.declared.nesting.Nesting.{Nesting}
 use Rattle.hcl_syntax.specs.declared.nesting.Nesting.TheVariants as nesting
-use Rattle.hcl_grammar.specs.Numbered.{Numbered, numbered_from, uncommented}
+use Rattle.hcl_grammar.specs.Numbered.{Numbered, numbered_from, without_comments}
 use Rattle.hcl_grammar.specs.Items.{deepen, is_closed, items}
 use Rattle.hcl_grammar.specs.declared.item.Item.{Item}
 use Rattle.hcl_syntax.specs.declared.words.NumberedKind.{NumberedKind}
@@ -18,7 +18,7 @@ between tokens from to = take (to - from) (numbered_from from (drop from tokens)
 
 -- the same without comments
 abbrev pub words : List Lexeme → ℕ → ℕ → List Numbered
-words tokens from to = uncommented (between tokens from to)
+words tokens from to = without_comments (between tokens from to)
 
 -- the token is the first of these
 pub record IsFirst (tokens : List Lexeme) (from to : ℕ) (word : NumberedKind) : Type 0 where

@@ -1,8 +1,8 @@
 use Rattle.std.proofs.Common.{ap, ◌∙◌}
 use Rattle.hcl_grammar.specs.Predictor.{refusal_of}
 use Rattle.layout_laws.proofs.RescanLemmas.{scans_again}
-use Rattle.layout_laws.proofs.PlaceLemmas.{print_again, seen_again}
-use Rattle.layout_laws.proofs.LoadLemmas.{loads_again}
+use Rattle.layout_laws.proofs.ForgetPlaceLemmas.{print_again, seen_again}
+use Rattle.layout_laws.proofs.PrintLoadLemmas.{loads_again}
 use Rattle.layout_laws.proofs.idempotent.Goals as goal
 
 pub returns : goal.returns

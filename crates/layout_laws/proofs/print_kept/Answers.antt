@@ -1,4 +1,4 @@
-use Rattle.layout_laws.proofs.PlaceLemmas.{print_again, seen_again}
+use Rattle.layout_laws.proofs.ForgetPlaceLemmas.{print_again, seen_again}
 use Rattle.layout_laws.proofs.print_kept.Goals as goal
 
 pub returns-clause-again : goal.returns-clause-again

@@ -9,8 +9,8 @@ use Rattle.hcl_tokens.specs.declared.token.Kind.TheVariants as kind
 use Rattle.hcl_layout.specs.Lines.{Line, lines}
 use Rattle.hcl_layout.specs.Levels.{levels, net_of}
 use Rattle.hcl_layout.specs.Cells.{assign_cell, running_comment, trailing_comment}
-use Rattle.hcl_layout.specs.Gaps.{aligned, indent, zip_with}
-use Rattle.hcl_layout.specs.Print.{printed}
+use Rattle.hcl_layout.specs.Gaps.{aligned_gaps, indent, zip_with}
+use Rattle.hcl_layout.specs.Print.{printed_text}
 use Rattle.hcl_spacing.specs.Spacing.{begins_with_equals, closes_group, ends_operand, is_in, is_opening, opens_sequence, stands_before}
 
 abbrev pub would_have_joined : Option Lexeme → Lexeme → Lexeme → Bool
@@ -20,8 +20,8 @@ would_have_joined before subject after =
     || (is kind.Not subject.kind && begins_with_equals after.text)
     || (opens_sequence subject.kind && is kind.SeqClose after.kind && bytes_eq after.text (codes "~}"))
 
-abbrev pub was_spaced : Option Lexeme → Lexeme → Lexeme → Bool
-was_spaced before subject after =
+abbrev pub had_blank : Option Lexeme → Lexeme → Lexeme → Bool
+had_blank before subject after =
     if is kind.Newline after.kind || after.inside_heredoc then false
     else if would_have_joined before subject after then true
     else if is kind.Ident subject.kind && is kind.ParenOpen after.kind then false
@@ -42,14 +42,14 @@ was_spaced before subject after =
 
 abbrev pub were_gaps_after : Option Lexeme → Lexeme → Line → List ℕ
 were_gaps_after before subject [] = []
-were_gaps_after before subject (after ∷ line) = (if was_spaced before subject after then 1 else 0) ∷ were_gaps_after (Some subject) after line
+were_gaps_after before subject (after ∷ line) = (if had_blank before subject after then 1 else 0) ∷ were_gaps_after (Some subject) after line
 
 abbrev pub were_plain_gaps : ℕ → Line → List ℕ
 were_plain_gaps level [] = []
 were_plain_gaps level (t ∷ line) = indent level t ∷ were_gaps_after None t line
 
 abbrev pub were_line_gaps : List Line → List (List ℕ)
-were_line_gaps ls = aligned trailing_comment running_comment (aligned assign_cell assign_cell (zip_with were_plain_gaps (levels (map net_of ls)) ls) ls) ls
+were_line_gaps ls = aligned_gaps trailing_comment running_comment (aligned_gaps assign_cell assign_cell (zip_with were_plain_gaps (levels (map net_of ls)) ls) ls) ls
 
 abbrev pub was_print : List Lexeme → List ℕ
-was_print ts = printed (flat_map (λ g. g) (were_line_gaps (lines ts))) ts
+was_print ts = printed_text (flat_map (λ g. g) (were_line_gaps (lines ts))) ts

@@ -11,7 +11,7 @@ use Rattle.hcl_grammar.specs.declared.refusal.Refusal.{Refusal}
 use Rattle.hcl_grammar.specs.declared.refusal.Refusal.TheVariants.{UnexpectedToken}
 use Rattle.hcl_grammar.specs.Classes.{drops, lookaheads}
 use Rattle.hcl_grammar.specs.Grammar.{Symbol, Marked, ◌at◌, file, Action, none, row}
-use Rattle.hcl_grammar.specs.Predictor.{ending, Effect, on, stop, taken, next}
+use Rattle.hcl_grammar.specs.Predictor.{ending, Effect, on, stop, row_effect, next}
 
 abbrev pub is_path_sign : Class → Bool
 is_path_sign ColonColon = true
@@ -22,7 +22,7 @@ was_row s m t = if is_path_sign t.class then none else row s m t
 
 abbrev pub was_turn : ℕ → List Marked → Lookahead → Effect
 was_turn count [] t = stop (UnexpectedToken t.number)
-was_turn count (s at m ∷ ss) t = if drops m t.class then on count (s at m ∷ ss) else taken count (was_row s m t) ss (was_turn count ss t) t
+was_turn count (s at m ∷ ss) t = if drops m t.class then on count (s at m ∷ ss) else row_effect count (was_row s m t) ss (was_turn count ss t) t
 
 abbrev pub was_run : ℕ → List Marked → List Lookahead → Option Refusal
 was_run count ss [] = ending ss

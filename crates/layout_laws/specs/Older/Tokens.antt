@@ -2,7 +2,7 @@
 -- else was as it is now, so only what goes by the spelling of a kind is written once more (`Spelling` and `Scans` of
 -- `hcl_tokens`).
 use Rattle.std.specs.Prelude.{◌≡◌, ◌≢◌, ◌+◌, ◌<◌, ◌≤◌, ℕ, Bool, List, [], ◌∷◌, ◌++◌, length, ◌⊎◌}
-use Rattle.hcl_tokens.specs.Lexemes.{Lexeme, Opener, in_heredoc, moved, max_open}
+use Rattle.hcl_tokens.specs.Lexemes.{Lexeme, Opener, in_heredoc, open_after, max_open}
 use Rattle.hcl_tokens.specs.Spelling.{IsSpelling}
 use Rattle.hcl_tokens.specs.Kinds.{is}
 use Rattle.hcl_tokens.specs.Scans.{State, begin, ahead, gap_len, offsets_of, Leaves, Closes, IsComplete}
@@ -23,7 +23,7 @@ pub record WasRead (s : State) (t : Lexeme) (next : State) : Type 0 where
   pub start : t.start ≡ s.at + gap_len s
   pub inside : t.inside_heredoc ≡ in_heredoc s.opens
   pub at : next.at ≡ t.start + length t.text
-  pub opens : next.opens ≡ moved t.kind s.opens
+  pub opens : next.opens ≡ open_after t.kind s.opens
   pub offsets : next.offsets ≡ offsets_of t.start s.opens next.opens s.offsets
   pub room : length next.opens ≤ max_open
   pub after_dot : next.after_dot ≡ is Dot t.kind

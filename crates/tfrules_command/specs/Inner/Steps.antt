@@ -9,9 +9,10 @@ use Rattle.hcl_source.specs.declared.fault.LoadError.{LoadError}
 use Rattle.hcl_source.specs.declared.fault.LoadError.TheVariants as error
 use Rattle.hcl_grammar.specs.Verdict.{verdict}
 use Rattle.tf_rules.specs.Kept.{Kept, kept_of, with_file}
-use Rattle.tfrules_command.specs.Answer.{file_error, linter, names_of, refused, too_large, usage_line}
+use Rattle.tfrules_command.specs.Answer.{file_error, linter, names_of, refusal_row, too_large, usage_line}
 use Rattle.tfrules_command.specs.Files.{NamedFile, AreAccepted, IsFault, IsOutcome, IsTooMuch, max_module, numbered_files, size_of}
-use Rattle.tfrules_command.specs.Rows.{AreFiles, Tells}
+use Rattle.tfrules_command.specs.Rows.{AreFiles}
+use Rattle.hcl_source.specs.Devices.{Tells}
 use Rattle.tfrules_command.specs.declared.stop.Stop.{Stop}
 use Rattle.tfrules_command.specs.declared.stop.Stop.TheVariants as stop
 use Rattle.tfrules_command.specs.declared.stop.Stopped.{Stopped}
@@ -112,7 +113,7 @@ Gathers told names o r kept (Err stopped) = StopsAt told names o r stopped.name.
 
 -- what is said where a run stops
 abbrev pub stop_row : List ℕ → Stop → Row
-stop_row name (stop.Refused fault) = refused name fault
+stop_row name (stop.Refused fault) = refusal_row name fault
 stop_row name stop.TooLarge = too_large name
 stop_row name stop.NotOpened = file_error name (codes "cannot be opened")
 stop_row name stop.NotRead = file_error name (codes "read failed")

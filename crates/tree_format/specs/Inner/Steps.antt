@@ -1,6 +1,6 @@
 -- One look at a file, step by step.
 use Rattle.std.specs.Prelude.{◌≡◌, ◌≢◌, ◌≤◌, ◌<◌, ℕ, List, Option, Result, Ok, Err, length}
-use Rattle.hcl_source.specs.Load.{max_source, IsText, IsLoadFault}
+use Rattle.hcl_source.specs.Load.{max_source, IsText, IsLoadFault, print_too_large}
 use Rattle.hcl_source.specs.declared.fault.LoadError.{LoadError}
 use Rattle.hcl_source.specs.declared.fault.LoadError.TheVariants as error
 use Rattle.hcl_tokens.specs.Scanned.{Scanned}
@@ -9,8 +9,8 @@ use Rattle.hcl_tokens.specs.declared.token.ScanError.TheVariants as scan_error
 use Rattle.hcl_layout.specs.Print.{print}
 use Rattle.line_diff.specs.Diffs.{diff_of}
 use Rattle.tree_format.specs.Looks.{Left, Notes}
-use Rattle.tree_format.specs.Format.{too_large}
-use Rattle.file_tree.specs.Files.{Faults, Files, Name, Tells}
+use Rattle.file_tree.specs.Files.{Faults, Files, Name}
+use Rattle.hcl_source.specs.Devices.{Tells}
 use Rattle.tree_format.specs.declared.mode.Mode.{Mode}
 use Rattle.tree_format.specs.declared.mode.Mode.TheVariants.{Diff}
 use Rattle.tree_format.specs.declared.outcome.Outcome.{Outcome}
@@ -45,7 +45,7 @@ Makes mode old new given name s outcome.Changed =
     (mode ≢ Diff) × (print s.tokens ≢ s.text) × (length (print s.tokens) ≤ max_source) × Left mode old new name (print s.tokens)
 Makes mode old new given name s (outcome.Differs text) =
     (mode ≡ Diff) × (print s.tokens ≢ s.text) × (length (print s.tokens) ≤ max_source) × (new ≡ old) × (text.items ≡ diff_of given s.text (print s.tokens))
-Makes mode old new given name s (outcome.Refused fault) = (max_source < length (print s.tokens)) × (fault ≡ too_large) × (new ≡ old)
+Makes mode old new given name s (outcome.Refused fault) = (max_source < length (print s.tokens)) × (fault ≡ print_too_large) × (new ≡ old)
 Makes mode old new given name s (outcome.Failed fault) = new ≡ old
 
 -- the difference is shown, of a file that was named so, or memory ran out

@@ -1,4 +1,4 @@
-use Rattle.hcl_grammar.proofs.BalanceLemmas.{balance}
+use Rattle.hcl_grammar.proofs.BalancedRowLemmas.{balance}
 use Rattle.hcl_grammar.proofs.laws.balanced.Goals as goal
 
 pub returns : goal.returns

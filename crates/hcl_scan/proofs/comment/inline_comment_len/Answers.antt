@@ -1,5 +1,5 @@
 use Rattle.std.proofs.Common.{sym, ◌∙◌}
-use Rattle.hcl_scan.proofs.CommentLemmas.{inline_comment_found, inline_comment_none}
+use Rattle.hcl_scan.proofs.CommentTextLemmas.{inline_comment_found, inline_comment_none}
 use Rattle.hcl_scan.proofs.comment.inline_comment_len.Goals as goal
 
 pub returns-in-Some-clause-found : goal.returns-in-Some-clause-found

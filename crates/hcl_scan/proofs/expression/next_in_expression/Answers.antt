@@ -7,8 +7,8 @@ use Rattle.hcl_tokens.specs.declared.token.Kind.{Kind}
 use Rattle.hcl_tokens.specs.declared.token.Kind.TheVariants.{Newline, InlineComment, Blank, Number}
 use Rattle.hcl_scan.proofs.ExpressionTextLemmas.{Reading, some_found, none_found, some_cut, kind_found, kind_none, kind_cut, comment_none, some_mark, no_mark, mark_cut, slash_found, slash_cut, line_comment, line_reading, space_reading, letter_reading, digit_reading, closer_reading, star_reading}
 use Rattle.hcl_scan.proofs.LeadLemmas.{letter_begins}
-use Rattle.hcl_scan.proofs.CommentLemmas.{goes_on}
-use Rattle.hcl_scan.proofs.CutLemmas.{newline_low, blanks_low, number_low, closer_low, inline_low, line_cut}
+use Rattle.hcl_scan.proofs.CommentTextLemmas.{goes_on}
+use Rattle.hcl_scan.proofs.TextCutLemmas.{newline_low, blanks_low, number_low, closer_low, inline_low, line_cut}
 use Rattle.hcl_scan.proofs.expression.next_in_expression.Goals as goal
 
 pub returns-in-LineEnd-clause-found : goal.returns-in-LineEnd-clause-found

@@ -1,5 +1,5 @@
 use Rattle.hcl_scan.proofs.ExpressionTextLemmas.{found, less_reading, less_found, formed_cut}
-use Rattle.hcl_scan.proofs.CutLemmas.{heredoc_low}
+use Rattle.hcl_scan.proofs.TextCutLemmas.{heredoc_low}
 use Rattle.hcl_scan.proofs.expression.opener_or_less.Goals as goal
 
 pub returns-in-Some-clause-found : goal.returns-in-Some-clause-found

@@ -1,4 +1,4 @@
-use Rattle.hcl_tokens.proofs.RunLemmas.{scan_bounded}
+use Rattle.hcl_tokens.proofs.OneReadingLemmas.{scan_bounded}
 use Rattle.hcl_scan.proofs.laws.bounded.Goals as goal
 
 pub returns : goal.returns

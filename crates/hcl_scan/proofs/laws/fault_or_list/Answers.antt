@@ -1,4 +1,4 @@
-use Rattle.hcl_tokens.proofs.RunLemmas.{no_fault}
+use Rattle.hcl_tokens.proofs.OneReadingLemmas.{no_fault}
 use Rattle.hcl_scan.proofs.SpellingLemmas.{one_kind}
 use Rattle.hcl_tokens.proofs.NonemptyLemmas.{nonempty}
 use Rattle.hcl_scan.proofs.laws.fault_or_list.Goals as goal

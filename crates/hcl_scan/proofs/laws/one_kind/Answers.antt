@@ -1,4 +1,4 @@
-use Rattle.hcl_tokens.proofs.RunLemmas.{OneKind, Nonempty}
+use Rattle.hcl_tokens.proofs.OneReadingLemmas.{OneKind, Nonempty}
 use Rattle.hcl_scan.proofs.SpellingLemmas.{one_kind}
 use Rattle.hcl_tokens.proofs.NonemptyLemmas.{nonempty}
 use Rattle.hcl_scan.proofs.laws.one_kind.Goals as goal

@@ -1,4 +1,4 @@
-use Rattle.hcl_tokens.proofs.RunLemmas.{one_scan}
+use Rattle.hcl_tokens.proofs.OneReadingLemmas.{one_scan}
 use Rattle.hcl_scan.proofs.SpellingLemmas.{one_kind}
 use Rattle.hcl_tokens.proofs.NonemptyLemmas.{nonempty}
 use Rattle.hcl_scan.proofs.laws.one_list.Goals as goal

@@ -1,6 +1,6 @@
 use Rattle.std.proofs.Common.{◌&&◌, drop, sym, ap, ◌∙◌}
 use Rattle.hcl_tokens.specs.Spelling.{hex_digits_after}
-use Rattle.hcl_scan.proofs.StartLemmas.{starts_same}
+use Rattle.hcl_scan.proofs.TextStartLemmas.{starts_same}
 use Rattle.hcl_scan.proofs.literal.is_code_escape.Goals as goal
 
 pub returns-then-not-starts_with : goal.returns-then-not-starts_with

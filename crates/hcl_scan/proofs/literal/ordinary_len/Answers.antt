@@ -2,7 +2,7 @@ use Rattle.std.proofs.Common.{◌≡◌, ◌≤◌, ℕ, ◌+◌, ◌==◌, not,
 use Rattle.std.specs.List.{prefix_len}
 use Rattle.hcl_scan.specs.Inner.Found.{is_ordinary}
 use Rattle.hcl_scan.proofs.SliceLemmas.{slice_len}
-use Rattle.hcl_scan.proofs.BlockLemmas.{run_goes_on}
+use Rattle.hcl_scan.proofs.ByteBlockLemmas.{run_goes_on}
 use Rattle.hcl_scan.proofs.literal.ordinary_len.Goals as goal
 
 pub loop-len-preserved : goal.loop-len-preserved

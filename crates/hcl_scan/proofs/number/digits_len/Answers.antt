@@ -1,6 +1,6 @@
 use Rattle.std.proofs.Common.{arith}
 use Rattle.std.specs.Char.{is_ascii_digit}
-use Rattle.hcl_scan.proofs.FrontLemmas.{run_found, run_none}
+use Rattle.hcl_scan.proofs.LongestFrontLemmas.{run_found, run_none}
 use Rattle.hcl_scan.proofs.number.digits_len.Goals as goal
 
 pub returns-then-count-eq0-clause-none : goal.returns-then-count-eq0-clause-none

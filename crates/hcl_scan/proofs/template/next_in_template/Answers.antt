@@ -2,7 +2,7 @@ use Rattle.std.proofs.Common.{◌≡◌, ℕ, Bool, true, false, List, drop, Non
 use Rattle.hcl_tokens.specs.Spelling.{element_len, starts}
 use Rattle.hcl_scan.specs.Inner.Found.{Finds}
 use Rattle.hcl_scan.proofs.TemplateLemmas.{lit_found, interp_found, control_found, quote_found, nothing_found, lit_boundary, quote_boundary, sequence_boundary}
-use Rattle.hcl_scan.proofs.StartLemmas.{starts_same}
+use Rattle.hcl_scan.proofs.TextStartLemmas.{starts_same}
 use Rattle.hcl_tokens.specs.declared.token.Kind.TheVariants.{InterpOpen, ControlOpen}
 use Rattle.hcl_scan.proofs.template.next_in_template.Goals as goal
 use Rattle.hcl_scan.proofs.template.next_in_template.Goals.{else-quoted-via-then-quoted+else-starts_with, else-quoted-via-else-quoted}

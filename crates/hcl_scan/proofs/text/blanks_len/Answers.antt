@@ -1,6 +1,6 @@
 use Rattle.std.proofs.Common.{arith}
 use Rattle.hcl_tokens.specs.Spelling.{is_blank}
-use Rattle.hcl_scan.proofs.FrontLemmas.{run_found, run_none}
+use Rattle.hcl_scan.proofs.LongestFrontLemmas.{run_found, run_none}
 use Rattle.hcl_scan.proofs.text.blanks_len.Goals as goal
 
 pub returns-then-count-eq0-clause-none : goal.returns-then-count-eq0-clause-none

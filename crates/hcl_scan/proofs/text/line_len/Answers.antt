@@ -1,7 +1,7 @@
 use Rattle.std.proofs.Common.{◌≡◌, ◌≤◌, ℕ, ◌+◌, ◌==◌, not, length, drop, slice_range, arith}
 use Rattle.std.specs.List.{prefix_len}
 use Rattle.hcl_scan.proofs.SliceLemmas.{slice_len}
-use Rattle.hcl_scan.proofs.BlockLemmas.{run_goes_on}
+use Rattle.hcl_scan.proofs.ByteBlockLemmas.{run_goes_on}
 use Rattle.hcl_scan.proofs.text.line_len.Goals as goal
 
 pub loop-len-preserved : goal.loop-len-preserved

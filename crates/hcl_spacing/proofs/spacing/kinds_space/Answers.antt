@@ -6,15 +6,15 @@ use Rattle.hcl_tokens.specs.Lexemes.{Lexeme}
 use Rattle.hcl_tokens.specs.Scanned.{lexeme}
 use Rattle.hcl_tokens.specs.declared.token.Kind.{Kind}
 use Rattle.hcl_spacing.specs.Inner.KindPairs.{asked_space, pair_space}
-use Rattle.hcl_spacing.specs.Spacing.{asks_more, spaced}
+use Rattle.hcl_spacing.specs.Spacing.{asks_more, has_blank}
 use Rattle.hcl_spacing.proofs.KindPairLemmas.{asked_is, given, same_line, untold}
 use Rattle.hcl_spacing.proofs.spacing.kinds_space.Goals as goal
 
-all_given : (o : Option Bool) (subject after : Lexeme) → after.inside_heredoc ≡ false → o ≡ pair_space subject.kind after.kind → IfSome o (λ space. (before : Option Lexeme) → space ≡ spaced before subject after)
+all_given : (o : Option Bool) (subject after : Lexeme) → after.inside_heredoc ≡ false → o ≡ pair_space subject.kind after.kind → IfSome o (λ space. (before : Option Lexeme) → space ≡ has_blank before subject after)
 all_given None subject after e f = tt
 all_given (Some space) subject after e f = given space subject after e (sym f)
 
-all_asked : (o : Option Bool) (subject after : Lexeme) → after.inside_heredoc ≡ false → o ≡ pair_space subject.kind after.kind → IfNone o ((before : Option Lexeme) → asked_space before subject after ≡ spaced before subject after)
+all_asked : (o : Option Bool) (subject after : Lexeme) → after.inside_heredoc ≡ false → o ≡ pair_space subject.kind after.kind → IfNone o ((before : Option Lexeme) → asked_space before subject after ≡ has_blank before subject after)
 all_asked None subject after e f = λ before. asked_is before subject after e (sym f)
 all_asked (Some space) subject after e f = tt
 

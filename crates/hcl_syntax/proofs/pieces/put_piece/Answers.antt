@@ -1,7 +1,7 @@
 use Rattle.std.proofs.Common.{◌∙◌, sym}
 use Rattle.std.proofs.lemmas.Result.{IfOk-weaker}
 use Rattle.hcl_syntax.specs.Inner.Bodies.{PutsBlock, PutsPiece}
-use Rattle.hcl_syntax.proofs.PieceLemmas.{puts_alone, puts_labelled}
+use Rattle.hcl_syntax.proofs.ItemPieceLemmas.{puts_alone, puts_labelled}
 use Rattle.hcl_syntax.proofs.pieces.put_piece.Goals as goal
 
 pub returns-in_default-first_word : goal.returns-in_default-first_word

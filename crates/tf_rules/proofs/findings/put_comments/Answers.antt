@@ -1,5 +1,5 @@
 use Rattle.std.proofs.Common.{◌∙◌, ap, arith, map, ◌++◌}
-use Rattle.tf_rules.specs.Findings.{slashed}
+use Rattle.tf_rules.specs.Findings.{slash_findings}
 use Rattle.tf_rules.specs.Kept.{issue_at}
 use Rattle.tf_rules.specs.Inner.Entries.{issues_of}
 use Rattle.tf_rules.specs.Inner.KeptViews.{kept_comment}
@@ -9,6 +9,6 @@ use Rattle.tf_rules.proofs.findings.put_comments.Goals as goal
 
 pub returns : goal.returns
 returns c =
-    put_all (λ x. map (issue_at CommentSyntax) (slashed (kept_comment x))) c.args.comments.now c.loop-comment.comment-index (issues_of c.args.entries.now.items) (issues_of c.loop-comment.entries.items)
+    put_all (λ x. map (issue_at CommentSyntax) (slash_findings (kept_comment x))) c.args.comments.now c.loop-comment.comment-index (issues_of c.args.entries.now.items) (issues_of c.loop-comment.entries.items)
     (omega (arith, c.loop-comment-test.false)) c.loop-comment.invariant
-    ∙ ap (λ r. issues_of c.args.entries.now.items ++ r) (put_map slashed kept_comment (issue_at CommentSyntax) c.args.comments.now)
+    ∙ ap (λ r. issues_of c.args.entries.now.items ++ r) (put_map slash_findings kept_comment (issue_at CommentSyntax) c.args.comments.now)

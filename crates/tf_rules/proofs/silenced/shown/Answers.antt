@@ -1,5 +1,5 @@
 use Rattle.std.proofs.Common.{◌∙◌, ◌++◌, ◌∷◌, [], ap, filter, map, not}
-use Rattle.tf_rules.specs.Answers.{answered}
+use Rattle.tf_rules.specs.Answers.{shown_issue}
 use Rattle.tf_rules.specs.Issues.{is_silenced}
 use Rattle.tf_rules.specs.Inner.Entries.{issue_of}
 use Rattle.tf_rules.proofs.SilencedLemmas.{shown_more}
@@ -8,5 +8,5 @@ use Rattle.tf_rules.proofs.silenced.shown.Goals as goal
 pub loop-entry-preserved : goal.loop-entry-preserved
 loop-entry-preserved c = λ comments are.
     c.in_ok-put_shown.ensures comments are
-    ∙ ap (λ r. r ++ map answered (filter (λ i. not (is_silenced comments i)) (issue_of c.entry-item.result ∷ []))) (c.loop-entry.invariant comments are)
+    ∙ ap (λ r. r ++ map shown_issue (filter (λ i. not (is_silenced comments i)) (issue_of c.entry-item.result ∷ []))) (c.loop-entry.invariant comments are)
     ∙ shown_more (λ i. not (is_silenced comments i)) c.args.entries.now c.loop-entry.entry-index c.entry-item.result c.loop-entry-test.true c.entry-item.is

@@ -15,7 +15,7 @@ use Rattle.hcl_source.specs.declared.fault.FaultKind.{FaultKind}
 use Rattle.hcl_grammar.specs.Verdict.{verdict}
 use Rattle.command_line.specs.Rows.{Row}
 use Rattle.tffmt_command.specs.Line.{options_by, options_of, tffmt, usage_of_kind}
-use Rattle.tffmt_command.specs.Answer.{IsAnswerBy, IsFileAnswer, IsTextAnswer, refused, row_by, usage_line}
+use Rattle.tffmt_command.specs.Answer.{IsAnswerBy, IsFileAnswer, IsTextAnswer, refusal_row, row_by, usage_line}
 use Rattle.tffmt_command.specs.declared.options.FmtOptions.{FmtOptions}
 use Rattle.tffmt_command.specs.declared.options.Usage.{Usage}
 use Rattle.tffmt_command.specs.declared.options.Usage.TheVariants as usage
@@ -57,7 +57,7 @@ Outcome text = ((ts : List Lexeme) × Scans text ts) ⊎ ((kind : FaultKind) × 
 
 text_answer : (options : FmtOptions) (text : List ℕ) → Outcome text → (row : Row) × IsTextAnswer options text row
 text_answer options text (inl s) = (row_by options (verdict (record { text = text; tokens = s.0 })), inr (s.0, s.1, refl))
-text_answer options text (inr f) = (refused (record { kind = f.0; at = place text f.1 }), inl (f.0, f.1, f.2, refl))
+text_answer options text (inr f) = (refusal_row (record { kind = f.0; at = place text f.1 }), inl (f.0, f.1, f.2, refl))
 
 answer_by : (r : Result FmtOptions Usage) (input : List ℕ) → (r ≡ Err usage.OutOfMemory → ⊥) → ((options : FmtOptions) → (row : Row) × IsFileAnswer options input row) → (row : Row) × IsAnswerBy r input row
 answer_by (Ok options) input p f = f options
@@ -81,4 +81,4 @@ pub returns-in-None : goal.returns-in-None
 returns-in-None c =
     let fault = c.in-None.ensures.fault in
     let words = map (λ word. word.now) c.args.words.now in
-    answer_by (options_of words) c.args.input.now (has_memory words) (λ options. (refused fault.0, inl (fault.0, fault.1, refl)))
+    answer_by (options_of words) c.args.input.now (has_memory words) (λ options. (refusal_row fault.0, inl (fault.0, fault.1, refl)))

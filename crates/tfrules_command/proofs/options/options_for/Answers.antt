@@ -4,7 +4,7 @@ use Rattle.std.specs.Borrow.{Bor}
 use Rattle.std.specs.Prelude.{List, ℕ}
 use Rattle.rule_set.specs.RuleSets.{rules_of}
 use Rattle.tfrules_command.specs.Line.{max_files}
-use Rattle.tfrules_command.proofs.RuleLemmas.{few_enough, too_many}
+use Rattle.tfrules_command.proofs.AskedRuleLemmas.{few_enough, too_many}
 use Rattle.tfrules_command.proofs.options.options_for.Goals as goal
 
 pub returns-then-given-gt-MAX_FILES : goal.returns-then-given-gt-MAX_FILES

@@ -4,7 +4,7 @@ use Rattle.std.specs.Prelude.{option_map}
 use Rattle.clap.specs.Words.{found_of, rows_of}
 use Rattle.rule_set.specs.RuleSets.{rules_of}
 use Rattle.tfrules_command.specs.Line.{asking_for}
-use Rattle.tfrules_command.proofs.RuleLemmas.{with_parts}
+use Rattle.tfrules_command.proofs.AskedRuleLemmas.{with_parts}
 use Rattle.tfrules_command.proofs.WordLemmas.{asked_more}
 use Rattle.tfrules_command.proofs.options.options_with.Goals as goal
 

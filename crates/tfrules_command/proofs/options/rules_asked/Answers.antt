@@ -1,5 +1,5 @@
 use Rattle.std.proofs.Common.{◌∙◌, sym}
-use Rattle.tfrules_command.proofs.RuleLemmas.{all_asked, default_asked, list_asked}
+use Rattle.tfrules_command.proofs.AskedRuleLemmas.{all_asked, default_asked, list_asked}
 use Rattle.tfrules_command.proofs.options.rules_asked.Goals as goal
 
 pub returns-then-eq : goal.returns-then-eq

@@ -1,4 +1,4 @@
-use Rattle.tfrules_command.proofs.RuleLemmas.{not_named}
+use Rattle.tfrules_command.proofs.AskedRuleLemmas.{not_named}
 use Rattle.tfrules_command.proofs.options.with_named.Goals as goal
 
 pub returns-in-None : goal.returns-in-None

@@ -1,4 +1,4 @@
-use Rattle.tfrules_command.proofs.PieceLemmas.{piece_more}
+use Rattle.tfrules_command.proofs.ReportPieceLemmas.{piece_more}
 use Rattle.tfrules_command.proofs.report.joined.Goals as goal
 
 pub loop-piece-preserved : goal.loop-piece-preserved

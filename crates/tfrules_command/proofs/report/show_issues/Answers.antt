@@ -1,4 +1,4 @@
-use Rattle.tfrules_command.proofs.PieceLemmas.{flushed_behind, report_is, retold}
+use Rattle.tfrules_command.proofs.ReportPieceLemmas.{flushed_behind, report_is, retold}
 use Rattle.tfrules_command.proofs.WriterLemmas.{all_taken}
 use Rattle.tfrules_command.proofs.report.show_issues.Goals as goal
 

@@ -1,6 +1,6 @@
 use Rattle.std.proofs.Common.{◌∙◌, ap}
 use Rattle.tfrules_command.specs.Inner.Pieces.{opening_words}
-use Rattle.tfrules_command.proofs.PieceLemmas.{line_written}
+use Rattle.tfrules_command.proofs.ReportPieceLemmas.{line_written}
 use Rattle.tfrules_command.proofs.report.write_issue.Goals as goal
 
 pub returns-clause-took : goal.returns-clause-took

@@ -1,6 +1,6 @@
 use Rattle.std.proofs.Common.{◌∙◌}
 use Rattle.tfrules_command.specs.Report.{issue_line}
-use Rattle.tfrules_command.proofs.PieceLemmas.{goes_on, goes_wrong, line_here}
+use Rattle.tfrules_command.proofs.ReportPieceLemmas.{goes_on, goes_wrong, line_here}
 use Rattle.tfrules_command.proofs.WriterLemmas.{all_taken}
 use Rattle.tfrules_command.proofs.report.write_issues.Goals as goal
 

@@ -1,6 +1,6 @@
 use Rattle.std.proofs.Common.{◌++◌, ap, codes}
 use Rattle.std.proofs.lemmas.List.{append-nil}
-use Rattle.tfrules_command.proofs.PieceLemmas.{retold}
+use Rattle.tfrules_command.proofs.ReportPieceLemmas.{retold}
 use Rattle.tfrules_command.proofs.report.write_line.Goals as goal
 
 pub returns-clause-took : goal.returns-clause-took

@@ -3,7 +3,7 @@ use Rattle.tf_rules.specs.Answers as rules
 use Rattle.tfrules_command.specs.Files.{numbered_files}
 use Rattle.tfrules_command.specs.Report.{report_row}
 use Rattle.tfrules_command.specs.Asked.{asking_of}
-use Rattle.tfrules_command.proofs.EndLemmas.{reported_row, rising, stopped_row}
+use Rattle.tfrules_command.proofs.EndRowLemmas.{reported_row, rising, stopped_row}
 use Rattle.tfrules_command.proofs.run.run_over.Goals as goal
 
 pub returns-in-Err-clause-row : goal.returns-in-Err-clause-row

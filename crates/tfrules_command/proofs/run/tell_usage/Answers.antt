@@ -1,4 +1,4 @@
-use Rattle.tfrules_command.proofs.EndLemmas.{help_shown}
+use Rattle.tfrules_command.proofs.EndRowLemmas.{help_shown}
 use Rattle.tfrules_command.proofs.run.tell_usage.Goals as goal
 
 pub returns-in-Help : goal.returns-in-Help

@@ -1,6 +1,6 @@
 use Rattle.std.proofs.Common.{◌∙◌, inr, map, refl, subst, sym}
 use Rattle.tree_command.specs.Ends.{IsPartOf}
-use Rattle.tree_command.proofs.RunLemmas.{formats_finished, formats_stopped}
+use Rattle.tree_command.proofs.ProgramRunLemmas.{formats_finished, formats_stopped}
 use Rattle.tree_command.proofs.run.run.Goals as goal
 
 pub returns-then-has_failed-clause-ends : goal.returns-then-has_failed-clause-ends

@@ -1,4 +1,4 @@
-use Rattle.tree_format.proofs.KeptLemmas.{text_looks}
+use Rattle.tree_format.proofs.KeptFormatLemmas.{text_looks}
 use Rattle.tree_format.proofs.look.change_source.Goals as goal
 
 pub returns-in-Ok-accepts-clause-looks : goal.returns-in-Ok-accepts-clause-looks

@@ -1,4 +1,4 @@
-use Rattle.tree_format.proofs.KeptLemmas.{visits_loaded}
+use Rattle.tree_format.proofs.KeptFormatLemmas.{visits_loaded}
 use Rattle.tree_format.proofs.look.visit.Goals as goal
 
 pub returns-in-Ok-clause-visits : goal.returns-in-Ok-clause-visits

@@ -1,6 +1,6 @@
 use Rattle.std.proofs.Common.{◌≡◌, false, subst}
 use Rattle.tree_format.specs.Runs.{Settled, is_failed}
-use Rattle.tree_format.proofs.KeptLemmas.{visit_settled}
+use Rattle.tree_format.proofs.KeptFormatLemmas.{visit_settled}
 use Rattle.tree_format.proofs.run.look.Goals as goal
 
 pub returns-in-None-clause-settled : goal.returns-in-None-clause-settled

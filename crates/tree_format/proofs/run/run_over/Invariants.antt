@@ -1,7 +1,7 @@
 use Rattle.std.proofs.Common.{◌≡◌, false, ℕ, List, take}
 use Rattle.std.specs.Prelude.{◌≢◌, All}
 use Rattle.tree_format.specs.Runs.{Kept, Settled}
-use Rattle.tree_format.proofs.RunLemmas.{SoFar}
+use Rattle.tree_format.proofs.FileRunLemmas.{SoFar}
 use Rattle.tree_format.proofs.run.run_over.Given as goal
 
 abbrev pub invariant-loop-found : goal.invariant-loop-found

@@ -1,6 +1,6 @@
 use Rattle.std.proofs.Common.{subst}
 use Rattle.hcl_tokens.specs.Balanced.{IsBalanced}
-use Rattle.hcl_grammar.proofs.BalanceLemmas.{balance}
+use Rattle.hcl_grammar.proofs.BalancedRowLemmas.{balance}
 use Rattle.hcl_grammar.proofs.accepted.Accepted.tokens.Goals as goal
 
 pub returns-clause-balanced : goal.returns-clause-balanced

@@ -2,7 +2,7 @@ use Rattle.std.proofs.Common.{[], ◌∷◌}
 use Rattle.hcl_grammar.specs.declared.expected.Newlines.TheVariants.{Seen}
 use Rattle.hcl_grammar.specs.declared.expected.Terminal.TheVariants.{EndBrace}
 use Rattle.hcl_grammar.specs.Grammar.{◌at◌, the, expr, eol}
-use Rattle.hcl_syntax.proofs.StepLemmas.{onward, beside, quits}
+use Rattle.hcl_syntax.proofs.CursorStepLemmas.{onward, beside, quits}
 use Rattle.hcl_syntax.proofs.cursor.Cursor.attribute_line.Goals as goal
 
 pub returns-in_err-expect-clause-parses : goal.returns-in_err-expect-clause-parses

@@ -1,5 +1,5 @@
 use Rattle.std.proofs.Common.{rules, refl}
-use Rattle.hcl_syntax.proofs.StepLemmas.{looks, reading, refusing, refusing-end, onward, quits, done}
+use Rattle.hcl_syntax.proofs.CursorStepLemmas.{looks, reading, refusing, refusing-end, onward, quits, done}
 use Rattle.hcl_syntax.proofs.cursor.Cursor.block.Goals as goal
 
 pub returns-in_default-clause-leads : goal.returns-in_default-clause-leads

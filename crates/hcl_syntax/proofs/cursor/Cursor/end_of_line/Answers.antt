@@ -1,5 +1,5 @@
 use Rattle.std.proofs.Common.{rules, refl}
-use Rattle.hcl_syntax.proofs.StepLemmas.{looks, reading, vanishing-end, refusing, done}
+use Rattle.hcl_syntax.proofs.CursorStepLemmas.{looks, reading, vanishing-end, refusing, done}
 use Rattle.hcl_syntax.proofs.cursor.Cursor.end_of_line.Goals as goal
 
 pub returns-in_default-clause-parses : goal.returns-in_default-clause-parses

@@ -1,5 +1,5 @@
 use Rattle.std.proofs.Common.{refl}
-use Rattle.hcl_syntax.proofs.StepLemmas.{looks, reading, refusing, refusing-end, done, row-fits, row-unfit}
+use Rattle.hcl_syntax.proofs.CursorStepLemmas.{looks, reading, refusing, refusing-end, done, row-fits, row-unfit}
 use Rattle.hcl_syntax.proofs.cursor.Cursor.expect.Goals as goal
 
 pub returns-in-None-clause-parses : goal.returns-in-None-clause-parses

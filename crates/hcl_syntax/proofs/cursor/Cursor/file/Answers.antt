@@ -1,6 +1,6 @@
 use Rattle.std.proofs.Common.{rules, arith, refl, [], ap, ◌-◌}
 use Rattle.hcl_syntax.specs.Inner.Parsing.{bodies, body_symbols}
-use Rattle.hcl_syntax.proofs.StepLemmas.{looks, onward, beside, done, renamed, bodies-newline, bodies-item, bodies-close, bodies-refuse, bodies-end, bodies-done, bodies-up, whole, whole-fault, whole-quits, refuse-close}
+use Rattle.hcl_syntax.proofs.CursorStepLemmas.{looks, onward, beside, done, renamed, bodies-newline, bodies-item, bodies-close, bodies-refuse, bodies-end, bodies-done, bodies-up, whole, whole-fault, whole-quits, refuse-close}
 use Rattle.hcl_syntax.proofs.cursor.Cursor.file.Goals as goal
 
 pub loop-token-preserved : goal.loop-token-preserved

@@ -1,5 +1,5 @@
 use Rattle.std.proofs.Common.{refl}
-use Rattle.hcl_syntax.proofs.StepLemmas.{reading, done, alike, group-dots, group-plain}
+use Rattle.hcl_syntax.proofs.CursorStepLemmas.{reading, done, alike, group-dots, group-plain}
 use Rattle.hcl_syntax.proofs.cursor.Cursor.grouping.Goals as goal
 
 pub returns-then-takes-clause-leads : goal.returns-then-takes-clause-leads

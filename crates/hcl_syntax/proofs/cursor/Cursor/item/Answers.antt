@@ -1,7 +1,7 @@
 use Rattle.std.proofs.Common.{refl, [], ◌∷◌}
 use Rattle.hcl_grammar.specs.declared.expected.Newlines.TheVariants.{Seen}
 use Rattle.hcl_grammar.specs.Grammar.{◌at◌, eol, labels, rest}
-use Rattle.hcl_syntax.proofs.StepLemmas.{reading, onward, beside, quits, done, alike, rest-equals, rest-else}
+use Rattle.hcl_syntax.proofs.CursorStepLemmas.{reading, onward, beside, quits, done, alike, rest-equals, rest-else}
 use Rattle.hcl_syntax.proofs.cursor.Cursor.item.Goals as goal
 
 pub returns-in_err-expr-clause-leads : goal.returns-in_err-expr-clause-leads

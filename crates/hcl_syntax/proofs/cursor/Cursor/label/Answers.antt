@@ -3,7 +3,7 @@ use Rattle.hcl_grammar.specs.declared.expected.Newlines.TheVariants.{Seen}
 use Rattle.hcl_grammar.specs.declared.expected.Terminal.TheVariants.{EndQuote}
 use Rattle.hcl_grammar.specs.Grammar.{◌at◌, the}
 use Rattle.hcl_syntax.proofs.LookaheadLemmas.{shown-again}
-use Rattle.hcl_syntax.proofs.StepLemmas.{looks, reading, vanishing, refusing, refusing-end, onward, beside, failed, done}
+use Rattle.hcl_syntax.proofs.CursorStepLemmas.{looks, reading, vanishing, refusing, refusing-end, onward, beside, failed, done}
 use Rattle.hcl_syntax.proofs.cursor.Cursor.label.Goals as goal
 
 pub returns-in_default-clause-parses : goal.returns-in_default-clause-parses

@@ -1,7 +1,7 @@
 use Rattle.std.proofs.Common.{rules, arith, refl, [], ◌∷◌}
 use Rattle.hcl_grammar.specs.declared.expected.Newlines.TheVariants.{Seen}
 use Rattle.hcl_grammar.specs.Grammar.{◌at◌, labels}
-use Rattle.hcl_syntax.proofs.StepLemmas.{looks, reading, refusing, refusing-end, onward, beside, quits, done}
+use Rattle.hcl_syntax.proofs.CursorStepLemmas.{looks, reading, refusing, refusing-end, onward, beside, quits, done}
 use Rattle.hcl_syntax.proofs.cursor.Cursor.labels.Goals as goal
 
 pub returns-in_default-clause-leads : goal.returns-in_default-clause-leads

@@ -2,7 +2,7 @@ use Rattle.std.proofs.Common.{refl, [], ◌∷◌}
 use Rattle.hcl_grammar.specs.declared.expected.Newlines.TheVariants.{Dropped}
 use Rattle.hcl_grammar.specs.declared.expected.Terminal.TheVariants.{Name, InWord, CommaSign}
 use Rattle.hcl_grammar.specs.Grammar.{◌at◌, the}
-use Rattle.hcl_syntax.proofs.StepLemmas.{reading, onward, beside, quits, done, begins, the-stays, names-in, names-else}
+use Rattle.hcl_syntax.proofs.CursorStepLemmas.{reading, onward, beside, quits, done, begins, the-stays, names-in, names-else}
 use Rattle.hcl_syntax.proofs.cursor.Cursor.more_names.Goals as goal
 
 pub returns-then-takes-clause-parses : goal.returns-then-takes-clause-parses

@@ -1,7 +1,7 @@
 use Rattle.std.proofs.Common.{[], ◌∷◌}
 use Rattle.hcl_grammar.specs.declared.expected.Newlines.TheVariants.{Dropped}
 use Rattle.hcl_grammar.specs.Grammar.{◌at◌, names}
-use Rattle.hcl_syntax.proofs.StepLemmas.{onward, beside, quits}
+use Rattle.hcl_syntax.proofs.CursorStepLemmas.{onward, beside, quits}
 use Rattle.hcl_syntax.proofs.cursor.Cursor.names.Goals as goal
 
 pub returns-in_err-expect-clause-parses : goal.returns-in_err-expect-clause-parses

@@ -1,6 +1,6 @@
 use Rattle.std.proofs.Common.{rules, arith, refl, [], ◌∷◌}
 use Rattle.hcl_grammar.specs.Grammar.{◌at◌, path}
-use Rattle.hcl_syntax.proofs.StepLemmas.{looks, reading, refusing, refusing-end, onward, beside, quits, done}
+use Rattle.hcl_syntax.proofs.CursorStepLemmas.{looks, reading, refusing, refusing-end, onward, beside, quits, done}
 use Rattle.hcl_syntax.proofs.cursor.Cursor.path.Goals as goal
 
 pub returns-in_err-expect-clause-leads : goal.returns-in_err-expect-clause-leads

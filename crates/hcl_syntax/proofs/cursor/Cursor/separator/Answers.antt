@@ -1,5 +1,5 @@
 use Rattle.std.proofs.Common.{rules, refl}
-use Rattle.hcl_syntax.proofs.StepLemmas.{reading, done, looks, refusing, refusing-end}
+use Rattle.hcl_syntax.proofs.CursorStepLemmas.{reading, done, looks, refusing, refusing-end}
 use Rattle.hcl_syntax.proofs.cursor.Cursor.separator.Goals as goal
 
 pub returns-in-None-clause-parses : goal.returns-in-None-clause-parses

@@ -1,5 +1,5 @@
 use Rattle.std.proofs.Common.{rules, arith}
-use Rattle.hcl_syntax.proofs.StepLemmas.{looks, reading, onward, dropping, done}
+use Rattle.hcl_syntax.proofs.CursorStepLemmas.{looks, reading, onward, dropping, done}
 use Rattle.hcl_syntax.proofs.LookaheadLemmas.{shown-again}
 use Rattle.hcl_syntax.proofs.cursor.Cursor.start.Goals as goal
 

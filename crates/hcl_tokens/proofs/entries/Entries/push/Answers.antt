@@ -2,7 +2,7 @@ use Rattle.std.proofs.Common.{◌≡◌, ◌+◌, ◌-◌, ◌==◌, ◌++◌, �
 use Rattle.std.specs.Vec.{vec_len}
 use Rattle.hcl_tokens.specs.Inner.KeptEntries.{entries_of, long_mark}
 use Rattle.hcl_tokens.specs.declared.entries.Kept.{Kept}
-use Rattle.hcl_tokens.proofs.EntryLemmas.{ended, short_pushed}
+use Rattle.hcl_tokens.proofs.TokenEntryLemmas.{ended, short_pushed}
 use Rattle.hcl_tokens.proofs.entries.Entries.push.Goals as goal
 
 pub returns-clause-pushed : goal.returns-clause-pushed

@@ -1,6 +1,6 @@
 use Rattle.std.proofs.Common.{◌≡◌, ◌+◌, ◌-◌, ◌++◌, ◌∷◌, [], ◌∙◌, ap, refl, rules, arith}
 use Rattle.hcl_tokens.specs.Inner.KeptEntries.{entries_of}
-use Rattle.hcl_tokens.proofs.EntryLemmas.{ended, long_pushed}
+use Rattle.hcl_tokens.proofs.TokenEntryLemmas.{ended, long_pushed}
 use Rattle.hcl_tokens.proofs.entries.Entries.push_long.Goals as goal
 
 pub returns-in-Ok-clause-pushed : goal.returns-in-Ok-clause-pushed

@@ -1,9 +1,10 @@
 use Rattle.std.proofs.Common.{◌≡◌, ◌∙◌, ap, ap₂, sym, subst, List, Bool, not, map, filter}
 use Rattle.std.proofs.lemmas.Result.{IfOk-weaker}
-use Rattle.tf_rules.specs.Answers.{AreIssues, answered}
+use Rattle.tf_rules.specs.Answers.{AreIssues, shown_issue}
 use Rattle.tf_facts.specs.Comments.{Comment}
-use Rattle.tf_rules.specs.Issues.{Asked, Issue, Place, asked_of, is_silenced, issues, reported}
-use Rattle.tf_rules.specs.Kept.{Kept, issues_of_kept, reported_of_kept}
+use Rattle.tf_rules.specs.Issues.{Asked, Issue, Place, asked_of, is_silenced, issues, reported_issues}
+use Rattle.tf_rules.specs.Kept.{Kept}
+use Rattle.tf_rules.specs.KeptIssues.{issues_of_kept, reported_of_kept}
 use Rattle.tf_rules.specs.Ordered.{Ascends}
 use Rattle.tf_rules.specs.Inner.Entries.{issues_of}
 use Rattle.tf_rules.specs.Inner.KeptViews.{kept_comment}
@@ -23,11 +24,11 @@ returns c = λ files kept rising.
     issues_of_kept_is asked files
     ∙ ap (issues_of_kept asked) (sym kept)
     ∙ ap₂ (λ (cs : List (Comment Place)) (is : List Issue). filter (λ i. not (is_silenced cs i)) is) told (sym c.in_ok-entries.ensures) in
-    let all : reported asked files ≡ found = reported_is asked files ∙ ap (reported_of_kept asked) (sym kept) ∙ sym c.in_ok-entries.ensures in
+    let all : reported_issues asked files ≡ found = reported_is asked files ∙ ap (reported_of_kept asked) (sym kept) ∙ sym c.in_ok-entries.ensures in
     let apart : Ascends Differ found = subst (λ (is : List Issue). Ascends Differ is) all (reported_apart c.args.settings.now files rising) in
-    IfOk-weaker c.shown.result (λ answer. answer.items ≡ map answered (filter p (issues_of c.as_slice.result.now))) (λ answer. AreIssues asked files answer.items)
+    IfOk-weaker c.shown.result (λ answer. answer.items ≡ map shown_issue (filter p (issues_of c.as_slice.result.now))) (λ answer. AreIssues asked files answer.items)
     (λ answer e. record {
       report = filter p (issues_of c.in_ok-sorted.sorted.items);
       is = is_report asked files p c.in_ok-entries.entries.items c.in_ok-sorted.sorted.items is apart c.in_ok-sorted.ensures.all c.in_ok-sorted.ensures.ordered;
-      same = sym (e ∙ ap (λ es. map answered (filter p (issues_of es))) c.as_slice.ensures.value);
+      same = sym (e ∙ ap (λ es. map shown_issue (filter p (issues_of es))) c.as_slice.ensures.value);
     }) (c.shown.ensures comments c.in_ok-lines.ensures)

@@ -16,7 +16,7 @@ use Rattle.hcl_tokens.specs.declared.token.Kind.{Kind}
 use Rattle.hcl_scan.proofs.WordLemmas.{all_to}
 use Rattle.hcl_scan.proofs.WayLemmas.{mark_passes}
 use Rattle.hcl_scan.proofs.NumeralLemmas.{all_at, inside, powers, Powers, is_e}
-use Rattle.hcl_scan.proofs.CommentLemmas.{goes_on}
+use Rattle.hcl_scan.proofs.CommentTextLemmas.{goes_on}
 
 abbrev pub is_low : ℕ → Bool
 is_low b = nat_lt b 128

@@ -1,10 +1,10 @@
 -- Accepted tokens of a scan are balanced.
 use Rattle.std.proofs.Common.{◌≡◌, ℕ, ◌+◌, ◌≤◌, List, [], ◌∷◌, ◌++◌, length, arith, subst, sym, ap, ◌∙◌}
-use Rattle.hcl_tokens.specs.Lexemes.{Lexeme, Opener, Quote, Heredoc, moved, opened}
+use Rattle.hcl_tokens.specs.Lexemes.{Lexeme, Opener, Quote, Heredoc, open_after, open_after_all}
 use Rattle.hcl_tokens.specs.Scans.{Scans}
 use Rattle.hcl_tokens.specs.declared.token.Kind.{Kind}
 use Rattle.hcl_tokens.specs.declared.token.Kind.TheVariants.{ParenOpen, ParenClose, BracketClose, SeqClose, BraceClose, QuoteClose, HeredocClose}
-use Rattle.hcl_tokens.proofs.RunLemmas.{scan_bounded}
+use Rattle.hcl_tokens.proofs.OneReadingLemmas.{scan_bounded}
 use Rattle.hcl_grammar.specs.Classes.{class_at}
 use Rattle.hcl_grammar.specs.Verdict.{IsAccepted}
 use Rattle.hcl_tokens.specs.Balanced.{max_open, opening, closing, openers, closers, IsWithin, IsBalanced}
@@ -28,22 +28,22 @@ pub counted : (k : Kind) (text : List ℕ) (a b : List Opener) → Shift (class_
 counted ParenOpen text a b h = omega (arith, ap groups h)
 counted k text a b h = omega (arith, ap groups h)
 
-pub shifted : (k : Kind) (text : List ℕ) (a b : List Opener) → Shift (class_at k text) a b → moved k a ≡ b
-shifted ParenClose text a b h = ap (λ l. moved ParenClose l) h
-shifted BracketClose text a b h = ap (λ l. moved BracketClose l) h
-shifted BraceClose text a b h = ap (λ l. moved BraceClose l) h
-shifted SeqClose text a b h = ap (λ l. moved SeqClose l) h
-shifted QuoteClose text a b h = ap (λ l. moved QuoteClose l) h
-shifted HeredocClose text a b h = ap (λ l. moved HeredocClose l) h
+pub shifted : (k : Kind) (text : List ℕ) (a b : List Opener) → Shift (class_at k text) a b → open_after k a ≡ b
+shifted ParenClose text a b h = ap (λ l. open_after ParenClose l) h
+shifted BracketClose text a b h = ap (λ l. open_after BracketClose l) h
+shifted BraceClose text a b h = ap (λ l. open_after BraceClose l) h
+shifted SeqClose text a b h = ap (λ l. open_after SeqClose l) h
+shifted QuoteClose text a b h = ap (λ l. open_after QuoteClose l) h
+shifted HeredocClose text a b h = ap (λ l. open_after HeredocClose l) h
 shifted k text a b h = sym h
 
 all-counted : (ps : List Lexeme) (a b : List Opener) → Shifts ps a b → openers ps + groups a ≡ closers ps + groups b
 all-counted [] a b h = omega (arith, ap groups h)
 all-counted (t ∷ ps) a b h = omega (arith, counted t.kind t.text a h.0 h.1, all-counted ps h.0 b h.2)
 
-all-shifted : (ps : List Lexeme) (a b : List Opener) → Shifts ps a b → opened a ps ≡ b
+all-shifted : (ps : List Lexeme) (a b : List Opener) → Shifts ps a b → open_after_all a ps ≡ b
 all-shifted [] a b h = h
-all-shifted (t ∷ ps) a b h = ap (λ l. opened l ps) (shifted t.kind t.text a h.0 h.1) ∙ all-shifted ps h.0 b h.2
+all-shifted (t ∷ ps) a b h = ap (λ l. open_after_all l ps) (shifted t.kind t.text a h.0 h.1) ∙ all-shifted ps h.0 b h.2
 
 within : (text : List ℕ) (front back : List Lexeme) → Scans text (front ++ back) → IsAccepted (front ++ back) → IsWithin front
 within text front back scans accepted =

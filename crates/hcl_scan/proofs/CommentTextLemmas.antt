@@ -9,7 +9,7 @@ use Rattle.std.proofs.lemmas.Bool.Decides.{nat_tests}
 use Rattle.hcl_tokens.specs.Spelling.{starts, Holds, IsLineComment, IsInlineComment}
 use Rattle.hcl_scan.specs.Inner.Found.{IsLongestFront, HasNoFront, EndsComment}
 use Rattle.hcl_tokens.proofs.BooleanLemmas.{and_true, or_cases}
-use Rattle.hcl_scan.proofs.FrontLemmas.{begins, longest_is, run_passes, run_longest}
+use Rattle.hcl_scan.proofs.LongestFrontLemmas.{begins, longest_is, run_passes, run_longest}
 
 -- comments up to the end of the line
 abbrev pub goes_on : ℕ → Bool

@@ -13,7 +13,7 @@ use Rattle.hcl_syntax.specs.Inner.Cursors.{shown, first, after_first, Looks}
 use Rattle.hcl_syntax.proofs.LookaheadLemmas.{shown-shown}
 use Rattle.hcl_grammar.specs.declared.class.Word.{Word}
 use Rattle.hcl_grammar.specs.Grammar.{Symbol, Marked, ◌at◌, Action, ◌then◌, none, nothing, reads, opens, closes, row, ends, the, fits, expr, expr_row, args_row, arg_next, tuple_row, tuple_item_row, tuple_next, tuple_if, tuple_if_row, object, object_row, object_item, object_item_row, object_next, object_if, object_if_row, group, group_row, separator, names, index_row, names_row, terminal_row, rest, rest_row, labels_row, file_row, body_row, eol, file, body, directive, directive_row, inside, section_directive_row}
-use Rattle.hcl_grammar.specs.Predictor.{max_directives, ending, Effect, on, stop, opening_directive, taken, effect, next, run}
+use Rattle.hcl_grammar.specs.Predictor.{max_directives, ending, Effect, on, stop, opening_directive, row_effect, effect, next, run}
 use Rattle.hcl_syntax.specs.Inner.Parsing.{turning, turning_row, outcome, Advances, bodies, Ends, waits}
 use Rattle.hcl_grammar.specs.declared.class.Word.TheVariants.{For, In, If, Else, Endif, Endfor}
 use Rattle.hcl_grammar.specs.declared.expected.Section.{Section}
@@ -23,16 +23,16 @@ use Rattle.hcl_syntax.specs.declared.expected.Turning.TheVariants.{Onward, Closi
 use Rattle.hcl_grammar.specs.declared.expected.Terminal.{Terminal}
 
 pub run-row : (count : ℕ) (s : Symbol) (m : Newlines) (ss : List Marked) (t : Lookahead) (ts : List Lookahead) → drops m t.class ≡ false →
-    run count (s at m ∷ ss) (t ∷ ts) ≡ next (taken count (row s m t) ss (effect count ss t) t) (λ o rest. run o rest ts)
+    run count (s at m ∷ ss) (t ∷ ts) ≡ next (row_effect count (row s m t) ss (effect count ss t) t) (λ o rest. run o rest ts)
 unfolding run
-run-row count s m ss t ts shown = ap (λ b. next (cond b (on count (s at m ∷ ss)) (taken count (row s m t) ss (effect count ss t) t)) (λ o rest. run o rest ts)) shown
+run-row count s m ss t ts shown = ap (λ b. next (cond b (on count (s at m ∷ ss)) (row_effect count (row s m t) ss (effect count ss t) t)) (λ o rest. run o rest ts)) shown
 
 -- a symbol that drops newlines passes over them
 shown-by : (count : ℕ) (s : Symbol) (m : Newlines) (ss : List Marked) (t : Lookahead) (ts : List Lookahead) (b : Bool) → drops m t.class ≡ b →
     run count (s at m ∷ ss) ts ≡ run count (s at m ∷ ss) (shown m ts) →
     run count (s at m ∷ ss) (t ∷ ts) ≡ run count (s at m ∷ ss) (cond b (shown m ts) (t ∷ ts))
 unfolding run
-shown-by count s m ss t ts true e h = ap (λ b. next (cond b (on count (s at m ∷ ss)) (taken count (row s m t) ss (effect count ss t) t)) (λ o rest. run o rest ts)) e ∙ h
+shown-by count s m ss t ts true e h = ap (λ b. next (cond b (on count (s at m ∷ ss)) (row_effect count (row s m t) ss (effect count ss t) t)) (λ o rest. run o rest ts)) e ∙ h
 shown-by count s m ss t ts false e h = refl
 
 pub run-shown : (count : ℕ) (s : Symbol) (m : Newlines) (ss : List Marked) (ts : List Lookahead) → run count (s at m ∷ ss) ts ≡ run count (s at m ∷ ss) (shown m ts)
@@ -58,13 +58,13 @@ looks m old new left t shows found bumped =
     record { is = list-first (shown m old) t f ∙ (cc); kept = kept m old t f }
 
 run-looks : (count : ℕ) (s : Symbol) (m : Newlines) (ss : List Marked) {old : List Lookahead} {t : Lookahead} {ts : List Lookahead} → Looks m old t ts →
-    run count (s at m ∷ ss) old ≡ next (taken count (row s m t) ss (effect count ss t) t) (λ o rest. run o rest ts)
+    run count (s at m ∷ ss) old ≡ next (row_effect count (row s m t) ss (effect count ss t) t) (λ o rest. run o rest ts)
 run-looks count s m ss looks = run-shown count s m ss _ ∙ ap (λ l. run count (s at m ∷ ss) l) looks.is ∙ run-row count s m ss _ _ looks.kept
 
 -- The row of the first symbol reads the token.
 pub reading : {A : Type 0} {count : ℕ} {s : Symbol} {m : Newlines} {xs ys : List Marked} {old left new : List Lookahead} {t : Lookahead} {r : Result A Refusal} →
     Looks m old t left → row s m t ≡ reads xs → Advances count xs left r ys new → Advances count (s at m ∷ []) old r ys new
-reading {count = count} {s = s} {m = m} {left = left} {t = t} l e h = record { same = λ behind. run-looks count s m behind l ∙ ap (λ r. next (taken count r behind (effect count behind t) t) (λ o rest. run o rest left)) e ∙ h.same behind }
+reading {count = count} {s = s} {m = m} {left = left} {t = t} l e h = record { same = λ behind. run-looks count s m behind l ∙ ap (λ r. next (row_effect count r behind (effect count behind t) t) (λ o rest. run o rest left)) e ∙ h.same behind }
 
 -- The row takes the symbol away.
 run-same : (count : ℕ) (ss : List Marked) (t : Lookahead) (ts : List Lookahead) → next (effect count ss t) (λ o rest. run o rest ts) ≡ run count ss (t ∷ ts)
@@ -73,12 +73,12 @@ run-same count ss t ts = refl
 
 pub vanishing : {A : Type 0} {a : A} {count : ℕ} {s : Symbol} {m : Newlines} {old left new : List Lookahead} {t : Lookahead} →
     Looks m old t left → row s m t ≡ nothing → new ≡ shown m old → Advances count (s at m ∷ []) old (Ok a) [] new
-vanishing {count = count} {s = s} {m = m} {left = left} {t = t} l e shows = record { same = λ behind. run-looks count s m behind l ∙ ap (λ r. next (taken count r behind (effect count behind t) t) (λ o rest. run o rest left)) e ∙ run-same count behind t left ∙ ap (λ ts. run count behind ts) (sym l.is ∙ sym shows) }
+vanishing {count = count} {s = s} {m = m} {left = left} {t = t} l e shows = record { same = λ behind. run-looks count s m behind l ∙ ap (λ r. next (row_effect count r behind (effect count behind t) t) (λ o rest. run o rest left)) e ∙ run-same count behind t left ∙ ap (λ ts. run count behind ts) (sym l.is ∙ sym shows) }
 
 -- There is no row.
 pub refusing : {A : Type 0} {count : ℕ} {s : Symbol} {m : Newlines} {ys : List Marked} {old left new : List Lookahead} {t : Lookahead} →
     Looks m old t left → row s m t ≡ none → Advances {A = A} count (s at m ∷ []) old (Err (UnexpectedToken t.number)) ys new
-refusing {count = count} {s = s} {m = m} {left = left} {t = t} l e = record { same = λ behind. run-looks count s m behind l ∙ ap (λ r. next (taken count r behind (effect count behind t) t) (λ o rest. run o rest left)) e }
+refusing {count = count} {s = s} {m = m} {left = left} {t = t} l e = record { same = λ behind. run-looks count s m behind l ∙ ap (λ r. next (row_effect count r behind (effect count behind t) t) (λ o rest. run o rest left)) e }
 
 -- The end of input.
 run-end : (count : ℕ) (ss : List Marked) → run count ss [] ≡ ending ss
@@ -152,7 +152,7 @@ directive-stays p m t = directive-stays-at p m t.class
     directive-stays-at p m (Ident For) = refl
     directive-stays-at p m _ = refl
 
-taken-then : (count : ℕ) (r : Action) (ys behind : List Marked) (p q : Effect) (t : Lookahead) → vanishes r ≡ false → taken count (r then ys) behind p t ≡ taken count r (ys ++ behind) q t
+taken-then : (count : ℕ) (r : Action) (ys behind : List Marked) (p q : Effect) (t : Lookahead) → vanishes r ≡ false → row_effect count (r then ys) behind p t ≡ row_effect count r (ys ++ behind) q t
 taken-then count none ys behind p q t h = refl
 taken-then count nothing ys behind p q t h = cc
 taken-then count (reads xs) ys behind p q t h = ap (λ l. on count l) (append_assoc xs ys behind)
@@ -166,7 +166,7 @@ unfolding run
 begins-at count s s' m ys behind old [] e e' v f shows = run-shown count s m behind old ∙ ap (λ l. run count (s at m ∷ behind) l) (sym shows) ∙ ap (λ b. cond b (ending behind) (Some UnexpectedEnd)) e ∙ sym (ap (λ b. cond b (ending (ys ++ behind)) (Some UnexpectedEnd)) e')
 begins-at count s s' m ys behind old (t ∷ ts) e e' v f shows =
     let l : Looks m old t ts = looks m old (t ∷ ts) ts t shows refl refl in
-    run-looks count s m behind l ∙ ap (λ r. next (taken count r behind (effect count behind t) t) (λ o rest. run o rest ts)) (f t refl)
+    run-looks count s m behind l ∙ ap (λ r. next (row_effect count r behind (effect count behind t) t) (λ o rest. run o rest ts)) (f t refl)
     ∙ ap (λ x. next x (λ o rest. run o rest ts)) (taken-then count (row s' m t) ys behind (effect count behind t) (effect count (ys ++ behind) t) t (v t))
     ∙ sym (run-row count s' m (ys ++ behind) t ts l.kept)
 
@@ -181,7 +181,7 @@ unfolding run
 alike-at count s s' m behind old [] e f shows = run-shown count s m behind old ∙ ap (λ l. run count (s at m ∷ behind) l) (sym shows) ∙ ap (λ b. cond b (ending behind) (Some UnexpectedEnd)) e
 alike-at count s s' m behind old (t ∷ ts) e f shows =
     let l : Looks m old t ts = looks m old (t ∷ ts) ts t shows refl refl in
-    run-looks count s m behind l ∙ ap (λ r. next (taken count r behind (effect count behind t) t) (λ o rest. run o rest ts)) (f t refl)
+    run-looks count s m behind l ∙ ap (λ r. next (row_effect count r behind (effect count behind t) t) (λ o rest. run o rest ts)) (f t refl)
     ∙ sym (run-row count s' m behind t ts l.kept)
 
 pub alike : {A : Type 0} {a : A} {count : ℕ} {s s' : Symbol} {m : Newlines} {old mid : List Lookahead} → ends s ≡ ends s' →
@@ -238,21 +238,21 @@ names-else m _ h = refl
 pub opening-row : {A : Type 0} {count : ℕ} {s : Symbol} {m : Newlines} {p : ℕ} {xs : List Marked} {old left new : List Lookahead} {t : Lookahead} {r : Result A Refusal} →
     Looks m old t left → row s m t ≡ opens p xs → count < max_directives → Ends count xs left r new → Advances count (s at m ∷ []) old r [] new
 opening-row {count = count} {s = s} {m = m} {p = p} {xs = xs} {left = left} {t = t} l e few h = record {
-  same = λ behind. run-looks count s m behind l ∙ ap (λ r. next (taken count r behind (effect count behind t) t) (λ o rest. run o rest left)) e
+  same = λ behind. run-looks count s m behind l ∙ ap (λ r. next (row_effect count r behind (effect count behind t) t) (λ o rest. run o rest left)) e
       ∙ ap (λ b. next (cond b (on (count + 1) (xs ++ behind)) (stop (TooDeep p))) (λ o rest. run o rest left)) (lt-ltb count max_directives few) ∙ h.same behind;
 }
 
 pub too-deep : {A : Type 0} {count : ℕ} {s : Symbol} {m : Newlines} {p : ℕ} {xs ys : List Marked} {old left new : List Lookahead} {t : Lookahead} →
     Looks m old t left → row s m t ≡ opens p xs → max_directives ≤ count → Advances {A = A} count (s at m ∷ []) old (Err (TooDeep p)) ys new
 too-deep {count = count} {s = s} {m = m} {p = p} {xs = xs} {left = left} {t = t} l e many = record {
-  same = λ behind. run-looks count s m behind l ∙ ap (λ r. next (taken count r behind (effect count behind t) t) (λ o rest. run o rest left)) e
+  same = λ behind. run-looks count s m behind l ∙ ap (λ r. next (row_effect count r behind (effect count behind t) t) (λ o rest. run o rest left)) e
       ∙ ap (λ b. next (cond b (on (count + 1) (xs ++ behind)) (stop (TooDeep p))) (λ o rest. run o rest left)) (le-ltb count max_directives many);
 }
 
 pub closing : {A : Type 0} {count : ℕ} {s : Symbol} {m : Newlines} {xs : List Marked} {old left new : List Lookahead} {t : Lookahead} {r : Result A Refusal} →
     Looks m old t left → row s m t ≡ closes xs → Advances count xs left r [] new → Ends count (s at m ∷ []) old r new
 closing {count = count} {s = s} {m = m} {xs = xs} {left = left} {t = t} l e h = record {
-  same = λ behind. run-looks (count + 1) s m behind l ∙ ap (λ r. next (taken (count + 1) r behind (effect (count + 1) behind t) t) (λ o rest. run o rest left)) e
+  same = λ behind. run-looks (count + 1) s m behind l ∙ ap (λ r. next (row_effect (count + 1) r behind (effect (count + 1) behind t) t) (λ o rest. run o rest left)) e
       ∙ ap (λ n. run n (xs ++ behind) left) (omega arith) ∙ h.same behind;
 }
 
@@ -409,7 +409,7 @@ item-passes t e = item-passes-at t.class e
 passes-by : (count : ℕ) (s : Symbol) (ss : List Marked) (t : Lookahead) (ts : List Lookahead) (b : Bool) → drops Dropped t.class ≡ b → PassesNewlines s →
     run count (s at Seen ∷ ss) ts ≡ run count (s at Seen ∷ ss) (shown Dropped ts) →
     run count (s at Seen ∷ ss) (t ∷ ts) ≡ run count (s at Seen ∷ ss) (cond b (shown Dropped ts) (t ∷ ts))
-passes-by count s ss t ts true e p h = run-row count s Seen ss t ts refl ∙ ap (λ r. next (taken count r ss (effect count ss t) t) (λ o rest. run o rest ts)) (p t e) ∙ h
+passes-by count s ss t ts true e p h = run-row count s Seen ss t ts refl ∙ ap (λ r. next (row_effect count r ss (effect count ss t) t) (λ o rest. run o rest ts)) (p t e) ∙ h
 passes-by count s ss t ts false e p h = refl
 
 passes : (count : ℕ) (s : Symbol) (ss : List Marked) (ts : List Lookahead) → PassesNewlines s → run count (s at Seen ∷ ss) ts ≡ run count (s at Seen ∷ ss) (shown Dropped ts)

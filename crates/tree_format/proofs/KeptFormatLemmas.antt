@@ -16,16 +16,17 @@ use Rattle.hcl_grammar.specs.declared.refusal.Refusal.{Refusal}
 use Rattle.hcl_source.proofs.LoadLemmas.{text_or_fault, too_large_too}
 use Rattle.hcl_tokens.specs.Lexemes.{Lexeme}
 use Rattle.hcl_tokens.specs.Scans.{Scans}
-use Rattle.hcl_tokens.proofs.RunLemmas.{no_fault, one_scan}
+use Rattle.hcl_tokens.proofs.OneReadingLemmas.{no_fault, one_scan}
 use Rattle.std.specs.Prelude.{All, get_or, take, ◌+◌}
 use Rattle.std.proofs.lemmas.List.Elements.{All-more, All-weaker}
 use Rattle.hcl_scan.proofs.SpellingLemmas.{one_kind}
 use Rattle.hcl_tokens.proofs.NonemptyLemmas.{nonempty}
 use Rattle.hcl_layout.specs.Print.{print}
 use Rattle.layout_laws.specs.Reprinted.{printed_tokens}
-use Rattle.layout_laws.proofs.PlaceLemmas.{print_again}
+use Rattle.layout_laws.proofs.ForgetPlaceLemmas.{print_again}
 use Rattle.layout_laws.proofs.RescanLemmas.{scans_again}
-use Rattle.file_tree.specs.Files.{Faults, Files, Name, Tells, fault_of_reader, noted, put}
+use Rattle.file_tree.specs.Files.{Faults, Files, Name, fault_of_reader, with_fault, put}
+use Rattle.hcl_source.specs.Devices.{Tells}
 use Rattle.file_tree.specs.declared.fault.TreeFault.{TreeFault}
 use Rattle.file_tree.specs.declared.fault.TreeFault.TheVariants.{OutOfMemory}
 use Rattle.file_tree.specs.declared.tree.Writing.{Writing}
@@ -361,10 +362,10 @@ safe_kept Diff a b k = safe_same a b k
 
 -- ---- failures are real
 
-pub notes_call : (before after : Faults) (answer : Outcome) → after ≡ noted before (failure_of answer) → Notes before after answer
+pub notes_call : (before after : Faults) (answer : Outcome) → after ≡ with_fault before (failure_of answer) → Notes before after answer
 notes_call before after answer e = record { is = inl e }
 
-pub notes_fault : (before after : Faults) (fault : TreeFault) → after ≡ noted before (Some fault) → Notes before after (outcome.Failed fault)
+pub notes_fault : (before after : Faults) (fault : TreeFault) → after ≡ with_fault before (Some fault) → Notes before after (outcome.Failed fault)
 notes_fault before after fault e = record { is = inl e }
 
 pub notes_memory : (before after : Faults) (fault : TreeFault) → after ≡ before → fault ≡ OutOfMemory → Notes before after (outcome.Failed fault)
@@ -379,10 +380,10 @@ notes_shown before after given s (outcome.Failed fault) e shown = notes_memory b
 
 -- a reader is given back
 pub notes_load : (before after : Faults) (failed : Bool) (loaded : Result (List ℕ) LoadError) (answer : Result (List ℕ) Outcome)
-    → after ≡ noted before (fault_of_reader failed) → failed ≡ is_failed_load loaded → answer ≡ outcome_by loaded → LoadNotes before after answer
-notes_load before after failed loaded answer e f is = subst (LoadNotes before after) (sym is) (by loaded (e ∙ ap (λ v. noted before (fault_of_reader v)) f))
+    → after ≡ with_fault before (fault_of_reader failed) → failed ≡ is_failed_load loaded → answer ≡ outcome_by loaded → LoadNotes before after answer
+notes_load before after failed loaded answer e f is = subst (LoadNotes before after) (sym is) (by loaded (e ∙ ap (λ v. with_fault before (fault_of_reader v)) f))
   where
-    by : (loaded : Result (List ℕ) LoadError) → after ≡ noted before (fault_of_reader (is_failed_load loaded)) → LoadNotes before after (outcome_by loaded)
+    by : (loaded : Result (List ℕ) LoadError) → after ≡ with_fault before (fault_of_reader (is_failed_load loaded)) → LoadNotes before after (outcome_by loaded)
     by (Ok text) e = e
     by (Err (error.Fault fault)) e = record { is = inl e }
     by (Err error.ReadFailed) e = record { is = inl e }

@@ -7,7 +7,7 @@ use Rattle.hcl_tokens.specs.Kinds.{is}
 use Rattle.hcl_tokens.specs.Lexemes.{Lexeme}
 use Rattle.hcl_tokens.specs.declared.token.Kind.{Kind}
 use Rattle.hcl_tokens.specs.declared.token.Kind.TheVariants as kind
-use Rattle.hcl_grammar.specs.Numbered.{Numbered, numbered_from, uncommented, is_comment}
+use Rattle.hcl_grammar.specs.Numbered.{Numbered, numbered_from, without_comments, is_comment}
 use Rattle.hcl_grammar.proofs.NumberedLemmas.{drop_at, number_of}
 use Rattle.hcl_syntax.specs.Inner.Pieces.{between, words}
 
@@ -58,14 +58,14 @@ between_parts ts from mid to h k =
 -- ---- without comments
 
 pub words_parts : (ts : List Lexeme) (from mid to : ℕ) → from ≤ mid → mid ≤ to → words ts from to ≡ words ts from mid ++ words ts mid to
-words_parts ts from mid to h k = ap uncommented (between_parts ts from mid to h k) ∙ filter-append (λ t. not (is_comment t.kind)) (between ts from mid) (between ts mid to)
+words_parts ts from mid to h k = ap without_comments (between_parts ts from mid to h k) ∙ filter-append (λ t. not (is_comment t.kind)) (between ts from mid) (between ts mid to)
 
 pub words_none : (ts : List Lexeme) (from to : ℕ) → to ≤ from → words ts from to ≡ []
-words_none ts from to h = ap uncommented (between_none ts from to h)
+words_none ts from to h = ap without_comments (between_none ts from to h)
 
 pub words_step : (ts : List Lexeme) (from to : ℕ) (t : Lexeme) → slice_get ts from ≡ Some t → from < to
     → words ts from to ≡ cond (not (is_comment t.kind)) (number_of from t ∷ words ts (from + 1) to) (words ts (from + 1) to)
-words_step ts from to t e h = ap uncommented (between_here ts from to t e h)
+words_step ts from to t e h = ap without_comments (between_here ts from to t e h)
 
 -- a comment
 pub words_past : (ts : List Lexeme) (from to : ℕ) (t : Lexeme) → slice_get ts from ≡ Some t → from < to → is_comment t.kind ≡ true → words ts from to ≡ words ts (from + 1) to

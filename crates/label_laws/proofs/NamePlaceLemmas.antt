@@ -7,8 +7,8 @@ use Rattle.hcl_tokens.specs.declared.token.Kind.{Kind}
 use Rattle.hcl_tokens.specs.declared.token.Kind.TheVariants as kind
 use Rattle.hcl_grammar.specs.Classes.{class_at, drops, is_trivia}
 use Rattle.hcl_grammar.specs.Grammar.{Symbol, the, after, after_ident, step, section_directive, Marked, ◌at◌, none, reads, row_of, fits}
-use Rattle.hcl_grammar.specs.Numbered.{Numbered, is_comment, is_passed_over, significant, uncommented}
-use Rattle.hcl_grammar.specs.Predictor.{on, effect, taken}
+use Rattle.hcl_grammar.specs.Numbered.{Numbered, is_comment, is_passed_over, significant, without_comments}
+use Rattle.hcl_grammar.specs.Predictor.{on, effect, row_effect}
 use Rattle.hcl_grammar.specs.declared.class.Class.TheVariants.{Dot, Newline}
 use Rattle.hcl_grammar.specs.declared.class.Lookahead.{Lookahead}
 use Rattle.hcl_grammar.specs.declared.expected.Newlines.{Newlines}
@@ -96,7 +96,7 @@ name_next (labelled k b) q r t e turned next = let f : labelled k false ≡ q = 
 name_next (started k) q r t e turned next = let f : named k ≡ q = cc in behind_name k t r (subst (λ x. turn x t ≡ Some r) (sym f) next)
 name_next _ q r t e turned next = absurd (true≢false (sym e))
 
-pub no_dot : (ts : List Numbered) → Follows (uncommented ts) → begins_dot (significant ts) ≡ false
+pub no_dot : (ts : List Numbered) → Follows (without_comments ts) → begins_dot (significant ts) ≡ false
 no_dot [] h = refl
 no_dot (t ∷ ts) h = by t.kind refl h (no_dot ts)
   where
@@ -111,14 +111,14 @@ no_dot (t ∷ ts) h = by t.kind refl h (no_dot ts)
         other false true e h = absurd (true≢false (sym h))
         other true b e h = absurd (true≢false e)
 
-    by : (k : Kind) → t.kind ≡ k → Follows (cond (not (is_comment k)) (t ∷ uncommented ts) (uncommented ts)) → (Follows (uncommented ts) → begins_dot (significant ts) ≡ false) → Front k
+    by : (k : Kind) → t.kind ≡ k → Follows (cond (not (is_comment k)) (t ∷ without_comments ts) (without_comments ts)) → (Follows (without_comments ts) → begins_dot (significant ts) ≡ false) → Front k
     by kind.LineComment e h rest = rest h
     by kind.InlineComment e h rest = rest h
     by kind.Blank e h rest = absurd (true≢false (sym (sym (ap follows e) ∙ h)))
     by kind.Newline e h rest = absurd (true≢false (sym (sym (ap follows e) ∙ h)))
     by k e h rest = one k e refl (sym (ap follows e) ∙ h)
 
-pub name_apart : (all : List Numbered) (n : ℕ) (dot : Bool) (p : Place) (t : Numbered) (ts : List Numbered) → is_name p t.kind ≡ true → dot ≡ false → (t.kind ≡ kind.Ident → Follows (uncommented ts))
+pub name_apart : (all : List Numbered) (n : ℕ) (dot : Bool) (p : Place) (t : Numbered) (ts : List Numbered) → is_name p t.kind ≡ true → dot ≡ false → (t.kind ≡ kind.Ident → Follows (without_comments ts))
     → drop n (apart false all) ≡ apart dot (t ∷ ts) → IsApart all n
 name_apart all n dot p t ts e plain next this = ap first this ∙ by (name_kind p t.kind e)
   where
@@ -156,12 +156,12 @@ dot_steps count n later (s at m ∷ ss) us e = by (dot_row s m n)
     it : Lookahead
     it = record { class = Dot; number = n }
 
-    read : taken count (row_of s m n Dot) ss (effect count ss it) it ≡ on later us
-    read = sym (ap (λ b. cond b (on count (s at m ∷ ss)) (taken count (row_of s m n Dot) ss (effect count ss it) it)) (no_drop m)) ∙ e
+    read : row_effect count (row_of s m n Dot) ss (effect count ss it) it ≡ on later us
+    read = sym (ap (λ b. cond b (on count (s at m ∷ ss)) (row_effect count (row_of s m n Dot) ss (effect count ss it) it)) (no_drop m)) ∙ e
 
     by : (row_of s m n Dot ≡ none) ⊎ (row_of s m n Dot ≡ reads (step at m ∷ after at m ∷ [])) → steps us ≡ true
-    by (inl h) = absurd (stopped (UnexpectedToken n) later us (sym (ap (λ r. taken count r ss (effect count ss it) it) h) ∙ read))
-    by (inr h) = ap steps (landed count later (step at m ∷ after at m ∷ ss) us (sym (ap (λ r. taken count r ss (effect count ss it) it) h) ∙ read))
+    by (inl h) = absurd (stopped (UnexpectedToken n) later us (sym (ap (λ r. row_effect count r ss (effect count ss it) it) h) ∙ read))
+    by (inr h) = ap steps (landed count later (step at m ∷ after at m ∷ ss) us (sym (ap (λ r. row_effect count r ss (effect count ss it) it) h) ∙ read))
 
 newline_steps : (count n later : ℕ) (ss us : List Marked) → steps ss ≡ true → effect count ss (record { class = Newline; number = n }) ≡ on later us → steps us ≡ true
 newline_steps count n later [] us h e = absurd (true≢false (sym h))

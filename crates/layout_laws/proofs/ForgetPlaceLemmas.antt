@@ -3,17 +3,17 @@ use Rattle.std.proofs.Common.{◌≡◌, ◌∙◌, ℕ, zero, suc, ◌+◌, ◌
 use Rattle.std.specs.Prelude.{if◌then◌else◌, map, option_map, slice_set, replicate}
 use Rattle.std.specs.List.{flat_map}
 use Rattle.hcl_tokens.specs.Lexemes.{Lexeme}
-use Rattle.hcl_tokens.specs.Regapped.{without_gaps, placed}
+use Rattle.hcl_tokens.specs.Regapped.{without_gaps, placed_tokens}
 use Rattle.hcl_grammar.specs.declared.class.Lookahead.{Lookahead}
 use Rattle.hcl_grammar.specs.Classes.{class_of, lookaheads, lookaheads_from}
 use Rattle.hcl_grammar.specs.Classes.{is_trivia}
 use Rattle.hcl_layout.specs.Lines.{Line, lines, onto_line, ends_line}
 use Rattle.hcl_tokens.specs.Balanced.{closing, opening}
 use Rattle.hcl_layout.specs.Levels.{Net, levels, net_of, plus}
-use Rattle.hcl_layout.specs.Cells.{is_assignment, is_trailing, is_multiline, is_level, has_multiline, before_comment, until, found, found_from, if_level, assign_cell, running_comment, trailing_comment}
+use Rattle.hcl_layout.specs.Cells.{is_assignment, is_trailing, is_multiline, is_level, has_multiline, before_comment, until, first_place, first_place_from, if_level, assign_cell, running_comment, trailing_comment}
 use Rattle.hcl_layout.specs.Columns.{columns}
-use Rattle.hcl_layout.specs.Gaps.{blanks, clusters, gaps_after, indent, plain_gaps, width, widths, gap_to, set_gap, aligned_by, aligned, indented, line_gaps, gaps, zip_with}
-use Rattle.hcl_layout.specs.Print.{print, printed}
+use Rattle.hcl_layout.specs.Gaps.{blanks, clusters, gaps_after, indent, plain_gaps, width, widths, gap_to, set_gap, aligned_gaps_by, aligned_gaps, indented_gaps, line_gaps, gaps, zip_with}
+use Rattle.hcl_layout.specs.Print.{print, printed_text}
 use Rattle.layout_laws.specs.Reprinted.{with_gaps, printed_tokens}
 use Rattle.layout_laws.proofs.RescanLemmas.{tokens_are}
 
@@ -55,7 +55,7 @@ net_forgot [] = refl
 net_forgot (t ∷ l) = ap (λ n. plus (record { opens = opening t.kind; closes = closing t.kind }) n) (net_forgot l)
 
 -- ---- cells
-place_forgot : (test : Lexeme → Bool) → ((t : Lexeme) → test (forget t) ≡ test t) → (k : ℕ) (l : Line) → found_from test k (forgot l) ≡ found_from test k l
+place_forgot : (test : Lexeme → Bool) → ((t : Lexeme) → test (forget t) ≡ test t) → (k : ℕ) (l : Line) → first_place_from test k (forgot l) ≡ first_place_from test k l
 place_forgot test same k [] = refl
 place_forgot test same k (t ∷ l) = ap₂ (λ (v : Bool) (p : Option ℕ). if v then Some k else p) (same t) (place_forgot test same (k + 1) l)
 
@@ -84,12 +84,12 @@ level_forgot : (l : Line) (p : Option ℕ) → if_level (forgot l) p ≡ if_leve
 level_forgot l None = refl
 level_forgot l (Some i) = ap (λ n. if is_level n then Some i else None) (ap net_of (drop_forgot i l) ∙ net_forgot (drop i l))
 
-place_line : (test : Lexeme → Bool) → ((t : Lexeme) → test (forget t) ≡ test t) → (l : Line) → found test (forgot l) ≡ found test l
-place_line test same l = ap (found_from test 1) (drop_forgot 1 l) ∙ place_forgot test same 1 (drop 1 l)
+place_line : (test : Lexeme → Bool) → ((t : Lexeme) → test (forget t) ≡ test t) → (l : Line) → first_place test (forgot l) ≡ first_place test l
+place_line test same l = ap (first_place_from test 1) (drop_forgot 1 l) ∙ place_forgot test same 1 (drop 1 l)
 
 assign_forgot : (l : Line) → assign_cell (forgot l) ≡ assign_cell l
 assign_forgot l = ap₂ (λ (v : Bool) (p : Option ℕ). if v then None else p) (multiline_forgot l)
-    (ap₂ (λ (b : Line) (p : Option ℕ). if_level b p) (before_comment_forgot l) (ap (found is_assignment) (before_comment_forgot l) ∙ place_line is_assignment (λ t. refl) (before_comment l)) ∙ level_forgot (before_comment l) (found is_assignment (before_comment l)))
+    (ap₂ (λ (b : Line) (p : Option ℕ). if_level b p) (before_comment_forgot l) (ap (first_place is_assignment) (before_comment_forgot l) ∙ place_line is_assignment (λ t. refl) (before_comment l)) ∙ level_forgot (before_comment l) (first_place is_assignment (before_comment l)))
 
 trailing_forgot : (l : Line) → trailing_comment (forgot l) ≡ trailing_comment l
 trailing_forgot l = place_line is_trailing (λ t. refl) l
@@ -118,15 +118,15 @@ set_forgot : (c : Option ℕ) (gs : List ℕ) (l : Line) (column : Option ℕ) �
 set_forgot None gs l column = refl
 set_forgot (Some i) gs l column = ap (λ n. slice_set gs i (gap_to column n)) (width_forgot i gs l)
 
-aligned_by_forgot : (cell : Line → Option ℕ) → ((l : Line) → cell (forgot l) ≡ cell l) → (gs : List (List ℕ)) (ls : List Line) (cs : List (Option ℕ)) → aligned_by cell gs (map forgot ls) cs ≡ aligned_by cell gs ls cs
+aligned_by_forgot : (cell : Line → Option ℕ) → ((l : Line) → cell (forgot l) ≡ cell l) → (gs : List (List ℕ)) (ls : List Line) (cs : List (Option ℕ)) → aligned_gaps_by cell gs (map forgot ls) cs ≡ aligned_gaps_by cell gs ls cs
 aligned_by_forgot cell same [] ls cs = refl
 aligned_by_forgot cell same (g ∷ gs) [] cs = refl
 aligned_by_forgot cell same (g ∷ gs) (l ∷ ls) [] = refl
 aligned_by_forgot cell same (g ∷ gs) (l ∷ ls) (c ∷ cs) =
     ap₂ (λ (x : List ℕ) (y : List (List ℕ)). x ∷ y) (ap (λ k. set_gap k g (forgot l) c) (same l) ∙ set_forgot (cell l) g l c) (aligned_by_forgot cell same gs ls cs)
 
-aligned_forgot : (cell running : Line → Option ℕ) → ((l : Line) → cell (forgot l) ≡ cell l) → ((l : Line) → running (forgot l) ≡ running l) → (gs : List (List ℕ)) (ls : List Line) → aligned cell running gs (map forgot ls) ≡ aligned cell running gs ls
-aligned_forgot cell running same still gs ls = ap (λ w. aligned_by cell gs (map forgot ls) (columns w)) (widths_forgot running still gs ls) ∙ aligned_by_forgot cell same gs ls (columns (widths running gs ls))
+aligned_forgot : (cell running : Line → Option ℕ) → ((l : Line) → cell (forgot l) ≡ cell l) → ((l : Line) → running (forgot l) ≡ running l) → (gs : List (List ℕ)) (ls : List Line) → aligned_gaps cell running gs (map forgot ls) ≡ aligned_gaps cell running gs ls
+aligned_forgot cell running same still gs ls = ap (λ w. aligned_gaps_by cell gs (map forgot ls) (columns w)) (widths_forgot running still gs ls) ∙ aligned_by_forgot cell same gs ls (columns (widths running gs ls))
 
 -- ---- all lines
 nets_forgot : (ls : List Line) → map net_of (map forgot ls) ≡ map net_of ls
@@ -138,34 +138,34 @@ zip_forgot [] ls = refl
 zip_forgot (n ∷ ns) [] = refl
 zip_forgot (n ∷ ns) (l ∷ ls) = ap₂ (λ (x : List ℕ) (y : List (List ℕ)). x ∷ y) (plain_forgot n l) (zip_forgot ns ls)
 
-indented_forgot : (ls : List Line) → indented (map forgot ls) ≡ indented ls
+indented_forgot : (ls : List Line) → indented_gaps (map forgot ls) ≡ indented_gaps ls
 indented_forgot ls = ap (λ ns. zip_with plain_gaps (levels ns) (map forgot ls)) (nets_forgot ls) ∙ zip_forgot (levels (map net_of ls)) ls
 
-assigned_forgot : (ls : List Line) → aligned assign_cell assign_cell (indented (map forgot ls)) (map forgot ls) ≡ aligned assign_cell assign_cell (indented ls) ls
-assigned_forgot ls = ap (λ gs. aligned assign_cell assign_cell gs (map forgot ls)) (indented_forgot ls) ∙ aligned_forgot assign_cell assign_cell assign_forgot assign_forgot (indented ls) ls
+assigned_forgot : (ls : List Line) → aligned_gaps assign_cell assign_cell (indented_gaps (map forgot ls)) (map forgot ls) ≡ aligned_gaps assign_cell assign_cell (indented_gaps ls) ls
+assigned_forgot ls = ap (λ gs. aligned_gaps assign_cell assign_cell gs (map forgot ls)) (indented_forgot ls) ∙ aligned_forgot assign_cell assign_cell assign_forgot assign_forgot (indented_gaps ls) ls
 
 line_gaps_forgot : (ls : List Line) → line_gaps (map forgot ls) ≡ line_gaps ls
 line_gaps_forgot ls =
-    ap (λ gs. aligned trailing_comment running_comment gs (map forgot ls)) (assigned_forgot ls)
-    ∙ aligned_forgot trailing_comment running_comment trailing_forgot running_forgot (aligned assign_cell assign_cell (indented ls) ls) ls
+    ap (λ gs. aligned_gaps trailing_comment running_comment gs (map forgot ls)) (assigned_forgot ls)
+    ∙ aligned_forgot trailing_comment running_comment trailing_forgot running_forgot (aligned_gaps assign_cell assign_cell (indented_gaps ls) ls) ls
 
 gaps_forgot : (ts : List Lexeme) → gaps (forgot ts) ≡ gaps ts
 gaps_forgot ts = ap (λ ls. flat_map (λ g. g) (line_gaps ls)) (lines_forgot ts) ∙ ap (λ gs. flat_map (λ g. g) gs) (line_gaps_forgot (lines ts))
 
-placed_forgot : (at : ℕ) (ps : List (ℕ × Lexeme)) → forgot (placed at ps) ≡ forgot (without_gaps ps)
+placed_forgot : (at : ℕ) (ps : List (ℕ × Lexeme)) → forgot (placed_tokens at ps) ≡ forgot (without_gaps ps)
 placed_forgot at [] = refl
 placed_forgot at (p ∷ ps) = ap (λ y. forget p.1 ∷ y) (placed_forgot (at + p.0 + length p.1.text) ps)
 
 pub same_tokens : (ts : List Lexeme) → forgot (printed_tokens ts) ≡ forgot ts
 same_tokens ts = placed_forgot 0 (with_gaps (gaps ts) ts) ∙ ap forgot (tokens_are ts)
 
-printed_forgot : (gs : List ℕ) (ts : List Lexeme) → printed gs (forgot ts) ≡ printed gs ts
+printed_forgot : (gs : List ℕ) (ts : List Lexeme) → printed_text gs (forgot ts) ≡ printed_text gs ts
 printed_forgot [] ts = refl
 printed_forgot (g ∷ gs) [] = refl
 printed_forgot (g ∷ gs) (t ∷ ts) = ap (λ y. (replicate g 32 ++ t.text) ++ y) (printed_forgot gs ts)
 
 print_forgot : (ts : List Lexeme) → print (forgot ts) ≡ print ts
-print_forgot ts = ap (λ gs. printed gs (forgot ts)) (gaps_forgot ts) ∙ printed_forgot (gaps ts) ts
+print_forgot ts = ap (λ gs. printed_text gs (forgot ts)) (gaps_forgot ts) ∙ printed_forgot (gaps ts) ts
 
 -- THE PRINT OF A PRINT is the print
 pub print_again : (ts : List Lexeme) → print (printed_tokens ts) ≡ print ts

@@ -12,7 +12,7 @@ use Rattle.hcl_syntax.specs.declared.pieces.Body.{Body}
 use Rattle.hcl_syntax.specs.declared.words.NumberedKind.{NumberedKind}
 use Rattle.hcl_grammar.specs.declared.item.Item.{Item}
 use Rattle.hcl_grammar.specs.declared.item.Item.TheVariants as item
-use Rattle.hcl_syntax.proofs.WordLemmas.{words_none}
+use Rattle.hcl_syntax.proofs.WordRangeLemmas.{words_none}
 
 abbrev head_of : NumberedKind → List ℕ → Numbered
 head_of w text = record { number = w.number; kind = w.kind; text = text }

@@ -2,10 +2,10 @@
 use Rattle.std.proofs.Common.{◌≡◌, ℕ, ◌+◌, ◌<◌, ◌≤◌, Bool, false, List, [], ◌∷◌, ◌++◌, length, take, drop, inl, inr, ⊎_elim, refl, sym, ap, subst, ◌∙◌, arith, length-append, length-drop, Some}
 use Rattle.std.proofs.lemmas.Bool.{cases_order}
 use Rattle.std.proofs.Math.Seq.{take-append_seam, drop-append_seam}
-use Rattle.hcl_tokens.specs.Lexemes.{Lexeme, Opener, marker_of, moved, opened, max_open}
+use Rattle.hcl_tokens.specs.Lexemes.{Lexeme, Opener, marker_of, open_after, open_after_all, max_open}
 use Rattle.hcl_tokens.specs.Spelling.{IsSpelling}
 use Rattle.hcl_tokens.specs.Kinds.{is}
-use Rattle.hcl_tokens.specs.Scans.{State, Hidden, hides, gap_len, offsets_of, owed, begin, ahead, IsLongest, IsFirstMarkerLine, Leaves, Reads, Closes, Next, Run, Scans, IsComplete}
+use Rattle.hcl_tokens.specs.Scans.{State, Hidden, hides, gap_len, offsets_of, owed_opener, begin, ahead, IsLongest, IsFirstMarkerLine, Leaves, Reads, Closes, Next, Run, Scans, IsComplete}
 use Rattle.hcl_tokens.specs.Faults.{Lacks, at_end, no_token, too_deep, no_marker_line, end_fault, fault_offset, IsScanFault}
 use Rattle.hcl_source.specs.declared.fault.FaultKind.{FaultKind}
 use Rattle.hcl_tokens.specs.declared.token.Kind.{Kind}
@@ -61,7 +61,7 @@ one_reads one s t u a b x y =
     let inside : t.inside_heredoc ≡ u.inside_heredoc = x.inside ∙ sym y.inside in
     let token : t ≡ u = λ i. record { kind = same.kind_is i; text = same.text_is i; start = starts_at i; inside_heredoc = inside i } in
     let at : a.at ≡ b.at = x.at ∙ ap (λ (z : Lexeme). z.start + length z.text) token ∙ sym y.at in
-    let opens : a.opens ≡ b.opens = x.opens ∙ ap (λ (z : Lexeme). moved z.kind s.opens) token ∙ sym y.opens in
+    let opens : a.opens ≡ b.opens = x.opens ∙ ap (λ (z : Lexeme). open_after z.kind s.opens) token ∙ sym y.opens in
     let offsets : a.offsets ≡ b.offsets = x.offsets ∙ (λ i. offsets_of (starts_at i) s.opens (opens i) s.offsets) ∙ sym y.offsets in
     let dot : a.after_dot ≡ b.after_dot = x.after_dot ∙ ap (λ (z : Lexeme). is Dot z.kind) token ∙ sym y.after_dot in
     let there : Leaves u.kind u.text y.rest s.hidden a.seen a.hidden = subst (λ (p : Kind × List ℕ × List ℕ). Leaves p.0 p.1 p.2 s.hidden a.seen a.hidden) (λ i. (same.kind_is i, same.text_is i, same.rest_is i)) x.leaves in
@@ -110,7 +110,7 @@ one_next one nonempty s t u a b (inr x) (inr y) = one_closes s t u a b x y
 
 pub complete_ends : Nonempty → (s : State) (t : Lexeme) (a : State) → IsComplete s → Next s t a → ⊥
 complete_ends nonempty s t a done (inl x) = nothing_ahead nonempty s t a (ap length done.0) x
-complete_ends nonempty s t a done (inr y) = let e = ap owed y.top in let d = done.1 in absurd (cc)
+complete_ends nonempty s t a done (inr y) = let e = ap owed_opener y.top in let d = done.1 in absurd (cc)
 
 abbrev pub Stuck : State → Type 0
 Stuck s = (t : Lexeme) (next : State) → ¬ Next s t next
@@ -147,13 +147,13 @@ module _ (one : OneKind) (nonempty : Nonempty) where
   one_lack s kind other (too_deep k text rest x deep is) (too_deep k' text' rest' x' deep' is') = is ∙ sym is'
   one_lack s kind other (too_deep k text rest x deep is) (no_marker_line text' rest' x' room none is') =
       let same = one_longest one s.opens s.after_dot (ahead s) k HeredocOpen text text' rest rest' x x' in
-      let len = ap (λ (z : Kind). length (moved z s.opens)) same.kind_is in
+      let len = ap (λ (z : Kind). length (open_after z s.opens)) same.kind_is in
       absurd (omega (arith, deep, room, len))
   one_lack s kind other (no_marker_line text rest x room none is) (at_end e is') = absurd (omega (arith, ap length e, some_ahead nonempty s HeredocOpen text rest x))
   one_lack s kind other (no_marker_line text rest x room none is) (no_token some none' is') = absurd (none' HeredocOpen text rest x.whole x.spelled)
   one_lack s kind other (no_marker_line text rest x room none is) (too_deep k text' rest' x' deep is') =
       let same = one_longest one s.opens s.after_dot (ahead s) k HeredocOpen text' text rest' rest x' x in
-      let len = ap (λ (z : Kind). length (moved z s.opens)) same.kind_is in
+      let len = ap (λ (z : Kind). length (open_after z s.opens)) same.kind_is in
       absurd (omega (arith, deep, room, len))
   one_lack s kind other (no_marker_line text rest x room none is) (no_marker_line text' rest' x' room' none' is') = is ∙ sym is'
 
@@ -177,24 +177,24 @@ module _ (one : OneKind) (nonempty : Nonempty) where
       let same = one_run (begin text) ts y.tokens x.0 y.end x.1 (λ t next. complete_ends nonempty x.0 t next x.2) y.read y.longest in
       lack_not_done y.end kind y.lacks (subst IsComplete same.1 x.2)
 
-opens_next : (s : State) (t : Lexeme) (next : State) → Next s t next → next.opens ≡ moved t.kind s.opens
+opens_next : (s : State) (t : Lexeme) (next : State) → Next s t next → next.opens ≡ open_after t.kind s.opens
 opens_next s t next (inl x) = x.opens
-opens_next s t next (inr y) = ap (λ (z : State). z.opens) y.next_is ∙ ap (λ l. drop 1 l) (sym y.top) ∙ ap (λ k. moved k s.opens) (sym y.kind)
+opens_next s t next (inr y) = ap (λ (z : State). z.opens) y.next_is ∙ ap (λ l. drop 1 l) (sym y.top) ∙ ap (λ k. open_after k s.opens) (sym y.kind)
 
 -- what is open after a list is a function of the list
-pub opens_after : (s : State) (ts : List Lexeme) (end : State) → Run s ts end → end.opens ≡ opened s.opens ts
+pub opens_after : (s : State) (ts : List Lexeme) (end : State) → Run s ts end → end.opens ≡ open_after_all s.opens ts
 opens_after s [] end run = ap (λ (z : State). z.opens) (sym run)
-opens_after s (t ∷ ts) end run = opens_after run.0 ts end run.2 ∙ ap (λ o. opened o ts) (opens_next s t run.0 run.1)
+opens_after s (t ∷ ts) end run = opens_after run.0 ts end run.2 ∙ ap (λ o. open_after_all o ts) (opens_next s t run.0 run.1)
 
 room_next : (s : State) (t : Lexeme) (next : State) → length s.opens ≤ max_open → Next s t next → length next.opens ≤ max_open
 room_next s t next room (inl x) = x.room
 room_next s t next room (inr y) = omega (arith, room, ap length y.top, ap (λ (z : State). length z.opens) y.next_is)
 
 -- at every prefix at most max_open entries are open
-pub bounded : (s : State) (us vs : List Lexeme) (end : State) → length s.opens ≤ max_open → Run s (us ++ vs) end → length (opened s.opens us) ≤ max_open
+pub bounded : (s : State) (us vs : List Lexeme) (end : State) → length s.opens ≤ max_open → Run s (us ++ vs) end → length (open_after_all s.opens us) ≤ max_open
 bounded s [] vs end room run = room
 bounded s (u ∷ us) vs end room run =
-    subst (λ o. length (opened o us) ≤ max_open) (opens_next s u run.0 run.1) (bounded run.0 us vs end (room_next s u run.0 room run.1) run.2)
+    subst (λ o. length (open_after_all o us) ≤ max_open) (opens_next s u run.0 run.1) (bounded run.0 us vs end (room_next s u run.0 room run.1) run.2)
 
-pub scan_bounded : (text : List ℕ) (us vs : List Lexeme) → Scans text (us ++ vs) → length (opened [] us) ≤ max_open
+pub scan_bounded : (text : List ℕ) (us vs : List Lexeme) → Scans text (us ++ vs) → length (open_after_all [] us) ≤ max_open
 scan_bounded text us vs scans = bounded (begin text) us vs scans.0 (omega arith) scans.1

@@ -8,10 +8,10 @@ use Rattle.hcl_tokens.specs.Kinds.{is}
 use Rattle.hcl_tokens.specs.declared.token.Kind.TheVariants as kind
 use Rattle.hcl_layout.specs.Lines.{Line}
 use Rattle.hcl_layout.specs.Levels.{Net, level, levels_after, net_of}
-use Rattle.hcl_layout.specs.Cells.{is_assignment, is_trailing, has_multiline, before_comment, until, found, found_from, if_level, is_level, assign_cell, running_comment, trailing_comment}
+use Rattle.hcl_layout.specs.Cells.{is_assignment, is_trailing, has_multiline, before_comment, until, first_place, first_place_from, if_level, is_level, assign_cell, running_comment, trailing_comment}
 use Rattle.hcl_layout.specs.Columns.{columns}
 use Rattle.hcl_layout.proofs.ColumnLemmas.{columns_len}
-use Rattle.hcl_layout.specs.Gaps.{blanks, gaps_after, plain_gaps, width, widths, gap_to, set_gap, align, aligned_by, aligned, indented, line_gaps, zip_with}
+use Rattle.hcl_layout.specs.Gaps.{blanks, gaps_after, plain_gaps, width, widths, gap_to, set_gap, align, aligned_gaps_by, aligned_gaps, indented_gaps, line_gaps, zip_with}
 
 -- a token that may begin a cell
 abbrev pub is_cell : Lexeme → Bool
@@ -73,11 +73,11 @@ Found k i line = (j : ℕ) × (i ≡ k + j) × CellAt j line
 some_is : (a b : ℕ) → Some a ≡ Some b → a ≡ b
 some_is a b e = cc
 
-place_cell : (test : Lexeme → Bool) → ((t : Lexeme) → test t ≡ true → is_cell t ≡ true) → (k i : ℕ) (line : Line) → found_from test k line ≡ Some i → Found k i line
+place_cell : (test : Lexeme → Bool) → ((t : Lexeme) → test t ≡ true → is_cell t ≡ true) → (k i : ℕ) (line : Line) → first_place_from test k line ≡ Some i → Found k i line
 place_cell test ok k i [] e = absurd (cc)
 place_cell test ok k i (t ∷ line) e = by (test t) refl e (place_cell test ok (k + 1) i line)
   where
-    by : (v : Bool) → test t ≡ v → (if v then Some k else found_from test (k + 1) line) ≡ Some i → (found_from test (k + 1) line ≡ Some i → Found (k + 1) i line) → Found k i (t ∷ line)
+    by : (v : Bool) → test t ≡ v → (if v then Some k else first_place_from test (k + 1) line) ≡ Some i → (first_place_from test (k + 1) line ≡ Some i → Found (k + 1) i line) → Found k i (t ∷ line)
     by true h e rec = (0, omega (arith, some_is k i e), ok t h)
     by false h e rec = let r = rec e in (suc r.0, omega (arith, r.1), r.2)
 
@@ -120,9 +120,9 @@ level_place line (Some k) i e = by (is_level (net_of (drop k line))) e
 assign_at : (line : Line) (i : ℕ) → assign_cell line ≡ Some i → CellOf line i
 assign_at line i e = by (has_multiline line) e
   where
-    by : (v : Bool) → (if v then None else if_level (before_comment line) (found is_assignment (before_comment line))) ≡ Some i → CellOf line i
+    by : (v : Bool) → (if v then None else if_level (before_comment line) (first_place is_assignment (before_comment line))) ≡ Some i → CellOf line i
     by true e = absurd (cc)
-    by false e = behind_first line i (cell_before_comment line i (place_cell is_assignment sign_cell 1 i (drop 1 (before_comment line)) (level_place (before_comment line) (found is_assignment (before_comment line)) i e)))
+    by false e = behind_first line i (cell_before_comment line i (place_cell is_assignment sign_cell 1 i (drop 1 (before_comment line)) (level_place (before_comment line) (first_place is_assignment (before_comment line)) i e)))
 
 trailing_at : (line : Line) (i : ℕ) → trailing_comment line ≡ Some i → CellOf line i
 trailing_at line i e = behind_first line i (place_cell is_trailing trailing_cell 1 i (drop 1 line) e)
@@ -141,7 +141,7 @@ align_spread cell at gs line column s = by (cell line) refl
         let set = set_line gs line f.0 (gap_to column (width i gs line)) s f.2 (some_gap column (width i gs line)) in
         subst (λ k. Spread None None (slice_set gs k (gap_to column (width i gs line))) line) (sym f.1) set
 
-aligned_spread : (cell : Line → Option ℕ) → ((line : Line) (i : ℕ) → cell line ≡ Some i → CellOf line i) → (gs : List (List ℕ)) (ls : List Line) (cs : List (Option ℕ)) → length cs ≡ length ls → AllSpread gs ls → AllSpread (aligned_by cell gs ls cs) ls
+aligned_spread : (cell : Line → Option ℕ) → ((line : Line) (i : ℕ) → cell line ≡ Some i → CellOf line i) → (gs : List (List ℕ)) (ls : List Line) (cs : List (Option ℕ)) → length cs ≡ length ls → AllSpread gs ls → AllSpread (aligned_gaps_by cell gs ls cs) ls
 aligned_spread cell at [] [] cs e s = tt
 aligned_spread cell at [] (l ∷ ls) cs e s = absurd s
 aligned_spread cell at (g ∷ gs) [] cs e s = absurd s
@@ -154,9 +154,9 @@ zip_len f [] (l ∷ ls) s = absurd s
 zip_len f (g ∷ gs) [] s = absurd s
 zip_len f (g ∷ gs) (l ∷ ls) s = omega (arith, zip_len f gs ls s.1)
 
-all_aligned : (cell running : Line → Option ℕ) → ((line : Line) (i : ℕ) → cell line ≡ Some i → CellOf line i) → (gs : List (List ℕ)) (ls : List Line) → AllSpread gs ls → AllSpread (aligned cell running gs ls) ls
+all_aligned : (cell running : Line → Option ℕ) → ((line : Line) (i : ℕ) → cell line ≡ Some i → CellOf line i) → (gs : List (List ℕ)) (ls : List Line) → AllSpread gs ls → AllSpread (aligned_gaps cell running gs ls) ls
 all_aligned cell running at gs ls s = aligned_spread cell at gs ls (columns (widths running gs ls)) (columns_len [] (widths running gs ls) ∙ zip_len _ gs ls s) s
 
 -- THE GAPS OF ALL LINES
 pub spread_lines : (ls : List Line) → AllSpread (line_gaps ls) ls
-spread_lines ls = all_aligned trailing_comment running_comment trailing_at (aligned assign_cell assign_cell (indented ls) ls) ls (all_aligned assign_cell assign_cell assign_at (indented ls) ls (plain_all [] ls))
+spread_lines ls = all_aligned trailing_comment running_comment trailing_at (aligned_gaps assign_cell assign_cell (indented_gaps ls) ls) ls (all_aligned assign_cell assign_cell assign_at (indented_gaps ls) ls (plain_all [] ls))

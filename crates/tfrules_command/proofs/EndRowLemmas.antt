@@ -14,7 +14,8 @@ use Rattle.tfrules_command.specs.Answer.{IsAnswerBy, IsRefused, linter, names_of
 use Rattle.tfrules_command.specs.Files.{NamedFile, numbered_files}
 use Rattle.tfrules_command.specs.Line.{Asking}
 use Rattle.tfrules_command.specs.Report.{report_row}
-use Rattle.tfrules_command.specs.Rows.{AreFiles, IsRowBy, Tells}
+use Rattle.tfrules_command.specs.Rows.{AreFiles, IsRowBy}
+use Rattle.hcl_source.specs.Devices.{Tells}
 use Rattle.tfrules_command.specs.Inner.Steps.{AreFine, Reached, StopsAt, stop_row, usage_row}
 use Rattle.tfrules_command.specs.declared.stop.Stop.{Stop}
 use Rattle.tfrules_command.specs.declared.stop.Stop.TheVariants as stop

@@ -1,0 +1,42 @@
+-- What the laws say of runs in which nothing fails: the files are told, and nothing stands in the way of a look. Our own words.
+use Rattle.std.specs.Prelude.{◌≡◌, ◌≢◌, ◌⊎◌, ℕ, List, Option, Some, None, All, IsSome}
+use Rattle.hcl_source.specs.declared.fault.Fault.{Fault}
+use Rattle.file_tree.specs.Files.{Files, Name}
+use Rattle.file_tree.specs.declared.walk.Found.{Found}
+use Rattle.line_diff.specs.Diffs.{diff_of}
+use Rattle.tree_format.specs.Format.{IsFormat, IsFault}
+use Rattle.tree_format.specs.declared.mode.Mode.{Mode}
+use Rattle.tree_format.specs.declared.mode.Mode.TheVariants.{Write, Check, List as Listed, Diff}
+use Rattle.tree_format.specs.declared.outcome.Outcome.{Outcome}
+use Rattle.tree_format.specs.declared.outcome.Outcome.TheVariants as outcome
+
+-- each file has a format, or a fault
+abbrev pub HasFormatOrFault : List ℕ → Type 0
+HasFormatOrFault bytes = ((formatted : List ℕ) × IsFormat bytes formatted) ⊎ ((fault : Fault) × IsFault bytes fault)
+
+-- the device tells the bytes of each file to which a name leads
+abbrev pub AreTold : Files → List Found → Type 0
+AreTold files found = All (λ f. IsSome (files.told (files.real f.name.items))) found
+
+-- a look that shows this text, which is held in memory
+abbrev pub Holds : Outcome → List ℕ → Type 0
+Holds (outcome.Differs text) shown = text.items ≡ shown
+Holds outcome.Formatted shown = ⊥
+Holds outcome.Changed shown = ⊥
+Holds (outcome.Refused fault) shown = ⊥
+Holds (outcome.Failed fault) shown = ⊥
+
+-- where what changes in a file is to be shown, there is room for it
+abbrev pub HasRoom : Mode → Name → List ℕ → Type 0
+HasRoom (Write writing) name bytes = Unit {0}
+HasRoom Check name bytes = Unit {0}
+HasRoom Listed name bytes = Unit {0}
+HasRoom Diff name bytes = (formatted : List ℕ) → IsFormat bytes formatted → formatted ≢ bytes → (answer : Outcome) × Holds answer (diff_of name bytes formatted)
+
+-- the bytes of a file are told, and nothing stands in the way of a look at it
+abbrev pub IsReady : Mode → Name → Option (List ℕ) → Type 0
+IsReady mode name None = ⊥
+IsReady mode name (Some bytes) = HasFormatOrFault bytes × HasRoom mode name bytes
+
+abbrev pub AreReady : Mode → Files → List Found → Type 0
+AreReady mode files found = All (λ f. (f.fault ≡ None) × IsReady mode f.name.items (files.told (files.real f.name.items))) found
