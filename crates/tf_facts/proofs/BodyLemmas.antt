@@ -1,19 +1,21 @@
 -- What follows a block in the outline, item by item.
-use Rattle.std.proofs.Common.{◌≡◌, ◌∙◌, ap, sym, refl, ℕ, suc, zero, ◌+◌, ◌<◌, ◌≤◌, Bool, true, false, cond, true≢false, List, [], ◌∷◌, drop, length, arith}
-use Rattle.std.specs.Prelude.{◌||◌, ◌==◌, Option, Some, None, find, slice_get}
-use Rattle.std.specs.Option.{option_map}
+use Rattle.std.proofs.Common.{◌≡◌, ◌∙◌, ap, sym, refl, ℕ, suc, zero, ◌+◌, ◌<◌, ◌≤◌, Bool, true, false, cond, List, [], ◌∷◌, drop, length, arith}
+use Rattle.std.specs.Prelude.{◌||◌, ◌==◌, Option, Some, None, codes, find, slice_get}
+use Rattle.std.specs.Bool.{then_some}
+use Rattle.std.specs.Option.{option_map, option_or}
 use Rattle.std.specs.Str.{bytes_eq}
 use Rattle.std.proofs.lemmas.List.{drop_all}
 use Rattle.hcl_tokens.specs.Lexemes.{Lexeme}
-use Rattle.hcl_grammar.specs.Numbered.{Numbered, numbered}
+use Rattle.hcl_grammar.specs.Numbered.{Numbered}
 use Rattle.hcl_grammar.specs.Items.{outline}
 use Rattle.hcl_grammar.specs.ItemOrder.{Climbs, lead, past}
-use Rattle.hcl_grammar.specs.Labels.{first_text, text_of}
+use Rattle.hcl_grammar.specs.Labels.{text_of}
 use Rattle.hcl_grammar.specs.declared.item.Item.{Item}
 use Rattle.hcl_grammar.specs.declared.item.Item.TheVariants as item
-use Rattle.hcl_grammar.proofs.NumberedLemmas.{drop_at, numbered_here}
+use Rattle.hcl_grammar.proofs.NumberedLemmas.{drop_at}
 use Rattle.hcl_grammar.proofs.ItemOrderLemmas.{climbs_wide, outline_climbs, spans_past}
-use Rattle.tf_facts.specs.Inner.Values.{value_of_attribute, value_of_item}
+use Rattle.tf_facts.specs.Inner.Values.{body_of, both, value_of_attribute}
+use Rattle.tf_facts.specs.declared.value.Body.{Body}
 use Rattle.tf_facts.specs.declared.value.Value.{Value}
 use Rattle.tf_facts.specs.Declarations.{Attribute, attribute, attributes_in, has, is_inside, labels_in, with_attribute}
 
@@ -44,71 +46,95 @@ labels_none ts items n all = ap (labels_in ts) (drop_all n items all)
 pub attributes_none : (ts : List Numbered) (items : List Item) (n : ℕ) → length items ≤ n → attributes_in ts (drop n items) ≡ []
 attributes_none ts items n all = ap (attributes_in ts) (drop_all n items all)
 
--- ---- one attribute and more
+-- ---- what attributes say together
 
 or_false : (b : Bool) → (b || false) ≡ b
 or_false true = refl
 or_false false = refl
 
-has_both : (wanted : List ℕ) (o : Option Attribute) (more : List Attribute) → has wanted (with_attribute o more) ≡ (has wanted (with_attribute o []) || has wanted more)
-has_both wanted None more = refl
-has_both wanted (Some a) more = ap (λ b. b || has wanted more) (sym (or_false (bytes_eq a.name wanted)))
+or_assoc : (a b c : Bool) → ((a || b) || c) ≡ (a || (b || c))
+or_assoc true b c = refl
+or_assoc false b c = refl
 
-module _ (wanted : List ℕ) (ts : List Numbered) (items : List Item) (n : ℕ) (i : Item) (e : slice_get items n ≡ Some i) where
-  inside : is_inside i ≡ true → has wanted (attributes_in ts (drop n items)) ≡ (has wanted (with_attribute (attribute ts i) []) || has wanted (attributes_in ts (drop (n + 1) items)))
-  inside within =
-      ap (has wanted) (attributes_here ts items n i e ∙ ap (λ b. cond b (with_attribute (attribute ts i) (attributes_in ts (drop (n + 1) items))) []) within)
-      ∙ has_both wanted (attribute ts i) (attributes_in ts (drop (n + 1) items))
+first_assoc : (a b c : Option Value) → option_or (option_or a b) c ≡ option_or a (option_or b c)
+first_assoc None b c = refl
+first_assoc (Some x) b c = refl
 
-  pub has_past : is_inside i ≡ true → has wanted (with_attribute (attribute ts i) []) ≡ false → has wanted (attributes_in ts (drop n items)) ≡ has wanted (attributes_in ts (drop (n + 1) items))
-  has_past within other = inside within ∙ ap (λ b. b || has wanted (attributes_in ts (drop (n + 1) items))) other
+abbrev saying : Bool → Bool → Bool → Option Value → Body
+saying described typed versioned source = record { is_described = described; is_typed = typed; is_versioned = versioned; source = source }
 
-  pub has_here : is_inside i ≡ true → has wanted (with_attribute (attribute ts i) []) ≡ true → has wanted (attributes_in ts (drop n items)) ≡ true
-  has_here within same = inside within ∙ ap (λ b. b || has wanted (attributes_in ts (drop (n + 1) items))) same
+same_body : (a b c d e f : Bool) (v w : Option Value) → a ≡ b → c ≡ d → e ≡ f → v ≡ w → saying a c e v ≡ saying b d f w
+same_body a b c d e f v w p q r s = ap (λ x. saying x c e v) p ∙ ap (λ x. saying b x e v) q ∙ ap (λ x. saying b d x v) r ∙ ap (λ x. saying b d f x) s
 
-  pub has_no_more : is_inside i ≡ false → has wanted (attributes_in ts (drop n items)) ≡ false
-  has_no_more outside = ap (has wanted) (attributes_here ts items n i e ∙ ap (λ b. cond b (with_attribute (attribute ts i) (attributes_in ts (drop (n + 1) items))) []) outside)
+pub both_assoc : (a b c : Body) → both (both a b) c ≡ both a (both b c)
+both_assoc a b c =
+    same_body _ _ _ _ _ _ _ _ (or_assoc a.is_described b.is_described c.is_described) (or_assoc a.is_typed b.is_typed c.is_typed) (or_assoc a.is_versioned b.is_versioned c.is_versioned)
+    (first_assoc a.source b.source c.source)
 
-pub named_is : (tokens : List Lexeme) (wanted : List ℕ) (level name first end : ℕ) (t : Lexeme) (i : Item) (b : Bool) → i ≡ item.Attribute level name first end → (level == 1) ≡ true → slice_get tokens name ≡ Some t → b ≡ bytes_eq t.text wanted
-    → b ≡ has wanted (with_attribute (attribute (numbered tokens) i) [])
-named_is tokens wanted level name first end t i b is one e same =
-    same
-    ∙ ap (λ text. bytes_eq text wanted) (sym (ap first_text (numbered_here tokens name t e)))
-    ∙ sym (or_false (bytes_eq (text_of (numbered tokens) name) wanted))
-    ∙ ap (λ v. has wanted (with_attribute (cond v (Some (record { name = text_of (numbered tokens) name; token = name; first = first; end = end })) None) [])) (sym one)
-    ∙ ap (λ j. has wanted (with_attribute (attribute (numbered tokens) j) [])) (sym is)
-
--- ---- the value of the first attribute of a name
-
-abbrev pub first_value : List ℕ → List Attribute → Option Value
-first_value wanted attributes = option_map value_of_attribute (find (λ a. bytes_eq a.name wanted) attributes)
-
-first_past : (wanted : List ℕ) (o : Option Attribute) (more : List Attribute) → has wanted (with_attribute o []) ≡ false → first_value wanted (with_attribute o more) ≡ first_value wanted more
-first_past wanted None more e = refl
-first_past wanted (Some a) more e = ap (λ b. option_map value_of_attribute (cond b (Some a) (find (λ x. bytes_eq x.name wanted) more))) (sym (or_false (bytes_eq a.name wanted)) ∙ e)
-
-first_here : (wanted : List ℕ) (ts : List Numbered) (i : Item) (more : List Attribute) → has wanted (with_attribute (attribute ts i) []) ≡ true → first_value wanted (with_attribute (attribute ts i) more) ≡ value_of_item i
-first_here wanted ts (item.Attribute level name first end) more e = by (level == 1) e
+pub both_none : (a : Body) → both a (body_of []) ≡ a
+both_none a = same_body _ _ _ _ _ _ _ _ (or_false a.is_described) (or_false a.is_typed) (or_false a.is_versioned) (none a.source)
   where
-    it : Attribute
-    it = record { name = text_of ts name; token = name; first = first; end = end }
+    none : (v : Option Value) → option_or v None ≡ v
+    none None = refl
+    none (Some x) = refl
 
-    by : (b : Bool) → has wanted (with_attribute (cond b (Some it) None) []) ≡ true → first_value wanted (with_attribute (cond b (Some it) None) more) ≡ Some (record { first = first; end = end })
-    by true same = ap (λ b. option_map value_of_attribute (cond b (Some it) (find (λ x. bytes_eq x.name wanted) more))) (sym (or_false (bytes_eq (text_of ts name) wanted)) ∙ same)
-    by false other = absurd (true≢false (sym other))
-first_here wanted ts (item.Block level kind end) more e = absurd (true≢false (sym e))
-first_here wanted ts (item.Label l) more e = absurd (true≢false (sym e))
+first_value : (a : Attribute) (more : List Attribute) (b : Bool)
+    → option_map value_of_attribute (cond b (Some a) (find (λ x. bytes_eq x.name (codes "source")) more))
+    ≡ option_or (option_map value_of_attribute (cond b (Some a) None)) (option_map value_of_attribute (find (λ x. bytes_eq x.name (codes "source")) more))
+first_value a more true = refl
+first_value a more false = refl
 
-module _ (wanted : List ℕ) (ts : List Numbered) (items : List Item) (n : ℕ) (i : Item) (e : slice_get items n ≡ Some i) where
-  pub value_past : is_inside i ≡ true → has wanted (with_attribute (attribute ts i) []) ≡ false → first_value wanted (attributes_in ts (drop n items)) ≡ first_value wanted (attributes_in ts (drop (n + 1) items))
-  value_past within other =
-      ap (first_value wanted) (attributes_here ts items n i e ∙ ap (λ b. cond b (with_attribute (attribute ts i) (attributes_in ts (drop (n + 1) items))) []) within)
-      ∙ first_past wanted (attribute ts i) (attributes_in ts (drop (n + 1) items)) other
+has_both : (wanted : List ℕ) (a : Attribute) (more : List Attribute) → has wanted (a ∷ more) ≡ (has wanted (a ∷ []) || has wanted more)
+has_both wanted a more = ap (λ b. b || has wanted more) (sym (or_false (bytes_eq a.name wanted)))
 
-  pub value_here : is_inside i ≡ true → has wanted (with_attribute (attribute ts i) []) ≡ true → first_value wanted (attributes_in ts (drop n items)) ≡ value_of_item i
-  value_here within same =
-      ap (first_value wanted) (attributes_here ts items n i e ∙ ap (λ b. cond b (with_attribute (attribute ts i) (attributes_in ts (drop (n + 1) items))) []) within)
-      ∙ first_here wanted ts i (attributes_in ts (drop (n + 1) items)) same
+with_more : (o : Option Attribute) (more : List Attribute) → body_of (with_attribute o more) ≡ both (body_of (with_attribute o [])) (body_of more)
+with_more None more = refl
+with_more (Some a) more =
+    same_body _ _ _ _ _ _ _ _ (has_both (codes "description") a more) (has_both (codes "type") a more) (has_both (codes "version") a more) (first_value a more (bytes_eq a.name (codes "source")))
 
-  pub value_no_more : is_inside i ≡ false → first_value wanted (attributes_in ts (drop n items)) ≡ None
-  value_no_more outside = ap (first_value wanted) (attributes_here ts items n i e ∙ ap (λ b. cond b (with_attribute (attribute ts i) (attributes_in ts (drop (n + 1) items))) []) outside)
+-- what was said, with what is still said, is what the body says
+abbrev pub IsBody : List Numbered → List Item → ℕ → Body → ℕ → Type 0
+IsBody ts items from said n = both said (body_of (attributes_in ts (drop n items))) ≡ body_of (attributes_in ts (drop from items))
+
+module _ (ts : List Numbered) (items : List Item) (from : ℕ) (said : Body) (n : ℕ) (h : IsBody ts items from said n) where
+  pub body_end : length items ≤ n → said ≡ body_of (attributes_in ts (drop from items))
+  body_end past = sym (both_none said) ∙ ap (λ more. both said (body_of more)) (sym (attributes_none ts items n past)) ∙ h
+
+  module _ (i : Item) (e : slice_get items n ≡ Some i) where
+    pub body_over : is_inside i ≡ false → said ≡ body_of (attributes_in ts (drop from items))
+    body_over outside =
+        sym (both_none said)
+        ∙ ap (λ more. both said (body_of more)) (sym (attributes_here ts items n i e ∙ ap (λ b. cond b (with_attribute (attribute ts i) (attributes_in ts (drop (n + 1) items))) []) outside))
+        ∙ h
+
+    pub body_more : is_inside i ≡ true → (next : Body) → next ≡ both said (body_of (with_attribute (attribute ts i) [])) → IsBody ts items from next (n + 1)
+    body_more within next is =
+        ap (λ b. both b (body_of (attributes_in ts (drop (n + 1) items)))) is
+        ∙ both_assoc said (body_of (with_attribute (attribute ts i) [])) (body_of (attributes_in ts (drop (n + 1) items)))
+        ∙ ap (both said) (sym (with_more (attribute ts i) (attributes_in ts (drop (n + 1) items))))
+        ∙ ap (λ more. both said (body_of more)) (sym (attributes_here ts items n i e ∙ ap (λ b. cond b (with_attribute (attribute ts i) (attributes_in ts (drop (n + 1) items))) []) within))
+        ∙ h
+
+-- ---- what one item says
+
+only_value : (a : Attribute) (b : Bool) → then_some b (value_of_attribute a) ≡ option_map value_of_attribute (cond b (Some a) None)
+only_value a true = refl
+only_value a false = refl
+
+module _ (ts : List Numbered) (level name first end : ℕ) (i : Item) (is : i ≡ item.Attribute level name first end) where
+  abbrev it : Attribute
+  it = record { name = text_of ts name; token = name; first = first; end = end }
+
+  pub says_nothing : (level == 1) ≡ false → body_of [] ≡ body_of (with_attribute (attribute ts i) [])
+  says_nothing other = ap (λ b. body_of (with_attribute (cond b (Some it) None) [])) (sym other) ∙ ap (λ j. body_of (with_attribute (attribute ts j) [])) (sym is)
+
+  pub says : (level == 1) ≡ true → (word : List ℕ) → word ≡ text_of ts name → (b : Body) → b.is_described ≡ bytes_eq word (codes "description") → b.is_typed ≡ bytes_eq word (codes "type") → b.is_versioned ≡ bytes_eq word (codes "version")
+      → b.source ≡ then_some (bytes_eq word (codes "source")) (value_of_attribute it) → b ≡ body_of (with_attribute (attribute ts i) [])
+  says one word same b d t v s =
+      same_body _ _ _ _ _ _ _ _ (named (codes "description") b.is_described d) (named (codes "type") b.is_typed t) (named (codes "version") b.is_versioned v)
+      (s ∙ ap (λ w. then_some (bytes_eq w (codes "source")) (value_of_attribute it)) same ∙ only_value it (bytes_eq (text_of ts name) (codes "source")))
+      ∙ ap (λ c. body_of (with_attribute (cond c (Some it) None) [])) (sym one)
+      ∙ ap (λ j. body_of (with_attribute (attribute ts j) [])) (sym is)
+    where
+      named : (wanted : List ℕ) (test : Bool) → test ≡ bytes_eq word wanted → test ≡ has wanted (it ∷ [])
+      named wanted test e = e ∙ ap (λ w. bytes_eq w wanted) same ∙ sym (or_false (bytes_eq (text_of ts name) wanted))

@@ -1,6 +1,6 @@
 -- What blocks declare, part by part.
 use Rattle.std.proofs.Common.{◌≡◌, ◌∙◌, ap, sym, refl, ℕ, suc, zero, ◌+◌, ◌<◌, ◌≤◌, Bool, true, false, cond, not, List, [], ◌∷◌, ◌++◌, append_assoc, map, drop, length, arith}
-use Rattle.std.specs.Prelude.{◌==◌, Option, Some, None, codes, find, slice_get}
+use Rattle.std.specs.Prelude.{◌==◌, Option, Some, None, IfSome, codes, find, slice_get}
 use Rattle.std.specs.Option.{option_map}
 use Rattle.std.specs.Str.{bytes_eq}
 use Rattle.std.proofs.lemmas.List.{append-nil, drop_all}
@@ -70,12 +70,17 @@ value_ends : (to : ℕ) (o : Option Attribute) (v : Value) → ((a : Attribute) 
 value_ends to None v h e = absurd (cc)
 value_ends to (Some a) v h e = let same : value_of_attribute a ≡ v = cc in let ends : a.end ≡ v.end = ap (λ w. w.end) same in omega (arith, ends, h a refl)
 
-pub value_within : (tokens : List Lexeme) (n : ℕ) (wanted : List ℕ) (v : Value)
+value_within : (tokens : List Lexeme) (n : ℕ) (wanted : List ℕ) (v : Value)
     → option_map value_of_attribute (find (λ a. bytes_eq a.name wanted) (attributes_in (numbered tokens) (drop n (outline tokens)))) ≡ Some v → v.end ≤ length tokens
 value_within tokens n wanted v e =
     let c = climbs_drop 0 (length tokens) n (outline tokens) (outline_climbs tokens) in
     value_ends (length tokens) (find (λ a. bytes_eq a.name wanted) (attributes_in (numbered tokens) (drop n (outline tokens)))) v
     (λ a f. ends_within (numbered tokens) (λ x. bytes_eq x.name wanted) c.0 (length tokens) (drop n (outline tokens)) a c.1 f) e
+
+pub values_within : (tokens : List Lexeme) (n : ℕ) (wanted : List ℕ) (o : Option Value)
+    → o ≡ option_map value_of_attribute (find (λ a. bytes_eq a.name wanted) (attributes_in (numbered tokens) (drop n (outline tokens)))) → IfSome o (λ v. v.end ≤ length tokens)
+values_within tokens n wanted None e = tt
+values_within tokens n wanted (Some v) e = value_within tokens n wanted v (sym e)
 
 pub no_value : (ts : List Numbered) (o : Option Attribute) → option_map value_of_attribute o ≡ None → source_of_attribute ts o ≡ None
 no_value ts None e = refl

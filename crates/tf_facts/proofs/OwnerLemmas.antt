@@ -1,6 +1,6 @@
 -- The blocks of variables, item by item.
-use Rattle.std.proofs.Common.{◌≡◌, ◌∙◌, ap, sym, refl, ℕ, suc, zero, ◌+◌, ◌<◌, ◌≤◌, Bool, true, false, cond, List, [], ◌∷◌, ◌++◌, append_assoc, map, drop, length, arith}
-use Rattle.std.specs.Prelude.{Some, codes, filter, slice_get}
+use Rattle.std.proofs.Common.{◌≡◌, ◌∙◌, ap, sym, refl, ℕ, suc, zero, ◌+◌, ◌<◌, ◌≤◌, Bool, true, false, true≢false, cond, not, List, [], ◌∷◌, ◌++◌, append_assoc, map, drop, length, arith}
+use Rattle.std.specs.Prelude.{◌==◌, Option, Some, None, codes, filter, slice_get}
 use Rattle.std.specs.Str.{bytes_eq}
 use Rattle.std.proofs.lemmas.List.{append-nil, drop_all, map-append}
 use Rattle.std.proofs.lemmas.Slice.Eq.{bytes_eq-Decides}
@@ -10,11 +10,10 @@ use Rattle.hcl_grammar.specs.Labels.{text_of}
 use Rattle.hcl_grammar.specs.declared.item.Item.{Item}
 use Rattle.hcl_grammar.specs.declared.item.Item.TheVariants as item
 use Rattle.hcl_grammar.proofs.NumberedLemmas.{drop_at}
-use Rattle.tf_facts.specs.Declarations.{Attribute, Declaration, attributes_in, by_declarer, declarer, is_empty, labels_in, of_block, of_local}
+use Rattle.tf_facts.specs.Declarations.{Attribute, Declaration, Declarer, attributes_in, by_declarer, declarer, has, is_empty, labels_in, of_block, of_local}
 use Rattle.tf_facts.specs.References.{Own, is_variable, last_of, own_of_item, own_of_items}
 use Rattle.tf_facts.specs.OwnBlocks.{own_of}
-use Rattle.tf_facts.specs.Found.{declaration, texts_of}
-use Rattle.tf_facts.specs.declared.found.Declared.{Declared}
+use Rattle.tf_facts.specs.declared.declaration_kind.DeclarationKind.TheVariants as declares
 use Rattle.tf_facts.specs.declared.own_block.OwnBlock.{OwnBlock}
 use Rattle.tf_facts.proofs.OwnLemmas.{no_locals}
 
@@ -36,6 +35,56 @@ variables_in ts token texts attributes = by (bytes_eq (text_of ts token) (codes 
     by true e = ap (λ w. variables (by_declarer ts token texts attributes (declarer w))) ((bytes_eq-Decides (text_of ts token) (codes "locals")).0 e) ∙ sym (none (is_empty texts))
     by false e = refl
 
+-- ---- which blocks declare a variable
+
+module _ (ts : List Numbered) (token : ℕ) (texts : List (List ℕ)) (attributes : List Attribute) where
+  abbrev other_declarer : List ℕ → Option Declarer
+  other_declarer word =
+      cond (bytes_eq word (codes "output")) (Some (record { kind = declares.Output; labels = 1 })) (cond (bytes_eq word (codes "module")) (Some (record { kind = declares.Module; labels = 1 }))
+      (cond (bytes_eq word (codes "resource")) (Some (record { kind = declares.Resource; labels = 2 })) (cond (bytes_eq word (codes "data")) (Some (record { kind = declares.Data; labels = 2 })) None)))
+
+  -- what a block of this kind with one label declares
+  abbrev pub a_variable : Declaration ℕ
+  a_variable = record {
+    kind = declares.Variable;
+    names = texts;
+    at = token;
+    described = has (codes "description") attributes;
+    typed = has (codes "type") attributes;
+    versioned = has (codes "version") attributes;
+    source = None;
+  }
+
+  pub one_variable : (word : List ℕ) → bytes_eq word (codes "variable") ≡ true → variables (by_declarer ts token texts attributes (declarer word)) ≡ variables (cond (length texts == 1) (a_variable ∷ []) [])
+  one_variable word same = ap (λ b. variables (by_declarer ts token texts attributes (cond b (Some (record { kind = declares.Variable; labels = 1 })) (other_declarer word)))) same
+
+  pub no_variable : (word : List ℕ) → bytes_eq word (codes "variable") ≡ false → variables (by_declarer ts token texts attributes (declarer word)) ≡ []
+  no_variable word other =
+      ap (λ b. variables (by_declarer ts token texts attributes (cond b (Some (record { kind = declares.Variable; labels = 1 })) (other_declarer word)))) other
+      ∙ by (bytes_eq word (codes "output")) (bytes_eq word (codes "module")) (bytes_eq word (codes "resource")) (bytes_eq word (codes "data"))
+    where
+      one : (b : Bool) (d : Declaration ℕ) → is_variable d.kind ≡ false → variables (cond b (d ∷ []) []) ≡ []
+      one true d e = ap (λ v. cond v (d ∷ []) []) e
+      one false d e = refl
+
+      by : (a b c d : Bool)
+          → variables (by_declarer ts token texts attributes
+          (cond a (Some (record { kind = declares.Output; labels = 1 })) (cond b (Some (record { kind = declares.Module; labels = 1 }))
+          (cond c (Some (record { kind = declares.Resource; labels = 2 })) (cond d (Some (record { kind = declares.Data; labels = 2 })) None))))) ≡ []
+      by true b c d = one (length texts == 1) _ refl
+      by false true c d = one (length texts == 1) _ refl
+      by false false true d = one (length texts == 2) _ refl
+      by false false false true = one (length texts == 2) _ refl
+      by false false false false = refl
+
+pub differs : (b n : Bool) → n ≡ not b → n ≡ true → b ≡ false
+differs true n e h = absurd (true≢false (sym h ∙ e))
+differs false n e h = refl
+
+pub is_same : (b n : Bool) → n ≡ not b → n ≡ false → b ≡ true
+is_same true n e h = refl
+is_same false n e h = absurd (true≢false (sym e ∙ h))
+
 pub closed_at : (level : ℕ) → level ≤ 0 → is_closed level ≡ true
 closed_at zero h = refl
 closed_at (suc level) h = absurd (omega (arith, h))
@@ -53,7 +102,7 @@ module _ (ts : List Numbered) (items : List Item) (n level token end : ℕ) (e :
   abbrev inside : List (Declaration ℕ)
   inside = of_block ts token (labels_in ts rest) (attributes_in ts rest)
 
-  abbrev pub all_by : List (Declaration ℕ)
+  abbrev all_by : List (Declaration ℕ)
   all_by = by_declarer ts token (labels_in ts (drop (n + 1) items)) (attributes_in ts (drop (n + 1) items)) (declarer (text_of ts token))
 
   same : item.Block level token end ≡ x
@@ -71,20 +120,28 @@ module _ (ts : List Numbered) (items : List Item) (n level token end : ℕ) (e :
   at_top : is_closed level ≡ true → (ds : List (Declaration ℕ)) → ds ≡ all_by → map own_as (variables ds) ≡ own_of_item ts x rest
   at_top top ds is = ap (λ es. map own_as (variables es)) is ∙ ap (map own_as) (variables_in ts token (labels_in ts rest) (attributes_in ts rest)) ∙ at_level true top
 
-  pub owner_none : is_closed level ≡ true → [] ≡ all_by → [] ≡ own_of_item ts x (drop (n + 1) items)
-  owner_none top is = at_top top [] is
+  pub owner_none : is_closed level ≡ true → variables all_by ≡ [] → [] ≡ own_of_item ts x (drop (n + 1) items)
+  owner_none top none = sym (ap (map own_as) none) ∙ at_top top all_by refl
 
-  pub owner_other : is_closed level ≡ true → (d : Declared) → declaration d ∷ [] ≡ all_by → is_variable d.kind ≡ false → [] ≡ own_of_item ts x (drop (n + 1) items)
-  owner_other top d is other = ap (λ b. map own_as (cond b (declaration d ∷ []) [])) (sym other) ∙ at_top top (declaration d ∷ []) is
+  -- a block of another kind
+  pub owner_other : is_closed level ≡ true → bytes_eq (text_of ts token) (codes "variable") ≡ false → [] ≡ own_of_item ts x (drop (n + 1) items)
+  owner_other top other = owner_none top (no_variable ts token (labels_in ts rest) (attributes_in ts rest) (text_of ts token) other)
 
-  pub owner_one : is_closed level ≡ true → (d : Declared) → declaration d ∷ [] ≡ all_by → is_variable d.kind ≡ true → (o : OwnBlock) → o.name.now ≡ last_of (texts_of d.names) → o.first ≡ token → o.end ≡ end
+  -- a block of this kind with more labels, or none
+  pub owner_unfit : is_closed level ≡ true → bytes_eq (text_of ts token) (codes "variable") ≡ true → (length (labels_in ts (drop (n + 1) items)) == 1) ≡ false → [] ≡ own_of_item ts x (drop (n + 1) items)
+  owner_unfit top same unfit =
+      owner_none top (one_variable ts token (labels_in ts rest) (attributes_in ts rest) (text_of ts token) same
+      ∙ ap (λ b. variables (cond b (a_variable ts token (labels_in ts rest) (attributes_in ts rest) ∷ []) [])) unfit)
+
+  pub owner_one : is_closed level ≡ true → bytes_eq (text_of ts token) (codes "variable") ≡ true → (name : List ℕ) → labels_in ts (drop (n + 1) items) ≡ name ∷ [] → (o : OwnBlock) → o.name.now ≡ name → o.first ≡ token → o.end ≡ end
       → own_of o ∷ [] ≡ own_of_item ts x (drop (n + 1) items)
-  owner_one top d is one o name first last =
-      ap (λ v. own_by v o.first o.end ∷ []) name
-      ∙ ap (λ v. own_by (last_of (texts_of d.names)) v o.end ∷ []) first
-      ∙ ap (λ v. own_by (last_of (texts_of d.names)) token v ∷ []) last
-      ∙ ap (λ b. map own_as (cond b (declaration d ∷ []) [])) (sym one)
-      ∙ at_top top (declaration d ∷ []) is
+  owner_one top same name label o is first last =
+      ap (λ v. own_by v o.first o.end ∷ []) is
+      ∙ ap (λ v. own_by name v o.end ∷ []) first
+      ∙ ap (λ v. own_by name token v ∷ []) last
+      ∙ ap (λ texts. map own_as (variables (cond (length texts == 1) (a_variable ts token texts (attributes_in ts rest) ∷ []) []))) (sym label)
+      ∙ ap (map own_as) (sym (one_variable ts token (labels_in ts rest) (attributes_in ts rest) (text_of ts token) same))
+      ∙ at_top top all_by refl
 
 -- ---- all items
 

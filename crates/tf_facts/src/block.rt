@@ -1,16 +1,15 @@
-//! What follows a block in the outline of a file: its labels, and the attributes directly in its body.
+//! What follows a block in the outline of a file: its labels, and what the attributes directly in its body say.
 
-ghost use Rattle.std.specs.Prelude.{◌≡◌, ◌<◌, ◌≤◌, ◌+◌, ◌∷◌, ℕ, [], drop, find, length, slice_get, MatchOption, Some};
+ghost use Rattle.std.specs.Prelude.{◌≡◌, ◌<◌, ◌≤◌, ◌+◌, ◌∷◌, ℕ, [], drop, length, slice_get, MatchOption, Some};
 ghost use Rattle.hcl_grammar.specs.Items.{outline};
+ghost use Rattle.hcl_grammar.specs.Labels.{text_of};
 ghost use Rattle.hcl_grammar.specs.Numbered.{numbered};
-ghost use Rattle.tf_facts.specs.Declarations.{attribute, attributes_in, has, is_inside, labels_in, with_attribute};
+ghost use Rattle.tf_facts.specs.Declarations.{attribute, attributes_in, is_inside, labels_in, with_attribute};
 ghost use Rattle.tf_facts.specs.Inner.Labelled.{AreNames};
-ghost use Rattle.tf_facts.specs.Inner.Values.{value_of_attribute, value_of_item};
-ghost use Rattle.std.specs.Option.{option_map};
-ghost use Rattle.std.specs.Str.{bytes_eq};
+ghost use Rattle.tf_facts.specs.Inner.Values.{body_of, both};
 
 use crate::names::Names;
-use crate::value::Value;
+use crate::value::{Body, Value};
 use hcl_grammar::{Accepted, Item, Outline, label_text};
 
 /// The text of a label, and the number of the item after it.
@@ -67,70 +66,78 @@ pub fn is_inside(item: Item) -> bool
     }
 }
 
-/// Whether an item is an attribute of this name directly in the body of a top-level block.
-fn is_named(accepted: &Accepted<'_, '_>, item: Item, wanted: &str) -> bool
+/// The text of the token of this number.
+pub fn word_at<'s>(accepted: &Accepted<'_, 's>, number: usize) -> &'s str
+    requires { number < length accepted.now.tokens }
+    ensures { result.now ≡ text_of (numbered accepted.now.tokens) number }
+{
+    let tokens = accepted.tokens();
+    let token = tokens.get(number);
+    token.text
+}
+
+/// What no attribute says.
+fn nothing() -> Body
+    ensures { result ≡ body_of [] }
+{
+    Body {
+        is_described: false,
+        is_typed: false,
+        is_versioned: false,
+        source: None,
+    }
+}
+
+/// What an item says, where it is an attribute directly in the body of a top-level block.
+fn body_of_item(accepted: &Accepted<'_, '_>, item: Item) -> Body
     requires { (i : ℕ) × (slice_get (outline accepted.now.tokens) i ≡ Some item) }
-    ensures { result ≡ has wanted.now (with_attribute (attribute (numbered accepted.now.tokens) item) []) }
+    ensures { result ≡ body_of (with_attribute (attribute (numbered accepted.now.tokens) item) []) }
 {
-    match item {
-        Item::Attribute { level, name, .. } => level == 1
-            && accepted.tokens().get(name).text == wanted,
-        Item::Block { .. } => false,
-        Item::Label(_) => false,
+    let Item::Attribute {
+        level,
+        name,
+        first,
+        end,
+    } = item
+    else {
+        return nothing();
+    };
+    if level != 1 {
+        return nothing();
+    }
+    let word = word_at(accepted, name);
+    Body {
+        is_described: word == "description",
+        is_typed: word == "type",
+        is_versioned: word == "version",
+        source: (word == "source").then_some(Value { first, end }),
     }
 }
 
-/// Whether the block after which this number stands has an attribute of this name directly in its body.
-pub fn has_attribute(
-    accepted: &Accepted<'_, '_>,
-    items: &Outline,
-    from: usize,
-    wanted: &str,
-) -> bool
-    requires { items.now ≡ outline accepted.now.tokens }
-    ensures { result ≡ has wanted.now (attributes_in (numbered accepted.now.tokens) (drop from items.now)) }
+/// What is said first, and then.
+fn both(one: Body, other: Body) -> Body
+    ensures { result ≡ both one other }
 {
+    Body {
+        is_described: one.is_described || other.is_described,
+        is_typed: one.is_typed || other.is_typed,
+        is_versioned: one.is_versioned || other.is_versioned,
+        source: one.source.or(other.source),
+    }
+}
+
+/// What the attributes directly in the body of the block say after which this number stands.
+pub fn body(accepted: &Accepted<'_, '_>, items: &Outline, from: usize) -> Body
+    requires { items.now ≡ outline accepted.now.tokens }
+    ensures { result ≡ body_of (attributes_in (numbered accepted.now.tokens) (drop from items.now)) }
+{
+    let mut body = nothing();
     for number in from..items.len() {
         let item = items.get(number);
         if !is_inside(item) {
-            return false;
+            return body;
         }
-        if is_named(accepted, item, wanted) {
-            return true;
-        }
+        body = both(body, body_of_item(accepted, item));
     }
-    false
-}
-
-/// The value of an item that is an attribute.
-fn value_of_item(item: Item) -> Option<Value>
-    ensures { result ≡ value_of_item item }
-{
-    match item {
-        Item::Attribute { first, end, .. } => Some(Value { first, end }),
-        Item::Block { .. } => None,
-        Item::Label(_) => None,
-    }
-}
-
-/// The value of the first attribute of this name directly in the body of the block after which this number stands.
-pub fn attribute_value(
-    accepted: &Accepted<'_, '_>,
-    items: &Outline,
-    from: usize,
-    wanted: &str,
-) -> Option<Value>
-    requires { items.now ≡ outline accepted.now.tokens }
-    ensures { result ≡ option_map value_of_attribute (find (λ a. bytes_eq a.name wanted.now) (attributes_in (numbered accepted.now.tokens) (drop from items.now))) }
-{
-    for number in from..items.len() {
-        let item = items.get(number);
-        if !is_inside(item) {
-            return None;
-        }
-        if is_named(accepted, item, wanted) {
-            return value_of_item(item);
-        }
-    }
-    None
+    body
 }

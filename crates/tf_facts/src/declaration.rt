@@ -1,34 +1,26 @@
 //! What the top-level blocks of a file declare, by its outline.
 
-ghost use Rattle.std.specs.Prelude.{◌≡◌, ◌<◌, ◌≤◌, ◌+◌, ◌^◌, ◌==◌, ◌++◌, [], ℕ, List, codes, drop, length, map, slice_get, Some, None, IfOk, IfSome, OnOk, if◌then◌else◌};
+ghost use Rattle.std.specs.Prelude.{◌≡◌, ◌<◌, ◌≤◌, ◌+◌, ◌^◌, ◌==◌, ◌++◌, [], ℕ, List, codes, drop, length, map, slice_get, Option, Some, None, IfOk, IfSome, OnOk, if◌then◌else◌};
 ghost use Rattle.std.specs.Option.{option_map};
 ghost use Rattle.hcl_grammar.specs.Items.{outline};
 ghost use Rattle.hcl_grammar.specs.Labels.{text_of};
 ghost use Rattle.hcl_grammar.specs.Numbered.{numbered};
 ghost use Rattle.hcl_grammar.specs.declared.item.Item.{Item};
-ghost use Rattle.tf_facts.specs.Declarations.{attribute, attributes_in, by_declarer, declarations, declarer, is_empty, is_module, labels_in, module_source, of_block, of_item, of_local, with_attribute};
+ghost use Rattle.tf_facts.specs.Declarations.{Attribute, attribute, attributes_in, by_declarer, declarations, declarer, is_empty, is_module, labels_in, of_block, of_item, of_local, source_of_attribute, with_attribute};
 ghost use Rattle.tf_facts.specs.Found.{declaration, found_source};
 ghost use Rattle.tf_facts.specs.Inner.FoundViews.{declarer_of, listed};
 ghost use Rattle.tf_facts.specs.Inner.Labelled.{AreNames};
+ghost use Rattle.tf_facts.specs.Inner.Values.{value_of_attribute};
 
-use crate::block::{attribute_value, has_attribute, is_inside, names};
+use crate::block::{body, is_inside, names, word_at};
 use crate::declaration_kind::DeclarationKind;
 use crate::found::{Declared, Declarer, FoundSource};
 use crate::names::Names;
 use crate::plain_text::plain_text;
 use crate::source::source_of;
+use crate::value::Value;
 use hcl_grammar::{Accepted, Item, Outline};
 use std::alloc::{AllocError, Global};
-
-/// The text of the token of this number.
-fn word_at<'s>(accepted: &Accepted<'_, 's>, number: usize) -> &'s str
-    requires { number < length accepted.now.tokens }
-    ensures { result.now ≡ text_of (numbered accepted.now.tokens) number }
-{
-    let tokens = accepted.tokens();
-    let token = tokens.get(number);
-    token.text
-}
 
 /// What a block with this word as its kind declares, and with how many labels.
 fn declarer(word: &str) -> Option<Declarer>
@@ -87,13 +79,12 @@ fn is_module(kind: DeclarationKind) -> bool
     matches!(kind, DeclarationKind::Module)
 }
 
-/// The source that the first attribute `source` of a block gives, where it is a plain text; `from` is the number of the
-/// item after the block.
-fn module_source(accepted: &Accepted<'_, '_>, items: &Outline, from: usize) -> Option<FoundSource>
-    requires { items.now ≡ outline accepted.now.tokens }
-    ensures { option_map found_source result ≡ module_source (numbered accepted.now.tokens) (attributes_in (numbered accepted.now.tokens) (drop from items.now)) }
+/// The source that the value of the first attribute `source` gives, where it is a plain text.
+fn module_source(accepted: &Accepted<'_, '_>, value: Option<Value>) -> Option<FoundSource>
+    requires { IfSome value (λ v. v.end ≤ length accepted.now.tokens) }
+    ensures { (a : Option Attribute) → option_map value_of_attribute a ≡ value → option_map found_source result ≡ source_of_attribute (numbered accepted.now.tokens) a }
 {
-    let Some(value) = attribute_value(accepted, items, from, "source") else {
+    let Some(value) = value else {
         return None;
     };
     let tokens = accepted.tokens();
@@ -109,21 +100,20 @@ fn module_source(accepted: &Accepted<'_, '_>, items: &Outline, from: usize) -> O
 /// The source of a block that declares a module.
 fn source_in(
     accepted: &Accepted<'_, '_>,
-    items: &Outline,
-    from: usize,
+    value: Option<Value>,
     kind: DeclarationKind,
 ) -> Option<FoundSource>
-    requires { items.now ≡ outline accepted.now.tokens }
-    ensures { option_map found_source result ≡ (if is_module kind then module_source (numbered accepted.now.tokens) (attributes_in (numbered accepted.now.tokens) (drop from items.now)) else None) }
+    requires { IfSome value (λ v. v.end ≤ length accepted.now.tokens) }
+    ensures { (a : Option Attribute) → option_map value_of_attribute a ≡ value → option_map found_source result ≡ (if is_module kind then source_of_attribute (numbered accepted.now.tokens) a else None) }
 {
     if is_module(kind) {
-        return module_source(accepted, items, from);
+        return module_source(accepted, value);
     }
     None
 }
 
 /// What a top-level block other than `locals` declares, by the number of its kind and that of the item after it.
-pub fn declared_by<'s>(
+fn declared_by<'s>(
     accepted: &Accepted<'_, 's>,
     items: &Outline,
     token: usize,
@@ -141,17 +131,15 @@ pub fn declared_by<'s>(
     if !are_as_many(names, declarer.labels) {
         return None;
     }
-    let is_described = has_attribute(accepted, items, from, "description");
-    let is_typed = has_attribute(accepted, items, from, "type");
-    let is_versioned = has_attribute(accepted, items, from, "version");
-    let source = source_in(accepted, items, from, declarer.kind);
+    let body = body(accepted, items, from);
+    let source = source_in(accepted, body.source, declarer.kind);
     Some(Declared {
         kind: declarer.kind,
         names,
         at: token,
-        is_described,
-        is_typed,
-        is_versioned,
+        is_described: body.is_described,
+        is_typed: body.is_typed,
+        is_versioned: body.is_versioned,
         source,
     })
 }

@@ -1,18 +1,17 @@
 //! Where the variables of a file are declared, and the references that are left without their own.
 
-ghost use Rattle.std.specs.Prelude.{◌≡◌, ◌<◌, ◌+◌, ◌^◌, ℕ, drop, length, map, slice_get, Some, IfOk, OnOk, OnErr};
+ghost use Rattle.std.specs.Prelude.{◌≡◌, ◌==◌, ◌<◌, ◌+◌, ◌^◌, ◌∷◌, [], ℕ, List, false, drop, length, map, slice_get, Some, IfOk, MatchOption, OnOk, OnErr};
 ghost use Rattle.std.specs.Str.{bytes_eq};
 ghost use Rattle.indexmap.specs.IndexSet.{insert_all};
 ghost use Rattle.hcl_grammar.specs.Items.{outline};
 ghost use Rattle.hcl_grammar.specs.Numbered.{numbered};
 ghost use Rattle.hcl_grammar.specs.declared.item.Item.{Item};
 ghost use Rattle.tf_facts.specs.OwnBlocks.{own_of, Apart};
-ghost use Rattle.tf_facts.specs.References.{is_variable, last_of, own_blocks, own_of_item, references};
+ghost use Rattle.tf_facts.specs.References.{own_blocks, own_of_item, references};
 ghost use Rattle.tf_facts.specs.Inner.FoundViews.{own_listed};
-ghost use Rattle.tf_facts.specs.Found.{texts_of};
+ghost use Rattle.tf_facts.specs.Inner.Labelled.{AreNames};
 
-use crate::declaration::declared_by;
-use crate::declaration_kind::DeclarationKind;
+use crate::block::{names, word_at};
 use crate::names::Names;
 use crate::own_block::OwnBlock;
 use crate::references::add_references;
@@ -20,22 +19,16 @@ use crate::text_set::TextSet;
 use hcl_grammar::{Accepted, Item, Outline};
 use std::alloc::{AllocError, Global};
 
-/// The last of up to two labels.
-fn last<'s>(names: Names<'s>) -> &'s str
-    ensures { result.now ≡ last_of (texts_of names.entry) }
+/// The only label, where there is one and no more.
+fn only<'s>(names: Names<'s>) -> Option<&'s str>
+    ensures { (texts : List (List ℕ)) → AreNames names.entry texts → MatchOption result ((length texts == 1) ≡ false) (λ name. texts ≡ name.now ∷ []) }
 {
     match names {
-        Names::None => "",
-        Names::One(name) => name,
-        Names::Two(_, second) => second,
-        Names::More => "",
+        Names::None => None,
+        Names::One(name) => Some(name),
+        Names::Two(_, _) => None,
+        Names::More => None,
     }
-}
-
-fn is_variable(kind: DeclarationKind) -> bool
-    ensures { result ≡ is_variable kind }
-{
-    matches!(kind, DeclarationKind::Variable)
 }
 
 /// The block of the variable that the item of this number declares.
@@ -55,14 +48,14 @@ fn own_block_at<'s>(
     if level > 0 {
         return None;
     }
-    let Some(declared) = declared_by(accepted, items, kind, number + 1) else {
-        return None;
-    };
-    if !is_variable(declared.kind) {
+    if word_at(accepted, kind) != "variable" {
         return None;
     }
+    let Some(name) = only(names(accepted, items, number + 1)) else {
+        return None;
+    };
     Some(OwnBlock {
-        name: last(declared.names),
+        name,
         first: kind,
         end,
     })

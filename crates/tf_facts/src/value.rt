@@ -1,10 +1,20 @@
-//! What follows an attribute's sign.
+//! The values of attributes, and what those of a block say.
 
 /// The tokens of a value, by the number of the first and the one after the last.
 #[derive(Clone, Copy, Debug, PartialEq, Eq)]
 pub struct Value {
     pub first: usize,
     pub end: usize,
+}
+
+/// What the attributes directly in the body of a block say: which of these names there are, and the value of the first
+/// `source`.
+#[derive(Clone, Copy)]
+pub struct Body {
+    pub is_described: bool,
+    pub is_typed: bool,
+    pub is_versioned: bool,
+    pub source: Option<Value>,
 }
 
 /// A quote with at most one literal: the number of its opening quote, and its text.

@@ -1,13 +1,14 @@
 -- The values of attributes, as the code finds them.
-use Rattle.std.specs.Prelude.{◌≡◌, ◌<◌, ◌+◌, ◌-◌, ◌&&◌, ℕ, Bool, not, List, ◌∷◌, Option, Some, None, drop, filter, take}
+use Rattle.std.specs.Prelude.{◌≡◌, ◌<◌, ◌+◌, ◌-◌, ◌&&◌, ◌||◌, ℕ, Bool, not, List, ◌∷◌, codes, drop, filter, find, take}
+use Rattle.std.specs.Option.{option_map, option_or}
+use Rattle.std.specs.Str.{bytes_eq}
 use Rattle.hcl_tokens.specs.Kinds.{is}
 use Rattle.hcl_tokens.specs.declared.token.Kind.TheVariants.{Newline}
 use Rattle.hcl_tokens.specs.Lexemes.{Lexeme}
 use Rattle.hcl_grammar.specs.Numbered.{Numbered, is_comment, numbered}
-use Rattle.hcl_grammar.specs.declared.item.Item.{Item}
-use Rattle.hcl_grammar.specs.declared.item.Item.TheVariants as item
-use Rattle.tf_facts.specs.Declarations.{Attribute, PlainText}
+use Rattle.tf_facts.specs.Declarations.{Attribute, PlainText, has}
 use Rattle.tf_facts.specs.Inner.Seen.{numbered_of}
+use Rattle.tf_facts.specs.declared.value.Body.{Body}
 use Rattle.tf_facts.specs.declared.value.Value.{Value}
 use Rattle.tf_facts.specs.declared.value.Plain.{Plain}
 use Rattle.tf_facts.specs.declared.seen.Seen.{Seen}
@@ -27,11 +28,23 @@ pub record IsFirstValue (tokens : List Lexeme) (from to : ℕ) (t : Seen) : Type
 abbrev pub value_of_attribute : Attribute → Value
 value_of_attribute a = record { first = a.first; end = a.end }
 
--- the value of an item that is an attribute
-abbrev pub value_of_item : Item → Option Value
-value_of_item (item.Attribute level name first end) = Some (record { first = first; end = end })
-value_of_item (item.Block level kind end) = None
-value_of_item (item.Label l) = None
+-- what attributes say together
+abbrev pub body_of : List Attribute → Body
+body_of attributes = record {
+  is_described = has (codes "description") attributes;
+  is_typed = has (codes "type") attributes;
+  is_versioned = has (codes "version") attributes;
+  source = option_map value_of_attribute (find (λ a. bytes_eq a.name (codes "source")) attributes);
+}
+
+-- what is said first, and then
+abbrev pub both : Body → Body → Body
+both one other = record {
+  is_described = one.is_described || other.is_described;
+  is_typed = one.is_typed || other.is_typed;
+  is_versioned = one.is_versioned || other.is_versioned;
+  source = option_or one.source other.source;
+}
 
 abbrev pub plain_text_of : Plain → PlainText
 plain_text_of p = record { quote = p.quote; text = p.text.now }

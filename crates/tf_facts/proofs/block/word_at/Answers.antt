@@ -3,7 +3,7 @@ use Rattle.hcl_tokens.specs.Scanned.{Scanned, lexeme}
 use Rattle.hcl_grammar.specs.Numbered.{numbered}
 use Rattle.hcl_grammar.specs.Labels.{first_text, text_of}
 use Rattle.hcl_grammar.proofs.NumberedLemmas.{numbered_here}
-use Rattle.tf_facts.proofs.declaration.word_at.Goals as goal
+use Rattle.tf_facts.proofs.block.word_at.Goals as goal
 
 pub returns : goal.returns
 returns c =
