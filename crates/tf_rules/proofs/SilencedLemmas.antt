@@ -1,11 +1,13 @@
 -- What is silenced on a line, comment by comment.
-use Rattle.std.proofs.Common.{◌≡◌, ◌∙◌, ap, sym, refl, ℕ, ◌+◌, ◌<◌, Bool, true, false, cond, List, [], ◌∷◌, ◌++◌, map, take, filter, length, get_or, arith, inl, inr}
+use Rattle.std.proofs.Common.{◌≡◌, ◌∙◌, ap, sym, refl, ℕ, ◌+◌, ◌-◌, ◌≤◌, ◌<◌, Bool, true, false, cond, List, [], ◌∷◌, ◌++◌, map, take, filter, length, get_or, arith, inl, inr}
 use Rattle.std.specs.Prelude.{◌⊎◌, ◌==◌, ◌&&◌, ◌||◌, Option, Some}
 use Rattle.std.specs.List.{list_any}
-use Rattle.std.proofs.lemmas.Bool.{and_left, and_right, cases_eq, eq-eqb, ne_eqb, or_from}
+use Rattle.std.specs.Map.{lookup}
+use Rattle.std.proofs.lemmas.Bool.{and_left, and_right, cases_eq, cases_lt, eq-eqb, ne_eqb, or_from}
 use Rattle.std.proofs.lemmas.List.{map-append, take_more}
 use Rattle.std.proofs.lemmas.List.Elements.{filter-append}
 use Rattle.std.proofs.lemmas.List.Folds.{list_any-append}
+use Rattle.indexmap.specs.IndexMap.{IndexMap, index_map_len}
 use Rattle.tf_facts.specs.Comments.{Comment, is_any}
 use Rattle.tf_rules.specs.Issues.{Issue, Place, covers, is_silenced}
 use Rattle.rule_set.specs.Rules.{all_rules, is_rule}
@@ -13,7 +15,7 @@ use Rattle.rule_set.specs.RuleSets.{holds, rules_of}
 use Rattle.tf_rules.specs.Answers.{shown_issue}
 use Rattle.tf_rules.specs.Inner.Entries.{issue_of, issues_of}
 use Rattle.tf_rules.specs.Inner.KeptViews.{kept_comment}
-use Rattle.tf_rules.specs.Inner.SilencedLines.{is_in_set, is_on}
+use Rattle.tf_rules.specs.Inner.SilencedLines.{is_in_set, is_on, same_line, silenced_at}
 use Rattle.tf_rules.specs.declared.entry.Entry.{Entry}
 use Rattle.tf_rules.specs.declared.kept.KeptComment.{KeptComment}
 use Rattle.rule_set.specs.declared.rule.Rule.{Rule}
@@ -139,6 +141,26 @@ under_none file line rule (c ∷ comments) e =
     or_from (is_under file line rule c) (list_any (is_under file line rule) comments)
     (and_left ((c.at.file == file) && (c.at.at.line + 1 == line)) (list_any (is_rule rule) c.silences) (and_right (c.at.file == file) (c.at.at.line + 1 == line) (ne_eqb (c.at.at.line + 1) line (λ f. omega (arith, f, e)))))
     (under_none file line rule comments e)
+
+-- ---- where no line is silenced
+
+pub none_silenced : {S : Type 0} (lines : IndexMap (ℕ × ℕ) RuleSet S) → index_map_len lines ≡ 0 → (file line : ℕ) (rule : Rule) → silenced_at lines file line rule ≡ false
+none_silenced lines none file line rule = by lines.entries none
+  where
+    by : (es : List ((ℕ × ℕ) × RuleSet)) → length es ≡ 0 → is_in_set (lookup (same_line (file, line)) es) rule ≡ false
+    by [] e = refl
+    by (x ∷ es) e = absurd (omega (arith, e))
+
+pub unsilenced : (comments : List (Comment Place)) (i : Issue) → ((file line : ℕ) (rule : Rule) → list_any (is_on file line rule) comments ≡ false) → false ≡ is_silenced comments i
+unsilenced comments i none =
+    sym (silenced_both comments i
+    ∙ ap (λ b. b || list_any (is_under i.place.file i.place.at.line i.rule) comments) (none i.place.file i.place.at.line i.rule)
+    ∙ above (cases_lt 0 i.place.at.line))
+  where
+    above : (0 < i.place.at.line) ⊎ (i.place.at.line ≤ 0) → list_any (is_under i.place.file i.place.at.line i.rule) comments ≡ false
+    above (inl some) =
+        under_above i.place.file i.place.at.line (i.place.at.line - 1) i.rule comments (omega (arith, some)) ∙ none i.place.file (i.place.at.line - 1) i.rule
+    above (inr zero) = under_none i.place.file i.place.at.line i.rule comments (omega (arith, zero))
 
 -- ---- the issues that are shown
 

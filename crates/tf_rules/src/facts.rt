@@ -22,7 +22,7 @@ use crate::kept_file::{KeptFile, kept_file};
 use crate::naming::Naming;
 use crate::order::in_order;
 use crate::settings::Settings;
-use crate::silenced::{shown, silenced_lines};
+use crate::silenced::{issues_to_show, silenced_lines};
 use hcl_syntax::{Accepted, Outline, outline};
 use rule_set::{ALL_RULES, Rule};
 use std::alloc::{AllocError, Global};
@@ -225,6 +225,6 @@ impl Facts {
         let entries = self.reported(settings, &ALL_RULES)?;
         let lines = silenced_lines(self.alloc, &self.comments)?;
         let sorted = in_order(entries)?;
-        shown(self.alloc, sorted.as_slice(), &lines)
+        issues_to_show(self.alloc, sorted.as_slice(), &lines)
     }
 }

@@ -68,10 +68,14 @@ pub fn silenced_lines(alloc: Global, comments: &[KeptComment]) -> Result<Silence
     Ok(lines)
 }
 
-/// Whether an issue is silenced, on its own line or by the line above.
+/// Whether an issue is silenced, on its own line or by the line above. In most modules no comment silences anything, and
+/// then no line is looked up.
 fn is_silenced(lines: &SilencedLines, entry: &Entry<'_>) -> bool
     ensures { (comments : List (Comment Place)) → AreSilenced lines.now comments → result ≡ is_silenced comments (issue_of entry.now) }
 {
+    if lines.is_empty() {
+        return false;
+    }
     let place = entry.at;
     if rules_on(lines, place.file, place.at.line).holds(entry.rule) {
         return true;
@@ -83,7 +87,7 @@ fn is_silenced(lines: &SilencedLines, entry: &Entry<'_>) -> bool
 }
 
 /// Puts an issue last as it is shown, where it isn't silenced.
-fn put_shown(
+fn put_issue(
     alloc: Global,
     entry: &Entry<'_>,
     lines: &SilencedLines,
@@ -105,8 +109,8 @@ fn put_shown(
     Ok(())
 }
 
-/// The issues that aren't silenced, as they are shown.
-pub fn shown(
+/// The issues that aren't silenced, as they are shown, in room for all entries.
+pub fn issues_to_show(
     alloc: Global,
     entries: &[Entry<'_>],
     lines: &SilencedLines,
@@ -114,9 +118,9 @@ pub fn shown(
     ensures { (comments : List (Comment Place)) → AreSilenced lines.now comments
         → IfOk result (λ issues. issues.items ≡ map shown_issue (filter (λ i. not (is_silenced comments i)) (issues_of entries.now))) }
 {
-    let mut issues = Vec::new(alloc);
+    let mut issues = Vec::with_capacity(alloc, entries.len())?;
     for entry in entries {
-        put_shown(alloc, entry, lines, &mut issues)?;
+        put_issue(alloc, entry, lines, &mut issues)?;
     }
     Ok(issues)
 }

@@ -26,9 +26,9 @@ returns c = λ files kept rising.
     ∙ ap₂ (λ (cs : List (Comment Place)) (is : List Issue). filter (λ i. not (is_silenced cs i)) is) told (sym c.in_ok-entries.ensures) in
     let all : reported_issues asked files ≡ found = reported_is asked files ∙ ap (reported_of_kept asked) (sym kept) ∙ sym c.in_ok-entries.ensures in
     let apart : Ascends Differ found = subst (λ (is : List Issue). Ascends Differ is) all (reported_apart c.args.settings.now files rising) in
-    IfOk-weaker c.shown.result (λ answer. answer.items ≡ map shown_issue (filter p (issues_of c.as_slice.result.now))) (λ answer. AreIssues asked files answer.items)
+    IfOk-weaker c.issues_to_show.result (λ answer. answer.items ≡ map shown_issue (filter p (issues_of c.as_slice.result.now))) (λ answer. AreIssues asked files answer.items)
     (λ answer e. record {
       report = filter p (issues_of c.in_ok-sorted.sorted.items);
       is = is_report asked files p c.in_ok-entries.entries.items c.in_ok-sorted.sorted.items is apart c.in_ok-sorted.ensures.all c.in_ok-sorted.ensures.ordered;
       same = sym (e ∙ ap (λ es. map shown_issue (filter p (issues_of es))) c.as_slice.ensures.value);
-    }) (c.shown.ensures comments c.in_ok-lines.ensures)
+    }) (c.issues_to_show.ensures comments c.in_ok-lines.ensures)
