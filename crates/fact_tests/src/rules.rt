@@ -1,8 +1,8 @@
 //! The rules' names, severities and sets, from the table that users read.
 
 use crate::checks::holds;
-use std::process::Abort;
 use rule_set::{Rule, RuleSet, Severity};
+use std::process::Abort;
 
 /// That the name is the rule's, and the rule the name's.
 fn is_named(rt: &impl Abort, name: &str, rule: Rule) {
