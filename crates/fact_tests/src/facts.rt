@@ -3,12 +3,13 @@
 use crate::checks::holds;
 use hcl_scan::{Source, scan};
 use hcl_syntax::{Accepted, accepts, outline};
+use rule_set::{Rule, RuleSet};
 use std::alloc::{AllocError, Global};
 use std::process::Abort;
 use std::test::Fail;
 use tf_facts::{
-    DeclarationKind, Declared, FileFacts, FoundComment, ModuleSource, Rule, RuleSet, TextSet,
-    add_references_of, facts_of,
+    DeclarationKind, Declared, FileFacts, FoundComment, ModuleSource, TextSet, add_references_of,
+    facts_of,
 };
 
 /// What a test wants of the facts and the references of a file.
