@@ -1,6 +1,7 @@
 """The program tffmt-all on real folders: which files it takes, what it does to them, and what it says if something
 fails."""
 
+import contextlib
 import os
 import random
 import re
@@ -49,11 +50,14 @@ def tree(group, text=OTHER):
 
 
 def contents(top):
-    return {
-        os.path.relpath(os.path.join(where, name), str(top)): open(os.path.join(where, name), 'rb').read()
-        for where, _, names in os.walk(str(top))
-        for name in names
-    }
+    """The bytes of each file, by its name. A temporary file may go while they are read."""
+    found = {}
+    for where, _, names in os.walk(str(top)):
+        for name in names:
+            path = os.path.join(where, name)
+            with contextlib.suppress(FileNotFoundError), open(path, 'rb') as file:
+                found[os.path.relpath(path, str(top))] = file.read()
+    return found
 
 
 def run(group):
