@@ -411,6 +411,11 @@ def command_line(group):
         ['--form', 'json'],
     ):
         group.check('a wrong line %r' % words, group.call(script, *words, cwd=here), (1, b'', usage))
+    # A Python without its standard library, as Debian's python3-minimal, is told in a line.
+    (here / 'less').mkdir()
+    (here / 'less' / 'json.py').write_text('raise ImportError("No module named \'json\'")\n')
+    status, out, err = group.call(script, '--help', cwd=here, PYTHONPATH=str(here / 'less'))
+    group.check('half a Python', (status, out, err[:45]), (1, b'', b'tfrules-report: this Python has no whole stan'))
 
 
 def texts(group):
