@@ -1,9 +1,9 @@
 -- No more grapheme clusters than bytes, as many as characters in a text whose characters are alone, and as many as bytes in
 -- one that is ASCII without CR.
-use Rattle.std.proofs.Common.{IsUtf8, cond, get_or, not, one-add, subst, length-append, length-take-le, ◌≡◌, ◌∙◌, ◌+◌, ◌-◌, ◌*◌, ◌≤◌, ◌<◌, ◌==◌, ◌&&◌, ap, ap₂, sym, refl, true≢false, ℕ, suc, zero, Bool, true, false, List, [], ◌∷◌, length, arith, drop, take, add-one, drop-cons, inl, inr}
-use Rattle.std.specs.Prelude.{encode_utf8_all, ◌++◌, ◌||◌, map, nat_eq, nat_le, nat_lt, slice_index_or, unwrap_or}
+use Rattle.std.proofs.Common.{IsUtf8, cond, get_or, not, one-add, subst, length-append, length-take-le, ◌≡◌, ◌∙◌, ◌+◌, ◌-◌, ◌*◌, ◌≤◌, ◌<◌, ◌==◌, ◌&&◌, ap, ap₂, sym, refl, true≢false, ℕ, suc, zero, Bool, true, false, List, [], ◌∷◌, length, arith, drop, take, add-one, inl, inr}
+use Rattle.std.specs.Prelude.{encode_utf8_all, ◌++◌, ◌||◌, map, nat_le, nat_lt, unwrap_or}
 use Rattle.hcl_layout.specs.Inner.Simple.{IsFrom, are_alone, first_alone, further_alone, is_alone, is_simple, is_simple_byte, within_any}
-use Rattle.std.proofs.Math.ListN.{drop_of_length-le}
+use Rattle.hcl_source.proofs.SimpleLemmas.{Breaks, clusters_apart, clusters_simple, simple_parts}
 use Rattle.std.proofs.lemmas.List.{length-map, take-append-drop}
 use Rattle.std.proofs.lemmas.List.Folds.{list_all-append}
 use Rattle.std.proofs.lemmas.List.Sums.{prefix_len-le-length, prefix_len_passes}
@@ -164,41 +164,15 @@ others_break c n before left right e =
     let flag = and_right (ends_in_half_flag (c ∷ before)) (is_regional (grapheme_cluster_break n)) (ap is_regional (sym right)) in
     ap not (ap₂ ◌||◌ (ap₂ ◌||◌ conjunct emoji) flag)
 
-alone_breaks : (c n : ℕ) (before after : List ℕ) → is_alone c ≡ true → is_alone n ≡ true → is_grapheme_break true (c ∷ before) (n ∷ after) ≡ true
+alone_breaks : Breaks is_alone
 alone_breaks c n before after p q =
     let here = alone_class c p in
     let next = alone_class n q in
     is_grapheme_break-inside true (c ∷ before) n after (omega arith)
     ∙ pair_breaks (grapheme_cluster_break c) (grapheme_cluster_break n) _ here.0 next.0 (λ l r. others_break c n before l r next.1)
 
-cut_step : (rule : Rule) (before : List ℕ) (c : ℕ) (cs after : List ℕ) → rule (c ∷ before) (cs ++ after) ≡ true → length (cut rule before (c ∷ cs) after) ≡ suc (length (cut rule (c ∷ before) cs after))
-unfolding cut
-cut_step rule before c cs after e = rw e refl
-
-cut_end : (rule : Rule) (before after : List ℕ) → length (cut rule before [] after) ≡ 0
-unfolding cut
-cut_end rule before after = refl
-
-last_breaks : (c : ℕ) (before : List ℕ) → is_grapheme_break true (c ∷ before) [] ≡ true
-unfolding is_grapheme_break
-last_breaks c before = refl
-
--- a cluster for each character, after the character before
-alone_cut : (cs : List ℕ) (c : ℕ) (before : List ℕ) → is_alone c ≡ true → are_alone cs ≡ true → length (cut (is_grapheme_break true) before (c ∷ cs) []) ≡ suc (length cs)
-alone_cut [] c before p e = cut_step (is_grapheme_break true) before c [] [] (last_breaks c before) ∙ ap suc (cut_end (is_grapheme_break true) (c ∷ before) [])
-alone_cut (n ∷ cs) c before p e =
-    let parts = and_parts (is_alone n) (are_alone cs) e in
-    cut_step (is_grapheme_break true) before c (n ∷ cs) [] (alone_breaks c n before (cs ++ []) p parts.0) ∙ ap suc (alone_cut cs n (c ∷ before) parts.0 parts.1)
-
-alone_cuts : (cs : List ℕ) → are_alone cs ≡ true → length (cut (is_grapheme_break true) [] cs []) ≡ length cs
-alone_cuts [] e = cut_end (is_grapheme_break true) [] []
-alone_cuts (c ∷ cs) e =
-    let parts = and_parts (is_alone c) (are_alone cs) e in
-    alone_cut cs c [] parts.0 parts.1
-
 pub clusters_alone : (text : List ℕ) → are_alone (chars text) ≡ true → length (graphemes true text) ≡ length (chars text)
-unfolding segments
-clusters_alone text e = length-map (cut (is_grapheme_break true) [] (chars text) []) encode_utf8_all ∙ alone_cuts (chars text) e
+clusters_alone = clusters_apart is_alone alone_breaks
 
 -- ---- below U+0300, and from there on
 
@@ -228,15 +202,6 @@ alone_above c le =
 
 -- ---- ASCII
 
--- a byte more that is simple
-simple_parts : (b : ℕ) (text : List ℕ) → is_simple (b ∷ text) ≡ true → (b < 128) × ((b == 13) ≡ false) × (is_simple text ≡ true)
-simple_parts b text e = go (nat_lt b 128) refl (b == 13) refl e
-  where
-    go : (v : Bool) → nat_lt b 128 ≡ v → (w : Bool) → (b == 13) ≡ w → ((v && not w) && is_simple text) ≡ true → (b < 128) × ((b == 13) ≡ false) × (is_simple text ≡ true)
-    go true v false w h = (grind (arith, nat_tests), w, h)
-    go true v true w h = cc
-    go false v w q h = cc
-
 simple_ascii : (text : List ℕ) (i : ℕ) → is_simple text ≡ true → get_or text i 0 < 128
 simple_ascii [] i e = omega arith
 simple_ascii (b ∷ text) zero e = (simple_parts b text e).0
@@ -250,11 +215,6 @@ simple_alone [] e = refl
 simple_alone (b ∷ text) e =
     let parts = simple_parts b text e in
     and_from (is_alone b) (are_alone text) (simple_is_alone b parts.0 parts.1) (simple_alone text parts.2)
-
-pub clusters_simple : (text : List ℕ) → is_simple text ≡ true → length (graphemes true text) ≡ length text
-clusters_simple text e =
-    let same = chars-IsAscii text (λ i. simple_ascii text i e) in
-    clusters_alone text (ap are_alone same ∙ simple_alone text e) ∙ ap length same
 
 -- ---- a front of ASCII
 
@@ -304,23 +264,3 @@ simple_take (suc n) (b ∷ text) e =
 
 pub clusters_part : (source : List ℕ) (start : ℕ) (text : List ℕ) → IsFrom source start text → is_simple source ≡ true → length (graphemes true text) ≡ length text
 clusters_part source start text p e = clusters_simple text (ap is_simple p.0 ∙ simple_take (length text) (drop start source) (simple_drop start source e))
-
--- ---- byte by byte
-
-and_then : (v a b c : Bool) → (v && ((a && b) && c)) ≡ (((v && a) && b) && c)
-and_then true a b c = refl
-and_then false a b c = refl
-
-pub simple_next : (bytes : List ℕ) (i : ℕ) (v : Bool) → i < length bytes → is_simple bytes ≡ (v && is_simple (drop i bytes))
-    → is_simple bytes ≡ (((v && nat_lt (slice_index_or bytes i 0) 128) && not (nat_eq (slice_index_or bytes i 0) 13)) && is_simple (drop (i + 1) bytes))
-simple_next bytes i v lt e =
-    let b : ℕ = slice_index_or bytes i 0 in
-    let here : drop i bytes ≡ b ∷ drop (i + 1) bytes = rw add-one (drop-cons bytes i 0 lt) in
-    e ∙ ap (λ l. v && is_simple l) here ∙ and_then v (nat_lt b 128) (not (nat_eq b 13)) (is_simple (drop (i + 1) bytes))
-
-pub simple_end : (bytes : List ℕ) (i : ℕ) (v : Bool) → length bytes ≤ i → is_simple bytes ≡ (v && is_simple (drop i bytes)) → v ≡ is_simple bytes
-simple_end bytes i v le e = sym (e ∙ ap (λ l. v && is_simple l) (drop_of_length-le bytes le) ∙ and_true v)
-  where
-    and_true : (w : Bool) → (w && true) ≡ w
-    and_true true = refl
-    and_true false = refl

@@ -1,5 +1,5 @@
 use Rattle.std.proofs.Common.{arith}
-use Rattle.hcl_layout.proofs.ClusterLemmas.{simple_end, simple_next}
+use Rattle.hcl_source.proofs.SimpleLemmas.{simple_end, simple_next}
 use Rattle.hcl_layout.proofs.measured.is_simple.Goals as goal
 
 pub loop-byte-preserved : goal.loop-byte-preserved

@@ -1,7 +1,8 @@
 use Rattle.std.proofs.Common.{◌∙◌, subst, sym}
 use Rattle.hcl_tokens.specs.Scanned.{Scanned}
 use Rattle.hcl_layout.specs.Inner.Simple.{IsFrom}
-use Rattle.hcl_layout.proofs.ClusterLemmas.{clusters_part, clusters_simple}
+use Rattle.hcl_source.proofs.SimpleLemmas.{clusters_simple}
+use Rattle.hcl_layout.proofs.ClusterLemmas.{clusters_part}
 use Rattle.hcl_layout.proofs.measured.Measured.clusters.Goals as goal
 
 pub returns-then-self-clause-count : goal.returns-then-self-clause-count
