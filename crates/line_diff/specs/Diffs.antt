@@ -60,13 +60,16 @@ ended_line line = if list.ends_with (λ a b. a == b) line (codes "\n") then line
 abbrev pub signed_line : List ℕ → List ℕ → List ℕ
 signed_line sign line = if length line == 0 then [] else sign ++ ended_line line
 
--- what stands at a line of a hunk: where a run of changed lines begins, all that go and then all that come; or the line
-abbrev pub body_at : Texts → ℕ → List ℕ
-body_at ts n =
-    if is_changed ts n then (if begins (is_changed ts) n then
+-- the run of changed lines that begins here: all that go and then all that come
+abbrev pub change_at : Texts → ℕ → List ℕ
+change_at ts n =
     each (λ k. signed_line (codes "-") (line_at ts.old k)) n (run_length (is_changed ts) n (count ts - n))
     ++ each (λ k. signed_line (codes "+") (line_at ts.new k)) n (run_length (is_changed ts) n (count ts - n))
-    else [])
+
+-- what stands at a line of a hunk: where a run of changed lines begins, the whole run; or the line
+abbrev pub body_at : Texts → ℕ → List ℕ
+body_at ts n =
+    if is_changed ts n then (if begins (is_changed ts) n then change_at ts n else [])
     else signed_line (codes " ") (line_at ts.old n)
 
 -- which lines of a text a hunk has, from one number up to another

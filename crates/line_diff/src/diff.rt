@@ -1,7 +1,7 @@
 //! What would change, as `diff -u` shows it. A print has the lines of its text, so lines of the same number are compared.
 
 ghost use Rattle.std.specs.Prelude.{◌≡◌, ◌<◌, ◌≤◌, ◌+◌, ◌-◌, ◌++◌, OnOk, IfOk, codes, decimal};
-ghost use Rattle.line_diff.specs.Diffs.{begins, body_at, count, diff_of, each, ended_line, head, hunk_at, hunks, is_changed, is_shown, line_at, range, range_by, run_length, signed_line};
+ghost use Rattle.line_diff.specs.Diffs.{begins, body_at, change_at, count, diff_of, each, ended_line, head, hunk_at, hunks, is_changed, is_shown, line_at, range, range_by, run_length, signed_line};
 
 use crate::lines::{Lines, lines_of};
 use itoa::Buffer;
@@ -129,8 +129,7 @@ fn push_new(to: &mut Vec<u8>, lines: &Lines<'_>, start: usize, end: usize) -> Re
 /// Puts a run of changed lines.
 fn push_change(to: &mut Vec<u8>, lines: &Lines<'_>, start: usize) -> Result<(), AllocError>
     requires { start ≤ count lines.now }
-    ensures { OnOk result (to.new.items ≡ to.old.items ++ (each (λ k. signed_line (codes "-") (line_at lines.now.old k)) start (run_length (is_changed lines.now) start (count lines.now - start))
-        ++ each (λ k. signed_line (codes "+") (line_at lines.now.new k)) start (run_length (is_changed lines.now) start (count lines.now - start)))) }
+    ensures { OnOk result (to.new.items ≡ to.old.items ++ change_at lines.now start) }
 {
     let end = end_of_change(lines, start);
     push_old(to, lines, start, end)?;
