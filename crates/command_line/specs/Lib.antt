@@ -1,3 +1,4 @@
+pub mod Arguments
 pub mod Faults
 pub mod Flags
 pub mod Rows

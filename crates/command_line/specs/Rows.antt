@@ -1,9 +1,10 @@
 -- How a run ends: what it is to show, and what stands where a device failed. Both programs end so. They differ in the name
 -- by which they call themselves, and in the status where a device failed or memory ran out. Our own choice.
-use Rattle.std.specs.Prelude.{◌≡◌, ◌⊎◌, ◌||◌, ◌≤◌, ◌<◌, ℕ, Bool, true, false, List, [], ◌∷◌, ◌++◌, Option, codes, decimal, length, take, if◌then◌else◌}
+use Rattle.std.specs.Prelude.{◌≡◌, ◌⊎◌, ◌||◌, ◌≤◌, ◌<◌, ℕ, Bool, true, false, List, [], ◌∷◌, ◌++◌, Option, Result, String, MatchResult, codes, decimal, length, string_bytes, take, if◌then◌else◌}
 use Rattle.std.specs.Io.KnownBytes.{Appends}
 use Rattle.hcl_source.specs.Devices.{one_more}
 use Rattle.hcl_source.specs.FaultTexts.{fault_text}
+use Rattle.hcl_source.specs.declared.device.ByteSink.{Ghosts}
 use Rattle.hcl_source.specs.declared.device.Flushes.{Flushes}
 use Rattle.hcl_source.specs.declared.fault.Fault.{Fault}
 
@@ -17,6 +18,14 @@ pub record Row : Type 0 where
   pub out : List ℕ
   pub err : List ℕ
   pub status : ℕ
+
+-- nothing but a text on standard output
+abbrev pub output_row : List ℕ → ℕ → Row
+output_row text status = record { out = text; err = []; status = status }
+
+-- nothing but a message on standard error
+abbrev pub message_row : List ℕ → ℕ → Row
+message_row text status = record { out = []; err = text; status = status }
 
 abbrev pub line : List ℕ → List ℕ
 line text = text ++ 10 ∷ []
@@ -38,10 +47,14 @@ write_failed program = error_line program (codes "write failed")
 
 -- nothing but an error
 abbrev pub fails_with : Program → List ℕ → Row
-fails_with program text = record { out = []; err = error_line program text; status = program.failure }
+fails_with program text = message_row (error_line program text) program.failure
 
 abbrev pub out_of_memory : Program → Row
 out_of_memory program = fails_with program (codes "out of memory")
+
+-- the row of a message, or where there was no memory for its text, of that
+abbrev pub IsLineRow : {A E : Type 0} → Program → Result (String A) E → ℕ → Row → Type 0
+IsLineRow program message status row = MatchResult message (λ text. row ≡ message_row (string_bytes text) status) (λ _. row ≡ out_of_memory program)
 
 -- ---- devices
 
@@ -54,14 +67,15 @@ pub record Writer : Type 0 where
   pub flushes_before : Flushes  -- how often it had been flushed
   pub flushes_after : Flushes
 
-abbrev pub writer : {D : Type 0} → (D → Option (List ℕ)) → (D → Bool) → (D → Bool) → (D → Flushes) → D → D → Writer
-writer taken failed flushed flushes old new = record {
-  before = taken old;
-  after = taken new;
-  failed = failed new;
-  flushed = flushed new;
-  flushes_before = flushes old;
-  flushes_after = flushes new;
+-- a device before a run and after it, in the words of its trait
+abbrev pub writer : {D : Type 0} → Ghosts D → D → D → Writer
+writer sink old new = record {
+  before = sink.taken old;
+  after = sink.taken new;
+  failed = sink.failed new;
+  flushed = sink.flushed new;
+  flushes_before = sink.flushes old;
+  flushes_after = sink.flushes new;
 }
 
 -- the two writers of a run, and its exit status
@@ -69,6 +83,9 @@ pub record End : Type 0 where
   pub out : Writer
   pub err : Writer
   pub status : ℕ
+
+abbrev pub end_of : {O E : Type 0} → Ghosts O → O → O → Ghosts E → E → E → ℕ → End
+end_of out out_old out_new err err_old err_new status = record { out = writer out out_old out_new; err = writer err err_old err_new; status = status }
 
 -- a writer took the text, or where it failed a part of it from its front
 abbrev pub TookBy : Bool → Option (List ℕ) → Option (List ℕ) → List ℕ → Type 0
@@ -111,3 +128,7 @@ ShowsOne program P end = (row : Row) × P row × Shows program row end
 -- the row for running out of memory, or one of which this holds
 abbrev pub OrOutOfMemory : Program → (Row → Type 0) → Row → Type 0
 OrOutOfMemory program P row = (row ≡ out_of_memory program) ⊎ P row
+
+-- a run shows a row of which this holds, or that for running out of memory
+abbrev pub ShowsIfMemory : Program → (Row → Type 0) → End → Type 0
+ShowsIfMemory program P end = ShowsOne program (OrOutOfMemory program P) end

@@ -1,10 +1,14 @@
-//! What both programs share where they read their words with `clap`, and where they end.
+//! What the programs share where they read their words with `clap`, and where they end.
 #![tactic(auto)]
 
+mod argument;
 mod flag;
 pub mod laws;
+mod process;
 mod program;
 mod texts;
 
+pub use argument::{flag_named, option_named, usage_for};
 pub use flag::is_flag_set;
+pub use process::{NoWords, borrowed_words, process_words};
 pub use texts::Program;

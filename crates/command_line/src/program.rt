@@ -1,8 +1,8 @@
 //! A run's shell over its devices: what a program says, and with which status it ends.
 
-ghost use Rattle.std.specs.Prelude.{◌≡◌, ◌||◌, ◌<◌, List, [], ℕ, false, true, length, if◌then◌else◌, string_bytes, MatchResult, is_err};
+ghost use Rattle.std.specs.Prelude.{◌≡◌, ◌||◌, ◌<◌, List, [], ℕ, false, true, length, if◌then◌else◌, is_err};
 ghost use Rattle.hcl_source.specs.Devices.{one_more};
-ghost use Rattle.command_line.specs.Rows.{Row, Took, Shows, ShowsOne, out_of_memory, write_failed, writer};
+ghost use Rattle.command_line.specs.Rows.{IsLineRow, Took, Shows, ShowsOne, end_of, message_row, out_of_memory, output_row, write_failed, writer};
 
 use crate::texts::Program;
 use hcl_source::{ByteSink, write_fully};
@@ -12,7 +12,7 @@ impl Program {
     /// Writes a message, and gives the status, or that of a failure where the write failed.
     fn complain<E: ByteSink>(&self, err: &mut E, message: &str, status: u8) -> u8
         requires { E.failed err.old ≡ false }
-        ensures took { Took (writer E.taken E.failed E.flushed E.flushes err.old err.new) message.now }
+        ensures took { Took (writer E.ByteSink err.old err.new) message.now }
         ensures exit { result ≡ (if E.failed err.new then self.now.failure else status) }
         ensures unflushed { E.failed err.new ≡ false → 0 < length message.now → E.flushed err.new ≡ false }
         ensures untouched { length message.now ≡ 0 → E.failed err.new ≡ false }
@@ -34,8 +34,7 @@ impl Program {
     ) -> u8
         requires out { O.failed out.old ≡ false }
         requires err { E.failed err.old ≡ false }
-        ensures { Shows self.now (record { out = []; err = message.now; status = status })
-            (record { out = writer O.taken O.failed O.flushed O.flushes out.old out.new; err = writer E.taken E.failed E.flushed E.flushes err.old err.new; status = result }) }
+        ensures { Shows self.now (message_row message.now status) (end_of O.ByteSink out.old out.new E.ByteSink err.old err.new result) }
     {
         let _ = &*out;
         self.complain(err, message, status)
@@ -45,8 +44,7 @@ impl Program {
     pub fn tell_out_of_memory<O: ByteSink, E: ByteSink>(&self, out: &mut O, err: &mut E) -> u8
         requires out { O.failed out.old ≡ false }
         requires err { E.failed err.old ≡ false }
-        ensures { Shows self.now (out_of_memory self.now)
-            (record { out = writer O.taken O.failed O.flushed O.flushes out.old out.new; err = writer E.taken E.failed E.flushed E.flushes err.old err.new; status = result }) }
+        ensures { Shows self.now (out_of_memory self.now) (end_of O.ByteSink out.old out.new E.ByteSink err.old err.new result) }
     {
         self.tell(out, err, self.out_of_memory(), self.failure())
     }
@@ -61,8 +59,7 @@ impl Program {
     ) -> u8
         requires out { O.failed out.old ≡ false }
         requires err { E.failed err.old ≡ false }
-        ensures { ShowsOne self.now (λ row. MatchResult line (λ text. row ≡ record { out = []; err = string_bytes text; status = status }) (λ _. row ≡ out_of_memory self.now))
-            (record { out = writer O.taken O.failed O.flushed O.flushes out.old out.new; err = writer E.taken E.failed E.flushed E.flushes err.old err.new; status = result }) }
+        ensures { ShowsOne self.now (IsLineRow self.now line status) (end_of O.ByteSink out.old out.new E.ByteSink err.old err.new result) }
     {
         match line {
             Ok(line) => self.tell(out, err, line.as_str(), status),
@@ -73,7 +70,7 @@ impl Program {
     /// Ends a run that wrote to standard output: gives the status, or says that a write failed.
     pub fn finish<O: ByteSink, E: ByteSink>(&self, out: &O, err: &mut E, status: u8) -> u8
         requires err { E.failed err.old ≡ false }
-        ensures took { Took (writer E.taken E.failed E.flushed E.flushes err.old err.new) (if O.failed out.now then write_failed self.now else []) }
+        ensures took { Took (writer E.ByteSink err.old err.new) (if O.failed out.now then write_failed self.now else []) }
         ensures exit { result ≡ (if O.failed out.now || E.failed err.new then self.now.failure else status) }
         ensures unflushed { E.failed err.new ≡ false → O.failed out.now ≡ true → E.flushed err.new ≡ false }
         ensures untouched { O.failed out.now ≡ false → E.failed err.new ≡ false }
@@ -95,8 +92,7 @@ impl Program {
     ) -> u8
         requires out { O.failed out.old ≡ false }
         requires err { E.failed err.old ≡ false }
-        ensures { Shows self.now (record { out = text.now; err = []; status = status })
-            (record { out = writer O.taken O.failed O.flushed O.flushes out.old out.new; err = writer E.taken E.failed E.flushed E.flushes err.old err.new; status = result }) }
+        ensures { Shows self.now (output_row text.now status) (end_of O.ByteSink out.old out.new E.ByteSink err.old err.new result) }
     {
         say(out, text);
         self.finish(out, err, status)
@@ -106,7 +102,7 @@ impl Program {
 /// Writes a text, and flushes it where it isn't empty.
 fn say<O: ByteSink>(out: &mut O, text: &str)
     requires { O.failed out.old ≡ false }
-    ensures took { Took (writer O.taken O.failed O.flushed O.flushes out.old out.new) text.now }
+    ensures took { Took (writer O.ByteSink out.old out.new) text.now }
     ensures flushed { O.failed out.new ≡ false → 0 < length text.now → O.flushed out.new ≡ true }
     ensures once { O.failed out.new ≡ false → 0 < length text.now → O.flushes out.new ≡ one_more (O.flushes out.old) }
     ensures untouched { length text.now ≡ 0 → O.failed out.new ≡ false }

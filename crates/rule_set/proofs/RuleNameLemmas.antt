@@ -1,6 +1,6 @@
 -- Rules by their names.
-use Rattle.std.proofs.Common.{◌≡◌, ◌∙◌, ap, sym, refl, true≢false, ℕ, Bool, true, false, cond, List, [], ◌∷◌, inl, inr, subst}
-use Rattle.std.specs.Prelude.{◌&&◌, ◌||◌, ◌⊎◌, not, Option, Some, None, MatchOption, codes, find}
+use Rattle.std.proofs.Common.{◌≡◌, ◌∙◌, ap, sym, refl, true≢false, ℕ, Bool, true, false, cond, List, [], ◌∷◌, inl, inr}
+use Rattle.std.specs.Prelude.{◌&&◌, ◌⊎◌, not, Option, Some, None, MatchOption, find}
 use Rattle.std.specs.List.{list_all}
 use Rattle.std.specs.Str.{bytes_eq}
 use Rattle.std.proofs.lemmas.Slice.Eq.{bytes_eq-Decides}

@@ -1,5 +1,5 @@
 -- Flags of two sets, joined one by one.
-use Rattle.std.proofs.Common.{◌≡◌, ◌∙◌, sym, subst, ℕ, ◌+◌, ◌<◌, Bool, false, List, length, length-set, get_or, set, arith, inl, inr}
+use Rattle.std.proofs.Common.{◌≡◌, ◌∙◌, refl, sym, subst, ℕ, ◌+◌, ◌<◌, Bool, false, true, List, length, length-set, get_or, set, arith, inl, inr}
 use Rattle.std.specs.Prelude.{◌||◌, ◌⊎◌}
 use Rattle.std.proofs.lemmas.Bool.{cases_eq}
 use Rattle.std.proofs.lemmas.List.{get_or-set_same, get_or-set_other}
@@ -19,3 +19,16 @@ module _ (a b held : List Bool) (n : ℕ) (v : Bool) (within : n < 10) (is : v �
 
   pub joined_more : AreJoined a b (set held n v) (n + 1)
   joined_more = record { long = length-set held n v ∙ so_far.long; joined = at }
+
+-- ---- any of ten flags
+
+or_assoc : (a b c : Bool) → ((a || b) || c) ≡ (a || (b || c))
+or_assoc true b c = refl
+or_assoc false b c = refl
+
+or_false : (b : Bool) → (b || false) ≡ b
+or_false true = refl
+or_false false = refl
+
+pub regrouped : (a b c d e f g h i j : Bool) → (((((((((a || b) || c) || d) || e) || f) || g) || h) || i) || j) ≡ (a || (b || (c || (d || (e || (f || (g || (h || (i || (j || false))))))))))
+regrouped a b c d e f g h i j = simp (or_assoc, or_false)

@@ -1,7 +1,8 @@
 //! Sets of rules.
 
 ghost use Rattle.std.specs.Prelude.{◌≡◌, ◌||◌, false, true};
-ghost use Rattle.rule_set.specs.Rules.{is_recommended, is_rule};
+ghost use Rattle.std.specs.List.{list_any};
+ghost use Rattle.rule_set.specs.Rules.{all_rules, is_recommended, is_rule};
 ghost use Rattle.rule_set.specs.RuleSets.{holds};
 
 use crate::rule::{Rule, rank};
@@ -51,6 +52,23 @@ impl RuleSet {
         let mut held = self.held;
         held[rank(rule)] = true;
         RuleSet { held }
+    }
+
+    /// Whether a rule is in the set. All are looked at, whatever the first are, so that nothing branches.
+    pub fn holds_any(self) -> bool
+        ensures { result ≡ list_any (holds self) all_rules }
+    {
+        let held = self.held;
+        held[0]
+            | held[1]
+            | held[2]
+            | held[3]
+            | held[4]
+            | held[5]
+            | held[6]
+            | held[7]
+            | held[8]
+            | held[9]
     }
 
     /// Whether the rule is in the set.

@@ -1,8 +1,7 @@
 -- Closers before closing quotes, token by token from right to left.
-use Rattle.std.proofs.Common.{◌≡◌, ◌∙◌, ap, sym, refl, true≢false, ℕ, suc, zero, ◌+◌, ◌-◌, ◌<◌, ◌≤◌, Bool, true, false, cond, List, [], ◌∷◌, ◌++◌, length, get_or, set, replicate, reverse, arith, ◌⊎◌, inl, inr, ◌≢◌}
+use Rattle.std.proofs.Common.{◌≡◌, ◌∙◌, ap, sym, refl, true≢false, ℕ, suc, zero, ◌+◌, ◌-◌, Bool, true, false, cond, List, [], ◌∷◌, ◌++◌, get_or, reverse, arith}
 use Rattle.std.specs.Prelude.{◌==◌, ◌&&◌, Some, slice_get}
-use Rattle.std.proofs.lemmas.List.{reverse-append, get_or-set_same, get_or-set_other, length-set, length-replicate}
-use Rattle.std.proofs.lemmas.Bool.{cases_eq}
+use Rattle.std.proofs.lemmas.List.{reverse-append}
 use Rattle.hcl_tokens.specs.Kinds.{is}
 use Rattle.hcl_tokens.specs.Lexemes.{Lexeme}
 use Rattle.hcl_tokens.specs.declared.token.Kind.{Kind}
@@ -13,7 +12,7 @@ use Rattle.hcl_grammar.specs.Numbered.{is_passed_over}
 use Rattle.tf_facts.specs.Patterns.{begins_with_close, behind_closer}
 use Rattle.tf_facts.specs.Inner.Seen.{seen_from}
 use Rattle.tf_facts.specs.Inner.Closings.{AreAhead, closes_before_quote, quote_from}
-use Rattle.tf_facts.proofs.SeenLemmas.{seen_here, seen_none, seen_past}
+use Rattle.tf_facts.proofs.SeenLemmas.{seen_here, seen_past}
 
 -- what a kind does to the depth
 record Moves (k : Kind) (move : ℕ → ℕ) : Type 0 where

@@ -1,6 +1,6 @@
 -- A walk that puts references into a set, token by token.
 use Rattle.std.proofs.Common.{◌≡◌, ◌∙◌, ap, sym, refl, drop, ℕ, ◌+◌, ◌≤◌, Bool, true, false, cond, List, [], ◌∷◌, ◌++◌, length, append_assoc, subst}
-use Rattle.std.specs.Prelude.{None, Some, slice_get}
+use Rattle.std.specs.Prelude.{◌&&◌, None, Option, Some, slice_get}
 use Rattle.std.specs.List.{list_any}
 use Rattle.std.specs.Str.{bytes_eq}
 use Rattle.std.proofs.lemmas.List.{append-nil}
@@ -9,11 +9,30 @@ use Rattle.indexmap.specs.IndexSet.{insert_all, insert_key}
 use Rattle.hcl_tokens.specs.Kinds.{is}
 use Rattle.hcl_tokens.specs.declared.token.Kind.TheVariants as kind
 use Rattle.hcl_tokens.specs.Lexemes.{Lexeme}
-use Rattle.hcl_grammar.specs.Numbered.{is_passed_over}
+use Rattle.hcl_grammar.specs.Numbered.{Numbered, is_passed_over}
 use Rattle.tf_facts.specs.References.{Own, by_name, name_behind, reference_at, references_from, unless_own}
 use Rattle.tf_facts.specs.Inner.Seen.{number_of, seen_from}
 use Rattle.tf_facts.specs.OwnBlocks.{ArePassed, Extends}
 use Rattle.tf_facts.proofs.SeenLemmas.{seen_here, seen_past, seen_none}
+
+-- ---- what follows a word
+
+no_dot : (d : Numbered) (rest : List Numbered) → is kind.Dot d.kind ≡ false → name_behind (d ∷ rest) ≡ None
+no_dot d [] e = refl
+no_dot d (n ∷ rest) e = ap (λ b. cond (b && is kind.Ident n.kind) (Some n) None) e
+
+module _ (ts : List Lexeme) (n : ℕ) where
+  pub unnamed_at_end : length ts ≤ n → name_behind (seen_from ts n) ≡ None
+  unnamed_at_end past = ap name_behind (seen_none ts n past)
+
+  pub unnamed : (t : Lexeme) → slice_get ts n ≡ Some t → is kind.Dot t.kind ≡ false → is_passed_over t.kind ≡ false → name_behind (seen_from ts n) ≡ None
+  unnamed t e dot seen = ap name_behind (seen_here ts n t e seen) ∙ no_dot (number_of n t) (seen_from ts (n + 1)) dot
+
+cond-same : {X : Type 0} (b : Bool) (x : X) → cond b x x ≡ x
+cond-same true x = refl
+cond-same false x = refl
+
+-- ---- the walk
 
 -- what is in the set, with what is left, is what is to be in it; and it has what it had in front
 pub record IsCollected (own : List Own) (ts : List Lexeme) (old new : List (List ℕ)) (after_dot : Bool) (n : ℕ) : Type 0 where
@@ -96,3 +115,11 @@ module _ (own : List Own) (ts : List Lexeme) (old : List (List ℕ)) where
   no_word new after dot n t e seen none free is h =
       collected new new new after dot n t e seen free is refl
       (sym (ap (λ b. insert_all bytes_eq new (unless_own own n (cond b (by_name t.text (name_behind (seen_from ts (n + 1))) (drop 2 (seen_from ts (n + 1)))) None))) none)) h
+
+  -- a word that no name after a dot follows begins no reference
+  pub no_name : (new : List (List ℕ)) (after dot : Bool) (n : ℕ) (t : Lexeme) → slice_get ts n ≡ Some t → is_passed_over t.kind ≡ false → name_behind (seen_from ts (n + 1)) ≡ None → after ≡ false → dot ≡ is kind.Dot t.kind
+      → IsCollected own ts old new after n → IsCollected own ts old new dot (n + 1)
+  no_name new after dot n t e seen none free same h =
+      collected new new new after dot n t e seen free same refl
+      (sym (ap (λ (o : Option Numbered). insert_all bytes_eq new (unless_own own n (cond (is kind.Ident t.kind) (by_name t.text o (drop 2 (seen_from ts (n + 1)))) None))) none
+      ∙ ap (λ (r : Option (List ℕ)). insert_all bytes_eq new (unless_own own n r)) (cond-same (is kind.Ident t.kind) None))) h

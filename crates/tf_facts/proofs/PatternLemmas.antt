@@ -1,16 +1,18 @@
 -- The patterns of tokens, from the last token to the first.
 use Rattle.std.proofs.Common.{◌≡◌, ◌∙◌, ap, sym, refl, ℕ, suc, zero, ◌+◌, ◌<◌, ◌≤◌, arith, Bool, true, false, cond, List, [], ◌∷◌, ◌++◌, length, reverse, get_or}
-use Rattle.std.specs.Prelude.{◌&&◌, Some, slice_get}
-use Rattle.std.proofs.lemmas.List.{reverse-append, reverse-reverse}
+use Rattle.std.specs.Prelude.{◌==◌, ◌&&◌, ◌||◌, not, Some, slice_get}
+use Rattle.std.proofs.lemmas.List.{append-nil, reverse-append}
 use Rattle.hcl_tokens.specs.Lexemes.{Lexeme}
 use Rattle.hcl_tokens.specs.declared.token.Kind.{Kind}
 use Rattle.hcl_tokens.specs.declared.token.Kind.TheVariants as kind
 use Rattle.hcl_grammar.specs.Numbered.{Numbered, is_passed_over}
+use Rattle.hcl_tokens.specs.Balanced.{closing, opening}
 use Rattle.hcl_tokens.specs.Kinds.{is}
 use Rattle.tf_facts.specs.Patterns.{begins_with_close, behind_closer, is_index, is_wrapped, numbers_where}
-use Rattle.tf_facts.specs.Inner.Closings.{AreAhead, quote_from}
+use Rattle.tf_facts.specs.Inner.Closings.{AreAhead, is_plain, quote_from}
 use Rattle.tf_facts.specs.Inner.Seen.{number_of, seen_from}
 use Rattle.tf_facts.specs.declared.pattern.Ahead.{Ahead}
+use Rattle.tf_facts.proofs.ClosingLemmas.{passes}
 use Rattle.tf_facts.proofs.SeenLemmas.{seen_here, seen_none, seen_past}
 
 pub there_is : (ts : List Lexeme) (n : ℕ) → n < length ts → (t : Lexeme) × (slice_get ts n ≡ Some t)
@@ -47,6 +49,36 @@ wrapped_here t (x ∷ rest) = and_then (is kind.QuoteOpen t.kind) (is kind.Inter
 -- what a token is to those before it
 abbrev pub seen_as : Kind → Bool → Ahead
 seen_as k closed = record { is_quote_close = is kind.QuoteClose k; is_number = is kind.Number k; is_wrapped = is kind.InterpOpen k && closed }
+
+-- ---- plain kinds
+
+-- what a plain kind is not
+record IsPlain (k : Kind) : Type 0 where
+  seen : is_passed_over k ≡ false
+  dot : is kind.Dot k ≡ false
+  quote : is kind.QuoteOpen k ≡ false
+  interpolation : is kind.InterpOpen k ≡ false
+  closer : (closing k == 1) ≡ false
+  opener : (opening k == 1) ≡ false
+
+none_of : (a b : Bool) → (a || b) ≡ false → (a ≡ false) × (b ≡ false)
+none_of true b e = absurd (cc)
+none_of false b e = (refl, e)
+
+not_true : (b : Bool) → not b ≡ true → b ≡ false
+not_true false e = refl
+not_true true e = absurd (cc)
+
+plain : (k : Kind) → is_plain k ≡ true → IsPlain k
+plain k e =
+    let h = none_of _ (opening k == 1) (not_true _ e) in
+    let g = none_of _ (closing k == 1) h.0 in
+    let f = none_of _ (is kind.InterpOpen k) g.0 in
+    let d = none_of _ (is kind.QuoteClose k) f.0 in
+    let c = none_of _ (is kind.QuoteOpen k) d.0 in
+    let b = none_of _ (is kind.Number k) c.0 in
+    let a = none_of (is_passed_over k) (is kind.Dot k) b.0 in
+    record { seen = a.0; dot = a.1; quote = c.1; interpolation = f.1; closer = g.1; opener = h.1 }
 
 -- ---- the walk
 
@@ -127,6 +159,21 @@ module _ (ts : List Lexeme) (n : ℕ) (t : Lexeme) (e : slice_get ts n ≡ Some 
     where
       cut : seen_from ts n ≡ number_of n t ∷ seen_from ts (n + 1)
       cut = seen_here ts n t e seen
+
+-- a plain token
+module _ (ts : List Lexeme) (n : ℕ) (t : Lexeme) (e : slice_get ts n ≡ Some t) where
+  pub walk_plain : (indexes interpolations : List ℕ) (openers : List Bool) (next here : Ahead) → is_plain t.kind ≡ true → IsWalkedBack ts indexes interpolations openers next (n + 1) → here ≡ seen_as t.kind false
+      → IsWalkedBack ts indexes interpolations openers here n
+  walk_plain indexes interpolations openers next here ordinary h made =
+      let k : IsPlain t.kind = plain t.kind ordinary in
+      walk_over ts n t e indexes indexes interpolations interpolations openers openers next here false false (get_or (reverse openers) 0 false) k.seen h
+      (sym (ap (λ b. b && next.is_number) k.dot)) (sym (append-nil indexes)) (sym (ap (λ b. b && next.is_wrapped) k.quote)) (sym (append-nil interpolations)) refl (passes ts n t e openers k.closer k.opener h.closes)
+      (made ∙ same k.interpolation (get_or (reverse openers) 0 false))
+    where
+      same : is kind.InterpOpen t.kind ≡ false → (closed : Bool) → seen_as t.kind false ≡ seen_as t.kind closed
+      same none closed =
+          ap (λ b. record { is_quote_close = is kind.QuoteClose t.kind; is_number = is kind.Number t.kind; is_wrapped = b && false }) none
+          ∙ sym (ap (λ b. record { is_quote_close = is kind.QuoteClose t.kind; is_number = is kind.Number t.kind; is_wrapped = b && closed }) none)
 
 pub walk_ends : (ts : List Lexeme) (test : List Numbered → Bool) (n : ℕ) (found turned : List ℕ) → n ≡ 0 → reverse found ≡ numbers_where test (seen_from ts n) → turned ≡ reverse found → turned ≡ numbers_where test (seen_from ts 0)
 walk_ends ts test n found turned at h is = is ∙ h ∙ ap (λ k. numbers_where test (seen_from ts k)) at

@@ -1,13 +1,12 @@
 //! The line comments of a file that begin with `//` or silence a rule.
 
 ghost use Rattle.std.specs.Prelude.{◌≡◌, ◌<◌, ◌||◌, length, map, slice_get, Some, IfOk};
-ghost use Rattle.std.specs.List.{list_any};
 ghost use Rattle.hcl_tokens.specs.Kinds.{is};
 ghost use Rattle.hcl_tokens.specs.declared.token.Kind.TheVariants.{LineComment};
 ghost use Rattle.hcl_tokens.specs.Lexemes.{Lexeme};
 ghost use Rattle.hcl_grammar.specs.Numbered.{numbered};
 ghost use Rattle.tf_facts.specs.Comments.{comment_of, comments, if_telling, is_any};
-ghost use Rattle.rule_set.specs.RuleSets.{holds, rules_of};
+ghost use Rattle.rule_set.specs.RuleSets.{rules_of};
 ghost use Rattle.tf_facts.specs.Silencing.{has_slashes, silenced_rules};
 ghost use Rattle.tf_facts.specs.Found.{comment};
 ghost use Rattle.tf_facts.specs.Inner.FoundViews.{comment_listed};
@@ -16,7 +15,7 @@ ghost use Rattle.tf_facts.specs.Inner.Seen.{number_of};
 use crate::found::FoundComment;
 use crate::silencing::{has_slashes, silenced_rules};
 use hcl_tokens::{Kind, Tokens};
-use rule_set::{ALL_RULES, Rule, RuleSet};
+use rule_set::RuleSet;
 use std::alloc::{AllocError, Global};
 
 fn is_line_comment(kind: Kind) -> bool
@@ -25,18 +24,11 @@ fn is_line_comment(kind: Kind) -> bool
     matches!(kind, Kind::LineComment)
 }
 
-/// Whether one of these rules is in a set.
-fn holds_one(set: RuleSet, rules: &[Rule]) -> bool
-    ensures { result ≡ list_any (holds set) rules.now }
-{
-    rules.iter().any(|rule| set.holds(*rule))
-}
-
 /// Whether there is a rule in a set.
 pub fn is_any(set: RuleSet) -> bool
     ensures { result ≡ is_any (rules_of set) }
 {
-    holds_one(set, &ALL_RULES)
+    set.holds_any()
 }
 
 /// Whether a comment says something.

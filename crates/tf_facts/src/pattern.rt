@@ -12,6 +12,7 @@ ghost use Rattle.hcl_tokens.specs.Kinds.{is};
 ghost use Rattle.hcl_tokens.specs.declared.token.Kind.TheVariants.{InterpOpen, Number, QuoteClose, QuoteOpen};
 ghost use Rattle.hcl_grammar.specs.Numbered.{numbered};
 ghost use Rattle.tf_facts.specs.Patterns.{legacy_indexes, wrapped_interpolations};
+ghost use Rattle.tf_facts.specs.Inner.Closings.{is_plain};
 
 use crate::closing::{last_flag, pass};
 use crate::reference::is_dot;
@@ -50,6 +51,41 @@ struct Ahead {
     is_number: bool,
     /// What opens an interpolation that is closed directly before a closing quote.
     is_wrapped: bool,
+}
+
+/// Whether a token of this kind is none that the patterns are made of, and neither opens nor closes anything.
+#[inline(always)]
+fn is_plain(kind: Kind) -> bool
+    ensures { result ≡ is_plain kind }
+{
+    matches!(
+        kind,
+        Kind::Ident
+            | Kind::HeredocOpen
+            | Kind::Comma
+            | Kind::Ellipsis
+            | Kind::Question
+            | Kind::Colon
+            | Kind::ColonColon
+            | Kind::Assign
+            | Kind::Arrow
+            | Kind::Not
+            | Kind::Minus
+            | Kind::Plus
+            | Kind::Star
+            | Kind::Slash
+            | Kind::Percent
+            | Kind::And
+            | Kind::Or
+            | Kind::Equal
+            | Kind::NotEqual
+            | Kind::Less
+            | Kind::Greater
+            | Kind::LessEqual
+            | Kind::GreaterEqual
+            | Kind::Lit
+            | Kind::HeredocClose
+    )
 }
 
 /// What a token of this kind is, where it is known whether what it opens is closed directly before a closing quote.
@@ -101,6 +137,10 @@ pub fn found_patterns(alloc: Global, tokens: &Tokens<'_>) -> Result<Patterns, Al
     while number > 0 {
         number -= 1;
         let kind = tokens.kind(number);
+        if is_plain(kind) {
+            next = seen_as(kind, false);
+            continue;
+        }
         if is_passed_over(kind) {
             continue;
         }

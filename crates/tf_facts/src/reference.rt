@@ -1,6 +1,6 @@
 //! References: `var.n`, `local.n` and `data.t.n`.
 
-ghost use Rattle.std.specs.Prelude.{◌≡◌, ◌<◌, ◌≤◌, ◌+◌, ◌^◌, ◌∷◌, ◌||◌, codes, drop, length, MatchOption, None};
+ghost use Rattle.std.specs.Prelude.{◌≡◌, ◌<◌, ◌≤◌, ◌+◌, ◌^◌, ◌∷◌, ◌||◌, codes, drop, false, length, MatchOption, None};
 ghost use Rattle.std.specs.Str.{bytes_eq};
 ghost use Rattle.std.specs.Option.{option_map};
 ghost use Rattle.hcl_tokens.specs.Kinds.{is};
@@ -9,7 +9,7 @@ ghost use Rattle.tf_facts.specs.References.{name_behind, reference_at, reference
 ghost use Rattle.tf_facts.specs.Inner.Seen.{seen_from, numbered_of};
 ghost use Rattle.tf_facts.specs.Inner.Spelled.{IsBehind, spelled};
 
-use crate::seen::{Seen, next_seen};
+use crate::seen::{Seen, is_passed_over, next_seen};
 use hcl_tokens::{Kind, Tokens};
 
 /// What a reference names.
@@ -32,6 +32,21 @@ pub fn is_ident(kind: Kind) -> bool
     ensures { result ≡ is Ident kind }
 {
     matches!(kind, Kind::Ident)
+}
+
+/// Whether a name after a dot can follow a token: whether a dot does, or a token that is passed over.
+#[inline(always)]
+pub fn may_be_named(tokens: &Tokens<'_>, number: usize) -> bool
+    requires within { number < length tokens.now.tokens }
+    requires small { number + 1 < 2 ^ 64 }
+    ensures { result ≡ false → name_behind (seen_from tokens.now.tokens (number + 1)) ≡ None }
+{
+    let next = number + 1;
+    if next >= tokens.len() {
+        return false;
+    }
+    let kind = tokens.kind(next);
+    is_dot(kind) || is_passed_over(kind)
 }
 
 /// The identifier after a dot with which the tokens from a number on begin.

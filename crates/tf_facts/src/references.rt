@@ -11,7 +11,7 @@ ghost use Rattle.tf_facts.specs.Inner.Spelled.{spelled};
 ghost use Rattle.tf_facts.specs.OwnBlocks.{own_of, Apart, ArePassed, Extends, IsAhead};
 
 use crate::own_block::OwnBlock;
-use crate::reference::{Reference, is_dot, is_ident, reference_at};
+use crate::reference::{Reference, is_dot, is_ident, may_be_named, reference_at};
 use crate::seen::{Seen, is_passed_over};
 use crate::text_set::TextSet;
 use hcl_tokens::Tokens;
@@ -152,6 +152,9 @@ pub fn collect(
             continue;
         }
         if !is_ident(kind) {
+            continue;
+        }
+        if !may_be_named(tokens, number) {
             continue;
         }
         next = passed(blocks, next, number);

@@ -1,10 +1,11 @@
 -- Issues put one after another.
-use Rattle.std.proofs.Common.{◌≡◌, ◌∙◌, ap, sym, refl, ℕ, ◌+◌, ◌<◌, ◌≤◌, Bool, true, false, cond, List, [], ◌∷◌, ◌++◌, append_assoc, map, take, length, get_or}
-use Rattle.std.specs.Prelude.{filter}
+use Rattle.std.proofs.Common.{◌≡◌, ◌∙◌, ap, sym, refl, ℕ, ◌+◌, ◌<◌, ◌≤◌, Bool, true, false, cond, List, [], ◌∷◌, ◌++◌, append_assoc, map, drop, take, length, get_or}
+use Rattle.std.specs.Prelude.{filter, slice_get, Some}
 use Rattle.std.specs.List.{flat_map}
 use Rattle.std.proofs.lemmas.Grind.{flat_map-append}
-use Rattle.std.proofs.lemmas.List.{append-nil, take_all, take_more}
+use Rattle.std.proofs.lemmas.List.{append-nil, drop_all, take_all, take_more}
 use Rattle.std.proofs.lemmas.List.Folds.{flat_map-map}
+use Rattle.hcl_grammar.proofs.NumberedLemmas.{drop_at}
 use Rattle.tf_rules.proofs.FindingLemmas.{map-flat_map}
 
 -- ---- a loop that puts a list for each element
@@ -42,3 +43,16 @@ put_passing p f (x ∷ xs) = by (p x) (put_passing p f xs)
     by : (b : Bool) → flat_map (λ y. cond (p y) (f y) []) xs ≡ flat_map f (filter p xs) → cond b (f x) [] ++ flat_map (λ y. cond (p y) (f y) []) xs ≡ flat_map f (cond b (x ∷ filter p xs) (filter p xs))
     by true h = ap (λ r. f x ++ r) h
     by false h = h
+
+-- ---- a loop that takes each element over
+
+module _ {X : Type 0} (xs : List X) (i : ℕ) where
+  pub one_taken : (x y : X) (old new : List X) → slice_get xs i ≡ Some y → x ≡ y → new ≡ old ++ x ∷ [] → old ++ drop i xs ≡ xs → new ++ drop (i + 1) xs ≡ xs
+  one_taken x y old new at is pushed h =
+      ap (λ l. l ++ drop (i + 1) xs) (pushed ∙ ap (λ z. old ++ z ∷ []) is)
+      ∙ append_assoc old (y ∷ []) (drop (i + 1) xs)
+      ∙ ap (λ l. old ++ l) (sym (drop_at xs i y at))
+      ∙ h
+
+  pub all_taken : (old : List X) → length xs ≤ i → old ++ drop i xs ≡ xs → old ≡ xs
+  all_taken old past h = sym (append-nil old) ∙ ap (λ l. old ++ l) (sym (drop_all i xs past)) ∙ h

@@ -12,7 +12,6 @@ use Rattle.tf_facts.specs.Comments.{Comment, is_any}
 use Rattle.tf_rules.specs.Issues.{Issue, Place, covers, is_silenced}
 use Rattle.rule_set.specs.Rules.{all_rules, is_rule}
 use Rattle.rule_set.specs.RuleSets.{holds, rules_of}
-use Rattle.tf_rules.specs.Answers.{shown_issue}
 use Rattle.tf_rules.specs.Inner.Entries.{issue_of, issues_of}
 use Rattle.tf_rules.specs.Inner.KeptViews.{kept_comment}
 use Rattle.tf_rules.specs.Inner.SilencedLines.{is_in_set, is_on, same_line, silenced_at}
@@ -164,10 +163,13 @@ unsilenced comments i none =
 
 -- ---- the issues that are shown
 
+pub filter_all : {X : Type 0} (p : X → Bool) → ((x : X) → p x ≡ true) → (xs : List X) → filter p xs ≡ xs
+filter_all p h [] = refl
+filter_all p h (x ∷ xs) = ap (λ b. cond b (x ∷ filter p xs) (filter p xs)) (h x) ∙ ap (λ r. x ∷ r) (filter_all p h xs)
+
 pub shown_more : (p : Issue → Bool) (xs : List Entry) (i : ℕ) (x : Entry) → i < length xs → x ≡ get_or xs i x
-    → map shown_issue (filter p (issues_of (take i xs))) ++ map shown_issue (filter p (issue_of x ∷ [])) ≡ map shown_issue (filter p (issues_of (take (i + 1) xs)))
+    → filter p (issues_of (take i xs)) ++ filter p (issue_of x ∷ []) ≡ filter p (issues_of (take (i + 1) xs))
 shown_more p xs i x less at =
-    sym (map-append shown_issue (filter p (issues_of (take i xs))) (filter p (issue_of x ∷ [])))
-    ∙ ap (map shown_issue) (sym (filter-append p (issues_of (take i xs)) (issue_of x ∷ [])))
-    ∙ ap (λ is. map shown_issue (filter p is)) (sym (map-append issue_of (take i xs) (x ∷ [])))
-    ∙ ap (λ es. map shown_issue (filter p (issues_of es))) (ap (λ y. take i xs ++ y ∷ []) at ∙ sym (take_more xs i x less))
+    sym (filter-append p (issues_of (take i xs)) (issue_of x ∷ []))
+    ∙ ap (filter p) (sym (map-append issue_of (take i xs) (x ∷ [])))
+    ∙ ap (λ es. filter p (issues_of es)) (ap (λ y. take i xs ++ y ∷ []) at ∙ sym (take_more xs i x less))

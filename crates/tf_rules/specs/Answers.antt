@@ -1,13 +1,26 @@
 -- What the calls answer of the issues of a module: the ordered list, each issue with the number of its file, its position,
 -- its rule and its message. The files of a module have rising numbers, so that no two issues stand at one place by one rule.
-use Rattle.std.specs.Prelude.{◌≡◌, ◌<◌, List, map}
+use Rattle.std.specs.Prelude.{◌≡◌, ◌<◌, ◌++◌, ℕ, List, map}
 use Rattle.tf_rules.specs.Ordered.{Ascends}
 use Rattle.tf_rules.specs.Issues.{Asked, File, IsReport}
 use Rattle.tf_rules.specs.Issues as issues
 use Rattle.tf_rules.specs.declared.issue.Issue.{Issue}
+use Rattle.tf_rules.specs.declared.listed_issue.ListedIssue.{ListedIssue}
+use Rattle.tf_rules.specs.declared.pieces.Pieces.{Pieces}
+use Rattle.tf_rules.specs.declared.pieces.Pieces.TheVariants.{Whole, Named, NamedTwice}
 
 abbrev pub shown_issue : issues.Issue → Issue
 shown_issue i = record { file = i.place.file; at = i.place.at; rule = i.rule; message = i.message }
+
+-- the text of pieces, one after another
+abbrev pub text_of_pieces : Pieces → List ℕ
+text_of_pieces (Whole text) = text.now
+text_of_pieces (Named front name rest) = front.now ++ (name.now ++ rest.now)
+text_of_pieces (NamedTwice front name between other rest) = front.now ++ (name.now ++ (between.now ++ (other.now ++ rest.now)))
+
+-- the same issue, where a list gives it with its message in pieces
+abbrev pub listed_issue : ListedIssue → Issue
+listed_issue i = record { file = i.file; at = i.at; rule = i.rule; message = text_of_pieces i.message }
 
 -- the number of a file is below another's
 abbrev pub IsBelow : File → File → Type 0

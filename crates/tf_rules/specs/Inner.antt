@@ -2,7 +2,6 @@
 pub mod Entries
 pub mod KeptFacts
 pub mod KeptViews
-pub mod Messages
 pub mod Placing
 pub mod SilencedLines
 pub mod Walked

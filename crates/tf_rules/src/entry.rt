@@ -9,7 +9,7 @@ use rule_set::Rule;
 pub enum Said<'f> {
     /// A text of the rule's own.
     Fixed(&'static str),
-    /// `KIND "NAME"` of a declaration, and what follows.
+    /// `KIND "NAME` of a declaration, and what follows from the closing quote on.
     About(&'f KeptDeclaration, &'static str),
     /// That the source of a module uses this default branch.
     DefaultBranch(&'f KeptDeclaration, &'static str),

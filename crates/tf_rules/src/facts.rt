@@ -17,12 +17,14 @@ ghost use Rattle.tf_rules.specs.Inner.KeptFacts.{kept_facts, with_found};
 use crate::entry::Entry;
 use crate::findings::{put_comments, put_declarations, put_places};
 use crate::issue::Issue;
+use crate::issue_list::IssueList;
 use crate::kept::{KeptComment, KeptDeclaration, TokenPlace};
 use crate::kept_file::{KeptFile, kept_file};
 use crate::naming::Naming;
 use crate::order::in_order;
+use crate::owned_issues::owned_issues;
 use crate::settings::Settings;
-use crate::silenced::{issues_to_show, silenced_lines};
+use crate::silenced::{shown_entries, silenced_lines};
 use hcl_syntax::{Accepted, Outline, outline};
 use rule_set::{ALL_RULES, Rule};
 use std::alloc::{AllocError, Global};
@@ -218,13 +220,25 @@ impl Facts {
         Ok(entries)
     }
 
-    /// The issues of the files, by file, then token, then the name of the rule.
-    pub fn issues(&self, settings: &Settings) -> Result<Vec<Issue>, AllocError>
-        ensures { (files : List File) → self.now ≡ kept_of files → Rising files → IfOk result (λ issues. AreIssues (asked_of settings.now) files issues.items) }
+    /// The issues of the files, by file, then token, then the name of the rule. No message is put together: a list tells
+    /// each by pieces of what is kept.
+    pub fn issue_list(&self, settings: &Settings) -> Result<IssueList<'_>, AllocError>
+        ensures { (files : List File) → self.now ≡ kept_of files → Rising files → IfOk result (λ issues. AreIssues (asked_of settings.now) files issues) }
     {
         let entries = self.reported(settings, &ALL_RULES)?;
         let lines = silenced_lines(self.alloc, &self.comments)?;
         let sorted = in_order(entries)?;
-        issues_to_show(self.alloc, sorted.as_slice(), &lines)
+        let shown = shown_entries(self.alloc, sorted, &lines)?;
+        Ok(IssueList::new(shown))
+    }
+
+    /// The same issues, each with a message that stands by itself.
+    pub fn issues(&self, settings: &Settings) -> Result<Vec<Issue>, AllocError>
+        ensures { (files : List File) → self.now ≡ kept_of files → Rising files → IfOk result (λ issues. AreIssues (asked_of settings.now) files issues.items) }
+    {
+        match self.issue_list(settings) {
+            Ok(issues) => owned_issues(self.alloc, &issues),
+            Err(error) => Err(error),
+        }
     }
 }

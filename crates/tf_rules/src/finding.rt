@@ -3,9 +3,9 @@
 ghost use Rattle.std.specs.Prelude.{◌≡◌, ◌++◌, ◌&&◌, [], not, IfOk};
 ghost use Rattle.std.specs.List.{list_any};
 ghost use Rattle.std.specs.Str.{bytes_eq};
-ghost use Rattle.tf_facts.specs.References.{data_reference};
-ghost use Rattle.tf_rules.specs.Findings.{about, finding, is_kind, from_registry, is_unused, says_if, unpinned_findings, unpinned_findings_by, uses_of};
-ghost use Rattle.tf_rules.specs.Inner.Entries.{finding_listed};
+ghost use Rattle.tf_facts.specs.References.{data_reference, last_of};
+ghost use Rattle.tf_rules.specs.Findings.{finding, is_kind, from_registry, is_unused, kind_text, says_if, unpinned_findings, unpinned_findings_by, uses_of};
+ghost use Rattle.tf_rules.specs.Inner.Entries.{finding_listed, opened};
 ghost use Rattle.tf_rules.specs.Inner.KeptViews.{kept_declaration, kept_names, kept_source, place_of};
 ghost use Rattle.tf_facts.specs.Found.{source};
 ghost use Rattle.std.specs.Option.{option_map};
@@ -30,13 +30,13 @@ fn is_variable(kind: DeclarationKind) -> bool
     matches!(kind, DeclarationKind::Variable)
 }
 
-/// Where a declaration lacks what it should have.
+/// Where a declaration lacks what it should have. The rest of the text begins with the quote after its name.
 fn lacking<'f>(
     is_lacking: bool,
     declaration: &'f KeptDeclaration,
     rest: &'static str,
 ) -> Option<Finding<'f>>
-    ensures { finding_listed result ≡ says_if is_lacking (place_of declaration.now.at) (about (kept_declaration declaration.now) rest.now) }
+    ensures { finding_listed result ≡ says_if is_lacking (place_of declaration.now.at) (kind_text declaration.now.kind ++ opened (last_of (kept_names declaration.now.names)) rest.now) }
 {
     if !is_lacking {
         return None;
@@ -56,7 +56,7 @@ fn unpinned_by<'f>(declaration: &'f KeptDeclaration, found: KeptSource) -> Optio
         ModuleSource::Registry => None,
         ModuleSource::NotPinned => Some(Finding {
             at: found.at,
-            said: Said::About(declaration, " source is not pinned"),
+            said: Said::About(declaration, "\" source is not pinned"),
         }),
         ModuleSource::DefaultBranch(branch) => Some(Finding {
             at: found.at,
@@ -192,24 +192,24 @@ pub fn finding<'f>(
         Rule::DocumentedOutputs => Ok(lacking(
             is_output(declaration.kind) && !declaration.is_described,
             declaration,
-            " has no description",
+            "\" has no description",
         )),
         Rule::DocumentedVariables => Ok(lacking(
             is_variable(declaration.kind) && !declaration.is_described,
             declaration,
-            " has no description",
+            "\" has no description",
         )),
         Rule::ModulePinnedSource => Ok(unpinned(declaration)),
         Rule::ModuleVersion => Ok(lacking(
             from_registry(declaration.source) && !declaration.is_versioned,
             declaration,
-            " has no version",
+            "\" has no version",
         )),
         Rule::NamingConvention => Ok(misnamed(naming, declaration)),
         Rule::TypedVariables => Ok(lacking(
             is_variable(declaration.kind) && !declaration.is_typed,
             declaration,
-            " has no type",
+            "\" has no type",
         )),
         Rule::UnusedDeclarations => unused(used, declaration, text),
         Rule::CommentSyntax => Ok(None),

@@ -1,4 +1,4 @@
-//! What is reported of a module.
+//! What is reported of a module, with messages that stand by themselves.
 
 ghost use Rattle.std.specs.Prelude.{◌≡◌};
 ghost use Rattle.std.specs.String.{string_bytes};
@@ -7,55 +7,34 @@ use hcl_tokens::Position;
 use rule_set::Rule;
 use std::marker::Model;
 
-/// The text of a message: one of a rule's own, which takes no memory, or one that was put together.
-#[derive(Drop)]
-pub enum MessageText {
-    Fixed(&'static str),
-    Owned(String),
-}
-
 /// What an issue says, in UTF-8 and without a line's end.
 #[derive(Drop)]
 pub struct Message {
-    text: MessageText,
+    text: String,
 }
 
 impl Model for Message {
     ghost use Rattle.std.specs.Prelude.{List, ℕ};
-    ghost use Rattle.tf_rules.specs.Inner.Messages.{bytes_of};
+    ghost use Rattle.std.specs.String.{string_bytes};
 
     ghost Value = { List ℕ };
 
-    ghost view = { λ m. bytes_of m.text };
+    ghost view = { λ m. string_bytes m.text };
 }
 
 impl Message {
-    /// The message of this text of a rule's own.
-    pub(crate) fn fixed(text: &'static str) -> Message
-        ensures { result ≡ text.now }
-    {
-        Message {
-            text: MessageText::Fixed(text),
-        }
-    }
-
     /// The message of this text.
-    pub(crate) fn owned(text: String) -> Message
+    pub(crate) fn new(text: String) -> Message
         ensures { result ≡ string_bytes text }
     {
-        Message {
-            text: MessageText::Owned(text),
-        }
+        Message { text }
     }
 
     /// The message's text.
     pub fn as_str(&self) -> &str
         ensures { result.now ≡ self.now }
     {
-        match &self.text {
-            MessageText::Fixed(text) => text,
-            MessageText::Owned(text) => text.as_str(),
-        }
+        self.text.as_str()
     }
 }
 

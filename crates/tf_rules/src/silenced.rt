@@ -1,7 +1,6 @@
 //! Which rules are silenced on which lines.
 
 ghost use Rattle.std.specs.Prelude.{◌≡◌, ◌==◌, ◌&&◌, ◌||◌, ◌++◌, ◌∷◌, [], ℕ, List, filter, map, not, IfOk, OnOk};
-ghost use Rattle.tf_rules.specs.Answers.{shown_issue};
 ghost use Rattle.tf_facts.specs.Comments.{Comment};
 ghost use Rattle.tf_rules.specs.Issues.{Place, is_silenced};
 ghost use Rattle.rule_set.specs.RuleSets.{holds};
@@ -11,9 +10,7 @@ ghost use Rattle.tf_rules.specs.Inner.SilencedLines.{AreSilenced, silenced_at};
 ghost use Rattle.rule_set.specs.declared.rule.Rule.{Rule};
 
 use crate::entry::Entry;
-use crate::issue::Issue;
 use crate::kept::KeptComment;
-use crate::said::message;
 use indexmap::IndexMap;
 use rule_set::{RuleSet, rules_of_both};
 use std::alloc::{AllocError, Global};
@@ -68,14 +65,10 @@ pub fn silenced_lines(alloc: Global, comments: &[KeptComment]) -> Result<Silence
     Ok(lines)
 }
 
-/// Whether an issue is silenced, on its own line or by the line above. In most modules no comment silences anything, and
-/// then no line is looked up.
+/// Whether an issue is silenced, on its own line or by the line above.
 fn is_silenced(lines: &SilencedLines, entry: &Entry<'_>) -> bool
     ensures { (comments : List (Comment Place)) → AreSilenced lines.now comments → result ≡ is_silenced comments (issue_of entry.now) }
 {
-    if lines.is_empty() {
-        return false;
-    }
     let place = entry.at;
     if rules_on(lines, place.file, place.at.line).holds(entry.rule) {
         return true;
@@ -86,41 +79,50 @@ fn is_silenced(lines: &SilencedLines, entry: &Entry<'_>) -> bool
     rules_on(lines, place.file, above).holds(entry.rule)
 }
 
-/// Puts an issue last as it is shown, where it isn't silenced.
-fn put_issue(
-    alloc: Global,
-    entry: &Entry<'_>,
+/// Puts an entry last, where it isn't silenced.
+fn put_unsilenced<'f>(
+    entry: Entry<'f>,
     lines: &SilencedLines,
-    issues: &mut Vec<Issue>,
+    shown: &mut Vec<Entry<'f>>,
 ) -> Result<(), AllocError>
     ensures { (comments : List (Comment Place)) → AreSilenced lines.now comments
-        → OnOk result (issues.new.items ≡ issues.old.items ++ map shown_issue (filter (λ i. not (is_silenced comments i)) (issue_of entry.now ∷ []))) }
+        → OnOk result (issues_of shown.new.items ≡ issues_of shown.old.items ++ filter (λ i. not (is_silenced comments i)) (issue_of entry.entry ∷ [])) }
 {
-    if is_silenced(lines, entry) {
+    if is_silenced(lines, &entry) {
         return Ok(());
     }
-    let message = message(alloc, entry.said)?;
-    issues.push(Issue {
-        file: entry.at.file,
-        at: entry.at.at,
-        rule: entry.rule,
-        message,
-    })?;
+    shown.push(entry)?;
     Ok(())
 }
 
-/// The issues that aren't silenced, as they are shown, in room for all entries.
-pub fn issues_to_show(
+/// The entries that aren't silenced, in room for all.
+fn without_silenced<'f>(
     alloc: Global,
-    entries: &[Entry<'_>],
+    entries: &[Entry<'f>],
     lines: &SilencedLines,
-) -> Result<Vec<Issue>, AllocError>
+) -> Result<Vec<Entry<'f>>, AllocError>
     ensures { (comments : List (Comment Place)) → AreSilenced lines.now comments
-        → IfOk result (λ issues. issues.items ≡ map shown_issue (filter (λ i. not (is_silenced comments i)) (issues_of entries.now))) }
+        → IfOk result (λ shown. issues_of shown.items ≡ filter (λ i. not (is_silenced comments i)) (issues_of entries.now)) }
 {
-    let mut issues = Vec::with_capacity(alloc, entries.len())?;
+    let mut shown = Vec::with_capacity(alloc, entries.len())?;
     for entry in entries {
-        put_issue(alloc, entry, lines, &mut issues)?;
+        put_unsilenced(*entry, lines, &mut shown)?;
     }
-    Ok(issues)
+    Ok(shown)
+}
+
+/// The entries that aren't silenced. In most modules no comment silences anything, and then no line is looked up: they are
+/// the list itself.
+pub fn shown_entries<'f>(
+    alloc: Global,
+    entries: Vec<Entry<'f>>,
+    lines: &SilencedLines,
+) -> Result<Vec<Entry<'f>>, AllocError>
+    ensures { (comments : List (Comment Place)) → AreSilenced lines.now comments
+        → IfOk result (λ shown. issues_of shown.items ≡ filter (λ i. not (is_silenced comments i)) (issues_of entries.entry.items)) }
+{
+    if lines.is_empty() {
+        return Ok(entries);
+    }
+    without_silenced(alloc, entries.as_slice(), lines)
 }

@@ -1,13 +1,12 @@
 //! The words of the command line.
 
 ghost use Rattle.std.specs.Prelude.{◌≡◌, ◌⊎◌, Err, IfOk, map};
-ghost use Rattle.clap.specs.Words.{app_of, kind_of};
-ghost use Rattle.tffmt_command.specs.Line.{options_of, tffmt, usage_of_kind};
+ghost use Rattle.clap.specs.Words.{app_of};
+ghost use Rattle.tffmt_command.specs.Line.{options_of, tffmt};
 ghost use Rattle.tffmt_command.specs.declared.options.Usage.TheVariants.{OutOfMemory};
 
-use clap::error::ErrorKind;
-use clap::{Arg, ArgAction, Command, Error};
-use command_line::is_flag_set;
+use clap::Command;
+use command_line::{flag_named, is_flag_set, usage_for};
 use std::alloc::{AllocError, Global};
 
 /// What the words ask for.
@@ -28,25 +27,11 @@ pub enum Usage {
     OutOfMemory,
 }
 
-/// What a refusal of clap's becomes.
-fn usage_for(error: &Error) -> Usage
-    ensures { result ≡ usage_of_kind (kind_of error.now) }
-{
-    match error.kind() {
-        ErrorKind::OutOfMemory => Usage::OutOfMemory,
-        ErrorKind::DisplayHelp => Usage::Help,
-        _ => Usage::BadLine,
-    }
-}
-
 /// The command `tffmt [--check] [--help]`.
 fn command<'a>(alloc: Global) -> Result<Command<'a>, AllocError>
     ensures { IfOk result (λ c. app_of c ≡ tffmt) }
 {
-    let check = Arg::new(alloc, "check")
-        .long("check")
-        .action(ArgAction::SetTrue);
-    Command::new(alloc, "tffmt").arg(check)
+    Command::new(alloc, "tffmt").arg(flag_named(alloc, "check"))
 }
 
 /// The options that the words give, the program's name first, or the usage that they have. Where
@@ -61,6 +46,6 @@ pub fn options(alloc: Global, words: &[&str]) -> Result<FmtOptions, Usage>
         Ok(matches) => Ok(FmtOptions {
             check: is_flag_set(&matches, "check"),
         }),
-        Err(error) => Err(usage_for(&error)),
+        Err(error) => Err(usage_for(&error, Usage::OutOfMemory, Usage::Help, Usage::BadLine)),
     }
 }

@@ -1,7 +1,7 @@
 //! A run over any devices.
 
 ghost use Rattle.std.specs.Prelude.{◌≡◌, ◌≢◌, ◌||◌, ◌<◌, ◌≤◌, ℕ, List, [], false, true, length, map, if◌then◌else◌, string_bytes, IfOk, IfErr};
-ghost use Rattle.command_line.specs.Rows.{Row, Took, Shows, ShowsOne, OrOutOfMemory, writer};
+ghost use Rattle.command_line.specs.Rows.{Row, Took, Shows, ShowsIfMemory, ShowsOne, end_of, message_row, output_row, writer};
 ghost use Rattle.tffmt_command.specs.Rows.{IsRow, OfInput, formatter};
 ghost use Rattle.hcl_source.specs.Devices.{one_more};
 ghost use Rattle.hcl_source.specs.Load.{max_source};
@@ -49,8 +49,7 @@ fn fault_line(alloc: Global, fault: &Fault) -> Result<String, AllocError>
 fn refuse<O: ByteSink, E: ByteSink>(alloc: Global, out: &mut O, err: &mut E, fault: &Fault) -> u8
     requires out { O.failed out.old ≡ false }
     requires err { E.failed err.old ≡ false }
-    ensures { ShowsOne formatter (OrOutOfMemory formatter (λ row. row ≡ refusal_row fault.now))
-        (record { out = writer O.taken O.failed O.flushed O.flushes out.old out.new; err = writer E.taken E.failed E.flushed E.flushes err.old err.new; status = result }) }
+    ensures { ShowsIfMemory formatter (λ row. row ≡ refusal_row fault.now) (end_of O.ByteSink out.old out.new E.ByteSink err.old err.new result) }
 {
     formatter().tell_line(out, err, fault_line(alloc, fault), 2)
 }
@@ -58,7 +57,7 @@ fn refuse<O: ByteSink, E: ByteSink>(alloc: Global, out: &mut O, err: &mut E, fau
 /// Writes the print of a file.
 fn print<O: ByteSink>(accepted: &Accepted<'_, '_>, out: &mut O)
     requires out { O.failed out.old ≡ false }
-    ensures took { Took (writer O.taken O.failed O.flushed O.flushes out.old out.new) (print accepted.now.tokens) }
+    ensures took { Took (writer O.ByteSink out.old out.new) (print accepted.now.tokens) }
     ensures flushed { O.failed out.new ≡ false → 0 < length (print accepted.now.tokens) → O.flushed out.new ≡ true }
     ensures once { O.failed out.new ≡ false → 0 < length (print accepted.now.tokens) → O.flushes out.new ≡ one_more (O.flushes out.old) }
     ensures untouched { length (print accepted.now.tokens) ≡ 0 → O.failed out.new ≡ false }
@@ -73,9 +72,7 @@ fn print<O: ByteSink>(accepted: &Accepted<'_, '_>, out: &mut O)
 fn show<O: ByteSink, E: ByteSink>(accepted: &Accepted<'_, '_>, out: &mut O, err: &mut E) -> u8
     requires out { O.failed out.old ≡ false }
     requires err { E.failed err.old ≡ false }
-    ensures { let row : Row = record { out = print accepted.now.tokens; err = []; status = 0 } in
-        Shows formatter row
-        (record { out = writer O.taken O.failed O.flushed O.flushes out.old out.new; err = writer E.taken E.failed E.flushed E.flushes err.old err.new; status = result }) }
+    ensures { Shows formatter (output_row (print accepted.now.tokens) 0) (end_of O.ByteSink out.old out.new E.ByteSink err.old err.new result) }
 {
     print(accepted, out);
     formatter().finish(out, err, 0)
@@ -99,8 +96,7 @@ fn show_formatted<O: ByteSink, E: ByteSink>(
     requires formatted { print accepted.now.tokens ≡ accepted.now.text }
     requires out { O.failed out.old ≡ false }
     requires err { E.failed err.old ≡ false }
-    ensures { Shows formatter (row_of_file options.now accepted.now)
-        (record { out = writer O.taken O.failed O.flushed O.flushes out.old out.new; err = writer E.taken E.failed E.flushed E.flushes err.old err.new; status = result }) }
+    ensures { Shows formatter (row_of_file options.now accepted.now) (end_of O.ByteSink out.old out.new E.ByteSink err.old err.new result) }
 {
     let text = text_of(accepted);
     if options.check {
@@ -121,8 +117,7 @@ fn show_changed<O: ByteSink, E: ByteSink>(
     requires changed { print accepted.now.tokens ≢ accepted.now.text }
     requires out { O.failed out.old ≡ false }
     requires err { E.failed err.old ≡ false }
-    ensures { ShowsOne formatter (OrOutOfMemory formatter (λ row. row ≡ row_of_file options.now accepted.now))
-        (record { out = writer O.taken O.failed O.flushed O.flushes out.old out.new; err = writer E.taken E.failed E.flushed E.flushes err.old err.new; status = result }) }
+    ensures { ShowsIfMemory formatter (λ row. row ≡ row_of_file options.now accepted.now) (end_of O.ByteSink out.old out.new E.ByteSink err.old err.new result) }
 {
     if !fits(accepted, MAX_SOURCE as u64) {
         let fault = Fault {
@@ -149,8 +144,7 @@ fn format<O: ByteSink, E: ByteSink>(
 ) -> u8
     requires out { O.failed out.old ≡ false }
     requires err { E.failed err.old ≡ false }
-    ensures { ShowsOne formatter (OrOutOfMemory formatter (λ row. row ≡ row_of_file options.now accepted.now))
-        (record { out = writer O.taken O.failed O.flushed O.flushes out.old out.new; err = writer E.taken E.failed E.flushed E.flushes err.old err.new; status = result }) }
+    ensures { ShowsIfMemory formatter (λ row. row ≡ row_of_file options.now accepted.now) (end_of O.ByteSink out.old out.new E.ByteSink err.old err.new result) }
 {
     if is_formatted(accepted) {
         show_formatted(options, accepted, out, err)
@@ -169,8 +163,7 @@ fn answer<O: ByteSink, E: ByteSink>(
 ) -> u8
     requires out { O.failed out.old ≡ false }
     requires err { E.failed err.old ≡ false }
-    ensures { ShowsOne formatter (OrOutOfMemory formatter (IsTextAnswer options.now source.now))
-        (record { out = writer O.taken O.failed O.flushed O.flushes out.old out.new; err = writer E.taken E.failed E.flushed E.flushes err.old err.new; status = result }) }
+    ensures { ShowsIfMemory formatter (IsTextAnswer options.now source.now) (end_of O.ByteSink out.old out.new E.ByteSink err.old err.new result) }
 {
     match scan(alloc, source) {
         Ok(tokens) => match accepts(&tokens) {
@@ -196,8 +189,7 @@ pub fn run<R: ByteSource, O: ByteSink, E: ByteSink>(
     requires out { O.failed out.old ≡ false }
     requires err { E.failed err.old ≡ false }
     // However the run goes, it shows a row.
-    ensures { ShowsOne formatter (IsRow (IsFileAnswer options.now) (R.failed input.new) (R.left input.old))
-        (record { out = writer O.taken O.failed O.flushed O.flushes out.old out.new; err = writer E.taken E.failed E.flushed E.flushes err.old err.new; status = result }) }
+    ensures { ShowsOne formatter (IsRow (IsFileAnswer options.now) (R.failed input.new) (R.left input.old)) (end_of O.ByteSink out.old out.new E.ByteSink err.old err.new result) }
 {
     match Source::read_from(alloc, input) {
         Ok(source) => answer(alloc, options, &source, out, err),
@@ -211,8 +203,7 @@ pub fn run<R: ByteSource, O: ByteSink, E: ByteSink>(
 pub fn bad_line<O: ByteSink, E: ByteSink>(out: &mut O, err: &mut E) -> u8
     requires out { O.failed out.old ≡ false }
     requires err { E.failed err.old ≡ false }
-    ensures { let row : Row = record { out = []; err = usage_line; status = 2 } in
-        Shows formatter row (record { out = writer O.taken O.failed O.flushed O.flushes out.old out.new; err = writer E.taken E.failed E.flushed E.flushes err.old err.new; status = result }) }
+    ensures { Shows formatter (message_row usage_line 2) (end_of O.ByteSink out.old out.new E.ByteSink err.old err.new result) }
 {
     formatter().tell(out, err, USAGE, 2)
 }
@@ -230,12 +221,11 @@ pub fn program<R: ByteSource, O: ByteSink, E: ByteSink>(
     requires out { O.failed out.old ≡ false }
     requires err { E.failed err.old ≡ false }
     // However the run goes, it shows a row.
-    ensures row { ShowsOne formatter (IsRow (IsAnswer (map (λ word. word.now) words.now)) (R.failed input.new) (R.left input.old))
-        (record { out = writer O.taken O.failed O.flushed O.flushes out.old out.new; err = writer E.taken E.failed E.flushed E.flushes err.old err.new; status = result }) }
+    ensures row { ShowsOne formatter (IsRow (IsAnswer (map (λ word. word.now) words.now)) (R.failed input.new) (R.left input.old)) (end_of O.ByteSink out.old out.new E.ByteSink err.old err.new result) }
     // Where nothing failed and memory was there, it shows the row of its words and its input.
     ensures answer { R.failed input.new ≡ false → O.failed out.new ≡ false → E.failed err.new ≡ false → result ≢ 4
         → OfInput (R.left input.old) (λ bytes. (row : Row) × IsAnswer (map (λ word. word.now) words.now) bytes row
-        × Shows formatter row (record { out = writer O.taken O.failed O.flushed O.flushes out.old out.new; err = writer E.taken E.failed E.flushed E.flushes err.old err.new; status = result })) }
+        × Shows formatter row (end_of O.ByteSink out.old out.new E.ByteSink err.old err.new result)) }
     // Where the words give no options, nothing is read.
     ensures unread { IfErr (options_of (map (λ word. word.now) words.now)) (λ _. (R.failed input.new ≡ false) × (R.left input.new ≡ R.left input.old)) }
 {

@@ -22,7 +22,7 @@ use Rattle.hcl_source.specs.Devices.{Tells}
 use Rattle.tfrules_command.specs.Inner.Steps.{AreFine, Added, Adds, Keeps, Reached, ReadsFile, StopsAt, StopsBy, stop_by, stop_of_scan}
 use Rattle.tfrules_command.specs.declared.stop.Stop.{Stop}
 use Rattle.tfrules_command.specs.declared.stop.Stop.TheVariants as stop
-use Rattle.tfrules_command.proofs.ListLemmas.{from_here}
+use Rattle.command_line.proofs.ListCutLemmas.{from_here}
 
 -- ---- a file that was read
 

@@ -1,9 +1,9 @@
 pub mod ListLemmas
 pub mod NameLemmas
-pub mod WriterLemmas
+pub mod PageLemmas
 pub mod ReportPieceLemmas
 pub mod AskedRuleLemmas
-pub mod WordLemmas
+pub mod OptionRowLemmas
 pub mod GatherLemmas
 pub mod EndRowLemmas
 pub mod StatusLemmas

@@ -8,9 +8,9 @@ use Rattle.std.proofs.lemmas.List.Elements.{All-cons, All-head, All-more, All-ni
 use Rattle.std.proofs.lemmas.List.Sums.{sum_by-append, sum_by-cons}
 use Rattle.clap.specs.Words.{Kinds, all_of, fault_of, matches_of}
 use Rattle.clap.specs.Words as clap
-use Rattle.clap.specs.declared.error.ErrorKind.{ErrorKind}
-use Rattle.clap.specs.declared.error.ErrorKind.TheVariants as kind
-use Rattle.command_line.specs.Faults.{IsOfWords, One}
+use Rattle.command_line.specs.Arguments.{unless_fault, usage_by}
+use Rattle.command_line.proofs.AskedLemmas.{line_has_memory}
+use Rattle.command_line.proofs.OneFaultLemmas.{one_fault}
 use Rattle.command_line.specs.Rows.{Row, fails_with}
 use Rattle.hcl_source.specs.Load.{IsText}
 use Rattle.hcl_source.specs.declared.fault.Fault.{Fault}
@@ -24,7 +24,7 @@ use Rattle.rule_set.specs.declared.rule.Severity.{Severity}
 use Rattle.tfrules_command.specs.AnswerLaws.{AreNamed, IsAnswer, named_file}
 use Rattle.tfrules_command.specs.Answer.{IsAnswerBy, IsRefused, IsRefusedFirst, IsReported, linter, refusal_row, too_large, usage_line}
 use Rattle.tfrules_command.specs.Files.{NamedFile, AreAccepted, IsAcceptedAs, IsOutcome, max_module, numbered_files, size_of}
-use Rattle.tfrules_command.specs.Line.{Asking, asking_for, asking_with, each_once, has_name, options_by, max_files, options_of, rules_asked, rules_named, tfrules, usage_of_kind, value_or}
+use Rattle.tfrules_command.specs.Line.{Asking, asking_for, asking_of_rows, asking_with, each_once, has_name, max_files, options_of, rules_asked, rules_named, tfrules, value_or}
 use Rattle.tfrules_command.specs.Report.{report_row}
 use Rattle.tfrules_command.specs.Inner.Outcomes.{HasOutcome}
 use Rattle.tfrules_command.specs.declared.usage.Usage.{Usage}
@@ -32,28 +32,8 @@ use Rattle.tfrules_command.specs.declared.usage.Usage.TheVariants as usage
 use Rattle.tfrules_command.proofs.EndRowLemmas.{rising}
 use Rattle.tfrules_command.proofs.GatherLemmas.{all_zip_push}
 use Rattle.tfrules_command.proofs.SomeReportLemmas.{some_report}
-use Rattle.tfrules_command.proofs.WordLemmas.{one}
 
 -- ---- running out of memory is the usage of no line
-
-usage_of_words : (k : ErrorKind) → IsOfWords k → usage_of_kind k ≡ usage.OutOfMemory → ⊥
-usage_of_words kind.InvalidValue p e = absurd (cc)
-usage_of_words kind.UnknownArgument p e = absurd (cc)
-usage_of_words kind.InvalidSubcommand p e = absurd (cc)
-usage_of_words kind.NoEquals p e = absurd (cc)
-usage_of_words kind.ValueValidation p e = absurd (cc)
-usage_of_words kind.TooManyValues p e = absurd (cc)
-usage_of_words kind.TooFewValues p e = absurd (cc)
-usage_of_words kind.WrongNumberOfValues p e = absurd (cc)
-usage_of_words kind.ArgumentConflict p e = absurd (cc)
-usage_of_words kind.MissingRequiredArgument p e = absurd (cc)
-usage_of_words kind.MissingSubcommand p e = absurd (cc)
-usage_of_words kind.DisplayHelp p e = absurd (cc)
-usage_of_words kind.DisplayHelpOnMissingArgumentOrSubcommand p e = absurd (cc)
-usage_of_words kind.DisplayVersion p e = absurd (cc)
-usage_of_words kind.Io p e = absurd (cc)
-usage_of_words kind.Format p e = absurd (cc)
-usage_of_words kind.OutOfMemory p e = absurd p
 
 -- what a line asks for whose texts are all known
 abbrev counted : Bool → List (List ℕ) → List Rule → Naming → Severity → Bool → Result Asking Usage
@@ -74,13 +54,11 @@ rows_have_memory rows None e = absurd (cc)
 rows_have_memory rows (Some []) e = absurd (cc)
 rows_have_memory rows (Some (f ∷ fs)) e = asking_has_memory _ (f ∷ fs) _ _ _ e
 
-line_has_memory : (faults : Kinds) (rows : List clap.Row) → One faults → options_by faults rows ≡ Err usage.OutOfMemory → ⊥
-line_has_memory [] rows p e = rows_have_memory rows (all_of (codes "file") rows) e
-line_has_memory (k ∷ []) rows p e = usage_of_words k p (cc)
-line_has_memory (k ∷ l ∷ ks) rows p e = absurd p
-
 has_memory : (words : List (List ℕ)) → options_of words ≡ Err usage.OutOfMemory → ⊥
-has_memory words = line_has_memory (fault_of tfrules words) (matches_of tfrules words) (one words)
+has_memory words =
+    let rows = matches_of tfrules words in
+    line_has_memory usage.OutOfMemory usage.Help usage.BadLine (fault_of tfrules words) (asking_of_rows rows) (λ e. absurd (cc)) (λ e. absurd (cc)) (one_fault tfrules words refl refl)
+    (rows_have_memory rows (all_of (codes "file") rows))
 
 -- ---- the rules that a line asks for are some of all, in their order
 
@@ -126,7 +104,7 @@ rows_ask_some rows None asking e = absurd (cc)
 rows_ask_some rows (Some []) asking e = absurd (cc)
 rows_ask_some rows (Some (f ∷ fs)) asking e = asking_for_some (value_or (codes "default") (codes "rules") rows) _ (f ∷ fs) _ _ _ asking refl e
 
-line_asks_some : (faults : Kinds) (rows : List clap.Row) (asking : Asking) → options_by faults rows ≡ Ok asking → AreSome asking.asked.rules
+line_asks_some : (faults : Kinds) (rows : List clap.Row) (asking : Asking) → unless_fault (usage_by usage.OutOfMemory usage.Help usage.BadLine) faults (asking_of_rows rows) ≡ Ok asking → AreSome asking.asked.rules
 line_asks_some [] rows asking e = rows_ask_some rows (all_of (codes "file") rows) asking e
 line_asks_some (k ∷ ks) rows asking e = absurd (cc)
 

@@ -1,5 +1,6 @@
 -- Words for the code's own parts, which its inner contracts use. Nobody has to believe them.
 pub mod Named
 pub mod Outcomes
+pub mod Pages
 pub mod Pieces
 pub mod Steps

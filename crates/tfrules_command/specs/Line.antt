@@ -3,13 +3,12 @@
 use Rattle.std.specs.Prelude.{◌≡◌, ℕ, ◌==◌, ◌++◌, Bool, true, false, List, [], ◌∷◌, Option, Some, None, Result, Ok, Err, codes, filter, fold, length, nat_lt, unwrap_or, if◌then◌else◌}
 use Rattle.std.specs.List.{list_all, list_any, slice_split}
 use Rattle.std.specs.Str.{bytes_eq}
+use Rattle.command_line.specs.Arguments.{flag_rule, option_rule, unless_fault, usage_by}
 use Rattle.command_line.specs.Flags.{is_set}
-use Rattle.clap.specs.Words.{App, Kinds, Row, Text, all_of, fault_of, first_of, matches_of, new_app}
+use Rattle.clap.specs.Words.{App, Row, Text, all_of, fault_of, first_of, matches_of, new_app}
 use Rattle.clap.specs.Words as clap
 use Rattle.clap.specs.Words.{new_rule, with_rule}
-use Rattle.clap.specs.declared.builder.ArgAction.TheVariants.{Append, Set, SetTrue}
-use Rattle.clap.specs.declared.error.ErrorKind.{ErrorKind}
-use Rattle.clap.specs.declared.error.ErrorKind.TheVariants as kind
+use Rattle.clap.specs.declared.builder.ArgAction.TheVariants.{Append}
 use Rattle.tf_rules.specs.Issues.{Asked}
 use Rattle.rule_set.specs.Rules.{all_rules, is_recommended, rule_name}
 use Rattle.rule_set.specs.declared.rule.Rule.{Rule}
@@ -30,13 +29,6 @@ pub record Asking : Type 0 where
 
 -- ---- the command
 
--- `--NAME VALUE`
-abbrev pub option_rule : Text → clap.Rule
-option_rule name = record (new_rule name) { long = Some name; action = Some Set }
-
-abbrev pub force_rule : clap.Rule
-force_rule = record (new_rule (codes "force")) { long = Some (codes "force"); action = Some SetTrue }
-
 -- one file or more
 abbrev pub file_rule : clap.Rule
 file_rule = record (new_rule (codes "file")) { action = Some Append; required = true }
@@ -45,7 +37,7 @@ file_rule = record (new_rule (codes "file")) { action = Some Append; required = 
 abbrev pub tfrules : App
 tfrules =
     with_rule (with_rule (with_rule (with_rule (with_rule (new_app (codes "tfrules")) (option_rule (codes "rules"))) (option_rule (codes "naming")))
-    (option_rule (codes "minimum-failure-severity"))) force_rule) file_rule
+    (option_rule (codes "minimum-failure-severity"))) (flag_rule (codes "force"))) file_rule
 
 -- ---- what the options may say
 
@@ -121,17 +113,6 @@ asking_with rows (Some (f ∷ fs)) =
 abbrev pub asking_of_rows : List Row → Result Asking Usage
 asking_of_rows rows = asking_with rows (all_of (codes "file") rows)
 
--- what a refusal of clap's becomes
-abbrev pub usage_of_kind : ErrorKind → Usage
-usage_of_kind kind.OutOfMemory = OutOfMemory
-usage_of_kind kind.DisplayHelp = Help
-usage_of_kind _ = BadLine
-
--- a line in which clap finds no fault gives its matches, a fault that is help gives help, and any other a bad line
-abbrev pub options_by : Kinds → List Row → Result Asking Usage
-options_by [] rows = asking_of_rows rows
-options_by (fault ∷ _) rows = Err (usage_of_kind fault)
-
 -- THE OPTIONS of a line, unless memory runs out
 abbrev pub options_of : List Text → Result Asking Usage
-options_of words = options_by (fault_of tfrules words) (matches_of tfrules words)
+options_of words = unless_fault (usage_by OutOfMemory Help BadLine) (fault_of tfrules words) (asking_of_rows (matches_of tfrules words))

@@ -2,18 +2,17 @@
 
 ghost use Rattle.std.specs.Prelude.{◌≡◌, ◌<◌, false, ◌⊎◌, ◌==◌, ◌++◌, ◌∷◌, ◌≤◌, [], List, ℕ, Err, Some, IfOk, map, option_map, length};
 ghost use Rattle.std.specs.List.{slice_split};
-ghost use Rattle.clap.specs.Words.{app_of, found_of, kind_of, rows_of, rule_of};
+ghost use Rattle.clap.specs.Words.{app_of, found_of, rows_of, rule_of};
 ghost use Rattle.rule_set.specs.RuleSets.{rules_of};
-ghost use Rattle.tfrules_command.specs.Line.{asking_for, asking_of_rows, asking_with, file_rule, force_rule, naming_asked, options_of, option_rule, rules_asked, severity_asked, tfrules, usage_of_kind, value_or};
+ghost use Rattle.tfrules_command.specs.Line.{asking_for, asking_of_rows, asking_with, file_rule, naming_asked, options_of, rules_asked, severity_asked, tfrules, value_or};
 ghost use Rattle.tfrules_command.specs.Asked.{asked_by};
 ghost use Rattle.tfrules_command.specs.Inner.Named.{Named};
 ghost use Rattle.tfrules_command.specs.declared.usage.Usage.TheVariants.{OutOfMemory};
 
 use crate::file_names::{FileNames, MAX_FILES};
 use crate::usage::Usage;
-use clap::error::ErrorKind;
-use clap::{Arg, ArgAction, ArgMatches, Command, Error};
-use command_line::is_flag_set;
+use clap::{Arg, ArgAction, ArgMatches, Command};
+use command_line::{flag_named, is_flag_set, option_named, usage_for};
 use std::alloc::{AllocError, Global};
 use tf_rules::{Naming, Rule, RuleSet, Settings, Severity};
 
@@ -28,35 +27,6 @@ pub struct LintOptions<'a> {
     pub force: bool,
     /// The files of the module.
     pub files: FileNames<'a>,
-}
-
-/// What a refusal of clap's becomes.
-fn usage_for(error: &Error) -> Usage
-    ensures { result ≡ usage_of_kind (kind_of error.now) }
-{
-    match error.kind() {
-        ErrorKind::OutOfMemory => Usage::OutOfMemory,
-        ErrorKind::DisplayHelp => Usage::Help,
-        _ => Usage::BadLine,
-    }
-}
-
-/// The option `--NAME VALUE`.
-fn option<'a>(alloc: Global, name: &'a str) -> Arg<'a>
-    ensures rule { rule_of result ≡ option_rule name.entry.now }
-    ensures local { result.global ≡ false }
-{
-    Arg::new(alloc, name).long(name).action(ArgAction::Set)
-}
-
-/// The flag `--force`.
-fn force<'a>(alloc: Global) -> Arg<'a>
-    ensures rule { rule_of result ≡ force_rule }
-    ensures local { result.global ≡ false }
-{
-    Arg::new(alloc, "force")
-        .long("force")
-        .action(ArgAction::SetTrue)
 }
 
 /// One file or more.
@@ -74,10 +44,10 @@ fn command<'a>(alloc: Global) -> Result<Command<'a>, AllocError>
     ensures { IfOk result (λ c. app_of c ≡ tfrules) }
 {
     Command::new(alloc, "tfrules")
-        .arg(option(alloc, "rules"))?
-        .arg(option(alloc, "naming"))?
-        .arg(option(alloc, "minimum-failure-severity"))?
-        .arg(force(alloc))?
+        .arg(option_named(alloc, "rules"))?
+        .arg(option_named(alloc, "naming"))?
+        .arg(option_named(alloc, "minimum-failure-severity"))?
+        .arg(flag_named(alloc, "force"))?
         .arg(file(alloc))
 }
 
@@ -232,6 +202,6 @@ pub fn options<'a>(alloc: Global, words: &'a [&'a str]) -> Result<LintOptions<'a
     };
     match command.try_get_matches_from(words) {
         Ok(matches) => options_of(alloc, &matches),
-        Err(error) => Err(usage_for(&error)),
+        Err(error) => Err(usage_for(&error, Usage::OutOfMemory, Usage::Help, Usage::BadLine)),
     }
 }

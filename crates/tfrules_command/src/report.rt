@@ -1,20 +1,38 @@
-//! The report of a run, written piece by piece.
+//! The report of a run, written line by line: short lines wait together until they fill a page.
 
-ghost use Rattle.std.specs.Prelude.{◌≡◌, ◌<◌, ◌≤◌, [], ◌∷◌, false, true, map, length, is_err, IfSome, if◌then◌else◌};
+ghost use Rattle.std.specs.Prelude.{◌≡◌, ◌<◌, ◌≤◌, ◌++◌, [], ◌∷◌, false, true, map, length, is_err, OnOk, if◌then◌else◌};
 ghost use Rattle.std.specs.List.{concat, flat_map, list_any};
+ghost use Rattle.std.specs.Io.KnownBytes.{Appends};
 ghost use Rattle.hcl_source.specs.Devices.{one_more};
 ghost use Rattle.command_line.specs.Rows.{Took, writer};
+ghost use Rattle.tf_rules.specs.Answers.{listed_issue, text_of_pieces};
 ghost use Rattle.tfrules_command.specs.Report.{issue_line, report, weighs, weight};
-ghost use Rattle.tfrules_command.specs.Inner.Pieces.{closing_words, count_lines, line_words, lines_of_report, opening_words};
+ghost use Rattle.tfrules_command.specs.Inner.Pages.{GoesOut, Holds};
+ghost use Rattle.tfrules_command.specs.Inner.Pieces.{closing_words, count_lines, framed, lines_of_report, opening_words};
 
 use crate::file_names::FileNames;
 use arrayvec::ArrayVec;
 use hcl_scan::{ByteSink, WriteFault, write_fully};
 use itoa::Buffer;
-use tf_rules::{Issue, Rule, Severity};
+use tf_rules::{IssueList, ListedIssue, Pieces, Rule, Severity};
 
-/// How many bytes are joined before they are written: those of the lines of most issues.
-const JOINED: usize = 256;
+/// How many bytes wait at most before they are written. From 2,048 bytes on the C library clears a page by a string
+/// instruction, which counts once for each byte.
+const PAGE: usize = 2000;
+
+/// What waits to be written.
+type Page = ArrayVec<u8, PAGE>;
+
+/// What stands around the message on the line of an issue: the name of its file, its line and column in digits, and what
+/// stands right before and after the message.
+#[derive(Clone, Copy)]
+struct Frame<'p> {
+    name: &'p str,
+    line: &'p str,
+    column: &'p str,
+    opening: &'p str,
+    closing: &'p str,
+}
 
 /// How much a severity weighs.
 fn weight(severity: Severity) -> u8
@@ -27,14 +45,23 @@ fn weight(severity: Severity) -> u8
     }
 }
 
-/// Whether one of the issues is as severe as this, or more.
-pub fn has_severe(minimum: Severity, issues: &[Issue]) -> bool
+/// Whether an issue is as severe as this, or more.
+fn is_severe(minimum: Severity, issue: ListedIssue<'_>) -> bool
+    ensures { result ≡ weighs minimum (listed_issue issue.entry) }
+{
+    weight(minimum) <= weight(issue.rule.severity())
+}
+
+/// Whether one of the issues is.
+pub fn has_severe(minimum: Severity, issues: &IssueList<'_>) -> bool
     ensures { result ≡ list_any (weighs minimum) issues.now }
 {
-    let least = weight(minimum);
-    issues
-        .iter()
-        .any(|issue| least <= weight(issue.rule.severity()))
+    for number in 0..issues.len() {
+        if is_severe(minimum, issues.get(number)) {
+            return true;
+        }
+    }
+    false
 }
 
 /// What stands between the place of an issue and its message.
@@ -66,23 +93,10 @@ fn closing(rule: Rule) -> &'static str
     }
 }
 
-/// The pieces as one text, where that isn't long.
-fn joined(pieces: &[&str]) -> Option<ArrayVec<u8, JOINED>>
-    ensures { IfSome result (λ text. text.items ≡ concat (map (λ piece. piece.now) pieces.now)) }
-{
-    let mut text = ArrayVec::new();
-    for piece in pieces {
-        if let Err(_) = text.try_extend_from_slice(piece.as_bytes()) {
-            return None;
-        }
-    }
-    Some(text)
-}
-
 /// Writes the pieces one after another, up to the first write that fails.
 fn write_each<O: ByteSink>(out: &mut O, pieces: &[&str]) -> Result<(), WriteFault>
     requires { O.failed out.old ≡ false }
-    ensures took { Took (writer O.taken O.failed O.flushed O.flushes out.old out.new) (concat (map (λ piece. piece.now) pieces.now)) }
+    ensures took { Took (writer O.ByteSink out.old out.new) (concat (map (λ piece. piece.now) pieces.now)) }
     ensures failed { O.failed out.new ≡ is_err result }
     ensures flushes { O.flushes out.new ≡ O.flushes out.old }
 {
@@ -94,48 +108,109 @@ fn write_each<O: ByteSink>(out: &mut O, pieces: &[&str]) -> Result<(), WriteFaul
     Ok(())
 }
 
-/// Writes the pieces one after another, in one call where they are short together.
-fn write_pieces<O: ByteSink>(out: &mut O, pieces: &[&str]) -> Result<(), WriteFault>
-    requires { O.failed out.old ≡ false }
-    ensures took { Took (writer O.taken O.failed O.flushed O.flushes out.old out.new) (concat (map (λ piece. piece.now) pieces.now)) }
-    ensures failed { O.failed out.new ≡ is_err result }
-    ensures flushes { O.flushes out.new ≡ O.flushes out.old }
+/// Puts the pieces after what waits, or none of them where there is no room for all.
+fn hold(page: &mut Page, pieces: &[&str]) -> bool
+    ensures { Holds result page.old.items page.new.items (concat (map (λ piece. piece.now) pieces.now)) }
 {
-    match joined(pieces) {
-        Some(text) => write_fully(out, text.as_slice()),
-        None => write_each(out, pieces),
+    let before = page.len();
+    for piece in pieces {
+        if let Err(_) = page.try_extend_from_slice(piece.as_bytes()) {
+            page.truncate(before);
+            return false;
+        }
     }
+    true
 }
 
-/// Writes a line of these parts.
-fn write_line<'p, O: ByteSink>(
-    out: &mut O,
-    name: &'p str,
-    line: &'p str,
-    column: &'p str,
-    opening: &'p str,
-    message: &'p str,
-    closing: &'p str,
-) -> Result<(), WriteFault>
+/// Writes what waits.
+fn send<O: ByteSink>(out: &mut O, page: &mut Page) -> Result<(), WriteFault>
     requires { O.failed out.old ≡ false }
-    ensures took { Took (writer O.taken O.failed O.flushed O.flushes out.old out.new) (line_words name.now line.now column.now opening.now message.now closing.now) }
+    ensures took { Took (writer O.ByteSink out.old out.new) page.old.items }
+    ensures empty { OnOk result (page.new.items ≡ []) }
     ensures failed { O.failed out.new ≡ is_err result }
     ensures flushes { O.flushes out.new ≡ O.flushes out.old }
 {
-    write_pieces(
-        out,
-        &[name, ":", line, ":", column, opening, message, closing],
-    )
+    if let Err(fault) = write_fully(out, page.as_slice()) {
+        return Err(fault);
+    }
+    page.clear();
+    Ok(())
+}
+
+/// Writes the pieces after what waits, or lets them wait too. Pieces for which no page has room are written one by one.
+fn write_pieces<O: ByteSink>(
+    out: &mut O,
+    page: &mut Page,
+    pieces: &[&str],
+) -> Result<(), WriteFault>
+    requires { O.failed out.old ≡ false }
+    ensures goes { GoesOut (O.failed out.new) (O.taken out.old) (O.taken out.new) page.old.items page.new.items (concat (map (λ piece. piece.now) pieces.now)) }
+    ensures failed { O.failed out.new ≡ is_err result }
+    ensures flushes { O.flushes out.new ≡ O.flushes out.old }
+{
+    if hold(page, pieces) {
+        return Ok(());
+    }
+    if let Err(fault) = send(out, page) {
+        return Err(fault);
+    }
+    if hold(page, pieces) {
+        return Ok(());
+    }
+    write_each(out, pieces)
+}
+
+/// Writes the line of a message.
+fn write_line<'p, O: ByteSink>(
+    out: &mut O,
+    page: &mut Page,
+    frame: Frame<'p>,
+    message: Pieces<'p>,
+) -> Result<(), WriteFault>
+    requires { O.failed out.old ≡ false }
+    ensures goes { GoesOut (O.failed out.new) (O.taken out.old) (O.taken out.new) page.old.items page.new.items (framed frame.entry (text_of_pieces message.entry)) }
+    ensures failed { O.failed out.new ≡ is_err result }
+    ensures flushes { O.flushes out.new ≡ O.flushes out.old }
+{
+    let Frame {
+        name,
+        line,
+        column,
+        opening,
+        closing,
+    } = frame;
+    match message {
+        Pieces::Whole(text) => write_pieces(
+            out,
+            page,
+            &[name, ":", line, ":", column, opening, text, closing],
+        ),
+        Pieces::Named(front, named, rest) => write_pieces(
+            out,
+            page,
+            &[
+                name, ":", line, ":", column, opening, front, named, rest, closing,
+            ],
+        ),
+        Pieces::NamedTwice(front, named, between, other, rest) => write_pieces(
+            out,
+            page,
+            &[
+                name, ":", line, ":", column, opening, front, named, between, other, rest, closing,
+            ],
+        ),
+    }
 }
 
 /// Writes the line of an issue.
 fn write_issue<O: ByteSink>(
     out: &mut O,
+    page: &mut Page,
     names: &FileNames<'_>,
-    issue: &Issue,
+    issue: ListedIssue<'_>,
 ) -> Result<(), WriteFault>
     requires { O.failed out.old ≡ false }
-    ensures took { Took (writer O.taken O.failed O.flushed O.flushes out.old out.new) (issue_line names.now issue.now) }
+    ensures goes { GoesOut (O.failed out.new) (O.taken out.old) (O.taken out.new) page.old.items page.new.items (issue_line names.now (listed_issue issue.entry)) }
     ensures failed { O.failed out.new ≡ is_err result }
     ensures flushes { O.flushes out.new ≡ O.flushes out.old }
 {
@@ -146,41 +221,41 @@ fn write_issue<O: ByteSink>(
     let column = column.format(issue.at.column);
     let opening = opening(issue.rule.severity());
     let closing = closing(issue.rule);
-    write_line(
-        out,
+    let frame = Frame {
         name,
         line,
         column,
         opening,
-        issue.message.as_str(),
         closing,
-    )
+    };
+    write_line(out, page, frame, issue.message)
 }
 
 /// Writes how many issues there are, and an empty line.
-fn write_count<O: ByteSink>(out: &mut O, count: usize) -> Result<(), WriteFault>
+fn write_count<O: ByteSink>(out: &mut O, page: &mut Page, count: usize) -> Result<(), WriteFault>
     requires { O.failed out.old ≡ false }
-    ensures took { Took (writer O.taken O.failed O.flushed O.flushes out.old out.new) (count_lines count) }
+    ensures goes { GoesOut (O.failed out.new) (O.taken out.old) (O.taken out.new) page.old.items page.new.items (count_lines count) }
     ensures failed { O.failed out.new ≡ is_err result }
     ensures flushes { O.flushes out.new ≡ O.flushes out.old }
 {
     let mut digits = Buffer::new();
-    write_pieces(out, &[digits.format(count), " issue(s) found:\n\n"])
+    write_pieces(out, page, &[digits.format(count), " issue(s) found:\n\n"])
 }
 
 /// Writes the lines of issues.
 fn write_issues<O: ByteSink>(
     out: &mut O,
+    page: &mut Page,
     names: &FileNames<'_>,
-    issues: &[Issue],
+    issues: &IssueList<'_>,
 ) -> Result<(), WriteFault>
     requires { O.failed out.old ≡ false }
-    ensures took { Took (writer O.taken O.failed O.flushed O.flushes out.old out.new) (flat_map (issue_line names.now) issues.now) }
+    ensures goes { GoesOut (O.failed out.new) (O.taken out.old) (O.taken out.new) page.old.items page.new.items (flat_map (issue_line names.now) issues.now) }
     ensures failed { O.failed out.new ≡ is_err result }
     ensures flushes { O.flushes out.new ≡ O.flushes out.old }
 {
-    for issue in issues {
-        if let Err(fault) = write_issue(out, names, issue) {
+    for number in 0..issues.len() {
+        if let Err(fault) = write_issue(out, page, names, issues.get(number)) {
             return Err(fault);
         }
     }
@@ -191,23 +266,27 @@ fn write_issues<O: ByteSink>(
 fn write_report<O: ByteSink>(
     out: &mut O,
     names: &FileNames<'_>,
-    issues: &[Issue],
+    issues: &IssueList<'_>,
 ) -> Result<(), WriteFault>
     requires { O.failed out.old ≡ false }
-    ensures took { Took (writer O.taken O.failed O.flushed O.flushes out.old out.new) (lines_of_report names.now issues.now) }
+    ensures took { Took (writer O.ByteSink out.old out.new) (lines_of_report names.now issues.now) }
     ensures failed { O.failed out.new ≡ is_err result }
     ensures flushes { O.flushes out.new ≡ O.flushes out.old }
 {
-    if let Err(fault) = write_count(out, issues.len()) {
+    let mut page = ArrayVec::new();
+    if let Err(fault) = write_count(out, &mut page, issues.len()) {
         return Err(fault);
     }
-    write_issues(out, names, issues)
+    if let Err(fault) = write_issues(out, &mut page, names, issues) {
+        return Err(fault);
+    }
+    send(out, &mut page)
 }
 
 /// Writes the report and flushes it, or leaves standard output alone where there is no issue.
-pub fn show_issues<O: ByteSink>(out: &mut O, names: &FileNames<'_>, issues: &[Issue])
+pub fn show_issues<O: ByteSink>(out: &mut O, names: &FileNames<'_>, issues: &IssueList<'_>)
     requires { O.failed out.old ≡ false }
-    ensures took { Took (writer O.taken O.failed O.flushed O.flushes out.old out.new) (report names.now issues.now) }
+    ensures took { Took (writer O.ByteSink out.old out.new) (report names.now issues.now) }
     ensures flushed { O.failed out.new ≡ false → 0 < length (report names.now issues.now) → O.flushed out.new ≡ true }
     ensures once { O.failed out.new ≡ false → 0 < length (report names.now issues.now) → O.flushes out.new ≡ one_more (O.flushes out.old) }
     ensures untouched { length (report names.now issues.now) ≡ 0 → O.failed out.new ≡ false }

@@ -1,7 +1,7 @@
 //! A run over any devices.
 
 ghost use Rattle.std.specs.Prelude.{◌≡◌, ◌<◌, ◌≤◌, ◌++◌, [], ℕ, List, false, map, length, string_bytes, IfOk, IfErr, Ok};
-ghost use Rattle.command_line.specs.Rows.{Row, Shows, ShowsOne, OrOutOfMemory, writer};
+ghost use Rattle.command_line.specs.Rows.{Shows, ShowsIfMemory, ShowsOne, end_of, message_row};
 ghost use Rattle.tf_rules.specs.declared.issue.Issue.{Issue};
 ghost use Rattle.tfrules_command.specs.Answer.{file_error, linter, refusal_row, usage_line};
 ghost use Rattle.tfrules_command.specs.Line.{options_of};
@@ -20,7 +20,7 @@ use crate::usage::Usage;
 use command_line::Program;
 use hcl_scan::{ByteSink, Fault};
 use std::alloc::{AllocError, Global};
-use tf_rules::{Facts, Issue};
+use tf_rules::{Facts, IssueList};
 
 static USAGE: &str =
     "usage: tfrules [--rules LIST] [--naming snake_case|mixed_snake_case] [--minimum-failure-severity error|warning|notice] [--force] [--help] FILE...\n";
@@ -77,14 +77,13 @@ fn refuse<O: ByteSink, E: ByteSink>(
 ) -> u8
     requires out { O.failed out.old ≡ false }
     requires err { E.failed err.old ≡ false }
-    ensures { ShowsOne linter (OrOutOfMemory linter (λ row. row ≡ stop_row name.now why))
-        (record { out = writer O.taken O.failed O.flushed O.flushes out.old out.new; err = writer E.taken E.failed E.flushed E.flushes err.old err.new; status = result }) }
+    ensures { ShowsIfMemory linter (λ row. row ≡ stop_row name.now why) (end_of O.ByteSink out.old out.new E.ByteSink err.old err.new result) }
 {
     linter().tell_line(out, err, stop_line(alloc, name, why), 1)
 }
 
 /// The status of a run that found these issues.
-fn status_of(options: &LintOptions<'_>, issues: &[Issue]) -> u8
+fn status_of(options: &LintOptions<'_>, issues: &IssueList<'_>) -> u8
     ensures { result ≡ status (asking_of options.now) issues.now }
 {
     if !options.force && has_severe(options.minimum, issues) {
@@ -96,14 +95,13 @@ fn status_of(options: &LintOptions<'_>, issues: &[Issue]) -> u8
 /// Shows the issues of a module.
 fn show<O: ByteSink, E: ByteSink>(
     options: &LintOptions<'_>,
-    issues: &[Issue],
+    issues: &IssueList<'_>,
     out: &mut O,
     err: &mut E,
 ) -> u8
     requires out { O.failed out.old ≡ false }
     requires err { E.failed err.old ≡ false }
-    ensures { Shows linter (report_row (asking_of options.now) issues.now)
-        (record { out = writer O.taken O.failed O.flushed O.flushes out.old out.new; err = writer E.taken E.failed E.flushed E.flushes err.old err.new; status = result }) }
+    ensures { Shows linter (report_row (asking_of options.now) issues.now) (end_of O.ByteSink out.old out.new E.ByteSink err.old err.new result) }
 {
     let status = status_of(options, issues);
     show_issues(out, &options.files, issues);
@@ -125,16 +123,15 @@ fn run_over<M: ModuleFiles, O: ByteSink, E: ByteSink>(
     requires back { M.is_out files.old ≡ false }
     requires out { O.failed out.old ≡ false }
     requires err { E.failed err.old ≡ false }
-    ensures row { ShowsOne linter (IsRow (M.told files.old) (Ok (asking_of options.now)) (M.open_failed files.new) (M.read_failed files.new))
-        (record { out = writer O.taken O.failed O.flushed O.flushes out.old out.new; err = writer E.taken E.failed E.flushed E.flushes err.old err.new; status = result }) }
+    ensures row { ShowsOne linter (IsRow (M.told files.old) (Ok (asking_of options.now)) (M.open_failed files.new) (M.read_failed files.new)) (end_of O.ByteSink out.old out.new E.ByteSink err.old err.new result) }
     // No file is left open.
     ensures back { M.is_out files.new ≡ false }
 {
     if let Err(stopped) = gather(alloc, &options.files, files, facts) {
         return refuse(alloc, out, err, stopped.name, stopped.why);
     }
-    match facts.issues(&options.settings) {
-        Ok(issues) => show(options, issues.as_slice(), out, err),
+    match facts.issue_list(&options.settings) {
+        Ok(issues) => show(options, &issues, out, err),
         Err(_) => linter().tell_out_of_memory(out, err),
     }
 }
@@ -155,8 +152,7 @@ pub fn run<M: ModuleFiles, O: ByteSink, E: ByteSink>(
     requires out { O.failed out.old ≡ false }
     requires err { E.failed err.old ≡ false }
     // However the run goes, it shows a row.
-    ensures row { ShowsOne linter (IsRow (M.told files.old) (Ok (asking_of options.now)) (M.open_failed files.new) (M.read_failed files.new))
-        (record { out = writer O.taken O.failed O.flushed O.flushes out.old out.new; err = writer E.taken E.failed E.flushed E.flushes err.old err.new; status = result }) }
+    ensures row { ShowsOne linter (IsRow (M.told files.old) (Ok (asking_of options.now)) (M.open_failed files.new) (M.read_failed files.new)) (end_of O.ByteSink out.old out.new E.ByteSink err.old err.new result) }
     // No file is left open.
     ensures back { M.is_out files.new ≡ false }
 {
@@ -170,9 +166,7 @@ pub fn run<M: ModuleFiles, O: ByteSink, E: ByteSink>(
 pub fn bad_line<O: ByteSink, E: ByteSink>(out: &mut O, err: &mut E) -> u8
     requires out { O.failed out.old ≡ false }
     requires err { E.failed err.old ≡ false }
-    ensures { let row : Row = record { out = []; err = usage_line; status = 1 } in
-        Shows linter row
-        (record { out = writer O.taken O.failed O.flushed O.flushes out.old out.new; err = writer E.taken E.failed E.flushed E.flushes err.old err.new; status = result }) }
+    ensures { Shows linter (message_row usage_line 1) (end_of O.ByteSink out.old out.new E.ByteSink err.old err.new result) }
 {
     linter().tell(out, err, USAGE, 1)
 }
@@ -195,8 +189,7 @@ fn usage_text(usage: Usage) -> &'static str
 fn tell_usage<O: ByteSink, E: ByteSink>(usage: Usage, out: &mut O, err: &mut E) -> u8
     requires out { O.failed out.old ≡ false }
     requires err { E.failed err.old ≡ false }
-    ensures { Shows linter (usage_row usage)
-        (record { out = writer O.taken O.failed O.flushed O.flushes out.old out.new; err = writer E.taken E.failed E.flushed E.flushes err.old err.new; status = result }) }
+    ensures { Shows linter (usage_row usage) (end_of O.ByteSink out.old out.new E.ByteSink err.old err.new result) }
 {
     match usage {
         Usage::Help => linter().deliver(out, err, USAGE, 0),
@@ -219,8 +212,7 @@ pub fn program<M: ModuleFiles, O: ByteSink, E: ByteSink>(
     requires out { O.failed out.old ≡ false }
     requires err { E.failed err.old ≡ false }
     // However the run goes, it shows a row.
-    ensures row { ShowsOne linter (IsRow (M.told files.old) (options_of (map (λ word. word.now) words.now)) (M.open_failed files.new) (M.read_failed files.new))
-        (record { out = writer O.taken O.failed O.flushed O.flushes out.old out.new; err = writer E.taken E.failed E.flushed E.flushes err.old err.new; status = result }) }
+    ensures row { ShowsOne linter (IsRow (M.told files.old) (options_of (map (λ word. word.now) words.now)) (M.open_failed files.new) (M.read_failed files.new)) (end_of O.ByteSink out.old out.new E.ByteSink err.old err.new result) }
     // No file is left open.
     ensures back { M.is_out files.new ≡ false }
     // Where the words give no options, nothing is opened.

@@ -249,8 +249,7 @@ const REGISTRY: Module = &[(
 
 // The report of that module, as it is written.
 const VERSION: &[&str] = &[
-    "1 issue(s) found:\n\n",
-    "main.tf:1:1: Warning - module \"m\" has no version (terraform_module_version)\n",
+    "1 issue(s) found:\n\nmain.tf:1:1: Warning - module \"m\" has no version (terraform_module_version)\n",
 ];
 
 const USED: Module = &[
@@ -279,7 +278,7 @@ static RUNS: [(Words, Module, &[&str], &[u8], u8, Counts, Counts); 9] = [
         b"",
         2,
         (1, 50, 95, 1, 0, 4_823),
-        (1, 2, 2, 1, 0, 12),
+        (1, 2, 1, 1, 0, 10),
     ),
     (
         &["tfrules", "--force", "main.tf"],
@@ -288,7 +287,7 @@ static RUNS: [(Words, Module, &[&str], &[u8], u8, Counts, Counts); 9] = [
         b"",
         0,
         (1, 50, 95, 1, 0, 4_823),
-        (1, 2, 2, 1, 0, 12),
+        (1, 2, 1, 1, 0, 10),
     ),
     // files without issues, of which one comes again
     (

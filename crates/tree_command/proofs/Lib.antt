@@ -1,3 +1,3 @@
-pub mod LineLemmas
+pub mod AskedPartLemmas
 pub mod PathLemmas
 pub mod ProgramRunLemmas

@@ -9,7 +9,7 @@ use Rattle.tree_format.specs.Reports.{worst}
 use Rattle.tree_format.specs.Runs.{IsRun, Settled, reports_of}
 use Rattle.tree_format.specs.declared.outcome.Outcome.{Outcome}
 use Rattle.tree_format.specs.declared.mode.Mode.{Mode}
-use Rattle.tree_format.proofs.WriterLemmas.{took_behind, took_front}
+use Rattle.command_line.proofs.WriterLemmas.{took_behind, took_front}
 use Rattle.tree_command.specs.Ends.{Formats, IsPartOf, formatter, last_words}
 use Rattle.tree_command.specs.declared.shard.Shard.{Shard}
 

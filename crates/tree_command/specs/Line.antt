@@ -5,10 +5,9 @@ use Rattle.std.specs.List.{after_first, before_first, list_all}
 use Rattle.std.specs.Char.{is_ascii_digit}
 use Rattle.std.specs.Option.{option_map_or}
 use Rattle.std.specs.Str.Parse.{digits_value}
-use Rattle.clap.specs.Words.{App, Kinds, Row, Rule, Text, all_of, count_of, fault_of, first_of, matches_of, new_app, new_rule, with_rule}
-use Rattle.clap.specs.declared.builder.ArgAction.TheVariants.{Append, Count, Set}
-use Rattle.clap.specs.declared.error.ErrorKind.{ErrorKind}
-use Rattle.clap.specs.declared.error.ErrorKind.TheVariants as kind
+use Rattle.clap.specs.Words.{App, Row, Rule, Text, all_of, count_of, fault_of, first_of, matches_of, new_app, new_rule, with_rule}
+use Rattle.clap.specs.declared.builder.ArgAction.TheVariants.{Append, Count}
+use Rattle.command_line.specs.Arguments.{option_rule, unless_fault, usage_by}
 use Rattle.file_tree.specs.declared.tree.Writing.{Writing}
 use Rattle.tree_format.specs.declared.mode.Mode.{Mode}
 use Rattle.tree_format.specs.declared.mode.Mode.TheVariants.{Write, Check, List as Listed, Diff}
@@ -27,16 +26,12 @@ pub record Asking : Type 0 where
 -- ---- the command
 
 -- `--NAME`, which may be given more than once
-abbrev pub flag_rule : Text → Rule
-flag_rule name = record (new_rule name) { long = Some name; action = Some Count }
+abbrev pub count_rule : Text → Rule
+count_rule name = record (new_rule name) { long = Some name; action = Some Count }
 
 -- `-0` and `--null`
 abbrev pub null_rule : Rule
 null_rule = record (new_rule (codes "null")) { long = Some (codes "null"); short = Some 48; action = Some Count }
-
--- `--NAME VALUE`
-abbrev pub option_rule : Text → Rule
-option_rule name = record (new_rule name) { long = Some name; action = Some Set }
 
 -- `-j NUMBER` and `--jobs NUMBER`, which may be given more than once
 abbrev pub jobs_rule : Rule
@@ -50,8 +45,8 @@ file_rule = record (new_rule (codes "file")) { action = Some Append }
 abbrev pub tffmt_all : App
 tffmt_all =
     fold with_rule (new_app (codes "tffmt-all"))
-    (flag_rule (codes "check") ∷ flag_rule (codes "diff") ∷ flag_rule (codes "list") ∷ flag_rule (codes "in-place") ∷ flag_rule (codes "sync")
-    ∷ flag_rule (codes "version") ∷ null_rule ∷ option_rule (codes "shard") ∷ jobs_rule ∷ file_rule ∷ [])
+    (count_rule (codes "check") ∷ count_rule (codes "diff") ∷ count_rule (codes "list") ∷ count_rule (codes "in-place") ∷ count_rule (codes "sync")
+    ∷ count_rule (codes "version") ∷ null_rule ∷ option_rule (codes "shard") ∷ jobs_rule ∷ file_rule ∷ [])
 
 abbrev pub is_given : Text → List Row → Bool
 is_given name rows = nat_lt 0 (count_of name rows)
@@ -127,20 +122,9 @@ asking_with rows names =
 abbrev pub asking_of_rows : List Row → Result Asking Usage
 asking_of_rows rows = if is_given (codes "version") rows then Err Version else asking_with rows (texts_of (codes "file") rows)
 
--- what a refusal of clap's becomes
-abbrev pub usage_of_kind : ErrorKind → Usage
-usage_of_kind kind.OutOfMemory = OutOfMemory
-usage_of_kind kind.DisplayHelp = Help
-usage_of_kind _ = BadLine
-
--- a line in which clap finds no fault gives its matches, a fault that is help gives help, and any other a bad line
-abbrev pub asking_of_faults : Kinds → List Row → Result Asking Usage
-asking_of_faults [] rows = asking_of_rows rows
-asking_of_faults (fault ∷ _) rows = Err (usage_of_kind fault)
-
 -- WHAT THE WORDS ASK FOR, unless memory runs out
 abbrev pub asking_of_words : List Text → Result Asking Usage
-asking_of_words words = asking_of_faults (fault_of tffmt_all words) (matches_of tffmt_all words)
+asking_of_words words = unless_fault (usage_by OutOfMemory Help BadLine) (fault_of tffmt_all words) (asking_of_rows (matches_of tffmt_all words))
 
 -- what they ask to be done with files, where clap finds no fault in them
 abbrev pub mode_of_words : List Text → Option Mode

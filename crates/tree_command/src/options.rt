@@ -4,15 +4,15 @@ ghost use Rattle.std.specs.Prelude.{◌≡◌, ◌==◌, ◌⊎◌, false, codes
 ghost use Rattle.std.specs.Char.{is_ascii_digit};
 ghost use Rattle.std.specs.List.{list_all};
 ghost use Rattle.std.specs.Option.{option_map_or};
-ghost use Rattle.clap.specs.Words.{app_of, first_of, found_of, kind_of, rows_of, rule_of};
+ghost use Rattle.clap.specs.Words.{app_of, first_of, found_of, rows_of, rule_of};
 ghost use Rattle.tree_command.specs.Asked.{asked_by};
-ghost use Rattle.tree_command.specs.Line.{asking_by, asking_of_rows, asking_of_words, asking_with, file_rule, flag_rule, is_given, is_good, is_jobs, is_number, jobs_rule, mode_asked, mode_by, mode_of_words, null_rule, number_in, option_rule, shard_by, shard_given, shard_in, texts_of, tffmt_all, usage_of_kind};
+ghost use Rattle.tree_command.specs.Line.{asking_by, asking_of_rows, asking_of_words, asking_with, count_rule, file_rule, is_given, is_good, is_jobs, is_number, jobs_rule, mode_asked, mode_by, mode_of_words, null_rule, number_in, shard_by, shard_given, shard_in, texts_of, tffmt_all};
 ghost use Rattle.tree_command.specs.declared.usage.Usage.TheVariants.{OutOfMemory};
 
 use crate::shard::Shard;
 use crate::usage::Usage;
-use clap::error::ErrorKind;
-use clap::{Arg, ArgAction, ArgMatches, Command, Error};
+use clap::{Arg, ArgAction, ArgMatches, Command};
+use command_line::{option_named, usage_for};
 use file_tree::tree::Writing;
 use std::alloc::{AllocError, Global};
 use tree_format::mode::Mode;
@@ -35,20 +35,9 @@ pub struct TreeOptions<'a> {
     pub names: Vec<&'a str>,
 }
 
-/// What a refusal of clap's becomes.
-fn usage_for(error: &Error) -> Usage
-    ensures { result ≡ usage_of_kind (kind_of error.now) }
-{
-    match error.kind() {
-        ErrorKind::OutOfMemory => Usage::OutOfMemory,
-        ErrorKind::DisplayHelp => Usage::Help,
-        _ => Usage::BadLine,
-    }
-}
-
 /// The flag `--NAME`, which may be given more than once.
-fn flag<'a>(alloc: Global, name: &'a str) -> Arg<'a>
-    ensures rule { rule_of result ≡ flag_rule name.entry.now }
+fn counted_flag<'a>(alloc: Global, name: &'a str) -> Arg<'a>
+    ensures rule { rule_of result ≡ count_rule name.entry.now }
     ensures local { result.global ≡ false }
 {
     Arg::new(alloc, name).long(name).action(ArgAction::Count)
@@ -63,14 +52,6 @@ fn null<'a>(alloc: Global) -> Arg<'a>
         .long("null")
         .short('0')
         .action(ArgAction::Count)
-}
-
-/// The option `--NAME VALUE`.
-fn option<'a>(alloc: Global, name: &'a str) -> Arg<'a>
-    ensures rule { rule_of result ≡ option_rule name.entry.now }
-    ensures local { result.global ≡ false }
-{
-    Arg::new(alloc, name).long(name).action(ArgAction::Set)
 }
 
 /// `-j NUMBER` and `--jobs NUMBER`.
@@ -97,14 +78,14 @@ fn command<'a>(alloc: Global) -> Result<Command<'a>, AllocError>
     ensures { IfOk result (λ c. app_of c ≡ tffmt_all) }
 {
     Command::new(alloc, "tffmt-all")
-        .arg(flag(alloc, "check"))?
-        .arg(flag(alloc, "diff"))?
-        .arg(flag(alloc, "list"))?
-        .arg(flag(alloc, "in-place"))?
-        .arg(flag(alloc, "sync"))?
-        .arg(flag(alloc, "version"))?
+        .arg(counted_flag(alloc, "check"))?
+        .arg(counted_flag(alloc, "diff"))?
+        .arg(counted_flag(alloc, "list"))?
+        .arg(counted_flag(alloc, "in-place"))?
+        .arg(counted_flag(alloc, "sync"))?
+        .arg(counted_flag(alloc, "version"))?
         .arg(null(alloc))?
-        .arg(option(alloc, "shard"))?
+        .arg(option_named(alloc, "shard"))?
         .arg(jobs(alloc))?
         .arg(file(alloc))
 }
@@ -331,6 +312,6 @@ pub fn options<'a>(alloc: Global, words: &'a [&'a str]) -> Result<TreeOptions<'a
     };
     match command.try_get_matches_from(words) {
         Ok(matches) => options_of(alloc, &matches),
-        Err(error) => Err(usage_for(&error)),
+        Err(error) => Err(usage_for(&error, Usage::OutOfMemory, Usage::Help, Usage::BadLine)),
     }
 }

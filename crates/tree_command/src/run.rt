@@ -1,7 +1,7 @@
 //! A run over any tree and any devices.
 
 ghost use Rattle.std.specs.Prelude.{◌≡◌, ℕ, List, [], false, IfOk, map};
-ghost use Rattle.command_line.specs.Rows.{ShowsOne, writer};
+ghost use Rattle.command_line.specs.Rows.{ShowsOne, end_of};
 ghost use Rattle.file_tree.specs.Files.{Tells};
 ghost use Rattle.tree_command.specs.Ends.{FormatsNamed, FormatsOr, IsBadLine, IsEnd, IsPartOf, ReadsAndFormats, formatter};
 ghost use Rattle.tree_command.specs.Line.{mode_of_words};
@@ -71,8 +71,7 @@ fn run<T: Tree, P: Progress, O: ByteSink, E: ByteSink>(
     requires err { E.failed err.old ≡ false }
     // However the run goes, each file is then as it was, or, where files are to be written, it has the format of its bytes.
     ensures kept { (name : List ℕ) → Kept mode ((T.files tree.old).told name) ((T.files tree.new).told name) }
-    ensures ends { FormatsOr mode shard (map (λ operand. operand.now) operands.now) (record { files = T.files tree.old; faults = T.faults tree.old }) (record { files = T.files tree.new; faults = T.faults tree.new })
-        (record { out = writer O.taken O.failed O.flushed O.flushes out.old out.new; err = writer E.taken E.failed E.flushed E.flushes err.old err.new; status = result }) }
+    ensures ends { FormatsOr mode shard (map (λ operand. operand.now) operands.now) (record { files = T.files tree.old; faults = T.faults tree.old }) (record { files = T.files tree.new; faults = T.faults tree.new }) (end_of O.ByteSink out.old out.new E.ByteSink err.old err.new result) }
 {
     match find_part(alloc, shard, operands, tree) {
         Ok(found) => {
@@ -187,8 +186,7 @@ fn run_null<T: Tree, P: Progress, R: ByteSource, O: ByteSink, E: ByteSink>(
     requires err { E.failed err.old ≡ false }
     // However the run goes, each file is then as it was, or, where files are to be written, it has the format of its bytes.
     ensures kept { (name : List ℕ) → Kept mode ((T.files tree.old).told name) ((T.files tree.new).told name) }
-    ensures ends { ReadsAndFormats mode shard (R.left input.old) (record { files = T.files tree.old; faults = T.faults tree.old }) (record { files = T.files tree.new; faults = T.faults tree.new })
-        (record { out = writer O.taken O.failed O.flushed O.flushes out.old out.new; err = writer E.taken E.failed E.flushed E.flushes err.old err.new; status = result }) }
+    ensures ends { ReadsAndFormats mode shard (R.left input.old) (record { files = T.files tree.old; faults = T.faults tree.old }) (record { files = T.files tree.new; faults = T.faults tree.new }) (end_of O.ByteSink out.old out.new E.ByteSink err.old err.new result) }
 {
     let names = match read_names(alloc, input) {
         Ok(names) => names,
@@ -228,8 +226,7 @@ fn run_named<T: Tree, P: Progress, O: ByteSink, E: ByteSink>(
     requires err { E.failed err.old ≡ false }
     // However the run goes, each file is then as it was, or, where files are to be written, it has the format of its bytes.
     ensures kept { (name : List ℕ) → Kept mode ((T.files tree.old).told name) ((T.files tree.new).told name) }
-    ensures ends { FormatsNamed mode shard (map (λ name. name.now) names.now) (record { files = T.files tree.old; faults = T.faults tree.old }) (record { files = T.files tree.new; faults = T.faults tree.new })
-        (record { out = writer O.taken O.failed O.flushed O.flushes out.old out.new; err = writer E.taken E.failed E.flushed E.flushes err.old err.new; status = result }) }
+    ensures ends { FormatsNamed mode shard (map (λ name. name.now) names.now) (record { files = T.files tree.old; faults = T.faults tree.old }) (record { files = T.files tree.new; faults = T.faults tree.new }) (end_of O.ByteSink out.old out.new E.ByteSink err.old err.new result) }
 {
     match operands_of(alloc, names) {
         Ok(operands) => run(
@@ -250,8 +247,7 @@ fn run_named<T: Tree, P: Progress, O: ByteSink, E: ByteSink>(
 pub fn bad_line<O: ByteSink, E: ByteSink>(out: &mut O, err: &mut E) -> u8
     requires out { O.failed out.old ≡ false }
     requires err { E.failed err.old ≡ false }
-    ensures { ShowsOne formatter IsBadLine
-        (record { out = writer O.taken O.failed O.flushed O.flushes out.old out.new; err = writer E.taken E.failed E.flushed E.flushes err.old err.new; status = result }) }
+    ensures { ShowsOne formatter IsBadLine (end_of O.ByteSink out.old out.new E.ByteSink err.old err.new result) }
 {
     formatter().tell(out, err, USAGE, 2)
 }
@@ -275,8 +271,7 @@ pub fn program<T: Tree, P: Progress, R: ByteSource, O: ByteSink, E: ByteSink>(
     // It has its format only where the words ask for that.
     ensures kept { (mode : Mode) → mode_of_words (map (λ word. word.now) words.now) ≡ Some mode → (name : List ℕ) → Kept mode ((T.files tree.old).told name) ((T.files tree.new).told name) }
     // What was looked at and said, and with which status it ends.
-    ensures ends { IsEnd (map (λ word. word.now) words.now) (R.left input.old) (record { files = T.files tree.old; faults = T.faults tree.old }) (record { files = T.files tree.new; faults = T.faults tree.new })
-        (record { out = writer O.taken O.failed O.flushed O.flushes out.old out.new; err = writer E.taken E.failed E.flushed E.flushes err.old err.new; status = result }) }
+    ensures ends { IsEnd (map (λ word. word.now) words.now) (R.left input.old) (record { files = T.files tree.old; faults = T.faults tree.old }) (record { files = T.files tree.new; faults = T.faults tree.new }) (end_of O.ByteSink out.old out.new E.ByteSink err.old err.new result) }
 {
     match options(alloc, words) {
         Ok(options) if options.null => run_null(

@@ -12,7 +12,7 @@ use Rattle.tree_format.specs.declared.mode.Mode.{Mode}
 use Rattle.tree_format.specs.declared.mode.Mode.TheVariants.{Write, Check, List as Listed, Diff}
 use Rattle.tree_format.specs.declared.outcome.Outcome.{Outcome}
 use Rattle.tree_format.specs.declared.outcome.Outcome.TheVariants as outcome
-use Rattle.tree_format.proofs.WriterLemmas.{appends_nothing, appends_then, took_behind}
+use Rattle.command_line.proofs.WriterLemmas.{appends_nothing, appends_then, took_behind}
 
 -- ---- the worst status
 

@@ -3,4 +3,3 @@ pub mod OneRunLemmas
 pub mod RealLemmas
 pub mod FileRunLemmas
 pub mod SomeRunLemmas
-pub mod WriterLemmas

@@ -15,7 +15,7 @@ use itoa::Buffer;
 /// Writes the pieces one after the other, up to the first write that fails. So a line needs no memory.
 fn write_pieces<S: ByteSink>(sink: &mut S, pieces: &[&[u8]]) -> Result<(), WriteFault>
     requires { S.failed sink.old ≡ false }
-    ensures took { Took (writer S.taken S.failed S.flushed S.flushes sink.old sink.new) (concat (map (λ piece. piece.now) pieces.now)) }
+    ensures took { Took (writer S.ByteSink sink.old sink.new) (concat (map (λ piece. piece.now) pieces.now)) }
     ensures failed { S.failed sink.new ≡ is_err result }
 {
     for piece in pieces {
@@ -33,7 +33,7 @@ fn tell_about<'p, S: ByteSink>(
     text: &'p str,
 ) -> Result<(), WriteFault>
     requires { S.failed sink.old ≡ false }
-    ensures took { Took (writer S.taken S.failed S.flushed S.flushes sink.old sink.new) (about name.now text.now) }
+    ensures took { Took (writer S.ByteSink sink.old sink.new) (about name.now text.now) }
     ensures failed { S.failed sink.new ≡ is_err result }
 {
     write_pieces(sink, &[name, b": ", text.as_bytes(), b"\n"])
@@ -48,7 +48,7 @@ fn tell_at<'p, S: ByteSink>(
     text: &'p str,
 ) -> Result<(), WriteFault>
     requires { S.failed sink.old ≡ false }
-    ensures took { Took (writer S.taken S.failed S.flushed S.flushes sink.old sink.new) (place_words name.now line.now column.now text.now) }
+    ensures took { Took (writer S.ByteSink sink.old sink.new) (place_words name.now line.now column.now text.now) }
     ensures failed { S.failed sink.new ≡ is_err result }
 {
     let line = line.as_bytes();
@@ -71,7 +71,7 @@ fn tell_at<'p, S: ByteSink>(
 /// Writes where a file is refused, and why.
 fn tell_fault<S: ByteSink>(sink: &mut S, name: &[u8], fault: &Fault) -> Result<(), WriteFault>
     requires { S.failed sink.old ≡ false }
-    ensures took { Took (writer S.taken S.failed S.flushed S.flushes sink.old sink.new) (name.now ++ (codes ":" ++ fault_words fault.now)) }
+    ensures took { Took (writer S.ByteSink sink.old sink.new) (name.now ++ (codes ":" ++ fault_words fault.now)) }
     ensures failed { S.failed sink.new ≡ is_err result }
 {
     let mut line = Buffer::new();
@@ -91,8 +91,8 @@ pub fn report<O: ByteSink, E: ByteSink>(
 ) -> Result<(), WriteFault>
     requires out { O.failed out.old ≡ false }
     requires err { E.failed err.old ≡ false }
-    ensures out { Took (writer O.taken O.failed O.flushed O.flushes out.old out.new) (report_of mode name.now outcome.now).out }
-    ensures err { Took (writer E.taken E.failed E.flushed E.flushes err.old err.new) (report_of mode name.now outcome.now).err }
+    ensures out { Took (writer O.ByteSink out.old out.new) (report_of mode name.now outcome.now).out }
+    ensures err { Took (writer E.ByteSink err.old err.new) (report_of mode name.now outcome.now).err }
     ensures failed { is_err result ≡ (O.failed out.new || E.failed err.new) }
 {
     match outcome {

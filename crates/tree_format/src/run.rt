@@ -1,7 +1,7 @@
 //! A run over files that were found.
 
 ghost use Rattle.std.specs.Prelude.{◌≡◌, ◌≢◌, ℕ, List, [], All, false};
-ghost use Rattle.command_line.specs.Rows.{writer};
+ghost use Rattle.command_line.specs.Rows.{end_of};
 ghost use Rattle.tree_format.specs.Runs.{IsRun, Kept, Sees, Settled, is_failed};
 
 use crate::look::visit;
@@ -50,8 +50,7 @@ pub fn run_over<T: Tree, P: Progress, O: ByteSink, E: ByteSink>(
     // A file to which no name that was found leads keeps its bytes.
     ensures untouched { (name : List ℕ) → All (λ f. name ≢ (T.files tree.old).real f.name.items) all.now → (T.files tree.new).told name ≡ (T.files tree.old).told name }
     // What was seen, reported and answered.
-    ensures ran { IsRun mode all.now [] (record { files = T.files tree.old; faults = T.faults tree.old }) (record { files = T.files tree.new; faults = T.faults tree.new })
-        (record { out = writer O.taken O.failed O.flushed O.flushes out.old out.new; err = writer E.taken E.failed E.flushed E.flushes err.old err.new; status = result }) }
+    ensures ran { IsRun mode all.now [] (record { files = T.files tree.old; faults = T.faults tree.old }) (record { files = T.files tree.new; faults = T.faults tree.new }) (end_of O.ByteSink out.old out.new E.ByteSink err.old err.new result) }
 {
     let mut status = 0;
     for found in all {

@@ -1,5 +1,10 @@
 -- Whether what is open is closed directly before a closing quote, token by token, as the code finds it.
-use Rattle.std.specs.Prelude.{◌≡◌, ℕ, Bool, false, List, get_or, reverse}
+use Rattle.std.specs.Prelude.{◌≡◌, ◌==◌, ◌||◌, ℕ, Bool, false, not, List, get_or, reverse}
+use Rattle.hcl_tokens.specs.Balanced.{closing, opening}
+use Rattle.hcl_tokens.specs.Kinds.{is}
+use Rattle.hcl_tokens.specs.declared.token.Kind.{Kind}
+use Rattle.hcl_tokens.specs.declared.token.Kind.TheVariants as kind
+use Rattle.hcl_grammar.specs.Numbered.{is_passed_over}
 use Rattle.hcl_tokens.specs.Lexemes.{Lexeme}
 use Rattle.tf_facts.specs.Patterns.{begins_with_close, behind_closer}
 use Rattle.tf_facts.specs.Inner.Seen.{seen_from}
@@ -15,3 +20,8 @@ closes_before_quote tokens depth n = begins_with_close (behind_closer depth (see
 -- the answers by depth: for nothing more open last, for one before it, and so on
 abbrev pub AreAhead : List Lexeme → List Bool → ℕ → Type 0
 AreAhead tokens ahead n = (depth : ℕ) → get_or (reverse ahead) depth false ≡ closes_before_quote tokens depth n
+
+-- a kind that is seen, of which no pattern is made, and which neither opens nor closes anything
+abbrev pub is_plain : Kind → Bool
+is_plain k =
+    not (is_passed_over k || is kind.Dot k || is kind.Number k || is kind.QuoteOpen k || is kind.QuoteClose k || is kind.InterpOpen k || (closing k == 1) || (opening k == 1))

@@ -3,7 +3,9 @@ use Rattle.std.specs.Prelude.{ℕ, ◌++◌, List, [], ◌∷◌, Option, Some, 
 use Rattle.std.specs.Ordering.{nat_cmp, ordering_then}
 use Rattle.std.specs.declared.cmp.Ordering.{Ordering}
 use Rattle.tf_rules.specs.Findings as findings
+use Rattle.tf_rules.specs.Answers.{shown_issue}
 use Rattle.tf_rules.specs.Issues.{Issue, Place}
+use Rattle.tf_rules.specs.declared.issue.Issue as shown
 use Rattle.rule_set.specs.Rules.{rank}
 use Rattle.tf_rules.specs.Naming.{naming_text}
 use Rattle.tf_rules.specs.Inner.KeptViews.{kept_declaration, kept_names, place_of}
@@ -13,10 +15,14 @@ use Rattle.tf_rules.specs.declared.entry.Said.{Said}
 use Rattle.tf_rules.specs.declared.entry.Said.TheVariants.{Fixed, About, DefaultBranch, Misnamed, Unused}
 use Rattle.tf_facts.specs.References.{last_of}
 
+-- a name and the quote before it, where the closing one stands in what follows
+abbrev pub opened : List ℕ → List ℕ → List ℕ
+opened name rest = codes " \"" ++ (name ++ rest)
+
 -- the text of what is said
 abbrev pub text_of : Said → List ℕ
 text_of (Fixed text) = text.now
-text_of (About d rest) = findings.about (kept_declaration d.now) rest.now
+text_of (About d rest) = findings.kind_text d.now.kind ++ opened (last_of (kept_names d.now.names)) rest.now
 text_of (DefaultBranch d branch) = findings.about (kept_declaration d.now) (codes " source uses a default branch: " ++ branch.now)
 text_of (Misnamed d naming) = findings.kind_text d.now.kind ++ (codes " name" ++ findings.quoting (last_of (kept_names d.now.names)) (codes " must match " ++ naming_text naming))
 text_of (Unused d) = findings.kind_text d.now.kind ++ findings.both_quoted (kept_names d.now.names) (codes " is declared but not used")
@@ -26,6 +32,10 @@ issue_of e = record { place = place_of e.at; rule = e.rule; message = text_of e.
 
 abbrev pub issues_of : List Entry → List Issue
 issues_of entries = map issue_of entries
+
+-- as it is shown
+abbrev pub shown_of : Entry → shown.Issue
+shown_of e = shown_issue (issue_of e)
 
 -- one or none
 abbrev pub finding_listed : Option Finding → List (findings.Finding Place)

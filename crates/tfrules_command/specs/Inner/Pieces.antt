@@ -7,6 +7,7 @@ use Rattle.rule_set.specs.declared.rule.Rule.{Rule}
 use Rattle.rule_set.specs.declared.rule.Severity.{Severity}
 use Rattle.tf_rules.specs.declared.issue.Issue.{Issue}
 use Rattle.tfrules_command.specs.Report.{issue_line}
+use Rattle.tfrules_command.specs.declared.report.Frame.{Frame}
 
 -- `: Severity - `
 abbrev pub opening_words : Severity → List ℕ
@@ -16,9 +17,9 @@ opening_words s = codes ": " ++ (severity_text s ++ codes " - ")
 abbrev pub closing_words : Rule → List ℕ
 closing_words rule = codes " (" ++ (rule_name rule ++ line (codes ")"))
 
--- a line of these parts
-abbrev pub line_words : List ℕ → List ℕ → List ℕ → List ℕ → List ℕ → List ℕ → List ℕ
-line_words name row column opening message closing = name ++ (codes ":" ++ (row ++ (codes ":" ++ (column ++ (opening ++ (message ++ closing))))))
+-- the line of a message in a frame
+abbrev pub framed : Frame → List ℕ → List ℕ
+framed f message = f.name.now ++ (codes ":" ++ (f.line.now ++ (codes ":" ++ (f.column.now ++ (f.opening.now ++ (message ++ f.closing.now))))))
 
 abbrev pub count_lines : ℕ → List ℕ
 count_lines count = decimal count ++ line (line (codes " issue(s) found:"))

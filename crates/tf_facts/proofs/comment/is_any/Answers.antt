@@ -3,4 +3,4 @@ use Rattle.tf_facts.proofs.CommentLemmas.{holds_any}
 use Rattle.tf_facts.proofs.comment.is_any.Goals as goal
 
 pub returns : goal.returns
-returns c = c.holds_one.ensures ∙ holds_any c.args.set
+returns c = c.holds_any.ensures ∙ holds_any c.args.set

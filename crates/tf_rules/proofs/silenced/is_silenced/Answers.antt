@@ -4,12 +4,8 @@ use Rattle.std.specs.List.{list_any}
 use Rattle.std.proofs.lemmas.Bool.{or_left}
 use Rattle.tf_rules.specs.Inner.Entries.{issue_of}
 use Rattle.tf_rules.specs.Inner.SilencedLines.{is_on}
-use Rattle.tf_rules.proofs.SilencedLemmas.{is_under, none_silenced, silenced_both, under_above, unsilenced}
+use Rattle.tf_rules.proofs.SilencedLemmas.{is_under, silenced_both, under_above}
 use Rattle.tf_rules.proofs.silenced.is_silenced.Goals as goal
-
-pub returns-then-is_empty : goal.returns-then-is_empty
-returns-then-is_empty c = λ comments are.
-    unsilenced comments (issue_of c.args.entry.now) (λ file line rule. sym (are file line rule) ∙ none_silenced c.args.lines.now (c.is_empty.ensures.0 c.if-is_empty.true) file line rule)
 
 pub returns-then-holds : goal.returns-then-holds
 returns-then-holds c = λ comments are.

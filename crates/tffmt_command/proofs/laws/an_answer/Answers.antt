@@ -1,10 +1,7 @@
 use Rattle.std.proofs.Common.{◌≡◌, ◌⊎◌, inl, inr, refl, subst, ℕ, List, [], ◌∷◌, map}
 use Rattle.std.specs.Prelude.{Result, Ok, Err}
-use Rattle.clap.specs.Words.{Kinds, fault_of, matches_of}
-use Rattle.clap.specs.Words as clap
-use Rattle.clap.specs.declared.error.ErrorKind.{ErrorKind}
-use Rattle.clap.specs.declared.error.ErrorKind.TheVariants as kind
-use Rattle.command_line.specs.Faults.{IsOfWords, One}
+use Rattle.clap.specs.Words.{fault_of, matches_of}
+use Rattle.command_line.proofs.AskedLemmas.{line_has_memory}
 use Rattle.command_line.proofs.OneFaultLemmas.{one_fault}
 use Rattle.hcl_tokens.specs.Faults.{IsScanFault}
 use Rattle.hcl_tokens.specs.Lexemes.{Lexeme}
@@ -14,7 +11,7 @@ use Rattle.hcl_tokens.specs.Scans.{Scans}
 use Rattle.hcl_source.specs.declared.fault.FaultKind.{FaultKind}
 use Rattle.hcl_grammar.specs.Verdict.{verdict}
 use Rattle.command_line.specs.Rows.{Row}
-use Rattle.tffmt_command.specs.Line.{options_by, options_of, tffmt, usage_of_kind}
+use Rattle.tffmt_command.specs.Line.{options_in, options_of, tffmt}
 use Rattle.tffmt_command.specs.Answer.{IsAnswerBy, IsFileAnswer, IsTextAnswer, refusal_row, row_by, usage_line}
 use Rattle.tffmt_command.specs.declared.options.FmtOptions.{FmtOptions}
 use Rattle.tffmt_command.specs.declared.options.Usage.{Usage}
@@ -23,32 +20,10 @@ use Rattle.tffmt_command.proofs.laws.an_answer.Goals as goal
 
 -- ---- running out of memory is the usage of no line
 
-usage_of_words : (k : ErrorKind) → IsOfWords k → usage_of_kind k ≡ usage.OutOfMemory → ⊥
-usage_of_words kind.InvalidValue p e = absurd (cc)
-usage_of_words kind.UnknownArgument p e = absurd (cc)
-usage_of_words kind.InvalidSubcommand p e = absurd (cc)
-usage_of_words kind.NoEquals p e = absurd (cc)
-usage_of_words kind.ValueValidation p e = absurd (cc)
-usage_of_words kind.TooManyValues p e = absurd (cc)
-usage_of_words kind.TooFewValues p e = absurd (cc)
-usage_of_words kind.WrongNumberOfValues p e = absurd (cc)
-usage_of_words kind.ArgumentConflict p e = absurd (cc)
-usage_of_words kind.MissingRequiredArgument p e = absurd (cc)
-usage_of_words kind.MissingSubcommand p e = absurd (cc)
-usage_of_words kind.DisplayHelp p e = absurd (cc)
-usage_of_words kind.DisplayHelpOnMissingArgumentOrSubcommand p e = absurd (cc)
-usage_of_words kind.DisplayVersion p e = absurd (cc)
-usage_of_words kind.Io p e = absurd (cc)
-usage_of_words kind.Format p e = absurd (cc)
-usage_of_words kind.OutOfMemory p e = absurd p
-
-line_has_memory : (faults : Kinds) (rows : List clap.Row) → One faults → options_by faults rows ≡ Err usage.OutOfMemory → ⊥
-line_has_memory [] rows p e = absurd (cc)
-line_has_memory (k ∷ []) rows p e = usage_of_words k p (cc)
-line_has_memory (k ∷ l ∷ ks) rows p e = absurd p
-
 has_memory : (words : List (List ℕ)) → options_of words ≡ Err usage.OutOfMemory → ⊥
-has_memory words = line_has_memory (fault_of tffmt words) (matches_of tffmt words) (one_fault tffmt words refl refl)
+has_memory words =
+    line_has_memory usage.OutOfMemory usage.Help usage.BadLine (fault_of tffmt words) (options_in (matches_of tffmt words)) (λ e. absurd (cc)) (λ e. absurd (cc)) (one_fault tffmt words refl refl)
+    (λ e. absurd (cc))
 
 -- ---- an answer to each input
 

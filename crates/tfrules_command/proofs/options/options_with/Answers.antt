@@ -5,7 +5,7 @@ use Rattle.clap.specs.Words.{found_of, rows_of}
 use Rattle.rule_set.specs.RuleSets.{rules_of}
 use Rattle.tfrules_command.specs.Line.{asking_for}
 use Rattle.tfrules_command.proofs.AskedRuleLemmas.{with_parts}
-use Rattle.tfrules_command.proofs.WordLemmas.{asked_more}
+use Rattle.command_line.proofs.AskedLemmas.{asked_more}
 use Rattle.tfrules_command.proofs.options.options_with.Goals as goal
 
 pub returns-in-Some-minimum : goal.returns-in-Some-minimum
@@ -14,7 +14,7 @@ returns-in-Some-minimum c =
     let whole = with_parts (rows_of (found_of c.args.matches.now)) c.args.given.now c.is_empty.result c.is_flag_set-force.result c.value_or.result.now c.value_or-2.result.now c.value_or-3.result.now
     c.rules_asked-rules.result c.naming_asked-naming.result c.severity_asked-minimum.result c.is_empty.ensures c.if-is_empty.false c.is_flag_set-force.ensures c.value_or.ensures c.value_or-2.ensures c.value_or-3.ensures
     c.rules_asked-rules.ensures c.naming_asked-naming.ensures c.severity_asked-minimum.ensures in
-    asked_more c.options_for.result _ _ c.options_for.ensures
+    asked_more c.options_for.ensures
     ((λ i. asking_for c.is_flag_set-force.result files (option_map rules_of (sym c.in-Some.is i)) (sym c.in-Some-naming.is i) (sym c.in-Some-minimum.is i)) ∙ whole)
 
 pub returns-in-None-minimum : goal.returns-in-None-minimum

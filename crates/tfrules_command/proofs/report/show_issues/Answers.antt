@@ -1,5 +1,5 @@
 use Rattle.tfrules_command.proofs.ReportPieceLemmas.{flushed_behind, report_is, retold}
-use Rattle.tfrules_command.proofs.WriterLemmas.{all_taken}
+use Rattle.command_line.proofs.WriterLemmas.{all_taken}
 use Rattle.tfrules_command.proofs.report.show_issues.Goals as goal
 
 pub returns-in-Err-clause-took : goal.returns-in-Err-clause-took

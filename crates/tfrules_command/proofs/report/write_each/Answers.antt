@@ -1,6 +1,5 @@
 use Rattle.std.proofs.Common.{◌∙◌, ◌≤◌, arith, length}
-use Rattle.tfrules_command.proofs.ReportPieceLemmas.{goes_on, goes_wrong, piece_here}
-use Rattle.tfrules_command.proofs.WriterLemmas.{took_part}
+use Rattle.command_line.proofs.WriterLemmas.{goes_on, goes_wrong, piece_here, took_part}
 use Rattle.tfrules_command.proofs.report.write_each.Goals as goal
 
 pub returns-in-Err-clause-took : goal.returns-in-Err-clause-took

@@ -1,14 +1,12 @@
-use Rattle.std.proofs.Common.{◌≡◌, ℕ, Bool, false, List, Option, drop}
+use Rattle.std.proofs.Common.{◌≡◌, false, drop}
 use Rattle.std.specs.List.{flat_map}
-use Rattle.command_line.specs.Rows.{TookBy}
 use Rattle.tfrules_command.specs.Report.{issue_line}
+use Rattle.tfrules_command.proofs.PageLemmas.{GoesOn}
 use Rattle.tfrules_command.proofs.report.write_issues.Given as goal
 
--- what is taken of the rest from now on is taken of all from the start on
-abbrev pub invariant-loop-issue : goal.invariant-loop-issue
-invariant-loop-issue g l =
+-- the lines that are left go out after what waits, so all lines do after what waited at first
+abbrev pub invariant-loop-number : goal.invariant-loop-number
+invariant-loop-number g l =
     (g.O.ByteSink.failed l.out ≡ false)
-    × ((after : Option (List ℕ)) (f : Bool)
-    → TookBy f (g.O.ByteSink.taken l.out) after (flat_map (issue_line l.names) (drop l.issue-index l.issues))
-    → TookBy f (g.O.ByteSink.taken l.initial.out) after (flat_map (issue_line l.names) l.issues))
+    × GoesOn (g.O.ByteSink.taken l.initial.out) (g.O.ByteSink.taken l.out) l.initial.page.items l.page.items (flat_map (issue_line l.names) (drop l.number l.issues)) (flat_map (issue_line l.names) l.issues)
     × (g.O.ByteSink.flushes l.out ≡ g.O.ByteSink.flushes l.initial.out)

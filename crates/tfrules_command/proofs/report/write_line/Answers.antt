@@ -1,10 +1,28 @@
-use Rattle.std.proofs.Common.{◌++◌, ap, codes}
+use Rattle.std.proofs.Common.{◌∙◌, ◌++◌, ap, sym}
 use Rattle.std.proofs.lemmas.List.{append-nil}
-use Rattle.tfrules_command.proofs.ReportPieceLemmas.{retold}
+use Rattle.tf_rules.specs.Answers.{text_of_pieces}
+use Rattle.tf_rules.specs.declared.pieces.Pieces.{Pieces}
+use Rattle.tfrules_command.proofs.PageLemmas.{goes_as, in_frame, named_tail, twice_tail}
 use Rattle.tfrules_command.proofs.report.write_line.Goals as goal
 
-pub returns-clause-took : goal.returns-clause-took
-returns-clause-took g c =
-    retold _ _ _ _ _
-    (ap (λ r. c.args.name.now ++ (codes ":" ++ (c.args.line.now ++ (codes ":" ++ (c.args.column.now ++ (c.args.opening.now ++ (c.args.message.now ++ r))))))) (append-nil c.args.closing.now))
-    c.write_pieces.ensures.took
+pub returns-in-Whole-clause-goes : goal.returns-in-Whole-clause-goes
+returns-in-Whole-clause-goes g c =
+    goes_as _ _ _ _ _ _ _
+    (in_frame c.args.frame.name.now c.args.frame.line.now c.args.frame.column.now c.args.frame.opening.now _ _
+    (ap (λ l. c.in-Whole.text.now ++ l) (append-nil c.args.frame.closing.now) ∙ ap (λ (p : Pieces). text_of_pieces p ++ c.args.frame.closing.now) (sym c.in-Whole.is)))
+    c.write_pieces.ensures.goes
+
+pub returns-in-Named-clause-goes : goal.returns-in-Named-clause-goes
+returns-in-Named-clause-goes g c =
+    goes_as _ _ _ _ _ _ _
+    (in_frame c.args.frame.name.now c.args.frame.line.now c.args.frame.column.now c.args.frame.opening.now _ _
+    (named_tail c.in-Named.front.now c.in-Named.named.now c.in-Named.rest.now c.args.frame.closing.now ∙ ap (λ (p : Pieces). text_of_pieces p ++ c.args.frame.closing.now) (sym c.in-Named.is)))
+    c.write_pieces-in-Named.ensures.goes
+
+pub returns-in-NamedTwice-clause-goes : goal.returns-in-NamedTwice-clause-goes
+returns-in-NamedTwice-clause-goes g c =
+    goes_as _ _ _ _ _ _ _
+    (in_frame c.args.frame.name.now c.args.frame.line.now c.args.frame.column.now c.args.frame.opening.now _ _
+    (twice_tail c.in-NamedTwice.front.now c.in-NamedTwice.named.now c.in-NamedTwice.between.now c.in-NamedTwice.other.now c.in-NamedTwice.rest.now c.args.frame.closing.now
+    ∙ ap (λ (p : Pieces). text_of_pieces p ++ c.args.frame.closing.now) (sym c.in-NamedTwice.is)))
+    c.write_pieces-in-NamedTwice.ensures.goes

@@ -2,7 +2,7 @@ use Rattle.std.proofs.Common.{map}
 use Rattle.tfrules_command.specs.Inner.Steps.{usage_row}
 use Rattle.tfrules_command.specs.Line.{options_of}
 use Rattle.tfrules_command.proofs.EndRowLemmas.{usage_shown}
-use Rattle.tfrules_command.proofs.WordLemmas.{either_way, options_row, unopened_by_options, usage_or}
+use Rattle.tfrules_command.proofs.OptionRowLemmas.{either_way, options_row, unopened_by_options, usage_or}
 use Rattle.tfrules_command.proofs.run.program.Goals as goal
 
 pub returns-in-Ok-clause-row : goal.returns-in-Ok-clause-row

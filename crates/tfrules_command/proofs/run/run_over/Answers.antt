@@ -1,5 +1,4 @@
-use Rattle.std.proofs.Common.{inr, subst, sym}
-use Rattle.tf_rules.specs.Answers as rules
+use Rattle.std.proofs.Common.{inr}
 use Rattle.tfrules_command.specs.Files.{numbered_files}
 use Rattle.tfrules_command.specs.Report.{report_row}
 use Rattle.tfrules_command.specs.Asked.{asking_of}
@@ -15,8 +14,7 @@ pub returns-in-Ok-clause-row : goal.returns-in-Ok-clause-row
 returns-in-Ok-clause-row g c =
     let gathered = c.in_default.ensures.gathers in
     let found = c.in-Ok.ensures (numbered_files 0 gathered.1.1.sources) gathered.1.1.kept_is (rising 0 gathered.1.1.sources) in (
-      report_row (asking_of c.args.options.now) c.as_slice.result.now,
-      inr (reported_row (g.M.ModuleFiles.told c.args.files.now) (asking_of c.args.options.now) _ _ _ _ c.as_slice.result.now gathered.0 gathered.1.1
-          (subst (rules.AreIssues (asking_of c.args.options.now).asked (numbered_files 0 gathered.1.1.sources)) (sym c.as_slice.ensures.value) found)),
+      report_row (asking_of c.args.options.now) c.in-Ok.issues,
+      inr (reported_row (g.M.ModuleFiles.told c.args.files.now) (asking_of c.args.options.now) _ _ _ _ c.in-Ok.issues gathered.0 gathered.1.1 found),
       c.show.ensures,
     )

@@ -5,13 +5,13 @@ use Rattle.tree_command.proofs.options.command.Goals as goal
 
 pub returns : goal.returns
 returns c =
-    let shape1 = c.in_ok-arg.ensures.shape c.flag.ensures.local ∙ ap₂ with_rule c.new.ensures.app c.flag.ensures.rule in
-    let shape2 = c.in_ok-arg-2.ensures.shape c.flag-2.ensures.local ∙ ap₂ with_rule shape1 c.flag-2.ensures.rule in
-    let shape3 = c.in_ok-arg-3.ensures.shape c.flag-3.ensures.local ∙ ap₂ with_rule shape2 c.flag-3.ensures.rule in
-    let shape4 = c.in_ok-arg-4.ensures.shape c.flag-4.ensures.local ∙ ap₂ with_rule shape3 c.flag-4.ensures.rule in
-    let shape5 = c.in_ok-arg-5.ensures.shape c.flag-5.ensures.local ∙ ap₂ with_rule shape4 c.flag-5.ensures.rule in
-    let shape6 = c.in_ok-arg-6.ensures.shape c.flag-6.ensures.local ∙ ap₂ with_rule shape5 c.flag-6.ensures.rule in
+    let shape1 = c.in_ok-arg.ensures.shape c.counted_flag.ensures.local ∙ ap₂ with_rule c.new.ensures.app c.counted_flag.ensures.rule in
+    let shape2 = c.in_ok-arg-2.ensures.shape c.counted_flag-2.ensures.local ∙ ap₂ with_rule shape1 c.counted_flag-2.ensures.rule in
+    let shape3 = c.in_ok-arg-3.ensures.shape c.counted_flag-3.ensures.local ∙ ap₂ with_rule shape2 c.counted_flag-3.ensures.rule in
+    let shape4 = c.in_ok-arg-4.ensures.shape c.counted_flag-4.ensures.local ∙ ap₂ with_rule shape3 c.counted_flag-4.ensures.rule in
+    let shape5 = c.in_ok-arg-5.ensures.shape c.counted_flag-5.ensures.local ∙ ap₂ with_rule shape4 c.counted_flag-5.ensures.rule in
+    let shape6 = c.in_ok-arg-6.ensures.shape c.counted_flag-6.ensures.local ∙ ap₂ with_rule shape5 c.counted_flag-6.ensures.rule in
     let shape7 = c.in_ok-arg-7.ensures.shape c.null.ensures.local ∙ ap₂ with_rule shape6 c.null.ensures.rule in
-    let shape8 = c.in_ok-arg-8.ensures.shape c.option.ensures.local ∙ ap₂ with_rule shape7 c.option.ensures.rule in
+    let shape8 = c.in_ok-arg-8.ensures.shape c.option_named.ensures.local ∙ ap₂ with_rule shape7 c.option_named.ensures.rule in
     let shape9 = c.in_ok-arg-9.ensures.shape c.jobs.ensures.local ∙ ap₂ with_rule shape8 c.jobs.ensures.rule in
     IfOk-weaker c.arg-10.result _ _ (λ r h. h.shape c.file.ensures.local ∙ ap₂ with_rule shape9 c.file.ensures.rule) c.arg-10.ensures

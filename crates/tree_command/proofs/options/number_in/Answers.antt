@@ -1,5 +1,5 @@
 use Rattle.std.proofs.Common.{◌∙◌, rules}
-use Rattle.tree_command.proofs.LineLemmas.{number_read}
+use Rattle.tree_command.proofs.AskedPartLemmas.{number_read}
 use Rattle.tree_command.proofs.options.number_in.Goals as goal
 
 pub returns : goal.returns

@@ -1,6 +1,6 @@
 use Rattle.std.proofs.Common.{Some, None, lit<}
 use Rattle.std.proofs.lemmas.Str.Pattern.{split_once_first}
-use Rattle.tree_command.proofs.LineLemmas.{no_slash, shard_cut}
+use Rattle.tree_command.proofs.AskedPartLemmas.{no_slash, shard_cut}
 use Rattle.tree_command.proofs.options.shard_in.Goals as goal
 
 pub returns-in-Some : goal.returns-in-Some

@@ -1,6 +1,6 @@
 use Rattle.std.proofs.Common.{◌≡◌, false, drop, map}
 use Rattle.std.specs.List.{concat}
-use Rattle.tree_format.proofs.WriterLemmas.{Goes}
+use Rattle.command_line.proofs.WriterLemmas.{Goes}
 use Rattle.tree_format.proofs.report.write_pieces.Given as goal
 
 -- what is taken of the rest from now on is taken of all from the start on

@@ -7,7 +7,7 @@ use Rattle.tree_format.specs.Reports.{report_of, worse}
 use Rattle.tree_format.specs.Runs.{Settled}
 use Rattle.file_tree.specs.declared.walk.Found.{Found}
 use Rattle.tree_format.proofs.FileRunLemmas.{first_good, good_answer, left_good, one_bad, right_good, run_all, run_cut, second_good, so_far_more, so_far_none}
-use Rattle.tree_format.proofs.WriterLemmas.{split_here, take_one}
+use Rattle.command_line.proofs.ListCutLemmas.{split_here, take_one}
 use Rattle.tree_format.proofs.KeptFormatLemmas.{all_settled, kept_same, kept_trans, settled_after}
 use Rattle.tree_format.proofs.run.run_over.Goals as goal
 

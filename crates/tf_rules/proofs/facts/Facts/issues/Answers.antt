@@ -1,34 +1,12 @@
-use Rattle.std.proofs.Common.{◌≡◌, ◌∙◌, ap, ap₂, sym, subst, List, Bool, not, map, filter}
+use Rattle.std.proofs.Common.{List, subst, sym}
 use Rattle.std.proofs.lemmas.Result.{IfOk-weaker}
-use Rattle.tf_rules.specs.Answers.{AreIssues, shown_issue}
-use Rattle.tf_facts.specs.Comments.{Comment}
-use Rattle.tf_rules.specs.Issues.{Asked, Issue, Place, asked_of, is_silenced, issues, reported_issues}
-use Rattle.tf_rules.specs.Kept.{Kept}
-use Rattle.tf_rules.specs.KeptIssues.{issues_of_kept, reported_of_kept}
-use Rattle.tf_rules.specs.Ordered.{Ascends}
-use Rattle.tf_rules.specs.Inner.Entries.{issues_of}
-use Rattle.tf_rules.specs.Inner.KeptViews.{kept_comment}
-use Rattle.tf_rules.proofs.DistinctLemmas.{reported_apart}
-use Rattle.tf_rules.proofs.KeptLemmas.{issues_of_kept_is, reported_is}
-use Rattle.tf_rules.proofs.SortLemmas.{Differ, is_report}
+use Rattle.std.specs.Prelude.{◌≡◌}
+use Rattle.tf_rules.specs.Answers.{AreIssues}
+use Rattle.tf_rules.specs.Issues.{asked_of}
+use Rattle.tf_rules.specs.declared.issue.Issue.{Issue}
 use Rattle.tf_rules.proofs.facts.Facts.issues.Goals as goal
 
-pub returns : goal.returns
-returns c = λ files kept rising.
-    let asked : Asked = asked_of c.args.settings.now in
-    let comments : List (Comment Place) = map kept_comment c.deref.result.now in
-    let p : Issue → Bool = λ i. not (is_silenced comments i) in
-    let found = issues_of c.in_ok-entries.entries.items in
-    let told : c.args.self.now.facts.comments ≡ comments = ap (λ (k : Kept). k.facts.comments) (sym c.self.view_is) ∙ ap (map kept_comment) (sym c.deref.ensures.value) in
-    let is : issues asked files ≡ filter p found =
-    issues_of_kept_is asked files
-    ∙ ap (issues_of_kept asked) (sym kept)
-    ∙ ap₂ (λ (cs : List (Comment Place)) (is : List Issue). filter (λ i. not (is_silenced cs i)) is) told (sym c.in_ok-entries.ensures) in
-    let all : reported_issues asked files ≡ found = reported_is asked files ∙ ap (reported_of_kept asked) (sym kept) ∙ sym c.in_ok-entries.ensures in
-    let apart : Ascends Differ found = subst (λ (is : List Issue). Ascends Differ is) all (reported_apart c.args.settings.now files rising) in
-    IfOk-weaker c.issues_to_show.result (λ answer. answer.items ≡ map shown_issue (filter p (issues_of c.as_slice.result.now))) (λ answer. AreIssues asked files answer.items)
-    (λ answer e. record {
-      report = filter p (issues_of c.in_ok-sorted.sorted.items);
-      is = is_report asked files p c.in_ok-entries.entries.items c.in_ok-sorted.sorted.items is apart c.in_ok-sorted.ensures.all c.in_ok-sorted.ensures.ordered;
-      same = sym (e ∙ ap (λ es. map shown_issue (filter p (issues_of es))) c.as_slice.ensures.value);
-    }) (c.issues_to_show.ensures comments c.in_ok-lines.ensures)
+pub returns-in-Ok : goal.returns-in-Ok
+returns-in-Ok c = λ files kept rising.
+    IfOk-weaker c.owned_issues.result (λ answer. answer.items ≡ c.in-Ok.issues) (λ answer. AreIssues (asked_of c.args.settings.now) files answer.items)
+    (λ answer e. subst (λ (is : List Issue). AreIssues (asked_of c.args.settings.now) files is) (sym e) (c.in-Ok.ensures files kept rising)) c.owned_issues.ensures

@@ -1,0 +1,6 @@
+use Rattle.std.proofs.Common.{codes}
+use Rattle.tf_rules.proofs.SaidLemmas.{told_by_name}
+use Rattle.tf_rules.proofs.said.about.Goals as goal
+
+pub returns : goal.returns
+returns c = told_by_name _ _ (codes " \"") _ _ c.args.rest.now c.before_name-front.ensures c.last-name.ensures

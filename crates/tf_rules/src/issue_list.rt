@@ -1,0 +1,77 @@
+//! The issues of a module, as a list.
+
+ghost use Rattle.std.specs.Prelude.{◌≡◌, ◌<◌, ◌==◌, length, map, slice_get, Some};
+ghost use Rattle.tf_rules.specs.Answers.{listed_issue};
+ghost use Rattle.tf_rules.specs.Inner.Entries.{shown_of};
+
+use crate::entry::Entry;
+use crate::listed_issue::ListedIssue;
+use crate::said::pieces;
+use std::marker::Model;
+
+/// The entry of this number.
+fn entry_at<'f>(entries: &[Entry<'f>], i: usize) -> Entry<'f>
+    requires { i < length entries.now }
+    ensures { slice_get entries.now i ≡ Some result }
+{
+    entries[i]
+}
+
+/// An entry as it is given.
+fn listed<'f>(entry: Entry<'f>) -> ListedIssue<'f>
+    ensures { listed_issue result ≡ shown_of entry.entry }
+{
+    ListedIssue {
+        file: entry.at.file,
+        at: entry.at.at,
+        rule: entry.rule,
+        message: pieces(entry.said),
+    }
+}
+
+/// The issues of a module in order. Their messages are told by pieces, which stand in the facts.
+#[derive(Drop)]
+pub struct IssueList<'f> {
+    entries: Vec<Entry<'f>>,
+}
+
+impl<'f> Model for IssueList<'f> {
+    ghost use Rattle.std.specs.Prelude.{List, map};
+    ghost use Rattle.tf_rules.specs.declared.issue.Issue.{Issue};
+    ghost use Rattle.tf_rules.specs.Inner.Entries.{shown_of};
+
+    ghost Value = { List Issue };
+
+    ghost view = { λ l. map shown_of l.entries.items };
+}
+
+impl<'f> IssueList<'f> {
+    /// The issues of these entries.
+    pub(crate) fn new(entries: Vec<Entry<'f>>) -> IssueList<'f>
+        ensures { result ≡ map shown_of entries.entry.items }
+    {
+        IssueList { entries }
+    }
+
+    /// How many issues there are.
+    pub fn len(&self) -> usize
+        ensures { result ≡ length self.now }
+    {
+        self.entries.len()
+    }
+
+    /// Whether there is no issue.
+    pub fn is_empty(&self) -> bool
+        ensures { result ≡ (length self.now == 0) }
+    {
+        self.entries.is_empty()
+    }
+
+    /// The issue of this number.
+    pub fn get(&self, i: usize) -> ListedIssue<'f>
+        requires { i < length self.now }
+        ensures { slice_get self.now i ≡ Some (listed_issue result) }
+    {
+        listed(entry_at(&self.entries, i))
+    }
+}

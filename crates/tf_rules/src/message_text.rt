@@ -1,0 +1,68 @@
+//! Messages put together from their pieces.
+
+ghost use Rattle.std.specs.Prelude.{◌≡◌, ◌++◌, map, IfOk};
+ghost use Rattle.std.specs.List.{concat};
+ghost use Rattle.std.specs.String.{string_bytes};
+ghost use Rattle.tf_rules.specs.Answers.{text_of_pieces};
+
+use crate::pieces::Pieces;
+use std::alloc::{AllocError, Global};
+
+/// How many bytes the texts have together.
+fn room_for(texts: &[&str]) -> usize {
+    let mut room: usize = 0;
+    for text in texts {
+        room = room.saturating_add(text.len());
+    }
+    room
+}
+
+/// The texts one after another, in no more room than they take.
+fn joined(alloc: Global, texts: &[&str]) -> Result<String, AllocError>
+    ensures { IfOk result (λ joined. string_bytes joined ≡ concat (map (λ text. text.now) texts.now)) }
+{
+    let mut joined = String::with_capacity(alloc, room_for(texts))?;
+    for text in texts {
+        joined.push_str(text)?;
+    }
+    Ok(joined)
+}
+
+/// Three texts one after another.
+fn joined_three<'p>(
+    alloc: Global,
+    front: &'p str,
+    name: &'p str,
+    rest: &'p str,
+) -> Result<String, AllocError>
+    ensures { IfOk result (λ text. string_bytes text ≡ front.now ++ (name.now ++ rest.now)) }
+{
+    joined(alloc, &[front, name, rest])
+}
+
+/// Five texts one after another.
+fn joined_five<'p>(
+    alloc: Global,
+    front: &'p str,
+    name: &'p str,
+    between: &'p str,
+    other: &'p str,
+    rest: &'p str,
+) -> Result<String, AllocError>
+    ensures { IfOk result (λ text. string_bytes text ≡ front.now ++ (name.now ++ (between.now ++ (other.now ++ rest.now)))) }
+{
+    joined(alloc, &[front, name, between, other, rest])
+}
+
+/// The text of these pieces.
+pub fn message_text(alloc: Global, pieces: Pieces<'_>) -> Result<String, AllocError>
+    ensures { IfOk result (λ text. string_bytes text ≡ text_of_pieces pieces.entry) }
+{
+    match pieces {
+        Pieces::Whole(text) => String::from_str(alloc, text),
+        Pieces::Named(front, name, rest) => joined_three(alloc, front, name, rest),
+        Pieces::NamedTwice(front, name, between, other, rest) => {
+            joined_five(alloc, front, name, between, other, rest)
+        }
+    }
+}

@@ -1,0 +1,34 @@
+//! Issues with messages that stand by themselves.
+
+ghost use Rattle.std.specs.Prelude.{◌≡◌, IfOk};
+ghost use Rattle.tf_rules.specs.Answers.{listed_issue};
+
+use crate::issue::{Issue, Message};
+use crate::issue_list::IssueList;
+use crate::listed_issue::ListedIssue;
+use crate::message_text::message_text;
+use std::alloc::{AllocError, Global};
+
+fn owned_issue(alloc: Global, listed: ListedIssue<'_>) -> Result<Issue, AllocError>
+    ensures { IfOk result (λ issue. issue ≡ listed_issue listed.entry) }
+{
+    let text = message_text(alloc, listed.message)?;
+    Ok(Issue {
+        file: listed.file,
+        at: listed.at,
+        rule: listed.rule,
+        message: Message::new(text),
+    })
+}
+
+/// The issues of a list, each with a message that is put together for it.
+pub fn owned_issues(alloc: Global, list: &IssueList<'_>) -> Result<Vec<Issue>, AllocError>
+    ensures { IfOk result (λ issues. issues.items ≡ list.now) }
+{
+    let mut issues = Vec::with_capacity(alloc, list.len())?;
+    for number in 0..list.len() {
+        let issue = owned_issue(alloc, list.get(number))?;
+        issues.push(issue)?;
+    }
+    Ok(issues)
+}

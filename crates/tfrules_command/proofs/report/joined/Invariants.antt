@@ -1,6 +1,0 @@
-use Rattle.std.proofs.Common.{◌≡◌, map, take}
-use Rattle.std.specs.List.{concat}
-use Rattle.tfrules_command.proofs.report.joined.Given as goal
-
-abbrev pub invariant-loop-piece : goal.invariant-loop-piece
-invariant-loop-piece l = l.text.items ≡ concat (map (λ piece. piece.now) (take l.piece-index l.pieces))
