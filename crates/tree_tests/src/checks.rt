@@ -1,0 +1,116 @@
+//! That a run shows and leaves what its row and its failures say.
+
+use crate::calls::Step;
+use crate::compared::{At, holds, same_bytes, same_number};
+use crate::devices::{Devices, Ended};
+use crate::entry::{Entry, Stands};
+use crate::expected::{Line, Said, Shown, lines_after, lines_of, shown_lines, shown_text};
+use crate::rows::Row;
+use hcl_scan::ByteSink;
+use std::alloc::Global;
+use std::process::Abort;
+
+static READ_FAILED: &[u8] = b"tffmt-all: error: read failed\n";
+
+// Whether a file gets its format though this failed: it is written over.
+fn is_made_good(row: &Row, step: Step) -> bool {
+    row.in_place && matches!(step, Step::Making | Step::Renaming)
+}
+
+// What is to be said of each name.
+fn wanted_lines(rt: &impl Abort, alloc: Global, row: &Row, run: &Ended<'_>) -> Vec<Line> {
+    let calls = run.tree.calls();
+    match calls.failed() {
+        Some(step) if !is_made_good(row, step) => {
+            let failed = (step, calls.failed_name(), calls.fault(step));
+            lines_after(rt, alloc, row.lines, failed)
+        }
+        _ => lines_of(rt, alloc, row.lines),
+    }
+}
+
+// What is to be shown.
+fn wanted(
+    rt: &impl Abort,
+    alloc: Global,
+    row: &Row,
+    lines: &[Line],
+    devices: &Devices,
+    run: &Ended<'_>,
+) -> Shown {
+    if run.has_read_failed {
+        return shown_text(rt, alloc, (b"", READ_FAILED, 4), devices);
+    }
+    match row.text {
+        Some((out, err, status)) => {
+            let text = (out.as_bytes(), err.as_bytes(), status);
+            shown_text(rt, alloc, text, devices)
+        }
+        None => shown_lines(rt, alloc, lines, devices),
+    }
+}
+
+fn old_bytes(entry: &Entry<'static>) -> Option<&'static [u8]> {
+    match entry.stands {
+        Stands::File(bytes) | Stands::Busy(bytes) => Some(bytes),
+        _ => None,
+    }
+}
+
+// The bytes that a file is to have after looks at these lines.
+fn wanted_bytes(lines: &[Line], entry: &Entry<'static>) -> Option<&'static [u8]> {
+    for line in lines {
+        if let Said::Written(name, bytes) = line.said {
+            if name == entry.name {
+                return Some(bytes);
+            }
+        }
+    }
+    old_bytes(entry)
+}
+
+// Each file is new where it is said, and otherwise old.
+fn check_files(rt: &impl Abort, row: &Row, lines: &[Line], run: &Ended<'_>, at: At) {
+    for entry in row.entries {
+        let found = run.tree.bytes_of(entry.name);
+        let wanted = wanted_bytes(lines, entry);
+        holds(rt, found == wanted, at);
+    }
+}
+
+// No file stands beside others, but where one can't be removed.
+fn check_beside(rt: &impl Abort, devices: &Devices, run: &Ended<'_>, at: At) {
+    let calls = run.tree.calls();
+    let is_left = match calls.failed() {
+        Some(step) => devices.tree.removal && step.has_file_beside(),
+        None => false,
+    };
+    same_number(rt, calls.beside() as u64, u64::from(is_left), at);
+}
+
+// Who watches is told of each look and each report, and of the end.
+fn check_watcher(rt: &impl Abort, row: &Row, looked: u64, run: &Ended<'_>, at: At) {
+    let has_failed = run.out.has_failed() || run.err.has_failed();
+    let reported = looked.saturating_sub(u64::from(has_failed));
+    let ended = u64::from(row.text.is_none() && !run.has_read_failed);
+    same_number(rt, run.watcher.looked, looked, at);
+    same_number(rt, run.watcher.reported, reported, at);
+    same_number(rt, run.watcher.ended, ended, at);
+}
+
+/// That a run over these devices shows and leaves what it is to.
+pub fn check(rt: &impl Abort, alloc: Global, row: &Row, devices: &Devices, run: &Ended<'_>) {
+    let at = At {
+        words: row.words,
+        devices: *devices,
+    };
+    let lines = wanted_lines(rt, alloc, row, run);
+    let wanted = wanted(rt, alloc, row, lines.as_slice(), devices, run);
+    same_bytes(rt, run.out.bytes(), wanted.out.as_slice(), at);
+    same_bytes(rt, run.err.bytes(), wanted.err.as_slice(), at);
+    same_number(rt, u64::from(run.status), u64::from(wanted.status), at);
+    let lines = lines.as_slice().split_at(wanted.looked.min(lines.len())).0;
+    check_files(rt, row, lines, run, at);
+    check_beside(rt, devices, run, at);
+    check_watcher(rt, row, lines.len() as u64, run, at);
+}

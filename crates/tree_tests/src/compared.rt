@@ -1,0 +1,40 @@
+//! What the tests compare by, with one assertion each, so that it is proved once. A failure shows the words of the run and
+//! what failed in it.
+
+use crate::devices::Devices;
+use std::alloc::Global;
+use std::process::Abort;
+
+/// The words of a run.
+pub type Words = &'static [&'static str];
+
+/// A run, as a failure shows it.
+#[derive(Clone, Copy, Debug)]
+pub struct At {
+    pub words: Words,
+    pub devices: Devices,
+}
+
+/// That something is so of a run.
+pub fn holds(rt: &impl Abort, is_so: bool, at: At) {
+    assert!(rt; is_so, "at {at:?}");
+}
+
+/// That a number is the one that is wanted of a run.
+pub fn same_number(rt: &impl Abort, found: u64, wanted: u64, at: At) {
+    assert_eq!(rt; found, wanted, "at {at:?}");
+}
+
+/// That bytes are the ones that are wanted of a run.
+pub fn same_bytes(rt: &impl Abort, found: &[u8], wanted: &[u8], at: At) {
+    assert_eq!(rt; found, wanted, "at {at:?}");
+}
+
+/// So many times a text.
+pub fn repeated(rt: &impl Abort, alloc: Global, text: &[u8], count: usize) -> Vec<u8> {
+    let mut bytes = Vec::new(alloc);
+    for _ in 0..count {
+        bytes.extend_from_slice(text).expect(rt, "memory");
+    }
+    bytes
+}

@@ -1,0 +1,125 @@
+//! Runs of the program over a tree and devices in memory, of which calls can fail.
+
+ghost use Rattle.std.specs.Prelude.{◌≡◌, false};
+
+use crate::calls::{Failures, STEADY};
+use crate::entry::Entry;
+use crate::memory_tree::MemoryTree;
+use hcl_scan::{ByteSource, MemorySink, MemorySource};
+use std::alloc::{AllocError, Global};
+use tree_command::run::program;
+use tree_format::outcome::Outcome;
+use tree_format::progress::Progress;
+
+/// How many bytes a call of a stream moves at most, which calls of the tree fail, and which of the streams: of each kind the
+/// one after so many good ones.
+#[derive(Clone, Copy, Debug)]
+pub struct Devices {
+    pub most: usize,
+    pub tree: Failures,
+    pub read: Option<usize>,
+    pub write: Option<usize>,
+    pub flush: bool,
+    pub message: Option<usize>,
+}
+
+/// Devices that don't fail.
+pub fn steady(most: usize) -> Devices {
+    Devices {
+        most,
+        tree: STEADY,
+        read: None,
+        write: None,
+        flush: false,
+        message: None,
+    }
+}
+
+/// Counts what it is told of a run.
+#[derive(Clone, Copy, Debug, Drop)]
+pub struct Watcher {
+    pub looked: u64,
+    pub reported: u64,
+    pub ended: u64,
+}
+
+impl Progress for Watcher {
+    fn looked(&mut self, _outcome: &Outcome) {
+        self.looked = self.looked.saturating_add(1);
+    }
+
+    fn reported(&mut self) {
+        self.reported = self.reported.saturating_add(1);
+    }
+
+    fn end(&mut self) {
+        self.ended = self.ended.saturating_add(1);
+    }
+}
+
+/// What stands at the end of a run.
+#[derive(Drop)]
+pub struct Ended<'a> {
+    pub tree: MemoryTree<'a>,
+    pub watcher: Watcher,
+    pub has_read_failed: bool,
+    pub out: MemorySink,
+    pub err: MemorySink,
+    pub status: u8,
+}
+
+fn source(bytes: &[u8], most: usize, read: Option<usize>) -> MemorySource<'_>
+    ensures { result.has_failed ≡ false }
+{
+    let source = MemorySource::new(bytes, most.max(1));
+    match read {
+        Some(good) => source.failing_after(good),
+        None => source,
+    }
+}
+
+fn sink(most: usize, write: Option<usize>, flush: bool) -> MemorySink
+    ensures { result.has_failed ≡ false }
+{
+    let sink = match write {
+        Some(good) => MemorySink::new(most).failing_after(good),
+        None => MemorySink::new(most),
+    };
+    if flush { sink.failing_flush() } else { sink }
+}
+
+/// Runs the program on a tree of these entries. Where there is no memory for the tree, it doesn't.
+pub fn run<'a>(
+    alloc: Global,
+    words: &[&str],
+    names: &[u8],
+    entries: &'a [Entry<'a>],
+    devices: &Devices,
+) -> Result<Ended<'a>, AllocError> {
+    let mut tree = MemoryTree::new(alloc, entries, devices.tree)?;
+    let mut watcher = Watcher {
+        looked: 0,
+        reported: 0,
+        ended: 0,
+    };
+    let mut input = source(names, devices.most, devices.read);
+    let mut out = sink(devices.most, devices.write, devices.flush);
+    let mut err = sink(devices.most, devices.message, false);
+    let status = program(
+        alloc,
+        words,
+        &mut tree,
+        &mut watcher,
+        &mut input,
+        &mut out,
+        &mut err,
+    );
+    Ok(Ended {
+        has_read_failed: input.has_failed(),
+        tree,
+        watcher,
+        out,
+        err,
+        status,
+    })
+}

@@ -1,0 +1,273 @@
+//! What a run is to show, by what is said of each name: worked out by the stated rules, apart from the program.
+
+use crate::calls::Step;
+use crate::devices::Devices;
+use file_tree::fault::TreeFault;
+use std::alloc::Global;
+use std::process::Abort;
+
+/// What is said of a name.
+#[derive(Clone, Copy, Debug)]
+pub enum Said {
+    Formatted,
+    /// The file of this name has these bytes then.
+    Written(&'static [u8], &'static [u8]),
+    Listed,
+    NotFormatted,
+    Shown(&'static [u8]),
+    /// Refused at a line and a column.
+    Refused(&'static str, &'static str, &'static str),
+    Failed(TreeFault),
+}
+
+impl Said {
+    /// The status that it gives.
+    fn status(self) -> u8 {
+        match self {
+            Said::Formatted | Said::Written(_, _) => 0,
+            Said::Listed | Said::NotFormatted | Said::Shown(_) => 3,
+            Said::Refused(_, _, _) => 2,
+            Said::Failed(_) => 4,
+        }
+    }
+}
+
+/// What is said of the names that are found, in their order.
+pub type Lines = &'static [(&'static [u8], Said)];
+
+/// A name, and what is said of it.
+#[derive(Debug, Drop)]
+pub struct Line {
+    pub name: Vec<u8>,
+    pub said: Said,
+}
+
+fn add_line(rt: &impl Abort, alloc: Global, lines: &mut Vec<Line>, name: &[u8], said: Said) {
+    let name = Vec::from_slice(alloc, name).expect(rt, "memory");
+    lines.push(Line { name, said }).expect(rt, "memory");
+}
+
+/// The lines of a run in which no call of the tree fails.
+pub fn lines_of(rt: &impl Abort, alloc: Global, all: Lines) -> Vec<Line> {
+    let mut lines = Vec::new(alloc);
+    for (name, said) in all {
+        add_line(rt, alloc, &mut lines, name, *said);
+    }
+    lines
+}
+
+/// Whether a name is below a folder, which may end with a slash.
+fn is_below(folder: &[u8], name: &[u8]) -> bool {
+    if folder == b"./".as_slice() || folder == b".".as_slice() {
+        return true;
+    }
+    let folder = folder.strip_suffix(b"/".as_slice()).unwrap_or(folder);
+    match name.strip_prefix(folder) {
+        Some(rest) => rest.starts_with(b"/"),
+        None => false,
+    }
+}
+
+/// Whether nothing is said of a name but that this failed.
+fn hides(step: Step, failed: &[u8], name: &[u8]) -> bool {
+    match step {
+        Step::Kind | Step::EntryKind | Step::Listing => name == failed || is_below(failed, name),
+        _ => name == failed,
+    }
+}
+
+/// The lines of a run in which a call of the tree fails: they say so, in place of all that it hides.
+pub fn lines_after(
+    rt: &impl Abort,
+    alloc: Global,
+    all: Lines,
+    (step, failed, fault): (Step, &[u8], TreeFault),
+) -> Vec<Line> {
+    let mut lines = Vec::new(alloc);
+    let mut is_told = false;
+    for (name, said) in all {
+        if !is_told && failed < *name {
+            add_line(rt, alloc, &mut lines, failed, Said::Failed(fault));
+            is_told = true;
+        }
+        if !hides(step, failed, name) {
+            add_line(rt, alloc, &mut lines, name, *said);
+        }
+    }
+    if !is_told {
+        add_line(rt, alloc, &mut lines, failed, Said::Failed(fault));
+    }
+    lines
+}
+
+/// A writer that takes at most so many bytes a call, and fails after so many good calls.
+#[derive(Debug, Drop)]
+struct Writer {
+    taken: Vec<u8>,
+    most: usize,
+    good: Option<usize>,
+    has_failed: bool,
+}
+
+impl Writer {
+    fn new(alloc: Global, most: usize, good: Option<usize>) -> Writer {
+        Writer {
+            taken: Vec::new(alloc),
+            most,
+            good,
+            has_failed: false,
+        }
+    }
+
+    fn take(&mut self, rt: &impl Abort, part: &[u8]) {
+        if self.has_failed || self.good == Some(0) {
+            self.has_failed = true;
+            return;
+        }
+        self.good = match self.good {
+            Some(good) => Some(good.saturating_sub(1)),
+            None => None,
+        };
+        self.taken.extend_from_slice(part).expect(rt, "memory");
+    }
+
+    fn put(&mut self, rt: &impl Abort, text: &[u8]) {
+        for part in text.chunks(self.most.max(1)) {
+            self.take(rt, part);
+        }
+    }
+
+    fn put_all(&mut self, rt: &impl Abort, pieces: &[&[u8]]) {
+        for piece in pieces {
+            self.put(rt, piece);
+        }
+    }
+}
+
+/// Both streams of a run.
+#[derive(Debug, Drop)]
+struct Streams {
+    out: Writer,
+    err: Writer,
+}
+
+impl Streams {
+    fn new(alloc: Global, devices: &Devices) -> Streams {
+        Streams {
+            out: Writer::new(alloc, devices.most, devices.write),
+            err: Writer::new(alloc, devices.most, devices.message),
+        }
+    }
+
+    fn has_failed(&self) -> bool {
+        self.out.has_failed || self.err.has_failed
+    }
+
+    fn tell_about(&mut self, rt: &impl Abort, name: &[u8], text: &str) {
+        self.err.put_all(rt, &[name, b": ", text.as_bytes(), b"\n"]);
+    }
+
+    fn tell_place(
+        &mut self,
+        rt: &impl Abort,
+        name: &[u8],
+        (line, column): (&str, &str),
+        text: &str,
+    ) {
+        let line = line.as_bytes();
+        let column = column.as_bytes();
+        let text = text.as_bytes();
+        self.err
+            .put_all(rt, &[name, b":", line, b":", column, b": ", text, b"\n"]);
+    }
+
+    fn tell(&mut self, rt: &impl Abort, line: &Line) {
+        let name = line.name.as_slice();
+        match line.said {
+            Said::Formatted => {}
+            Said::Written(_, _) | Said::Listed => self.out.put_all(rt, &[name, b"\n"]),
+            Said::NotFormatted => self.tell_about(rt, name, "not formatted"),
+            Said::Shown(text) => self.out.put(rt, text),
+            Said::Refused(line, column, text) => self.tell_place(rt, name, (line, column), text),
+            Said::Failed(fault) => self.tell_about(rt, name, fault.text()),
+        }
+    }
+
+    /// Tells the lines up to the first that can't be told. Gives how many there were, and the status.
+    fn tell_all(&mut self, rt: &impl Abort, lines: &[Line]) -> (usize, u8) {
+        let mut count = 0_usize;
+        let mut status = 0;
+        for line in lines {
+            count = count.saturating_add(1);
+            self.tell(rt, line);
+            if self.has_failed() {
+                return (count, 4);
+            }
+            status = worse(status, line.said.status());
+        }
+        (count, status)
+    }
+
+    /// Says that standard output failed, where it did.
+    fn finish(&mut self, rt: &impl Abort) {
+        if self.out.has_failed && !self.err.has_failed {
+            self.err.put(rt, b"tffmt-all: error: write failed\n");
+        }
+    }
+}
+
+// 4 is worse than 2, and 2 than 3.
+fn worse(one: u8, other: u8) -> u8 {
+    for status in [4, 2, 3] {
+        if one == status || other == status {
+            return status;
+        }
+    }
+    0
+}
+
+/// What a run shows, and at how many of the lines it has looked.
+#[derive(Debug, Drop)]
+pub struct Shown {
+    pub out: Vec<u8>,
+    pub err: Vec<u8>,
+    pub status: u8,
+    pub looked: usize,
+}
+
+impl Shown {
+    fn of(streams: Streams, status: u8, looked: usize) -> Shown {
+        let status = if streams.has_failed() { 4 } else { status };
+        Shown {
+            out: streams.out.taken,
+            err: streams.err.taken,
+            status,
+            looked,
+        }
+    }
+}
+
+/// What a run shows that tells these lines.
+pub fn shown_lines(rt: &impl Abort, alloc: Global, lines: &[Line], devices: &Devices) -> Shown {
+    let mut streams = Streams::new(alloc, devices);
+    let (looked, status) = streams.tell_all(rt, lines);
+    streams.finish(rt);
+    Shown::of(streams, status, looked)
+}
+
+/// What a run shows that looks at nothing and says one text on each stream.
+pub fn shown_text(
+    rt: &impl Abort,
+    alloc: Global,
+    (out, err, status): (&[u8], &[u8], u8),
+    devices: &Devices,
+) -> Shown {
+    let mut streams = Streams::new(alloc, devices);
+    streams.out.put(rt, out);
+    if devices.flush && !out.is_empty() {
+        streams.out.has_failed = true;
+    }
+    streams.finish(rt);
+    streams.err.put(rt, err);
+    Shown::of(streams, status, 0)
+}

@@ -1,0 +1,8 @@
+//! A text under a name.
+
+/// A text under a name: the bytes of a file, or where a link leads.
+#[derive(Debug, Drop)]
+pub struct Stored {
+    pub name: Vec<u8>,
+    pub bytes: Vec<u8>,
+}
