@@ -4,7 +4,7 @@
 //! token with the gap before it, and take no memory: of the lines passed they know the depth, the
 //! levels by depth, and the columns of the two runs in which the last line stands. A run is read ahead
 //! once, at its first line; [`is_formatted`] first takes its column from the source and reads nothing
-//! ahead. [`fits`] reads the lines alone where they tell that the print isn't too long.
+//! ahead, and [`is_found_formatted`] does no more. [`fits`] reads the lines alone where they tell that the print isn't too long.
 //!
 //! ```text
 //! line             level   before =   before #   gaps before its pieces   printed
@@ -37,5 +37,5 @@ mod writer;
 
 pub use extent::fits;
 pub use hcl_spacing::space_between;
-pub use print::{is_formatted, printed_len, prints_nothing};
+pub use print::{is_formatted, is_found_formatted, printed_len, prints_nothing};
 pub use writer::emit;

@@ -116,6 +116,14 @@ fn agrees(tokens: &Measured<'_, '_>) -> bool
     at == bytes.len()
 }
 
+/// Whether the print is found to be the source without reading ahead, as that of a formatted file nearly always is. Where it
+/// isn't found, it may yet be the source: that is for who prints it anew then, which gives the same.
+pub fn is_found_formatted(accepted: &Accepted<'_, '_>) -> bool
+    ensures { IsTrue result → print accepted.now.tokens ≡ accepted.now.text }
+{
+    stands_in_place(&Measured::new(accepted))
+}
+
 /// Whether the print is the source: the bytes of the source are those of the print.
 pub fn is_formatted(accepted: &Accepted<'_, '_>) -> bool
     ensures { IsTrue result ↔ (print accepted.now.tokens ≡ accepted.now.text) }

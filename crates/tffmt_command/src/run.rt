@@ -1,6 +1,6 @@
 //! A run over any devices.
 
-ghost use Rattle.std.specs.Prelude.{◌≡◌, ◌≢◌, ◌||◌, ◌<◌, ◌≤◌, ℕ, List, [], false, true, length, map, if◌then◌else◌, string_bytes, IfOk, IfErr};
+ghost use Rattle.std.specs.Prelude.{◌≡◌, ◌≢◌, ◌||◌, ◌<◌, ◌≤◌, ℕ, List, [], false, true, length, map, if◌then◌else◌, string_bytes, IfOk, IfErr, IsTrue};
 ghost use Rattle.command_line.specs.Rows.{Row, Took, Shows, ShowsIfMemory, ShowsOne, end_of, message_row, output_row, writer};
 ghost use Rattle.tffmt_command.specs.Rows.{IsRow, OfInput, formatter};
 ghost use Rattle.hcl_source.specs.Devices.{one_more};
@@ -11,7 +11,7 @@ ghost use Rattle.tffmt_command.specs.Answer.{fault_line, refusal_row, usage_line
 
 use crate::options::{FmtOptions, Usage, options};
 use command_line::Program;
-use hcl_layout::{emit, fits, is_formatted, prints_nothing};
+use hcl_layout::{emit, fits, is_formatted, is_found_formatted, prints_nothing};
 use hcl_scan::{
     ByteSink, ByteSource, Fault, FaultKind, LoadError, MAX_SOURCE, Position, ScanError, Source,
     scan,
@@ -106,7 +106,7 @@ fn show_formatted<O: ByteSink, E: ByteSink>(
     }
 }
 
-/// Shows what a file gives that isn't its own print.
+/// Shows what a file gives that isn't its own print, or isn't known to be where that makes no difference.
 fn show_changed<O: ByteSink, E: ByteSink>(
     alloc: Global,
     options: &FmtOptions,
@@ -114,7 +114,7 @@ fn show_changed<O: ByteSink, E: ByteSink>(
     out: &mut O,
     err: &mut E,
 ) -> u8
-    requires changed { print accepted.now.tokens ≢ accepted.now.text }
+    requires changed { options.now.check ≡ true → print accepted.now.tokens ≢ accepted.now.text }
     requires out { O.failed out.old ≡ false }
     requires err { E.failed err.old ≡ false }
     ensures { ShowsIfMemory formatter (λ row. row ≡ row_of_file options.now accepted.now) (end_of O.ByteSink out.old out.new E.ByteSink err.old err.new result) }
@@ -133,6 +133,18 @@ fn show_changed<O: ByteSink, E: ByteSink>(
     }
 }
 
+/// Whether a file is known to be its own print. Unless that is what is asked for, it is only looked for where it is found at
+/// once: the others are printed anew, and their runs needn't be read ahead twice.
+fn is_known_formatted(options: &FmtOptions, accepted: &Accepted<'_, '_>) -> bool
+    ensures formatted { IsTrue result → print accepted.now.tokens ≡ accepted.now.text }
+    ensures check { options.now.check ≡ true → print accepted.now.tokens ≡ accepted.now.text → IsTrue result }
+{
+    if options.check {
+        return is_formatted(accepted);
+    }
+    is_found_formatted(accepted)
+}
+
 /// Shows what an accepted file gives. A formatted file, which most are, is walked once and not
 /// printed anew.
 fn format<O: ByteSink, E: ByteSink>(
@@ -146,7 +158,7 @@ fn format<O: ByteSink, E: ByteSink>(
     requires err { E.failed err.old ≡ false }
     ensures { ShowsIfMemory formatter (λ row. row ≡ row_of_file options.now accepted.now) (end_of O.ByteSink out.old out.new E.ByteSink err.old err.new result) }
 {
-    if is_formatted(accepted) {
+    if is_known_formatted(options, accepted) {
         show_formatted(options, accepted, out, err)
     } else {
         show_changed(alloc, options, accepted, out, err)
