@@ -6,7 +6,6 @@
 #![tactic(auto)]
 
 mod block;
-mod closing;
 mod comment;
 mod cut;
 mod declaration;
@@ -19,6 +18,7 @@ mod module_source;
 mod names;
 mod own_block;
 mod owners;
+mod part;
 mod pattern;
 mod plain_text;
 mod reference;

@@ -7,16 +7,14 @@
 //! | an opening quote | an interpolation that is closed directly before a closing quote: an interpolation alone |
 //! | what opens an interpolation | for what is open last, whether a closing quote is directly after its closer |
 
-ghost use Rattle.std.specs.Prelude.{◌≡◌, ◌&&◌, ◌++◌, ◌∷◌, [], IfOk, OnOk, if◌then◌else◌};
+ghost use Rattle.std.specs.Prelude.{◌≡◌, ◌++◌, ◌∷◌, [], ℕ, Bool, suc, false, get_or, reverse, IfOk, OnOk, if◌then◌else◌};
 ghost use Rattle.hcl_tokens.specs.Kinds.{is};
-ghost use Rattle.hcl_tokens.specs.declared.token.Kind.TheVariants.{InterpOpen, Number, QuoteClose, QuoteOpen};
+ghost use Rattle.hcl_tokens.specs.declared.token.Kind.TheVariants.{InterpOpen, Number, QuoteClose};
 ghost use Rattle.hcl_grammar.specs.Numbered.{numbered};
 ghost use Rattle.tf_facts.specs.Patterns.{legacy_indexes, wrapped_interpolations};
-ghost use Rattle.tf_facts.specs.Inner.Closings.{is_plain};
+ghost use Rattle.tf_facts.specs.Inner.Closings.{part_of};
 
-use crate::closing::{last_flag, pass};
-use crate::reference::is_dot;
-use crate::seen::is_passed_over;
+use crate::part::Part;
 use hcl_tokens::{Kind, Tokens};
 use std::alloc::{AllocError, Global};
 
@@ -24,12 +22,6 @@ fn is_number(kind: Kind) -> bool
     ensures { result ≡ is Number kind }
 {
     matches!(kind, Kind::Number)
-}
-
-fn is_quote_open(kind: Kind) -> bool
-    ensures { result ≡ is QuoteOpen kind }
-{
-    matches!(kind, Kind::QuoteOpen)
 }
 
 fn is_quote_close(kind: Kind) -> bool
@@ -44,58 +36,33 @@ fn is_interpolation(kind: Kind) -> bool
     matches!(kind, Kind::InterpOpen)
 }
 
-/// What the first token that is seen from a place on is.
-#[derive(Clone, Copy)]
-struct Ahead {
-    is_quote_close: bool,
-    is_number: bool,
-    /// What opens an interpolation that is closed directly before a closing quote.
-    is_wrapped: bool,
-}
-
-/// Whether a token of this kind is none that the patterns are made of, and neither opens nor closes anything.
 #[inline(always)]
-fn is_plain(kind: Kind) -> bool
-    ensures { result ≡ is_plain kind }
+fn part_of(kind: Kind) -> Part
+    ensures { result ≡ part_of kind }
 {
-    matches!(
-        kind,
-        Kind::Ident
-            | Kind::HeredocOpen
-            | Kind::Comma
-            | Kind::Ellipsis
-            | Kind::Question
-            | Kind::Colon
-            | Kind::ColonColon
-            | Kind::Assign
-            | Kind::Arrow
-            | Kind::Not
-            | Kind::Minus
-            | Kind::Plus
-            | Kind::Star
-            | Kind::Slash
-            | Kind::Percent
-            | Kind::And
-            | Kind::Or
-            | Kind::Equal
-            | Kind::NotEqual
-            | Kind::Less
-            | Kind::Greater
-            | Kind::LessEqual
-            | Kind::GreaterEqual
-            | Kind::Lit
-            | Kind::HeredocClose
-    )
+    match kind {
+        Kind::LineComment | Kind::InlineComment | Kind::Blank | Kind::Newline => Part::PassedOver,
+        Kind::Dot => Part::Dot,
+        Kind::QuoteOpen => Part::QuoteOpen,
+        Kind::ParenOpen
+        | Kind::BracketOpen
+        | Kind::BraceOpen
+        | Kind::InterpOpen
+        | Kind::ControlOpen => Part::Opens,
+        Kind::ParenClose | Kind::BracketClose | Kind::BraceClose | Kind::SeqClose => Part::Closes,
+        _ => Part::Plain,
+    }
 }
 
-/// What a token of this kind is, where it is known whether what it opens is closed directly before a closing quote.
-fn seen_as(kind: Kind, is_closed: bool) -> Ahead
-    ensures { result ≡ record { is_quote_close = is QuoteClose kind; is_number = is Number kind; is_wrapped = is InterpOpen kind && is_closed } }
+/// Takes the last flag off the list; it is false where there is none.
+#[inline(always)]
+fn take_last(flags: &mut Vec<bool>) -> bool
+    ensures taken { result ≡ get_or (reverse flags.old.items) 0 false }
+    ensures left { (i : ℕ) (other : Bool) → get_or (reverse flags.new.items) i other ≡ get_or (reverse flags.old.items) (suc i) other }
 {
-    Ahead {
-        is_quote_close: is_quote_close(kind),
-        is_number: is_number(kind),
-        is_wrapped: is_interpolation(kind) & is_closed,
+    match flags.pop() {
+        Some(flag) => flag,
+        None => false,
     }
 }
 
@@ -128,28 +95,26 @@ pub fn found_patterns(alloc: Global, tokens: &Tokens<'_>) -> Result<Patterns, Al
     let mut indexes = Vec::new(alloc);
     let mut interpolations = Vec::new(alloc);
     let mut openers = Vec::new(alloc);
-    let mut next = Ahead {
-        is_quote_close: false,
-        is_number: false,
-        is_wrapped: false,
-    };
+    // Nothing is ahead of the last token: a kind that no pattern asks for.
+    let mut next = Kind::Newline;
+    // Whether what `next` opens, if it opens anything, is closed directly before a closing quote.
+    let mut is_closed = false;
     let mut number = tokens.len();
     while number > 0 {
         number -= 1;
         let kind = tokens.kind(number);
-        if is_plain(kind) {
-            next = seen_as(kind, false);
-            continue;
+        match part_of(kind) {
+            Part::PassedOver => continue,
+            Part::Plain => {}
+            Part::Dot => push_if(&mut indexes, is_number(next), number)?,
+            Part::QuoteOpen => {
+                let is_alone = is_interpolation(next) & is_closed;
+                push_if(&mut interpolations, is_alone, number)?;
+            }
+            Part::Opens => is_closed = take_last(&mut openers),
+            Part::Closes => openers.push(is_quote_close(next))?,
         }
-        if is_passed_over(kind) {
-            continue;
-        }
-        push_if(&mut indexes, is_dot(kind) & next.is_number, number)?;
-        let is_alone = is_quote_open(kind) & next.is_wrapped;
-        push_if(&mut interpolations, is_alone, number)?;
-        let is_closed = last_flag(&openers);
-        pass(tokens, number, next.is_quote_close, &mut openers)?;
-        next = seen_as(kind, is_closed);
+        next = kind;
     }
     indexes.reverse();
     interpolations.reverse();

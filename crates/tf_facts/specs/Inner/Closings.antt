@@ -1,5 +1,5 @@
 -- Whether what is open is closed directly before a closing quote, token by token, as the code finds it.
-use Rattle.std.specs.Prelude.{◌≡◌, ◌==◌, ◌||◌, ℕ, Bool, false, not, List, get_or, reverse}
+use Rattle.std.specs.Prelude.{◌≡◌, ◌==◌, ℕ, Bool, false, List, get_or, reverse, if◌then◌else◌}
 use Rattle.hcl_tokens.specs.Balanced.{closing, opening}
 use Rattle.hcl_tokens.specs.Kinds.{is}
 use Rattle.hcl_tokens.specs.declared.token.Kind.{Kind}
@@ -8,6 +8,8 @@ use Rattle.hcl_grammar.specs.Numbered.{is_passed_over}
 use Rattle.hcl_tokens.specs.Lexemes.{Lexeme}
 use Rattle.tf_facts.specs.Patterns.{begins_with_close, behind_closer}
 use Rattle.tf_facts.specs.Inner.Seen.{seen_from}
+use Rattle.tf_facts.specs.declared.part.Part.{Part}
+use Rattle.tf_facts.specs.declared.part.Part.TheVariants as part
 
 -- what is seen from a number on begins with a closing quote
 abbrev pub quote_from : List Lexeme → ℕ → Bool
@@ -21,7 +23,12 @@ closes_before_quote tokens depth n = begins_with_close (behind_closer depth (see
 abbrev pub AreAhead : List Lexeme → List Bool → ℕ → Type 0
 AreAhead tokens ahead n = (depth : ℕ) → get_or (reverse ahead) depth false ≡ closes_before_quote tokens depth n
 
--- a kind that is seen, of which no pattern is made, and which neither opens nor closes anything
-abbrev pub is_plain : Kind → Bool
-is_plain k =
-    not (is_passed_over k || is kind.Dot k || is kind.Number k || is kind.QuoteOpen k || is kind.QuoteClose k || is kind.InterpOpen k || (closing k == 1) || (opening k == 1))
+-- what a token means to the walk that finds patterns
+abbrev pub part_of : Kind → Part
+part_of k =
+    if is_passed_over k then part.PassedOver
+    else if is kind.Dot k then part.Dot
+    else if is kind.QuoteOpen k then part.QuoteOpen
+    else if opening k == 1 then part.Opens
+    else if closing k == 1 then part.Closes
+    else part.Plain

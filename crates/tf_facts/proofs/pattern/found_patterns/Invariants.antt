@@ -2,7 +2,7 @@ use Rattle.tf_facts.proofs.PatternLemmas.{IsWalkedBack}
 use Rattle.tf_facts.proofs.pattern.found_patterns.Given as goal
 
 abbrev pub invariant-loop-number : goal.invariant-loop-number
-invariant-loop-number l = IsWalkedBack l.tokens.tokens l.indexes.items l.interpolations.items l.openers.items l.next l.number
+invariant-loop-number l = IsWalkedBack l.tokens.tokens l.indexes.items l.interpolations.items l.openers.items l.next l.is_closed l.number
 
 abbrev pub decreases-loop-number : goal.decreases-loop-number
 decreases-loop-number l = l.number
