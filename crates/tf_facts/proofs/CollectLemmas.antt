@@ -110,10 +110,11 @@ module _ (own : List Own) (ts : List Lexeme) (old : List (List ℕ)) where
       rw same (rw is (puts new next n t e seen put (subst P free h)))
 
   -- a token that is no identifier begins no reference
-  pub no_word : (new : List (List ℕ)) (after dot : Bool) (n : ℕ) (t : Lexeme) → slice_get ts n ≡ Some t → is_passed_over t.kind ≡ false → is kind.Ident t.kind ≡ false → after ≡ false → dot ≡ is kind.Dot t.kind
-      → IsCollected own ts old new after n → IsCollected own ts old new dot (n + 1)
-  no_word new after dot n t e seen none free is h =
-      collected new new new after dot n t e seen free is refl
+  pub no_word : (new : List (List ℕ)) (after dot : Bool) (n : ℕ) (t : Lexeme) → slice_get ts n ≡ Some t → is_passed_over t.kind ≡ false → is kind.Ident t.kind ≡ false → dot ≡ is kind.Dot t.kind → IsCollected own ts old new after n
+      → IsCollected own ts old new dot (n + 1)
+  no_word new true dot n t e seen none is_dot h = skipped new new true dot n t e seen refl is_dot refl h
+  no_word new false dot n t e seen none is_dot h =
+      collected new new new false dot n t e seen refl is_dot refl
       (sym (ap (λ b. insert_all bytes_eq new (unless_own own n (cond b (by_name t.text (name_behind (seen_from ts (n + 1))) (drop 2 (seen_from ts (n + 1)))) None))) none)) h
 
   -- a word that no name after a dot follows begins no reference

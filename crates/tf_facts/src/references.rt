@@ -14,7 +14,7 @@ use crate::own_block::OwnBlock;
 use crate::reference::{Reference, is_dot, is_ident, may_be_named, reference_at};
 use crate::seen::{Seen, is_passed_over};
 use crate::text_set::TextSet;
-use hcl_tokens::Tokens;
+use hcl_tokens::{Kind, Tokens};
 use std::alloc::{AllocError, Global};
 
 /// Puts the text that identifies a reference in place of another, whose room it takes.
@@ -138,7 +138,8 @@ pub fn collect(
     ensures ok { OnOk result (into.new ≡ insert_all bytes_eq into.old (references_from (map own_of blocks.now) false (seen_from tokens.now.tokens 0))) }
     ensures err { OnErr result (Extends into.old into.new) }
 {
-    let mut after_dot = false;
+    // Nothing is before the first token: a kind that is no dot.
+    let mut last = Kind::Newline;
     let mut next = 0;
     let mut text = String::new(alloc);
     for number in 0..tokens.len() {
@@ -146,12 +147,12 @@ pub fn collect(
         if is_passed_over(kind) {
             continue;
         }
-        let is_behind_dot = after_dot;
-        after_dot = is_dot(kind);
-        if is_behind_dot {
+        let before = last;
+        last = kind;
+        if !is_ident(kind) {
             continue;
         }
-        if !is_ident(kind) {
+        if is_dot(before) {
             continue;
         }
         if !may_be_named(tokens, number) {
