@@ -11,7 +11,7 @@ use Rattle.hcl_tokens.specs.Spelling.{IsIdent, IsExpressionText, are_ident, star
 use Rattle.hcl_tokens.specs.Scans.{Scans, begin}
 use Rattle.hcl_source.specs.Load.{has_byte_order_mark}
 use Rattle.hcl_scan.specs.Inner.Leads.{lead_of, lead_bytes}
-use Rattle.hcl_scan.specs.declared.expression.Lead.TheVariants.{Letter}
+use Rattle.hcl_scan.specs.declared.front.Lead.TheVariants.{Letter}
 use Rattle.hcl_tokens.specs.declared.token.Kind.{Kind}
 use Rattle.hcl_tokens.specs.declared.token.Kind.TheVariants.{Ident}
 use Rattle.hcl_tokens.proofs.BooleanLemmas.{and_true}

@@ -7,7 +7,7 @@ use Rattle.hcl_tokens.specs.Spelling.{IsNewline, IsLineComment, IsInlineComment,
 use Rattle.hcl_scan.specs.Inner.Found.{EndsComment}
 use Rattle.hcl_scan.specs.Inner.Leads.{lead_of}
 use Rattle.hcl_tokens.specs.Neighbours.{grows, ends_comment}
-use Rattle.hcl_scan.specs.declared.expression.Lead.TheVariants.{LineEnd, HashOrSlashes, SlashStar, OneSlash}
+use Rattle.hcl_scan.specs.declared.front.Lead.TheVariants.{LineEnd, HashOrSlashes, SlashStar, OneSlash}
 use Rattle.hcl_tokens.specs.declared.token.Kind.{Kind}
 use Rattle.hcl_tokens.specs.declared.token.Kind.TheVariants.{Newline, LineComment, InlineComment, Slash}
 use Rattle.hcl_tokens.proofs.BooleanLemmas.{or_true, or_cases}

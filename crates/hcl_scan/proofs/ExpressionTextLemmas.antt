@@ -12,8 +12,8 @@ use Rattle.hcl_scan.specs.Inner.Found.{Finds, AreSurroundings, FindsAt, HasNoneA
 use Rattle.hcl_tokens.specs.Scans.{HasNone}
 use Rattle.hcl_scan.specs.Inner.Leads.{lead_of, lead_bytes, slash_lead}
 use Rattle.hcl_tokens.specs.SideBySide.{may_begin_ident}
-use Rattle.hcl_scan.specs.declared.expression.Lead.{Lead}
-use Rattle.hcl_scan.specs.declared.expression.Lead.TheVariants.{LineEnd, Space, Letter, Digit, HashOrSlashes, SlashStar, OneSlash, LessLess, Closer, Sign}
+use Rattle.hcl_scan.specs.declared.front.Lead.{Lead}
+use Rattle.hcl_scan.specs.declared.front.Lead.TheVariants.{LineEnd, Space, Letter, Digit, HashOrSlashes, SlashStar, OneSlash, LessLess, Closer, Sign}
 use Rattle.hcl_scan.specs.declared.found.Found.{Found}
 use Rattle.hcl_tokens.specs.declared.token.Kind.{Kind}
 use Rattle.hcl_tokens.specs.declared.token.Kind.TheVariants.{Newline, LineComment, InlineComment, Blank, Ident, Number, HeredocOpen, SeqClose, BraceClose, Slash, Less}
@@ -352,20 +352,6 @@ pub comment_none : (dot inside closes : Bool) (seen bytes : List ℕ) (r : Optio
 comment_none dot inside closes seen bytes (Some f) len l e h g = tt
 comment_none dot inside closes seen bytes None len l e h g =
     comment_nothing dot inside closes seen l (subst (λ b. HasNoFront IsInlineComment b) e (subst (λ (o : Option ℕ). IfNone o (HasNoFront IsInlineComment bytes)) h g))
-
-pub some_mark : (dot inside closes : Bool) (seen bytes : List ℕ) (r : Option Found) → lead_of seen ≡ Sign → bytes ≡ seen → IfSome r (λ f. IsLongestPunctuation punctuation bytes f.kind f.len) → IfSome r (λ f. FindsAt dot inside closes seen f.kind f.len)
-some_mark dot inside closes seen bytes (Some f) l e h = mark_found dot inside closes seen f.kind f.len l (subst (λ s. IsLongestPunctuation punctuation s f.kind f.len) e h)
-some_mark dot inside closes seen bytes None l e h = tt
-
-pub no_mark : (dot inside closes : Bool) (seen bytes : List ℕ) (r : Option Found) → lead_of seen ≡ Sign → bytes ≡ seen → IfNone r (HasNoPunctuation punctuation bytes) → IfNone r (HasNoneAt dot inside closes seen)
-no_mark dot inside closes seen bytes (Some f) l e h = tt
-no_mark dot inside closes seen bytes None l e h = mark_nothing dot inside closes seen l (subst (λ s. HasNoPunctuation punctuation s) e h)
-
-pub mark_cut : (seen bytes : List ℕ) (r : Option Found) → IsUtf8 seen → bytes ≡ seen → IfSome r (λ f. IsLongestPunctuation punctuation bytes f.kind f.len) → IfSome r (λ f. IsCharBoundary seen f.len)
-mark_cut seen bytes (Some f) utf8 e h =
-    let m : IsLongestPunctuation punctuation seen f.kind f.len = subst (λ s. IsLongestPunctuation punctuation s f.kind f.len) e h in
-    low_cut seen f.len utf8 m.within (mark_low (take f.len seen) f.kind m.formed)
-mark_cut seen bytes None utf8 e h = tt
 
 pub slash_cut : (seen : List ℕ) → IsUtf8 seen → lead_of seen ≡ OneSlash → IsCharBoundary seen 1
 slash_cut [] utf8 l = absurd (cc)

@@ -8,7 +8,7 @@ use Rattle.hcl_tokens.specs.Spelling.{IsNewline, IsTextIn, IsExpressionText, is_
 use Rattle.hcl_tokens.specs.Scans.{State, gap_in, gap_len, has_gaps_in, skip_blanks, at_line_end, Reads, Closes, Run, IsComplete}
 use Rattle.hcl_scan.specs.Inner.Leads.{lead_of}
 use Rattle.hcl_tokens.specs.Regapped.{without_gaps, text_with_gaps, is_template, touches, gap_fits}
-use Rattle.hcl_scan.specs.declared.expression.Lead.TheVariants.{LineEnd}
+use Rattle.hcl_scan.specs.declared.front.Lead.TheVariants.{LineEnd}
 use Rattle.hcl_tokens.specs.declared.token.Kind.{Kind}
 use Rattle.hcl_tokens.specs.declared.token.Kind.TheVariants.{LineComment}
 use Rattle.hcl_scan.proofs.WayLemmas.{ways}

@@ -6,7 +6,7 @@ use Rattle.std.proofs.lemmas.Bool.Decides.{nat_tests}
 use Rattle.hcl_tokens.specs.Lexemes.{Opener}
 use Rattle.hcl_tokens.specs.Spelling.{IsNewline, IsHeredocOpen, IsExpressionText}
 use Rattle.hcl_scan.specs.Inner.Leads.{lead_of}
-use Rattle.hcl_scan.specs.declared.expression.Lead.TheVariants.{Closer}
+use Rattle.hcl_scan.specs.declared.front.Lead.TheVariants.{Closer}
 use Rattle.hcl_tokens.specs.declared.token.Kind.{Kind}
 use Rattle.hcl_tokens.specs.declared.token.Kind.TheVariants.{HeredocOpen, SeqClose, BraceClose}
 use Rattle.hcl_tokens.proofs.BooleanLemmas.{and_true}

@@ -11,7 +11,7 @@ use Rattle.hcl_tokens.specs.Scans.{State, ahead, Reads, Closes, Next, Run}
 use Rattle.hcl_scan.specs.Inner.Leads.{lead_of, lead_bytes}
 use Rattle.hcl_tokens.specs.Neighbours.{grows, joins, joins_text, stays}
 use Rattle.hcl_tokens.specs.Regapped.{without_gaps, text_with_gaps, is_template, touches, AllFit}
-use Rattle.hcl_scan.specs.declared.expression.Lead.TheVariants.{Sign as SignLead}
+use Rattle.hcl_scan.specs.declared.front.Lead.TheVariants.{Sign as SignLead}
 use Rattle.hcl_tokens.specs.declared.token.Kind.{Kind}
 use Rattle.hcl_tokens.specs.declared.token.Kind.TheVariants.{LineComment, Ident, Number, Dot, Colon, Not, Assign, Less, Greater, Slash, Lit, InterpOpen, ControlOpen, QuoteClose, HeredocClose}
 use Rattle.hcl_tokens.proofs.BooleanLemmas.{and_true, not_true}

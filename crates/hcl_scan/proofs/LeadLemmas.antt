@@ -8,8 +8,8 @@ use Rattle.hcl_tokens.specs.Lexemes.{Opener}
 use Rattle.hcl_tokens.specs.Spelling.{punctuation, IsPunctuation, IsDigits, is_blank, starts}
 use Rattle.hcl_scan.specs.Inner.Leads.{lead_of, lead_bytes, slash_lead}
 use Rattle.hcl_tokens.specs.SideBySide.{may_begin_ident}
-use Rattle.hcl_scan.specs.declared.expression.Lead.{Lead}
-use Rattle.hcl_scan.specs.declared.expression.Lead.TheVariants.{LineEnd, Space, Letter, Digit, HashOrSlashes, SlashStar, OneSlash, LessLess, Closer, Sign}
+use Rattle.hcl_scan.specs.declared.front.Lead.{Lead}
+use Rattle.hcl_scan.specs.declared.front.Lead.TheVariants.{LineEnd, Space, Letter, Digit, HashOrSlashes, SlashStar, OneSlash, LessLess, Closer, Sign}
 use Rattle.hcl_tokens.specs.declared.token.Kind.{Kind}
 use Rattle.hcl_tokens.specs.declared.token.Kind.TheVariants.{Newline, LineComment, InlineComment, Blank, Ident, Number, HeredocOpen, SeqClose, BraceClose, Slash}
 use Rattle.hcl_tokens.proofs.BooleanLemmas.{and_true, or_cases}

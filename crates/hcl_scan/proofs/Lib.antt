@@ -24,6 +24,7 @@ pub mod HeredocOpenerLemmas
 pub mod LeadLemmas
 pub mod TextCutLemmas
 pub mod ExpressionTextLemmas
+pub mod FrontLemmas
 pub mod OneKindLemmas
 pub mod ExpressionLawLemmas
 pub mod SpellingLemmas

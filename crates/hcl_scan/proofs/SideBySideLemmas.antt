@@ -4,7 +4,7 @@ use Rattle.hcl_tokens.specs.Lexemes.{Lexeme, Opener, Quote, Heredoc, Sequence, B
 use Rattle.hcl_tokens.specs.Spelling.{IsExpressionText, context, Template, Expression}
 use Rattle.hcl_tokens.specs.Scans.{State, ahead, begin, IsLongest, Leaves, Reads, Closes, Next, Run, Scans}
 use Rattle.hcl_scan.specs.Inner.Leads.{lead_of}
-use Rattle.hcl_scan.specs.declared.expression.Lead.TheVariants.{LineEnd}
+use Rattle.hcl_scan.specs.declared.front.Lead.TheVariants.{LineEnd}
 use Rattle.hcl_tokens.specs.declared.token.Kind.{Kind}
 use Rattle.hcl_tokens.specs.declared.token.Kind.TheVariants.{Newline, LineComment, HeredocOpen, QuoteOpen, ParenOpen, BracketOpen, BraceOpen, ParenClose, BracketClose, SeqClose, BraceClose, Lit, InterpOpen, ControlOpen, QuoteClose, HeredocClose}
 use Rattle.hcl_tokens.proofs.BooleanLemmas.{and_true}

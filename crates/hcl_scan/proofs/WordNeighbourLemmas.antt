@@ -6,7 +6,7 @@ use Rattle.hcl_tokens.specs.Lexemes.{Opener}
 use Rattle.hcl_tokens.specs.Spelling.{IsDigits, IsIdent, IsNumber, IsExpressionText}
 use Rattle.hcl_scan.specs.Inner.Leads.{lead_of}
 use Rattle.hcl_tokens.specs.Neighbours.{grows}
-use Rattle.hcl_scan.specs.declared.expression.Lead.TheVariants.{Letter, Digit}
+use Rattle.hcl_scan.specs.declared.front.Lead.TheVariants.{Letter, Digit}
 use Rattle.hcl_tokens.specs.declared.token.Kind.{Kind}
 use Rattle.hcl_tokens.specs.declared.token.Kind.TheVariants.{Ident, Number}
 use Rattle.hcl_tokens.proofs.BooleanLemmas.{and_true}

@@ -2,18 +2,20 @@
 
 ghost use Rattle.std.specs.Prelude.{◌≡◌, ℕ, Bool, Some, None, IfSome, IfNone};
 ghost use Rattle.std.specs.Str.{IsCharBoundary};
-ghost use Rattle.hcl_tokens.specs.Spelling.{punctuation, IsNewline};
-ghost use Rattle.hcl_scan.specs.Inner.Found.{FindsAt, HasNoneAt, IsLongestFront, HasNoFront, IsLongestPunctuation, HasNoPunctuation, BlankText, NumberText, CloserText, closer_kind};
-ghost use Rattle.hcl_scan.specs.Inner.Leads.{lead_of, slash_lead};
-ghost use Rattle.hcl_scan.specs.declared.expression.Lead.TheVariants.{LessLess};
+ghost use Rattle.hcl_tokens.specs.Spelling.{IsNewline};
+ghost use Rattle.hcl_scan.specs.Inner.Found.{FindsAt, HasNoneAt, IsLongestFront, HasNoFront, BlankText, NumberText, CloserText, closer_kind};
+ghost use Rattle.hcl_scan.specs.Inner.Fronts.{IsFront};
+ghost use Rattle.hcl_scan.specs.Inner.Leads.{lead_of};
+ghost use Rattle.hcl_scan.specs.declared.front.Front.TheVariants.{Led};
+ghost use Rattle.hcl_scan.specs.declared.front.Lead.TheVariants.{LessLess};
 ghost use Rattle.hcl_tokens.specs.declared.token.Kind.TheVariants.{Newline};
 
 use crate::comment::inline_comment_len;
 use crate::found::Found;
+use crate::front::{Front, Lead, front_of};
 use crate::ident::{begun_ident, heredoc_open_len};
 use crate::number::{digits_len, number_len};
-use crate::punctuation::longest_punctuation;
-use crate::text::{blanks_len, byte_at, line_len, newline_len};
+use crate::text::{blanks_len, line_len, newline_len};
 use hcl_tokens::Kind;
 
 /// What the next token of an expression depends on, besides the text.
@@ -25,50 +27,6 @@ pub struct Surroundings {
     pub inside_heredoc: bool,
     /// A `}` closes a sequence.
     pub closes_sequence: bool,
-}
-
-/// What tokens the first two bytes may begin.
-#[derive(Clone, Copy)]
-enum Lead {
-    LineEnd,
-    Space,
-    Letter,
-    Digit,
-    HashOrSlashes,
-    SlashStar,
-    OneSlash,
-    LessLess,
-    Closer,
-    Sign,
-}
-
-fn slash_lead(second: u8) -> Lead
-    ensures { result ≡ slash_lead second }
-{
-    if second == b'/' {
-        Lead::HashOrSlashes
-    } else if second == b'*' {
-        Lead::SlashStar
-    } else {
-        Lead::OneSlash
-    }
-}
-
-/// The second byte is looked at only after a first one that asks for it.
-fn lead_of(seen: &[u8]) -> Lead
-    ensures { result ≡ lead_of seen.now }
-{
-    match byte_at(seen, 0) {
-        b'a'..=b'z' | b'A'..=b'Z' | b'_' | 128..=255 => Lead::Letter,
-        b'0'..=b'9' => Lead::Digit,
-        b'\n' | b'\r' => Lead::LineEnd,
-        b' ' | b'\t' => Lead::Space,
-        b'#' => Lead::HashOrSlashes,
-        b'/' => slash_lead(byte_at(seen, 1)),
-        b'<' if byte_at(seen, 1) == b'<' => Lead::LessLess,
-        b'}' | b'~' => Lead::Closer,
-        _ => Lead::Sign,
-    }
 }
 
 fn found_as(kind: Kind, len: Option<usize>) -> Option<Found>
@@ -162,24 +120,15 @@ fn opener_or_less(seen: &str) -> Found
     }
 }
 
-fn found_punctuation(seen: &[u8]) -> Option<Found>
-    ensures found { IfSome result (λ f. IsLongestPunctuation punctuation seen.now f.kind f.len) }
-    ensures none { IfNone result (HasNoPunctuation punctuation seen.now) }
-{
-    match longest_punctuation(seen) {
-        Some((kind, len)) => Some(Found { kind, len }),
-        None => None,
-    }
-}
-
-/// The longest token at the front of what is seen, where an expression is read. `seen` is what follows the gap.
-pub(crate) fn next_in_expression(seen: &str, around: Surroundings) -> Option<Found>
+/// The longest token at the front of what is seen, where its first bytes are no mark.
+fn led(seen: &str, lead: Lead, around: Surroundings) -> Option<Found>
+    requires { IsFront seen.now (Led lead) }
     ensures found { IfSome result (λ f. FindsAt around.after_dot around.inside_heredoc around.closes_sequence seen.now f.kind f.len) }
     ensures boundary { IfSome result (λ f. IsCharBoundary seen.now f.len) }
     ensures none { IfNone result (HasNoneAt around.after_dot around.inside_heredoc around.closes_sequence seen.now) }
 {
     let bytes = seen.as_bytes();
-    match lead_of(bytes) {
+    match lead {
         Lead::LineEnd => found_newline(bytes),
         Lead::Space => found_as(Kind::Blank, blank_len(bytes, around.inside_heredoc)),
         Lead::Letter => begun_ident(seen),
@@ -198,6 +147,18 @@ pub(crate) fn next_in_expression(seen: &str, around: Surroundings) -> Option<Fou
             closer_kind(around.closes_sequence),
             closer_len(bytes, around.closes_sequence),
         ),
-        Lead::Sign => found_punctuation(bytes),
+        Lead::Sign => None,
+    }
+}
+
+/// The longest token at the front of what is seen, where an expression is read. `seen` is what follows the gap.
+pub(crate) fn next_in_expression(seen: &str, around: Surroundings) -> Option<Found>
+    ensures found { IfSome result (λ f. FindsAt around.after_dot around.inside_heredoc around.closes_sequence seen.now f.kind f.len) }
+    ensures boundary { IfSome result (λ f. IsCharBoundary seen.now f.len) }
+    ensures none { IfNone result (HasNoneAt around.after_dot around.inside_heredoc around.closes_sequence seen.now) }
+{
+    match front_of(seen.as_bytes()) {
+        Front::Mark(kind, len) => Some(Found { kind, len }),
+        Front::Led(lead) => led(seen, lead, around),
     }
 }

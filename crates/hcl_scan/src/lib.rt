@@ -8,12 +8,12 @@
 mod comment;
 mod expression;
 mod found;
+mod front;
 mod heredoc;
 mod ident;
 pub mod laws;
 mod literal;
 mod number;
-mod punctuation;
 mod scanner;
 mod stack;
 mod template;

@@ -3,8 +3,8 @@ use Rattle.std.specs.Prelude.{ℕ, ◌==◌, ◌||◌, ◌&&◌, List, if◌then
 use Rattle.std.specs.Char.{is_ascii_digit}
 use Rattle.hcl_tokens.specs.Spelling.{is_blank}
 use Rattle.hcl_tokens.specs.SideBySide.{may_begin_ident}
-use Rattle.hcl_scan.specs.declared.expression.Lead.{Lead}
-use Rattle.hcl_scan.specs.declared.expression.Lead.TheVariants.{LineEnd, Space, Letter, Digit, HashOrSlashes, SlashStar, OneSlash, LessLess, Closer, Sign}
+use Rattle.hcl_scan.specs.declared.front.Lead.{Lead}
+use Rattle.hcl_scan.specs.declared.front.Lead.TheVariants.{LineEnd, Space, Letter, Digit, HashOrSlashes, SlashStar, OneSlash, LessLess, Closer, Sign}
 
 abbrev pub slash_lead : ℕ → Lead
 slash_lead second = if second == 47 then HashOrSlashes else (if second == 42 then SlashStar else OneSlash)

@@ -1,0 +1,97 @@
+//! What the first bytes of a token of an expression say. One table has them all, so that the first byte of a token is looked up
+//! once, whether it is a mark or leads to something longer:
+//!
+//! ```text
+//! a = b >= 1 # c
+//! |   | |  | `- HashOrSlashes
+//! |   | |  `- Digit
+//! |   | `- `>=`, a mark of two bytes
+//! `---`- Letter
+//! ```
+
+ghost use Rattle.std.specs.Prelude.{◌≡◌};
+ghost use Rattle.hcl_scan.specs.Inner.Fronts.{IsFront};
+ghost use Rattle.hcl_scan.specs.Inner.Leads.{slash_lead};
+
+use crate::text::byte_at;
+use hcl_tokens::Kind;
+
+/// What tokens the first two bytes may begin.
+#[derive(Clone, Copy)]
+pub enum Lead {
+    LineEnd,
+    Space,
+    Letter,
+    Digit,
+    HashOrSlashes,
+    SlashStar,
+    OneSlash,
+    LessLess,
+    Closer,
+    Sign,
+}
+
+fn slash_lead(second: u8) -> Lead
+    ensures { result ≡ slash_lead second }
+{
+    if second == b'/' {
+        Lead::HashOrSlashes
+    } else if second == b'*' {
+        Lead::SlashStar
+    } else {
+        Lead::OneSlash
+    }
+}
+
+/// What the first bytes are: a mark and its length, or what they lead to.
+#[derive(Clone, Copy)]
+pub enum Front {
+    Mark(Kind, usize),
+    Led(Lead),
+}
+
+/// What the first bytes are. The second byte is looked at only after a first one that asks for it.
+pub fn front_of(seen: &[u8]) -> Front
+    ensures { IsFront seen.now result }
+{
+    match byte_at(seen, 0) {
+        b'a'..=b'z' | b'A'..=b'Z' | b'_' | 128..=255 => Front::Led(Lead::Letter),
+        b'0'..=b'9' => Front::Led(Lead::Digit),
+        b'\n' | b'\r' => Front::Led(Lead::LineEnd),
+        b' ' | b'\t' => Front::Led(Lead::Space),
+        b'#' => Front::Led(Lead::HashOrSlashes),
+        b'/' => Front::Led(slash_lead(byte_at(seen, 1))),
+        b'}' | b'~' => Front::Led(Lead::Closer),
+        b'"' => Front::Mark(Kind::QuoteOpen, 1),
+        b'.' if seen.starts_with(b"...") => Front::Mark(Kind::Ellipsis, 3),
+        b'.' => Front::Mark(Kind::Dot, 1),
+        b',' => Front::Mark(Kind::Comma, 1),
+        b'{' => Front::Mark(Kind::BraceOpen, 1),
+        b'[' => Front::Mark(Kind::BracketOpen, 1),
+        b']' => Front::Mark(Kind::BracketClose, 1),
+        b'(' => Front::Mark(Kind::ParenOpen, 1),
+        b')' => Front::Mark(Kind::ParenClose, 1),
+        b'?' => Front::Mark(Kind::Question, 1),
+        b'-' => Front::Mark(Kind::Minus, 1),
+        b'+' => Front::Mark(Kind::Plus, 1),
+        b'*' => Front::Mark(Kind::Star, 1),
+        b'%' => Front::Mark(Kind::Percent, 1),
+        b'=' if byte_at(seen, 1) == b'>' => Front::Mark(Kind::Arrow, 2),
+        b'=' if byte_at(seen, 1) == b'=' => Front::Mark(Kind::Equal, 2),
+        b'=' => Front::Mark(Kind::Assign, 1),
+        b':' if byte_at(seen, 1) == b':' => Front::Mark(Kind::ColonColon, 2),
+        b':' => Front::Mark(Kind::Colon, 1),
+        first => match (first, byte_at(seen, 1)) {
+            (b'!', b'=') => Front::Mark(Kind::NotEqual, 2),
+            (b'!', _) => Front::Mark(Kind::Not, 1),
+            (b'<', b'=') => Front::Mark(Kind::LessEqual, 2),
+            (b'<', b'<') => Front::Led(Lead::LessLess),
+            (b'<', _) => Front::Mark(Kind::Less, 1),
+            (b'>', b'=') => Front::Mark(Kind::GreaterEqual, 2),
+            (b'>', _) => Front::Mark(Kind::Greater, 1),
+            (b'&', b'&') => Front::Mark(Kind::And, 2),
+            (b'|', b'|') => Front::Mark(Kind::Or, 2),
+            _ => Front::Led(Lead::Sign),
+        },
+    }
+}
