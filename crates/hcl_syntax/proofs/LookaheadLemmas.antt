@@ -1,13 +1,14 @@
-use Rattle.std.proofs.Common.{◌≡◌, ℕ, ◌+◌, ◌≤◌, Bool, true, false, List, [], ◌∷◌, length, arith, refl, cond, sym, ap, ◌∙◌, Some, suc, ◌<◌, get_or, drop, drop-cons}
+use Rattle.std.proofs.Common.{◌≡◌, ℕ, ◌+◌, ◌≤◌, Bool, true, false, List, [], ◌∷◌, length, arith, refl, cond, subst, sym, ap, ◌∙◌, Some, suc, ◌<◌, get_or, drop, drop-cons}
 use Rattle.std.specs.Prelude.{slice_get}
 use Rattle.std.proofs.lemmas.Option.{slice_get_within, get_or_from_slice_get}
+use Rattle.std.proofs.lemmas.List.{length-drop}
 use Rattle.hcl_tokens.specs.Lexemes.{Lexeme}
 use Rattle.hcl_grammar.specs.Classes.{class_of, lookaheads_from}
 use Rattle.hcl_grammar.specs.declared.class.Lookahead.{Lookahead}
 use Rattle.hcl_grammar.specs.declared.class.Class.{Class}
 use Rattle.hcl_grammar.specs.declared.expected.Newlines.{Newlines}
 use Rattle.hcl_grammar.specs.Classes.{is_trivia, drops}
-use Rattle.hcl_syntax.specs.Inner.Cursors.{shown, after_first}
+use Rattle.hcl_syntax.specs.Inner.Cursors.{shown, first, after_first}
 
 pub length-lookaheads : (n : ℕ) (ts : List Lexeme) → length (lookaheads_from n ts) ≤ length ts
 length-lookaheads n [] = omega arith
@@ -42,3 +43,41 @@ shown-shown m (t ∷ ts) = shown-by m t ts (drops m t.class) refl (shown-shown m
 
 pub shown-again : (m : Newlines) (old new : List Lookahead) → new ≡ shown m old → new ≡ shown m new
 shown-again m old new e = e ∙ shown-shown m old ∙ ap (λ l. shown m l) (sym e)
+
+-- ---- what follows the first token that is seen
+
+-- a token stands at its number, and after it what is seen next
+pub record Passes (all : List Lexeme) (t : Lookahead) (seen : List Lookahead) : Type 0 where
+  pub within : t.number < length all
+  pub after : lookaheads_from (t.number + 1) (drop (t.number + 1) all) ≡ after_first seen
+
+the_same : (t u : Lookahead) → Some t ≡ Some u → t ≡ u
+the_same t u e = cc
+
+pub one_fewer : (seen : List Lookahead) (t : Lookahead) → first seen ≡ Some t → length seen ≡ length (after_first seen) + 1
+one_fewer [] t is = absurd (cc)
+one_fewer (u ∷ seen) t is = omega arith
+
+module _ (all : List Lexeme) (t : Lookahead) where
+  seen_at : (x : Lexeme) (xs : List Lexeme) (n : ℕ) → Bool → List Lookahead
+  seen_at x xs n b = cond b (lookaheads_from (n + 1) xs) (record { class = class_of x; number = n } ∷ lookaheads_from (n + 1) xs)
+
+  passed_by : (x : Lexeme) (xs : List Lexeme) (n : ℕ) (b : Bool) → n < length all → drop (n + 1) all ≡ xs →
+      (first (lookaheads_from (n + 1) xs) ≡ Some t → Passes all t (lookaheads_from (n + 1) xs)) → first (seen_at x xs n b) ≡ Some t → Passes all t (seen_at x xs n b)
+  unfolding seen_at
+  passed_by x xs n true lt rest later is = later is
+  passed_by x xs n false lt rest later is =
+      let same : n ≡ t.number = ap (λ (l : Lookahead). l.number) (the_same (record { class = class_of x; number = n }) t is) in
+      record {
+        within = subst (λ k. k < length all) same lt;
+        after = subst (λ k. lookaheads_from (k + 1) (drop (k + 1) all) ≡ lookaheads_from (n + 1) xs) same (ap (lookaheads_from (n + 1)) rest);
+      }
+
+  pub passed : (xs : List Lexeme) (n : ℕ) → drop n all ≡ xs → first (lookaheads_from n xs) ≡ Some t → Passes all t (lookaheads_from n xs)
+  unfolding seen_at
+  passed [] n e is = absurd (cc)
+  passed (x ∷ xs) n e is =
+      let lt : n < length all = omega (arith, length-drop n all, ap length e) in
+      let more : suc n ≡ n + 1 = omega arith in
+      let rest : drop (n + 1) all ≡ xs = ap (λ k. drop k all) (sym more) ∙ ap (drop 1) (sym (drop-cons all n x lt) ∙ e) in
+      passed_by x xs n (is_trivia (class_of x)) lt rest (passed xs (n + 1) rest) is

@@ -88,24 +88,6 @@ fn find(tokens: &Tokens, from: usize, newlines: Newlines) -> (usize, Option<Look
     (number, None)
 }
 
-/// The number after that of the first token that is seen, from a number on.
-#[inline(always)]
-fn past(tokens: &Tokens, from: usize) -> usize
-    requires { from ≤ length tokens.now.tokens }
-    ensures within { result ≤ length tokens.now.tokens }
-    ensures left { lookaheads_from result (drop result tokens.now.tokens) ≡ after_first (lookaheads_from from (drop from tokens.now.tokens)) }
-{
-    let mut number = from;
-    while number < tokens.len() {
-        let token = lookahead_at(tokens, number);
-        number += 1;
-        if is_shown(Newlines::Seen, token.class) {
-            return number;
-        }
-    }
-    number
-}
-
 /// Whether a token of the class is an operand by itself, but for what goes on after it.
 #[inline(always)]
 fn is_short_operand(class: Class) -> bool
@@ -162,14 +144,15 @@ impl<'t, 's> Cursor<'t, 's> {
         token
     }
 
-    /// Passes over the first token. It is inlined, as `look` is.
+    /// Passes over the first token, which was looked at. It is inlined, as `look` is.
     #[inline(always)]
-    pub fn bump(&mut self)
-        requires { IsSome (first self.old) }
+    pub fn bump(&mut self, token: Lookahead)
+        requires { first self.old ≡ Some token }
         ensures left { self.new ≡ after_first self.old }
         ensures shorter { length self.old ≡ length self.new + 1 }
     {
-        self.next = past(self.tokens, self.next);
+        let _count = self.tokens.len();
+        self.next = token.number as usize + 1;
     }
 
     /// Reads an expression of one token, where a look at the next two tells that it is one, as in nearly every third place:
@@ -211,7 +194,7 @@ impl<'t, 's> Cursor<'t, 's> {
         match self.look(newlines) {
             None => Err(Refusal::UnexpectedEnd),
             Some(token) => if fits(terminal, token.class) {
-                self.bump();
+                self.bump(token);
                 Ok(())
             } else {
                 Err(Refusal::UnexpectedToken(token.number))
@@ -230,7 +213,7 @@ impl<'t, 's> Cursor<'t, 's> {
         match self.look(newlines) {
             None => false,
             Some(token) => if fits(terminal, token.class) {
-                self.bump();
+                self.bump(token);
                 true
             } else {
                 false

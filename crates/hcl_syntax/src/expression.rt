@@ -25,7 +25,7 @@ impl<'t, 's> Cursor<'t, 's> {
         loop {
             let token = self.look(newlines)?;
             match token.class {
-                Class::Minus | Class::Not => self.bump(),
+                Class::Minus | Class::Not => self.bump(token),
                 _ => return Some(token),
             }
         }
@@ -42,33 +42,33 @@ impl<'t, 's> Cursor<'t, 's> {
         };
         match token.class {
             Class::Number(_) => {
-                self.bump();
+                self.bump(token);
                 Ok(())
             }
             Class::Ident(_) => {
-                self.bump();
+                self.bump(token);
                 self.call(newlines, directives)
             }
             Class::ParenOpen => {
-                self.bump();
+                self.bump(token);
                 self.expr(Newlines::Dropped, directives)?;
                 self.expect(Newlines::Dropped, Terminal::EndParen)
             }
             Class::BracketOpen => {
-                self.bump();
+                self.bump(token);
                 self.tuple(directives)
             }
             Class::BraceOpen => {
-                self.bump();
+                self.bump(token);
                 self.object(directives)
             }
             Class::QuoteOpen => {
-                self.bump();
+                self.bump(token);
                 self.parts(newlines, directives)?;
                 self.expect(newlines, Terminal::EndQuote)
             }
             Class::HeredocOpen => {
-                self.bump();
+                self.bump(token);
                 self.parts(newlines, directives)?;
                 self.expect(newlines, Terminal::EndHeredoc)
             }
@@ -87,11 +87,11 @@ impl<'t, 's> Cursor<'t, 's> {
         };
         match token.class {
             Class::ParenOpen => {
-                self.bump();
+                self.bump(token);
                 self.args(directives)
             }
             Class::ColonColon => {
-                self.bump();
+                self.bump(token);
                 self.path(newlines)?;
                 self.args(directives)
             }
@@ -110,9 +110,9 @@ impl<'t, 's> Cursor<'t, 's> {
                 return Err(Refusal::UnexpectedEnd);
             };
             match token.class {
-                Class::ColonColon => self.bump(),
+                Class::ColonColon => self.bump(token),
                 Class::ParenOpen => {
-                    self.bump();
+                    self.bump(token);
                     return Ok(());
                 }
                 _ => return Err(Refusal::UnexpectedToken(token.number)),
@@ -133,19 +133,19 @@ impl<'t, 's> Cursor<'t, 's> {
             };
             match token.class {
                 Class::Dot => {
-                    self.bump();
+                    self.bump(token);
                     self.step(newlines)?;
                 }
                 Class::BracketOpen => {
-                    self.bump();
+                    self.bump(token);
                     self.index(directives)?;
                 }
                 Class::Minus | Class::Star | Class::Binary => {
-                    self.bump();
+                    self.bump(token);
                     return Ok(Follow::Operator);
                 }
                 Class::Question => {
-                    self.bump();
+                    self.bump(token);
                     return Ok(Follow::Choice);
                 }
                 _ => return Ok(Follow::Other),
@@ -166,8 +166,9 @@ impl<'t, 's> Cursor<'t, 's> {
         self.expect(Newlines::Dropped, Terminal::EndBracket)
     }
 
-    /// An expression, with so many directives open. Of the `?` that wait for their `:` it keeps the number.
+    /// An expression, with so many directives open. It is inlined, so that for one of one token nothing is called.
     #[cycle(parser)]
+    #[inline(always)]
     pub fn expr(&mut self, newlines: Newlines, directives: usize) -> Result<(), Refusal>
         ensures parses { Parses directives (expr at newlines ∷ []) self.old result self.new }
         ensures shorter { OnOk result (length self.new < length self.old) }
@@ -175,6 +176,15 @@ impl<'t, 's> Cursor<'t, 's> {
         if self.takes_short(newlines) {
             return Ok(());
         }
+        self.whole_expr(newlines, directives)
+    }
+
+    /// The same of any length. Of the `?` that wait for their `:` it keeps the number.
+    #[cycle(parser)]
+    fn whole_expr(&mut self, newlines: Newlines, directives: usize) -> Result<(), Refusal>
+        ensures parses { Parses directives (expr at newlines ∷ []) self.old result self.new }
+        ensures shorter { OnOk result (length self.new < length self.old) }
+    {
         self.room();
         let mut waiting: usize = 0;
         loop {
@@ -208,13 +218,13 @@ impl<'t, 's> Cursor<'t, 's> {
                 return Err(Refusal::UnexpectedEnd);
             };
             match token.class {
-                Class::Comma => self.bump(),
+                Class::Comma => self.bump(token),
                 Class::Ellipsis => {
-                    self.bump();
+                    self.bump(token);
                     return self.expect(Newlines::Dropped, Terminal::EndParen);
                 }
                 Class::ParenClose => {
-                    self.bump();
+                    self.bump(token);
                     return Ok(());
                 }
                 _ => return Err(Refusal::UnexpectedToken(token.number)),
@@ -249,9 +259,9 @@ impl<'t, 's> Cursor<'t, 's> {
                 return Err(Refusal::UnexpectedEnd);
             };
             match token.class {
-                Class::Comma => self.bump(),
+                Class::Comma => self.bump(token),
                 Class::BracketClose => {
-                    self.bump();
+                    self.bump(token);
                     return Ok(());
                 }
                 _ => return Err(Refusal::UnexpectedToken(token.number)),
@@ -311,9 +321,9 @@ impl<'t, 's> Cursor<'t, 's> {
                 return Err(Refusal::UnexpectedEnd);
             };
             match token.class {
-                Class::Comma | Class::Newline => self.bump(),
+                Class::Comma | Class::Newline => self.bump(token),
                 Class::BraceClose => {
-                    self.bump();
+                    self.bump(token);
                     return Ok(());
                 }
                 _ => return Err(Refusal::UnexpectedToken(token.number)),
@@ -398,11 +408,11 @@ impl<'t, 's> Cursor<'t, 's> {
             None => Err(Refusal::UnexpectedEnd),
             Some(token) => match token.class {
                 Class::Ident(_) | Class::Star => {
-                    self.bump();
+                    self.bump(token);
                     Ok(())
                 }
                 Class::Number(digits) => if digits {
-                    self.bump();
+                    self.bump(token);
                     Ok(())
                 } else {
                     Err(Refusal::UnexpectedToken(token.number))
@@ -421,7 +431,7 @@ impl<'t, 's> Cursor<'t, 's> {
             None => Err(Refusal::UnexpectedEnd),
             Some(token) => match token.class {
                 Class::Assign | Class::Colon => {
-                    self.bump();
+                    self.bump(token);
                     Ok(())
                 }
                 _ => Err(Refusal::UnexpectedToken(token.number)),

@@ -20,11 +20,11 @@ impl<'t, 's> Cursor<'t, 's> {
         };
         match token.class {
             Class::Lit => {
-                self.bump();
+                self.bump(token);
                 self.expect(Newlines::Seen, Terminal::EndQuote)
             }
             Class::QuoteClose => {
-                self.bump();
+                self.bump(token);
                 Ok(())
             }
             _ => Err(Refusal::UnexpectedToken(token.number)),
@@ -41,13 +41,13 @@ impl<'t, 's> Cursor<'t, 's> {
                 return Err(Refusal::UnexpectedEnd);
             };
             match token.class {
-                Class::Ident(_) => self.bump(),
+                Class::Ident(_) => self.bump(token),
                 Class::QuoteOpen => {
-                    self.bump();
+                    self.bump(token);
                     self.label()?;
                 }
                 Class::BraceOpen => {
-                    self.bump();
+                    self.bump(token);
                     return Ok(());
                 }
                 _ => return Err(Refusal::UnexpectedToken(token.number)),
@@ -65,16 +65,16 @@ impl<'t, 's> Cursor<'t, 's> {
         };
         match token.class {
             Class::Newline => {
-                self.bump();
+                self.bump(token);
                 Ok(true)
             }
             Class::Ident(_) => {
-                self.bump();
+                self.bump(token);
                 self.attribute_line()?;
                 Ok(false)
             }
             Class::BraceClose => {
-                self.bump();
+                self.bump(token);
                 self.end_of_line()?;
                 Ok(false)
             }
@@ -122,9 +122,9 @@ impl<'t, 's> Cursor<'t, 's> {
                 };
             };
             match token.class {
-                Class::Newline => self.bump(),
+                Class::Newline => self.bump(token),
                 Class::Ident(_) => {
-                    self.bump();
+                    self.bump(token);
                     if self.item()? {
                         levels += 1;
                     }
@@ -133,7 +133,7 @@ impl<'t, 's> Cursor<'t, 's> {
                     if levels == 0 {
                         return Err(Refusal::UnexpectedToken(token.number));
                     }
-                    self.bump();
+                    self.bump(token);
                     self.end_of_line()?;
                     levels -= 1;
                 }
@@ -152,7 +152,7 @@ impl<'t, 's> Cursor<'t, 's> {
         };
         match end.class {
             Class::Newline => {
-                self.bump();
+                self.bump(end);
                 Ok(())
             }
             _ => Err(Refusal::UnexpectedToken(end.number)),

@@ -38,13 +38,13 @@ impl<'t, 's> Cursor<'t, 's> {
                 return Err(Refusal::UnexpectedEnd);
             };
             match token.class {
-                Class::Lit => self.bump(),
+                Class::Lit => self.bump(token),
                 Class::InterpOpen => {
-                    self.bump();
+                    self.bump(token);
                     self.sequence(directives)?;
                 }
                 Class::ControlOpen => {
-                    self.bump();
+                    self.bump(token);
                     self.directive(token.number, directives)?;
                 }
                 Class::QuoteClose | Class::HeredocClose => return Ok(()),
@@ -78,7 +78,7 @@ impl<'t, 's> Cursor<'t, 's> {
                     if directives >= MAX_DIRECTIVES {
                         return Err(Refusal::TooDeep(number));
                     }
-                    self.bump();
+                    self.bump(token);
                     self.sequence(directives + 1)?;
                     self.section(Section::InIf, directives)
                 }
@@ -86,7 +86,7 @@ impl<'t, 's> Cursor<'t, 's> {
                     if directives >= MAX_DIRECTIVES {
                         return Err(Refusal::TooDeep(number));
                     }
-                    self.bump();
+                    self.bump(token);
                     self.names()?;
                     self.sequence(directives + 1)?;
                     self.section(Section::InFor, directives)
@@ -110,24 +110,24 @@ impl<'t, 's> Cursor<'t, 's> {
                 return Err(Refusal::UnexpectedEnd);
             };
             match token.class {
-                Class::Lit => self.bump(),
+                Class::Lit => self.bump(token),
                 Class::InterpOpen => {
-                    self.bump();
+                    self.bump(token);
                     self.sequence(directives + 1)?;
                 }
                 Class::ControlOpen => {
-                    self.bump();
+                    self.bump(token);
                     let Some(word) = self.look(Newlines::Dropped) else {
                         return Err(Refusal::UnexpectedEnd);
                     };
                     match turning(section, word.class) {
                         Turning::Onward => {
-                            self.bump();
+                            self.bump(word);
                             self.expect(Newlines::Dropped, Terminal::EndSequence)?;
                             section = Section::InElse;
                         }
                         Turning::Closing => {
-                            self.bump();
+                            self.bump(word);
                             return self.expect(Newlines::Dropped, Terminal::EndSequence);
                         }
                         Turning::Inner => self.directive(token.number, directives + 1)?,

@@ -204,15 +204,15 @@ follow-returns-in_default-class n c = record {
   waiting = search rules;
 }
 
-pub expr-returns-in_err-expect-in-Other-clause-parses : goal.expr-returns-in_err-expect-in-Other-clause-parses
-expr-returns-in_err-expect-in-Other-clause-parses n c = quits _ c.from_residual-in_err-expect-in-Other.ensures.1
+pub whole_expr-returns-in_err-expect-in-Other-clause-parses : goal.whole_expr-returns-in_err-expect-in-Other-clause-parses
+whole_expr-returns-in_err-expect-in-Other-clause-parses n c = quits _ c.from_residual-in_err-expect-in-Other.ensures.1
     (onward (renamed (waits-down c.args.newlines c.loop-self.waiting c.if-waiting-eq0.false)
     (onward c.loop-self.invariant.leads (onward (beside (waits c.args.newlines c.loop-self.waiting []) c.in_ok-operand.ensures.leads)
     (beside (waits c.args.newlines c.loop-self.waiting []) (renamed (ap (λ f. follow_symbols c.args.newlines f) c.in-Other.is) c.in_ok-follow.ensures.leads)))))
     (beside (expr at c.args.newlines ∷ waits c.args.newlines (c.loop-self.waiting - 1) []) (c.in_err-expect-in-Other.ensures.parses _)))
 
-pub expr-loop-self-preserved : goal.expr-loop-self-preserved
-expr-loop-self-preserved n c = record {
+pub whole_expr-loop-self-preserved : goal.whole_expr-loop-self-preserved
+whole_expr-loop-self-preserved n c = record {
   leads = onward (renamed (waits-down c.args.newlines c.loop-self.waiting c.if-waiting-eq0.false)
       (onward c.loop-self.invariant.leads (onward (beside (waits c.args.newlines c.loop-self.waiting []) c.in_ok-operand.ensures.leads)
       (beside (waits c.args.newlines c.loop-self.waiting []) (renamed (ap (λ f. follow_symbols c.args.newlines f) c.in-Other.is) c.in_ok-follow.ensures.leads)))))

@@ -5,16 +5,19 @@ use Rattle.hcl_grammar.specs.declared.expected.Newlines.TheVariants.{Seen, Dropp
 use Rattle.hcl_syntax.proofs.cursor.Cursor.+parser.Given as goal
 
 abbrev pub decreases-args : goal.decreases-args
-decreases-args l = 8 * length l.self.now + 2
+decreases-args l = 8 * length l.self.now + 3
 
 abbrev pub decreases-call : goal.decreases-call
 decreases-call l = 8 * length l.self.now
 
 abbrev pub decreases-expr : goal.decreases-expr
-decreases-expr l = 8 * length l.self.now + 1
+decreases-expr l = 8 * length l.self.now + 2
+
+abbrev pub decreases-whole_expr : goal.decreases-whole_expr
+decreases-whole_expr l = 8 * length l.self.now + 1
 
 abbrev pub decreases-index : goal.decreases-index
-decreases-index l = 8 * length l.self.now + 2
+decreases-index l = 8 * length l.self.now + 3
 
 abbrev pub decreases-operand : goal.decreases-operand
 decreases-operand l = 8 * length l.self.now
@@ -29,7 +32,7 @@ abbrev pub decreases-directive : goal.decreases-directive
 decreases-directive l = 8 * length l.self.now
 
 abbrev pub decreases-sequence : goal.decreases-sequence
-decreases-sequence l = 8 * length l.self.now + 2
+decreases-sequence l = 8 * length l.self.now + 3
 
 abbrev pub decreases-section : goal.decreases-section
 decreases-section l = 8 * length l.self.now
@@ -44,7 +47,7 @@ abbrev pub decreases-section-loop-token : goal.decreases-section-loop-token
 decreases-section-loop-token l = length l.self
 
 abbrev pub decreases-tuple_items : goal.decreases-tuple_items
-decreases-tuple_items l = 8 * length l.self.now + 2
+decreases-tuple_items l = 8 * length l.self.now + 3
 
 abbrev pub invariant-args-loop-directives : goal.invariant-args-loop-directives
 invariant-args-loop-directives l = record {
@@ -55,15 +58,15 @@ invariant-args-loop-directives l = record {
 abbrev pub decreases-args-loop-directives : goal.decreases-args-loop-directives
 decreases-args-loop-directives l = length l.self
 
-abbrev pub invariant-expr-loop-self : goal.invariant-expr-loop-self
-invariant-expr-loop-self l = record {
+abbrev pub invariant-whole_expr-loop-self : goal.invariant-whole_expr-loop-self
+invariant-whole_expr-loop-self l = record {
   leads : Advances l.directives (expr at l.newlines ∷ []) l.fn.self (Ok (tt {0})) (expr at l.newlines ∷ waits l.newlines l.waiting []) l.self;
   shorter : l.waiting + length l.self ≤ length l.fn.self;
   room : length l.fn.self < 2 ^ 64;
 }
 
-abbrev pub decreases-expr-loop-self : goal.decreases-expr-loop-self
-decreases-expr-loop-self l = length l.self
+abbrev pub decreases-whole_expr-loop-self : goal.decreases-whole_expr-loop-self
+decreases-whole_expr-loop-self l = length l.self
 
 abbrev pub invariant-parts-loop-token : goal.invariant-parts-loop-token
 invariant-parts-loop-token l = record {
@@ -93,7 +96,7 @@ abbrev pub decreases-tuple_items-loop-directives : goal.decreases-tuple_items-lo
 decreases-tuple_items-loop-directives l = length l.self
 
 abbrev pub decreases-tuple : goal.decreases-tuple
-decreases-tuple l = 8 * length l.self.now + 3
+decreases-tuple l = 8 * length l.self.now + 4
 
 abbrev pub decreases-tuple_condition : goal.decreases-tuple_condition
 decreases-tuple_condition l = 8 * length l.self.now
@@ -102,10 +105,10 @@ abbrev pub decreases-generator : goal.decreases-generator
 decreases-generator l = 8 * length l.self.now
 
 abbrev pub decreases-object : goal.decreases-object
-decreases-object l = 8 * length l.self.now + 4
+decreases-object l = 8 * length l.self.now + 5
 
 abbrev pub decreases-entries : goal.decreases-entries
-decreases-entries l = 8 * length l.self.now + 3
+decreases-entries l = 8 * length l.self.now + 4
 
 abbrev pub invariant-entries-loop-directives : goal.invariant-entries-loop-directives
 invariant-entries-loop-directives l = record {
@@ -117,7 +120,7 @@ abbrev pub decreases-entries-loop-directives : goal.decreases-entries-loop-direc
 decreases-entries-loop-directives l = length l.self
 
 abbrev pub decreases-entry : goal.decreases-entry
-decreases-entry l = 8 * length l.self.now + 2
+decreases-entry l = 8 * length l.self.now + 3
 
 abbrev pub decreases-object_for : goal.decreases-object_for
 decreases-object_for l = 8 * length l.self.now + 1
