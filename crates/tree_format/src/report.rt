@@ -9,29 +9,25 @@ ghost use Rattle.tree_format.specs.Inner.Pieces.{place_words};
 
 use crate::mode::Mode;
 use crate::outcome::Outcome;
-use hcl_scan::{ByteSink, Fault, WriteFault, write_fully};
+use hcl_scan::{ByteSink, Failed, Fault, write_fully};
 use itoa::Buffer;
 
 /// Writes the pieces one after the other, up to the first write that fails. So a line needs no memory.
-fn write_pieces<S: ByteSink>(sink: &mut S, pieces: &[&[u8]]) -> Result<(), WriteFault>
+fn write_pieces<S: ByteSink>(sink: &mut S, pieces: &[&[u8]]) -> Result<(), Failed>
     requires { S.failed sink.old ≡ false }
     ensures took { Took (writer S.ByteSink sink.old sink.new) (concat (map (λ piece. piece.now) pieces.now)) }
     ensures failed { S.failed sink.new ≡ is_err result }
 {
     for piece in pieces {
-        if let Err(fault) = write_fully(sink, piece) {
-            return Err(fault);
+        if let Err(_fault) = write_fully(sink, piece) {
+            return Err(Failed);
         }
     }
     Ok(())
 }
 
 /// Writes `NAME: TEXT`.
-fn tell_about<'p, S: ByteSink>(
-    sink: &mut S,
-    name: &'p [u8],
-    text: &'p str,
-) -> Result<(), WriteFault>
+fn tell_about<'p, S: ByteSink>(sink: &mut S, name: &'p [u8], text: &'p str) -> Result<(), Failed>
     requires { S.failed sink.old ≡ false }
     ensures took { Took (writer S.ByteSink sink.old sink.new) (about name.now text.now) }
     ensures failed { S.failed sink.new ≡ is_err result }
@@ -46,7 +42,7 @@ fn tell_at<'p, S: ByteSink>(
     line: &'p str,
     column: &'p str,
     text: &'p str,
-) -> Result<(), WriteFault>
+) -> Result<(), Failed>
     requires { S.failed sink.old ≡ false }
     ensures took { Took (writer S.ByteSink sink.old sink.new) (place_words name.now line.now column.now text.now) }
     ensures failed { S.failed sink.new ≡ is_err result }
@@ -69,7 +65,7 @@ fn tell_at<'p, S: ByteSink>(
 }
 
 /// Writes where a file is refused, and why.
-fn tell_fault<S: ByteSink>(sink: &mut S, name: &[u8], fault: &Fault) -> Result<(), WriteFault>
+fn tell_fault<S: ByteSink>(sink: &mut S, name: &[u8], fault: &Fault) -> Result<(), Failed>
     requires { S.failed sink.old ≡ false }
     ensures took { Took (writer S.ByteSink sink.old sink.new) (name.now ++ (codes ":" ++ fault_words fault.now)) }
     ensures failed { S.failed sink.new ≡ is_err result }
@@ -88,7 +84,7 @@ pub fn report<O: ByteSink, E: ByteSink>(
     outcome: &Outcome,
     out: &mut O,
     err: &mut E,
-) -> Result<(), WriteFault>
+) -> Result<(), Failed>
     requires out { O.failed out.old ≡ false }
     requires err { E.failed err.old ≡ false }
     ensures out { Took (writer O.ByteSink out.old out.new) (report_of mode name.now outcome.now).out }
@@ -101,7 +97,7 @@ pub fn report<O: ByteSink, E: ByteSink>(
             Mode::Check => tell_about(err, name, "not formatted"),
             _ => write_pieces(out, &[name, b"\n"]),
         },
-        Outcome::Differs(text) => write_fully(out, text.as_slice()),
+        Outcome::Differs(text) => write_pieces(out, &[text.as_slice()]),
         Outcome::Refused(fault) => tell_fault(err, name, fault),
         Outcome::Failed(fault) => tell_about(err, name, fault.text()),
     }
