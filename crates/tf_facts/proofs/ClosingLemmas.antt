@@ -12,6 +12,7 @@ use Rattle.hcl_grammar.specs.Numbered.{is_passed_over}
 use Rattle.tf_facts.specs.Patterns.{begins_with_close, behind_closer}
 use Rattle.tf_facts.specs.Inner.Seen.{seen_from}
 use Rattle.tf_facts.specs.Inner.Closings.{AreAhead, closes_before_quote, part_of, quote_from}
+use Rattle.tf_facts.specs.declared.part.Part.{Part}
 use Rattle.tf_facts.specs.declared.part.Part.TheVariants as part
 use Rattle.tf_facts.proofs.SeenLemmas.{seen_here}
 
@@ -81,6 +82,15 @@ past kind.InlineComment e = refl
 past kind.Blank e = refl
 past kind.Newline e = refl
 past _ e = absurd (cc)
+
+pub past_comment : (k : Kind) → part_of k ≡ part.LineComment → is_passed_over k ≡ true
+past_comment kind.LineComment e = refl
+past_comment _ e = absurd (cc)
+
+-- only of a line comment the walk says that it is one
+pub no_comment : (k : Kind) (p : Part) → part_of k ≡ p → (part.LineComment ≡ p → ⊥) → is kind.LineComment k ≡ false
+no_comment kind.LineComment p e other = absurd (other e)
+no_comment _ p e other = refl
 
 and_false : (b : Bool) → (b && false) ≡ false
 and_false true = refl

@@ -1,10 +1,14 @@
 -- Comments, token by token.
-use Rattle.std.proofs.Common.{◌≡◌, ◌∙◌, ap, sym, refl, ℕ, ◌+◌, ◌<◌, ◌≤◌, Bool, true, false, cond, List, [], ◌∷◌, ◌++◌, append_assoc, map, drop, length}
+use Rattle.std.proofs.Common.{◌≡◌, ◌∙◌, ap, sym, subst, refl, ℕ, ◌+◌, ◌<◌, ◌≤◌, Bool, true, false, cond, List, [], ◌∷◌, ◌++◌, map, drop, length, reverse}
 use Rattle.std.specs.Prelude.{◌||◌, Some, filter, slice_get}
 use Rattle.std.specs.List.{list_any}
-use Rattle.std.proofs.lemmas.List.{append-nil, map-append}
+use Rattle.std.proofs.lemmas.List.{reverse-append}
+use Rattle.indexmap.proofs.ReorderLemmas.{map-reverse}
+use Rattle.hcl_tokens.specs.Kinds.{is}
+use Rattle.hcl_tokens.specs.declared.token.Kind.{Kind}
+use Rattle.hcl_tokens.specs.declared.token.Kind.TheVariants.{LineComment}
 use Rattle.hcl_tokens.specs.Lexemes.{Lexeme}
-use Rattle.hcl_grammar.specs.Numbered.{numbered}
+use Rattle.hcl_grammar.specs.Numbered.{Numbered, numbered}
 use Rattle.hcl_grammar.proofs.NumberedLemmas.{numbered_at, numbered_here, numbered_past}
 use Rattle.tf_facts.specs.Comments.{Comment, comment_of, comments, if_telling, is_any}
 use Rattle.rule_set.specs.Rules.{all_rules}
@@ -46,30 +50,49 @@ module _ (c : FoundComment) (text : List ℕ) (slashes : c.has_slashes ≡ has_s
   pub is_silent : (c.has_slashes || is_any (rules_of c.silences)) ≡ false → [] ≡ if_telling (record { at = c.at; slashes = has_slashes text; silences = silenced_rules text })
   is_silent silent = ap (λ b. cond b (comment c ∷ []) []) (sym silent) ∙ ap if_telling (comment_is c text slashes same)
 
--- ---- all tokens
+-- ---- all tokens, from the last to the first
 
--- what was found, with what is still to be found, is all of it
-abbrev pub AreComments : List Lexeme → List FoundComment → ℕ → Type 0
-AreComments ts found n = map comment found ++ comments (drop n (numbered ts)) ≡ comments (numbered ts)
+-- what was found is all that the tokens from a number on say
+abbrev pub AreCommentsFrom : List Lexeme → List FoundComment → ℕ → Type 0
+AreCommentsFrom ts found n = reverse (map comment found) ≡ comments (drop n (numbered ts))
 
-module _ (ts : List Lexeme) (found : List FoundComment) (n : ℕ) where
-  pub comments_end : length ts ≤ n → AreComments ts found n → map comment found ≡ comments (numbered ts)
-  comments_end past h = sym (append-nil (map comment found)) ∙ ap (λ r. map comment found ++ comments r) (sym (numbered_past ts n past)) ∙ h
+pub comments_begin : (ts : List Lexeme) (found : List FoundComment) (n : ℕ) → length ts ≤ n → found ≡ [] → AreCommentsFrom ts found n
+comments_begin ts found n past none = ap (λ f. reverse (map comment f)) none ∙ sym (ap comments (numbered_past ts n past))
 
-  step : (new : List (Comment ℕ)) → n < length ts → ((t : Lexeme) → slice_get ts n ≡ Some t → new ≡ comment_of (number_of n t)) → new ++ comments (drop (n + 1) (numbered ts)) ≡ comments (drop n (numbered ts))
-  step new less is =
-      let t = there_is ts n less in
-      ap (λ r. r ++ comments (drop (n + 1) (numbered ts))) (is t.0 t.1)
-      ∙ ap comments (ap (λ r. number_of n t.0 ∷ r) (numbered_at ts (n + 1)) ∙ sym (numbered_here ts n t.0 t.1))
+pub comments_end : (ts : List Lexeme) (found turned : List FoundComment) (n : ℕ) → n ≡ 0 → turned ≡ reverse found → AreCommentsFrom ts found n → map comment turned ≡ comments (numbered ts)
+comments_end ts found turned n at is h = ap (map comment) is ∙ map-reverse comment found ∙ h ∙ ap (λ k. comments (drop k (numbered ts))) at
 
-  pub comments_past : n < length ts → ((t : Lexeme) → slice_get ts n ≡ Some t → [] ≡ comment_of (number_of n t)) → AreComments ts found n → AreComments ts found (n + 1)
-  comments_past less none h = ap (λ r. map comment found ++ r) (step [] less none) ∙ h
+-- of one token there is one comment at most
+one_turned : (c : Comment ℕ) (a b : Bool) → reverse (cond a (cond b (c ∷ []) []) []) ≡ cond a (cond b (c ∷ []) []) []
+one_turned c true true = refl
+one_turned c true false = refl
+one_turned c false b = refl
 
-  pub comments_more : (next : List FoundComment) (c : FoundComment) → n < length ts → next ≡ found ++ c ∷ [] → ((t : Lexeme) → slice_get ts n ≡ Some t → comment c ∷ [] ≡ comment_of (number_of n t))
-      → AreComments ts found n → AreComments ts next (n + 1)
-  comments_more next c less pushed one h =
-      ap (λ r. map comment r ++ comments (drop (n + 1) (numbered ts))) pushed
-      ∙ ap (λ r. r ++ comments (drop (n + 1) (numbered ts))) (map-append comment found (c ∷ []))
-      ∙ append_assoc (map comment found) (comment c ∷ []) (comments (drop (n + 1) (numbered ts)))
-      ∙ ap (λ r. map comment found ++ r) (step (comment c ∷ []) less one)
-      ∙ h
+turned : (t : Numbered) → reverse (comment_of t) ≡ comment_of t
+turned t = one_turned (made t.number (has_slashes t.text) (silenced_rules t.text)) (is LineComment t.kind) (has_slashes t.text || is_any (silenced_rules t.text))
+
+-- a step from `m` to `n`
+module _ (ts : List Lexeme) (n m : ℕ) (at : m ≡ n + 1) (less : n < length ts) (found : List FoundComment) (before : AreCommentsFrom ts found m) where
+  h : AreCommentsFrom ts found (n + 1)
+  h = let P : ℕ → Type 0 = λ i. AreCommentsFrom ts found i in subst P at before
+
+  there : (t : Lexeme) × (slice_get ts n ≡ Some t)
+  there = there_is ts n less
+
+  -- what the token says, and what those after it do
+  split : comment_of (number_of n there.0) ++ comments (drop (n + 1) (numbered ts)) ≡ comments (drop n (numbered ts))
+  split = ap comments (ap (λ r. number_of n there.0 ∷ r) (numbered_at ts (n + 1)) ∙ sym (numbered_here ts n there.0 there.1))
+
+  pub comments_over : (k : Kind) → ((t : Lexeme) → slice_get ts n ≡ Some t → k ≡ t.kind) → is LineComment k ≡ false → AreCommentsFrom ts found n
+  comments_over k kind_is other =
+      h
+      ∙ ap (λ b. cond b (if_telling (made n (has_slashes there.0.text) (silenced_rules there.0.text))) [] ++ comments (drop (n + 1) (numbered ts))) (sym (ap (is LineComment) (sym (kind_is there.0 there.1)) ∙ other))
+      ∙ split
+
+  pub comments_noted : (new : List FoundComment) → ((t : Lexeme) → slice_get ts n ≡ Some t → map comment new ≡ map comment found ++ comment_of (number_of n t)) → AreCommentsFrom ts new n
+  comments_noted new noted =
+      ap reverse (noted there.0 there.1)
+      ∙ reverse-append (map comment found) (comment_of (number_of n there.0))
+      ∙ ap (λ r. r ++ reverse (map comment found)) (turned (number_of n there.0))
+      ∙ ap (λ r. comment_of (number_of n there.0) ++ r) h
+      ∙ split

@@ -5,14 +5,14 @@ use Rattle.std.proofs.lemmas.List.{append-nil, reverse-append}
 use Rattle.hcl_tokens.specs.Lexemes.{Lexeme}
 use Rattle.hcl_tokens.specs.declared.token.Kind.{Kind}
 use Rattle.hcl_tokens.specs.declared.token.Kind.TheVariants as kind
-use Rattle.hcl_grammar.specs.Numbered.{Numbered}
+use Rattle.hcl_grammar.specs.Numbered.{Numbered, is_passed_over}
 use Rattle.hcl_tokens.specs.Kinds.{is}
 use Rattle.tf_facts.specs.Patterns.{begins_with_close, behind_closer, is_index, is_wrapped, numbers_where}
 use Rattle.tf_facts.specs.Inner.Closings.{AreAhead, part_of, quote_from}
 use Rattle.tf_facts.specs.Inner.Seen.{number_of, seen_from}
 use Rattle.tf_facts.specs.declared.part.Part.{Part}
 use Rattle.tf_facts.specs.declared.part.Part.TheVariants as part
-use Rattle.tf_facts.proofs.ClosingLemmas.{Says, at_closer, at_dot, at_opener, at_plain, at_quote, closes, opens, passes, past}
+use Rattle.tf_facts.proofs.ClosingLemmas.{Says, at_closer, at_dot, at_opener, at_plain, at_quote, closes, opens, passes}
 use Rattle.tf_facts.proofs.SeenLemmas.{seen_here, seen_none, seen_past}
 
 pub there_is : (ts : List Lexeme) (n : ℕ) → n < length ts → (t : Lexeme) × (slice_get ts n ≡ Some t)
@@ -108,7 +108,7 @@ module _ (ts : List Lexeme) (n m : ℕ) (at : m ≡ n + 1) (indexes interpolatio
   part_is p is_p = ap part_of (sym is_k) ∙ is_p
 
   -- a token that is passed over
-  pub walk_past : part_of k ≡ part.PassedOver → IsWalkedBack ts indexes interpolations openers next closed n
+  pub walk_past : is_passed_over k ≡ true → IsWalkedBack ts indexes interpolations openers next closed n
   walk_past passed = record {
     within = omega (arith, h.within);
     closes = λ d. h.closes d ∙ ap (λ s. begins_with_close (behind_closer d s)) same;
@@ -120,7 +120,7 @@ module _ (ts : List Lexeme) (n m : ℕ) (at : m ≡ n + 1) (indexes interpolatio
   }
     where
       same : seen_from ts (n + 1) ≡ seen_from ts n
-      same = sym (seen_past ts n t e (past t.kind (part_is part.PassedOver passed)))
+      same = sym (seen_past ts n t e (ap is_passed_over (sym is_k) ∙ passed))
 
   -- a token that is seen
   walk_over : (dot quote opener closer : Bool) (move : ℕ → ℕ) (dots quotes : List ℕ) (rest : List Bool) (here : Bool) → Says t.kind dot quote opener closer move

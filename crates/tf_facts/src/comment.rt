@@ -1,11 +1,10 @@
 //! The line comments of a file that begin with `//` or silence a rule.
 
-ghost use Rattle.std.specs.Prelude.{◌≡◌, ◌<◌, ◌||◌, length, map, slice_get, Some, IfOk};
+ghost use Rattle.std.specs.Prelude.{◌≡◌, ◌<◌, ◌++◌, ◌||◌, length, map, slice_get, Some, OnOk};
 ghost use Rattle.hcl_tokens.specs.Kinds.{is};
 ghost use Rattle.hcl_tokens.specs.declared.token.Kind.TheVariants.{LineComment};
 ghost use Rattle.hcl_tokens.specs.Lexemes.{Lexeme};
-ghost use Rattle.hcl_grammar.specs.Numbered.{numbered};
-ghost use Rattle.tf_facts.specs.Comments.{comment_of, comments, if_telling, is_any};
+ghost use Rattle.tf_facts.specs.Comments.{comment_of, if_telling, is_any};
 ghost use Rattle.rule_set.specs.RuleSets.{rules_of};
 ghost use Rattle.tf_facts.specs.Silencing.{has_slashes, silenced_rules};
 ghost use Rattle.tf_facts.specs.Found.{comment};
@@ -16,7 +15,7 @@ use crate::found::FoundComment;
 use crate::silencing::{has_slashes, silenced_rules};
 use hcl_tokens::{Kind, Tokens};
 use rule_set::RuleSet;
-use std::alloc::{AllocError, Global};
+use std::alloc::AllocError;
 
 fn is_line_comment(kind: Kind) -> bool
     ensures { result ≡ is LineComment kind }
@@ -66,16 +65,18 @@ fn comment_at(tokens: &Tokens<'_>, number: usize) -> Option<FoundComment>
     telling_comment(number, token.text.as_bytes())
 }
 
-/// The line comments that say something, in order.
-pub fn comments(alloc: Global, tokens: &Tokens<'_>) -> Result<Vec<FoundComment>, AllocError>
-    ensures { IfOk result (λ found. map comment found.items ≡ comments (numbered tokens.now.tokens)) }
+/// Puts what the token of this number says last, where it is a line comment that says something.
+pub fn put_comment(
+    tokens: &Tokens<'_>,
+    number: usize,
+    found: &mut Vec<FoundComment>,
+) -> Result<(), AllocError>
+    requires { number < length tokens.now.tokens }
+    ensures { OnOk result ((t : Lexeme) → slice_get tokens.now.tokens number ≡ Some t → map comment found.new.items ≡ map comment found.old.items ++ comment_of (number_of number t)) }
 {
-    let mut found = Vec::new(alloc);
-    for number in 0..tokens.len() {
-        let Some(comment) = comment_at(tokens, number) else {
-            continue;
-        };
-        found.push(comment)?;
-    }
-    Ok(found)
+    let Some(comment) = comment_at(tokens, number) else {
+        return Ok(());
+    };
+    found.push(comment)?;
+    Ok(())
 }

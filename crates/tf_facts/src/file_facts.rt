@@ -6,7 +6,6 @@ ghost use Rattle.hcl_grammar.specs.Numbered.{numbered};
 ghost use Rattle.tf_facts.specs.Facts.{facts_of};
 ghost use Rattle.tf_facts.specs.Found.{facts};
 
-use crate::comment::comments;
 use crate::declaration::declarations;
 use crate::found::{Declared, FoundComment};
 use crate::pattern::found_patterns;
@@ -32,11 +31,10 @@ pub fn facts_of<'s>(
     ensures { IfOk result (λ found. facts found ≡ facts_of (numbered accepted.now.tokens)) }
 {
     let tokens = accepted.tokens();
-    let comments = comments(alloc, tokens)?;
     let patterns = found_patterns(alloc, tokens)?;
     let declarations = declarations(alloc, accepted, items)?;
     Ok(FileFacts {
-        comments,
+        comments: patterns.comments,
         indexes: patterns.indexes,
         interpolations: patterns.interpolations,
         declarations,

@@ -4,6 +4,7 @@
 #[derive(Clone, Copy)]
 pub enum Part {
     PassedOver,
+    LineComment,
     Dot,
     QuoteOpen,
     Opens,

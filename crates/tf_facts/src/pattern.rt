@@ -1,5 +1,5 @@
-//! The patterns of tokens that two rules report, found by one walk from the last token to the first. So what is ahead of
-//! a token is known when the walk comes to it:
+//! The patterns of tokens that two rules report, found by one walk from the last token to the first, on which line comments
+//! are noted too. So what is ahead of a token is known when the walk comes to it:
 //!
 //! | Token | Ahead of it |
 //! |---|---|
@@ -7,13 +7,17 @@
 //! | an opening quote | an interpolation that is closed directly before a closing quote: an interpolation alone |
 //! | what opens an interpolation | for what is open last, whether a closing quote is directly after its closer |
 
-ghost use Rattle.std.specs.Prelude.{◌≡◌, ◌++◌, ◌∷◌, [], ℕ, Bool, suc, false, get_or, reverse, IfOk, OnOk, if◌then◌else◌};
+ghost use Rattle.std.specs.Prelude.{◌≡◌, ◌++◌, ◌∷◌, [], ℕ, Bool, suc, false, get_or, map, reverse, IfOk, OnOk, if◌then◌else◌};
 ghost use Rattle.hcl_tokens.specs.Kinds.{is};
 ghost use Rattle.hcl_tokens.specs.declared.token.Kind.TheVariants.{InterpOpen, Number, QuoteClose};
 ghost use Rattle.hcl_grammar.specs.Numbered.{numbered};
+ghost use Rattle.tf_facts.specs.Comments.{comments};
+ghost use Rattle.tf_facts.specs.Found.{comment};
 ghost use Rattle.tf_facts.specs.Patterns.{legacy_indexes, wrapped_interpolations};
 ghost use Rattle.tf_facts.specs.Inner.Closings.{part_of};
 
+use crate::comment::put_comment;
+use crate::found::FoundComment;
 use crate::part::Part;
 use hcl_tokens::{Kind, Tokens};
 use std::alloc::{AllocError, Global};
@@ -41,7 +45,8 @@ fn part_of(kind: Kind) -> Part
     ensures { result ≡ part_of kind }
 {
     match kind {
-        Kind::LineComment | Kind::InlineComment | Kind::Blank | Kind::Newline => Part::PassedOver,
+        Kind::LineComment => Part::LineComment,
+        Kind::InlineComment | Kind::Blank | Kind::Newline => Part::PassedOver,
         Kind::Dot => Part::Dot,
         Kind::QuoteOpen => Part::QuoteOpen,
         Kind::ParenOpen
@@ -78,20 +83,44 @@ fn push_if(list: &mut Vec<usize>, test: bool, number: usize) -> Result<(), Alloc
     Ok(())
 }
 
-/// The numbers of the tokens from which on the patterns hold.
+/// What the walk finds, by the numbers of tokens.
 #[derive(Drop)]
 pub struct Patterns {
+    /// Line comments that say something.
+    pub comments: Vec<FoundComment>,
     /// Dots before numbers.
     pub indexes: Vec<usize>,
     /// Quotes of interpolations alone.
     pub interpolations: Vec<usize>,
 }
 
-/// The patterns of a file, in order.
+/// What was found from the last token to the first, in the order of the tokens.
+fn in_order(
+    mut comments: Vec<FoundComment>,
+    mut indexes: Vec<usize>,
+    mut interpolations: Vec<usize>,
+) -> Patterns
+    ensures comments { result.comments.items ≡ reverse comments.items }
+    ensures indexes { result.indexes.items ≡ reverse indexes.items }
+    ensures interpolations { result.interpolations.items ≡ reverse interpolations.items }
+{
+    comments.reverse();
+    indexes.reverse();
+    interpolations.reverse();
+    Patterns {
+        comments,
+        indexes,
+        interpolations,
+    }
+}
+
+/// The patterns of a file and its line comments that say something, in order.
 pub fn found_patterns(alloc: Global, tokens: &Tokens<'_>) -> Result<Patterns, AllocError>
+    ensures comments { IfOk result (λ found. map comment found.comments.items ≡ comments (numbered tokens.now.tokens)) }
     ensures indexes { IfOk result (λ found. found.indexes.items ≡ legacy_indexes (numbered tokens.now.tokens)) }
     ensures interpolations { IfOk result (λ found. found.interpolations.items ≡ wrapped_interpolations (numbered tokens.now.tokens)) }
 {
+    let mut comments = Vec::new(alloc);
     let mut indexes = Vec::new(alloc);
     let mut interpolations = Vec::new(alloc);
     let mut openers = Vec::new(alloc);
@@ -105,6 +134,10 @@ pub fn found_patterns(alloc: Global, tokens: &Tokens<'_>) -> Result<Patterns, Al
         let kind = tokens.kind(number);
         match part_of(kind) {
             Part::PassedOver => continue,
+            Part::LineComment => {
+                put_comment(tokens, number, &mut comments)?;
+                continue;
+            }
             Part::Plain => {}
             Part::Dot => push_if(&mut indexes, is_number(next), number)?,
             Part::QuoteOpen => {
@@ -116,10 +149,5 @@ pub fn found_patterns(alloc: Global, tokens: &Tokens<'_>) -> Result<Patterns, Al
         }
         next = kind;
     }
-    indexes.reverse();
-    interpolations.reverse();
-    Ok(Patterns {
-        indexes,
-        interpolations,
-    })
+    Ok(in_order(comments, indexes, interpolations))
 }

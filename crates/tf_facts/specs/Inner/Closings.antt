@@ -26,7 +26,8 @@ AreAhead tokens ahead n = (depth : ℕ) → get_or (reverse ahead) depth false �
 -- what a token means to the walk that finds patterns
 abbrev pub part_of : Kind → Part
 part_of k =
-    if is_passed_over k then part.PassedOver
+    if is kind.LineComment k then part.LineComment
+    else if is_passed_over k then part.PassedOver
     else if is kind.Dot k then part.Dot
     else if is kind.QuoteOpen k then part.QuoteOpen
     else if opening k == 1 then part.Opens

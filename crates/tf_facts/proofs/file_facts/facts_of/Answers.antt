@@ -13,7 +13,7 @@ made told indexes interpolations listed = record { comments = told; indexes = in
 
 pub returns : goal.returns
 returns c =
-    ap (λ cs. made cs c.in_ok-patterns.patterns.indexes.items c.in_ok-patterns.patterns.interpolations.items (map declaration c.in_ok-declarations.declarations.items)) c.in_ok-comments.ensures
+    ap (λ cs. made cs c.in_ok-patterns.patterns.indexes.items c.in_ok-patterns.patterns.interpolations.items (map declaration c.in_ok-declarations.declarations.items)) c.in_ok-patterns.ensures.comments
     ∙ ap (λ is. made (comments (numbered c.tokens-tokens.result.now.tokens)) is c.in_ok-patterns.patterns.interpolations.items (map declaration c.in_ok-declarations.declarations.items)) c.in_ok-patterns.ensures.indexes
     ∙ ap (λ is. made (comments (numbered c.tokens-tokens.result.now.tokens)) (legacy_indexes (numbered c.tokens-tokens.result.now.tokens)) is (map declaration c.in_ok-declarations.declarations.items)) c.in_ok-patterns.ensures.interpolations
     ∙ ap (λ ds. made (comments (numbered c.tokens-tokens.result.now.tokens)) (legacy_indexes (numbered c.tokens-tokens.result.now.tokens)) (wrapped_interpolations (numbered c.tokens-tokens.result.now.tokens)) ds) c.in_ok-declarations.ensures
