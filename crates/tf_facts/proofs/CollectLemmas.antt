@@ -11,9 +11,9 @@ use Rattle.hcl_tokens.specs.declared.token.Kind.TheVariants as kind
 use Rattle.hcl_tokens.specs.Lexemes.{Lexeme}
 use Rattle.hcl_grammar.specs.Numbered.{Numbered, is_passed_over}
 use Rattle.tf_facts.specs.References.{Own, by_name, name_behind, reference_at, references_from, unless_own}
-use Rattle.tf_facts.specs.Inner.Seen.{number_of, seen_from}
+use Rattle.tf_facts.specs.Inner.Seen.{after_dot, number_of, seen_from}
 use Rattle.tf_facts.specs.OwnBlocks.{ArePassed, Extends}
-use Rattle.tf_facts.proofs.SeenLemmas.{seen_here, seen_past, seen_none}
+use Rattle.tf_facts.proofs.SeenLemmas.{after_past, after_seen, seen_here, seen_past, seen_none}
 
 -- ---- what follows a word
 
@@ -124,3 +124,17 @@ module _ (own : List Own) (ts : List Lexeme) (old : List (List ℕ)) where
       collected new new new after dot n t e seen free same refl
       (sym (ap (λ (o : Option Numbered). insert_all bytes_eq new (unless_own own n (cond (is kind.Ident t.kind) (by_name t.text o (drop 2 (seen_from ts (n + 1)))) None))) none
       ∙ ap (λ (r : Option (List ℕ)). insert_all bytes_eq new (unless_own own n r)) (cond-same (is kind.Ident t.kind) None))) h
+
+  -- so does one that is passed over
+  pub no_ident : (new : List (List ℕ)) (n : ℕ) (t : Lexeme) → slice_get ts n ≡ Some t → is kind.Ident t.kind ≡ false → IsCollected own ts old new (after_dot ts n) n → IsCollected own ts old new (after_dot ts (n + 1)) (n + 1)
+  no_ident new n t e none h = by (is_passed_over t.kind) refl
+    where
+      by : (b : Bool) → is_passed_over t.kind ≡ b → IsCollected own ts old new (after_dot ts (n + 1)) (n + 1)
+      by true passed = let P : Bool → Type 0 = λ b. IsCollected own ts old new b (n + 1) in subst P (sym (after_past ts n (n + 1) refl t e passed)) (passes new (after_dot ts n) n t e passed h)
+      by false seen = no_word new (after_dot ts n) (after_dot ts (n + 1)) n t e seen none (after_seen ts n (n + 1) refl t e seen) h
+
+  -- a word that no name after a dot follows begins no reference, whatever is before it
+  pub no_behind : (new : List (List ℕ)) (after dot : Bool) (n : ℕ) (t : Lexeme) → slice_get ts n ≡ Some t → is_passed_over t.kind ≡ false → name_behind (seen_from ts (n + 1)) ≡ None → dot ≡ is kind.Dot t.kind
+      → IsCollected own ts old new after n → IsCollected own ts old new dot (n + 1)
+  no_behind new true dot n t e seen none is_dot h = skipped new new true dot n t e seen refl is_dot refl h
+  no_behind new false dot n t e seen none is_dot h = no_name new false dot n t e seen none refl is_dot h

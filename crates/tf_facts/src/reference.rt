@@ -4,12 +4,12 @@ ghost use Rattle.std.specs.Prelude.{◌≡◌, ◌<◌, ◌≤◌, ◌+◌, ◌^
 ghost use Rattle.std.specs.Str.{bytes_eq};
 ghost use Rattle.std.specs.Option.{option_map};
 ghost use Rattle.hcl_tokens.specs.Kinds.{is};
-ghost use Rattle.hcl_tokens.specs.declared.token.Kind.TheVariants.{Dot, Ident};
+ghost use Rattle.hcl_tokens.specs.declared.token.Kind.TheVariants.{Ident};
 ghost use Rattle.tf_facts.specs.References.{name_behind, reference_at, reference_of};
 ghost use Rattle.tf_facts.specs.Inner.Seen.{seen_from, numbered_of};
 ghost use Rattle.tf_facts.specs.Inner.Spelled.{IsBehind, spelled};
 
-use crate::seen::{Seen, is_passed_over, next_seen};
+use crate::seen::{Seen, is_dot, is_passed_over, next_seen};
 use hcl_tokens::{Kind, Tokens};
 
 /// What a reference names.
@@ -18,13 +18,6 @@ pub enum Reference<'s> {
     Variable(&'s str),
     Local(&'s str),
     Data(&'s str, &'s str),
-}
-
-/// Whether the kind is a dot.
-pub fn is_dot(kind: Kind) -> bool
-    ensures { result ≡ is Dot kind }
-{
-    matches!(kind, Kind::Dot)
 }
 
 /// Whether the kind is an identifier.

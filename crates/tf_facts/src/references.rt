@@ -11,10 +11,10 @@ ghost use Rattle.tf_facts.specs.Inner.Spelled.{spelled};
 ghost use Rattle.tf_facts.specs.OwnBlocks.{own_of, Apart, ArePassed, Extends, IsAhead};
 
 use crate::own_block::OwnBlock;
-use crate::reference::{Reference, is_dot, is_ident, may_be_named, reference_at};
-use crate::seen::{Seen, is_passed_over};
+use crate::reference::{Reference, is_ident, may_be_named, reference_at};
+use crate::seen::{Seen, is_after_dot};
 use crate::text_set::TextSet;
-use hcl_tokens::{Kind, Tokens};
+use hcl_tokens::Tokens;
 use std::alloc::{AllocError, Global};
 
 /// Puts the text that identifies a reference in place of another, whose room it takes.
@@ -97,7 +97,7 @@ fn is_own(blocks: &[OwnBlock<'_>], next: usize, number: usize, reference: Refere
 }
 
 /// Puts the reference that begins with a token into the set, unless it stands in the block of its own variable. Its text
-/// is spelled in the room of another's, so that one that is known takes no memory.
+/// is spelled in the room of another's.
 fn put(
     alloc: Global,
     tokens: &Tokens<'_>,
@@ -138,24 +138,17 @@ pub fn collect(
     ensures ok { OnOk result (into.new ≡ insert_all bytes_eq into.old (references_from (map own_of blocks.now) false (seen_from tokens.now.tokens 0))) }
     ensures err { OnErr result (Extends into.old into.new) }
 {
-    // Nothing is before the first token: a kind that is no dot.
-    let mut last = Kind::Newline;
     let mut next = 0;
     let mut text = String::new(alloc);
     for number in 0..tokens.len() {
-        let kind = tokens.kind(number);
-        if is_passed_over(kind) {
-            continue;
-        }
-        let before = last;
-        last = kind;
-        if !is_ident(kind) {
-            continue;
-        }
-        if is_dot(before) {
+        // Few words can be named, and only of those it matters what is before them.
+        if !is_ident(tokens.kind(number)) {
             continue;
         }
         if !may_be_named(tokens, number) {
+            continue;
+        }
+        if is_after_dot(tokens, number) {
             continue;
         }
         next = passed(blocks, next, number);

@@ -1,8 +1,10 @@
 //! The tokens that patterns see: those that are no comment, blank or newline.
 
 ghost use Rattle.std.specs.Prelude.{◌≡◌, ◌<◌, ◌≤◌, ◌+◌, ◌∷◌, [], length, MatchOption};
+ghost use Rattle.hcl_tokens.specs.Kinds.{is};
+ghost use Rattle.hcl_tokens.specs.declared.token.Kind.TheVariants.{Dot};
 ghost use Rattle.hcl_grammar.specs.Numbered.{is_passed_over};
-ghost use Rattle.tf_facts.specs.Inner.Seen.{seen_from, IsNextSeen};
+ghost use Rattle.tf_facts.specs.Inner.Seen.{after_dot, seen_from, IsNextSeen};
 
 use hcl_tokens::{Kind, Tokens};
 
@@ -24,6 +26,13 @@ pub fn is_passed_over(kind: Kind) -> bool
     )
 }
 
+/// Whether the kind is a dot.
+pub fn is_dot(kind: Kind) -> bool
+    ensures { result ≡ is Dot kind }
+{
+    matches!(kind, Kind::Dot)
+}
+
 /// The first token from a number on that is seen.
 pub fn next_seen<'s>(tokens: &Tokens<'s>, from: usize) -> Option<Seen<'s>>
     requires { from ≤ length tokens.now.tokens }
@@ -40,4 +49,20 @@ pub fn next_seen<'s>(tokens: &Tokens<'s>, from: usize) -> Option<Seen<'s>>
         }
     }
     None
+}
+
+/// Whether the last token that is seen before this number is a dot. It looks back over no more than the tokens between.
+pub fn is_after_dot(tokens: &Tokens<'_>, number: usize) -> bool
+    requires { number ≤ length tokens.now.tokens }
+    ensures { result ≡ after_dot tokens.now.tokens number }
+{
+    let mut before = number;
+    while before > 0 {
+        before -= 1;
+        let kind = tokens.kind(before);
+        if !is_passed_over(kind) {
+            return is_dot(kind);
+        }
+    }
+    false
 }

@@ -1,7 +1,9 @@
 -- What patterns see of a token list from a number on.
-use Rattle.std.specs.Prelude.{◌≡◌, ◌<◌, ◌≤◌, ◌+◌, ◌^◌, ℕ, List, ◌∷◌, drop, length}
+use Rattle.std.specs.Prelude.{◌≡◌, ◌<◌, ◌≤◌, ◌+◌, ◌^◌, ℕ, zero, suc, Bool, false, List, ◌∷◌, Option, None, Some, drop, length, slice_get, if◌then◌else◌}
+use Rattle.hcl_tokens.specs.Kinds.{is}
+use Rattle.hcl_tokens.specs.declared.token.Kind.TheVariants.{Dot}
 use Rattle.hcl_tokens.specs.Lexemes.{Lexeme}
-use Rattle.hcl_grammar.specs.Numbered.{Numbered, numbered_from, significant}
+use Rattle.hcl_grammar.specs.Numbered.{Numbered, is_passed_over, numbered_from, significant}
 use Rattle.tf_facts.specs.declared.seen.Seen.{Seen}
 
 abbrev pub seen_from : List Lexeme → ℕ → List Numbered
@@ -20,3 +22,13 @@ pub record IsNextSeen (tokens : List Lexeme) (from : ℕ) (t : Seen) : Type 0 wh
   pub within : t.number < length tokens
   pub small : t.number + 1 < 2 ^ 64
   pub not_before : from ≤ t.number
+
+-- a token that is seen is a dot or not; over one that isn't the answer stays
+abbrev pub dot_or : Option Lexeme → Bool → Bool
+dot_or None before = before
+dot_or (Some t) before = if is_passed_over t.kind then before else is Dot t.kind
+
+-- the last token that is seen before a number is a dot
+abbrev pub after_dot : List Lexeme → ℕ → Bool
+after_dot tokens zero = false
+after_dot tokens (suc n) = dot_or (slice_get tokens n) (after_dot tokens n)
