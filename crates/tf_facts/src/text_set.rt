@@ -68,14 +68,12 @@ impl TextSet {
         Ok(())
     }
 
-    /// Puts a copy of a text last, where it is not there yet.
+    /// Puts a copy of a text last, where it is not there yet. The copy is made before it is known whether it is needed: that
+    /// takes less than to look the text up twice.
     pub(crate) fn insert_copy(&mut self, alloc: Global, text: &str) -> Result<(), AllocError>
         ensures ok { OnOk result (self.new ≡ insert_key bytes_eq self.old text.now) }
         ensures err { OnErr result (self.new ≡ self.old) }
     {
-        if self.contains(text) {
-            return Ok(());
-        }
         let copy = String::from_str(alloc, text)?;
         self.insert(copy)
     }
