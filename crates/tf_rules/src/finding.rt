@@ -5,6 +5,7 @@ ghost use Rattle.std.specs.List.{list_any};
 ghost use Rattle.std.specs.Str.{bytes_eq};
 ghost use Rattle.tf_facts.specs.References.{data_reference, last_of};
 ghost use Rattle.tf_rules.specs.Findings.{finding, is_kind, from_registry, is_unused, kind_text, says_if, unpinned_findings, unpinned_findings_by, uses_of};
+ghost use Rattle.tf_rules.specs.Inner.Concerns.{can_be_unused, concerns};
 ghost use Rattle.tf_rules.specs.Inner.Entries.{finding_listed, opened};
 ghost use Rattle.tf_rules.specs.Inner.KeptViews.{kept_declaration, kept_names, kept_source, place_of};
 ghost use Rattle.tf_facts.specs.Found.{source};
@@ -28,6 +29,39 @@ fn is_variable(kind: DeclarationKind) -> bool
     ensures { result ≡ is_kind DeclarationKind.Variable kind }
 {
     matches!(kind, DeclarationKind::Variable)
+}
+
+/// Whether something can refer to what is declared.
+fn can_be_unused(kind: DeclarationKind) -> bool
+    ensures { result ≡ can_be_unused kind }
+{
+    match kind {
+        DeclarationKind::Variable => true,
+        DeclarationKind::Local => true,
+        DeclarationKind::Data => true,
+        DeclarationKind::Output => false,
+        DeclarationKind::Module => false,
+        DeclarationKind::Resource => false,
+    }
+}
+
+/// Whether a rule goes by declarations of this kind. Most rules go by few, and what they find costs more to hand out than
+/// this to ask.
+pub fn concerns(rule: Rule, declaration: &KeptDeclaration) -> bool
+    ensures { result ≡ concerns rule (kept_declaration declaration.now) }
+{
+    match rule {
+        Rule::DocumentedOutputs => is_output(declaration.kind),
+        Rule::DocumentedVariables => is_variable(declaration.kind),
+        Rule::ModulePinnedSource => declaration.source.is_some(),
+        Rule::ModuleVersion => declaration.source.is_some(),
+        Rule::NamingConvention => true,
+        Rule::TypedVariables => is_variable(declaration.kind),
+        Rule::UnusedDeclarations => can_be_unused(declaration.kind),
+        Rule::CommentSyntax => false,
+        Rule::DeprecatedIndex => false,
+        Rule::DeprecatedInterpolation => false,
+    }
 }
 
 /// Where a declaration lacks what it should have. The rest of the text begins with the quote after its name.
