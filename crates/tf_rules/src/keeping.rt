@@ -10,7 +10,7 @@ ghost use Rattle.tf_facts.specs.Found as found;
 ghost use Rattle.tf_rules.specs.Inner.KeptViews.{kept_comment, kept_declaration, kept_names, kept_source, place_of};
 ghost use Rattle.tf_rules.specs.Inner.Placing.{CanGo, gone, numbers_of, quotes};
 
-use crate::kept::{KeptComment, KeptDeclaration, KeptNames, KeptSource, TokenPlace};
+use crate::kept::{KeptComment, KeptDeclaration, KeptName, KeptNames, KeptSource, TokenPlace};
 use crate::placer::Placer;
 use std::alloc::{AllocError, Global};
 use tf_facts::{Declared, FoundComment, FoundSource, Names};
@@ -65,10 +65,10 @@ fn kept_names(alloc: Global, names: Names<'_>) -> Result<KeptNames, AllocError>
 {
     match names {
         Names::None => Ok(KeptNames::None),
-        Names::One(name) => Ok(KeptNames::One(String::from_str(alloc, name)?)),
+        Names::One(name) => Ok(KeptNames::One(KeptName::new(alloc, name)?)),
         Names::Two(first, second) => {
-            let first = String::from_str(alloc, first)?;
-            let second = String::from_str(alloc, second)?;
+            let first = KeptName::new(alloc, first)?;
+            let second = KeptName::new(alloc, second)?;
             Ok(KeptNames::Two(first, second))
         }
         Names::More => Ok(KeptNames::More),

@@ -1,5 +1,6 @@
 //! What is kept of the files of a module: places, names and flags, and no source.
 
+use arrayvec::ArrayString;
 use hcl_tokens::Position;
 use rule_set::RuleSet;
 use tf_facts::{DeclarationKind, ModuleSource};
@@ -20,12 +21,22 @@ pub struct KeptComment {
     pub silences: RuleSet,
 }
 
+/// How many bytes a name has at most that is kept in place.
+const SHORT: usize = 24;
+
+/// A name. Most are short and are kept in place, so that they take no memory of their own.
+#[derive(Drop)]
+pub enum KeptName {
+    Short(ArrayString<SHORT>),
+    Long(String),
+}
+
 /// Up to two labels, or more, which declare nothing.
 #[derive(Drop)]
 pub enum KeptNames {
     None,
-    One(String),
-    Two(String, String),
+    One(KeptName),
+    Two(KeptName, KeptName),
     More,
 }
 

@@ -13,6 +13,7 @@ mod issue_list;
 mod keeping;
 mod kept;
 mod kept_file;
+mod kept_name;
 pub mod laws;
 mod listed_issue;
 mod message_text;

@@ -9,6 +9,8 @@ use Rattle.rule_set.specs.RuleSets.{rules_of}
 use Rattle.tf_facts.specs.Found.{source}
 use Rattle.tf_rules.specs.declared.kept.KeptComment.{KeptComment}
 use Rattle.tf_rules.specs.declared.kept.KeptDeclaration.{KeptDeclaration}
+use Rattle.tf_rules.specs.declared.kept.KeptName.{KeptName}
+use Rattle.tf_rules.specs.declared.kept.KeptName.TheVariants.{Short, Long}
 use Rattle.tf_rules.specs.declared.kept.KeptNames.{KeptNames}
 use Rattle.tf_rules.specs.declared.kept.KeptNames.TheVariants.{None, One, Two, More}
 use Rattle.tf_rules.specs.declared.kept.KeptSource.{KeptSource}
@@ -20,10 +22,14 @@ place_of p = record { file = p.file; token = p.token; at = p.at }
 abbrev pub kept_comment : KeptComment → Comment Place
 kept_comment c = record { at = place_of c.at; slashes = c.has_slashes; silences = rules_of c.silences }
 
+abbrev pub kept_name : KeptName → List ℕ
+kept_name (Short text) = text.bytes
+kept_name (Long text) = string_bytes text
+
 abbrev pub kept_names : KeptNames → List (List ℕ)
 kept_names None = []
-kept_names (One name) = string_bytes name ∷ []
-kept_names (Two first second) = string_bytes first ∷ string_bytes second ∷ []
+kept_names (One name) = kept_name name ∷ []
+kept_names (Two first second) = kept_name first ∷ kept_name second ∷ []
 kept_names More = []
 
 abbrev pub kept_source : KeptSource → SourceAt Place
