@@ -1,6 +1,6 @@
 -- A print is no longer than what its lines tell one by one: without its one blank, a gap before a cell is no wider than the
 -- greatest width that there may be before any sign, or before any comment of the run and any sign.
-use Rattle.std.proofs.Common.{◌≡◌, ◌+◌, ◌-◌, ◌*◌, ◌++◌, ◌≤◌, ℕ, suc, zero, Bool, true, false, List, [], ◌∷◌, Option, Some, None, length, ap, refl, sym, arith, subst, get_or, max, min, take, replicate, length-append}
+use Rattle.std.proofs.Common.{◌≡◌, ◌+◌, ◌-◌, ◌*◌, ◌++◌, ◌≤◌, ℕ, suc, zero, Bool, true, false, List, [], ◌∷◌, Option, Some, None, length, ap, refl, arith, subst, get_or, max, min, take, replicate, length-append}
 use Rattle.std.specs.Prelude.{IfSome, nat_lt, option_map, slice_set}
 use Rattle.std.specs.List.{flat_map}
 use Rattle.std.proofs.Math.Nat.{add-mul}
@@ -13,7 +13,7 @@ use Rattle.hcl_layout.specs.Gaps.{align, gap_to, gaps, gaps_after, plain_gaps, s
 use Rattle.hcl_layout.specs.Lines.{Line, lines}
 use Rattle.hcl_layout.specs.Print.{print, printed_text}
 use Rattle.hcl_layout.specs.Inner.Depths.{BalancedFrom, Sound, depth_after, fresh, level_at, levels_behind, raised}
-use Rattle.hcl_layout.specs.Inner.Extents.{extra_of, nothing, taken, with_cell, with_comment, with_line, with_lines}
+use Rattle.hcl_layout.specs.Inner.Extents.{extra_of, nothing, with_cell, with_comment, with_line, with_lines}
 use Rattle.hcl_layout.specs.Inner.LineGaps.{len_with_blanks}
 use Rattle.hcl_layout.specs.Inner.Stream.{assign_column, assign_widths, comment_column, comment_widths, commented, next_of, plain}
 use Rattle.hcl_layout.specs.declared.extent.CellExtent.{CellExtent}

@@ -1,22 +1,21 @@
--- A token of a kind that isn't noted ends no line, neither opens nor closes, and is no comment and no sign: tried for
--- each kind.
-use Rattle.std.proofs.Common.{◌≡◌, ◌&&◌, ◌||◌, Bool, true, false, not, ap, refl}
+-- What the kinds of tokens say of a walk along a line: tried for each kind.
+use Rattle.std.proofs.Common.{◌≡◌, ◌∙◌, ◌&&◌, ◌||◌, ◌+◌, ◌-◌, ◌≤◌, ℕ, Bool, true, false, not, ap, refl, arith}
+use Rattle.hcl_tokens.specs.Balanced.{is_closer, is_opener}
 use Rattle.hcl_tokens.specs.Lexemes.{Lexeme}
 use Rattle.hcl_tokens.specs.declared.token.Kind.{Kind}
 use Rattle.hcl_tokens.specs.Kinds.{is}
 use Rattle.hcl_tokens.specs.declared.token.Kind.TheVariants as kind
+use Rattle.hcl_grammar.specs.Items.{deepen}
+use Rattle.hcl_layout.specs.Inner.Depths.{Steps}
 use Rattle.hcl_layout.specs.Lines.{ends_line}
-use Rattle.hcl_layout.specs.Inner.Survey.{changes, is_noted, marks, stops}
+use Rattle.hcl_layout.specs.Inner.Survey.{changes, marks, step_of, stops}
 use Rattle.hcl_spacing.proofs.KindLemmas.{each}
 
 passes : (a b : Bool) → (a || not b) ≡ true → a ≡ false → b ≡ false
 passes a true h e = cc
 passes a false h e = refl
 
-pub unnoted : (k : Kind) → is_noted k ≡ false → changes k ≡ false
-unnoted k e = passes (is_noted k) (changes k) (each (λ j. is_noted j || not (changes j)) refl k) e
-
--- a kind of which the kind alone is asked is no cell and tears none
+-- a kind of which no more is asked is no cell and tears none
 pub unstopped_unmarked : (k : Kind) → stops k ≡ false → marks k ≡ false
 unstopped_unmarked k e = passes (stops k) (marks k) (each (λ j. stops j || not (marks j)) refl k) e
 
@@ -24,15 +23,44 @@ unstopped_unmarked k e = passes (stops k) (marks k) (each (λ j. stops j || not 
 pub unstopped_goes_on : (t : Lexeme) → stops t.kind ≡ false → ends_line t ≡ false
 unstopped_goes_on t e = rw (passes (stops t.kind) (is kind.Newline t.kind) (each (λ j. stops j || not (is kind.Newline j)) refl t.kind) e) refl
 
-pub inline_goes_on : (t : Lexeme) → is kind.InlineComment t.kind ≡ true → ends_line t ≡ false
-inline_goes_on t e = rw (passes (not (is kind.InlineComment t.kind)) (is kind.Newline t.kind) (each (λ j. not (is kind.InlineComment j) || not (is kind.Newline j)) refl t.kind) (ap not e)) refl
-
-pub unnoted_goes_on : (t : Lexeme) → is_noted t.kind ≡ false → ends_line t ≡ false
-unnoted_goes_on t e = rw (passes (is_noted t.kind) (is kind.Newline t.kind) (each (λ j. is_noted j || not (is kind.Newline j)) refl t.kind) e) refl
-
 pub end_passed : (t : Lexeme) → ends_line t ≡ true → changes t.kind ≡ false
 end_passed t e = go (is kind.Newline t.kind) refl e
   where
     go : (v : Bool) → is kind.Newline t.kind ≡ v → (v && not t.inside_heredoc) ≡ true → changes t.kind ≡ false
     go true q h = passes (not (is kind.Newline t.kind)) (changes t.kind) (each (λ j. not (is kind.Newline j) || not (changes j)) refl t.kind) (ap not q)
     go false q h = cc
+
+-- ---- the steps
+
+-- what a step that is no point does to a depth at which a token of its kind may stand
+pub record Stepped (d step : ℕ) (k : Kind) : Type 0 where
+  pub on : stops k ≡ false
+  pub rises : step ≤ 50
+  pub stays : 49 ≤ d + step
+  pub deepens : d + step ≡ deepen d k + 49
+
+unstopped : (k : Kind) → (step_of k ≡ 46 → ⊥) → stops k ≡ false
+unstopped k h = go (stops k) refl
+  where
+    go : (v : Bool) → stops k ≡ v → stops k ≡ false
+    go true q = absurd (h (rw q refl))
+    go false q = q
+
+pub steps_deepen : (k : Kind) (d step : ℕ) → step ≡ step_of k → (step ≡ 46 → ⊥) → Steps d k → Stepped d step k
+steps_deepen k d step e more s =
+    go (unstopped k (λ h. more (e ∙ h))) (is_opener k) refl (is_closer k) refl (each (λ j. not (is_opener j && is_closer j)) refl k)
+  where
+    go : stops k ≡ false → (o : Bool) → is_opener k ≡ o → (c : Bool) → is_closer k ≡ c → not (is_opener k && is_closer k) ≡ true → Stepped d step k
+    go on true p true q h = let never : false ≡ true = rw (p, q) at h in absurd (cc)
+    go on true p false q h =
+        let is : step ≡ 50 = e ∙ rw (on, p, q) refl in
+        let deep : deepen d k ≡ d + 1 = rw (p, q) (omega arith) in
+        record { on = on; rises = omega (arith, is); stays = omega (arith, is); deepens = omega (arith, is, deep) }
+    go on false p true q h =
+        let is : step ≡ 48 = e ∙ rw (on, p, q) refl in
+        let deep : deepen d k ≡ d - 1 = rw (p, q) (omega arith) in
+        record { on = on; rises = omega (arith, is); stays = omega (arith, is, s.1 q); deepens = omega (arith, is, deep, s.1 q) }
+    go on false p false q h =
+        let is : step ≡ 49 = e ∙ rw (on, p, q) refl in
+        let deep : deepen d k ≡ d = rw (p, q) (omega arith) in
+        record { on = on; rises = omega (arith, is); stays = omega (arith, is); deepens = omega (arith, is, deep) }

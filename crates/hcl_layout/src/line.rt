@@ -1,5 +1,14 @@
 //! One line, in one walk: where it ends, how deep, and which cells it has.
-ghost use Rattle.std.specs.Prelude.{◌≡◌, false, ◌<◌, ◌≤◌, ◌+◌, ◌^◌, ◌==◌, length, drop, slice_get, Some};
+//!
+//! Most tokens of a line open, close or do neither. By a table of kinds they are passed in steps, with the depth alone kept,
+//! up to a token of which more is asked: one that may end the line, or be or tear a cell.
+//!
+//! ```text
+//! token           tags   =      [     f     (     x     )     ]     # why   newline
+//! step            1      more   2     1     2     1     0     0     more    more
+//! depth after it  0      0      1     1     2     2     1     0     0       0
+//! ```
+ghost use Rattle.std.specs.Prelude.{◌≡◌, false, ◌<◌, ◌≤◌, ◌+◌, ◌^◌, ◌==◌, ℕ, length, drop, slice_get, None, Some};
 ghost use Rattle.std.specs.List.{list_any};
 ghost use Rattle.hcl_tokens.specs.Kinds.{is};
 ghost use Rattle.hcl_tokens.specs.declared.token.Kind.TheVariants.{InlineComment};
@@ -10,7 +19,7 @@ ghost use Rattle.hcl_layout.specs.Lines.{ends_line};
 ghost use Rattle.hcl_layout.specs.Cells.{is_assignment as is_assignment_of, is_multiline as is_multiline_of, is_trailing as is_trailing_of};
 ghost use Rattle.hcl_grammar.specs.Items.{deepen};
 ghost use Rattle.hcl_layout.specs.Inner.Depths.{BalancedFrom, Steps};
-ghost use Rattle.hcl_layout.specs.Inner.Survey.{IsLine, assign_of, changes, first_noted, going, is_noted as is_noted_of, marks, noted, running_of, stops as stops_of, surveyed};
+ghost use Rattle.hcl_layout.specs.Inner.Survey.{IsLine, assign_of, changes, first_noted, going, marks, noted, running_of, step_of, surveyed, turned_to};
 
 use crate::measured::Measured;
 use hcl_tokens::{Kind, Token};
@@ -124,10 +133,44 @@ fn deepened(depth: u32, kind: Kind) -> u32
     depth + u32::from(opens(kind)) - u32::from(closes(kind))
 }
 
-/// After the first token of a line, of a kind that changes nothing.
+/// By kind, the depth after a token of it that stands at depth 1, as a digit: `2` opens, `0` closes, and `1` does neither.
+/// A point stands for the kinds of which more is asked, and for the numbers of no kind.
+static STEPS: [u8; 256] = *b"\
+    ...111112220000111111.1111111111\
+    1111112211......................\
+    ................................\
+    ................................\
+    ................................\
+    ................................\
+    ................................\
+    ................................";
+
+/// Where more is asked of a token than its kind.
+const MORE: u8 = b'.';
+
+/// What a token of the kind does to the depth.
+#[inline(always)]
+fn step_of(kind: Kind) -> u8
+    ensures { result ≡ step_of kind }
+{
+    STEPS[kind as usize]
+}
+
+/// The depth after a step.
+#[inline(always)]
+fn stepped(depth: u32, step: u8) -> u32
+    requires fits { depth ≤ max_open }
+    requires rises { step ≤ 50 }
+    requires stays { 49 ≤ depth + step }
+    ensures { result + 49 ≡ depth + step }
+{
+    depth + u32::from(step) - u32::from(b'1')
+}
+
+/// After the first token of a line, of a kind of which no more is asked, with the depth after it.
 #[inline(always)]
 fn bare_survey(depth: u32) -> Survey
-    ensures { (t : Lexeme) → changes t.kind ≡ false → result ≡ first_noted depth t }
+    ensures { (before : ℕ) (t : Lexeme) → marks t.kind ≡ false → depth ≡ deepen before t.kind → result ≡ first_noted before t }
 {
     Survey {
         len: 1,
@@ -168,56 +211,26 @@ fn read_first(tokens: &Measured<'_, '_>, at: usize, depth: u32) -> (Survey, bool
     ensures line { (t : Lexeme) → slice_get tokens.now.tokens at ≡ Some t → result.0 ≡ first_noted depth t }
     ensures end { (t : Lexeme) → slice_get tokens.now.tokens at ≡ Some t → result.1 ≡ ends_line t }
 {
-    if !is_noted(tokens.kind(at)) {
-        return (bare_survey(depth), false);
+    let step = step_of(tokens.kind(at));
+    if step != MORE {
+        return (bare_survey(stepped(depth, step)), false);
     }
     let token = tokens.get(at);
     (first_survey(depth, token), is_line_end(token))
 }
 
-/// Whether a token of the kind may end the line, changes the depth, or may be or tear a cell. Most do none of these. It
-/// is one test, and not one for each group of kinds, since it is asked of every token.
-#[inline(always)]
-fn is_noted(kind: Kind) -> bool
-    ensures { result ≡ is_noted_of kind }
-{
-    matches!(
-        kind,
-        Kind::Newline
-            | Kind::ParenOpen
-            | Kind::BracketOpen
-            | Kind::BraceOpen
-            | Kind::InterpOpen
-            | Kind::ControlOpen
-            | Kind::ParenClose
-            | Kind::BracketClose
-            | Kind::SeqClose
-            | Kind::BraceClose
-            | Kind::Assign
-            | Kind::LineComment
-            | Kind::InlineComment
-    )
-}
-
-/// Whether a token of the kind may end the line, or be or tear a cell: then more is asked of it than its kind.
-#[inline(always)]
-fn stops(kind: Kind) -> bool
-    ensures { result ≡ stops_of kind }
-{
-    matches!(
-        kind,
-        Kind::Newline | Kind::Assign | Kind::LineComment | Kind::InlineComment
-    )
-}
-
 impl Survey {
-    /// The same, its length written again: a loop that counts its tokens itself then needn't keep that beside its count.
+    /// Up to a further length and with the depth there, before the trailing comment.
     #[inline(always)]
-    fn counted(self, len: usize) -> Survey
-        requires { len ≡ self.len }
-        ensures { result ≡ self }
+    fn turned_to(self, len: usize, depth: u32) -> Survey
+        ensures { result ≡ turned_to self len depth }
     {
-        Survey { len, ..self }
+        Survey {
+            len,
+            depth,
+            body_depth: depth,
+            ..self
+        }
     }
 
     /// After one token more, of a kind that changes nothing.
@@ -234,28 +247,6 @@ impl Survey {
             len,
             body_depth: self.depth,
             ..self
-        }
-    }
-
-    /// After one token more, of a kind that changes the depth at most.
-    #[inline(always)]
-    fn turned(self, kind: Kind) -> Survey
-        requires steps { Steps self.depth kind }
-        requires fits { self.depth ≤ max_open }
-        requires room { self.len + 1 < 2 ^ 64 }
-        ensures { (t : Lexeme) → t.kind ≡ kind → marks kind ≡ false → result ≡ noted self t }
-    {
-        let behind = Survey {
-            len: self.len + 1,
-            depth: deepened(self.depth, kind),
-            ..self
-        };
-        if self.comment.is_some() {
-            return behind;
-        }
-        Survey {
-            body_depth: behind.depth,
-            ..behind
         }
     }
 
@@ -340,8 +331,38 @@ fn read_rest(tokens: &Measured<'_, '_>, at: usize, passed: Survey) -> Survey
     line
 }
 
-/// The tokens of a line, from the one at a place on, each noted. Most open or close, or change nothing: of them the kind
-/// alone is asked, and of inline comments alone the text. What follows a trailing comment, as a rule the newline
+/// After the tokens of a line up to the next of which more is asked than its kind. The depth alone changes, so the
+/// rest is kept as it was.
+#[inline(always)]
+fn pass_steps(tokens: &Measured<'_, '_>, at: usize, passed: Survey) -> Survey
+    requires within { at + passed.len ≤ length tokens.now.tokens }
+    requires balanced { BalancedFrom passed.depth (drop (at + passed.len) tokens.now.tokens) }
+    requires fits { passed.depth ≤ max_open }
+    requires comment { passed.comment ≡ None }
+    requires body { passed.body_depth ≡ passed.depth }
+    ensures same { going passed (drop (at + passed.len) tokens.now.tokens) ≡ going result (drop (at + result.len) tokens.now.tokens) }
+    ensures order { passed.len ≤ result.len }
+    ensures within { at + result.len ≤ length tokens.now.tokens }
+    ensures balanced { BalancedFrom result.depth (drop (at + result.len) tokens.now.tokens) }
+    ensures fits { result.depth ≤ max_open }
+    ensures comment { result.comment ≡ None }
+    ensures body { result.body_depth ≡ result.depth }
+{
+    let count = tokens.len();
+    let mut depth = passed.depth;
+    let mut next = at + passed.len;
+    while next < count {
+        let step = step_of(tokens.kind(next));
+        if step == MORE {
+            return passed.turned_to(next - at, depth);
+        }
+        depth = stepped(depth, step);
+        next += 1;
+    }
+    passed.turned_to(next - at, depth)
+}
+
+/// The tokens of a line, from the one at a place on, each noted. What follows a trailing comment, as a rule the newline
 /// alone, is read apart, so that up to there less has to be kept.
 #[inline(always)]
 fn read_line(tokens: &Measured<'_, '_>, at: usize, depth: u32) -> Survey
@@ -355,31 +376,21 @@ fn read_line(tokens: &Measured<'_, '_>, at: usize, depth: u32) -> Survey
     if ended {
         return line;
     }
-    let mut next = at + 1;
-    while next < count {
-        let kind = tokens.kind(next);
-        if !stops(kind) {
-            line = line.turned(kind);
-            next += 1;
-            continue;
+    while at + line.len < count {
+        let before = pass_steps(tokens, at, line);
+        if at + before.len == count {
+            return before;
         }
-        let before = line.counted(next - at);
-        if is_inline_comment(kind) {
-            line = before.with(tokens.get(next));
-            next += 1;
-            continue;
-        }
-        let token = tokens.get(next);
+        let token = tokens.get(at + before.len);
         if is_line_end(token) {
             return before.passed();
         }
         line = before.with(token);
-        next += 1;
         if line.comment.is_some() {
             return read_rest(tokens, at, line);
         }
     }
-    line.counted(next - at)
+    line
 }
 
 /// The line that begins at a place, where the depth is known.

@@ -24,22 +24,10 @@ marks k = is kind.LineComment k || is kind.InlineComment k || is kind.Assign k
 abbrev pub stops : Kind → Bool
 stops k = is kind.Newline k || marks k
 
--- these kinds, and those that may end the line, in one list (proofs/NotedKindLemmas)
-abbrev pub is_noted : Kind → Bool
-is_noted kind.Newline = true
-is_noted kind.ParenOpen = true
-is_noted kind.BracketOpen = true
-is_noted kind.BraceOpen = true
-is_noted kind.InterpOpen = true
-is_noted kind.ControlOpen = true
-is_noted kind.ParenClose = true
-is_noted kind.BracketClose = true
-is_noted kind.SeqClose = true
-is_noted kind.BraceClose = true
-is_noted kind.Assign = true
-is_noted kind.LineComment = true
-is_noted kind.InlineComment = true
-is_noted _ = false
+-- the byte that tells what a token of the kind does to the depth: from depth 1 the depth after it, as a digit, or a point
+-- where more is asked of it
+abbrev pub step_of : Kind → ℕ
+step_of k = if stops k then 46 else 48 + deepen 1 k
 
 -- after the line's first token
 abbrev pub first_noted : ℕ → Lexeme → Survey
@@ -60,6 +48,10 @@ noted s t = record {
   sign = if takes_sign s t then Some s.len else s.sign;
   sign_depth = if takes_sign s t then s.depth else s.sign_depth;
 }
+
+-- up to a further length and with the depth there, before the trailing comment
+abbrev pub turned_to : Survey → ℕ → ℕ → Survey
+turned_to s len depth = record { len = len; depth = depth; multiline = s.multiline; comment = s.comment; body_depth = depth; sign = s.sign; sign_depth = s.sign_depth }
 
 -- after the rest of the line, `last` being the token before
 abbrev pub surveyed : Survey → Lexeme → List Lexeme → Survey
