@@ -7,6 +7,7 @@ use Rattle.hcl_tokens.specs.Kinds.{is}
 use Rattle.hcl_tokens.specs.declared.token.Kind.TheVariants as kind
 use Rattle.hcl_grammar.specs.Items.{deepen}
 use Rattle.hcl_layout.specs.Inner.Depths.{Steps}
+use Rattle.hcl_layout.specs.Cells.{is_trailing}
 use Rattle.hcl_layout.specs.Lines.{ends_line}
 use Rattle.hcl_layout.specs.Inner.Survey.{changes, marks, step_of, stops}
 use Rattle.hcl_spacing.proofs.KindLemmas.{each}
@@ -64,3 +65,13 @@ steps_deepen k d step e more s =
         let is : step ≡ 49 = e ∙ rw (on, p, q) refl in
         let deep : deepen d k ≡ d = rw (p, q) (omega arith) in
         record { on = on; rises = omega (arith, is); stays = omega (arith, is); deepens = omega (arith, is, deep) }
+
+-- the kinds of which more is asked open and close nothing
+pub stopped_level : (k : Kind) (d : ℕ) → stops k ≡ true → deepen d k ≡ d
+stopped_level k d e =
+    let opener : is_opener k ≡ false = passes (not (stops k)) (is_opener k) (each (λ j. not (stops j) || not (is_opener j)) refl k) (ap not e) in
+    let closer : is_closer k ≡ false = passes (not (stops k)) (is_closer k) (each (λ j. not (stops j) || not (is_closer j)) refl k) (ap not e) in
+    rw (opener, closer) (omega arith)
+
+pub inline_untrailing : (t : Lexeme) → is kind.InlineComment t.kind ≡ true → is_trailing t ≡ false
+inline_untrailing t e = rw (passes (not (is kind.InlineComment t.kind)) (is kind.LineComment t.kind) (each (λ j. not (is kind.InlineComment j) || not (is kind.LineComment j)) refl t.kind) (ap not e)) refl

@@ -18,7 +18,7 @@ use Rattle.hcl_layout.specs.Lines.{Line, ends_line, lines, onto_line}
 use Rattle.hcl_layout.specs.Inner.Survey.{IsLine, assign_of, cell_if, first_noted, going, marks, noted, running_of, step_of, stops, surveyed, takes_sign, turned_to}
 use Rattle.hcl_layout.specs.declared.line.Survey.{Survey}
 use Rattle.hcl_layout.specs.declared.line.LineFacts.{LineFacts}
-use Rattle.hcl_layout.proofs.NotedKindLemmas.{Stepped, steps_deepen, unstopped_goes_on, unstopped_unmarked}
+use Rattle.hcl_layout.proofs.NotedKindLemmas.{Stepped, inline_untrailing, steps_deepen, unstopped_goes_on, unstopped_unmarked}
 use Rattle.hcl_layout.proofs.StreamLemmas.{after_is, after_low, deepen_low}
 
 -- the token at a place, and what is after it
@@ -435,6 +435,31 @@ noted_open s t e f = go (is_trailing t) refl
     go : (v : Bool) → is_trailing t ≡ v → (noted s t).body_depth ≡ (noted s t).depth
     go true v = let h : Some s.len ≡ None = rw (e, v) at f in absurd (some_none s.len h)
     go false v = rw (e, v) refl
+
+-- ---- a token of which more was asked, and what is after it
+
+module _ (ts : List Lexeme) (at : ℕ) (t : Lexeme) (s new : Survey) where
+  further : new ≡ noted s t → at + s.len + 1 ≡ at + new.len
+  further same = let len : new.len ≡ s.len + 1 = ap (λ (x : Survey). x.len) same in omega (arith, len)
+
+  pub more_same : (whole : Survey) → slice_get ts (at + s.len) ≡ Some t → new ≡ noted s t → ends_line t ≡ false → whole ≡ going s (drop (at + s.len) ts) → whole ≡ going new (drop (at + new.len) ts)
+  more_same whole e same goes p = going_on ts (at + s.len) t s new whole e same goes p ∙ ap (λ k. going new (drop k ts)) (further same)
+
+  pub more_balanced : slice_get ts (at + s.len) ≡ Some t → new ≡ noted s t → BalancedFrom s.depth (drop (at + s.len) ts) → s.depth ≤ max_open → BalancedFrom new.depth (drop (at + new.len) ts)
+  more_balanced e same p low = subst (λ k. BalancedFrom new.depth (drop k ts)) (further same) (behind_token ts (at + s.len) s new t e same p low).0
+
+  pub more_low : slice_get ts (at + s.len) ≡ Some t → new ≡ noted s t → BalancedFrom s.depth (drop (at + s.len) ts) → s.depth ≤ max_open → new.depth ≤ max_open
+  more_low e same p low = (behind_token ts (at + s.len) s new t e same p low).1
+
+  pub more_within : slice_get ts (at + s.len) ≡ Some t → new ≡ noted s t → at + new.len ≤ length ts
+  more_within e same = omega (arith, further same, slice_get_within ts (at + s.len) t e)
+
+  pub more_open : new ≡ noted s t → s.comment ≡ None → new.comment ≡ None → new.body_depth ≡ new.depth
+  more_open same e f = subst (λ (x : Survey). x.body_depth ≡ x.depth) (sym same) (noted_open s t e (ap (λ (x : Survey). x.comment) (sym same) ∙ f))
+
+-- an inline comment is no trailing one
+pub inline_open : (s : Survey) (t : Lexeme) → s.comment ≡ None → is InlineComment t.kind ≡ true → (noted s t).comment ≡ None
+inline_open s t e f = rw (e, inline_untrailing t f) refl
 
 -- some token stands there
 pub token_at : (ts : List Lexeme) (i : ℕ) → i < length ts → (t : Lexeme) × (slice_get ts i ≡ Some t)

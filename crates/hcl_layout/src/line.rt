@@ -8,7 +8,7 @@
 //! step            1      more   2     1     2     1     0     0     more    more
 //! depth after it  0      0      1     1     2     2     1     0     0       0
 //! ```
-ghost use Rattle.std.specs.Prelude.{◌≡◌, false, ◌<◌, ◌≤◌, ◌+◌, ◌^◌, ◌==◌, ℕ, length, drop, slice_get, None, Some};
+ghost use Rattle.std.specs.Prelude.{◌≡◌, false, true, ◌<◌, ◌≤◌, ◌+◌, ◌^◌, ◌==◌, ℕ, length, drop, slice_get, None, Some};
 ghost use Rattle.std.specs.List.{list_any};
 ghost use Rattle.hcl_tokens.specs.Kinds.{is};
 ghost use Rattle.hcl_tokens.specs.declared.token.Kind.TheVariants.{InlineComment};
@@ -19,7 +19,7 @@ ghost use Rattle.hcl_layout.specs.Lines.{ends_line};
 ghost use Rattle.hcl_layout.specs.Cells.{is_assignment as is_assignment_of, is_multiline as is_multiline_of, is_trailing as is_trailing_of};
 ghost use Rattle.hcl_grammar.specs.Items.{deepen};
 ghost use Rattle.hcl_layout.specs.Inner.Depths.{BalancedFrom, Steps};
-ghost use Rattle.hcl_layout.specs.Inner.Survey.{IsLine, assign_of, changes, first_noted, going, marks, noted, running_of, step_of, surveyed, turned_to};
+ghost use Rattle.hcl_layout.specs.Inner.Survey.{IsLine, assign_of, changes, first_noted, going, marks, noted, running_of, step_of, stops, surveyed, turned_to};
 
 use crate::measured::Measured;
 use hcl_tokens::{Kind, Token};
@@ -250,6 +250,36 @@ impl Survey {
         }
     }
 
+    /// After one token more of which more is asked, but that tears no cell, before the trailing comment.
+    #[inline(always)]
+    fn marked(self, token: Token<'_>) -> Survey
+        requires comment { self.comment ≡ None }
+        requires body { self.body_depth ≡ self.depth }
+        requires level { deepen self.depth token.kind ≡ self.depth }
+        requires whole { is InlineComment token.kind ≡ false }
+        requires room { self.len + 1 < 2 ^ 64 }
+        ensures { result ≡ noted self (lexeme token.entry) }
+    {
+        let behind = Survey {
+            len: self.len + 1,
+            ..self
+        };
+        if is_trailing(token) {
+            return Survey {
+                comment: Some(self.len),
+                ..behind
+            };
+        }
+        if self.sign.is_none() && is_assignment(token) {
+            return Survey {
+                sign: Some(self.len),
+                sign_depth: self.depth,
+                ..behind
+            };
+        }
+        behind
+    }
+
     /// After one token more, of any kind.
     #[inline(always)]
     fn with(self, token: Token<'_>) -> Survey
@@ -347,6 +377,7 @@ fn pass_steps(tokens: &Measured<'_, '_>, at: usize, passed: Survey) -> Survey
     ensures fits { result.depth ≤ max_open }
     ensures comment { result.comment ≡ None }
     ensures body { result.body_depth ≡ result.depth }
+    ensures more { (t : Lexeme) → slice_get tokens.now.tokens (at + result.len) ≡ Some t → stops t.kind ≡ true }
 {
     let count = tokens.len();
     let mut depth = passed.depth;
@@ -362,8 +393,9 @@ fn pass_steps(tokens: &Measured<'_, '_>, at: usize, passed: Survey) -> Survey
     passed.turned_to(next - at, depth)
 }
 
-/// The tokens of a line, from the one at a place on, each noted. What follows a trailing comment, as a rule the newline
-/// alone, is read apart, so that up to there less has to be kept.
+/// The tokens of a line, from the one at a place on, each noted. Inline comments alone are asked for their text, and so
+/// are looked up again. What follows a trailing comment, as a rule the newline alone, is read apart, so that up to there
+/// less has to be kept.
 #[inline(always)]
 fn read_line(tokens: &Measured<'_, '_>, at: usize, depth: u32) -> Survey
     requires within { at < length tokens.now.tokens }
@@ -378,14 +410,19 @@ fn read_line(tokens: &Measured<'_, '_>, at: usize, depth: u32) -> Survey
     }
     while at + line.len < count {
         let before = pass_steps(tokens, at, line);
-        if at + before.len == count {
+        let next = at + before.len;
+        if next == count {
             return before;
         }
-        let token = tokens.get(at + before.len);
+        let token = tokens.get(next);
         if is_line_end(token) {
             return before.passed();
         }
-        line = before.with(token);
+        if is_inline_comment(token.kind) {
+            line = before.with(tokens.get(next));
+            continue;
+        }
+        line = before.marked(token);
         if line.comment.is_some() {
             return read_rest(tokens, at, line);
         }

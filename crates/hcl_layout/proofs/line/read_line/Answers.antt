@@ -1,6 +1,5 @@
 use Rattle.std.proofs.Common.{◌≡◌, ◌∙◌, ◌+◌, ◌≤◌, ℕ, Option, Some, None, false, ap, drop, refl, sym, subst, arith}
 use Rattle.std.specs.Prelude.{is_some}
-use Rattle.std.proofs.lemmas.Option.{slice_get_within}
 use Rattle.hcl_tokens.specs.Lexemes.{Lexeme}
 use Rattle.hcl_tokens.specs.Scanned.{lexeme}
 use Rattle.hcl_layout.specs.Lines.{ends_line}
@@ -9,8 +8,8 @@ use Rattle.hcl_grammar.specs.Items.{deepen}
 use Rattle.hcl_layout.specs.Inner.Depths.{BalancedFrom}
 use Rattle.hcl_layout.specs.Inner.Survey.{first_noted, going, noted, surveyed}
 use Rattle.hcl_layout.specs.declared.line.Survey.{Survey}
-use Rattle.hcl_layout.proofs.SurveyLemmas.{behind_token, low_at, noted_open, rest_at, same_token, steps_at, going_more, going_on, surveyed_end, surveyed_going, token_at}
-use Rattle.hcl_layout.proofs.NotedKindLemmas.{end_passed}
+use Rattle.hcl_layout.proofs.SurveyLemmas.{inline_open, low_at, more_balanced, more_low, more_open, more_same, more_within, rest_at, same_token, going_more, surveyed_end, surveyed_going, token_at}
+use Rattle.hcl_layout.proofs.NotedKindLemmas.{end_passed, stopped_level}
 use Rattle.hcl_layout.proofs.line.read_line.Goals as goal
 
 pub loop-line-init : goal.loop-line-init
@@ -52,61 +51,56 @@ returns-then-is_line_end c t e =
     ∙ surveyed_end (drop (i + 1) ts) u (noted before u) whole (sym c.is_line_end.ensures ∙ c.if-is_line_end.true)
     (going_more ts i u before whole c.get-token.ensures.token (c.loop-line.invariant.same t e ∙ c.pass_steps-before.ensures.same))
 
-pub with-line-requires-clause-steps : goal.with-line-requires-clause-steps
-with-line-requires-clause-steps c =
+pub loop-line-preserved-then-is_inline_comment : goal.loop-line-preserved-then-is_inline_comment
+loop-line-preserved-then-is_inline_comment c =
+    let ts = c.args.tokens.now.tokens in
+    let at : ℕ = c.args.at in
+    let u = lexeme c.get-token.result in
     let before : Survey = c.pass_steps-before.result in
-    steps_at c.args.tokens.now.tokens (c.args.at + before.len) before.depth (lexeme c.get-token.result) c.get-token.ensures.token c.pass_steps-before.ensures.balanced
+    let new : Survey = c.with-line.result in
+    let token = c.get-token.ensures.token in
+    let same : new ≡ noted before u = c.with-line.ensures ∙ ap (noted before) (same_token ts (at + before.len) (lexeme c.get.result) u c.get.ensures.token token) in
+    let none : new.comment ≡ None = ap (λ (s : Survey). s.comment) same ∙ inline_open before u c.pass_steps-before.ensures.comment (sym c.is_inline_comment.ensures ∙ c.if-is_inline_comment.true) in
+    record {
+      same = λ t e. more_same ts at u before new (surveyed (first_noted c.args.depth t) t (drop (at + 1) ts)) token same (sym c.is_line_end.ensures ∙ c.if-is_line_end.false) (c.loop-line.invariant.same t e ∙ c.pass_steps-before.ensures.same);
+      balanced = more_balanced ts at u before new token same c.pass_steps-before.ensures.balanced c.pass_steps-before.ensures.fits;
+      low = more_low ts at u before new token same c.pass_steps-before.ensures.balanced c.pass_steps-before.ensures.fits;
+      comment = none;
+      body = more_open ts at u before new same c.pass_steps-before.ensures.comment none;
+      within = more_within ts at u before new token same;
+    }
+
+pub marked-line-requires-clause-level : goal.marked-line-requires-clause-level
+marked-line-requires-clause-level c = stopped_level c.get-token.result.kind c.pass_steps-before.result.depth (c.pass_steps-before.ensures.more (lexeme c.get-token.result) c.get-token.ensures.token)
 
 pub read_rest-requires-clause-balanced : goal.read_rest-requires-clause-balanced
 read_rest-requires-clause-balanced c =
-    let ts = c.args.tokens.now.tokens in
-    let before : Survey = c.pass_steps-before.result in
-    let new : Survey = c.with-line.result in
-    let i : ℕ = c.args.at + before.len in
-    let len : new.len ≡ before.len + 1 = ap (λ (s : Survey). s.len) c.with-line.ensures in
-    let place : i + 1 ≡ c.args.at + new.len = omega (arith, len) in
-    subst (λ k. BalancedFrom new.depth (drop k ts)) place
-    (behind_token ts i before new (lexeme c.get-token.result) c.get-token.ensures.token c.with-line.ensures c.pass_steps-before.ensures.balanced c.pass_steps-before.ensures.fits).0
-
-pub read_rest-requires-clause-fits : goal.read_rest-requires-clause-fits
-read_rest-requires-clause-fits c =
-    let before : Survey = c.pass_steps-before.result in
-    (behind_token c.args.tokens.now.tokens (c.args.at + before.len) before c.with-line.result (lexeme c.get-token.result) c.get-token.ensures.token c.with-line.ensures c.pass_steps-before.ensures.balanced c.pass_steps-before.ensures.fits).1
+    more_balanced c.args.tokens.now.tokens c.args.at (lexeme c.get-token.result) c.pass_steps-before.result c.marked-line.result c.get-token.ensures.token c.marked-line.ensures c.pass_steps-before.ensures.balanced c.pass_steps-before.ensures.fits
 
 pub returns-then-is_some : goal.returns-then-is_some
 returns-then-is_some c t e =
     let ts = c.args.tokens.now.tokens in
-    let u = lexeme c.get-token.result in
-    let before : Survey = c.pass_steps-before.result in
-    let new : Survey = c.with-line.result in
-    let i : ℕ = c.args.at + before.len in
     let whole = surveyed (first_noted c.args.depth t) t (drop (c.args.at + 1) ts) in
-    let len : new.len ≡ before.len + 1 = ap (λ (s : Survey). s.len) c.with-line.ensures in
-    let place : c.args.at + new.len ≡ i + 1 = omega (arith, len) in
     c.read_rest.ensures
-    ∙ ap (λ k. going new (drop k ts)) place
-    ∙ sym (going_on ts i u before new whole c.get-token.ensures.token c.with-line.ensures (sym c.is_line_end.ensures ∙ c.if-is_line_end.false) (c.loop-line.invariant.same t e ∙ c.pass_steps-before.ensures.same))
+    ∙ sym (more_same ts c.args.at (lexeme c.get-token.result) c.pass_steps-before.result c.marked-line.result whole c.get-token.ensures.token c.marked-line.ensures (sym c.is_line_end.ensures ∙ c.if-is_line_end.false) (c.loop-line.invariant.same t e ∙ c.pass_steps-before.ensures.same))
 
 pub loop-line-preserved : goal.loop-line-preserved
 loop-line-preserved c =
     let ts = c.args.tokens.now.tokens in
+    let at : ℕ = c.args.at in
     let u = lexeme c.get-token.result in
     let before : Survey = c.pass_steps-before.result in
-    let new : Survey = c.with-line.result in
-    let i : ℕ = c.args.at + before.len in
-    let same : new ≡ noted before u = c.with-line.ensures in
-    let len : new.len ≡ before.len + 1 = ap (λ (s : Survey). s.len) same in
-    let place : i + 1 ≡ c.args.at + new.len = omega (arith, len) in
-    let left = behind_token ts i before new u c.get-token.ensures.token same c.pass_steps-before.ensures.balanced c.pass_steps-before.ensures.fits in
+    let new : Survey = c.marked-line.result in
+    let token = c.get-token.ensures.token in
+    let same : new ≡ noted before u = c.marked-line.ensures in
     let none : new.comment ≡ None = none_if new.comment (sym c.is_some.ensures ∙ c.if-is_some.false) in
     record {
-      same = λ t e. going_on ts i u before new (surveyed (first_noted c.args.depth t) t (drop (c.args.at + 1) ts)) c.get-token.ensures.token same (sym c.is_line_end.ensures ∙ c.if-is_line_end.false) (c.loop-line.invariant.same t e ∙ c.pass_steps-before.ensures.same)
-          ∙ ap (λ k. going new (drop k ts)) place;
-      balanced = subst (λ k. BalancedFrom new.depth (drop k ts)) place left.0;
-      low = left.1;
+      same = λ t e. more_same ts at u before new (surveyed (first_noted c.args.depth t) t (drop (at + 1) ts)) token same (sym c.is_line_end.ensures ∙ c.if-is_line_end.false) (c.loop-line.invariant.same t e ∙ c.pass_steps-before.ensures.same);
+      balanced = more_balanced ts at u before new token same c.pass_steps-before.ensures.balanced c.pass_steps-before.ensures.fits;
+      low = more_low ts at u before new token same c.pass_steps-before.ensures.balanced c.pass_steps-before.ensures.fits;
       comment = none;
-      body = subst (λ (s : Survey). s.body_depth ≡ s.depth) (sym same) (noted_open before u c.pass_steps-before.ensures.comment (ap (λ (s : Survey). s.comment) (sym same) ∙ none));
-      within = omega (arith, len, slice_get_within ts i u c.get-token.ensures.token);
+      body = more_open ts at u before new same c.pass_steps-before.ensures.comment none;
+      within = more_within ts at u before new token same;
     }
   where
     none_if : (x : Option ℕ) → is_some x ≡ false → x ≡ None
