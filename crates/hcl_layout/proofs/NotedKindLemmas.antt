@@ -1,5 +1,5 @@
 -- What the kinds of tokens say of a walk along a line: tried for each kind.
-use Rattle.std.proofs.Common.{◌≡◌, ◌∙◌, ◌&&◌, ◌||◌, ◌+◌, ◌-◌, ◌≤◌, ℕ, Bool, true, false, not, ap, refl, arith}
+use Rattle.std.proofs.Common.{◌≡◌, ◌∙◌, ◌&&◌, ◌||◌, ◌+◌, ◌-◌, ◌≤◌, ℕ, Bool, true, false, not, ap, refl, sym, arith}
 use Rattle.hcl_tokens.specs.Balanced.{is_closer, is_opener}
 use Rattle.hcl_tokens.specs.Lexemes.{Lexeme}
 use Rattle.hcl_tokens.specs.declared.token.Kind.{Kind}
@@ -66,12 +66,28 @@ steps_deepen k d step e more s =
         let deep : deepen d k ≡ d = rw (p, q) (omega arith) in
         record { on = on; rises = omega (arith, is); stays = omega (arith, is); deepens = omega (arith, is, deep) }
 
--- the kinds of which more is asked open and close nothing
+pub unstopped_whole : (k : Kind) → stops k ≡ false → is kind.InlineComment k ≡ false
+unstopped_whole k e = passes (stops k) (is kind.InlineComment k) (each (λ j. stops j || not (is kind.InlineComment j)) refl k) e
+
+-- a point stands for the kinds of which more is asked, which open and close nothing
+pub pointed : (k : Kind) (step : ℕ) → step ≡ step_of k → step ≡ 46 → stops k ≡ true
+pointed k step e is = go (stops k) refl
+  where
+    no : (n : ℕ) → 48 + n ≡ 46 → ⊥
+    no n h = omega (arith, h)
+
+    go : (v : Bool) → stops k ≡ v → stops k ≡ true
+    go true q = q
+    go false q = let same : 48 + deepen 1 k ≡ step_of k = rw q refl in absurd (no (deepen 1 k) (same ∙ sym e ∙ is))
+
 pub stopped_level : (k : Kind) (d : ℕ) → stops k ≡ true → deepen d k ≡ d
 stopped_level k d e =
     let opener : is_opener k ≡ false = passes (not (stops k)) (is_opener k) (each (λ j. not (stops j) || not (is_opener j)) refl k) (ap not e) in
     let closer : is_closer k ≡ false = passes (not (stops k)) (is_closer k) (each (λ j. not (stops j) || not (is_closer j)) refl k) (ap not e) in
     rw (opener, closer) (omega arith)
+
+pub inline_goes_on : (t : Lexeme) → is kind.InlineComment t.kind ≡ true → ends_line t ≡ false
+inline_goes_on t e = rw (passes (not (is kind.InlineComment t.kind)) (is kind.Newline t.kind) (each (λ j. not (is kind.InlineComment j) || not (is kind.Newline j)) refl t.kind) (ap not e)) refl
 
 pub inline_untrailing : (t : Lexeme) → is kind.InlineComment t.kind ≡ true → is_trailing t ≡ false
 inline_untrailing t e = rw (passes (not (is kind.InlineComment t.kind)) (is kind.LineComment t.kind) (each (λ j. not (is kind.InlineComment j) || not (is kind.LineComment j)) refl t.kind) (ap not e)) refl

@@ -167,10 +167,10 @@ fn stepped(depth: u32, step: u8) -> u32
     depth + u32::from(step) - u32::from(b'1')
 }
 
-/// After the first token of a line, of a kind of which no more is asked, with the depth after it.
+/// After the first token of a line, which tears no cell, with the depth after it.
 #[inline(always)]
 fn bare_survey(depth: u32) -> Survey
-    ensures { (before : ℕ) (t : Lexeme) → marks t.kind ≡ false → depth ≡ deepen before t.kind → result ≡ first_noted before t }
+    ensures { (before : ℕ) (t : Lexeme) → is InlineComment t.kind ≡ false → depth ≡ deepen before t.kind → result ≡ first_noted before t }
 {
     Survey {
         len: 1,
@@ -183,14 +183,12 @@ fn bare_survey(depth: u32) -> Survey
     }
 }
 
-/// After the first token of a line.
+/// After the first token of a line, which neither opens nor closes.
 #[inline(always)]
 fn first_survey(depth: u32, token: Token<'_>) -> Survey
-    requires steps { Steps depth token.kind }
-    requires fits { depth ≤ max_open }
+    requires level { deepen depth token.kind ≡ depth }
     ensures { result ≡ first_noted depth (lexeme token.entry) }
 {
-    let depth = deepened(depth, token.kind);
     Survey {
         len: 1,
         depth,
@@ -202,7 +200,8 @@ fn first_survey(depth: u32, token: Token<'_>) -> Survey
     }
 }
 
-/// After the first token of the line that begins at a place, and whether the line ends with it.
+/// After the first token of the line that begins at a place, and whether the line ends with it. Inline comments alone are
+/// asked for their text.
 #[inline(always)]
 fn read_first(tokens: &Measured<'_, '_>, at: usize, depth: u32) -> (Survey, bool)
     requires within { at < length tokens.now.tokens }
@@ -211,12 +210,15 @@ fn read_first(tokens: &Measured<'_, '_>, at: usize, depth: u32) -> (Survey, bool
     ensures line { (t : Lexeme) → slice_get tokens.now.tokens at ≡ Some t → result.0 ≡ first_noted depth t }
     ensures end { (t : Lexeme) → slice_get tokens.now.tokens at ≡ Some t → result.1 ≡ ends_line t }
 {
-    let step = step_of(tokens.kind(at));
+    let kind = tokens.kind(at);
+    let step = step_of(kind);
     if step != MORE {
         return (bare_survey(stepped(depth, step)), false);
     }
-    let token = tokens.get(at);
-    (first_survey(depth, token), is_line_end(token))
+    if is_inline_comment(kind) {
+        return (first_survey(depth, tokens.get(at)), false);
+    }
+    (bare_survey(depth), is_line_end(tokens.get(at)))
 }
 
 impl Survey {
@@ -270,7 +272,7 @@ impl Survey {
                 ..behind
             };
         }
-        if self.sign.is_none() && is_assignment(token) {
+        if is_assignment(token) && self.sign.is_none() {
             return Survey {
                 sign: Some(self.len),
                 sign_depth: self.depth,
@@ -353,10 +355,10 @@ fn read_rest(tokens: &Measured<'_, '_>, at: usize, passed: Survey) -> Survey
     let mut line = passed;
     while at + line.len < count {
         let token = tokens.get(at + line.len);
-        line = line.with(token);
         if is_line_end(token) {
-            return line;
+            return line.passed();
         }
+        line = line.with(token);
     }
     line
 }

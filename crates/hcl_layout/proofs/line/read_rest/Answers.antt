@@ -6,6 +6,7 @@ use Rattle.hcl_grammar.specs.Items.{deepen}
 use Rattle.hcl_layout.specs.Inner.Depths.{BalancedFrom}
 use Rattle.hcl_layout.specs.Inner.Survey.{going, noted}
 use Rattle.hcl_layout.specs.declared.line.Survey.{Survey}
+use Rattle.hcl_layout.proofs.NotedKindLemmas.{end_passed}
 use Rattle.hcl_layout.proofs.SurveyLemmas.{low_at, rest_at, steps_at, going_more, going_on, going_out, surveyed_end}
 use Rattle.hcl_layout.proofs.line.read_rest.Goals as goal
 
@@ -19,7 +20,7 @@ returns-then-is_line_end c =
     let u = lexeme c.get-token.result in
     let i : ℕ = c.args.at + c.loop-line.line.len in
     let whole = going c.args.passed (drop (c.args.at + c.args.passed.len) ts) in
-    c.with-line.ensures
+    c.passed.ensures u (end_passed u (sym c.is_line_end.ensures ∙ c.if-is_line_end.true))
     ∙ surveyed_end (drop (i + 1) ts) u (noted c.loop-line.line u) whole (sym c.is_line_end.ensures ∙ c.if-is_line_end.true)
     (going_more ts i u c.loop-line.line whole c.get-token.ensures.token c.loop-line.invariant.same)
 
