@@ -134,7 +134,8 @@ fn deepened(depth: u32, kind: Kind) -> u32
 }
 
 /// By kind, the depth after a token of it that stands at depth 1, as a digit: `2` opens, `0` closes, and `1` does neither.
-/// A point stands for the kinds of which more is asked, and for the numbers of no kind.
+/// A point stands for the kinds of which more is asked, and for the numbers of no kind. These fill the table: of one with at
+/// most 64 entries the compiler makes sets of bits, which are asked in more instructions.
 static STEPS: [u8; 256] = *b"\
     ...111112220000111111.1111111111\
     1111112211......................\
