@@ -200,7 +200,7 @@ front_plain g p q k gap from to =
     other_place g.comment k (cell_gap g.assign k gap) front q ∙ other_place g.assign k gap front p
 
 -- a piece of the line goes on in the source
-goes : (ts : List Lexeme) (text : List ℕ) (l : LaidLine) (n from end : ℕ) (t : Lexeme) (gap : ℕ) (p : Piece) → slice_get ts n ≡ Some t → n < l.end → l.first ≤ n
+pub goes : (ts : List Lexeme) (text : List ℕ) (l : LaidLine) (n from end : ℕ) (t : Lexeme) (gap : ℕ) (p : Piece) → slice_get ts n ≡ Some t → n < l.end → l.first ≤ n
     → gap ≡ gap_of l.gaps (n - l.first) (token_before ts l.first (n - 1)) (token_before ts l.first n) t → p.gap ≡ gap → p.text.now ≡ t.text
     → drop from text ≡ bytes_of p ++ drop end text → GoOn ts text l n from (n + 1) end
 goes ts text l n from end t gap p e lt le g same_gap same_text here rest h =

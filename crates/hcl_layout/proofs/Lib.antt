@@ -15,4 +15,7 @@ pub mod OutLemmas
 pub mod FormatLemmas
 pub mod GapCountLemmas
 pub mod InPlaceLemmas
+pub mod InSourceLemmas
+pub mod LineInSourceLemmas
+pub mod FoundCellLemmas
 pub mod NotedKindLemmas

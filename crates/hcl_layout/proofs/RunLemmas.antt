@@ -57,7 +57,7 @@ pub multiline_some : (a : Bool) (x : Option ℕ) (i : ℕ) → (if a then None e
 multiline_some true x i e = cc
 multiline_some false x i e = e
 
-comment_within : (line : Line) (i : ℕ) → trailing_comment line ≡ Some i → i < length line
+pub comment_within : (line : Line) (i : ℕ) → trailing_comment line ≡ Some i → i < length line
 comment_within [] i e = cc
 comment_within (t ∷ line) i e = omega (arith, (place_within is_trailing 1 line i e).1)
 

@@ -1,30 +1,35 @@
 //! Whether each piece of the print stands where the source has it, at one look at each line.
 //!
-//! The column of a run is taken from the source, at the run's first line: it is where the cell stands there, in columns. At
-//! the end of the run it is asked whether it is the greatest width. So nothing is looked ahead, as it has to be where the
-//! column is unknown.
+//! Nothing is looked ahead and no width added up: as long as a line stands in place, the source itself tells how wide it is
+//! before a cell, and the gap there tells the column of a run at its first line. The further lines of the run must have
+//! their cells in that column, and at the end of the run it is asked whether it is the greatest width.
 //!
 //! ```text
-//!                                column in the source    greatest width
-//! name           = "web"                  14                    4
-//! instance_count = 2                      14                   14
-//! zone           = "a"                    14                   14
-//!                                          -                    -        14 = 14
-//! x  = 1                                   2                    1
-//!                                          -                    -         2 > 1: not in place
+//!                                width    gap    column    greatest width
+//! name           = "web"           4       11      14            4
+//! instance_count = 2              14        1      14           14
+//! zone           = "a"             4       11      14           14
+//!                                                   -            -        14 = 14
+//! x  = 1                           1        2       2            1
+//!                                                   -            -         2 > 1: not in place
 //! ```
-ghost use Rattle.std.specs.Prelude.{◌≡◌, ◌<◌, ◌≤◌, ◌+◌, ◌-◌, ◌^◌, ◌++◌, ℕ, None, Some, IsTrue, Option, IfSome, length, drop, max};
-ghost use Rattle.hcl_tokens.specs.Balanced.{IsBalanced};
+ghost use Rattle.std.specs.Prelude.{◌≡◌, ◌<◌, ◌≤◌, ◌+◌, ◌-◌, ◌^◌, ◌++◌, ℕ, None, Some, IsTrue, Option, IfSome, length, drop, max, take};
+ghost use Rattle.hcl_tokens.specs.Balanced.{IsBalanced, max_open};
+ghost use Rattle.hcl_layout.specs.Cells.{assign_cell, trailing_comment};
+ghost use Rattle.hcl_layout.specs.Gaps.{plain_gaps, width as width_of};
 ghost use Rattle.hcl_layout.specs.Print.{print};
-ghost use Rattle.hcl_layout.specs.Inner.InPlace.{Continues, EndsWell, Enters, GoOn, HoldsBefore, Laid, since as since_of};
+ghost use Rattle.hcl_layout.specs.Inner.InPlace.{CellInSource, Continues, EndsWell, Enters, IsSetApart, IsSetIn, LineInSource, PieceInSource, PlainInSource, SignInSource, cell_or_end, comment_or_end, of_run, since};
 ghost use Rattle.hcl_layout.specs.Inner.Left.{bytes_of};
-ghost use Rattle.hcl_layout.specs.Inner.LineGaps.{ArePlain};
+ghost use Rattle.hcl_layout.specs.Inner.LineGaps.{ArePlain, IsSigned, gaps_in};
 ghost use Rattle.hcl_layout.specs.Inner.Simple.{IsFrom};
-ghost use Rattle.hcl_layout.specs.Inner.Stream.{HasWidth};
+ghost use Rattle.hcl_layout.specs.Inner.Survey.{IsLine, text_at};
 ghost use Rattle.hcl_layout.specs.Inner.Walks.{HasCome};
 
-use crate::gap::{Cell, LineGaps, gap_at, gap_behind, next_cell, plain_gap_at};
-use crate::line::line_at;
+use crate::gap::{
+    Cell, LineGaps, gap_behind, indent, next_cell, plain_line, plain_width, width, with_comment,
+};
+use crate::levels::next_level;
+use crate::line::{LineFacts, line_at};
 use crate::measured::Measured;
 use crate::piece::{Piece, goes_on, piece_of};
 use crate::runs::{Walk, start_walk};
@@ -44,236 +49,12 @@ pub struct LaidLine {
     pub gaps: LineGaps,
 }
 
-/// The greatest width passed of a run: none yet where it has no column.
-#[inline(always)]
-fn since(column: Option<u64>, greatest: u64) -> u64
-    ensures { result ≡ since_of column greatest }
-{
-    if column.is_none() {
-        return 0;
-    }
-    greatest
-}
-
-/// The greatest width with that before a cell.
-#[inline(always)]
-fn widened(greatest: u64, cell: Option<Cell>) -> u64
-    ensures { (width : Option ℕ) → HasWidth cell width → IfSome width (λ w. result ≡ max greatest w) }
-{
-    let Some(cell) = cell else {
-        return greatest;
-    };
-    greatest.max(cell.width)
-}
-
-/// Whether a run that ends in front of a line has a width as great as its column. With a cell in the line none ends.
-#[inline(always)]
-fn ends_well(column: Option<u64>, greatest: u64, cell: Option<usize>) -> bool
-    ensures { IsTrue result → EndsWell column greatest cell }
-{
-    let Some(column) = column else {
-        return true;
-    };
-    cell.is_some() || column == greatest
-}
-
-/// By how many bytes the texts before a place of a line are longer than they are wide. Nothing rests on it: a column that
-/// is taken from the source is asked for at the end of its run.
-#[inline(never)]
-fn surplus(tokens: &Measured<'_, '_>, first: usize, place: usize) -> u64
-    requires there { first + place ≤ length tokens.now.tokens }
-{
-    // so the sum of a place and its line's number fits
-    let _count = tokens.len();
-    let mut bytes: u64 = 0;
-    let mut columns: u64 = 0;
-    for k in 0..place {
-        let token = tokens.get(first + k);
-        bytes = bytes.saturating_add(token.text.len() as u64);
-        columns = columns.saturating_add(tokens.clusters(token));
-    }
-    bytes.saturating_sub(columns)
-}
-
-/// The column with which a line is entered: that of its run, or that in which its cell stands in the source, whose line
-/// begins at a byte offset.
-#[inline(always)]
-fn entered(
-    tokens: &Measured<'_, '_>,
-    column: Option<u64>,
-    first: usize,
-    cell: Option<usize>,
-    offset: usize,
-) -> Option<u64>
-    requires there { (i : ℕ) → cell ≡ Some i → first + i < length tokens.now.tokens }
-    ensures enters { Enters column cell result }
-    ensures fits { column ≡ None → IfSome result (λ c. c < 2 ^ 32) }
-{
-    if column.is_some() {
-        return column;
-    }
-    let Some(place) = cell else {
-        return None;
-    };
-    // so the token's number fits
-    let _count = tokens.len();
-    let token = tokens.get(first + place);
-    let bytes = token.start.saturating_sub(offset).saturating_sub(1) as u64;
-    if tokens.is_simple() {
-        return Some(bytes);
-    }
-    Some(bytes.saturating_sub(surplus(tokens, first, place)))
-}
-
-/// Passes the next line, which begins at a byte offset of the source, unless a run ended before it in another column than its
-/// greatest width.
-#[inline(always)]
-fn enter(
-    walk: &mut Walk,
-    runs: &mut Runs,
-    tokens: &Measured<'_, '_>,
+/// Where a line begins: the number of its first token, the byte offset at which the line before it ends, and its level.
+#[derive(Clone, Copy)]
+struct Front {
     first: usize,
     offset: usize,
-) -> Option<LaidLine>
-    requires within { first < length tokens.now.tokens }
-    requires come { HasCome tokens.now.tokens first walk.old }
-    ensures laid { IfSome result (λ line. Laid tokens.now.tokens line) }
-    ensures first { IfSome result (λ line. line.first ≡ first) }
-    ensures come { IfSome result (λ line. HasCome tokens.now.tokens line.end walk.new) }
-    ensures step { IfSome result (λ line. HoldsBefore tokens.now.tokens tokens.now.text line first offset walk.old runs.old walk.new runs.new) }
-{
-    let line = line_at(tokens, first, walk.depth);
-    if !ends_well(walk.signs, runs.assign, line.assign) {
-        return None;
-    }
-    if !ends_well(walk.comments, runs.comment, line.running) {
-        return None;
-    }
-    let assign = since(walk.signs, runs.assign);
-    let comment = since(walk.comments, runs.comment);
-    walk.signs = entered(tokens, walk.signs, first, line.assign, offset);
-    walk.comments = entered(tokens, walk.comments, first, line.running, offset);
-    let gaps = walk.pass(tokens, first, line);
-    runs.assign = widened(assign, gaps.assign);
-    runs.comment = widened(comment, gaps.comment);
-    Some(LaidLine {
-        first,
-        end: first + line.len,
-        gaps,
-    })
-}
-
-/// Where a piece ends that goes on from a byte offset of the source.
-#[inline(always)]
-fn end_of(source: &[u8], offset: usize, piece: Piece<'_>) -> Option<usize>
-    requires within { offset ≤ length source.now }
-    requires source { IsFrom source.now piece.start piece.text.now }
-    requires gap { piece.gap ≤ 2 ^ 34 }
-    requires small { length source.now < 2 ^ 32 }
-    ensures within { IfSome result (λ end. end ≤ length source.now) }
-    ensures goes { IfSome result (λ end. drop offset source.now ≡ bytes_of piece.entry ++ drop end source.now) }
-{
-    if !goes_on(source, offset, piece) {
-        return None;
-    }
-    Some(piece.start + piece.text.len())
-}
-
-/// Where the first piece of a line ends, if it goes on from a byte offset of the source.
-#[inline(always)]
-fn first_end(
-    tokens: &Measured<'_, '_>,
-    source: &[u8],
-    line: LaidLine,
-    offset: usize,
-) -> Option<usize>
-    requires laid { Laid tokens.now.tokens line }
-    requires source { source.now ≡ tokens.now.text }
-    requires within { offset ≤ length source.now }
-    ensures within { IfSome result (λ end. end ≤ length source.now) }
-    ensures left { IfSome result (λ end. GoOn tokens.now.tokens tokens.now.text line line.first offset (line.first + 1) end) }
-{
-    let token = tokens.get(line.first);
-    let gap = plain_gap_at(tokens, line.gaps.level, line.first, line.first, token);
-    end_of(source, offset, piece_of(token, gap))
-}
-
-/// Where the piece of a token after the first of a line ends that is no cell, if it goes on from a byte offset of the
-/// source.
-#[inline(always)]
-fn plain_end(
-    tokens: &Measured<'_, '_>,
-    source: &[u8],
-    line: LaidLine,
-    number: usize,
-    offset: usize,
-) -> Option<usize>
-    requires laid { Laid tokens.now.tokens line }
-    requires behind { line.first < number }
-    requires there { number < line.end }
-    requires plain { ArePlain line.gaps (number - line.first) (number + 1 - line.first) }
-    requires source { source.now ≡ tokens.now.text }
-    requires within { offset ≤ length source.now }
-    ensures within { IfSome result (λ end. end ≤ length source.now) }
-    ensures left { IfSome result (λ end. GoOn tokens.now.tokens tokens.now.text line number offset (number + 1) end) }
-{
-    let token = tokens.get(number);
-    let gap = gap_behind(tokens, line.first, number, token);
-    end_of(source, offset, piece_of(token, gap))
-}
-
-/// Where the piece of a token of a line ends that may be a cell, if it goes on from a byte offset of the source.
-#[inline(always)]
-fn cell_end(
-    tokens: &Measured<'_, '_>,
-    source: &[u8],
-    line: LaidLine,
-    number: usize,
-    offset: usize,
-) -> Option<usize>
-    requires laid { Laid tokens.now.tokens line }
-    requires order { line.first ≤ number }
-    requires there { number < line.end }
-    requires source { source.now ≡ tokens.now.text }
-    requires within { offset ≤ length source.now }
-    ensures within { IfSome result (λ end. end ≤ length source.now) }
-    ensures left { IfSome result (λ end. GoOn tokens.now.tokens tokens.now.text line number offset (number + 1) end) }
-{
-    let gap = gap_at(tokens, line.gaps, line.first, number);
-    end_of(source, offset, piece_of(tokens.get(number), gap))
-}
-
-/// Where the last of the pieces from one token to another ends, which are no cells, if they go on from a byte offset of
-/// the source.
-#[inline(always)]
-fn plain_ends(
-    tokens: &Measured<'_, '_>,
-    source: &[u8],
-    line: LaidLine,
-    next: usize,
-    stop: usize,
-    offset: usize,
-) -> Option<usize>
-    requires laid { Laid tokens.now.tokens line }
-    requires behind { line.first < next }
-    requires order { next ≤ stop }
-    requires there { stop ≤ line.end }
-    requires plain { ArePlain line.gaps (next - line.first) (stop - line.first) }
-    requires source { source.now ≡ tokens.now.text }
-    requires within { offset ≤ length source.now }
-    ensures within { IfSome result (λ end. end ≤ length source.now) }
-    ensures left { IfSome result (λ end. GoOn tokens.now.tokens tokens.now.text line next offset stop end) }
-{
-    let mut number = next;
-    let mut reached = offset;
-    while number < stop {
-        let Some(end) = plain_end(tokens, source, line, number, reached) else {
-            return None;
-        };
-        reached = end;
-        number += 1;
-    }
-    Some(reached)
+    level: u32,
 }
 
 /// The number of the next cell of a line after a token of it, or of the token after the line.
@@ -289,44 +70,448 @@ pub fn cell_behind(line: LaidLine, number: usize) -> usize
     (line.first + place).max(number + 1)
 }
 
-/// Where a line ends, if each of its pieces goes on from a byte offset of the source.
+/// Where the comment of a line stands, or else its end.
 #[inline(always)]
-fn line_end(
+fn comment_or_end(line: LineFacts) -> usize
+    ensures { result ≡ comment_or_end line }
+{
+    let Some(place) = line.comment else {
+        return line.len;
+    };
+    place
+}
+
+/// Where the first cell of a line stands, or else its end.
+#[inline(always)]
+fn cell_or_end(line: LineFacts) -> usize
+    ensures { result ≡ cell_or_end line }
+{
+    let Some(place) = line.assign else {
+        return comment_or_end(line);
+    };
+    place
+}
+
+/// Where a piece ends that goes on from a byte offset of the source.
+#[inline(always)]
+fn end_of(source: &[u8], offset: usize, piece: Piece<'_>) -> Option<usize>
+    requires within { offset ≤ length source.now }
+    requires source { IsFrom source.now piece.start piece.text.now }
+    requires gap { piece.gap ≤ 2 ^ 34 }
+    requires small { length source.now < 2 ^ 32 }
+    ensures within { IfSome result (λ end. end ≤ length source.now) }
+    ensures goes { IfSome result (λ end. drop offset source.now ≡ bytes_of piece.entry ++ drop end source.now) }
+    ensures end { IfSome result (λ end. end ≡ offset + piece.entry.gap + length piece.entry.text.now) }
+{
+    if !goes_on(source, offset, piece) {
+        return None;
+    }
+    Some(piece.start + piece.text.len())
+}
+
+/// Where the piece of a token ends that has so many blanks before it, if it goes on from a byte offset of the source.
+#[inline(always)]
+fn piece_end(
     tokens: &Measured<'_, '_>,
     source: &[u8],
-    line: LaidLine,
+    number: usize,
+    gap: u64,
     offset: usize,
 ) -> Option<usize>
-    requires laid { Laid tokens.now.tokens line }
+    requires there { number < length tokens.now.tokens }
+    requires gap { gap ≤ 2 ^ 34 }
     requires source { source.now ≡ tokens.now.text }
     requires within { offset ≤ length source.now }
     ensures within { IfSome result (λ end. end ≤ length source.now) }
-    ensures left { IfSome result (λ end. GoOn tokens.now.tokens tokens.now.text line line.first offset line.end end) }
+    ensures stands { (first : ℕ) → first ≤ number → IfSome result (PieceInSource tokens.now.tokens tokens.now.text first number gap offset) }
 {
-    let Some(end) = first_end(tokens, source, line, offset) else {
-        return None;
-    };
-    let mut cell = cell_behind(line, line.first);
-    let Some(end) = plain_ends(tokens, source, line, line.first + 1, cell, end) else {
-        return None;
-    };
-    let mut reached = end;
-    while cell < line.end {
-        let Some(end) = cell_end(tokens, source, line, cell, reached) else {
-            return None;
-        };
-        let next = cell + 1;
-        cell = cell_behind(line, cell);
-        let Some(end) = plain_ends(tokens, source, line, next, cell, end) else {
+    end_of(source, offset, piece_of(tokens.get(number), gap))
+}
+
+/// Where the piece of a token after the first of a line ends that is no cell, if it goes on from a byte offset of the source.
+#[inline(always)]
+fn plain_end(
+    tokens: &Measured<'_, '_>,
+    source: &[u8],
+    first: usize,
+    number: usize,
+    offset: usize,
+) -> Option<usize>
+    requires behind { first < number }
+    requires there { number < length tokens.now.tokens }
+    requires source { source.now ≡ tokens.now.text }
+    requires within { offset ≤ length source.now }
+    ensures within { IfSome result (λ end. end ≤ length source.now) }
+    ensures stands { (level : ℕ) → IfSome result (PlainInSource tokens.now.tokens tokens.now.text level first number offset (number + 1)) }
+{
+    let token = tokens.get(number);
+    let gap = gap_behind(tokens, first, number, token);
+    piece_end(tokens, source, number, gap, offset)
+}
+
+/// Where the last of the pieces from one token of a line to another ends, which are no cells, if they go on from a byte
+/// offset of the source.
+#[inline(always)]
+fn plain_ends(
+    tokens: &Measured<'_, '_>,
+    source: &[u8],
+    first: usize,
+    next: usize,
+    stop: usize,
+    offset: usize,
+) -> Option<usize>
+    requires behind { first < next }
+    requires order { next ≤ stop }
+    requires there { stop ≤ length tokens.now.tokens }
+    requires source { source.now ≡ tokens.now.text }
+    requires within { offset ≤ length source.now }
+    ensures within { IfSome result (λ end. end ≤ length source.now) }
+    ensures stands { (level : ℕ) → IfSome result (PlainInSource tokens.now.tokens tokens.now.text level first next offset stop) }
+{
+    let mut number = next;
+    let mut reached = offset;
+    while number < stop {
+        let Some(end) = plain_end(tokens, source, first, number, reached) else {
             return None;
         };
         reached = end;
+        number += 1;
     }
     Some(reached)
 }
 
+/// Where the pieces of a line end that stand before its first cell, if they go on from the line's offset.
+#[inline(always)]
+fn front_end(tokens: &Measured<'_, '_>, source: &[u8], front: Front, stop: usize) -> Option<usize>
+    requires some { front.first < stop }
+    requires there { stop ≤ length tokens.now.tokens }
+    requires level { front.level ≤ max_open }
+    requires source { source.now ≡ tokens.now.text }
+    requires within { front.offset ≤ length source.now }
+    ensures within { IfSome result (λ end. end ≤ length source.now) }
+    ensures stands { IfSome result (PlainInSource tokens.now.tokens tokens.now.text front.level front.first front.first front.offset stop) }
+{
+    let first = front.first;
+    let gap = indent(front.level, tokens.get(first));
+    let Some(end) = piece_end(tokens, source, first, gap, front.offset) else {
+        return None;
+    };
+    plain_ends(tokens, source, first, first + 1, stop, end)
+}
+
+/// Where the pieces of a line end from a cell with its gap on up to another token, if they go on from a byte offset.
+#[inline(always)]
+fn cell_end(
+    tokens: &Measured<'_, '_>,
+    source: &[u8],
+    first: usize,
+    number: usize,
+    gap: u64,
+    stop: usize,
+    offset: usize,
+) -> Option<usize>
+    requires behind { first < number }
+    requires some { number < stop }
+    requires there { stop ≤ length tokens.now.tokens }
+    requires gap { gap ≤ 2 ^ 34 }
+    requires source { source.now ≡ tokens.now.text }
+    requires within { offset ≤ length source.now }
+    ensures within { IfSome result (λ end. end ≤ length source.now) }
+    ensures stands { IfSome result (CellInSource tokens.now.tokens tokens.now.text first number gap offset stop) }
+{
+    let Some(end) = piece_end(tokens, source, number, gap, offset) else {
+        return None;
+    };
+    plain_ends(tokens, source, first, number + 1, stop, end)
+}
+
+/// How many bytes of the source stand between an offset and a token after it.
+#[inline(always)]
+fn gap_found(tokens: &Measured<'_, '_>, number: usize, offset: usize) -> u64
+    requires there { number < length tokens.now.tokens }
+    ensures small { result ≤ 2 ^ 22 }
+{
+    tokens.get(number).start.saturating_sub(offset) as u64
+}
+
+/// The sign of a line as it stands in the source, where the text before it ends at a byte offset.
+#[inline(always)]
+fn found_sign(
+    tokens: &Measured<'_, '_>,
+    front: Front,
+    len: usize,
+    place: usize,
+    reached: usize,
+) -> Cell
+    requires within { front.first + len ≤ length tokens.now.tokens }
+    requires there { place < len }
+    requires level { front.level ≤ max_open }
+    requires reached { reached ≤ length tokens.now.text }
+    requires stands { PlainInSource tokens.now.tokens tokens.now.text front.level front.first front.first front.offset (front.first + place) reached }
+    ensures place { result.place ≡ place }
+    ensures width { let text = take len (drop front.first tokens.now.tokens) in result.width ≡ width_of place (plain_gaps front.level text) text }
+    ensures narrow { result.width ≤ 2 ^ 25 }
+    ensures gap { result.gap ≤ 2 ^ 22 }
+{
+    // so the token's number fits
+    let _count = tokens.len();
+    let gap = gap_found(tokens, front.first + place, reached);
+    if tokens.is_simple() {
+        let width = reached.saturating_sub(front.offset) as u64;
+        return Cell { place, width, gap };
+    }
+    let width = plain_width(tokens, front.first, len, place, front.level);
+    Cell { place, width, gap }
+}
+
+/// The gaps of a line with its sign as it stands in the source, and where its pieces up to its comment end, if they go on
+/// from where those before the sign end.
+#[inline(always)]
+fn sign_in_place(
+    tokens: &Measured<'_, '_>,
+    source: &[u8],
+    front: Front,
+    line: LineFacts,
+    reached: usize,
+) -> Option<(LineGaps, usize)>
+    requires within { front.first + line.len ≤ length tokens.now.tokens }
+    requires assign { line.assign ≡ assign_cell (text_at tokens.now.tokens front.first line) }
+    requires comment { line.comment ≡ trailing_comment (text_at tokens.now.tokens front.first line) }
+    requires level { front.level ≤ max_open }
+    requires source { source.now ≡ tokens.now.text }
+    requires reached { reached ≤ length source.now }
+    requires stands { PlainInSource tokens.now.tokens tokens.now.text front.level front.first front.first front.offset (front.first + cell_or_end line) reached }
+    ensures within { IfSome result (λ p. p.1 ≤ length source.now) }
+    ensures signed { IfSome result (λ p. IsSigned p.0 (text_at tokens.now.tokens front.first line)) }
+    ensures level { IfSome result (λ p. p.0.level ≡ front.level) }
+    ensures stands { IfSome result (λ p. SignInSource tokens.now.tokens tokens.now.text front.level front.first line front.offset p.0.assign p.1) }
+{
+    let Some(place) = line.assign else {
+        return Some((plain_line(front.level), reached));
+    };
+    // so the numbers of the line's tokens fit
+    let _count = tokens.len();
+    let sign = found_sign(tokens, front, line.len, place, reached);
+    let number = front.first + place;
+    let stop = front.first + comment_or_end(line);
+    let Some(end) = cell_end(tokens, source, front.first, number, sign.gap, stop, reached) else {
+        return None;
+    };
+    let gaps = LineGaps {
+        level: front.level,
+        assign: Some(sign),
+        comment: None,
+    };
+    Some((gaps, end))
+}
+
+/// The comment of a line as it stands in the source, where the text before it ends at a byte offset.
+#[inline(always)]
+fn found_comment(
+    tokens: &Measured<'_, '_>,
+    front: Front,
+    line: LineFacts,
+    place: usize,
+    signed: LineGaps,
+    reached: usize,
+) -> Cell
+    requires within { front.first + line.len ≤ length tokens.now.tokens }
+    requires comment { line.comment ≡ Some place }
+    requires is_comment { line.comment ≡ trailing_comment (text_at tokens.now.tokens front.first line) }
+    requires signed { IsSigned signed (text_at tokens.now.tokens front.first line) }
+    requires level { signed.level ≡ front.level }
+    requires reached { reached ≤ length tokens.now.text }
+    requires stands { SignInSource tokens.now.tokens tokens.now.text front.level front.first line front.offset signed.assign reached }
+    ensures place { result.place ≡ place }
+    ensures width { let text = text_at tokens.now.tokens front.first line in result.width ≡ width_of place (gaps_in signed text) text }
+    ensures narrow { result.width ≤ 2 ^ 25 }
+    ensures gap { result.gap ≤ 2 ^ 22 }
+{
+    // so the token's number fits
+    let _count = tokens.len();
+    let gap = gap_found(tokens, front.first + place, reached);
+    if tokens.is_simple() {
+        let width = reached.saturating_sub(front.offset) as u64;
+        return Cell { place, width, gap };
+    }
+    let width = width(tokens, front.first, line.len, place, signed);
+    Cell { place, width, gap }
+}
+
+/// The gaps of a line with both cells as they stand in the source, and where the line ends, if its pieces go on from where
+/// those before its comment end.
+#[inline(always)]
+fn comment_in_place(
+    tokens: &Measured<'_, '_>,
+    source: &[u8],
+    front: Front,
+    line: LineFacts,
+    signed: LineGaps,
+    reached: usize,
+) -> Option<(LineGaps, usize)>
+    requires within { front.first + line.len ≤ length tokens.now.tokens }
+    requires comment { line.comment ≡ trailing_comment (text_at tokens.now.tokens front.first line) }
+    requires signed { IsSigned signed (text_at tokens.now.tokens front.first line) }
+    requires level { signed.level ≡ front.level }
+    requires source { source.now ≡ tokens.now.text }
+    requires reached { reached ≤ length source.now }
+    requires stands { SignInSource tokens.now.tokens tokens.now.text front.level front.first line front.offset signed.assign reached }
+    ensures within { IfSome result (λ p. p.1 ≤ length source.now) }
+    ensures stands { IfSome result (λ p. LineInSource tokens.now.tokens tokens.now.text front.level front.first line front.offset p.0 p.1) }
+{
+    let Some(place) = line.comment else {
+        return Some((signed, reached));
+    };
+    // so the numbers of the line's tokens fit
+    let _count = tokens.len();
+    let comment = found_comment(tokens, front, line, place, signed, reached);
+    let number = front.first + place;
+    let stop = front.first + line.len;
+    let Some(end) = cell_end(
+        tokens,
+        source,
+        front.first,
+        number,
+        comment.gap,
+        stop,
+        reached,
+    ) else {
+        return None;
+    };
+    Some((with_comment(signed, place, comment.width, comment.gap), end))
+}
+
+/// The gaps of a line as they stand in the source, and where the line ends, if each of its pieces goes on from the line's
+/// offset, its cells after whatever gaps they have.
+#[inline(always)]
+fn line_in_place(
+    tokens: &Measured<'_, '_>,
+    source: &[u8],
+    front: Front,
+    line: LineFacts,
+) -> Option<(LineGaps, usize)>
+    requires some { 0 < line.len }
+    requires within { front.first + line.len ≤ length tokens.now.tokens }
+    requires assign { line.assign ≡ assign_cell (text_at tokens.now.tokens front.first line) }
+    requires comment { line.comment ≡ trailing_comment (text_at tokens.now.tokens front.first line) }
+    requires level { front.level ≤ max_open }
+    requires source { source.now ≡ tokens.now.text }
+    requires offset { front.offset ≤ length source.now }
+    ensures within { IfSome result (λ p. p.1 ≤ length source.now) }
+    ensures stands { IfSome result (λ p. LineInSource tokens.now.tokens tokens.now.text front.level front.first line front.offset p.0 p.1) }
+{
+    // so the number of the token after the line fits
+    let _count = tokens.len();
+    let stop = front.first + cell_or_end(line);
+    let Some(reached) = front_end(tokens, source, front, stop) else {
+        return None;
+    };
+    let Some((signed, reached)) = sign_in_place(tokens, source, front, line, reached) else {
+        return None;
+    };
+    comment_in_place(tokens, source, front, line, signed, reached)
+}
+
+/// The column of the run in which a line has a cell: that of the line before it, or else where the cell stands. Without a
+/// cell it is left as it was.
+#[inline(always)]
+fn entered(column: Option<u64>, cell: Option<Cell>) -> Option<u64>
+    requires narrow { IfSome cell (λ c. c.width ≤ 2 ^ 25) }
+    requires gap { IfSome cell (λ c. c.gap ≤ 2 ^ 22) }
+    ensures enters { Enters column cell result }
+    ensures fits { (n : ℕ) → 2 ^ 33 ≤ n → IfSome column (λ c. c < n) → IfSome result (λ c. c < n) }
+{
+    if column.is_some() {
+        return column;
+    }
+    let Some(cell) = cell else {
+        return None;
+    };
+    Some((cell.width + cell.gap).saturating_sub(1))
+}
+
+/// Whether a cell stands in a column.
+#[inline(always)]
+fn is_set_in(cell: Option<Cell>, column: Option<u64>) -> bool
+    requires narrow { IfSome cell (λ c. c.width ≤ 2 ^ 25) }
+    requires gap { IfSome cell (λ c. c.gap ≤ 2 ^ 22) }
+    requires fits { IfSome column (λ c. c < 2 ^ 34) }
+    ensures { IsTrue result → IsSetIn cell column }
+{
+    let Some(cell) = cell else {
+        return true;
+    };
+    let Some(column) = column else {
+        return false;
+    };
+    cell.gap > 0 && cell.width + cell.gap == column + 1
+}
+
+/// Whether the comment of a line that takes part in no run stands one blank after what is before it.
+#[inline(always)]
+fn is_set_apart(running: Option<usize>, comment: Option<Cell>) -> bool
+    ensures { IsTrue result → IsSetApart running comment }
+{
+    if running.is_some() {
+        return true;
+    }
+    let Some(comment) = comment else {
+        return true;
+    };
+    comment.gap == 1
+}
+
+/// The comment of a line, where it takes part in runs.
+#[inline(always)]
+fn of_run(running: Option<usize>, comment: Option<Cell>) -> Option<Cell>
+    ensures { result ≡ of_run running comment }
+{
+    if running.is_none() {
+        return None;
+    }
+    comment
+}
+
+/// The greatest width passed of a run, with that before a cell. Without a cell it is of no run.
+#[inline(always)]
+fn widened(column: Option<u64>, greatest: u64, cell: Option<Cell>) -> u64
+    ensures { IfSome cell (λ c. result ≡ max (since column greatest) c.width) }
+{
+    let Some(cell) = cell else {
+        return 0;
+    };
+    if column.is_none() {
+        return cell.width;
+    }
+    greatest.max(cell.width)
+}
+
+/// The column of the run in which a line stands, after it.
+#[inline(always)]
+fn left_in(column: Option<u64>, cell: Option<Cell>) -> Option<u64>
+    ensures cell { IfSome cell (λ c. result ≡ column) }
+    ensures none { cell ≡ None → result ≡ None }
+{
+    if cell.is_none() {
+        return None;
+    }
+    column
+}
+
+/// Whether a run that ends in front of a line has a width as great as its column. With a cell in the line none ends.
+#[inline(always)]
+fn ends_well(column: Option<u64>, greatest: u64, cell: Option<usize>) -> bool
+    ensures { IsTrue result → EndsWell column greatest cell }
+{
+    let Some(column) = column else {
+        return true;
+    };
+    cell.is_some() || column == greatest
+}
+
 /// Passes the next line, and gives the number of the token after it and where it ends, if each of its pieces goes on from a
-/// byte offset of the source and no run ended before it in another column than its greatest width.
+/// byte offset of the source, its cells stand in the columns of their runs, and no run ended before it in another column
+/// than its greatest width.
 #[inline(always)]
 fn pass_line(
     walk: &mut Walk,
@@ -346,13 +531,37 @@ fn pass_line(
     ensures within { IfSome result (λ p. p.1 ≤ length source.now) }
     ensures step { IfSome result (λ p. Continues tokens.now.tokens tokens.now.text walk.old runs.old first offset walk.new runs.new p.0 p.1) }
 {
-    let Some(line) = enter(walk, runs, tokens, first, offset) else {
+    let line = line_at(tokens, first, walk.depth);
+    if !ends_well(walk.signs, runs.assign, line.assign) {
+        return None;
+    }
+    if !ends_well(walk.comments, runs.comment, line.running) {
+        return None;
+    }
+    let level = next_level(&mut walk.levels, walk.depth, line.depth);
+    walk.depth = line.depth;
+    let front = Front {
+        first,
+        offset,
+        level,
+    };
+    let Some((gaps, end)) = line_in_place(tokens, source, front, line) else {
         return None;
     };
-    let Some(end) = line_end(tokens, source, line, offset) else {
+    if !is_set_apart(line.running, gaps.comment) {
         return None;
-    };
-    Some((line.end, end))
+    }
+    let running = of_run(line.running, gaps.comment);
+    let signs = entered(walk.signs, gaps.assign);
+    let comments = entered(walk.comments, running);
+    if !is_set_in(gaps.assign, signs) || !is_set_in(running, comments) {
+        return None;
+    }
+    runs.assign = widened(walk.signs, runs.assign, gaps.assign);
+    runs.comment = widened(walk.comments, runs.comment, running);
+    walk.signs = left_in(signs, gaps.assign);
+    walk.comments = left_in(comments, running);
+    Some((first + line.len, end))
 }
 
 /// Whether both runs that end with the text have a width as great as their columns.

@@ -1,16 +1,22 @@
 -- Reading the pieces line by line where each stands as in the source, with the columns of runs taken from there.
-use Rattle.std.specs.Prelude.{◌≡◌, ◌-◌, ◌<◌, ◌≤◌, ◌^◌, ◌++◌, ℕ, List, Option, Some, None, IfSome, drop, length, max, take}
+use Rattle.std.specs.Prelude.{◌≡◌, ◌+◌, ◌-◌, ◌<◌, ◌≤◌, ◌^◌, ◌++◌, ℕ, List, Option, Some, None, IfSome, true, drop, length, max, option_map, slice_get, take}
 use Rattle.std.specs.List.{flat_map}
 use Rattle.hcl_tokens.specs.Lexemes.{Lexeme}
 use Rattle.hcl_tokens.specs.Balanced.{max_open}
 use Rattle.hcl_layout.specs.Columns.{widest}
+use Rattle.hcl_layout.specs.Gaps.{plain_gaps, width}
 use Rattle.hcl_layout.specs.Lines.{lines}
 use Rattle.hcl_layout.specs.Print.{printed_text}
-use Rattle.hcl_layout.specs.Inner.Left.{token_before}
-use Rattle.hcl_layout.specs.Inner.LineGaps.{ArePlain, gaps_from}
+use Rattle.hcl_layout.specs.Inner.Left.{gap_before, token_before}
+use Rattle.hcl_layout.specs.Inner.LineGaps.{ArePlain, cell_gap, gaps_from, gaps_in, given_or}
+use Rattle.hcl_layout.specs.Inner.Simple.{is_simple}
 use Rattle.hcl_layout.specs.Inner.Stream.{assign_widths, comment_widths, commented}
+use Rattle.hcl_layout.specs.Inner.Survey.{text_at}
+use Rattle.hcl_layout.specs.declared.gap.Cell.{Cell}
+use Rattle.hcl_layout.specs.declared.gap.LineGaps.{LineGaps}
 use Rattle.hcl_layout.specs.declared.in_place.LaidLine.{LaidLine}
 use Rattle.hcl_layout.specs.declared.in_place.Runs.{Runs}
+use Rattle.hcl_layout.specs.declared.line.LineFacts.{LineFacts}
 use Rattle.hcl_layout.specs.declared.runs.Walk.{Walk}
 
 -- ---- one run
@@ -66,8 +72,85 @@ left_at ts l rest n = printed_text (gaps_from l.gaps (n - l.first) (token_before
 abbrev pub GoOn : List Lexeme → List ℕ → LaidLine → ℕ → ℕ → ℕ → ℕ → Type 0
 GoOn ts source l n at n' at' = (rest : List ℕ) → left_at ts l rest n' ≡ drop at' source → left_at ts l rest n ≡ drop at source
 
--- where a line and all after it stand in place, all stands in place from the line on: by the walk and the runs before the
--- line, and by those after it
-abbrev pub HoldsBefore : List Lexeme → List ℕ → LaidLine → ℕ → ℕ → Walk → Runs → Walk → Runs → Type 0
-HoldsBefore ts source l first at w runs w' runs' =
-    (end : ℕ) → InPlace ts source w' runs' l.end end → left_at ts l (gaps_on ts l.end w') first ≡ drop at source → InPlace ts source w runs first at
+-- ---- pieces of the line that begins at a token, in the source
+
+abbrev pub line_with : LineGaps → ℕ → ℕ → LaidLine
+line_with g first end = record { first = first; end = end; gaps = g }
+
+-- so much wider than before a token of it the line is before a further one
+abbrev pub width_up_to : List Lexeme → LaidLine → ℕ → ℕ → ℕ
+width_up_to ts l n stop =
+    width (stop - n) (gaps_from l.gaps (n - l.first) (token_before ts l.first (n - 1)) (token_before ts l.first n) (take (l.end - n) (drop n ts))) (take (l.end - n) (drop n ts))
+
+-- the pieces from a token on, which begin at a place, end before another token and at another place; in plain ASCII the
+-- line is wider by as much as these places are apart
+pub record InSource (ts : List Lexeme) (source : List ℕ) (l : LaidLine) (n at n' at' : ℕ) : Type 0 where
+  pub on : GoOn ts source l n at n' at'
+  pub wide : is_simple source ≡ true → (stop : ℕ) → n' ≤ stop → stop ≤ l.end → at + width_up_to ts l n stop ≡ at' + width_up_to ts l n' stop
+
+abbrev pub HasGap : List Lexeme → LineGaps → ℕ → ℕ → ℕ → Type 0
+HasGap ts g first n gap = (t : Lexeme) → slice_get ts n ≡ Some t → gap ≡ gap_before ts g first n t
+
+-- one piece with its gap, whatever the other gaps of its line are
+abbrev pub PieceInSource : List Lexeme → List ℕ → ℕ → ℕ → ℕ → ℕ → ℕ → Type 0
+PieceInSource ts source first n gap at at' = (g : LineGaps) (end : ℕ) → n < end → HasGap ts g first n gap → InSource ts source (line_with g first end) n at (n + 1) at'
+
+-- pieces that are no cells
+abbrev pub PlainInSource : List Lexeme → List ℕ → ℕ → ℕ → ℕ → ℕ → ℕ → ℕ → Type 0
+PlainInSource ts source level first n at n' at' =
+    (g : LineGaps) (end : ℕ) → n' ≤ end → g.level ≡ level → ArePlain g (n - first) (n' - first) → InSource ts source (line_with g first end) n at n' at'
+
+-- a cell with its gap, and pieces after it that are no cells
+abbrev pub CellInSource : List Lexeme → List ℕ → ℕ → ℕ → ℕ → ℕ → ℕ → ℕ → Type 0
+CellInSource ts source first n gap at n' at' =
+    (g : LineGaps) (end : ℕ) → n' ≤ end → HasGap ts g first n gap → ArePlain g (n + 1 - first) (n' - first) → InSource ts source (line_with g first end) n at n' at'
+
+-- ---- the cells of a line
+
+-- the cell stands at its place after a line so wide
+pub record IsCell (cell : Option Cell) (found : Option ℕ) (wide : ℕ → ℕ) : Type 0 where
+  pub place : option_map (λ (c : Cell). c.place) cell ≡ found
+  pub width : IfSome cell (λ c. c.width ≡ wide c.place)
+  pub narrow : IfSome cell (λ c. c.width ≤ 2 ^ 25)
+  pub gap : IfSome cell (λ c. c.gap ≤ 2 ^ 22)
+
+-- where the comment stands, or else the end
+abbrev pub comment_or_end : LineFacts → ℕ
+comment_or_end f = given_or f.comment f.len
+
+-- where the first cell stands, or else the end
+abbrev pub cell_or_end : LineFacts → ℕ
+cell_or_end f = given_or f.assign (comment_or_end f)
+
+-- the line's gaps but for its comment
+abbrev pub uncommented : LineGaps → LineGaps
+uncommented g = record { level = g.level; assign = g.assign; comment = None }
+
+-- the sign stands in its line, and so do all pieces up to the comment
+pub record SignInSource (ts : List Lexeme) (source : List ℕ) (level first : ℕ) (f : LineFacts) (at : ℕ) (sign : Option Cell) (at' : ℕ) : Type 0 where
+  pub cell : IsCell sign f.assign (λ i. width i (plain_gaps level (text_at ts first f)) (text_at ts first f))
+  pub stands : (g : LineGaps) → g.level ≡ level → g.assign ≡ sign → ((k gap : ℕ) → k < comment_or_end f → cell_gap g.comment k gap ≡ gap)
+      → InSource ts source (line_with g first (first + f.len)) first at (first + comment_or_end f) at'
+
+-- both cells stand in their line, and so do all its pieces
+pub record LineInSource (ts : List Lexeme) (source : List ℕ) (level first : ℕ) (f : LineFacts) (at : ℕ) (g : LineGaps) (at' : ℕ) : Type 0 where
+  pub same_level : g.level ≡ level
+  pub sign : IsCell g.assign f.assign (λ i. width i (plain_gaps level (text_at ts first f)) (text_at ts first f))
+  pub comment : IsCell g.comment f.comment (λ i. width i (gaps_in (uncommented g) (text_at ts first f)) (text_at ts first f))
+  pub stands : GoOn ts source (line_with g first (first + f.len)) first at (first + f.len) at'
+
+-- the cell is set into the column, where the line has one
+abbrev pub IsSetIn : Option Cell → Option ℕ → Type 0
+IsSetIn None column = Unit {0}
+IsSetIn (Some c) None = ⊥
+IsSetIn (Some c) (Some column) = c.gap ≡ column - c.width + 1
+
+-- the comment, where it is of a run
+abbrev pub of_run : Option ℕ → Option Cell → Option Cell
+of_run None comment = None
+of_run (Some i) comment = comment
+
+-- one of no run stands one blank after what is before it
+abbrev pub IsSetApart : Option ℕ → Option Cell → Type 0
+IsSetApart None comment = IfSome comment (λ c. c.gap ≡ 1)
+IsSetApart (Some i) comment = Unit {0}

@@ -1,26 +1,18 @@
-use Rattle.std.proofs.Common.{◌≡◌, ◌-◌, ◌++◌, ℕ, List, arith, drop, subst}
+use Rattle.std.proofs.Common.{◌+◌, ◌<◌, ◌≤◌, ℕ, List, Option, Some, None, arith}
 use Rattle.std.specs.Prelude.{IfSome}
-use Rattle.hcl_tokens.specs.Scanned.{lexeme}
-use Rattle.hcl_layout.specs.Inner.Left.{bytes_of, token_before}
-use Rattle.hcl_layout.proofs.InPlaceLemmas.{goes_to}
-use Rattle.hcl_layout.proofs.LeftLemmas.{gap_small}
+use Rattle.hcl_tokens.specs.Lexemes.{Lexeme}
+use Rattle.hcl_layout.specs.Inner.InPlace.{CellInSource, PieceInSource, PlainInSource}
+use Rattle.hcl_layout.proofs.InSourceLemmas.{cell_stands}
 use Rattle.hcl_layout.proofs.in_place.cell_end.Goals as goal
 
-pub end_of-requires-clause-gap : goal.end_of-requires-clause-gap
-end_of-requires-clause-gap c =
-    let l = c.args.line in
-    let at = c.args.number in
-    let ts = c.args.tokens.now.tokens in
-    let t = lexeme c.get.result in
-    omega (arith, c.piece_of.ensures.gap, c.gap_at-gap.ensures t c.get.ensures.token, gap_small l.gaps (at - l.first) (token_before ts l.first (at - 1)) (token_before ts l.first at) t c.requires.laid.level c.requires.laid.assign c.requires.laid.comment)
+lifted : (ts : List Lexeme) (text : List ℕ) (first n gap at at' stop : ℕ) (end : Option ℕ) → first ≤ n → n < stop → PieceInSource ts text first n gap at at'
+    → ((level : ℕ) → IfSome end (PlainInSource ts text level first (n + 1) at' stop)) → IfSome end (CellInSource ts text first n gap at stop)
+lifted ts text first n gap at at' stop None from lt p q = tt
+lifted ts text first n gap at at' stop (Some k) from lt p q = cell_stands ts text first n gap at at' stop k from lt p q
 
-pub returns-clause-left : goal.returns-clause-left
-returns-clause-left c =
-    let l = c.args.line in
-    let at = c.args.number in
-    let ts = c.args.tokens.now.tokens in
-    let t = lexeme c.get.result in
-    let p = c.piece_of.result in
-    let end = c.end_of.result in
-    goes_to ts c.args.tokens.now.text l at c.args.offset end t c.gap_at-gap.result p c.get.ensures.token c.requires.there c.requires.order (c.gap_at-gap.ensures t c.get.ensures.token) c.piece_of.ensures.gap c.piece_of.ensures.text
-    (subst (λ (s : List ℕ). IfSome end (λ k. drop c.args.offset s ≡ bytes_of p ++ drop k s)) c.requires.source c.end_of.ensures.goes)
+pub returns-clause-stands : goal.returns-clause-stands
+returns-clause-stands c =
+    let first = c.args.first in
+    let from : first ≤ c.args.number = omega (arith, c.requires.behind) in
+    lifted c.args.tokens.now.tokens c.args.tokens.now.text first c.args.number c.args.gap c.args.offset c.in-Some.end c.args.stop c.plain_ends.result from c.requires.some
+    (c.in-Some.ensures.stands first from) c.plain_ends.ensures.stands

@@ -1,31 +1,36 @@
-use Rattle.std.proofs.Common.{◌≡◌, ◌∙◌, ◌-◌, ◌++◌, ℕ, List, arith, drop, subst, sym}
-use Rattle.std.specs.Prelude.{IfSome}
+use Rattle.std.proofs.Common.{◌≡◌, ◌∙◌, ◌+◌, ◌-◌, ◌≤◌, ◌^◌, ℕ, List, Option, Some, None, ap, arith, sym}
+use Rattle.std.specs.Prelude.{IfSome, slice_get}
+use Rattle.hcl_tokens.specs.Lexemes.{Lexeme}
 use Rattle.hcl_tokens.specs.Scanned.{lexeme}
-use Rattle.hcl_layout.specs.Inner.Left.{bytes_of, token_before}
-use Rattle.hcl_layout.specs.Inner.LineGaps.{plain_gap}
-use Rattle.hcl_layout.proofs.InPlaceLemmas.{goes_to}
-use Rattle.hcl_layout.proofs.LeftLemmas.{gap_small}
+use Rattle.hcl_layout.specs.Inner.InPlace.{PieceInSource, PlainInSource}
+use Rattle.hcl_layout.specs.Inner.Left.{plain_gap_before, token_before}
+use Rattle.hcl_layout.proofs.InSourceLemmas.{plain_stands}
+use Rattle.hcl_layout.proofs.LeftLemmas.{plain_small}
 use Rattle.hcl_layout.proofs.in_place.plain_end.Goals as goal
 
-pub end_of-requires-clause-gap : goal.end_of-requires-clause-gap
-end_of-requires-clause-gap c =
-    let l = c.args.line in
-    let at = c.args.number in
+pub piece_end-requires-clause-gap : goal.piece_end-requires-clause-gap
+piece_end-requires-clause-gap c =
     let ts = c.args.tokens.now.tokens in
-    let t = lexeme c.get-token.result in
-    let plain = plain_gap l.gaps.level (token_before ts l.first (at - 1)) (token_before ts l.first at) t in
-    let gap = c.gap_behind-gap.ensures l.gaps.level ∙ sym (c.requires.plain (at - l.first) plain (omega arith) (omega (arith, c.requires.behind))) in
-    omega (arith, c.piece_of.ensures.gap, gap, gap_small l.gaps (at - l.first) (token_before ts l.first (at - 1)) (token_before ts l.first at) t c.requires.laid.level c.requires.laid.assign c.requires.laid.comment)
+    let first = c.args.first in
+    let n = c.args.number in
+    omega (arith, c.gap_behind-gap.ensures 0, plain_small 0 (token_before ts first (n - 1)) (token_before ts first n) (lexeme c.get-token.result) (omega arith))
 
-pub returns-clause-left : goal.returns-clause-left
-returns-clause-left c =
-    let l = c.args.line in
-    let at = c.args.number in
+same_token : (ts : List Lexeme) (n : ℕ) (t u : Lexeme) → slice_get ts n ≡ Some t → slice_get ts n ≡ Some u → t ≡ u
+same_token ts n t u e f = one t u (sym e ∙ f)
+  where
+    one : (x y : Lexeme) → Some x ≡ Some y → x ≡ y
+    one x y h = cc
+
+lifted : (ts : List Lexeme) (text : List ℕ) (level first n gap at : ℕ) (end : Option ℕ) → first ≤ n → ((t : Lexeme) → slice_get ts n ≡ Some t → gap ≡ plain_gap_before ts level first n t)
+    → IfSome end (PieceInSource ts text first n gap at) → IfSome end (PlainInSource ts text level first n at (n + 1))
+lifted ts text level first n gap at None le own p = tt
+lifted ts text level first n gap at (Some k) le own p = plain_stands ts text level first n gap at k le own p
+
+pub returns-clause-stands : goal.returns-clause-stands
+returns-clause-stands c level =
     let ts = c.args.tokens.now.tokens in
-    let t = lexeme c.get-token.result in
-    let p = c.piece_of.result in
-    let end = c.end_of.result in
-    let plain = plain_gap l.gaps.level (token_before ts l.first (at - 1)) (token_before ts l.first at) t in
-    let gap = c.gap_behind-gap.ensures l.gaps.level ∙ sym (c.requires.plain (at - l.first) plain (omega arith) (omega (arith, c.requires.behind))) in
-    goes_to ts c.args.tokens.now.text l at c.args.offset end t c.gap_behind-gap.result p c.get-token.ensures.token c.requires.there (omega (arith, c.requires.behind)) gap c.piece_of.ensures.gap c.piece_of.ensures.text
-    (subst (λ (s : List ℕ). IfSome end (λ k. drop c.args.offset s ≡ bytes_of p ++ drop k s)) c.requires.source c.end_of.ensures.goes)
+    let first = c.args.first in
+    let n = c.args.number in
+    lifted ts c.args.tokens.now.text level first n c.gap_behind-gap.result c.args.offset c.piece_end.result (omega (arith, c.requires.behind))
+    (λ t e. c.gap_behind-gap.ensures level ∙ ap (plain_gap_before ts level first n) (same_token ts n (lexeme c.get-token.result) t c.get-token.ensures.token e))
+    (c.piece_end.ensures.stands first (omega (arith, c.requires.behind)))

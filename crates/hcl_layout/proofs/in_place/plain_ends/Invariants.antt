@@ -1,5 +1,5 @@
-use Rattle.std.proofs.Common.{◌≤◌, ◌-◌, length}
-use Rattle.hcl_layout.specs.Inner.InPlace.{GoOn}
+use Rattle.std.proofs.Common.{◌≤◌, ◌-◌, ℕ, length}
+use Rattle.hcl_layout.specs.Inner.InPlace.{PlainInSource}
 use Rattle.hcl_layout.proofs.in_place.plain_ends.Given as goal
 
 abbrev pub invariant-loop-number : goal.invariant-loop-number
@@ -7,7 +7,7 @@ invariant-loop-number l = record {
   behind : l.next ≤ l.number;
   within : l.number ≤ l.stop;
   inside : l.reached ≤ length l.source;
-  left : GoOn l.tokens.tokens l.tokens.text l.line l.next l.offset l.number l.reached;
+  stands : (level : ℕ) → PlainInSource l.tokens.tokens l.tokens.text level l.first l.next l.offset l.number l.reached;
 }
 
 abbrev pub decreases-loop-number : goal.decreases-loop-number
