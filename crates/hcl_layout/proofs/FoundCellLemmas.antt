@@ -7,7 +7,7 @@ use Rattle.hcl_layout.specs.Cells.{assign_cell, has_multiline, running_comment, 
 use Rattle.hcl_layout.specs.Gaps.{align, plain_gaps, width}
 use Rattle.hcl_layout.specs.Lines.{Line}
 use Rattle.hcl_layout.specs.Inner.Depths.{depth_after, level_at, levels_behind}
-use Rattle.hcl_layout.specs.Inner.InPlace.{IsCell, IsSetApart, IsSetIn, of_run}
+use Rattle.hcl_layout.specs.Inner.InPlace.{EndsWell, Enters, IsCell, IsSetApart, IsSetIn, entered_column, left_column, of_run}
 use Rattle.hcl_layout.specs.Inner.LineGaps.{gaps_in}
 use Rattle.hcl_layout.specs.Inner.Stream.{assign_column, assign_width, assign_widths, assigned_line, comment_column, comment_width, comment_widths, next_of, plain}
 use Rattle.hcl_layout.specs.declared.gap.Cell.{Cell}
@@ -58,11 +58,19 @@ ended : (column : Option ℕ) (f : ℕ → ℕ) (cell : Option ℕ) (rest : List
 ended column f cell rest e = rw e (no_column column rest)
 
 -- after a line a run goes on in its column, if the line has a cell
-pub column_after : (column now : Option ℕ) (f wide : ℕ → ℕ) (cell : Option Cell) (place : Option ℕ) (rest : List (Option ℕ)) → IsCell cell place wide → IsSetIn cell column
-    → IfSome cell (λ c. now ≡ column) → (cell ≡ None → now ≡ None) → now ≡ next_of column (option_map f place ∷ rest)
-column_after column now f wide None place rest is set goes stops = stops refl ∙ ended column f place rest (sym is.place)
-column_after None now f wide (Some x) place rest is set goes stops = absurd set
-column_after (Some c) now f wide (Some x) place rest is set goes stops = goes ∙ kept c f place x.place rest (sym is.place)
+pub column_after : (column : Option ℕ) (f wide : ℕ → ℕ) (cell : Option Cell) (place : Option ℕ) (rest : List (Option ℕ)) → IsCell cell place wide → IsSetIn cell column
+    → left_column column cell ≡ next_of column (option_map f place ∷ rest)
+column_after column f wide None place rest is set = ended column f place rest (sym is.place)
+column_after None f wide (Some x) place rest is set = absurd set
+column_after (Some c) f wide (Some x) place rest is set = kept c f place x.place rest (sym is.place)
+
+pub run_enters : (column : Option ℕ) (cell : Option Cell) (place : Option ℕ) (wide : ℕ → ℕ) → IsCell cell place wide → Enters column place (entered_column column cell)
+run_enters (Some c) cell place wide is = (refl, λ e. refl)
+run_enters None None place wide is = (tt, λ e. refl)
+run_enters None (Some x) place wide is = (tt, λ e. let h : Some x.place ≡ None = is.place ∙ e in absurd (cc h))
+
+pub run_ends : (column : Option ℕ) (greatest : ℕ) (cell : Option Cell) (place : Option ℕ) (wide : ℕ → ℕ) → IsCell cell place wide → EndsWell column greatest cell → EndsWell column greatest place
+run_ends column greatest cell place wide is p e = p (no_cell cell place wide is e)
 
 -- ---- the sign
 

@@ -65,7 +65,7 @@ width_all ts g first len place =
 
 -- ---- one piece
 
-one_piece : (ts : List Lexeme) (text : List ℕ) (first n gap from end : ℕ) (t : Lexeme) (p : Piece) → slice_get ts n ≡ Some t → first ≤ n → p.gap ≡ gap → p.text.now ≡ t.text → IsFrom text p.start p.text.now
+pub one_piece : (ts : List Lexeme) (text : List ℕ) (first n gap from end : ℕ) (t : Lexeme) (p : Piece) → slice_get ts n ≡ Some t → first ≤ n → p.gap ≡ gap → p.text.now ≡ t.text → IsFrom text p.start p.text.now
     → drop from text ≡ bytes_of p ++ drop end text → end ≡ from + p.gap + length p.text.now → PieceInSource ts text first n gap from end
 one_piece ts text first n gap from end t p e le same_gap same_text source here far g stop lt has =
     let l = line_with g first stop in

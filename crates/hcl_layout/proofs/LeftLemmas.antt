@@ -137,7 +137,7 @@ front_gap set ts start next t e p q =
     let plain : ℕ = plain_gap set.level b (token_before ts start next) t in
     sym (behind_front set.comment k (cell_gap set.assign k plain) q front ∙ behind_front set.assign k plain p front ∙ ap (λ s. plain_gap set.level b s t) (none_behind ts start next (omega (arith, e))))
 
-pub plain_small : (level : ℕ) (b s : Option Lexeme) (t : Lexeme) → level ≤ max_open → plain_gap level b s t ≤ 2 * max_open
+plain_small : (level : ℕ) (b s : Option Lexeme) (t : Lexeme) → level ≤ max_open → plain_gap level b s t ≤ 2 * max_open
 plain_small level b None t low = omega (arith, indented level t)
 plain_small level b (Some s) t low = omega (arith, blank b s t)
 

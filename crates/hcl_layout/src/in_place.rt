@@ -15,10 +15,10 @@
 //! ```
 ghost use Rattle.std.specs.Prelude.{◌≡◌, ◌<◌, ◌≤◌, ◌+◌, ◌-◌, ◌^◌, ◌++◌, ℕ, None, Some, IsTrue, Option, IfSome, length, drop, max, take};
 ghost use Rattle.hcl_tokens.specs.Balanced.{IsBalanced, max_open};
-ghost use Rattle.hcl_layout.specs.Cells.{assign_cell, trailing_comment};
+ghost use Rattle.hcl_layout.specs.Cells.{assign_cell, running_comment, trailing_comment};
 ghost use Rattle.hcl_layout.specs.Gaps.{plain_gaps, width as width_of};
 ghost use Rattle.hcl_layout.specs.Print.{print};
-ghost use Rattle.hcl_layout.specs.Inner.InPlace.{CellInSource, Continues, EndsWell, Enters, IsSetApart, IsSetIn, LineInSource, PieceInSource, PlainInSource, SignInSource, cell_or_end, comment_or_end, of_run, since};
+ghost use Rattle.hcl_layout.specs.Inner.InPlace.{CellInSource, Continues, EndsWell, IsSetApart, LineInSource, PassesRun, PieceInSource, PlainInSource, SignInSource, cell_or_end, comment_or_end, of_run};
 ghost use Rattle.hcl_layout.specs.Inner.Left.{bytes_of};
 ghost use Rattle.hcl_layout.specs.Inner.LineGaps.{ArePlain, IsSigned, gaps_in};
 ghost use Rattle.hcl_layout.specs.Inner.Simple.{IsFrom};
@@ -31,7 +31,7 @@ use crate::gap::{
 use crate::levels::next_level;
 use crate::line::{LineFacts, line_at};
 use crate::measured::Measured;
-use crate::piece::{Piece, goes_on, piece_of};
+use crate::piece::{Piece, goes_on, goes_on_close, piece_of};
 use crate::runs::{Walk, start_walk};
 
 /// The runs at hand: the greatest widths passed before the signs and before the comments.
@@ -47,6 +47,22 @@ pub struct LaidLine {
     pub first: usize,
     pub end: usize,
     pub gaps: LineGaps,
+}
+
+/// A run of cells at hand: its column, if the line before has such a cell, and the greatest width passed before one.
+#[derive(Clone, Copy)]
+struct Run {
+    column: Option<u64>,
+    greatest: u64,
+}
+
+/// A line whose pieces stand in place as far as they were passed: its gaps, where these pieces end, and the run of the last
+/// cell that was asked for.
+#[derive(Clone, Copy)]
+struct Passed {
+    gaps: LineGaps,
+    end: usize,
+    run: Run,
 }
 
 /// Where a line begins: the number of its first token, the byte offset at which the line before it ends, and its level.
@@ -145,8 +161,11 @@ fn plain_end(
     ensures stands { (level : ℕ) → IfSome result (PlainInSource tokens.now.tokens tokens.now.text level first number offset (number + 1)) }
 {
     let token = tokens.get(number);
-    let gap = gap_behind(tokens, first, number, token);
-    piece_end(tokens, source, number, gap, offset)
+    let piece = piece_of(token, gap_behind(tokens, first, number, token));
+    if !goes_on_close(source, offset, piece) {
+        return None;
+    }
+    Some(piece.start + piece.text.len())
 }
 
 /// Where the last of the pieces from one token of a line to another ends, which are no cells, if they go on from a byte
@@ -264,16 +283,82 @@ fn found_sign(
     Cell { place, width, gap }
 }
 
-/// The gaps of a line with its sign as it stands in the source, and where its pieces up to its comment end, if they go on
-/// from where those before the sign end.
+/// Whether a run that ends has a column as great as its greatest width.
+#[inline(always)]
+fn ends_well(run: Run) -> bool
+    ensures { IsTrue result → IfSome run.column (λ c. c ≡ run.greatest) }
+{
+    let Some(column) = run.column else {
+        return true;
+    };
+    column == run.greatest
+}
+
+/// The run of a cell that begins one: its column is where it stands.
+#[inline(always)]
+fn begun(cell: Cell) -> Option<Run>
+    requires narrow { cell.width ≤ 2 ^ 25 }
+    requires gap { cell.gap ≤ 2 ^ 22 }
+    ensures passes { (greatest : ℕ) → IfSome result (λ r. PassesRun None greatest (Some cell) r.column r.greatest) }
+    ensures fits { IfSome result (λ r. IfSome r.column (λ c. c < 2 ^ 33)) }
+{
+    if cell.gap == 0 {
+        return None;
+    }
+    Some(Run {
+        column: Some((cell.width + cell.gap).saturating_sub(1)),
+        greatest: cell.width,
+    })
+}
+
+/// The run after a line with a cell, if that stands in its column.
+#[inline(always)]
+fn gone_on(run: Run, cell: Cell) -> Option<Run>
+    requires narrow { cell.width ≤ 2 ^ 25 }
+    requires gap { cell.gap ≤ 2 ^ 22 }
+    requires fits { IfSome run.column (λ c. c < 2 ^ 34) }
+    ensures passes { IfSome result (λ r. PassesRun run.column run.greatest (Some cell) r.column r.greatest) }
+    ensures fits { (n : ℕ) → 2 ^ 33 ≤ n → IfSome run.column (λ c. c < n) → IfSome result (λ r. IfSome r.column (λ c. c < n)) }
+{
+    let Some(column) = run.column else {
+        return begun(cell);
+    };
+    if cell.gap == 0 || cell.width + cell.gap != column + 1 {
+        return None;
+    }
+    Some(Run {
+        column: Some(column),
+        greatest: run.greatest.max(cell.width),
+    })
+}
+
+/// The run after a line without a cell, if its column was its greatest width.
+#[inline(always)]
+fn ended(run: Run) -> Option<Run>
+    ensures passes { IfSome result (λ r. PassesRun run.column run.greatest None r.column r.greatest) }
+    ensures none { IfSome result (λ r. r.column ≡ None) }
+{
+    if !ends_well(run) {
+        return None;
+    }
+    Some(Run {
+        column: None,
+        greatest: 0,
+    })
+}
+
+/// Passes the pieces of a line up to its comment, where those before its sign end at a byte offset, if they go on from
+/// there and the sign stands in the column of its run.
 #[inline(always)]
 fn sign_in_place(
+    run: Run,
     tokens: &Measured<'_, '_>,
     source: &[u8],
     front: Front,
     line: LineFacts,
     reached: usize,
-) -> Option<(LineGaps, usize)>
+) -> Option<Passed>
+    requires fits { IfSome run.column (λ c. c < 2 ^ 33) }
     requires within { front.first + line.len ≤ length tokens.now.tokens }
     requires assign { line.assign ≡ assign_cell (text_at tokens.now.tokens front.first line) }
     requires comment { line.comment ≡ trailing_comment (text_at tokens.now.tokens front.first line) }
@@ -281,17 +366,29 @@ fn sign_in_place(
     requires source { source.now ≡ tokens.now.text }
     requires reached { reached ≤ length source.now }
     requires stands { PlainInSource tokens.now.tokens tokens.now.text front.level front.first front.first front.offset (front.first + cell_or_end line) reached }
-    ensures within { IfSome result (λ p. p.1 ≤ length source.now) }
-    ensures signed { IfSome result (λ p. IsSigned p.0 (text_at tokens.now.tokens front.first line)) }
-    ensures level { IfSome result (λ p. p.0.level ≡ front.level) }
-    ensures stands { IfSome result (λ p. SignInSource tokens.now.tokens tokens.now.text front.level front.first line front.offset p.0.assign p.1) }
+    ensures within { IfSome result (λ p. p.end ≤ length source.now) }
+    ensures signed { IfSome result (λ p. IsSigned p.gaps (text_at tokens.now.tokens front.first line)) }
+    ensures level { IfSome result (λ p. p.gaps.level ≡ front.level) }
+    ensures stands { IfSome result (λ p. SignInSource tokens.now.tokens tokens.now.text front.level front.first line front.offset p.gaps.assign p.end) }
+    ensures run { IfSome result (λ p. PassesRun run.column run.greatest p.gaps.assign p.run.column p.run.greatest) }
+    ensures fits { IfSome result (λ p. IfSome p.run.column (λ c. c < 2 ^ 33)) }
 {
     let Some(place) = line.assign else {
-        return Some((plain_line(front.level), reached));
+        let Some(run) = ended(run) else {
+            return None;
+        };
+        return Some(Passed {
+            gaps: plain_line(front.level),
+            end: reached,
+            run,
+        });
     };
     // so the numbers of the line's tokens fit
     let _count = tokens.len();
     let sign = found_sign(tokens, front, line.len, place, reached);
+    let Some(run) = gone_on(run, sign) else {
+        return None;
+    };
     let number = front.first + place;
     let stop = front.first + comment_or_end(line);
     let Some(end) = cell_end(tokens, source, front.first, number, sign.gap, stop, reached) else {
@@ -302,7 +399,7 @@ fn sign_in_place(
         assign: Some(sign),
         comment: None,
     };
-    Some((gaps, end))
+    Some(Passed { gaps, end, run })
 }
 
 /// The comment of a line as it stands in the source, where the text before it ends at a byte offset.
@@ -338,33 +435,70 @@ fn found_comment(
     Cell { place, width, gap }
 }
 
-/// The gaps of a line with both cells as they stand in the source, and where the line ends, if its pieces go on from where
-/// those before its comment end.
+/// The run of comments after a line with a comment, if that stands in its column, or one blank after what is before it
+/// where the line takes part in no run.
+#[inline(always)]
+fn commented(run: Run, running: Option<usize>, comment: Cell) -> Option<Run>
+    requires narrow { comment.width ≤ 2 ^ 25 }
+    requires gap { comment.gap ≤ 2 ^ 22 }
+    requires fits { IfSome run.column (λ c. c < 2 ^ 34) }
+    ensures run { IfSome result (λ r. PassesRun run.column run.greatest (of_run running (Some comment)) r.column r.greatest) }
+    ensures apart { IfSome result (λ r. IsSetApart running (Some comment)) }
+    ensures fits { IfSome result (λ r. IfSome r.column (λ c. c < 2 ^ 34)) }
+{
+    if running.is_some() {
+        return gone_on(run, comment);
+    }
+    if comment.gap != 1 {
+        return None;
+    }
+    ended(run)
+}
+
+/// Passes the pieces of a line from its comment on, where those before it end at a byte offset, if they go on from there
+/// and the comment stands in the column of its run.
 #[inline(always)]
 fn comment_in_place(
+    run: Run,
     tokens: &Measured<'_, '_>,
     source: &[u8],
     front: Front,
     line: LineFacts,
     signed: LineGaps,
     reached: usize,
-) -> Option<(LineGaps, usize)>
+) -> Option<Passed>
+    requires fits { IfSome run.column (λ c. c < 2 ^ 34) }
     requires within { front.first + line.len ≤ length tokens.now.tokens }
     requires comment { line.comment ≡ trailing_comment (text_at tokens.now.tokens front.first line) }
+    requires running { line.running ≡ running_comment (text_at tokens.now.tokens front.first line) }
     requires signed { IsSigned signed (text_at tokens.now.tokens front.first line) }
     requires level { signed.level ≡ front.level }
     requires source { source.now ≡ tokens.now.text }
     requires reached { reached ≤ length source.now }
     requires stands { SignInSource tokens.now.tokens tokens.now.text front.level front.first line front.offset signed.assign reached }
-    ensures within { IfSome result (λ p. p.1 ≤ length source.now) }
-    ensures stands { IfSome result (λ p. LineInSource tokens.now.tokens tokens.now.text front.level front.first line front.offset p.0 p.1) }
+    ensures within { IfSome result (λ p. p.end ≤ length source.now) }
+    ensures stands { IfSome result (λ p. LineInSource tokens.now.tokens tokens.now.text front.level front.first line front.offset p.gaps p.end) }
+    ensures sign { IfSome result (λ p. p.gaps.assign ≡ signed.assign) }
+    ensures run { IfSome result (λ p. PassesRun run.column run.greatest (of_run line.running p.gaps.comment) p.run.column p.run.greatest) }
+    ensures apart { IfSome result (λ p. IsSetApart line.running p.gaps.comment) }
+    ensures fits { IfSome result (λ p. IfSome p.run.column (λ c. c < 2 ^ 34)) }
 {
     let Some(place) = line.comment else {
-        return Some((signed, reached));
+        let Some(run) = ended(run) else {
+            return None;
+        };
+        return Some(Passed {
+            gaps: signed,
+            end: reached,
+            run,
+        });
     };
     // so the numbers of the line's tokens fit
     let _count = tokens.len();
     let comment = found_comment(tokens, front, line, place, signed, reached);
+    let Some(run) = commented(run, line.running, comment) else {
+        return None;
+    };
     let number = front.first + place;
     let stop = front.first + line.len;
     let Some(end) = cell_end(
@@ -378,135 +512,11 @@ fn comment_in_place(
     ) else {
         return None;
     };
-    Some((with_comment(signed, place, comment.width, comment.gap), end))
-}
-
-/// The gaps of a line as they stand in the source, and where the line ends, if each of its pieces goes on from the line's
-/// offset, its cells after whatever gaps they have.
-#[inline(always)]
-fn line_in_place(
-    tokens: &Measured<'_, '_>,
-    source: &[u8],
-    front: Front,
-    line: LineFacts,
-) -> Option<(LineGaps, usize)>
-    requires some { 0 < line.len }
-    requires within { front.first + line.len ≤ length tokens.now.tokens }
-    requires assign { line.assign ≡ assign_cell (text_at tokens.now.tokens front.first line) }
-    requires comment { line.comment ≡ trailing_comment (text_at tokens.now.tokens front.first line) }
-    requires level { front.level ≤ max_open }
-    requires source { source.now ≡ tokens.now.text }
-    requires offset { front.offset ≤ length source.now }
-    ensures within { IfSome result (λ p. p.1 ≤ length source.now) }
-    ensures stands { IfSome result (λ p. LineInSource tokens.now.tokens tokens.now.text front.level front.first line front.offset p.0 p.1) }
-{
-    // so the number of the token after the line fits
-    let _count = tokens.len();
-    let stop = front.first + cell_or_end(line);
-    let Some(reached) = front_end(tokens, source, front, stop) else {
-        return None;
-    };
-    let Some((signed, reached)) = sign_in_place(tokens, source, front, line, reached) else {
-        return None;
-    };
-    comment_in_place(tokens, source, front, line, signed, reached)
-}
-
-/// The column of the run in which a line has a cell: that of the line before it, or else where the cell stands. Without a
-/// cell it is left as it was.
-#[inline(always)]
-fn entered(column: Option<u64>, cell: Option<Cell>) -> Option<u64>
-    requires narrow { IfSome cell (λ c. c.width ≤ 2 ^ 25) }
-    requires gap { IfSome cell (λ c. c.gap ≤ 2 ^ 22) }
-    ensures enters { Enters column cell result }
-    ensures fits { (n : ℕ) → 2 ^ 33 ≤ n → IfSome column (λ c. c < n) → IfSome result (λ c. c < n) }
-{
-    if column.is_some() {
-        return column;
-    }
-    let Some(cell) = cell else {
-        return None;
-    };
-    Some((cell.width + cell.gap).saturating_sub(1))
-}
-
-/// Whether a cell stands in a column.
-#[inline(always)]
-fn is_set_in(cell: Option<Cell>, column: Option<u64>) -> bool
-    requires narrow { IfSome cell (λ c. c.width ≤ 2 ^ 25) }
-    requires gap { IfSome cell (λ c. c.gap ≤ 2 ^ 22) }
-    requires fits { IfSome column (λ c. c < 2 ^ 34) }
-    ensures { IsTrue result → IsSetIn cell column }
-{
-    let Some(cell) = cell else {
-        return true;
-    };
-    let Some(column) = column else {
-        return false;
-    };
-    cell.gap > 0 && cell.width + cell.gap == column + 1
-}
-
-/// Whether the comment of a line that takes part in no run stands one blank after what is before it.
-#[inline(always)]
-fn is_set_apart(running: Option<usize>, comment: Option<Cell>) -> bool
-    ensures { IsTrue result → IsSetApart running comment }
-{
-    if running.is_some() {
-        return true;
-    }
-    let Some(comment) = comment else {
-        return true;
-    };
-    comment.gap == 1
-}
-
-/// The comment of a line, where it takes part in runs.
-#[inline(always)]
-fn of_run(running: Option<usize>, comment: Option<Cell>) -> Option<Cell>
-    ensures { result ≡ of_run running comment }
-{
-    if running.is_none() {
-        return None;
-    }
-    comment
-}
-
-/// The greatest width passed of a run, with that before a cell. Without a cell it is of no run.
-#[inline(always)]
-fn widened(column: Option<u64>, greatest: u64, cell: Option<Cell>) -> u64
-    ensures { IfSome cell (λ c. result ≡ max (since column greatest) c.width) }
-{
-    let Some(cell) = cell else {
-        return 0;
-    };
-    if column.is_none() {
-        return cell.width;
-    }
-    greatest.max(cell.width)
-}
-
-/// The column of the run in which a line stands, after it.
-#[inline(always)]
-fn left_in(column: Option<u64>, cell: Option<Cell>) -> Option<u64>
-    ensures cell { IfSome cell (λ c. result ≡ column) }
-    ensures none { cell ≡ None → result ≡ None }
-{
-    if cell.is_none() {
-        return None;
-    }
-    column
-}
-
-/// Whether a run that ends in front of a line has a width as great as its column. With a cell in the line none ends.
-#[inline(always)]
-fn ends_well(column: Option<u64>, greatest: u64, cell: Option<usize>) -> bool
-    ensures { IsTrue result → EndsWell column greatest cell }
-{
-    let Some(column) = column else {
-        return true;
-    };
-    cell.is_some() || column == greatest
+    Some(Passed {
+        gaps: with_comment(signed, place, comment.width, comment.gap),
+        end,
+        run,
+    })
 }
 
 /// Passes the next line, and gives the number of the token after it and where it ends, if each of its pieces goes on from a
@@ -532,12 +542,6 @@ fn pass_line(
     ensures step { IfSome result (λ p. Continues tokens.now.tokens tokens.now.text walk.old runs.old first offset walk.new runs.new p.0 p.1) }
 {
     let line = line_at(tokens, first, walk.depth);
-    if !ends_well(walk.signs, runs.assign, line.assign) {
-        return None;
-    }
-    if !ends_well(walk.comments, runs.comment, line.running) {
-        return None;
-    }
     let level = next_level(&mut walk.levels, walk.depth, line.depth);
     walk.depth = line.depth;
     let front = Front {
@@ -545,32 +549,54 @@ fn pass_line(
         offset,
         level,
     };
-    let Some((gaps, end)) = line_in_place(tokens, source, front, line) else {
+    let stop = first + cell_or_end(line);
+    let Some(reached) = front_end(tokens, source, front, stop) else {
         return None;
     };
-    if !is_set_apart(line.running, gaps.comment) {
+    let signs = Run {
+        column: walk.signs,
+        greatest: runs.assign,
+    };
+    let Some(signed) = sign_in_place(signs, tokens, source, front, line, reached) else {
         return None;
-    }
-    let running = of_run(line.running, gaps.comment);
-    let signs = entered(walk.signs, gaps.assign);
-    let comments = entered(walk.comments, running);
-    if !is_set_in(gaps.assign, signs) || !is_set_in(running, comments) {
+    };
+    walk.signs = signed.run.column;
+    runs.assign = signed.run.greatest;
+    let comments = Run {
+        column: walk.comments,
+        greatest: runs.comment,
+    };
+    let Some(passed) = comment_in_place(
+        comments,
+        tokens,
+        source,
+        front,
+        line,
+        signed.gaps,
+        signed.end,
+    ) else {
         return None;
-    }
-    runs.assign = widened(walk.signs, runs.assign, gaps.assign);
-    runs.comment = widened(walk.comments, runs.comment, running);
-    walk.signs = left_in(signs, gaps.assign);
-    walk.comments = left_in(comments, running);
-    Some((first + line.len, end))
+    };
+    walk.comments = passed.run.column;
+    runs.comment = passed.run.greatest;
+    Some((first + line.len, passed.end))
 }
 
-/// Whether both runs that end with the text have a width as great as their columns.
+/// Whether both runs that end with the text have columns as great as their greatest widths.
 #[inline(always)]
 fn end_well(walk: &Walk, runs: Runs) -> bool
     ensures assign { IsTrue result → EndsWell {A = ℕ} walk.now.signs runs.assign None }
     ensures comment { IsTrue result → EndsWell {A = ℕ} walk.now.comments runs.comment None }
 {
-    ends_well(walk.signs, runs.assign, None) && ends_well(walk.comments, runs.comment, None)
+    let signs = Run {
+        column: walk.signs,
+        greatest: runs.assign,
+    };
+    let comments = Run {
+        column: walk.comments,
+        greatest: runs.comment,
+    };
+    ends_well(signs) && ends_well(comments)
 }
 
 /// Whether the source was found to be its print, with the columns of its runs taken from the source. Where it wasn't, it

@@ -51,3 +51,19 @@ pub fn goes_on(source: &[u8], offset: usize, piece: Piece<'_>) -> bool
     }
     are_spaces(&source[offset..piece.start])
 }
+
+/// The same where there is one blank at most: then no loop is begun.
+#[inline(always)]
+pub fn goes_on_close(source: &[u8], offset: usize, piece: Piece<'_>) -> bool
+    requires within { offset ≤ length source.now }
+    requires source { IsFrom source.now piece.start piece.text.now }
+    requires gap { piece.gap ≤ 1 }
+    requires small { length source.now < 2 ^ 32 }
+    ensures goes { IsTrue result → drop offset source.now ≡ bytes_of piece.entry ++ drop (piece.entry.start + length piece.entry.text.now) source.now }
+    ensures end { IsTrue result → offset + piece.entry.gap ≡ piece.entry.start }
+{
+    if offset as u64 + piece.gap != piece.start as u64 {
+        return false;
+    }
+    piece.gap == 0 || source[offset] == b' '
+}

@@ -145,6 +145,24 @@ IsSetIn None column = Unit {0}
 IsSetIn (Some c) None = ⊥
 IsSetIn (Some c) (Some column) = c.gap ≡ column - c.width + 1
 
+-- the column of a run in which a line has the cell: that of the line before it, or else where the cell stands
+abbrev pub entered_column : Option ℕ → Option Cell → Option ℕ
+entered_column (Some column) cell = Some column
+entered_column None None = None
+entered_column None (Some c) = Some (c.width + c.gap - 1)
+
+-- the column after the line
+abbrev pub left_column : Option ℕ → Option Cell → Option ℕ
+left_column column None = None
+left_column column (Some c) = column
+
+-- a run goes over a line: the line's cell is set into its column, or it ended in its greatest width
+pub record PassesRun (column : Option ℕ) (greatest : ℕ) (cell : Option Cell) (column' : Option ℕ) (greatest' : ℕ) : Type 0 where
+  pub ends : EndsWell column greatest cell
+  pub set : IsSetIn cell (entered_column column cell)
+  pub left : column' ≡ left_column (entered_column column cell) cell
+  pub widened : IfSome cell (λ c. greatest' ≡ max (since column greatest) c.width)
+
 -- the comment, where it is of a run
 abbrev pub of_run : Option ℕ → Option Cell → Option Cell
 of_run None comment = None
