@@ -11,7 +11,6 @@ use Rattle.hcl_layout.specs.Inner.InPlace.{EndsWell, Enters, IsCell, IsSetApart,
 use Rattle.hcl_layout.specs.Inner.LineGaps.{gaps_in}
 use Rattle.hcl_layout.specs.Inner.Stream.{assign_column, assign_width, assign_widths, assigned_line, comment_column, comment_width, comment_widths, next_of, plain}
 use Rattle.hcl_layout.specs.declared.gap.Cell.{Cell}
-use Rattle.hcl_layout.specs.declared.gap.LineGaps.{LineGaps}
 use Rattle.hcl_layout.proofs.RunLemmas.{aligned_none, aligned_some, assign_within, assigned_in, comment_cell, comment_none, comment_within, commented_in, multiline_some, plain_in}
 
 -- ---- places

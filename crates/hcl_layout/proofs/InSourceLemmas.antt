@@ -4,7 +4,7 @@ use Rattle.std.specs.Prelude.{IfSome, slice_get}
 use Rattle.hcl_tokens.specs.Lexemes.{Lexeme}
 use Rattle.hcl_layout.specs.Gaps.{clusters, plain_gaps, width}
 use Rattle.hcl_layout.specs.Lines.{Line}
-use Rattle.hcl_layout.specs.Inner.InPlace.{CellInSource, GoOn, HasGap, InSource, PieceInSource, PlainInSource, SignInSource, comment_or_end, line_with, width_up_to}
+use Rattle.hcl_layout.specs.Inner.InPlace.{CellInSource, HasGap, InSource, PieceInSource, PlainInSource, SignInSource, comment_or_end, line_with, width_up_to}
 use Rattle.hcl_layout.specs.Inner.Left.{bytes_of, gap_before, plain_gap_before, token_before}
 use Rattle.hcl_layout.specs.Inner.LineGaps.{ArePlain, gap_of, gaps_from, gaps_in, given_or, plain_of}
 use Rattle.hcl_layout.specs.Inner.Simple.{IsFrom, is_simple}

@@ -1,13 +1,12 @@
 -- A line that stands in the source with its cells, piece by piece.
-use Rattle.std.proofs.Common.{◌≡◌, ◌∙◌, ◌+◌, ◌-◌, ◌<◌, ◌≤◌, ◌==◌, ◌^◌, ℕ, Bool, true, false, List, Option, Some, None, ap, refl, sym, arith, subst, drop, length-take, take}
-use Rattle.std.specs.Prelude.{IfSome, if◌then◌else◌, option_map, slice_get}
+use Rattle.std.proofs.Common.{◌≡◌, ◌∙◌, ◌+◌, ◌-◌, ◌<◌, ◌≤◌, ◌==◌, ◌^◌, ℕ, Bool, true, false, List, Option, Some, None, ap, refl, sym, arith, subst, drop, length-take}
+use Rattle.std.specs.Prelude.{IfSome, if◌then◌else◌, option_map}
 use Rattle.hcl_tokens.specs.Lexemes.{Lexeme}
 use Rattle.hcl_layout.specs.Cells.{assign_cell, trailing_comment}
 use Rattle.hcl_layout.specs.Gaps.{plain_gaps, width}
-use Rattle.hcl_layout.specs.Lines.{Line}
-use Rattle.hcl_layout.specs.Inner.InPlace.{CellInSource, HasGap, InSource, IsCell, LineInSource, PlainInSource, SignInSource, cell_or_end, comment_or_end, line_with, uncommented}
+use Rattle.hcl_layout.specs.Inner.InPlace.{CellInSource, HasGap, InSource, LineInSource, PlainInSource, SignInSource, cell_or_end, comment_or_end, line_with, uncommented}
 use Rattle.hcl_layout.specs.Inner.Left.{token_before}
-use Rattle.hcl_layout.specs.Inner.LineGaps.{ArePlain, IsSigned, cell_gap, gaps_in, given_or, known_place, plain_gap}
+use Rattle.hcl_layout.specs.Inner.LineGaps.{cell_gap, gaps_in, given_or, known_place, plain_gap}
 use Rattle.hcl_layout.specs.Inner.Survey.{text_at}
 use Rattle.hcl_layout.specs.declared.gap.Cell.{Cell}
 use Rattle.hcl_layout.specs.declared.gap.LineGaps.{LineGaps}

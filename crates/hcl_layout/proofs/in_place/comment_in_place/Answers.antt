@@ -1,4 +1,4 @@
-use Rattle.std.proofs.Common.{◌≡◌, ◌∙◌, ◌+◌, ◌<◌, ◌≤◌, ℕ, None, Option, Some, arith, ap, subst, sym}
+use Rattle.std.proofs.Common.{◌≡◌, ◌∙◌, None, Option, Some, arith, ap, subst, sym}
 use Rattle.hcl_layout.specs.Gaps.{width}
 use Rattle.hcl_layout.specs.Inner.InPlace.{LineInSource, SignInSource}
 use Rattle.hcl_layout.specs.Inner.LineGaps.{gaps_in}

@@ -1,9 +1,8 @@
-use Rattle.std.proofs.Common.{◌≡◌, ◌<◌, ◌+◌, ◌≤◌, ◌^◌, ℕ, Option, None, ap₂, arith, drop, sym, take}
+use Rattle.std.proofs.Common.{◌<◌, ◌^◌, ℕ, Option, ap₂, arith, drop, take}
 use Rattle.hcl_layout.specs.Gaps.{width}
 use Rattle.hcl_layout.specs.Lines.{Line}
 use Rattle.hcl_layout.specs.Inner.LineGaps.{gaps_in}
 use Rattle.hcl_layout.specs.declared.gap.Cell.{Cell}
-use Rattle.hcl_layout.specs.declared.gap.LineGaps.{LineGaps}
 use Rattle.hcl_layout.proofs.FoundCellLemmas.{comment_place}
 use Rattle.hcl_layout.proofs.InSourceLemmas.{signed_wide}
 use Rattle.hcl_layout.proofs.in_place.found_comment.Goals as goal

@@ -1,6 +1,4 @@
-use Rattle.std.proofs.Common.{◌≡◌, ◌+◌, ◌≤◌, arith, drop, take}
-use Rattle.hcl_layout.specs.Gaps.{plain_gaps, width}
-use Rattle.hcl_layout.specs.Lines.{Line}
+use Rattle.std.proofs.Common.{arith}
 use Rattle.hcl_layout.proofs.InSourceLemmas.{front_wide}
 use Rattle.hcl_layout.proofs.in_place.found_sign.Goals as goal
 

@@ -1,9 +1,9 @@
-use Rattle.std.proofs.Common.{◌≡◌, ◌∙◌, ◌+◌, ◌-◌, ◌<◌, ◌≤◌, ℕ, List, Option, Some, None, ap, arith, sym}
+use Rattle.std.proofs.Common.{◌≡◌, ◌∙◌, ◌+◌, ◌-◌, ◌<◌, ℕ, List, Option, Some, None, ap, arith, sym}
 use Rattle.std.specs.Prelude.{IfSome, slice_get}
 use Rattle.hcl_tokens.specs.Lexemes.{Lexeme}
 use Rattle.hcl_tokens.specs.Scanned.{lexeme}
 use Rattle.hcl_layout.specs.Gaps.{indent}
-use Rattle.hcl_layout.specs.Inner.InPlace.{PieceInSource, PlainInSource}
+use Rattle.hcl_layout.specs.Inner.InPlace.{PlainInSource}
 use Rattle.hcl_layout.specs.Inner.Left.{plain_gap_before, token_before}
 use Rattle.hcl_layout.specs.Inner.LineGaps.{plain_gap}
 use Rattle.hcl_layout.proofs.InSourceLemmas.{more_plain, plain_stands}

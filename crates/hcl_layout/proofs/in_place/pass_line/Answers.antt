@@ -1,10 +1,10 @@
-use Rattle.std.proofs.Common.{◌≡◌, ◌∙◌, ◌+◌, ◌-◌, ◌<◌, ◌≤◌, ◌∷◌, ℕ, List, None, Option, Some, ap, arith, drop, max, subst, sym, take}
+use Rattle.std.proofs.Common.{◌≡◌, ◌∙◌, ◌+◌, ◌∷◌, ℕ, List, Option, ap, arith, drop, max, subst, sym, take}
 use Rattle.std.specs.Prelude.{IfSome}
 use Rattle.hcl_layout.specs.Cells.{assign_cell, running_comment, trailing_comment}
 use Rattle.hcl_layout.specs.Gaps.{align, plain_gaps, width}
 use Rattle.hcl_layout.specs.Lines.{Line, lines}
 use Rattle.hcl_layout.specs.Inner.Depths.{depth_after, level_at, levels_behind}
-use Rattle.hcl_layout.specs.Inner.InPlace.{Enters, IsCell, LineInSource, PassesRun, PlainInSource, cell_or_end, entered_column, gaps_on, left_at, line_with, of_run, since, uncommented}
+use Rattle.hcl_layout.specs.Inner.InPlace.{IsCell, LineInSource, PassesRun, PlainInSource, entered_column, gaps_on, left_at, line_with, of_run, since, uncommented}
 use Rattle.hcl_layout.specs.Inner.LineGaps.{gaps_in}
 use Rattle.hcl_layout.specs.Inner.Stream.{assign_column, assign_widths, assigned_line, comment_column, comment_width, comment_widths, plain}
 use Rattle.hcl_layout.specs.Inner.Survey.{text_at}

@@ -1,4 +1,4 @@
-use Rattle.std.proofs.Common.{◌≡◌, ◌+◌, ◌++◌, List, ℕ, drop, length, subst}
+use Rattle.std.proofs.Common.{◌≡◌, ◌++◌, List, ℕ, drop, subst}
 use Rattle.std.specs.Prelude.{IfSome}
 use Rattle.hcl_tokens.specs.Scanned.{lexeme}
 use Rattle.hcl_layout.specs.Inner.Left.{bytes_of}

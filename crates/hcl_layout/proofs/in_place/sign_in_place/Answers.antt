@@ -1,4 +1,4 @@
-use Rattle.std.proofs.Common.{◌≡◌, ◌∙◌, ◌+◌, ◌<◌, ◌≤◌, ℕ, None, Option, Some, arith, ap, subst, sym}
+use Rattle.std.proofs.Common.{◌≡◌, ◌∙◌, ◌+◌, ℕ, None, Option, Some, arith, ap, subst, sym}
 use Rattle.hcl_layout.specs.Cells.{assign_cell}
 use Rattle.hcl_layout.specs.Gaps.{plain_gaps, width}
 use Rattle.hcl_layout.specs.Inner.InPlace.{CellInSource, PlainInSource, SignInSource, comment_or_end}
