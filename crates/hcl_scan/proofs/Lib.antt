@@ -17,6 +17,7 @@ pub mod HeredocStepLemmas
 pub mod AllContextLemmas
 pub mod LongestFrontLemmas
 pub mod PunctuationOrderLemmas
+pub mod ReadingLemmas
 pub mod NumeralLemmas
 pub mod CommentTextLemmas
 pub mod IdentLemmas

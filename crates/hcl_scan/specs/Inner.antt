@@ -5,4 +5,5 @@ pub mod Leads
 pub mod MarkerPlaces
 pub mod Openings
 pub mod Punctuation
+pub mod Readings
 pub mod Scanners

@@ -1,12 +1,13 @@
 //! What is open while a text is scanned.
 
-ghost use Rattle.std.specs.Prelude.{◌≡◌, ◌==◌, ◌<◌, ◌≤◌, ◌∷◌, [], length, drop, MatchOption};
+ghost use Rattle.std.specs.Prelude.{◌≡◌, ◌==◌, ◌<◌, ◌≤◌, ◌∷◌, [], length, drop, slice_index_or, MatchOption};
 ghost use Rattle.hcl_tokens.specs.Lexemes.{max_open, same_opener};
 ghost use Rattle.hcl_tokens.specs.Spelling.{context, context_in};
 ghost use Rattle.hcl_tokens.specs.Scans.{owes};
-ghost use Rattle.hcl_scan.specs.Inner.Openings.{opener_of, openers_of, is_group_by, popped_groups, popped_if, closes_on, top_closes, opened_on, closed, quoted_in, template_on, closes_under, template_top, innermost_owed};
+ghost use Rattle.hcl_scan.specs.Inner.Openings.{opener_of, openers_of, is_group_by, popped_groups, popped_if, top_closes, opened_on, closed, quoted_in, template_top, innermost_owed};
+ghost use Rattle.hcl_scan.specs.Inner.Readings.{closes_in, is_text, template_in, group_reading, reading_on, opener_in, opened_of};
+ghost use Rattle.hcl_scan.specs.declared.stack.Frame.{Frame};
 
-use arrayvec::ArrayVec;
 use hcl_tokens::{Kind, MAX_OPEN};
 use std::marker::Model;
 
@@ -31,40 +32,203 @@ pub struct Opened {
     pub closes_sequence: bool,
 }
 
-impl Default for Opened {
-    fn default() -> Self {
-        Opened {
-            by: Opener::Quote,
-            at: 0,
-            closes_sequence: false,
-        }
-    }
+/// How the text is read in what is open: whether it is literal text, and else what a `}` closes. It is one byte, kept in a
+/// register, since each token asks for it:
+///
+/// ```text
+/// tags = ["a-${var.name}", <<EOT
+/// |      ||  |          |       `- HeredocText
+/// |      ||  `- SequenceCode    `- Code
+/// |      |`- QuotedText
+/// `------`- Code
+/// ```
+#[derive(Clone, Copy)]
+pub enum Reading {
+    Code,
+    /// An expression in which a `}` closes a sequence.
+    SequenceCode,
+    QuotedText,
+    HeredocText,
 }
 
-/// Room for what is open. A [`Stack`] borrows it, so that what it says of the innermost stands apart and can be kept in registers.
-pub type Room = ArrayVec<Opened, MAX_OPEN>;
+/// What opens, alone.
+#[derive(Clone, Copy)]
+enum Form {
+    Quote,
+    Heredoc,
+    Sequence,
+    Brace,
+    Bracket,
+    Paren,
+}
+
+/// What was opened, as it is kept. Of all but heredocs the two ends are left as they were, and mean nothing.
+#[derive(Clone, Copy)]
+struct Frame {
+    at: u32,
+    form: Form,
+    /// How the text is read around it.
+    around: Reading,
+    closer_end: u32,
+    outer_end: u32,
+}
+
+/// Room for what is open, and how much is. A [`Stack`] borrows it, so that how the text is read stands apart and can be kept in a
+/// register.
+#[derive(Drop)]
+pub struct Room {
+    frames: [Frame; MAX_OPEN],
+    depth: usize,
+}
+
+impl Room {
+    pub fn new() -> Room {
+        Room {
+            frames: [Frame {
+                at: 0,
+                form: Form::Quote,
+                around: Reading::Code,
+                closer_end: 0,
+                outer_end: 0,
+            }; MAX_OPEN],
+            depth: 0,
+        }
+    }
+
+    /// What is kept at this place.
+    fn frame(&self, place: usize) -> Frame
+        requires { place < 256 }
+        ensures { (d : Frame) → result ≡ slice_index_or self.now.frames place d }
+    {
+        self.frames[place]
+    }
+}
 
 /// At most `MAX_OPEN` openers, the innermost on top.
 #[derive(Drop)]
 pub struct Stack<'k> {
-    entries: &'k mut Room,
-    /// What the innermost says, kept apart since each token asks for it: where it is a template, whether in quotes.
-    template: Option<bool>,
-    /// Whether a `}` closes a sequence.
-    closes_sequence: bool,
+    room: &'k mut Room,
+    /// How the text is read in the innermost.
+    reading: Reading,
 }
 
 impl<'k> Model for Stack<'k> {
-    ghost use Rattle.std.specs.Prelude.{List, reverse};
+    ghost use Rattle.std.specs.Prelude.{List, map};
     ghost use Rattle.hcl_scan.specs.declared.stack.Opened.{Opened};
 
     ghost Value = { List Opened };
 
-    ghost use Rattle.hcl_scan.specs.Inner.Openings.{SaysOfTop};
+    ghost use Rattle.hcl_scan.specs.Inner.Readings.{IsRoom, frames_of, opened_of};
 
-    ghost view = { λ s. reverse s.entries.now.items };
+    ghost view = { λ s. map opened_of (frames_of s.room.now.depth s.room.now.frames) };
 
-    ghost invariant = { λ s. SaysOfTop s.template s.closes_sequence (reverse s.entries.now.items) };
+    ghost invariant = { λ s. IsRoom s.room.now.depth s.room.now.frames s.reading };
+}
+
+/// Whether a `}` closes a sequence.
+fn closes_in(reading: Reading) -> bool
+    ensures { result ≡ closes_in reading }
+{
+    matches!(reading, Reading::SequenceCode)
+}
+
+/// Whether this is literal text: one comparison, which all that ask share.
+fn is_text(reading: Reading) -> bool
+    ensures { result ≡ is_text reading }
+{
+    !matches!(reading, Reading::Code | Reading::SequenceCode)
+}
+
+/// Where this is literal text, whether it is in quotes.
+fn template_in(reading: Reading) -> Option<bool>
+    ensures { result ≡ template_in reading }
+{
+    if is_text(reading) {
+        Some(matches!(reading, Reading::QuotedText))
+    } else {
+        None
+    }
+}
+
+/// How the text is read in a bracket: as the expression around it.
+fn reading_in_group(around: Reading) -> Reading
+    ensures { result ≡ group_reading around }
+{
+    if closes_in(around) {
+        Reading::SequenceCode
+    } else {
+        Reading::Code
+    }
+}
+
+/// How the text is read in what this opens.
+fn reading_on(by: Opener, around: Reading) -> Reading
+    ensures { result ≡ reading_on by around }
+{
+    match by {
+        Opener::Quote => Reading::QuotedText,
+        Opener::Heredoc { .. } => Reading::HeredocText,
+        Opener::Sequence => Reading::SequenceCode,
+        Opener::Brace => Reading::Code,
+        Opener::Bracket | Opener::Paren => reading_in_group(around),
+    }
+}
+
+/// What opened this.
+fn opener_in(frame: Frame) -> Opener
+    ensures { result ≡ opener_in frame }
+{
+    match frame.form {
+        Form::Quote => Opener::Quote,
+        Form::Heredoc => Opener::Heredoc {
+            closer_end: frame.closer_end,
+            outer_end: frame.outer_end,
+        },
+        Form::Sequence => Opener::Sequence,
+        Form::Brace => Opener::Brace,
+        Form::Bracket => Opener::Bracket,
+        Form::Paren => Opener::Paren,
+    }
+}
+
+/// What is kept so.
+fn opened_of(frame: Frame) -> Opened
+    ensures { result ≡ opened_of frame }
+{
+    let by = opener_in(frame);
+    Opened {
+        by,
+        at: frame.at,
+        closes_sequence: closes_in(reading_on(by, frame.around)),
+    }
+}
+
+impl Frame {
+    /// Keeps what opens here, part by part where it stands: a whole one would be put together first.
+    #[inline(always)]
+    fn keep(&mut self, by: Opener, at: u32, around: Reading)
+        ensures by { opener_in self.new ≡ by }
+        ensures at { self.new.at ≡ at }
+        ensures around { self.new.around ≡ around }
+    {
+        self.at = at;
+        self.around = around;
+        match by {
+            Opener::Quote => self.form = Form::Quote,
+            Opener::Heredoc {
+                closer_end,
+                outer_end,
+            } => {
+                self.form = Form::Heredoc;
+                self.closer_end = closer_end;
+                self.outer_end = outer_end;
+            }
+            Opener::Sequence => self.form = Form::Sequence,
+            Opener::Brace => self.form = Form::Brace,
+            Opener::Bracket => self.form = Form::Bracket,
+            Opener::Paren => self.form = Form::Paren,
+        }
+    }
 }
 
 /// Whether these are the same opener.
@@ -92,37 +256,6 @@ fn template_by(by: Opener) -> Option<bool>
     }
 }
 
-/// Where the innermost is a template, whether it is in quotes.
-fn template_on(top: Option<Opened>) -> Option<bool>
-    ensures { result ≡ template_on top }
-{
-    match top {
-        Some(top) => template_by(top.by),
-        None => None,
-    }
-}
-
-/// Whether a `}` closes a sequence under the innermost.
-fn closes_under(top: Option<Opened>) -> bool
-    ensures { result ≡ closes_under top }
-{
-    match top {
-        Some(top) => top.closes_sequence,
-        None => false,
-    }
-}
-
-/// Whether a `}` closes a sequence in what this opens, where it does so around it.
-fn closes_on(by: Opener, around: bool) -> bool
-    ensures { result ≡ closes_on by around }
-{
-    match by {
-        Opener::Sequence => true,
-        Opener::Paren | Opener::Bracket => around,
-        _ => false,
-    }
-}
-
 fn is_group(by: Opener) -> bool
     ensures { result ≡ is_group_by by }
 {
@@ -141,11 +274,10 @@ impl<'k> Stack<'k> {
     pub fn new(room: &'k mut Room) -> Stack<'k>
         ensures { result ≡ [] }
     {
-        room.clear();
+        room.depth = 0;
         Stack {
-            entries: room,
-            template: None,
-            closes_sequence: false,
+            room,
+            reading: Reading::Code,
         }
     }
 
@@ -153,34 +285,41 @@ impl<'k> Stack<'k> {
         ensures full { result ≡ (length self.now == max_open) }
         ensures small { length self.now ≤ max_open }
     {
-        self.entries.is_full()
+        self.room.depth == MAX_OPEN
     }
 
-    pub fn push(&mut self, opened: Opened)
+    /// Puts what opens here on top.
+    pub fn open(&mut self, by: Opener, at: u32)
         requires { length self.old < max_open }
-        ensures { self.new ≡ opened ∷ self.old }
+        ensures { self.new ≡ opened_on by at self.old }
     {
-        self.entries.push(opened);
-        self.template = template_by(opened.by);
-        self.closes_sequence = opened.closes_sequence;
+        let around = self.reading;
+        self.room.frames[self.room.depth].keep(by, at, around);
+        self.room.depth += 1;
+        self.reading = reading_on(by, around);
     }
 
     /// The innermost.
     pub fn top(&self) -> Option<Opened>
         ensures { MatchOption result (self.now ≡ []) (λ o. self.now ≡ o ∷ drop 1 self.now) }
     {
-        self.entries.last().copied()
+        if self.room.depth == 0 {
+            return None;
+        }
+        Some(opened_of(self.room.frame(self.room.depth - 1)))
     }
 
     pub fn pop(&mut self) -> Option<Opened>
         ensures popped { MatchOption result ((self.old ≡ []) × (self.new ≡ [])) (λ o. self.old ≡ o ∷ self.new) }
         ensures rest { self.new ≡ drop 1 self.old }
     {
-        let popped = self.entries.pop();
-        let top = self.entries.last().copied();
-        self.template = template_on(top);
-        self.closes_sequence = closes_under(top);
-        popped
+        if self.room.depth == 0 {
+            return None;
+        }
+        self.room.depth -= 1;
+        let frame = self.room.frame(self.room.depth);
+        self.reading = frame.around;
+        Some(opened_of(frame))
     }
 }
 
@@ -189,16 +328,16 @@ impl<'k> Stack<'k> {
     pub fn closes_sequence(&self) -> bool
         ensures { result ≡ top_closes self.now }
     {
-        let _ = &self.entries;
-        self.closes_sequence
+        let _ = &self.room;
+        closes_in(self.reading)
     }
 
     /// Where the innermost is a template, whether it is in quotes.
     pub fn template(&self) -> Option<bool>
         ensures { result ≡ quoted_in (context (openers_of self.now)) }
     {
-        let _ = &self.entries;
-        self.template
+        let _ = &self.room;
+        template_in(self.reading)
     }
 
     /// The innermost, if it is a template.
@@ -212,19 +351,6 @@ impl<'k> Stack<'k> {
             Some(_) => Some(top),
             None => None,
         }
-    }
-
-    /// Puts what opens here on top.
-    pub fn open(&mut self, by: Opener, at: u32)
-        requires { length self.old < max_open }
-        ensures { self.new ≡ opened_on by at self.old }
-    {
-        let closes_sequence = closes_on(by, self.closes_sequence());
-        self.push(Opened {
-            by,
-            at,
-            closes_sequence,
-        });
     }
 
     /// Drops what a token of this kind closes.

@@ -78,25 +78,6 @@ abbrev pub quoted_in : Context → Option Bool
 quoted_in (Template quoted) = Some quoted
 quoted_in Expression = None
 
--- of the innermost: where it is a template, whether it is in quotes
-abbrev pub template_on : Option Opened → Option Bool
-template_on None = None
-template_on (Some o) = quoted_in (context_in (opener_of o.by))
-
--- a `}` closes a sequence under the innermost
-abbrev pub closes_under : Option Opened → Bool
-closes_under None = false
-closes_under (Some o) = o.closes_sequence
-
-abbrev pub top_of : List Opened → Option Opened
-top_of [] = None
-top_of (o ∷ stack) = Some o
-
--- what is kept of the top beside the stack
-pub record SaysOfTop (quoted : Option Bool) (closing : Bool) (stack : List Opened) : Type 0 where
-  pub template : quoted ≡ template_on (top_of stack)
-  pub closes : closing ≡ closes_under (top_of stack)
-
 -- tokens of this kind change what is open
 abbrev pub opens_or_closes : Kind → Bool
 opens_or_closes HeredocOpen = true

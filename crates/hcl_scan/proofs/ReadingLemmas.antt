@@ -1,0 +1,98 @@
+-- What the stack keeps stands for what is open.
+use Rattle.std.proofs.Common.{◌≡◌, ℕ, ◌+◌, ◌<◌, ◌≤◌, List, [], ◌∷◌, ◌++◌, length, take, drop, reverse, get_or, Option, Some, None, refl, sym, ap, subst, ◌∙◌, arith, slice_set}
+use Rattle.std.specs.Prelude.{map}
+use Rattle.std.proofs.lemmas.List.{reverse-append, take_more, take_more_set, length-map, length-reverse, length-take-le}
+use Rattle.std.proofs.Math.ListN.{length-set}
+use Rattle.hcl_tokens.specs.Lexemes.{Opener}
+use Rattle.hcl_tokens.specs.Spelling.{context, context_in}
+use Rattle.hcl_scan.specs.Inner.Openings.{opener_of, openers_of, closes_on, top_closes, opened_on, quoted_in}
+use Rattle.hcl_scan.specs.Inner.Readings.{closes_in, template_in, group_reading, reading_on, opener_in, opened_of, frames_of, reading_under, AreFrames, IsRoom}
+use Rattle.hcl_scan.specs.declared.stack.Opener as kept
+use Rattle.hcl_scan.specs.declared.stack.Opener.TheVariants as by
+use Rattle.hcl_scan.specs.declared.stack.Opened.{Opened}
+use Rattle.hcl_scan.specs.declared.stack.Frame.{Frame}
+use Rattle.hcl_scan.specs.declared.stack.Reading.{Reading}
+use Rattle.hcl_scan.specs.declared.stack.Reading.TheVariants.{Code, SequenceCode, QuotedText, HeredocText}
+
+-- WHAT A READING SAYS
+group_template : (r : Reading) → template_in (group_reading r) ≡ None
+group_template Code = refl
+group_template SequenceCode = refl
+group_template QuotedText = refl
+group_template HeredocText = refl
+
+template_on : (opener : kept.Opener) (r : Reading) → template_in (reading_on opener r) ≡ quoted_in (context_in (opener_of opener))
+template_on by.Quote r = refl
+template_on (by.Heredoc c o) r = refl
+template_on by.Sequence r = refl
+template_on by.Brace r = refl
+template_on by.Bracket r = group_template r
+template_on by.Paren r = group_template r
+
+group_closes : (r : Reading) → closes_in (group_reading r) ≡ closes_in r
+group_closes Code = refl
+group_closes SequenceCode = refl
+group_closes QuotedText = refl
+group_closes HeredocText = refl
+
+closes_by : (opener : kept.Opener) (r : Reading) → closes_in (reading_on opener r) ≡ closes_on opener (closes_in r)
+closes_by by.Quote r = refl
+closes_by (by.Heredoc c o) r = refl
+closes_by by.Sequence r = refl
+closes_by by.Brace r = refl
+closes_by by.Bracket r = group_closes r
+closes_by by.Paren r = group_closes r
+
+-- OF WHAT IS OPEN
+pub template_under : (fs : List Frame) → template_in (reading_under fs) ≡ quoted_in (context (openers_of (map opened_of fs)))
+template_under [] = refl
+template_under (f ∷ fs) = template_on (opener_in f) f.around
+
+closes_top : (fs : List Frame) → closes_in (reading_under fs) ≡ top_closes (map opened_of fs)
+closes_top [] = refl
+closes_top (f ∷ fs) = refl
+
+-- THE FRAMES, OF WHICH n ARE OPEN
+pub how_many : (fs : List Frame) (n : ℕ) → n ≤ length fs → length (map opened_of (frames_of n fs)) ≡ n
+how_many fs n within = length-map (frames_of n fs) opened_of ∙ length-reverse (take n fs) ∙ length-take-le n fs within
+
+pub one_more : (fs : List Frame) (n : ℕ) (f : Frame) → n < length fs → frames_of (n + 1) (slice_set fs n f) ≡ f ∷ frames_of n fs
+one_more fs n f within = ap reverse (take_more_set fs n f within) ∙ reverse-append (take n fs) (f ∷ [])
+
+pub top_frame : (fs : List Frame) (n : ℕ) (d : Frame) → n < length fs → frames_of (n + 1) fs ≡ get_or fs n d ∷ frames_of n fs
+top_frame fs n d within = ap reverse (take_more fs n d within) ∙ reverse-append (take n fs) (get_or fs n d ∷ [])
+
+-- something opens
+pub opens_frame : (fs : List Frame) (n : ℕ) (reading : Reading) (f : Frame) → n < length fs → IsRoom n fs reading → f.around ≡ reading → IsRoom (n + 1) (slice_set fs n f) (reading_on (opener_in f) reading)
+opens_frame fs n reading f within is around =
+    let more = one_more fs n f within in
+    let under : f.around ≡ reading_under (frames_of n fs) = around ∙ is.read_so in
+    record {
+      room = length-set fs n f ∙ is.room;
+      within = omega (arith, within, is.room);
+      frames = subst (λ (l : List Frame). AreFrames l) (sym more) (under, is.frames);
+      read_so = ap (reading_on (opener_in f)) (sym around) ∙ ap reading_under (sym more);
+    }
+
+pub opened_frame : (fs : List Frame) (n : ℕ) (reading : Reading) (f : Frame) → n < length fs → IsRoom n fs reading → f.around ≡ reading
+    → map opened_of (frames_of (n + 1) (slice_set fs n f)) ≡ opened_on (opener_in f) f.at (map opened_of (frames_of n fs))
+opened_frame fs n reading f within is around =
+    let closes : closes_in (reading_on (opener_in f) f.around) ≡ closes_on (opener_in f) (top_closes (map opened_of (frames_of n fs))) =
+    closes_by (opener_in f) f.around ∙ ap (λ r. closes_on (opener_in f) (closes_in r)) (around ∙ is.read_so) ∙ ap (closes_on (opener_in f)) (closes_top (frames_of n fs)) in
+    ap (map opened_of) (one_more fs n f within) ∙ ap (λ v. record { by = opener_in f; at = f.at; closes_sequence = v } ∷ map opened_of (frames_of n fs)) closes
+
+-- the top, and what is open without it
+module _ (fs : List Frame) (m n : ℕ) (reading : Reading) (f : Frame) (one : n + 1 ≡ m) (top : f ≡ get_or fs n f) (is : IsRoom m fs reading) where
+  top_first : frames_of m fs ≡ f ∷ frames_of n fs
+  top_first = ap (λ k. frames_of k fs) (sym one) ∙ top_frame fs n f (omega (arith, one, is.within, is.room)) ∙ ap (λ g. g ∷ frames_of n fs) (sym top)
+
+  pub closes_frame : IsRoom n fs f.around
+  closes_frame =
+      let are : AreFrames (f ∷ frames_of n fs) = subst (λ (l : List Frame). AreFrames l) top_first is.frames in
+      record { room = is.room; within = omega (arith, one, is.within); frames = are.1; read_so = are.0 }
+
+  pub top_opened : map opened_of (frames_of m fs) ≡ opened_of f ∷ map opened_of (frames_of n fs)
+  top_opened = ap (map opened_of) top_first
+
+pub top_dropped : (stack below : List Opened) (o : Opened) → stack ≡ o ∷ below → stack ≡ o ∷ drop 1 stack
+top_dropped stack below o e = e ∙ ap (λ (l : List Opened). o ∷ drop 1 l) (sym e)
