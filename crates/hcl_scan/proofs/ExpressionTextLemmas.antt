@@ -20,7 +20,7 @@ use Rattle.hcl_tokens.specs.declared.token.Kind.TheVariants.{Newline, LineCommen
 use Rattle.hcl_scan.proofs.WayLemmas.{ways}
 use Rattle.hcl_scan.proofs.LeadLemmas.{kind_lead, leads, some, is_settled, front_lead, front_settled, line_kind, space_kind, letter_kind, digit_kind, hash_kind, star_kind, slash_kind, less_kind, closer_kinds, sign_mark, mark_lead}
 use Rattle.hcl_scan.proofs.CommentTextLemmas.{goes_on, line_comment_found}
-use Rattle.hcl_scan.proofs.TextCutLemmas.{EndsLow, low_cut, mark_low}
+use Rattle.hcl_scan.proofs.TextCutLemmas.{EndsLow, low_cut}
 
 module _ (dot inside closes : Bool) where
   -- the texts of the kinds that begin so have one form, and the form one kind

@@ -1,5 +1,5 @@
 -- What the first bytes of a text say of the token at its front.
-use Rattle.std.proofs.Common.{◌≡◌, ℕ, Bool, List, take, refl, sym, subst, ◌∙◌, IsUtf8, Some, None}
+use Rattle.std.proofs.Common.{◌≡◌, ℕ, Bool, List, take, refl, subst, ◌∙◌, IsUtf8}
 use Rattle.std.specs.Prelude.{IfSome, IfNone}
 use Rattle.std.specs.Str.{IsCharBoundary}
 use Rattle.hcl_tokens.specs.Spelling.{punctuation}

@@ -1,9 +1,8 @@
 -- What the stack keeps stands for what is open.
-use Rattle.std.proofs.Common.{◌≡◌, ℕ, ◌+◌, ◌<◌, ◌≤◌, List, [], ◌∷◌, ◌++◌, length, take, drop, reverse, get_or, Option, Some, None, refl, sym, ap, subst, ◌∙◌, arith, slice_set}
+use Rattle.std.proofs.Common.{◌≡◌, ℕ, ◌+◌, ◌<◌, ◌≤◌, List, [], ◌∷◌, length, take, drop, reverse, get_or, None, refl, sym, ap, subst, ◌∙◌, arith, slice_set}
 use Rattle.std.specs.Prelude.{map}
 use Rattle.std.proofs.lemmas.List.{reverse-append, take_more, take_more_set, length-map, length-reverse, length-take-le}
 use Rattle.std.proofs.Math.ListN.{length-set}
-use Rattle.hcl_tokens.specs.Lexemes.{Opener}
 use Rattle.hcl_tokens.specs.Spelling.{context, context_in}
 use Rattle.hcl_scan.specs.Inner.Openings.{opener_of, openers_of, closes_on, top_closes, opened_on, quoted_in}
 use Rattle.hcl_scan.specs.Inner.Readings.{closes_in, template_in, group_reading, reading_on, opener_in, opened_of, frames_of, reading_under, AreFrames, IsRoom}

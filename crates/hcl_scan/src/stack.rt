@@ -97,7 +97,7 @@ impl Room {
 
     /// What is kept at this place.
     fn frame(&self, place: usize) -> Frame
-        requires { place < 256 }
+        requires { place < max_open }
         ensures { (d : Frame) → result ≡ slice_index_or self.now.frames place d }
     {
         self.frames[place]

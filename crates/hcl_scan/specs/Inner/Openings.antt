@@ -1,6 +1,6 @@
 -- What the scanner keeps of what is open, and what this stands for: the openers, their offsets, what heredocs hide.
 -- Our own choice of representation: a heredoc is kept by where its closing marker ends and where what was seen around it ends.
-use Rattle.std.specs.Prelude.{◌≡◌, ℕ, ◌-◌, Bool, true, false, List, [], ◌∷◌, length, map, drop, if◌then◌else◌, slice_range, Option, Some, None}
+use Rattle.std.specs.Prelude.{ℕ, ◌-◌, Bool, true, false, List, [], ◌∷◌, length, map, drop, if◌then◌else◌, slice_range, Option, Some, None}
 use Rattle.hcl_tokens.specs.Lexemes as lexemes
 use Rattle.hcl_tokens.specs.Lexemes.{is_group, open_after, same_opener}
 use Rattle.hcl_tokens.specs.Spelling.{Context, Template, Expression, context_in}

@@ -1,6 +1,7 @@
 -- How the text is read in what is open, which the stack keeps in one byte, and what is kept of each thing that is open.
 -- Our own choice of representation.
-use Rattle.std.specs.Prelude.{◌≡◌, ℕ, ◌≤◌, Bool, true, false, List, [], ◌∷◌, length, map, take, reverse, Option, Some, None}
+use Rattle.std.specs.Prelude.{◌≡◌, ℕ, ◌≤◌, Bool, true, false, List, [], ◌∷◌, length, take, reverse, Option, Some, None}
+use Rattle.hcl_tokens.specs.Lexemes.{max_open}
 use Rattle.hcl_scan.specs.declared.stack.Opener.{Opener}
 use Rattle.hcl_scan.specs.declared.stack.Opener.TheVariants as by
 use Rattle.hcl_scan.specs.declared.stack.Opened.{Opened}
@@ -71,7 +72,7 @@ AreFrames (f ∷ fs) = (f.around ≡ reading_under fs) × AreFrames fs
 
 -- what is kept of what is open, of which there are n
 pub record IsRoom (n : ℕ) (fs : List Frame) (reading : Reading) : Type 0 where
-  pub room : length fs ≡ 256
-  pub within : n ≤ 256
+  pub room : length fs ≡ max_open
+  pub within : n ≤ max_open
   pub frames : AreFrames (frames_of n fs)
   pub read_so : reading ≡ reading_under (frames_of n fs)

@@ -1,4 +1,4 @@
-use Rattle.std.proofs.Common.{◌≡◌, ◌+◌, ◌≤◌, ℕ, length, arith}
+use Rattle.std.proofs.Common.{◌+◌, ◌≤◌, ℕ, length, arith}
 use Rattle.std.proofs.lemmas.Option.{IfSome_then}
 use Rattle.hcl_scan.proofs.CandidateLemmas.{blanks_within, other_line}
 use Rattle.hcl_scan.proofs.heredoc.behind_other_line.Goals as goal

@@ -1,4 +1,4 @@
-use Rattle.std.proofs.Common.{◌+◌, arith}
+use Rattle.std.proofs.Common.{arith}
 use Rattle.hcl_scan.proofs.SliceLemmas.{slice_len}
 use Rattle.hcl_scan.proofs.CandidateLemmas.{next_upto}
 use Rattle.hcl_scan.proofs.heredoc.next_line_upto.Goals as goal

@@ -1,4 +1,3 @@
-use Rattle.std.proofs.Common.{ℕ}
 use Rattle.hcl_scan.specs.Inner.MarkerPlaces.{IsPassed}
 use Rattle.hcl_scan.proofs.heredoc.pass_other_lines.Given as goal
 

@@ -1,4 +1,4 @@
-use Rattle.std.proofs.Common.{◌≡◌, ◌≤◌, ℕ, ◌+◌, ◌==◌, not, length, drop, slice_range, arith}
+use Rattle.std.proofs.Common.{◌≡◌, ◌≤◌, ◌+◌, ◌==◌, not, length, drop, arith}
 use Rattle.std.specs.List.{prefix_len}
 use Rattle.hcl_scan.proofs.SliceLemmas.{slice_len}
 use Rattle.hcl_scan.proofs.ByteBlockLemmas.{run_goes_on}

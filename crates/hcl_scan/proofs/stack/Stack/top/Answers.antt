@@ -1,4 +1,4 @@
-use Rattle.std.proofs.Common.{◌≡◌, ◌-◌, ◌+◌, ◌∷◌, List, map, sym, ap, ◌∙◌, arith}
+use Rattle.std.proofs.Common.{◌≡◌, ◌-◌, ◌+◌, ◌∷◌, map, sym, ap, ◌∙◌, arith}
 use Rattle.hcl_scan.specs.Inner.Readings.{opened_of, frames_of}
 use Rattle.hcl_scan.specs.declared.stack.Opened.{Opened}
 use Rattle.hcl_scan.proofs.ReadingLemmas.{top_opened, top_dropped}
