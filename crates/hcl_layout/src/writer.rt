@@ -1,5 +1,5 @@
 //! The print, written.
-ghost use Rattle.std.specs.Prelude.{◌≡◌, ◌<◌, ◌≤◌, ◌+◌, ◌-◌, ◌^◌, ◌++◌, IsTrue, false, length, take, replicate, is_err, IfErr, OnOk};
+ghost use Rattle.std.specs.Prelude.{◌≡◌, ◌<◌, ◌≤◌, ◌+◌, ◌-◌, ◌^◌, ◌++◌, IsTrue, false, length, take, drop, replicate, is_err, IfErr, IfSome, OnOk};
 ghost use Rattle.std.specs.Io.KnownBytes.{Appends};
 ghost use Rattle.hcl_layout.specs.Inner.Left.{bytes_of};
 ghost use Rattle.hcl_layout.specs.Inner.Out.{Fails, FailsBefore, Finishes, Keeps, Lies, Puts, held, stretched};
@@ -12,6 +12,33 @@ use crate::piece::{Piece, goes_on};
 use crate::pieces::{next_piece, start};
 use hcl_grammar::Accepted;
 use hcl_tokens::{ByteSink, WriteFault, write_fully};
+
+/// Writes a block over another. As arrays the two are known to lie apart, which a copy of slices would ask.
+#[inline(always)]
+fn put_block(room: &mut [u8], block: &[u8; 32])
+    requires { length room.old ≡ 32 }
+    ensures len { length room.new ≡ length room.old }
+    ensures after { room.new ≡ block.now }
+{
+    let Some(place) = room.as_mut_array::<32>() else {
+        return;
+    };
+    *place = *block;
+}
+
+/// The block of the source that begins with a short stretch, if the source goes on so far.
+#[inline(always)]
+fn block_at(source: &[u8], stretch: Stretch) -> Option<&[u8; 32]>
+    requires lies { Lies source.now stretch }
+    requires short { stretch.end ≤ stretch.start + 32 }
+    ensures { IfSome result (λ b. take (stretch.end - stretch.start) b.now ≡ take (stretch.end - stretch.start) (drop stretch.start source.now)) }
+{
+    let (_, rest) = source.split_at(stretch.start);
+    let Some(block) = rest.first_chunk::<32>() else {
+        return None;
+    };
+    Some(block)
+}
 
 impl Buffer {
     fn new() -> Self
@@ -67,8 +94,7 @@ impl Buffer {
 
     /// Takes so many bytes of a block: the block is written, and of that only so much taken.
     #[inline(always)]
-    fn hold_front(&mut self, block: &[u8], count: usize)
-        requires block { length block.now ≡ 32 }
+    fn hold_front(&mut self, block: &[u8; 32], count: usize)
         requires few { count ≤ 32 }
         requires room { self.old.len + 32 ≤ 8192 }
         ensures held { held self.new ≡ held self.old ++ take count block.now }
@@ -76,23 +102,19 @@ impl Buffer {
         ensures sent { self.new.sent ≡ self.old.sent }
     {
         let at = self.len;
-        self.bytes[at..at + 32].copy_from_slice(block);
+        put_block(&mut self.bytes[at..at + 32], block);
         self.len = at + count;
     }
 
     /// Whether a stretch of the source is short, and there is room for the blocks that it is written by.
     #[inline(always)]
-    fn has_room(&self, source: &[u8], stretch: Stretch) -> bool
-        requires lies { Lies source.now stretch }
+    fn has_room(&self, stretch: Stretch) -> bool
+        requires order { stretch.start ≤ stretch.end }
         ensures gap { IsTrue result → stretch.gap ≤ 16 }
         ensures short { IsTrue result → stretch.end ≤ stretch.start + 32 }
-        ensures block { IsTrue result → stretch.start + 32 ≤ length source.now }
         ensures room { IsTrue result → self.now.len + 48 ≤ 8192 }
     {
-        stretch.gap <= 16
-            && stretch.end - stretch.start <= 32
-            && source.len() - stretch.start >= 32
-            && self.len <= 8192 - 48
+        stretch.gap <= 16 && stretch.end - stretch.start <= 32 && self.len <= 8192 - 48
     }
 }
 
@@ -227,12 +249,15 @@ fn put_stretch<W: ByteSink>(
     ensures count { OnOk result (buffer.new.sent + buffer.new.len ≡ buffer.old.sent + buffer.old.len + stretch.gap + (stretch.end - stretch.start)) }
 {
     let (start, end) = (stretch.start, stretch.end);
-    if buffer.has_room(source, stretch) {
-        buffer.hold_few_blanks(stretch.gap as usize);
-        buffer.hold_front(&source[start..start + 32], end - start);
-        return Ok(());
+    if !buffer.has_room(stretch) {
+        return put_text(to, buffer, stretch.gap, &source[start..end]);
     }
-    put_text(to, buffer, stretch.gap, &source[start..end])
+    let Some(block) = block_at(source, stretch) else {
+        return put_text(to, buffer, stretch.gap, &source[start..end]);
+    };
+    buffer.hold_few_blanks(stretch.gap as usize);
+    buffer.hold_front(block, end - start);
+    Ok(())
 }
 
 /// Writes the last stretch, and all that waits.
