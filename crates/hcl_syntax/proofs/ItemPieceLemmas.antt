@@ -22,6 +22,7 @@ puts_nothing ts level from to old h none = record {
   is = λ inner nothing. ap (λ ws. old ++ inner ws) (words_none ts to to (omega arith)) ∙ ap (λ r. old ++ r) nothing ∙ ap (λ ws. old ++ item_of inner level ws) (sym none);
   within = omega arith;
   deeper = λ less. absurd (omega (arith, less));
+  begins = λ less. absurd (omega (arith, less));
 }
 
 pub puts_alone : (ts : List Lexeme) (level from to : ℕ) (old new : List Item) (name : NumberedKind) (b : Body) → IsFirst ts from to name → words ts (name.number + 1) to ≡ [] → PutsBlock ts level name.number to old new b
@@ -34,6 +35,7 @@ puts_alone ts level from to old new name b f none h = record {
       ∙ ap (λ ws. old ++ item_of inner level ws) (sym f.first);
   within = h.within;
   deeper = λ less. omega (arith, h.deeper, f.from_on);
+  begins = h.begins;
 }
 
 pub puts_labelled : (ts : List Lexeme) (level from to : ℕ) (old new : List Item) (name second : NumberedKind) (b : Body) → IsFirst ts from to name → IsFirst ts (name.number + 1) to second → is kind.Assign second.kind ≡ false
@@ -47,6 +49,7 @@ puts_labelled ts level from to old new name second b f s plain h = record {
       ∙ ap (λ ws. old ++ item_of inner level ws) (sym f.first);
   within = h.within;
   deeper = λ less. omega (arith, h.deeper, f.from_on);
+  begins = h.begins;
 }
 
 pub puts_attribute : (ts : List Lexeme) (level from to end : ℕ) (old new : List Item) (name second : NumberedKind) → IsFirst ts from to name → IsFirst ts (name.number + 1) to second → is kind.Assign second.kind ≡ true
@@ -60,4 +63,5 @@ puts_attribute ts level from to end old new name second f s assign at pushed = r
       ∙ ap (λ ws. old ++ item_of inner level ws) (sym f.first);
   within = omega arith;
   deeper = λ less. absurd (omega (arith, less));
+  begins = λ less. absurd (omega (arith, less));
 }

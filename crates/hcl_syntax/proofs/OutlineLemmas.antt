@@ -40,6 +40,13 @@ items_step ts level from to old new mid next start end b less at piece deeper h 
     f : List Numbered → List Item
     f = item_of (items_at (level + 1)) level
 
+-- a piece without a body
+pub items_step_alone : (ts : List Lexeme) (level from to : ℕ) (old new mid : List Item) (start end : ℕ) (b : Body) → start < to → end ≡ min (newline_from ts 0 start) to
+    → PutsPiece ts level start end new mid b → b.end ≤ b.first → AreItems ts level from to old new start → AreItems ts level from to old mid (end + 1)
+items_step_alone ts level from to old new mid start end b less at piece none h =
+    items_step ts level from to old new mid mid start end b less at piece
+    (sym (append-nil mid) ∙ ap (λ ws. mid ++ items_at (level + 1) ws) (sym (words_none ts b.first b.end none))) h
+
 numbered_length : (n : ℕ) (xs : List Lexeme) → take (length xs) (numbered_from n xs) ≡ numbered_from n xs
 numbered_length n [] = refl
 numbered_length n (x ∷ xs) = ap (λ r. number_of n x ∷ r) (numbered_length (n + 1) xs)

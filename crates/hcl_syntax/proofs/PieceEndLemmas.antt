@@ -1,5 +1,5 @@
--- The newlines ahead, token by token from right to left.
-use Rattle.std.proofs.Common.{◌≡◌, ◌∙◌, ap, sym, refl, ℕ, suc, zero, ◌+◌, ◌-◌, ◌<◌, ◌≤◌, Bool, true, false, cond, List, [], ◌∷◌, ◌++◌, drop, length, get_or, set, replicate, reverse, arith, ◌⊎◌, inl, inr, ◌≢◌}
+-- The newlines ahead, token by token from right to left, and where pieces can begin.
+use Rattle.std.proofs.Common.{◌≡◌, ◌∙◌, ap, sym, refl, ℕ, suc, zero, ◌+◌, ◌-◌, ◌<◌, ◌≤◌, Bool, true, false, cond, min, ap₂, subst, true≢false, List, [], ◌∷◌, ◌++◌, drop, length, get_or, set, replicate, reverse, arith, ◌⊎◌, inl, inr, ◌≢◌}
 use Rattle.std.specs.Prelude.{Some, slice_get, ◌&&◌}
 use Rattle.std.proofs.lemmas.List.{reverse-append, get_or-set_same, get_or-set_other, length-set, length-replicate, drop_all}
 use Rattle.std.proofs.lemmas.Bool.{cases_eq}
@@ -8,8 +8,9 @@ use Rattle.hcl_tokens.specs.declared.token.Kind.{Kind}
 use Rattle.hcl_tokens.specs.declared.token.Kind.TheVariants as kind
 use Rattle.hcl_tokens.specs.Kinds.{is}
 use Rattle.hcl_grammar.specs.Items.{deepen, is_closed}
+use Rattle.hcl_syntax.specs.declared.nesting.Nesting.{Nesting}
 use Rattle.hcl_syntax.specs.declared.nesting.Nesting.TheVariants as nesting
-use Rattle.hcl_syntax.specs.Inner.Pieces.{AreEnds, first_len, newline_from, nesting_of, AreNewlinesAhead}
+use Rattle.hcl_syntax.specs.Inner.Pieces.{AreEnds, ArePassed, CanBegin, first_len, leads, newline_from, nesting_of, AreNewlinesAhead}
 use Rattle.hcl_grammar.proofs.NumberedLemmas.{drop_at}
 
 -- what a kind does to the depth
@@ -111,35 +112,147 @@ module _ (ts : List Lexeme) (n : ℕ) (t : Lexeme) (e : slice_get ts n ≡ Some 
 
 -- ---- the table
 
+none_leads : (k : Kind) → nesting_of k ≡ nesting.Passes → leads k ≡ true → ⊥
+none_leads kind.Newline e l = absurd (cc)
+none_leads kind.BraceOpen e l = absurd (cc)
+none_leads _ e l = absurd (cc)
+
+pub found : (ts : List Lexeme) (n : ℕ) → n < length ts → (t : Lexeme) × (slice_get ts n ≡ Some t)
+found [] n h = absurd (omega (arith, h))
+found (x ∷ ts) zero h = (x, refl)
+found (x ∷ ts) (suc n) h = found ts n (omega (arith, h))
+
+-- after a token, it is filled where a piece can begin
 pub record IsFilled (ts : List Lexeme) (ends ahead : List ℕ) (n : ℕ) : Type 0 where
-  pub len : length ends ≡ length ts
+  pub len : length ends ≡ length ts + 1
   pub within : n ≤ length ts
   pub newlines_ahead : AreNewlinesAhead ts ahead n
-  pub each : (i : ℕ) → n ≤ i → i < length ts → get_or ends i 0 ≡ newline_from ts 0 i
+  pub each : (i : ℕ) → n < i → i ≤ length ts → CanBegin ts i → get_or ends i 0 ≡ newline_from ts 0 i
 
-pub starts_filled : (ts : List Lexeme) (count : ℕ) (ends : List ℕ) → count ≡ length ts → ends ≡ replicate count 0 → IsFilled ts ends [] count
+pub starts_filled : (ts : List Lexeme) (count : ℕ) (ends : List ℕ) → count ≡ length ts → ends ≡ replicate (count + 1) 0 → IsFilled ts ends [] count
 starts_filled ts count ends is made = record {
-  len = ap length made ∙ length-replicate count 0 ∙ is;
+  len = ap length made ∙ length-replicate (count + 1) 0 ∙ ap (λ k. k + 1) is;
   within = omega (arith, is);
   newlines_ahead = λ d. sym (ap (λ k. newline_from ts d k) is ∙ ap (λ r. length ts + first_len d r) (drop_all (length ts) ts (omega arith)) ∙ omega arith);
-  each = λ i h k. absurd (omega (arith, h, k, is));
+  each = λ i h k _. absurd (omega (arith, h, k, is));
 }
 
-pub fills : (ts : List Lexeme) (old new before ahead : List ℕ) (last n x : ℕ) → last ≡ n + 1 → IsFilled ts old before last → AreNewlinesAhead ts ahead n → x ≡ get_or (reverse ahead) 0 (length ts) → new ≡ set old n x
-    → IsFilled ts new ahead n
-fills ts old new before ahead last n x at h next top is = record {
-  len = ap length is ∙ length-set old n x ∙ h.len;
-  within = omega (arith, at, h.within);
+-- a token that is passed over leads to no piece
+passed_over : (ts : List Lexeme) (ends ahead : List ℕ) (last n : ℕ) → last ≡ n + 1 → n < length ts → ((t : Lexeme) → slice_get ts n ≡ Some t → nesting_of t.kind ≡ nesting.Passes)
+    → IsFilled ts ends ahead last → IsFilled ts ends ahead n
+passed_over ts ends ahead last n at less means h = by (found ts n less)
+  where
+    by : ((t : Lexeme) × (slice_get ts n ≡ Some t)) → IsFilled ts ends ahead n
+    by (t, here) = record {
+      len = h.len;
+      within = omega (arith, less);
+      newlines_ahead = passes ts n t here ahead (means t here) (subst (λ k. AreNewlinesAhead ts ahead k) at h.newlines_ahead);
+      each = λ i above below begins. from i below begins (cases_eq i (n + 1)) above;
+    }
+      where
+        from : (i : ℕ) → i ≤ length ts → CanBegin ts i → (i ≡ n + 1) ⊎ (i ≢ n + 1) → n < i → get_or ends i 0 ≡ newline_from ts 0 i
+        from i below begins (inl e) above = absurd (none_leads t.kind (means t here) (begins n t e here))
+        from i below begins (inr ne) above = h.each i (omega (arith, at, above, ne)) below begins
+
+-- nor do many
+pub one_more_passed : (ts : List Lexeme) (n last before : ℕ) (k : Kind) → last ≡ n + 1 → ((t : Lexeme) → slice_get ts n ≡ Some t → k ≡ t.kind) → nesting_of k ≡ nesting.Passes → ArePassed ts last before → ArePassed ts n before
+one_more_passed ts n last before k at is passed h = λ i t from below here. by i t from below here (cases_eq i n)
+  where
+    by : (i : ℕ) (t : Lexeme) → n ≤ i → i < before → slice_get ts i ≡ Some t → (i ≡ n) ⊎ (i ≢ n) → nesting_of t.kind ≡ nesting.Passes
+    by i t from below here (inl e) = ap nesting_of (sym (is t (ap (slice_get ts) (sym e) ∙ here))) ∙ passed
+    by i t from below here (inr ne) = h i t (omega (arith, at, from, ne)) below here
+
+all_passed : (ts : List Lexeme) (ends ahead : List ℕ) (n d last : ℕ) → last ≡ n + d → last ≤ length ts → ArePassed ts n last → IsFilled ts ends ahead last → IsFilled ts ends ahead n
+all_passed ts ends ahead n zero last at within passed h = let e : last ≡ n = omega (arith, at) in subst (λ k. IsFilled ts ends ahead k) e h
+all_passed ts ends ahead n (suc d) last at within passed h =
+    all_passed ts ends ahead n d (n + d) refl (omega (arith, at, within)) (λ k t from below here. passed k t from (omega (arith, at, below)) here)
+    (passed_over ts ends ahead last (n + d) (omega (arith, at)) (omega (arith, at, within)) (λ t here. passed (n + d) t (omega arith) (omega (arith, at)) here) h)
+
+pub passes_all : (ts : List Lexeme) (ends ahead : List ℕ) (n last : ℕ) → n ≤ last → last ≤ length ts → ArePassed ts n last → IsFilled ts ends ahead last → IsFilled ts ends ahead n
+passes_all ts ends ahead n last order within passed h = all_passed ts ends ahead n (last - n) last (omega (arith, order)) within passed h
+
+-- after any other the number is put into the table
+pub fills : (ts : List Lexeme) (old new before ahead : List ℕ) (last n x : ℕ) → last ≡ n + 1 → n < length ts → AreNewlinesAhead ts ahead n → x ≡ get_or (reverse before) 0 (length ts) → new ≡ set old (n + 1) x
+    → IsFilled ts old before last → IsFilled ts new ahead n
+fills ts old new before ahead last n x at less next top is h = record {
+  len = ap length is ∙ length-set old (n + 1) x ∙ h.len;
+  within = omega (arith, less);
   newlines_ahead = next;
-  each = λ i from below. ap (λ r. get_or r i 0) is ∙ by i from below (cases_eq i n);
+  each = λ i from below begins. ap (λ r. get_or r i 0) is ∙ by i from below begins (cases_eq i (n + 1));
 }
   where
-    here : n < length old
-    here = omega (arith, at, h.within, h.len)
+    here : n + 1 < length old
+    here = omega (arith, less, h.len)
 
-    by : (i : ℕ) → n ≤ i → i < length ts → (i ≡ n) ⊎ (i ≢ n) → get_or (set old n x) i 0 ≡ newline_from ts 0 i
-    by i from below (inl e) = ap (λ k. get_or (set old n x) k 0) e ∙ get_or-set_same old n x 0 here ∙ top ∙ next 0 ∙ ap (λ k. newline_from ts 0 k) (sym e)
-    by i from below (inr ne) = get_or-set_other old n i x 0 ne ∙ h.each i (omega (arith, at, from, ne)) below
+    by : (i : ℕ) → n < i → i ≤ length ts → CanBegin ts i → (i ≡ n + 1) ⊎ (i ≢ n + 1) → get_or (set old (n + 1) x) i 0 ≡ newline_from ts 0 i
+    by i from below begins (inl e) =
+        ap (λ k. get_or (set old (n + 1) x) k 0) e ∙ get_or-set_same old (n + 1) x 0 here ∙ top ∙ h.newlines_ahead 0 ∙ ap (λ k. newline_from ts 0 k) (at ∙ sym e)
+    by i from below begins (inr ne) = get_or-set_other old (n + 1) i x 0 ne ∙ h.each i (omega (arith, at, from, ne)) below begins
 
-pub filled : (ts : List Lexeme) (ends ahead : List ℕ) (n : ℕ) → n ≤ 0 → IsFilled ts ends ahead n → AreEnds ts ends
-filled ts ends ahead n h f = record { len = f.len; each = λ i below. f.each i (omega (arith, h)) below }
+-- and at last for the first
+pub filled : (ts : List Lexeme) (old ends ahead : List ℕ) (n x : ℕ) → n ≤ 0 → x ≡ get_or (reverse ahead) 0 (length ts) → ends ≡ set old 0 x → IsFilled ts old ahead n → AreEnds ts ends
+filled ts old ends ahead n x none top is h = record {
+  len = ap length is ∙ length-set old 0 x ∙ h.len;
+  each = λ i below begins. ap (λ r. get_or r i 0) is ∙ by i below begins (cases_eq i 0);
+}
+  where
+    start : n ≡ 0
+    start = omega (arith, none)
+
+    here : 0 < length old
+    here = omega (arith, h.len)
+
+    by : (i : ℕ) → i ≤ length ts → CanBegin ts i → (i ≡ 0) ⊎ (i ≢ 0) → get_or (set old 0 x) i 0 ≡ newline_from ts 0 i
+    by i below begins (inl e) = ap (λ k. get_or (set old 0 x) k 0) e ∙ get_or-set_same old 0 x 0 here ∙ top ∙ h.newlines_ahead 0 ∙ ap (λ k. newline_from ts 0 k) (start ∙ sym e)
+    by i below begins (inr ne) = get_or-set_other old 0 i x 0 ne ∙ h.each i (omega (arith, start, ne)) below begins
+
+-- ---- where a piece can begin
+
+stops_at : (depth : ℕ) (ts : List Lexeme) (t : Lexeme) → slice_get ts (first_len depth ts) ≡ Some t → is kind.Newline t.kind ≡ true
+stops_at depth [] t e = absurd (cc)
+stops_at depth (x ∷ ts) t e = by (is kind.Newline x.kind) (is_closed depth) refl refl e (stops_at (deepen depth x.kind) ts t)
+  where
+    F : ℕ
+    F = first_len (deepen depth x.kind) ts
+
+    next : F + 1 ≡ suc F
+    next = omega arith
+
+    by : (a b : Bool) → is kind.Newline x.kind ≡ a → is_closed depth ≡ b → slice_get (x ∷ ts) (cond (is kind.Newline x.kind && is_closed depth) 0 (F + 1)) ≡ Some t
+        → (slice_get ts F ≡ Some t → is kind.Newline t.kind ≡ true) → is kind.Newline t.kind ≡ true
+    by true true a b e rest =
+        let same : Some x ≡ Some t = ap₂ (λ p q. slice_get (x ∷ ts) (cond (p && q) 0 (F + 1))) (sym a) (sym b) ∙ e in
+        let it : x ≡ t = cc in
+        ap (λ (y : Lexeme). is kind.Newline y.kind) (sym it) ∙ a
+    by true false a b e rest = rest (ap (slice_get (x ∷ ts)) (sym next) ∙ ap₂ (λ p q. slice_get (x ∷ ts) (cond (p && q) 0 (F + 1))) (sym a) (sym b) ∙ e)
+    by false b a _ e rest = rest (ap (slice_get (x ∷ ts)) (sym next) ∙ ap (λ p. slice_get (x ∷ ts) (cond (p && is_closed depth) 0 (F + 1))) (sym a) ∙ e)
+
+slice_get-drop : (n i : ℕ) (ts : List Lexeme) → slice_get (drop n ts) i ≡ slice_get ts (n + i)
+slice_get-drop zero i ts = let e : 0 + i ≡ i = omega arith in ap (slice_get ts) (sym e)
+slice_get-drop (suc n) i [] = refl
+slice_get-drop (suc n) i (x ∷ ts) = let e : suc n + i ≡ suc (n + i) = omega arith in slice_get-drop n i ts ∙ ap (slice_get (x ∷ ts)) (sym e)
+
+newline_leads : (k : Kind) → is kind.Newline k ≡ true → leads k ≡ true
+newline_leads kind.Newline e = refl
+newline_leads _ e = absurd (true≢false (sym e))
+
+brace_leads : (k : Kind) → is kind.BraceOpen k ≡ true → leads k ≡ true
+brace_leads kind.BraceOpen e = refl
+brace_leads _ e = absurd (true≢false (sym e))
+
+pub first_begins : (ts : List Lexeme) → CanBegin ts 0
+first_begins ts = λ n t e _. absurd (omega (arith, e))
+
+-- after the end of a piece, before that of the tokens that are looked at
+pub next_begins : (ts : List Lexeme) (start to end : ℕ) → end ≡ min (newline_from ts 0 start) to → end < to → CanBegin ts (end + 1)
+next_begins ts start to end is less = λ n t e here.
+    let same : n ≡ start + first_len 0 (drop start ts) = omega (arith, is, less, e) in
+    newline_leads t.kind (stops_at 0 (drop start ts) t (slice_get-drop start (first_len 0 (drop start ts)) ts ∙ ap (slice_get ts) (sym same) ∙ here))
+
+-- after an opening brace
+pub brace_begins : (ts : List Lexeme) (number : ℕ) (t : Lexeme) → slice_get ts number ≡ Some t → is kind.BraceOpen t.kind ≡ true → CanBegin ts (number + 1)
+brace_begins ts number t at brace = λ n other e here.
+    let same : n ≡ number = omega (arith, e) in
+    let both : Some t ≡ Some other = sym at ∙ ap (slice_get ts) (sym same) ∙ here in
+    let it : t ≡ other = cc in
+    ap (λ (y : Lexeme). leads y.kind) (sym it) ∙ brace_leads t.kind brace

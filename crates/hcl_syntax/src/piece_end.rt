@@ -1,13 +1,25 @@
-//! Where items end: for each token the first newline outside all openers.
+//! Where pieces end: for each place where one can begin, the first newline from there on outside all openers.
+//!
+//! ```text
+//! number    0  1   2   3   4   5   6   7   8   9  10
+//! token     a  {   \n  b   =   [   \n  ]   \n  }   \n
+//! ends     10      2   8               8       10      11
+//! ```
+//!
+//! A piece begins with the first token, or after a newline or an opener. All other tokens are passed over by their kind
+//! alone, and their numbers are never asked for.
 
-ghost use Rattle.std.specs.Prelude.{◌≡◌, ◌<◌, ◌≤◌, ◌+◌, length, get_or, reverse, IfOk, OnOk};
+ghost use Rattle.std.specs.Prelude.{◌≡◌, true, ◌<◌, ◌≤◌, ◌+◌, List, length, get_or, reverse, slice_get, Some, IfOk, OnOk};
 ghost use Rattle.hcl_source.specs.Load.{max_source};
-ghost use Rattle.hcl_syntax.specs.Inner.Pieces.{AreEnds, nesting_of, AreNewlinesAhead};
+ghost use Rattle.hcl_tokens.specs.Lexemes.{Lexeme};
+ghost use Rattle.hcl_syntax.specs.declared.nesting.Nesting.TheVariants.{Passes};
+ghost use Rattle.hcl_syntax.specs.Inner.Pieces.{AreEnds, ArePassed, nesting_of, AreNewlinesAhead};
 
 use crate::nesting::Nesting;
 use hcl_tokens::{Kind, MAX_SOURCE, Tokens};
 use std::alloc::{AllocError, Global};
 
+#[inline(always)]
 fn nesting_of(kind: Kind) -> Nesting
     ensures { result ≡ nesting_of kind }
 {
@@ -22,6 +34,43 @@ fn nesting_of(kind: Kind) -> Nesting
             Nesting::Closes,
         _ => Nesting::Passes,
     }
+}
+
+/// Whether tokens of this kind mean nothing to the search for newlines.
+#[inline(always)]
+fn is_passed(kind: Kind) -> bool
+    ensures { result ≡ true → nesting_of kind ≡ Passes }
+{
+    !matches!(
+        kind,
+        Kind::Newline
+            | Kind::ParenOpen
+            | Kind::BracketOpen
+            | Kind::BraceOpen
+            | Kind::InterpOpen
+            | Kind::ControlOpen
+            | Kind::ParenClose
+            | Kind::BracketClose
+            | Kind::BraceClose
+            | Kind::SeqClose
+    )
+}
+
+/// One past the number of the last token before another that means something to the search for newlines, or 0.
+#[inline(always)]
+fn past_others(tokens: &Tokens<'_>, before: usize) -> usize
+    requires { before ≤ length tokens.now.tokens }
+    ensures within { result ≤ before }
+    ensures passed { ArePassed tokens.now.tokens result before }
+{
+    let mut number = before;
+    while number > 0 {
+        if !is_passed(tokens.kind(number - 1)) {
+            return number;
+        }
+        number -= 1;
+    }
+    number
 }
 
 /// How many tokens there are. Four bytes hold it, since there are no more tokens than bytes of the source.
@@ -43,20 +92,19 @@ fn last_or(numbers: &[u32], other: u32) -> u32
     }
 }
 
-/// Goes over a token from right to left. `ahead` has the first newline outside all openers last, before it the first one
-/// where one opener is open, and so on; where it has no more, there is none.
+/// Goes over a token from right to left, of which is known what it means. `ahead` has the first newline outside all openers
+/// last, before it the first one where one opener is open, and so on; where it has no more, there is none.
+#[inline(always)]
 fn pass(
-    tokens: &Tokens<'_>,
+    nesting: Nesting,
     count: u32,
     number: u32,
     ahead: &mut Vec<u32>,
 ) -> Result<(), AllocError>
-    requires count { count ≡ length tokens.now.tokens }
-    requires within { number < count }
-    requires ahead { AreNewlinesAhead tokens.now.tokens ahead.old.items (number + 1) }
-    ensures { OnOk result (AreNewlinesAhead tokens.now.tokens ahead.new.items number) }
+    ensures { (tokens : List Lexeme) (t : Lexeme) → count ≡ length tokens → slice_get tokens number ≡ Some t → nesting ≡ nesting_of t.kind
+        → AreNewlinesAhead tokens ahead.old.items (number + 1) → OnOk result (AreNewlinesAhead tokens ahead.new.items number) }
 {
-    match nesting_of(tokens.get(number as usize).kind) {
+    match nesting {
         Nesting::Newline => {
             ahead.pop();
             ahead.push(number)?;
@@ -75,18 +123,22 @@ fn pass(
     }
 }
 
-/// For each token the number of the first newline from it on outside all openers, or how many tokens there are.
+/// For each place where a piece can begin the number of the first newline from there on outside all openers, or how many
+/// tokens there are.
 pub fn newlines(alloc: Global, tokens: &Tokens<'_>) -> Result<Vec<u32>, AllocError>
     ensures { IfOk result (λ ends. AreEnds tokens.now.tokens ends.items) }
 {
     let count = token_count(tokens);
-    let mut ends = vec![in alloc; 0; count as usize]?;
+    let mut ends = vec![in alloc; 0; count as usize + 1]?;
     let mut ahead = Vec::new(alloc);
-    let mut number = count;
-    while number > 0 {
-        number -= 1;
-        pass(tokens, count, number, &mut ahead)?;
-        ends[number as usize] = last_or(&ahead, count);
+    let mut next = past_others(tokens, tokens.len());
+    while next > 0 {
+        let number = next - 1;
+        ends[next] = last_or(&ahead, count);
+        let nesting = nesting_of(tokens.kind(number));
+        pass(nesting, count, number as u32, &mut ahead)?;
+        next = past_others(tokens, number);
     }
+    ends[0] = last_or(&ahead, count);
     Ok(ends)
 }

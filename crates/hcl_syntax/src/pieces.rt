@@ -2,7 +2,7 @@
 
 ghost use Rattle.std.specs.Prelude.{◌≡◌, ◌<◌, ◌≤◌, ◌+◌, ◌++◌, length, IfOk, OnOk};
 ghost use Rattle.hcl_source.specs.Load.{max_source};
-ghost use Rattle.hcl_syntax.specs.Inner.Pieces.{AreEnds, items_at, words};
+ghost use Rattle.hcl_syntax.specs.Inner.Pieces.{AreEnds, CanBegin, items_at, words};
 ghost use Rattle.hcl_syntax.specs.Inner.Bodies.{PutsBlock, PutsPiece};
 ghost use Rattle.hcl_grammar.specs.Items.{label_at, labels};
 
@@ -110,8 +110,8 @@ fn put_piece(
     Ok(Body { first: to, end: to })
 }
 
-/// Puts out the items of the tokens from a number on to before another. `ends` has for each token the first newline
-/// from it on outside all openers, so no token is looked at twice as the end of a piece is found.
+/// Puts out the items of the tokens from a number on to before another. `ends` has for each place where a piece can begin
+/// the first newline from there on outside all openers, so no token is looked at twice as the end of a piece is found.
 pub fn put_items(
     tokens: &Tokens<'_>,
     ends: &[u32],
@@ -124,14 +124,19 @@ pub fn put_items(
     requires ends { AreEnds tokens.now.tokens ends.now }
     requires within { to ≤ length tokens.now.tokens }
     requires deep { from < to → level ≤ from }
+    requires begins { from < to → CanBegin tokens.now.tokens from }
     ensures { OnOk result (items.new ≡ items.old ++ items_at level (words tokens.now.tokens from to)) }
 {
     let mut start = from;
     while start < to {
         let end = ends[start as usize].min(to);
         let body = put_piece(tokens, level, start, end, items)?;
-        put_items(tokens, ends, level + 1, body.first, body.end, items)?;
         start = end + 1;
+        // Attributes have no body, and no call is made for them.
+        if body.first >= body.end {
+            continue;
+        }
+        put_items(tokens, ends, level + 1, body.first, body.end, items)?;
     }
     Ok(())
 }

@@ -3,7 +3,7 @@ use Rattle.std.specs.Prelude.{◌≡◌, ◌<◌, ◌≤◌, ◌+◌, ℕ, List,
 use Rattle.hcl_tokens.specs.Lexemes.{Lexeme}
 use Rattle.hcl_grammar.specs.Numbered.{Numbered}
 use Rattle.hcl_grammar.specs.Items.{block, item_of}
-use Rattle.hcl_syntax.specs.Inner.Pieces.{words}
+use Rattle.hcl_syntax.specs.Inner.Pieces.{CanBegin, words}
 use Rattle.hcl_syntax.specs.declared.pieces.Body.{Body}
 use Rattle.hcl_grammar.specs.declared.item.Item.{Item}
 
@@ -12,6 +12,7 @@ pub record PutsPiece (tokens : List Lexeme) (level from to : ℕ) (old new : Lis
   pub is : (inner : List Numbered → List Item) → inner [] ≡ [] → new ++ inner (words tokens body.first body.end) ≡ old ++ item_of inner level (words tokens from to)
   pub within : body.end ≤ to
   pub deeper : body.first < body.end → from < body.first
+  pub begins : body.first < body.end → CanBegin tokens body.first
 
 -- the same of a block, by its kind
 pub record PutsBlock (tokens : List Lexeme) (level kind to : ℕ) (old new : List Item) (body : Body) : Type 0 where
@@ -19,3 +20,4 @@ pub record PutsBlock (tokens : List Lexeme) (level kind to : ℕ) (old new : Lis
       → new ++ inner (words tokens body.first body.end) ≡ old ++ block inner level head (words tokens (kind + 1) to)
   pub within : body.end ≤ to
   pub deeper : kind < body.first
+  pub begins : body.first < body.end → CanBegin tokens body.first

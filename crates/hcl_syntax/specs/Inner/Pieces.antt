@@ -1,5 +1,5 @@
 -- Pieces of items by token numbers, as the code finds them.
-use Rattle.std.specs.Prelude.{◌≡◌, ◌<◌, ◌≤◌, ℕ, ◌+◌, ◌-◌, ◌&&◌, List, [], ◌∷◌, drop, take, length, get_or, reverse, ◌==◌, if◌then◌else◌}
+use Rattle.std.specs.Prelude.{◌≡◌, ◌<◌, ◌≤◌, ℕ, ◌+◌, ◌-◌, ◌&&◌, ◌||◌, Bool, true, Some, slice_get, List, [], ◌∷◌, drop, take, length, get_or, reverse, ◌==◌, if◌then◌else◌}
 use Rattle.hcl_tokens.specs.Kinds.{is}
 use Rattle.hcl_tokens.specs.declared.token.Kind.TheVariants as kind
 use Rattle.hcl_tokens.specs.Lexemes.{Lexeme}
@@ -31,6 +31,10 @@ pub record IsFirst (tokens : List Lexeme) (from to : ℕ) (word : NumberedKind) 
 abbrev pub nesting_of : Kind → Nesting
 nesting_of k = if is kind.Newline k then nesting.Newline else if opening k == 1 then nesting.Opens else if closing k == 1 then nesting.Closes else nesting.Passes
 
+-- the tokens from a number on to before another mean nothing to it
+abbrev pub ArePassed : List Lexeme → ℕ → ℕ → Type 0
+ArePassed tokens from to = (k : ℕ) (t : Lexeme) → from ≤ k → k < to → slice_get tokens k ≡ Some t → nesting_of t.kind ≡ nesting.Passes
+
 -- how many tokens stand before the first newline outside all openers, where so many are open
 abbrev pub first_len : ℕ → List Lexeme → ℕ
 first_len depth [] = 0
@@ -42,10 +46,18 @@ first_len depth (t ∷ ts) =
 abbrev pub newline_from : List Lexeme → ℕ → ℕ → ℕ
 newline_from tokens depth n = n + first_len depth (drop n tokens)
 
--- the table has this number for each token
+-- a piece can begin after a token of this kind
+abbrev pub leads : Kind → Bool
+leads k = is kind.Newline k || is kind.BraceOpen k
+
+-- a piece can begin at the token of this number: it is the first, or one that leads stands before it
+abbrev pub CanBegin : List Lexeme → ℕ → Type 0
+CanBegin tokens i = (n : ℕ) (t : Lexeme) → i ≡ n + 1 → slice_get tokens n ≡ Some t → leads t.kind ≡ true
+
+-- the table has this number for each token at which a piece can begin, and for the end
 pub record AreEnds (tokens : List Lexeme) (ends : List ℕ) : Type 0 where
-  pub len : length ends ≡ length tokens
-  pub each : (i : ℕ) → i < length tokens → get_or ends i 0 ≡ newline_from tokens 0 i
+  pub len : length ends ≡ length tokens + 1
+  pub each : (i : ℕ) → i ≤ length tokens → CanBegin tokens i → get_or ends i 0 ≡ newline_from tokens 0 i
 
 -- the items at a level of tokens without comments
 abbrev pub items_at : ℕ → List Numbered → List Item

@@ -1,8 +1,8 @@
 use Rattle.hcl_syntax.proofs.PieceEndLemmas.{IsFilled}
 use Rattle.hcl_syntax.proofs.piece_end.newlines.Given as goal
 
-abbrev pub invariant-loop-number : goal.invariant-loop-number
-invariant-loop-number l = IsFilled l.tokens.tokens l.ends.items l.ahead.items l.number
+abbrev pub invariant-loop-next : goal.invariant-loop-next
+invariant-loop-next l = IsFilled l.tokens.tokens l.ends.items l.ahead.items l.next
 
-abbrev pub decreases-loop-number : goal.decreases-loop-number
-decreases-loop-number l = l.number
+abbrev pub decreases-loop-next : goal.decreases-loop-next
+decreases-loop-next l = l.next

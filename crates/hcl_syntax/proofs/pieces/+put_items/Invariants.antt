@@ -1,4 +1,5 @@
-use Rattle.std.proofs.Common.{◌-◌}
+use Rattle.std.proofs.Common.{◌-◌, ◌<◌}
+use Rattle.hcl_syntax.specs.Inner.Pieces.{CanBegin}
 use Rattle.hcl_syntax.proofs.OutlineLemmas.{AreItems}
 use Rattle.hcl_syntax.proofs.pieces.+put_items.Given as goal
 
@@ -6,7 +7,7 @@ abbrev pub decreases-put_items : goal.decreases-put_items
 decreases-put_items l = l.to - l.from
 
 abbrev pub invariant-loop-start : goal.invariant-loop-start
-invariant-loop-start l = AreItems l.tokens.tokens l.level l.from l.to l.fn.items l.items l.start
+invariant-loop-start l = record { items : AreItems l.tokens.tokens l.level l.from l.to l.fn.items l.items l.start; begins : l.start < l.to → CanBegin l.tokens.tokens l.start }
 
 abbrev pub decreases-loop-start : goal.decreases-loop-start
 decreases-loop-start l = l.to - l.start
