@@ -6,7 +6,7 @@ ghost use Rattle.std.specs.String.{string_bytes};
 ghost use Rattle.std.specs.Str.{bytes_eq};
 ghost use Rattle.indexmap.specs.IndexSet.{insert_all};
 ghost use Rattle.tf_facts.specs.References.{is_own, reference_at, references_from, unless_own};
-ghost use Rattle.tf_facts.specs.Inner.Seen.{seen_from, numbered_of};
+ghost use Rattle.tf_facts.specs.Inner.Seen.{AreNoIdents, IsIdentAt, seen_from, numbered_of};
 ghost use Rattle.tf_facts.specs.Inner.Spelled.{spelled};
 ghost use Rattle.tf_facts.specs.OwnBlocks.{own_of, Apart, ArePassed, Extends, IsAhead};
 
@@ -126,6 +126,26 @@ fn put(
     into.insert_copy(alloc, text.as_str())
 }
 
+/// The number of the first identifier from a number on, or how many tokens there are.
+#[inline(always)]
+fn next_ident(tokens: &Tokens<'_>, from: usize) -> usize
+    requires { from ≤ length tokens.now.tokens }
+    ensures order { from ≤ result }
+    ensures within { result ≤ length tokens.now.tokens }
+    ensures none { AreNoIdents tokens.now.tokens from result }
+    ensures ident { IsIdentAt tokens.now.tokens result }
+{
+    let count = tokens.len();
+    let mut number = from;
+    while number < count {
+        if is_ident(tokens.kind(number)) {
+            return number;
+        }
+        number += 1;
+    }
+    number
+}
+
 /// Puts the references of the tokens into the set, in order; `blocks` are those of variables, one after another. On
 /// refusal the set may have some of them after what it had.
 pub fn collect(
@@ -138,27 +158,28 @@ pub fn collect(
     ensures ok { OnOk result (into.new ≡ insert_all bytes_eq into.old (references_from (map own_of blocks.now) false (seen_from tokens.now.tokens 0))) }
     ensures err { OnErr result (Extends into.old into.new) }
 {
-    let mut next = 0;
+    let count = tokens.len();
+    let mut passed_blocks = 0;
     let mut text = String::new(alloc);
-    for number in 0..tokens.len() {
+    let mut next = next_ident(tokens, 0);
+    while next < count {
+        let number = next;
+        next = next_ident(tokens, number + 1);
         // Few words can be named, and only of those it matters what is before them.
-        if !is_ident(tokens.kind(number)) {
-            continue;
-        }
         if !may_be_named(tokens, number) {
             continue;
         }
         if is_after_dot(tokens, number) {
             continue;
         }
-        next = passed(blocks, next, number);
+        passed_blocks = passed(blocks, passed_blocks, number);
         let token = tokens.get(number);
         let word = Seen {
             number,
             kind: token.kind,
             text: token.text,
         };
-        put(alloc, tokens, blocks, next, word, &mut text, into)?;
+        put(alloc, tokens, blocks, passed_blocks, word, &mut text, into)?;
     }
     Ok(())
 }

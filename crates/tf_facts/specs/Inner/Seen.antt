@@ -1,7 +1,7 @@
 -- What patterns see of a token list from a number on.
-use Rattle.std.specs.Prelude.{◌≡◌, ◌<◌, ◌≤◌, ◌+◌, ◌^◌, ℕ, zero, suc, Bool, false, List, ◌∷◌, Option, None, Some, drop, length, slice_get, if◌then◌else◌}
+use Rattle.std.specs.Prelude.{◌≡◌, ◌<◌, ◌≤◌, ◌+◌, ◌^◌, ℕ, zero, suc, Bool, true, false, List, ◌∷◌, Option, None, Some, drop, length, slice_get, if◌then◌else◌}
 use Rattle.hcl_tokens.specs.Kinds.{is}
-use Rattle.hcl_tokens.specs.declared.token.Kind.TheVariants.{Dot}
+use Rattle.hcl_tokens.specs.declared.token.Kind.TheVariants.{Dot, Ident}
 use Rattle.hcl_tokens.specs.Lexemes.{Lexeme}
 use Rattle.hcl_grammar.specs.Numbered.{Numbered, is_passed_over, numbered_from, significant}
 use Rattle.tf_facts.specs.declared.seen.Seen.{Seen}
@@ -22,6 +22,14 @@ pub record IsNextSeen (tokens : List Lexeme) (from : ℕ) (t : Seen) : Type 0 wh
   pub within : t.number < length tokens
   pub small : t.number + 1 < 2 ^ 64
   pub not_before : from ≤ t.number
+
+-- a token of this number is an identifier
+abbrev pub IsIdentAt : List Lexeme → ℕ → Type 0
+IsIdentAt tokens n = (t : Lexeme) → slice_get tokens n ≡ Some t → is Ident t.kind ≡ true
+
+-- none is from a number on to before another
+abbrev pub AreNoIdents : List Lexeme → ℕ → ℕ → Type 0
+AreNoIdents tokens from to = (k : ℕ) (t : Lexeme) → from ≤ k → k < to → slice_get tokens k ≡ Some t → is Ident t.kind ≡ false
 
 -- a token that is seen is a dot or not; over one that isn't the answer stays
 abbrev pub dot_or : Option Lexeme → Bool → Bool
