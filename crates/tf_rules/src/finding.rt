@@ -1,18 +1,18 @@
-//! What the rules report of one declaration.
+//! What the rules report of one declaration, put after what they reported of others.
 
-ghost use Rattle.std.specs.Prelude.{◌≡◌, ◌++◌, ◌&&◌, [], not, IfOk};
+ghost use Rattle.std.specs.Prelude.{◌≡◌, ◌++◌, ◌∷◌, ◌&&◌, [], map, not, IfOk, OnOk};
 ghost use Rattle.std.specs.List.{list_any};
 ghost use Rattle.std.specs.Str.{bytes_eq};
 ghost use Rattle.tf_facts.specs.References.{data_reference, last_of};
 ghost use Rattle.tf_rules.specs.Findings.{finding, is_kind, from_registry, is_unused, kind_text, says_if, unpinned_findings, unpinned_findings_by, uses_of};
-ghost use Rattle.tf_rules.specs.Inner.Concerns.{can_be_unused, concerns};
-ghost use Rattle.tf_rules.specs.Inner.Entries.{finding_listed, opened};
+ghost use Rattle.tf_rules.specs.Kept.{issue_at};
+ghost use Rattle.tf_rules.specs.Inner.Entries.{issues_of, opened, text_of};
 ghost use Rattle.tf_rules.specs.Inner.KeptViews.{kept_declaration, kept_names, kept_source, place_of};
 ghost use Rattle.tf_facts.specs.Found.{source};
 ghost use Rattle.std.specs.Option.{option_map};
 
-use crate::entry::{Finding, Said};
-use crate::kept::{KeptDeclaration, KeptNames, KeptSource};
+use crate::entry::{Entry, Said};
+use crate::kept::{KeptDeclaration, KeptNames, KeptSource, TokenPlace};
 use crate::naming::{Naming, matches_naming};
 use crate::said::last;
 use rule_set::Rule;
@@ -31,80 +31,76 @@ fn is_variable(kind: DeclarationKind) -> bool
     matches!(kind, DeclarationKind::Variable)
 }
 
-/// Whether something can refer to what is declared.
-fn can_be_unused(kind: DeclarationKind) -> bool
-    ensures { result ≡ can_be_unused kind }
+/// Puts what is said of a place last.
+#[inline(always)]
+fn put<'f>(
+    entries: &mut Vec<Entry<'f>>,
+    rule: Rule,
+    at: TokenPlace,
+    said: Said<'f>,
+) -> Result<(), AllocError>
+    ensures { OnOk result (issues_of entries.new.items ≡ issues_of entries.old.items ++ issue_at rule (record { at = place_of at; message = text_of said.entry }) ∷ []) }
 {
-    match kind {
-        DeclarationKind::Variable => true,
-        DeclarationKind::Local => true,
-        DeclarationKind::Data => true,
-        DeclarationKind::Output => false,
-        DeclarationKind::Module => false,
-        DeclarationKind::Resource => false,
-    }
+    entries.push(Entry { at, rule, said })?;
+    Ok(())
 }
 
-/// Whether a rule goes by declarations of this kind. Most rules go by few, and what they find costs more to hand out than
-/// this to ask.
-pub fn concerns(rule: Rule, declaration: &KeptDeclaration) -> bool
-    ensures { result ≡ concerns rule (kept_declaration declaration.now) }
-{
-    match rule {
-        Rule::DocumentedOutputs => is_output(declaration.kind),
-        Rule::DocumentedVariables => is_variable(declaration.kind),
-        Rule::ModulePinnedSource => declaration.source.is_some(),
-        Rule::ModuleVersion => declaration.source.is_some(),
-        Rule::NamingConvention => true,
-        Rule::TypedVariables => is_variable(declaration.kind),
-        Rule::UnusedDeclarations => can_be_unused(declaration.kind),
-        Rule::CommentSyntax => false,
-        Rule::DeprecatedIndex => false,
-        Rule::DeprecatedInterpolation => false,
-    }
-}
-
-/// Where a declaration lacks what it should have. The rest of the text begins with the quote after its name.
-fn lacking<'f>(
+/// Puts that a declaration lacks what it should have, where it does. The rest of the text begins with the quote after its
+/// name.
+#[inline(always)]
+fn put_lacking<'f>(
+    entries: &mut Vec<Entry<'f>>,
+    rule: Rule,
     is_lacking: bool,
     declaration: &'f KeptDeclaration,
     rest: &'static str,
-) -> Option<Finding<'f>>
-    ensures { finding_listed result ≡ says_if is_lacking (place_of declaration.now.at) (kind_text declaration.now.kind ++ opened (last_of (kept_names declaration.now.names)) rest.now) }
+) -> Result<(), AllocError>
+    ensures { OnOk result (issues_of entries.new.items ≡ issues_of entries.old.items ++ map (issue_at rule) (says_if is_lacking (place_of declaration.now.at) (kind_text declaration.now.kind ++ opened (last_of (kept_names declaration.now.names)) rest.now))) }
 {
     if !is_lacking {
-        return None;
+        return Ok(());
     }
-    Some(Finding {
-        at: declaration.at,
-        said: Said::About(declaration, rest),
-    })
+    put(entries, rule, declaration.at, Said::About(declaration, rest))
 }
 
-/// Where a module's source is not pinned.
-fn unpinned_by<'f>(declaration: &'f KeptDeclaration, found: KeptSource) -> Option<Finding<'f>>
-    ensures { finding_listed result ≡ unpinned_findings_by (kept_declaration declaration.now) (place_of found.at) (source found.source) }
+/// Puts that a module's source is not pinned, where it isn't.
+fn put_unpinned_by<'f>(
+    entries: &mut Vec<Entry<'f>>,
+    rule: Rule,
+    declaration: &'f KeptDeclaration,
+    found: KeptSource,
+) -> Result<(), AllocError>
+    ensures { OnOk result (issues_of entries.new.items ≡ issues_of entries.old.items ++ map (issue_at rule) (unpinned_findings_by (kept_declaration declaration.now) (place_of found.at) (source found.source))) }
 {
     match found.source {
-        ModuleSource::Other => None,
-        ModuleSource::Registry => None,
-        ModuleSource::NotPinned => Some(Finding {
-            at: found.at,
-            said: Said::About(declaration, "\" source is not pinned"),
-        }),
-        ModuleSource::DefaultBranch(branch) => Some(Finding {
-            at: found.at,
-            said: Said::DefaultBranch(declaration, branch),
-        }),
+        ModuleSource::Other => Ok(()),
+        ModuleSource::Registry => Ok(()),
+        ModuleSource::NotPinned => put(
+            entries,
+            rule,
+            found.at,
+            Said::About(declaration, "\" source is not pinned"),
+        ),
+        ModuleSource::DefaultBranch(branch) => put(
+            entries,
+            rule,
+            found.at,
+            Said::DefaultBranch(declaration, branch),
+        ),
     }
 }
 
-fn unpinned<'f>(declaration: &'f KeptDeclaration) -> Option<Finding<'f>>
-    ensures { finding_listed result ≡ unpinned_findings (kept_declaration declaration.now) (option_map kept_source declaration.now.source) }
+#[inline(always)]
+fn put_unpinned<'f>(
+    entries: &mut Vec<Entry<'f>>,
+    rule: Rule,
+    declaration: &'f KeptDeclaration,
+) -> Result<(), AllocError>
+    ensures { OnOk result (issues_of entries.new.items ≡ issues_of entries.old.items ++ map (issue_at rule) (unpinned_findings (kept_declaration declaration.now) (option_map kept_source declaration.now.source))) }
 {
     match declaration.source {
-        Some(found) => unpinned_by(declaration, found),
-        None => None,
+        Some(found) => put_unpinned_by(entries, rule, declaration, found),
+        None => Ok(()),
     }
 }
 
@@ -118,18 +114,26 @@ fn from_registry(found: Option<KeptSource>) -> bool
     }
 }
 
-/// Where a name doesn't have the naming.
-fn misnamed<'f>(naming: Naming, declaration: &'f KeptDeclaration) -> Option<Finding<'f>>
-    ensures { finding_listed result ≡ finding naming [] Rule.NamingConvention (kept_declaration declaration.now) }
+/// Puts that a name doesn't have the naming, where it doesn't.
+#[inline(always)]
+fn put_misnamed<'f>(
+    entries: &mut Vec<Entry<'f>>,
+    naming: Naming,
+    rule: Rule,
+    declaration: &'f KeptDeclaration,
+) -> Result<(), AllocError>
+    ensures { OnOk result (issues_of entries.new.items ≡ issues_of entries.old.items ++ map (issue_at rule) (finding naming [] Rule.NamingConvention (kept_declaration declaration.now))) }
 {
     let name = last(&declaration.names);
     if matches_naming(naming, name) {
-        return None;
+        return Ok(());
     }
-    Some(Finding {
-        at: declaration.at,
-        said: Said::Misnamed(declaration, naming),
-    })
+    put(
+        entries,
+        rule,
+        declaration.at,
+        Said::Misnamed(declaration, naming),
+    )
 }
 
 /// Whether there is no reference of this text, which is put together in the room of another.
@@ -194,60 +198,70 @@ fn is_unused(
     }
 }
 
-/// Where nothing refers to a declaration.
-fn unused<'f>(
+/// Puts that nothing refers to a declaration, where nothing does.
+#[inline(always)]
+fn put_unused<'f>(
+    entries: &mut Vec<Entry<'f>>,
     used: &TextSet,
+    rule: Rule,
     declaration: &'f KeptDeclaration,
     text: &mut String,
-) -> Result<Option<Finding<'f>>, AllocError>
-    ensures { IfOk result (λ found. finding_listed found ≡ finding Naming.SnakeCase used.now Rule.UnusedDeclarations (kept_declaration declaration.now)) }
+) -> Result<(), AllocError>
+    ensures { OnOk result (issues_of entries.new.items ≡ issues_of entries.old.items ++ map (issue_at rule) (finding Naming.SnakeCase used.now Rule.UnusedDeclarations (kept_declaration declaration.now))) }
 {
     if !is_unused(used, declaration, text)? {
-        return Ok(None);
+        return Ok(());
     }
-    Ok(Some(Finding {
-        at: declaration.at,
-        said: Said::Unused(declaration),
-    }))
+    put(entries, rule, declaration.at, Said::Unused(declaration))
 }
 
-/// What a rule reports of a declaration, where all files have these references. A reference to it is put together in the
-/// room of another text.
-pub fn finding<'f>(
+/// Puts what a rule reports of a declaration last, where all files have these references. A reference to it is put together
+/// in the room of another text. Most rules report nothing of most declarations, so nothing is handed out here.
+#[inline(always)]
+pub fn put_finding<'f>(
     naming: Naming,
     used: &TextSet,
     rule: Rule,
     declaration: &'f KeptDeclaration,
     text: &mut String,
-) -> Result<Option<Finding<'f>>, AllocError>
-    ensures { IfOk result (λ found. finding_listed found ≡ finding naming used.now rule (kept_declaration declaration.now)) }
+    entries: &mut Vec<Entry<'f>>,
+) -> Result<(), AllocError>
+    ensures { OnOk result (issues_of entries.new.items ≡ issues_of entries.old.items ++ map (issue_at rule) (finding naming used.now rule (kept_declaration declaration.now))) }
 {
     match rule {
-        Rule::DocumentedOutputs => Ok(lacking(
+        Rule::DocumentedOutputs => put_lacking(
+            entries,
+            rule,
             is_output(declaration.kind) && !declaration.is_described,
             declaration,
             "\" has no description",
-        )),
-        Rule::DocumentedVariables => Ok(lacking(
+        ),
+        Rule::DocumentedVariables => put_lacking(
+            entries,
+            rule,
             is_variable(declaration.kind) && !declaration.is_described,
             declaration,
             "\" has no description",
-        )),
-        Rule::ModulePinnedSource => Ok(unpinned(declaration)),
-        Rule::ModuleVersion => Ok(lacking(
+        ),
+        Rule::ModulePinnedSource => put_unpinned(entries, rule, declaration),
+        Rule::ModuleVersion => put_lacking(
+            entries,
+            rule,
             from_registry(declaration.source) && !declaration.is_versioned,
             declaration,
             "\" has no version",
-        )),
-        Rule::NamingConvention => Ok(misnamed(naming, declaration)),
-        Rule::TypedVariables => Ok(lacking(
+        ),
+        Rule::NamingConvention => put_misnamed(entries, naming, rule, declaration),
+        Rule::TypedVariables => put_lacking(
+            entries,
+            rule,
             is_variable(declaration.kind) && !declaration.is_typed,
             declaration,
             "\" has no type",
-        )),
-        Rule::UnusedDeclarations => unused(used, declaration, text),
-        Rule::CommentSyntax => Ok(None),
-        Rule::DeprecatedIndex => Ok(None),
-        Rule::DeprecatedInterpolation => Ok(None),
+        ),
+        Rule::UnusedDeclarations => put_unused(entries, used, rule, declaration, text),
+        Rule::CommentSyntax => Ok(()),
+        Rule::DeprecatedIndex => Ok(()),
+        Rule::DeprecatedInterpolation => Ok(()),
     }
 }

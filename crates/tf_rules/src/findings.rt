@@ -8,7 +8,7 @@ ghost use Rattle.tf_rules.specs.Inner.Entries.{issues_of, finding_listed};
 ghost use Rattle.tf_rules.specs.Inner.KeptViews.{kept_comment, kept_declaration, place_of};
 
 use crate::entry::{Entry, Finding, Said};
-use crate::finding::{concerns, finding};
+use crate::finding::put_finding;
 use crate::kept::{KeptComment, KeptDeclaration, TokenPlace};
 use crate::naming::Naming;
 use rule_set::Rule;
@@ -93,11 +93,7 @@ pub fn put_declarations<'f>(
 {
     let mut text = String::new(alloc);
     for declaration in declarations {
-        if !concerns(rule, declaration) {
-            continue;
-        }
-        let found = finding(naming, used, rule, declaration, &mut text)?;
-        put(entries, rule, found)?;
+        put_finding(naming, used, rule, declaration, &mut text, entries)?;
     }
     Ok(())
 }
