@@ -110,5 +110,5 @@ twice_tail front name between other rest closing =
     ∙ sym (append_assoc front (name ++ (between ++ (other ++ rest))) closing)
 
 -- what stands before the message on its line
-pub in_frame : (name line column opening tail other : List ℕ) → tail ≡ other → name ++ (codes ":" ++ (line ++ (codes ":" ++ (column ++ (opening ++ tail))))) ≡ name ++ (codes ":" ++ (line ++ (codes ":" ++ (column ++ (opening ++ other)))))
-in_frame name line column opening tail other same = ap (λ l. name ++ (codes ":" ++ (line ++ (codes ":" ++ (column ++ (opening ++ l)))))) same
+pub in_frame : (name place opening tail other : List ℕ) → tail ≡ other → name ++ (place ++ (opening ++ tail)) ≡ name ++ (place ++ (opening ++ other))
+in_frame name place opening tail other same = ap (λ l. name ++ (place ++ (opening ++ l))) same

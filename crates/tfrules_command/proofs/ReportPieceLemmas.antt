@@ -11,7 +11,7 @@ use Rattle.hcl_grammar.proofs.NumberedLemmas.{drop_at}
 use Rattle.rule_set.specs.Rules.{severity, severity_text}
 use Rattle.tf_rules.specs.declared.issue.Issue.{Issue}
 use Rattle.tfrules_command.specs.Report.{issue_line, report}
-use Rattle.tfrules_command.specs.Inner.Pieces.{closing_words, lines_of_report, opening_words}
+use Rattle.tfrules_command.specs.Inner.Pieces.{closing_words, lines_of_report, opening_words, place_words}
 
 -- a piece more waits
 pub piece_more : (xs : List (Bor (List ℕ))) (i : ℕ) (d : Bor (List ℕ)) (text base old new : List ℕ) → i < length xs → text ≡ (get_or xs i d).now → new ≡ old ++ text → old ≡ base ++ concat (map (λ piece. piece.now) (take i xs))
@@ -30,15 +30,20 @@ piece_more xs i d text base old new lt is pushed so_far =
 pub line_here : (f : Issue → List ℕ) (xs : List Issue) (i : ℕ) (x : Issue) → slice_get xs i ≡ Some x → flat_map f (drop i xs) ≡ f x ++ flat_map f (drop (i + 1) xs)
 line_here f xs i x is = ap (flat_map f) (drop_at xs i x is)
 
-pub line_is : (names : List (List ℕ)) (i : Issue) (n l c o m e : List ℕ) → n ≡ get_or names i.file [] → l ≡ decimal i.at.line → c ≡ decimal i.at.column → o ≡ opening_words (severity i.rule) → m ≡ i.message → e ≡ closing_words i.rule
-    → n ++ (codes ":" ++ (l ++ (codes ":" ++ (c ++ (o ++ (m ++ e)))))) ≡ issue_line names i
-line_is names i n l c o m e en el ec eo em ee =
-    (λ k. en k ++ (codes ":" ++ (el k ++ (codes ":" ++ (ec k ++ (eo k ++ (em k ++ ee k)))))))
-    ∙ ap (λ r. get_or names i.file [] ++ (codes ":" ++ (decimal i.at.line ++ (codes ":" ++ (decimal i.at.column ++ r)))))
-    (tail (codes ": ") (severity_text (severity i.rule)) (codes " - ") (i.message ++ closing_words i.rule))
+pub line_is : (names : List (List ℕ)) (i : Issue) (n p o m e : List ℕ) → n ≡ get_or names i.file [] → p ≡ place_words i.at → o ≡ opening_words (severity i.rule) → m ≡ i.message → e ≡ closing_words i.rule
+    → n ++ (p ++ (o ++ (m ++ e))) ≡ issue_line names i
+line_is names i n p o m e en ep eo em ee =
+    (λ k. en k ++ (ep k ++ (eo k ++ (em k ++ ee k))))
+    ∙ ap (λ r. get_or names i.file [] ++ r)
+    (parted (codes ":") (decimal i.at.line) (codes ":") (decimal i.at.column) (opening_words (severity i.rule) ++ (i.message ++ closing_words i.rule))
+    ∙ ap (λ r. codes ":" ++ (decimal i.at.line ++ (codes ":" ++ (decimal i.at.column ++ r))))
+    (tail (codes ": ") (severity_text (severity i.rule)) (codes " - ") (i.message ++ closing_words i.rule)))
   where
     tail : (x y z w : List ℕ) → (x ++ (y ++ z)) ++ w ≡ x ++ (y ++ (z ++ w))
     tail x y z w = simp append_assoc
+
+    parted : (a b c d r : List ℕ) → (a ++ (b ++ (c ++ d))) ++ r ≡ a ++ (b ++ (c ++ (d ++ r)))
+    parted a b c d r = simp append_assoc
 
 -- ---- the report
 

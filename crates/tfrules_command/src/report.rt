@@ -1,6 +1,6 @@
 //! The report of a run, written line by line: short lines wait together until they fill a page.
 
-ghost use Rattle.std.specs.Prelude.{◌≡◌, ◌<◌, ◌≤◌, ◌++◌, [], ◌∷◌, false, true, map, length, is_err, OnOk, if◌then◌else◌};
+ghost use Rattle.std.specs.Prelude.{◌≡◌, ◌<◌, ◌≤◌, ◌++◌, [], ◌∷◌, false, true, drop, map, length, is_err, OnOk, if◌then◌else◌};
 ghost use Rattle.std.specs.List.{concat, flat_map, list_any};
 ghost use Rattle.std.specs.Io.KnownBytes.{Appends};
 ghost use Rattle.hcl_source.specs.Devices.{one_more};
@@ -8,12 +8,12 @@ ghost use Rattle.command_line.specs.Rows.{Took, writer};
 ghost use Rattle.tf_rules.specs.Answers.{listed_issue, text_of_pieces};
 ghost use Rattle.tfrules_command.specs.Report.{issue_line, report, weighs, weight};
 ghost use Rattle.tfrules_command.specs.Inner.Pages.{GoesOut, Holds};
-ghost use Rattle.tfrules_command.specs.Inner.Pieces.{closing_words, count_lines, framed, lines_of_report, opening_words};
+ghost use Rattle.tfrules_command.specs.Inner.Pieces.{closing_words, count_lines, framed, lines_of_report, opening_words, place_words};
 
 use crate::file_names::FileNames;
 use arrayvec::ArrayVec;
-use hcl_scan::{ByteSink, WriteFault, write_fully};
-use itoa::Buffer;
+use hcl_scan::{ByteSink, Position, WriteFault, write_fully};
+use itoa::{Buffer, write_digits};
 use tf_rules::{IssueList, ListedIssue, Pieces, Rule, Severity};
 
 /// How many bytes wait at most before they are written. From 2,048 bytes on the C library clears a page by a string
@@ -23,13 +23,15 @@ const PAGE: usize = 2000;
 /// What waits to be written.
 type Page = ArrayVec<u8, PAGE>;
 
-/// What stands around the message on the line of an issue: the name of its file, its line and column in digits, and what
-/// stands right before and after the message.
+/// How many bytes a place takes at most: two colons, and two numbers of ten digits.
+const PLACE: usize = 22;
+
+/// What stands around the message on the line of an issue: the name of its file, its place, and what stands right before
+/// and after the message.
 #[derive(Clone, Copy)]
 struct Frame<'p> {
     name: &'p str,
-    line: &'p str,
-    column: &'p str,
+    place: &'p [u8],
     opening: &'p str,
     closing: &'p str,
 }
@@ -93,15 +95,28 @@ fn closing(rule: Rule) -> &'static str
     }
 }
 
+/// Writes `:LINE:COLUMN` so that it ends with the room, and answers where it begins. As one piece of the line it takes
+/// less than its four parts would, since each piece is copied by a call.
+fn write_place(at: Position, room: &mut [u8; PLACE]) -> usize
+    ensures within { result ≤ PLACE }
+    ensures written { drop result room.new ≡ place_words at }
+{
+    let column = write_digits(at.column as u64, room, PLACE);
+    room[column - 1] = b':';
+    let line = write_digits(at.line as u64, room, column - 1);
+    room[line - 1] = b':';
+    line - 1
+}
+
 /// Writes the pieces one after another, up to the first write that fails.
-fn write_each<O: ByteSink>(out: &mut O, pieces: &[&str]) -> Result<(), WriteFault>
+fn write_each<O: ByteSink>(out: &mut O, pieces: &[&[u8]]) -> Result<(), WriteFault>
     requires { O.failed out.old ≡ false }
     ensures took { Took (writer O.ByteSink out.old out.new) (concat (map (λ piece. piece.now) pieces.now)) }
     ensures failed { O.failed out.new ≡ is_err result }
     ensures flushes { O.flushes out.new ≡ O.flushes out.old }
 {
     for piece in pieces {
-        if let Err(fault) = write_fully(out, piece.as_bytes()) {
+        if let Err(fault) = write_fully(out, piece) {
             return Err(fault);
         }
     }
@@ -109,12 +124,12 @@ fn write_each<O: ByteSink>(out: &mut O, pieces: &[&str]) -> Result<(), WriteFaul
 }
 
 /// Puts the pieces after what waits, or none of them where there is no room for all.
-fn hold(page: &mut Page, pieces: &[&str]) -> bool
+fn hold(page: &mut Page, pieces: &[&[u8]]) -> bool
     ensures { Holds result page.old.items page.new.items (concat (map (λ piece. piece.now) pieces.now)) }
 {
     let before = page.len();
     for piece in pieces {
-        if let Err(_) = page.try_extend_from_slice(piece.as_bytes()) {
+        if let Err(_) = page.try_extend_from_slice(piece) {
             page.truncate(before);
             return false;
         }
@@ -141,7 +156,7 @@ fn send<O: ByteSink>(out: &mut O, page: &mut Page) -> Result<(), WriteFault>
 fn write_pieces<O: ByteSink>(
     out: &mut O,
     page: &mut Page,
-    pieces: &[&str],
+    pieces: &[&[u8]],
 ) -> Result<(), WriteFault>
     requires { O.failed out.old ≡ false }
     ensures goes { GoesOut (O.failed out.new) (O.taken out.old) (O.taken out.new) page.old.items page.new.items (concat (map (λ piece. piece.now) pieces.now)) }
@@ -174,8 +189,7 @@ fn write_line<'p, O: ByteSink>(
 {
     let Frame {
         name,
-        line,
-        column,
+        place,
         opening,
         closing,
     } = frame;
@@ -183,20 +197,40 @@ fn write_line<'p, O: ByteSink>(
         Pieces::Whole(text) => write_pieces(
             out,
             page,
-            &[name, ":", line, ":", column, opening, text, closing],
+            &[
+                name.as_bytes(),
+                place,
+                opening.as_bytes(),
+                text.as_bytes(),
+                closing.as_bytes(),
+            ],
         ),
         Pieces::Named(front, named, rest) => write_pieces(
             out,
             page,
             &[
-                name, ":", line, ":", column, opening, front, named, rest, closing,
+                name.as_bytes(),
+                place,
+                opening.as_bytes(),
+                front.as_bytes(),
+                named.as_bytes(),
+                rest.as_bytes(),
+                closing.as_bytes(),
             ],
         ),
         Pieces::NamedTwice(front, named, between, other, rest) => write_pieces(
             out,
             page,
             &[
-                name, ":", line, ":", column, opening, front, named, between, other, rest, closing,
+                name.as_bytes(),
+                place,
+                opening.as_bytes(),
+                front.as_bytes(),
+                named.as_bytes(),
+                between.as_bytes(),
+                other.as_bytes(),
+                rest.as_bytes(),
+                closing.as_bytes(),
             ],
         ),
     }
@@ -215,16 +249,14 @@ fn write_issue<O: ByteSink>(
     ensures flushes { O.flushes out.new ≡ O.flushes out.old }
 {
     let name = names.name_of(issue.file);
-    let mut line = Buffer::new();
-    let mut column = Buffer::new();
-    let line = line.format(issue.at.line);
-    let column = column.format(issue.at.column);
+    let mut room = [0; PLACE];
+    let begin = write_place(issue.at, &mut room);
+    let (_, place) = room.split_at(begin);
     let opening = opening(issue.rule.severity());
     let closing = closing(issue.rule);
     let frame = Frame {
         name,
-        line,
-        column,
+        place,
         opening,
         closing,
     };
@@ -239,7 +271,7 @@ fn write_count<O: ByteSink>(out: &mut O, page: &mut Page, count: usize) -> Resul
     ensures flushes { O.flushes out.new ≡ O.flushes out.old }
 {
     let mut digits = Buffer::new();
-    write_pieces(out, page, &[digits.format(count), " issue(s) found:\n\n"])
+    write_pieces(out, page, &[digits.format(count).as_bytes(), b" issue(s) found:\n\n"])
 }
 
 /// Writes the lines of issues.

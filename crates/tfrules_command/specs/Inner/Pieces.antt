@@ -2,6 +2,7 @@
 use Rattle.std.specs.Prelude.{ℕ, ◌++◌, List, codes, decimal, length}
 use Rattle.std.specs.List.{flat_map}
 use Rattle.command_line.specs.Rows.{line}
+use Rattle.hcl_source.specs.declared.fault.Position.{Position}
 use Rattle.rule_set.specs.Rules.{rule_name, severity_text}
 use Rattle.rule_set.specs.declared.rule.Rule.{Rule}
 use Rattle.rule_set.specs.declared.rule.Severity.{Severity}
@@ -17,9 +18,13 @@ opening_words s = codes ": " ++ (severity_text s ++ codes " - ")
 abbrev pub closing_words : Rule → List ℕ
 closing_words rule = codes " (" ++ (rule_name rule ++ line (codes ")"))
 
+-- `:LINE:COLUMN`
+abbrev pub place_words : Position → List ℕ
+place_words at = codes ":" ++ (decimal at.line ++ (codes ":" ++ decimal at.column))
+
 -- the line of a message in a frame
 abbrev pub framed : Frame → List ℕ → List ℕ
-framed f message = f.name.now ++ (codes ":" ++ (f.line.now ++ (codes ":" ++ (f.column.now ++ (f.opening.now ++ (message ++ f.closing.now))))))
+framed f message = f.name.now ++ (f.place.now ++ (f.opening.now ++ (message ++ f.closing.now)))
 
 abbrev pub count_lines : ℕ → List ℕ
 count_lines count = decimal count ++ line (line (codes " issue(s) found:"))

@@ -1,4 +1,4 @@
-use Rattle.std.proofs.Common.{◌∙◌, ap, ℕ}
+use Rattle.std.proofs.Common.{◌∙◌, ap, refl, ℕ}
 use Rattle.arrayvec.specs.ArrayVec.{ArrayVec}
 use Rattle.tfrules_command.proofs.PageLemmas.{given_back}
 use Rattle.tfrules_command.proofs.ReportPieceLemmas.{piece_more}
@@ -11,5 +11,5 @@ returns-in-Err c =
 
 pub loop-piece-preserved : goal.loop-piece-preserved
 loop-piece-preserved c =
-    piece_more c.args.pieces.now c.loop-piece.piece-index _ c.as_bytes.result.now c.args.page.now.items c.loop-piece.page.items c.try_extend_from_slice.new.self.items c.loop-piece-test.true c.as_bytes.ensures.value c.in_default.ensures.ok
+    piece_more c.args.pieces.now c.loop-piece.piece-index _ _ c.args.page.now.items c.loop-piece.page.items c.try_extend_from_slice.new.self.items c.loop-piece-test.true refl c.in_default.ensures.ok
     c.loop-piece.invariant
