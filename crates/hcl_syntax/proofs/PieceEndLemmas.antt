@@ -83,11 +83,11 @@ module _ (ts : List Lexeme) (n : ℕ) (t : Lexeme) (e : slice_get ts n ≡ Some 
   pub passes : (ahead : List ℕ) → nesting_of t.kind ≡ nesting.Passes → AreNewlinesAhead ts ahead (n + 1) → AreNewlinesAhead ts ahead n
   passes ahead is h d = let m = at_other t.kind is in h d ∙ sym (from_next d d m.newline_is (m.moves d))
 
-  pub opens : (old new : List ℕ) → nesting_of t.kind ≡ nesting.Opens → ((d c : ℕ) → get_or (reverse new) d c ≡ get_or (reverse old) (suc d) c) → AreNewlinesAhead ts old (n + 1) → AreNewlinesAhead ts new n
+  pub opens : (old new : List ℕ) → nesting_of t.kind ≡ nesting.Opens → ((d : ℕ) → get_or (reverse new) d (length ts) ≡ get_or (reverse old) (suc d) (length ts)) → AreNewlinesAhead ts old (n + 1) → AreNewlinesAhead ts new n
   opens old new is popped h d =
       let m = at_opener t.kind is in
       let s : d + 1 ≡ suc d = omega arith in
-      popped d (length ts) ∙ h (suc d) ∙ sym (from_next d (suc d) m.newline_is (m.moves d ∙ s))
+      popped d ∙ h (suc d) ∙ sym (from_next d (suc d) m.newline_is (m.moves d ∙ s))
 
   pub closes : (old new : List ℕ) (last : ℕ) → nesting_of t.kind ≡ nesting.Closes → last ≡ get_or (reverse old) 0 (length ts) → new ≡ old ++ last ∷ [] → AreNewlinesAhead ts old (n + 1) → AreNewlinesAhead ts new n
   closes old new last is top pushed h d = ap (λ r. get_or r d (length ts)) (ap reverse pushed ∙ reverse-append old (last ∷ [])) ∙ by d
@@ -110,6 +110,32 @@ module _ (ts : List Lexeme) (n : ℕ) (t : Lexeme) (e : slice_get ts n ≡ Some 
       by zero = sym (from_newline m.newline_is)
       by (suc k) = popped k (length ts) ∙ h (suc k) ∙ sym (from_deeper k m.newline_is (m.moves (suc k)))
 
+-- ---- the newlines ahead, of which the first is apart from the rest
+
+pub last_behind : (rest : List ℕ) (top d c : ℕ) → get_or (reverse (rest ++ top ∷ [])) (suc d) c ≡ get_or (reverse rest) d c
+last_behind rest top d c = ap (λ r. get_or r (suc d) c) (reverse-append rest (top ∷ []))
+
+pub last_first : (rest : List ℕ) (top c : ℕ) → get_or (reverse (rest ++ top ∷ [])) 0 c ≡ top
+last_first rest top c = ap (λ r. get_or r 0 c) (reverse-append rest (top ∷ []))
+
+module _ (ts : List Lexeme) (n : ℕ) (t : Lexeme) (e : slice_get ts n ≡ Some t) (rest : List ℕ) (top : ℕ) where
+  pub top_newline : nesting_of t.kind ≡ nesting.Newline → AreNewlinesAhead ts (rest ++ top ∷ []) (n + 1) → AreNewlinesAhead ts (rest ++ n ∷ []) n
+  top_newline is = newline ts n t e (rest ++ top ∷ []) rest (rest ++ n ∷ []) is (λ d c. sym (last_behind rest top d c)) refl
+
+  pub top_opens : (left : List ℕ) (next count : ℕ) → count ≡ length ts → nesting_of t.kind ≡ nesting.Opens → next ≡ get_or (reverse rest) 0 count → ((i : ℕ) → get_or (reverse left) i count ≡ get_or (reverse rest) (suc i) count)
+      → AreNewlinesAhead ts (rest ++ top ∷ []) (n + 1) → AreNewlinesAhead ts (left ++ next ∷ []) n
+  top_opens left next count is_count is taken kept = opens ts n t e (rest ++ top ∷ []) (left ++ next ∷ []) is by
+    where
+      at_count : (d : ℕ) → get_or (reverse (left ++ next ∷ [])) d count ≡ get_or (reverse (rest ++ top ∷ [])) (suc d) count
+      at_count zero = last_first left next count ∙ taken ∙ sym (last_behind rest top 0 count)
+      at_count (suc d) = last_behind left next d count ∙ kept d ∙ sym (last_behind rest top (suc d) count)
+
+      by : (d : ℕ) → get_or (reverse (left ++ next ∷ [])) d (length ts) ≡ get_or (reverse (rest ++ top ∷ [])) (suc d) (length ts)
+      by d = let P : ℕ → Type 0 = λ c. get_or (reverse (left ++ next ∷ [])) d c ≡ get_or (reverse (rest ++ top ∷ [])) (suc d) c in subst P is_count (at_count d)
+
+  pub top_closes : (more : List ℕ) → nesting_of t.kind ≡ nesting.Closes → more ≡ rest ++ top ∷ [] → AreNewlinesAhead ts (rest ++ top ∷ []) (n + 1) → AreNewlinesAhead ts (more ++ top ∷ []) n
+  top_closes more is pushed = closes ts n t e (rest ++ top ∷ []) (more ++ top ∷ []) top is (sym (last_first rest top (length ts))) (ap (λ r. r ++ top ∷ []) pushed)
+
 -- ---- the table
 
 none_leads : (k : Kind) → nesting_of k ≡ nesting.Passes → leads k ≡ true → ⊥
@@ -129,13 +155,17 @@ pub record IsFilled (ts : List Lexeme) (ends ahead : List ℕ) (n : ℕ) : Type 
   pub newlines_ahead : AreNewlinesAhead ts ahead n
   pub each : (i : ℕ) → n < i → i ≤ length ts → CanBegin ts i → get_or ends i 0 ≡ newline_from ts 0 i
 
-pub starts_filled : (ts : List Lexeme) (count : ℕ) (ends : List ℕ) → count ≡ length ts → ends ≡ replicate (count + 1) 0 → IsFilled ts ends [] count
+pub starts_filled : (ts : List Lexeme) (count : ℕ) (ends : List ℕ) → count ≡ length ts → ends ≡ replicate (count + 1) 0 → IsFilled ts ends (count ∷ []) count
 starts_filled ts count ends is made = record {
   len = ap length made ∙ length-replicate (count + 1) 0 ∙ ap (λ k. k + 1) is;
   within = omega (arith, is);
-  newlines_ahead = λ d. sym (ap (λ k. newline_from ts d k) is ∙ ap (λ r. length ts + first_len d r) (drop_all (length ts) ts (omega arith)) ∙ omega arith);
+  newlines_ahead = λ d. none d ∙ sym (ap (λ k. newline_from ts d k) is ∙ ap (λ r. length ts + first_len d r) (drop_all (length ts) ts (omega arith)) ∙ omega arith);
   each = λ i h k _. absurd (omega (arith, h, k, is));
 }
+  where
+    none : (d : ℕ) → get_or (reverse (count ∷ [])) d (length ts) ≡ length ts
+    none zero = is
+    none (suc d) = refl
 
 -- a token that is passed over leads to no piece
 passed_over : (ts : List Lexeme) (ends ahead : List ℕ) (last n : ℕ) → last ≡ n + 1 → n < length ts → ((t : Lexeme) → slice_get ts n ≡ Some t → nesting_of t.kind ≡ nesting.Passes)

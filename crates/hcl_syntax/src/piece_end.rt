@@ -9,10 +9,10 @@
 //! A piece begins with the first token, or after a newline or an opener. All other tokens are passed over by their kind
 //! alone, and their numbers are never asked for.
 
-ghost use Rattle.std.specs.Prelude.{◌≡◌, true, ◌<◌, ◌≤◌, ◌+◌, List, length, get_or, reverse, slice_get, Some, IfOk, OnOk};
+ghost use Rattle.std.specs.Prelude.{◌≡◌, true, ◌<◌, ◌≤◌, ◌+◌, ◌++◌, ◌∷◌, [], ℕ, suc, List, length, get_or, reverse, slice_get, Some, IfOk};
 ghost use Rattle.hcl_source.specs.Load.{max_source};
 ghost use Rattle.hcl_tokens.specs.Lexemes.{Lexeme};
-ghost use Rattle.hcl_syntax.specs.declared.nesting.Nesting.TheVariants.{Passes};
+ghost use Rattle.hcl_syntax.specs.declared.nesting.Nesting.TheVariants.{Newline, Passes};
 ghost use Rattle.hcl_syntax.specs.Inner.Pieces.{AreEnds, ArePassed, nesting_of, AreNewlinesAhead};
 
 use crate::nesting::Nesting;
@@ -34,6 +34,13 @@ fn nesting_of(kind: Kind) -> Nesting
             Nesting::Closes,
         _ => Nesting::Passes,
     }
+}
+
+#[inline(always)]
+fn is_newline(kind: Kind) -> bool
+    ensures { result ≡ true → nesting_of kind ≡ Newline }
+{
+    matches!(kind, Kind::Newline)
 }
 
 /// Whether tokens of this kind mean nothing to the search for newlines.
@@ -82,44 +89,43 @@ pub fn token_count(tokens: &Tokens<'_>) -> u32
     tokens.len() as u32
 }
 
-/// The last number, or another where there is none.
-fn last_or(numbers: &[u32], other: u32) -> u32
-    ensures { result ≡ get_or (reverse numbers.now) 0 other }
+/// Takes the last number off the list, or another where there is none.
+#[inline(always)]
+fn take_last(numbers: &mut Vec<u32>, other: u32) -> u32
+    ensures taken { result ≡ get_or (reverse numbers.old.items) 0 other }
+    ensures left { (i : ℕ) → get_or (reverse numbers.new.items) i other ≡ get_or (reverse numbers.old.items) (suc i) other }
 {
-    match numbers.last() {
-        Some(number) => *number,
+    match numbers.pop() {
+        Some(number) => number,
         None => other,
     }
 }
 
-/// Goes over a token from right to left, of which is known what it means. `ahead` has the first newline outside all openers
-/// last, before it the first one where one opener is open, and so on; where it has no more, there is none.
+/// Goes over a token from right to left, where `top` is the first newline outside all openers, and `rest` has the first one
+/// where one opener is open last, before it the first one where two are, and so on; where it has no more, there is none.
+/// Gives the new `top`. Newlines are the most frequent, so they are asked for first.
 #[inline(always)]
 fn pass(
-    nesting: Nesting,
+    kind: Kind,
     count: u32,
     number: u32,
-    ahead: &mut Vec<u32>,
-) -> Result<(), AllocError>
-    ensures { (tokens : List Lexeme) (t : Lexeme) → count ≡ length tokens → slice_get tokens number ≡ Some t → nesting ≡ nesting_of t.kind
-        → AreNewlinesAhead tokens ahead.old.items (number + 1) → OnOk result (AreNewlinesAhead tokens ahead.new.items number) }
+    top: u32,
+    rest: &mut Vec<u32>,
+) -> Result<u32, AllocError>
+    ensures { (tokens : List Lexeme) (t : Lexeme) → count ≡ length tokens → slice_get tokens number ≡ Some t → kind ≡ t.kind
+        → AreNewlinesAhead tokens (rest.old.items ++ top ∷ []) (number + 1) → IfOk result (λ next. AreNewlinesAhead tokens (rest.new.items ++ next ∷ []) number) }
 {
-    match nesting {
-        Nesting::Newline => {
-            ahead.pop();
-            ahead.push(number)?;
-            Ok(())
-        }
-        Nesting::Opens => {
-            ahead.pop();
-            Ok(())
-        }
+    if is_newline(kind) {
+        return Ok(number);
+    }
+    match nesting_of(kind) {
+        Nesting::Newline => Ok(number),
+        Nesting::Opens => Ok(take_last(rest, count)),
         Nesting::Closes => {
-            let last = last_or(ahead, count);
-            ahead.push(last)?;
-            Ok(())
+            rest.push(top)?;
+            Ok(top)
         }
-        Nesting::Passes => Ok(()),
+        Nesting::Passes => Ok(top),
     }
 }
 
@@ -130,15 +136,15 @@ pub fn newlines(alloc: Global, tokens: &Tokens<'_>) -> Result<Vec<u32>, AllocErr
 {
     let count = token_count(tokens);
     let mut ends = vec![in alloc; 0; count as usize + 1]?;
-    let mut ahead = Vec::new(alloc);
+    let mut rest = Vec::new(alloc);
+    let mut top = count;
     let mut next = past_others(tokens, tokens.len());
     while next > 0 {
         let number = next - 1;
-        ends[next] = last_or(&ahead, count);
-        let nesting = nesting_of(tokens.kind(number));
-        pass(nesting, count, number as u32, &mut ahead)?;
+        ends[next] = top;
+        top = pass(tokens.kind(number), count, number as u32, top, &mut rest)?;
         next = past_others(tokens, number);
     }
-    ends[0] = last_or(&ahead, count);
+    ends[0] = top;
     Ok(ends)
 }

@@ -7,7 +7,6 @@ pub mod StartLemmas
 pub mod ColumnClusterLemmas
 pub mod WalkLemmas
 pub mod PlaceLemmas
-pub mod ConcernLemmas
 pub mod EntryLemmas
 pub mod SaidLemmas
 pub mod SortLemmas

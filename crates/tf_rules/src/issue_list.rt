@@ -18,6 +18,7 @@ fn entry_at<'f>(entries: &[Entry<'f>], i: usize) -> Entry<'f>
 }
 
 /// An entry as it is given.
+#[inline(always)]
 fn listed<'f>(entry: Entry<'f>) -> ListedIssue<'f>
     ensures { listed_issue result ≡ shown_of entry.entry }
 {
@@ -68,6 +69,7 @@ impl<'f> IssueList<'f> {
     }
 
     /// The issue of this number.
+    #[inline(always)]
     pub fn get(&self, i: usize) -> ListedIssue<'f>
         requires { i < length self.now }
         ensures { slice_get self.now i ≡ Some (listed_issue result) }

@@ -143,7 +143,8 @@ fn about_unused<'f>(declaration: &'f KeptDeclaration) -> Pieces<'f>
     }
 }
 
-/// What is said, piece by piece.
+/// What is said, piece by piece. Whoever asks for it matches on the pieces at once, so they aren't put together.
+#[inline(always)]
 pub fn pieces<'f>(said: Said<'f>) -> Pieces<'f>
     ensures { text_of_pieces result ≡ text_of said.entry }
 {

@@ -1,8 +1,9 @@
+use Rattle.std.proofs.Common.{[], ◌∷◌, ◌++◌}
 use Rattle.hcl_syntax.proofs.PieceEndLemmas.{IsFilled}
 use Rattle.hcl_syntax.proofs.piece_end.newlines.Given as goal
 
 abbrev pub invariant-loop-next : goal.invariant-loop-next
-invariant-loop-next l = IsFilled l.tokens.tokens l.ends.items l.ahead.items l.next
+invariant-loop-next l = IsFilled l.tokens.tokens l.ends.items (l.rest.items ++ l.top ∷ []) l.next
 
 abbrev pub decreases-loop-next : goal.decreases-loop-next
 decreases-loop-next l = l.next
