@@ -8,7 +8,6 @@ use Rattle.hcl_tokens.specs.declared.token.Kind.{Kind}
 use Rattle.hcl_tokens.specs.declared.token.Kind.TheVariants as kind
 use Rattle.hcl_tokens.specs.Kinds.{is}
 use Rattle.hcl_grammar.specs.Items.{deepen, is_closed}
-use Rattle.hcl_syntax.specs.declared.nesting.Nesting.{Nesting}
 use Rattle.hcl_syntax.specs.declared.nesting.Nesting.TheVariants as nesting
 use Rattle.hcl_syntax.specs.Inner.Pieces.{AreEnds, ArePassed, CanBegin, first_len, leads, newline_from, nesting_of, AreNewlinesAhead}
 use Rattle.hcl_grammar.proofs.NumberedLemmas.{drop_at}

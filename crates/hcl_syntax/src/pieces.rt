@@ -3,12 +3,10 @@
 ghost use Rattle.std.specs.Prelude.{◌≡◌, ◌<◌, ◌≤◌, ◌+◌, ◌++◌, length, IfOk, OnOk};
 ghost use Rattle.hcl_source.specs.Load.{max_source};
 ghost use Rattle.hcl_syntax.specs.Inner.Pieces.{AreEnds, CanBegin, items_at, words};
-ghost use Rattle.hcl_syntax.specs.Inner.Bodies.{PutsBlock, PutsPiece};
+ghost use Rattle.hcl_syntax.specs.Inner.Bodies.{IsBehindBrace, PutsBlock, PutsPiece};
 ghost use Rattle.hcl_grammar.specs.Items.{label_at, labels};
 
-use crate::words::{
-    behind_brace, block_end, closing_quote, first_word, is_assign, is_brace_open, words_end,
-};
+use crate::words::{block_end, closing_quote, first_word, is_assign, is_brace_open, words_end};
 use hcl_grammar::Outline;
 use hcl_tokens::{Kind, Tokens};
 use std::alloc::AllocError;
@@ -42,24 +40,26 @@ fn put_label(
     }
 }
 
-/// Puts out the labels that stand before the first opening brace.
+/// Puts out the labels that stand before the first opening brace, and gives one past the number of that brace, or the end.
 fn put_labels(
     tokens: &Tokens<'_>,
     from: u32,
     to: u32,
     items: &mut Outline,
-) -> Result<(), AllocError>
-    requires { to ≤ length tokens.now.tokens }
-    ensures { OnOk result (items.new ≡ items.old ++ labels (words tokens.now.tokens from to)) }
+) -> Result<u32, AllocError>
+    requires within { to ≤ length tokens.now.tokens }
+    requires ordered { from ≤ to }
+    ensures labels { OnOk result (items.new ≡ items.old ++ labels (words tokens.now.tokens from to)) }
+    ensures behind { IfOk result (IsBehindBrace tokens.now.tokens from to) }
 {
     for number in from..to {
         let token = tokens.get(number as usize);
         if is_brace_open(token.kind) {
-            return Ok(());
+            return Ok(number + 1);
         }
         put_label(tokens, number, token.kind, to, items)?;
     }
-    Ok(())
+    Ok(to)
 }
 
 /// Puts out a block and its labels. Its kind is the token of this number, and its piece ends before `to`.
@@ -74,10 +74,9 @@ fn put_block(
     requires before { kind < to }
     ensures { IfOk result (PutsBlock tokens.now.tokens level kind to items.old items.new) }
 {
-    let first = behind_brace(tokens, kind + 1, to);
     let end = block_end(tokens, kind + 1, to);
     items.push_block(level, kind, end)?;
-    put_labels(tokens, kind + 1, to, items)?;
+    let first = put_labels(tokens, kind + 1, to, items)?;
     Ok(Body {
         first,
         end: end.saturating_sub(1),

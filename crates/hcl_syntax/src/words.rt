@@ -1,10 +1,10 @@
 //! Tokens that are no comments, and what is looked for among them.
 
-ghost use Rattle.std.specs.Prelude.{◌≡◌, ◌<◌, ◌≤◌, [], filter, length, MatchOption};
+ghost use Rattle.std.specs.Prelude.{◌≡◌, ◌≤◌, [], filter, length, MatchOption};
 ghost use Rattle.hcl_tokens.specs.Kinds.{is};
 ghost use Rattle.hcl_tokens.specs.declared.token.Kind.TheVariants.{Assign, BraceClose, BraceOpen, QuoteClose};
-ghost use Rattle.hcl_syntax.specs.Inner.Pieces.{CanBegin, IsFirst, words};
-ghost use Rattle.hcl_grammar.specs.Items.{behind_brace, block_end, closing_quote};
+ghost use Rattle.hcl_syntax.specs.Inner.Pieces.{IsFirst, words};
+ghost use Rattle.hcl_grammar.specs.Items.{block_end, closing_quote};
 ghost use Rattle.hcl_grammar.specs.Numbered.{end_of, is_comment};
 
 use hcl_tokens::{Kind, Tokens};
@@ -73,24 +73,6 @@ pub fn closing_quote(tokens: &Tokens<'_>, from: u32, to: u32) -> u32
         }
     }
     0
-}
-
-/// One past the number of the first opening brace, or the end.
-pub fn behind_brace(tokens: &Tokens<'_>, from: u32, to: u32) -> u32
-    requires within { to ≤ length tokens.now.tokens }
-    requires ordered { from ≤ to }
-    ensures is { words tokens.now.tokens result to ≡ behind_brace (words tokens.now.tokens from to) }
-    ensures from_on { from ≤ result }
-    ensures within { result ≤ to }
-    ensures begins { result < to → CanBegin tokens.now.tokens result }
-{
-    for number in from..to {
-        let token = tokens.get(number as usize);
-        if is_brace_open(token.kind) {
-            return number + 1;
-        }
-    }
-    to
 }
 
 /// One past the number of the last closing brace, or 0.

@@ -115,6 +115,10 @@ module _ (ts : List Numbered) (items : List Item) (from : ℕ) (said : Body) (n 
         ∙ ap (λ more. both said (body_of more)) (sym (attributes_here ts items n i e ∙ ap (λ b. cond b (with_attribute (attribute ts i) (attributes_in ts (drop (n + 1) items))) []) within))
         ∙ h
 
+    -- an item that says nothing
+    pub body_silent : is_inside i ≡ true → attribute ts i ≡ None → IsBody ts items from said (n + 1)
+    body_silent within none = body_more within said (sym (both_none said) ∙ ap (λ (o : Option Attribute). both said (body_of (with_attribute o []))) (sym none))
+
 -- ---- what one item says
 
 only_value : (a : Attribute) (b : Bool) → then_some b (value_of_attribute a) ≡ option_map value_of_attribute (cond b (Some a) None)

@@ -1,9 +1,9 @@
 //! What follows a block in the outline of a file: its labels, and what the attributes directly in its body say.
 
-ghost use Rattle.std.specs.Prelude.{◌≡◌, ◌<◌, ◌≤◌, ◌+◌, ◌∷◌, ℕ, [], drop, length, slice_get, MatchOption, Some};
+ghost use Rattle.std.specs.Prelude.{◌≡◌, ◌<◌, ◌≤◌, ◌+◌, ◌∷◌, ℕ, [], drop, length, slice_get, List, MatchOption, None, Some, false};
 ghost use Rattle.hcl_grammar.specs.Items.{outline};
 ghost use Rattle.hcl_grammar.specs.Labels.{text_of};
-ghost use Rattle.hcl_grammar.specs.Numbered.{numbered};
+ghost use Rattle.hcl_grammar.specs.Numbered.{Numbered, numbered};
 ghost use Rattle.tf_facts.specs.Declarations.{attribute, attributes_in, is_inside, labels_in, with_attribute};
 ghost use Rattle.tf_facts.specs.Inner.Labelled.{AreNames};
 ghost use Rattle.tf_facts.specs.Inner.Values.{body_of, both};
@@ -88,6 +88,13 @@ fn nothing() -> Body
     }
 }
 
+/// Whether an item is an attribute. No other says anything here.
+fn is_attribute(item: Item) -> bool
+    ensures { result ≡ false → (ts : List Numbered) → attribute ts item ≡ None }
+{
+    matches!(item, Item::Attribute { .. })
+}
+
 /// What an item says, where it is an attribute directly in the body of a top-level block.
 fn body_of_item(accepted: &Accepted<'_, '_>, item: Item) -> Body
     requires { (i : ℕ) × (slice_get (outline accepted.now.tokens) i ≡ Some item) }
@@ -136,6 +143,9 @@ pub fn body(accepted: &Accepted<'_, '_>, items: &Outline, from: usize) -> Body
         let item = items.get(number);
         if !is_inside(item) {
             return body;
+        }
+        if !is_attribute(item) {
+            continue;
         }
         body = both(body, body_of_item(accepted, item));
     }

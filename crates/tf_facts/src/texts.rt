@@ -9,6 +9,7 @@ ghost use Rattle.tf_facts.specs.Inner.Cuts.{parts_of};
 use crate::cut::Cut;
 
 /// Whether a text begins with another.
+#[inline(always)]
 pub fn begins(front: &[u8], text: &[u8]) -> bool
     ensures { result ≡ begins front.now text.now }
 {

@@ -2,10 +2,17 @@
 use Rattle.std.specs.Prelude.{◌≡◌, ◌<◌, ◌≤◌, ◌+◌, ℕ, List, [], ◌++◌}
 use Rattle.hcl_tokens.specs.Lexemes.{Lexeme}
 use Rattle.hcl_grammar.specs.Numbered.{Numbered}
-use Rattle.hcl_grammar.specs.Items.{block, item_of}
+use Rattle.hcl_grammar.specs.Items.{behind_brace, block, item_of}
 use Rattle.hcl_syntax.specs.Inner.Pieces.{CanBegin, words}
 use Rattle.hcl_syntax.specs.declared.pieces.Body.{Body}
 use Rattle.hcl_grammar.specs.declared.item.Item.{Item}
+
+-- the number is that of the token after the first opening brace, or the end
+pub record IsBehindBrace (tokens : List Lexeme) (from to first : ℕ) : Type 0 where
+  pub is : words tokens first to ≡ behind_brace (words tokens from to)
+  pub from_on : from ≤ first
+  pub within : first ≤ to
+  pub begins : first < to → CanBegin tokens first
 
 -- with the items of its body after, it is the item of the piece, whatever the items of bodies are
 pub record PutsPiece (tokens : List Lexeme) (level from to : ℕ) (old new : List Item) (body : Body) : Type 0 where

@@ -1,14 +1,32 @@
-use Rattle.std.proofs.Common.{◌∙◌, sym}
+use Rattle.std.proofs.Common.{◌∙◌, arith, sym}
 use Rattle.hcl_tokens.specs.Scanned.{lexeme}
+use Rattle.hcl_syntax.proofs.PieceEndLemmas.{brace_begins}
+use Rattle.hcl_syntax.proofs.SoughtLemmas.{brace_here, brace_past}
 use Rattle.hcl_syntax.proofs.LabelLemmas.{labels_brace, labels_more}
 use Rattle.hcl_syntax.proofs.pieces.put_labels.Goals as goal
 
-pub returns-then-is_brace_open : goal.returns-then-is_brace_open
-returns-then-is_brace_open c =
+pub returns-then-is_brace_open-clause-labels : goal.returns-then-is_brace_open-clause-labels
+returns-then-is_brace_open-clause-labels c =
     labels_brace c.args.tokens.now.tokens c.args.from c.args.to c.args.items.now c.loop-number.items c.loop-number.number (lexeme c.get-token.result) c.get-token.ensures.token c.loop-number-test.true
-    (sym c.is_brace_open.ensures ∙ c.if-is_brace_open.true) c.loop-number.invariant
+    (sym c.is_brace_open.ensures ∙ c.if-is_brace_open.true) c.loop-number.invariant.labels
+
+pub returns-then-is_brace_open-clause-behind : goal.returns-then-is_brace_open-clause-behind
+returns-then-is_brace_open-clause-behind c =
+    let ts = c.args.tokens.now.tokens in
+    let brace = sym c.is_brace_open.ensures ∙ c.if-is_brace_open.true in
+    record {
+      is = sym (brace_here ts c.loop-number.number c.args.to (lexeme c.get-token.result) c.get-token.ensures.token c.loop-number-test.true brace) ∙ c.loop-number.invariant.behind;
+      from_on = omega (arith, c.loop-number.auto.number);
+      within = omega (arith, c.loop-number-test.true);
+      begins = λ _. brace_begins ts c.loop-number.number (lexeme c.get-token.result) c.get-token.ensures.token brace;
+    }
 
 pub loop-number-preserved : goal.loop-number-preserved
 loop-number-preserved c =
-    labels_more c.args.tokens.now.tokens c.args.from c.args.to c.args.items.now c.loop-number.items c.loop-number.number (lexeme c.get-token.result) c.put_label.new.items c.get-token.ensures.token
-    c.loop-number-test.true (sym c.is_brace_open.ensures ∙ c.if-is_brace_open.false) c.in_ok-put_label.ensures c.loop-number.invariant
+    let ts = c.args.tokens.now.tokens in
+    let other = sym c.is_brace_open.ensures ∙ c.if-is_brace_open.false in
+    record {
+      labels = labels_more ts c.args.from c.args.to c.args.items.now c.loop-number.items c.loop-number.number (lexeme c.get-token.result) c.put_label.new.items c.get-token.ensures.token
+          c.loop-number-test.true other c.in_ok-put_label.ensures c.loop-number.invariant.labels;
+      behind = sym (brace_past ts c.loop-number.number c.args.to (lexeme c.get-token.result) c.get-token.ensures.token c.loop-number-test.true other) ∙ c.loop-number.invariant.behind;
+    }

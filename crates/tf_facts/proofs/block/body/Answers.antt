@@ -1,13 +1,19 @@
 use Rattle.std.proofs.Common.{◌∙◌, ap, sym, arith}
 use Rattle.hcl_grammar.specs.Numbered.{numbered}
 use Rattle.tf_facts.specs.Inner.Values.{both}
-use Rattle.tf_facts.proofs.BodyLemmas.{body_end, body_more, body_over}
+use Rattle.tf_facts.proofs.BodyLemmas.{body_end, body_more, body_over, body_silent}
 use Rattle.tf_facts.proofs.block.body.Goals as goal
 
 pub returns-then-not-is_inside : goal.returns-then-not-is_inside
 returns-then-not-is_inside c =
     body_over (numbered c.args.accepted.now.tokens) c.args.items.now c.args.from c.loop-number.body c.loop-number.number c.loop-number.invariant c.get-item.result c.get-item.ensures
     (sym c.is_inside.ensures ∙ c.if-not-is_inside.true)
+
+pub loop-number-preserved-then-not-is_attribute : goal.loop-number-preserved-then-not-is_attribute
+loop-number-preserved-then-not-is_attribute c =
+    let ts = numbered c.args.accepted.now.tokens in
+    body_silent ts c.args.items.now c.args.from c.loop-number.body c.loop-number.number c.loop-number.invariant c.get-item.result c.get-item.ensures
+    (sym c.is_inside.ensures ∙ c.if-not-is_inside.false) (c.is_attribute.ensures c.if-not-is_attribute.true ts)
 
 pub loop-number-preserved : goal.loop-number-preserved
 loop-number-preserved c =

@@ -1,7 +1,0 @@
-use Rattle.std.proofs.Common.{◌≡◌}
-use Rattle.hcl_syntax.specs.Inner.Pieces.{words}
-use Rattle.hcl_grammar.specs.Items.{behind_brace}
-use Rattle.hcl_syntax.proofs.words.behind_brace.Given as goal
-
-abbrev pub invariant-loop-number : goal.invariant-loop-number
-invariant-loop-number l = behind_brace (words l.tokens.tokens l.number l.to) ≡ behind_brace (words l.tokens.tokens l.from l.to)
