@@ -37,15 +37,17 @@ impl<'t, 's> Model for Measured<'t, 's> {
 }
 
 /// Whether the bytes are ASCII without CR, so that each is a grapheme cluster. All of them are looked at, whatever the
-/// first are, so that the loop can be vectorised.
+/// first are, and what is kept of them is what one step on sixteen bytes gives, so that the loop can be vectorised.
 fn is_simple(bytes: &[u8]) -> bool
     ensures { result ≡ is_simple_of bytes.now }
 {
-    let mut simple = true;
+    let mut highest = 0;
+    let mut returns = false;
     for byte in bytes {
-        simple = simple & (*byte < 128) & (*byte != b'\r');
+        highest = highest.max(*byte);
+        returns = returns | (*byte == b'\r');
     }
-    simple
+    highest < 128 && !returns
 }
 
 #[inline(always)]
