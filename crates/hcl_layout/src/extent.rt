@@ -258,8 +258,12 @@ fn is_bound_to_fit(tokens: &Measured<'_, '_>, most: u64) -> bool
 pub fn fits(accepted: &Accepted<'_, '_>, most: u64) -> bool
     ensures { IsTrue result ↔ (length (print accepted.now.tokens) ≤ most) }
 {
+    let unmeasured = Measured::unmeasured(accepted);
+    if is_bound_to_fit(&unmeasured, most) {
+        return true;
+    }
     let tokens = Measured::new(accepted);
-    if is_bound_to_fit(&tokens, most) || is_told_to_fit(&tokens, most) {
+    if is_told_to_fit(&tokens, most) {
         return true;
     }
     printed_len(accepted) <= most

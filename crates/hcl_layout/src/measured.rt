@@ -166,6 +166,21 @@ impl<'t, 's> Measured<'t, 's> {
         Measured { tokens, simple }
     }
 
+    /// The same for who asks for no width, and so for no look at the source.
+    pub fn unmeasured(accepted: &Accepted<'t, 's>) -> Measured<'t, 's>
+        ensures same { result ≡ accepted.now }
+        ensures balanced { IsBalanced accepted.now.tokens }
+    {
+        let tokens = accepted.tokens();
+        // their contracts say that there are no more tokens than bytes, and that the tokens are a scan
+        let _count = tokens.len();
+        let _bytes = tokens.source().text().as_bytes();
+        Measured {
+            tokens,
+            simple: false,
+        }
+    }
+
     /// The bytes of the source. Its size bounds the number of tokens and their texts, and so every sum that is made of
     /// the print.
     pub fn source(&self) -> &'s [u8]
