@@ -60,7 +60,12 @@ fn put_lacking<'f>(
     if !is_lacking {
         return Ok(());
     }
-    put(entries, rule, declaration.at, Said::About(declaration, rest))
+    put(
+        entries,
+        rule,
+        declaration.at,
+        Said::About(declaration, rest),
+    )
 }
 
 /// Puts that a module's source is not pinned, where it isn't.

@@ -271,7 +271,11 @@ fn write_count<O: ByteSink>(out: &mut O, page: &mut Page, count: usize) -> Resul
     ensures flushes { O.flushes out.new ≡ O.flushes out.old }
 {
     let mut digits = Buffer::new();
-    write_pieces(out, page, &[digits.format(count).as_bytes(), b" issue(s) found:\n\n"])
+    write_pieces(
+        out,
+        page,
+        &[digits.format(count).as_bytes(), b" issue(s) found:\n\n"],
+    )
 }
 
 /// Writes the lines of issues.
