@@ -1,7 +1,5 @@
-use Rattle.std.proofs.Common.{◌∙◌, ◌+◌, ◌<◌, ap, sym, map, refl, length, arith}
-use Rattle.hcl_tokens.specs.Kinds.{is}
+use Rattle.std.proofs.Common.{◌∙◌, ◌+◌, ◌<◌, sym, map, refl, length, arith}
 use Rattle.hcl_tokens.specs.Scanned.{lexeme}
-use Rattle.hcl_tokens.specs.declared.token.Kind.TheVariants.{Ident}
 use Rattle.tf_facts.specs.Inner.Seen.{after_dot}
 use Rattle.tf_facts.specs.OwnBlocks.{own_of}
 use Rattle.tf_facts.proofs.CollectLemmas.{begins, collected, no_behind, over_no_idents, skipped}
