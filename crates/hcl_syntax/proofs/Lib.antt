@@ -10,4 +10,5 @@ pub mod LabelLemmas
 pub mod BlockLemmas
 pub mod ItemPieceLemmas
 pub mod OutlineLemmas
+pub mod PlainLemmas
 pub mod ShortLemmas

@@ -18,7 +18,7 @@ pub record Ends (m : Newlines) (k : Class) : Type 0 where
   pub after_ident : after_ident_row m k ≡ nothing
   pub after : after_row m k ≡ nothing
 
-ended : (m : Newlines) (k : Class) → ends_expression m k ≡ true → Ends m k
+pub ended : (m : Newlines) (k : Class) → ends_expression m k ≡ true → Ends m k
 ended Seen Newline h = record { kept = refl; seen = refl; after_ident = refl; after = refl }
 ended Dropped Newline h = absurd (cc)
 ended Seen Comma h = record { kept = refl; seen = refl; after_ident = refl; after = refl }

@@ -1,13 +1,14 @@
 //! A place in a token list, and the single tokens that are waited for there.
 
-ghost use Rattle.std.specs.Prelude.{◌≡◌, ◌+◌, ◌<◌, ◌≤◌, ◌^◌, ℕ, [], ◌∷◌, drop, length, Some, None, Ok, IsSome, OnOk};
+ghost use Rattle.std.specs.Prelude.{◌≡◌, ◌+◌, ◌<◌, ◌≤◌, ◌^◌, ℕ, [], ◌∷◌, ◌++◌, drop, length, Some, None, Ok, IsSome, OnOk, false};
 ghost use Rattle.std.specs.Bool.{OnTrue, OnFalse};
 ghost use Rattle.hcl_grammar.specs.Classes.{lookaheads, lookaheads_from};
 ghost use Rattle.hcl_grammar.specs.Grammar.{fits, ◌at◌, the, expr};
 ghost use Rattle.hcl_syntax.specs.Inner.Cursors.{shown, first, after_first, is_shown};
-ghost use Rattle.hcl_syntax.specs.Inner.Parsing.{Parses, TookTerminal, LacksTerminal, is_short_operand, ends_expression};
+ghost use Rattle.hcl_syntax.specs.Inner.Parsing.{Advances, Parses, awaited_symbols, is_operand, waits, TookTerminal, LacksTerminal, is_short_operand, ends_expression};
 
 use crate::class::lookahead_at;
+use crate::plain::{Paused, begins_plain, ends_expression, is_short_operand, past_plain};
 use hcl_grammar::{Class, Lookahead, Newlines, Refusal, Terminal, Word};
 use hcl_tokens::Tokens;
 use std::marker::Model;
@@ -88,34 +89,6 @@ fn find(tokens: &Tokens, from: usize, newlines: Newlines) -> (usize, Option<Look
     (number, None)
 }
 
-/// Whether a token of the class is an operand by itself, but for what goes on after it.
-#[inline(always)]
-fn is_short_operand(class: Class) -> bool
-    ensures { result ≡ is_short_operand class }
-{
-    matches!(class, Class::Ident(_) | Class::Number(_))
-}
-
-/// Whether a token of the class goes on with no expression, and isn't passed over.
-#[inline(always)]
-fn ends_expression(newlines: Newlines, class: Class) -> bool
-    ensures { result ≡ ends_expression newlines class }
-{
-    match class {
-        Class::Newline => matches!(newlines, Newlines::Seen),
-        Class::Comma
-        | Class::ParenClose
-        | Class::BracketClose
-        | Class::BraceClose
-        | Class::SeqClose
-        | Class::Assign
-        | Class::Arrow
-        | Class::Colon
-        | Class::Ellipsis => true,
-        _ => false,
-    }
-}
-
 impl<'t, 's> Cursor<'t, 's> {
     /// All tokens.
     pub fn new(tokens: &'t Tokens<'s>) -> Cursor<'t, 's>
@@ -183,6 +156,32 @@ impl<'t, 's> Cursor<'t, 's> {
         }
         self.next = next + 1;
         true
+    }
+
+    /// Whether the next token may be the first of an expression's plain tokens, and no comment follows it.
+    #[inline(always)]
+    pub fn is_plain_next(&self) -> bool {
+        let next = self.next;
+        if self.tokens.len() - next < 2 {
+            return false;
+        }
+        if matches!(lookahead_at(self.tokens, next + 1).class, Class::Trivia) {
+            return false;
+        }
+        begins_plain(lookahead_at(self.tokens, next).class)
+    }
+
+    /// Reads the plain tokens at the front of an expression, and says where they end. It is called, since a copy of its loop
+    /// at each place would cost more than the call.
+    #[inline(never)]
+    pub fn plain(&mut self, newlines: Newlines) -> Paused
+        ensures leads { (count : ℕ) → Advances count (expr at newlines ∷ []) self.old (Ok (tt {0})) (awaited_symbols newlines result.awaited ++ waits newlines result.waiting []) self.new }
+        ensures shorter { is_operand result.awaited ≡ false → length self.new < length self.old }
+        ensures room { result.waiting + length self.new ≤ length self.old }
+    {
+        let paused = past_plain(self.tokens, self.next, newlines);
+        self.next = paused.number;
+        paused
     }
 
     /// Reads the next token, which has to be what the terminal waits for. It is inlined, as `look` is.

@@ -1,16 +1,17 @@
 //! Expressions. The functions of the cycle call each other only after an opener or in an open directive, so the depth
 //! of the recursion is bounded; all that can be chained without an opener is a loop with a count.
 
-ghost use Rattle.std.specs.Prelude.{◌≡◌, ◌+◌, ◌<◌, ◌≤◌, ◌^◌, ℕ, List, [], ◌∷◌, length, Some, None, Ok, OnOk, IfOk, IfSome, false};
+ghost use Rattle.std.specs.Prelude.{◌≡◌, ◌+◌, ◌<◌, ◌≤◌, ◌^◌, ℕ, List, [], ◌∷◌, ◌++◌, length, Some, None, Ok, OnOk, IfOk, IfSome, true, false};
 ghost use Rattle.std.specs.Bool.{OnTrue, OnFalse};
 ghost use Rattle.hcl_syntax.specs.Inner.Cursors.{shown, first};
 ghost use Rattle.hcl_grammar.specs.Grammar.{◌at◌, the, expr, after, after_ident, path, index, args, tuple, tuple_item, tuple_if, object, object_item, group, object_if, separator, names, step};
-ghost use Rattle.hcl_syntax.specs.Inner.Parsing.{Advances, Parses, after_follow, is_prefix};
+ghost use Rattle.hcl_syntax.specs.Inner.Parsing.{Advances, Parses, after_follow, awaited_symbols, goes_on, is_operand, is_prefix, waits};
 ghost use Rattle.hcl_grammar.specs.declared.expected.Terminal.TheVariants.{Name, Separator, FatArrow, EndBracket, EndBrace};
 ghost use Rattle.hcl_grammar.specs.declared.expected.Newlines.TheVariants.{Seen, Dropped};
 
 use crate::cursor::Cursor;
-use crate::expected::Follow;
+use crate::expected::{Awaited, Follow};
+use crate::plain::is_ended;
 use hcl_grammar::{Class, Lookahead, Newlines, Refusal, Terminal};
 
 impl<'t, 's> Cursor<'t, 's> {
@@ -51,7 +52,7 @@ impl<'t, 's> Cursor<'t, 's> {
             }
             Class::ParenOpen => {
                 self.bump(token);
-                self.expr(Newlines::Dropped, directives)?;
+                self.inner_expr(Newlines::Dropped, directives)?;
                 self.expect(Newlines::Dropped, Terminal::EndParen)
             }
             Class::BracketOpen => {
@@ -78,6 +79,7 @@ impl<'t, 's> Cursor<'t, 's> {
 
     /// What may follow an identifier.
     #[cycle(parser)]
+    #[inline(always)]
     fn call(&mut self, newlines: Newlines, directives: usize) -> Result<(), Refusal>
         ensures leads { Advances directives (after_ident at newlines ∷ []) self.old result (after at newlines ∷ []) self.new }
         ensures shorter { OnOk result (length self.new ≤ length self.old) }
@@ -122,10 +124,11 @@ impl<'t, 's> Cursor<'t, 's> {
 
     /// What follows an operand, up to where another operand has to stand.
     #[cycle(parser)]
+    #[inline(always)]
     fn follow(&mut self, newlines: Newlines, directives: usize) -> Result<Follow, Refusal>
         ensures leads { Advances directives (after at newlines ∷ []) self.old result (after_follow newlines result) self.new }
         ensures shorter { OnOk result (length self.new ≤ length self.old) }
-        ensures waiting { IfOk result (λ f. f ≡ Follow.Choice → length self.new < length self.old) }
+        ensures onward { IfOk result (λ f. goes_on f ≡ true → length self.new < length self.old) }
     {
         loop {
             let Some(token) = self.look(newlines) else {
@@ -155,6 +158,7 @@ impl<'t, 's> Cursor<'t, 's> {
 
     /// An index after its bracket.
     #[cycle(parser)]
+    #[inline(always)]
     fn index(&mut self, directives: usize) -> Result<(), Refusal>
         ensures parses { Parses directives (index at Dropped ∷ []) self.old result self.new }
         ensures shorter { OnOk result (length self.new < length self.old) }
@@ -162,7 +166,7 @@ impl<'t, 's> Cursor<'t, 's> {
         if self.takes(Newlines::Dropped, Terminal::Asterisk) {
             return self.expect(Newlines::Dropped, Terminal::EndBracket);
         }
-        self.expr(Newlines::Dropped, directives)?;
+        self.inner_expr(Newlines::Dropped, directives)?;
         self.expect(Newlines::Dropped, Terminal::EndBracket)
     }
 
@@ -176,17 +180,120 @@ impl<'t, 's> Cursor<'t, 's> {
         if self.takes_short(newlines) {
             return Ok(());
         }
-        self.whole_expr(newlines, directives)
+        if self.is_plain_next() {
+            return self.plain_expr(newlines, directives);
+        }
+        self.room();
+        self.whole_expr(0, newlines, directives)
     }
 
-    /// The same of any length. Of the `?` that wait for their `:` it keeps the number.
+    /// An expression in brackets or of a `for`, which rarely is more than one plain token. It is inlined, as `expr` is.
     #[cycle(parser)]
-    fn whole_expr(&mut self, newlines: Newlines, directives: usize) -> Result<(), Refusal>
+    #[inline(always)]
+    fn inner_expr(&mut self, newlines: Newlines, directives: usize) -> Result<(), Refusal>
+        ensures parses { Parses directives (expr at newlines ∷ []) self.old result self.new }
+        ensures shorter { OnOk result (length self.new < length self.old) }
+    {
+        if self.takes_short(newlines) {
+            return Ok(());
+        }
+        self.room();
+        self.whole_expr(0, newlines, directives)
+    }
+
+    /// The same where the first token is plain. It is inlined, so that where all are, what reads these alone is called.
+    #[cycle(parser)]
+    #[inline(always)]
+    fn plain_expr(&mut self, newlines: Newlines, directives: usize) -> Result<(), Refusal>
         ensures parses { Parses directives (expr at newlines ∷ []) self.old result self.new }
         ensures shorter { OnOk result (length self.new < length self.old) }
     {
         self.room();
-        let mut waiting: usize = 0;
+        let paused = self.plain(newlines);
+        if is_ended(paused.awaited) && paused.waiting == 0 {
+            return Ok(());
+        }
+        self.resumed_expr(paused.awaited, paused.waiting, newlines, directives)
+    }
+
+    /// The rest of an expression after its first plain tokens, where so many `?` wait for their `:`.
+    #[cycle(parser)]
+    #[inline(never)]
+    fn resumed_expr(
+        &mut self,
+        awaited: Awaited,
+        waiting: usize,
+        newlines: Newlines,
+        directives: usize,
+    ) -> Result<(), Refusal>
+        requires { waiting + length self.old < 2 ^ 64 }
+        ensures parses { Parses directives (awaited_symbols newlines awaited ++ waits newlines waiting []) self.old result self.new }
+        ensures shorter { OnOk result (length self.new ≤ length self.old) }
+        ensures shorter_operand { is_operand awaited ≡ true → OnOk result (length self.new < length self.old) }
+    {
+        match awaited {
+            Awaited::Operand => self.whole_expr(waiting, newlines, directives),
+            Awaited::AfterName => {
+                self.call(newlines, directives)?;
+                self.sequel(waiting, newlines, directives)
+            }
+            Awaited::AfterOperand => self.sequel(waiting, newlines, directives),
+            Awaited::AfterExpression => self.chosen(waiting, newlines, directives),
+        }
+    }
+
+    /// The rest of an expression after an operand.
+    #[cycle(parser)]
+    fn sequel(
+        &mut self,
+        waiting: usize,
+        newlines: Newlines,
+        directives: usize,
+    ) -> Result<(), Refusal>
+        requires { waiting + length self.old < 2 ^ 64 }
+        ensures parses { Parses directives (after at newlines ∷ waits newlines waiting []) self.old result self.new }
+        ensures shorter { OnOk result (length self.new ≤ length self.old) }
+    {
+        match self.follow(newlines, directives)? {
+            Follow::Operator => self.whole_expr(waiting, newlines, directives),
+            Follow::Choice => self.whole_expr(waiting + 1, newlines, directives),
+            Follow::Other => self.chosen(waiting, newlines, directives),
+        }
+    }
+
+    /// What is left where so many `?` wait for their `:`.
+    #[cycle(parser)]
+    fn chosen(
+        &mut self,
+        waiting: usize,
+        newlines: Newlines,
+        directives: usize,
+    ) -> Result<(), Refusal>
+        requires { waiting + length self.old < 2 ^ 64 }
+        ensures parses { Parses directives (waits newlines waiting []) self.old result self.new }
+        ensures shorter { OnOk result (length self.new ≤ length self.old) }
+    {
+        if waiting == 0 {
+            return Ok(());
+        }
+        self.expect(newlines, Terminal::Separator)?;
+        self.whole_expr(waiting - 1, newlines, directives)
+    }
+
+    /// An expression of any length, where so many `?` before it wait for their `:`, and what follows each of these.
+    #[cycle(parser)]
+    #[inline(never)]
+    fn whole_expr(
+        &mut self,
+        waiting: usize,
+        newlines: Newlines,
+        directives: usize,
+    ) -> Result<(), Refusal>
+        requires { waiting + length self.old < 2 ^ 64 }
+        ensures parses { Parses directives (expr at newlines ∷ waits newlines waiting []) self.old result self.new }
+        ensures shorter { OnOk result (length self.new < length self.old) }
+    {
+        let mut waiting = waiting;
         loop {
             self.operand(newlines, directives)?;
             match self.follow(newlines, directives)? {
@@ -276,9 +383,9 @@ impl<'t, 's> Cursor<'t, 's> {
         ensures shorter { OnOk result (length self.new < length self.old) }
     {
         self.names()?;
-        self.expr(Newlines::Dropped, directives)?;
+        self.inner_expr(Newlines::Dropped, directives)?;
         self.expect(Newlines::Dropped, Terminal::Separator)?;
-        self.expr(Newlines::Dropped, directives)
+        self.inner_expr(Newlines::Dropped, directives)
     }
 
     /// The condition of a for-expression in brackets, where it has one, and the closing bracket.
@@ -288,7 +395,7 @@ impl<'t, 's> Cursor<'t, 's> {
         ensures shorter { OnOk result (length self.new < length self.old) }
     {
         if self.takes(Newlines::Dropped, Terminal::IfWord) {
-            self.expr(Newlines::Dropped, directives)?;
+            self.inner_expr(Newlines::Dropped, directives)?;
             return self.expect(Newlines::Dropped, Terminal::EndBracket);
         }
         self.expect(Newlines::Dropped, Terminal::EndBracket)
@@ -349,7 +456,7 @@ impl<'t, 's> Cursor<'t, 's> {
     {
         self.generator(directives)?;
         self.expect(Newlines::Dropped, Terminal::FatArrow)?;
-        self.expr(Newlines::Dropped, directives)?;
+        self.inner_expr(Newlines::Dropped, directives)?;
         self.grouping();
         self.object_condition(directives)
     }
@@ -371,7 +478,7 @@ impl<'t, 's> Cursor<'t, 's> {
         ensures shorter { OnOk result (length self.new < length self.old) }
     {
         if self.takes(Newlines::Dropped, Terminal::IfWord) {
-            self.expr(Newlines::Dropped, directives)?;
+            self.inner_expr(Newlines::Dropped, directives)?;
             return self.expect(Newlines::Dropped, Terminal::EndBrace);
         }
         self.expect(Newlines::Dropped, Terminal::EndBrace)
@@ -400,6 +507,7 @@ impl<'t, 's> Cursor<'t, 's> {
     }
 
     /// What follows a dot.
+    #[inline(always)]
     pub fn step(&mut self, newlines: Newlines) -> Result<(), Refusal>
         ensures parses { (count : ℕ) → Parses count (step at newlines ∷ []) self.old result self.new }
         ensures shorter { OnOk result (length self.new < length self.old) }

@@ -14,6 +14,7 @@ mod nesting;
 mod outlining;
 mod piece_end;
 mod pieces;
+mod plain;
 mod template;
 mod words;
 

@@ -5,37 +5,52 @@ use Rattle.hcl_grammar.specs.declared.expected.Newlines.TheVariants.{Seen, Dropp
 use Rattle.hcl_syntax.proofs.cursor.Cursor.+parser.Given as goal
 
 abbrev pub decreases-args : goal.decreases-args
-decreases-args l = 8 * length l.self.now + 3
+decreases-args l = 10 * length l.self.now + 7
 
 abbrev pub decreases-call : goal.decreases-call
-decreases-call l = 8 * length l.self.now
+decreases-call l = 10 * length l.self.now
 
 abbrev pub decreases-expr : goal.decreases-expr
-decreases-expr l = 8 * length l.self.now + 2
+decreases-expr l = 10 * length l.self.now + 6
 
 abbrev pub decreases-whole_expr : goal.decreases-whole_expr
-decreases-whole_expr l = 8 * length l.self.now + 1
+decreases-whole_expr l = 10 * length l.self.now + 1
+
+abbrev pub decreases-chosen : goal.decreases-chosen
+decreases-chosen l = 10 * length l.self.now + 2
+
+abbrev pub decreases-sequel : goal.decreases-sequel
+decreases-sequel l = 10 * length l.self.now + 3
+
+abbrev pub decreases-resumed_expr : goal.decreases-resumed_expr
+decreases-resumed_expr l = 10 * length l.self.now + 4
+
+abbrev pub decreases-inner_expr : goal.decreases-inner_expr
+decreases-inner_expr l = 10 * length l.self.now + 6
+
+abbrev pub decreases-plain_expr : goal.decreases-plain_expr
+decreases-plain_expr l = 10 * length l.self.now + 5
 
 abbrev pub decreases-index : goal.decreases-index
-decreases-index l = 8 * length l.self.now + 3
+decreases-index l = 10 * length l.self.now + 7
 
 abbrev pub decreases-operand : goal.decreases-operand
-decreases-operand l = 8 * length l.self.now
+decreases-operand l = 10 * length l.self.now
 
 abbrev pub decreases-parts : goal.decreases-parts
-decreases-parts l = 8 * length l.self.now
+decreases-parts l = 10 * length l.self.now
 
 abbrev pub decreases-follow : goal.decreases-follow
-decreases-follow l = 8 * length l.self.now
+decreases-follow l = 10 * length l.self.now
 
 abbrev pub decreases-directive : goal.decreases-directive
-decreases-directive l = 8 * length l.self.now
+decreases-directive l = 10 * length l.self.now
 
 abbrev pub decreases-sequence : goal.decreases-sequence
-decreases-sequence l = 8 * length l.self.now + 3
+decreases-sequence l = 10 * length l.self.now + 7
 
 abbrev pub decreases-section : goal.decreases-section
-decreases-section l = 8 * length l.self.now
+decreases-section l = 10 * length l.self.now
 
 abbrev pub invariant-section-loop-token : goal.invariant-section-loop-token
 invariant-section-loop-token l = record {
@@ -47,7 +62,7 @@ abbrev pub decreases-section-loop-token : goal.decreases-section-loop-token
 decreases-section-loop-token l = length l.self
 
 abbrev pub decreases-tuple_items : goal.decreases-tuple_items
-decreases-tuple_items l = 8 * length l.self.now + 3
+decreases-tuple_items l = 10 * length l.self.now + 7
 
 abbrev pub invariant-args-loop-directives : goal.invariant-args-loop-directives
 invariant-args-loop-directives l = record {
@@ -60,9 +75,9 @@ decreases-args-loop-directives l = length l.self
 
 abbrev pub invariant-whole_expr-loop-self : goal.invariant-whole_expr-loop-self
 invariant-whole_expr-loop-self l = record {
-  leads : Advances l.directives (expr at l.newlines ∷ []) l.fn.self (Ok (tt {0})) (expr at l.newlines ∷ waits l.newlines l.waiting []) l.self;
-  shorter : l.waiting + length l.self ≤ length l.fn.self;
-  room : length l.fn.self < 2 ^ 64;
+  leads : Advances l.directives (expr at l.newlines ∷ waits l.newlines l.fn.waiting []) l.fn.self (Ok (tt {0})) (expr at l.newlines ∷ waits l.newlines l.waiting []) l.self;
+  shorter : length l.self ≤ length l.fn.self;
+  room : l.waiting + length l.self < 2 ^ 64;
 }
 
 abbrev pub decreases-whole_expr-loop-self : goal.decreases-whole_expr-loop-self
@@ -96,19 +111,19 @@ abbrev pub decreases-tuple_items-loop-directives : goal.decreases-tuple_items-lo
 decreases-tuple_items-loop-directives l = length l.self
 
 abbrev pub decreases-tuple : goal.decreases-tuple
-decreases-tuple l = 8 * length l.self.now + 4
+decreases-tuple l = 10 * length l.self.now + 8
 
 abbrev pub decreases-tuple_condition : goal.decreases-tuple_condition
-decreases-tuple_condition l = 8 * length l.self.now
+decreases-tuple_condition l = 10 * length l.self.now
 
 abbrev pub decreases-generator : goal.decreases-generator
-decreases-generator l = 8 * length l.self.now
+decreases-generator l = 10 * length l.self.now
 
 abbrev pub decreases-object : goal.decreases-object
-decreases-object l = 8 * length l.self.now + 5
+decreases-object l = 10 * length l.self.now + 9
 
 abbrev pub decreases-entries : goal.decreases-entries
-decreases-entries l = 8 * length l.self.now + 4
+decreases-entries l = 10 * length l.self.now + 8
 
 abbrev pub invariant-entries-loop-directives : goal.invariant-entries-loop-directives
 invariant-entries-loop-directives l = record {
@@ -120,10 +135,10 @@ abbrev pub decreases-entries-loop-directives : goal.decreases-entries-loop-direc
 decreases-entries-loop-directives l = length l.self
 
 abbrev pub decreases-entry : goal.decreases-entry
-decreases-entry l = 8 * length l.self.now + 3
+decreases-entry l = 10 * length l.self.now + 7
 
 abbrev pub decreases-object_for : goal.decreases-object_for
-decreases-object_for l = 8 * length l.self.now + 1
+decreases-object_for l = 10 * length l.self.now + 1
 
 abbrev pub decreases-object_condition : goal.decreases-object_condition
-decreases-object_condition l = 8 * length l.self.now
+decreases-object_condition l = 10 * length l.self.now
