@@ -1,5 +1,5 @@
 -- What the plain tokens of an expression lead to, from number to number.
-use Rattle.std.proofs.Common.{◌≡◌, ◌≢◌, ◌∙◌, ap, sym, refl, subst, ℕ, ◌+◌, ◌-◌, ◌==◌, ◌≤◌, ◌<◌, Bool, true, false, cond, List, [], ◌∷◌, ◌++◌, drop, length, Some, Result, Ok, Err, OnOk, arith}
+use Rattle.std.proofs.Common.{◌≡◌, ◌≢◌, ◌∙◌, ap, sym, refl, subst, ℕ, ◌+◌, ◌-◌, ◌==◌, ◌<◌, Bool, true, false, cond, List, [], ◌∷◌, ◌++◌, drop, length, Some, arith}
 use Rattle.hcl_tokens.specs.Lexemes.{Lexeme}
 use Rattle.hcl_grammar.specs.declared.class.Lookahead.{Lookahead}
 use Rattle.hcl_grammar.specs.declared.class.Class.{Class}
@@ -8,14 +8,13 @@ use Rattle.hcl_grammar.specs.declared.class.Class.TheVariants.{Ident, Number, Qu
 use Rattle.hcl_grammar.specs.declared.expected.Newlines.{Newlines}
 use Rattle.hcl_grammar.specs.declared.expected.Newlines.TheVariants.{Seen, Dropped}
 use Rattle.hcl_grammar.specs.declared.expected.Terminal.TheVariants.{EndQuote, EndBracket, Separator, Asterisk}
-use Rattle.hcl_grammar.specs.declared.refusal.Refusal.{Refusal}
 use Rattle.hcl_grammar.specs.Classes.{is_trivia, drops, lookaheads_from}
 use Rattle.hcl_grammar.specs.Grammar.{Symbol, Marked, ◌at◌, nothing, reads, row, the, expr, expr_row, parts, parts_row, terminal_row, index, fits, step, step_row, after, after_row, after_ident, after_ident_row}
 use Rattle.hcl_syntax.specs.Inner.Cursors.{shown, first, Looks}
 use Rattle.hcl_syntax.specs.declared.expected.Awaited.{Awaited}
 use Rattle.hcl_syntax.specs.declared.expected.Awaited.TheVariants.{Operand, AfterName, AfterOperand, AfterExpression}
 use Rattle.hcl_syntax.specs.declared.expected.Sequel.TheVariants as next
-use Rattle.hcl_syntax.specs.Inner.Parsing.{Advances, Parses, LeadsOn, awaited_symbols, is_operand, begins_plain, is_after, is_ended, ends_expression, sequel, waits}
+use Rattle.hcl_syntax.specs.Inner.Parsing.{LeadsOn, awaited_symbols, is_operand, begins_plain, is_after, is_ended, ends_expression, sequel, waits}
 use Rattle.hcl_syntax.proofs.CursorStepLemmas.{begins, expr-stays, index-else, waits-down, reading, vanishing, done, onward, beside}
 use Rattle.hcl_syntax.proofs.ShortLemmas.{seen_there, ended}
 
@@ -61,9 +60,6 @@ then_on h k = record { leads = λ count. onward (h.leads count) (k.leads count);
 
 pub and_on : {tokens : List Lexeme} {a b : ℕ} {xs ys : List Marked} (zs : List Marked) → LeadsOn tokens a b xs ys → LeadsOn tokens a b (xs ++ zs) (ys ++ zs)
 and_on zs h = record { leads = λ count. beside zs (h.leads count); shorter = h.shorter }
-
-pub nowhere : {tokens : List Lexeme} {a : ℕ} {xs : List Marked} → LeadsOn tokens a a xs xs
-nowhere = record { leads = λ count. done; shorter = omega arith }
 
 pub to_there : {tokens : List Lexeme} {a b c : ℕ} {xs ys : List Marked} → b ≡ c → LeadsOn tokens a b xs ys → LeadsOn tokens a c xs ys
 to_there {tokens = tokens} {a = a} {xs = xs} {ys = ys} e h = subst (λ n. LeadsOn tokens a n xs ys) e h
@@ -139,18 +135,6 @@ module _ (tokens : List Lexeme) (n : ℕ) (t : Lookahead) (is : IsAt tokens n t)
 
   pub past_open : t.class ≡ QuoteOpen → LeadsOn tokens n (n + 1) (expr at m ∷ []) (parts at m ∷ the EndQuote at m ∷ after at m ∷ [])
   past_open e = read tokens n t is m expr (parts at m ∷ the EndQuote at m ∷ after at m ∷ []) (seen_as m _ _ e refl refl) (ap (expr_row m) e)
-
--- ---- the plain tokens of an expression, and its rest
-
-pub shorter_with_the_rest : (a : Awaited) (old mid new : List Lookahead) (r : Result (Unit {0}) Refusal) →
-    length mid ≤ length old → (is_operand a ≡ false → length mid < length old) → OnOk r (length new ≤ length mid) → (is_operand a ≡ true → OnOk r (length new < length mid)) →
-    OnOk r (length new < length old)
-shorter_with_the_rest a old mid new (Err f) le lt rest strict = tt
-shorter_with_the_rest a old mid new (Ok u) le lt rest strict = by (is_operand a) refl
-  where
-    by : (v : Bool) → is_operand a ≡ v → length new < length old
-    by true h = omega (arith, le, strict h)
-    by false h = omega (arith, rest, lt h)
 
 pub on_to_operand : {tokens : List Lexeme} {n k : ℕ} {xs : List Marked} (m : Newlines) (a : Awaited) → is_operand a ≡ true → LeadsOn tokens n k xs (awaited_symbols m a) → LeadsOn tokens n k xs (expr at m ∷ [])
 on_to_operand m Operand e h = h

@@ -6,10 +6,10 @@ use Rattle.hcl_grammar.specs.declared.class.Class.TheVariants.{Ident, Number, Ne
 use Rattle.hcl_grammar.specs.declared.expected.Newlines.{Newlines}
 use Rattle.hcl_grammar.specs.declared.expected.Newlines.TheVariants.{Seen, Dropped}
 use Rattle.hcl_grammar.specs.Classes.{is_trivia, drops}
-use Rattle.hcl_grammar.specs.Grammar.{◌at◌, nothing, reads, row, expr, expr_row, after, after_row, after_ident, after_ident_row}
-use Rattle.hcl_syntax.specs.Inner.Cursors.{shown, first, Looks}
-use Rattle.hcl_syntax.specs.Inner.Parsing.{Advances, Parses, is_short_operand, ends_expression}
-use Rattle.hcl_syntax.proofs.CursorStepLemmas.{looks, reading, vanishing}
+use Rattle.hcl_grammar.specs.Grammar.{◌at◌, nothing, expr, expr_row, after, after_row, after_ident, after_ident_row}
+use Rattle.hcl_syntax.specs.Inner.Cursors.{shown, Looks}
+use Rattle.hcl_syntax.specs.Inner.Parsing.{Parses, is_short_operand, ends_expression}
+use Rattle.hcl_syntax.proofs.CursorStepLemmas.{reading, vanishing}
 
 -- what the rows say of a token that ends an expression
 pub record Ends (m : Newlines) (k : Class) : Type 0 where

@@ -1,4 +1,4 @@
-use Rattle.std.proofs.Common.{arith, sym, ap, ◌≡◌, ◌∙◌, ◌+◌, [], ◌∷◌}
+use Rattle.std.proofs.Common.{arith, sym, ap, ◌∙◌, [], ◌∷◌}
 use Rattle.hcl_grammar.specs.Grammar.{◌at◌, expr}
 use Rattle.hcl_syntax.specs.Inner.Parsing.{waits}
 use Rattle.hcl_syntax.proofs.CursorStepLemmas.{waits-up}

@@ -1,4 +1,4 @@
-use Rattle.std.proofs.Common.{rules, arith, refl, ap}
+use Rattle.std.proofs.Common.{rules, arith, ap}
 use Rattle.hcl_grammar.specs.Classes.{is_trivia}
 use Rattle.hcl_grammar.specs.declared.expected.Newlines.TheVariants.{Seen}
 use Rattle.hcl_syntax.proofs.PlainLemmas.{then_on, fewer, seen_of, past_sign, past_name, past_number, past_open}

@@ -1,10 +1,10 @@
-use Rattle.std.proofs.Common.{rules, arith, subst, refl, sym, [], ◌∷◌, ap, ◌∙◌, ◌≡◌, ◌-◌, ◌+◌}
+use Rattle.std.proofs.Common.{rules, arith, subst, refl, sym, [], ◌∷◌, ap, ◌∙◌, ◌≡◌, ◌-◌}
 use Rattle.hcl_grammar.specs.declared.expected.Section.TheVariants.{InIf, InElse, InFor}
 use Rattle.hcl_grammar.specs.declared.expected.Newlines.TheVariants.{Seen, Dropped}
 use Rattle.hcl_grammar.specs.declared.expected.Terminal.TheVariants.{Name, EndParen, EndBracket, EndBrace, EndSequence, EndQuote, EndHeredoc, Separator, FatArrow}
 use Rattle.hcl_grammar.specs.Grammar.{◌at◌, row, the, expr, after, after_ident, arg_next, tuple, tuple_item, tuple_next, tuple_if, object, object_item, object_next, object_if, group, separator, parts, names, inside, section_directive, directive}
-use Rattle.hcl_syntax.specs.Inner.Parsing.{turning, waits, follow_symbols, goes_on}
-use Rattle.hcl_syntax.proofs.CursorStepLemmas.{expr-stays, directive-stays, same-token, opening-row, too-deep, closing, turning-onward, turning-closing, turning-inner, end-onward, end-fails, end-quits, looks, reading, vanishing, vanishing-end, refusing, refusing-end, onward, beside, quits, done, begins, alike, args-end, args-else, tuple-end, tuple-else, index-star, index-else, no-token, waits-down, waits-up, renamed, tuple-for, tuple-listed, tuple-if, tuple-plain, object-if, object-plain, object-for, object-listed, object-passes, item-passes, item-end, item-else, past-reading, past-alike, past-begins}
+use Rattle.hcl_syntax.specs.Inner.Parsing.{turning, waits, follow_symbols}
+use Rattle.hcl_syntax.proofs.CursorStepLemmas.{expr-stays, directive-stays, same-token, opening-row, too-deep, closing, turning-onward, turning-closing, turning-inner, end-onward, end-fails, end-quits, looks, reading, vanishing, vanishing-end, refusing, refusing-end, onward, beside, quits, done, begins, alike, args-end, args-else, tuple-end, tuple-else, index-star, index-else, no-token, waits-down, renamed, tuple-for, tuple-listed, tuple-if, tuple-plain, object-if, object-plain, object-for, object-listed, object-passes, item-passes, item-end, item-else, past-reading, past-alike, past-begins}
 use Rattle.hcl_syntax.proofs.PlainLemmas.{nothing_left}
 use Rattle.hcl_syntax.proofs.cursor.Cursor.+parser.Goals as goal
 
