@@ -9,7 +9,7 @@ use Rattle.hcl_layout.specs.Gaps.{align, width}
 use Rattle.hcl_layout.specs.Lines.{Line, lines}
 use Rattle.hcl_layout.specs.Print.{print, printed_text}
 use Rattle.hcl_layout.specs.Inner.Depths.{BalancedFrom, depth_after, fresh, levels_behind}
-use Rattle.hcl_layout.specs.Inner.InPlace.{EndsWell, Enters, GoOn, InPlace, IsColumn, gaps_on, left_at, since}
+use Rattle.hcl_layout.specs.Inner.InPlace.{EndsWell, Enters, GoOn, InPlace, IsColumn, Runs, gaps_on, left_at, since}
 use Rattle.hcl_layout.specs.Inner.Left.{bytes_of, token_before}
 use Rattle.hcl_layout.specs.Inner.LineGaps.{ArePlain, cell_gap, gap_of, gaps_from, gaps_in}
 use Rattle.hcl_layout.specs.Inner.Stream.{assign_column, assign_width, assign_widths, assigned_line, comment_column, comment_width, comment_widths, commented, next_of, plain}
@@ -17,7 +17,6 @@ use Rattle.hcl_layout.specs.Inner.Survey.{IsLine}
 use Rattle.hcl_layout.specs.declared.gap.Cell.{Cell}
 use Rattle.hcl_layout.specs.declared.gap.LineGaps.{LineGaps}
 use Rattle.hcl_layout.specs.declared.in_place.LaidLine.{LaidLine}
-use Rattle.hcl_layout.specs.declared.in_place.Runs.{Runs}
 use Rattle.hcl_layout.specs.declared.line.LineFacts.{LineFacts}
 use Rattle.hcl_layout.specs.declared.piece.Piece.{Piece}
 use Rattle.hcl_layout.specs.declared.runs.Walk.{Walk}

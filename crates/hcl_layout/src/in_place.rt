@@ -18,7 +18,7 @@ ghost use Rattle.hcl_tokens.specs.Balanced.{IsBalanced, max_open};
 ghost use Rattle.hcl_layout.specs.Cells.{assign_cell, running_comment, trailing_comment};
 ghost use Rattle.hcl_layout.specs.Gaps.{plain_gaps, width as width_of};
 ghost use Rattle.hcl_layout.specs.Print.{print};
-ghost use Rattle.hcl_layout.specs.Inner.InPlace.{CellInSource, Continues, EndsWell, IsSetApart, LineInSource, PassesRun, PieceInSource, PlainInSource, SignInSource, cell_or_end, comment_or_end, of_run};
+ghost use Rattle.hcl_layout.specs.Inner.InPlace.{CellInSource, Continues, EndsWell, IsSetApart, LineInSource, PassesRun, PieceInSource, PlainInSource, SignInSource, cell_or_end, comment_or_end, of_run, runs_of, walk_of};
 ghost use Rattle.hcl_layout.specs.Inner.Left.{bytes_of};
 ghost use Rattle.hcl_layout.specs.Inner.LineGaps.{ArePlain, IsSigned, gaps_in};
 ghost use Rattle.hcl_layout.specs.Inner.Simple.{IsFrom};
@@ -28,18 +28,10 @@ ghost use Rattle.hcl_layout.specs.Inner.Walks.{HasCome};
 use crate::gap::{
     Cell, LineGaps, gap_behind, indent, next_cell, plain_line, plain_width, width, with_comment,
 };
-use crate::levels::next_level;
+use crate::levels::{DEPTHS, next_level};
 use crate::line::{LineFacts, line_at};
 use crate::measured::Measured;
 use crate::piece::{Piece, goes_on, goes_on_close, piece_of};
-use crate::runs::{Walk, start_walk};
-
-/// The runs at hand: the greatest widths passed before the signs and before the comments.
-#[derive(Clone, Copy)]
-pub struct Runs {
-    pub assign: u64,
-    pub comment: u64,
-}
 
 /// A line: the numbers of its first token and of that after it, and its gaps.
 #[derive(Clone, Copy)]
@@ -51,9 +43,18 @@ pub struct LaidLine {
 
 /// A run of cells at hand: its column, if the line before has such a cell, and the greatest width passed before one.
 #[derive(Clone, Copy)]
-struct Run {
-    column: Option<u64>,
-    greatest: u64,
+pub struct Run {
+    pub column: Option<u64>,
+    pub greatest: u64,
+}
+
+/// What is known of the lines that were passed, but for the levels by depth: these are apart, so that the rest stays in
+/// registers.
+#[derive(Clone, Copy)]
+pub struct State {
+    pub depth: u32,
+    pub signs: Run,
+    pub comments: Run,
 }
 
 /// A line whose pieces stand in place as far as they were passed: its gaps, where these pieces end, and the run of the last
@@ -524,26 +525,25 @@ fn comment_in_place(
 /// than its greatest width.
 #[inline(always)]
 fn pass_line(
-    walk: &mut Walk,
-    runs: &mut Runs,
+    state: &mut State,
+    levels: &mut [u32; DEPTHS],
     tokens: &Measured<'_, '_>,
     source: &[u8],
     first: usize,
     offset: usize,
 ) -> Option<(usize, usize)>
     requires some { first < length tokens.now.tokens }
-    requires come { HasCome tokens.now.tokens first walk.old }
+    requires come { HasCome tokens.now.tokens first (walk_of state.old levels.old) }
     requires source { source.now ≡ tokens.now.text }
     requires within { offset ≤ length source.now }
     ensures on { IfSome result (λ p. first < p.0) }
     ensures tokens { IfSome result (λ p. p.0 ≤ length tokens.now.tokens) }
-    ensures come { IfSome result (λ p. HasCome tokens.now.tokens p.0 walk.new) }
+    ensures come { IfSome result (λ p. HasCome tokens.now.tokens p.0 (walk_of state.new levels.new)) }
     ensures within { IfSome result (λ p. p.1 ≤ length source.now) }
-    ensures step { IfSome result (λ p. Continues tokens.now.tokens tokens.now.text walk.old runs.old first offset walk.new runs.new p.0 p.1) }
+    ensures step { IfSome result (λ p. Continues tokens.now.tokens tokens.now.text (walk_of state.old levels.old) (runs_of state.old) first offset (walk_of state.new levels.new) (runs_of state.new) p.0 p.1) }
 {
-    let line = line_at(tokens, first, walk.depth);
-    let level = next_level(&mut walk.levels, walk.depth, line.depth);
-    walk.depth = line.depth;
+    let line = line_at(tokens, first, state.depth);
+    let level = next_level(levels, state.depth, line.depth);
     let front = Front {
         first,
         offset,
@@ -553,50 +553,29 @@ fn pass_line(
     let Some(reached) = front_end(tokens, source, front, stop) else {
         return None;
     };
-    let signs = Run {
-        column: walk.signs,
-        greatest: runs.assign,
-    };
-    let Some(signed) = sign_in_place(signs, tokens, source, front, line, reached) else {
+    let Some(signed) = sign_in_place(state.signs, tokens, source, front, line, reached) else {
         return None;
     };
-    walk.signs = signed.run.column;
-    runs.assign = signed.run.greatest;
-    let comments = Run {
-        column: walk.comments,
-        greatest: runs.comment,
-    };
-    let Some(passed) = comment_in_place(
-        comments,
-        tokens,
-        source,
-        front,
-        line,
-        signed.gaps,
-        signed.end,
-    ) else {
+    let (gaps, end) = (signed.gaps, signed.end);
+    let Some(passed) = comment_in_place(state.comments, tokens, source, front, line, gaps, end)
+    else {
         return None;
     };
-    walk.comments = passed.run.column;
-    runs.comment = passed.run.greatest;
+    *state = State {
+        depth: line.depth,
+        signs: signed.run,
+        comments: passed.run,
+    };
     Some((first + line.len, passed.end))
 }
 
 /// Whether both runs that end with the text have columns as great as their greatest widths.
 #[inline(always)]
-fn end_well(walk: &Walk, runs: Runs) -> bool
-    ensures assign { IsTrue result → EndsWell {A = ℕ} walk.now.signs runs.assign None }
-    ensures comment { IsTrue result → EndsWell {A = ℕ} walk.now.comments runs.comment None }
+fn end_well(state: State) -> bool
+    ensures assign { IsTrue result → EndsWell {A = ℕ} state.signs.column state.signs.greatest None }
+    ensures comment { IsTrue result → EndsWell {A = ℕ} state.comments.column state.comments.greatest None }
 {
-    let signs = Run {
-        column: walk.signs,
-        greatest: runs.assign,
-    };
-    let comments = Run {
-        column: walk.comments,
-        greatest: runs.comment,
-    };
-    ends_well(signs) && ends_well(comments)
+    ends_well(state.signs) && ends_well(state.comments)
 }
 
 /// Whether the source was found to be its print, with the columns of its runs taken from the source. Where it wasn't, it
@@ -608,20 +587,25 @@ pub fn stands_in_place(tokens: &Measured<'_, '_>) -> bool
 {
     let source = tokens.source();
     let count = tokens.len();
-    let mut walk = start_walk();
-    let mut runs = Runs {
-        assign: 0,
-        comment: 0,
+    let mut levels = [0; DEPTHS];
+    let none = Run {
+        column: None,
+        greatest: 0,
+    };
+    let mut state = State {
+        depth: 0,
+        signs: none,
+        comments: none,
     };
     let mut next = 0;
     let mut offset = 0;
     while next < count {
-        let Some((after, end)) = pass_line(&mut walk, &mut runs, tokens, source, next, offset)
+        let Some((after, end)) = pass_line(&mut state, &mut levels, tokens, source, next, offset)
         else {
             return false;
         };
         next = after;
         offset = end;
     }
-    offset == source.len() && end_well(&walk, runs)
+    offset == source.len() && end_well(state)
 }

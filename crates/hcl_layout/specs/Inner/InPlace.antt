@@ -15,7 +15,7 @@ use Rattle.hcl_layout.specs.Inner.Survey.{text_at}
 use Rattle.hcl_layout.specs.declared.gap.Cell.{Cell}
 use Rattle.hcl_layout.specs.declared.gap.LineGaps.{LineGaps}
 use Rattle.hcl_layout.specs.declared.in_place.LaidLine.{LaidLine}
-use Rattle.hcl_layout.specs.declared.in_place.Runs.{Runs}
+use Rattle.hcl_layout.specs.declared.in_place.State.{State}
 use Rattle.hcl_layout.specs.declared.line.LineFacts.{LineFacts}
 use Rattle.hcl_layout.specs.declared.runs.Walk.{Walk}
 
@@ -39,6 +39,18 @@ abbrev pub EndsWell : {A : Type 0} → Option ℕ → ℕ → Option A → Type 
 EndsWell column greatest cell = cell ≡ None → IfSome column (λ c. c ≡ greatest)
 
 -- ---- between two lines
+
+-- the greatest widths passed of the runs at hand
+pub record Runs : Type 0 where
+  pub assign : ℕ
+  pub comment : ℕ
+
+abbrev pub runs_of : State → Runs
+runs_of s = record { assign = s.signs.greatest; comment = s.comments.greatest }
+
+-- the walk that has come as far
+abbrev pub walk_of : State → List ℕ → Walk
+walk_of s levels = record { depth = s.depth; levels = levels; signs = s.signs.column; comments = s.comments.column }
 
 -- the gaps of the lines from a place on
 abbrev pub gaps_on : List Lexeme → ℕ → Walk → List ℕ

@@ -4,12 +4,11 @@ use Rattle.hcl_layout.specs.Cells.{assign_cell, running_comment, trailing_commen
 use Rattle.hcl_layout.specs.Gaps.{align, plain_gaps, width}
 use Rattle.hcl_layout.specs.Lines.{Line, lines}
 use Rattle.hcl_layout.specs.Inner.Depths.{depth_after, level_at, levels_behind}
-use Rattle.hcl_layout.specs.Inner.InPlace.{IsCell, LineInSource, PassesRun, PlainInSource, entered_column, gaps_on, left_at, line_with, of_run, since, uncommented}
+use Rattle.hcl_layout.specs.Inner.InPlace.{IsCell, LineInSource, PassesRun, PlainInSource, Runs, entered_column, gaps_on, left_at, line_with, of_run, runs_of, since, uncommented, walk_of}
 use Rattle.hcl_layout.specs.Inner.LineGaps.{gaps_in}
 use Rattle.hcl_layout.specs.Inner.Stream.{assign_column, assign_widths, assigned_line, comment_column, comment_width, comment_widths, plain}
 use Rattle.hcl_layout.specs.Inner.Survey.{text_at}
 use Rattle.hcl_layout.specs.declared.gap.Cell.{Cell}
-use Rattle.hcl_layout.specs.declared.in_place.Runs.{Runs}
 use Rattle.hcl_layout.specs.declared.runs.Walk.{Walk}
 use Rattle.hcl_layout.proofs.FoundCellLemmas.{column_after, comment_gaps, comment_wide, run_cell, run_ends, run_enters, sign_gaps, sign_wide}
 use Rattle.hcl_layout.proofs.InPlaceLemmas.{entered_before, line_over}
@@ -56,8 +55,8 @@ pub returns-clause-step : goal.returns-clause-step
 returns-clause-step c h =
     let ts = c.args.tokens.now.tokens in
     let source = c.args.tokens.now.text in
-    let w = c.args.walk.now in
-    let runs = c.args.runs.now in
+    let w = walk_of c.args.state.now c.args.levels.now in
+    let runs = runs_of c.args.state.now in
     let first = c.args.first in
     let line = c.line_at-line.result in
     let is = c.line_at-line.ensures in

@@ -1,15 +1,15 @@
 use Rattle.std.proofs.Common.{◌≡◌, ◌≤◌, ◌-◌, length}
-use Rattle.hcl_layout.specs.Inner.InPlace.{InPlace}
+use Rattle.hcl_layout.specs.Inner.InPlace.{InPlace, runs_of, walk_of}
 use Rattle.hcl_layout.specs.Inner.Walks.{HasCome}
 use Rattle.hcl_layout.specs.Print.{print}
 use Rattle.hcl_layout.proofs.in_place.stands_in_place.Given as goal
 
 abbrev pub invariant-loop-next : goal.invariant-loop-next
 invariant-loop-next l = record {
-  come : HasCome l.tokens.tokens l.next l.walk;
+  come : HasCome l.tokens.tokens l.next (walk_of l.state l.levels);
   within : l.next ≤ length l.tokens.tokens;
   inside : l.offset ≤ length l.source;
-  step : InPlace l.tokens.tokens l.tokens.text l.walk l.runs l.next l.offset → print l.tokens.tokens ≡ l.tokens.text;
+  step : InPlace l.tokens.tokens l.tokens.text (walk_of l.state l.levels) (runs_of l.state) l.next l.offset → print l.tokens.tokens ≡ l.tokens.text;
 }
 
 abbrev pub decreases-loop-next : goal.decreases-loop-next
