@@ -2,7 +2,7 @@
 -- one that is ASCII without CR.
 use Rattle.std.proofs.Common.{IsUtf8, cond, get_or, not, one-add, subst, length-append, length-take-le, ◌≡◌, ◌∙◌, ◌+◌, ◌-◌, ◌*◌, ◌≤◌, ◌<◌, ◌==◌, ◌&&◌, ap, ap₂, sym, refl, true≢false, ℕ, suc, zero, Bool, true, false, List, [], ◌∷◌, length, arith, drop, take, add-one, inl, inr}
 use Rattle.std.specs.Prelude.{encode_utf8_all, ◌++◌, ◌||◌, map, nat_le, nat_lt, unwrap_or}
-use Rattle.hcl_layout.specs.Inner.Simple.{IsFrom, are_alone, first_alone, further_alone, is_alone, is_simple, is_simple_byte, within_any}
+use Rattle.hcl_layout.specs.Inner.Simple.{IsFrom, IsSimpleIn, are_alone, first_alone, further_alone, is_alone, is_simple, is_simple_byte, within_any}
 use Rattle.hcl_source.proofs.SimpleLemmas.{Breaks, clusters_apart, clusters_simple, simple_parts}
 use Rattle.std.proofs.lemmas.List.{length-map, take-append-drop}
 use Rattle.std.proofs.lemmas.List.Folds.{list_all-append}
@@ -264,3 +264,14 @@ simple_take (suc n) (b ∷ text) e =
 
 pub clusters_part : (source : List ℕ) (start : ℕ) (text : List ℕ) → IsFrom source start text → is_simple source ≡ true → length (graphemes true text) ≡ length text
 clusters_part source start text p e = clusters_simple text (ap is_simple p.0 ∙ simple_take (length text) (drop start source) (simple_drop start source e))
+
+simple_within : (n from : ℕ) (source : List ℕ) → IsSimpleIn source from (from + n) → is_simple (take n (drop from source)) ≡ true
+simple_within zero from source p = refl
+simple_within (suc n) zero [] p = refl
+simple_within (suc n) (suc from) [] p = refl
+simple_within (suc n) zero (b ∷ source) p =
+    and_from (is_simple_byte b) _ (p 0 (omega arith) (omega arith)) (simple_within n 0 source (λ k low high. p (suc k) (omega arith) (omega (arith, high))))
+simple_within (suc n) (suc from) (b ∷ source) p = simple_within (suc n) from source (λ k low high. p (suc k) (omega (arith, low)) (omega (arith, high)))
+
+pub clusters_within : (source : List ℕ) (start : ℕ) (text : List ℕ) → IsFrom source start text → IsSimpleIn source start (start + length text) → length (graphemes true text) ≡ length text
+clusters_within source start text p simple = clusters_simple text (ap is_simple p.0 ∙ simple_within (length text) start source simple)

@@ -7,14 +7,14 @@ use Rattle.hcl_layout.specs.Lines.{Line}
 use Rattle.hcl_layout.specs.Inner.InPlace.{CellInSource, HasGap, InSource, PieceInSource, PlainInSource, SignInSource, comment_or_end, line_with, width_up_to}
 use Rattle.hcl_layout.specs.Inner.Left.{bytes_of, gap_before, plain_gap_before, token_before}
 use Rattle.hcl_layout.specs.Inner.LineGaps.{ArePlain, gap_of, gaps_from, gaps_in, given_or, plain_of}
-use Rattle.hcl_layout.specs.Inner.Simple.{IsFrom, is_simple}
+use Rattle.hcl_layout.specs.Inner.Simple.{IsFrom, IsSimpleIn}
 use Rattle.hcl_layout.specs.Inner.Survey.{text_at}
 use Rattle.hcl_layout.specs.declared.gap.Cell.{Cell}
 use Rattle.hcl_layout.specs.declared.gap.LineGaps.{LineGaps}
 use Rattle.hcl_layout.specs.declared.in_place.LaidLine.{LaidLine}
 use Rattle.hcl_layout.specs.declared.line.LineFacts.{LineFacts}
 use Rattle.hcl_layout.specs.declared.piece.Piece.{Piece}
-use Rattle.hcl_layout.proofs.ClusterLemmas.{clusters_part}
+use Rattle.hcl_layout.proofs.ClusterLemmas.{clusters_within}
 use Rattle.hcl_layout.proofs.InPlaceLemmas.{goes}
 use Rattle.hcl_layout.proofs.LeftLemmas.{none_behind, printed_behind}
 use Rattle.hcl_layout.proofs.RunLemmas.{plain_in}
@@ -66,32 +66,37 @@ width_all ts g first len place =
 -- ---- one piece
 
 pub one_piece : (ts : List Lexeme) (text : List ℕ) (first n gap from end : ℕ) (t : Lexeme) (p : Piece) → slice_get ts n ≡ Some t → first ≤ n → p.gap ≡ gap → p.text.now ≡ t.text → IsFrom text p.start p.text.now
-    → drop from text ≡ bytes_of p ++ drop end text → end ≡ from + p.gap + length p.text.now → PieceInSource ts text first n gap from end
-one_piece ts text first n gap from end t p e le same_gap same_text source here far g stop lt has =
+    → drop from text ≡ bytes_of p ++ drop end text → end ≡ from + p.gap + length p.text.now → from + p.gap ≡ p.start → PieceInSource ts text first n gap from end
+one_piece ts text first n gap from end t p e le same_gap same_text source here far behind g stop lt has =
     let l = line_with g first stop in
     let own : gap ≡ gap_of g (n - first) (token_before ts first (n - 1)) (token_before ts first n) t = has t e in
     record {
       on = goes ts text l n from end t gap p e lt le own same_gap same_text here;
+      order = omega (arith, far);
       wide = λ simple to low high.
-          let clustered : clusters t ≡ length t.text = clusters_part text p.start t.text (subst (λ (x : List ℕ). IsFrom text p.start x) same_text source) simple in
+          let long : length p.text.now ≡ length t.text = ap length same_text in
+          let clustered : clusters t ≡ length t.text = clusters_within text p.start t.text (subst (λ (x : List ℕ). IsFrom text p.start x) same_text source) (λ k above below. simple k (omega (arith, above, behind)) (omega (arith, below, behind, far, long))) in
           let next = width_one ts l n to t e le (omega (arith, low)) high in
-          omega (arith, next, own, clustered, far, same_gap, ap length same_text);
+          omega (arith, next, own, clustered, far, same_gap, long);
     }
 
 pub piece_stands : (ts : List Lexeme) (text : List ℕ) (first n gap from : ℕ) (end : Option ℕ) (t : Lexeme) (p : Piece) → slice_get ts n ≡ Some t → first ≤ n → p.gap ≡ gap → p.text.now ≡ t.text → IsFrom text p.start p.text.now
-    → IfSome end (λ k. drop from text ≡ bytes_of p ++ drop k text) → IfSome end (λ k. k ≡ from + p.gap + length p.text.now) → IfSome end (PieceInSource ts text first n gap from)
-piece_stands ts text first n gap from None t p e le same_gap same_text source here far = tt
-piece_stands ts text first n gap from (Some k) t p e le same_gap same_text source here far = one_piece ts text first n gap from k t p e le same_gap same_text source here far
+    → IfSome end (λ k. drop from text ≡ bytes_of p ++ drop k text) → IfSome end (λ k. k ≡ from + p.gap + length p.text.now) → IfSome end (λ k. from + p.gap ≡ p.start) → IfSome end (PieceInSource ts text first n gap from)
+piece_stands ts text first n gap from None t p e le same_gap same_text source here far behind = tt
+piece_stands ts text first n gap from (Some k) t p e le same_gap same_text source here far behind = one_piece ts text first n gap from k t p e le same_gap same_text source here far behind
 
 -- ---- one after another
 
 pub none_stands : (ts : List Lexeme) (text : List ℕ) (l : LaidLine) (n at : ℕ) → InSource ts text l n at n at
-none_stands ts text l n at = record { on = λ rest h. h; wide = λ simple stop low high. refl }
+none_stands ts text l n at = record { on = λ rest h. h; order = omega arith; wide = λ simple stop low high. refl }
 
 pub more_stands : (ts : List Lexeme) (text : List ℕ) (l : LaidLine) (n at n' at' n'' at'' : ℕ) → n' ≤ n'' → InSource ts text l n at n' at' → InSource ts text l n' at' n'' at'' → InSource ts text l n at n'' at''
 more_stands ts text l n at n' at' n'' at'' le a b = record {
   on = λ rest h. a.on rest (b.on rest h);
-  wide = λ simple stop low high. a.wide simple stop (omega (arith, low)) high ∙ b.wide simple stop low high;
+  order = omega (arith, a.order, b.order);
+  wide = λ simple stop low high.
+      a.wide (λ k above below. simple k above (omega (arith, below, b.order))) stop (omega (arith, low)) high
+      ∙ b.wide (λ k above below. simple k (omega (arith, above, a.order)) below) stop low high;
 }
 
 -- ---- pieces that are no cells
@@ -124,21 +129,21 @@ pub cell_stands : (ts : List Lexeme) (text : List ℕ) (first n gap at at' n'' a
 cell_stands ts text first n gap at at' n'' at'' from lt a b g end within has plain =
     more_stands ts text (line_with g first end) n at (n + 1) at' n'' at'' (omega arith) (a g end (omega (arith, within)) has) (b g.level g end within refl plain)
 
--- ---- the width before a cell, in plain ASCII
+-- ---- the width before a cell, where all before it is ASCII without CR
 
-pub wide_to : (ts : List Lexeme) (text : List ℕ) (g : LineGaps) (first len place at at' : ℕ) → InSource ts text (line_with g first (first + len)) first at (first + place) at' → is_simple text ≡ true → place ≤ len
+pub wide_to : (ts : List Lexeme) (text : List ℕ) (g : LineGaps) (first len place at at' : ℕ) → InSource ts text (line_with g first (first + len)) first at (first + place) at' → IsSimpleIn text at at' → place ≤ len
     → at + width place (gaps_in g (take len (drop first ts))) (take len (drop first ts)) ≡ at'
 wide_to ts text g first len place at at' s simple le =
     let l = line_with g first (first + len) in
     omega (arith, s.wide simple (first + place) (omega arith) (omega (arith, le)), width_all ts g first len place, width_none ts l (first + place))
 
-pub front_wide : (ts : List Lexeme) (text : List ℕ) (level first len place at at' : ℕ) → PlainInSource ts text level first first at (first + place) at' → is_simple text ≡ true → place ≤ len
+pub front_wide : (ts : List Lexeme) (text : List ℕ) (level first len place at at' : ℕ) → PlainInSource ts text level first first at (first + place) at' → IsSimpleIn text at at' → place ≤ len
     → at + width place (plain_gaps level (take len (drop first ts))) (take len (drop first ts)) ≡ at'
 front_wide ts text level first len place at at' s simple le =
     let line : Line = take len (drop first ts) in
     omega (arith, wide_to ts text (plain_of level) first len place at at' (s (plain_of level) (first + len) (omega (arith, le)) refl (λ k gap low high. refl)) simple le, ap (λ g. width place g line) (plain_in level line))
 
-pub signed_wide : (ts : List Lexeme) (text : List ℕ) (level first : ℕ) (f : LineFacts) (at : ℕ) (sign : Option Cell) (place at' : ℕ) → SignInSource ts text level first f at sign at' → is_simple text ≡ true
+pub signed_wide : (ts : List Lexeme) (text : List ℕ) (level first : ℕ) (f : LineFacts) (at : ℕ) (sign : Option Cell) (place at' : ℕ) → SignInSource ts text level first f at sign at' → IsSimpleIn text at at'
     → f.comment ≡ Some place → place ≤ f.len → at + width place (gaps_in (record { level = level; assign = sign; comment = None }) (text_at ts first f)) (text_at ts first f) ≡ at'
 signed_wide ts text level first f at sign place at' s simple e le =
     let g : LineGaps = record { level = level; assign = sign; comment = None } in

@@ -3,6 +3,7 @@ pub mod ColumnLemmas
 pub mod StreamLemmas
 pub mod SurveyLemmas
 pub mod ClusterLemmas
+pub mod SimpleInLemmas
 pub mod LineLemmas
 pub mod RunLemmas
 pub mod LeftLemmas

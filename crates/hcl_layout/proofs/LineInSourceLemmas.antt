@@ -126,8 +126,8 @@ no_comment ts text level first f at g at' e same none s = record {
   };
   stands =
       let there : comment_or_end f ≡ f.len = ap (λ (o : Option ℕ). given_or o f.len) e in
-      (subst (λ n. InSource ts text (line_with g first (first + f.len)) first at (first + n) at') there
-      (s.stands g same refl (λ k gap lt. ap (λ (o : Option Cell). cell_gap o k gap) none))).on;
+      subst (λ n. InSource ts text (line_with g first (first + f.len)) first at (first + n) at') there
+      (s.stands g same refl (λ k gap lt. ap (λ (o : Option Cell). cell_gap o k gap) none));
 }
 
 pub with_comment : (ts : List Lexeme) (text : List ℕ) (level first : ℕ) (f : LineFacts) (at : ℕ) (assign : Option Cell) (i own gap reached at' : ℕ) → f.comment ≡ Some i → i < f.len → known_place assign ≤ i
@@ -150,7 +150,7 @@ with_comment ts text level first f at assign i own gap reached at' e lt order wi
       same_level = refl;
       sign = s.cell;
       comment = record { place = sym e; width = wide; narrow = narrow; gap = small };
-      stands = (more_stands ts text (line_with g first (first + f.len)) first at (first + i) reached (first + f.len) at' (omega (arith, lt)) up
+      stands = more_stands ts text (line_with g first (first + f.len)) first at (first + i) reached (first + f.len) at' (omega (arith, lt)) up
           (q g (first + f.len) (omega arith) has
-          (λ k plain low high. cell_passed (Some comment) k (cell_gap assign k plain) (omega (arith, low)) ∙ known_passed assign k plain (omega (arith, low, order))))).on;
+          (λ k plain low high. cell_passed (Some comment) k (cell_gap assign k plain) (omega (arith, low)) ∙ known_passed assign k plain (omega (arith, low, order))));
     }

@@ -21,7 +21,7 @@ ghost use Rattle.hcl_layout.specs.Print.{print};
 ghost use Rattle.hcl_layout.specs.Inner.InPlace.{CellInSource, Continues, EndsWell, IsSetApart, LineInSource, PassesRun, PieceInSource, PlainInSource, SignInSource, cell_or_end, comment_or_end, of_run, runs_of, walk_of};
 ghost use Rattle.hcl_layout.specs.Inner.Left.{bytes_of};
 ghost use Rattle.hcl_layout.specs.Inner.LineGaps.{ArePlain, IsSigned, gaps_in};
-ghost use Rattle.hcl_layout.specs.Inner.Simple.{IsFrom};
+ghost use Rattle.hcl_layout.specs.Inner.Simple.{IsFrom, IsSimpleIn};
 ghost use Rattle.hcl_layout.specs.Inner.Survey.{IsLine, text_at};
 ghost use Rattle.hcl_layout.specs.Inner.Walks.{HasCome};
 
@@ -32,6 +32,7 @@ use crate::levels::{DEPTHS, next_level};
 use crate::line::{LineFacts, line_at};
 use crate::measured::Measured;
 use crate::piece::{Piece, goes_on, goes_on_close, piece_of};
+use crate::simple::simple_end;
 
 /// A line: the numbers of its first token and of that after it, and its gaps.
 #[derive(Clone, Copy)]
@@ -55,6 +56,8 @@ pub struct State {
     pub depth: u32,
     pub signs: Run,
     pub comments: Run,
+    /// Up to where the source is known to be ASCII without CR from the place on that was reached.
+    pub simple_end: usize,
 }
 
 /// A line whose pieces stand in place as far as they were passed: its gaps, where these pieces end, and the run of the last
@@ -66,11 +69,13 @@ struct Passed {
     run: Run,
 }
 
-/// Where a line begins: the number of its first token, the byte offset at which the line before it ends, and its level.
+/// Where a line begins: the number of its first token, the byte offset at which the line before it ends, up to where the
+/// source is known to be ASCII without CR from there on, and the line's level.
 #[derive(Clone, Copy)]
 struct Front {
     first: usize,
     offset: usize,
+    simple_end: usize,
     level: u32,
 }
 
@@ -119,6 +124,7 @@ fn end_of(source: &[u8], offset: usize, piece: Piece<'_>) -> Option<usize>
     ensures within { IfSome result (λ end. end ≤ length source.now) }
     ensures goes { IfSome result (λ end. drop offset source.now ≡ bytes_of piece.entry ++ drop end source.now) }
     ensures end { IfSome result (λ end. end ≡ offset + piece.entry.gap + length piece.entry.text.now) }
+    ensures start { IfSome result (λ end. offset + piece.entry.gap ≡ piece.entry.start) }
 {
     if !goes_on(source, offset, piece) {
         return None;
@@ -267,6 +273,7 @@ fn found_sign(
     requires there { place < len }
     requires level { front.level ≤ max_open }
     requires reached { reached ≤ length tokens.now.text }
+    requires simple { IsSimpleIn tokens.now.text front.offset front.simple_end }
     requires stands { PlainInSource tokens.now.tokens tokens.now.text front.level front.first front.first front.offset (front.first + place) reached }
     ensures place { result.place ≡ place }
     ensures width { let text = take len (drop front.first tokens.now.tokens) in result.width ≡ width_of place (plain_gaps front.level text) text }
@@ -276,7 +283,7 @@ fn found_sign(
     // so the token's number fits
     let _count = tokens.len();
     let gap = gap_found(tokens, front.first + place, reached);
-    if tokens.is_simple() {
+    if reached <= front.simple_end {
         let width = reached.saturating_sub(front.offset) as u64;
         return Cell { place, width, gap };
     }
@@ -366,6 +373,7 @@ fn sign_in_place(
     requires level { front.level ≤ max_open }
     requires source { source.now ≡ tokens.now.text }
     requires reached { reached ≤ length source.now }
+    requires simple { IsSimpleIn tokens.now.text front.offset front.simple_end }
     requires stands { PlainInSource tokens.now.tokens tokens.now.text front.level front.first front.first front.offset (front.first + cell_or_end line) reached }
     ensures within { IfSome result (λ p. p.end ≤ length source.now) }
     ensures signed { IfSome result (λ p. IsSigned p.gaps (text_at tokens.now.tokens front.first line)) }
@@ -419,6 +427,7 @@ fn found_comment(
     requires signed { IsSigned signed (text_at tokens.now.tokens front.first line) }
     requires level { signed.level ≡ front.level }
     requires reached { reached ≤ length tokens.now.text }
+    requires simple { IsSimpleIn tokens.now.text front.offset front.simple_end }
     requires stands { SignInSource tokens.now.tokens tokens.now.text front.level front.first line front.offset signed.assign reached }
     ensures place { result.place ≡ place }
     ensures width { let text = text_at tokens.now.tokens front.first line in result.width ≡ width_of place (gaps_in signed text) text }
@@ -428,7 +437,7 @@ fn found_comment(
     // so the token's number fits
     let _count = tokens.len();
     let gap = gap_found(tokens, front.first + place, reached);
-    if tokens.is_simple() {
+    if reached <= front.simple_end {
         let width = reached.saturating_sub(front.offset) as u64;
         return Cell { place, width, gap };
     }
@@ -476,6 +485,7 @@ fn comment_in_place(
     requires level { signed.level ≡ front.level }
     requires source { source.now ≡ tokens.now.text }
     requires reached { reached ≤ length source.now }
+    requires simple { IsSimpleIn tokens.now.text front.offset front.simple_end }
     requires stands { SignInSource tokens.now.tokens tokens.now.text front.level front.first line front.offset signed.assign reached }
     ensures within { IfSome result (λ p. p.end ≤ length source.now) }
     ensures stands { IfSome result (λ p. LineInSource tokens.now.tokens tokens.now.text front.level front.first line front.offset p.gaps p.end) }
@@ -536,10 +546,12 @@ fn pass_line(
     requires come { HasCome tokens.now.tokens first (walk_of state.old levels.old) }
     requires source { source.now ≡ tokens.now.text }
     requires within { offset ≤ length source.now }
+    requires simple { IsSimpleIn tokens.now.text offset state.old.simple_end }
     ensures on { IfSome result (λ p. first < p.0) }
     ensures tokens { IfSome result (λ p. p.0 ≤ length tokens.now.tokens) }
     ensures come { IfSome result (λ p. HasCome tokens.now.tokens p.0 (walk_of state.new levels.new)) }
     ensures within { IfSome result (λ p. p.1 ≤ length source.now) }
+    ensures simple { IfSome result (λ p. IsSimpleIn tokens.now.text p.1 state.new.simple_end) }
     ensures step { IfSome result (λ p. Continues tokens.now.tokens tokens.now.text (walk_of state.old levels.old) (runs_of state.old) first offset (walk_of state.new levels.new) (runs_of state.new) p.0 p.1) }
 {
     let line = line_at(tokens, first, state.depth);
@@ -547,6 +559,7 @@ fn pass_line(
     let front = Front {
         first,
         offset,
+        simple_end: simple_end(source, offset, state.simple_end),
         level,
     };
     let stop = first + cell_or_end(line);
@@ -565,6 +578,7 @@ fn pass_line(
         depth: line.depth,
         signs: signed.run,
         comments: passed.run,
+        simple_end: front.simple_end,
     };
     Some((first + line.len, passed.end))
 }
@@ -596,6 +610,7 @@ pub fn stands_in_place(tokens: &Measured<'_, '_>) -> bool
         depth: 0,
         signs: none,
         comments: none,
+        simple_end: 0,
     };
     let mut next = 0;
     let mut offset = 0;

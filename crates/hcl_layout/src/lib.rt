@@ -33,6 +33,7 @@ mod piece;
 mod pieces;
 mod print;
 mod runs;
+mod simple;
 mod writer;
 
 pub use extent::fits;

@@ -38,7 +38,7 @@ impl<'t, 's> Model for Measured<'t, 's> {
 
 /// Whether the bytes are ASCII without CR, so that each is a grapheme cluster. All of them are looked at, whatever the
 /// first are, and what is kept of them is what one step on sixteen bytes gives, so that the loop can be vectorised.
-fn is_simple(bytes: &[u8]) -> bool
+pub fn is_simple(bytes: &[u8]) -> bool
     ensures { result ≡ is_simple_of bytes.now }
 {
     let mut highest = 0;
@@ -196,15 +196,6 @@ impl<'t, 's> Measured<'t, 's> {
         ensures small { result ≤ 2 ^ 23 }
     {
         (self.tokens.len() + self.tokens.source().text().len()) as u64
-    }
-
-    /// Whether all texts are as wide as they have bytes.
-    #[inline(always)]
-    pub fn is_simple(&self) -> bool
-        ensures { IsTrue result → is_simple_of self.now.text ≡ true }
-    {
-        let _ = &self.tokens;
-        self.simple
     }
 
     /// How many tokens there are.

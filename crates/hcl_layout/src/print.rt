@@ -121,13 +121,12 @@ fn agrees(tokens: &Measured<'_, '_>) -> bool
 pub fn is_found_formatted(accepted: &Accepted<'_, '_>) -> bool
     ensures { IsTrue result → print accepted.now.tokens ≡ accepted.now.text }
 {
-    stands_in_place(&Measured::new(accepted))
+    stands_in_place(&Measured::unmeasured(accepted))
 }
 
 /// Whether the print is the source: the bytes of the source are those of the print.
 pub fn is_formatted(accepted: &Accepted<'_, '_>) -> bool
     ensures { IsTrue result ↔ (print accepted.now.tokens ≡ accepted.now.text) }
 {
-    let tokens = Measured::new(accepted);
-    stands_in_place(&tokens) || agrees(&tokens)
+    stands_in_place(&Measured::unmeasured(accepted)) || agrees(&Measured::new(accepted))
 }

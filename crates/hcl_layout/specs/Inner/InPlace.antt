@@ -9,7 +9,7 @@ use Rattle.hcl_layout.specs.Lines.{lines}
 use Rattle.hcl_layout.specs.Print.{printed_text}
 use Rattle.hcl_layout.specs.Inner.Left.{gap_before, token_before}
 use Rattle.hcl_layout.specs.Inner.LineGaps.{ArePlain, cell_gap, gaps_from, gaps_in, given_or}
-use Rattle.hcl_layout.specs.Inner.Simple.{is_simple}
+use Rattle.hcl_layout.specs.Inner.Simple.{IsSimpleIn}
 use Rattle.hcl_layout.specs.Inner.Stream.{assign_widths, comment_widths, commented}
 use Rattle.hcl_layout.specs.Inner.Survey.{text_at}
 use Rattle.hcl_layout.specs.declared.gap.Cell.{Cell}
@@ -94,11 +94,12 @@ abbrev pub width_up_to : List Lexeme → LaidLine → ℕ → ℕ → ℕ
 width_up_to ts l n stop =
     width (stop - n) (gaps_from l.gaps (n - l.first) (token_before ts l.first (n - 1)) (token_before ts l.first n) (take (l.end - n) (drop n ts))) (take (l.end - n) (drop n ts))
 
--- the pieces from a token on, which begin at a place, end before another token and at another place; in plain ASCII the
--- line is wider by as much as these places are apart
+-- the pieces from a token on, which begin at a place, end before another token and at another place; if all is ASCII without
+-- CR between these places, the line is wider by as much as they are apart
 pub record InSource (ts : List Lexeme) (source : List ℕ) (l : LaidLine) (n at n' at' : ℕ) : Type 0 where
   pub on : GoOn ts source l n at n' at'
-  pub wide : is_simple source ≡ true → (stop : ℕ) → n' ≤ stop → stop ≤ l.end → at + width_up_to ts l n stop ≡ at' + width_up_to ts l n' stop
+  pub order : at ≤ at'
+  pub wide : IsSimpleIn source at at' → (stop : ℕ) → n' ≤ stop → stop ≤ l.end → at + width_up_to ts l n stop ≡ at' + width_up_to ts l n' stop
 
 abbrev pub HasGap : List Lexeme → LineGaps → ℕ → ℕ → ℕ → Type 0
 HasGap ts g first n gap = (t : Lexeme) → slice_get ts n ≡ Some t → gap ≡ gap_before ts g first n t
@@ -149,7 +150,7 @@ pub record LineInSource (ts : List Lexeme) (source : List ℕ) (level first : �
   pub same_level : g.level ≡ level
   pub sign : IsCell g.assign f.assign (λ i. width i (plain_gaps level (text_at ts first f)) (text_at ts first f))
   pub comment : IsCell g.comment f.comment (λ i. width i (gaps_in (uncommented g) (text_at ts first f)) (text_at ts first f))
-  pub stands : GoOn ts source (line_with g first (first + f.len)) first at (first + f.len) at'
+  pub stands : InSource ts source (line_with g first (first + f.len)) first at (first + f.len) at'
 
 -- the cell is set into the column, where the line has one
 abbrev pub IsSetIn : Option Cell → Option ℕ → Type 0

@@ -15,4 +15,4 @@ returns-clause-stands c first le =
     let end = c.end_of.result in
     let from : IsFrom text p.start p.text.now = rw (c.piece_of.ensures.start, c.piece_of.ensures.text) c.get.ensures.source in
     piece_stands ts text first c.args.number c.args.gap at end (lexeme c.get.result) p c.get.ensures.token le c.piece_of.ensures.gap c.piece_of.ensures.text from
-    (subst (λ (s : List ℕ). IfSome end (λ k. drop at s ≡ bytes_of p ++ drop k s)) c.requires.source c.end_of.ensures.goes) c.end_of.ensures.end
+    (subst (λ (s : List ℕ). IfSome end (λ k. drop at s ≡ bytes_of p ++ drop k s)) c.requires.source c.end_of.ensures.goes) c.end_of.ensures.end c.end_of.ensures.start

@@ -44,6 +44,6 @@ returns-clause-stands c level =
     subst (λ (s : List ℕ). drop at s ≡ bytes_of p ++ drop end s) c.requires.source (e.goes c.if-not-goes_on_close.false) in
     let far : end ≡ at + p.gap + length p.text.now = omega (arith, e.end c.if-not-goes_on_close.false) in
     let one : PieceInSource ts text first n c.gap_behind.result at end =
-    one_piece ts text first n c.gap_behind.result at end t p c.get-token.ensures.token (omega (arith, c.requires.behind)) is.gap is.text from here far in
+    one_piece ts text first n c.gap_behind.result at end t p c.get-token.ensures.token (omega (arith, c.requires.behind)) is.gap is.text from here far (e.end c.if-not-goes_on_close.false) in
     plain_stands ts text level first n c.gap_behind.result at end (omega (arith, c.requires.behind))
     (λ u f. c.gap_behind.ensures level ∙ ap (plain_gap_before ts level first n) (same_token ts n t u c.get-token.ensures.token f)) one

@@ -13,6 +13,7 @@ loop-next-init c =
       come = search rules;
       within = omega arith;
       inside = omega arith;
+      simple = λ k low high. absurd (omega (arith, high));
       step = begun ts c.args.tokens.now.text (record { depth = 0; levels = fresh; signs = None; comments = None }) (record { assign = 0; comment = 0 }) balanced refl refl refl refl;
     }
 
