@@ -60,22 +60,21 @@ pub struct State {
     pub simple_end: usize,
 }
 
-/// A line whose pieces stand in place as far as they were passed: its gaps, where these pieces end, and the run of the last
-/// cell that was asked for.
+/// A line whose pieces stand in place as far as they were passed: its gaps, where these pieces end, the run of the last
+/// cell that was asked for, and up to where the source is known to be ASCII without CR from the line's offset on.
 #[derive(Clone, Copy)]
 struct Passed {
     gaps: LineGaps,
     end: usize,
     run: Run,
+    simple_end: usize,
 }
 
-/// Where a line begins: the number of its first token, the byte offset at which the line before it ends, up to where the
-/// source is known to be ASCII without CR from there on, and the line's level.
+/// Where a line begins: the number of its first token, the byte offset at which the line before it ends, and its level.
 #[derive(Clone, Copy)]
 struct Front {
     first: usize,
     offset: usize,
-    simple_end: usize,
     level: u32,
 }
 
@@ -268,12 +267,13 @@ fn found_sign(
     len: usize,
     place: usize,
     reached: usize,
+    simple_end: usize,
 ) -> Cell
     requires within { front.first + len ≤ length tokens.now.tokens }
     requires there { place < len }
     requires level { front.level ≤ max_open }
     requires reached { reached ≤ length tokens.now.text }
-    requires simple { IsSimpleIn tokens.now.text front.offset front.simple_end }
+    requires simple { IsSimpleIn tokens.now.text front.offset simple_end }
     requires stands { PlainInSource tokens.now.tokens tokens.now.text front.level front.first front.first front.offset (front.first + place) reached }
     ensures place { result.place ≡ place }
     ensures width { let text = take len (drop front.first tokens.now.tokens) in result.width ≡ width_of place (plain_gaps front.level text) text }
@@ -283,7 +283,7 @@ fn found_sign(
     // so the token's number fits
     let _count = tokens.len();
     let gap = gap_found(tokens, front.first + place, reached);
-    if reached <= front.simple_end {
+    if reached <= simple_end {
         let width = reached.saturating_sub(front.offset) as u64;
         return Cell { place, width, gap };
     }
@@ -360,6 +360,7 @@ fn ended(run: Run) -> Option<Run>
 #[inline(always)]
 fn sign_in_place(
     run: Run,
+    known: usize,
     tokens: &Measured<'_, '_>,
     source: &[u8],
     front: Front,
@@ -372,8 +373,9 @@ fn sign_in_place(
     requires comment { line.comment ≡ trailing_comment (text_at tokens.now.tokens front.first line) }
     requires level { front.level ≤ max_open }
     requires source { source.now ≡ tokens.now.text }
+    requires offset { front.offset ≤ length source.now }
     requires reached { reached ≤ length source.now }
-    requires simple { IsSimpleIn tokens.now.text front.offset front.simple_end }
+    requires simple { IsSimpleIn tokens.now.text front.offset known }
     requires stands { PlainInSource tokens.now.tokens tokens.now.text front.level front.first front.first front.offset (front.first + cell_or_end line) reached }
     ensures within { IfSome result (λ p. p.end ≤ length source.now) }
     ensures signed { IfSome result (λ p. IsSigned p.gaps (text_at tokens.now.tokens front.first line)) }
@@ -381,6 +383,7 @@ fn sign_in_place(
     ensures stands { IfSome result (λ p. SignInSource tokens.now.tokens tokens.now.text front.level front.first line front.offset p.gaps.assign p.end) }
     ensures run { IfSome result (λ p. PassesRun run.column run.greatest p.gaps.assign p.run.column p.run.greatest) }
     ensures fits { IfSome result (λ p. IfSome p.run.column (λ c. c < 2 ^ 33)) }
+    ensures simple { IfSome result (λ p. IsSimpleIn tokens.now.text front.offset p.simple_end) }
 {
     let Some(place) = line.assign else {
         let Some(run) = ended(run) else {
@@ -390,11 +393,13 @@ fn sign_in_place(
             gaps: plain_line(front.level),
             end: reached,
             run,
+            simple_end: known,
         });
     };
     // so the numbers of the line's tokens fit
     let _count = tokens.len();
-    let sign = found_sign(tokens, front, line.len, place, reached);
+    let simple_end = simple_end(source, front.offset, reached, known);
+    let sign = found_sign(tokens, front, line.len, place, reached, simple_end);
     let Some(run) = gone_on(run, sign) else {
         return None;
     };
@@ -408,7 +413,12 @@ fn sign_in_place(
         assign: Some(sign),
         comment: None,
     };
-    Some(Passed { gaps, end, run })
+    Some(Passed {
+        gaps,
+        end,
+        run,
+        simple_end,
+    })
 }
 
 /// The comment of a line as it stands in the source, where the text before it ends at a byte offset.
@@ -420,6 +430,7 @@ fn found_comment(
     place: usize,
     signed: LineGaps,
     reached: usize,
+    simple_end: usize,
 ) -> Cell
     requires within { front.first + line.len ≤ length tokens.now.tokens }
     requires comment { line.comment ≡ Some place }
@@ -427,7 +438,7 @@ fn found_comment(
     requires signed { IsSigned signed (text_at tokens.now.tokens front.first line) }
     requires level { signed.level ≡ front.level }
     requires reached { reached ≤ length tokens.now.text }
-    requires simple { IsSimpleIn tokens.now.text front.offset front.simple_end }
+    requires simple { IsSimpleIn tokens.now.text front.offset simple_end }
     requires stands { SignInSource tokens.now.tokens tokens.now.text front.level front.first line front.offset signed.assign reached }
     ensures place { result.place ≡ place }
     ensures width { let text = text_at tokens.now.tokens front.first line in result.width ≡ width_of place (gaps_in signed text) text }
@@ -437,7 +448,7 @@ fn found_comment(
     // so the token's number fits
     let _count = tokens.len();
     let gap = gap_found(tokens, front.first + place, reached);
-    if reached <= front.simple_end {
+    if reached <= simple_end {
         let width = reached.saturating_sub(front.offset) as u64;
         return Cell { place, width, gap };
     }
@@ -465,11 +476,32 @@ fn commented(run: Run, running: Option<usize>, comment: Cell) -> Option<Run>
     ended(run)
 }
 
+/// Up to where the source is known to be ASCII without CR from the offset of a line on, before its comment. If the line has
+/// a sign, it was looked at there.
+#[inline(always)]
+fn further_end(
+    source: &[u8],
+    offset: usize,
+    reached: usize,
+    signed: LineGaps,
+    known: usize,
+) -> usize
+    requires within { offset ≤ length source.now }
+    requires known { IsSimpleIn source.now offset known }
+    ensures simple { IsSimpleIn source.now offset result }
+{
+    if signed.assign.is_some() {
+        return known;
+    }
+    simple_end(source, offset, reached, known)
+}
+
 /// Passes the pieces of a line from its comment on, where those before it end at a byte offset, if they go on from there
 /// and the comment stands in the column of its run.
 #[inline(always)]
 fn comment_in_place(
     run: Run,
+    known: usize,
     tokens: &Measured<'_, '_>,
     source: &[u8],
     front: Front,
@@ -484,8 +516,9 @@ fn comment_in_place(
     requires signed { IsSigned signed (text_at tokens.now.tokens front.first line) }
     requires level { signed.level ≡ front.level }
     requires source { source.now ≡ tokens.now.text }
+    requires offset { front.offset ≤ length source.now }
     requires reached { reached ≤ length source.now }
-    requires simple { IsSimpleIn tokens.now.text front.offset front.simple_end }
+    requires simple { IsSimpleIn tokens.now.text front.offset known }
     requires stands { SignInSource tokens.now.tokens tokens.now.text front.level front.first line front.offset signed.assign reached }
     ensures within { IfSome result (λ p. p.end ≤ length source.now) }
     ensures stands { IfSome result (λ p. LineInSource tokens.now.tokens tokens.now.text front.level front.first line front.offset p.gaps p.end) }
@@ -493,6 +526,7 @@ fn comment_in_place(
     ensures run { IfSome result (λ p. PassesRun run.column run.greatest (of_run line.running p.gaps.comment) p.run.column p.run.greatest) }
     ensures apart { IfSome result (λ p. IsSetApart line.running p.gaps.comment) }
     ensures fits { IfSome result (λ p. IfSome p.run.column (λ c. c < 2 ^ 34)) }
+    ensures simple { IfSome result (λ p. IsSimpleIn tokens.now.text front.offset p.simple_end) }
 {
     let Some(place) = line.comment else {
         let Some(run) = ended(run) else {
@@ -502,11 +536,13 @@ fn comment_in_place(
             gaps: signed,
             end: reached,
             run,
+            simple_end: known,
         });
     };
     // so the numbers of the line's tokens fit
     let _count = tokens.len();
-    let comment = found_comment(tokens, front, line, place, signed, reached);
+    let simple_end = further_end(source, front.offset, reached, signed, known);
+    let comment = found_comment(tokens, front, line, place, signed, reached, simple_end);
     let Some(run) = commented(run, line.running, comment) else {
         return None;
     };
@@ -527,6 +563,7 @@ fn comment_in_place(
         gaps: with_comment(signed, place, comment.width, comment.gap),
         end,
         run,
+        simple_end,
     })
 }
 
@@ -559,26 +596,34 @@ fn pass_line(
     let front = Front {
         first,
         offset,
-        simple_end: simple_end(source, offset, state.simple_end),
         level,
     };
     let stop = first + cell_or_end(line);
     let Some(reached) = front_end(tokens, source, front, stop) else {
         return None;
     };
-    let Some(signed) = sign_in_place(state.signs, tokens, source, front, line, reached) else {
+    let known = state.simple_end;
+    let Some(signed) = sign_in_place(state.signs, known, tokens, source, front, line, reached)
+    else {
         return None;
     };
-    let (gaps, end) = (signed.gaps, signed.end);
-    let Some(passed) = comment_in_place(state.comments, tokens, source, front, line, gaps, end)
-    else {
+    let Some(passed) = comment_in_place(
+        state.comments,
+        signed.simple_end,
+        tokens,
+        source,
+        front,
+        line,
+        signed.gaps,
+        signed.end,
+    ) else {
         return None;
     };
     *state = State {
         depth: line.depth,
         signs: signed.run,
         comments: passed.run,
-        simple_end: front.simple_end,
+        simple_end: passed.simple_end,
     };
     Some((first + line.len, passed.end))
 }

@@ -1,12 +1,12 @@
 //! Up to where a source is ASCII without CR, so that a text there is as wide as it has bytes.
 //!
-//! That is asked from a line on, and again where the next line begins after the end of what was found. It is asked block by
-//! block: by short ones first, since the next character that isn't ASCII may be near, by longer ones as long as none is, and
-//! by short ones again before it.
+//! That is asked from a line on, and again for the next line whose cell stands after the end of what was found. It is asked
+//! block by block: by short ones first, since the next character that isn't ASCII may be near, by longer ones as long as none
+//! is, and by short ones again before it.
 //!
 //! ```text
-//! a = "one"     8  8  64  64 ..  1024  1024  1024  64  64  8  8
-//! ..                                                            é
+//! a = "one" ..       ..        ..         ..     b = "é"
+//! |8|8|..|8|64|64|..|64|512|512|..|512|64|64|8|8|
 //! ```
 ghost use Rattle.std.specs.Prelude.{◌≡◌, ◌<◌, ◌≤◌, length};
 ghost use Rattle.hcl_layout.specs.Inner.Simple.{IsSimpleIn, is_simple as is_simple_of};
@@ -20,7 +20,7 @@ const SHORT: usize = 8;
 const LONG: usize = 64;
 
 /// That of one that is looked at in a loop.
-const LONGEST: usize = 1024;
+const LONGEST: usize = 512;
 
 /// How far is looked ahead, since a file that doesn't stand in place mostly shows it in its first lines.
 const PAGE: usize = 65536;
@@ -107,15 +107,15 @@ fn found_end(source: &[u8], offset: usize) -> usize
     past_rest(source, past_longest(source, far, end), end)
 }
 
-/// Up to where a source is known to be ASCII without CR from an offset on, where that is known up to an end already, or
-/// else looked for.
+/// Up to where a source is known to be ASCII without CR from the offset of a line on, by what is known already if its cell
+/// stands before that end, and else by a look at it.
 #[inline(always)]
-pub fn simple_end(source: &[u8], offset: usize, known: usize) -> usize
+pub fn simple_end(source: &[u8], offset: usize, reached: usize, known: usize) -> usize
     requires within { offset ≤ length source.now }
     requires known { IsSimpleIn source.now offset known }
     ensures simple { IsSimpleIn source.now offset result }
 {
-    if offset < known {
+    if reached <= known {
         return known;
     }
     found_end(source, offset)

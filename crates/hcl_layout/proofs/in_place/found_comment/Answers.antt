@@ -17,8 +17,8 @@ gap_found-gap-requires c =
     let line = c.args.line in
     record { there = omega (arith, c.requires.within, comment_place c.args.tokens.now.tokens c.args.front.first line.len c.args.place line.comment c.requires.is_comment c.requires.comment) }
 
-pub returns-then-reached-front-clause-width : goal.returns-then-reached-front-clause-width
-returns-then-reached-front-clause-width c =
+pub returns-then-reached-simple_end-clause-width : goal.returns-then-reached-simple_end-clause-width
+returns-then-reached-simple_end-clause-width c =
     let ts = c.args.tokens.now.tokens in
     let front = c.args.front in
     let line = c.args.line in
@@ -26,12 +26,12 @@ returns-then-reached-front-clause-width c =
     let place = c.args.place in
     let text : Line = take line.len (drop front.first ts) in
     let there : place < line.len = comment_place ts front.first line.len place line.comment c.requires.is_comment c.requires.comment in
-    let wide = signed_wide ts c.args.tokens.now.text front.level front.first line front.offset signed.assign place c.args.reached c.requires.stands (λ k low high. c.requires.simple k low (omega (arith, high, c.if-reached-front.true))) c.requires.comment (omega (arith, there)) in
+    let wide = signed_wide ts c.args.tokens.now.text front.level front.first line front.offset signed.assign place c.args.reached c.requires.stands (λ k low high. c.requires.simple k low (omega (arith, high, c.if-reached-simple_end.true))) c.requires.comment (omega (arith, there)) in
     let same = ap₂ (λ (l : ℕ) (o : Option Cell). width place (gaps_in (record { level = l; assign = signed.assign; comment = o }) text) text) c.requires.level c.requires.signed.plain in
     omega (arith, wide, same, c.saturating_sub-width.ensures)
 
-pub returns-then-reached-front-clause-narrow : goal.returns-then-reached-front-clause-narrow
-returns-then-reached-front-clause-narrow c = omega (arith, c.saturating_sub-width.ensures, c.requires.reached, c.len-count.ensures.bounded.text)
+pub returns-then-reached-simple_end-clause-narrow : goal.returns-then-reached-simple_end-clause-narrow
+returns-then-reached-simple_end-clause-narrow c = omega (arith, c.saturating_sub-width.ensures, c.requires.reached, c.len-count.ensures.bounded.text)
 
 pub width-width-requires-clause-there : goal.width-width-requires-clause-there
 width-width-requires-clause-there c =

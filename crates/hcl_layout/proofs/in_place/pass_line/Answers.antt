@@ -6,7 +6,6 @@ use Rattle.hcl_layout.specs.Lines.{Line, lines}
 use Rattle.hcl_layout.specs.Inner.Depths.{depth_after, level_at, levels_behind}
 use Rattle.hcl_layout.specs.Inner.InPlace.{IsCell, LineInSource, PassesRun, PlainInSource, Runs, entered_column, gaps_on, left_at, line_with, of_run, runs_of, since, uncommented, walk_of}
 use Rattle.hcl_layout.specs.Inner.LineGaps.{gaps_in}
-use Rattle.hcl_layout.specs.Inner.Simple.{IsSimpleIn}
 use Rattle.hcl_layout.specs.Inner.Stream.{assign_column, assign_widths, assigned_line, comment_column, comment_width, comment_widths, plain}
 use Rattle.hcl_layout.specs.Inner.Survey.{text_at}
 use Rattle.hcl_layout.specs.declared.gap.Cell.{Cell}
@@ -119,7 +118,6 @@ returns-clause-step c h =
     entered_before ts source w new runs widths line g signs comments first c.args.offset end is ends_c ends_m enters_c enters_m wide_c wide_m gaps is.depth levels column comment h left
 
 pub returns-clause-simple : goal.returns-clause-simple
-returns-clause-simple c =
-    let end = c.simple_end.result in
-    let here : IsSimpleIn c.args.tokens.now.text c.args.offset end = subst (λ (s : List ℕ). IsSimpleIn s c.args.offset end) c.requires.source c.simple_end.ensures.simple in
-    λ k low high. here k (omega (arith, low, c.in-Some-comment_in_place.ensures.stands.stands.order)) high
+returns-clause-simple c k low high =
+    let e = c.in-Some-comment_in_place.ensures in
+    e.simple k (omega (arith, low, e.stands.stands.order)) high
