@@ -103,7 +103,26 @@ fn gap_by_texts(tokens: &Measured<'_, '_>, first: usize, number: usize) -> u64
     u64::from(space_by_texts(before, subject, token))
 }
 
-/// The same where the kinds may tell it, as they nearly always do.
+/// The same where the kinds of the two tell it, as they nearly always do.
+#[inline(always)]
+pub fn told_gap(
+    tokens: &Measured<'_, '_>,
+    first: usize,
+    number: usize,
+    token: Token<'_>,
+) -> Option<u64>
+    requires there { slice_get tokens.now.tokens number ≡ Some (lexeme token) }
+    requires within { number < length tokens.now.tokens }
+    requires behind { first < number }
+    ensures { IfSome result (λ gap. (level : ℕ) → gap ≡ plain_gap_before tokens.now.tokens level first number (lexeme token.entry)) }
+{
+    let Some(space) = space_by_kinds(tokens.get(number - 1), token) else {
+        return None;
+    };
+    Some(u64::from(space))
+}
+
+/// The same, told by the kinds or not.
 #[inline(always)]
 pub fn gap_behind(tokens: &Measured<'_, '_>, first: usize, number: usize, token: Token<'_>) -> u64
     requires there { slice_get tokens.now.tokens number ≡ Some (lexeme token) }

@@ -26,7 +26,8 @@ ghost use Rattle.hcl_layout.specs.Inner.Survey.{IsLine, text_at};
 ghost use Rattle.hcl_layout.specs.Inner.Walks.{HasCome};
 
 use crate::gap::{
-    Cell, LineGaps, gap_behind, indent, next_cell, plain_line, plain_width, width, with_comment,
+    Cell, LineGaps, gap_behind, indent, next_cell, plain_line, plain_width, told_gap, width,
+    with_comment,
 };
 use crate::levels::{DEPTHS, next_level};
 use crate::line::{LineFacts, line_at};
@@ -151,7 +152,8 @@ fn piece_end(
 }
 
 /// Where the piece of a token after the first of a line ends that is no cell, if it goes on from a byte offset of the source.
-#[inline(always)]
+/// It is a call, for the few whose gap the kinds don't tell.
+#[inline(never)]
 fn plain_end(
     tokens: &Measured<'_, '_>,
     source: &[u8],
@@ -172,6 +174,67 @@ fn plain_end(
         return None;
     }
     Some(piece.start + piece.text.len())
+}
+
+/// The same where the kinds tell the gap.
+#[inline(always)]
+fn told_end(
+    tokens: &Measured<'_, '_>,
+    source: &[u8],
+    first: usize,
+    number: usize,
+    offset: usize,
+) -> Option<usize>
+    requires behind { first < number }
+    requires there { number < length tokens.now.tokens }
+    requires source { source.now ≡ tokens.now.text }
+    requires within { offset ≤ length source.now }
+    ensures within { IfSome result (λ end. end ≤ length source.now) }
+    ensures stands { (level : ℕ) → IfSome result (PlainInSource tokens.now.tokens tokens.now.text level first number offset (number + 1)) }
+{
+    let token = tokens.get(number);
+    let Some(gap) = told_gap(tokens, first, number, token) else {
+        return None;
+    };
+    let piece = piece_of(token, gap);
+    if !goes_on_close(source, offset, piece) {
+        return None;
+    }
+    Some(piece.start + piece.text.len())
+}
+
+/// From one token of a line on, the number of the first whose piece isn't found to stand in place by the kinds alone, or
+/// another number before that one, and where the piece before it ends. Nothing is called here, so that all stays in
+/// registers.
+#[inline(always)]
+fn told_ends(
+    tokens: &Measured<'_, '_>,
+    source: &[u8],
+    first: usize,
+    next: usize,
+    stop: usize,
+    offset: usize,
+) -> (usize, usize)
+    requires behind { first < next }
+    requires order { next ≤ stop }
+    requires there { stop ≤ length tokens.now.tokens }
+    requires source { source.now ≡ tokens.now.text }
+    requires within { offset ≤ length source.now }
+    ensures on { next ≤ result.0 }
+    ensures stop { result.0 ≤ stop }
+    ensures within { result.1 ≤ length source.now }
+    ensures stands { (level : ℕ) → PlainInSource tokens.now.tokens tokens.now.text level first next offset result.0 result.1 }
+{
+    let mut number = next;
+    let mut reached = offset;
+    while number < stop {
+        let Some(end) = told_end(tokens, source, first, number, reached) else {
+            return (number, reached);
+        };
+        reached = end;
+        number += 1;
+    }
+    (number, reached)
 }
 
 /// Where the last of the pieces from one token of a line to another ends, which are no cells, if they go on from a byte
@@ -196,11 +259,15 @@ fn plain_ends(
     let mut number = next;
     let mut reached = offset;
     while number < stop {
-        let Some(end) = plain_end(tokens, source, first, number, reached) else {
+        let (asked, told) = told_ends(tokens, source, first, number, stop, reached);
+        if asked == stop {
+            return Some(told);
+        }
+        let Some(end) = plain_end(tokens, source, first, asked, told) else {
             return None;
         };
         reached = end;
-        number += 1;
+        number = asked + 1;
     }
     Some(reached)
 }
