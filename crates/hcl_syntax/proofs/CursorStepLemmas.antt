@@ -14,7 +14,8 @@ use Rattle.hcl_syntax.proofs.LookaheadLemmas.{shown-shown}
 use Rattle.hcl_grammar.specs.declared.class.Word.{Word}
 use Rattle.hcl_grammar.specs.Grammar.{Symbol, Marked, ◌at◌, Action, ◌then◌, none, nothing, reads, opens, closes, row, ends, the, fits, expr, expr_row, args_row, arg_next, tuple_row, tuple_item_row, tuple_next, tuple_if, tuple_if_row, object, object_row, object_item, object_item_row, object_next, object_if, object_if_row, group, group_row, separator, names, index_row, names_row, terminal_row, rest, rest_row, labels_row, file_row, body_row, eol, file, body, directive, directive_row, inside, section_directive_row}
 use Rattle.hcl_grammar.specs.Predictor.{max_directives, ending, Effect, on, stop, opening_directive, row_effect, effect, next, run}
-use Rattle.hcl_syntax.specs.Inner.Parsing.{turning, turning_row, outcome, Advances, bodies, Ends, waits}
+use Rattle.hcl_syntax.specs.declared.expected.Refused.{Refused}
+use Rattle.hcl_syntax.specs.Inner.Parsing.{said, turning, turning_row, outcome, Advances, bodies, Ends, waits}
 use Rattle.hcl_grammar.specs.declared.class.Word.TheVariants.{For, In, If, Else, Endif, Endfor}
 use Rattle.hcl_grammar.specs.declared.expected.Section.{Section}
 use Rattle.hcl_grammar.specs.declared.expected.Section.TheVariants.{InIf, InElse, InFor}
@@ -119,9 +120,17 @@ pub failed : {A B : Type 0} {count : ℕ} {xs ys zs : List Marked} {old mid new 
 failed h = record { same = h.same }
 
 -- The exit of a `?`.
-pub quits : {A B : Type 0} {count : ℕ} {xs ys zs : List Marked} {old mid new : List Lookahead} {f : Refusal} (r : Result B Refusal) → IsErrAnd r (λ e. e ≡ f) → Advances {A = A} count xs old (Err f) ys mid → Advances {A = B} count xs old r zs new
+pub quits : {A B : Type 0} {count : ℕ} {xs ys zs : List Marked} {old mid new : List Lookahead} {f : Refusal} {w : Refused} (r : Result B Refused) → IsErrAnd r (λ e. e ≡ w) → Advances {A = A} count xs old (Err f) ys mid → Advances {A = B} count xs old (said r f) zs new
 quits (Ok b) q h = absurd q
-quits (Err e) q h = record { same = λ behind. h.same behind ∙ ap (λ x. Some x) (sym q) }
+quits (Err e) q h = record { same = h.same }
+
+-- The exit with a refusal that the cursor keeps.
+pub kept-refusal : {A : Type 0} {count : ℕ} {xs ys : List Marked} {old new : List Lookahead} {f g : Refusal} → g ≡ f → Advances {A = A} count xs old (Err f) ys new → Advances {A = A} count xs old (Err g) ys new
+kept-refusal e h = record { same = λ behind. h.same behind ∙ ap (λ x. Some x) (sym e) }
+
+-- the same where no token is left
+pub kept-refusal-end : {A : Type 0} {count : ℕ} {xs ys : List Marked} {old mid new : List Lookahead} {f g : Refusal} → g ≡ f → Advances {A = A} count xs old (Err f) ys mid → Advances {A = A} count xs old (Err g) ys new
+kept-refusal-end e h = record { same = λ behind. h.same behind ∙ ap (λ x. Some x) (sym e) }
 
 pub row-fits : (e : Terminal) (m : Newlines) (t : Lookahead) (b : Bool) → b ≡ fits e t.class → b ≡ true → row (the e) m t ≡ reads []
 row-fits e m t b f h = ap (λ b. cond b (reads []) none) (sym f ∙ h)
@@ -264,9 +273,12 @@ pub end-fails : {A B : Type 0} {count : ℕ} {xs ys : List Marked} {old mid new 
     Advances {A = A} (count + 1) xs old (Err f) ys mid → Ends {A = B} count xs old (Err f) new
 end-fails h = record { same = h.same }
 
-pub end-quits : {A B : Type 0} {count : ℕ} {xs ys : List Marked} {old mid new : List Lookahead} {f : Refusal} (r : Result B Refusal) → IsErrAnd r (λ e. e ≡ f) → Advances {A = A} (count + 1) xs old (Err f) ys mid → Ends {A = B} count xs old r new
+pub end-quits : {A B : Type 0} {count : ℕ} {xs ys : List Marked} {old mid new : List Lookahead} {f : Refusal} {w : Refused} (r : Result B Refused) → IsErrAnd r (λ e. e ≡ w) → Advances {A = A} (count + 1) xs old (Err f) ys mid → Ends {A = B} count xs old (said r f) new
 end-quits (Ok b) q h = absurd q
-end-quits (Err e) q h = record { same = λ behind. h.same behind ∙ ap (λ x. Some x) (sym q) }
+end-quits (Err e) q h = record { same = h.same }
+
+pub end-kept-refusal : {A : Type 0} {count : ℕ} {xs : List Marked} {old new : List Lookahead} {f g : Refusal} → g ≡ f → Ends {A = A} count xs old (Err f) new → Ends {A = A} count xs old (Err g) new
+end-kept-refusal e h = record { same = λ behind. h.same behind ∙ ap (λ x. Some x) (sym e) }
 
 -- the row by what the word does
 by-turning : (e : Section) (m : Newlines) (p : ℕ) (k : Class) → section_directive_row e m p k ≡ turning_row (turning e k) e m p k
@@ -345,9 +357,9 @@ pub refuse-close : {A : Type 0} (n : ℕ) {ys : List Marked} {old left new : Lis
 refuse-close zero h l e = refusing l (ap (file_row Seen) e)
 refuse-close (suc n) h l e = cc
 
-pub whole-quits : {A B : Type 0} {f : Refusal} {old new : List Lookahead} {ys : List Marked} (r : Result B Refusal) → IsErrAnd r (λ e. e ≡ f) → Advances {A = A} 0 (file at Seen ∷ []) old (Err f) ys new → run 0 (file at Seen ∷ []) old ≡ outcome r None
+pub whole-quits : {A B : Type 0} {f : Refusal} {w : Refused} {old new : List Lookahead} {ys : List Marked} (r : Result B Refused) → IsErrAnd r (λ e. e ≡ w) → Advances {A = A} 0 (file at Seen ∷ []) old (Err f) ys new → run 0 (file at Seen ∷ []) old ≡ outcome (said r f) None
 whole-quits (Ok b) q h = absurd q
-whole-quits (Err e) q h = h.same [] ∙ ap (λ x. Some x) (sym q)
+whole-quits (Err e) q h = h.same []
 
 pub bodies-up : (n : ℕ) → bodies (suc n) ≡ bodies (n + 1)
 bodies-up n = let e : suc n ≡ n + 1 = omega arith in ap (λ k. bodies k) e

@@ -53,8 +53,9 @@ fn fault_at(tokens: &Tokens, refusal: Refusal) -> Fault
 pub fn accepts<'t, 's>(tokens: &'t Tokens<'s>) -> Result<Accepted<'t, 's>, Fault>
     ensures { result ≡ verdict tokens.now }
 {
-    match Cursor::new(tokens).file() {
+    let mut cursor = Cursor::new(tokens);
+    match cursor.file() {
         Ok(()) => Ok(Accepted::new(tokens)),
-        Err(refusal) => Err(fault_at(tokens, refusal)),
+        Err(_) => Err(fault_at(tokens, cursor.refusal())),
     }
 }

@@ -5,29 +5,32 @@ ghost use Rattle.std.specs.Bool.{OnTrue, OnFalse};
 ghost use Rattle.hcl_grammar.specs.Classes.{lookaheads, lookaheads_from};
 ghost use Rattle.hcl_grammar.specs.Grammar.{fits, ◌at◌, the, expr};
 ghost use Rattle.hcl_syntax.specs.Inner.Cursors.{shown, first, after_first, is_shown};
-ghost use Rattle.hcl_syntax.specs.Inner.Parsing.{Advances, Parses, awaited_symbols, is_operand, waits, TookTerminal, LacksTerminal, is_short_operand, ends_expression};
+ghost use Rattle.hcl_syntax.specs.Inner.Parsing.{Advances, Parses, said, awaited_symbols, is_operand, waits, TookTerminal, LacksTerminal, is_short_operand, ends_expression};
 
 use crate::class::lookahead_at;
-use crate::plain::{Paused, begins_plain, ends_expression, is_short_operand, past_plain};
+use crate::expected::{Pause, Refused};
+use crate::plain::{begins_plain, ends_expression, is_short_operand, past_plain};
 use hcl_grammar::{Class, Lookahead, Newlines, Refusal, Terminal, Word};
 use hcl_tokens::Tokens;
 use std::marker::Model;
 
-/// The tokens from some number on, as the grammar sees them.
+/// The tokens from some number on, as the grammar sees them, and the refusal that was met last. It is kept here and not
+/// handed on from call to call, so that a result is one byte, which comes back in a register.
 #[derive(Drop)]
 pub struct Cursor<'t, 's> {
     tokens: &'t Tokens<'s>,
     next: usize,
+    refusal: Refusal,
 }
 
 impl<'t, 's> Model for Cursor<'t, 's> {
-    ghost use Rattle.std.specs.Prelude.{List, drop, length, ◌≤◌};
-    ghost use Rattle.hcl_grammar.specs.declared.class.Lookahead.{Lookahead};
+    ghost use Rattle.std.specs.Prelude.{drop, length, ◌≤◌};
     ghost use Rattle.hcl_grammar.specs.Classes.{lookaheads_from};
+    ghost use Rattle.hcl_syntax.specs.Inner.Standings.{Standing};
 
-    ghost Value = { List Lookahead };
+    ghost Value = { Standing };
 
-    ghost view = { λ c. lookaheads_from c.next (drop c.next c.tokens.now.tokens) };
+    ghost view = { λ c. record { left = lookaheads_from c.next (drop c.next c.tokens.now.tokens); refusal = c.refusal } };
 
     ghost invariant = { λ c. c.next ≤ length c.tokens.now.tokens };
 }
@@ -92,14 +95,34 @@ fn find(tokens: &Tokens, from: usize, newlines: Newlines) -> (usize, Option<Look
 impl<'t, 's> Cursor<'t, 's> {
     /// All tokens.
     pub fn new(tokens: &'t Tokens<'s>) -> Cursor<'t, 's>
-        ensures { result ≡ lookaheads tokens.now.tokens }
+        ensures { result.left ≡ lookaheads tokens.now.tokens }
     {
-        Cursor { tokens, next: 0 }
+        Cursor {
+            tokens,
+            next: 0,
+            refusal: Refusal::UnexpectedEnd,
+        }
+    }
+
+    /// Keeps the refusal.
+    pub fn refused(&mut self, refusal: Refusal) -> Refused
+        ensures left { self.new.left ≡ self.old.left }
+        ensures refusal { self.new.refusal ≡ refusal }
+    {
+        self.refusal = refusal;
+        Refused
+    }
+
+    /// The refusal that was met last.
+    pub fn refusal(&self) -> Refusal
+        ensures { result ≡ self.now.refusal }
+    {
+        self.refusal
     }
 
     /// There are fewer tokens than a machine number can count.
     pub fn room(&self)
-        ensures { length self.now < 2 ^ 64 }
+        ensures { length self.now.left < 2 ^ 64 }
     {
         let _count = self.tokens.len();
     }
@@ -108,9 +131,9 @@ impl<'t, 's> Cursor<'t, 's> {
     /// compares none.
     #[inline(always)]
     pub fn look(&mut self, newlines: Newlines) -> Option<Lookahead>
-        ensures left { self.new ≡ shown newlines self.old }
-        ensures found { result ≡ first self.new }
-        ensures shorter { length self.new ≤ length self.old }
+        ensures left { self.new.left ≡ shown newlines self.old.left }
+        ensures found { result ≡ first self.new.left }
+        ensures shorter { length self.new.left ≤ length self.old.left }
     {
         let (next, token) = find(self.tokens, self.next, newlines);
         self.next = next;
@@ -120,9 +143,9 @@ impl<'t, 's> Cursor<'t, 's> {
     /// Passes over the first token, which was looked at. It is inlined, as `look` is.
     #[inline(always)]
     pub fn bump(&mut self, token: Lookahead)
-        requires { first self.old ≡ Some token }
-        ensures left { self.new ≡ after_first self.old }
-        ensures shorter { length self.old ≡ length self.new + 1 }
+        requires { first self.old.left ≡ Some token }
+        ensures left { self.new.left ≡ after_first self.old.left }
+        ensures shorter { length self.old.left ≡ length self.new.left + 1 }
     {
         let _count = self.tokens.len();
         self.next = token.number as usize + 1;
@@ -138,9 +161,9 @@ impl<'t, 's> Cursor<'t, 's> {
     /// False says only that these two don't tell it.
     #[inline(always)]
     pub fn takes_short(&mut self, newlines: Newlines) -> bool
-        ensures yes { OnTrue result ((count : ℕ) → Parses count (expr at newlines ∷ []) self.old (Ok (tt {0})) self.new) }
-        ensures no { OnFalse result (self.new ≡ self.old) }
-        ensures shorter { OnTrue result (length self.new < length self.old) }
+        ensures yes { OnTrue result ((count : ℕ) → Parses count (expr at newlines ∷ []) self.old.left (Ok (tt {0})) self.new.left) }
+        ensures no { OnFalse result (self.new.left ≡ self.old.left) }
+        ensures shorter { OnTrue result (length self.new.left < length self.old.left) }
     {
         let next = self.next;
         if self.tokens.len() - next < 2 {
@@ -165,38 +188,41 @@ impl<'t, 's> Cursor<'t, 's> {
         if self.tokens.len() - next < 2 {
             return false;
         }
-        if matches!(lookahead_at(self.tokens, next + 1).class, Class::Trivia) {
+        if !begins_plain(lookahead_at(self.tokens, next).class) {
             return false;
         }
-        begins_plain(lookahead_at(self.tokens, next).class)
+        !matches!(lookahead_at(self.tokens, next + 1).class, Class::Trivia)
     }
 
     /// Reads the plain tokens at the front of an expression, and says where they end. It is called, since a copy of its loop
     /// at each place would cost more than the call.
     #[inline(never)]
-    pub fn plain(&mut self, newlines: Newlines) -> Paused
-        ensures leads { (count : ℕ) → Advances count (expr at newlines ∷ []) self.old (Ok (tt {0})) (awaited_symbols newlines result.awaited ++ waits newlines result.waiting []) self.new }
-        ensures shorter { is_operand result.awaited ≡ false → length self.new < length self.old }
-        ensures room { result.waiting + length self.new ≤ length self.old }
+    pub fn plain(&mut self, newlines: Newlines) -> Pause
+        ensures leads { (count : ℕ) → Advances count (expr at newlines ∷ []) self.old.left (Ok (tt {0})) (awaited_symbols newlines result.awaited ++ waits newlines result.waiting []) self.new.left }
+        ensures shorter { is_operand result.awaited ≡ false → length self.new.left < length self.old.left }
+        ensures room { result.waiting + length self.new.left ≤ length self.old.left }
     {
         let paused = past_plain(self.tokens, self.next, newlines);
         self.next = paused.number;
-        paused
+        Pause {
+            awaited: paused.awaited,
+            waiting: paused.waiting,
+        }
     }
 
     /// Reads the next token, which has to be what the terminal waits for. It is inlined, as `look` is.
     #[inline(always)]
-    pub fn expect(&mut self, newlines: Newlines, terminal: Terminal) -> Result<(), Refusal>
-        ensures parses { (count : ℕ) → Parses count (the terminal at newlines ∷ []) self.old result self.new }
-        ensures shorter { OnOk result (length self.new < length self.old) }
+    pub fn expect(&mut self, newlines: Newlines, terminal: Terminal) -> Result<(), Refused>
+        ensures parses { (count : ℕ) → Parses count (the terminal at newlines ∷ []) self.old.left (said result self.new.refusal) self.new.left }
+        ensures shorter { OnOk result (length self.new.left < length self.old.left) }
     {
         match self.look(newlines) {
-            None => Err(Refusal::UnexpectedEnd),
+            None => Err(self.refused(Refusal::UnexpectedEnd)),
             Some(token) => if fits(terminal, token.class) {
                 self.bump(token);
                 Ok(())
             } else {
-                Err(Refusal::UnexpectedToken(token.number))
+                Err(self.refused(Refusal::UnexpectedToken(token.number)))
             },
         }
     }
@@ -204,10 +230,10 @@ impl<'t, 's> Cursor<'t, 's> {
     /// Reads the next token where it is what the terminal waits for. It is inlined, as `look` is.
     #[inline(always)]
     pub fn takes(&mut self, newlines: Newlines, terminal: Terminal) -> bool
-        ensures yes { OnTrue result (TookTerminal newlines terminal self.old self.new) }
-        ensures no { OnFalse result (LacksTerminal newlines terminal self.old self.new) }
-        ensures shorter { length self.new ≤ length self.old }
-        ensures shorter_yes { OnTrue result (length self.new < length self.old) }
+        ensures yes { OnTrue result (TookTerminal newlines terminal self.old.left self.new.left) }
+        ensures no { OnFalse result (LacksTerminal newlines terminal self.old.left self.new.left) }
+        ensures shorter { length self.new.left ≤ length self.old.left }
+        ensures shorter_yes { OnTrue result (length self.new.left < length self.old.left) }
     {
         match self.look(newlines) {
             None => false,

@@ -5,23 +5,23 @@ ghost use Rattle.std.specs.Prelude.{◌≡◌, ◌+◌, ◌<◌, ◌≤◌, ◌^
 ghost use Rattle.std.specs.Bool.{OnTrue, OnFalse};
 ghost use Rattle.hcl_syntax.specs.Inner.Cursors.{shown, first};
 ghost use Rattle.hcl_grammar.specs.Grammar.{◌at◌, the, expr, after, after_ident, path, index, args, tuple, tuple_item, tuple_if, object, object_item, group, object_if, separator, names, step};
-ghost use Rattle.hcl_syntax.specs.Inner.Parsing.{Advances, Parses, after_follow, awaited_symbols, goes_on, is_operand, is_prefix, waits};
+ghost use Rattle.hcl_syntax.specs.Inner.Parsing.{Advances, Parses, said, after_follow, awaited_symbols, goes_on, is_operand, is_prefix, waits};
 ghost use Rattle.hcl_grammar.specs.declared.expected.Terminal.TheVariants.{Name, Separator, FatArrow, EndBracket, EndBrace};
 ghost use Rattle.hcl_grammar.specs.declared.expected.Newlines.TheVariants.{Seen, Dropped};
 
 use crate::cursor::Cursor;
-use crate::expected::{Awaited, Follow};
+use crate::expected::{Awaited, Follow, Refused};
 use crate::plain::is_ended;
 use hcl_grammar::{Class, Lookahead, Newlines, Refusal, Terminal};
 
 impl<'t, 's> Cursor<'t, 's> {
     /// Passes over the signs before an operand, and looks at the token after them.
     fn start(&mut self, newlines: Newlines) -> Option<Lookahead>
-        ensures leads { (count : ℕ) → Advances count (expr at newlines ∷ []) self.old (Ok (tt {0})) (expr at newlines ∷ []) self.new }
-        ensures left { self.new ≡ shown newlines self.new }
-        ensures found { result ≡ first self.new }
+        ensures leads { (count : ℕ) → Advances count (expr at newlines ∷ []) self.old.left (Ok (tt {0})) (expr at newlines ∷ []) self.new.left }
+        ensures left { self.new.left ≡ shown newlines self.new.left }
+        ensures found { result ≡ first self.new.left }
         ensures plain { IfSome result (λ t. is_prefix t.class ≡ false) }
-        ensures shorter { length self.new ≤ length self.old }
+        ensures shorter { length self.new.left ≤ length self.old.left }
     {
         loop {
             let token = self.look(newlines)?;
@@ -34,12 +34,12 @@ impl<'t, 's> Cursor<'t, 's> {
 
     /// An expression up to where its first operand ends.
     #[cycle(parser)]
-    fn operand(&mut self, newlines: Newlines, directives: usize) -> Result<(), Refusal>
-        ensures leads { Advances directives (expr at newlines ∷ []) self.old result (after at newlines ∷ []) self.new }
-        ensures shorter { OnOk result (length self.new < length self.old) }
+    fn operand(&mut self, newlines: Newlines, directives: usize) -> Result<(), Refused>
+        ensures leads { Advances directives (expr at newlines ∷ []) self.old.left (said result self.new.refusal) (after at newlines ∷ []) self.new.left }
+        ensures shorter { OnOk result (length self.new.left < length self.old.left) }
     {
         let Some(token) = self.start(newlines) else {
-            return Err(Refusal::UnexpectedEnd);
+            return Err(self.refused(Refusal::UnexpectedEnd));
         };
         match token.class {
             Class::Number(_) => {
@@ -73,16 +73,16 @@ impl<'t, 's> Cursor<'t, 's> {
                 self.parts(newlines, directives)?;
                 self.expect(newlines, Terminal::EndHeredoc)
             }
-            _ => Err(Refusal::UnexpectedToken(token.number)),
+            _ => Err(self.refused(Refusal::UnexpectedToken(token.number))),
         }
     }
 
     /// What may follow an identifier.
     #[cycle(parser)]
     #[inline(always)]
-    fn call(&mut self, newlines: Newlines, directives: usize) -> Result<(), Refusal>
-        ensures leads { Advances directives (after_ident at newlines ∷ []) self.old result (after at newlines ∷ []) self.new }
-        ensures shorter { OnOk result (length self.new ≤ length self.old) }
+    fn call(&mut self, newlines: Newlines, directives: usize) -> Result<(), Refused>
+        ensures leads { Advances directives (after_ident at newlines ∷ []) self.old.left (said result self.new.refusal) (after at newlines ∷ []) self.new.left }
+        ensures shorter { OnOk result (length self.new.left ≤ length self.old.left) }
     {
         let Some(token) = self.look(newlines) else {
             return Ok(());
@@ -102,14 +102,14 @@ impl<'t, 's> Cursor<'t, 's> {
     }
 
     /// The further names of a function after its first `::`, and the parenthesis of its call.
-    fn path(&mut self, newlines: Newlines) -> Result<(), Refusal>
-        ensures leads { (count : ℕ) → Advances count (the Name at newlines ∷ path at newlines ∷ []) self.old result (args at Dropped ∷ after at newlines ∷ []) self.new }
-        ensures shorter { OnOk result (length self.new ≤ length self.old) }
+    fn path(&mut self, newlines: Newlines) -> Result<(), Refused>
+        ensures leads { (count : ℕ) → Advances count (the Name at newlines ∷ path at newlines ∷ []) self.old.left (said result self.new.refusal) (args at Dropped ∷ after at newlines ∷ []) self.new.left }
+        ensures shorter { OnOk result (length self.new.left ≤ length self.old.left) }
     {
         loop {
             self.expect(newlines, Terminal::Name)?;
             let Some(token) = self.look(newlines) else {
-                return Err(Refusal::UnexpectedEnd);
+                return Err(self.refused(Refusal::UnexpectedEnd));
             };
             match token.class {
                 Class::ColonColon => self.bump(token),
@@ -117,7 +117,7 @@ impl<'t, 's> Cursor<'t, 's> {
                     self.bump(token);
                     return Ok(());
                 }
-                _ => return Err(Refusal::UnexpectedToken(token.number)),
+                _ => return Err(self.refused(Refusal::UnexpectedToken(token.number))),
             }
         }
     }
@@ -125,10 +125,10 @@ impl<'t, 's> Cursor<'t, 's> {
     /// What follows an operand, up to where another operand has to stand.
     #[cycle(parser)]
     #[inline(always)]
-    fn follow(&mut self, newlines: Newlines, directives: usize) -> Result<Follow, Refusal>
-        ensures leads { Advances directives (after at newlines ∷ []) self.old result (after_follow newlines result) self.new }
-        ensures shorter { OnOk result (length self.new ≤ length self.old) }
-        ensures onward { IfOk result (λ f. goes_on f ≡ true → length self.new < length self.old) }
+    fn follow(&mut self, newlines: Newlines, directives: usize) -> Result<Follow, Refused>
+        ensures leads { Advances directives (after at newlines ∷ []) self.old.left (said result self.new.refusal) (after_follow newlines result) self.new.left }
+        ensures shorter { OnOk result (length self.new.left ≤ length self.old.left) }
+        ensures onward { IfOk result (λ f. goes_on f ≡ true → length self.new.left < length self.old.left) }
     {
         loop {
             let Some(token) = self.look(newlines) else {
@@ -159,9 +159,9 @@ impl<'t, 's> Cursor<'t, 's> {
     /// An index after its bracket.
     #[cycle(parser)]
     #[inline(always)]
-    fn index(&mut self, directives: usize) -> Result<(), Refusal>
-        ensures parses { Parses directives (index at Dropped ∷ []) self.old result self.new }
-        ensures shorter { OnOk result (length self.new < length self.old) }
+    fn index(&mut self, directives: usize) -> Result<(), Refused>
+        ensures parses { Parses directives (index at Dropped ∷ []) self.old.left (said result self.new.refusal) self.new.left }
+        ensures shorter { OnOk result (length self.new.left < length self.old.left) }
     {
         if self.takes(Newlines::Dropped, Terminal::Asterisk) {
             return self.expect(Newlines::Dropped, Terminal::EndBracket);
@@ -173,9 +173,9 @@ impl<'t, 's> Cursor<'t, 's> {
     /// An expression, with so many directives open. It is inlined, so that for one of one token nothing is called.
     #[cycle(parser)]
     #[inline(always)]
-    pub fn expr(&mut self, newlines: Newlines, directives: usize) -> Result<(), Refusal>
-        ensures parses { Parses directives (expr at newlines ∷ []) self.old result self.new }
-        ensures shorter { OnOk result (length self.new < length self.old) }
+    pub fn expr(&mut self, newlines: Newlines, directives: usize) -> Result<(), Refused>
+        ensures parses { Parses directives (expr at newlines ∷ []) self.old.left (said result self.new.refusal) self.new.left }
+        ensures shorter { OnOk result (length self.new.left < length self.old.left) }
     {
         if self.takes_short(newlines) {
             return Ok(());
@@ -190,9 +190,9 @@ impl<'t, 's> Cursor<'t, 's> {
     /// An expression in brackets or of a `for`, which rarely is more than one plain token. It is inlined, as `expr` is.
     #[cycle(parser)]
     #[inline(always)]
-    fn inner_expr(&mut self, newlines: Newlines, directives: usize) -> Result<(), Refusal>
-        ensures parses { Parses directives (expr at newlines ∷ []) self.old result self.new }
-        ensures shorter { OnOk result (length self.new < length self.old) }
+    fn inner_expr(&mut self, newlines: Newlines, directives: usize) -> Result<(), Refused>
+        ensures parses { Parses directives (expr at newlines ∷ []) self.old.left (said result self.new.refusal) self.new.left }
+        ensures shorter { OnOk result (length self.new.left < length self.old.left) }
     {
         if self.takes_short(newlines) {
             return Ok(());
@@ -204,9 +204,9 @@ impl<'t, 's> Cursor<'t, 's> {
     /// The same where the first token is plain. It is inlined, so that where all are, what reads these alone is called.
     #[cycle(parser)]
     #[inline(always)]
-    fn plain_expr(&mut self, newlines: Newlines, directives: usize) -> Result<(), Refusal>
-        ensures parses { Parses directives (expr at newlines ∷ []) self.old result self.new }
-        ensures shorter { OnOk result (length self.new < length self.old) }
+    fn plain_expr(&mut self, newlines: Newlines, directives: usize) -> Result<(), Refused>
+        ensures parses { Parses directives (expr at newlines ∷ []) self.old.left (said result self.new.refusal) self.new.left }
+        ensures shorter { OnOk result (length self.new.left < length self.old.left) }
     {
         self.room();
         let paused = self.plain(newlines);
@@ -225,11 +225,11 @@ impl<'t, 's> Cursor<'t, 's> {
         waiting: usize,
         newlines: Newlines,
         directives: usize,
-    ) -> Result<(), Refusal>
-        requires { waiting + length self.old < 2 ^ 64 }
-        ensures parses { Parses directives (awaited_symbols newlines awaited ++ waits newlines waiting []) self.old result self.new }
-        ensures shorter { OnOk result (length self.new ≤ length self.old) }
-        ensures shorter_operand { is_operand awaited ≡ true → OnOk result (length self.new < length self.old) }
+    ) -> Result<(), Refused>
+        requires { waiting + length self.old.left < 2 ^ 64 }
+        ensures parses { Parses directives (awaited_symbols newlines awaited ++ waits newlines waiting []) self.old.left (said result self.new.refusal) self.new.left }
+        ensures shorter { OnOk result (length self.new.left ≤ length self.old.left) }
+        ensures shorter_operand { is_operand awaited ≡ true → OnOk result (length self.new.left < length self.old.left) }
     {
         match awaited {
             Awaited::Operand => self.whole_expr(waiting, newlines, directives),
@@ -249,10 +249,10 @@ impl<'t, 's> Cursor<'t, 's> {
         waiting: usize,
         newlines: Newlines,
         directives: usize,
-    ) -> Result<(), Refusal>
-        requires { waiting + length self.old < 2 ^ 64 }
-        ensures parses { Parses directives (after at newlines ∷ waits newlines waiting []) self.old result self.new }
-        ensures shorter { OnOk result (length self.new ≤ length self.old) }
+    ) -> Result<(), Refused>
+        requires { waiting + length self.old.left < 2 ^ 64 }
+        ensures parses { Parses directives (after at newlines ∷ waits newlines waiting []) self.old.left (said result self.new.refusal) self.new.left }
+        ensures shorter { OnOk result (length self.new.left ≤ length self.old.left) }
     {
         match self.follow(newlines, directives)? {
             Follow::Operator => self.whole_expr(waiting, newlines, directives),
@@ -268,10 +268,10 @@ impl<'t, 's> Cursor<'t, 's> {
         waiting: usize,
         newlines: Newlines,
         directives: usize,
-    ) -> Result<(), Refusal>
-        requires { waiting + length self.old < 2 ^ 64 }
-        ensures parses { Parses directives (waits newlines waiting []) self.old result self.new }
-        ensures shorter { OnOk result (length self.new ≤ length self.old) }
+    ) -> Result<(), Refused>
+        requires { waiting + length self.old.left < 2 ^ 64 }
+        ensures parses { Parses directives (waits newlines waiting []) self.old.left (said result self.new.refusal) self.new.left }
+        ensures shorter { OnOk result (length self.new.left ≤ length self.old.left) }
     {
         if waiting == 0 {
             return Ok(());
@@ -288,10 +288,10 @@ impl<'t, 's> Cursor<'t, 's> {
         waiting: usize,
         newlines: Newlines,
         directives: usize,
-    ) -> Result<(), Refusal>
-        requires { waiting + length self.old < 2 ^ 64 }
-        ensures parses { Parses directives (expr at newlines ∷ waits newlines waiting []) self.old result self.new }
-        ensures shorter { OnOk result (length self.new < length self.old) }
+    ) -> Result<(), Refused>
+        requires { waiting + length self.old.left < 2 ^ 64 }
+        ensures parses { Parses directives (expr at newlines ∷ waits newlines waiting []) self.old.left (said result self.new.refusal) self.new.left }
+        ensures shorter { OnOk result (length self.new.left < length self.old.left) }
     {
         let mut waiting = waiting;
         loop {
@@ -312,9 +312,9 @@ impl<'t, 's> Cursor<'t, 's> {
 
     /// The arguments of a call after its parenthesis.
     #[cycle(parser)]
-    fn args(&mut self, directives: usize) -> Result<(), Refusal>
-        ensures parses { Parses directives (args at Dropped ∷ []) self.old result self.new }
-        ensures shorter { OnOk result (length self.new < length self.old) }
+    fn args(&mut self, directives: usize) -> Result<(), Refused>
+        ensures parses { Parses directives (args at Dropped ∷ []) self.old.left (said result self.new.refusal) self.new.left }
+        ensures shorter { OnOk result (length self.new.left < length self.old.left) }
     {
         loop {
             if self.takes(Newlines::Dropped, Terminal::EndParen) {
@@ -322,7 +322,7 @@ impl<'t, 's> Cursor<'t, 's> {
             }
             self.expr(Newlines::Dropped, directives)?;
             let Some(token) = self.look(Newlines::Dropped) else {
-                return Err(Refusal::UnexpectedEnd);
+                return Err(self.refused(Refusal::UnexpectedEnd));
             };
             match token.class {
                 Class::Comma => self.bump(token),
@@ -334,16 +334,16 @@ impl<'t, 's> Cursor<'t, 's> {
                     self.bump(token);
                     return Ok(());
                 }
-                _ => return Err(Refusal::UnexpectedToken(token.number)),
+                _ => return Err(self.refused(Refusal::UnexpectedToken(token.number))),
             }
         }
     }
 
     /// A tuple after its bracket.
     #[cycle(parser)]
-    fn tuple(&mut self, directives: usize) -> Result<(), Refusal>
-        ensures parses { Parses directives (tuple at Dropped ∷ []) self.old result self.new }
-        ensures shorter { OnOk result (length self.new < length self.old) }
+    fn tuple(&mut self, directives: usize) -> Result<(), Refused>
+        ensures parses { Parses directives (tuple at Dropped ∷ []) self.old.left (said result self.new.refusal) self.new.left }
+        ensures shorter { OnOk result (length self.new.left < length self.old.left) }
     {
         if self.takes(Newlines::Dropped, Terminal::ForWord) {
             self.generator(directives)?;
@@ -353,9 +353,9 @@ impl<'t, 's> Cursor<'t, 's> {
     }
 
     #[cycle(parser)]
-    fn tuple_items(&mut self, directives: usize) -> Result<(), Refusal>
-        ensures parses { Parses directives (tuple_item at Dropped ∷ []) self.old result self.new }
-        ensures shorter { OnOk result (length self.new < length self.old) }
+    fn tuple_items(&mut self, directives: usize) -> Result<(), Refused>
+        ensures parses { Parses directives (tuple_item at Dropped ∷ []) self.old.left (said result self.new.refusal) self.new.left }
+        ensures shorter { OnOk result (length self.new.left < length self.old.left) }
     {
         loop {
             if self.takes(Newlines::Dropped, Terminal::EndBracket) {
@@ -363,7 +363,7 @@ impl<'t, 's> Cursor<'t, 's> {
             }
             self.expr(Newlines::Dropped, directives)?;
             let Some(token) = self.look(Newlines::Dropped) else {
-                return Err(Refusal::UnexpectedEnd);
+                return Err(self.refused(Refusal::UnexpectedEnd));
             };
             match token.class {
                 Class::Comma => self.bump(token),
@@ -371,16 +371,16 @@ impl<'t, 's> Cursor<'t, 's> {
                     self.bump(token);
                     return Ok(());
                 }
-                _ => return Err(Refusal::UnexpectedToken(token.number)),
+                _ => return Err(self.refused(Refusal::UnexpectedToken(token.number))),
             }
         }
     }
 
     /// The names of a for-expression, what it goes over, and its first result.
     #[cycle(parser)]
-    fn generator(&mut self, directives: usize) -> Result<(), Refusal>
-        ensures parses { Parses directives (the Name at Dropped ∷ names at Dropped ∷ expr at Dropped ∷ the Separator at Dropped ∷ expr at Dropped ∷ []) self.old result self.new }
-        ensures shorter { OnOk result (length self.new < length self.old) }
+    fn generator(&mut self, directives: usize) -> Result<(), Refused>
+        ensures parses { Parses directives (the Name at Dropped ∷ names at Dropped ∷ expr at Dropped ∷ the Separator at Dropped ∷ expr at Dropped ∷ []) self.old.left (said result self.new.refusal) self.new.left }
+        ensures shorter { OnOk result (length self.new.left < length self.old.left) }
     {
         self.names()?;
         self.inner_expr(Newlines::Dropped, directives)?;
@@ -390,9 +390,9 @@ impl<'t, 's> Cursor<'t, 's> {
 
     /// The condition of a for-expression in brackets, where it has one, and the closing bracket.
     #[cycle(parser)]
-    fn tuple_condition(&mut self, directives: usize) -> Result<(), Refusal>
-        ensures parses { Parses directives (tuple_if at Dropped ∷ []) self.old result self.new }
-        ensures shorter { OnOk result (length self.new < length self.old) }
+    fn tuple_condition(&mut self, directives: usize) -> Result<(), Refused>
+        ensures parses { Parses directives (tuple_if at Dropped ∷ []) self.old.left (said result self.new.refusal) self.new.left }
+        ensures shorter { OnOk result (length self.new.left < length self.old.left) }
     {
         if self.takes(Newlines::Dropped, Terminal::IfWord) {
             self.inner_expr(Newlines::Dropped, directives)?;
@@ -403,9 +403,9 @@ impl<'t, 's> Cursor<'t, 's> {
 
     /// An object after its brace.
     #[cycle(parser)]
-    fn object(&mut self, directives: usize) -> Result<(), Refusal>
-        ensures parses { Parses directives (object at Seen ∷ []) self.old result self.new }
-        ensures shorter { OnOk result (length self.new < length self.old) }
+    fn object(&mut self, directives: usize) -> Result<(), Refused>
+        ensures parses { Parses directives (object at Seen ∷ []) self.old.left (said result self.new.refusal) self.new.left }
+        ensures shorter { OnOk result (length self.new.left < length self.old.left) }
     {
         if self.takes(Newlines::Dropped, Terminal::ForWord) {
             return self.object_for(directives);
@@ -415,9 +415,9 @@ impl<'t, 's> Cursor<'t, 's> {
 
     /// The entries of an object, through its closing brace. Newlines count only after an entry.
     #[cycle(parser)]
-    fn entries(&mut self, directives: usize) -> Result<(), Refusal>
-        ensures parses { Parses directives (object_item at Seen ∷ []) self.old result self.new }
-        ensures shorter { OnOk result (length self.new < length self.old) }
+    fn entries(&mut self, directives: usize) -> Result<(), Refused>
+        ensures parses { Parses directives (object_item at Seen ∷ []) self.old.left (said result self.new.refusal) self.new.left }
+        ensures shorter { OnOk result (length self.new.left < length self.old.left) }
     {
         loop {
             if self.takes(Newlines::Dropped, Terminal::EndBrace) {
@@ -425,7 +425,7 @@ impl<'t, 's> Cursor<'t, 's> {
             }
             self.entry(directives)?;
             let Some(token) = self.look(Newlines::Seen) else {
-                return Err(Refusal::UnexpectedEnd);
+                return Err(self.refused(Refusal::UnexpectedEnd));
             };
             match token.class {
                 Class::Comma | Class::Newline => self.bump(token),
@@ -433,15 +433,15 @@ impl<'t, 's> Cursor<'t, 's> {
                     self.bump(token);
                     return Ok(());
                 }
-                _ => return Err(Refusal::UnexpectedToken(token.number)),
+                _ => return Err(self.refused(Refusal::UnexpectedToken(token.number))),
             }
         }
     }
 
     #[cycle(parser)]
-    fn entry(&mut self, directives: usize) -> Result<(), Refusal>
-        ensures parses { Parses directives (expr at Seen ∷ separator at Seen ∷ expr at Seen ∷ []) self.old result self.new }
-        ensures shorter { OnOk result (length self.new < length self.old) }
+    fn entry(&mut self, directives: usize) -> Result<(), Refused>
+        ensures parses { Parses directives (expr at Seen ∷ separator at Seen ∷ expr at Seen ∷ []) self.old.left (said result self.new.refusal) self.new.left }
+        ensures shorter { OnOk result (length self.new.left < length self.old.left) }
     {
         self.expr(Newlines::Seen, directives)?;
         self.separator()?;
@@ -450,9 +450,9 @@ impl<'t, 's> Cursor<'t, 's> {
 
     /// A for-expression in braces after its `for`.
     #[cycle(parser)]
-    fn object_for(&mut self, directives: usize) -> Result<(), Refusal>
-        ensures parses { Parses directives (the Name at Dropped ∷ names at Dropped ∷ expr at Dropped ∷ the Separator at Dropped ∷ expr at Dropped ∷ the FatArrow at Dropped ∷ expr at Dropped ∷ group at Dropped ∷ []) self.old result self.new }
-        ensures shorter { OnOk result (length self.new < length self.old) }
+    fn object_for(&mut self, directives: usize) -> Result<(), Refused>
+        ensures parses { Parses directives (the Name at Dropped ∷ names at Dropped ∷ expr at Dropped ∷ the Separator at Dropped ∷ expr at Dropped ∷ the FatArrow at Dropped ∷ expr at Dropped ∷ group at Dropped ∷ []) self.old.left (said result self.new.refusal) self.new.left }
+        ensures shorter { OnOk result (length self.new.left < length self.old.left) }
     {
         self.generator(directives)?;
         self.expect(Newlines::Dropped, Terminal::FatArrow)?;
@@ -463,8 +463,8 @@ impl<'t, 's> Cursor<'t, 's> {
 
     /// The `...` of a for-expression in braces, where it has one.
     fn grouping(&mut self)
-        ensures leads { (count : ℕ) → Advances count (group at Dropped ∷ []) self.old (Ok (tt {0})) (object_if at Dropped ∷ []) self.new }
-        ensures shorter { length self.new ≤ length self.old }
+        ensures leads { (count : ℕ) → Advances count (group at Dropped ∷ []) self.old.left (Ok (tt {0})) (object_if at Dropped ∷ []) self.new.left }
+        ensures shorter { length self.new.left ≤ length self.old.left }
     {
         if self.takes(Newlines::Dropped, Terminal::Ellipses) {
             return;
@@ -473,9 +473,9 @@ impl<'t, 's> Cursor<'t, 's> {
 
     /// The condition of a for-expression in braces, where it has one, and the closing brace.
     #[cycle(parser)]
-    fn object_condition(&mut self, directives: usize) -> Result<(), Refusal>
-        ensures parses { Parses directives (object_if at Dropped ∷ []) self.old result self.new }
-        ensures shorter { OnOk result (length self.new < length self.old) }
+    fn object_condition(&mut self, directives: usize) -> Result<(), Refused>
+        ensures parses { Parses directives (object_if at Dropped ∷ []) self.old.left (said result self.new.refusal) self.new.left }
+        ensures shorter { OnOk result (length self.new.left < length self.old.left) }
     {
         if self.takes(Newlines::Dropped, Terminal::IfWord) {
             self.inner_expr(Newlines::Dropped, directives)?;
@@ -485,18 +485,18 @@ impl<'t, 's> Cursor<'t, 's> {
     }
 
     /// The names of a `for`, and its `in`.
-    pub fn names(&mut self) -> Result<(), Refusal>
-        ensures parses { (count : ℕ) → Parses count (the Name at Dropped ∷ names at Dropped ∷ []) self.old result self.new }
-        ensures shorter { OnOk result (length self.new < length self.old) }
+    pub fn names(&mut self) -> Result<(), Refused>
+        ensures parses { (count : ℕ) → Parses count (the Name at Dropped ∷ names at Dropped ∷ []) self.old.left (said result self.new.refusal) self.new.left }
+        ensures shorter { OnOk result (length self.new.left < length self.old.left) }
     {
         self.expect(Newlines::Dropped, Terminal::Name)?;
         self.more_names()
     }
 
     /// What follows the first name of a `for`.
-    fn more_names(&mut self) -> Result<(), Refusal>
-        ensures parses { (count : ℕ) → Parses count (names at Dropped ∷ []) self.old result self.new }
-        ensures shorter { OnOk result (length self.new < length self.old) }
+    fn more_names(&mut self) -> Result<(), Refused>
+        ensures parses { (count : ℕ) → Parses count (names at Dropped ∷ []) self.old.left (said result self.new.refusal) self.new.left }
+        ensures shorter { OnOk result (length self.new.left < length self.old.left) }
     {
         if self.takes(Newlines::Dropped, Terminal::InWord) {
             return Ok(());
@@ -508,12 +508,12 @@ impl<'t, 's> Cursor<'t, 's> {
 
     /// What follows a dot.
     #[inline(always)]
-    pub fn step(&mut self, newlines: Newlines) -> Result<(), Refusal>
-        ensures parses { (count : ℕ) → Parses count (step at newlines ∷ []) self.old result self.new }
-        ensures shorter { OnOk result (length self.new < length self.old) }
+    pub fn step(&mut self, newlines: Newlines) -> Result<(), Refused>
+        ensures parses { (count : ℕ) → Parses count (step at newlines ∷ []) self.old.left (said result self.new.refusal) self.new.left }
+        ensures shorter { OnOk result (length self.new.left < length self.old.left) }
     {
         match self.look(newlines) {
-            None => Err(Refusal::UnexpectedEnd),
+            None => Err(self.refused(Refusal::UnexpectedEnd)),
             Some(token) => match token.class {
                 Class::Ident(_) | Class::Star => {
                     self.bump(token);
@@ -523,26 +523,26 @@ impl<'t, 's> Cursor<'t, 's> {
                     self.bump(token);
                     Ok(())
                 } else {
-                    Err(Refusal::UnexpectedToken(token.number))
+                    Err(self.refused(Refusal::UnexpectedToken(token.number)))
                 },
-                _ => Err(Refusal::UnexpectedToken(token.number)),
+                _ => Err(self.refused(Refusal::UnexpectedToken(token.number))),
             },
         }
     }
 
     /// What parts a key of an object from its value.
-    pub fn separator(&mut self) -> Result<(), Refusal>
-        ensures parses { (count : ℕ) → Parses count (separator at Seen ∷ []) self.old result self.new }
-        ensures shorter { OnOk result (length self.new < length self.old) }
+    pub fn separator(&mut self) -> Result<(), Refused>
+        ensures parses { (count : ℕ) → Parses count (separator at Seen ∷ []) self.old.left (said result self.new.refusal) self.new.left }
+        ensures shorter { OnOk result (length self.new.left < length self.old.left) }
     {
         match self.look(Newlines::Seen) {
-            None => Err(Refusal::UnexpectedEnd),
+            None => Err(self.refused(Refusal::UnexpectedEnd)),
             Some(token) => match token.class {
                 Class::Assign | Class::Colon => {
                     self.bump(token);
                     Ok(())
                 }
-                _ => Err(Refusal::UnexpectedToken(token.number)),
+                _ => Err(self.refused(Refusal::UnexpectedToken(token.number))),
             },
         }
     }

@@ -2,21 +2,22 @@
 ghost use Rattle.std.specs.Prelude.{◌≡◌, ◌+◌, ◌<◌, ◌≤◌, ◌^◌, ℕ, List, [], ◌∷◌, length, Some, None, Ok, OnOk};
 ghost use Rattle.hcl_grammar.specs.Grammar.{◌at◌, the, eol, labels, label_literal, start, rest, expr, file};
 ghost use Rattle.hcl_grammar.specs.Predictor.{run};
-ghost use Rattle.hcl_syntax.specs.Inner.Parsing.{Advances, Parses, outcome, after_item};
+ghost use Rattle.hcl_syntax.specs.Inner.Parsing.{Advances, Parses, said, outcome, after_item};
 ghost use Rattle.hcl_grammar.specs.declared.expected.Terminal.TheVariants.{EndQuote, Equals, EndBrace};
 ghost use Rattle.hcl_grammar.specs.declared.expected.Newlines.TheVariants.{Seen};
 
 use crate::cursor::Cursor;
+use crate::expected::Refused;
 use hcl_grammar::{Class, Newlines, Refusal, Terminal};
 
 impl<'t, 's> Cursor<'t, 's> {
     /// A quoted label after its opening quote.
-    fn label(&mut self) -> Result<(), Refusal>
-        ensures parses { Parses 0 (label_literal at Seen ∷ the EndQuote at Seen ∷ []) self.old result self.new }
-        ensures shorter { OnOk result (length self.new ≤ length self.old) }
+    fn label(&mut self) -> Result<(), Refused>
+        ensures parses { Parses 0 (label_literal at Seen ∷ the EndQuote at Seen ∷ []) self.old.left (said result self.new.refusal) self.new.left }
+        ensures shorter { OnOk result (length self.new.left ≤ length self.old.left) }
     {
         let Some(token) = self.look(Newlines::Seen) else {
-            return Err(Refusal::UnexpectedEnd);
+            return Err(self.refused(Refusal::UnexpectedEnd));
         };
         match token.class {
             Class::Lit => {
@@ -27,18 +28,18 @@ impl<'t, 's> Cursor<'t, 's> {
                 self.bump(token);
                 Ok(())
             }
-            _ => Err(Refusal::UnexpectedToken(token.number)),
+            _ => Err(self.refused(Refusal::UnexpectedToken(token.number))),
         }
     }
 
     /// The labels of a block and its opening brace.
-    fn labels(&mut self) -> Result<(), Refusal>
-        ensures leads { Advances 0 (labels at Seen ∷ []) self.old result (start at Seen ∷ []) self.new }
-        ensures shorter { OnOk result (length self.new ≤ length self.old) }
+    fn labels(&mut self) -> Result<(), Refused>
+        ensures leads { Advances 0 (labels at Seen ∷ []) self.old.left (said result self.new.refusal) (start at Seen ∷ []) self.new.left }
+        ensures shorter { OnOk result (length self.new.left ≤ length self.old.left) }
     {
         loop {
             let Some(token) = self.look(Newlines::Seen) else {
-                return Err(Refusal::UnexpectedEnd);
+                return Err(self.refused(Refusal::UnexpectedEnd));
             };
             match token.class {
                 Class::Ident(_) => self.bump(token),
@@ -50,18 +51,18 @@ impl<'t, 's> Cursor<'t, 's> {
                     self.bump(token);
                     return Ok(());
                 }
-                _ => return Err(Refusal::UnexpectedToken(token.number)),
+                _ => return Err(self.refused(Refusal::UnexpectedToken(token.number))),
             }
         }
     }
 
     /// What follows a block's opening brace. The answer is whether its body goes on over lines.
-    fn block(&mut self) -> Result<bool, Refusal>
-        ensures leads { Advances 0 (start at Seen ∷ []) self.old result (after_item result) self.new }
-        ensures shorter { OnOk result (length self.new ≤ length self.old) }
+    fn block(&mut self) -> Result<bool, Refused>
+        ensures leads { Advances 0 (start at Seen ∷ []) self.old.left (said result self.new.refusal) (after_item result) self.new.left }
+        ensures shorter { OnOk result (length self.new.left ≤ length self.old.left) }
     {
         let Some(token) = self.look(Newlines::Seen) else {
-            return Err(Refusal::UnexpectedEnd);
+            return Err(self.refused(Refusal::UnexpectedEnd));
         };
         match token.class {
             Class::Newline => {
@@ -78,14 +79,14 @@ impl<'t, 's> Cursor<'t, 's> {
                 self.end_of_line()?;
                 Ok(false)
             }
-            _ => Err(Refusal::UnexpectedToken(token.number)),
+            _ => Err(self.refused(Refusal::UnexpectedToken(token.number))),
         }
     }
 
     /// The one attribute of a block on one line, after its name, and the rest of that line.
-    fn attribute_line(&mut self) -> Result<(), Refusal>
-        ensures parses { Parses 0 (the Equals at Seen ∷ expr at Seen ∷ the EndBrace at Seen ∷ eol at Seen ∷ []) self.old result self.new }
-        ensures shorter { OnOk result (length self.new ≤ length self.old) }
+    fn attribute_line(&mut self) -> Result<(), Refused>
+        ensures parses { Parses 0 (the Equals at Seen ∷ expr at Seen ∷ the EndBrace at Seen ∷ eol at Seen ∷ []) self.old.left (said result self.new.refusal) self.new.left }
+        ensures shorter { OnOk result (length self.new.left ≤ length self.old.left) }
     {
         self.expect(Newlines::Seen, Terminal::Equals)?;
         self.expr(Newlines::Seen, 0)?;
@@ -94,9 +95,9 @@ impl<'t, 's> Cursor<'t, 's> {
     }
 
     /// An attribute or a block after its first identifier.
-    fn item(&mut self) -> Result<bool, Refusal>
-        ensures leads { Advances 0 (rest at Seen ∷ []) self.old result (after_item result) self.new }
-        ensures shorter { OnOk result (length self.new ≤ length self.old) }
+    fn item(&mut self) -> Result<bool, Refused>
+        ensures leads { Advances 0 (rest at Seen ∷ []) self.old.left (said result self.new.refusal) (after_item result) self.new.left }
+        ensures shorter { OnOk result (length self.new.left ≤ length self.old.left) }
     {
         if self.takes(Newlines::Seen, Terminal::Equals) {
             self.expr(Newlines::Seen, 0)?;
@@ -108,8 +109,8 @@ impl<'t, 's> Cursor<'t, 's> {
     }
 
     /// A file. Of the blocks that are open it keeps the number.
-    pub fn file(&mut self) -> Result<(), Refusal>
-        ensures { run 0 (file at Seen ∷ []) self.old ≡ outcome result None }
+    pub fn file(&mut self) -> Result<(), Refused>
+        ensures { run 0 (file at Seen ∷ []) self.old.left ≡ outcome (said result self.new.refusal) None }
     {
         self.room();
         let mut levels: usize = 0;
@@ -118,7 +119,7 @@ impl<'t, 's> Cursor<'t, 's> {
                 return if levels == 0 {
                     Ok(())
                 } else {
-                    Err(Refusal::UnexpectedEnd)
+                    Err(self.refused(Refusal::UnexpectedEnd))
                 };
             };
             match token.class {
@@ -131,21 +132,21 @@ impl<'t, 's> Cursor<'t, 's> {
                 }
                 Class::BraceClose => {
                     if levels == 0 {
-                        return Err(Refusal::UnexpectedToken(token.number));
+                        return Err(self.refused(Refusal::UnexpectedToken(token.number)));
                     }
                     self.bump(token);
                     self.end_of_line()?;
                     levels -= 1;
                 }
-                _ => return Err(Refusal::UnexpectedToken(token.number)),
+                _ => return Err(self.refused(Refusal::UnexpectedToken(token.number))),
             }
         }
     }
 
     /// The end of a line, or of the input.
-    pub fn end_of_line(&mut self) -> Result<(), Refusal>
-        ensures parses { Parses 0 (eol at Seen ∷ []) self.old result self.new }
-        ensures shorter { OnOk result (length self.new ≤ length self.old) }
+    pub fn end_of_line(&mut self) -> Result<(), Refused>
+        ensures parses { Parses 0 (eol at Seen ∷ []) self.old.left (said result self.new.refusal) self.new.left }
+        ensures shorter { OnOk result (length self.new.left ≤ length self.old.left) }
     {
         let Some(end) = self.look(Newlines::Seen) else {
             return Ok(());
@@ -155,7 +156,7 @@ impl<'t, 's> Cursor<'t, 's> {
                 self.bump(end);
                 Ok(())
             }
-            _ => Err(Refusal::UnexpectedToken(end.number)),
+            _ => Err(self.refused(Refusal::UnexpectedToken(end.number))),
         }
     }
 }

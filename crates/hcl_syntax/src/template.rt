@@ -2,13 +2,13 @@
 
 ghost use Rattle.std.specs.Prelude.{◌≡◌, ◌+◌, ◌<◌, ◌≤◌, [], ◌∷◌, length, Some, None, Ok, OnOk};
 ghost use Rattle.hcl_grammar.specs.Grammar.{◌at◌, the, expr, parts, directive, inside};
-ghost use Rattle.hcl_syntax.specs.Inner.Parsing.{Advances, Parses, Ends, turning};
+ghost use Rattle.hcl_syntax.specs.Inner.Parsing.{Advances, Parses, said, Ends, turning};
 ghost use Rattle.hcl_grammar.specs.Predictor.{max_directives};
 ghost use Rattle.hcl_grammar.specs.declared.expected.Terminal.TheVariants.{EndSequence};
 ghost use Rattle.hcl_grammar.specs.declared.expected.Newlines.TheVariants.{Dropped};
 
 use crate::cursor::Cursor;
-use crate::expected::Turning;
+use crate::expected::{Refused, Turning};
 use hcl_grammar::{Class, Newlines, Refusal, Section, Terminal, Word};
 
 /// How many directives may be open.
@@ -29,13 +29,13 @@ fn turning(section: Section, class: Class) -> Turning
 impl<'t, 's> Cursor<'t, 's> {
     /// A template up to its closing quote or marker.
     #[cycle(parser)]
-    pub fn parts(&mut self, newlines: Newlines, directives: usize) -> Result<(), Refusal>
-        ensures parses { Parses directives (parts at newlines ∷ []) self.old result self.new }
-        ensures shorter { OnOk result (length self.new ≤ length self.old) }
+    pub fn parts(&mut self, newlines: Newlines, directives: usize) -> Result<(), Refused>
+        ensures parses { Parses directives (parts at newlines ∷ []) self.old.left (said result self.new.refusal) self.new.left }
+        ensures shorter { OnOk result (length self.new.left ≤ length self.old.left) }
     {
         loop {
             let Some(token) = self.look(newlines) else {
-                return Err(Refusal::UnexpectedEnd);
+                return Err(self.refused(Refusal::UnexpectedEnd));
             };
             match token.class {
                 Class::Lit => self.bump(token),
@@ -48,16 +48,16 @@ impl<'t, 's> Cursor<'t, 's> {
                     self.directive(token.number, directives)?;
                 }
                 Class::QuoteClose | Class::HeredocClose => return Ok(()),
-                _ => return Err(Refusal::UnexpectedToken(token.number)),
+                _ => return Err(self.refused(Refusal::UnexpectedToken(token.number))),
             }
         }
     }
 
     /// An expression and the end of its sequence.
     #[cycle(parser)]
-    fn sequence(&mut self, directives: usize) -> Result<(), Refusal>
-        ensures parses { Parses directives (expr at Dropped ∷ the EndSequence at Dropped ∷ []) self.old result self.new }
-        ensures shorter { OnOk result (length self.new < length self.old) }
+    fn sequence(&mut self, directives: usize) -> Result<(), Refused>
+        ensures parses { Parses directives (expr at Dropped ∷ the EndSequence at Dropped ∷ []) self.old.left (said result self.new.refusal) self.new.left }
+        ensures shorter { OnOk result (length self.new.left < length self.old.left) }
     {
         self.expr(Newlines::Dropped, directives)?;
         self.expect(Newlines::Dropped, Terminal::EndSequence)
@@ -65,18 +65,18 @@ impl<'t, 's> Cursor<'t, 's> {
 
     /// A directive after its `%{`, which is the token of this number.
     #[cycle(parser)]
-    fn directive(&mut self, number: u32, directives: usize) -> Result<(), Refusal>
-        ensures parses { Parses directives (directive number at Dropped ∷ []) self.old result self.new }
-        ensures shorter { OnOk result (length self.new < length self.old) }
+    fn directive(&mut self, number: u32, directives: usize) -> Result<(), Refused>
+        ensures parses { Parses directives (directive number at Dropped ∷ []) self.old.left (said result self.new.refusal) self.new.left }
+        ensures shorter { OnOk result (length self.new.left < length self.old.left) }
     {
         let Some(token) = self.look(Newlines::Dropped) else {
-            return Err(Refusal::UnexpectedEnd);
+            return Err(self.refused(Refusal::UnexpectedEnd));
         };
         match token.class {
             Class::Ident(word) => match word {
                 Word::If => {
                     if directives >= MAX_DIRECTIVES {
-                        return Err(Refusal::TooDeep(number));
+                        return Err(self.refused(Refusal::TooDeep(number)));
                     }
                     self.bump(token);
                     self.sequence(directives + 1)?;
@@ -84,30 +84,30 @@ impl<'t, 's> Cursor<'t, 's> {
                 }
                 Word::For => {
                     if directives >= MAX_DIRECTIVES {
-                        return Err(Refusal::TooDeep(number));
+                        return Err(self.refused(Refusal::TooDeep(number)));
                     }
                     self.bump(token);
                     self.names()?;
                     self.sequence(directives + 1)?;
                     self.section(Section::InFor, directives)
                 }
-                _ => Err(Refusal::UnexpectedToken(token.number)),
+                _ => Err(self.refused(Refusal::UnexpectedToken(token.number))),
             },
-            _ => Err(Refusal::UnexpectedToken(token.number)),
+            _ => Err(self.refused(Refusal::UnexpectedToken(token.number))),
         }
     }
 
     /// The template in a directive, through the directive's end.
     #[cycle(parser)]
-    fn section(&mut self, section: Section, directives: usize) -> Result<(), Refusal>
+    fn section(&mut self, section: Section, directives: usize) -> Result<(), Refused>
         requires { directives < max_directives }
-        ensures ends { Ends directives (inside section at Dropped ∷ []) self.old result self.new }
-        ensures shorter { OnOk result (length self.new < length self.old) }
+        ensures ends { Ends directives (inside section at Dropped ∷ []) self.old.left (said result self.new.refusal) self.new.left }
+        ensures shorter { OnOk result (length self.new.left < length self.old.left) }
     {
         let mut section = section;
         loop {
             let Some(token) = self.look(Newlines::Dropped) else {
-                return Err(Refusal::UnexpectedEnd);
+                return Err(self.refused(Refusal::UnexpectedEnd));
             };
             match token.class {
                 Class::Lit => self.bump(token),
@@ -118,7 +118,7 @@ impl<'t, 's> Cursor<'t, 's> {
                 Class::ControlOpen => {
                     self.bump(token);
                     let Some(word) = self.look(Newlines::Dropped) else {
-                        return Err(Refusal::UnexpectedEnd);
+                        return Err(self.refused(Refusal::UnexpectedEnd));
                     };
                     match turning(section, word.class) {
                         Turning::Onward => {
@@ -133,7 +133,7 @@ impl<'t, 's> Cursor<'t, 's> {
                         Turning::Inner => self.directive(token.number, directives + 1)?,
                     }
                 }
-                _ => return Err(Refusal::UnexpectedToken(token.number)),
+                _ => return Err(self.refused(Refusal::UnexpectedToken(token.number))),
             }
         }
     }

@@ -16,6 +16,7 @@ use Rattle.hcl_syntax.specs.declared.expected.Awaited.{Awaited}
 use Rattle.hcl_syntax.specs.declared.expected.Awaited.TheVariants.{Operand, AfterName, AfterOperand, AfterExpression}
 use Rattle.hcl_syntax.specs.declared.expected.Sequel.{Sequel}
 use Rattle.hcl_syntax.specs.declared.expected.Sequel.TheVariants as next
+use Rattle.hcl_syntax.specs.declared.expected.Refused.{Refused}
 use Rattle.hcl_syntax.specs.declared.expected.Follow.{Follow}
 use Rattle.hcl_syntax.specs.declared.expected.Follow.TheVariants.{Operator, Choice, Other}
 use Rattle.hcl_grammar.specs.declared.refusal.Refusal.{Refusal}
@@ -30,6 +31,11 @@ use Rattle.hcl_tokens.specs.Lexemes.{Lexeme}
 abbrev pub outcome : {A : Type 0} → Result A Refusal → Option Refusal → Option Refusal
 outcome (Ok _) o = o
 outcome (Err f) o = Some f
+
+-- a result with the refusal that the cursor keeps
+abbrev pub said : {A : Type 0} → Result A Refused → Refusal → Result A Refusal
+said (Ok a) f = Ok a
+said (Err e) f = Err f
 
 -- With the symbols xs first, whatever comes after them, the predictor comes from the old tokens to the new ones with
 -- ys in their place, or ends with the refusal.
@@ -61,7 +67,7 @@ goes_on Operator = true
 goes_on Choice = true
 goes_on Other = false
 
-abbrev pub after_follow : Newlines → Result Follow Refusal → List Marked
+abbrev pub after_follow : Newlines → Result Follow Refused → List Marked
 after_follow m (Ok f) = follow_symbols m f
 after_follow m (Err e) = []
 
@@ -154,7 +160,7 @@ abbrev pub body_symbols : Bool → List Marked
 body_symbols true = body at Seen ∷ the EndBrace at Seen ∷ eol at Seen ∷ []
 body_symbols false = []
 
-abbrev pub after_item : Result Bool Refusal → List Marked
+abbrev pub after_item : Result Bool Refused → List Marked
 after_item (Ok opened) = body_symbols opened
 after_item (Err e) = []
 

@@ -4,7 +4,7 @@ use Rattle.hcl_grammar.specs.declared.expected.Newlines.TheVariants.{Seen, Dropp
 use Rattle.hcl_grammar.specs.declared.expected.Terminal.TheVariants.{Name, EndParen, EndBracket, EndBrace, EndSequence, EndQuote, EndHeredoc, Separator, FatArrow}
 use Rattle.hcl_grammar.specs.Grammar.{◌at◌, row, the, expr, after, after_ident, arg_next, tuple, tuple_item, tuple_next, tuple_if, object, object_item, object_next, object_if, group, separator, parts, names, inside, section_directive, directive}
 use Rattle.hcl_syntax.specs.Inner.Parsing.{turning, waits, follow_symbols}
-use Rattle.hcl_syntax.proofs.CursorStepLemmas.{expr-stays, directive-stays, same-token, opening-row, too-deep, closing, turning-onward, turning-closing, turning-inner, end-onward, end-fails, end-quits, looks, reading, vanishing, vanishing-end, refusing, refusing-end, onward, beside, quits, done, begins, alike, args-end, args-else, tuple-end, tuple-else, index-star, index-else, no-token, waits-down, renamed, tuple-for, tuple-listed, tuple-if, tuple-plain, object-if, object-plain, object-for, object-listed, object-passes, item-passes, item-end, item-else, past-reading, past-alike, past-begins}
+use Rattle.hcl_syntax.proofs.CursorStepLemmas.{expr-stays, directive-stays, same-token, opening-row, too-deep, closing, turning-onward, turning-closing, turning-inner, end-onward, end-fails, end-quits, looks, reading, vanishing, vanishing-end, refusing, refusing-end, onward, beside, quits, done, begins, alike, args-end, args-else, tuple-end, tuple-else, index-star, index-else, no-token, waits-down, renamed, tuple-for, tuple-listed, tuple-if, tuple-plain, object-if, object-plain, object-for, object-listed, object-passes, item-passes, item-end, item-else, past-reading, past-alike, past-begins, kept-refusal, end-kept-refusal, kept-refusal-end}
 use Rattle.hcl_syntax.proofs.PlainLemmas.{nothing_left}
 use Rattle.hcl_syntax.proofs.cursor.Cursor.+parser.Goals as goal
 
@@ -17,9 +17,9 @@ args-returns-in_err-expr-clause-parses n c = quits _ c.from_residual.ensures.1
     (onward c.loop-directives.invariant.leads (begins refl refl (expr-stays _) (λ t e. args-else _ _ (c.if-takes.ensures.no.unfit t e)) c.if-takes.ensures.no.shows (beside (arg_next at Dropped ∷ []) c.in_err-expr.ensures.parses)))
 
 pub args-returns-in_default-clause-parses : goal.args-returns-in_default-clause-parses
-args-returns-in_default-clause-parses n c =
-    onward c.loop-directives.invariant.leads (begins refl refl (expr-stays _) (λ t e. args-else _ _ (c.if-takes.ensures.no.unfit t e)) c.if-takes.ensures.no.shows (onward (beside (arg_next at Dropped ∷ []) c.in_ok-expr.ensures.parses)
-    (refusing-end c.look.ensures.left c.in_default.ensures.found refl)))
+args-returns-in_default-clause-parses n c = kept-refusal-end c.refused.ensures.refusal
+    (onward c.loop-directives.invariant.leads (begins refl refl (expr-stays _) (λ t e. args-else _ _ (c.if-takes.ensures.no.unfit t e)) c.if-takes.ensures.no.shows (onward (beside (arg_next at Dropped ∷ []) c.in_ok-expr.ensures.parses)
+    (refusing-end c.look.ensures.left c.in_default.ensures.found refl))))
 
 pub args-loop-directives-preserved : goal.args-loop-directives-preserved
 args-loop-directives-preserved n c = record {
@@ -40,8 +40,8 @@ args-returns-in-ParenClose-clause-parses n c =
 
 pub args-returns-in_default-class : goal.args-returns-in_default-class
 args-returns-in_default-class n c = record {
-  parses = onward c.loop-directives.invariant.leads (begins refl refl (expr-stays _) (λ t e. args-else _ _ (c.if-takes.ensures.no.unfit t e)) c.if-takes.ensures.no.shows (onward (beside (arg_next at Dropped ∷ []) c.in_ok-expr.ensures.parses)
-      (refusing (looks _ _ _ _ _ c.look.ensures.left c.in-Some.ensures.found refl) (search rules))));
+  parses = kept-refusal c.refused-in_default-class.ensures.refusal (onward c.loop-directives.invariant.leads (begins refl refl (expr-stays _) (λ t e. args-else _ _ (c.if-takes.ensures.no.unfit t e)) c.if-takes.ensures.no.shows (onward (beside (arg_next at Dropped ∷ []) c.in_ok-expr.ensures.parses)
+      (refusing (looks _ _ _ _ _ c.look.ensures.left c.in-Some.ensures.found refl) (search rules)))));
   shorter = tt;
 }
 
@@ -83,9 +83,9 @@ tuple_items-returns-in_err-expr-clause-parses n c = quits _ c.from_residual.ensu
     (onward c.loop-directives.invariant.leads (begins refl refl (expr-stays _) (λ t e. tuple-else _ _ (c.if-takes.ensures.no.unfit t e)) c.if-takes.ensures.no.shows (beside (tuple_next at Dropped ∷ []) c.in_err-expr.ensures.parses)))
 
 pub tuple_items-returns-in_default-clause-parses : goal.tuple_items-returns-in_default-clause-parses
-tuple_items-returns-in_default-clause-parses n c =
-    onward c.loop-directives.invariant.leads (begins refl refl (expr-stays _) (λ t e. tuple-else _ _ (c.if-takes.ensures.no.unfit t e)) c.if-takes.ensures.no.shows (onward (beside (tuple_next at Dropped ∷ []) c.in_ok-expr.ensures.parses)
-    (refusing-end c.look.ensures.left c.in_default.ensures.found refl)))
+tuple_items-returns-in_default-clause-parses n c = kept-refusal-end c.refused.ensures.refusal
+    (onward c.loop-directives.invariant.leads (begins refl refl (expr-stays _) (λ t e. tuple-else _ _ (c.if-takes.ensures.no.unfit t e)) c.if-takes.ensures.no.shows (onward (beside (tuple_next at Dropped ∷ []) c.in_ok-expr.ensures.parses)
+    (refusing-end c.look.ensures.left c.in_default.ensures.found refl))))
 
 pub tuple_items-loop-directives-preserved : goal.tuple_items-loop-directives-preserved
 tuple_items-loop-directives-preserved n c = record {
@@ -101,13 +101,13 @@ tuple_items-returns-in-BracketClose-clause-parses n c =
 
 pub tuple_items-returns-in_default-class : goal.tuple_items-returns-in_default-class
 tuple_items-returns-in_default-class n c = record {
-  parses = onward c.loop-directives.invariant.leads (begins refl refl (expr-stays _) (λ t e. tuple-else _ _ (c.if-takes.ensures.no.unfit t e)) c.if-takes.ensures.no.shows (onward (beside (tuple_next at Dropped ∷ []) c.in_ok-expr.ensures.parses)
-      (refusing (looks _ _ _ _ _ c.look.ensures.left c.in-Some.ensures.found refl) (search rules))));
+  parses = kept-refusal c.refused-in_default-class.ensures.refusal (onward c.loop-directives.invariant.leads (begins refl refl (expr-stays _) (λ t e. tuple-else _ _ (c.if-takes.ensures.no.unfit t e)) c.if-takes.ensures.no.shows (onward (beside (tuple_next at Dropped ∷ []) c.in_ok-expr.ensures.parses)
+      (refusing (looks _ _ _ _ _ c.look.ensures.left c.in-Some.ensures.found refl) (search rules)))));
   shorter = tt;
 }
 
 pub operand-returns-in_default-clause-leads : goal.operand-returns-in_default-clause-leads
-operand-returns-in_default-clause-leads n c = onward (c.start.ensures.leads _) (refusing-end c.start.ensures.left c.in_default.ensures.found refl)
+operand-returns-in_default-clause-leads n c = kept-refusal-end c.refused.ensures.refusal (onward (c.start.ensures.leads _) (refusing-end c.start.ensures.left c.in_default.ensures.found refl))
 
 pub operand-returns-in-Number-clause-leads : goal.operand-returns-in-Number-clause-leads
 operand-returns-in-Number-clause-leads n c = onward (c.start.ensures.leads _) (reading (looks _ _ _ _ _ c.start.ensures.left c.in-Some.ensures.found c.bump.ensures.left) (search rules) done)
@@ -147,12 +147,12 @@ operand-returns-in_ok-parts-in-HeredocOpen-clause-leads n c =
 
 pub operand-returns-in_default-class : goal.operand-returns-in_default-class
 operand-returns-in_default-class n c = record {
-  leads = onward (c.start.ensures.leads _) (refusing (looks _ _ _ _ _ c.start.ensures.left c.in-Some.ensures.found refl) (search rules));
+  leads = kept-refusal c.refused-in_default-class.ensures.refusal (onward (c.start.ensures.leads _) (refusing (looks _ _ _ _ _ c.start.ensures.left c.in-Some.ensures.found refl) (search rules)));
   shorter = tt;
 }
 
 pub parts-returns-in_default-clause-parses : goal.parts-returns-in_default-clause-parses
-parts-returns-in_default-clause-parses n c = onward c.loop-token.invariant.leads (refusing-end c.look.ensures.left c.in_default.ensures.found refl)
+parts-returns-in_default-clause-parses n c = kept-refusal-end c.refused.ensures.refusal (onward c.loop-token.invariant.leads (refusing-end c.look.ensures.left c.in_default.ensures.found refl))
 
 pub parts-loop-token-preserved-in-Lit : goal.parts-loop-token-preserved-in-Lit
 parts-loop-token-preserved-in-Lit n c = record {
@@ -165,7 +165,7 @@ parts-returns-in-QuoteClose-clause-parses n c = onward c.loop-token.invariant.le
 
 pub parts-returns-in_default-class : goal.parts-returns-in_default-class
 parts-returns-in_default-class n c = record {
-  parses = onward c.loop-token.invariant.leads (refusing (looks _ _ _ _ _ c.look.ensures.left c.in-Some.ensures.found refl) (search rules));
+  parses = kept-refusal c.refused-in_default-class.ensures.refusal (onward c.loop-token.invariant.leads (refusing (looks _ _ _ _ _ c.look.ensures.left c.in-Some.ensures.found refl) (search rules)));
   shorter = tt;
 }
 
@@ -252,19 +252,19 @@ pub parts-returns-in_err-directive-in-ControlOpen-clause-parses : goal.parts-ret
 parts-returns-in_err-directive-in-ControlOpen-clause-parses n c = quits _ c.from_residual-in_err-directive-in-ControlOpen.ensures.1 (onward c.loop-token.invariant.leads (reading (looks _ _ _ _ _ c.look.ensures.left c.in-Some.ensures.found c.bump-in-ControlOpen.ensures.left) (search rules) (beside (parts at c.args.newlines ∷ []) c.in_err-directive-in-ControlOpen.ensures.parses)))
 
 pub directive-returns-in_default-clause-parses : goal.directive-returns-in_default-clause-parses
-directive-returns-in_default-clause-parses n c = refusing-end c.look.ensures.left c.in_default.ensures.found refl
+directive-returns-in_default-clause-parses n c = kept-refusal-end c.refused.ensures.refusal (refusing-end c.look.ensures.left c.in_default.ensures.found refl)
 
 pub directive-returns-in_default-class : goal.directive-returns-in_default-class
-directive-returns-in_default-class n c = record { parses = refusing (looks _ _ _ _ _ c.look.ensures.left c.in-Some.ensures.found refl) (search rules); shorter = tt }
+directive-returns-in_default-class n c = record { parses = kept-refusal c.refused-in_default-class.ensures.refusal (refusing (looks _ _ _ _ _ c.look.ensures.left c.in-Some.ensures.found refl) (search rules)); shorter = tt }
 
 pub directive-returns-in_default-word : goal.directive-returns-in_default-word
-directive-returns-in_default-word n c = record { parses = refusing (looks _ _ _ _ _ c.look.ensures.left c.in-Some.ensures.found refl) (search rules); shorter = tt }
+directive-returns-in_default-word n c = record { parses = kept-refusal c.refused-in_default-word.ensures.refusal (refusing (looks _ _ _ _ _ c.look.ensures.left c.in-Some.ensures.found refl) (search rules)); shorter = tt }
 
 pub directive-returns-then-directives-ge-MAX_DIRECTIVES-clause-parses : goal.directive-returns-then-directives-ge-MAX_DIRECTIVES-clause-parses
-directive-returns-then-directives-ge-MAX_DIRECTIVES-clause-parses n c = too-deep {xs = expr at Dropped ∷ the EndSequence at Dropped ∷ inside InIf at Dropped ∷ []} (looks _ _ _ _ _ c.look.ensures.left c.in-Some.ensures.found refl) (search rules) (omega arith)
+directive-returns-then-directives-ge-MAX_DIRECTIVES-clause-parses n c = kept-refusal c.refused-then-directives-ge-MAX_DIRECTIVES.ensures.refusal (too-deep {xs = expr at Dropped ∷ the EndSequence at Dropped ∷ inside InIf at Dropped ∷ []} (looks _ _ _ _ _ c.look.ensures.left c.in-Some.ensures.found refl) (search rules) (omega arith))
 
 pub directive-returns-then-directives-ge-MAX_DIRECTIVES-2-clause-parses : goal.directive-returns-then-directives-ge-MAX_DIRECTIVES-2-clause-parses
-directive-returns-then-directives-ge-MAX_DIRECTIVES-2-clause-parses n c = too-deep {xs = the Name at Dropped ∷ names at Dropped ∷ expr at Dropped ∷ the EndSequence at Dropped ∷ inside InFor at Dropped ∷ []} (looks _ _ _ _ _ c.look.ensures.left c.in-Some.ensures.found refl) (search rules) (omega arith)
+directive-returns-then-directives-ge-MAX_DIRECTIVES-2-clause-parses n c = kept-refusal c.refused-then-directives-ge-MAX_DIRECTIVES-2.ensures.refusal (too-deep {xs = the Name at Dropped ∷ names at Dropped ∷ expr at Dropped ∷ the EndSequence at Dropped ∷ inside InFor at Dropped ∷ []} (looks _ _ _ _ _ c.look.ensures.left c.in-Some.ensures.found refl) (search rules) (omega arith))
 
 pub directive-returns-in_err-sequence-in-If-clause-parses : goal.directive-returns-in_err-sequence-in-If-clause-parses
 directive-returns-in_err-sequence-in-If-clause-parses n c = opening-row {p = c.args.number} (looks _ _ _ _ _ c.look.ensures.left c.in-Some.ensures.found c.bump.ensures.left) (search rules) (omega arith)
@@ -275,7 +275,7 @@ directive-returns-in_ok-sequence-in-If-clause-parses n c = opening-row {p = c.ar
     (end-onward (beside (inside InIf at Dropped ∷ []) c.in_ok-sequence-in-If.ensures.parses) c.section.ensures.ends)
 
 pub section-returns-in_default-clause-ends : goal.section-returns-in_default-clause-ends
-section-returns-in_default-clause-ends n c = end-fails {A = Unit {0}} {ys = []} {mid = c.look.new.self} (onward c.loop-token.invariant.leads (refusing-end c.look.ensures.left c.in_default.ensures.found refl))
+section-returns-in_default-clause-ends n c = end-kept-refusal c.refused.ensures.refusal (end-fails {A = Unit {0}} {ys = []} {mid = c.look.new.self.left} (onward c.loop-token.invariant.leads (refusing-end c.look.ensures.left c.in_default.ensures.found refl)))
 
 pub section-loop-token-preserved-in-Lit : goal.section-loop-token-preserved-in-Lit
 section-loop-token-preserved-in-Lit n c = record {
@@ -293,10 +293,10 @@ section-loop-token-preserved-in-Continue-1 n c = record {
 }
 
 pub section-returns-in_default-look-clause-ends : goal.section-returns-in_default-look-clause-ends
-section-returns-in_default-look-clause-ends n c = end-fails {A = Unit {0}} {ys = []} {mid = c.look-in-ControlOpen.new.self} (onward c.loop-token.invariant.leads (reading {xs = section_directive c.loop-token.section c.in-Some.token.number at Dropped ∷ []} (looks _ _ _ _ _ c.look.ensures.left c.in-Some.ensures.found c.bump-in-ControlOpen.ensures.left) (search rules) (refusing-end c.look-in-ControlOpen.ensures.left c.in_default-look.ensures.found refl)))
+section-returns-in_default-look-clause-ends n c = end-kept-refusal c.refused-in_default-look.ensures.refusal (end-fails {A = Unit {0}} {ys = []} {mid = c.look-in-ControlOpen.new.self.left} (onward c.loop-token.invariant.leads (reading {xs = section_directive c.loop-token.section c.in-Some.token.number at Dropped ∷ []} (looks _ _ _ _ _ c.look.ensures.left c.in-Some.ensures.found c.bump-in-ControlOpen.ensures.left) (search rules) (refusing-end c.look-in-ControlOpen.ensures.left c.in_default-look.ensures.found refl))))
 
 pub section-returns-in_default-class : goal.section-returns-in_default-class
-section-returns-in_default-class n c = record { ends = end-fails {A = Unit {0}} {ys = []} {mid = c.look.new.self} (onward c.loop-token.invariant.leads (refusing (looks _ _ _ _ _ c.look.ensures.left c.in-Some.ensures.found refl) (search rules))); shorter = tt }
+section-returns-in_default-class n c = record { ends = end-kept-refusal c.refused-in_default-class.ensures.refusal (end-fails {A = Unit {0}} {ys = []} {mid = c.look.new.self.left} (onward c.loop-token.invariant.leads (refusing (looks _ _ _ _ _ c.look.ensures.left c.in-Some.ensures.found refl) (search rules)))); shorter = tt }
 
 pub section-returns-in_err-expect-in-Onward-clause-ends : goal.section-returns-in_err-expect-in-Onward-clause-ends
 section-returns-in_err-expect-in-Onward-clause-ends n c = end-quits _ c.from_residual-in_err-expect-in-Onward.ensures.1 (onward c.loop-token.invariant.leads (reading {xs = section_directive c.loop-token.section c.in-Some.token.number at Dropped ∷ []} (looks _ _ _ _ _ c.look.ensures.left c.in-Some.ensures.found c.bump-in-ControlOpen.ensures.left) (search rules) (reading (looks _ _ _ _ _ c.look-in-ControlOpen.ensures.left c.in-Some-look.ensures.found c.bump-in-Onward.ensures.left) (turning-onward c.loop-token.section Dropped c.in-Some.token.number _ _ c.turning.ensures c.in-Onward.is) (beside (inside InElse at Dropped ∷ []) (c.in_err-expect-in-Onward.ensures.parses _)))))
@@ -396,7 +396,7 @@ pub entries-returns-in_err-entry-clause-parses : goal.entries-returns-in_err-ent
 entries-returns-in_err-entry-clause-parses n c = quits _ c.from_residual.ensures.1 (onward c.loop-directives.invariant.leads (past-begins item-passes refl (λ t e k. item-else _ _ (c.if-takes.ensures.no.unfit t e) k) c.if-takes.ensures.no.shows (beside (object_next at Seen ∷ []) c.in_err-entry.ensures.parses)))
 
 pub entries-returns-in_default-clause-parses : goal.entries-returns-in_default-clause-parses
-entries-returns-in_default-clause-parses n c = onward c.loop-directives.invariant.leads (past-begins item-passes refl (λ t e k. item-else _ _ (c.if-takes.ensures.no.unfit t e) k) c.if-takes.ensures.no.shows (onward (beside (object_next at Seen ∷ []) c.in_ok-entry.ensures.parses) (refusing-end c.look.ensures.left c.in_default.ensures.found refl)))
+entries-returns-in_default-clause-parses n c = kept-refusal-end c.refused.ensures.refusal (onward c.loop-directives.invariant.leads (past-begins item-passes refl (λ t e k. item-else _ _ (c.if-takes.ensures.no.unfit t e) k) c.if-takes.ensures.no.shows (onward (beside (object_next at Seen ∷ []) c.in_ok-entry.ensures.parses) (refusing-end c.look.ensures.left c.in_default.ensures.found refl))))
 
 pub entries-loop-directives-preserved : goal.entries-loop-directives-preserved
 entries-loop-directives-preserved n c = record {
@@ -409,7 +409,7 @@ entries-returns-in-BraceClose-clause-parses n c = onward c.loop-directives.invar
 
 pub entries-returns-in_default-class : goal.entries-returns-in_default-class
 entries-returns-in_default-class n c = record {
-  parses = onward c.loop-directives.invariant.leads (past-begins item-passes refl (λ t e k. item-else _ _ (c.if-takes.ensures.no.unfit t e) k) c.if-takes.ensures.no.shows (onward (beside (object_next at Seen ∷ []) c.in_ok-entry.ensures.parses) (refusing (looks _ _ _ _ _ c.look.ensures.left c.in-Some.ensures.found refl) (search rules))));
+  parses = kept-refusal c.refused-in_default-class.ensures.refusal (onward c.loop-directives.invariant.leads (past-begins item-passes refl (λ t e k. item-else _ _ (c.if-takes.ensures.no.unfit t e) k) c.if-takes.ensures.no.shows (onward (beside (object_next at Seen ∷ []) c.in_ok-entry.ensures.parses) (refusing (looks _ _ _ _ _ c.look.ensures.left c.in-Some.ensures.found refl) (search rules)))));
   shorter = tt;
 }
 

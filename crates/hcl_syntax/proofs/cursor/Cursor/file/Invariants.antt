@@ -6,10 +6,10 @@ use Rattle.hcl_syntax.proofs.cursor.Cursor.file.Given as goal
 
 abbrev pub invariant-loop-token : goal.invariant-loop-token
 invariant-loop-token l = record {
-  leads : Advances 0 (file at Seen ∷ []) l.fn.self (Ok (tt {0})) (bodies l.levels) l.self;
-  shorter : l.levels + length l.self ≤ length l.fn.self;
-  room : length l.fn.self < 2 ^ 64;
+  leads : Advances 0 (file at Seen ∷ []) l.fn.self.left (Ok (tt {0})) (bodies l.levels) l.self.left;
+  shorter : l.levels + length l.self.left ≤ length l.fn.self.left;
+  room : length l.fn.self.left < 2 ^ 64;
 }
 
 abbrev pub decreases-loop-token : goal.decreases-loop-token
-decreases-loop-token l = length l.self
+decreases-loop-token l = length l.self.left

@@ -6,9 +6,9 @@ use Rattle.hcl_syntax.proofs.cursor.Cursor.labels.Given as goal
 
 abbrev pub invariant-loop-token : goal.invariant-loop-token
 invariant-loop-token l = record {
-  leads : Advances 0 (labels at Seen ∷ []) l.fn.self (Ok (tt {0})) (labels at Seen ∷ []) l.self;
-  shorter : length l.self ≤ length l.fn.self;
+  leads : Advances 0 (labels at Seen ∷ []) l.fn.self.left (Ok (tt {0})) (labels at Seen ∷ []) l.self.left;
+  shorter : length l.self.left ≤ length l.fn.self.left;
 }
 
 abbrev pub decreases-loop-token : goal.decreases-loop-token
-decreases-loop-token l = length l.self
+decreases-loop-token l = length l.self.left

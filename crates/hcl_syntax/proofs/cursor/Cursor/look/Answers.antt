@@ -4,4 +4,4 @@ use Rattle.hcl_syntax.proofs.LookaheadLemmas.{length-shown}
 use Rattle.hcl_syntax.proofs.cursor.Cursor.look.Goals as goal
 
 pub returns-clause-shorter : goal.returns-clause-shorter
-returns-clause-shorter c = omega (arith, ap length c.find-next.ensures.left, ap (λ l. length (shown c.args.newlines l)) c.self.view_is, length-shown c.args.newlines c.args.self.now)
+returns-clause-shorter c = omega (arith, ap length c.find-next.ensures.left, ap (λ s. length (shown c.args.newlines s.left)) c.self.view_is, length-shown c.args.newlines c.args.self.now.left)

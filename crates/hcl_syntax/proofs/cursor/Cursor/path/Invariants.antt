@@ -6,9 +6,9 @@ use Rattle.hcl_syntax.proofs.cursor.Cursor.path.Given as goal
 
 abbrev pub invariant-loop-self : goal.invariant-loop-self
 invariant-loop-self l = record {
-  leads : (count : ℕ) → Advances count (the Name at l.newlines ∷ path at l.newlines ∷ []) l.fn.self (Ok (tt {0})) (the Name at l.newlines ∷ path at l.newlines ∷ []) l.self;
-  shorter : length l.self ≤ length l.fn.self;
+  leads : (count : ℕ) → Advances count (the Name at l.newlines ∷ path at l.newlines ∷ []) l.fn.self.left (Ok (tt {0})) (the Name at l.newlines ∷ path at l.newlines ∷ []) l.self.left;
+  shorter : length l.self.left ≤ length l.fn.self.left;
 }
 
 abbrev pub decreases-loop-self : goal.decreases-loop-self
-decreases-loop-self l = length l.self
+decreases-loop-self l = length l.self.left
