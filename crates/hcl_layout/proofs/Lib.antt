@@ -19,4 +19,6 @@ pub mod InPlaceLemmas
 pub mod InSourceLemmas
 pub mod LineInSourceLemmas
 pub mod FoundCellLemmas
+pub mod PassedLineLemmas
+pub mod EmptyLineLemmas
 pub mod NotedKindLemmas

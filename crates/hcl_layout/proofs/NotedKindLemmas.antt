@@ -31,6 +31,21 @@ end_passed t e = go (is kind.Newline t.kind) refl e
     go true q h = passes (not (is kind.Newline t.kind)) (changes t.kind) (each (λ j. not (is kind.Newline j) || not (changes j)) refl t.kind) (ap not q)
     go false q h = cc
 
+-- a newline neither changes the depth nor tears a cell
+pub end_stops : (t : Lexeme) → ends_line t ≡ true → stops t.kind ≡ true
+end_stops t e = go (is kind.Newline t.kind) refl e
+  where
+    go : (v : Bool) → is kind.Newline t.kind ≡ v → (v && not t.inside_heredoc) ≡ true → stops t.kind ≡ true
+    go true q h = rw q refl
+    go false q h = cc
+
+pub end_whole : (t : Lexeme) → ends_line t ≡ true → is kind.InlineComment t.kind ≡ false
+end_whole t e = go (is kind.Newline t.kind) refl e
+  where
+    go : (v : Bool) → is kind.Newline t.kind ≡ v → (v && not t.inside_heredoc) ≡ true → is kind.InlineComment t.kind ≡ false
+    go true q h = passes (not (is kind.Newline t.kind)) (is kind.InlineComment t.kind) (each (λ j. not (is kind.Newline j) || not (is kind.InlineComment j)) refl t.kind) (ap not q)
+    go false q h = cc
+
 -- ---- the steps
 
 -- what a step that is no point does to a depth at which a token of its kind may stand

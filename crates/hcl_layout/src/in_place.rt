@@ -22,15 +22,15 @@ ghost use Rattle.hcl_layout.specs.Inner.InPlace.{CellInSource, Continues, EndsWe
 ghost use Rattle.hcl_layout.specs.Inner.Left.{bytes_of};
 ghost use Rattle.hcl_layout.specs.Inner.LineGaps.{ArePlain, IsSigned, gaps_in};
 ghost use Rattle.hcl_layout.specs.Inner.Simple.{IsFrom, IsSimpleIn};
-ghost use Rattle.hcl_layout.specs.Inner.Survey.{IsLine, text_at};
+ghost use Rattle.hcl_layout.specs.Inner.Survey.{IsLine, empty_line, text_at};
 ghost use Rattle.hcl_layout.specs.Inner.Walks.{HasCome};
 
 use crate::gap::{
     Cell, LineGaps, gap_behind, indent, next_cell, plain_line, plain_width, told_gap, width,
     with_comment,
 };
-use crate::levels::{DEPTHS, next_level};
-use crate::line::{LineFacts, line_at};
+use crate::levels::{DEPTHS, kept_level, next_level};
+use crate::line::{LineFacts, is_empty_line, line_at};
 use crate::measured::Measured;
 use crate::piece::{Piece, goes_on, goes_on_close, piece_of};
 use crate::simple::simple_end;
@@ -272,6 +272,20 @@ fn plain_ends(
     Some(reached)
 }
 
+/// Where the first piece of a line ends, if it goes on from the line's offset.
+#[inline(always)]
+fn first_end(tokens: &Measured<'_, '_>, source: &[u8], front: Front) -> Option<usize>
+    requires there { front.first < length tokens.now.tokens }
+    requires level { front.level ≤ max_open }
+    requires source { source.now ≡ tokens.now.text }
+    requires within { front.offset ≤ length source.now }
+    ensures within { IfSome result (λ end. end ≤ length source.now) }
+    ensures stands { IfSome result (PlainInSource tokens.now.tokens tokens.now.text front.level front.first front.first front.offset (front.first + 1)) }
+{
+    let gap = indent(front.level, tokens.get(front.first));
+    piece_end(tokens, source, front.first, gap, front.offset)
+}
+
 /// Where the pieces of a line end that stand before its first cell, if they go on from the line's offset.
 #[inline(always)]
 fn front_end(tokens: &Measured<'_, '_>, source: &[u8], front: Front, stop: usize) -> Option<usize>
@@ -284,8 +298,7 @@ fn front_end(tokens: &Measured<'_, '_>, source: &[u8], front: Front, stop: usize
     ensures stands { IfSome result (PlainInSource tokens.now.tokens tokens.now.text front.level front.first front.first front.offset stop) }
 {
     let first = front.first;
-    let gap = indent(front.level, tokens.get(first));
-    let Some(end) = piece_end(tokens, source, first, gap, front.offset) else {
+    let Some(end) = first_end(tokens, source, front) else {
         return None;
     };
     plain_ends(tokens, source, first, first + 1, stop, end)
@@ -695,6 +708,117 @@ fn pass_line(
     Some((first + line.len, passed.end))
 }
 
+/// Passes an empty line, as `pass_line` does: it has no cell, so each run ends before it, and it leaves the levels as they
+/// are.
+#[inline(always)]
+fn pass_empty_line(
+    state: &mut State,
+    levels: &[u32; DEPTHS],
+    tokens: &Measured<'_, '_>,
+    source: &[u8],
+    first: usize,
+    offset: usize,
+) -> Option<(usize, usize)>
+    requires some { first < length tokens.now.tokens }
+    requires come { HasCome tokens.now.tokens first (walk_of state.old levels.now) }
+    requires empty { IsLine tokens.now.tokens first state.old.depth (empty_line state.old.depth) }
+    requires source { source.now ≡ tokens.now.text }
+    requires within { offset ≤ length source.now }
+    requires simple { IsSimpleIn tokens.now.text offset state.old.simple_end }
+    ensures on { IfSome result (λ p. first < p.0) }
+    ensures tokens { IfSome result (λ p. p.0 ≤ length tokens.now.tokens) }
+    ensures come { IfSome result (λ p. HasCome tokens.now.tokens p.0 (walk_of state.new levels.now)) }
+    ensures within { IfSome result (λ p. p.1 ≤ length source.now) }
+    ensures simple { IfSome result (λ p. IsSimpleIn tokens.now.text p.1 state.new.simple_end) }
+    ensures step { IfSome result (λ p. Continues tokens.now.tokens tokens.now.text (walk_of state.old levels.now) (runs_of state.old) first offset (walk_of state.new levels.now) (runs_of state.new) p.0 p.1) }
+{
+    // so the number of the token after the line fits
+    let _count = tokens.len();
+    let depth = state.depth;
+    let level = kept_level(levels, depth, depth);
+    let front = Front {
+        first,
+        offset,
+        level,
+    };
+    let Some(end) = first_end(tokens, source, front) else {
+        return None;
+    };
+    let Some(signs) = ended(state.signs) else {
+        return None;
+    };
+    let Some(comments) = ended(state.comments) else {
+        return None;
+    };
+    let simple_end = state.simple_end;
+    *state = State {
+        depth,
+        signs,
+        comments,
+        simple_end,
+    };
+    Some((first + 1, end))
+}
+
+/// Past the empty line that may begin here: where none does, nothing is passed.
+#[inline(always)]
+fn past_empty_line(
+    state: &mut State,
+    levels: &[u32; DEPTHS],
+    tokens: &Measured<'_, '_>,
+    source: &[u8],
+    first: usize,
+    offset: usize,
+) -> Option<(usize, usize)>
+    requires some { first < length tokens.now.tokens }
+    requires come { HasCome tokens.now.tokens first (walk_of state.old levels.now) }
+    requires source { source.now ≡ tokens.now.text }
+    requires within { offset ≤ length source.now }
+    requires simple { IsSimpleIn tokens.now.text offset state.old.simple_end }
+    ensures on { IfSome result (λ p. first ≤ p.0) }
+    ensures tokens { IfSome result (λ p. p.0 ≤ length tokens.now.tokens) }
+    ensures come { IfSome result (λ p. HasCome tokens.now.tokens p.0 (walk_of state.new levels.now)) }
+    ensures within { IfSome result (λ p. p.1 ≤ length source.now) }
+    ensures simple { IfSome result (λ p. IsSimpleIn tokens.now.text p.1 state.new.simple_end) }
+    ensures step { IfSome result (λ p. Continues tokens.now.tokens tokens.now.text (walk_of state.old levels.now) (runs_of state.old) first offset (walk_of state.new levels.now) (runs_of state.new) p.0 p.1) }
+{
+    if !is_empty_line(tokens, first, state.depth) {
+        return Some((first, offset));
+    }
+    pass_empty_line(state, levels, tokens, source, first, offset)
+}
+
+/// Passes the next line, and before it the empty line that may stand there: that takes less than a line of tokens.
+#[inline(always)]
+fn pass_lines(
+    state: &mut State,
+    levels: &mut [u32; DEPTHS],
+    tokens: &Measured<'_, '_>,
+    source: &[u8],
+    first: usize,
+    offset: usize,
+) -> Option<(usize, usize)>
+    requires some { first < length tokens.now.tokens }
+    requires come { HasCome tokens.now.tokens first (walk_of state.old levels.old) }
+    requires source { source.now ≡ tokens.now.text }
+    requires within { offset ≤ length source.now }
+    requires simple { IsSimpleIn tokens.now.text offset state.old.simple_end }
+    ensures on { IfSome result (λ p. first < p.0) }
+    ensures tokens { IfSome result (λ p. p.0 ≤ length tokens.now.tokens) }
+    ensures come { IfSome result (λ p. HasCome tokens.now.tokens p.0 (walk_of state.new levels.new)) }
+    ensures within { IfSome result (λ p. p.1 ≤ length source.now) }
+    ensures simple { IfSome result (λ p. IsSimpleIn tokens.now.text p.1 state.new.simple_end) }
+    ensures step { IfSome result (λ p. Continues tokens.now.tokens tokens.now.text (walk_of state.old levels.old) (runs_of state.old) first offset (walk_of state.new levels.new) (runs_of state.new) p.0 p.1) }
+{
+    let Some((next, at)) = past_empty_line(state, levels, tokens, source, first, offset) else {
+        return None;
+    };
+    if next == tokens.len() {
+        return Some((next, at));
+    }
+    pass_line(state, levels, tokens, source, next, at)
+}
+
 /// Whether both runs that end with the text have columns as great as their greatest widths.
 #[inline(always)]
 fn end_well(state: State) -> bool
@@ -727,7 +851,7 @@ pub fn stands_in_place(tokens: &Measured<'_, '_>) -> bool
     let mut next = 0;
     let mut offset = 0;
     while next < count {
-        let Some((after, end)) = pass_line(&mut state, &mut levels, tokens, source, next, offset)
+        let Some((after, end)) = pass_lines(&mut state, &mut levels, tokens, source, next, offset)
         else {
             return false;
         };

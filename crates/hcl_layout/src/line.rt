@@ -8,7 +8,7 @@
 //! step            1      more   2     1     2     1     0     0     more    more
 //! depth after it  0      0      1     1     2     2     1     0     0       0
 //! ```
-ghost use Rattle.std.specs.Prelude.{◌≡◌, false, true, ◌<◌, ◌≤◌, ◌+◌, ◌^◌, ◌==◌, ℕ, length, drop, slice_get, None, Some};
+ghost use Rattle.std.specs.Prelude.{◌≡◌, false, true, ◌<◌, ◌≤◌, ◌+◌, ◌^◌, ◌==◌, ℕ, length, drop, slice_get, IsTrue, None, Some};
 ghost use Rattle.std.specs.List.{list_any};
 ghost use Rattle.hcl_tokens.specs.Kinds.{is};
 ghost use Rattle.hcl_tokens.specs.declared.token.Kind.TheVariants.{InlineComment};
@@ -19,7 +19,7 @@ ghost use Rattle.hcl_layout.specs.Lines.{ends_line};
 ghost use Rattle.hcl_layout.specs.Cells.{is_assignment as is_assignment_of, is_multiline as is_multiline_of, is_trailing as is_trailing_of};
 ghost use Rattle.hcl_grammar.specs.Items.{deepen};
 ghost use Rattle.hcl_layout.specs.Inner.Depths.{BalancedFrom, Steps};
-ghost use Rattle.hcl_layout.specs.Inner.Survey.{IsLine, assign_of, changes, first_noted, going, marks, noted, running_of, step_of, stops, surveyed, turned_to};
+ghost use Rattle.hcl_layout.specs.Inner.Survey.{IsLine, assign_of, changes, empty_line, first_noted, going, marks, noted, running_of, step_of, stops, surveyed, turned_to};
 
 use crate::measured::Measured;
 use hcl_tokens::{Kind, Token};
@@ -431,6 +431,19 @@ fn read_line(tokens: &Measured<'_, '_>, at: usize, depth: u32) -> Survey
         }
     }
     line
+}
+
+/// Whether an empty line begins at a place: a newline by itself.
+#[inline(always)]
+pub fn is_empty_line(tokens: &Measured<'_, '_>, at: usize, depth: u32) -> bool
+    requires within { at < length tokens.now.tokens }
+    requires balanced { BalancedFrom depth (drop at tokens.now.tokens) }
+    requires fits { depth ≤ max_open }
+    ensures { IsTrue result → IsLine tokens.now.tokens at depth (empty_line depth) }
+{
+    // so the number of the token after the line fits
+    let _count = tokens.len();
+    is_line_end(tokens.get(at))
 }
 
 /// The line that begins at a place, where the depth is known.

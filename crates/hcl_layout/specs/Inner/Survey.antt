@@ -78,6 +78,10 @@ running_of s = if s.multiline then None else s.comment
 abbrev pub text_at : List Lexeme → ℕ → LineFacts → Line
 text_at ts at f = take f.len (drop at ts)
 
+-- an empty line, which is a newline by itself
+abbrev pub empty_line : ℕ → LineFacts
+empty_line d = record { len = 1; depth = d; assign = None; comment = None; running = None }
+
 -- the facts are those of the line at a place, where the depth is known
 pub record IsLine (ts : List Lexeme) (at d : ℕ) (f : LineFacts) : Type 0 where
   pub some : 0 < f.len
