@@ -1,16 +1,13 @@
 -- A newline where a line begins is a line by itself.
-use Rattle.std.proofs.Common.{◌≡◌, ◌∙◌, ◌==◌, ◌^◌, ◌≤◌, ◌+◌, ◌&&◌, ◌||◌, ℕ, Bool, true, false, not, List, Option, Some, None, ap, ap₂, drop, length, refl, subst, sym}
+use Rattle.std.proofs.Common.{◌≡◌, ◌∙◌, ◌==◌, ◌^◌, ◌≤◌, ◌+◌, ℕ, Bool, true, false, List, Option, Some, None, ap, ap₂, drop, length, refl, subst}
 use Rattle.std.specs.Prelude.{slice_get}
 use Rattle.hcl_tokens.specs.Balanced.{max_open}
-use Rattle.hcl_tokens.specs.Kinds.{is}
 use Rattle.hcl_tokens.specs.Lexemes.{Lexeme}
-use Rattle.hcl_tokens.specs.declared.token.Kind.TheVariants as kind
 use Rattle.hcl_grammar.specs.Items.{deepen}
 use Rattle.hcl_layout.specs.Cells.{is_multiline}
 use Rattle.hcl_layout.specs.Lines.{ends_line}
 use Rattle.hcl_layout.specs.Inner.Depths.{BalancedFrom}
-use Rattle.hcl_layout.specs.Inner.Survey.{IsLine, cell_if, changes, empty_line, first_noted, marks, stops, surveyed}
-use Rattle.hcl_layout.specs.declared.line.LineFacts.{LineFacts}
+use Rattle.hcl_layout.specs.Inner.Survey.{IsLine, cell_if, empty_line, first_noted, surveyed}
 use Rattle.hcl_layout.specs.declared.line.Survey.{Survey}
 use Rattle.hcl_layout.proofs.NotedKindLemmas.{end_whole, stopped_level, end_stops}
 use Rattle.hcl_layout.proofs.SurveyLemmas.{facts_of, is_line, surveyed_end}

@@ -1,5 +1,5 @@
 -- Pieces of a line that stand in the source one after another, and how wide the line is there.
-use Rattle.std.proofs.Common.{◌≡◌, ◌∙◌, ◌+◌, ◌-◌, ◌++◌, ◌<◌, ◌≤◌, ℕ, suc, true, List, Option, Some, None, length, ap, ap₂, refl, sym, arith, subst, take, drop}
+use Rattle.std.proofs.Common.{◌≡◌, ◌∙◌, ◌+◌, ◌-◌, ◌++◌, ◌<◌, ◌≤◌, ℕ, suc, List, Option, Some, None, length, ap, ap₂, refl, sym, arith, subst, take, drop}
 use Rattle.std.specs.Prelude.{IfSome, slice_get}
 use Rattle.hcl_tokens.specs.Lexemes.{Lexeme}
 use Rattle.hcl_layout.specs.Gaps.{clusters, plain_gaps, width}

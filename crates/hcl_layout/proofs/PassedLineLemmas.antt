@@ -1,5 +1,5 @@
 -- A line that stands in place with its cells, over which both runs go: what stands in place after it stands so from it on.
-use Rattle.std.proofs.Common.{◌≡◌, ◌∙◌, ◌+◌, ◌∷◌, ℕ, None, Option, List, ap, arith, drop, max, refl, subst, sym, take}
+use Rattle.std.proofs.Common.{◌≡◌, ◌∙◌, ◌+◌, ◌∷◌, ℕ, Option, List, ap, arith, drop, max, refl, subst, sym, take}
 use Rattle.std.specs.Prelude.{IfSome}
 use Rattle.hcl_tokens.specs.Lexemes.{Lexeme}
 use Rattle.hcl_layout.specs.Cells.{assign_cell, running_comment, trailing_comment}
@@ -10,7 +10,6 @@ use Rattle.hcl_layout.specs.Inner.InPlace.{Continues, IsCell, IsSetApart, LineIn
 use Rattle.hcl_layout.specs.Inner.LineGaps.{gaps_in, plain_of}
 use Rattle.hcl_layout.specs.Inner.Stream.{assign_column, assign_widths, assigned_line, comment_column, comment_width, comment_widths, plain}
 use Rattle.hcl_layout.specs.Inner.Survey.{IsLine, empty_line}
-use Rattle.hcl_layout.specs.declared.gap.Cell.{Cell}
 use Rattle.hcl_layout.specs.declared.gap.LineGaps.{LineGaps}
 use Rattle.hcl_layout.specs.declared.line.LineFacts.{LineFacts}
 use Rattle.hcl_layout.specs.declared.runs.Walk.{Walk}

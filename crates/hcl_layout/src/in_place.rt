@@ -1,8 +1,9 @@
 //! Whether each piece of the print stands where the source has it, at one look at each line.
 //!
-//! Nothing is looked ahead and no width added up: as long as a line stands in place, the source itself tells how wide it is
-//! before a cell, and the gap there tells the column of a run at its first line. The further lines of the run must have
-//! their cells in that column, and at the end of the run it is asked whether it is the greatest width.
+//! Nothing is looked ahead, and where all before a cell is ASCII no width is added up: as long as a line stands in place, the
+//! source itself tells how wide it is before a cell, and the gap there tells the column of a run at its first line. The
+//! further lines of the run must have their cells in that column, and at the end of the run it is asked whether it is the
+//! greatest width.
 //!
 //! ```text
 //!                                width    gap    column    greatest width

@@ -1,4 +1,4 @@
-use Rattle.std.proofs.Common.{◌≡◌, ◌+◌, Option, arith, refl, subst, sym}
+use Rattle.std.proofs.Common.{◌+◌, Option, arith, refl, subst, sym}
 use Rattle.hcl_layout.specs.Inner.InPlace.{PassesRun, PlainInSource, Runs, runs_of, walk_of}
 use Rattle.hcl_layout.specs.Inner.Survey.{text_at}
 use Rattle.hcl_layout.specs.declared.gap.Cell.{Cell}

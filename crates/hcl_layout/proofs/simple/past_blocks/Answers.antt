@@ -1,4 +1,4 @@
-use Rattle.std.proofs.Common.{◌≡◌, ◌∙◌, ◌+◌, ◌-◌, ℕ, true, ap, arith, drop, sym, take}
+use Rattle.std.proofs.Common.{◌≡◌, ◌∙◌, ◌+◌, ◌-◌, true, ap, arith, drop, sym, take}
 use Rattle.hcl_layout.specs.Inner.Simple.{is_simple}
 use Rattle.hcl_layout.proofs.SimpleInLemmas.{simple_on}
 use Rattle.hcl_layout.proofs.simple.past_blocks.Goals as goal
