@@ -1,16 +1,16 @@
--- Lines that can be the marker: those that have the marker in them.
-use Rattle.std.proofs.Common.{◌≡◌, ◌≢◌, ℕ, zero, suc, ◌+◌, ◌-◌, ◌<◌, ◌≤◌, ◌&&◌, ◌==◌, not, true, false, List, [], ◌∷◌, length, drop, get_or, slice_range, ⊎_elim, refl, sym, ap, subst, ◌∙◌, arith, length-drop, get_or-drop, get_or-take}
-use Rattle.std.specs.List.{prefix_len, position_or_len}
-use Rattle.std.proofs.lemmas.List.Sums.{prefix_len_passes, prefix_len_stops, prefix_len_is, prefix_len-le-length}
+-- Lines that can be the marker: those in which it stands.
+use Rattle.std.proofs.Common.{◌≡◌, ◌≢◌, ℕ, zero, suc, ◌+◌, ◌-◌, ◌<◌, ◌≤◌, ◌&&◌, ◌==◌, nat_eq, true, false, List, [], ◌∷◌, length, drop, get_or, cond, inl, inr, ⊎_elim, refl, sym, ap, subst, ◌∙◌, arith, length-drop, get_or-drop}
+use Rattle.std.specs.List.{prefix_len, starts_with}
+use Rattle.std.proofs.lemmas.List.Sums.{prefix_len_passes, prefix_len_is, prefix_len-le-length}
 use Rattle.std.proofs.lemmas.List.{drop-drop}
-use Rattle.std.proofs.lemmas.Bool.{cases_order}
+use Rattle.std.proofs.lemmas.Bool.{cases_order, cases_lt, cases_Bool}
 use Rattle.std.proofs.lemmas.Bool.Decides.{nat_tests}
 use Rattle.memchr.specs.Find.{OccursAt}
 use Rattle.hcl_tokens.specs.Spelling.{starts, is_blank}
 use Rattle.hcl_tokens.specs.Scans.{IsMarkerLine, IsFirstMarkerLine, skip_blanks, at_line_end, closer_len}
-use Rattle.hcl_scan.specs.Inner.MarkerPlaces.{IsPlace, IsBlankFront, EndsLine, IsNextLine, IsPassed}
+use Rattle.hcl_scan.specs.Inner.Lanes.{Stands, IsBehindOthers}
+use Rattle.hcl_scan.specs.Inner.MarkerPlaces.{IsPlace, IsBlankFront, EndsLine, IsNextLine}
 use Rattle.hcl_scan.proofs.TextStartLemmas.{both}
-use Rattle.hcl_scan.proofs.SliceLemmas.{slice_len}
 use Rattle.hcl_scan.proofs.LiteralLemmas.{starts_len}
 
 -- what begins with a marker has its bytes there
@@ -23,38 +23,114 @@ starts_reads (b ∷ text) (c ∷ marker) h zero lt = same b c (both (b == c) (st
     same x y e = grind (arith, nat_tests)
 starts_reads (b ∷ text) (c ∷ marker) h (suc j) lt = starts_reads text marker (both (b == c) (starts text marker) h).1 j (omega (arith, lt))
 
-module _ (marker text rest : List ℕ) (at : ℕ) (rest_is : rest ≡ drop at text) (m : ℕ) (is : IsMarkerLine marker text m) (low : at ≤ m) where
-  abbrev front : ℕ
+-- the two words for a text's front
+pub same_front : (text front : List ℕ) → starts_with nat_eq text front ≡ starts text front
+same_front text [] = refl
+same_front [] (c ∷ front) = refl
+same_front (b ∷ text) (c ∷ front) = (λ i. turned c b i && same_front text front i)
+  where
+    turned : (x y : ℕ) → (x == y) ≡ (y == x)
+    turned x y = grind (arith, nat_tests)
+
+-- a byte that is at most a blank
+abbrev Low : ℕ → Type 0
+Low b = b ≤ 32
+
+blank_low : (b : ℕ) → is_blank b ≡ true → Low b
+blank_low b h = grind (arith, nat_tests)
+
+-- where a line ends, after blanks, no byte above a blank stands
+end_low : (text : List ℕ) → at_line_end (skip_blanks text) ≡ true → Low (get_or text 0 0)
+end_low [] h = omega arith
+end_low (b ∷ text) h = elim (cases_Bool (is_blank b)) [
+  | inl blank ↦ blank_low b blank
+  | inr other ↦ ends b text (ap at_line_end (sym (whole other)) ∙ h)
+]
+  where
+    whole : is_blank b ≡ false → skip_blanks (b ∷ text) ≡ b ∷ text
+    whole other = ap (λ v. drop (cond v (1 + prefix_len is_blank text) 0) (b ∷ text)) other
+
+    ends : (c : ℕ) (rest : List ℕ) → at_line_end (c ∷ rest) ≡ true → Low c
+    ends c rest e = grind (arith, nat_tests)
+
+module _ (marker text : List ℕ) (m : ℕ) (is : IsMarkerLine marker text m) where
+  abbrev pub front : ℕ
   front = prefix_len is_blank (drop m text)
 
-  begun : starts (drop front (drop m text)) marker ≡ true
-  begun = (both (starts (skip_blanks (drop m text)) marker) (at_line_end (skip_blanks (drop (closer_len marker (drop m text)) (drop m text)))) is.marked).0
+  marked : (starts (skip_blanks (drop m text)) marker ≡ true) × (at_line_end (skip_blanks (drop (closer_len marker (drop m text)) (drop m text))) ≡ true)
+  marked = both (starts (skip_blanks (drop m text)) marker) (at_line_end (skip_blanks (drop (closer_len marker (drop m text)) (drop m text)))) is.marked
 
-  within : m + front + length marker ≤ length text
-  within = omega (arith, starts_len (drop front (drop m text)) marker begun, length-drop front (drop m text), length-drop m text, is.within, prefix_len-le-length is_blank (drop m text))
+  -- the marker stands after the line's blanks
+  pub stands : starts (drop (m + front) text) marker ≡ true
+  stands = ap (λ l. starts l marker) (sym (drop-drop front m text)) ∙ marked.0
 
-  reads : (j : ℕ) → j < length marker → get_or (drop at text) (m + front - at + j) 0 ≡ get_or marker j 0
-  reads j lt =
-      get_or-drop at text (m + front - at + j) 0 ∙ ap (λ i. get_or text i 0) (omega (arith, low)) ∙ sym (get_or-drop m text (front + j) 0) ∙ sym (get_or-drop front (drop m text) j 0)
-      ∙ starts_reads (drop front (drop m text)) marker begun j lt
+  pub fits : m + front + length marker ≤ length text
+  fits = omega (arith, starts_len (drop front (drop m text)) marker marked.0, length-drop front (drop m text), length-drop m text, is.within, prefix_len-le-length is_blank (drop m text))
 
-  -- so the marker occurs after the line's blanks
-  occurs : OccursAt rest marker (m + front - at)
-  occurs = subst (λ l. OccursAt l marker (m + front - at)) (sym rest_is) (record { fits = omega (arith, within, low, length-drop at text); reads = reads })
+  behind_low : Low (get_or text (m + front + length marker) 0)
+  behind_low = subst Low (get_or-drop (closer_len marker (drop m text)) (drop m text) 0 0 ∙ get_or-drop m text (closer_len marker (drop m text) + 0) 0 ∙ ap (λ i. get_or text i 0) (omega arith))
+      (end_low (drop (closer_len marker (drop m text)) (drop m text)) marked.1)
 
-  pub no_place : ((k : ℕ) → 0 ≤ k → k < length rest + 1 → ¬ OccursAt rest marker k) → ⊥
-  no_place none = none (m + front - at) (omega arith) (omega (arith, within, low, ap length rest_is, length-drop at text)) occurs
+  before_low : (k : ℕ) → k + 1 ≡ m + front → Low (get_or text k 0)
+  before_low k e = elim (cases_lt k m) [
+    | inl early ↦ subst Low (sym (ap (λ i. get_or text i 0) (omega (arith, e, early)) ∙ is.starts_line (omega (arith, e, early)))) (omega arith)
+    | inr late ↦ blank_low (get_or text k 0) (ap is_blank (ap (λ i. get_or text i 0) (omega (arith, late)) ∙ sym (get_or-drop m text (k - m) 0)) ∙ prefix_len_passes is_blank (drop m text) (k - m) 0 (omega (arith, e, late)))
+  ]
 
-  -- and where it comes first isn't after that
-  pub not_before : (place : ℕ) → ((k : ℕ) → 0 ≤ k → k < place → ¬ OccursAt rest marker k) → at + place ≤ m + prefix_len is_blank (drop m text)
-  not_before place before = ⊎_elim (λ e. omega (arith, e)) (λ other. ⊎_elim (λ below. omega (arith, below)) (λ above. absurd (before (m + front - at) (omega arith) (omega (arith, above, low)) occurs)) other) (cases_order (at + place) (m + front))
+  byte : (k j : ℕ) → k + 1 ≡ m + front → j < length marker → get_or text (k + 1 + j) 0 ≡ get_or marker j 0
+  byte k j e lt = ap (λ i. get_or text i 0) (omega (arith, e)) ∙ sym (get_or-drop (m + front) text j 0) ∙ starts_reads (drop (m + front) text) marker stands j lt
 
--- what occurs in a part of the text occurs in the text
-pub occurs_in : (marker text rest : List ℕ) (at place : ℕ) → at ≤ length text → rest ≡ drop at text → OccursAt rest marker place → OccursAt text marker (at + place)
-occurs_in marker text rest at place low rest_is occurs = record {
-  fits = omega (arith, occurs.fits, ap length rest_is, length-drop at text, low);
-  reads = λ j lt. ap (λ i. get_or text i 0) (omega arith) ∙ sym (get_or-drop at text (place + j) 0) ∙ ap (λ l. get_or l (place + j) 0) (sym rest_is) ∙ occurs.reads j lt;
+  -- so it stands there, by the bytes around it too
+  pub stands_behind : 0 < length marker → (k : ℕ) → k + 1 ≡ m + front → Stands text marker k
+  stands_behind some k e = record {
+    likely = record {
+      before = before_low k e;
+      front = ap (λ i. get_or text i 0) (omega arith) ∙ byte k 0 e some;
+      back = ap (λ i. get_or text i 0) (omega (arith, some)) ∙ byte k (length marker - 1) e (omega (arith, some));
+      behind = subst (λ i. Low (get_or text i 0)) (omega (arith, e)) behind_low;
+    };
+    begins = ap (λ i. starts (drop i text) marker) e ∙ stands;
+  }
+
+-- a marker line's marker doesn't stand before the place, of those that begin from `at` on
+abbrev pub IsLater : List ℕ → List ℕ → ℕ → ℕ → Type 0
+IsLater marker text at here = (m : ℕ) → at ≤ m → IsMarkerLine marker text m → here ≤ m + prefix_len is_blank (drop m text)
+
+pub later : (marker text : List ℕ) (at here next : ℕ) → 0 < length marker → IsLater marker text at here → starts (drop here text) marker ≡ false → IsBehindOthers text marker here next → IsLater marker text at next
+later marker text at here next some old stands_not past m low is =
+    elim (cases_lt (m + prefix_len is_blank (drop m text)) next) [
+      | inl early ↦ ⊎_elim (λ e. absurd (not_there e)) (λ other. ⊎_elim (λ below. absurd (omega (arith, below, old m low is))) (λ above. absurd (unlikely above early)) other) (cases_order (m + prefix_len is_blank (drop m text)) here)
+      | inr late ↦ late
+    ]
+  where
+    not_there : m + prefix_len is_blank (drop m text) ≡ here → ⊥
+    not_there e =
+        let yes = ap (λ i. starts (drop i text) marker) (sym e) ∙ stands marker text m is in
+        let no = stands_not in
+        absurd (cc (yes, no))
+
+    unlikely : here < m + prefix_len is_blank (drop m text) → m + prefix_len is_blank (drop m text) < next → ⊥
+    unlikely above early =
+        let k : ℕ = m + prefix_len is_blank (drop m text) - 1 in
+        past.none k (omega (arith, above)) (omega (arith, early, above)) (stands_behind marker text m is some k (omega (arith, above)))
+
+-- where the text ends before a whole marker, none follows
+pub none_later : (marker text : List ℕ) (at here : ℕ) → here ≤ length text → length text - here < length marker → IsLater marker text at here → (m : ℕ) → at ≤ m → ¬ IsMarkerLine marker text m
+none_later marker text at here within short old m low is = omega (arith, old m low is, fits marker text m is, short, within)
+
+-- what begins with a marker has the marker there
+pub occurs_at : (marker text : List ℕ) (place : ℕ) → place ≤ length text → starts (drop place text) marker ≡ true → OccursAt text marker place
+occurs_at marker text place within begun = record {
+  fits = omega (arith, starts_len (drop place text) marker begun, length-drop place text, within);
+  reads = λ j lt. sym (get_or-drop place text j 0) ∙ starts_reads (drop place text) marker begun j lt;
 }
+
+-- one byte tells that it doesn't
+pub other_first : (marker text : List ℕ) (place : ℕ) → 0 < length marker → get_or text place 0 ≢ get_or marker 0 0 → starts (drop place text) marker ≡ false
+other_first marker text place some other = elim (cases_Bool (starts (drop place text) marker)) [
+  | inl begun ↦ absurd (other (ap (λ i. get_or text i 0) (omega arith) ∙ sym (get_or-drop place text 0 0) ∙ starts_reads (drop place text) marker begun 0 some))
+  | inr differs ↦ differs
+]
 
 -- what has the marker's bytes begins with it
 reads_starts : (text marker : List ℕ) → length marker ≤ length text → ((j : ℕ) → j < length marker → get_or text j 0 ≡ get_or marker j 0) → starts text marker ≡ true
@@ -141,91 +217,3 @@ module _ (marker text : List ℕ) (some : 0 < length marker) (begins : is_blank 
 
     pub none_at_all : ((n : ℕ) → place < n → n ≤ length text → get_or text (n - 1) 0 ≢ 10) → (m : ℕ) → ¬ IsMarkerLine marker text m
     none_at_all last m is = none_but m (λ behind also. last m behind also.within (also.starts_line (omega (arith, behind)))) is
-
--- no marker line begins anywhere, where none begins before a place and none from there on
-pub none_from : (marker word text : List ℕ) → word ≡ marker → (at : ℕ) → ((m : ℕ) → m < at → ¬ IsMarkerLine marker text m) → ((m : ℕ) → at ≤ m → ¬ IsMarkerLine word text m) → (n : ℕ) → ¬ IsMarkerLine marker text n
-none_from marker word text same at old new n is =
-    let also = subst (λ w. IsMarkerLine w text n) (sym same) is in
-    ⊎_elim (λ e. new n (omega (arith, e)) also)
-    (λ other. ⊎_elim (λ below. old n below is) (λ above. new n (omega (arith, above)) also) other)
-    (cases_order n at)
-
--- the blanks of a part end in it
-pub blanks_within : (text : List ℕ) (at end start : ℕ) → at ≤ end → end ≤ length text → start ≡ at + prefix_len is_blank (slice_range text at end) → start ≤ end
-blanks_within text at end start order within start_is = omega (arith, start_is, prefix_len-le-length is_blank (slice_range text at end), slice_len text at end order within)
-
--- no marker line begins in a line whose first byte that is no blank is another than the marker's
-module _ (marker text : List ℕ) (some : 0 < length marker) (at end start : ℕ) (order : at ≤ end) (within : end ≤ length text) (start_is : start ≡ at + prefix_len is_blank (slice_range text at end)) (short : start < end) (other : get_or text start 0 ≢ get_or marker 0 0) where
-  size : length (slice_range text at end) + at ≡ end
-  size = slice_len text at end order within
-
-  byte : (k : ℕ) → at + k < end → get_or (slice_range text at end) k 0 ≡ get_or text (at + k) 0
-  byte k lt = get_or-take (end - at) (drop at text) k 0 (omega (arith, lt)) ∙ get_or-drop at text k 0
-
-  stops : is_blank (get_or text start 0) ≡ false
-  stops = ap is_blank (ap (λ i. get_or text i 0) start_is ∙ sym (byte (prefix_len is_blank (slice_range text at end)) (omega (arith, start_is, short)))) ∙ prefix_len_stops is_blank (slice_range text at end) 0 (omega (arith, size, start_is, short))
-
-  blank_until : (k : ℕ) → at ≤ k → k < start → is_blank (get_or text k 0) ≡ true
-  blank_until k low high = ap is_blank (ap (λ i. get_or text i 0) (omega (arith, low)) ∙ sym (byte (k - at) (omega (arith, low, high, short)))) ∙ prefix_len_passes is_blank (slice_range text at end) (k - at) 0 (omega (arith, low, high, start_is))
-
-  front_is : prefix_len is_blank (drop at text) ≡ start - at
-  front_is = prefix_len_is is_blank (drop at text) (start - at) 0 (omega (arith, length-drop at text, within, short, start_is))
-      (λ k lt. ap is_blank (get_or-drop at text k 0) ∙ blank_until (at + k) (omega arith) (omega (arith, lt)))
-      (λ _. ap is_blank (get_or-drop at text (start - at) 0 ∙ ap (λ i. get_or text i 0) (omega (arith, start_is))) ∙ stops)
-
-  not_at : ¬ IsMarkerLine marker text at
-  not_at is =
-      let begins = (both (starts (skip_blanks (drop at text)) marker) (at_line_end (skip_blanks (drop (closer_len marker (drop at text)) (drop at text)))) is.marked).0 in
-      let reads = starts_reads (skip_blanks (drop at text)) marker begins 0 some in
-      let there : skip_blanks (drop at text) ≡ drop start text = ap (λ k. drop k (drop at text)) front_is ∙ drop-drop (start - at) at text ∙ ap (λ k. drop k text) (omega (arith, start_is)) in
-      other (ap (λ i. get_or text i 0) (omega arith) ∙ sym (get_or-drop start text 0 0) ∙ ap (λ l. get_or l 0 0) (sym there) ∙ reads)
-
-  pub other_line : (n : ℕ) → IsNextLine text start n → IsPassed marker text at n
-  other_line n next = record {
-    low = omega (arith, next.behind, start_is);
-    within = next.within;
-    starts_line = λ _. next.starts_line;
-    none = λ m low high is.
-        ⊎_elim (λ e. not_at (subst (λ k. IsMarkerLine marker text k) e is))
-        (λ rest. ⊎_elim (λ below. absurd (omega (arith, below, low))) (λ above. further m above high (is.starts_line (omega (arith, above)))) rest)
-        (cases_order m at);
-  }
-    where
-      further : (m : ℕ) → at < m → m < n → get_or text (m - 1) 0 ≢ 10
-      further m above high lf =
-          ⊎_elim (λ e. blank m above (omega (arith, e)) lf) (λ rest. ⊎_elim (λ below. blank m above (omega (arith, below)) lf) (λ behind. next.first m behind high lf) rest) (cases_order m start)
-        where
-          blank : (k : ℕ) → at < k → k ≤ start → get_or text (k - 1) 0 ≢ 10
-          blank k low upto is_lf =
-              let yes = blank_until (k - 1) (omega (arith, low)) (omega (arith, low, upto)) in
-              let no : is_blank 10 ≡ true = ap is_blank (sym is_lf) ∙ yes in
-              absurd (cc (no))
-
--- lines that were passed, after lines with no marker line
-pub none_passed : (marker text : List ℕ) (at n : ℕ) → ((m : ℕ) → m < at → ¬ IsMarkerLine marker text m) → IsPassed marker text at n → (m : ℕ) → m < n → ¬ IsMarkerLine marker text m
-none_passed marker text at n old new m high is =
-    ⊎_elim (λ e. new.none m (omega (arith, e)) high is)
-    (λ other. ⊎_elim (λ below. old m below is) (λ above. new.none m (omega (arith, above)) high is) other)
-    (cases_order m at)
-
-other_than : (b : ℕ) → not (b == 10) ≡ true → b ≢ 10
-other_than b h = grind (arith, nat_tests)
-
-same_as : (b : ℕ) → not (b == 10) ≡ false → b ≡ 10
-same_as b h = grind (arith, nat_tests)
-
--- the first LF of a part ends the line
-pub next_upto : (text : List ℕ) (place end line : ℕ) → place ≤ end → end ≤ length text → line ≡ position_or_len (λ b. b == 10) (slice_range text place end) → place + line < end → IsNextLine text place (place + line + 1)
-next_upto text place end line order within line_is short =
-    let part : List ℕ = slice_range text place end in
-    let stop = same_as _ (prefix_len_stops (λ b. not (b == 10)) part 0 (omega (arith, line_is, slice_len text place end order within, short))) in
-    record {
-      behind = omega arith;
-      within = omega (arith, short, within);
-      starts_line = ap (λ i. get_or text i 0) (omega arith) ∙ sym (byte line short) ∙ ap (λ i. get_or part i 0) line_is ∙ stop;
-      first = λ m low high lf. other_than _ (prefix_len_passes (λ b. not (b == 10)) part (m - 1 - place) 0 (omega (arith, line_is, low, high)))
-          (byte (m - 1 - place) (omega (arith, low, high, short)) ∙ ap (λ i. get_or text i 0) (omega (arith, low)) ∙ lf);
-    }
-  where
-    byte : (k : ℕ) → place + k < end → get_or (slice_range text place end) k 0 ≡ get_or text (place + k) 0
-    byte k lt = get_or-take (end - place) (drop place text) k 0 (omega (arith, lt)) ∙ get_or-drop place text k 0

@@ -1,6 +1,7 @@
 pub mod ElementLemmas
 pub mod ToldKindLemmas
 pub mod CandidateLemmas
+pub mod LaneLemmas
 pub mod LiteralLemmas
 pub mod TextStartLemmas
 pub mod TableLemmas

@@ -1,6 +1,7 @@
 -- Words for the code's own parts, which its inner contracts use. Nobody has to believe them.
 pub mod Found
 pub mod Fronts
+pub mod Lanes
 pub mod Leads
 pub mod MarkerPlaces
 pub mod Openings

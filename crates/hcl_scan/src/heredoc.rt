@@ -5,17 +5,12 @@ ghost use Rattle.std.specs.List.{position_or_len, starts_with};
 ghost use Rattle.hcl_tokens.specs.Lexemes.{is_newline_byte, marker_of};
 ghost use Rattle.hcl_tokens.specs.Spelling.{starts, is_blank};
 ghost use Rattle.hcl_tokens.specs.Scans.{skip_blanks, at_line_end, closer_len, IsMarkerLine, IsFirstMarkerLine};
-ghost use Rattle.hcl_scan.specs.Inner.MarkerPlaces.{IsPlace, IsBlankFront, EndsLine, IsNextLine, IsPassed};
+ghost use Rattle.hcl_scan.specs.Inner.Lanes.{MarksLikely, NoneStands, IsBehindOthers};
+ghost use Rattle.hcl_scan.specs.Inner.MarkerPlaces.{IsPlace, IsBlankFront, EndsLine, IsNextLine};
 
-use crate::text::{count_blanks, is_blank, line_len, past_blanks, skip_blanks};
+use crate::lanes::{PLACES, likely_places, lowest, without};
+use crate::text::{count_blanks, is_blank, skip_blanks};
 use memchr::memchr;
-use memchr::memmem::Finder;
-
-/// After a line that has the marker in it, short lines are passed byte by byte: the search for the marker takes longer where
-/// the next line has it too.
-const SHORT_LINE: usize = 32;
-/// How many lines are passed so before the next search.
-const SHORT_LINES: usize = 8;
 
 /// How many bytes stand before the first LF or CR, or before the end.
 fn word_len(text: &[u8]) -> usize
@@ -97,16 +92,83 @@ fn line_of_marker(text: &[u8], place: usize, end: usize) -> Option<usize>
     }
 }
 
-/// Where the marker stands that comes first after a line's beginning.
-/// Most lines don't have it in them, and are skipped here without a look at each.
-fn next_place(text: &[u8], marker: &Finder, at: usize) -> Option<usize>
-    requires { at ≤ length text.now }
+/// Whether the marker stands at a place.
+#[inline(always)]
+fn stands_at(text: &[u8], marker: &[u8], place: usize) -> bool
+    requires { place ≤ length text.now }
+    ensures { result ≡ starts (drop place text.now) marker.now }
+{
+    let (_, rest) = text.split_at(place);
+    rest.starts_with(marker)
+}
+
+/// The same, where one byte tells as a rule.
+#[inline(always)]
+fn is_found_at(text: &[u8], marker: &[u8], place: usize) -> bool
+    requires some { 0 < length marker.now }
+    requires within { place < length text.now }
+    ensures { result ≡ starts (drop place text.now) marker.now }
+{
+    text[place] == marker[0] && stands_at(text, marker, place)
+}
+
+/// The first of the likely places at which the marker stands. Bit k is the place behind `at + k`.
+#[inline(always)]
+fn first_standing(text: &[u8], marker: &[u8], at: usize, likely: u64) -> Option<usize>
+    requires room { at + PLACES < length text.now }
+    requires marks { MarksLikely text.now marker.now at likely }
+    ensures found { IfSome result (λ n. (n ≤ at + PLACES) × IsBehindOthers text.now marker.now at n) }
+    ensures none { IfNone result (NoneStands text.now marker.now at (at + PLACES)) }
+{
+    let mut left = likely;
+    while left != 0 {
+        let lane = lowest(left);
+        let place = at + lane + 1;
+        if stands_at(text, marker, place) {
+            return Some(place);
+        }
+        left = without(left, lane);
+    }
+    None
+}
+
+/// The first place behind this one at which a marker line's marker may stand. Most are passed many at a time.
+#[inline(always)]
+fn past_unlikely(text: &[u8], marker: &[u8], place: usize) -> usize
+    requires some { 0 < length marker.now }
+    requires within { place + length marker.now ≤ length text.now }
+    ensures behind { IsBehindOthers text.now marker.now place result }
+    ensures within { result ≤ length text.now }
+{
+    let last = text.len() - marker.len();
+    let mut here = place;
+    while PLACES < last - here {
+        let likely = likely_places(text, here, marker);
+        if let Some(next) = first_standing(text, marker, here, likely) {
+            return next;
+        }
+        here += PLACES;
+    }
+    here + 1
+}
+
+/// Where the marker stands that comes first after a line's beginning, of those that may be a marker line's. A call, since
+/// the loop needs more registers than the scan leaves.
+#[inline(never)]
+fn next_place(text: &[u8], marker: &[u8], at: usize) -> Option<usize>
+    requires some { 0 < length marker.now }
+    requires within { at ≤ length text.now }
     ensures found { IfSome result (IsPlace marker.now text.now at) }
     ensures none { IfNone result ((m : ℕ) → at ≤ m → ¬ IsMarkerLine marker.now text.now m) }
 {
-    let (_, rest) = text.split_at(at);
-    let place = marker.find(rest)?;
-    Some(at + place)
+    let mut here = at;
+    while marker.len() <= text.len() - here {
+        if is_found_at(text, marker, here) {
+            return Some(here);
+        }
+        here = past_unlikely(text, marker, here);
+    }
+    None
 }
 
 /// Where the next line begins after a place.
@@ -120,68 +182,21 @@ fn next_line(text: &[u8], place: usize) -> Option<usize>
     Some(place + line + 1)
 }
 
-/// The next line after a place, if it begins up to `end`.
-fn next_line_upto(text: &[u8], place: usize, end: usize) -> Option<usize>
-    requires order { place ≤ end }
-    requires within { end ≤ length text.now }
-    ensures { IfSome result (IsNextLine text.now place) }
-{
-    let line = line_len(&text[place..end]);
-    if line == end - place {
-        return None;
-    }
-    Some(place + line + 1)
-}
-
-/// Where the next line begins, if this one is short and has no blank and not the marker's first byte first.
-fn behind_other_line(text: &[u8], marker: &[u8], at: usize) -> Option<usize>
-    requires some { 0 < length marker.now }
-    requires within { at ≤ length text.now }
-    ensures { IfSome result (IsPassed marker.now text.now at) }
-{
-    let end = at + (text.len() - at).min(SHORT_LINE);
-    let start = past_blanks(text, at, end);
-    if start == end || text[start] == marker[0] {
-        return None;
-    }
-    next_line_upto(text, start, end)
-}
-
-/// After short lines, a few at most, that begin otherwise than the marker.
-fn pass_other_lines(text: &[u8], marker: &[u8], at: usize) -> usize
-    requires some { 0 < length marker.now }
-    requires within { at ≤ length text.now }
-    requires line { 0 < at → get_or text.now (at - 1) 0 ≡ 10 }
-    ensures { IsPassed marker.now text.now at result }
-{
-    let mut here = at;
-    let mut left = SHORT_LINES;
-    while left > 0 {
-        let Some(next) = behind_other_line(text, marker, here) else {
-            return here;
-        };
-        here = next;
-        left -= 1;
-    }
-    here
-}
-
 /// Where the first line begins that is the marker.
-/// A line is asked once, where the marker comes first in it: before that only blanks may stand, and none begins a marker.
+/// A line is asked once, where the marker comes first in it with a blank or nothing at either end: before a marker line's
+/// marker only blanks stand, and none begins a marker.
 pub fn marker_line(text: &[u8], marker: &[u8]) -> Option<usize>
     requires some { 0 < length marker.now }
     requires begins { is_blank (get_or marker.now 0 0) ≡ false }
     ensures found { IfSome result (IsFirstMarkerLine marker.now text.now) }
     ensures none { IfNone result ((n : ℕ) → ¬ IsMarkerLine marker.now text.now n) }
 {
-    let finder = Finder::new(marker);
     let mut at = 0;
-    while let Some(place) = next_place(text, &finder, at) {
+    while let Some(place) = next_place(text, marker, at) {
         if let Some(start) = line_of_marker(text, place, place + marker.len()) {
             return Some(start);
         }
-        let next = next_line(text, place)?;
-        at = pass_other_lines(text, marker, next);
+        at = next_line(text, place)?;
     }
     None
 }

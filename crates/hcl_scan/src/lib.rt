@@ -11,6 +11,7 @@ mod found;
 mod front;
 mod heredoc;
 mod ident;
+mod lanes;
 pub mod laws;
 mod literal;
 mod number;

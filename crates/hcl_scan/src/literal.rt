@@ -6,7 +6,7 @@ ghost use Rattle.std.specs.Char.{is_ascii_hexdigit};
 ghost use Rattle.hcl_tokens.specs.Spelling.{escape_len, element_len, are_elements, ends_quoted, hex_digits_after, is_dollar_or_percent, starts};
 ghost use Rattle.hcl_scan.specs.Inner.Found.{is_ordinary};
 
-use crate::text::BLOCK;
+use crate::lanes::{LANES, ordinary_run};
 
 fn are_hex(bytes: &[u8]) -> bool
     ensures { result ≡ list_all is_ascii_hexdigit bytes.now }
@@ -112,30 +112,35 @@ fn ordinary_few(seen: &[u8]) -> usize
     seen.iter().take_while(|b| is_ordinary(**b)).count()
 }
 
-/// The same, by blocks.
+/// The same, many at a time.
 #[inline(always)]
 fn ordinary_len(seen: &[u8]) -> usize
     ensures count { result ≡ prefix_len is_ordinary seen.now }
     ensures within { result ≤ length seen.now }
 {
     let mut len = 0;
-    while BLOCK <= seen.len() - len {
-        let more = ordinary_few(&seen[len..len + BLOCK]);
-        if more < BLOCK {
+    while LANES <= seen.len() - len {
+        let more = ordinary_run(&seen[len..len + LANES]);
+        if more < LANES {
             return len + more;
         }
-        len += BLOCK;
+        len += LANES;
     }
     let (_, rest) = seen.split_at(len);
     len + ordinary_few(rest)
 }
 
-/// Where the first byte stands from here on that isn't an element of literal text by itself, or the end.
+/// Where the first byte stands from here on that isn't an element of literal text by itself, or the end. Often it is the
+/// one here. A call, since the scan needs the registers.
+#[inline(never)]
 fn past_ordinary(seen: &[u8], from: usize) -> usize
     requires { from ≤ length seen.now }
     ensures place { result ≡ from + prefix_len is_ordinary (drop from seen.now) }
     ensures within { result ≤ length seen.now }
 {
+    if from < seen.len() && !is_ordinary(seen[from]) {
+        return from;
+    }
     let (_, rest) = seen.split_at(from);
     from + ordinary_len(rest)
 }

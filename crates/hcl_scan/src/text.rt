@@ -6,6 +6,8 @@ ghost use Rattle.hcl_tokens.specs.Spelling.{is_blank, IsNewline, IsBlanks};
 ghost use Rattle.hcl_scan.specs.Inner.Found.{IsLongestFront, HasNoFront};
 ghost use Rattle.hcl_tokens.specs.Scans.{skip_blanks};
 
+use crate::lanes::{LANES, line_run};
+
 /// How many bytes of a long run are looked at in one step. Between them it isn't asked whether the text ends, which takes
 /// half of the instructions where it is asked of each:
 ///
@@ -48,18 +50,18 @@ fn few_before_lf(seen: &[u8]) -> usize
     seen.iter().take_while(|b| **b != b'\n').count()
 }
 
-/// The same, by blocks.
+/// The same, many at a time.
 pub(crate) fn line_len(seen: &[u8]) -> usize
     ensures count { result ≡ position_or_len (λ b. b == 10) seen.now }
     ensures within { result ≤ length seen.now }
 {
     let mut len = 0;
-    while BLOCK <= seen.len() - len {
-        let more = few_before_lf(&seen[len..len + BLOCK]);
-        if more < BLOCK {
+    while LANES <= seen.len() - len {
+        let more = line_run(&seen[len..len + LANES]);
+        if more < LANES {
             return len + more;
         }
-        len += BLOCK;
+        len += LANES;
     }
     let (_, rest) = seen.split_at(len);
     len + few_before_lf(rest)

@@ -27,10 +27,3 @@ pub record IsNextLine (text : List ℕ) (place n : ℕ) : Type 0 where
   pub within : n ≤ length text
   pub starts_line : get_or text (n - 1) 0 ≡ 10
   pub first : (m : ℕ) → place < m → m < n → get_or text (m - 1) 0 ≢ 10
-
--- a line begins after n bytes, and no marker line from `at` on before that
-pub record IsPassed (marker text : List ℕ) (at n : ℕ) : Type 0 where
-  pub low : at ≤ n
-  pub within : n ≤ length text
-  pub starts_line : 0 < n → get_or text (n - 1) 0 ≡ 10
-  pub none : (m : ℕ) → at ≤ m → m < n → ¬ IsMarkerLine marker text m

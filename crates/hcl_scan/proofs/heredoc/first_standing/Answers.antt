@@ -1,0 +1,19 @@
+use Rattle.std.proofs.Common.{sym, ◌∙◌, arith}
+use Rattle.hcl_scan.proofs.LaneLemmas.{left_without, none_below, none_left}
+use Rattle.hcl_scan.proofs.heredoc.first_standing.Goals as goal
+
+pub returns-then-stands_at-clause-found : goal.returns-then-stands_at-clause-found
+returns-then-stands_at-clause-found c =
+    let few = c.loop-left.invariant.within c.lowest-lane.result c.lowest-lane.ensures.set in (
+      omega (arith, few),
+      none_below c.args.text.now c.args.marker.now c.args.at c.loop-left.left c.lowest-lane.result c.loop-left.invariant.left few c.lowest-lane.ensures.below,
+    )
+
+pub loop-left-preserved : goal.loop-left-preserved
+loop-left-preserved c = record {
+  within = λ k set. c.loop-left.invariant.within k (c.without-left.ensures.no_more k set);
+  left = left_without c.args.text.now c.args.marker.now c.args.at c.loop-left.left c.without-left.result c.lowest-lane.result c.loop-left.invariant.left (sym c.stands_at.ensures ∙ c.if-stands_at.false) c.without-left.ensures.kept;
+}
+
+pub returns-clause-none : goal.returns-clause-none
+returns-clause-none c = none_left c.args.text.now c.args.marker.now c.args.at c.loop-left.left c.loop-left.invariant.left c.loop-left-test.false
