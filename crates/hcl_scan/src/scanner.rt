@@ -341,7 +341,8 @@ impl<'s, 'k> Scanner<'s, 'k> {
         let entry = Entry {
             kind: Kind::HeredocClose,
             inside_heredoc: true,
-            start: self.at as u32,
+            // the same as `at`, which needs no register of its own then
+            start: self.end as u32,
             end: closer_end,
         };
         let _ = self.stack.pop();
