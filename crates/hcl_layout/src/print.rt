@@ -128,5 +128,5 @@ pub fn is_found_formatted(accepted: &Accepted<'_, '_>) -> bool
 pub fn is_formatted(accepted: &Accepted<'_, '_>) -> bool
     ensures { IsTrue result ↔ (print accepted.now.tokens ≡ accepted.now.text) }
 {
-    stands_in_place(&Measured::unmeasured(accepted)) || agrees(&Measured::new(accepted))
+    is_found_formatted(accepted) || agrees(&Measured::new(accepted))
 }
