@@ -8,7 +8,7 @@ use Rattle.std.proofs.lemmas.Bool.Decides.{nat_tests}
 use Rattle.memchr.specs.Find.{OccursAt}
 use Rattle.hcl_tokens.specs.Spelling.{starts, is_blank}
 use Rattle.hcl_tokens.specs.Scans.{IsMarkerLine, IsFirstMarkerLine, skip_blanks, at_line_end, closer_len}
-use Rattle.hcl_scan.specs.Inner.Lanes.{Stands, IsBehindOthers}
+use Rattle.hcl_scan.specs.Inner.Lanes.{Stands, IsAfterOthers}
 use Rattle.hcl_scan.specs.Inner.MarkerPlaces.{IsPlace, IsBlankFront, EndsLine, IsNextLine}
 use Rattle.hcl_scan.proofs.TextStartLemmas.{both}
 use Rattle.hcl_scan.proofs.LiteralLemmas.{starts_len}
@@ -96,7 +96,7 @@ module _ (marker text : List ℕ) (m : ℕ) (is : IsMarkerLine marker text m) wh
 abbrev pub IsLater : List ℕ → List ℕ → ℕ → ℕ → Type 0
 IsLater marker text at here = (m : ℕ) → at ≤ m → IsMarkerLine marker text m → here ≤ m + prefix_len is_blank (drop m text)
 
-pub later : (marker text : List ℕ) (at here next : ℕ) → 0 < length marker → IsLater marker text at here → starts (drop here text) marker ≡ false → IsBehindOthers text marker here next → IsLater marker text at next
+pub later : (marker text : List ℕ) (at here next : ℕ) → 0 < length marker → IsLater marker text at here → starts (drop here text) marker ≡ false → IsAfterOthers text marker here next → IsLater marker text at next
 later marker text at here next some old stands_not past m low is =
     elim (cases_lt (m + prefix_len is_blank (drop m text)) next) [
       | inl early ↦ ⊎_elim (λ e. absurd (not_there e)) (λ other. ⊎_elim (λ below. absurd (omega (arith, below, old m low is))) (λ above. absurd (unlikely above early)) other) (cases_order (m + prefix_len is_blank (drop m text)) here)

@@ -11,7 +11,7 @@ use Rattle.std.proofs.lemmas.Simd.{bit_mask_l, first_set_mask_l, zip2_splat, map
 use Rattle.std.specs.Simd.Lanes.{chunk, mask_l, top, zip2}
 use Rattle.hcl_tokens.specs.Spelling.{starts}
 use Rattle.hcl_scan.specs.Inner.Found.{is_ordinary}
-use Rattle.hcl_scan.specs.Inner.Lanes.{first_set, MarksLikely, Stands, NoneStands, IsBehindOthers}
+use Rattle.hcl_scan.specs.Inner.Lanes.{first_set, MarksLikely, Stands, NoneStands, IsAfterOthers}
 
 -- the numbers of n lanes
 abbrev pub lanes : ℕ → List ℕ
@@ -126,7 +126,7 @@ left_without text marker at left next out old differs kept k lt is = elim (cases
 ]
 
 -- behind a place before the lowest that is left it doesn't stand
-pub none_below : (text marker : List ℕ) (at left lane : ℕ) → LeftOf text marker at left → lane < 32 → ((k : ℕ) → k < lane → bit_at left k ≡ 0) → IsBehindOthers text marker at (at + lane + 1)
+pub none_below : (text marker : List ℕ) (at left lane : ℕ) → LeftOf text marker at left → lane < 32 → ((k : ℕ) → k < lane → bit_at left k ≡ 0) → IsAfterOthers text marker at (at + lane + 1)
 none_below text marker at left lane old few clear = record {
   low = omega arith;
   none = λ k from upto is.

@@ -5,7 +5,7 @@ ghost use Rattle.std.specs.List.{position_or_len, starts_with};
 ghost use Rattle.hcl_tokens.specs.Lexemes.{is_newline_byte, marker_of};
 ghost use Rattle.hcl_tokens.specs.Spelling.{starts, is_blank};
 ghost use Rattle.hcl_tokens.specs.Scans.{skip_blanks, at_line_end, closer_len, IsMarkerLine, IsFirstMarkerLine};
-ghost use Rattle.hcl_scan.specs.Inner.Lanes.{MarksLikely, NoneStands, IsBehindOthers};
+ghost use Rattle.hcl_scan.specs.Inner.Lanes.{MarksLikely, NoneStands, IsAfterOthers};
 ghost use Rattle.hcl_scan.specs.Inner.MarkerPlaces.{IsPlace, IsBlankFront, EndsLine, IsNextLine};
 
 use crate::lanes::{PLACES, likely_places, lowest, without};
@@ -112,12 +112,12 @@ fn is_found_at(text: &[u8], marker: &[u8], place: usize) -> bool
     text[place] == marker[0] && stands_at(text, marker, place)
 }
 
-/// The first of the likely places at which the marker stands. Bit k is the place behind `at + k`.
+/// The first of the likely places at which the marker stands. Bit k is the place after `at + k`.
 #[inline(always)]
 fn first_standing(text: &[u8], marker: &[u8], at: usize, likely: u64) -> Option<usize>
     requires room { at + PLACES < length text.now }
     requires marks { MarksLikely text.now marker.now at likely }
-    ensures found { IfSome result (λ n. (n ≤ at + PLACES) × IsBehindOthers text.now marker.now at n) }
+    ensures found { IfSome result (λ n. (n ≤ at + PLACES) × IsAfterOthers text.now marker.now at n) }
     ensures none { IfNone result (NoneStands text.now marker.now at (at + PLACES)) }
 {
     let mut left = likely;
@@ -132,12 +132,12 @@ fn first_standing(text: &[u8], marker: &[u8], at: usize, likely: u64) -> Option<
     None
 }
 
-/// The first place behind this one at which a marker line's marker may stand. Most are passed many at a time.
+/// The first place after this one at which a marker line's marker may stand. Most are passed many at a time.
 #[inline(always)]
 fn past_unlikely(text: &[u8], marker: &[u8], place: usize) -> usize
     requires some { 0 < length marker.now }
     requires within { place + length marker.now ≤ length text.now }
-    ensures behind { IsBehindOthers text.now marker.now place result }
+    ensures behind { IsAfterOthers text.now marker.now place result }
     ensures within { result ≤ length text.now }
 {
     let last = text.len() - marker.len();

@@ -1,11 +1,11 @@
 //! Many bytes at a time, as the lanes of a vector.
 //!
-//! A marker `AB` may stand behind a place where all of this is so (`_` is a blank):
+//! A marker `AB` may stand after a place where all of this is so (`_` is a blank):
 //!
 //! ```text
 //! \n A  B  C \n  _  A  B \n  x
 //!  x  .  .  .  x  x  .  .  x  .    a byte up to a blank stands there
-//!  x  .  .  .  .  x  .  .  .  .    and behind it the marker's first byte
+//!  x  .  .  .  .  x  .  .  .  .    and after it the marker's first byte
 //!  x  .  .  .  .  x  .  .  .  .    and its last one where the marker would end
 //!  .  .  .  .  .  x  .  .  .  .    and then a byte up to a blank
 //! ```
@@ -87,7 +87,7 @@ pub(crate) fn without(mask: u64, bit: usize) -> u64
     mask & !(1 << bit)
 }
 
-/// Behind which of the next places a marker line's marker may stand. Before it stands a blank or an LF, and behind it a
+/// After which of the next places a marker line's marker may stand. Before it stands a blank or an LF, and after it a
 /// blank, an LF, a CR or nothing: none of these is above a blank.
 #[inline(always)]
 pub(crate) fn likely_places(text: &[u8], at: usize, marker: &[u8]) -> u64
