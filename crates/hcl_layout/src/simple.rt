@@ -2,7 +2,7 @@
 //!
 //! That is asked from a line on, and again for the next line whose cell stands after the end of what was found. It is asked
 //! block by block: by short ones first, since the next character that isn't ASCII may be near, by longer ones as long as none
-//! is, and by short ones again before it.
+//! is, and by short ones again before it. How much is found isn't promised: what isn't found costs a count of its clusters.
 //!
 //! ```text
 //! a = "one" ..       ..        ..         ..     b = "é"
@@ -19,13 +19,14 @@ const SHORT: usize = 8;
 /// That of a longer one, in a few steps.
 const LONG: usize = 64;
 
-/// That of one that is looked at in a loop.
+/// That of the longest. Of twice that, the compiler doesn't keep all in registers.
 const LONGEST: usize = 512;
 
 /// How far is looked ahead, since a file that doesn't stand in place mostly shows it in its first lines.
 const PAGE: usize = 65536;
 
-/// Whether a block is ASCII without CR: what is asked of a byte are two bits, so that of sixteen bytes it is asked at once.
+/// Whether a block is ASCII without CR. Both are asked of a byte without a branch, so that the compiler asks them of sixteen
+/// bytes at once.
 #[inline(always)]
 fn is_simple_block(block: &[u8]) -> bool
     ensures { result ≡ is_simple_of block.now }
