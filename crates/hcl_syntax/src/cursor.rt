@@ -15,16 +15,19 @@ use hcl_tokens::Tokens;
 use std::marker::Model;
 
 /// The tokens from some number on, as the grammar sees them, and the refusal that was met last. It is kept here and not
-/// handed on from call to call, so that a result is one byte, which comes back in a register.
+/// handed on from call to call, so that a result is one byte, which comes back in a register. How many tokens there are is
+/// kept too, since the list's own length is read again after each step: a step might write over it, for all the compiler
+/// knows.
 #[derive(Drop)]
 pub struct Cursor<'t, 's> {
     tokens: &'t Tokens<'s>,
+    count: usize,
     next: usize,
     refusal: Refusal,
 }
 
 impl<'t, 's> Model for Cursor<'t, 's> {
-    ghost use Rattle.std.specs.Prelude.{drop, length, ◌≤◌};
+    ghost use Rattle.std.specs.Prelude.{drop, length, ◌≡◌, ◌≤◌};
     ghost use Rattle.hcl_grammar.specs.Classes.{lookaheads_from};
     ghost use Rattle.hcl_syntax.specs.Inner.Standings.{Standing};
 
@@ -32,7 +35,7 @@ impl<'t, 's> Model for Cursor<'t, 's> {
 
     ghost view = { λ c. record { left = lookaheads_from c.next (drop c.next c.tokens.now.tokens); refusal = c.refusal } };
 
-    ghost invariant = { λ c. c.next ≤ length c.tokens.now.tokens };
+    ghost invariant = { λ c. (c.next ≤ c.count) × (c.count ≡ length c.tokens.now.tokens) };
 }
 
 /// Whether the grammar sees a token of the class, where a Newline is seen or dropped.
@@ -75,14 +78,20 @@ fn fits(terminal: Terminal, class: Class) -> bool
 
 /// The number of the first token that is shown, from a number on, or how many tokens there are, and the token.
 #[inline(always)]
-fn find(tokens: &Tokens, from: usize, newlines: Newlines) -> (usize, Option<Lookahead>)
-    requires { from ≤ length tokens.now.tokens }
+fn find(
+    tokens: &Tokens,
+    count: usize,
+    from: usize,
+    newlines: Newlines,
+) -> (usize, Option<Lookahead>)
+    requires within { from ≤ count }
+    requires count { count ≡ length tokens.now.tokens }
     ensures within { result.0 ≤ length tokens.now.tokens }
     ensures left { lookaheads_from result.0 (drop result.0 tokens.now.tokens) ≡ shown newlines (lookaheads_from from (drop from tokens.now.tokens)) }
     ensures found { result.1 ≡ first (lookaheads_from result.0 (drop result.0 tokens.now.tokens)) }
 {
     let mut number = from;
-    while number < tokens.len() {
+    while number < count {
         let token = lookahead_at(tokens, number);
         if is_shown(newlines, token.class) {
             return (number, Some(token));
@@ -99,6 +108,7 @@ impl<'t, 's> Cursor<'t, 's> {
     {
         Cursor {
             tokens,
+            count: tokens.len(),
             next: 0,
             refusal: Refusal::UnexpectedEnd,
         }
@@ -135,7 +145,7 @@ impl<'t, 's> Cursor<'t, 's> {
         ensures found { result ≡ first self.new.left }
         ensures shorter { length self.new.left ≤ length self.old.left }
     {
-        let (next, token) = find(self.tokens, self.next, newlines);
+        let (next, token) = find(self.tokens, self.count, self.next, newlines);
         self.next = next;
         token
     }
@@ -166,7 +176,7 @@ impl<'t, 's> Cursor<'t, 's> {
         ensures shorter { OnTrue result (length self.new.left < length self.old.left) }
     {
         let next = self.next;
-        if self.tokens.len() - next < 2 {
+        if self.count - next < 2 {
             return false;
         }
         let operand = lookahead_at(self.tokens, next);
@@ -185,7 +195,7 @@ impl<'t, 's> Cursor<'t, 's> {
     #[inline(always)]
     pub fn is_plain_next(&self) -> bool {
         let next = self.next;
-        if self.tokens.len() - next < 2 {
+        if self.count - next < 2 {
             return false;
         }
         if !begins_plain(lookahead_at(self.tokens, next).class) {
