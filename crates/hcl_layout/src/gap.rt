@@ -8,7 +8,7 @@ ghost use Rattle.hcl_layout.specs.Inner.Left.{gap_before, plain_gap_before, toke
 ghost use Rattle.hcl_layout.specs.Inner.LineGaps.{ArePlain, IsSigned, IsUntoldAt, known_place, known_width, cell_gap as cell_gap_of, gaps_in, given_or, plain_of};
 
 use crate::measured::Measured;
-use hcl_spacing::{is_other_name, space_by_kinds, space_by_texts};
+use hcl_spacing::{space_by_kinds, space_by_texts};
 use hcl_tokens::{Kind, Token};
 
 /// A cell: its place in the line, the width before it, and the gap that then sets it into its column.
@@ -77,21 +77,6 @@ fn token_before<'s>(tokens: &Measured<'_, 's>, first: usize, number: usize) -> O
 /// builds none that it seldom needs.
 #[inline(never)]
 fn looked_up_gap(tokens: &Measured<'_, '_>, first: usize, number: usize) -> u64
-    requires within { number < length tokens.now.tokens }
-    requires behind { first < number }
-    requires untold { IsUntoldAt tokens.now.tokens number }
-    ensures { (level : ℕ) (t : Lexeme) → slice_get tokens.now.tokens number ≡ Some t → result ≡ plain_gap_before tokens.now.tokens level first number t }
-{
-    let subject = tokens.get(number - 1);
-    if is_other_name(token_before(tokens, first, number - 1), subject) {
-        return 0;
-    }
-    gap_by_texts(tokens, first, number)
-}
-
-/// The same by the texts. It is a call, since most of what is looked up is a name whose text isn't asked for.
-#[inline(never)]
-fn gap_by_texts(tokens: &Measured<'_, '_>, first: usize, number: usize) -> u64
     requires within { number < length tokens.now.tokens }
     requires behind { first < number }
     requires untold { IsUntoldAt tokens.now.tokens number }

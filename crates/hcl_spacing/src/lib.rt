@@ -9,4 +9,4 @@ pub mod laws;
 mod rows;
 mod spacing;
 
-pub use spacing::{is_other_name, space_between, space_by_kinds, space_by_texts};
+pub use spacing::{space_between, space_by_kinds, space_by_texts};

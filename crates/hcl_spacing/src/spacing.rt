@@ -54,16 +54,6 @@ fn is_behind_ident(before: Option<Token<'_>>) -> bool
     matches!(before.kind, Kind::Ident)
 }
 
-/// Whether the subject is a name that follows no other, and so isn't the word `in` of a `for`: there is no blank after it where
-/// the kinds leave that open.
-#[inline(always)]
-pub fn is_other_name(before: Option<Token<'_>>, subject: Token<'_>) -> bool
-    ensures { IsTrue result → (after : Lexeme) → asks_more subject.entry.kind after.kind ≡ true → after.inside_heredoc ≡ false → is Newline after.kind ≡ false
-        → has_blank (option_map lexeme before.entry) (lexeme subject.entry) after ≡ false }
-{
-    matches!(subject.kind, Kind::Ident) && !is_behind_ident(before)
-}
-
 /// Whether an expression begins after the token before, so that a minus there is a sign.
 #[inline(always)]
 fn is_opening(before: Option<Token<'_>>) -> bool
