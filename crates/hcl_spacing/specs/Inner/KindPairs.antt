@@ -2,13 +2,14 @@
 -- table is proved by trying all pairs of kinds (proofs/KindPairLemmas).
 use Rattle.std.specs.Prelude.{◌&&◌, ◌||◌, ◌==◌, ℕ, Bool, true, false, not, Option, Some, None, if◌then◌else◌, codes}
 use Rattle.std.specs.Str.{bytes_eq}
+use Rattle.hcl_tokens.specs.Balanced.{is_opener}
 use Rattle.hcl_tokens.specs.Lexemes.{Lexeme}
 use Rattle.hcl_tokens.specs.declared.token.Kind.{Kind}
 use Rattle.hcl_tokens.specs.declared.token.Kind.TheVariants as kind
 use Rattle.hcl_tokens.specs.Kinds.{is}
 use Rattle.hcl_spacing.specs.declared.rows.Row.{Row}
 use Rattle.std.specs.Int.{bit_at}
-use Rattle.hcl_spacing.specs.Spacing.{begins_with_colon, begins_with_equals, closes_group, is_opening, opens_sequence, stands_before}
+use Rattle.hcl_spacing.specs.Spacing.{awaits_operand, begins_with_colon, begins_with_equals, closes_group, is_opening, is_operator, opens_sequence, stands_before}
 
 -- what stands close after whatever it doesn't join
 abbrev pub stands_close : Kind → Bool
@@ -83,6 +84,15 @@ asked _ r equals colon tilde word name dot opening = tilde
 abbrev pub asked_space : Option Lexeme → Lexeme → Lexeme → Bool
 asked_space before subject after =
     asked subject.kind after.kind (begins_with_equals after.text) (begins_with_colon after.text) (bytes_eq after.text (codes "~}")) (bytes_eq subject.text (codes "in")) (stands_before (is kind.Ident) before) (stands_before (is kind.Dot) before) (is_opening before)
+
+-- what is asked of the token before, by its kind
+abbrev pub kind_before : (Kind → Bool) → Option Kind → Bool
+kind_before test None = false
+kind_before test (Some k) = test k
+
+abbrev pub opening_kind : Option Kind → Bool
+opening_kind None = true
+opening_kind (Some k) = is_opener k || is_operator k || awaits_operand k
 
 -- the bit of a kind in a set of kinds
 abbrev pub number : Kind → ℕ
