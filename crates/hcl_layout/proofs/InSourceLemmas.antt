@@ -23,7 +23,7 @@ use Rattle.hcl_layout.proofs.SurveyLemmas.{drop_at}
 -- ---- widths
 
 -- the token there, and what comes after it
-width_one : (ts : List Lexeme) (l : LaidLine) (n stop : ℕ) (t : Lexeme) → slice_get ts n ≡ Some t → l.first ≤ n → n < stop → stop ≤ l.end
+pub width_one : (ts : List Lexeme) (l : LaidLine) (n stop : ℕ) (t : Lexeme) → slice_get ts n ≡ Some t → l.first ≤ n → n < stop → stop ≤ l.end
     → width_up_to ts l n stop ≡ gap_before ts l.gaps l.first n t + clusters t + width_up_to ts l (n + 1) stop
 width_one ts l n stop t e from lt le =
     let first = l.first in

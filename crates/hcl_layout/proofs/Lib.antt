@@ -10,6 +10,7 @@ pub mod LeftLemmas
 pub mod SizeLemmas
 pub mod ExtentLemmas
 pub mod PaddingLemmas
+pub mod CountLemmas
 pub mod EmptyLemmas
 pub mod BalanceLemmas
 pub mod OutLemmas

@@ -12,7 +12,7 @@ use Rattle.hcl_layout.specs.Lines.{ends_line}
 use Rattle.hcl_layout.specs.Inner.Survey.{changes, marks, step_of, stops}
 use Rattle.hcl_spacing.proofs.KindLemmas.{each}
 
-passes : (a b : Bool) → (a || not b) ≡ true → a ≡ false → b ≡ false
+pub passes : (a b : Bool) → (a || not b) ≡ true → a ≡ false → b ≡ false
 passes a true h e = cc
 passes a false h e = refl
 

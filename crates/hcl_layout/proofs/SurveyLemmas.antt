@@ -15,9 +15,8 @@ use Rattle.hcl_grammar.specs.Items.{deepen}
 use Rattle.hcl_layout.specs.Inner.Depths.{BalancedFrom, Steps, depth_after}
 use Rattle.hcl_layout.specs.Levels.{Net, net_of}
 use Rattle.hcl_layout.specs.Lines.{Line, ends_line, lines, onto_line}
-use Rattle.hcl_layout.specs.Inner.Survey.{IsLine, assign_of, cell_if, first_noted, going, marks, noted, running_of, step_of, stops, surveyed, takes_sign, turned_to}
+use Rattle.hcl_layout.specs.Inner.Survey.{IsLine, assign_of, cell_if, facts_of, first_noted, going, marks, noted, step_of, stops, surveyed, takes_sign, turned_to}
 use Rattle.hcl_layout.specs.declared.line.Survey.{Survey}
-use Rattle.hcl_layout.specs.declared.line.LineFacts.{LineFacts}
 use Rattle.hcl_layout.proofs.NotedKindLemmas.{Stepped, inline_untrailing, steps_deepen, unstopped_goes_on, unstopped_unmarked}
 use Rattle.hcl_layout.proofs.StreamLemmas.{after_is, after_low, deepen_low}
 
@@ -293,10 +292,6 @@ cell_is l d t p =
 
 running_is : (a : Bool) (x y : Option ℕ) → x ≡ y → (if a then None else x) ≡ (if a then None else y)
 running_is a x y e = ap (λ (z : Option ℕ). if a then None else z) e
-
--- the facts that the code gives
-abbrev pub facts_of : Survey → LineFacts
-facts_of s = record { len = s.len; depth = s.depth; assign = assign_of s; comment = s.comment; running = running_of s }
 
 pub is_line : (ts : List Lexeme) (at d : ℕ) (t : Lexeme) (s : Survey) → slice_get ts at ≡ Some t → length ts ≤ 2 ^ 22 → BalancedFrom d (drop at ts) → d ≤ max_open
     → s ≡ surveyed (first_noted d t) t (drop (at + 1) ts) → IsLine ts at d (facts_of s)

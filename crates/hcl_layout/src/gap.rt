@@ -8,7 +8,7 @@ ghost use Rattle.hcl_layout.specs.Inner.Left.{gap_before, plain_gap_before, toke
 ghost use Rattle.hcl_layout.specs.Inner.LineGaps.{ArePlain, IsSigned, IsUntoldAt, known_place, known_width, cell_gap as cell_gap_of, gaps_in, given_or, plain_of};
 
 use crate::measured::Measured;
-use hcl_spacing::{space_by_kinds, space_by_texts};
+use hcl_spacing::{space_by_kinds, space_by_texts, space_by_three_kinds};
 use hcl_tokens::{Kind, Token};
 
 /// A cell: its place in the line, the width before it, and the gap that then sets it into its column.
@@ -72,9 +72,37 @@ fn token_before<'s>(tokens: &Measured<'_, 's>, first: usize, number: usize) -> O
     None
 }
 
+/// The kind of that token.
+#[inline(always)]
+fn kind_before(tokens: &Measured<'_, '_>, first: usize, number: usize) -> Option<Kind>
+    requires { number ≤ length tokens.now.tokens }
+    ensures { result ≡ option_map (λ (t : Lexeme). t.kind) (token_before tokens.now.tokens first number) }
+{
+    if first < number {
+        return Some(tokens.kind(number - 1));
+    }
+    None
+}
+
 /// The gap before a token of the line that begins with token `first`, by the spacing alone, where there is another
-/// before it and the kinds of the two don't tell the gap. It is a call that looks up all tokens itself, so that its caller
-/// builds none that it seldom needs.
+/// before it and the kinds of the two don't tell the gap, but those of three tokens do, as they nearly always do.
+#[inline(always)]
+fn asked_gap(tokens: &Measured<'_, '_>, first: usize, number: usize) -> Option<u64>
+    requires within { number < length tokens.now.tokens }
+    requires behind { first < number }
+    requires untold { IsUntoldAt tokens.now.tokens number }
+    ensures told { IfSome result (λ gap. (level : ℕ) (t : Lexeme) → slice_get tokens.now.tokens number ≡ Some t → gap ≡ plain_gap_before tokens.now.tokens level first number t) }
+    ensures small { IfSome result (λ gap. gap ≤ 1) }
+{
+    let before = kind_before(tokens, first, number - 1);
+    match space_by_three_kinds(before, tokens.kind(number - 1), tokens.kind(number)) {
+        Some(space) => Some(u64::from(space)),
+        None => None,
+    }
+}
+
+/// The same, by texts if need be. It is a call that looks up all tokens itself, so that its caller builds none that it
+/// seldom needs.
 #[inline(never)]
 fn looked_up_gap(tokens: &Measured<'_, '_>, first: usize, number: usize) -> u64
     requires within { number < length tokens.now.tokens }
@@ -82,6 +110,9 @@ fn looked_up_gap(tokens: &Measured<'_, '_>, first: usize, number: usize) -> u64
     requires untold { IsUntoldAt tokens.now.tokens number }
     ensures { (level : ℕ) (t : Lexeme) → slice_get tokens.now.tokens number ≡ Some t → result ≡ plain_gap_before tokens.now.tokens level first number t }
 {
+    if let Some(gap) = asked_gap(tokens, first, number) {
+        return gap;
+    }
     let token = tokens.get(number);
     let subject = tokens.get(number - 1);
     let before = token_before(tokens, first, number - 1);
@@ -105,6 +136,29 @@ pub fn told_gap(
         return None;
     };
     Some(u64::from(space))
+}
+
+/// The same outside heredocs where the kinds of the two tell it, or that of the token before them.
+#[inline(always)]
+pub fn kinds_gap(
+    tokens: &Measured<'_, '_>,
+    first: usize,
+    number: usize,
+    token: Token<'_>,
+) -> Option<u64>
+    requires there { slice_get tokens.now.tokens number ≡ Some (lexeme token) }
+    requires within { number < length tokens.now.tokens }
+    requires behind { first < number }
+    ensures told { IfSome result (λ gap. (level : ℕ) → gap ≡ plain_gap_before tokens.now.tokens level first number (lexeme token.entry)) }
+    ensures small { IfSome result (λ gap. gap ≤ 1) }
+{
+    if token.inside_heredoc {
+        return None;
+    }
+    match space_by_kinds(tokens.get(number - 1), token) {
+        Some(space) => Some(u64::from(space)),
+        None => asked_gap(tokens, first, number),
+    }
 }
 
 /// The same, told by the kinds or not.

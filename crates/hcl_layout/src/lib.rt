@@ -20,6 +20,7 @@
 #![tactic(auto)]
 
 mod buffer;
+mod counted;
 mod extent;
 mod gap;
 mod in_place;

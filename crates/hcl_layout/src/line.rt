@@ -55,7 +55,7 @@ pub struct LineFacts {
 
 /// Whether a line ends with the token.
 #[inline(always)]
-fn is_line_end(token: Token<'_>) -> bool
+pub fn is_line_end(token: Token<'_>) -> bool
     ensures { result ≡ ends_line (lexeme token.entry) }
 {
     matches!(token.kind, Kind::Newline) && !token.inside_heredoc
@@ -83,7 +83,7 @@ fn holds_newline(text: &str) -> bool
 }
 
 #[inline(always)]
-fn is_inline_comment(kind: Kind) -> bool
+pub fn is_inline_comment(kind: Kind) -> bool
     ensures { result ≡ is InlineComment kind }
 {
     matches!(kind, Kind::InlineComment)
@@ -147,11 +147,11 @@ static STEPS: [u8; 256] = *b"\
     ................................";
 
 /// Where more is asked of a token than its kind.
-const MORE: u8 = b'.';
+pub const MORE: u8 = b'.';
 
 /// What a token of the kind does to the depth.
 #[inline(always)]
-fn step_of(kind: Kind) -> u8
+pub fn step_of(kind: Kind) -> u8
     ensures { result ≡ step_of kind }
 {
     STEPS[kind as usize]
@@ -159,7 +159,7 @@ fn step_of(kind: Kind) -> u8
 
 /// The depth after a step.
 #[inline(always)]
-fn stepped(depth: u32, step: u8) -> u32
+pub fn stepped(depth: u32, step: u8) -> u32
     requires fits { depth ≤ max_open }
     requires rises { step ≤ 50 }
     requires stays { 49 ≤ depth + step }
@@ -204,7 +204,7 @@ fn first_survey(depth: u32, token: Token<'_>) -> Survey
 /// After the first token of the line that begins at a place, and whether the line ends with it. Inline comments alone are
 /// asked for their text.
 #[inline(always)]
-fn read_first(tokens: &Measured<'_, '_>, at: usize, depth: u32) -> (Survey, bool)
+pub fn read_first(tokens: &Measured<'_, '_>, at: usize, depth: u32) -> (Survey, bool)
     requires within { at < length tokens.now.tokens }
     requires balanced { BalancedFrom depth (drop at tokens.now.tokens) }
     requires fits { depth ≤ max_open }
@@ -225,7 +225,7 @@ fn read_first(tokens: &Measured<'_, '_>, at: usize, depth: u32) -> (Survey, bool
 impl Survey {
     /// Up to a further length and with the depth there, before the trailing comment.
     #[inline(always)]
-    fn turned_to(self, len: usize, depth: u32) -> Survey
+    pub fn turned_to(self, len: usize, depth: u32) -> Survey
         ensures { result ≡ turned_to self len depth }
     {
         Survey {
@@ -238,7 +238,7 @@ impl Survey {
 
     /// After one token more, of a kind that changes nothing.
     #[inline(always)]
-    fn passed(self) -> Survey
+    pub fn passed(self) -> Survey
         requires room { self.len + 1 < 2 ^ 64 }
         ensures { (t : Lexeme) → changes t.kind ≡ false → result ≡ noted self t }
     {
@@ -255,7 +255,7 @@ impl Survey {
 
     /// After one token more of which more is asked, but that tears no cell, before the trailing comment.
     #[inline(always)]
-    fn marked(self, token: Token<'_>) -> Survey
+    pub fn marked(self, token: Token<'_>) -> Survey
         requires comment { self.comment ≡ None }
         requires body { self.body_depth ≡ self.depth }
         requires level { deepen self.depth token.kind ≡ self.depth }
@@ -323,7 +323,7 @@ impl Survey {
 
     /// The place of the sign, where it begins a cell.
     #[inline(always)]
-    fn assign(self) -> Option<usize>
+    pub fn assign(self) -> Option<usize>
         ensures { result ≡ assign_of self }
     {
         if !self.multiline && self.sign_depth == self.body_depth {

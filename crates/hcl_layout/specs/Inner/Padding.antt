@@ -1,15 +1,24 @@
 -- The length of a print, line by line: each line with its cells one blank after what stands before them, and the further
 -- blanks that set the cells into their columns, counted as the columns grow.
-use Rattle.std.specs.Prelude.{◌≡◌, ◌≤◌, ◌+◌, ◌-◌, ◌*◌, ◌^◌, ℕ, Bool, List, [], ◌∷◌, Option, Some, None, IfSome, length, max, option_map, is_some, if◌then◌else◌, take, drop}
+use Rattle.std.specs.Prelude.{◌≡◌, ◌<◌, ◌≤◌, ◌+◌, ◌-◌, ◌*◌, ◌^◌, ℕ, Bool, true, List, [], ◌∷◌, Option, Some, None, IfSome, length, max, option_map, is_some, if◌then◌else◌, slice_get, take, drop}
+use Rattle.hcl_tokens.specs.Balanced.{max_open}
 use Rattle.hcl_tokens.specs.Lexemes.{Lexeme}
 use Rattle.hcl_layout.specs.Cells.{assign_cell, running_comment, trailing_comment}
 use Rattle.hcl_layout.specs.Gaps.{align, width}
 use Rattle.hcl_layout.specs.Lines.{Line}
-use Rattle.hcl_layout.specs.Inner.Depths.{depth_after, levels_behind}
-use Rattle.hcl_layout.specs.Inner.Left.{token_before}
-use Rattle.hcl_layout.specs.Inner.LineGaps.{gaps_from}
+use Rattle.hcl_layout.specs.Lines.{lines}
+use Rattle.hcl_layout.specs.Inner.Depths.{BalancedFrom, depth_after, levels_behind}
+use Rattle.hcl_layout.specs.Inner.InPlace.{HasGap, line_with, width_up_to}
+use Rattle.hcl_layout.specs.Inner.Left.{plain_gap_before, token_before}
+use Rattle.hcl_layout.specs.Inner.LineGaps.{ArePlain, gaps_from}
+use Rattle.hcl_layout.specs.Inner.Simple.{is_simple}
 use Rattle.hcl_layout.specs.Inner.Stream.{assign_width, plain}
+use Rattle.hcl_layout.specs.Inner.Survey.{first_noted, going, surveyed}
+use Rattle.hcl_layout.specs.declared.counted.Counted.{Counted}
+use Rattle.hcl_layout.specs.declared.gap.LineGaps.{LineGaps}
 use Rattle.hcl_layout.specs.declared.in_place.LaidLine.{LaidLine}
+use Rattle.hcl_layout.specs.declared.lengths.LineLen.{LineLen}
+use Rattle.hcl_layout.specs.declared.line.Survey.{Survey}
 use Rattle.hcl_layout.specs.declared.padding.OpenRun.{OpenRun}
 use Rattle.hcl_layout.specs.declared.padding.Padding.{Padding}
 
@@ -123,3 +132,66 @@ left_len ts l n =
 -- from a token to another the line takes so much
 abbrev pub Adds : List Lexeme → LaidLine → ℕ → ℕ → ℕ → Type 0
 Adds ts l n n' len = left_len ts l n ≡ len + left_len ts l n'
+
+-- and in plain ASCII it is wider by as much
+pub record Takes (ts : List Lexeme) (text : List ℕ) (l : LaidLine) (n n' len : ℕ) : Type 0 where
+  pub adds : Adds ts l n n' len
+  pub wide : is_simple text ≡ true → (stop : ℕ) → n' ≤ stop → stop ≤ l.end → width_up_to ts l n stop ≡ len + width_up_to ts l n' stop
+
+-- pieces after the first of the line that begins at a token, which are no cells
+abbrev pub PlainTakes : List Lexeme → List ℕ → ℕ → ℕ → ℕ → ℕ → Type 0
+PlainTakes ts text first n n' len = (g : LineGaps) (end : ℕ) → n' ≤ end → ArePlain g (n - first) (n' - first) → Takes ts text (line_with g first end) n n' len
+
+-- a piece with a gap of its own, which isn't counted, and such pieces after it
+abbrev pub SignTakes : List Lexeme → ℕ → ℕ → ℕ → ℕ → Type 0
+SignTakes ts first n n' len = (g : LineGaps) (end gap : ℕ) → n' ≤ end → HasGap ts g first n gap → ArePlain g (n + 1 - first) (n' - first) → Adds ts (line_with g first end) n n' (gap + len)
+
+-- by the spacing alone
+abbrev pub HasPlainGap : List Lexeme → ℕ → ℕ → ℕ → Type 0
+HasPlainGap ts first n gap = (level : ℕ) (t : Lexeme) → slice_get ts n ≡ Some t → gap ≡ plain_gap_before ts level first n t
+
+-- the sign of the line that begins at a token, at a place, and what was counted up to another token: before the sign, its
+-- gap, and the rest
+pub record CountsSign (ts : List Lexeme) (text : List ℕ) (first n place before own after : ℕ) : Type 0 where
+  pub behind : 0 < place
+  pub there : first + place < n
+  pub front : PlainTakes ts text first (first + 1) (first + place) before
+  pub gap : HasPlainGap ts first (first + place) own
+  pub rest : SignTakes ts first (first + place) n after
+
+-- no sign, and so all of it in one
+pub record CountsAll (ts : List Lexeme) (text : List ℕ) (first n before own after : ℕ) : Type 0 where
+  pub front : before ≡ 0
+  pub gap : own ≡ 0
+  pub rest : PlainTakes ts text first (first + 1) n after
+
+abbrev pub Counts : List Lexeme → List ℕ → ℕ → ℕ → Option ℕ → ℕ → ℕ → ℕ → Type 0
+Counts ts text first n None before own after = CountsAll ts text first n before own after
+Counts ts text first n (Some place) before own after = CountsSign ts text first n place before own after
+
+abbrev pub IsCounted : List Lexeme → List ℕ → ℕ → Counted → Type 0
+IsCounted ts text first c = Counts ts text first (first + c.line.len) c.line.sign c.front c.gap c.rest
+
+-- ---- a line
+
+-- the line at a place goes on after the tokens that a survey passed, and no comment ends it so far
+pub record IsGoing (ts : List Lexeme) (at d : ℕ) (s : Survey) : Type 0 where
+  pub same : (t : Lexeme) → slice_get ts at ≡ Some t → surveyed (first_noted d t) t (drop (at + 1) ts) ≡ going s (drop (at + s.len) ts)
+  pub balanced : BalancedFrom s.depth (drop (at + s.len) ts)
+  pub low : s.depth ≤ max_open
+  pub comment : s.comment ≡ None
+  pub body : s.body_depth ≡ s.depth
+  pub some : 0 < s.len
+  pub within : at + s.len ≤ length ts
+
+-- the line at a place: what it takes with its cells one blank after, and the widths before those that are of runs
+pub record IsLineLen (ts : List Lexeme) (at d : ℕ) (levels : List ℕ) (r : LineLen) : Type 0 where
+  pub some : 0 < r.len
+  pub within : at + r.len ≤ length ts
+  pub low : r.depth ≤ max_open
+  pub rest : BalancedFrom r.depth (drop (at + r.len) ts)
+  pub takes : len_apart d levels (lines (drop at ts)) ≡ r.bytes + len_apart r.depth (levels_behind d r.depth levels) (lines (drop (at + r.len) ts))
+  pub pads : (s : Padding) → with_lines d levels (lines (drop at ts)) s ≡ with_lines r.depth (levels_behind d r.depth levels) (lines (drop (at + r.len) ts)) (with_line r.sign r.comment s)
+  pub small : r.bytes ≤ r.len * 2 ^ 35
+  pub sign : IfSome r.sign (λ w. w ≤ 2 ^ 24)
+  pub comment : IfSome r.comment (λ w. w ≤ 2 ^ 24)

@@ -74,6 +74,10 @@ assign_of s = cell_if (not s.multiline && (s.sign_depth == s.body_depth)) s.sign
 abbrev pub running_of : Survey → Option ℕ
 running_of s = if s.multiline then None else s.comment
 
+-- what a survey tells of the whole line
+abbrev pub facts_of : Survey → LineFacts
+facts_of s = record { len = s.len; depth = s.depth; assign = assign_of s; comment = s.comment; running = running_of s }
+
 -- the line of these facts
 abbrev pub text_at : List Lexeme → ℕ → LineFacts → Line
 text_at ts at f = take f.len (drop at ts)
