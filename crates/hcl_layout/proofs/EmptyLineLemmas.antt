@@ -7,10 +7,10 @@ use Rattle.hcl_grammar.specs.Items.{deepen}
 use Rattle.hcl_layout.specs.Cells.{is_multiline}
 use Rattle.hcl_layout.specs.Lines.{ends_line}
 use Rattle.hcl_layout.specs.Inner.Depths.{BalancedFrom}
-use Rattle.hcl_layout.specs.Inner.Survey.{IsLine, cell_if, empty_line, first_noted, surveyed}
+use Rattle.hcl_layout.specs.Inner.Survey.{IsLine, cell_if, empty_line, facts_of, first_noted, surveyed}
 use Rattle.hcl_layout.specs.declared.line.Survey.{Survey}
 use Rattle.hcl_layout.proofs.NotedKindLemmas.{end_whole, stopped_level, end_stops}
-use Rattle.hcl_layout.proofs.SurveyLemmas.{facts_of, is_line, surveyed_end}
+use Rattle.hcl_layout.proofs.SurveyLemmas.{is_line, surveyed_end}
 
 no_cell : (v : Bool) → cell_if v None ≡ None
 no_cell true = refl
