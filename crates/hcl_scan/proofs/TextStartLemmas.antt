@@ -1,5 +1,5 @@
 -- What it means that a text starts with another.
-use Rattle.std.proofs.Common.{◌≡◌, ℕ, ◌&&◌, ◌==◌, Bool, true, false, List, [], ◌∷◌, ◌++◌, refl, nat_eq, drop, length, arith}
+use Rattle.std.proofs.Common.{◌≡◌, ◌≢◌, ℕ, ◌&&◌, ◌==◌, Bool, true, false, List, [], ◌∷◌, ◌++◌, refl, ap₂, nat_eq, take, drop, length, arith}
 use Rattle.std.specs.List.{starts_with}
 use Rattle.std.proofs.lemmas.Bool.Decides.{nat_tests}
 use Rattle.hcl_tokens.specs.Spelling.{starts}
@@ -37,3 +37,24 @@ pub starts_so : (front rest : List ℕ) → starts (front ++ rest) front ≡ tru
 starts_so [] [] = refl
 starts_so [] (r ∷ rest) = refl
 starts_so (c ∷ front) rest = (λ i. itself c i && starts_so front rest i)
+
+-- of two texts of one length
+pub starts_whole : (text front : List ℕ) → length text ≡ length front → starts text front ≡ true → text ≡ front
+starts_whole [] [] long h = refl
+starts_whole (b ∷ text) [] long h = absurd (omega (arith, long))
+starts_whole [] (c ∷ front) long h = absurd (cc)
+starts_whole (b ∷ text) (c ∷ front) long h =
+    let parts = both (b == c) (starts text front) h in ap₂ (λ x xs. x ∷ xs) (same b c parts.0) (starts_whole text front (omega (arith, long)) parts.1)
+
+-- no more of the text is asked than the front is long
+pub starts_taken : (text front : List ℕ) → starts (take (length front) text) front ≡ starts text front
+starts_taken text [] = refl
+starts_taken [] (c ∷ front) = refl
+starts_taken (b ∷ text) (c ∷ front) = (λ i. (b == c) && starts_taken text front i)
+
+pub is_false : (b : Bool) → (b ≡ true → ⊥) → false ≡ b
+is_false true p = absurd (p refl)
+is_false false p = refl
+
+pub starts_other : (text front : List ℕ) → length text ≡ length front → text ≢ front → false ≡ starts text front
+starts_other text front long other = is_false (starts text front) (λ h. other (starts_whole text front long h))

@@ -1,11 +1,21 @@
 //! The line that ends a heredoc.
+//!
+//! Its marker is sought at many places at a time (`lanes`). Where it may stand, a word at either end is compared before all
+//! of it is:
+//!
+//! ```text
+//! marker         Mabcxyz    of 4 to 8 bytes the first four and the last four tell all
+//! a line         Mab99yz
+//! first four     Mabc       not `Mab9`
+//! last four         cxyz
+//! ```
 
 ghost use Rattle.std.specs.Prelude.{◌≡◌, ◌≢◌, ◌<◌, ◌≤◌, ◌+◌, ◌-◌, ◌^◌, ℕ, false, get_or, codes, nat_eq, if◌then◌else◌, drop, length, IfSome, IfNone, IsTrue};
 ghost use Rattle.std.specs.List.{position_or_len, starts_with};
 ghost use Rattle.hcl_tokens.specs.Lexemes.{is_newline_byte, marker_of};
 ghost use Rattle.hcl_tokens.specs.Spelling.{starts, is_blank};
 ghost use Rattle.hcl_tokens.specs.Scans.{skip_blanks, at_line_end, closer_len, IsMarkerLine, IsFirstMarkerLine};
-ghost use Rattle.hcl_scan.specs.Inner.Lanes.{MarksLikely, NoneStands, IsAfterOthers};
+ghost use Rattle.hcl_scan.specs.Inner.Lanes.{MarksStanding, NoneStands, IsAfterOthers};
 ghost use Rattle.hcl_scan.specs.Inner.MarkerPlaces.{IsPlace, IsBlankFront, EndsLine, IsNextLine};
 
 use crate::lanes::{PLACES, likely_places, lowest, without};
@@ -112,15 +122,88 @@ fn is_found_at(text: &[u8], marker: &[u8], place: usize) -> bool
     text[place] == marker[0] && stands_at(text, marker, place)
 }
 
-/// The first of the likely places at which the marker stands. Bit k is the place after `at + k`.
+/// Whether two texts have so many bytes at either end, and differ in some of them.
 #[inline(always)]
-fn first_standing(text: &[u8], marker: &[u8], at: usize, likely: u64) -> Option<usize>
+fn ends_differ<const N: usize>(text: &[u8], other: &[u8]) -> bool
+    requires { N ≤ 16 }
+    ensures { IsTrue result → text.now ≢ other.now }
+{
+    let (Some(front), Some(other_front)) = (text.first_chunk::<N>(), other.first_chunk::<N>())
+    else {
+        return false;
+    };
+    let (Some(back), Some(other_back)) = (text.last_chunk::<N>(), other.last_chunk::<N>()) else {
+        return false;
+    };
+    *front != *other_front || *back != *other_back
+}
+
+/// Whether the ends of two texts tell that these differ. If both have 2 to 32 bytes, they tell all, without a call; longer
+/// ones aren't asked.
+#[inline(always)]
+fn are_told_apart(text: &[u8], other: &[u8]) -> bool
+    ensures { IsTrue result → text.now ≢ other.now }
+{
+    match other.len() {
+        0..=3 => ends_differ::<2>(text, other),
+        4..=8 => ends_differ::<4>(text, other),
+        9..=16 => ends_differ::<8>(text, other),
+        17..=32 => ends_differ::<16>(text, other),
+        _ => false,
+    }
+}
+
+/// Whether the ends of the marker tell that it doesn't stand at a place.
+#[inline(always)]
+fn is_ruled_out(text: &[u8], marker: &[u8], place: usize) -> bool
+    requires within { place + length marker.now ≤ length text.now }
+    ensures { IsTrue result → starts (drop place text.now) marker.now ≡ false }
+{
+    are_told_apart(&text[place..place + marker.len()], marker)
+}
+
+/// The likely places from the first on at which the marker isn't ruled out. A call, since so many loops in one function
+/// take each other's registers; it calls nothing.
+#[inline(never)]
+fn from_first_in_doubt(text: &[u8], marker: &[u8], at: usize, likely: u64) -> u64
+    requires room { at + PLACES + length marker.now < length text.now }
+    requires marks { MarksStanding text.now marker.now at likely }
+    ensures marks { MarksStanding text.now marker.now at result }
+{
+    let mut left = likely;
+    while left != 0 {
+        let lane = lowest(left);
+        if !is_ruled_out(text, marker, at + lane + 1) {
+            return left;
+        }
+        left = without(left, lane);
+    }
+    left
+}
+
+/// The places at which the marker isn't ruled out, and maybe others. Most blocks have no likely one.
+#[inline(always)]
+fn places_in_doubt(text: &[u8], marker: &[u8], at: usize) -> u64
+    requires some { 0 < length marker.now }
+    requires room { at + PLACES + length marker.now < length text.now }
+    ensures { MarksStanding text.now marker.now at result }
+{
+    let likely = likely_places(text, at, marker);
+    if likely == 0 {
+        return likely;
+    }
+    from_first_in_doubt(text, marker, at, likely)
+}
+
+/// The first of the marked places at which the marker stands. Bit k is the place after `at + k`.
+#[inline(always)]
+fn first_standing(text: &[u8], marker: &[u8], at: usize, marked: u64) -> Option<usize>
     requires room { at + PLACES < length text.now }
-    requires marks { MarksLikely text.now marker.now at likely }
+    requires marks { MarksStanding text.now marker.now at marked }
     ensures found { IfSome result (λ n. (n ≤ at + PLACES) × IsAfterOthers text.now marker.now at n) }
     ensures none { IfNone result (NoneStands text.now marker.now at (at + PLACES)) }
 {
-    let mut left = likely;
+    let mut left = marked;
     while left != 0 {
         let lane = lowest(left);
         let place = at + lane + 1;
@@ -143,8 +226,8 @@ fn past_unlikely(text: &[u8], marker: &[u8], place: usize) -> usize
     let last = text.len() - marker.len();
     let mut here = place;
     while PLACES < last - here {
-        let likely = likely_places(text, here, marker);
-        if let Some(next) = first_standing(text, marker, here, likely) {
+        let marked = places_in_doubt(text, marker, here);
+        if let Some(next) = first_standing(text, marker, here, marked) {
             return next;
         }
         here += PLACES;

@@ -286,3 +286,50 @@ Ident 396624-396625 LineComment 396626-462161 Newline 462161-462162 Ident 462162
     same_text(&rt, line.as_str(), wanted, "long tokens");
     Ok(())
 }
+
+/// A line that is a marker of so many letters but for the one at a place.
+fn push_nearly(text: &mut String, length: usize, place: usize) -> Result<(), AllocError> {
+    push_times(text, "m", place)?;
+    text.push_str("x")?;
+    push_times(text, "m", length.saturating_sub(place).saturating_sub(1))?;
+    text.push_str("\n")
+}
+
+/// A heredoc whose marker has so many letters, with each line that differs from it in one, and a comment after it.
+fn among_alike(alloc: Global, length: usize) -> Result<String, AllocError> {
+    let mut text = String::new(alloc);
+    text.push_str("<<")?;
+    push_times(&mut text, "m", length)?;
+    text.push_str("\n")?;
+    for place in 0..length {
+        push_nearly(&mut text, length, place)?;
+    }
+    push_times(&mut text, "m", length)?;
+    text.push_str("\n#")?;
+    push_times(&mut text, "x", 99)?;
+    Ok(text)
+}
+
+/// The line that is the marker among lines that differ from it in one letter, for markers of each length.
+#[test]
+fn markers_among_alike(rt: HostRuntime) -> Result<(), Fail> {
+    for length in 1..=70usize {
+        let text = among_alike(rt.alloc(), length)?;
+        let body = length.saturating_add(3);
+        let close = text
+            .as_str()
+            .len()
+            .saturating_sub(101)
+            .saturating_sub(length);
+        let end = close.saturating_add(length);
+        let comment = end.saturating_add(1);
+        let last = comment.saturating_add(100);
+        let mut wanted = String::new(rt.alloc());
+        write!(
+            wanted,
+            "HeredocOpen 0-{body} !Lit {body}-{close} !HeredocClose {close}-{end} Newline {end}-{comment} LineComment {comment}-{last}"
+        )?;
+        has(&rt, rt.alloc(), text.as_str(), wanted.as_str())?;
+    }
+    Ok(())
+}

@@ -24,6 +24,11 @@ pub record Stands (text marker : List ℕ) (place : ℕ) : Type 0 where
   pub likely : IsLikely text marker place
   pub begins : starts (drop (place + 1) text) marker ≡ true
 
+-- bit k is set where it does so after `at + k`
+pub record MarksStanding (text marker : List ℕ) (at mask : ℕ) : Type 0 where
+  pub within : (k : ℕ) → bit_at mask k ≡ 1 → k < 32
+  pub set : (k : ℕ) → k < 32 → Stands text marker (at + k) → bit_at mask k ≡ 1
+
 -- it doesn't after the places from `from` up to `to`
 abbrev pub NoneStands : List ℕ → List ℕ → ℕ → ℕ → Type 0
 NoneStands text marker from to = (k : ℕ) → from ≤ k → k < to → ¬ Stands text marker k

@@ -6,14 +6,14 @@ pub returns-then-stands_at-clause-found : goal.returns-then-stands_at-clause-fou
 returns-then-stands_at-clause-found c =
     let few = c.loop-left.invariant.within c.lowest-lane.result c.lowest-lane.ensures.set in (
       omega (arith, few),
-      none_below c.args.text.now c.args.marker.now c.args.at c.loop-left.left c.lowest-lane.result c.loop-left.invariant.left few c.lowest-lane.ensures.below,
+      none_below c.args.text.now c.args.marker.now c.args.at c.loop-left.left c.lowest-lane.result c.loop-left.invariant.set few c.lowest-lane.ensures.below,
     )
 
 pub loop-left-preserved : goal.loop-left-preserved
 loop-left-preserved c = record {
   within = λ k set. c.loop-left.invariant.within k (c.without-left.ensures.no_more k set);
-  left = left_without c.args.text.now c.args.marker.now c.args.at c.loop-left.left c.without-left.result c.lowest-lane.result c.loop-left.invariant.left (sym c.stands_at.ensures ∙ c.if-stands_at.false) c.without-left.ensures.kept;
+  set = left_without c.args.text.now c.args.marker.now c.args.at c.loop-left.left c.without-left.result c.lowest-lane.result c.loop-left.invariant.set (sym c.stands_at.ensures ∙ c.if-stands_at.false) c.without-left.ensures.kept;
 }
 
 pub returns-clause-none : goal.returns-clause-none
-returns-clause-none c = none_left c.args.text.now c.args.marker.now c.args.at c.loop-left.left c.loop-left.invariant.left c.loop-left-test.false
+returns-clause-none c = none_left c.args.text.now c.args.marker.now c.args.at c.loop-left.left c.loop-left.invariant.set c.loop-left-test.false
