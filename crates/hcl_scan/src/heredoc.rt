@@ -138,8 +138,7 @@ fn ends_differ<const N: usize>(text: &[u8], other: &[u8]) -> bool
     *front != *other_front || *back != *other_back
 }
 
-/// Whether the ends of two texts tell that these differ. If both have 2 to 32 bytes, they tell all, without a call; longer
-/// ones aren't asked.
+/// Whether the ends of two texts tell that these differ. If both have 2 to 32 bytes, they tell all, without a call.
 #[inline(always)]
 fn are_told_apart(text: &[u8], other: &[u8]) -> bool
     ensures { IsTrue result → text.now ≢ other.now }
@@ -148,8 +147,7 @@ fn are_told_apart(text: &[u8], other: &[u8]) -> bool
         0..=3 => ends_differ::<2>(text, other),
         4..=8 => ends_differ::<4>(text, other),
         9..=16 => ends_differ::<8>(text, other),
-        17..=32 => ends_differ::<16>(text, other),
-        _ => false,
+        _ => ends_differ::<16>(text, other),
     }
 }
 
