@@ -19,7 +19,10 @@ MOST = 425
 
 
 def main(name, cases, most={}):
-    """Times the cases, or counts their instructions; `most` has those of which a byte may take more than `MOST`."""
+    """Times the cases, or counts their instructions.
+
+    `most` has those of which a byte may take more than `MOST`; their ratio may be as many times the limit.
+    """
     read = argparse.ArgumentParser(
         usage='%s [--limit N] [--keep FOLDER] [PROGRAM]\n       %s --count [PROGRAM]' % (name, name)
     )
@@ -67,7 +70,8 @@ def main(name, cases, most={}):
                     '%.1f' % (taken / less),
                 ]
             )
-            if given.limit and ratio > given.limit or status is None or status not in (0, 2):
+            allowed = given.limit * most.get(label, MOST) / MOST
+            if given.limit and ratio > allowed or status is None or status not in (0, 2):
                 high.append(label)
         print(table(['input', 'bytes', 'status', '1 MiB', '4 MiB', 'ratio', 'growth'], rows))
     for label in high:
