@@ -12,8 +12,8 @@ use Rattle.hcl_layout.specs.Inner.LineGaps.{len_with_blanks, cell_gap, gap_of, g
 use Rattle.hcl_layout.specs.Lines.{lines}
 use Rattle.hcl_layout.specs.Print.{printed_text}
 use Rattle.hcl_layout.specs.Inner.Stream.{commented}
-use Rattle.hcl_layout.specs.declared.gap.Cell.{Cell}
-use Rattle.hcl_layout.specs.declared.gap.LineGaps.{LineGaps}
+use Rattle.hcl_layout.specs.Inner.LineGaps.{Cell}
+use Rattle.hcl_layout.specs.Inner.LineGaps.{LineGaps}
 use Rattle.hcl_layout.proofs.LineLemmas.{blank, indented, width_next}
 use Rattle.hcl_layout.proofs.StreamLemmas.{gaps_all}
 use Rattle.hcl_layout.proofs.SurveyLemmas.{drop_at, token_at}
@@ -83,7 +83,7 @@ width_first level ts at len i t e le lt =
 suc_is : (k : ℕ) → k + 1 ≡ suc k
 suc_is k = omega arith
 
-width_none : (n : ℕ) (gs : List ℕ) (line : List Lexeme) → n ≡ 0 → width n gs line ≡ 0
+pub width_none : (n : ℕ) (gs : List ℕ) (line : List Lexeme) → n ≡ 0 → width n gs line ≡ 0
 width_none n gs line e = rw e refl
 
 -- the width before a place, and on from there
@@ -137,7 +137,7 @@ front_gap set ts start next t e p q =
     let plain : ℕ = plain_gap set.level b (token_before ts start next) t in
     sym (behind_front set.comment k (cell_gap set.assign k plain) q front ∙ behind_front set.assign k plain p front ∙ ap (λ s. plain_gap set.level b s t) (none_behind ts start next (omega (arith, e))))
 
-plain_small : (level : ℕ) (b s : Option Lexeme) (t : Lexeme) → level ≤ max_open → plain_gap level b s t ≤ 2 * max_open
+pub plain_small : (level : ℕ) (b s : Option Lexeme) (t : Lexeme) → level ≤ max_open → plain_gap level b s t ≤ 2 * max_open
 plain_small level b None t low = omega (arith, indented level t)
 plain_small level b (Some s) t low = omega (arith, blank b s t)
 

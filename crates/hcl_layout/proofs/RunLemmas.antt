@@ -10,8 +10,8 @@ use Rattle.hcl_layout.specs.Inner.LineGaps.{AreSet, IsKnown, IsSigned, len_with_
 use Rattle.hcl_layout.specs.Inner.Depths.{depth_after, levels_behind}
 use Rattle.hcl_layout.specs.Inner.Stream.{assign_column, assigned_line, column_behind, comment_column, comment_widths, next_of}
 use Rattle.hcl_layout.specs.Lines.{Line}
-use Rattle.hcl_layout.specs.declared.gap.Cell.{Cell}
-use Rattle.hcl_layout.specs.declared.gap.LineGaps.{LineGaps}
+use Rattle.hcl_layout.specs.Inner.LineGaps.{Cell}
+use Rattle.hcl_layout.specs.Inner.LineGaps.{LineGaps}
 use Rattle.hcl_layout.proofs.LineLemmas.{gaps_in_is, width_before, width_set, width_small}
 use Rattle.hcl_layout.proofs.SurveyLemmas.{place_within}
 

@@ -155,7 +155,7 @@ leveled_is (l ∷ ls) d s groups levels p c low r =
     (leveled_is ls (depth_after d l) (plus s (net_of l)) (groups_then s groups (net_of l)) (levels_behind d (depth_after d l) levels) now
     (counted_then d (depth_after d l) s (net_of l) groups levels p now low' c) low' r.1)
 
-zeros_get : (n k : ℕ) → get_or {A = ℕ} (replicate n 0) k 0 ≡ zero
+pub zeros_get : (n k : ℕ) → get_or {A = ℕ} (replicate n 0) k 0 ≡ zero
 zeros_get zero k = refl
 zeros_get (suc n) zero = refl
 zeros_get (suc n) (suc k) = zeros_get n k

@@ -15,9 +15,9 @@ use Rattle.hcl_grammar.specs.Items.{deepen}
 use Rattle.hcl_layout.specs.Inner.Depths.{BalancedFrom, Steps, depth_after}
 use Rattle.hcl_layout.specs.Levels.{Net, net_of}
 use Rattle.hcl_layout.specs.Lines.{Line, ends_line, lines, onto_line}
-use Rattle.hcl_layout.specs.Inner.Survey.{IsLine, assign_of, cell_if, facts_of, first_noted, going, marks, noted, step_of, stops, surveyed, takes_sign, turned_to}
-use Rattle.hcl_layout.specs.declared.line.Survey.{Survey}
-use Rattle.hcl_layout.proofs.NotedKindLemmas.{Stepped, inline_untrailing, steps_deepen, unstopped_goes_on, unstopped_unmarked}
+use Rattle.hcl_layout.specs.Inner.Survey.{IsLine, assign_of, cell_if, facts_of, first_noted, going, noted, step_of, stops, surveyed, takes_sign}
+use Rattle.hcl_layout.specs.Inner.Survey.{Survey}
+use Rattle.hcl_layout.proofs.NotedKindLemmas.{Stepped, inline_untrailing, steps_deepen}
 use Rattle.hcl_layout.proofs.StreamLemmas.{after_is, after_low, deepen_low}
 
 -- the token at a place, and what is after it
@@ -376,46 +376,6 @@ same_token ts i t u p q = some_is t u (sym p ∙ q)
   where
     some_is : (x y : Lexeme) → Some x ≡ Some y → x ≡ y
     some_is x y e = cc
-
--- ---- steps: up to a token of which more is asked than its kind
-
--- the body is as deep as the line before its trailing comment
-pub turned_same : (s : Survey) → s.body_depth ≡ s.depth → turned_to s s.len s.depth ≡ s
-turned_same s e = ap with_body (sym e)
-  where
-    with_body : ℕ → Survey
-    with_body b = record { len = s.len; depth = s.depth; multiline = s.multiline; comment = s.comment; body_depth = b; sign = s.sign; sign_depth = s.sign_depth }
-
-unmarked : (a b c : Bool) → (a || b || c) ≡ false → (a ≡ false) × (b ≡ false) × (c ≡ false)
-unmarked true b c h = cc
-unmarked false true c h = cc
-unmarked false false c h = (refl, refl, h)
-
-turned_noted : (s : Survey) (t : Lexeme) (n d : ℕ) → s.comment ≡ None → marks t.kind ≡ false → turned_to s (n + 1) (deepen d t.kind) ≡ noted (turned_to s n d) t
-turned_noted s t n d e m =
-    let parts = unmarked (is LineComment t.kind) (is InlineComment t.kind) (is Assign t.kind) m in
-    let trailing : is_trailing t ≡ false = rw parts.0 refl in
-    let inline : is_multiline t ≡ false = rw parts.1 refl in
-    let assign : is_assignment t ≡ false = rw parts.2 refl in
-    let takes : takes_sign (turned_to s n d) t ≡ false = rw assign (and_false (not (is_some s.comment) && not (is_trailing t) && not (is_some s.sign))) in
-    rw (takes, inline, e, trailing) (ap with_multiline (or_false s.multiline))
-  where
-    with_multiline : Bool → Survey
-    with_multiline b = record { len = n + 1; depth = deepen d t.kind; multiline = b; comment = None; body_depth = deepen d t.kind; sign = s.sign; sign_depth = s.sign_depth }
-
-    or_false : (b : Bool) → b ≡ (b || false)
-    or_false true = refl
-    or_false false = refl
-
-    and_false : (b : Bool) → (b && false) ≡ false
-    and_false true = refl
-    and_false false = refl
-
--- a step more
-pub steps_on : (ts : List Lexeme) (i : ℕ) (t : Lexeme) (s whole : Survey) (n d : ℕ) → slice_get ts i ≡ Some t → s.comment ≡ None → stops t.kind ≡ false → whole ≡ going (turned_to s n d) (drop i ts)
-    → whole ≡ going (turned_to s (n + 1) (deepen d t.kind)) (drop (i + 1) ts)
-steps_on ts i t s whole n d e none on p =
-    going_on ts i t (turned_to s n d) (turned_to s (n + 1) (deepen d t.kind)) whole e (turned_noted s t n d none (unstopped_unmarked t.kind on)) (unstopped_goes_on t on) p
 
 -- what the step of the token there does
 pub step_at : (ts : List Lexeme) (i d step : ℕ) (t : Lexeme) (k : Kind) → slice_get ts i ≡ Some t → k ≡ t.kind → step ≡ step_of k → (step ≡ 46 → ⊥) → BalancedFrom d (drop i ts) → Stepped d step t.kind

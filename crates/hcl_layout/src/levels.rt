@@ -53,17 +53,3 @@ pub fn next_level(levels: &mut [u32; DEPTHS], before: u32, now: u32) -> u32
     }
     level
 }
-
-/// The level of a line that ends no deeper than it begins, and so leaves the levels as they are.
-#[inline(always)]
-pub fn kept_level(levels: &[u32; DEPTHS], before: u32, now: u32) -> u32
-    requires order { now ≤ before }
-    requires before { before ≤ max_open }
-    requires sound { Sound before levels.now }
-    ensures level { result ≡ level_at before now levels.now }
-    ensures levels { levels.now ≡ levels_behind before now levels.now }
-    ensures small { result ≤ max_open }
-    ensures sound { Sound now levels.now }
-{
-    levels[now as usize]
-}

@@ -7,7 +7,7 @@ use Rattle.hcl_layout.specs.Cells.{assign_cell, running_comment, trailing_commen
 use Rattle.hcl_layout.specs.Columns.{widest}
 use Rattle.hcl_layout.specs.Gaps.{align, plain_gaps, width, widths}
 use Rattle.hcl_layout.specs.Inner.Depths.{depth_after, level_at, levels_behind}
-use Rattle.hcl_layout.specs.declared.gap.Cell.{Cell}
+use Rattle.hcl_layout.specs.Inner.LineGaps.{Cell}
 
 -- ---- runs
 
