@@ -11,7 +11,7 @@ use Rattle.hcl_layout.specs.Inner.Left.{gap_before, plain_gap_before, token_befo
 use Rattle.hcl_layout.specs.Inner.LineGaps.{Cell, IsSigned, LineGaps, cell_gap, gap_of, gaps_from, gaps_in, known_place, known_width, len_with_blanks, plain_of}
 use Rattle.hcl_layout.specs.declared.lines.Cell.{Cell as CellLaid}
 use Rattle.hcl_layout.specs.declared.lines.LaidLine.{LaidLine}
-use Rattle.hcl_layout.proofs.LeftLemmas.{none_behind, plain_small, printed_behind, width_known, width_none}
+use Rattle.hcl_layout.proofs.LeftLemmas.{none_after, plain_small, printed_after, width_known, width_none}
 use Rattle.hcl_layout.proofs.RunLemmas.{plain_in, plain_low, signed_narrow}
 use Rattle.hcl_layout.proofs.SurveyLemmas.{drop_at}
 
@@ -88,7 +88,7 @@ width_more ts l n stop t e le lt within =
     let last : n ≡ (n + 1) - 1 = omega arith in
     ap₂ (λ (m : ℕ) (xs : Line). width m (gaps_from g k b s xs) xs) many (ap₂ take one (drop_at ts n t e))
     ∙ ap (λ j. gap_of g k b s t + clusters t + width (stop - (n + 1)) (gaps_from g j s (Some t) rest) rest) place
-    ∙ ap₂ (λ (m : ℕ) (u : Option Lexeme). gap_of g k b s t + clusters t + width (stop - (n + 1)) (gaps_from g ((n + 1) - l.first) (token_before ts l.first m) u rest) rest) last (sym (printed_behind ts l.first n t e le))
+    ∙ ap₂ (λ (m : ℕ) (u : Option Lexeme). gap_of g k b s t + clusters t + width (stop - (n + 1)) (gaps_from g ((n + 1) - l.first) (token_before ts l.first m) u rest) rest) last (sym (printed_after ts l.first n t e le))
 
 pub width_over : (ts : List Lexeme) (l : LaidLine) (n stop : ℕ) → stop ≤ n → width_on ts l n stop ≡ 0
 width_over ts l n stop le = width_none (stop - n) (gaps_on ts l n) (rest_of ts l n) (omega (arith, le))

@@ -14,7 +14,7 @@ use Rattle.hcl_layout.specs.Inner.LineGaps.{gaps_from, gaps_in}
 use Rattle.hcl_layout.specs.Inner.Stream.{commented}
 use Rattle.hcl_layout.specs.declared.lines.LaidLine.{LaidLine}
 use Rattle.hcl_layout.specs.declared.lines.Lines.{Lines}
-use Rattle.hcl_layout.proofs.LeftLemmas.{none_behind, piece_left, start_all}
+use Rattle.hcl_layout.proofs.LeftLemmas.{none_after, piece_left, start_all}
 
 -- a line that follows
 pub left_line : (ts : List Lexeme) (old new : Lines) (l : LaidLine) → gaps_after ts old ≡ gaps_on ts l l.first ++ gaps_after ts new → l.first ≡ old.next → left_after ts old ≡ left_on ts l (gaps_after ts new) l.first

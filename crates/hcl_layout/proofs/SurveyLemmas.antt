@@ -307,7 +307,7 @@ is_line ts at d t s e few p low q =
     let short : n ≤ length rest = tail_short rest t in
     let all : length rest ≡ length ts - (at + 1) = grind (arith, common_steps) in
     let line : take s.len (drop at ts) ≡ t ∷ l = ap₂ take len cut ∙ ap (λ x. t ∷ x) (tail_take rest t) in
-    let behind : drop (at + s.len) ts ≡ left_of t rest = ap (λ k. drop (at + k) ts) len ∙ there at n ∙ left_drop rest t in
+    let after : drop (at + s.len) ts ≡ left_of t rest = ap (λ k. drop (at + k) ts) len ∙ there at n ∙ left_drop rest t in
     let balanced : BalancedFrom d (t ∷ l) = subst (BalancedFrom d) line (balanced_take s.len d (drop at ts) p) in
     let depth : s.depth ≡ depth_after d (t ∷ l) = ap (λ (x : Survey). x.depth) same ∙ fold_depth l (first_noted d t) in
     let comment : s.comment ≡ trailing_comment (t ∷ l) = ap (λ (x : Survey). x.comment) same ∙ (found l (first_noted d t) refl refl).0 in
@@ -316,7 +316,7 @@ is_line ts at d t s e few p low q =
       some = omega arith;
       within = omega arith;
       fits = omega (arith, few);
-      cut = ap lines cut ∙ lines_tail rest t ∙ ap₂ (λ (a : Line) (b : List Lexeme). a ∷ lines b) (sym line) (sym behind);
+      cut = ap lines cut ∙ lines_tail rest t ∙ ap₂ (λ (a : Line) (b : List Lexeme). a ∷ lines b) (sym line) (sym after);
       depth = depth ∙ ap (depth_after d) (sym line);
       low = subst (λ k. k ≤ max_open) (sym depth) (after_low (t ∷ l) d balanced low);
       rest = subst (λ k. BalancedFrom k (drop (at + s.len) ts)) (ap (depth_after d) line ∙ sym depth)
@@ -363,9 +363,9 @@ pub going_out : (ts : List Lexeme) (i : ℕ) (s whole : Survey) → length ts �
 going_out ts i s whole le p = sym (p ∙ ap (going s) (drop_of_length-le ts le))
 
 -- what is left after a token that was noted
-pub behind_token : (ts : List Lexeme) (i : ℕ) (s new : Survey) (t : Lexeme) → slice_get ts i ≡ Some t → new ≡ noted s t → BalancedFrom s.depth (drop i ts) → s.depth ≤ max_open
+pub after_token : (ts : List Lexeme) (i : ℕ) (s new : Survey) (t : Lexeme) → slice_get ts i ≡ Some t → new ≡ noted s t → BalancedFrom s.depth (drop i ts) → s.depth ≤ max_open
     → BalancedFrom new.depth (drop (i + 1) ts) × (new.depth ≤ max_open)
-behind_token ts i s new t e same p low =
+after_token ts i s new t e same p low =
     let depth : new.depth ≡ deepen s.depth t.kind = ap (λ (x : Survey). x.depth) same in (
       subst (λ d. BalancedFrom d (drop (i + 1) ts)) (sym depth) (rest_at ts i s.depth t e p),
       subst (λ d. d ≤ max_open) (sym depth) (low_at ts i s.depth t e p low),
@@ -401,10 +401,10 @@ module _ (ts : List Lexeme) (at : ℕ) (t : Lexeme) (s new : Survey) where
   more_same whole e same goes p = going_on ts (at + s.len) t s new whole e same goes p ∙ ap (λ k. going new (drop k ts)) (further same)
 
   pub more_balanced : slice_get ts (at + s.len) ≡ Some t → new ≡ noted s t → BalancedFrom s.depth (drop (at + s.len) ts) → s.depth ≤ max_open → BalancedFrom new.depth (drop (at + new.len) ts)
-  more_balanced e same p low = subst (λ k. BalancedFrom new.depth (drop k ts)) (further same) (behind_token ts (at + s.len) s new t e same p low).0
+  more_balanced e same p low = subst (λ k. BalancedFrom new.depth (drop k ts)) (further same) (after_token ts (at + s.len) s new t e same p low).0
 
   pub more_low : slice_get ts (at + s.len) ≡ Some t → new ≡ noted s t → BalancedFrom s.depth (drop (at + s.len) ts) → s.depth ≤ max_open → new.depth ≤ max_open
-  more_low e same p low = (behind_token ts (at + s.len) s new t e same p low).1
+  more_low e same p low = (after_token ts (at + s.len) s new t e same p low).1
 
   pub more_within : slice_get ts (at + s.len) ≡ Some t → new ≡ noted s t → at + new.len ≤ length ts
   more_within e same = omega (arith, further same, slice_get_within ts (at + s.len) t e)

@@ -9,7 +9,7 @@ use Rattle.hcl_layout.specs.Cells.{assign_cell, has_multiline, running_comment, 
 use Rattle.hcl_layout.specs.Columns.{widest}
 use Rattle.hcl_layout.specs.Gaps.{align, plain_gaps, width}
 use Rattle.hcl_layout.specs.Lines.{Line, lines}
-use Rattle.hcl_layout.specs.Inner.Depths.{BalancedFrom, Sound, depth_after, fresh, level_at, levels_behind}
+use Rattle.hcl_layout.specs.Inner.Depths.{BalancedFrom, Sound, depth_after, fresh, level_at, next_levels}
 use Rattle.hcl_layout.specs.Inner.Laid.{IsAt, Laid, Moves, bare_line, cell_of, column_of, none_at, shape, text_of, walk_of}
 use Rattle.hcl_layout.specs.Inner.LineGaps.{Cell, IsSigned, LineGaps, gaps_in, plain_of}
 use Rattle.hcl_layout.specs.Inner.Stream.{assign_column, assign_width, assign_widths, assigned_line, comment_column, comment_widths, next_of, plain}
@@ -20,7 +20,7 @@ use Rattle.hcl_layout.specs.declared.lines.LaidLine.{LaidLine}
 use Rattle.hcl_layout.specs.declared.lines.Lines.{Lines}
 use Rattle.std.proofs.lemmas.List.{length-replicate}
 use Rattle.hcl_layout.proofs.StreamLemmas.{zeros_get}
-use Rattle.hcl_layout.proofs.RunLemmas.{aligned_none, aligned_some, assign_behind, assign_within, assigned_in, comment_behind, comment_within, multiline_some, plain_in, signed_none, signed_set}
+use Rattle.hcl_layout.proofs.RunLemmas.{aligned_none, aligned_some, assign_after, assign_within, assigned_in, comment_after, comment_within, multiline_some, plain_in, signed_none, signed_set}
 
 not_less : (a : ℕ) → nat_lt a a ≡ false
 not_less a = grind (arith, nat_tests)
@@ -62,8 +62,8 @@ module _ (ts : List Lexeme) (d : ℕ) (r : LineRead) (p : IsLine ts r.first d (f
   pub sign_none : r.sign ≡ None → assign_cell (take (r.end - r.first) (drop r.first ts)) ≡ None
   sign_none e = sym p.assign ∙ ap (option_map (λ k. k - r.first)) e
 
-  pub sign_behind : (n : ℕ) → r.sign ≡ Some n → r.first < n
-  sign_behind n e = omega (arith, assign_behind text (n - r.first) (sign_is n e))
+  pub sign_after : (n : ℕ) → r.sign ≡ Some n → r.first < n
+  sign_after n e = omega (arith, assign_after text (n - r.first) (sign_is n e))
 
   pub sign_within : (n : ℕ) → r.sign ≡ Some n → n < r.end
   sign_within n e = omega (arith, assign_within text (n - r.first) (sign_is n e), length-take (r.end - r.first) (drop r.first ts))
@@ -76,7 +76,7 @@ module _ (ts : List Lexeme) (d : ℕ) (r : LineRead) (p : IsLine ts r.first d (f
   comment_no e = sym p.comment ∙ ap (option_map (λ k. k - r.first)) e
 
   pub comment_follows : (n : ℕ) → r.comment ≡ Some n → r.first < n
-  comment_follows n e = omega (arith, comment_behind text (n - r.first) (comment_is n e))
+  comment_follows n e = omega (arith, comment_after text (n - r.first) (comment_is n e))
 
   pub comment_in : (n : ℕ) → r.comment ≡ Some n → n < r.end
   comment_in n e = omega (arith, comment_within text (n - r.first) (comment_is n e), length-take (r.end - r.first) (drop r.first ts))
@@ -85,10 +85,10 @@ module _ (ts : List Lexeme) (d : ℕ) (r : LineRead) (p : IsLine ts r.first d (f
   pub bare_laid : (l : LaidLine) (level : ℕ) → l ≡ bare_line r level → level ≤ max_open → length ts ≤ 2 ^ 22 → Laid ts l
   bare_laid l level e low few = subst (Laid ts) (sym e) (record { some = read_order; within = read_within; few = few; level = low; sign_front = read_order; comment_front = read_order; sign_gap = omega arith; comment_gap = omega arith })
 
-  pub sign_step : (levels : List ℕ) → assign_widths d levels (lines (drop r.first ts)) ≡ assign_width d levels (take (r.end - r.first) (drop r.first ts)) ∷ assign_widths r.depth (levels_behind d r.depth levels) (lines (drop r.end ts))
+  pub sign_step : (levels : List ℕ) → assign_widths d levels (lines (drop r.first ts)) ≡ assign_width d levels (take (r.end - r.first) (drop r.first ts)) ∷ assign_widths r.depth (next_levels d r.depth levels) (lines (drop r.end ts))
   sign_step levels =
       ap (assign_widths d levels) read_cut
-      ∙ ap (λ k. assign_width d levels text ∷ assign_widths k (levels_behind d k levels) (lines (drop r.end ts))) (sym p.depth)
+      ∙ ap (λ k. assign_width d levels text ∷ assign_widths k (next_levels d k levels) (lines (drop r.end ts))) (sym p.depth)
 
 pub bare_shape : (l : LaidLine) (r : LineRead) (level : ℕ) → l ≡ bare_line r level → shape l ≡ plain_of l.level
 bare_shape l r level e = subst (λ (x : LaidLine). shape x ≡ plain_of x.level) (sym e) (shaped (not_less r.end))

@@ -23,7 +23,7 @@ use hcl_spacing::{space_by_kinds, space_by_texts};
 use hcl_tokens::{Kind, Token};
 
 /// A cell: the number of its token, the width before it, and the gap that sets it into its column. Where a line has none, that is
-/// a cell behind its end.
+/// a cell after its end.
 #[derive(Clone, Copy)]
 pub struct Cell {
     pub number: usize,
@@ -109,7 +109,7 @@ fn widened(column: u64, run: Option<Run>, width: u64) -> Run
 #[inline(always)]
 fn found_column(tokens: &Measured<'_, '_>, number: usize, width: u64) -> u64
     requires within { number < length tokens.now.tokens }
-    requires behind { 0 < number }
+    requires after { 0 < number }
     requires narrow { width < 2 ^ 34 }
     ensures order { width ≤ result }
     ensures small { result ≤ width + 2 ^ 22 }
@@ -149,7 +149,7 @@ fn token_before<'s>(tokens: &Measured<'_, 's>, first: usize, number: usize) -> O
 #[inline(never)]
 fn asked_gap(tokens: &Measured<'_, '_>, first: usize, number: usize) -> u64
     requires within { number < length tokens.now.tokens }
-    requires behind { first < number }
+    requires after { first < number }
     requires untold { IsUntoldAt tokens.now.tokens number }
     ensures { (level : ℕ) (t : Lexeme) → slice_get tokens.now.tokens number ≡ Some t → result ≡ plain_gap_before tokens.now.tokens level first number t }
 {
@@ -172,10 +172,10 @@ fn indent(level: u32, token: Token<'_>) -> u64
 
 /// The blank before a token of a line that isn't its first.
 #[inline(always)]
-fn gap_behind(tokens: &Measured<'_, '_>, first: usize, number: usize, token: Token<'_>) -> u64
+fn gap_after(tokens: &Measured<'_, '_>, first: usize, number: usize, token: Token<'_>) -> u64
     requires there { slice_get tokens.now.tokens number ≡ Some (lexeme token) }
     requires within { number < length tokens.now.tokens }
-    requires behind { first < number }
+    requires after { first < number }
     ensures { (level : ℕ) → result ≡ plain_gap_before tokens.now.tokens level first number (lexeme token.entry) }
 {
     match space_by_kinds(tokens.get(number - 1), token) {
@@ -195,7 +195,7 @@ impl LaidLine {
         ensures { result ≡ plain_gap_before tokens.now.tokens self.level self.first number (lexeme token.entry) }
     {
         if self.first < number {
-            return gap_behind(tokens, self.first, number, token);
+            return gap_after(tokens, self.first, number, token);
         }
         indent(self.level, token)
     }
@@ -397,7 +397,7 @@ impl Lines {
     fn sign_column(&self, tokens: &Measured<'_, '_>, number: usize, width: u64) -> u64
         requires at { IsAt tokens.now.tokens self.now }
         requires within { number < length tokens.now.tokens }
-        requires behind { 0 < number }
+        requires after { 0 < number }
         requires narrow { width ≤ 2 ^ 24 }
         ensures kept { IfSome self.now.signs (λ r. result ≡ r.column) }
         ensures ahead { self.now.columns ≡ Ahead → Some result ≡ next_of (column_of self.now.signs) (Some width ∷ sign_widths_at (walk_of self.now) tokens.now.tokens self.now.next) }
@@ -464,7 +464,7 @@ impl Lines {
     fn comment_column(&self, tokens: &Measured<'_, '_>, number: usize, width: u64) -> u64
         requires at { IsAt tokens.now.tokens self.now }
         requires within { number < length tokens.now.tokens }
-        requires behind { 0 < number }
+        requires after { 0 < number }
         requires narrow { width ≤ 2 ^ 33 + 2 ^ 24 }
         ensures kept { IfSome self.now.comments (λ r. result ≡ r.column) }
         ensures ahead { self.now.columns ≡ Ahead → Some result ≡ next_of (column_of self.now.comments) (Some width ∷ comment_widths_at (walk_of self.now) tokens.now.tokens self.now.next) }

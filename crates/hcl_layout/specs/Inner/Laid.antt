@@ -8,7 +8,7 @@ use Rattle.hcl_layout.specs.Lines.{Line, lines}
 use Rattle.hcl_layout.specs.Gaps.{align, width}
 use Rattle.hcl_layout.specs.Cells.{assign_cell, running_comment, trailing_comment}
 use Rattle.hcl_layout.specs.Print.{printed_text}
-use Rattle.hcl_layout.specs.Inner.Depths.{depth_after, levels_behind}
+use Rattle.hcl_layout.specs.Inner.Depths.{depth_after, next_levels}
 use Rattle.hcl_layout.specs.Inner.Left.{token_before}
 use Rattle.hcl_layout.specs.Inner.LineGaps.{Cell, LineGaps, gaps_from}
 use Rattle.hcl_layout.specs.Inner.Stream.{assign_column, assign_width, assign_widths, comment_column, comment_widths, commented, plain}
@@ -74,7 +74,7 @@ pub record IsAt (ts : List Lexeme) (s : Lines) : Type 0 where
 pub record Moves (old : Lines) (r : LineRead) (new : Lines) : Type 0 where
   pub next : new.next ≡ r.end
   pub depth : new.depth ≡ r.depth
-  pub levels : new.levels ≡ levels_behind old.depth r.depth old.levels
+  pub levels : new.levels ≡ next_levels old.depth r.depth old.levels
   pub columns : new.columns ≡ old.columns
 
 -- ---- runs

@@ -61,8 +61,8 @@ comment_column-column-requires-clause-within c =
     let p = subst (λ k. IsLine ts k d (facts_in r)) (sym c.requires.first) c.requires.line in
     omega (arith, read_within ts d r p, comment_in ts d r p c.in-Some.number c.in-Some.is)
 
-pub comment_column-column-requires-clause-behind : goal.comment_column-column-requires-clause-behind
-comment_column-column-requires-clause-behind c =
+pub comment_column-column-requires-clause-after : goal.comment_column-column-requires-clause-after
+comment_column-column-requires-clause-after c =
     let ts = c.args.tokens.now.tokens in
     let r = c.args.line in
     let d = c.args.self.now.depth in
