@@ -12,7 +12,7 @@ use Rattle.hcl_layout.specs.Columns.{widest}
 use Rattle.hcl_layout.specs.Gaps.{align, gap_to, gaps, gaps_after, plain_gaps, set_gap, width}
 use Rattle.hcl_layout.specs.Lines.{Line, lines}
 use Rattle.hcl_layout.specs.Print.{print, printed_text}
-use Rattle.hcl_layout.specs.Inner.Depths.{BalancedFrom, Sound, depth_after, fresh, level_at, levels_behind, raised}
+use Rattle.hcl_layout.specs.Inner.Depths.{BalancedFrom, Sound, depth_after, fresh, level_at, next_levels, raised}
 use Rattle.hcl_layout.specs.Inner.Extents.{extra_of, nothing, with_cell, with_comment, with_line, with_lines}
 use Rattle.hcl_layout.specs.Inner.LineGaps.{len_with_blanks}
 use Rattle.hcl_layout.specs.Inner.Stream.{assign_column, assign_widths, comment_column, comment_widths, commented, next_of, plain}
@@ -20,7 +20,7 @@ use Rattle.hcl_layout.specs.declared.extent.CellExtent.{CellExtent}
 use Rattle.hcl_layout.specs.declared.extent.CommentExtent.{CommentExtent}
 use Rattle.hcl_layout.specs.declared.extent.Extent.{Extent}
 use Rattle.hcl_layout.proofs.ClusterLemmas.{clusters_few}
-use Rattle.hcl_layout.proofs.LevelLemmas.{levels_behind_sound, sound_less}
+use Rattle.hcl_layout.proofs.LevelLemmas.{next_levels_sound, sound_less}
 use Rattle.hcl_layout.proofs.LineLemmas.{blank, indented}
 use Rattle.hcl_layout.proofs.StreamLemmas.{BalancedLines, after_low, balanced_lines, gaps_all}
 
@@ -102,11 +102,11 @@ width_upto most f (Some i) p = p i refl
 level_low : (d e : ℕ) (levels : List ℕ) → Sound d levels → level_at d e levels ≤ d
 level_low d e levels p = omega (arith, p.1 (min d e) (omega arith))
 
-sound_behind : (d e : ℕ) (levels : List ℕ) → e ≤ max_open → Sound d levels → Sound e (levels_behind d e levels)
-sound_behind d e levels low p = go (nat_lt d e) refl
+sound_after : (d e : ℕ) (levels : List ℕ) → e ≤ max_open → Sound d levels → Sound e (next_levels d e levels)
+sound_after d e levels low p = go (nat_lt d e) refl
   where
-    go : (v : Bool) → nat_lt d e ≡ v → Sound e (levels_behind d e levels)
-    go true v = levels_behind_sound d e levels (levels_behind d e levels) (grind arith) low p refl
+    go : (v : Bool) → nat_lt d e ≡ v → Sound e (next_levels d e levels)
+    go true v = next_levels_sound d e levels (next_levels d e levels) (grind arith) low p refl
     go false v =
         let le : e ≤ d = grind arith in
         let none : 0 ≡ e - d = omega arith in
@@ -160,23 +160,23 @@ record Fair (d : ℕ) (levels : List ℕ) (ls : List Line) : Type 0 where
   low : d ≤ max_open
   balanced : BalancedLines d ls
 
-fair_behind : (d : ℕ) (levels : List ℕ) (l : Line) (ls : List Line) → Fair d levels (l ∷ ls) → Fair (depth_after d l) (levels_behind d (depth_after d l) levels) ls
-fair_behind d levels l ls p =
+fair_after : (d : ℕ) (levels : List ℕ) (l : Line) (ls : List Line) → Fair d levels (l ∷ ls) → Fair (depth_after d l) (next_levels d (depth_after d l) levels) ls
+fair_after d levels l ls p =
     let low : depth_after d l ≤ max_open = after_low l d p.balanced.0 p.low in
-    record { sound = sound_behind d (depth_after d l) levels low p.sound; low = low; balanced = p.balanced.1 }
+    record { sound = sound_after d (depth_after d l) levels low p.sound; low = low; balanced = p.balanced.1 }
 
 -- no width before a sign is more
 signs_widest : (ls : List Line) (d : ℕ) (levels : List ℕ) (e : Extent) → Fair d levels ls → widest (assign_widths d levels ls) ≤ (with_lines d ls e).signs.width
 signs_widest [] d levels e p = omega arith
 signs_widest (l ∷ ls) d levels e p =
-    let behind = with_line d l e in
+    let after = with_line d l e in
     let now = depth_after d l in
-    let most = (with_lines now ls behind).signs.width in
-    let then = levels_behind d now levels in
+    let most = (with_lines now ls after).signs.width in
+    let then = next_levels d now levels in
     widest_upto most (option_map (λ i. width i (plain d levels l) l) (assign_cell l)) (assign_widths now then ls)
     (width_upto most (λ i. width i (plain d levels l) l) (assign_cell l)
-    (λ i here. omega (arith, width_excess i (plain d levels l) l, plain_low d levels l p.sound, cell_tells (2 * d) l (assign_cell l) e.signs i here, signs_keep ls now behind)))
-    (signs_widest ls now then behind (fair_behind d levels l ls p))
+    (λ i here. omega (arith, width_excess i (plain d levels l) l, plain_low d levels l p.sound, cell_tells (2 * d) l (assign_cell l) e.signs i here, signs_keep ls now after)))
+    (signs_widest ls now then after (fair_after d levels l ls p))
 
 -- nor is a column
 column_upto : (ls : List Line) (d : ℕ) (levels : List ℕ) (column : Option ℕ) (e : Extent) (most : ℕ) → Fair d levels ls → (with_lines d ls e).signs.width ≤ most → UpTo most column → UpTo most (assign_column d levels column ls)
@@ -205,13 +205,13 @@ comments_widest : (ls : List Line) (d w : ℕ) (levels : List ℕ) (column : Opt
 comments_widest [] d w levels column e most p le q = omega arith
 comments_widest (l ∷ ls) d w levels column e most p le q =
     let now = depth_after d l in
-    let then = levels_behind d now levels in
+    let then = next_levels d now levels in
     let here = assign_column d levels column (l ∷ ls) in
     let within : UpTo most here = column_upto (l ∷ ls) d levels column e most p le q in
     let gs = align assign_cell (plain d levels l) l here in
     by (λ i. width i gs l) (λ i. ahead now (max w (2 * d + len_with_blanks (take i l))) ls) (comment_widths now then here ls) (running_comment l)
     (λ i. comment_upto d w i levels l ls here most p.sound within)
-    (λ i. comments_widest ls now (max w (2 * d + len_with_blanks (take i l))) then here (with_line d l e) most (fair_behind d levels l ls p) le within)
+    (λ i. comments_widest ls now (max w (2 * d + len_with_blanks (take i l))) then here (with_line d l e) most (fair_after d levels l ls p) le within)
   where
     by : (f run : ℕ → ℕ) (ws : List (Option ℕ)) (cell : Option ℕ) → ((i : ℕ) → f i ≤ most + run i) → ((i : ℕ) → widest ws ≤ most + run i)
         → widest (option_map f cell ∷ ws) ≤ most + ahead_with cell w run
@@ -271,11 +271,11 @@ lines_excess : (ls : List Line) (d : ℕ) (levels : List ℕ) (column comment : 
 lines_excess [] d levels column comment e sign p a q r = omega arith
 lines_excess (l ∷ ls) d levels column comment e sign p a q r =
     let now = depth_after d l in
-    let then = levels_behind d now levels in
+    let then = next_levels d now levels in
     let here = assign_column d levels column (l ∷ ls) in
     let there = comment_column d levels column comment (l ∷ ls) in
     let w = e.comments.run.width in
-    let behind = with_line d l e in
+    let after = with_line d l e in
     let cell = running_comment l in
     let gs = align assign_cell (plain d levels l) l here in
     let set = align trailing_comment gs l there in
@@ -284,8 +284,8 @@ lines_excess (l ∷ ls) d levels column comment e sign p a q r =
     let takes = share cell (sign + ahead d w (l ∷ ls)) in
     let within : UpTo sign here = column_upto (l ∷ ls) d levels column e sign p a q in
     let beside : UpTo takes there = comment_beside f run w sign (comment_widths now then here ls) cell comment (comments_widest (l ∷ ls) d w levels column e sign p a q) r in
-    let next : UpTo (sign + ahead now behind.comments.run.width ls) there =
-    comment_next f run w sign (ahead now behind.comments.run.width ls) (comment_widths now then here ls) cell comment (run_next d l ls cell e.comments) beside in
+    let next : UpTo (sign + ahead now after.comments.run.width ls) there =
+    comment_next f run w sign (ahead now after.comments.run.width ls) (comment_widths now then here ls) cell comment (run_next d l ls cell e.comments) beside in
     omega (
       arith,
       excess_append set (flat_map (λ g. g) (commented now then here there ls)),
@@ -293,7 +293,7 @@ lines_excess (l ∷ ls) d levels column comment e sign p a q r =
       share_most (trailing_comment l) takes,
       assigned_excess d levels l here sign p.sound within,
       cost_more d l ls e sign,
-      lines_excess ls now then here there behind sign (fair_behind d levels l ls p) a within next,
+      lines_excess ls now then here there after sign (fair_after d levels l ls p) a within next,
     )
 
 fresh_sound : Sound 0 fresh

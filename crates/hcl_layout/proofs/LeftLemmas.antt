@@ -12,8 +12,8 @@ use Rattle.hcl_layout.specs.Inner.LineGaps.{len_with_blanks, cell_gap, gap_of, g
 use Rattle.hcl_layout.specs.Lines.{lines}
 use Rattle.hcl_layout.specs.Print.{printed_text}
 use Rattle.hcl_layout.specs.Inner.Stream.{commented}
-use Rattle.hcl_layout.specs.declared.gap.Cell.{Cell}
-use Rattle.hcl_layout.specs.declared.gap.LineGaps.{LineGaps}
+use Rattle.hcl_layout.specs.Inner.LineGaps.{Cell}
+use Rattle.hcl_layout.specs.Inner.LineGaps.{LineGaps}
 use Rattle.hcl_layout.proofs.LineLemmas.{blank, indented, width_next}
 use Rattle.hcl_layout.proofs.StreamLemmas.{gaps_all}
 use Rattle.hcl_layout.proofs.SurveyLemmas.{drop_at, token_at}
@@ -25,31 +25,31 @@ start_all ts d levels column comment p e f g h =
     ∙ ap₂ (λ (x y : Option ℕ). flat_map (λ g. g) (commented 0 fresh x y (lines ts))) g h ∙ sym (gaps_all ts p)
 
 -- the first token of a line has none after it
-pub none_behind : (ts : List Lexeme) (at n : ℕ) → n ≤ at → token_before ts at n ≡ None
-none_behind ts at n le = rw (not_less at n le) refl
+pub none_after : (ts : List Lexeme) (at n : ℕ) → n ≤ at → token_before ts at n ≡ None
+none_after ts at n le = rw (not_less at n le) refl
   where
     not_less : (a b : ℕ) → b ≤ a → nat_lt a b ≡ false
     not_less a b h = grind (arith, nat_tests)
 
 -- the token that was printed is after the next
-pub printed_behind : (ts : List Lexeme) (start next : ℕ) (t : Lexeme) → slice_get ts next ≡ Some t → start ≤ next → token_before ts start (next + 1) ≡ Some t
-printed_behind ts start next t e le = rw (less start next le) (ap (slice_get ts) (omega arith) ∙ e)
+pub printed_after : (ts : List Lexeme) (start next : ℕ) (t : Lexeme) → slice_get ts next ≡ Some t → start ≤ next → token_before ts start (next + 1) ≡ Some t
+printed_after ts start next t e le = rw (less start next le) (ap (slice_get ts) (omega arith) ∙ e)
   where
     less : (a b : ℕ) → a ≤ b → nat_lt a (b + 1) ≡ true
     less a b h = grind (arith, nat_tests)
 
 -- the width on from a place of the line, by the tokens after it, is that of the token there and that on from the next
-pub width_behind : (g : LineGaps) (ts : List Lexeme) (at len k i : ℕ) (t : Lexeme) → slice_get ts (at + k) ≡ Some t → i ≤ len → k < i
+pub width_after : (g : LineGaps) (ts : List Lexeme) (at len k i : ℕ) (t : Lexeme) → slice_get ts (at + k) ≡ Some t → i ≤ len → k < i
     → width (i - k) (gaps_from g k (token_before ts at ((at + k) - 1)) (token_before ts at (at + k)) (take (len - k) (drop (at + k) ts))) (take (len - k) (drop (at + k) ts))
     ≡ gap_of g k (token_before ts at ((at + k) - 1)) (token_before ts at (at + k)) t + clusters t
     + width (i - (k + 1)) (gaps_from g (k + 1) (token_before ts at ((at + (k + 1)) - 1)) (token_before ts at (at + (k + 1))) (take (len - (k + 1)) (drop (at + (k + 1)) ts))) (take (len - (k + 1)) (drop (at + (k + 1)) ts))
-width_behind g ts at len k i t e le lt =
+width_after g ts at len k i t e le lt =
     let b = token_before ts at ((at + k) - 1) in
     let s = token_before ts at (at + k) in
     let rest : List Lexeme = take (len - (k + 1)) (drop (at + (k + 1)) ts) in
     let last : at + k ≡ (at + (k + 1)) - 1 = omega arith in
     let next : (at + k) + 1 ≡ at + (k + 1) = omega arith in
-    let there : Some t ≡ token_before ts at (at + (k + 1)) = sym (printed_behind ts at (at + k) t e (omega arith)) ∙ ap (token_before ts at) next in
+    let there : Some t ≡ token_before ts at (at + (k + 1)) = sym (printed_after ts at (at + k) t e (omega arith)) ∙ ap (token_before ts at) next in
     width_next g ts at len k i b s t e le lt
     ∙ ap₂ (λ (n : ℕ) (u : Option Lexeme). gap_of g k b s t + clusters t + width (i - (k + 1)) (gaps_from g (k + 1) (token_before ts at n) u rest) rest) last there
 
@@ -65,7 +65,7 @@ width_front g ts at len i =
     let whole : i - 0 ≡ i = omega arith in
     zero_plus (width (i - 0) (gaps_from g 0 b s (take (len - 0) (drop (at + 0) ts))) (take (len - 0) (drop (at + 0) ts)))
     ∙ ap₂ (λ (n : ℕ) (xs : List Lexeme). width n (gaps_from g 0 b s xs) xs) whole same
-    ∙ ap₂ (λ (x y : Option Lexeme). width i (gaps_from g 0 x y line) line) (none_behind ts at ((at + 0) - 1) (omega arith)) (none_behind ts at (at + 0) (omega arith))
+    ∙ ap₂ (λ (x y : Option Lexeme). width i (gaps_from g 0 x y line) line) (none_after ts at ((at + 0) - 1) (omega arith)) (none_after ts at (at + 0) (omega arith))
   where
     zero_plus : (n : ℕ) → 0 + n ≡ n
     zero_plus n = omega arith
@@ -77,13 +77,13 @@ pub width_first : (level : ℕ) (ts : List Lexeme) (at len i : ℕ) (t : Lexeme)
 width_first level ts at len i t e le lt =
     let g : LineGaps = plain_of level in
     let here : slice_get ts (at + 0) ≡ Some t = ap (slice_get ts) (omega arith) ∙ e in
-    let gap : plain_gap level (token_before ts at ((at + 0) - 1)) (token_before ts at (at + 0)) t ≡ indent level t = ap (λ s. plain_gap level (token_before ts at ((at + 0) - 1)) s t) (none_behind ts at (at + 0) (omega arith)) in
-    omega (arith, width_front g ts at len i, width_behind g ts at len 0 i t here le lt, gap)
+    let gap : plain_gap level (token_before ts at ((at + 0) - 1)) (token_before ts at (at + 0)) t ≡ indent level t = ap (λ s. plain_gap level (token_before ts at ((at + 0) - 1)) s t) (none_after ts at (at + 0) (omega arith)) in
+    omega (arith, width_front g ts at len i, width_after g ts at len 0 i t here le lt, gap)
 
 suc_is : (k : ℕ) → k + 1 ≡ suc k
 suc_is k = omega arith
 
-width_none : (n : ℕ) (gs : List ℕ) (line : List Lexeme) → n ≡ 0 → width n gs line ≡ 0
+pub width_none : (n : ℕ) (gs : List ℕ) (line : List Lexeme) → n ≡ 0 → width n gs line ≡ 0
 width_none n gs line e = rw e refl
 
 -- the width before a place, and on from there
@@ -98,9 +98,9 @@ width_known g ts at len (suc k) i room le within =
     let further : List Lexeme = take (len - (k + 1)) (drop (at + (k + 1)) ts) in
     let all = width_known g ts at len k i room (omega (arith, le)) within in
     let one = width_known g ts at len k (k + 1) room (omega arith) (omega (arith, le, within)) in
-    let last = width_behind g ts at len k (k + 1) here.0 here.1 (omega (arith, le, within)) (omega arith) in
+    let last = width_after g ts at len k (k + 1) here.0 here.1 (omega (arith, le, within)) (omega arith) in
     let none = width_none ((k + 1) - (k + 1)) (gaps_from g (k + 1) (token_before ts at ((at + (k + 1)) - 1)) (token_before ts at (at + (k + 1))) further) further (omega arith) in
-    let next = width_behind g ts at len k i here.0 here.1 within (omega (arith, le)) in
+    let next = width_after g ts at len k i here.0 here.1 within (omega (arith, le)) in
     subst (λ n. width n (gaps_in g line) line + width (i - n) (gaps_from g n (token_before ts at ((at + n) - 1)) (token_before ts at (at + n)) (take (len - n) (drop (at + n) ts))) (take (len - n) (drop (at + n) ts)) ≡ width i (gaps_in g line) line)
     (suc_is k) (omega (arith, all, one, last, none, next))
 
@@ -118,11 +118,11 @@ piece_left ts next start end set rest t gap e lt le g =
     ap₂ (λ (n : ℕ) (xs : List Lexeme). printed_text (gaps_from set (next - start) b s (take n xs) ++ rest) xs) one (drop_at ts next t e)
     ∙ ap (λ k. (replicate k 32 ++ t.text) ++ printed_text (gaps_from set ((next - start) + 1) s (Some t) (take (end - (next + 1)) left) ++ rest) left) (sym g)
     ∙ ap (λ k. (replicate gap 32 ++ t.text) ++ printed_text (gaps_from set k s (Some t) (take (end - (next + 1)) left) ++ rest) left) place
-    ∙ ap₂ (λ (n : ℕ) (u : Option Lexeme). (replicate gap 32 ++ t.text) ++ printed_text (gaps_from set ((next + 1) - start) (token_before ts start n) u (take (end - (next + 1)) left) ++ rest) left) last (sym (printed_behind ts start next t e le))
+    ∙ ap₂ (λ (n : ℕ) (u : Option Lexeme). (replicate gap 32 ++ t.text) ++ printed_text (gaps_from set ((next + 1) - start) (token_before ts start n) u (take (end - (next + 1)) left) ++ rest) left) last (sym (printed_after ts start next t e le))
 
-behind_front : (o : Option Cell) (k gap : ℕ) → IfSome o (λ c. 0 < c.place) → k ≡ 0 → cell_gap o k gap ≡ gap
-behind_front None k gap p e = refl
-behind_front (Some c) k gap p e = rw (apart c.place k (omega (arith, p, e))) refl
+after_front : (o : Option Cell) (k gap : ℕ) → IfSome o (λ c. 0 < c.place) → k ≡ 0 → cell_gap o k gap ≡ gap
+after_front None k gap p e = refl
+after_front (Some c) k gap p e = rw (apart c.place k (omega (arith, p, e))) refl
   where
     apart : (a b : ℕ) → b < a → (a == b) ≡ false
     apart a b h = grind (arith, nat_tests)
@@ -135,9 +135,9 @@ front_gap set ts start next t e p q =
     let k : ℕ = next - start in
     let front : k ≡ 0 = omega (arith, e) in
     let plain : ℕ = plain_gap set.level b (token_before ts start next) t in
-    sym (behind_front set.comment k (cell_gap set.assign k plain) q front ∙ behind_front set.assign k plain p front ∙ ap (λ s. plain_gap set.level b s t) (none_behind ts start next (omega (arith, e))))
+    sym (after_front set.comment k (cell_gap set.assign k plain) q front ∙ after_front set.assign k plain p front ∙ ap (λ s. plain_gap set.level b s t) (none_after ts start next (omega (arith, e))))
 
-plain_small : (level : ℕ) (b s : Option Lexeme) (t : Lexeme) → level ≤ max_open → plain_gap level b s t ≤ 2 * max_open
+pub plain_small : (level : ℕ) (b s : Option Lexeme) (t : Lexeme) → level ≤ max_open → plain_gap level b s t ≤ 2 * max_open
 plain_small level b None t low = omega (arith, indented level t)
 plain_small level b (Some s) t low = omega (arith, blank b s t)
 

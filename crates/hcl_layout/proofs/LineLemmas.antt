@@ -8,8 +8,8 @@ use Rattle.hcl_tokens.specs.Kinds.{is}
 use Rattle.hcl_tokens.specs.declared.token.Kind.TheVariants as kind
 use Rattle.hcl_layout.specs.Lines.{Line}
 use Rattle.hcl_spacing.specs.Spacing.{has_blank}
-use Rattle.hcl_layout.specs.declared.gap.Cell.{Cell}
-use Rattle.hcl_layout.specs.declared.gap.LineGaps.{LineGaps}
+use Rattle.hcl_layout.specs.Inner.LineGaps.{Cell}
+use Rattle.hcl_layout.specs.Inner.LineGaps.{LineGaps}
 use Rattle.hcl_layout.proofs.ClusterLemmas.{clusters_few}
 use Rattle.hcl_layout.proofs.SurveyLemmas.{drop_at}
 

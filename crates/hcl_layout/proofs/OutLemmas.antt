@@ -8,7 +8,7 @@ use Rattle.hcl_source.specs.declared.device.WriteFault.{WriteFault}
 use Rattle.hcl_layout.specs.Inner.Out.{Out, CutShort, held, stretched}
 use Rattle.hcl_layout.specs.declared.buffer.Buffer.{Buffer}
 use Rattle.hcl_layout.specs.declared.buffer.Stretch.{Stretch}
-use Rattle.hcl_layout.proofs.FormatLemmas.{behind}
+use Rattle.hcl_layout.proofs.FormatLemmas.{after}
 
 pub Appends-then : (a b c : Option (List ℕ)) (xs ys : List ℕ) → Appends a b xs → Appends b c ys → Appends a c (xs ++ ys)
 Appends-then None b c xs ys p q = tt
@@ -118,7 +118,7 @@ grown source s piece end le e f =
     let n : ℕ = s.end - s.start in
     let long : end - s.start ≡ n + length piece = omega (arith, e) in
     let all : s.start + n ≡ s.end = omega arith in
-    let more : take (length piece) (drop n left) ≡ piece = ap (take (length piece)) (behind n s.start left source refl ∙ ap (λ k. drop k source) all ∙ f) ∙ take-append_seam piece (drop end source) in
+    let more : take (length piece) (drop n left) ≡ piece = ap (take (length piece)) (after n s.start left source refl ∙ ap (λ k. drop k source) all ∙ f) ∙ take-append_seam piece (drop end source) in
     ap (λ k. replicate s.gap 32 ++ take k left) long
     ∙ ap (λ l. replicate s.gap 32 ++ l) (take-add n (length piece) left ∙ ap (λ l. take n left ++ l) more)
     ∙ sym (append_assoc (replicate s.gap 32) (take n left) piece)

@@ -7,11 +7,11 @@ use Rattle.hcl_layout.specs.Cells.{assign_cell, before_comment, has_multiline, i
 use Rattle.hcl_layout.specs.Gaps.{align, gap_to, plain_gaps, width}
 use Rattle.hcl_layout.specs.Levels.{net_of}
 use Rattle.hcl_layout.specs.Inner.LineGaps.{AreSet, IsKnown, IsSigned, len_with_blanks, gaps_in, plain_of, set_cell}
-use Rattle.hcl_layout.specs.Inner.Depths.{depth_after, levels_behind}
-use Rattle.hcl_layout.specs.Inner.Stream.{assign_column, assigned_line, column_behind, comment_column, comment_widths, next_of}
+use Rattle.hcl_layout.specs.Inner.Depths.{depth_after, next_levels}
+use Rattle.hcl_layout.specs.Inner.Stream.{assign_column, assigned_line, column_after, comment_column, comment_widths, next_of}
 use Rattle.hcl_layout.specs.Lines.{Line}
-use Rattle.hcl_layout.specs.declared.gap.Cell.{Cell}
-use Rattle.hcl_layout.specs.declared.gap.LineGaps.{LineGaps}
+use Rattle.hcl_layout.specs.Inner.LineGaps.{Cell}
+use Rattle.hcl_layout.specs.Inner.LineGaps.{LineGaps}
 use Rattle.hcl_layout.proofs.LineLemmas.{gaps_in_is, width_before, width_set, width_small}
 use Rattle.hcl_layout.proofs.SurveyLemmas.{place_within}
 
@@ -91,13 +91,13 @@ assign_apart [] i j e f = let h : None ≡ Some i = multiline_some (has_multilin
 assign_apart (t ∷ line) i j e f = omega (arith, (place_within is_assignment 1 (until is_trailing line) i (assign_sign t line i e)).1, until_found is_trailing 1 line j f)
 
 -- no cell stands at the line's front
-pub assign_behind : (line : Line) (i : ℕ) → assign_cell line ≡ Some i → 0 < i
-assign_behind [] i e = let h : None ≡ Some i = multiline_some (has_multiline []) None i e in cc
-assign_behind (t ∷ line) i e = omega (arith, (place_within is_assignment 1 (until is_trailing line) i (assign_sign t line i e)).0)
+pub assign_after : (line : Line) (i : ℕ) → assign_cell line ≡ Some i → 0 < i
+assign_after [] i e = let h : None ≡ Some i = multiline_some (has_multiline []) None i e in cc
+assign_after (t ∷ line) i e = omega (arith, (place_within is_assignment 1 (until is_trailing line) i (assign_sign t line i e)).0)
 
-pub comment_behind : (line : Line) (i : ℕ) → trailing_comment line ≡ Some i → 0 < i
-comment_behind [] i e = cc
-comment_behind (t ∷ line) i e = omega (arith, (place_within is_trailing 1 line i e).0)
+pub comment_after : (line : Line) (i : ℕ) → trailing_comment line ≡ Some i → 0 < i
+comment_after [] i e = cc
+comment_after (t ∷ line) i e = omega (arith, (place_within is_trailing 1 line i e).0)
 
 line_short : (ts : List Lexeme) (at n i : ℕ) → i < length (take n (drop at ts)) → i < n
 line_short ts at n i lt = omega (arith, length-take n (drop at ts))
@@ -165,7 +165,7 @@ signed_set level i own gap line low e w small = record {
   plain = refl;
   known = known_set level i own gap line w;
   gap = small;
-  front = assign_behind line i e;
+  front = assign_after line i e;
   order = λ j f. assign_before line i j e f;
 }
 
@@ -192,7 +192,7 @@ set_signed g l p = record {
 
 pub set_commented : (g : LineGaps) (l : Line) (i own gap : ℕ) → IsSigned g l → trailing_comment l ≡ Some i → gap ≤ 2 ^ 34
     → AreSet (record { level = g.level; assign = g.assign; comment = Some (record { place = i; width = own; gap = gap }) })
-set_commented g l i own gap p e small = record { level = p.level; sign_gap = p.gap; comment_gap = small; sign_front = p.front; comment_front = comment_behind l i e }
+set_commented g l i own gap p e small = record { level = p.level; sign_gap = p.gap; comment_gap = small; sign_front = p.front; comment_front = comment_after l i e }
 
 -- ---- the column of a line's comment
 
@@ -211,21 +211,21 @@ next_none None rest = refl
 next_none (Some c) rest = refl
 
 -- where it takes part in no run
-pub column_none : (gaps : List ℕ) (l : Line) (column : Option ℕ) (rest : List (Option ℕ)) → running_comment l ≡ None → None ≡ column_behind gaps l column rest
+pub column_none : (gaps : List ℕ) (l : Line) (column : Option ℕ) (rest : List (Option ℕ)) → running_comment l ≡ None → None ≡ column_after gaps l column rest
 column_none gaps l column rest e = rw e (next_none column rest)
 
 -- and where it does
 pub column_some : (gaps : List ℕ) (l : Line) (column : Option ℕ) (rest : List (Option ℕ)) (i own c : ℕ) → running_comment l ≡ Some i → own ≡ width i gaps l → Some c ≡ next_of column (Some own ∷ rest)
-    → Some c ≡ column_behind gaps l column rest
+    → Some c ≡ column_after gaps l column rest
 column_some gaps l column rest i own c e f g = g ∙ ap (λ w. next_of column (Some w ∷ rest)) f ∙ ap (λ (x : Option ℕ). next_of column (option_map (λ k. width k gaps l) x ∷ rest)) (sym e)
 
 -- by what is known after the line but for the comment
 pub column_is : (d : ℕ) (levels : List ℕ) (column comment : Option ℕ) (l : Line) (ls rest : List Line) (gaps : List ℕ) (d' : ℕ) (levels' : List ℕ) (column' : Option ℕ)
-    → ls ≡ l ∷ rest → gaps ≡ assigned_line d levels column l ls → d' ≡ depth_after d l → levels' ≡ levels_behind d (depth_after d l) levels → column' ≡ assign_column d levels column ls
-    → column_behind gaps l comment (comment_widths d' levels' column' rest) ≡ comment_column d levels column comment ls
+    → ls ≡ l ∷ rest → gaps ≡ assigned_line d levels column l ls → d' ≡ depth_after d l → levels' ≡ next_levels d (depth_after d l) levels → column' ≡ assign_column d levels column ls
+    → column_after gaps l comment (comment_widths d' levels' column' rest) ≡ comment_column d levels column comment ls
 column_is d levels column comment l ls rest gaps d' levels' column' cut g e f h =
     let now : List ℕ = assigned_line d levels column l (l ∷ rest) in
-    ap (λ (gs : List ℕ). column_behind gs l comment (comment_widths d' levels' column' rest)) (g ∙ ap (assigned_line d levels column l) cut)
-    ∙ ap₂ (λ (x : ℕ) (y : List ℕ). column_behind now l comment (comment_widths x y column' rest)) e f
-    ∙ ap (λ (x : Option ℕ). column_behind now l comment (comment_widths (depth_after d l) (levels_behind d (depth_after d l) levels) x rest)) (h ∙ ap (assign_column d levels column) cut)
+    ap (λ (gs : List ℕ). column_after gs l comment (comment_widths d' levels' column' rest)) (g ∙ ap (assigned_line d levels column l) cut)
+    ∙ ap₂ (λ (x : ℕ) (y : List ℕ). column_after now l comment (comment_widths x y column' rest)) e f
+    ∙ ap (λ (x : Option ℕ). column_after now l comment (comment_widths (depth_after d l) (next_levels d (depth_after d l) levels) x rest)) (h ∙ ap (assign_column d levels column) cut)
     ∙ sym (ap (comment_column d levels column comment) cut)

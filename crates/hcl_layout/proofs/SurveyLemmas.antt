@@ -15,9 +15,9 @@ use Rattle.hcl_grammar.specs.Items.{deepen}
 use Rattle.hcl_layout.specs.Inner.Depths.{BalancedFrom, Steps, depth_after}
 use Rattle.hcl_layout.specs.Levels.{Net, net_of}
 use Rattle.hcl_layout.specs.Lines.{Line, ends_line, lines, onto_line}
-use Rattle.hcl_layout.specs.Inner.Survey.{IsLine, assign_of, cell_if, facts_of, first_noted, going, marks, noted, step_of, stops, surveyed, takes_sign, turned_to}
-use Rattle.hcl_layout.specs.declared.line.Survey.{Survey}
-use Rattle.hcl_layout.proofs.NotedKindLemmas.{Stepped, inline_untrailing, steps_deepen, unstopped_goes_on, unstopped_unmarked}
+use Rattle.hcl_layout.specs.Inner.Survey.{IsLine, assign_of, cell_if, facts_of, first_noted, going, noted, step_of, stops, surveyed, takes_sign}
+use Rattle.hcl_layout.specs.Inner.Survey.{Survey}
+use Rattle.hcl_layout.proofs.NotedKindLemmas.{Stepped, inline_untrailing, steps_deepen}
 use Rattle.hcl_layout.proofs.StreamLemmas.{after_is, after_low, deepen_low}
 
 -- the token at a place, and what is after it
@@ -307,7 +307,7 @@ is_line ts at d t s e few p low q =
     let short : n ≤ length rest = tail_short rest t in
     let all : length rest ≡ length ts - (at + 1) = grind (arith, common_steps) in
     let line : take s.len (drop at ts) ≡ t ∷ l = ap₂ take len cut ∙ ap (λ x. t ∷ x) (tail_take rest t) in
-    let behind : drop (at + s.len) ts ≡ left_of t rest = ap (λ k. drop (at + k) ts) len ∙ there at n ∙ left_drop rest t in
+    let after : drop (at + s.len) ts ≡ left_of t rest = ap (λ k. drop (at + k) ts) len ∙ there at n ∙ left_drop rest t in
     let balanced : BalancedFrom d (t ∷ l) = subst (BalancedFrom d) line (balanced_take s.len d (drop at ts) p) in
     let depth : s.depth ≡ depth_after d (t ∷ l) = ap (λ (x : Survey). x.depth) same ∙ fold_depth l (first_noted d t) in
     let comment : s.comment ≡ trailing_comment (t ∷ l) = ap (λ (x : Survey). x.comment) same ∙ (found l (first_noted d t) refl refl).0 in
@@ -316,7 +316,7 @@ is_line ts at d t s e few p low q =
       some = omega arith;
       within = omega arith;
       fits = omega (arith, few);
-      cut = ap lines cut ∙ lines_tail rest t ∙ ap₂ (λ (a : Line) (b : List Lexeme). a ∷ lines b) (sym line) (sym behind);
+      cut = ap lines cut ∙ lines_tail rest t ∙ ap₂ (λ (a : Line) (b : List Lexeme). a ∷ lines b) (sym line) (sym after);
       depth = depth ∙ ap (depth_after d) (sym line);
       low = subst (λ k. k ≤ max_open) (sym depth) (after_low (t ∷ l) d balanced low);
       rest = subst (λ k. BalancedFrom k (drop (at + s.len) ts)) (ap (depth_after d) line ∙ sym depth)
@@ -363,9 +363,9 @@ pub going_out : (ts : List Lexeme) (i : ℕ) (s whole : Survey) → length ts �
 going_out ts i s whole le p = sym (p ∙ ap (going s) (drop_of_length-le ts le))
 
 -- what is left after a token that was noted
-pub behind_token : (ts : List Lexeme) (i : ℕ) (s new : Survey) (t : Lexeme) → slice_get ts i ≡ Some t → new ≡ noted s t → BalancedFrom s.depth (drop i ts) → s.depth ≤ max_open
+pub after_token : (ts : List Lexeme) (i : ℕ) (s new : Survey) (t : Lexeme) → slice_get ts i ≡ Some t → new ≡ noted s t → BalancedFrom s.depth (drop i ts) → s.depth ≤ max_open
     → BalancedFrom new.depth (drop (i + 1) ts) × (new.depth ≤ max_open)
-behind_token ts i s new t e same p low =
+after_token ts i s new t e same p low =
     let depth : new.depth ≡ deepen s.depth t.kind = ap (λ (x : Survey). x.depth) same in (
       subst (λ d. BalancedFrom d (drop (i + 1) ts)) (sym depth) (rest_at ts i s.depth t e p),
       subst (λ d. d ≤ max_open) (sym depth) (low_at ts i s.depth t e p low),
@@ -376,46 +376,6 @@ same_token ts i t u p q = some_is t u (sym p ∙ q)
   where
     some_is : (x y : Lexeme) → Some x ≡ Some y → x ≡ y
     some_is x y e = cc
-
--- ---- steps: up to a token of which more is asked than its kind
-
--- the body is as deep as the line before its trailing comment
-pub turned_same : (s : Survey) → s.body_depth ≡ s.depth → turned_to s s.len s.depth ≡ s
-turned_same s e = ap with_body (sym e)
-  where
-    with_body : ℕ → Survey
-    with_body b = record { len = s.len; depth = s.depth; multiline = s.multiline; comment = s.comment; body_depth = b; sign = s.sign; sign_depth = s.sign_depth }
-
-unmarked : (a b c : Bool) → (a || b || c) ≡ false → (a ≡ false) × (b ≡ false) × (c ≡ false)
-unmarked true b c h = cc
-unmarked false true c h = cc
-unmarked false false c h = (refl, refl, h)
-
-turned_noted : (s : Survey) (t : Lexeme) (n d : ℕ) → s.comment ≡ None → marks t.kind ≡ false → turned_to s (n + 1) (deepen d t.kind) ≡ noted (turned_to s n d) t
-turned_noted s t n d e m =
-    let parts = unmarked (is LineComment t.kind) (is InlineComment t.kind) (is Assign t.kind) m in
-    let trailing : is_trailing t ≡ false = rw parts.0 refl in
-    let inline : is_multiline t ≡ false = rw parts.1 refl in
-    let assign : is_assignment t ≡ false = rw parts.2 refl in
-    let takes : takes_sign (turned_to s n d) t ≡ false = rw assign (and_false (not (is_some s.comment) && not (is_trailing t) && not (is_some s.sign))) in
-    rw (takes, inline, e, trailing) (ap with_multiline (or_false s.multiline))
-  where
-    with_multiline : Bool → Survey
-    with_multiline b = record { len = n + 1; depth = deepen d t.kind; multiline = b; comment = None; body_depth = deepen d t.kind; sign = s.sign; sign_depth = s.sign_depth }
-
-    or_false : (b : Bool) → b ≡ (b || false)
-    or_false true = refl
-    or_false false = refl
-
-    and_false : (b : Bool) → (b && false) ≡ false
-    and_false true = refl
-    and_false false = refl
-
--- a step more
-pub steps_on : (ts : List Lexeme) (i : ℕ) (t : Lexeme) (s whole : Survey) (n d : ℕ) → slice_get ts i ≡ Some t → s.comment ≡ None → stops t.kind ≡ false → whole ≡ going (turned_to s n d) (drop i ts)
-    → whole ≡ going (turned_to s (n + 1) (deepen d t.kind)) (drop (i + 1) ts)
-steps_on ts i t s whole n d e none on p =
-    going_on ts i t (turned_to s n d) (turned_to s (n + 1) (deepen d t.kind)) whole e (turned_noted s t n d none (unstopped_unmarked t.kind on)) (unstopped_goes_on t on) p
 
 -- what the step of the token there does
 pub step_at : (ts : List Lexeme) (i d step : ℕ) (t : Lexeme) (k : Kind) → slice_get ts i ≡ Some t → k ≡ t.kind → step ≡ step_of k → (step ≡ 46 → ⊥) → BalancedFrom d (drop i ts) → Stepped d step t.kind
@@ -441,10 +401,10 @@ module _ (ts : List Lexeme) (at : ℕ) (t : Lexeme) (s new : Survey) where
   more_same whole e same goes p = going_on ts (at + s.len) t s new whole e same goes p ∙ ap (λ k. going new (drop k ts)) (further same)
 
   pub more_balanced : slice_get ts (at + s.len) ≡ Some t → new ≡ noted s t → BalancedFrom s.depth (drop (at + s.len) ts) → s.depth ≤ max_open → BalancedFrom new.depth (drop (at + new.len) ts)
-  more_balanced e same p low = subst (λ k. BalancedFrom new.depth (drop k ts)) (further same) (behind_token ts (at + s.len) s new t e same p low).0
+  more_balanced e same p low = subst (λ k. BalancedFrom new.depth (drop k ts)) (further same) (after_token ts (at + s.len) s new t e same p low).0
 
   pub more_low : slice_get ts (at + s.len) ≡ Some t → new ≡ noted s t → BalancedFrom s.depth (drop (at + s.len) ts) → s.depth ≤ max_open → new.depth ≤ max_open
-  more_low e same p low = (behind_token ts (at + s.len) s new t e same p low).1
+  more_low e same p low = (after_token ts (at + s.len) s new t e same p low).1
 
   pub more_within : slice_get ts (at + s.len) ≡ Some t → new ≡ noted s t → at + new.len ≤ length ts
   more_within e same = omega (arith, further same, slice_get_within ts (at + s.len) t e)

@@ -2,11 +2,10 @@
 pub mod Bounds
 pub mod Depths
 pub mod Extents
-pub mod InPlace
+pub mod Laid
 pub mod Left
 pub mod LineGaps
 pub mod Out
-pub mod Padding
 pub mod Simple
 pub mod Stream
 pub mod Survey

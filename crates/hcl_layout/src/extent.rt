@@ -16,21 +16,16 @@
 //!
 //! Here no sign's column is more than 7, and no comment's more than 7 + 15, so the print has at most 50 bytes for the tokens
 //! with a blank each, 6 for the indents, and 2 * 7 + 2 * 22 for the cells.
-//!
-//! Where the tokens with a blank each may be too long already, as in a file that is nearly as large as may be, the bound
-//! isn't asked for, and where it tells nothing either, the lines are counted as they will be printed (`lengths`), which takes
-//! three times as long. Only where that doesn't tell, the print is measured with all that it looks ahead for.
-ghost use Rattle.std.specs.Prelude.{◌≡◌, ◌↔◌, ◌<◌, ◌≤◌, ◌+◌, ◌*◌, ◌^◌, ℕ, IsTrue, Some, length, take, drop};
+ghost use Rattle.std.specs.Prelude.{◌≡◌, ◌↔◌, ◌<◌, ◌≤◌, ◌+◌, ◌*◌, ◌^◌, ◌-◌, ℕ, IsTrue, Some, option_map, length, take, drop};
 ghost use Rattle.hcl_tokens.specs.Balanced.{max_open};
 ghost use Rattle.hcl_layout.specs.Inner.Depths.{BalancedFrom};
 ghost use Rattle.hcl_layout.specs.Inner.Extents.{AreSmallRuns, IsSmall, IsSmallCell, extra_of, no_cell, nothing, taken as taken_of, with_cell as with_cell_of, with_comment as with_comment_of, with_line as with_line_of, with_lines};
 ghost use Rattle.hcl_layout.specs.Inner.LineGaps.{len_with_blanks};
-ghost use Rattle.hcl_layout.specs.Inner.Survey.{IsLine, text_at};
+ghost use Rattle.hcl_layout.specs.Inner.Survey.{IsLine, facts_in, text_at};
 ghost use Rattle.hcl_layout.specs.Lines.{lines};
 ghost use Rattle.hcl_layout.specs.Print.{print};
 
-use crate::lengths::is_told_to_fit;
-use crate::line::{LineFacts, line_at};
+use crate::line::{Line, line_at};
 use crate::measured::Measured;
 use crate::print::printed_len;
 use hcl_grammar::Accepted;
@@ -76,6 +71,36 @@ fn len_of(tokens: &Measured<'_, '_>, at: usize, count: usize) -> u64
         len += 1 + tokens.get(at + k).text.len() as u64;
     }
     len
+}
+
+/// The place of a token in its line.
+#[inline(always)]
+fn place_of(first: usize, number: Option<usize>) -> Option<usize>
+    ensures { result ≡ option_map (λ n. n - first) number }
+{
+    let Some(number) = number else {
+        return None;
+    };
+    Some(number.saturating_sub(first))
+}
+
+/// The place of a line's sign.
+#[inline(always)]
+fn sign_place(line: Line) -> Option<usize>
+    ensures { result ≡ (facts_in line).assign }
+{
+    place_of(line.first, line.sign)
+}
+
+/// The place of its comment, where that is of a run.
+#[inline(always)]
+fn running_place(line: Line) -> Option<usize>
+    ensures { result ≡ (facts_in line).running }
+{
+    if line.runs {
+        return place_of(line.first, line.comment);
+    }
+    None
 }
 
 impl CellExtent {
@@ -186,24 +211,24 @@ impl Extent {
         }
     }
 
-    /// With the line that begins at a place and a depth.
+    /// With a line that begins at a depth.
     #[inline(always)]
-    fn with_line(self, tokens: &Measured<'_, '_>, at: usize, depth: u32, line: LineFacts) -> Extent
-        requires line { IsLine tokens.now.tokens at depth line }
+    fn with_line(self, tokens: &Measured<'_, '_>, depth: u32, line: Line) -> Extent
+        requires line { IsLine tokens.now.tokens line.first depth (facts_in line) }
         requires depth { depth ≤ max_open }
-        requires few { IsSmall at self }
-        ensures value { result ≡ with_line_of depth (text_at tokens.now.tokens at line) self }
-        ensures few { IsSmall (at + line.len) result }
+        requires few { IsSmall line.first self }
+        ensures value { result ≡ with_line_of depth (text_at tokens.now.tokens line.first (facts_in line)) self }
+        ensures few { IsSmall (line.first + (line.end - line.first)) result }
     {
         let indent = 2 * u64::from(depth);
         Extent {
             indents: self.indents + indent,
             signs: self
                 .signs
-                .with_cell(tokens, at, line.len, indent, line.assign),
+                .with_cell(tokens, line.first, line.end - line.first, indent, sign_place(line)),
             comments: self
                 .comments
-                .with_comment(tokens, at, line.len, indent, line.running),
+                .with_comment(tokens, line.first, line.end - line.first, indent, running_place(line)),
         }
     }
 
@@ -231,9 +256,9 @@ fn extent_of(tokens: &Measured<'_, '_>) -> Extent
     let mut at = 0;
     while at < count {
         let line = line_at(tokens, at, depth);
-        extent = extent.with_line(tokens, at, depth, line);
+        extent = extent.with_line(tokens, depth, line);
         depth = line.depth;
-        at += line.len;
+        at = line.end;
     }
     extent
 }
@@ -254,16 +279,12 @@ fn is_bound_to_fit(tokens: &Measured<'_, '_>, most: u64) -> bool
     tokens.len_bound() <= most && len_bound(tokens) <= most
 }
 
-/// Whether the print has no more bytes than that. Where its lines don't tell it one by one, it is measured.
+/// Whether the print has no more bytes than that.
 pub fn fits(accepted: &Accepted<'_, '_>, most: u64) -> bool
     ensures { IsTrue result ↔ (length (print accepted.now.tokens) ≤ most) }
 {
     let unmeasured = Measured::unmeasured(accepted);
     if is_bound_to_fit(&unmeasured, most) {
-        return true;
-    }
-    let tokens = Measured::new(accepted);
-    if is_told_to_fit(&tokens, most) {
         return true;
     }
     printed_len(accepted) <= most

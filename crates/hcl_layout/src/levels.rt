@@ -16,7 +16,7 @@
 //! ```
 ghost use Rattle.std.specs.Prelude.{◌≡◌, ◌≤◌, ◌+◌, ◌*◌, ◌-◌};
 ghost use Rattle.hcl_tokens.specs.Balanced.{max_open};
-ghost use Rattle.hcl_layout.specs.Inner.Depths.{Sound, level_at, levels_behind, raised};
+ghost use Rattle.hcl_layout.specs.Inner.Depths.{Sound, level_at, next_levels, raised};
 
 use hcl_tokens::MAX_OPEN;
 
@@ -42,7 +42,7 @@ pub fn next_level(levels: &mut [u32; DEPTHS], before: u32, now: u32) -> u32
     requires now { now ≤ max_open }
     requires sound { Sound before levels.old }
     ensures level { result ≡ level_at before now levels.old }
-    ensures levels { levels.new ≡ levels_behind before now levels.old }
+    ensures levels { levels.new ≡ next_levels before now levels.old }
     ensures small { result ≤ max_open }
     ensures sound { Sound now levels.new }
 {
@@ -52,18 +52,4 @@ pub fn next_level(levels: &mut [u32; DEPTHS], before: u32, now: u32) -> u32
         raise(levels, own, before + 1, now + 1);
     }
     level
-}
-
-/// The level of a line that ends no deeper than it begins, and so leaves the levels as they are.
-#[inline(always)]
-pub fn kept_level(levels: &[u32; DEPTHS], before: u32, now: u32) -> u32
-    requires order { now ≤ before }
-    requires before { before ≤ max_open }
-    requires sound { Sound before levels.now }
-    ensures level { result ≡ level_at before now levels.now }
-    ensures levels { levels.now ≡ levels_behind before now levels.now }
-    ensures small { result ≤ max_open }
-    ensures sound { Sound now levels.now }
-{
-    levels[now as usize]
 }

@@ -1,10 +1,11 @@
 //! The layout of accepted tokens: how many blanks stand before each, and so what is printed.
 //!
-//! [`printed_len`], [`emit`] and [`is_formatted`] read the pieces of the print one after another, each
-//! token with the gap before it, and take no memory: of the lines passed they know the depth, the
-//! levels by depth, and the columns of the two runs in which the last line stands. A run is read ahead
-//! once, at its first line; [`is_formatted`] first takes its column from the source and reads nothing
-//! ahead, and [`is_found_formatted`] does no more. [`fits`] reads the lines alone where they tell that the print isn't too long.
+//! It is written once, as a walk over the lines ([`lines`]): each line comes with its level and with its cells in the columns
+//! of their runs, and gives its pieces, each a token with the gap before it. Three loops over lines and pieces compare them with
+//! the source ([`is_formatted`]), count them ([`printed_len`]) and write them ([`emit`]). Nothing is stored of a line that was
+//! passed but the depth, the levels by depth and the two runs in which it stands. The column of a run is found at its first
+//! line: the lines ahead are measured, or, for a comparison, it is where the cell stands in the source, and the run tells at its
+//! end whether that was right. [`fits`] counts only what a bound doesn't tell to fit.
 //!
 //! ```text
 //! line             level   before =   before #   gaps before its pieces   printed
@@ -20,21 +21,13 @@
 #![tactic(auto)]
 
 mod buffer;
-mod counted;
 mod extent;
-mod gap;
-mod in_place;
 pub mod laws;
-mod lengths;
 mod levels;
 mod line;
+mod lines;
 mod measured;
-mod padding;
-mod piece;
-mod pieces;
 mod print;
-mod runs;
-mod simple;
 mod writer;
 
 pub use extent::fits;

@@ -1,56 +1,75 @@
 //! One line, in one walk: where it ends, how deep, and which cells it has.
-//!
-//! Most tokens of a line open, close or do neither. By a table of kinds they are passed in steps, with the depth alone kept,
-//! up to a token of which more is asked: one that may end the line, or be or tear a cell.
-//!
-//! ```text
-//! token           tags   =      [     f     (     x     )     ]     # why   newline
-//! step            1      more   2     1     2     1     0     0     more    more
-//! depth after it  0      0      1     1     2     2     1     0     0       0
-//! ```
-ghost use Rattle.std.specs.Prelude.{◌≡◌, false, true, ◌<◌, ◌≤◌, ◌+◌, ◌^◌, ◌==◌, ℕ, length, drop, slice_get, IsTrue, None, Some};
+ghost use Rattle.std.specs.Prelude.{◌≡◌, false, true, ◌<◌, ◌≤◌, ◌+◌, ◌==◌, ◌&&◌, ◌||◌, ℕ, not, length, drop, slice_get, None, Some, if◌then◌else◌};
 ghost use Rattle.std.specs.List.{list_any};
-ghost use Rattle.hcl_tokens.specs.Kinds.{is};
-ghost use Rattle.hcl_tokens.specs.declared.token.Kind.TheVariants.{InlineComment};
 ghost use Rattle.hcl_tokens.specs.Lexemes.{Lexeme};
 ghost use Rattle.hcl_tokens.specs.Scanned.{lexeme};
-ghost use Rattle.hcl_tokens.specs.Balanced.{is_closer, is_opener, max_open};
+ghost use Rattle.hcl_tokens.specs.Balanced.{max_open};
 ghost use Rattle.hcl_layout.specs.Lines.{ends_line};
 ghost use Rattle.hcl_layout.specs.Cells.{is_assignment as is_assignment_of, is_multiline as is_multiline_of, is_trailing as is_trailing_of};
 ghost use Rattle.hcl_grammar.specs.Items.{deepen};
-ghost use Rattle.hcl_layout.specs.Inner.Depths.{BalancedFrom, Steps};
-ghost use Rattle.hcl_layout.specs.Inner.Survey.{IsLine, assign_of, changes, empty_line, first_noted, going, marks, noted, running_of, step_of, stops, surveyed, turned_to};
+ghost use Rattle.hcl_layout.specs.Inner.Depths.{BalancedFrom};
+ghost use Rattle.hcl_layout.specs.Inner.Survey.{IsLine, body_of, cell_if, facts_in, facts_of, first_noted, noted, step_of, survey_of};
 
 use crate::measured::Measured;
 use hcl_tokens::{Kind, Token};
 
-/// What is known after a token of a line.
+/// A line: the numbers of its first token and of that after it, the depth after it, and the numbers of its cells.
 #[derive(Clone, Copy)]
-pub struct Survey {
-    /// So many tokens were passed.
-    pub len: usize,
+pub struct Line {
+    pub first: usize,
+    pub end: usize,
     pub depth: u32,
-    /// There was an inline comment that holds a newline.
-    pub multiline: bool,
-    /// The place of the trailing comment.
-    pub comment: Option<usize>,
-    /// The depth after what stands before the trailing comment.
-    pub body_depth: u32,
-    /// The place of the first assignment sign.
+    /// The assignment sign that begins a cell.
     pub sign: Option<usize>,
-    /// The depth before that sign.
-    pub sign_depth: u32,
+    /// The comment at its end.
+    pub comment: Option<usize>,
+    /// The comment is of a run.
+    pub runs: bool,
 }
 
-/// What a line is: its tokens, the depth after it, and the places of its cells.
-#[derive(Clone, Copy)]
-pub struct LineFacts {
-    pub len: usize,
-    pub depth: u32,
-    pub assign: Option<usize>,
-    pub comment: Option<usize>,
-    /// The trailing comment, where the line takes part in runs of comments.
-    pub running: Option<usize>,
+impl Line {
+    /// The comment, where it is of a run.
+    #[inline(always)]
+    pub fn running(self) -> Option<usize>
+        ensures { result ≡ (if not self.runs then None else self.comment) }
+    {
+        if self.runs {
+            return self.comment;
+        }
+        None
+    }
+}
+
+/// By kind, the depth after a token of it that stands at depth 1, as a digit: `2` opens, `0` closes, and `1` does neither.
+/// A point stands for the kinds of which more is asked.
+static STEPS: [u8; 256] = *b"\
+    ...111112220000111111.1111111111\
+    1111112211......................\
+    ................................\
+    ................................\
+    ................................\
+    ................................\
+    ................................\
+    ................................";
+
+pub const MORE: u8 = b'.';
+
+/// What a token of the kind does to the depth.
+#[inline(always)]
+pub fn step_of(kind: Kind) -> u8
+    ensures { result ≡ step_of kind }
+{
+    STEPS[kind as usize]
+}
+
+#[inline(always)]
+pub fn depth_after(depth: u32, step: u8) -> u32
+    requires fits { depth ≤ max_open }
+    requires rises { step ≤ 50 }
+    requires stays { 49 ≤ depth + step }
+    ensures { result + 49 ≡ depth + step }
+{
+    depth + u32::from(step) - u32::from(b'1')
 }
 
 /// Whether a line ends with the token.
@@ -83,385 +102,162 @@ fn holds_newline(text: &str) -> bool
 }
 
 #[inline(always)]
-pub fn is_inline_comment(kind: Kind) -> bool
-    ensures { result ≡ is InlineComment kind }
-{
-    matches!(kind, Kind::InlineComment)
-}
-
-#[inline(always)]
 fn is_multiline(token: Token<'_>) -> bool
     ensures { result ≡ is_multiline_of (lexeme token.entry) }
 {
-    is_inline_comment(token.kind) && !token.inside_heredoc && holds_newline(token.text)
+    matches!(token.kind, Kind::InlineComment) && !token.inside_heredoc && holds_newline(token.text)
 }
 
-/// What opens, as a set of kinds with a bit for each: the depth is asked after every token, and thus without a branch.
-const OPENERS: u64 = 1 << Kind::ParenOpen as u64
-    | 1 << Kind::BracketOpen as u64
-    | 1 << Kind::BraceOpen as u64
-    | 1 << Kind::InterpOpen as u64
-    | 1 << Kind::ControlOpen as u64;
-
-/// What closes.
-const CLOSERS: u64 = 1 << Kind::ParenClose as u64
-    | 1 << Kind::BracketClose as u64
-    | 1 << Kind::SeqClose as u64
-    | 1 << Kind::BraceClose as u64;
-
-#[inline(always)]
-fn opens(kind: Kind) -> bool
-    ensures { result ≡ is_opener kind }
-{
-    (OPENERS >> kind as u64) & 1 == 1
+/// What of a line was passed.
+#[derive(Clone, Copy)]
+pub struct Seen {
+    pub sign: Option<usize>,
+    pub sign_depth: u32,
+    pub comment: Option<usize>,
+    /// The depth after what stands before the comment.
+    pub body_depth: u32,
+    pub multiline: bool,
 }
 
-#[inline(always)]
-fn closes(kind: Kind) -> bool
-    ensures { result ≡ is_closer kind }
-{
-    (CLOSERS >> kind as u64) & 1 == 1
-}
-
-/// The depth after a token.
-#[inline(always)]
-fn deepened(depth: u32, kind: Kind) -> u32
-    requires steps { Steps depth kind }
-    requires fits { depth ≤ max_open }
-    ensures { result ≡ deepen depth kind }
-{
-    depth + u32::from(opens(kind)) - u32::from(closes(kind))
-}
-
-/// By kind, the depth after a token of it that stands at depth 1, as a digit: `2` opens, `0` closes, and `1` does neither.
-/// A point stands for the kinds of which more is asked, and for the numbers of no kind. These fill the table: of one with at
-/// most 64 entries the compiler makes sets of bits, which are asked in more instructions.
-static STEPS: [u8; 256] = *b"\
-    ...111112220000111111.1111111111\
-    1111112211......................\
-    ................................\
-    ................................\
-    ................................\
-    ................................\
-    ................................\
-    ................................";
-
-/// Where more is asked of a token than its kind.
-pub const MORE: u8 = b'.';
-
-/// What a token of the kind does to the depth.
-#[inline(always)]
-pub fn step_of(kind: Kind) -> u8
-    ensures { result ≡ step_of kind }
-{
-    STEPS[kind as usize]
-}
-
-/// The depth after a step.
-#[inline(always)]
-pub fn stepped(depth: u32, step: u8) -> u32
-    requires fits { depth ≤ max_open }
-    requires rises { step ≤ 50 }
-    requires stays { 49 ≤ depth + step }
-    ensures { result + 49 ≡ depth + step }
-{
-    depth + u32::from(step) - u32::from(b'1')
-}
-
-/// After the first token of a line, which tears no cell, with the depth after it.
-#[inline(always)]
-fn bare_survey(depth: u32) -> Survey
-    ensures { (before : ℕ) (t : Lexeme) → is InlineComment t.kind ≡ false → depth ≡ deepen before t.kind → result ≡ first_noted before t }
-{
-    Survey {
-        len: 1,
-        depth,
-        multiline: false,
-        comment: None,
-        body_depth: depth,
-        sign: None,
-        sign_depth: 0,
-    }
-}
-
-/// After the first token of a line, which neither opens nor closes.
-#[inline(always)]
-fn first_survey(depth: u32, token: Token<'_>) -> Survey
-    requires level { deepen depth token.kind ≡ depth }
-    ensures { result ≡ first_noted depth (lexeme token.entry) }
-{
-    Survey {
-        len: 1,
-        depth,
-        multiline: is_multiline(token),
-        comment: None,
-        body_depth: depth,
-        sign: None,
-        sign_depth: 0,
-    }
-}
-
-/// After the first token of the line that begins at a place, and whether the line ends with it. Inline comments alone are
-/// asked for their text.
-#[inline(always)]
-pub fn read_first(tokens: &Measured<'_, '_>, at: usize, depth: u32) -> (Survey, bool)
-    requires within { at < length tokens.now.tokens }
-    requires balanced { BalancedFrom depth (drop at tokens.now.tokens) }
-    requires fits { depth ≤ max_open }
-    ensures line { (t : Lexeme) → slice_get tokens.now.tokens at ≡ Some t → result.0 ≡ first_noted depth t }
-    ensures end { (t : Lexeme) → slice_get tokens.now.tokens at ≡ Some t → result.1 ≡ ends_line t }
-{
-    let kind = tokens.kind(at);
-    let step = step_of(kind);
-    if step != MORE {
-        return (bare_survey(stepped(depth, step)), false);
-    }
-    if is_inline_comment(kind) {
-        return (first_survey(depth, tokens.get(at)), false);
-    }
-    (bare_survey(depth), is_line_end(tokens.get(at)))
-}
-
-impl Survey {
-    /// Up to a further length and with the depth there, before the trailing comment.
+impl Seen {
+    /// Whether there was an inline comment that holds a newline, the token's too.
     #[inline(always)]
-    pub fn turned_to(self, len: usize, depth: u32) -> Survey
-        ensures { result ≡ turned_to self len depth }
+    fn is_torn(self, token: Token<'_>) -> bool
+        ensures { result ≡ (self.multiline || is_multiline_of (lexeme token.entry)) }
     {
-        Survey {
-            len,
-            depth,
-            body_depth: depth,
-            ..self
-        }
+        self.multiline || is_multiline(token)
     }
 
-    /// After one token more, of a kind that changes nothing.
+    /// With a token that neither opens nor closes.
     #[inline(always)]
-    pub fn passed(self) -> Survey
-        requires room { self.len + 1 < 2 ^ 64 }
-        ensures { (t : Lexeme) → changes t.kind ≡ false → result ≡ noted self t }
+    fn with(self, token: Token<'_>, number: usize, depth: u32) -> Seen
+        requires level { deepen depth token.kind ≡ depth }
+        ensures { (first : ℕ) → first ≤ number → survey_of result depth first (number + 1) ≡ noted (survey_of self depth first number) (lexeme token.entry) }
     {
-        let len = self.len + 1;
-        if self.comment.is_some() {
-            return Survey { len, ..self };
-        }
-        Survey {
-            len,
-            body_depth: self.depth,
-            ..self
-        }
-    }
-
-    /// After one token more of which more is asked, but that tears no cell, before the trailing comment.
-    #[inline(always)]
-    pub fn marked(self, token: Token<'_>) -> Survey
-        requires comment { self.comment ≡ None }
-        requires body { self.body_depth ≡ self.depth }
-        requires level { deepen self.depth token.kind ≡ self.depth }
-        requires whole { is InlineComment token.kind ≡ false }
-        requires room { self.len + 1 < 2 ^ 64 }
-        ensures { result ≡ noted self (lexeme token.entry) }
-    {
-        let behind = Survey {
-            len: self.len + 1,
-            ..self
-        };
-        if is_trailing(token) {
-            return Survey {
-                comment: Some(self.len),
-                ..behind
-            };
-        }
-        if is_assignment(token) && self.sign.is_none() {
-            return Survey {
-                sign: Some(self.len),
-                sign_depth: self.depth,
-                ..behind
-            };
-        }
-        behind
-    }
-
-    /// After one token more, of any kind.
-    #[inline(always)]
-    fn with(self, token: Token<'_>) -> Survey
-        requires steps { Steps self.depth token.kind }
-        requires fits { self.depth ≤ max_open }
-        requires room { self.len + 1 < 2 ^ 64 }
-        ensures { result ≡ noted self (lexeme token.entry) }
-    {
-        let behind = Survey {
-            len: self.len + 1,
-            depth: deepened(self.depth, token.kind),
-            multiline: self.multiline || is_multiline(token),
+        let passed = Seen {
+            multiline: self.is_torn(token),
             ..self
         };
         if self.comment.is_some() {
-            return behind;
+            return passed;
         }
         if is_trailing(token) {
-            return Survey {
-                comment: Some(self.len),
-                ..behind
+            return Seen {
+                comment: Some(number),
+                body_depth: depth,
+                ..passed
             };
         }
-        let body_depth = behind.depth;
         if self.sign.is_none() && is_assignment(token) {
-            return Survey {
-                body_depth,
-                sign: Some(self.len),
-                sign_depth: self.depth,
-                ..behind
+            return Seen {
+                sign: Some(number),
+                sign_depth: depth,
+                ..passed
             };
         }
-        Survey {
-            body_depth,
-            ..behind
-        }
+        passed
     }
 
-    /// The place of the sign, where it begins a cell.
+    /// The depth before the comment.
     #[inline(always)]
-    pub fn assign(self) -> Option<usize>
-        ensures { result ≡ assign_of self }
+    fn body_depth(self, depth: u32) -> u32
+        ensures { result ≡ body_of self depth }
     {
-        if !self.multiline && self.sign_depth == self.body_depth {
+        if self.comment.is_some() {
+            return self.body_depth;
+        }
+        depth
+    }
+
+    /// The sign, where it begins a cell.
+    #[inline(always)]
+    fn cell(self, depth: u32) -> Option<usize>
+        ensures { result ≡ cell_if (not self.multiline && (self.sign_depth == body_of self depth)) self.sign }
+    {
+        if !self.multiline && self.sign_depth == self.body_depth(depth) {
             return self.sign;
         }
         None
     }
 
-    /// The trailing comment, where the line takes part in runs.
+    /// The line that ends after it.
     #[inline(always)]
-    fn running(self) -> Option<usize>
-        ensures { result ≡ running_of self }
+    fn line(self, first: usize, end: usize, depth: u32) -> Line
+        ensures first { result.first ≡ first }
+        ensures facts { facts_in result ≡ facts_of (survey_of self depth first end) }
     {
-        if self.multiline {
-            return None;
+        Line {
+            first,
+            end,
+            depth,
+            sign: self.cell(depth),
+            comment: self.comment,
+            runs: !self.multiline,
         }
-        self.comment
     }
 }
 
-/// After the rest of the line of which so many tokens were passed.
+/// What is seen of a line before a token of which more is asked.
 #[inline(always)]
-fn read_rest(tokens: &Measured<'_, '_>, at: usize, passed: Survey) -> Survey
-    requires within { at + passed.len ≤ length tokens.now.tokens }
-    requires balanced { BalancedFrom passed.depth (drop (at + passed.len) tokens.now.tokens) }
-    requires fits { passed.depth ≤ max_open }
-    ensures { result ≡ going passed (drop (at + passed.len) tokens.now.tokens) }
+fn nothing_seen(multiline: bool) -> Seen
+    ensures { result ≡ record { sign = None; sign_depth = 0; comment = None; body_depth = 0; multiline = multiline } }
 {
-    let count = tokens.len();
-    let mut line = passed;
-    while at + line.len < count {
-        let token = tokens.get(at + line.len);
-        if is_line_end(token) {
-            return line.passed();
-        }
-        line = line.with(token);
+    Seen {
+        sign: None,
+        sign_depth: 0,
+        comment: None,
+        body_depth: 0,
+        multiline,
     }
-    line
 }
 
-/// After the tokens of a line up to the next of which more is asked than its kind. The depth alone changes, so the
-/// rest is kept as it was.
+/// After the first token of a line, which is no cell: what was seen, the depth, and whether the line ends with it.
 #[inline(always)]
-fn pass_steps(tokens: &Measured<'_, '_>, at: usize, passed: Survey) -> Survey
-    requires within { at + passed.len ≤ length tokens.now.tokens }
-    requires balanced { BalancedFrom passed.depth (drop (at + passed.len) tokens.now.tokens) }
-    requires fits { passed.depth ≤ max_open }
-    requires comment { passed.comment ≡ None }
-    requires body { passed.body_depth ≡ passed.depth }
-    ensures same { going passed (drop (at + passed.len) tokens.now.tokens) ≡ going result (drop (at + result.len) tokens.now.tokens) }
-    ensures order { passed.len ≤ result.len }
-    ensures within { at + result.len ≤ length tokens.now.tokens }
-    ensures balanced { BalancedFrom result.depth (drop (at + result.len) tokens.now.tokens) }
-    ensures fits { result.depth ≤ max_open }
-    ensures comment { result.comment ≡ None }
-    ensures body { result.body_depth ≡ result.depth }
-    ensures more { (t : Lexeme) → slice_get tokens.now.tokens (at + result.len) ≡ Some t → stops t.kind ≡ true }
+fn read_first(tokens: &Measured<'_, '_>, first: usize, before: u32) -> (Seen, u32, bool)
+    requires within { first < length tokens.now.tokens }
+    requires balanced { BalancedFrom before (drop first tokens.now.tokens) }
+    requires fits { before ≤ max_open }
+    ensures seen { (t : Lexeme) → slice_get tokens.now.tokens first ≡ Some t → survey_of result.0 result.1 first (first + 1) ≡ first_noted before t }
+    ensures end { (t : Lexeme) → slice_get tokens.now.tokens first ≡ Some t → result.2 ≡ ends_line t }
 {
-    let count = tokens.len();
-    let mut depth = passed.depth;
-    let mut next = at + passed.len;
-    while next < count {
-        let step = step_of(tokens.kind(next));
-        if step == MORE {
-            return passed.turned_to(next - at, depth);
-        }
-        depth = stepped(depth, step);
-        next += 1;
+    let step = step_of(tokens.kind(first));
+    if step != MORE {
+        return (nothing_seen(false), depth_after(before, step), false);
     }
-    passed.turned_to(next - at, depth)
+    let token = tokens.get(first);
+    (nothing_seen(is_multiline(token)), before, is_line_end(token))
 }
 
-/// The tokens of a line, from the one at a place on, each noted. Inline comments alone are asked for their text, and so
-/// are looked up again. What follows a trailing comment, as a rule the newline alone, is read apart, so that up to there
-/// less has to be kept.
+/// The line that begins at a token, where the depth is known.
 #[inline(always)]
-fn read_line(tokens: &Measured<'_, '_>, at: usize, depth: u32) -> Survey
-    requires within { at < length tokens.now.tokens }
-    requires balanced { BalancedFrom depth (drop at tokens.now.tokens) }
-    requires fits { depth ≤ max_open }
-    ensures { (t : Lexeme) → slice_get tokens.now.tokens at ≡ Some t → result ≡ surveyed (first_noted depth t) t (drop (at + 1) tokens.now.tokens) }
+pub fn line_at(tokens: &Measured<'_, '_>, first: usize, before: u32) -> Line
+    requires within { first < length tokens.now.tokens }
+    requires balanced { BalancedFrom before (drop first tokens.now.tokens) }
+    requires fits { before ≤ max_open }
+    ensures first { result.first ≡ first }
+    ensures line { IsLine tokens.now.tokens first before (facts_in result) }
 {
     let count = tokens.len();
-    let (mut line, ended) = read_first(tokens, at, depth);
-    if ended {
-        return line;
+    let (seen, depth, ends) = read_first(tokens, first, before);
+    if ends {
+        return seen.line(first, first + 1, depth);
     }
-    while at + line.len < count {
-        let before = pass_steps(tokens, at, line);
-        let next = at + before.len;
-        if next == count {
-            return before;
-        }
-        let token = tokens.get(next);
-        if is_line_end(token) {
-            return before.passed();
-        }
-        if is_inline_comment(token.kind) {
-            line = before.with(tokens.get(next));
+    let mut seen = seen;
+    let mut depth = depth;
+    let mut number = first + 1;
+    while number < count {
+        let step = step_of(tokens.kind(number));
+        if step != MORE {
+            depth = depth_after(depth, step);
+            number += 1;
             continue;
         }
-        line = before.marked(token);
-        if line.comment.is_some() {
-            return read_rest(tokens, at, line);
+        let token = tokens.get(number);
+        if is_line_end(token) {
+            return seen.line(first, number + 1, depth);
         }
+        seen = seen.with(token, number, depth);
+        number += 1;
     }
-    line
-}
-
-/// Whether an empty line begins at a place: a newline by itself.
-#[inline(always)]
-pub fn is_empty_line(tokens: &Measured<'_, '_>, at: usize, depth: u32) -> bool
-    requires within { at < length tokens.now.tokens }
-    requires balanced { BalancedFrom depth (drop at tokens.now.tokens) }
-    requires fits { depth ≤ max_open }
-    ensures { IsTrue result → IsLine tokens.now.tokens at depth (empty_line depth) }
-{
-    // so the number of the token after the line fits
-    let _count = tokens.len();
-    is_line_end(tokens.get(at))
-}
-
-/// The line that begins at a place, where the depth is known.
-#[inline(always)]
-pub fn line_at(tokens: &Measured<'_, '_>, at: usize, depth: u32) -> LineFacts
-    requires within { at < length tokens.now.tokens }
-    requires balanced { BalancedFrom depth (drop at tokens.now.tokens) }
-    requires fits { depth ≤ max_open }
-    ensures { IsLine tokens.now.tokens at depth result }
-{
-    // so the number of the token after the line fits
-    let _count = tokens.len();
-    let line = read_line(tokens, at, depth);
-    LineFacts {
-        len: line.len,
-        depth: line.depth,
-        assign: line.assign(),
-        comment: line.comment,
-        running: line.running(),
-    }
+    seen.line(first, number, depth)
 }

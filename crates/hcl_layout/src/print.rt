@@ -1,15 +1,13 @@
 //! How long the print is, and whether the source is its own print.
-ghost use Rattle.std.specs.Prelude.{◌≡◌, ◌↔◌, ◌<◌, ◌≤◌, ◌+◌, ◌^◌, ◌==◌, ◌&&◌, IsTrue, length, drop, take, nat_eq, nat_le, IfSome};
+ghost use Rattle.std.specs.Prelude.{◌≡◌, ◌↔◌, ◌<◌, ◌≤◌, ◌+◌, ◌^◌, ◌==◌, ◌&&◌, ◌++◌, IsTrue, IfSome, length, drop, take, nat_eq, nat_le};
 ghost use Rattle.std.specs.List.{list_all, starts_with};
 ghost use Rattle.hcl_tokens.specs.Balanced.{IsBalanced};
-ghost use Rattle.hcl_layout.specs.Inner.Left.{EndsAt};
+ghost use Rattle.hcl_layout.specs.Inner.Left.{EndsAt, bytes_of};
 ghost use Rattle.hcl_layout.specs.Inner.Simple.{IsFrom};
 ghost use Rattle.hcl_layout.specs.Print.{print};
 
-use crate::in_place::stands_in_place;
+use crate::lines::{Columns, Lines, Piece};
 use crate::measured::Measured;
-use crate::piece::{Piece, are_spaces, goes_on};
-use crate::pieces::{next_piece, start};
 use hcl_grammar::Accepted;
 
 /// The length of the print, in bytes.
@@ -18,10 +16,13 @@ pub fn printed_len(accepted: &Accepted<'_, '_>) -> u64
 {
     let tokens = Measured::new(accepted);
     let _source = tokens.source();
-    let mut pieces = start();
+    let mut lines = Lines::new(Columns::Ahead);
     let mut len = 0;
-    while let Some(piece) = next_piece(&mut pieces, &tokens) {
-        len += piece.gap + piece.text.len() as u64;
+    while let Some(line) = lines.next(&tokens) {
+        for number in line.first..line.end {
+            let piece = line.piece(&tokens, number);
+            len += piece.gap + piece.token.text.len() as u64;
+        }
     }
     len
 }
@@ -34,6 +35,35 @@ pub fn prints_nothing(accepted: &Accepted<'_, '_>) -> bool
     // its contract says that the tokens are a scan
     let _scanned = tokens.source();
     tokens.is_empty()
+}
+
+#[inline(always)]
+pub fn are_spaces(bytes: &[u8]) -> bool
+    ensures { result ≡ list_all (λ b. b == 32) bytes.now }
+{
+    bytes.iter().all(|b| *b == b' ')
+}
+
+/// Whether a piece stands in the source where the text before it ends.
+#[inline(always)]
+pub fn goes_on(source: &[u8], at: usize, piece: Piece<'_>) -> bool
+    requires within { at ≤ length source.now }
+    requires source { IsFrom source.now piece.token.start piece.token.text.now }
+    requires gap { piece.gap ≤ 2 ^ 34 }
+    requires small { length source.now < 2 ^ 32 }
+    ensures goes { IsTrue result → drop at source.now ≡ bytes_of piece.entry ++ drop (piece.entry.token.start + length piece.entry.token.text.now) source.now }
+    ensures end { IsTrue result → at + piece.entry.gap ≡ piece.entry.token.start }
+{
+    if at as u64 + piece.gap != piece.token.start as u64 {
+        return false;
+    }
+    if piece.gap == 0 {
+        return true;
+    }
+    if piece.gap == 1 {
+        return source[at] == b' ';
+    }
+    are_spaces(&source[at..piece.token.start])
 }
 
 /// Whether so many spaces stand at the front.
@@ -53,21 +83,21 @@ fn begins_blank(bytes: &[u8], gap: u64) -> bool
 #[inline(always)]
 fn stands_at(bytes: &[u8], at: usize, piece: Piece<'_>) -> bool
     requires within { at ≤ length bytes.now }
-    requires source { IsFrom bytes.now piece.start piece.text.now }
-    ensures { result ≡ starts_with nat_eq (drop at bytes.now) piece.entry.text.now }
+    requires source { IsFrom bytes.now piece.token.start piece.token.text.now }
+    ensures { result ≡ starts_with nat_eq (drop at bytes.now) piece.entry.token.text.now }
 {
-    if piece.start == at {
+    if piece.token.start == at {
         return true;
     }
     let (_, left) = bytes.split_at(at);
-    left.starts_with(piece.text.as_bytes())
+    left.starts_with(piece.token.text.as_bytes())
 }
 
 /// Where a piece of the source ends that stands at a place, if it stands there. It is compared with what stands there.
 #[inline(never)]
 fn moved_end(bytes: &[u8], at: usize, piece: Piece<'_>) -> Option<usize>
     requires within { at ≤ length bytes.now }
-    requires source { IsFrom bytes.now piece.start piece.text.now }
+    requires source { IsFrom bytes.now piece.token.start piece.token.text.now }
     ensures found { EndsAt bytes.now at piece.entry result }
     ensures within { IfSome result (λ end. end ≤ length bytes.now) }
 {
@@ -79,21 +109,21 @@ fn moved_end(bytes: &[u8], at: usize, piece: Piece<'_>) -> Option<usize>
     if !stands_at(bytes, front, piece) {
         return None;
     }
-    Some(front + piece.text.len())
+    Some(front + piece.token.text.len())
 }
 
 /// Where a piece of the source ends that stands at a place, if it stands there.
 #[inline(always)]
 fn piece_end(bytes: &[u8], at: usize, piece: Piece<'_>) -> Option<usize>
     requires within { at ≤ length bytes.now }
-    requires source { IsFrom bytes.now piece.start piece.text.now }
+    requires source { IsFrom bytes.now piece.token.start piece.token.text.now }
     requires gap { piece.gap ≤ 2 ^ 34 }
     requires small { length bytes.now < 2 ^ 32 }
     ensures found { EndsAt bytes.now at piece.entry result }
     ensures within { IfSome result (λ end. end ≤ length bytes.now) }
 {
     if goes_on(bytes, at, piece) {
-        return Some(piece.start + piece.text.len());
+        return Some(piece.token.start + piece.token.text.len());
     }
     moved_end(bytes, at, piece)
 }
@@ -105,28 +135,55 @@ fn agrees(tokens: &Measured<'_, '_>) -> bool
     ensures { IsTrue result ↔ (print tokens.now.tokens ≡ tokens.now.text) }
 {
     let bytes = tokens.source();
-    let mut pieces = start();
+    let mut lines = Lines::new(Columns::Ahead);
     let mut at = 0;
-    while let Some(piece) = next_piece(&mut pieces, tokens) {
-        let Some(end) = piece_end(bytes, at, piece) else {
-            return false;
-        };
-        at = end;
+    while let Some(line) = lines.next(tokens) {
+        for number in line.first..line.end {
+            let Some(end) = piece_end(bytes, at, line.piece(tokens, number)) else {
+                return false;
+            };
+            at = end;
+        }
     }
     at == bytes.len()
 }
 
-/// Whether the print is found to be the source without reading ahead, as that of a formatted file nearly always is. Where it
-/// isn't found, it may yet be the source: that is for who prints it anew then, which gives the same.
+/// Whether each piece stands where the source has it, with the columns of the runs taken from the source, and these are the
+/// columns of the runs. Nothing is read ahead. It is called, so that the scan keeps its registers.
+#[inline(never)]
+fn stands_in_place(tokens: &Measured<'_, '_>) -> bool
+    requires balanced { IsBalanced tokens.now.tokens }
+    ensures { IsTrue result → print tokens.now.tokens ≡ tokens.now.text }
+{
+    let source = tokens.source();
+    let mut lines = Lines::new(Columns::Found);
+    let mut at = 0;
+    while let Some(line) = lines.next(tokens) {
+        if lines.wrong {
+            return false;
+        }
+        for number in line.first..line.end {
+            let piece = line.piece(tokens, number);
+            if !goes_on(source, at, piece) {
+                return false;
+            }
+            at = piece.token.start + piece.token.text.len();
+        }
+    }
+    at == source.len() && lines.are_right()
+}
+
+/// Whether the print is found to be the source without reading ahead, as that of a formatted file is.
 pub fn is_found_formatted(accepted: &Accepted<'_, '_>) -> bool
     ensures { IsTrue result → print accepted.now.tokens ≡ accepted.now.text }
 {
-    stands_in_place(&Measured::unmeasured(accepted))
+    stands_in_place(&Measured::new(accepted))
 }
 
 /// Whether the print is the source: the bytes of the source are those of the print.
 pub fn is_formatted(accepted: &Accepted<'_, '_>) -> bool
     ensures { IsTrue result ↔ (print accepted.now.tokens ≡ accepted.now.text) }
 {
-    is_found_formatted(accepted) || agrees(&Measured::new(accepted))
+    let tokens = Measured::new(accepted);
+    stands_in_place(&tokens) || agrees(&tokens)
 }

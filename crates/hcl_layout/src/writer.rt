@@ -8,8 +8,8 @@ ghost use Rattle.hcl_layout.specs.Print.{print};
 
 use crate::buffer::{Buffer, Stretch};
 use crate::measured::Measured;
-use crate::piece::{Piece, goes_on};
-use crate::pieces::{next_piece, start};
+use crate::lines::{Columns, Lines, Piece};
+use crate::print::goes_on;
 use hcl_grammar::Accepted;
 use hcl_tokens::{ByteSink, WriteFault, write_fully};
 
@@ -284,22 +284,23 @@ fn finish<W: ByteSink>(
 /// A piece by itself.
 #[inline(always)]
 fn stretch_of(source: &[u8], piece: Piece<'_>) -> Stretch
-    requires source { IsFrom source.now piece.start piece.text.now }
+    requires source { IsFrom source.now piece.token.start piece.token.text.now }
     ensures same { stretched source.now result ≡ bytes_of piece.entry }
     ensures lies { Lies source.now result }
     ensures gap { result.gap ≡ piece.entry.gap }
-    ensures end { result.end ≡ piece.entry.start + length piece.entry.text.now }
-    ensures len { result.end ≡ result.start + length piece.entry.text.now }
+    ensures end { result.end ≡ piece.entry.token.start + length piece.entry.token.text.now }
+    ensures len { result.end ≡ result.start + length piece.entry.token.text.now }
 {
     Stretch {
         gap: piece.gap,
-        start: piece.start,
-        end: piece.start + piece.text.len(),
+        start: piece.token.start,
+        end: piece.token.start + piece.token.text.len(),
     }
 }
 
 /// Writes the print of accepted tokens to a sink that hasn't failed, in pieces of some KiB. A fault
 /// tells how many bytes went out: a front of the print. Nothing is flushed.
+#[inline(never)]
 pub fn emit<W: ByteSink>(accepted: &Accepted<'_, '_>, to: &mut W) -> Result<(), WriteFault>
     requires { W.failed to.old ≡ false }
     ensures ok { OnOk result (Appends (W.taken to.old) (W.taken to.new) (print accepted.now.tokens)) }
@@ -310,23 +311,26 @@ pub fn emit<W: ByteSink>(accepted: &Accepted<'_, '_>, to: &mut W) -> Result<(), 
 {
     let tokens = Measured::new(accepted);
     let source = tokens.source();
-    let mut pieces = start();
+    let mut lines = Lines::new(Columns::Ahead);
     let mut buffer = Buffer::new();
     let mut waiting = Stretch {
         gap: 0,
         start: 0,
         end: 0,
     };
-    while let Some(piece) = next_piece(&mut pieces, &tokens) {
-        let alone = stretch_of(source, piece);
-        if goes_on(source, waiting.end, piece) {
-            waiting.end = alone.end;
-            continue;
+    while let Some(line) = lines.next(&tokens) {
+        for number in line.first..line.end {
+            let piece = line.piece(&tokens, number);
+            let alone = stretch_of(source, piece);
+            if goes_on(source, waiting.end, piece) {
+                waiting.end = alone.end;
+                continue;
+            }
+            if let Err(fault) = put_stretch(to, &mut buffer, source, waiting) {
+                return Err(fault);
+            }
+            waiting = alone;
         }
-        if let Err(fault) = put_stretch(to, &mut buffer, source, waiting) {
-            return Err(fault);
-        }
-        waiting = alone;
     }
     finish(to, &mut buffer, source, waiting)
 }

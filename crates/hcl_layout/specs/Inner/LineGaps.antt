@@ -8,8 +8,18 @@ use Rattle.hcl_spacing.specs.Spacing.{asks_more}
 use Rattle.hcl_layout.specs.Lines.{Line}
 use Rattle.hcl_layout.specs.Cells.{trailing_comment}
 use Rattle.hcl_layout.specs.Gaps.{blanks, indent, width}
-use Rattle.hcl_layout.specs.declared.gap.Cell.{Cell}
-use Rattle.hcl_layout.specs.declared.gap.LineGaps.{LineGaps}
+
+-- a cell: its place in the line, the width before it, and the gap that then sets it into its column
+pub record Cell : Type 0 where
+  pub place : ℕ
+  pub width : ℕ
+  pub gap : ℕ
+
+-- what the gaps of a line go by
+pub record LineGaps : Type 0 where
+  pub level : ℕ
+  pub assign : Option Cell
+  pub comment : Option Cell
 
 -- the gap of the cell at its place, and else the other
 abbrev pub cell_gap : Option Cell → ℕ → ℕ → ℕ

@@ -9,8 +9,28 @@ use Rattle.hcl_layout.specs.Cells.{assign_cell, is_assignment, is_multiline, is_
 use Rattle.hcl_tokens.specs.Balanced.{is_closer, is_opener, max_open}
 use Rattle.hcl_grammar.specs.Items.{deepen}
 use Rattle.hcl_layout.specs.Inner.Depths.{BalancedFrom, depth_after}
-use Rattle.hcl_layout.specs.declared.line.Survey.{Survey}
-use Rattle.hcl_layout.specs.declared.line.LineFacts.{LineFacts}
+use Rattle.std.specs.Prelude.{option_map, ◌-◌}
+use Rattle.hcl_layout.specs.declared.line.Line.{Line as LineRead}
+use Rattle.hcl_layout.specs.declared.line.Seen.{Seen}
+
+-- what is known after a token of a line: how many were passed, the depth, whether an inline comment held a newline, the place
+-- of the trailing comment, the depth after what stands before it, and the place of the first sign and the depth before it
+pub record Survey : Type 0 where
+  pub len : ℕ
+  pub depth : ℕ
+  pub multiline : Bool
+  pub comment : Option ℕ
+  pub body_depth : ℕ
+  pub sign : Option ℕ
+  pub sign_depth : ℕ
+
+-- what a line is: its tokens, the depth after it, and the places of its cells
+pub record LineFacts : Type 0 where
+  pub len : ℕ
+  pub depth : ℕ
+  pub assign : Option ℕ
+  pub comment : Option ℕ
+  pub running : Option ℕ
 
 -- a token of the kind changes the depth, or may be or tear a cell
 abbrev pub changes : Kind → Bool
@@ -49,10 +69,6 @@ noted s t = record {
   sign_depth = if takes_sign s t then s.depth else s.sign_depth;
 }
 
--- up to a further length and with the depth there, before the trailing comment
-abbrev pub turned_to : Survey → ℕ → ℕ → Survey
-turned_to s len depth = record { len = len; depth = depth; multiline = s.multiline; comment = s.comment; body_depth = depth; sign = s.sign; sign_depth = s.sign_depth }
-
 -- after the rest of the line, `last` being the token before
 abbrev pub surveyed : Survey → Lexeme → List Lexeme → Survey
 surveyed s last [] = s
@@ -82,10 +98,6 @@ facts_of s = record { len = s.len; depth = s.depth; assign = assign_of s; commen
 abbrev pub text_at : List Lexeme → ℕ → LineFacts → Line
 text_at ts at f = take f.len (drop at ts)
 
--- an empty line, which is a newline by itself
-abbrev pub empty_line : ℕ → LineFacts
-empty_line d = record { len = 1; depth = d; assign = None; comment = None; running = None }
-
 -- the facts are those of the line at a place, where the depth is known
 pub record IsLine (ts : List Lexeme) (at d : ℕ) (f : LineFacts) : Type 0 where
   pub some : 0 < f.len
@@ -98,3 +110,31 @@ pub record IsLine (ts : List Lexeme) (at d : ℕ) (f : LineFacts) : Type 0 where
   pub assign : f.assign ≡ assign_cell (take f.len (drop at ts))
   pub comment : f.comment ≡ trailing_comment (take f.len (drop at ts))
   pub running : f.running ≡ running_comment (take f.len (drop at ts))
+
+-- ---- by numbers of tokens
+
+-- the depth before the comment
+abbrev pub body_of : Seen → ℕ → ℕ
+body_of s depth = if is_some s.comment then s.body_depth else depth
+
+-- what was passed of a line from its first token up to a number, with the depth there
+abbrev pub survey_of : Seen → ℕ → ℕ → ℕ → Survey
+survey_of s depth first number = record {
+  len = number - first;
+  depth = depth;
+  multiline = s.multiline;
+  comment = option_map (λ n. n - first) s.comment;
+  body_depth = body_of s depth;
+  sign = option_map (λ n. n - first) s.sign;
+  sign_depth = s.sign_depth;
+}
+
+-- what a line that was read is
+abbrev pub facts_in : LineRead → LineFacts
+facts_in l = record {
+  len = l.end - l.first;
+  depth = l.depth;
+  assign = option_map (λ n. n - l.first) l.sign;
+  comment = option_map (λ n. n - l.first) l.comment;
+  running = if not l.runs then None else option_map (λ n. n - l.first) l.comment;
+}

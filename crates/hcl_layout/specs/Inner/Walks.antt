@@ -8,8 +8,14 @@ use Rattle.hcl_layout.specs.Lines.{lines}
 use Rattle.hcl_layout.specs.Inner.Depths.{BalancedFrom, Sound}
 use Rattle.hcl_layout.specs.Inner.Stream.{assign_width, assign_widths, assigned_line, comment_column, comment_width, comment_widths}
 use Rattle.hcl_layout.specs.Inner.Survey.{text_at}
-use Rattle.hcl_layout.specs.declared.line.LineFacts.{LineFacts}
-use Rattle.hcl_layout.specs.declared.runs.Walk.{Walk}
+use Rattle.hcl_layout.specs.Inner.Survey.{LineFacts}
+
+-- what is known of the lines that were passed: the depth, the levels by depth, and the columns of the runs at hand
+pub record Walk : Type 0 where
+  pub depth : ℕ
+  pub levels : List ℕ
+  pub signs : Option ℕ
+  pub comments : Option ℕ
 
 -- what is left is balanced from the depth at hand on, and the levels fit it
 pub record Stands (ts : List Lexeme) (at d : ℕ) (levels : List ℕ) : Type 0 where

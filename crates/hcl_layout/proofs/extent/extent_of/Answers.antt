@@ -1,4 +1,6 @@
-use Rattle.std.proofs.Common.{arith}
+use Rattle.std.proofs.Common.{◌≡◌, ◌∙◌, ◌+◌, ◌-◌, arith, ap, subst, sym}
+use Rattle.hcl_layout.specs.Inner.Survey.{IsLine, facts_in}
+use Rattle.hcl_layout.proofs.WalkLemmas.{read_cut, read_rest, read_within}
 use Rattle.hcl_layout.proofs.extent.extent_of.Goals as goal
 
 pub returns-clause-few : goal.returns-clause-few

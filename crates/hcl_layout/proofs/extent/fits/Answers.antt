@@ -7,7 +7,3 @@ use Rattle.hcl_layout.proofs.extent.fits.Goals as goal
 pub is_bound_to_fit-requires : goal.is_bound_to_fit-requires
 is_bound_to_fit-requires c =
     record { balanced = balanced_from c.unmeasured-unmeasured.result.tokens (subst (λ (s : Scanned). IsBalanced s.tokens) (sym c.unmeasured-unmeasured.ensures.same) c.unmeasured-unmeasured.ensures.balanced) }
-
-pub is_told_to_fit-requires : goal.is_told_to_fit-requires
-is_told_to_fit-requires c =
-    record { balanced = balanced_from c.new-tokens.result.tokens (subst (λ (s : Scanned). IsBalanced s.tokens) (sym c.new-tokens.ensures.same) c.new-tokens.ensures.balanced) }

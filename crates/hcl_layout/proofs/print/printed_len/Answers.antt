@@ -1,17 +1,43 @@
-use Rattle.std.proofs.Common.{arith, ap, length, subst, sym}
-use Rattle.hcl_tokens.specs.Scanned.{Scanned}
+use Rattle.std.proofs.Common.{◌≡◌, ◌+◌, ap, arith, length, subst, sym}
+use Rattle.hcl_tokens.specs.Scanned.{Scanned, lexeme}
 use Rattle.hcl_tokens.specs.Balanced.{IsBalanced}
 use Rattle.hcl_layout.specs.Inner.Depths.{BalancedFrom}
+use Rattle.hcl_layout.specs.Inner.Laid.{gaps_after, left_on}
+use Rattle.hcl_layout.specs.declared.lines.Lines.{Lines}
 use Rattle.hcl_layout.proofs.BalanceLemmas.{balanced_from}
+use Rattle.hcl_layout.proofs.PrintedLemmas.{left_all, left_done, left_line, left_piece, piece_len}
+use Rattle.hcl_layout.proofs.WalkLemmas.{start_at}
 use Rattle.hcl_layout.proofs.print.printed_len.Goals as goal
 
-pub loop-piece-init : goal.loop-piece-init
-loop-piece-init c =
+pub loop-line-init : goal.loop-line-init
+loop-line-init c =
     let ts = c.new-tokens.result.tokens in
     let balanced : BalancedFrom 0 ts = balanced_from ts (subst (λ (s : Scanned). IsBalanced s.tokens) (sym c.new-tokens.ensures.same) c.new-tokens.ensures.balanced) in
+    let s = c.new-lines.result in
+    let e = c.new-lines.ensures in
+    let n = ap (λ (x : Lines). x.next) e in
+    let d = ap (λ (x : Lines). x.depth) e in
+    let v = ap (λ (x : Lines). x.levels) e in
+    let a = ap (λ (x : Lines). x.signs) e in
+    let b = ap (λ (x : Lines). x.comments) e in
     record {
-      ready = c.start-pieces.ensures.ready ts balanced;
-      whole = omega (arith, ap length (c.start-pieces.ensures.all ts balanced));
-      within = omega (arith, c.start-pieces.ensures.first);
-      small = omega (arith, c.start-pieces.ensures.first);
+      at = start_at ts s balanced c.source-source.ensures.bounded.tokens n d v a b;
+      ahead = ap (λ (x : Lines). x.columns) e;
+      whole = omega (arith, ap length (left_all ts s balanced n d v a b));
+      small = omega arith;
+    }
+
+pub loop-number-preserved : goal.loop-number-preserved
+loop-number-preserved c =
+    let ts = c.new-tokens.result.tokens in
+    let l = c.in-Some.line in
+    let rest = gaps_after ts c.next.new.self in
+    let n = c.loop-number.number in
+    let t = lexeme c.piece-piece.result.token in
+    let gap = c.piece-piece.result.gap in
+    let piece = piece_len (left_on ts l rest n) t.text (left_on ts l rest (n + 1)) gap (left_piece ts l rest n gap t c.piece-piece.ensures.token c.loop-number.invariant.order c.loop-number-test.true c.piece-piece.ensures.gap) in
+    record {
+      whole = omega (arith, piece, c.loop-number.invariant.whole);
+      small = omega (arith, c.loop-number.invariant.small, c.piece-piece.ensures.small, c.piece-piece.ensures.text);
+      order = omega (arith, c.loop-number.invariant.order);
     }

@@ -1,15 +1,23 @@
 use Rattle.std.proofs.Common.{◌≡◌, ◌≤◌, ◌+◌, ◌-◌, ◌*◌, ◌^◌, length}
-use Rattle.hcl_layout.specs.Inner.Left.{Ready, to_print}
+use Rattle.hcl_layout.specs.Inner.Laid.{IsAt, gaps_after, left_after, left_on}
 use Rattle.hcl_layout.specs.Print.{print}
+use Rattle.hcl_layout.specs.declared.lines.Columns.TheVariants.{Ahead}
 use Rattle.hcl_layout.proofs.print.printed_len.Given as goal
 
-abbrev pub invariant-loop-piece : goal.invariant-loop-piece
-invariant-loop-piece l = record {
-  ready : Ready l.tokens.tokens l.pieces;
-  whole : length (print l.tokens.tokens) ≡ l.len + length (to_print l.tokens.tokens l.pieces);
-  within : l.pieces.next ≤ length l.tokens.tokens;
-  small : l.len ≤ l.pieces.next * 2 ^ 35;
+abbrev pub invariant-loop-line : goal.invariant-loop-line
+invariant-loop-line l = record {
+  at : IsAt l.tokens.tokens l.lines;
+  ahead : l.lines.columns ≡ Ahead;
+  whole : length (print l.tokens.tokens) ≡ l.len + length (left_after l.tokens.tokens l.lines);
+  small : l.len ≤ l.lines.next * 2 ^ 35;
 }
 
-abbrev pub decreases-loop-piece : goal.decreases-loop-piece
-decreases-loop-piece l = length l.tokens.tokens - l.pieces.next
+abbrev pub decreases-loop-line : goal.decreases-loop-line
+decreases-loop-line l = length l.tokens.tokens - l.lines.next
+
+abbrev pub invariant-loop-number : goal.invariant-loop-number
+invariant-loop-number l = record {
+  whole : length (print l.tokens.tokens) ≡ l.len + length (left_on l.tokens.tokens l.line (gaps_after l.tokens.tokens l.lines) l.number);
+  small : l.len ≤ l.number * 2 ^ 35;
+  order : l.line.first ≤ l.number;
+}

@@ -4,5 +4,5 @@ use Rattle.hcl_layout.proofs.print.stands_at.Goals as goal
 
 pub returns-then-piece-at : goal.returns-then-piece-at
 returns-then-piece-at c =
-    let text = c.args.piece.text.now in
+    let text = c.args.piece.token.text.now in
     sym (front_text (drop c.args.at c.args.bytes.now) text (c.requires.source.0 ∙ ap (λ k. take (length text) (drop k c.args.bytes.now)) (c.if-piece-at.true)))

@@ -1,0 +1,154 @@
+-- A line as it is laid out, by numbers of tokens: its gaps, its widths, and the runs that go over it.
+use Rattle.std.specs.Prelude.{◌≡◌, ◌<◌, ◌≤◌, ◌+◌, ◌-◌, ◌^◌, ◌++◌, ◌==◌, ◌||◌, ℕ, Bool, true, false, not, List, Option, Some, None, IfSome, MatchOption, length, take, drop, max, nat_lt, option_map, if◌then◌else◌}
+use Rattle.std.specs.List.{flat_map}
+use Rattle.hcl_tokens.specs.Lexemes.{Lexeme}
+use Rattle.hcl_tokens.specs.Balanced.{max_open}
+use Rattle.hcl_layout.specs.Columns.{widest}
+use Rattle.hcl_layout.specs.Lines.{Line, lines}
+use Rattle.hcl_layout.specs.Gaps.{align, width}
+use Rattle.hcl_layout.specs.Cells.{assign_cell, running_comment, trailing_comment}
+use Rattle.hcl_layout.specs.Print.{printed_text}
+use Rattle.hcl_layout.specs.Inner.Depths.{depth_after, next_levels}
+use Rattle.hcl_layout.specs.Inner.Left.{token_before}
+use Rattle.hcl_layout.specs.Inner.LineGaps.{Cell, LineGaps, gaps_from}
+use Rattle.hcl_layout.specs.Inner.Stream.{assign_column, assign_width, assign_widths, comment_column, comment_widths, commented, plain}
+use Rattle.hcl_layout.specs.Inner.Walks.{HasCome, Walk}
+use Rattle.hcl_layout.specs.declared.line.Line.{Line as LineRead}
+use Rattle.hcl_layout.specs.declared.lines.Cell.{Cell as CellLaid}
+use Rattle.hcl_layout.specs.declared.lines.LaidLine.{LaidLine}
+use Rattle.hcl_layout.specs.declared.lines.Lines.{Lines}
+use Rattle.hcl_layout.specs.declared.lines.Run.{Run}
+
+-- ---- a line
+
+abbrev pub text_of : List Lexeme → LaidLine → Line
+text_of ts l = take (l.end - l.first) (drop l.first ts)
+
+-- a cell of the line, or none where its number is that of the end
+abbrev pub cell_of : LaidLine → CellLaid → Option Cell
+cell_of l c = if nat_lt c.number l.end then Some (record { place = c.number - l.first; width = c.width; gap = c.gap }) else None
+
+-- what its gaps go by
+abbrev pub shape : LaidLine → LineGaps
+shape l = record { level = l.level; assign = cell_of l l.sign; comment = cell_of l l.comment }
+
+pub record Laid (ts : List Lexeme) (l : LaidLine) : Type 0 where
+  pub some : l.first < l.end
+  pub within : l.end ≤ length ts
+  pub few : length ts ≤ 2 ^ 22
+  pub level : l.level ≤ max_open
+  pub sign_front : l.first < l.sign.number
+  pub comment_front : l.first < l.comment.number
+  pub sign_gap : l.sign.gap ≤ 2 ^ 33
+  pub comment_gap : l.comment.gap ≤ 2 ^ 34
+
+-- the line from a token on, its gaps, and the width there before a further token
+abbrev pub rest_of : List Lexeme → LaidLine → ℕ → Line
+rest_of ts l n = take (l.end - n) (drop n ts)
+
+abbrev pub gaps_on : List Lexeme → LaidLine → ℕ → List ℕ
+gaps_on ts l n = gaps_from (shape l) (n - l.first) (token_before ts l.first (n - 1)) (token_before ts l.first n) (rest_of ts l n)
+
+abbrev pub width_on : List Lexeme → LaidLine → ℕ → ℕ → ℕ
+width_on ts l n stop = width (stop - n) (gaps_on ts l n) (rest_of ts l n)
+
+-- it is the line that was read
+abbrev pub Spans : LaidLine → LineRead → Type 0
+Spans l r = (l.first ≡ r.first) × (l.end ≡ r.end)
+
+-- ---- the lines that were passed
+
+abbrev pub column_of : Option Run → Option ℕ
+column_of = option_map (λ (r : Run). r.column)
+
+abbrev pub walk_of : Lines → Walk
+walk_of s = record { depth = s.depth; levels = s.levels; signs = column_of s.signs; comments = column_of s.comments }
+
+-- they end before the next token
+pub record IsAt (ts : List Lexeme) (s : Lines) : Type 0 where
+  pub come : HasCome ts s.next (walk_of s)
+  pub within : s.next ≤ length ts
+  pub few : length ts ≤ 2 ^ 22
+
+-- a line more was passed, whatever its cells
+pub record Moves (old : Lines) (r : LineRead) (new : Lines) : Type 0 where
+  pub next : new.next ≡ r.end
+  pub depth : new.depth ≡ r.depth
+  pub levels : new.levels ≡ next_levels old.depth r.depth old.levels
+  pub columns : new.columns ≡ old.columns
+
+-- ---- runs
+
+-- a run that ends was taken for another column
+abbrev pub ends_wrong : Option Run → Bool
+ends_wrong None = false
+ends_wrong (Some r) = not (r.column == r.greatest)
+
+-- that of a line with such a width before the cell, or without one
+abbrev pub ends_wrong_at : Option Run → Option ℕ → Bool
+ends_wrong_at run None = ends_wrong run
+ends_wrong_at run (Some own) = false
+
+abbrev pub greatest_of : Option Run → ℕ → ℕ
+greatest_of None own = own
+greatest_of (Some r) own = max r.greatest own
+
+-- a run goes over such a line: its column is kept and its greatest width grows, or it ends
+abbrev pub Grows : Option Run → Option ℕ → Option Run → Type 0
+Grows run None new = new ≡ None
+Grows run (Some own) new = MatchOption new ⊥ (λ r. (r.greatest ≡ greatest_of run own) × IfSome run (λ o. r.column ≡ o.column))
+
+-- ---- a line that is passed
+
+-- without its cells, which its end stands for
+abbrev pub none_at : ℕ → CellLaid
+none_at end = record { number = end; width = 0; gap = 0 }
+
+abbrev pub bare_line : LineRead → ℕ → LaidLine
+bare_line r level = record { first = r.first; end = r.end; level = level; sign = none_at r.end; comment = none_at r.end }
+
+-- its gaps with its sign in the column of the run, whatever that is, and with its comment in that of its run too
+abbrev pub signed_gaps : Lines → Lines → Line → List ℕ
+signed_gaps old new l = align assign_cell (plain old.depth old.levels l) l (column_of new.signs)
+
+abbrev pub laid_gaps : Lines → Lines → Line → List ℕ
+laid_gaps old new l = align trailing_comment (signed_gaps old new l) l (column_of new.comments)
+
+-- the columns are those of the definition
+abbrev pub IsSignAhead : List Lexeme → Lines → Lines → Type 0
+IsSignAhead ts old new = column_of new.signs ≡ assign_column old.depth old.levels (column_of old.signs) (lines (drop old.next ts))
+
+abbrev pub IsCommentAhead : List Lexeme → Lines → Lines → Type 0
+IsCommentAhead ts old new = column_of new.comments ≡ comment_column old.depth old.levels (column_of old.signs) (column_of old.comments) (lines (drop old.next ts))
+
+-- both runs go over it
+pub record RunsGrow (old : Lines) (l : Line) (new : Lines) : Type 0 where
+  pub signs : Grows old.signs (assign_width old.depth old.levels l) new.signs
+  pub comments : Grows old.comments (option_map (λ i. width i (signed_gaps old new l) l) (running_comment l)) new.comments
+  pub wrong : new.wrong ≡ (old.wrong || ends_wrong_at old.signs (assign_cell l) || ends_wrong_at old.comments (running_comment l))
+
+-- ---- what is left to print
+
+-- the gaps of the lines that follow
+abbrev pub gaps_after : List Lexeme → Lines → List ℕ
+gaps_after ts s = flat_map (λ g. g) (commented s.depth s.levels (column_of s.signs) (column_of s.comments) (lines (drop s.next ts)))
+
+abbrev pub left_after : List Lexeme → Lines → List ℕ
+left_after ts s = printed_text (gaps_after ts s) (drop s.next ts)
+
+-- and those of the line at hand from a token on
+abbrev pub left_on : List Lexeme → LaidLine → List ℕ → ℕ → List ℕ
+left_on ts l rest n = printed_text (gaps_on ts l n ++ rest) (drop n ts)
+
+-- ---- right columns
+
+-- the column of a run is its greatest width: of the widths that were passed and of those that follow
+abbrev pub IsRight : Option Run → List (Option ℕ) → Type 0
+IsRight run widths = IfSome run (λ r. r.column ≡ max r.greatest (widest widths))
+
+abbrev pub AreRight : List Lexeme → Lines → Type 0
+AreRight ts s = IsRight s.signs (assign_widths s.depth s.levels (lines (drop s.next ts))) × IsRight s.comments (comment_widths s.depth s.levels (column_of s.signs) (lines (drop s.next ts)))
+
+-- where they are right after the line, they are before it, and the line stands in them
+abbrev pub GoesBack : List Lexeme → Lines → LaidLine → Lines → Type 0
+GoesBack ts old l new = new.wrong ≡ false → AreRight ts new → (old.wrong ≡ false) × AreRight ts old × (gaps_after ts old ≡ gaps_on ts l l.first ++ gaps_after ts new)

@@ -1,0 +1,546 @@
+//! The lines, one after another, each with its level and its cells in the columns of their runs.
+ghost use Rattle.std.specs.Prelude.{◌≡◌, ◌<◌, ◌≤◌, ◌+◌, ◌-◌, ◌^◌, ◌||◌, ◌==◌, ◌*◌, not, length, slice_get, false, Some, None, IfSome, IfNone, ℕ, List, option_map, [], ◌∷◌, ◌++◌};
+ghost use Rattle.hcl_tokens.specs.Lexemes.{Lexeme};
+ghost use Rattle.hcl_tokens.specs.Scanned.{lexeme};
+ghost use Rattle.hcl_tokens.specs.Balanced.{max_open};
+ghost use Rattle.hcl_layout.specs.Cells.{assign_cell};
+ghost use Rattle.hcl_layout.specs.Columns.{widest};
+ghost use Rattle.hcl_layout.specs.Gaps.{indent as indent_of, plain_gaps, width as width_of};
+ghost use Rattle.hcl_layout.specs.Inner.Depths.{Sound, fresh, level_at};
+ghost use Rattle.hcl_layout.specs.Inner.Laid.{GoesBack, Grows, IsAt, IsCommentAhead, IsSignAhead, Laid, Moves, RunsGrow, Spans, bare_line, column_of, ends_wrong, ends_wrong_at, greatest_of, gaps_after, gaps_on, laid_gaps, left_after, shape, signed_gaps, text_of, walk_of, width_on};
+ghost use Rattle.hcl_layout.specs.Inner.Left.{gap_before, plain_gap_before, token_before};
+ghost use Rattle.hcl_layout.specs.Inner.LineGaps.{IsSigned, IsUntoldAt, gaps_in, plain_of};
+ghost use Rattle.hcl_layout.specs.Inner.Simple.{IsFrom};
+ghost use Rattle.hcl_layout.specs.Inner.Stream.{assign_width, next_of};
+ghost use Rattle.hcl_layout.specs.Inner.Survey.{IsLine, facts_in};
+ghost use Rattle.hcl_layout.specs.Inner.Walks.{comment_widths_at, sign_widths_at};
+ghost use Rattle.hcl_layout.specs.declared.lines.Columns.TheVariants.{Ahead};
+
+use crate::levels::{DEPTHS, next_level};
+use crate::line::{Line, line_at};
+use crate::measured::Measured;
+use hcl_spacing::{space_by_kinds, space_by_texts};
+use hcl_tokens::{Kind, Token};
+
+/// A cell: the number of its token, the width before it, and the gap that sets it into its column. Where a line has none, that is
+/// a cell after its end.
+#[derive(Clone, Copy)]
+pub struct Cell {
+    pub number: usize,
+    pub width: u64,
+    pub gap: u64,
+}
+
+/// A line as it is printed.
+#[derive(Clone, Copy)]
+pub struct LaidLine {
+    pub first: usize,
+    pub end: usize,
+    pub level: u32,
+    pub sign: Cell,
+    pub comment: Cell,
+}
+
+/// A token with the blanks before it.
+#[derive(Clone, Copy)]
+pub struct Piece<'s> {
+    pub gap: u64,
+    pub token: Token<'s>,
+}
+
+/// How the column of a run is come by at its first line: the lines ahead are measured, or it is where the cell stands in the
+/// source.
+#[derive(Clone, Copy)]
+pub enum Columns {
+    Ahead,
+    Found,
+}
+
+/// A run of cells at hand: its column, and the greatest width so far. In the end the two are equal, or the column was not
+/// that of the run.
+#[derive(Clone, Copy)]
+pub struct Run {
+    pub column: u64,
+    pub greatest: u64,
+}
+
+/// What is known of the lines that were passed.
+#[derive(Clone, Copy)]
+pub struct Lines {
+    pub next: usize,
+    pub depth: u32,
+    pub levels: [u32; DEPTHS],
+    pub signs: Option<Run>,
+    pub comments: Option<Run>,
+    pub columns: Columns,
+    /// A run had another column.
+    pub wrong: bool,
+}
+
+#[inline(always)]
+fn is_wrong(run: Option<Run>) -> bool
+    ensures { result ≡ ends_wrong run }
+{
+    let Some(run) = run else {
+        return false;
+    };
+    run.column != run.greatest
+}
+
+/// The run with a further line of that width before the cell.
+#[inline(always)]
+fn widened(column: u64, run: Option<Run>, width: u64) -> Run
+    ensures column { result.column ≡ column }
+    ensures greatest { result.greatest ≡ greatest_of run width }
+{
+    let Some(run) = run else {
+        return Run {
+            column,
+            greatest: width,
+        };
+    };
+    Run {
+        column,
+        greatest: run.greatest.max(width),
+    }
+}
+
+/// The column in which a cell stands in the source, before which a line is so wide.
+#[inline(always)]
+fn found_column(tokens: &Measured<'_, '_>, number: usize, width: u64) -> u64
+    requires within { number < length tokens.now.tokens }
+    requires after { 0 < number }
+    requires narrow { width < 2 ^ 34 }
+    ensures order { width ≤ result }
+    ensures small { result ≤ width + 2 ^ 22 }
+{
+    let before = tokens.get(number - 1);
+    let gap = tokens
+        .get(number)
+        .start
+        .saturating_sub(before.start + before.text.len());
+    width + (gap as u64).saturating_sub(1)
+}
+
+/// No cell, in a line with this end.
+#[inline(always)]
+fn no_cell(end: usize) -> Cell
+    ensures { result ≡ record { number = end; width = 0; gap = 0 } }
+{
+    Cell {
+        number: end,
+        width: 0,
+        gap: 0,
+    }
+}
+
+#[inline(always)]
+fn token_before<'s>(tokens: &Measured<'_, 's>, first: usize, number: usize) -> Option<Token<'s>>
+    requires { number ≤ length tokens.now.tokens }
+    ensures { option_map lexeme result ≡ token_before tokens.now.tokens first number }
+{
+    if first < number {
+        return Some(tokens.get(number - 1));
+    }
+    None
+}
+
+/// The blank before a token where the kinds of the two don't tell it.
+#[inline(never)]
+fn asked_gap(tokens: &Measured<'_, '_>, first: usize, number: usize) -> u64
+    requires within { number < length tokens.now.tokens }
+    requires after { first < number }
+    requires untold { IsUntoldAt tokens.now.tokens number }
+    ensures { (level : ℕ) (t : Lexeme) → slice_get tokens.now.tokens number ≡ Some t → result ≡ plain_gap_before tokens.now.tokens level first number t }
+{
+    let token = tokens.get(number);
+    let subject = tokens.get(number - 1);
+    let before = token_before(tokens, first, number - 1);
+    u64::from(space_by_texts(before, subject, token))
+}
+
+#[inline(always)]
+fn indent(level: u32, token: Token<'_>) -> u64
+    requires { level ≤ max_open }
+    ensures { result ≡ indent_of level (lexeme token.entry) }
+{
+    if matches!(token.kind, Kind::Newline) || token.inside_heredoc {
+        return 0;
+    }
+    2 * u64::from(level)
+}
+
+/// The blank before a token of a line that isn't its first.
+#[inline(always)]
+fn gap_after(tokens: &Measured<'_, '_>, first: usize, number: usize, token: Token<'_>) -> u64
+    requires there { slice_get tokens.now.tokens number ≡ Some (lexeme token) }
+    requires within { number < length tokens.now.tokens }
+    requires after { first < number }
+    ensures { (level : ℕ) → result ≡ plain_gap_before tokens.now.tokens level first number (lexeme token.entry) }
+{
+    match space_by_kinds(tokens.get(number - 1), token) {
+        Some(space) => u64::from(space),
+        None => asked_gap(tokens, first, number),
+    }
+}
+
+impl LaidLine {
+    /// The blanks before a token by the level and the spacing alone.
+    #[inline(always)]
+    fn plain_gap(self, tokens: &Measured<'_, '_>, number: usize, token: Token<'_>) -> u64
+        requires there { slice_get tokens.now.tokens number ≡ Some (lexeme token) }
+        requires laid { Laid tokens.now.tokens self }
+        requires order { self.first ≤ number }
+        requires within { number < length tokens.now.tokens }
+        ensures { result ≡ plain_gap_before tokens.now.tokens self.level self.first number (lexeme token.entry) }
+    {
+        if self.first < number {
+            return gap_after(tokens, self.first, number, token);
+        }
+        indent(self.level, token)
+    }
+
+    /// The blanks before a token.
+    #[inline(always)]
+    fn gap(self, tokens: &Measured<'_, '_>, number: usize, token: Token<'_>) -> u64
+        requires there { slice_get tokens.now.tokens number ≡ Some (lexeme token) }
+        requires laid { Laid tokens.now.tokens self }
+        requires order { self.first ≤ number }
+        requires within { number < self.end }
+        ensures value { result ≡ gap_before tokens.now.tokens (shape self) self.first number (lexeme token.entry) }
+        ensures small { result ≤ 2 ^ 34 }
+    {
+        if number == self.comment.number {
+            return self.comment.gap;
+        }
+        if number == self.sign.number {
+            return self.sign.gap;
+        }
+        self.plain_gap(tokens, number, token)
+    }
+
+    /// A token of the line with the blanks before it.
+    #[inline(always)]
+    pub fn piece<'s>(self, tokens: &Measured<'_, 's>, number: usize) -> Piece<'s>
+        requires laid { Laid tokens.now.tokens self }
+        requires order { self.first ≤ number }
+        requires within { number < self.end }
+        ensures gap { result.gap ≡ gap_before tokens.now.tokens (shape self) self.first number (lexeme result.token) }
+        ensures small { result.gap ≤ 2 ^ 34 }
+        ensures token { slice_get tokens.now.tokens number ≡ Some (lexeme result.token) }
+        ensures source { IsFrom tokens.now.text result.token.start result.token.text.now }
+        ensures text { length result.token.text.now < 2 ^ 32 }
+    {
+        let token = tokens.get(number);
+        Piece {
+            gap: self.gap(tokens, number, token),
+            token,
+        }
+    }
+
+    /// The width before a token, on from another before which it is known.
+    #[inline(always)]
+    fn width(self, tokens: &Measured<'_, '_>, from: usize, sum: u64, number: usize) -> u64
+        requires laid { Laid tokens.now.tokens self }
+        requires begins { self.first ≤ from }
+        requires order { from ≤ number }
+        requires within { number ≤ self.end }
+        requires narrow { sum + width_on tokens.now.tokens self from number < 2 ^ 35 }
+        ensures { result ≡ sum + width_on tokens.now.tokens self from number }
+    {
+        let mut sum = sum;
+        for k in from..number {
+            let token = tokens.get(k);
+            sum += self.gap(tokens, k, token) + tokens.clusters(token);
+        }
+        sum
+    }
+
+    /// The width before a sign, where no cell is set yet.
+    #[inline(always)]
+    fn sign_width(self, tokens: &Measured<'_, '_>, number: usize) -> u64
+        requires laid { Laid tokens.now.tokens self }
+        requires bare { shape self ≡ plain_of self.level }
+        requires order { self.first ≤ number }
+        requires within { number ≤ self.end }
+        ensures value { result ≡ width_of (number - self.first) (plain_gaps self.level (text_of tokens.now.tokens self)) (text_of tokens.now.tokens self) }
+        ensures small { result ≤ 2 ^ 24 }
+    {
+        // so the texts are short
+        let _count = tokens.len();
+        self.width(tokens, self.first, 0, number)
+    }
+
+    /// The width before a comment, where the sign is set.
+    #[inline(always)]
+    fn comment_width(self, tokens: &Measured<'_, '_>, number: usize) -> u64
+        requires laid { Laid tokens.now.tokens self }
+        requires signed { IsSigned (shape self) (text_of tokens.now.tokens self) }
+        requires order { self.first ≤ number }
+        requires within { number < self.end }
+        ensures value { result ≡ width_of (number - self.first) (gaps_in (shape self) (text_of tokens.now.tokens self)) (text_of tokens.now.tokens self) }
+        ensures narrow { result ≤ 2 ^ 33 + 2 ^ 24 }
+    {
+        // so the texts are short
+        let _count = tokens.len();
+        if self.sign.number < number {
+            return self.width(tokens, self.sign.number, self.sign.width, number);
+        }
+        self.width(tokens, self.first, 0, number)
+    }
+
+    /// With its sign, before which the line is so wide, in a column.
+    #[inline(always)]
+    fn with_sign(self, number: usize, width: u64, column: u64) -> LaidLine
+        requires fits { column < 2 ^ 33 }
+        ensures { result ≡ record { first = self.first; end = self.end; level = self.level; sign = record { number = number; width = width; gap = column - width + 1 }; comment = self.comment } }
+    {
+        LaidLine {
+            sign: cell_at(number, width, column),
+            ..self
+        }
+    }
+
+    /// With its comment, before which the line is so wide, in a column.
+    #[inline(always)]
+    fn with_comment(self, number: usize, width: u64, column: u64) -> LaidLine
+        requires fits { column < 2 ^ 34 }
+        ensures { result ≡ record { first = self.first; end = self.end; level = self.level; sign = self.sign; comment = record { number = number; width = width; gap = column - width + 1 } } }
+    {
+        LaidLine {
+            comment: cell_at(number, width, column),
+            ..self
+        }
+    }
+}
+
+/// A cell in a column.
+#[inline(always)]
+fn cell_at(number: usize, width: u64, column: u64) -> Cell
+    requires fits { column < 2 ^ 34 }
+    ensures { result ≡ record { number = number; width = width; gap = column - width + 1 } }
+{
+    Cell {
+        number,
+        width,
+        gap: column.saturating_sub(width) + 1,
+    }
+}
+
+impl Lines {
+    pub fn new(columns: Columns) -> Lines
+        ensures { result ≡ record { next = 0; depth = 0; levels = fresh; signs = None; comments = None; columns = columns; wrong = false } }
+    {
+        Lines {
+            next: 0,
+            depth: 0,
+            levels: [0; DEPTHS],
+            signs: None,
+            comments: None,
+            columns,
+            wrong: false,
+        }
+    }
+
+    /// Whether no run had another column than it was taken for, at the end of the text.
+    pub fn are_right(&self) -> bool
+        ensures { result ≡ not (self.now.wrong || ends_wrong self.now.signs || ends_wrong self.now.comments) }
+    {
+        !(self.wrong || is_wrong(self.signs) || is_wrong(self.comments))
+    }
+
+    /// Passes a line but for its cells.
+    #[inline(always)]
+    fn pass(&mut self, line: Line) -> LaidLine
+        requires before { self.old.depth ≤ max_open }
+        requires now { line.depth ≤ max_open }
+        requires sound { Sound self.old.depth self.old.levels }
+        ensures moved { Moves self.old line self.new }
+        ensures kept { (self.new.signs ≡ self.old.signs) × (self.new.comments ≡ self.old.comments) × (self.new.wrong ≡ self.old.wrong) }
+        ensures sound { Sound line.depth self.new.levels }
+        ensures laid { result ≡ bare_line line (level_at self.old.depth line.depth self.old.levels) }
+        ensures small { result.level ≤ max_open }
+    {
+        let level = next_level(&mut self.levels, self.depth, line.depth);
+        self.depth = line.depth;
+        self.next = line.end;
+        LaidLine {
+            first: line.first,
+            end: line.end,
+            level,
+            sign: no_cell(line.end),
+            comment: no_cell(line.end),
+        }
+    }
+
+    /// The greatest width before the signs of the run that goes on with the next line.
+    #[inline(never)]
+    fn signs_ahead(&self, tokens: &Measured<'_, '_>) -> u64
+        requires at { IsAt tokens.now.tokens self.now }
+        ensures value { result ≡ widest (sign_widths_at (walk_of self.now) tokens.now.tokens self.now.next) }
+        ensures small { result ≤ 2 ^ 24 }
+    {
+        let mut ahead = *self;
+        let mut greatest = 0;
+        while ahead.next < tokens.len() {
+            let line = line_at(tokens, ahead.next, ahead.depth);
+            let Some(number) = line.sign else {
+                return greatest;
+            };
+            greatest = greatest.max(ahead.pass(line).sign_width(tokens, number));
+        }
+        greatest
+    }
+
+    /// The column of a sign before which a line is so wide, where the next line begins after it.
+    #[inline(always)]
+    fn sign_column(&self, tokens: &Measured<'_, '_>, number: usize, width: u64) -> u64
+        requires at { IsAt tokens.now.tokens self.now }
+        requires within { number < length tokens.now.tokens }
+        requires after { 0 < number }
+        requires narrow { width ≤ 2 ^ 24 }
+        ensures kept { IfSome self.now.signs (λ r. result ≡ r.column) }
+        ensures ahead { self.now.columns ≡ Ahead → Some result ≡ next_of (column_of self.now.signs) (Some width ∷ sign_widths_at (walk_of self.now) tokens.now.tokens self.now.next) }
+        ensures small { result < 2 ^ 33 }
+    {
+        if let Some(run) = self.signs {
+            return run.column;
+        }
+        match self.columns {
+            Columns::Ahead => width.max(self.signs_ahead(tokens)),
+            Columns::Found => found_column(tokens, number, width),
+        }
+    }
+
+    /// Passes a line but for its comment.
+    #[inline(always)]
+    fn pass_sign(&mut self, tokens: &Measured<'_, '_>, line: Line) -> LaidLine
+        requires at { IsAt tokens.now.tokens self.old }
+        requires first { line.first ≡ self.old.next }
+        requires line { IsLine tokens.now.tokens self.old.next self.old.depth (facts_in line) }
+        ensures spans { Spans result line }
+        ensures laid { Laid tokens.now.tokens result }
+        ensures signed { IsSigned (shape result) (text_of tokens.now.tokens result) }
+        ensures gaps { gaps_in (shape result) (text_of tokens.now.tokens result) ≡ signed_gaps self.old self.new (text_of tokens.now.tokens result) }
+        ensures moved { Moves self.old line self.new × IsAt tokens.now.tokens self.new × (self.new.comments ≡ self.old.comments) }
+        ensures grows { Grows self.old.signs (assign_width self.old.depth self.old.levels (text_of tokens.now.tokens result)) self.new.signs }
+        ensures wrong { self.new.wrong ≡ (self.old.wrong || ends_wrong_at self.old.signs (assign_cell (text_of tokens.now.tokens result))) }
+        ensures ahead { self.old.columns ≡ Ahead → IsSignAhead tokens.now.tokens self.old self.new }
+    {
+        let laid = self.pass(line);
+        let Some(number) = line.sign else {
+            self.end_signs();
+            return laid;
+        };
+        let width = laid.sign_width(tokens, number);
+        let column = self.sign_column(tokens, number, width);
+        self.signs = Some(widened(column, self.signs, width));
+        laid.with_sign(number, width, column)
+    }
+
+    /// The greatest width before the comments of the run that goes on with the next line.
+    #[inline(never)]
+    fn comments_ahead(&self, tokens: &Measured<'_, '_>) -> u64
+        requires at { IsAt tokens.now.tokens self.now }
+        requires ahead { self.now.columns ≡ Ahead }
+        ensures value { result ≡ widest (comment_widths_at (walk_of self.now) tokens.now.tokens self.now.next) }
+        ensures small { result < 2 ^ 34 }
+    {
+        let mut ahead = *self;
+        let mut greatest = 0;
+        while ahead.next < tokens.len() {
+            let line = line_at(tokens, ahead.next, ahead.depth);
+            let Some(number) = line.running() else {
+                return greatest;
+            };
+            let laid = ahead.pass_sign(tokens, line);
+            greatest = greatest.max(laid.comment_width(tokens, number));
+        }
+        greatest
+    }
+
+    /// The column of a comment before which a line is so wide, where the next line begins after it.
+    #[inline(always)]
+    fn comment_column(&self, tokens: &Measured<'_, '_>, number: usize, width: u64) -> u64
+        requires at { IsAt tokens.now.tokens self.now }
+        requires within { number < length tokens.now.tokens }
+        requires after { 0 < number }
+        requires narrow { width ≤ 2 ^ 33 + 2 ^ 24 }
+        ensures kept { IfSome self.now.comments (λ r. result ≡ r.column) }
+        ensures ahead { self.now.columns ≡ Ahead → Some result ≡ next_of (column_of self.now.comments) (Some width ∷ comment_widths_at (walk_of self.now) tokens.now.tokens self.now.next) }
+        ensures small { result < 2 ^ 34 }
+    {
+        if let Some(run) = self.comments {
+            return run.column;
+        }
+        match self.columns {
+            Columns::Ahead => width.max(self.comments_ahead(tokens)),
+            Columns::Found => found_column(tokens, number, width),
+        }
+    }
+
+    /// Ends the run of comments.
+    #[inline(always)]
+    fn end_comments(&mut self)
+        ensures { self.new ≡ record { next = self.old.next; depth = self.old.depth; levels = self.old.levels; signs = self.old.signs; comments = None; columns = self.old.columns; wrong = self.old.wrong || ends_wrong self.old.comments } }
+    {
+        self.wrong = self.wrong || is_wrong(self.comments);
+        self.comments = None;
+    }
+
+    /// Ends the run of signs.
+    #[inline(always)]
+    fn end_signs(&mut self)
+        ensures { self.new ≡ record { next = self.old.next; depth = self.old.depth; levels = self.old.levels; signs = None; comments = self.old.comments; columns = self.old.columns; wrong = self.old.wrong || ends_wrong self.old.signs } }
+    {
+        self.wrong = self.wrong || is_wrong(self.signs);
+        self.signs = None;
+    }
+
+    /// Passes a line, and gives it with both cells in their columns.
+    #[inline(always)]
+    fn pass_line(&mut self, tokens: &Measured<'_, '_>, line: Line) -> LaidLine
+        requires at { IsAt tokens.now.tokens self.old }
+        requires first { line.first ≡ self.old.next }
+        requires line { IsLine tokens.now.tokens self.old.next self.old.depth (facts_in line) }
+        ensures spans { Spans result line }
+        ensures laid { Laid tokens.now.tokens result }
+        ensures gaps { gaps_in (shape result) (text_of tokens.now.tokens result) ≡ laid_gaps self.old self.new (text_of tokens.now.tokens result) }
+        ensures moved { Moves self.old line self.new × IsAt tokens.now.tokens self.new }
+        ensures runs { RunsGrow self.old (text_of tokens.now.tokens result) self.new }
+        ensures ahead_sign { self.old.columns ≡ Ahead → IsSignAhead tokens.now.tokens self.old self.new }
+        ensures ahead_comment { self.old.columns ≡ Ahead → IsCommentAhead tokens.now.tokens self.old self.new }
+    {
+        let laid = self.pass_sign(tokens, line);
+        let Some(number) = line.comment else {
+            self.end_comments();
+            return laid;
+        };
+        let width = laid.comment_width(tokens, number);
+        if !line.runs {
+            self.end_comments();
+            return laid.with_comment(number, width, width);
+        }
+        let column = self.comment_column(tokens, number, width);
+        self.comments = Some(widened(column, self.comments, width));
+        laid.with_comment(number, width, column)
+    }
+
+    /// The next line.
+    #[inline(always)]
+    pub fn next(&mut self, tokens: &Measured<'_, '_>) -> Option<LaidLine>
+        requires at { IsAt tokens.now.tokens self.old }
+        ensures done { IfNone result (left_after tokens.now.tokens self.old ≡ []) }
+        ensures laid { IfSome result (λ l. Laid tokens.now.tokens l × (l.first ≡ self.old.next) × (l.end ≡ self.new.next)) }
+        ensures at { IsAt tokens.now.tokens self.new × (self.new.columns ≡ self.old.columns) }
+        ensures end { IfNone result ((self.new ≡ self.old) × (self.old.next ≡ length tokens.now.tokens)) }
+        ensures right { IfSome result (λ l. GoesBack tokens.now.tokens self.old l self.new) }
+        ensures left { self.old.columns ≡ Ahead → IfSome result (λ l. gaps_after tokens.now.tokens self.old ≡ gaps_on tokens.now.tokens l l.first ++ gaps_after tokens.now.tokens self.new) }
+    {
+        if self.next == tokens.len() {
+            return None;
+        }
+        let line = line_at(tokens, self.next, self.depth);
+        Some(self.pass_line(tokens, line))
+    }
+}
