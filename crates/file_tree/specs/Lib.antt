@@ -4,5 +4,7 @@ pub mod FaultTexts
 pub mod Files
 pub mod Finds
 pub mod Inner
+pub mod Modes
 pub mod Names
 pub mod Paths
+pub mod Quotes

@@ -66,6 +66,8 @@ pub trait Tree {
         new: &[u8],
         writing: Writing,
     ) -> Result<(), TreeFault>
+        // The old bytes are those that the file has, where the device tells them.
+        requires old { Tells ((files self.old).told ((files self.old).real name.now)) old.now }
         ensures ok { OnOk result (files self.new ≡ put (files self.old) ((files self.old).real name.now) new.now) }
         ensures err { OnErr result (files self.new ≡ files self.old) }
         ensures faults { faults self.new ≡ with_fault (faults self.old) (fault_of result) };

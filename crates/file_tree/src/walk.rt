@@ -3,8 +3,8 @@
 ghost use Rattle.std.specs.Prelude.{◌≡◌, [], IfOk, List, OnOk, map};
 ghost use Rattle.file_tree.specs.Below.{is_met};
 ghost use Rattle.file_tree.specs.Files.{Name};
-ghost use Rattle.file_tree.specs.Finds.{Finds};
-ghost use Rattle.file_tree.specs.Inner.Walking.{Adds, Enters, Orders, TakesAll, TakesEntry, TakesFolder, TakesGiven, TakesIf, TakesKind, TakesKindGiven, TakesMet, Walked, reached};
+ghost use Rattle.file_tree.specs.Finds.{AreReal, Finds};
+ghost use Rattle.file_tree.specs.Inner.Walking.{Adds, Enters, Hears, Orders, TakesAll, TakesEntry, TakesFolder, TakesGiven, TakesIf, TakesKind, TakesKindGiven, TakesMet, Walked, reached};
 ghost use Rattle.file_tree.specs.Names.{is_taken};
 
 use crate::fault::TreeFault;
@@ -86,6 +86,7 @@ impl Walk {
     }
 
     /// Looks at what stands in a folder under a name that isn't passed over.
+    #[tactic(auto, using(crate::proofs::HearLemmas::heard_met, crate::proofs::HearLemmas::heard_fault))]
     fn take_met<T: Tree>(
         &mut self,
         alloc: Global,
@@ -96,6 +97,7 @@ impl Walk {
         // Nothing is changed.
         ensures files { T.files tree.new ≡ T.files tree.old }
         ensures takes { OnOk result (TakesMet (T.files tree.old) folder.now name.now (reached self.old) (reached self.new)) }
+        ensures hears { OnOk result (Hears (reached self.old).found (reached self.new).found (T.faults tree.old) (T.faults tree.new)) }
     {
         let path = joined(alloc, folder, name)?;
         match tree.entry_kind(path.as_slice()) {
@@ -105,6 +107,7 @@ impl Walk {
     }
 
     /// Looks at what stands in a folder under a name.
+    #[tactic(auto, using(crate::proofs::HearLemmas::hears_none, crate::proofs::HearLemmas::heard_after))]
     fn take_entry<T: Tree>(
         &mut self,
         alloc: Global,
@@ -115,6 +118,7 @@ impl Walk {
         // Nothing is changed.
         ensures files { T.files tree.new ≡ T.files tree.old }
         ensures takes { OnOk result (TakesEntry (T.files tree.old) folder.now name.now (reached self.old) (reached self.new)) }
+        ensures hears { OnOk result (Hears (reached self.old).found (reached self.new).found (T.faults tree.old) (T.faults tree.new)) }
     {
         if !is_met(name) {
             return Ok(());
@@ -133,6 +137,7 @@ impl Walk {
         // Nothing is changed.
         ensures files { T.files tree.new ≡ T.files tree.old }
         ensures takes { OnOk result (TakesAll (T.files tree.old) folder.now (map (λ name. name.now) names.now) (reached self.old) (reached self.new)) }
+        ensures hears { OnOk result (Hears (reached self.old).found (reached self.new).found (T.faults tree.old) (T.faults tree.new)) }
     {
         for name in names {
             self.take_entry(alloc, folder, name, tree)?;
@@ -141,6 +146,7 @@ impl Walk {
     }
 
     /// Looks at all that stands in a folder.
+    #[tactic(auto, using(crate::proofs::HearLemmas::heard_after, crate::proofs::HearLemmas::heard_fault))]
     fn take_folder<T: Tree>(
         &mut self,
         alloc: Global,
@@ -150,6 +156,7 @@ impl Walk {
         // Nothing is changed.
         ensures files { T.files tree.new ≡ T.files tree.old }
         ensures takes { OnOk result (TakesFolder (T.files tree.old) folder.now (reached self.old) (reached self.new)) }
+        ensures hears { OnOk result (Hears (reached self.old).found (reached self.new).found (T.faults tree.old) (T.faults tree.new)) }
     {
         let place = place(folder);
         match tree.listing(place) {
@@ -177,6 +184,7 @@ impl Walk {
     }
 
     /// Takes a name that was given.
+    #[tactic(auto, using(crate::proofs::HearLemmas::heard_given, crate::proofs::HearLemmas::heard_fault))]
     fn take_given<T: Tree>(
         &mut self,
         alloc: Global,
@@ -186,6 +194,7 @@ impl Walk {
         // Nothing is changed.
         ensures files { T.files tree.new ≡ T.files tree.old }
         ensures takes { OnOk result (TakesGiven (T.files tree.old) path.now (reached self.old) (reached self.new)) }
+        ensures hears { OnOk result (Hears (reached self.old).found (reached self.new).found (T.faults tree.old) (T.faults tree.new)) }
     {
         match tree.kind(path) {
             Ok(kind) => self.take_kind_given(alloc, kind, path),
@@ -201,6 +210,7 @@ impl Walk {
         // Nothing is changed.
         ensures files { T.files tree.new ≡ T.files tree.old }
         ensures walked { IfOk result (λ walk. Walked (T.files tree.old) (map (λ path. path.now) paths.now) (reached walk)) }
+        ensures hears { IfOk result (λ walk. Hears [] (reached walk).found (T.faults tree.old) (T.faults tree.new)) }
     {
         let mut walk = Walk {
             found: Vec::new(alloc),
@@ -217,6 +227,7 @@ impl Walk {
         // Nothing is changed.
         ensures files { T.files tree.new ≡ T.files tree.old }
         ensures walked { OnOk result ((paths : List Name) → Walked (T.files tree.old) paths (reached self.old) → Walked (T.files tree.old) paths (record { found = self.new.found.items; folders = [] })) }
+        ensures hears { OnOk result (Hears (reached self.old).found self.new.found.items (T.faults tree.old) (T.faults tree.new)) }
     {
         for _ in 0..u64::MAX {
             let Some(folder) = self.folders.pop() else {
@@ -247,6 +258,8 @@ pub fn find<T: Tree>(
     ensures files { T.files tree.new ≡ T.files tree.old }
     // All files that the names stand for, and nothing else.
     ensures finds { IfOk result (λ found. Finds (T.files tree.old) (map (λ operand. operand.now) operands.now) found.items) }
+    // Where the device tells the faults of its calls, none is reported that can't be looked at but where a call failed.
+    ensures real { IfOk result (λ found. AreReal (T.faults tree.old) (T.faults tree.new) found.items) }
 {
     let mut walk = Walk::over(alloc, operands, tree)?;
     walk.look_into_all(alloc, tree)?;

@@ -2,7 +2,7 @@
 use Rattle.std.specs.Prelude.{◌≡◌, ◌≢◌, ◌⊎◌, ℕ, Bool, true, false, List, [], ◌∷◌, ◌++◌, Option, Some, None, map}
 use Rattle.std.specs.List.{Contains}
 use Rattle.file_tree.specs.Below.{IsBelow, IsGiven, is_met, listed}
-use Rattle.file_tree.specs.Files.{Files, Name}
+use Rattle.file_tree.specs.Files.{Faults, Files, Name, with_faults}
 use Rattle.hcl_source.specs.Devices.{Tells}
 use Rattle.file_tree.specs.Finds.{HasName, IsFolderOf, IsFound, IsOf, Rises}
 use Rattle.file_tree.specs.Names.{is_taken}
@@ -108,3 +108,20 @@ pub record Orders (found ordered : List Found) : Type 0 where
   pub only : (f : Found) → Contains ordered f → Contains found f
   pub kept : (name : Name) → IsFound found name → IsFound ordered name
   pub named : (name : Name) → HasName found name → HasName ordered name
+
+-- ---- what the device's calls answered
+
+abbrev pub faults_of : Option TreeFault → List TreeFault
+faults_of None = []
+faults_of (Some fault) = fault ∷ []
+
+-- the faults of names that were reported, in the order in which they were met
+abbrev pub faults_in : List Found → List TreeFault
+faults_in [] = []
+faults_in (f ∷ found) = faults_of f.fault ++ faults_in found
+
+-- the calls that failed since are those whose faults were reported
+pub record Hears (old new : List Found) (before after : Faults) : Type 0 where
+  pub more : List Found
+  pub found : new ≡ old ++ more
+  pub heard : after ≡ with_faults before (faults_in more)
