@@ -3,8 +3,7 @@ use Rattle.std.proofs.Common.{◌≡◌, ◌∙◌, ◌⊎◌, ◌++◌, ◌∷�
 use Rattle.std.specs.Prelude.{IfOk}
 use Rattle.file_tree.specs.Files.{Faults, Name, with_fault, with_faults}
 use Rattle.file_tree.specs.Finds.{AreReal}
-use Rattle.file_tree.specs.Names.{is_taken}
-use Rattle.file_tree.specs.Inner.Walking.{Adds, Enters, Hears, Orders, Reached, TakesIf, TakesKind, TakesKindGiven, faults_in, faults_of}
+use Rattle.file_tree.specs.Inner.Walking.{Adds, Enters, Hears, Orders, Reached, TakesIf, TakesKindGiven, TakesLinked, faults_in, faults_of}
 use Rattle.file_tree.specs.declared.fault.TreeFault.{TreeFault}
 use Rattle.file_tree.specs.declared.kind.Kind.{Kind}
 use Rattle.file_tree.specs.declared.kind.Kind.TheVariants.{File, Folder, Link, Other}
@@ -62,24 +61,34 @@ hears_if : (taken : Bool) (path : Name) (old new : Reached) (before after : Faul
 hears_if true path old new before after adds still = hears_adds path None old new before after adds still
 hears_if false path old new before after same still = hears_none old.found new.found before after (ap (λ (r : Reached). r.found) same) still
 
-hears_kind : (kind : Kind) (path name : Name) (old new : Reached) (before after : Faults) → TakesKind kind path name old new → after ≡ before → Hears old.found new.found before after
-hears_kind Folder path name old new before after enters still = hears_none old.found new.found before after enters.found still
-hears_kind File path name old new before after takes still = hears_if (is_taken name) path old new before after takes still
-hears_kind Link path name old new before after takes still = hears_if (is_taken name) path old new before after takes still
-hears_kind Other path name old new before after same still = hears_none old.found new.found before after (ap (λ (r : Reached). r.found) same) still
+hears_linked : (kind : Kind) (path : Name) (old new : Reached) (before after : Faults) → TakesLinked kind path old new → after ≡ before → Hears old.found new.found before after
+hears_linked Folder path old new before after same still = hears_none old.found new.found before after (ap (λ (r : Reached). r.found) same) still
+hears_linked (File identity) path old new before after adds still = hears_adds path None old new before after adds still
+hears_linked Link path old new before after adds still = hears_adds path None old new before after adds still
+hears_linked Other path old new before after adds still = hears_adds path None old new before after adds still
 
 hears_kind_given : (kind : Kind) (path : Name) (old new : Reached) (before after : Faults) → TakesKindGiven kind path old new → after ≡ before → Hears old.found new.found before after
 hears_kind_given Folder path old new before after enters still = hears_none old.found new.found before after enters.found still
-hears_kind_given File path old new before after adds still = hears_adds _ None old new before after adds still
+hears_kind_given (File identity) path old new before after adds still = hears_adds _ None old new before after adds still
 hears_kind_given Link path old new before after adds still = hears_adds _ None old new before after adds still
 hears_kind_given Other path old new before after adds still = hears_adds _ None old new before after adds still
 
 -- ---- in the code's terms
 
-pub heard_met : {X E : Type 0} (r : Result X E) (kind : Kind) (path name : Name) (old new : Reached) (before after : Faults) → OnOk r (TakesKind kind path name old new) → after ≡ before
+pub heard_linked : {X E : Type 0} (r : Result X E) (kind : Kind) (path : Name) (old new : Reached) (before after : Faults) → OnOk r (TakesLinked kind path old new) → after ≡ before
     → OnOk r (Hears old.found new.found before after)
-heard_met (Ok x) kind path name old new before after takes still = hears_kind kind path name old new before after takes still
-heard_met (Err e) kind path name old new before after takes still = tt
+heard_linked (Ok x) kind path old new before after takes still = hears_linked kind path old new before after takes still
+heard_linked (Err e) kind path old new before after takes still = tt
+
+pub heard_if : {X E : Type 0} (r : Result X E) (taken : Bool) (path : Name) (old new : Reached) (before after : Faults) → OnOk r (TakesIf taken path old new) → after ≡ before
+    → OnOk r (Hears old.found new.found before after)
+heard_if (Ok x) taken path old new before after takes still = hears_if taken path old new before after takes still
+heard_if (Err e) taken path old new before after takes still = tt
+
+pub heard_enters : {X E : Type 0} (r : Result X E) (folder : Name) (old new : Reached) (before after : Faults) → OnOk r (Enters folder old new) → after ≡ before
+    → OnOk r (Hears old.found new.found before after)
+heard_enters (Ok x) folder old new before after enters still = hears_none old.found new.found before after enters.found still
+heard_enters (Err e) folder old new before after enters still = tt
 
 pub heard_given : {X E : Type 0} (r : Result X E) (kind : Kind) (path : Name) (old new : Reached) (before after : Faults) → OnOk r (TakesKindGiven kind path old new) → after ≡ before
     → OnOk r (Hears old.found new.found before after)

@@ -1,3 +1,4 @@
+pub mod Asked
 pub mod Below
 pub mod Examples
 pub mod FaultTexts

@@ -8,3 +8,4 @@ invariant-loop g l =
     (g.T.Tree.files l.tree ≡ g.T.Tree.files l.initial.tree)
     × ((paths : List Name) → Walked (g.T.Tree.files l.initial.tree) paths (reached l.initial.self) → Walked (g.T.Tree.files l.initial.tree) paths (reached l.self))
     × Hears (reached l.initial.self).found (reached l.self).found (g.T.Tree.faults l.initial.tree) (g.T.Tree.faults l.tree)
+    × (g.T.Tree.asked l.tree ≡ g.T.Tree.asked l.initial.tree)

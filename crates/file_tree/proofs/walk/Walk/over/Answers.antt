@@ -8,4 +8,5 @@ loop-path-preserved g c = (
   c.take_given.ensures.files ∙ c.loop-path.invariant.0,
   walked_more _ _ _ _ _ _ _ c.loop-path.invariant.0 c.loop-path-test.true c.loop-path.invariant.1 c.in_ok-take_given.ensures.takes,
   hears_then _ _ _ _ _ _ c.loop-path.invariant.2 c.in_ok-take_given.ensures.hears,
+  c.take_given.ensures.asked ∙ c.loop-path.invariant.3,
 )

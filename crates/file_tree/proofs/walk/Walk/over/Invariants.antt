@@ -8,3 +8,4 @@ invariant-loop-path g l =
     (g.T.Tree.files l.tree ≡ g.T.Tree.files l.initial.tree)
     × Walked (g.T.Tree.files l.initial.tree) (map (λ path. path.now) (take l.path-index l.paths)) (reached l.walk)
     × Hears [] (reached l.walk).found (g.T.Tree.faults l.initial.tree) (g.T.Tree.faults l.tree)
+    × (g.T.Tree.asked l.tree ≡ g.T.Tree.asked l.initial.tree)

@@ -8,4 +8,5 @@ loop-name-preserved g c = (
   c.take_entry.ensures.files ∙ c.loop-name.invariant.0,
   took_more _ _ _ _ _ _ _ _ _ c.loop-name.invariant.0 c.loop-name-test.true c.loop-name.invariant.1 c.in_ok-take_entry.ensures.takes,
   hears_then _ _ _ _ _ _ c.loop-name.invariant.2 c.in_ok-take_entry.ensures.hears,
+  c.take_entry.ensures.asked ∙ c.loop-name.invariant.3,
 )

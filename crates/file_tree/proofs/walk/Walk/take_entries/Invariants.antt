@@ -8,3 +8,4 @@ invariant-loop-name g l =
     (g.T.Tree.files l.tree ≡ g.T.Tree.files l.initial.tree)
     × TakesAll (g.T.Tree.files l.initial.tree) l.folder (map (λ name. name.now) (take l.name-index l.names)) (reached l.initial.self) (reached l.self)
     × Hears (reached l.initial.self).found (reached l.self).found (g.T.Tree.faults l.initial.tree) (g.T.Tree.faults l.tree)
+    × (g.T.Tree.asked l.tree ≡ g.T.Tree.asked l.initial.tree)

@@ -1,12 +1,7 @@
 use Rattle.std.proofs.Common.{Some, inl, subst}
 use Rattle.file_tree.specs.Inner.Walking.{Adds, reached}
-use Rattle.file_tree.proofs.HearLemmas.{heard_met}
 use Rattle.file_tree.proofs.TreeWalkLemmas.{on_ok_more}
 use Rattle.file_tree.proofs.walk.Walk.take_met.Goals as goal
-
-pub returns-in-Ok-clause-hears : goal.returns-in-Ok-clause-hears
-returns-in-Ok-clause-hears g c =
-    heard_met c.take_kind.result c.in-Ok.kind _ _ (reached c.args.self.now) (reached c.take_kind.new.self) _ _ c.take_kind.ensures c.in-Ok.ensures.faults
 
 pub returns-in-Err-clause-takes : goal.returns-in-Err-clause-takes
 returns-in-Err-clause-takes g c =
