@@ -1,6 +1,5 @@
 -- What the device's calls answered, step by step.
 use Rattle.std.proofs.Common.{◌≡◌, ◌∙◌, ◌⊎◌, ◌++◌, ◌∷◌, [], Bool, true, false, List, Option, Some, None, Result, Ok, Err, OnOk, Contains, ap, append_assoc, append-nil, arith, inl, inr, refl, subst, sym}
-use Rattle.std.specs.Prelude.{IfOk}
 use Rattle.file_tree.specs.Files.{Faults, Name, with_fault, with_faults}
 use Rattle.file_tree.specs.Finds.{AreReal}
 use Rattle.file_tree.specs.Inner.Walking.{Adds, Enters, Hears, Orders, Reached, TakesIf, TakesKindGiven, TakesLinked, faults_in, faults_of}

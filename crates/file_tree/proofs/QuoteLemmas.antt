@@ -1,10 +1,10 @@
 -- A quoted name has no control byte in it, so no newline.
-use Rattle.std.proofs.Common.{◌≡◌, ◌∙◌, ◌<◌, ◌+◌, ◌++◌, ◌∷◌, [], ℕ, zero, suc, Bool, true, false, List, ap, append_assoc, append-nil, arith, get_or, length, refl, subst, sym, take}
-use Rattle.std.specs.Prelude.{not, ◌||◌, ◌&&◌, ◌==◌, ◌-◌, ◌/◌, ◌%◌, codes, flat_map, nat_le, nat_lt, if◌then◌else◌}
+use Rattle.std.proofs.Common.{◌≡◌, ◌∙◌, ◌<◌, ◌++◌, ◌∷◌, [], ℕ, zero, suc, Bool, true, false, List, ap, arith, refl, subst, sym}
+use Rattle.std.specs.Prelude.{not, ◌||◌, ◌&&◌, ◌==◌, flat_map, nat_lt, if◌then◌else◌}
 use Rattle.std.specs.List.{list_any}
 use Rattle.std.proofs.lemmas.Bool.Decides.{nat_tests}
 use Rattle.file_tree.specs.Files.{Name}
-use Rattle.file_tree.specs.Quotes.{escape, is_control, is_odd, letter, quoted, shown_byte}
+use Rattle.file_tree.specs.Quotes.{escape, is_control, is_odd, quoted, shown_byte}
 
 either_false : (f g : Bool) → f ≡ false → g ≡ false → (f || g) ≡ false
 either_false true g e h = e

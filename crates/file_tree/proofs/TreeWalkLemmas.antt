@@ -10,7 +10,6 @@ use Rattle.file_tree.specs.Names.{is_taken}
 use Rattle.file_tree.specs.Paths.{inside, place, reported, tidied, top, within}
 use Rattle.file_tree.specs.Inner.Walking.{Adds, Covers, Enters, IsFault, Orders, Reached, TakesAll, TakesEntry, TakesFolder, TakesGiven, TakesIf, TakesKind, TakesKindGiven, TakesLink, TakesLinked, Walked}
 use Rattle.file_tree.specs.declared.fault.TreeFault.{TreeFault}
-use Rattle.file_tree.specs.declared.kind.Identity.{Identity}
 use Rattle.file_tree.specs.declared.kind.Kind.{Kind}
 use Rattle.file_tree.specs.declared.kind.Kind.TheVariants.{File, Folder, Link, Other}
 use Rattle.file_tree.specs.declared.walk.Found.{Found}

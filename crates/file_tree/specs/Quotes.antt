@@ -28,3 +28,12 @@ shown_byte b = if is_odd b then escape b else b ∷ []
 -- A NAME AS IT IS SHOWN: itself, or between double quotes where it has an odd byte
 abbrev pub quoted : Name → List ℕ
 quoted name = if list_any is_odd name then 34 ∷ (flat_map shown_byte name ++ 34 ∷ []) else name
+
+-- a name that is shown as itself has a blank
+abbrev pub has_plain_blank : Name → Bool
+has_plain_blank name = not (list_any is_odd name) && list_any (λ b. b == 32) name
+
+-- A NAME IN THE HEAD OF A DIFF: as it is shown, and with a tab after it where it has a blank and isn't quoted, by which
+-- `patch` takes it whole
+abbrev pub shown_head : Name → List ℕ
+shown_head name = quoted name ++ (if has_plain_blank name then 9 ∷ [] else [])

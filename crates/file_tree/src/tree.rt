@@ -72,7 +72,8 @@ pub trait Tree {
     /// Takes a reader back after its last read. A reader that failed is a fault of this call.
     fn give_back(&mut self, reader: Self::Reader)
         ensures files { files self.new ≡ files self.old }
-        ensures faults { faults self.new ≡ with_fault (faults self.old) (fault_of_reader (Self.Reader.failed reader)) }
+        ensures faults { faults self.new ≡ with_fault (faults self.old)
+            (fault_of_reader (Self.Reader.failed reader)) }
         ensures asked { asked self.new ≡ asked self.old };
 }
 
@@ -88,9 +89,13 @@ pub trait WritableTree: Tree {
         writing: Writing,
     ) -> Result<Replaced, TreeFault>
         // The old bytes are those that the file has, where the device tells them.
-        requires old { Tells ((Self.files self.old).told ((Self.files self.old).real name.now)) old.now }
-        ensures ok { OnOk result (Self.files self.new ≡ put (Self.files self.old) ((Self.files self.old).real name.now) new.now) }
+        requires old { Tells ((Self.files self.old).told ((Self.files self.old).real name.now))
+            old.now }
+        ensures ok { OnOk result (Self.files self.new ≡ put (Self.files self.old)
+            ((Self.files self.old).real name.now) new.now) }
         ensures err { OnErr result (Self.files self.new ≡ Self.files self.old) }
-        ensures faults { Self.faults self.new ≡ with_fault (Self.faults self.old) (fault_of result) }
-        ensures asked { Self.asked self.new ≡ with_asked (Self.asked self.old) (record { name = name.now; old = old.now; new = new.now; writing = writing }) };
+        ensures faults { Self.faults self.new
+            ≡ with_fault (Self.faults self.old) (fault_of result) }
+        ensures asked { Self.asked self.new ≡ with_asked (Self.asked self.old)
+            (record { name = name.now; old = old.now; new = new.now; writing = writing }) };
 }

@@ -85,8 +85,10 @@ impl Walk {
         // Nothing is changed.
         ensures files { T.files tree.new ≡ T.files tree.old }
         ensures asked { T.asked tree.new ≡ T.asked tree.old }
-        ensures takes { OnOk result (TakesLink is_taken (T.files tree.old) path.items (reached self.old) (reached self.new)) }
-        ensures hears { OnOk result (Hears (reached self.old).found (reached self.new).found (T.faults tree.old) (T.faults tree.new)) }
+        ensures takes { OnOk result (TakesLink is_taken (T.files tree.old) path.items
+            (reached self.old) (reached self.new)) }
+        ensures hears { OnOk result (Hears (reached self.old).found (reached self.new).found
+            (T.faults tree.old) (T.faults tree.new)) }
     {
         if !is_taken {
             return Ok(());
@@ -110,8 +112,10 @@ impl Walk {
         // Nothing is changed.
         ensures files { T.files tree.new ≡ T.files tree.old }
         ensures asked { T.asked tree.new ≡ T.asked tree.old }
-        ensures takes { OnOk result (TakesKind kind (T.files tree.old) path.items name.now (reached self.old) (reached self.new)) }
-        ensures hears { OnOk result (Hears (reached self.old).found (reached self.new).found (T.faults tree.old) (T.faults tree.new)) }
+        ensures takes { OnOk result (TakesKind kind (T.files tree.old) path.items name.now
+            (reached self.old) (reached self.new)) }
+        ensures hears { OnOk result (Hears (reached self.old).found (reached self.new).found
+            (T.faults tree.old) (T.faults tree.new)) }
     {
         match kind {
             Kind::Folder => {
@@ -137,7 +141,8 @@ impl Walk {
         ensures files { T.files tree.new ≡ T.files tree.old }
         ensures asked { T.asked tree.new ≡ T.asked tree.old }
         ensures takes { OnOk result (TakesMet (T.files tree.old) folder.now name.now (reached self.old) (reached self.new)) }
-        ensures hears { OnOk result (Hears (reached self.old).found (reached self.new).found (T.faults tree.old) (T.faults tree.new)) }
+        ensures hears { OnOk result (Hears (reached self.old).found (reached self.new).found
+            (T.faults tree.old) (T.faults tree.new)) }
     {
         let path = joined(alloc, folder, name)?;
         match tree.entry_kind(path.as_slice()) {
@@ -159,7 +164,8 @@ impl Walk {
         ensures files { T.files tree.new ≡ T.files tree.old }
         ensures asked { T.asked tree.new ≡ T.asked tree.old }
         ensures takes { OnOk result (TakesEntry (T.files tree.old) folder.now name.now (reached self.old) (reached self.new)) }
-        ensures hears { OnOk result (Hears (reached self.old).found (reached self.new).found (T.faults tree.old) (T.faults tree.new)) }
+        ensures hears { OnOk result (Hears (reached self.old).found (reached self.new).found
+            (T.faults tree.old) (T.faults tree.new)) }
     {
         if !is_met(name) {
             return Ok(());
@@ -179,7 +185,8 @@ impl Walk {
         ensures files { T.files tree.new ≡ T.files tree.old }
         ensures asked { T.asked tree.new ≡ T.asked tree.old }
         ensures takes { OnOk result (TakesAll (T.files tree.old) folder.now (map (λ name. name.now) names.now) (reached self.old) (reached self.new)) }
-        ensures hears { OnOk result (Hears (reached self.old).found (reached self.new).found (T.faults tree.old) (T.faults tree.new)) }
+        ensures hears { OnOk result (Hears (reached self.old).found (reached self.new).found
+            (T.faults tree.old) (T.faults tree.new)) }
     {
         for name in names {
             self.take_entry(alloc, folder, name, tree)?;
@@ -199,7 +206,8 @@ impl Walk {
         ensures files { T.files tree.new ≡ T.files tree.old }
         ensures asked { T.asked tree.new ≡ T.asked tree.old }
         ensures takes { OnOk result (TakesFolder (T.files tree.old) folder.now (reached self.old) (reached self.new)) }
-        ensures hears { OnOk result (Hears (reached self.old).found (reached self.new).found (T.faults tree.old) (T.faults tree.new)) }
+        ensures hears { OnOk result (Hears (reached self.old).found (reached self.new).found
+            (T.faults tree.old) (T.faults tree.new)) }
     {
         let place = place(folder);
         match tree.listing(place) {
@@ -238,7 +246,8 @@ impl Walk {
         ensures files { T.files tree.new ≡ T.files tree.old }
         ensures asked { T.asked tree.new ≡ T.asked tree.old }
         ensures takes { OnOk result (TakesGiven (T.files tree.old) path.now (reached self.old) (reached self.new)) }
-        ensures hears { OnOk result (Hears (reached self.old).found (reached self.new).found (T.faults tree.old) (T.faults tree.new)) }
+        ensures hears { OnOk result (Hears (reached self.old).found (reached self.new).found
+            (T.faults tree.old) (T.faults tree.new)) }
     {
         match tree.kind(path) {
             Ok(kind) => self.take_kind_given(alloc, kind, path),
@@ -255,7 +264,8 @@ impl Walk {
         ensures files { T.files tree.new ≡ T.files tree.old }
         ensures asked { T.asked tree.new ≡ T.asked tree.old }
         ensures walked { IfOk result (λ walk. Walked (T.files tree.old) (map (λ path. path.now) paths.now) (reached walk)) }
-        ensures hears { IfOk result (λ walk. Hears [] (reached walk).found (T.faults tree.old) (T.faults tree.new)) }
+        ensures hears { IfOk result (λ walk. Hears [] (reached walk).found
+            (T.faults tree.old) (T.faults tree.new)) }
     {
         let mut walk = Walk {
             found: Vec::new(alloc),
@@ -273,7 +283,8 @@ impl Walk {
         ensures files { T.files tree.new ≡ T.files tree.old }
         ensures asked { T.asked tree.new ≡ T.asked tree.old }
         ensures walked { OnOk result ((paths : List Name) → Walked (T.files tree.old) paths (reached self.old) → Walked (T.files tree.old) paths (record { found = self.new.found.items; folders = [] })) }
-        ensures hears { OnOk result (Hears (reached self.old).found self.new.found.items (T.faults tree.old) (T.faults tree.new)) }
+        ensures hears { OnOk result (Hears (reached self.old).found self.new.found.items
+            (T.faults tree.old) (T.faults tree.new)) }
     {
         for _ in 0..u64::MAX {
             let Some(folder) = self.folders.pop() else {
@@ -306,7 +317,8 @@ pub fn find<T: Tree>(
     // All files that the names stand for, and nothing else.
     ensures finds { IfOk result (λ found. Finds (T.files tree.old) (map (λ operand. operand.now) operands.now) found.items) }
     // Where the device tells the faults of its calls, none is reported that can't be looked at but where a call failed.
-    ensures real { IfOk result (λ found. AreReal (T.faults tree.old) (T.faults tree.new) found.items) }
+    ensures real { IfOk result
+        (λ found. AreReal (T.faults tree.old) (T.faults tree.new) found.items) }
 {
     let mut walk = Walk::over(alloc, operands, tree)?;
     walk.look_into_all(alloc, tree)?;
