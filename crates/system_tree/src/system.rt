@@ -3,17 +3,18 @@
 ghost use Rattle.std.specs.Prelude.{◌≡◌, false, None, IfOk};
 ghost use Rattle.file_tree.specs.Files.{silent};
 
-use crate::folder::open_folder;
-use crate::in_place::write_over;
-use crate::new_file::{Old, replace};
+use crate::folder::{Folder, identity_of};
+use crate::link::{parted, real_path};
+use crate::new_file::replace;
 use file_tree::fault::TreeFault;
-use file_tree::kind::Kind;
-use file_tree::tree::{Tree, Writing};
-use hcl_scan::{ByteSource, Failed, FromRead};
-use std::fs::{File, Metadata, OpenOptions};
+use file_tree::kind::{Identity, Kind};
+use file_tree::path::tidy;
+use file_tree::tree::{Replaced, Tree, WritableTree, Writing};
+use hcl_source::{ByteSource, Failed, FromRead};
+use std::fs::{File, Metadata};
 use std::io::{ErrorKind, Read};
-use std::path::PathBuf;
 use std::rt::Files;
+use std::time::SystemTime;
 use std::{fs, io};
 
 /// A file that was opened. It tells no bytes.
@@ -40,11 +41,19 @@ impl ByteSource for FileReader {
 #[derive(Drop)]
 pub struct SystemTree {
     rt: HostRuntime,
+    /// When the run began, where there is a clock.
+    began: Option<SystemTime>,
+    /// The folder of the file that was replaced last.
+    held: Option<Folder>,
+    /// The folders that the caller named by links to them, or in whose names he put such a link.
+    linked: Vec<Identity>,
+    /// Whether a folder was read. What the caller names is asked of before that.
+    is_walking: bool,
 }
 
 fn kind_in(metadata: &Metadata) -> Kind {
     if metadata.is_file() {
-        return Kind::File;
+        return Kind::File(identity_of(metadata));
     }
     if metadata.is_dir() {
         return Kind::Folder;
@@ -63,16 +72,32 @@ fn text_of(name: &[u8]) -> Result<&str, TreeFault> {
     }
 }
 
+/// Why a link leads nowhere, or nowhere now.
+fn link_fault(kind: ErrorKind) -> TreeFault {
+    match kind {
+        ErrorKind::NotFound | ErrorKind::NotADirectory => TreeFault::DeadLink,
+        ErrorKind::FilesystemLoop => TreeFault::EndlessLink,
+        _ => TreeFault::Unreadable,
+    }
+}
+
 impl SystemTree {
     pub fn new(rt: HostRuntime) -> SystemTree {
-        SystemTree { rt }
+        let began = SystemTime::now(&rt).ok();
+        let linked = Vec::new(rt.alloc());
+        SystemTree {
+            rt,
+            began,
+            held: None,
+            linked,
+            is_walking: false,
+        }
     }
 
     /// Why a name has no metadata.
     fn metadata_fault(&self, name: &str, error: &io::Error) -> TreeFault {
         match fs::symlink_metadata(&self.rt, name) {
-            Ok(metadata) if metadata.is_symlink() && error.kind() != ErrorKind::PermissionDenied =>
-                { TreeFault::DeadLink }
+            Ok(metadata) if metadata.is_symlink() => link_fault(error.kind()),
             Err(_) if name == "-" => TreeFault::NoInput,
             _ => match error.kind() {
                 ErrorKind::NotFound | ErrorKind::NotADirectory => TreeFault::Missing,
@@ -81,12 +106,54 @@ impl SystemTree {
         }
     }
 
-    fn kind_of(&self, name: &[u8]) -> Result<Kind, TreeFault> {
-        let name = text_of(name)?;
+    fn kind_of(&self, name: &str) -> Result<Kind, TreeFault> {
         match fs::metadata(&self.rt, name) {
             Ok(metadata) => Ok(kind_in(&metadata)),
             Err(error) => Err(self.metadata_fault(name, &error)),
         }
+    }
+
+    /// Notes the folder of a path, if the last part of the path is a link.
+    fn note_link(&mut self, path: &str) -> Result<(), TreeFault> {
+        match fs::symlink_metadata(&self.rt, path) {
+            Ok(metadata) if metadata.is_symlink() => {}
+            Ok(_) => return Ok(()),
+            Err(error) => return Err(self.metadata_fault(path, &error)),
+        }
+        match fs::metadata(&self.rt, path) {
+            Ok(metadata) => match self.linked.push(identity_of(&metadata)) {
+                Ok(()) => Ok(()),
+                Err(_) => Err(TreeFault::OutOfMemory),
+            },
+            Err(error) => Err(self.metadata_fault(path, &error)),
+        }
+    }
+
+    /// Notes the folder that a name which the caller gave stands for, or the folder of the file.
+    fn note_given(&mut self, name: &[u8], kind: Kind) -> Result<(), TreeFault> {
+        let Ok(path) = tidy(self.rt.alloc(), name) else {
+            return Err(TreeFault::OutOfMemory);
+        };
+        let path = text_of(path.as_slice())?;
+        let path = if kind == Kind::Folder {
+            path
+        } else {
+            parted(path).0
+        };
+        let bare = path.strip_suffix("/").unwrap_or(path);
+        if bare.is_empty() {
+            Ok(())
+        } else {
+            self.note_link(bare)
+        }
+    }
+
+    fn given_kind_of(&mut self, name: &[u8]) -> Result<Kind, TreeFault> {
+        let kind = self.kind_of(text_of(name)?)?;
+        if !self.is_walking {
+            self.note_given(name, kind)?;
+        }
+        Ok(kind)
     }
 
     fn entry_kind_of(&self, name: &[u8]) -> Result<Kind, TreeFault> {
@@ -97,7 +164,8 @@ impl SystemTree {
         }
     }
 
-    fn names_in(&self, folder: &[u8]) -> Result<Vec<u8>, TreeFault> {
+    fn names_in(&mut self, folder: &[u8]) -> Result<Vec<u8>, TreeFault> {
+        self.is_walking = true;
         let folder = text_of(folder)?;
         let Ok(mut dir) = self.rt.open_dir(folder) else {
             return Err(TreeFault::UnreadableFolder);
@@ -118,96 +186,55 @@ impl SystemTree {
         Err(TreeFault::UnreadableFolder)
     }
 
-    /// Opens a file. What it is is asked first, so that no pipe is waited for.
+    /// Opens a file. What it is is asked first, so that no pipe is waited for, and again of what was opened: a pipe that
+    /// takes its place in between is waited for.
     fn open(&self, name: &[u8]) -> Result<FileReader, TreeFault>
         ensures { IfOk result (λ r. ⟦<FileReader as ByteSource>⟧.failed r ≡ false) }
     {
+        let name = text_of(name)?;
         match self.kind_of(name) {
-            Ok(Kind::File) => {}
+            Ok(Kind::File(_)) => {}
             Ok(_) => return Err(TreeFault::NotAFile),
             Err(fault) => return Err(fault),
         }
-        let name = text_of(name)?;
         match File::open(&self.rt, name) {
-            Ok(file) => Ok(FileReader {
-                reader: FromRead::new(file),
-            }),
+            Ok(file) => match file.metadata() {
+                Ok(metadata) if metadata.is_file() => Ok(FileReader {
+                    reader: FromRead::new(file),
+                }),
+                Ok(_) => Err(TreeFault::NotAFile),
+                Err(_) => Err(TreeFault::Unreadable),
+            },
             Err(error) if error.kind() == ErrorKind::NotFound => Err(TreeFault::Missing),
             Err(_) => Err(TreeFault::Unreadable),
         }
     }
 
-    /// The path of the file that a name leads to.
-    fn real_path(&self, name: &str) -> Result<PathBuf, TreeFault> {
-        match fs::symlink_metadata(&self.rt, name) {
-            Ok(metadata) if metadata.is_symlink() => {}
-            Err(_) => return Err(TreeFault::Unreadable),
-            Ok(_) => {
-                return match PathBuf::from_str(self.rt.alloc(), name) {
-                    Ok(path) => Ok(path),
-                    Err(_) => Err(TreeFault::OutOfMemory),
-                };
-            }
+    /// The folder of a path, held open: the one that was held last, if it is that.
+    fn folder_at(&mut self, path: &str) -> Result<Folder, TreeFault> {
+        let linked = self.linked.as_slice();
+        if let Some(held) = self.held.take()
+            && let Some(folder) = held.again(&self.rt, path, linked)
+        {
+            return Ok(folder);
         }
-        match fs::canonicalize(&self.rt, name) {
-            Ok(path) => Ok(path),
-            Err(_) => Err(TreeFault::EndlessLink),
-        }
-    }
-
-    /// Replaces the file of this path, which is no link.
-    fn replace_at(
-        &self,
-        path: &str,
-        bytes: &[u8],
-        new: &[u8],
-        writing: Writing,
-    ) -> Result<(), TreeFault> {
-        let (folder, name) = match path.rsplit_once('/') {
-            Some((folder, name)) => (&path[..folder.len() + 1], name),
-            None => ("", path),
-        };
-        let folder = open_folder(&self.rt, folder)?;
-        let front = folder.front.as_str();
-        let Ok(path) = format!(in self.rt.alloc(); "{front}{name}") else {
-            return Err(TreeFault::OutOfMemory);
-        };
-        let Ok(mut file) = OpenOptions::new()
-            .read(true)
-            .write(true)
-            .open(&self.rt, path.as_str())
-        else {
-            return Err(TreeFault::NotWritable);
-        };
-        let Ok(metadata) = file.metadata() else {
-            return Err(TreeFault::Unreadable);
-        };
-        let old = Old {
-            path: path.as_str(),
-            bytes,
-            metadata,
-        };
-        match replace(&self.rt, &folder, &mut file, &old, new, writing) {
-            Err(TreeFault::NoneBeside | TreeFault::NotReplaced) if writing.in_place => {
-                write_over(&mut file, bytes, new, writing.sync)
-            }
-            done => done,
-        }
+        Folder::open(&self.rt, path, linked)
     }
 
     fn replace_named(
-        &self,
+        &mut self,
         name: &[u8],
         old: &[u8],
         new: &[u8],
         writing: Writing,
-    ) -> Result<(), TreeFault> {
+    ) -> Result<Replaced, TreeFault> {
         let name = text_of(name)?;
-        let path = self.real_path(name)?;
-        match path.to_str() {
-            Some(path) => self.replace_at(path, old, new, writing),
-            None => Err(TreeFault::NotUtf8),
-        }
+        let path = real_path(&self.rt, name)?;
+        let (place, last) = parted(path.as_str());
+        let folder = self.folder_at(place)?;
+        let done = replace(&self.rt, &folder, last, old, new, writing, self.began);
+        self.held = Some(folder);
+        done
     }
 }
 
@@ -218,9 +245,11 @@ impl Tree for SystemTree {
 
     ghost faults = { λ s. None };
 
+    ghost asked = { λ s. None };
+
     #[tactic(auto, using(file_tree::proofs::FileLemmas::silent_noted))]
     fn kind(&mut self, name: &[u8]) -> Result<Kind, TreeFault> {
-        self.kind_of(name)
+        self.given_kind_of(name)
     }
 
     #[tactic(auto, using(file_tree::proofs::FileLemmas::silent_noted))]
@@ -242,7 +271,9 @@ impl Tree for SystemTree {
     fn give_back(&mut self, reader: FileReader) {
         let _ = &reader;
     }
+}
 
+impl WritableTree for SystemTree {
     #[tactic(auto, using(file_tree::proofs::FileLemmas::silent_noted, file_tree::proofs::FileLemmas::silent_replace))]
     fn replace(
         &mut self,
@@ -250,7 +281,7 @@ impl Tree for SystemTree {
         old: &[u8],
         new: &[u8],
         writing: Writing,
-    ) -> Result<(), TreeFault> {
+    ) -> Result<Replaced, TreeFault> {
         self.replace_named(name, old, new, writing)
     }
 }

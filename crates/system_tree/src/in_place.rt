@@ -4,11 +4,15 @@ use file_tree::fault::TreeFault;
 use std::fs::File;
 use std::io::{ErrorKind, Read, Seek, Write};
 
-/// Whether a file has these bytes from where it is read on.
-fn has_rest(file: &mut File, bytes: &[u8]) -> bool {
+/// Whether a file of this length has these bytes from where it is read on.
+fn has_rest(file: &mut File, bytes: &[u8], length: u64) -> bool {
     let mut buffer = [0; 16_384];
     let mut at = 0;
     for _ in 0..u64::MAX {
+        // That it ends here needn't be read.
+        if at == bytes.len() && at as u64 == length {
+            return true;
+        }
         match file.read(&mut buffer) {
             Ok(0) => return at == bytes.len(),
             Ok(n) => {
@@ -24,16 +28,13 @@ fn has_rest(file: &mut File, bytes: &[u8]) -> bool {
     false
 }
 
-/// Whether a file has these bytes.
-pub fn has_bytes(file: &mut File, bytes: &[u8]) -> bool {
-    file.rewind().is_ok() && has_rest(file, bytes)
+/// Whether a file of this length has these bytes.
+pub fn has_bytes(file: &mut File, bytes: &[u8], length: u64) -> bool {
+    file.rewind().is_ok() && has_rest(file, bytes, length)
 }
 
-/// Writes new bytes over the old ones, which it must have still.
+/// Writes new bytes over the old ones.
 pub fn write_over(file: &mut File, old: &[u8], new: &[u8], sync: bool) -> Result<(), TreeFault> {
-    if !has_bytes(file, old) {
-        return Err(TreeFault::Changed);
-    }
     if file.rewind().is_err() {
         return Err(TreeFault::NotWritable);
     }
