@@ -5,9 +5,14 @@
                  descriptor REFUSE_FD
    REFUSED=KIND  which calls are counted: those for `memory` (where it isn't set), or one of `kind_names`, or `any` of
                  them but memory
+   REASON=N      with this number of an error, in place of the one that such a call is likely to fail with
    FROM_THEN=1   all such calls from the Nth on are refused
    SAVE=TEXT     no call is refused: before the Nth, another program's save is made, which gives the file SAVE_TO this text
    SAVE_BY=HOW   in place, where it isn't set, or by `rename`
+   DENIED=KIND   all calls of this kind are refused besides, which aren't counted
+   EXCHANGE=NAME no call is refused: before the Nth, this name and the name FOR are exchanged, by one call
+   CALLS_FD=FD   each call on a file is written there, one a line: its kind, the names of files, and the numbers that it is
+                 given; a file that is open by the name that it has then, and of a write also its mode
    TIMES_FD=FD   before the bytes of an old file are compared, a line is written there: when that is, as the monotonic
                  clock has it; and before each rename again, with the new name
    PAUSE=N       each opening, and each comparison of an old file, takes N microseconds longer
@@ -54,7 +59,7 @@ typedef int chown_function(int, uid_t, gid_t);
 typedef int sync_function(int);
 typedef off_t seek_function(int, off_t, int);
 typedef int truncate_function(int, off_t);
-typedef char *realpath_function(const char *, char *);
+typedef ssize_t readlink_function(const char *, char *, size_t);
 
 static open_function *real_open;
 static read_function *real_read;
@@ -68,16 +73,63 @@ static chown_function *real_chown;
 static sync_function *real_sync;
 static seek_function *real_seek;
 static truncate_function *real_truncate;
-static realpath_function *real_realpath;
+static readlink_function *real_readlink;
 static enum kind counted = MEMORY;
-static const char *saved, *saved_to, *saved_by;
+static enum kind denied = ANY;
+static const char *saved, *saved_to, *saved_by, *exchanged, *exchanged_for;
+static int calls_descriptor = -1;
 static int times_descriptor = -1;
 static long long last_seek;
 static useconds_t pause_time;
 static long refused, requests;
+static int given_reason;
 static int from_then, descriptor = -1;
 static long held, most_held;
 static int held_descriptor = -1;
+
+static void tell_call(const char *format, ...) {
+    char line[9000];
+    int before = errno;
+    va_list rest;
+    if (calls_descriptor < 0)
+        return;
+    va_start(rest, format);
+    int length = vsnprintf(line, sizeof line, format, rest);
+    va_end(rest);
+    if (real_write(calls_descriptor, line, (size_t)length) != length)
+        abort();
+    errno = before;
+}
+
+/* The name of a file that is open. */
+static const char *open_name(int file, char into[4200]) {
+    char link[64];
+    snprintf(link, sizeof link, "/proc/self/fd/%d", file);
+    ssize_t length = real_readlink(link, into, 4100);
+    into[length < 0 ? 0 : length] = 0;
+    return into;
+}
+
+/* The name of a path, which may go by a folder that is open. */
+static const char *path_name(const char *path, char into[4200]) {
+    int file, end = 0;
+    if (calls_descriptor < 0 || (path[0] == '/' && strncmp(path, "/proc/self/fd/", 14) != 0))
+        return path;
+    if (sscanf(path, "/proc/self/fd/%d/%n", &file, &end) == 1 && end > 0)
+        open_name(file, into);
+    else if (!getcwd(into, 4100))
+        abort();
+    size_t length = strlen(into);
+    snprintf(into + length, 4200 - length, "/%s", path + end);
+    return into;
+}
+
+static void tell_write(int file, size_t size) {
+    char name[4200];
+    struct stat found;
+    if (calls_descriptor >= 0 && fstat(file, &found) == 0 && S_ISREG(found.st_mode))
+        tell_call("write %s %o %zu\n", open_name(file, name), found.st_mode & 07777, size);
+}
 
 static void write_text(const char *path, int flags) {
     int to = real_open(path, flags | O_WRONLY, 0644);
@@ -96,16 +148,25 @@ static void save(void) {
 }
 
 static int is_refused(enum kind kind, int reason) {
+    if (kind == denied) {
+        errno = reason;
+        return 1;
+    }
     int is_counted = kind == counted || (counted == ANY && kind != MEMORY);
     if (refused == 0 || !is_counted || ++requests < refused || (requests > refused && !from_then))
         return 0;
     if (real_write(descriptor, kind_names[kind], 4) != 4)
         abort();
+    if (exchanged) {
+        if (renameat2(AT_FDCWD, exchanged, AT_FDCWD, exchanged_for, RENAME_EXCHANGE) != 0)
+            abort();
+        return 0;
+    }
     if (saved) {
         save();
         return 0;
     }
-    errno = reason;
+    errno = given_reason ? given_reason : reason;
     return 1;
 }
 
@@ -163,7 +224,7 @@ static void find_real(void) {
         real_sync = (sync_function *)dlsym(RTLD_NEXT, "fsync");
         real_seek = (seek_function *)dlsym(RTLD_NEXT, "lseek");
         real_truncate = (truncate_function *)dlsym(RTLD_NEXT, "ftruncate");
-        real_realpath = (realpath_function *)dlsym(RTLD_NEXT, "realpath");
+        real_readlink = (readlink_function *)dlsym(RTLD_NEXT, "readlink");
         real_write = (write_function *)dlsym(RTLD_NEXT, "write");
     }
 }
@@ -186,16 +247,21 @@ int open(const char *path, int flags, ...) {
         tell_held();
     if (pause_time)
         usleep(pause_time);
+    char name[4200];
+    tell_call("open %s %o %o\n", path_name(path, name), flags & (O_ACCMODE | O_CREAT | O_EXCL | O_TRUNC), mode);
     return is_refused(OPEN, EACCES) ? -1 : real_open(path, flags, mode);
 }
 
 ssize_t read(int from, void *into, size_t size) {
+    char name[4200];
     find_real();
+    tell_call("read %s\n", calls_descriptor < 0 ? "" : open_name(from, name));
     return is_refused(READ, EIO) ? -1 : real_read(from, into, size);
 }
 
 ssize_t write(int to, const void *bytes, size_t size) {
     find_real();
+    tell_write(to, size);
     return is_refused(WRITE, EIO) ? -1 : real_write(to, bytes, size);
 }
 
@@ -223,28 +289,38 @@ static void tell_time(const char *name) {
 }
 
 int rename(const char *from, const char *to) {
+    char old_name[4200], new_name[4200];
     find_real();
     tell_time(to);
+    tell_call("rename %s %s\n", path_name(from, old_name), path_name(to, new_name));
     return is_refused(RENAME, EACCES) ? -1 : real_rename(from, to);
 }
 
 int unlink(const char *path) {
+    char name[4200];
     find_real();
+    tell_call("unlink %s\n", path_name(path, name));
     return is_refused(UNLINK, EACCES) ? -1 : real_unlink(path);
 }
 
 int fchmod(int file, mode_t mode) {
+    char name[4200];
     find_real();
+    tell_call("chmod %s %o\n", calls_descriptor < 0 ? "" : open_name(file, name), mode);
     return is_refused(CHMOD, EPERM) ? -1 : real_chmod(file, mode);
 }
 
 int fchown(int file, uid_t owner, gid_t group) {
+    char name[4200];
     find_real();
+    tell_call("owner %s %d %d\n", calls_descriptor < 0 ? "" : open_name(file, name), (int)owner, (int)group);
     return is_refused(OWNER, EPERM) ? -1 : real_chown(file, owner, group);
 }
 
 int fsync(int file) {
+    char name[4200];
     find_real();
+    tell_call("sync %s\n", calls_descriptor < 0 ? "" : open_name(file, name));
     return is_refused(SYNC, EIO) ? -1 : real_sync(file);
 }
 
@@ -258,13 +334,15 @@ off_t lseek(int file, off_t offset, int whence) {
 }
 
 int ftruncate(int file, off_t size) {
+    char name[4200];
     find_real();
+    tell_call("truncate %s %ld\n", calls_descriptor < 0 ? "" : open_name(file, name), (long)size);
     return is_refused(TRUNCATE, EIO) ? -1 : real_truncate(file, size);
 }
 
-char *realpath(const char *restrict path, char *restrict into) {
+ssize_t readlink(const char *restrict path, char *restrict into, size_t size) {
     find_real();
-    return is_refused(FOLLOW, ELOOP) ? NULL : real_realpath(path, into);
+    return is_refused(FOLLOW, EIO) ? -1 : real_readlink(path, into, size);
 }
 
 ssize_t __write(int to, const void *bytes, size_t size) { return write(to, bytes, size); }
@@ -280,6 +358,13 @@ static int begin(int argc, char **argv, char **environment) {
     for (int kind = MEMORY; name && kind <= ANY; kind++)
         if (strcmp(name, kind_names[kind]) == 0)
             counted = kind;
+    for (int kind = MEMORY; getenv("DENIED") && kind < ANY; kind++)
+        if (strcmp(getenv("DENIED"), kind_names[kind]) == 0)
+            denied = kind;
+    if (getenv("CALLS_FD"))
+        calls_descriptor = atoi(getenv("CALLS_FD"));
+    exchanged = getenv("EXCHANGE");
+    exchanged_for = getenv("FOR");
     saved = getenv("SAVE");
     saved_to = getenv("SAVE_TO");
     saved_by = getenv("SAVE_BY");
@@ -288,6 +373,8 @@ static int begin(int argc, char **argv, char **environment) {
     if (times_fd)
         times_descriptor = atoi(times_fd);
     from_then = getenv("FROM_THEN") != NULL;
+    if (getenv("REASON"))
+        given_reason = atoi(getenv("REASON"));
     if (number && told) {
         descriptor = atoi(told);
         refused = atol(number);

@@ -1,5 +1,5 @@
 -- What was found, sorted, and each name once.
-use Rattle.std.proofs.Common.{◌≡◌, ◌∙◌, ◌<◌, ◌+◌, ◌⊎◌, ℕ, zero, suc, Bool, true, false, List, [], ◌∷◌, Option, Some, None, Ordering, Less, Equal, Greater, IsPermutation, IsSorted, Contains, ap, arith, bytes_eq, get_or, inl, inr, is_lt, length, nat_cmp, refl, subst, sym, true≢false}
+use Rattle.std.proofs.Common.{◌≡◌, ◌∙◌, ◌<◌, ◌+◌, ◌⊎◌, ℕ, zero, suc, Bool, false, List, [], ◌∷◌, Option, Some, None, Ordering, Less, Equal, Greater, IsPermutation, IsSorted, Contains, ap, arith, bytes_eq, get_or, inl, inr, is_lt, length, nat_cmp, refl, subst, sym, true≢false}
 use Rattle.std.specs.Option.{option_cmp}
 use Rattle.std.specs.Ordering.{ordering_then}
 use Rattle.std.specs.Cmp.Lexicographic.{on_texts, on_texts_equal, slice_cmp, texts_ties}

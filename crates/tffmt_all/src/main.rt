@@ -3,16 +3,13 @@
 
 ghost use Rattle.std.specs.Prelude.{◌≡◌, false};
 
-mod in_place;
-mod new_file;
 mod progress_line;
-mod system_tree;
 
 use crate::progress_line::ProgressLine;
-use crate::system_tree::SystemTree;
 use command_line::{NoWords, borrowed_words, process_words};
 use hcl_scan::{ByteSink, FromRead, ToWrite};
 use std::process::ExitCode;
+use system_tree::system::SystemTree;
 use tree_command::run::{bad_line, program};
 
 /// The status of a run that got no words: nothing is printed.

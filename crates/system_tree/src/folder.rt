@@ -1,0 +1,179 @@
+//! A folder that is held open, so that a file in it is opened, made, compared and renamed there whatever its path leads to
+//! by then.
+
+use file_tree::fault::TreeFault;
+use file_tree::kind::Identity;
+use std::fs;
+use std::fs::{File, Metadata};
+use std::io::ErrorKind;
+use std::os::fd::AsRawFd;
+use std::os::unix::fs::MetadataExt;
+
+/// What tells the file or the folder of this metadata from every other one.
+pub fn identity_of(metadata: &Metadata) -> Identity {
+    Identity {
+        device: metadata.dev(),
+        inode: metadata.ino(),
+    }
+}
+
+/// A folder, and by which front its files are named.
+#[derive(Drop)]
+pub struct Folder {
+    /// As the names of its files begin: nothing for the current folder, and else with a `/` at its end.
+    path: String,
+    /// None where the folder can't be read.
+    handle: Option<File>,
+    metadata: Metadata,
+    /// `/proc/self/fd/N/`: a name after it goes by the handle. Without a handle, or where there is no `/proc`, the path.
+    front: String,
+    is_held: bool,
+}
+
+/// The path of a folder without the `/` at its end, so that a link isn't followed.
+fn bare(path: &str) -> &str {
+    if path.is_empty() {
+        return ".";
+    }
+    match path.strip_suffix("/") {
+        Some("") | None => path,
+        Some(rest) => rest,
+    }
+}
+
+/// The path of a folder with the `/` at its end, so that no pipe is opened in its place.
+fn whole(path: &str) -> &str {
+    if path.is_empty() { "./" } else { path }
+}
+
+/// What a path leads to by now, if that is a folder. Its last part is a link only where the caller named the folder by it.
+fn found_at(rt: &HostRuntime, path: &str, linked: &[Identity]) -> Result<Metadata, TreeFault> {
+    let Ok(metadata) = fs::symlink_metadata(rt, bare(path)) else {
+        return Err(TreeFault::Changed);
+    };
+    if !metadata.is_symlink() {
+        return Ok(metadata);
+    }
+    let Ok(metadata) = fs::metadata(rt, whole(path)) else {
+        return Err(TreeFault::Changed);
+    };
+    if linked.contains(&identity_of(&metadata)) {
+        Ok(metadata)
+    } else {
+        Err(TreeFault::Changed)
+    }
+}
+
+impl Folder {
+    /// A folder whose files are named by its path.
+    fn by_path(
+        rt: &HostRuntime,
+        path: &str,
+        handle: Option<File>,
+        metadata: Metadata,
+    ) -> Result<Folder, TreeFault> {
+        let Ok(own) = String::from_str(rt.alloc(), path) else {
+            return Err(TreeFault::OutOfMemory);
+        };
+        let Ok(front) = String::from_str(rt.alloc(), path) else {
+            return Err(TreeFault::OutOfMemory);
+        };
+        Ok(Folder {
+            path: own,
+            handle,
+            metadata,
+            front,
+            is_held: false,
+        })
+    }
+
+    /// A folder whose files are named by its handle, if `/proc` has it.
+    fn by_handle(
+        rt: &HostRuntime,
+        path: &str,
+        handle: File,
+        metadata: Metadata,
+    ) -> Result<Folder, TreeFault> {
+        let number = handle.as_raw_fd();
+        let Ok(front) = format!(in rt.alloc(); "/proc/self/fd/{number}/") else {
+            return Err(TreeFault::OutOfMemory);
+        };
+        match fs::metadata(rt, front.as_str()) {
+            Ok(there) if identity_of(&there) == identity_of(&metadata) => {}
+            _ => return Folder::by_path(rt, path, Some(handle), metadata),
+        }
+        let Ok(own) = String::from_str(rt.alloc(), path) else {
+            return Err(TreeFault::OutOfMemory);
+        };
+        Ok(Folder {
+            path: own,
+            handle: Some(handle),
+            metadata,
+            front,
+            is_held: true,
+        })
+    }
+
+    /// Opens a folder, which must be the one that its path has.
+    pub fn open(rt: &HostRuntime, path: &str, linked: &[Identity]) -> Result<Folder, TreeFault> {
+        let metadata = found_at(rt, path, linked)?;
+        match File::open(rt, whole(path)) {
+            Ok(handle) => match handle.metadata() {
+                Ok(held) if identity_of(&held) == identity_of(&metadata) => {
+                    Folder::by_handle(rt, path, handle, metadata)
+                }
+                _ => Err(TreeFault::Changed),
+            },
+            Err(error) if error.kind() == ErrorKind::PermissionDenied => {
+                Folder::by_path(rt, path, None, metadata)
+            }
+            Err(_) => Err(TreeFault::NotWritable),
+        }
+    }
+
+    /// This folder, if it is the one of a path, which leads to it still.
+    pub fn again(mut self, rt: &HostRuntime, path: &str, linked: &[Identity]) -> Option<Folder> {
+        if self.path.as_str() != path {
+            return None;
+        }
+        match found_at(rt, path, linked) {
+            Ok(metadata) if identity_of(&metadata) == identity_of(&self.metadata) => {
+                self.metadata = metadata;
+                Some(self)
+            }
+            _ => None,
+        }
+    }
+
+    /// What stands before the name of a file in the folder.
+    pub fn front(&self) -> &str {
+        self.front.as_str()
+    }
+
+    /// Whether nobody but the caller and root can put another file into the folder.
+    fn is_own(&self, caller: u32) -> bool {
+        let owner = self.metadata.uid();
+        (owner == caller || owner == 0) && self.metadata.mode() & 0o022 == 0
+    }
+
+    /// Whether names lead into the folder even if somebody else exchanges what its path leads to.
+    pub fn is_safe(&self, caller: u32) -> bool {
+        self.is_held || self.is_own(caller)
+    }
+
+    /// Whether a new file may be given this owner: one who could have put it there himself, or whose file root put there.
+    pub fn may_own(&self, caller: u32, owner: u32) -> bool {
+        let of_folder = self.metadata.uid();
+        owner == caller
+            || of_folder == owner
+            || (of_folder == 0 && self.metadata.mode() & 0o022 == 0)
+    }
+
+    /// Whether the names in the folder are on the disk.
+    pub fn sync(&self) -> bool {
+        match &self.handle {
+            Some(handle) => handle.sync_all().is_ok(),
+            None => false,
+        }
+    }
+}

@@ -1,0 +1,47 @@
+//! The bytes of a file that is open, compared and written over.
+
+use file_tree::fault::TreeFault;
+use std::fs::File;
+use std::io::{ErrorKind, Read, Seek, Write};
+
+/// Whether a file of this length has these bytes from where it is read on.
+fn has_rest(file: &mut File, bytes: &[u8], length: u64) -> bool {
+    let mut buffer = [0; 16_384];
+    let mut at = 0;
+    for _ in 0..u64::MAX {
+        // That it ends here needn't be read.
+        if at == bytes.len() && at as u64 == length {
+            return true;
+        }
+        match file.read(&mut buffer) {
+            Ok(0) => return at == bytes.len(),
+            Ok(n) => {
+                if n > bytes.len() - at || buffer[..n] != bytes[at..at + n] {
+                    return false;
+                }
+                at += n;
+            }
+            Err(error) if error.kind() == ErrorKind::Interrupted => {}
+            Err(_) => return false,
+        }
+    }
+    false
+}
+
+/// Whether a file of this length has these bytes.
+pub fn has_bytes(file: &mut File, bytes: &[u8], length: u64) -> bool {
+    file.rewind().is_ok() && has_rest(file, bytes, length)
+}
+
+/// Writes new bytes over the old ones.
+pub fn write_over(file: &mut File, old: &[u8], new: &[u8], sync: bool) -> Result<(), TreeFault> {
+    if file.rewind().is_err() {
+        return Err(TreeFault::NotWritable);
+    }
+    let is_whole = file.write_all(new).is_ok()
+        && (old.len() <= new.len() || file.set_len(new.len() as u64).is_ok());
+    if !is_whole || (sync && file.sync_all().is_err()) {
+        return Err(TreeFault::WrittenInPart);
+    }
+    Ok(())
+}

@@ -1,0 +1,8 @@
+//! The tree of the system: its folders and files, by std.
+#![tactic(auto)]
+
+mod folder;
+mod in_place;
+mod link;
+mod new_file;
+pub mod system;

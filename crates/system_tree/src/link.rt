@@ -1,0 +1,74 @@
+//! What links lead to, by paths that go on from where the link stands: the path of the current folder isn't needed, which
+//! may have other bytes than UTF-8.
+
+use file_tree::fault::TreeFault;
+use std::fs;
+
+/// How many links are followed at most, as by the system.
+const LINKS: u32 = 40;
+
+/// The folder of a path, with the `/` at its end, and the name in it.
+pub fn parted(path: &str) -> (&str, &str) {
+    match path.rsplit_once('/') {
+        Some((folder, name)) => (&path[..folder.len() + 1], name),
+        None => ("", path),
+    }
+}
+
+/// A path to what a link has.
+fn target(rt: &HostRuntime, link: &str) -> Result<String, TreeFault> {
+    let Ok(target) = fs::read_link(rt, link) else {
+        return Err(TreeFault::EndlessLink);
+    };
+    let Some(target) = target.to_str() else {
+        return Err(TreeFault::EndlessLink);
+    };
+    let (folder, _) = parted(link);
+    let folder = if target.starts_with('/') { "" } else { folder };
+    match format!(in rt.alloc(); "{folder}{target}") {
+        Ok(path) => Ok(path),
+        Err(_) => Err(TreeFault::OutOfMemory),
+    }
+}
+
+/// A path to what a path leads to, whose last part is no link.
+pub fn followed(rt: &HostRuntime, path: &str) -> Result<String, TreeFault> {
+    let Ok(mut path) = String::from_str(rt.alloc(), path) else {
+        return Err(TreeFault::OutOfMemory);
+    };
+    for _ in 0..LINKS {
+        match fs::symlink_metadata(rt, path.as_str()) {
+            Ok(metadata) if metadata.is_symlink() => path = target(rt, path.as_str())?,
+            Ok(_) => return Ok(path),
+            Err(_) => return Err(TreeFault::Unreadable),
+        }
+    }
+    Err(TreeFault::EndlessLink)
+}
+
+/// The path of the file that a linked path leads to, in a folder whose last part is no link.
+fn in_folder(rt: &HostRuntime, path: &str) -> Result<String, TreeFault> {
+    let (folder, name) = parted(path);
+    match folder.strip_suffix("/") {
+        None | Some("") => match String::from_str(rt.alloc(), path) {
+            Ok(path) => Ok(path),
+            Err(_) => Err(TreeFault::OutOfMemory),
+        },
+        Some(bare) => {
+            let folder = followed(rt, bare)?;
+            match format!(in rt.alloc(); "{folder}/{name}") {
+                Ok(path) => Ok(path),
+                Err(_) => Err(TreeFault::OutOfMemory),
+            }
+        }
+    }
+}
+
+/// A path of the file that a name leads to, which is no link: the name itself where it is none.
+pub fn real_path(rt: &HostRuntime, name: &str) -> Result<String, TreeFault> {
+    let path = followed(rt, name)?;
+    if path.as_str() == name {
+        return Ok(path);
+    }
+    in_folder(rt, path.as_str())
+}

@@ -1,0 +1,287 @@
+//! The folders and files of the system.
+
+ghost use Rattle.std.specs.Prelude.{◌≡◌, false, None, IfOk};
+ghost use Rattle.file_tree.specs.Files.{silent};
+
+use crate::folder::{Folder, identity_of};
+use crate::link::{parted, real_path};
+use crate::new_file::replace;
+use file_tree::fault::TreeFault;
+use file_tree::kind::{Identity, Kind};
+use file_tree::path::tidy;
+use file_tree::tree::{Replaced, Tree, WritableTree, Writing};
+use hcl_source::{ByteSource, Failed, FromRead};
+use std::fs::{File, Metadata};
+use std::io::{ErrorKind, Read};
+use std::rt::Files;
+use std::time::SystemTime;
+use std::{fs, io};
+
+/// A file that was opened. It tells no bytes.
+#[derive(Drop)]
+pub struct FileReader {
+    reader: FromRead<File>,
+}
+
+impl ByteSource for FileReader {
+    ghost left = { λ s. None };
+
+    ghost failed = { λ s. ⟦<FromRead<File> as ByteSource>⟧.failed s.reader };
+
+    fn read(&mut self, buffer: &mut [u8]) -> Result<usize, Failed> {
+        self.reader.read(buffer)
+    }
+
+    fn has_failed(&self) -> bool {
+        self.reader.has_failed()
+    }
+}
+
+/// The tree of the system, by std. It tells nothing.
+#[derive(Drop)]
+pub struct SystemTree {
+    rt: HostRuntime,
+    /// When the run began, where there is a clock.
+    began: Option<SystemTime>,
+    /// The folder of the file that was replaced last.
+    held: Option<Folder>,
+    /// The folders that the caller named by links to them, or in whose names he put such a link.
+    linked: Vec<Identity>,
+    /// Whether a folder was read. What the caller names is asked of before that.
+    is_walking: bool,
+}
+
+fn kind_in(metadata: &Metadata) -> Kind {
+    if metadata.is_file() {
+        return Kind::File(identity_of(metadata));
+    }
+    if metadata.is_dir() {
+        return Kind::Folder;
+    }
+    if metadata.is_symlink() {
+        return Kind::Link;
+    }
+    Kind::Other
+}
+
+/// A name as the system's calls take it.
+fn text_of(name: &[u8]) -> Result<&str, TreeFault> {
+    match std::str::from_utf8(name) {
+        Ok(text) => Ok(text),
+        Err(_) => Err(TreeFault::NotUtf8),
+    }
+}
+
+/// Why a link leads nowhere, or nowhere now.
+fn link_fault(kind: ErrorKind) -> TreeFault {
+    match kind {
+        ErrorKind::NotFound | ErrorKind::NotADirectory => TreeFault::DeadLink,
+        ErrorKind::FilesystemLoop => TreeFault::EndlessLink,
+        _ => TreeFault::Unreadable,
+    }
+}
+
+impl SystemTree {
+    pub fn new(rt: HostRuntime) -> SystemTree {
+        let began = SystemTime::now(&rt).ok();
+        let linked = Vec::new(rt.alloc());
+        SystemTree {
+            rt,
+            began,
+            held: None,
+            linked,
+            is_walking: false,
+        }
+    }
+
+    /// Why a name has no metadata.
+    fn metadata_fault(&self, name: &str, error: &io::Error) -> TreeFault {
+        match fs::symlink_metadata(&self.rt, name) {
+            Ok(metadata) if metadata.is_symlink() => link_fault(error.kind()),
+            Err(_) if name == "-" => TreeFault::NoInput,
+            _ => match error.kind() {
+                ErrorKind::NotFound | ErrorKind::NotADirectory => TreeFault::Missing,
+                _ => TreeFault::Unreadable,
+            },
+        }
+    }
+
+    fn kind_of(&self, name: &str) -> Result<Kind, TreeFault> {
+        match fs::metadata(&self.rt, name) {
+            Ok(metadata) => Ok(kind_in(&metadata)),
+            Err(error) => Err(self.metadata_fault(name, &error)),
+        }
+    }
+
+    /// Notes the folder of a path, if the last part of the path is a link.
+    fn note_link(&mut self, path: &str) -> Result<(), TreeFault> {
+        match fs::symlink_metadata(&self.rt, path) {
+            Ok(metadata) if metadata.is_symlink() => {}
+            Ok(_) => return Ok(()),
+            Err(error) => return Err(self.metadata_fault(path, &error)),
+        }
+        match fs::metadata(&self.rt, path) {
+            Ok(metadata) => match self.linked.push(identity_of(&metadata)) {
+                Ok(()) => Ok(()),
+                Err(_) => Err(TreeFault::OutOfMemory),
+            },
+            Err(error) => Err(self.metadata_fault(path, &error)),
+        }
+    }
+
+    /// Notes the folder that a name which the caller gave stands for, or the folder of the file.
+    fn note_given(&mut self, name: &[u8], kind: Kind) -> Result<(), TreeFault> {
+        let Ok(path) = tidy(self.rt.alloc(), name) else {
+            return Err(TreeFault::OutOfMemory);
+        };
+        let path = text_of(path.as_slice())?;
+        let path = if kind == Kind::Folder {
+            path
+        } else {
+            parted(path).0
+        };
+        let bare = path.strip_suffix("/").unwrap_or(path);
+        if bare.is_empty() {
+            Ok(())
+        } else {
+            self.note_link(bare)
+        }
+    }
+
+    fn given_kind_of(&mut self, name: &[u8]) -> Result<Kind, TreeFault> {
+        let kind = self.kind_of(text_of(name)?)?;
+        if !self.is_walking {
+            self.note_given(name, kind)?;
+        }
+        Ok(kind)
+    }
+
+    fn entry_kind_of(&self, name: &[u8]) -> Result<Kind, TreeFault> {
+        let name = text_of(name)?;
+        match fs::symlink_metadata(&self.rt, name) {
+            Ok(metadata) => Ok(kind_in(&metadata)),
+            Err(error) => Err(self.metadata_fault(name, &error)),
+        }
+    }
+
+    fn names_in(&mut self, folder: &[u8]) -> Result<Vec<u8>, TreeFault> {
+        self.is_walking = true;
+        let folder = text_of(folder)?;
+        let Ok(mut dir) = self.rt.open_dir(folder) else {
+            return Err(TreeFault::UnreadableFolder);
+        };
+        let mut names = Vec::new(self.rt.alloc());
+        let mut buffer = [0; 16_384];
+        for _ in 0..u64::MAX {
+            match dir.read(&mut buffer) {
+                Ok(0) => return Ok(names),
+                Ok(n) => {
+                    if names.extend_from_slice(&buffer[..n]).is_err() {
+                        return Err(TreeFault::OutOfMemory);
+                    }
+                }
+                Err(_) => return Err(TreeFault::UnreadableFolder),
+            }
+        }
+        Err(TreeFault::UnreadableFolder)
+    }
+
+    /// Opens a file. What it is is asked first, so that no pipe is waited for, and again of what was opened: a pipe that
+    /// takes its place in between is waited for.
+    fn open(&self, name: &[u8]) -> Result<FileReader, TreeFault>
+        ensures { IfOk result (λ r. ⟦<FileReader as ByteSource>⟧.failed r ≡ false) }
+    {
+        let name = text_of(name)?;
+        match self.kind_of(name) {
+            Ok(Kind::File(_)) => {}
+            Ok(_) => return Err(TreeFault::NotAFile),
+            Err(fault) => return Err(fault),
+        }
+        match File::open(&self.rt, name) {
+            Ok(file) => match file.metadata() {
+                Ok(metadata) if metadata.is_file() => Ok(FileReader {
+                    reader: FromRead::new(file),
+                }),
+                Ok(_) => Err(TreeFault::NotAFile),
+                Err(_) => Err(TreeFault::Unreadable),
+            },
+            Err(error) if error.kind() == ErrorKind::NotFound => Err(TreeFault::Missing),
+            Err(_) => Err(TreeFault::Unreadable),
+        }
+    }
+
+    /// The folder of a path, held open: the one that was held last, if it is that.
+    fn folder_at(&mut self, path: &str) -> Result<Folder, TreeFault> {
+        let linked = self.linked.as_slice();
+        if let Some(held) = self.held.take()
+            && let Some(folder) = held.again(&self.rt, path, linked)
+        {
+            return Ok(folder);
+        }
+        Folder::open(&self.rt, path, linked)
+    }
+
+    fn replace_named(
+        &mut self,
+        name: &[u8],
+        old: &[u8],
+        new: &[u8],
+        writing: Writing,
+    ) -> Result<Replaced, TreeFault> {
+        let name = text_of(name)?;
+        let path = real_path(&self.rt, name)?;
+        let (place, last) = parted(path.as_str());
+        let folder = self.folder_at(place)?;
+        let done = replace(&self.rt, &folder, last, old, new, writing, self.began);
+        self.held = Some(folder);
+        done
+    }
+}
+
+impl Tree for SystemTree {
+    type Reader = FileReader;
+
+    ghost files = { λ s. silent };
+
+    ghost faults = { λ s. None };
+
+    ghost asked = { λ s. None };
+
+    #[tactic(auto, using(file_tree::proofs::FileLemmas::silent_noted))]
+    fn kind(&mut self, name: &[u8]) -> Result<Kind, TreeFault> {
+        self.given_kind_of(name)
+    }
+
+    #[tactic(auto, using(file_tree::proofs::FileLemmas::silent_noted))]
+    fn entry_kind(&mut self, name: &[u8]) -> Result<Kind, TreeFault> {
+        self.entry_kind_of(name)
+    }
+
+    #[tactic(auto, using(file_tree::proofs::FileLemmas::silent_noted))]
+    fn listing(&mut self, folder: &[u8]) -> Result<Vec<u8>, TreeFault> {
+        self.names_in(folder)
+    }
+
+    #[tactic(auto, using(file_tree::proofs::FileLemmas::silent_noted))]
+    fn reader(&mut self, name: &[u8]) -> Result<FileReader, TreeFault> {
+        self.open(name)
+    }
+
+    #[tactic(auto, using(file_tree::proofs::FileLemmas::silent_noted))]
+    fn give_back(&mut self, reader: FileReader) {
+        let _ = &reader;
+    }
+}
+
+impl WritableTree for SystemTree {
+    #[tactic(auto, using(file_tree::proofs::FileLemmas::silent_noted, file_tree::proofs::FileLemmas::silent_replace))]
+    fn replace(
+        &mut self,
+        name: &[u8],
+        old: &[u8],
+        new: &[u8],
+        writing: Writing,
+    ) -> Result<Replaced, TreeFault> {
+        self.replace_named(name, old, new, writing)
+    }
+}

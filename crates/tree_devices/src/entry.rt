@@ -1,0 +1,37 @@
+//! What a tree in memory is made of.
+
+use file_tree::kind::{Identity, Kind};
+
+/// What stands under a name.
+#[derive(Clone, Copy, Debug, PartialEq, Eq)]
+pub enum Stands<'a> {
+    Folder,
+    /// A file of these bytes.
+    File(&'a [u8]),
+    /// A file of these bytes, which another program changes after it was read.
+    Busy(&'a [u8]),
+    /// A file that is gone before it is opened.
+    Gone,
+    /// A link to this name.
+    Link(&'a [u8]),
+    Pipe,
+}
+
+impl<'a> Stands<'a> {
+    /// What it is, a link being one, where its file is this one.
+    pub fn kind(self, identity: Identity) -> Kind {
+        match self {
+            Stands::Folder => Kind::Folder,
+            Stands::File(_) | Stands::Busy(_) | Stands::Gone => Kind::File(identity),
+            Stands::Link(_) => Kind::Link,
+            Stands::Pipe => Kind::Other,
+        }
+    }
+}
+
+/// A name with what stands under it. A folder has no slash at its end, and the current one no name.
+#[derive(Clone, Copy, Debug)]
+pub struct Entry<'a> {
+    pub name: &'a [u8],
+    pub stands: Stands<'a>,
+}

@@ -1,0 +1,340 @@
+//! A tree in memory, of which calls fail.
+
+ghost use Rattle.std.specs.Prelude.{◌≡◌, false, IfOk, None, OnErr, OnOk, Some, find, option_map};
+ghost use Rattle.std.specs.Str.{bytes_eq};
+ghost use Rattle.file_tree.specs.Files.{put};
+ghost use Rattle.tree_devices.specs.MemoryFiles.{files_in, real_in, text_in};
+
+use crate::calls::{Calls, Failures, Step};
+use crate::entry::{Entry, Stands};
+use crate::memory_reader::MemoryReader;
+use crate::stored::Stored;
+use file_tree::fault::TreeFault;
+use file_tree::kind::{Identity, Kind};
+use file_tree::tree::{Replaced, Tree, WritableTree, Writing};
+use hcl_scan::ByteSource;
+use std::alloc::{AllocError, Global};
+
+/// Folders, files, links and pipes in memory. It tells the bytes of its files, and where its links lead; a link to a link
+/// leads nowhere. A file is told from others by the number of its entry. A name that isn't UTF-8 it doesn't take, as the
+/// system's.
+#[derive(Drop)]
+pub struct MemoryTree<'a> {
+    alloc: Global,
+    entries: &'a [Entry<'a>],
+    files: Vec<Stored>,
+    links: Vec<Stored>,
+    calls: Calls,
+}
+
+/// What is stored under a name.
+fn stored_as<'s>(stored: &'s [Stored], name: &[u8]) -> Option<&'s Stored>
+    ensures { option_map (λ s. s.now) result ≡ find (λ s. bytes_eq name.now s.name.items) stored.now }
+{
+    stored.iter().find(|s| *name == *s.name.as_slice())
+}
+
+/// The text under a name.
+fn text_in<'s>(stored: &'s [Stored], name: &[u8]) -> Option<&'s [u8]>
+    ensures { option_map (λ text. text.now) result ≡ text_in stored.now name.now }
+{
+    match stored_as(stored, name) {
+        Some(found) => Some(found.bytes.as_slice()),
+        None => None,
+    }
+}
+
+/// The name to which a name leads, links followed.
+fn real_in<'s>(links: &'s [Stored], name: &'s [u8]) -> &'s [u8]
+    ensures { result.now ≡ real_in links.now name.now }
+{
+    match text_in(links, name) {
+        Some(to) => to,
+        None => name,
+    }
+}
+
+/// Stores a text before those that are there.
+fn store(
+    alloc: Global,
+    stored: &mut Vec<Stored>,
+    name: &[u8],
+    bytes: &[u8],
+) -> Result<(), AllocError> {
+    let name = Vec::from_slice(alloc, name)?;
+    let bytes = Vec::from_slice(alloc, bytes)?;
+    match stored.insert(0, Stored { name, bytes }) {
+        Ok(()) => Ok(()),
+        Err(_) => Err(AllocError),
+    }
+}
+
+/// A name as entries have it.
+fn plain(name: &[u8]) -> &[u8] {
+    let name = match name.strip_prefix(b"./".as_slice()) {
+        Some(rest) => rest,
+        None => name,
+    };
+    let name = match name.strip_suffix(b"/".as_slice()) {
+        Some(rest) => rest,
+        None => name,
+    };
+    if name == b".".as_slice() { b"" } else { name }
+}
+
+/// The name that an entry has in a folder, where it is in it.
+fn name_in<'n>(folder: &[u8], name: &'n [u8]) -> Option<&'n [u8]> {
+    let rest = if folder.is_empty() {
+        name
+    } else {
+        name.strip_prefix(folder)?.strip_prefix(b"/".as_slice())?
+    };
+    if rest.is_empty() || rest.contains(&b'/') {
+        return None;
+    }
+    Some(rest)
+}
+
+impl<'a> MemoryTree<'a> {
+    /// A tree that has these entries.
+    pub fn new(
+        alloc: Global,
+        entries: &'a [Entry<'a>],
+        failures: Failures,
+    ) -> Result<MemoryTree<'a>, AllocError> {
+        let mut files = Vec::new(alloc);
+        let mut links = Vec::new(alloc);
+        for entry in entries {
+            match entry.stands {
+                Stands::File(bytes) | Stands::Busy(bytes) => {
+                    store(alloc, &mut files, entry.name, bytes)?;
+                }
+                Stands::Link(to) => store(alloc, &mut links, entry.name, to)?,
+                Stands::Folder | Stands::Gone | Stands::Pipe => {}
+            }
+        }
+        Ok(MemoryTree {
+            alloc,
+            entries,
+            files,
+            links,
+            calls: Calls::new(alloc, failures),
+        })
+    }
+
+    /// The calls so far.
+    pub fn calls(&self) -> &Calls {
+        &self.calls
+    }
+
+    /// The bytes of the file of this name.
+    pub fn bytes_of(&self, name: &[u8]) -> Option<&[u8]> {
+        text_in(self.files.as_slice(), name)
+    }
+
+    fn stands(&self, name: &[u8]) -> Option<Stands<'a>> {
+        let name = plain(name);
+        for entry in self.entries {
+            if entry.name == name {
+                return Some(entry.stands);
+            }
+        }
+        None
+    }
+
+    /// What tells the file of this name from others: how many entries stand before its own.
+    fn identity_of(&self, name: &[u8]) -> Identity {
+        let name = plain(name);
+        let inode = self
+            .entries
+            .iter()
+            .take_while(|entry| entry.name != name)
+            .count();
+        Identity {
+            device: 1,
+            inode: inode as u64,
+        }
+    }
+
+    /// What a name stands for, a link being one, where it stands for something.
+    fn kind_at(&self, name: &[u8]) -> Option<Kind> {
+        match self.stands(name) {
+            Some(stands) => Some(stands.kind(self.identity_of(name))),
+            None => None,
+        }
+    }
+
+    /// What a name stands for, a link being one.
+    fn entry_kind_of(&self, name: &[u8]) -> Result<Kind, TreeFault> {
+        if std::str::from_utf8(name).is_err() {
+            return Err(TreeFault::NotUtf8);
+        }
+        match self.kind_at(name) {
+            Some(kind) => Ok(kind),
+            None if name == b"-".as_slice() => Err(TreeFault::NoInput),
+            None => Err(TreeFault::Missing),
+        }
+    }
+
+    /// What a name stands for, links followed.
+    fn kind_of(&self, name: &[u8]) -> Result<Kind, TreeFault> {
+        let Some(Stands::Link(to)) = self.stands(name) else {
+            return self.entry_kind_of(name);
+        };
+        match self.kind_at(to) {
+            Some(kind) if kind != Kind::Link => Ok(kind),
+            _ => Err(TreeFault::DeadLink),
+        }
+    }
+
+    fn names_in(&self, folder: &[u8]) -> Result<Vec<u8>, TreeFault> {
+        if self.entry_kind_of(folder) != Ok(Kind::Folder) {
+            return Err(TreeFault::UnreadableFolder);
+        }
+        let folder = plain(folder);
+        let mut names = Vec::new(self.alloc);
+        for entry in self.entries {
+            if let Some(name) = name_in(folder, entry.name) {
+                if names.extend_from_slice(name).is_err() || names.push(0).is_err() {
+                    return Err(TreeFault::OutOfMemory);
+                }
+            }
+        }
+        Ok(names)
+    }
+
+    /// Why a name can't be opened as a file, if it can't.
+    fn unopened(&self, name: &[u8]) -> Option<TreeFault> {
+        if let Some(Stands::Gone) = self.stands(name) {
+            return Some(TreeFault::Missing);
+        }
+        match self.kind_of(name) {
+            Ok(Kind::File(_)) => None,
+            Ok(_) => Some(TreeFault::NotAFile),
+            Err(fault) => Some(fault),
+        }
+    }
+
+    fn open(&self, name: &[u8], good_reads: Option<usize>) -> Result<MemoryReader, TreeFault>
+        ensures fresh { IfOk result (λ r. ⟦<MemoryReader as ByteSource>⟧.failed r ≡ false) }
+        ensures bytes { IfOk result (λ r. ⟦<MemoryReader as ByteSource>⟧.left r ≡ text_in self.now.files.items (real_in self.now.links.items name.now)) }
+    {
+        if let Some(fault) = self.unopened(name) {
+            return Err(fault);
+        }
+        let real = real_in(self.links.as_slice(), name);
+        let Some(bytes) = text_in(self.files.as_slice(), real) else {
+            return Err(TreeFault::Unreadable);
+        };
+        match Vec::from_slice(self.alloc, bytes) {
+            Ok(bytes) => Ok(MemoryReader::new(bytes, good_reads)),
+            Err(_) => Err(TreeFault::OutOfMemory),
+        }
+    }
+
+    /// Whether the file to which a name leads has these bytes still.
+    fn has_bytes(&self, name: &[u8], bytes: &[u8]) -> bool {
+        if let Some(Stands::Busy(_)) = self.stands(name) {
+            return false;
+        }
+        match text_in(self.files.as_slice(), real_in(self.links.as_slice(), name)) {
+            Some(found) => found == bytes,
+            None => false,
+        }
+    }
+
+    /// Gives the file to which a name leads new bytes.
+    fn put(&mut self, name: &[u8], new: &[u8]) -> Result<(), TreeFault>
+        ensures ok { OnOk result (files_in self.new.files.items self.new.links.items ≡ put (files_in self.old.files.items self.old.links.items) (real_in self.old.links.items name.now) new.now) }
+        ensures err { OnErr result (files_in self.new.files.items self.new.links.items ≡ files_in self.old.files.items self.old.links.items) }
+    {
+        let real = real_in(self.links.as_slice(), name);
+        if text_in(self.files.as_slice(), real).is_none() {
+            return Err(TreeFault::Missing);
+        }
+        let Ok(name) = Vec::from_slice(self.alloc, real) else {
+            return Err(TreeFault::OutOfMemory);
+        };
+        let Ok(bytes) = Vec::from_slice(self.alloc, new) else {
+            return Err(TreeFault::OutOfMemory);
+        };
+        match self.files.insert(0, Stored { name, bytes }) {
+            Ok(()) => Ok(()),
+            Err(_) => Err(TreeFault::OutOfMemory),
+        }
+    }
+}
+
+impl<'a> Tree for MemoryTree<'a> {
+    type Reader = MemoryReader;
+
+    ghost files = { λ s. files_in s.files.items s.links.items };
+
+    ghost faults = { λ s. None };
+
+    ghost asked = { λ s. None };
+
+    #[tactic(auto, using(file_tree::proofs::FileLemmas::silent_noted))]
+    fn kind(&mut self, name: &[u8]) -> Result<Kind, TreeFault> {
+        match self.calls.make(Step::Kind, name) {
+            Ok(()) => self.kind_of(name),
+            Err(fault) => Err(fault),
+        }
+    }
+
+    #[tactic(auto, using(file_tree::proofs::FileLemmas::silent_noted))]
+    fn entry_kind(&mut self, name: &[u8]) -> Result<Kind, TreeFault> {
+        match self.calls.make(Step::EntryKind, name) {
+            Ok(()) => self.entry_kind_of(name),
+            Err(fault) => Err(fault),
+        }
+    }
+
+    #[tactic(auto, using(file_tree::proofs::FileLemmas::silent_noted))]
+    fn listing(&mut self, folder: &[u8]) -> Result<Vec<u8>, TreeFault> {
+        match self.calls.make(Step::Listing, folder) {
+            Ok(()) => self.names_in(folder),
+            Err(fault) => Err(fault),
+        }
+    }
+
+    #[tactic(auto, using(file_tree::proofs::FileLemmas::silent_noted))]
+    fn reader(&mut self, name: &[u8]) -> Result<MemoryReader, TreeFault> {
+        match self.calls.make(Step::Opening, name) {
+            Ok(()) => {
+                let good_reads = self.calls.open(name);
+                self.open(name, good_reads)
+            }
+            Err(fault) => Err(fault),
+        }
+    }
+
+    #[tactic(auto, using(file_tree::proofs::FileLemmas::silent_noted))]
+    fn give_back(&mut self, reader: MemoryReader) {
+        if reader.has_failed() {
+            self.calls.note_read();
+        }
+    }
+}
+
+impl<'a> WritableTree for MemoryTree<'a> {
+    #[tactic(auto, using(file_tree::proofs::FileLemmas::silent_noted))]
+    fn replace(
+        &mut self,
+        name: &[u8],
+        old: &[u8],
+        new: &[u8],
+        writing: Writing,
+    ) -> Result<Replaced, TreeFault> {
+        let is_link = self.entry_kind_of(name) == Ok(Kind::Link);
+        let is_same = self.has_bytes(name, old);
+        let replaced = match self.calls.replace(name, is_link, is_same, writing) {
+            Ok(replaced) => replaced,
+            Err(fault) => return Err(fault),
+        };
+        match self.put(name, new) {
+            Ok(()) => Ok(replaced),
+            Err(fault) => Err(fault),
+        }
+    }
+}

@@ -1,0 +1,235 @@
+"""The program tffmt-all over a tree of another user, who exchanges what is there while the program works: nothing of his
+comes into a folder that isn't his, whatever is exchanged and when."""
+
+import ctypes
+import errno
+import os
+import shutil
+import stat
+import subprocess
+import threading
+
+from files import contents
+from harness import GOOD, NOBODY, OTHER, TOP, lines, put
+
+EXCHANGE, HERE = 2, -100
+MOST = 200
+# How often the program runs beside an attacker at full speed.
+RACES = 520
+# How long a run may take that doesn't wait for anybody.
+SECONDS = 5
+
+
+def exchanger():
+    """A function that exchanges two names by one call of the system, and answers whether it did."""
+    system = ctypes.CDLL(None, use_errno=True)
+    return lambda one, other: system.renameat2(HERE, os.fsencode(one), HERE, os.fsencode(other), EXCHANGE) == 0
+
+
+def library(group):
+    """The library of tests/refuse.c, which stands before the C library's calls."""
+    made = group.top / 'refuse.so'
+    if not made.exists():
+        subprocess.run(
+            ['gcc', '-O1', '-shared', '-fPIC', '-o', str(made), str(TOP / 'tests' / 'refuse.c'), '-ldl'], check=True
+        )
+    return str(made)
+
+
+def attacked(group, words, top, counted='any', **setting):
+    """(what a run shows, whether the call was reached before which something is done, whether the run had to be woken)."""
+    back, told = os.pipe()
+    started = subprocess.Popen(
+        [group.trees, *words],
+        cwd=str(top),
+        pass_fds=[told],
+        env=dict(group.setting, LD_PRELOAD=library(group), REFUSED=counted, REFUSE_FD=str(told), **setting),
+        stdin=subprocess.DEVNULL,
+        stdout=subprocess.PIPE,
+        stderr=subprocess.PIPE,
+    )
+    os.close(told)
+    try:
+        woken = False
+        try:
+            out, err = started.communicate(timeout=SECONDS)
+        except subprocess.TimeoutExpired:
+            woken = True
+            wake(top)
+            out, err = started.communicate(timeout=SECONDS)
+        return (started.returncode, out, err), os.read(back, 4), woken
+    finally:
+        started.kill()
+        os.close(back)
+
+
+def wake(top):
+    """Writes to the pipes that are read, so that nobody waits for them."""
+    for path in top.rglob('*'):
+        try:
+            if stat.S_ISFIFO(os.lstat(str(path)).st_mode):
+                os.close(os.open(str(path), os.O_WRONLY | os.O_NONBLOCK))
+        except OSError as fault:
+            if fault.errno not in (errno.ENXIO, errno.ENOENT):
+                raise
+
+
+def give_away(path):
+    for where, folders, names in os.walk(str(path)):
+        for name in [where] + [os.path.join(where, name) for name in folders + names]:
+            os.lchown(name, NOBODY, NOBODY)
+
+
+def lay(group, what):
+    """(the attacker's tree, root's folder, what is exchanged, and for what)."""
+    top, victim = group.fresh(), group.fresh()
+    put(top, {'in/x.tf': OTHER, 'in/y.tf': OTHER})
+    put(victim, {'x.tf': OTHER, 'note': b'of root\n'})
+    if what == 'a folder for a link':
+        put(top, {'evil': b'->' + os.fsencode(str(victim))})
+        pair = 'in', 'evil'
+    elif what == 'a folder for another':
+        put(top, {'evil/x.tf': b'->' + os.fsencode(str(victim / 'x.tf'))})
+        pair = 'in', 'evil'
+    elif what == 'a file for a link':
+        put(top, {'evil': b'->' + os.fsencode(str(victim / 'note'))})
+        pair = 'in/x.tf', 'evil'
+    else:
+        os.mkfifo(str(top / 'evil'))
+        pair = 'in/x.tf', 'evil'
+    give_away(top)
+    return top, victim, pair
+
+
+def is_untouched(victim):
+    """Whether root's folder has what it had: its own files, which root may have formatted."""
+    found = {path.name: path for path in victim.iterdir()}
+    return (
+        set(found) == {'x.tf', 'note'}
+        and {path.stat().st_uid for path in found.values()} == {0}
+        and found['note'].read_bytes() == b'of root\n'
+        and found['x.tf'].read_bytes() in (OTHER, GOOD)
+    )
+
+
+def held_up(group):
+    """Before each call in turn the attacker makes his exchange."""
+    for what in ('a folder for a link', 'a folder for another', 'a file for a link', 'a file for a pipe'):
+        wrong, waited, number = [], [], 0
+        for words in ([], ['--in-place', '--sync']):
+            for number in range(1, MOST):
+                top, victim, pair = lay(group, what)
+                shown, reached, woken = attacked(
+                    group, words, top, REFUSE=str(number), EXCHANGE=pair[0], FOR=pair[1]
+                )
+                waited += [reached] * woken
+                files = [path.name for path in list(top.rglob('*')) + list(victim.rglob('*'))]
+                if not is_untouched(victim) or any(name.startswith('.tffmt.') for name in files):
+                    wrong.append((words, number, reached, shown, files))
+                shutil.rmtree(str(top))
+                shutil.rmtree(str(victim))
+                if not reached:
+                    break
+        group.check('%s, before each call' % what, wrong[:1], [])
+        group.holds('%s, before over 30 calls' % what, 30 < number < MOST - 1, number)
+        # What stays: a pipe that comes between the look at a file and its opening for a read.
+        group.check('%s: what is waited for' % what, waited, [b'open'] * 2 if what == 'a file for a pipe' else [])
+
+
+class Attacker(threading.Thread):
+    """Exchanges two names as often as it can, where it is told to."""
+
+    def __init__(self, *pair):
+        super().__init__(daemon=True)
+        self.pair, self.count = [str(name) for name in pair], 0
+        self.at_work, self.is_over = threading.Lock(), False
+        self.exchange = exchanger()
+
+    def run(self):
+        while not self.is_over:
+            with self.at_work:
+                self.count += self.exchange(*self.pair)
+
+
+def at_full_speed(group):
+    """The attacker exchanges a folder for a link to root's as often as he can, while the program runs."""
+    top, victim, _ = lay(group, 'a folder for a link')
+    names, wrong, ended = ['in/%02d.tf' % number for number in range(4)], [], {}
+    attacker = Attacker(top / 'in', top / 'evil')
+    attacker.at_work.acquire()
+    attacker.start()
+    for number in range(RACES):
+        if (top / 'in').is_symlink():
+            attacker.exchange(*attacker.pair)
+        put(top, {name: OTHER for name in names})
+        put(victim, {'x.tf': OTHER, 'note': b'of root\n'})
+        give_away(top)
+        attacker.at_work.release()
+        done = group.call(group.trees, 'in' if number % 2 else 'in/x.tf', *names, cwd=top)
+        attacker.at_work.acquire()
+        ended[done[0]] = ended.get(done[0], 0) + 1
+        if not is_untouched(victim):
+            wrong.append((number, done, sorted(os.listdir(str(victim)))))
+            break
+    attacker.is_over = True
+    attacker.at_work.release()
+    attacker.join()
+    group.check('an attacker at full speed', wrong, [])
+    group.holds('he made an exchange in many of over 500 runs', attacker.count > 500 < sum(ended.values()), ended)
+
+
+def owners(group):
+    """Nobody is given a file in a folder in which others than he and root can put files."""
+    for mode, owner in ((0o755, NOBODY), (0o777, 0)):
+        top = group.fresh()
+        put(top, {'x.tf': OTHER})
+        os.chown(str(top / 'x.tf'), NOBODY, 0)
+        top.chmod(mode)
+        group.check("root's folder of mode %o" % mode, group.call(group.trees, cwd=top)[0], 0)
+        group.check('the owner of a file in it', ((top / 'x.tf').stat().st_uid, contents(top)), (owner, {'x.tf': GOOD}))
+        give_away(top)
+        put(top, {'x.tf': OTHER})
+        group.check("the owner's folder of mode %o" % mode, group.call(group.trees, cwd=top)[0], 0)
+        group.check('the owner of a file of his', (top / 'x.tf').stat().st_uid, NOBODY)
+
+
+def without_proc(group):
+    """Where there is no /proc a folder is gone by its path, if nobody else can write it."""
+    script = 'mount -t tmpfs none /proc && cd "$1" || exit 99\n"$2" --sync 2>&1; echo $?'
+    top = group.fresh()
+    put(top, {'mine/a.tf': OTHER, 'his/a.tf': OTHER})
+    give_away(top / 'his')
+    done = shutil.which('unshare') and group.call('unshare', '-m', 'sh', '-c', script, 'sh', top, group.trees, cwd='/')
+    if not done or done[0] in (1, 99):
+        group.skip('a system without /proc', 2, 'nothing can be mounted')
+        return
+    group.check('without /proc', done[1], lines('his/a.tf: no file can be made beside it', 'mine/a.tf', '4'))
+    group.check(
+        'and what was written', contents(top), {'mine/a.tf': GOOD, 'his/a.tf': OTHER}
+    )
+
+
+def linked_folders(group):
+    """A folder that is named by a link is gone into, however it is named; one that was none isn't, once it is a link."""
+    for word in ('other', 'other/', './/other/.', 'other/a.tf', 'other//a.tf'):
+        top = group.fresh()
+        put(top, {'real/a.tf': OTHER, 'other': b'->real'})
+        group.check(
+            'a linked folder as %r' % word,
+            (group.call(group.trees, word, cwd=top), (top / 'real' / 'a.tf').read_bytes()),
+            ((0, lines('other/a.tf'), b''), GOOD),
+        )
+
+
+def run(group):
+    if not os.access(group.trees, os.X_OK):
+        group.skip('attacks', 20, 'bin/tffmt-all is not built')
+        return
+    linked_folders(group)
+    if not group.has('gcc', checks=15):
+        return
+    if os.getuid() != 0:
+        group.skip('attacks', 15, 'not run by root')
+        return
+    for part in (held_up, at_full_speed, owners, without_proc):
+        part(group)
