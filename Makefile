@@ -12,6 +12,7 @@ PROGRAMS := $(subst _,-,$(patsubst crates/%/src/main.rt,%,$(wildcard crates/*/sr
 SCRIPTS := $(patsubst contrib/%,%,$(wildcard contrib/tffmt-* contrib/tfrules-*))
 COMMANDS = $(PROGRAMS) $(SCRIPTS)
 BUILT := $(addprefix bin/,$(PROGRAMS))
+OBJECTS := $(foreach name,$(subst -,_,$(PROGRAMS)),crates/$(name)/out/$(name).o)
 SOURCES := $(shell find crates -name out -prune -o -type f -print) crates.txt
 BIN = $(DESTDIR)$(PREFIX)/bin
 MAN = $(DESTDIR)$(PREFIX)/share/man/man1
@@ -50,8 +51,12 @@ test:
 	$(NEEDS_KIT)
 	./tests/gate
 
-dist: bin/programs
+# A release is linked from the objects, which `rt ci` doesn't always leave.
+dist: bin/programs $(OBJECTS)
 	@./tools/dist
+
+$(OBJECTS): | bin/programs
+	@./tools/prove $(PROGRAMS)
 
 install: bin/programs
 	@mkdir -p "$(BIN)" 2>/dev/null && [ -w "$(BIN)" ] || { echo \
