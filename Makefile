@@ -11,7 +11,10 @@ DESTDIR =
 PROGRAMS := $(subst _,-,$(patsubst crates/%/src/main.rt,%,$(wildcard crates/*/src/main.rt)))
 SCRIPTS := $(patsubst contrib/%,%,$(wildcard contrib/tffmt-* contrib/tfrules-*))
 COMMANDS = $(PROGRAMS) $(SCRIPTS)
+EXAMPLES := pre-commit-config.yaml treefmt.toml $(sort $(patsubst contrib/%,%,$(shell \
+  find contrib/ci contrib/editors contrib/emacs contrib/vim -type f)))
 BUILT := $(addprefix bin/,$(PROGRAMS))
+OBJECTS := $(foreach name,$(subst -,_,$(PROGRAMS)),crates/$(name)/out/$(name).o)
 SOURCES := $(shell find crates -name out -prune -o -type f -print) crates.txt
 BIN = $(DESTDIR)$(PREFIX)/bin
 MAN = $(DESTDIR)$(PREFIX)/share/man/man1
@@ -24,7 +27,7 @@ FISH = $(DESTDIR)$(PREFIX)/share/fish/vendor_completions.d
 NEEDS_PYTHON = @python3 -c 'import sys; sys.exit(sys.version_info < (3, 8))' 2>/dev/null || \
   { echo 'make: there is no python3 of version 3.8 or later on the path' >&2; exit 1; }
 NEEDS_KIT = @command -v rt >/dev/null 2>&1 || { echo 'make: there is no rt on the path: the proofs need the' \
-  'Rattle kit; README.md says which' >&2; exit 1; }
+  'Rattle kit; CONTRIBUTING.md says which' >&2; exit 1; }
 
 all: bin/programs
 
@@ -50,23 +53,24 @@ test:
 	$(NEEDS_KIT)
 	./tests/gate
 
-dist: bin/programs
+# A release is linked from the objects, which `rt ci` doesn't always leave.
+dist: bin/programs $(OBJECTS)
 	@./tools/dist
+
+$(OBJECTS): | bin/programs
+	@./tools/prove $(PROGRAMS)
 
 install: bin/programs
 	@mkdir -p "$(BIN)" 2>/dev/null && [ -w "$(BIN)" ] || { echo \
 	  "make: $(BIN) can't be written; PREFIX=FOLDER installs elsewhere" >&2; exit 1; }
-	install -d "$(BIN)" "$(MAN)" "$(DOC)/examples/ci" "$(DOC)/examples/editors/vscode" \
-	  "$(DOC)/examples/editors/jetbrains" "$(BASH)" "$(ZSH)" "$(FISH)"
+	install -d "$(BIN)" "$(MAN)" "$(DOC)/docs" "$(DOC)/bench" "$(BASH)" "$(ZSH)" "$(FISH)"
 	install -m 755 $(BUILT) "$(BIN)"
 	install -m 755 $(addprefix contrib/,$(SCRIPTS)) "$(BIN)"
 	install -m 644 $(patsubst %,man/%.1,$(COMMANDS)) "$(MAN)"
-	install -m 644 VERSION CHANGELOG.md docs/STYLE.md docs/RULES.md docs/TFLINT.md docs/SCALE.md "$(DOC)"
-	install -m 644 contrib/pre-commit-config.yaml contrib/treefmt.toml "$(DOC)/examples"
-	install -m 644 contrib/ci/* "$(DOC)/examples/ci"
-	install -m 644 contrib/editors/*.* "$(DOC)/examples/editors"
-	install -m 644 contrib/editors/vscode/* "$(DOC)/examples/editors/vscode"
-	install -m 644 contrib/editors/jetbrains/* "$(DOC)/examples/editors/jetbrains"
+	install -m 644 VERSION README.md CONTRIBUTING.md CHANGELOG.md "$(DOC)"
+	install -m 644 $(wildcard docs/*.md docs/*.svg) "$(DOC)/docs"
+	install -m 644 bench/HISTORY.md "$(DOC)/bench"
+	for file in $(EXAMPLES); do install -D -m 644 "contrib/$$file" "$(DOC)/examples/$$file" || exit 1; done
 	install -m 644 contrib/completions/_tffmt "$(ZSH)"
 	for name in $(COMMANDS); do \
 	  install -m 644 contrib/completions/tffmt.bash "$(BASH)/$$name" && \

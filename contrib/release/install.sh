@@ -5,9 +5,10 @@
 #     sh install.sh --remove [PREFIX]
 #
 # What was installed is listed in PREFIX/share/doc/tffmt/installed, and the removal uses that list alone, so it removes
-# the files of that version and the folders that were made for them, if they are empty. This script is there too. The
-# status is 1 if a file can't be written or removed, or the programs don't run here, and then nothing is installed; and 2
-# if the command line is wrong.
+# the files of that version and the folders that were made for them, if they are empty. This script is there too. It says
+# in a few lines what it installed, and what to add to PATH if the programs wouldn't be found there. The status is 1 if a
+# file can't be written or removed, or the programs don't run here, and then nothing is installed; and 2 if the command
+# line is wrong.
 set -u
 LC_ALL=C
 export LC_ALL
@@ -43,7 +44,7 @@ names() {
 
 install_all() {
   "$here/bin/tffmt" --help >/dev/null 2>&1 ||
-    fail "the programs don't run here: they are for Linux on x86-64 with glibc 2.34 or later; nothing is installed"
+    fail "the programs don't run here: they are for Linux on x86-64; nothing is installed"
   if [ -f "$1/share/doc/tffmt/installed" ]; then
     remove "$1"
   fi
@@ -70,6 +71,17 @@ install_all() {
   }
 }
 
+# told PREFIX: says what was installed, and what to do so that a shell finds it.
+told() {
+  printf 'installed in %s/bin: %s\n' "$1" "$(cd "$here/bin" && echo *)"
+  printf 'with man pages, completions, and documents in %s/share/doc/tffmt\n' "$1"
+  case :$PATH: in
+    *":$1/bin:"*) ;;
+    *) printf 'add to PATH, in the file that your shell reads first: export PATH="%s/bin:%sPATH"\n' "$1" '$' ;;
+  esac
+  printf 'to remove it again: sh "%s/share/doc/tffmt/install.sh" --remove "%s"\n' "$1" "$1"
+}
+
 what=install_all
 case ${1-} in
   --remove)
@@ -83,3 +95,7 @@ prefix=${1-/usr/local}
 here=$(cd "$(dirname -- "$0")" && pwd) || fail 'the folder of this script is gone'
 [ "$what" = remove ] || [ -d "$here/bin" ] || fail "there is no folder bin beside this script"
 "$what" "${prefix%/}"
+if [ "$what" = install_all ]; then
+  absolute=$(cd "${prefix%/}/" && pwd)
+  told "${absolute%/}"
+fi

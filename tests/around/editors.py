@@ -6,6 +6,7 @@ import os
 import pty
 import re
 import select
+import shutil
 import struct
 import subprocess
 import termios
@@ -83,7 +84,7 @@ def run_vim(group):
         """What the last line shows, what the buffer holds, and what the file holds."""
         here = group.fresh()
         put(here, {name: text})
-        script = VIM.replace('PLUGIN', str(group.contrib / 'editors' / 'tffmt.vim')).replace('KEYS', keys)
+        script = VIM.replace('PLUGIN', str(group.contrib / 'vim/plugin/tffmt.vim')).replace('KEYS', keys)
         (here / 'test.vim').write_text('let g:tffmt_program = "%s"\n%s' % (program, script))
         words = [editor, '-u', 'NONE', '-N', '-i', 'NONE'] if editor == 'vim' else [editor, '-u', 'NONE', '-i', 'NONE']
         said = on_terminal(group, words + ['-S', 'test.vim', name], here, **setting)
@@ -120,6 +121,75 @@ def run_vim(group):
     group.check('a program with a blank in its path', edit('a.tf', OTHER, program=shell)[2], GOOD)
 
 
+PACKAGED = """set nomore
+edit a.tf
+silent write
+call writefile([exists(':Tffmt'), join(getline(1, '$'), '|'), has('nvim') && exists('#tfrules#BufWritePost')], 'told')
+compiler tfrules
+call writefile([b:current_compiler], 'compiler')
+qall!
+"""
+
+
+def run_packaged_vim(group):
+    """The folder as a package, where Vim and Neovim look for those that start with them."""
+    editor = group.name.split()[0]
+    if not group.has(editor, checks=1):
+        return
+    home = group.fresh()
+    start = {'vim': '.vim', 'nvim': '.local/share/nvim/site'}[editor] + '/pack/tffmt/start/tffmt'
+    shutil.copytree(str(group.contrib / 'vim'), str(home / start))
+    here = group.fresh()
+    put(here, {'a.tf': OTHER, 'test.vim': PACKAGED.encode()})
+    words = ['vim', '-N', '-i', 'NONE', '-es'] if editor == 'vim' else ['nvim', '-i', 'NONE', '--headless']
+    path = group.before_path(group.script('tffmt', 'exec %s "$@"\n' % group.program).parent, group.contrib)
+    (home / '.vimrc').touch()
+    done = group.call(*words, '-S', 'test.vim', cwd=here, HOME=str(home), XDG_DATA_HOME=str(home / '.local/share'), PATH=path)
+    told = [(here / name).read_text().split() if (here / name).exists() else done for name in ('told', 'compiler')]
+    is_nvim = str(int(editor == 'nvim'))
+    group.check('what the package brings', told, [['2', 'a', '=', '1', is_nvim], ['tfrules']])
+
+
+KAKOUNE = """source PLUGIN
+edit NAME
+try %{ KEYS } catch %{ echo -debug %val{error} }
+write -method overwrite -force buffer
+edit -debug *debug*
+write -method overwrite -force shown
+quit!
+"""
+
+
+def run_kakoune(group):
+    if not group.has('kak', checks=9):
+        return
+
+    def edit(name, text, keys='write', program=group.program):
+        """What was shown, what the buffer holds, and what the file holds."""
+        here = group.fresh()
+        put(here, {name: text})
+        plugin = str(group.contrib / 'editors' / 'tffmt.kak')
+        (here / 'test.kak').write_text(KAKOUNE.replace('PLUGIN', plugin).replace('NAME', name).replace('KEYS', keys))
+        path = '%s:%s' % (group.script('tffmt', 'exec %s "$@"\n' % program).parent, group.setting['PATH'])
+        done = group.call('kak', '-n', '-ui', 'dummy', '-e', 'source test.kak', cwd=here, PATH=path)
+        if not (here / 'shown').exists():
+            return 'nothing was noted: %r' % (done,), b'', b''
+        return (here / 'shown').read_text(), (here / 'buffer').read_bytes(), (here / name).read_bytes()
+
+    group.check('a file is formatted when it is written', edit('a.tf', OTHER)[1:], (GOOD, GOOD))
+    for name in ('a.tfvars', 'a.tftest.hcl'):
+        group.check(name, edit(name, OTHER)[2], GOOD)
+    shown, buffer, file = edit('a.tf', BAD)
+    group.holds('a refused buffer: the message is shown', 'tffmt: error: 1:3: unexpected token' in shown, shown)
+    group.check('and the file is written as it is', (buffer, file), (BAD, BAD))
+    shown, buffer, file = edit('a.tf', OTHER, program='no-such-program')
+    group.holds('without the program', 'no-such-program: not found' in shown and file == OTHER, (shown, file))
+    group.check('by hand', edit('a.tf', OTHER, 'tffmt')[1:], (GOOD, OTHER))
+    group.check('another file', edit('a.txt', OTHER)[2], OTHER)
+    left = [it.name for it in group.folder('tmp').glob('kak-tffmt*')]
+    group.check('no temporary file is left', left, [])
+
+
 EMACS = '''
 (load "PLUGIN" nil t)
 (setq tffmt-program "PROGRAM" make-backup-files nil)
@@ -141,7 +211,7 @@ def run_emacs(group):
         here = group.fresh()
         put(here, {name: text})
         (here / 'test.el').write_text(
-            EMACS.replace('PLUGIN', str(group.contrib / 'editors' / 'tffmt.el'))
+            EMACS.replace('PLUGIN', str(group.contrib / 'emacs/tffmt.el'))
             .replace('PROGRAM', program)
             .replace('NAME', name)
             .replace('FORM', form)
@@ -198,7 +268,7 @@ def batch(group):
         here,
         {
             'big.tf': text,
-            'test.el': BATCH.replace('PLUGIN', str(group.contrib / 'editors' / 'tffmt.el'))
+            'test.el': BATCH.replace('PLUGIN', str(group.contrib / 'emacs/tffmt.el'))
             .replace('PROGRAM', group.program)
             .encode(),
         },
@@ -224,7 +294,7 @@ def batch(group):
         {
             'mixed.tf': b'b{\n\tx   =[1,  2]\t\n\n  long=<<E\n  k  \nE\n}\r\n\xc3\xa9 = 1',
             'other.el': (
-                '(load "%s/editors/tffmt.el" nil t) (setq tffmt-program "%s") (find-file-literally "mixed.tf") '
+                '(load "%s/emacs/tffmt.el" nil t) (setq tffmt-program "%s") (find-file-literally "mixed.tf") '
                 '(set-buffer-multibyte t) (tffmt) (save-buffer)' % (group.contrib, group.program)
             ).encode(),
         },
@@ -240,7 +310,7 @@ def batch(group):
         '(setq byte-compile-dest-file-function (lambda (_) "%s"))' % (here / 'x.elc'),
         '-f',
         'batch-byte-compile',
-        group.contrib / 'editors' / 'tffmt.el',
+        group.contrib / 'emacs' / 'tffmt.el',
         cwd=here,
     )
     group.check('compiles without a warning', (warnings[0], warnings[2]), (0, b''))
@@ -267,8 +337,6 @@ def run_linting_vim(group):
     editor = group.name.split()[0]
     if not group.has(editor, checks=4):
         return
-    place = group.folder('runtime/compiler')
-    (place / 'tfrules.vim').write_text((group.contrib / 'editors' / 'tfrules.vim').read_text())
     script = """set runtimepath^=%s
 let g:tfrules_program = '%s'
 compiler tfrules
@@ -281,7 +349,7 @@ qall!
     def made(files, words='', program=group.contrib / 'tfrules-modules'):
         here = group.fresh()
         put(here, files)
-        (here / 'test.vim').write_text(script % (group.top / 'runtime', program, words))
+        (here / 'test.vim').write_text(script % (group.contrib / 'vim', program, words))
         words = (
             ['vim', '-u', 'NONE', '-N', '-i', 'NONE', '-es']
             if editor == 'vim'
@@ -309,7 +377,8 @@ qall!
 
 DIAGNOSED = """
 vim.g.tfrules_command = { "%s", "--rules", "%s" }
-vim.cmd("luafile %s/editors/tfrules.lua")
+vim.opt.runtimepath:prepend("%s/vim")
+require("tfrules").enable()
 local function told()
   local list = {}
   for _, it in ipairs(vim.diagnostic.get(0)) do
@@ -362,7 +431,7 @@ def run_diagnostics(group):
 
 
 FLYMAKE = """
-(load "%s/editors/tfrules.el" nil t)
+(load "%s/emacs/tfrules.el" nil t)
 (setq tfrules-command '("%s" "--rules" "%s") make-backup-files nil)
 (defun told ()
   (flymake-start)
@@ -412,7 +481,7 @@ def run_flymake(group):
         '(setq byte-compile-dest-file-function (lambda (_) "%s"))' % (here / 'x.elc'),
         '-f',
         'batch-byte-compile',
-        group.contrib / 'editors' / 'tfrules.el',
+        group.contrib / 'emacs' / 'tfrules.el',
         cwd=here,
     )
     group.check('compiles without a warning', (warnings[0], warnings[2]), (0, b''))

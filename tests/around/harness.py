@@ -20,6 +20,11 @@ def is_sh(shell):
     return shell != 'sh' and os.path.realpath(shutil.which(shell) or '') == os.path.realpath(shutil.which('sh'))
 
 
+def is_open(path):
+    """Whether another user may enter each folder above a path, so that a check as such a user can reach it."""
+    return all(it.stat().st_mode & 0o001 for it in pathlib.Path(os.path.realpath(path)).parents)
+
+
 class Group:
     """Checks of one subject, with a temporary folder. `lines` is what is to be printed in the end."""
 
@@ -35,9 +40,12 @@ class Group:
         self.linter = str(beside if beside.exists() else TOP / 'bin' / 'tfrules')
         beside = pathlib.Path(program).with_name('tffmt-all')
         self.trees = str(beside if beside.exists() else TOP / 'bin' / 'tffmt-all')
+        under_test = [self.program, self.linter, self.trees, str(self.contrib)]
+        if all(map(os.path.exists, under_test)) and not all(map(is_open, under_test)):
+            self.take_in()
         (self.folder('trees') / 'tffmt-all').symlink_to(self.trees)
         self.setting.update(
-            TFFMT=program,
+            TFFMT=self.program,
             TFRULES=self.linter,
             TFFMT_ALL=self.trees,
             HOME=str(self.folder('home')),
@@ -47,6 +55,15 @@ class Group:
             TERM='dumb',
         )
         self.top.joinpath('tmp').chmod(0o777)
+
+    def take_in(self):
+        """Copies what is tested below the temporary folder, where another user reaches it."""
+        under_test = self.folder('under-test')
+        self.program, self.linter, self.trees = (
+            shutil.copy(it, str(under_test)) for it in (self.program, self.linter, self.trees)
+        )
+        shutil.copytree(str(self.contrib), str(under_test / 'contrib'))
+        self.contrib = under_test / 'contrib'
 
     def folder(self, name):
         made = self.top / name

@@ -419,8 +419,8 @@ def other_hooks(group):
 
 
 def with_the_linter(group):
-    """The README's hook, which lints the modules of the staged files too."""
-    text = (TOP / 'README.md').read_text(encoding='utf-8')
+    """The hook of docs/USING.md, which lints the modules of the staged files too."""
+    text = (TOP / 'docs/USING.md').read_text(encoding='utf-8')
     script = next(block for block in re.findall(r'```sh\n(.*?)```', text, re.S) if 'tffmt-hook || exit' in block)
     here = Repository(group)
     hook = here.top / '.git' / 'hooks' / 'pre-commit'

@@ -46,7 +46,7 @@ def run(group):
         own = [it for it in err.decode().splitlines() if not it.startswith('make: ***') and ' Error 1' not in it]
         return status, out.decode(), own
 
-    kit = 'there is no rt on the path: the proofs need the Rattle kit; README.md says which'
+    kit = 'there is no rt on the path: the proofs need the Rattle kit; CONTRIBUTING.md says which'
     for target in ('all', 'bin/tffmt', 'try', 'test'):
         group.check(
             'make %s without rt' % target, make(target, path='%s:%s' % (nothing, tools)), (2, '', ['make: ' + kit])

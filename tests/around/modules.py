@@ -497,6 +497,13 @@ def names_from_input(group, script):
     group.check('no names', script('-0', cwd=top), (0, b'', b''))
 
 
+def takes_stand_ins(script):
+    """Whether the shell takes the tools that the path has, which a static busybox may not do."""
+    made = script.group.script('find', 'echo stand-in\n')
+    done = script.group.call('sh', '-c', 'find /nowhere', cwd='/', PATH='%s:%s' % (made.parent, script.path))
+    return done[1] == b'stand-in\n'
+
+
 def failing_tools(group, script):
     """Nothing may turn green where a program fails."""
     top = _put(group, {'a/a.tf': DECLARED, 'b/b.tf': DECLARED})
@@ -527,6 +534,9 @@ def failing_tools(group, script):
         ('xargs', 'case $* in *--batch*) exit 0 ;; esac\nexec "%s" "$@"\n'),
     ):
         made = group.script(tool, text.replace('%s', shutil.which(tool)))
+        if not takes_stand_ins(script):
+            group.skip(tool, 1, 'this busybox calls its own tools whatever the path has')
+            continue
         group.check(
             '%s that ends so: %r' % (tool, text), script('a', cwd=top, PATH='%s:%s' % (made.parent, script.path))[0], 1
         )

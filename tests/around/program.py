@@ -31,11 +31,11 @@ def run(group):
 
 
 def walk(group):
-    """The README's first walk, line by line. A line that says `refused: TEXT` or `status 2: TEXT` must fail and say so."""
+    """The first walk of docs/USING.md, line by line. A line that says `refused: TEXT` or `status 2: TEXT` must fail and say so."""
     if not group.has('git', checks=6):
         return
-    text = (TOP / 'README.md').read_text(encoding='utf-8')
-    section = text.split('### A first walk\n')[1].split('\n### ')[0]
+    text = (TOP / 'docs/USING.md').read_text(encoding='utf-8')
+    section = text.split('## A first walk\n')[1].split('\n## ')[0]
     lines = ''.join(re.findall(r'```sh\n(.*?)```', section, re.S)).splitlines()
     script = 'git config --global user.name n && git config --global user.email n@localhost\n'
     script += ''.join(
@@ -58,9 +58,9 @@ def walk(group):
     )
     for line in refused[:2]:
         wanted = re.search('# (?:refused|status 2): (.*)', lines[line]).group(1)
-        group.holds('says what the README says', wanted in (out + err).decode().splitlines(), out + err)
+        group.holds('says what the walk says', wanted in (out + err).decode().splitlines(), out + err)
     printed = next(line for line in lines if 'the hook printed' in line).partition(' #')[0].rstrip()
-    group.holds('the hook prints the command of the README', '  ' + printed in err.decode().splitlines(), err)
+    group.holds('the hook prints the command of the walk', '  ' + printed in err.decode().splitlines(), err)
     group.holds('and the formatted file is named', '\nmodules/web/main.tf\n' in out.decode(), out)
     made = group.call('git', 'log', '--format=%s', cwd=here / 'walk')[1]
     group.check('the commits that were made', made, b'Drop its use\nAdd a variable\nAdd a module\n')
@@ -71,7 +71,7 @@ def walk(group):
 
 
 def readme(group):
-    """The example of the README, and the text that it explains."""
+    """The example of the README, the number of its words, and a text that is explained."""
     text = (TOP / 'README.md').read_text(encoding='utf-8')
     blocks = re.findall(r'```hcl\n(.*?)```', text, re.S)
     group.check(
@@ -80,4 +80,5 @@ def readme(group):
         (0, blocks[1].encode(), b''),
     )
     group.check('1.2.3', group.call(group.program, cwd=group.top, stdin=b'v = 1.2.3\n'), (0, b'v = 1.2 .3\n', b''))
-    group.holds('1.2.3 is explained', '1.2 .3' in text)
+    group.holds('1.2.3 is explained', '1.2 .3' in (TOP / 'docs/TERRAFORM-FMT.md').read_text(encoding='utf-8'))
+    group.holds('the README has at most 1,200 words', len(text.split()) <= 1200, '%d words' % len(text.split()))

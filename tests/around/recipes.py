@@ -7,7 +7,6 @@ import pathlib
 import re
 import shutil
 import subprocess
-import xml.etree.ElementTree
 
 from editors import on_terminal
 from harness import BAD, GOOD, OTHER, TOP, lines, put
@@ -202,13 +201,6 @@ def recipes(group):
     lint_matchers(group)
     matcher = json.loads((contrib / 'ci' / 'tffmt-matcher.json').read_text())
     tasks = json.loads((contrib / 'editors' / 'vscode' / 'tasks.json').read_text())
-    json.loads((contrib / 'editors' / 'vscode' / 'settings.json').read_text())
-    tree = xml.etree.ElementTree.parse(str(contrib / 'editors' / 'jetbrains' / 'watcherTasks.xml'))
-    group.check(
-        'JetBrains: a program and an argument',
-        [tree.find('.//TaskOptions/option[@name="%s"]' % name).get('value') for name in ('program', 'arguments')],
-        ['tffmt-all', '-- "$FilePath$"'],
-    )
     here = group.fresh()
     put(here, {'a b:1/bad.tf': BAD, 'other.tf': OTHER, 'good.tf': GOOD})
     path = group.before_path(group.contrib)
@@ -448,7 +440,7 @@ def pages(group):
         if group.has('mandoc'):
             group.check('mandoc -Tlint ' + name, group.call('mandoc', '-Tlint', page, cwd=group.top), (0, b'', b''))
     text = (TOP / 'man' / 'tffmt.1').read_text()
-    for name in ('README.md', 'man/tffmt.1'):
+    for name in ('README.md', 'docs/USING.md', 'man/tffmt.1'):
         group.check(
             '%s redirects nothing to a file that was read' % name,
             re.findall(r'.*\.new\b.*|.*cat .*>.*\.tf\b.*', (TOP / name).read_text()),
@@ -534,13 +526,12 @@ def installing(group):
     wanted = ['bin/' + name for name in PAGES] + ['share/man/man1/%s.1' % name for name in PAGES]
     wanted += ['share/bash-completion/completions/' + name for name in PAGES]
     wanted += ['share/fish/vendor_completions.d/%s.fish' % name for name in PAGES] + ['share/zsh/site-functions/_tffmt']
-    wanted += [
-        'share/doc/tffmt/' + name
-        for name in ('VERSION', 'CHANGELOG.md', 'STYLE.md', 'RULES.md', 'TFLINT.md', 'SCALE.md')
-    ]
+    documents = ['VERSION', 'README.md', 'CONTRIBUTING.md', 'CHANGELOG.md', 'bench/HISTORY.md']
+    documents += ['docs/' + it.name for kind in ('*.md', '*.svg') for it in (TOP / 'docs').glob(kind)]
+    wanted += ['share/doc/tffmt/' + name for name in documents]
     examples = ['pre-commit-config.yaml', 'treefmt.toml'] + [
         str(p.relative_to(TOP / 'contrib'))
-        for folder in ('ci', 'editors')
+        for folder in ('ci', 'editors', 'emacs', 'vim')
         for p in (TOP / 'contrib' / folder).rglob('*')
         if not p.is_dir()
     ]
@@ -549,6 +540,11 @@ def installing(group):
     for name in PAGES:
         named |= set(re.findall(r'share/doc/[\w./-]*\w', (usr / 'share/man/man1' / (name + '.1')).read_text()))
     group.check('the man pages name nothing else', sorted(n for n in named if not (usr / n).exists()), [])
+    group.check(
+        'links of the installed documents',
+        group.call(TOP / 'tests' / 'links', usr / 'share/doc/tffmt', cwd=top)[::2],
+        (0, b''),
+    )
     group.check('VERSION', (usr / 'share/doc/tffmt/VERSION').read_text(), (TOP / 'VERSION').read_text())
     here = group.fresh()
     put(here, {'a.tf': OTHER})

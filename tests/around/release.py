@@ -1,26 +1,39 @@
-"""What `make dist` packs: the same bytes each time, and programs that run where there is only the C library."""
+"""What `make dist` packs: the same bytes each time, and programs that run where there is nothing else."""
 
 import os
 import re
 import shutil
 import stat
+import struct
 import subprocess
 import tarfile
 
-from harness import GOOD, OTHER, TOP
+from harness import GOOD, OTHER, TOP, lines
 
 ELSEWHERE = {'TZ': 'Asia/Tokyo', 'LC_ALL': 'C', 'USER': 'nobody', 'LOGNAME': 'nobody'}
 MESSAGE = b'tffmt: error: 1:3: unexpected token\n'
 
 
+NEEDS = ('git', 'make', 'gcc', 'strip', 'readelf', 'dpkg-deb', 'dpkg-query', 'rt')
+PROGRAMS = ('tffmt', 'tfrules', 'tffmt-all')
+# The kind of a segment that names the loader.
+LOADER = 3
+
+
 def missing(group, needs, checks):
     lacking = [it for it in needs if not shutil.which(it)]
-    if not lacking and not all(os.access(str(TOP / 'bin' / it), os.X_OK) for it in ('tffmt', 'tfrules', 'tffmt-all')):
-        group.skip('make dist', checks, 'the programs are not built')
+    made = [TOP / 'bin' / it for it in PROGRAMS] + [object_of(TOP, it) for it in PROGRAMS]
+    if not lacking and not all(it.exists() for it in made):
+        group.skip('make dist', checks, 'the programs or their objects are not built')
         return True
     if lacking:
         group.has(lacking[0], checks=checks)
     return bool(lacking)
+
+
+def object_of(top, name):
+    crate = name.replace('-', '_')
+    return top / 'crates' / crate / 'out' / (crate + '.o')
 
 
 def tree(folder):
@@ -32,8 +45,8 @@ def tree(folder):
     )
 
 
-def pack(group, to, **setting):
-    return group.call(TOP / 'tools' / 'dist', to, cwd=group.top, **setting)
+def pack(group, to, top=TOP, **setting):
+    return group.call(top / 'tools' / 'dist', '--untried', to, cwd=group.top, **setting)
 
 
 def copy_of_sources(group):
@@ -48,12 +61,15 @@ def copy_of_sources(group):
     for it in [*made.joinpath('bin').iterdir(), *made.joinpath('contrib').iterdir(), *made.joinpath('tools').iterdir()]:
         if it.is_file():
             it.chmod(0o700)
+    for name in PROGRAMS:
+        object_of(made, name).parent.mkdir()
+        shutil.copy(str(object_of(TOP, name)), str(object_of(made, name)))
     return made
 
 
 def packing(group):
     """Two packings, in two folders and of two copies, give the same bytes."""
-    if missing(group, ('git', 'make', 'strip', 'readelf', 'dpkg-deb'), 10):
+    if missing(group, NEEDS, 15):
         return
     first, second = group.fresh() / 'one', group.fresh() / 'two'
     group.check(
@@ -71,6 +87,7 @@ def packing(group):
         'umask 077; exec "$@"',
         'sh',
         other / 'tools' / 'dist',
+        '--untried',
         second,
         cwd=group.top,
         SOURCE_DATE_EPOCH='1700000000',
@@ -79,10 +96,24 @@ def packing(group):
     group.check('packing a copy', (done[0], done[2]), (0, b''))
     same = [(it.name, it.read_bytes() == (second / it.name).read_bytes()) for it in sorted(first.iterdir())]
     version = (TOP / 'VERSION').read_text().strip()
-    names = ['SHA256SUMS', 'tffmt-%s-linux-x86_64.tar.gz' % version, 'tffmt_%s_amd64.deb' % version]
+    names = [
+        'SHA256SUMS',
+        'tffmt-%s-linux-x86_64.tar.gz' % version,
+        'tffmt-%s-py3-none-manylinux_2_17_x86_64.whl' % version,
+        'tffmt-%s-relink.tar.gz' % version,
+        'tffmt_%s_amd64.deb' % version,
+    ]
     group.check('the same bytes', same, [(name, True) for name in names])
     group.check('SHA256SUMS', group.call('sha256sum', '--quiet', '-c', 'SHA256SUMS', cwd=first), (0, b'', b''))
-    with tarfile.open(str(first / names[1])) as archive:
+    programs = in_tarball(group, first / names[1])
+    in_package(group, first / names[4], version)
+    relinked(group, first / names[3], programs)
+    not_packed(group, other)
+
+
+def in_tarball(group, file):
+    """The programs that a tarball has, whose entries don't tell who packed it."""
+    with tarfile.open(str(file)) as archive:
         entries = archive.getmembers()
         group.check(
             'owners, modes and times',
@@ -91,39 +122,81 @@ def packing(group):
         )
         group.check('modes', {it.mode for it in entries}, {0o755, 0o644})
         group.check('names are sorted', [it.name for it in entries], sorted(it.name for it in entries))
-        programs = [
-            archive.extractfile(it).read() for it in entries if re.search('/bin/(tffmt|tfrules|tffmt-all)$', it.name)
-        ]
+        programs = {
+            it.name.rpartition('/')[2]: archive.extractfile(it).read()
+            for it in entries
+            if re.search('/bin/(tffmt|tfrules|tffmt-all)$', it.name)
+        }
     held = [
         path
         for path in (str(TOP), '/crates/', '/home/', '/tmp/', '/root/')
-        for text in programs
+        for text in programs.values()
         if path.encode() in text
     ]
     group.check(
-        'no path of the build, and no symbol table',
-        (len(programs), held, [b'.symtab' in it for it in programs]),
-        (3, [], [False] * 3),
+        'no path of the build, no symbol table, and no loader',
+        (sorted(programs), held, [(b'.symtab' in it, LOADER in segments(it)) for it in programs.values()]),
+        (sorted(PROGRAMS), [], [(False, False)] * 3),
     )
-    control = group.call(
-        'dpkg-deb', '-f', first / names[2], 'Package', 'Version', 'Architecture', 'Depends', cwd=group.top
-    )
+    return programs
+
+
+def segments(program):
+    """The kinds of the segments of a program."""
+    first, size, count = struct.unpack_from('<Q', program, 32)[0], *struct.unpack_from('<HH', program, 54)
+    return {struct.unpack_from('<I', program, first + size * it)[0] for it in range(count)}
+
+
+def in_package(group, file, version):
+    control = group.call('dpkg-deb', '-f', file, 'Package', 'Version', 'Architecture', 'Depends', cwd=group.top)
     group.check(
-        'the package',
+        'the package depends on nothing',
         control[1].decode(),
-        'Package: tffmt\nVersion: %s\nArchitecture: amd64\nDepends: libc6 (>= 2.34)\n' % version,
+        'Package: tffmt\nVersion: %s\nArchitecture: amd64\n' % version,
+    )
+    if group.has('lintian'):
+        said = group.call('lintian', '--allow-root', '--fail-on', 'error', file, cwd=group.top)
+        group.check('lintian', (said[0], [it for it in said[1].splitlines() if it.startswith(b'E')]), (0, []))
+
+
+def relinked(group, file, programs):
+    """The objects for who has another C library give the programs of the release, by the commands beside them."""
+    room = group.fresh()
+    group.call('tar', '-xzf', file, cwd=room)
+    folder = next(room.iterdir())
+    words = re.findall(r'^    (gcc .*)', (folder / 'README').read_text(), re.M)
+    for it in words:
+        group.call('sh', '-c', it, cwd=folder)
+        group.call('strip', '--strip-all', '--remove-section=.comment', it.split(' -o ')[1].split()[0], cwd=folder)
+    group.check(
+        'linked again by the commands of its README',
+        {name: (folder / name).exists() and (folder / name).read_bytes() == text for name, text in programs.items()},
+        {name: True for name in PROGRAMS},
     )
 
 
-def empty_root(group):
-    """A folder with the C library and its loader alone, as a root."""
-    root = group.fresh()
-    linked = subprocess.run(['ldd', group.program], stdout=subprocess.PIPE).stdout.decode()
-    for name in re.findall(r'(/\S+) \(0x', linked):
-        made = root / name[1:]
-        made.parent.mkdir(parents=True, exist_ok=True)
-        shutil.copy(name, str(made))
-    return root
+def not_packed(group, copy):
+    """What isn't packed: a program that needs a loader, and an object that bin/ wasn't linked from."""
+    to = group.fresh() / 'none'
+    gcc = shutil.which('gcc')
+    shared = group.script('gcc', '[ "$1" = -static-pie ] || exec %s "$@"\nshift\nexec %s -pie "$@"\n' % (gcc, gcc))
+    group.check(
+        'a program with a loader',
+        (pack(group, to, copy, PATH=group.before_path(shared.parent), SOURCE_DATE_EPOCH='1')[::2], to.exists()),
+        ((1, b'tools/dist: tffmt names a loader\n'), False),
+    )
+    shutil.copy(str(object_of(copy, 'tfrules')), str(object_of(copy, 'tffmt')))
+    group.check(
+        'an object of another program',
+        (pack(group, to, copy, SOURCE_DATE_EPOCH='1')[::2], to.exists()),
+        (
+            (
+                1,
+                b'tools/dist: bin/tffmt was not linked from crates/tffmt/out/tffmt.o; tools/prove makes both\n',
+            ),
+            False,
+        ),
+    )
 
 
 def runs_in(group, root, folder):
@@ -141,35 +214,58 @@ def runs_in(group, root, folder):
     return said, [(0, GOOD, b''), (2, b'', MESSAGE), (0, b''), (0, b'/a.tf\n', b''), GOOD]
 
 
+def may_chroot():
+    return not os.geteuid() and not subprocess.run(['chroot', '/', '/bin/true'], stderr=subprocess.DEVNULL).returncode
+
+
 def releasing(group):
-    """The tarball and the package are installed into an empty root, run there, and removed; nothing is left."""
-    if os.geteuid() or subprocess.run(['chroot', '/', '/bin/true'], stderr=subprocess.DEVNULL).returncode:
-        group.skip('an empty root', 17, 'chroot is not allowed here')
+    """The tarball and the package are installed into an empty root, run there, and removed; nothing is left. The same in
+    a root with busybox alone, where the script that installs and the one that lints modules run too."""
+    if not may_chroot():
+        group.skip('an empty root', 21, 'chroot is not allowed here')
         return
-    if missing(group, ('git', 'make', 'strip', 'readelf', 'dpkg-deb', 'dpkg', 'ldd'), 17):
+    if missing(group, NEEDS + ('dpkg',), 21):
         return
     made = group.fresh() / 'dist'
     group.check('packing', pack(group, made)[0], 0)
-    from_tarball(group, next(made.glob('*.tar.gz')))
+    from_tarball(group, next(made.glob('*-linux-x86_64.tar.gz')))
     from_package(group, next(made.glob('*.deb')))
+    beside_busybox(group, next(made.glob('*-linux-x86_64.tar.gz')))
+
+
+def unpacked(group, file):
+    """The folder of an unpacked tarball, with the script that installs from the folder of scripts under test."""
+    room = group.fresh()
+    group.check('unpacking', group.call('tar', 'xzf', file, cwd=room), (0, b'', b''))
+    folder = next(room.iterdir())
+    shutil.copy(str(group.contrib / 'release' / 'install.sh'), str(folder))
+    return folder
+
+
+def told(prefix, path=False):
+    """What install.sh says."""
+    names = 'tffmt tffmt-all tffmt-hook tfrules tfrules-modules tfrules-report'
+    said = ['installed in %s/bin: %s' % (prefix, names)]
+    said += ['with man pages, completions, and documents in %s/share/doc/tffmt' % prefix]
+    if not path:
+        said += ['add to PATH, in the file that your shell reads first: export PATH="%s/bin:$PATH"' % prefix]
+    said += ['to remove it again: sh "%s/share/doc/tffmt/install.sh" --remove "%s"' % (prefix, prefix)]
+    return lines(*said)
 
 
 def from_tarball(group, file):
-    root = empty_root(group)
-    empty = tree(root)
-    unpacked = group.fresh()
-    group.check('unpacking', group.call('tar', 'xzf', file, cwd=unpacked), (0, b'', b''))
-    script = next(unpacked.glob('*/install.sh'))
-    shutil.copy(str(group.contrib / 'release' / 'install.sh'), str(script))
+    root = group.fresh()
+    script = unpacked(group, file) / 'install.sh'
     prefix = root / 'opt' / "a folder's name"
-    group.check('install.sh', group.call('sh', script, prefix, cwd=group.top), (0, b'', b''))
+    group.check('install.sh', group.call('sh', script, prefix, cwd=group.top), (0, told(prefix), b''))
     got, wanted = runs_in(group, root, "/opt/a folder's name/bin")
     group.check('run in an empty root, by the tarball', got, wanted)
     whole = tree(prefix)
+    path = '%s/bin:%s' % (prefix, group.setting['PATH'])
     group.check(
         'installed again, it is the same',
-        (group.call('sh', script, prefix, cwd=group.top)[0], [name for name, _ in tree(prefix)]),
-        (0, [name for name, _ in whole]),
+        (group.call('sh', script, prefix, cwd=group.top, PATH=path), [name for name, _ in tree(prefix)]),
+        ((0, told(prefix, True), b''), [name for name, _ in whole]),
     )
     own = prefix / 'share/doc/tffmt/install.sh'
     group.check(
@@ -179,7 +275,22 @@ def from_tarball(group, file):
     )
     group.check('the prefix is removed', [it.name for it in (root / 'opt').iterdir()], [])
     shutil.rmtree(str(root / 'opt'))
-    group.check('nothing is left', [name for name, _ in tree(root)], [name for name, _ in empty])
+    group.check('nothing is left', [name for name, _ in tree(root)], [])
+    beside_others(group, root, script)
+    program = script.parent / 'bin/tffmt'
+    program.write_bytes(program.read_bytes()[:100])
+    group.check(
+        'where the programs do not run',
+        (group.call('sh', script, root / 'new', cwd=group.top), (root / 'new').exists()),
+        (
+            (1, b'', b"install.sh: the programs don't run here: they are for Linux on x86-64; nothing is installed\n"),
+            False,
+        ),
+    )
+
+
+def beside_others(group, root, script):
+    """What others put under the prefix stays, and without a list nothing is removed."""
     (root / 'usr/bin').mkdir(parents=True)
     (root / 'usr/bin/other').write_bytes(b'kept')
     group.call('sh', script, root / 'usr', cwd=group.top)
@@ -203,46 +314,88 @@ def from_tarball(group, file):
         group.call('sh', script, 'a', 'b', cwd=group.top)[::2],
         (2, b'install.sh: usage: install.sh [--remove] [PREFIX]\n'),
     )
-    program = script.parent / 'bin/tffmt'
-    program.write_bytes(program.read_bytes().replace(b'GLIBC_2.34\0', b'GLIBC_2.99\0'))
-    group.check(
-        'an older C library',
-        (group.call('sh', script, root / 'new', cwd=group.top), (root / 'new').exists()),
-        (
-            (
-                1,
-                b'',
-                b"install.sh: the programs don't run here: they are for Linux on x86-64 with glibc 2.34 or later; "
-                b'nothing is installed\n',
-            ),
-            False,
-        ),
-    )
 
 
 def from_package(group, file):
-    root = empty_root(group)
+    root = group.fresh()
     admin = root / 'var/lib/dpkg'
     for name in ('info', 'updates', 'triggers'):
         (admin / name).mkdir(parents=True)
+    (admin / 'status').write_bytes(b'')
     before = tree(root)
 
     def dpkg(*words):
         return group.call('dpkg', '--root=%s' % root, '--force-not-root', '--log=/dev/null', *words, cwd=group.top)[0]
 
-    def has_library(version):
-        (admin / 'status').write_text(
-            'Package: libc6\nStatus: install ok installed\nMaintainer: nobody\nArchitecture: '
-            'amd64\nVersion: %s\nDescription: the C library\n\n' % version
-        )
-
-    has_library('2.33-1')
-    group.check('an older C library, by its package', dpkg('--install', file) != 0, True)
-    dpkg('--purge', 'tffmt')
-    has_library('2.34-1')
-    group.check('dpkg --install', dpkg('--install', file), 0)
+    group.check('dpkg --install, where no C library is installed', dpkg('--install', file), 0)
     got, wanted = runs_in(group, root, '/usr/bin')
     group.check('run in an empty root, by the package', got, wanted)
     group.check('dpkg --purge', dpkg('--purge', 'tffmt'), 0)
     left = [name for name, _ in tree(root) if not name.startswith('var/lib/dpkg')]
     group.check('nothing is left', left, [name for name, _ in before if not name.startswith('var/lib/dpkg')])
+
+
+def is_static(program):
+    said = subprocess.run(['readelf', '--program-headers', program], stdout=subprocess.PIPE, stderr=subprocess.DEVNULL)
+    return b'INTERP' not in said.stdout
+
+
+def beside_busybox(group, file):
+    """A root with a static busybox and its names alone, as small systems have it."""
+    if not group.has('busybox', checks=5):
+        return
+    if not is_static(shutil.which('busybox')):
+        group.skip('a root with busybox', 5, 'busybox is not static')
+        return
+    root = group.fresh()
+    for name in ('bin', 'tmp', 'dev'):
+        (root / name).mkdir()
+    try:
+        os.mknod(str(root / 'dev/null'), stat.S_IFCHR | 0o666, os.makedev(1, 3))
+    except PermissionError:  # a container may not make devices; what is written there is read by nobody
+        (root / 'dev/null').touch()
+    shutil.copy(shutil.which('busybox'), str(root / 'bin'))
+    group.call('chroot', root, '/bin/busybox', '--install', '-s', '/bin', cwd=group.top)
+    shutil.copytree(str(unpacked(group, file)), str(root / 'release'))
+    how = {'cwd': str(root), 'PATH': '/bin:/usr/local/bin', 'TMPDIR': '/tmp', 'HOME': '/'}
+
+    def inside(*words, **more):
+        return group.call(shutil.which('chroot'), root, *words, **how, **more)
+
+    group.check('install.sh', inside('sh', '/release/install.sh'), (0, told('/usr/local', True), b''))
+    got, wanted = runs_in(group, root, '/usr/local/bin')
+    group.check('run beside busybox', got, wanted)
+    (root / 'm').mkdir()
+    (root / 'm/a.tf').write_bytes(b'variable "n" {}\n')
+    said = inside('tfrules-modules', '/m', TFRULES='tfrules')
+    group.check('modules are linted there', (said[0], said[1].count(b'/m/a.tf:1:1: Warning'), said[2]), (2, 2, b''))
+    group.check('install.sh --remove', inside('sh', '/usr/local/share/doc/tffmt/install.sh', '--remove')[0], 0)
+
+
+def older_debian(group):
+    """The package and the tarball in Debian 11, whose C library is older than the one that the programs are linked with."""
+    if not may_chroot():
+        group.skip('an older Debian', 5, 'chroot is not allowed here')
+        return
+    if missing(group, NEEDS, 5) or not group.has('debootstrap', checks=5):
+        return
+    root, mirror = group.fresh(), os.environ.get('DEBIAN_MIRROR', 'http://deb.debian.org/debian')
+    words = ['debootstrap', '--variant=minbase', 'bullseye', str(root), mirror]
+    try:
+        made = subprocess.run(words, stdout=subprocess.DEVNULL, stderr=subprocess.DEVNULL, timeout=600).returncode
+    except subprocess.TimeoutExpired:
+        made = 1
+    if made:
+        group.skip('an older Debian', 5, 'debootstrap of bullseye failed')
+        return
+    dist = group.fresh() / 'dist'
+    group.check('packing', pack(group, dist)[0], 0)
+    shutil.copy(str(next(dist.glob('*.deb'))), str(root / 'tffmt.deb'))
+    said = group.call('chroot', root, 'dpkg', '--install', '/tffmt.deb', cwd=group.top)
+    group.check('dpkg --install', said[0], 0)
+    got, wanted = runs_in(group, root, '/usr/bin')
+    group.check('run in Debian 11, by the package', got, wanted)
+    shutil.copytree(str(unpacked(group, next(dist.glob('*-linux-x86_64.tar.gz')))), str(root / 'release'))
+    group.call('chroot', root, 'sh', '/release/install.sh', '/opt/tffmt', cwd=group.top)
+    got, wanted = runs_in(group, root, '/opt/tffmt/bin')
+    group.check('run in Debian 11, by the tarball', got, wanted)

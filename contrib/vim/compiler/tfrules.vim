@@ -1,6 +1,6 @@
 " Vim and Neovim: lints the module of the file at hand, and lists what is found.
 "
-" Put this file into ~/.vim/compiler/ (Vim) or ~/.config/nvim/compiler/ (Neovim). After `:compiler tfrules`, `:make`
+" The plugin in the folder above this one brings it. After `:compiler tfrules`, `:make`
 " lints the folder of the file with all its files, as last saved, and fills the quickfix list; `:lmake`
 " fills the location list. To have it for all Terraform files:
 "

@@ -1,6 +1,8 @@
 " Vim and Neovim: formats a Terraform file when it is written.
 "
-" Put this file into ~/.vim/plugin/ (Vim) or ~/.config/nvim/plugin/ (Neovim). `:Tffmt` formats the buffer by hand.
+" The folder above this one is a plugin: copy it to ~/.vim/pack/tffmt/start/tffmt (Vim) or
+" ~/.local/share/nvim/site/pack/tffmt/start/tffmt (Neovim), or name it to a plugin manager. `:Tffmt` formats the buffer
+" by hand.
 " If tffmt refuses the text, the buffer stays as it is, the file is written as it is, and the message is shown
 " after Vim's own that the file was written. The same holds if tffmt can't be run.
 "

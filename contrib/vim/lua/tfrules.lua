@@ -1,7 +1,7 @@
 -- Neovim 0.7 or later: shows as diagnostics what tfrules finds, when a Terraform file is opened or written.
 --
--- Put this file into ~/.config/nvim/plugin/. The module of the file is linted with all its files, as last saved.
--- vim.g.tfrules_command names the program and its options, if it isn't { "tfrules-modules" }.
+-- The plugin in the folder above this one calls `enable`. The module of the file is linted with all its files, as last
+-- saved. vim.g.tfrules_command names the program and its options, if it isn't { "tfrules-modules" }.
 --
 -- A column counts characters as a reader sees them, and Neovim takes it for a byte's: after letters that aren't ASCII
 -- the mark is too far to the left on the line.
@@ -79,8 +79,15 @@ local function lint(event)
   })
 end
 
-vim.api.nvim_create_autocmd({ "BufReadPost", "BufWritePost" }, {
-  group = vim.api.nvim_create_augroup("tfrules", { clear = true }),
-  pattern = { "*.tf", "*.tofu" },
-  callback = lint,
-})
+local tfrules = {}
+
+-- Lints when a Terraform file is opened or written, from now on.
+function tfrules.enable()
+  vim.api.nvim_create_autocmd({ "BufReadPost", "BufWritePost" }, {
+    group = vim.api.nvim_create_augroup("tfrules", { clear = true }),
+    pattern = { "*.tf", "*.tofu" },
+    callback = lint,
+  })
+end
+
+return tfrules
