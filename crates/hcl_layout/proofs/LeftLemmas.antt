@@ -1,14 +1,14 @@
 -- What is left to print, piece by piece.
-use Rattle.std.proofs.Common.{◌*◌, ◌≡◌, ◌∙◌, ◌+◌, ◌-◌, ◌++◌, ◌<◌, ◌≤◌, ◌==◌, ◌^◌, ℕ, suc, zero, Bool, true, false, List, [], ◌∷◌, Option, Some, None, length, ap, ap₂, refl, sym, arith, subst, take, drop, replicate}
-use Rattle.std.specs.Prelude.{IfSome, if◌then◌else◌, nat_lt, slice_get}
+use Rattle.std.proofs.Common.{◌*◌, ◌≡◌, ◌∙◌, ◌+◌, ◌-◌, ◌++◌, ◌<◌, ◌≤◌, ◌^◌, ℕ, suc, zero, true, false, List, Option, Some, None, length, ap, ap₂, refl, sym, arith, subst, take, drop, replicate}
+use Rattle.std.specs.Prelude.{IfSome, nat_lt, slice_get}
 use Rattle.std.proofs.lemmas.Bool.Decides.{nat_tests}
 use Rattle.hcl_tokens.specs.Balanced.{max_open}
 use Rattle.hcl_layout.specs.Inner.Left.{token_before}
 use Rattle.std.specs.List.{flat_map}
 use Rattle.hcl_tokens.specs.Lexemes.{Lexeme}
 use Rattle.hcl_layout.specs.Inner.Depths.{BalancedFrom, fresh}
-use Rattle.hcl_layout.specs.Gaps.{clusters, gaps, indent, width}
-use Rattle.hcl_layout.specs.Inner.LineGaps.{len_with_blanks, cell_gap, gap_of, gaps_from, gaps_in, plain_gap, plain_of}
+use Rattle.hcl_layout.specs.Gaps.{clusters, gaps, width}
+use Rattle.hcl_layout.specs.Inner.LineGaps.{gap_of, gaps_from, gaps_in, plain_gap}
 use Rattle.hcl_layout.specs.Lines.{lines}
 use Rattle.hcl_layout.specs.Print.{printed_text}
 use Rattle.hcl_layout.specs.Inner.Stream.{commented}
@@ -70,16 +70,6 @@ width_front g ts at len i =
     zero_plus : (n : ℕ) → 0 + n ≡ n
     zero_plus n = omega arith
 
--- the first token follows the indent
-pub width_first : (level : ℕ) (ts : List Lexeme) (at len i : ℕ) (t : Lexeme) → slice_get ts at ≡ Some t → i ≤ len → 0 < i
-    → (indent level t + clusters t) + width (i - 1) (gaps_from (plain_of level) 1 (token_before ts at ((at + 1) - 1)) (token_before ts at (at + 1)) (take (len - 1) (drop (at + 1) ts))) (take (len - 1) (drop (at + 1) ts))
-    ≡ width i (gaps_in (plain_of level) (take len (drop at ts))) (take len (drop at ts))
-width_first level ts at len i t e le lt =
-    let g : LineGaps = plain_of level in
-    let here : slice_get ts (at + 0) ≡ Some t = ap (slice_get ts) (omega arith) ∙ e in
-    let gap : plain_gap level (token_before ts at ((at + 0) - 1)) (token_before ts at (at + 0)) t ≡ indent level t = ap (λ s. plain_gap level (token_before ts at ((at + 0) - 1)) s t) (none_after ts at (at + 0) (omega arith)) in
-    omega (arith, width_front g ts at len i, width_after g ts at len 0 i t here le lt, gap)
-
 suc_is : (k : ℕ) → k + 1 ≡ suc k
 suc_is k = omega arith
 
@@ -120,49 +110,10 @@ piece_left ts next start end set rest t gap e lt le g =
     ∙ ap (λ k. (replicate gap 32 ++ t.text) ++ printed_text (gaps_from set k s (Some t) (take (end - (next + 1)) left) ++ rest) left) place
     ∙ ap₂ (λ (n : ℕ) (u : Option Lexeme). (replicate gap 32 ++ t.text) ++ printed_text (gaps_from set ((next + 1) - start) (token_before ts start n) u (take (end - (next + 1)) left) ++ rest) left) last (sym (printed_after ts start next t e le))
 
-after_front : (o : Option Cell) (k gap : ℕ) → IfSome o (λ c. 0 < c.place) → k ≡ 0 → cell_gap o k gap ≡ gap
-after_front None k gap p e = refl
-after_front (Some c) k gap p e = rw (apart c.place k (omega (arith, p, e))) refl
-  where
-    apart : (a b : ℕ) → b < a → (a == b) ≡ false
-    apart a b h = grind (arith, nat_tests)
-
--- the gap of the first piece of a line, where no cell stands
-pub front_gap : (set : LineGaps) (ts : List Lexeme) (start next : ℕ) (t : Lexeme) → start ≡ next → IfSome set.assign (λ c. 0 < c.place) → IfSome set.comment (λ c. 0 < c.place)
-    → indent set.level t ≡ gap_of set (next - start) (token_before ts start (next - 1)) (token_before ts start next) t
-front_gap set ts start next t e p q =
-    let b = token_before ts start (next - 1) in
-    let k : ℕ = next - start in
-    let front : k ≡ 0 = omega (arith, e) in
-    let plain : ℕ = plain_gap set.level b (token_before ts start next) t in
-    sym (after_front set.comment k (cell_gap set.assign k plain) q front ∙ after_front set.assign k plain p front ∙ ap (λ s. plain_gap set.level b s t) (none_after ts start next (omega (arith, e))))
-
 pub plain_small : (level : ℕ) (b s : Option Lexeme) (t : Lexeme) → level ≤ max_open → plain_gap level b s t ≤ 2 * max_open
 plain_small level b None t low = omega (arith, indented level t)
 plain_small level b (Some s) t low = omega (arith, blank b s t)
 
-cell_small : (c : Option Cell) (k gap : ℕ) → IfSome c (λ x. x.gap ≤ 2 ^ 34) → gap ≤ 2 ^ 34 → cell_gap c k gap ≤ 2 ^ 34
-cell_small None k gap p q = q
-cell_small (Some c) k gap p q = go (c.place == k)
-  where
-    go : (v : Bool) → (if v then c.gap else gap) ≤ 2 ^ 34
-    go true = p
-    go false = q
-
 wider : (c : Option Cell) → IfSome c (λ x. x.gap ≤ 2 ^ 33) → IfSome c (λ x. x.gap ≤ 2 ^ 34)
 wider None p = tt
 wider (Some c) p = omega (arith, p)
-
-pub gap_small : (set : LineGaps) (k : ℕ) (b s : Option Lexeme) (t : Lexeme) → set.level ≤ max_open → IfSome set.assign (λ c. c.gap ≤ 2 ^ 33) → IfSome set.comment (λ c. c.gap ≤ 2 ^ 34) → gap_of set k b s t ≤ 2 ^ 34
-gap_small set k b s t low p q =
-    cell_small set.comment k (cell_gap set.assign k (plain_gap set.level b s t)) q
-    (cell_small set.assign k (plain_gap set.level b s t) (wider set.assign p) (omega (arith, plain_small set.level b s t low)))
-
-pub text_len_with_blanks : (ts : List Lexeme) (i : ℕ) (t : Lexeme) → slice_get ts i ≡ Some t → length t.text ≤ len_with_blanks ts
-text_len_with_blanks [] zero t e = cc
-text_len_with_blanks [] (suc i) t e = cc
-text_len_with_blanks (u ∷ ts) zero t e = let same : u ≡ t = one u t e in omega (arith, ap (λ (x : Lexeme). length x.text) same)
-  where
-    one : (x y : Lexeme) → Some x ≡ Some y → x ≡ y
-    one x y e = cc
-text_len_with_blanks (u ∷ ts) (suc i) t e = omega (arith, text_len_with_blanks ts i t e)

@@ -1,26 +1,24 @@
 -- Columns that are right at the end of each run are those of the definition, whatever way they were come by.
-use Rattle.std.proofs.Common.{◌≡◌, ◌∙◌, ◌+◌, ◌-◌, ◌++◌, ◌<◌, ◌≤◌, ◌==◌, ◌||◌, not, ℕ, Bool, true, false, List, [], ◌∷◌, Option, Some, None, max, length, ap, ap₂, refl, sym, arith, subst, take, drop}
-use Rattle.std.specs.Prelude.{IfSome, MatchOption, option_map, if◌then◌else◌}
+use Rattle.std.proofs.Common.{◌≡◌, ◌∙◌, ◌-◌, ◌++◌, ◌≤◌, ◌==◌, ◌||◌, not, ℕ, Bool, true, false, List, [], ◌∷◌, Option, Some, None, length, ap, ap₂, refl, sym, arith, subst, take, drop}
+use Rattle.std.specs.Prelude.{option_map}
 use Rattle.std.specs.List.{flat_map}
 use Rattle.std.proofs.Math.ListN.{drop_of_length-le}
 use Rattle.std.proofs.lemmas.Bool.Decides.{nat_tests}
 use Rattle.hcl_tokens.specs.Lexemes.{Lexeme}
 use Rattle.hcl_layout.specs.Cells.{assign_cell, running_comment, trailing_comment}
-use Rattle.hcl_layout.specs.Columns.{widest}
 use Rattle.hcl_layout.specs.Gaps.{align, width}
 use Rattle.hcl_layout.specs.Lines.{Line, lines}
-use Rattle.hcl_layout.specs.Inner.Depths.{depth_after, next_levels}
-use Rattle.hcl_layout.specs.Inner.Laid.{AreRight, Grows, IsCommentAhead, IsRight, IsSignAhead, Moves, RunsGrow, column_of, ends_wrong, ends_wrong_at, gaps_after, gaps_on, greatest_of, laid_gaps, shape, signed_gaps, text_of}
+use Rattle.hcl_layout.specs.Inner.Depths.{next_levels}
+use Rattle.hcl_layout.specs.Inner.Laid.{AreRight, Grows, IsRight, Moves, RunsGrow, column_of, ends_wrong, ends_wrong_at, gaps_after, gaps_on, laid_gaps, shape, signed_gaps, text_of}
 use Rattle.hcl_layout.specs.Inner.Left.{token_before}
 use Rattle.hcl_layout.specs.Inner.LineGaps.{gaps_from, gaps_in}
-use Rattle.hcl_layout.specs.Inner.Stream.{assign_column, assign_width, assign_widths, assigned_line, comment_column, comment_widths, commented, next_of, plain}
+use Rattle.hcl_layout.specs.Inner.Stream.{assign_column, assign_widths, assigned_line, comment_column, comment_widths, commented, next_of, plain}
 use Rattle.hcl_layout.specs.Inner.Survey.{IsLine, facts_in}
 use Rattle.hcl_layout.specs.declared.line.Line.{Line as LineRead}
 use Rattle.hcl_layout.specs.declared.lines.LaidLine.{LaidLine}
 use Rattle.hcl_layout.specs.declared.lines.Lines.{Lines}
 use Rattle.hcl_layout.specs.declared.lines.Run.{Run}
 use Rattle.hcl_layout.proofs.LeftLemmas.{none_after}
-use Rattle.hcl_layout.proofs.PassLemmas.{text_in}
 use Rattle.hcl_layout.proofs.WalkLemmas.{read_cut, sign_step}
 
 -- ---- one run
@@ -87,7 +85,7 @@ module _ (ts : List Lexeme) (old new : Lines) (r : LineRead) (p : IsLine ts r.fi
       ap (λ n. flat_map (λ g. g) (commented old.depth old.levels (column_of old.signs) (column_of old.comments) (lines (drop n ts)))) (sym at)
       ∙ ap (λ ls. flat_map (λ g. g) (commented old.depth old.levels (column_of old.signs) (column_of old.comments) ls)) cut
       ∙ ap (λ d. align trailing_comment (align assign_cell (plain old.depth old.levels t) t (assign_column old.depth old.levels (column_of old.signs) (t ∷ after))) t (comment_column old.depth old.levels (column_of old.signs) (column_of old.comments) (t ∷ after))
-          ++ flat_map (λ g. g) (commented d (next_levels old.depth d old.levels) (assign_column old.depth old.levels (column_of old.signs) (t ∷ after)) (comment_column old.depth old.levels (column_of old.signs) (column_of old.comments) (t ∷ after)) after)) (sym p.depth)
+      ++ flat_map (λ g. g) (commented d (next_levels old.depth d old.levels) (assign_column old.depth old.levels (column_of old.signs) (t ∷ after)) (comment_column old.depth old.levels (column_of old.signs) (column_of old.comments) (t ∷ after)) after)) (sym p.depth)
       ∙ ap₂ (λ (x y : Option ℕ). align trailing_comment (align assign_cell (plain old.depth old.levels t) t x) t y ++ flat_map (λ g. g) (commented r.depth levels' x y after))
       (sym (c ∙ ap (assign_column old.depth old.levels (column_of old.signs)) cut)) (sym (k ∙ ap (comment_column old.depth old.levels (column_of old.signs) (column_of old.comments)) cut))
       ∙ ap (λ gs. laid_gaps old new t ++ gs) (sym gaps_new)
@@ -106,8 +104,7 @@ module _ (ts : List Lexeme) (old new : Lines) (r : LineRead) (p : IsLine ts r.fi
       (subst (λ (ws : List (Option ℕ)). IsRight new.comments ws) (comment_widths_new (column_of new.signs)) right.1) in
       let more : comment_widths old.depth old.levels c (lines (drop r.first ts)) ≡ option_map own (running_comment t) ∷ comment_widths r.depth levels' (column_of new.signs) after =
       comment_step c ∙ ap (λ (x : Option ℕ). option_map (λ i. width i (align assign_cell (plain old.depth old.levels t) t x) t) (running_comment t) ∷ comment_widths r.depth levels' x after) (sym column) in
-      let other : column_of new.comments ≡ comment_column old.depth old.levels c (column_of old.comments) (lines (drop r.first ts)) = comments.column ∙ ap (next_of (column_of old.comments)) (sym more) in
-      (
+      let other : column_of new.comments ≡ comment_column old.depth old.levels c (column_of old.comments) (lines (drop r.first ts)) = comments.column ∙ ap (next_of (column_of old.comments)) (sym more) in (
         parts.0,
         (
           subst (λ n. IsRight old.signs (assign_widths old.depth old.levels (lines (drop n ts)))) at (subst (λ (ws : List (Option ℕ)). IsRight old.signs ws) (sym step) signs.right),
@@ -121,7 +118,7 @@ pub front_gaps : (ts : List Lexeme) (l : LaidLine) → gaps_in (shape l) (text_o
 front_gaps ts l =
     let place : l.first - l.first ≡ 0 = omega arith in
     sym (ap (λ (k : ℕ). gaps_from (shape l) k (token_before ts l.first (l.first - 1)) (token_before ts l.first l.first) (text_of ts l)) place
-      ∙ ap₂ (λ (x y : Option Lexeme). gaps_from (shape l) 0 x y (text_of ts l)) (none_after ts l.first (l.first - 1) (omega arith)) (none_after ts l.first l.first (omega arith)))
+    ∙ ap₂ (λ (x y : Option Lexeme). gaps_from (shape l) 0 x y (text_of ts l)) (none_after ts l.first (l.first - 1) (omega arith)) (none_after ts l.first l.first (omega arith)))
 
 -- a run that ends well was right
 run_end : (run : Option Run) → ends_wrong run ≡ false → IsRight run []
@@ -138,8 +135,7 @@ not_any false false false h = (refl, refl, refl)
 pub all_right : (ts : List Lexeme) (s : Lines) → length ts ≤ s.next → not (s.wrong || ends_wrong s.signs || ends_wrong s.comments) ≡ true → (s.wrong ≡ false) × AreRight ts s
 all_right ts s le e =
     let parts = not_any s.wrong (ends_wrong s.signs) (ends_wrong s.comments) e in
-    let none = sym (drop_of_length-le ts le) in
-    (
+    let none = sym (drop_of_length-le ts le) in (
       parts.0,
       (
         subst (λ (xs : List Lexeme). IsRight s.signs (assign_widths s.depth s.levels (lines xs))) none (run_end s.signs parts.1),

@@ -44,11 +44,6 @@ after_is (t ∷ l) d s p q =
 
 -- ---- line after line
 
--- no more are open than may be
-abbrev pub Low : ℕ → List Line → Type 0
-Low d [] = d ≤ max_open
-Low d (l ∷ ls) = (d ≤ max_open) × Low (depth_after d l) ls
-
 abbrev pub BalancedLines : ℕ → List Line → Type 0
 BalancedLines d [] = Unit {0}
 BalancedLines d (l ∷ ls) = BalancedFrom d l × BalancedLines (depth_after d l) ls

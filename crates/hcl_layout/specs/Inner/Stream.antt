@@ -1,13 +1,12 @@
 -- The gaps of the lines that are left, by what is known of the lines before them: the depth, the levels by depth, and
 -- the columns of the runs in which the line before stands. It is the form that the code follows; the gaps of whole
 -- lists are the same (proofs/StreamLemmas).
-use Rattle.std.specs.Prelude.{ℕ, List, [], ◌∷◌, Option, Some, None, IfSome, ◌≡◌, option_map}
+use Rattle.std.specs.Prelude.{ℕ, List, [], ◌∷◌, Option, Some, None, option_map}
 use Rattle.hcl_layout.specs.Lines.{Line}
 use Rattle.hcl_layout.specs.Cells.{assign_cell, running_comment, trailing_comment}
 use Rattle.hcl_layout.specs.Columns.{widest}
 use Rattle.hcl_layout.specs.Gaps.{align, plain_gaps, width, widths}
 use Rattle.hcl_layout.specs.Inner.Depths.{depth_after, level_at, next_levels}
-use Rattle.hcl_layout.specs.Inner.LineGaps.{Cell}
 
 -- ---- runs
 
@@ -49,10 +48,6 @@ comment_widths d levels column ls = widths running_comment (assigned d levels co
 abbrev pub comment_column : ℕ → List ℕ → Option ℕ → Option ℕ → List Line → Option ℕ
 comment_column d levels column comment ls = next_of comment (comment_widths d levels column ls)
 
--- the same, by the first line's gaps with its assign cell in its column, and the widths of the lines after it
-abbrev pub column_after : List ℕ → Line → Option ℕ → List (Option ℕ) → Option ℕ
-column_after gaps l comment after = next_of comment (option_map (λ i. width i gaps l) (running_comment l) ∷ after)
-
 abbrev pub commented : ℕ → List ℕ → Option ℕ → Option ℕ → List Line → List (List ℕ)
 commented d levels column comment [] = []
 commented d levels column comment (l ∷ ls) =
@@ -68,7 +63,3 @@ assign_width d levels l = option_map (λ i. width i (plain d levels l) l) (assig
 -- the width before the comment, where the line takes part in runs of comments
 abbrev pub comment_width : ℕ → List ℕ → Option ℕ → Line → List Line → Option ℕ
 comment_width d levels column l ls = option_map (λ i. width i (assigned_line d levels column l ls) l) (running_comment l)
-
--- a cell was set after that width, if it is known
-abbrev pub HasWidth : Option Cell → Option ℕ → Type 0
-HasWidth cell width = IfSome width (λ w. option_map (λ (c : Cell). c.width) cell ≡ Some w)

@@ -1,4 +1,4 @@
-use Rattle.std.proofs.Common.{◌≤◌, ap, arith, subst, sym}
+use Rattle.std.proofs.Common.{ap, arith, subst, sym}
 use Rattle.hcl_layout.specs.Inner.Survey.{IsLine, facts_in}
 use Rattle.hcl_layout.specs.declared.lines.LaidLine.{LaidLine}
 use Rattle.hcl_layout.proofs.WalkLemmas.{sign_after, sign_within}

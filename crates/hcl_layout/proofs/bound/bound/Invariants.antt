@@ -1,9 +1,9 @@
 use Rattle.std.proofs.Common.{◌≡◌, ◌≤◌, ◌-◌, drop, length}
 use Rattle.hcl_tokens.specs.Balanced.{max_open}
 use Rattle.hcl_layout.specs.Inner.Depths.{BalancedFrom}
-use Rattle.hcl_layout.specs.Inner.Extents.{IsSmall, nothing, with_lines}
+use Rattle.hcl_layout.specs.Inner.Rooms.{IsSmall, nothing, with_lines}
 use Rattle.hcl_layout.specs.Lines.{lines}
-use Rattle.hcl_layout.proofs.extent.extent_of.Given as goal
+use Rattle.hcl_layout.proofs.bound.bound.Given as goal
 
 abbrev pub invariant-loop-at : goal.invariant-loop-at
 invariant-loop-at l = record {
