@@ -119,9 +119,7 @@ def held_up(group):
         for words in ([], ['--in-place', '--sync']):
             for number in range(1, MOST):
                 top, victim, pair = lay(group, what)
-                shown, reached, woken = attacked(
-                    group, words, top, REFUSE=str(number), EXCHANGE=pair[0], FOR=pair[1]
-                )
+                shown, reached, woken = attacked(group, words, top, REFUSE=str(number), EXCHANGE=pair[0], FOR=pair[1])
                 waited += [reached] * woken
                 files = [path.name for path in list(top.rglob('*')) + list(victim.rglob('*'))]
                 if not is_untouched(victim) or any(name.startswith('.tffmt.') for name in files):
@@ -204,9 +202,7 @@ def without_proc(group):
         group.skip('a system without /proc', 2, 'nothing can be mounted')
         return
     group.check('without /proc', done[1], lines('his/a.tf: no file can be made beside it', 'mine/a.tf', '4'))
-    group.check(
-        'and what was written', contents(top), {'mine/a.tf': GOOD, 'his/a.tf': OTHER}
-    )
+    group.check('and what was written', contents(top), {'mine/a.tf': GOOD, 'his/a.tf': OTHER})
 
 
 def linked_folders(group):

@@ -205,7 +205,9 @@ def links(group, program):
     )
     group.check('nothing is left beside it', sorted(it.name for it in (top / 'far').iterdir()), ['one.tf'])
     group.check('a folder in itself', program('round', cwd=top), (0, lines('round/b.tf'), b''))
-    group.check('a ring by name', program('a/ring.tf', cwd=top), (4, b'', lines('a/ring.tf: the link cannot be followed')))
+    group.check(
+        'a ring by name', program('a/ring.tf', cwd=top), (4, b'', lines('a/ring.tf: the link cannot be followed'))
+    )
     (top / 'far/one.tf').write_bytes(OTHER)
     os.link(str(top / 'far/one.tf'), str(top / 'far/other.tf'))
     group.check(

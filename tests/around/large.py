@@ -61,7 +61,9 @@ def many_files(group):
     group.check('--list', program('--list') == (2, lines(*others), refused), True)
     named = b'\0'.join(name.encode() for name in texts)
     group.holds('names of over 100,000 bytes', len(named) > 300000, len(named))
-    group.check('--list of names from input', program('--list', '--null', stdin=named) == (2, lines(*others), refused), True)
+    group.check(
+        '--list of names from input', program('--list', '--null', stdin=named) == (2, lines(*others), refused), True
+    )
     some = list(texts)[:300]
     shown = program('--check', *some)
     wanted = reports(judged, {name: texts[name] for name in some}, not_formatted)

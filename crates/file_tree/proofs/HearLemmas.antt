@@ -1,9 +1,10 @@
 -- What the device's calls answered, step by step.
 use Rattle.std.proofs.Common.{◌≡◌, ◌∙◌, ◌⊎◌, ◌++◌, ◌∷◌, [], Bool, true, false, List, Option, Some, None, Result, Ok, Err, OnOk, Contains, ap, append_assoc, append-nil, arith, inl, inr, refl, subst, sym}
 use Rattle.file_tree.specs.Files.{Faults, Name, with_fault, with_faults}
-use Rattle.file_tree.specs.Finds.{AreReal}
-use Rattle.file_tree.specs.Inner.Walking.{Adds, Enters, Hears, Orders, Reached, TakesIf, TakesKindGiven, TakesLinked, faults_in, faults_of}
+use Rattle.file_tree.specs.Finds.{AreReal, Rises}
+use Rattle.file_tree.specs.Inner.Walking.{Adds, Enters, Hears, KeepsFirsts, Orders, Reached, TakesIf, TakesKindGiven, TakesLinked, faults_in, faults_of}
 use Rattle.file_tree.specs.declared.fault.TreeFault.{TreeFault}
+use Rattle.file_tree.specs.declared.kind.Identity.{Identity}
 use Rattle.file_tree.specs.declared.kind.Kind.{Kind}
 use Rattle.file_tree.specs.declared.kind.Kind.TheVariants.{File, Folder, Link, Other}
 use Rattle.file_tree.specs.declared.walk.Found.{Found}
@@ -49,28 +50,28 @@ hears_then old between new before mid after one two = record {
   heard = two.heard ∙ ap (λ f. with_faults f (faults_in two.more)) one.heard ∙ more_faults before (faults_in one.more) (faults_in two.more) ∙ ap (with_faults before) (sym (faults_append one.more two.more));
 }
 
-hears_adds : (name : Name) (fault : Option TreeFault) (old new : Reached) (before after : Faults) → Adds name fault old new → after ≡ with_fault before fault → Hears old.found new.found before after
-hears_adds name fault old new before after adds noted = record {
+hears_adds : (name : Name) (fault : Option TreeFault) (identity : Option Identity) (old new : Reached) (before after : Faults) → Adds name fault identity old new → after ≡ with_fault before fault → Hears old.found new.found before after
+hears_adds name fault identity old new before after adds noted = record {
   more = adds.f ∷ [];
   found = adds.found;
   heard = noted ∙ one_fault before fault ∙ ap (λ f. with_faults before (faults_of f ++ [])) (sym adds.fault_is);
 }
 
-hears_if : (taken : Bool) (path : Name) (old new : Reached) (before after : Faults) → TakesIf taken path old new → after ≡ before → Hears old.found new.found before after
-hears_if true path old new before after adds still = hears_adds path None old new before after adds still
-hears_if false path old new before after same still = hears_none old.found new.found before after (ap (λ (r : Reached). r.found) same) still
+hears_if : (taken : Bool) (path : Name) (identity : Identity) (old new : Reached) (before after : Faults) → TakesIf taken path identity old new → after ≡ before → Hears old.found new.found before after
+hears_if true path identity old new before after adds still = hears_adds path None _ old new before after adds still
+hears_if false path identity old new before after same still = hears_none old.found new.found before after (ap (λ (r : Reached). r.found) same) still
 
 hears_linked : (kind : Kind) (path : Name) (old new : Reached) (before after : Faults) → TakesLinked kind path old new → after ≡ before → Hears old.found new.found before after
 hears_linked Folder path old new before after same still = hears_none old.found new.found before after (ap (λ (r : Reached). r.found) same) still
-hears_linked (File identity) path old new before after adds still = hears_adds path None old new before after adds still
-hears_linked Link path old new before after adds still = hears_adds path None old new before after adds still
-hears_linked Other path old new before after adds still = hears_adds path None old new before after adds still
+hears_linked (File identity) path old new before after adds still = hears_adds path None _ old new before after adds still
+hears_linked Link path old new before after adds still = hears_adds path None _ old new before after adds still
+hears_linked Other path old new before after adds still = hears_adds path None _ old new before after adds still
 
 hears_kind_given : (kind : Kind) (path : Name) (old new : Reached) (before after : Faults) → TakesKindGiven kind path old new → after ≡ before → Hears old.found new.found before after
 hears_kind_given Folder path old new before after enters still = hears_none old.found new.found before after enters.found still
-hears_kind_given (File identity) path old new before after adds still = hears_adds _ None old new before after adds still
-hears_kind_given Link path old new before after adds still = hears_adds _ None old new before after adds still
-hears_kind_given Other path old new before after adds still = hears_adds _ None old new before after adds still
+hears_kind_given (File identity) path old new before after adds still = hears_adds _ None _ old new before after adds still
+hears_kind_given Link path old new before after adds still = hears_adds _ None _ old new before after adds still
+hears_kind_given Other path old new before after adds still = hears_adds _ None _ old new before after adds still
 
 -- ---- in the code's terms
 
@@ -79,10 +80,10 @@ pub heard_linked : {X E : Type 0} (r : Result X E) (kind : Kind) (path : Name) (
 heard_linked (Ok x) kind path old new before after takes still = hears_linked kind path old new before after takes still
 heard_linked (Err e) kind path old new before after takes still = tt
 
-pub heard_if : {X E : Type 0} (r : Result X E) (taken : Bool) (path : Name) (old new : Reached) (before after : Faults) → OnOk r (TakesIf taken path old new) → after ≡ before
+pub heard_if : {X E : Type 0} (r : Result X E) (taken : Bool) (path : Name) (identity : Identity) (old new : Reached) (before after : Faults) → OnOk r (TakesIf taken path identity old new) → after ≡ before
     → OnOk r (Hears old.found new.found before after)
-heard_if (Ok x) taken path old new before after takes still = hears_if taken path old new before after takes still
-heard_if (Err e) taken path old new before after takes still = tt
+heard_if (Ok x) taken path identity old new before after takes still = hears_if taken path identity old new before after takes still
+heard_if (Err e) taken path identity old new before after takes still = tt
 
 pub heard_enters : {X E : Type 0} (r : Result X E) (folder : Name) (old new : Reached) (before after : Faults) → OnOk r (Enters folder old new) → after ≡ before
     → OnOk r (Hears old.found new.found before after)
@@ -94,9 +95,9 @@ pub heard_given : {X E : Type 0} (r : Result X E) (kind : Kind) (path : Name) (o
 heard_given (Ok x) kind path old new before after takes still = hears_kind_given kind path old new before after takes still
 heard_given (Err e) kind path old new before after takes still = tt
 
-pub heard_fault : {X E : Type 0} (r : Result X E) (name : Name) (fault : TreeFault) (old new : Reached) (before after : Faults) → OnOk r (Adds name (Some fault) old new) → after ≡ with_fault before (Some fault)
+pub heard_fault : {X E : Type 0} (r : Result X E) (name : Name) (fault : TreeFault) (old new : Reached) (before after : Faults) → OnOk r (Adds name (Some fault) None old new) → after ≡ with_fault before (Some fault)
     → OnOk r (Hears old.found new.found before after)
-heard_fault (Ok x) name fault old new before after adds noted = hears_adds name (Some fault) old new before after adds noted
+heard_fault (Ok x) name fault old new before after adds noted = hears_adds name (Some fault) _ old new before after adds noted
 heard_fault (Err e) name fault old new before after adds noted = tt
 
 pub heard_after : {X E : Type 0} (r : Result X E) (old new : List Found) (before mid after : Faults) → mid ≡ before → OnOk r (Hears old new mid after) → OnOk r (Hears old new before after)
@@ -104,11 +105,12 @@ heard_after (Ok x) old new before mid after same h = subst (λ f. Hears old new 
 heard_after (Err e) old new before mid after same h = tt
 
 -- the whole walk
-pub found_real : (first found ordered : List Found) (before mid after : Faults) → Hears [] first before mid → Hears first found mid after → Orders found ordered → AreReal before after ordered
-found_real first found ordered before mid after one two o =
+pub found_real : (first found ordered shown : List Found) (before mid after : Faults) → Hears [] first before mid → Hears first found mid after → Orders found ordered
+    → (Rises ordered → KeepsFirsts ordered shown) → AreReal before after shown
+found_real first found ordered shown before mid after one two o k =
     let all = hears_then [] first found before mid after one two in
     record {
       noted = faults_in all.more;
       is = all.heard;
-      real = λ f fault c e. reported_in all.more f fault (subst (λ l. Contains l f) all.found (o.only f c)) e;
+      real = λ f fault c e. reported_in all.more f fault (subst (λ l. Contains l f) all.found (o.only f ((k o.rises).only f c))) e;
     }

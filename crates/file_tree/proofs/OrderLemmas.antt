@@ -10,9 +10,9 @@ use Rattle.std.proofs.lemmas.List.Kept.{Any-dedup, Contains-from_dedup, IsStrict
 use Rattle.std.proofs.lemmas.List.Sorted.{Contains-permutation, IsPermutation-sym}
 use Rattle.std.proofs.lemmas.Slice.Eq.{bytes_eq-Decides}
 use Rattle.file_tree.specs.Files.{Name}
-use Rattle.file_tree.specs.Finds.{IsFound}
-use Rattle.file_tree.specs.Inner.Walking.{Orders}
+use Rattle.file_tree.specs.Inner.Walking.{IsFound, Orders}
 use Rattle.file_tree.specs.declared.fault.TreeFault.{TreeFault}
+use Rattle.file_tree.specs.declared.kind.Identity.{Identity}
 use Rattle.file_tree.specs.declared.walk.Found.{Found}
 
 abbrev pub same_name : Found → Found → Bool
@@ -101,7 +101,7 @@ lt_first Greater p h = refl
 lt_second : (o p : Ordering) → o ≡ Equal → is_lt (ordering_then o p) ≡ false → is_lt p ≡ false
 lt_second o p e h = subst (λ x. is_lt (ordering_then x p) ≡ false) e h
 
-module _ (R : TreeFault → TreeFault → Ordering) where
+module _ (R : TreeFault → TreeFault → Ordering) (S : Identity → Identity → Ordering) where
   none_first : (f g : Option TreeFault) → is_lt (option_cmp R g f) ≡ false → g ≡ None → f ≡ None
   none_first None g h e = refl
   none_first (Some x) None h e = absurd (true≢false h)
@@ -110,14 +110,15 @@ module _ (R : TreeFault → TreeFault → Ordering) where
       no : Some y ≡ None → ⊥
       no q = cc
 
-  low_from : (f g : Found) → is_lt (ordering_then (by_name g f) (option_cmp R g.fault f.fault)) ≡ false → Low f g
+  low_from : (f g : Found) → is_lt (ordering_then (by_name g f) (ordering_then (option_cmp R g.fault f.fault) (option_cmp S g.identity f.identity))) ≡ false → Low f g
   low_from f g h same none =
       none_first f.fault g.fault
-      (lt_second (by_name g f) (option_cmp R g.fault f.fault)
-      (subst (λ n. slice_cmp nat_cmp n f.name.items ≡ Equal) same (tied_itself nat_list_cmp_total f.name.items)) h)
+      (lt_first (option_cmp R g.fault f.fault) (option_cmp S g.identity f.identity)
+      (lt_second (by_name g f) (ordering_then (option_cmp R g.fault f.fault) (option_cmp S g.identity f.identity))
+      (subst (λ n. slice_cmp nat_cmp n f.name.items ≡ Equal) same (tied_itself nat_list_cmp_total f.name.items)) h))
       none
 
-  pub orders : (found sorted ordered : List Found) → IsPermutation found sorted → IsSorted (λ f g. ordering_then (by_name f g) (option_cmp R f.fault g.fault)) sorted
+  pub orders : (found sorted ordered : List Found) → IsPermutation found sorted → IsSorted (λ f g. ordering_then (by_name f g) (ordering_then (option_cmp R f.fault g.fault) (option_cmp S f.identity g.identity))) sorted
       → ordered ≡ dedup same_name sorted → Orders found ordered
   orders found sorted ordered moved up is = subst (λ l. Orders found l) (sym is) (record {
     rises = IsStrictlySortedBy-dedup (on_texts (λ (f : Found). f.name.items)) (λ f g. texts_ties f.name.items g.name.items) sorted

@@ -1,15 +1,17 @@
 -- A walk, step by step.
 use Rattle.std.proofs.Common.{◌≡◌, ◌≢◌, ◌∙◌, ◌<◌, ◌+◌, ◌⊎◌, ◌++◌, ◌∷◌, [], ℕ, suc, Bool, true, false, Bor, Global, List, Vec, Option, Some, None, Result, Ok, Err, OnOk, Contains, ap, append_assoc, append-nil, arith, get_or, inl, inr, length, map, refl, subst, sym, take, true≢false}
+use Rattle.std.specs.Prelude.{IfOk}
 use Rattle.std.proofs.lemmas.List.{map-append, map_more}
 use Rattle.std.proofs.lemmas.List.Elements.{Contains-append_left, Contains-push, Contains-push_cases}
 use Rattle.file_tree.specs.Below.{HasFile, HasFolder, IsBelow, IsEntry, IsFile, IsGiven, Leads, Says, is_met, listed}
 use Rattle.file_tree.specs.Files.{Files, Name}
 use Rattle.hcl_source.specs.Devices.{Tells}
-use Rattle.file_tree.specs.Finds.{Accounts, Finds, HasName, IsFolderOf, IsFound, IsOf, IsOfBy}
+use Rattle.file_tree.specs.Finds.{Accounts, Finds, IsEarlier, IsEntryOf, IsFolderOf, IsOf, IsOfBy, IsShown, IsTold, Rises, Stands}
 use Rattle.file_tree.specs.Names.{is_taken}
 use Rattle.file_tree.specs.Paths.{inside, place, reported, tidied, top, within}
-use Rattle.file_tree.specs.Inner.Walking.{Adds, Covers, Enters, IsFault, Orders, Reached, TakesAll, TakesEntry, TakesFolder, TakesGiven, TakesIf, TakesKind, TakesKindGiven, TakesLink, TakesLinked, Walked}
+use Rattle.file_tree.specs.Inner.Walking.{Adds, Covers, Enters, HasName, IsFault, IsFound, KeepsFirsts, Orders, Reached, TakesAll, TakesEntry, TakesFolder, TakesGiven, TakesIf, TakesKind, TakesKindGiven, TakesLink, TakesLinked, Walked}
 use Rattle.file_tree.specs.declared.fault.TreeFault.{TreeFault}
+use Rattle.file_tree.specs.declared.kind.Identity.{Identity}
 use Rattle.file_tree.specs.declared.kind.Kind.{Kind}
 use Rattle.file_tree.specs.declared.kind.Kind.TheVariants.{File, Folder, Link, Other}
 use Rattle.file_tree.specs.declared.walk.Found.{Found}
@@ -31,36 +33,36 @@ grows_then a b c p q = (
   q.3 ∙ ap (λ l. l ++ q.1) p.3 ∙ append_assoc a.folders p.1 q.1,
 )
 
-grows_adds : (name : Name) (fault : Option TreeFault) (old new : Reached) → Adds name fault old new → Grows old new
-grows_adds name fault old new h = (h.f ∷ [], [], h.found, h.folders ∙ sym (append-nil old.folders))
+grows_adds : (name : Name) (fault : Option TreeFault) (identity : Option Identity) (old new : Reached) → Adds name fault identity old new → Grows old new
+grows_adds name fault identity old new h = (h.f ∷ [], [], h.found, h.folders ∙ sym (append-nil old.folders))
 
 grows_enters : (folder : Name) (old new : Reached) → Enters folder old new → Grows old new
 grows_enters folder old new h = ([], folder ∷ [], h.found ∙ sym (append-nil old.found), h.folders)
 
-grows_if : (v : Bool) (path : Name) (old new : Reached) → TakesIf v path old new → Grows old new
-grows_if true path old new h = grows_adds path None old new h
-grows_if false path old new h = grows_same old new h
+grows_if : (v : Bool) (path : Name) (identity : Identity) (old new : Reached) → TakesIf v path identity old new → Grows old new
+grows_if true path identity old new h = grows_adds path None _ old new h
+grows_if false path identity old new h = grows_same old new h
 
 grows_linked : (kind : Kind) (path : Name) (old new : Reached) → TakesLinked kind path old new → Grows old new
 grows_linked Folder path old new h = grows_same old new h
-grows_linked (File identity) path old new h = grows_adds path None old new h
-grows_linked Link path old new h = grows_adds path None old new h
-grows_linked Other path old new h = grows_adds path None old new h
+grows_linked (File identity) path old new h = grows_adds path None _ old new h
+grows_linked Link path old new h = grows_adds path None _ old new h
+grows_linked Other path old new h = grows_adds path None _ old new h
 
 grows_link : (v : Bool) (files : Files) (path : Name) (old new : Reached) → TakesLink v files path old new → Grows old new
-grows_link true files path old new (inl h) = grows_adds path (Some h.0) old new h.1
+grows_link true files path old new (inl h) = grows_adds path (Some h.0) _ old new h.1
 grows_link true files path old new (inr h) = grows_linked h.0 path old new h.2
 grows_link false files path old new h = grows_same old new h
 
 grows_kind : (kind : Kind) (files : Files) (path name : Name) (old new : Reached) → TakesKind kind files path name old new → Grows old new
 grows_kind Folder files path name old new h = grows_enters _ old new h
-grows_kind (File identity) files path name old new h = grows_if (is_taken name) path old new h
+grows_kind (File identity) files path name old new h = grows_if (is_taken name) path identity old new h
 grows_kind Link files path name old new h = grows_link (is_taken name) files path old new h
 grows_kind Other files path name old new h = grows_same old new h
 
 grows_entry : (files : Files) (folder name : Name) (old new : Reached) → TakesEntry files folder name old new → Grows old new
 grows_entry files folder name old new (inl h) = grows_same old new h.1
-grows_entry files folder name old new (inr (met, inl h)) = grows_adds (folder ++ name) (Some h.0) old new h.1
+grows_entry files folder name old new (inr (met, inl h)) = grows_adds (folder ++ name) (Some h.0) _ old new h.1
 grows_entry files folder name old new (inr (met, inr h)) = grows_kind h.0 files (folder ++ name) name old new h.2
 
 grows_all : (files : Files) (folder : Name) (names : List Name) (old new : Reached) → TakesAll files folder names old new → Grows old new
@@ -68,17 +70,17 @@ grows_all files folder [] old new h = grows_same old new h
 grows_all files folder (name ∷ names) old new h = grows_then old h.0 new (grows_entry files folder name old h.0 h.1) (grows_all files folder names h.0 new h.2)
 
 grows_folder : (files : Files) (folder : Name) (old new : Reached) → TakesFolder files folder old new → Grows old new
-grows_folder files folder old new (inl h) = grows_adds (place folder) (Some h.0) old new h.1
+grows_folder files folder old new (inl h) = grows_adds (place folder) (Some h.0) _ old new h.1
 grows_folder files folder old new (inr h) = grows_all files folder (listed h.0) old new h.2
 
 grows_kind_given : (kind : Kind) (path : Name) (old new : Reached) → TakesKindGiven kind path old new → Grows old new
 grows_kind_given Folder path old new h = grows_enters (top path) old new h
-grows_kind_given (File identity) path old new h = grows_adds (tidied path) None old new h
-grows_kind_given Link path old new h = grows_adds (tidied path) None old new h
-grows_kind_given Other path old new h = grows_adds (tidied path) None old new h
+grows_kind_given (File identity) path old new h = grows_adds (tidied path) None _ old new h
+grows_kind_given Link path old new h = grows_adds (tidied path) None _ old new h
+grows_kind_given Other path old new h = grows_adds (tidied path) None _ old new h
 
 grows_given : (files : Files) (path : Name) (old new : Reached) → TakesGiven files path old new → Grows old new
-grows_given files path old new (inl h) = grows_adds (reported path) (Some h.0) old new h.1
+grows_given files path old new (inl h) = grows_adds (reported path) (Some h.0) _ old new h.1
 grows_given files path old new (inr h) = grows_kind_given h.0 path old new h.2
 
 module _ (old new : Reached) (grows : Grows old new) where
@@ -110,14 +112,14 @@ covers_at r folder (part ∷ parts) last c = inl c
 
 -- ---- what a step adds
 
-fault_added : (name : Name) (fault : TreeFault) (old new : Reached) → Adds name (Some fault) old new → IsFault new.found name
+fault_added : (name : Name) (fault : TreeFault) (old new : Reached) → Adds name (Some fault) None old new → IsFault new.found name
 fault_added name fault old new h = (h.f, subst (λ l. Contains l h.f) (sym h.found) (Contains-push old.found h.f), h.name_is, λ none. some_none (sym h.fault_is ∙ none))
   where
     some_none : Some fault ≡ None → ⊥
     some_none e = cc
 
-found_added : (name : Name) (old new : Reached) → Adds name None old new → IsFound new.found name
-found_added name old new h = (h.f, subst (λ l. Contains l h.f) (sym h.found) (Contains-push old.found h.f), h.name_is, h.fault_is)
+found_added : (name : Name) (identity : Option Identity) (old new : Reached) → Adds name None identity old new → IsFound new.found name
+found_added name identity old new h = (h.f, subst (λ l. Contains l h.f) (sym h.found) (Contains-push old.found h.f), h.name_is, h.fault_is)
 
 folder_added : (folder : Name) (old new : Reached) → Enters folder old new → Contains new.folders folder
 folder_added folder old new h = subst (λ l. Contains l folder) (sym h.folders) (Contains-push old.folders folder)
@@ -135,14 +137,14 @@ met_folder files folder name old new (inr (_, inl h)) met is = inr (fault_added 
 met_folder files folder name old new (inr (_, inr h)) met is =
     inl (folder_added (inside folder name) old new (subst (λ kind. TakesKind kind files (folder ++ name) name old new) (sym (told_some (files.entry (folder ++ name)) Folder h.0 is h.1)) h.2))
 
-taken_if : (v : Bool) (path : Name) (old new : Reached) → v ≡ true → TakesIf v path old new → IsFound new.found path
-taken_if v path old new e h = found_added path old new (subst (λ w. TakesIf w path old new) e h)
+taken_if : (v : Bool) (path : Name) (identity : Identity) (old new : Reached) → v ≡ true → TakesIf v path identity old new → IsFound new.found path
+taken_if v path identity old new e h = found_added path _ old new (subst (λ w. TakesIf w path identity old new) e h)
 
 linked_file : (kind : Kind) (path : Name) (old new : Reached) → kind ≢ Folder → TakesLinked kind path old new → IsFound new.found path
 linked_file Folder path old new other h = absurd (other refl)
-linked_file (File identity) path old new other h = found_added path old new h
-linked_file Link path old new other h = found_added path old new h
-linked_file Other path old new other h = found_added path old new h
+linked_file (File identity) path old new other h = found_added path _ old new h
+linked_file Link path old new other h = found_added path _ old new h
+linked_file Other path old new other h = found_added path _ old new h
 
 link_met : (files : Files) (v : Bool) (path : Name) (old new : Reached) → v ≡ true → IsGiven true files path → TakesLink v files path old new → IsFault new.found path ⊎ IsFound new.found path
 link_met files true path old new e is (inl h) = inl (fault_added path h.0 old new h.1)
@@ -154,7 +156,7 @@ met_file : (files : Files) (folder name : Name) (old new : Reached) → TakesEnt
 met_file files folder name old new (inl h) met is taken = absurd (true≢false (sym met ∙ h.0))
 met_file files folder name old new (inr (_, inl h)) met is taken = inl (fault_added (folder ++ name) h.0 old new h.1)
 met_file files folder name old new (inr (_, inr h)) met (inl (identity, is)) taken =
-    inr (taken_if (is_taken name) (folder ++ name) old new taken
+    inr (taken_if (is_taken name) (folder ++ name) identity old new taken
     (subst (λ kind. TakesKind kind files (folder ++ name) name old new) (sym (told_some (files.entry (folder ++ name)) (File identity) h.0 is h.1)) h.2))
 met_file files folder name old new (inr (_, inr h)) met (inr (is, leads)) taken =
     link_met files (is_taken name) (folder ++ name) old new taken leads
@@ -250,9 +252,9 @@ Sound files paths r = ((f : Found) → Contains r.found f → IsOf files paths f
 sound_same : (files : Files) (paths : List Name) (old new : Reached) → new ≡ old → Sound files paths old → Sound files paths new
 sound_same files paths old new e h = subst (λ (r : Reached). Sound files paths r) (sym e) h
 
-sound_adds : (files : Files) (paths : List Name) (path name : Name) (fault : Option TreeFault) (old new : Reached) → Adds name fault old new → Contains paths path → IsOfBy files path name fault
+sound_adds : (files : Files) (paths : List Name) (path name : Name) (fault : Option TreeFault) (identity : Option Identity) (old new : Reached) → Adds name fault identity old new → Contains paths path → IsOfBy files path name fault identity
     → Sound files paths old → Sound files paths new
-sound_adds files paths path name fault old new h c of' sound = (
+sound_adds files paths path name fault identity old new h c of' sound = (
   λ f d. here f (Contains-push_cases old.found h.f f (subst (λ l. Contains l f) h.found d)),
   λ folder d. sound.1 folder (subst (λ l. Contains l folder) h.folders d),
 )
@@ -260,7 +262,7 @@ sound_adds files paths path name fault old new h c of' sound = (
     here : (f : Found) → Contains old.found f ⊎ (h.f ≡ f) → IsOf files paths f
     here f (inl d) = sound.0 f d
     here f (inr e) = subst (λ (x : Found). IsOf files paths x) e
-        (path, c, subst (λ n. IsOfBy files path n h.f.fault) (sym h.name_is) (subst (λ o. IsOfBy files path name o) (sym h.fault_is) of'))
+        (path, c, subst (λ n. IsOfBy files path n h.f.fault h.f.identity) (sym h.name_is) (subst (λ o. IsOfBy files path name o h.f.identity) (sym h.fault_is) (subst (λ i. IsOfBy files path name fault i) (sym h.identity_is) of')))
 
 sound_enters : (files : Files) (paths : List Name) (folder : Name) (old new : Reached) → Enters folder old new → Deep files paths folder → Sound files paths old → Sound files paths new
 sound_enters files paths folder old new h deep sound = (
@@ -283,31 +285,37 @@ leads_more sure files folder (part ∷ parts) name leads has = (leads.0, leads_m
 
 -- an entry of a folder that is given, or of one below
 module _ (files : Files) (paths : List Name) (path : Name) (c : Contains paths path) (parts : List Name) (is : Says false (files.kind path) Folder) (leads : Leads false files (top path) parts) where
-  sound_if : (name : Name) (v : Bool) (old new : Reached) → v ≡ is_taken name → IsEntry false files (within (top path) parts) name → IsFile false files (within (top path) parts ++ name)
-      → TakesIf v (within (top path) parts ++ name) old new → Sound files paths old → Sound files paths new
-  sound_if name true old new e entry kind h sound =
-      sound_adds files paths path (within (top path) parts ++ name) None old new h c (inr (parts, name, (is, leads, (entry, kind, sym e)), refl)) sound
-  sound_if name false old new e entry kind h sound = sound_same files paths old new h sound
+  sound_found : (name : Name) (identity : Option Identity) (old new : Reached) → true ≡ is_taken name → IsEntry false files (within (top path) parts) name
+      → IsFile false files (within (top path) parts ++ name) → IsEntryOf files (within (top path) parts ++ name) identity
+      → Adds (within (top path) parts ++ name) None identity old new → Sound files paths old → Sound files paths new
+  sound_found name identity old new e entry kind known h sound =
+      sound_adds files paths path (within (top path) parts ++ name) None identity old new h c (inr (parts, name, (is, leads, (entry, kind, sym e)), refl, known)) sound
+
+  sound_if : (name : Name) (v : Bool) (identity : Identity) (old new : Reached) → v ≡ is_taken name → IsEntry false files (within (top path) parts) name
+      → Says false (files.entry (within (top path) parts ++ name)) (File identity)
+      → TakesIf v (within (top path) parts ++ name) identity old new → Sound files paths old → Sound files paths new
+  sound_if name true identity old new e entry tells h sound = sound_found name (Some identity) old new e entry (inl (identity, tells)) (inl tells) h sound
+  sound_if name false identity old new e entry tells h sound = sound_same files paths old new h sound
 
   -- a link is told of by its kind, and where it leads by that of what it leads to
   sound_linked : (kind : Kind) (name : Name) (old new : Reached) → true ≡ is_taken name → IsEntry false files (within (top path) parts) name
-      → (kind ≢ Folder → IsFile false files (within (top path) parts ++ name))
+      → Says false (files.entry (within (top path) parts ++ name)) Link → Says false (files.kind (within (top path) parts ++ name)) kind
       → TakesLinked kind (within (top path) parts ++ name) old new → Sound files paths old → Sound files paths new
-  sound_linked Folder name old new e entry file h sound = sound_same files paths old new h sound
-  sound_linked (File identity) name old new e entry file h sound = sound_if name true old new e entry (file (λ q. cc)) h sound
-  sound_linked Link name old new e entry file h sound = sound_if name true old new e entry (file (λ q. cc)) h sound
-  sound_linked Other name old new e entry file h sound = sound_if name true old new e entry (file (λ q. cc)) h sound
+  sound_linked Folder name old new e entry link leads h sound = sound_same files paths old new h sound
+  sound_linked (File identity) name old new e entry link leads h sound = sound_found name (Some identity) old new e entry (inr (link, (File identity, leads, λ q. cc))) (inr (File identity, leads, refl)) h sound
+  sound_linked Link name old new e entry link leads h sound = sound_found name None old new e entry (inr (link, (Link, leads, λ q. cc))) (Link, leads, refl) h sound
+  sound_linked Other name old new e entry link leads h sound = sound_found name None old new e entry (inr (link, (Other, leads, λ q. cc))) (Other, leads, refl) h sound
 
-  sound_report : (name : Name) (fault : TreeFault) (old new : Reached) → IsEntry false files (within (top path) parts) name → Adds (within (top path) parts ++ name) (Some fault) old new
+  sound_report : (name : Name) (fault : TreeFault) (old new : Reached) → IsEntry false files (within (top path) parts) name → Adds (within (top path) parts ++ name) (Some fault) None old new
       → Sound files paths old → Sound files paths new
   sound_report name fault old new entry h sound =
-      sound_adds files paths path (within (top path) parts ++ name) (Some fault) old new h c (inr (within (top path) parts, (parts, is, leads, refl), inr (name, entry, refl))) sound
+      sound_adds files paths path (within (top path) parts ++ name) (Some fault) None old new h c (inr (within (top path) parts, (parts, is, leads, refl), inr (name, entry, refl)), refl) sound
 
   sound_link : (name : Name) (v : Bool) (old new : Reached) → v ≡ is_taken name → IsEntry false files (within (top path) parts) name
       → Says false (files.entry (within (top path) parts ++ name)) Link
       → TakesLink v files (within (top path) parts ++ name) old new → Sound files paths old → Sound files paths new
   sound_link name true old new e entry tells (inl h) sound = sound_report name h.0 old new entry h.1 sound
-  sound_link name true old new e entry tells (inr h) sound = sound_linked h.0 name old new e entry (λ other. inr (tells, (h.0, h.1, other))) h.2 sound
+  sound_link name true old new e entry tells (inr h) sound = sound_linked h.0 name old new e entry tells h.1 h.2 sound
   sound_link name false old new e entry tells h sound = sound_same files paths old new h sound
 
   sound_kind : (kind : Kind) (name : Name) (old new : Reached) → IsEntry false files (within (top path) parts) name → Tells (files.entry (within (top path) parts ++ name)) kind
@@ -315,7 +323,7 @@ module _ (files : Files) (paths : List Name) (path : Name) (c : Contains paths p
   sound_kind Folder name old new entry tells h sound =
       sound_enters files paths (inside (within (top path) parts) name) old new h
       (path, c, (parts ++ name ∷ [], is, leads_more false files (top path) parts name leads (entry, tells), sym (within_more (top path) parts name))) sound
-  sound_kind (File identity) name old new entry tells h sound = sound_if name (is_taken name) old new refl entry (inl (identity, tells)) h sound
+  sound_kind (File identity) name old new entry tells h sound = sound_if name (is_taken name) identity old new refl entry tells h sound
   sound_kind Link name old new entry tells h sound = sound_link name (is_taken name) old new refl entry tells h sound
   sound_kind Other name old new entry tells h sound = sound_same files paths old new h sound
 
@@ -337,7 +345,7 @@ module _ (files : Files) (paths : List Name) (path : Name) (c : Contains paths p
 
   sound_within : (old new : Reached) → TakesFolder files (within (top path) parts) old new → Sound files paths old → Sound files paths new
   sound_within old new (inl h) sound =
-      sound_adds files paths path (place (within (top path) parts)) (Some h.0) old new h.1 c (inr (within (top path) parts, (parts, is, leads, refl), inl refl)) sound
+      sound_adds files paths path (place (within (top path) parts)) (Some h.0) None old new h.1 c (inr (within (top path) parts, (parts, is, leads, refl), inl refl), refl) sound
   sound_within old new (inr h) sound = sound_all h.0 (listed h.0) old new h.1 (λ n d. d) h.2 sound
 
 sound_folder : (files : Files) (paths : List Name) (folder : Name) (old new : Reached) → Deep files paths folder → TakesFolder files folder old new → Sound files paths old → Sound files paths new
@@ -382,19 +390,19 @@ of_more files paths path f h = (h.0, Contains-append_left paths (path ∷ []) h.
 sound_kind_given : (files : Files) (paths : List Name) (path : Name) (c : Contains paths path) (kind : Kind) (old new : Reached) → Tells (files.kind path) kind → TakesKindGiven kind path old new
     → Sound files paths old → Sound files paths new
 sound_kind_given files paths path c Folder old new tells h sound = sound_enters files paths (top path) old new h (path, c, ([], tells, tt, refl)) sound
-sound_kind_given files paths path c (File identity) old new tells h sound = sound_adds files paths path (tidied path) None old new h c (inl ((File identity, tells, λ e. cc), refl)) sound
-sound_kind_given files paths path c Link old new tells h sound = sound_adds files paths path (tidied path) None old new h c (inl ((Link, tells, λ e. cc), refl)) sound
-sound_kind_given files paths path c Other old new tells h sound = sound_adds files paths path (tidied path) None old new h c (inl ((Other, tells, λ e. cc), refl)) sound
+sound_kind_given files paths path c (File identity) old new tells h sound = sound_adds files paths path (tidied path) None _ old new h c (inl ((File identity, tells, λ e. cc), refl, (File identity, tells, refl))) sound
+sound_kind_given files paths path c Link old new tells h sound = sound_adds files paths path (tidied path) None _ old new h c (inl ((Link, tells, λ e. cc), refl, (Link, tells, refl))) sound
+sound_kind_given files paths path c Other old new tells h sound = sound_adds files paths path (tidied path) None _ old new h c (inl ((Other, tells, λ e. cc), refl, (Other, tells, refl))) sound
 
 sound_given : (files : Files) (paths : List Name) (path : Name) (c : Contains paths path) (old new : Reached) → TakesGiven files path old new → Sound files paths old → Sound files paths new
-sound_given files paths path c old new (inl h) sound = sound_adds files paths path (reported path) (Some h.0) old new h.1 c (inl refl) sound
+sound_given files paths path c old new (inl h) sound = sound_adds files paths path (reported path) (Some h.0) None old new h.1 c (inl refl, refl) sound
 sound_given files paths path c old new (inr h) sound = sound_kind_given files paths path c h.0 old new h.1 h.2 sound
 
 given_kind : (kind : Kind) (path : Name) (old new : Reached) → kind ≢ Folder → TakesKindGiven kind path old new → IsFound new.found (tidied path)
 given_kind Folder path old new ne h = absurd (ne refl)
-given_kind (File identity) path old new ne h = found_added (tidied path) old new h
-given_kind Link path old new ne h = found_added (tidied path) old new h
-given_kind Other path old new ne h = found_added (tidied path) old new h
+given_kind (File identity) path old new ne h = found_added (tidied path) _ old new h
+given_kind Link path old new ne h = found_added (tidied path) _ old new h
+given_kind Other path old new ne h = found_added (tidied path) _ old new h
 
 given_itself : (files : Files) (path : Name) (old new : Reached) → TakesGiven files path old new → IsGiven true files path → IsFound new.found (tidied path) ⊎ IsFault new.found (reported path)
 given_itself files path old new (inl h) is = inr (fault_added (reported path) h.0 old new h.1)
@@ -444,33 +452,52 @@ walked_none files r none nor = record {
 
 -- ---- its end
 
-fault_named : (found ordered : List Found) (name : Name) → Orders found ordered → IsFault found name → HasName ordered name
-fault_named found ordered name o h = o.named name (h.0, h.1, h.2)
+module _ (files : Files) (paths : List Name) (found ordered shown : List Found) (walked : Walked files paths (record { found = found; folders = [] })) (o : Orders found ordered) (k : KeepsFirsts ordered shown) where
+  stands : (g : Found) → Contains ordered g → Stands files paths shown g
+  stands g c = turn (k.stays g c)
+    where
+      turn : Contains shown g ⊎ ((f : Found) × Contains shown f × IsEarlier f g) → Stands files paths shown g
+      turn (inl d) = inl d
+      turn (inr d) = inr (walked.real g (o.only g c), d)
 
-accounts_from : (found ordered : List Found) → Orders found ordered → (folder : Name) (parts : List Name) (last : Name) → Covers (record { found = found; folders = [] }) folder parts last
-    → Accounts ordered folder parts last
-accounts_from found ordered o folder [] last (inl c) = absurd (none_in folder c)
-accounts_from found ordered o folder [] last (inr (inl h)) = inl (fault_named found ordered (place folder) o h)
-accounts_from found ordered o folder [] last (inr (inr (inl h))) = inr (fault_named found ordered (folder ++ last) o h)
-accounts_from found ordered o folder [] last (inr (inr (inr h))) = inr (o.named (folder ++ last) (h.0, h.1, h.2))
-accounts_from found ordered o folder (part ∷ parts) last (inl c) = absurd (none_in folder c)
-accounts_from found ordered o folder (part ∷ parts) last (inr (inl h)) = inl (fault_named found ordered (place folder) o h)
-accounts_from found ordered o folder (part ∷ parts) last (inr (inr (inl h))) = inr (inl (fault_named found ordered (folder ++ part) o h))
-accounts_from found ordered o folder (part ∷ parts) last (inr (inr (inr h))) = inr (inr (accounts_from found ordered o (inside folder part) parts last h))
+  told_found : (name : Name) → IsFound found name → IsShown files paths shown name
+  told_found name h = let w = o.kept name h in (w.0, stands w.0 w.1, w.2, w.3)
 
-pub finds_from : (files : Files) (paths : List Name) (found ordered : List Found) → Walked files paths (record { found = found; folders = [] }) → Orders found ordered → Finds files paths ordered
-finds_from files paths found ordered walked o = record {
-  rises = o.rises;
-  real = λ f c. walked.real f (o.only f c);
-  given = λ path c is. either (o.kept (tidied path)) (fault_named found ordered (reported path) o) (walked.given path c is);
-  below = λ path parts last c is. either (fault_named found ordered (reported path) o) (accounts_from found ordered o (top path) parts last) (walked.below path parts last c is);
-}
+  told_named : (name : Name) → HasName found name → IsTold files paths shown name
+  told_named name h = let w = o.named name h in (w.0, stands w.0 w.1, w.2)
+
+  told_fault : (name : Name) → IsFault found name → IsTold files paths shown name
+  told_fault name h = told_named name (h.0, h.1, h.2)
+
+  accounts_from : (folder : Name) (parts : List Name) (last : Name) → Covers (record { found = found; folders = [] }) folder parts last
+      → Accounts (IsTold files paths shown) folder parts last
+  accounts_from folder [] last (inl c) = absurd (none_in folder c)
+  accounts_from folder [] last (inr (inl h)) = inl (told_fault (place folder) h)
+  accounts_from folder [] last (inr (inr (inl h))) = inr (told_fault (folder ++ last) h)
+  accounts_from folder [] last (inr (inr (inr h))) = inr (told_named (folder ++ last) (h.0, h.1, h.2))
+  accounts_from folder (part ∷ parts) last (inl c) = absurd (none_in folder c)
+  accounts_from folder (part ∷ parts) last (inr (inl h)) = inl (told_fault (place folder) h)
+  accounts_from folder (part ∷ parts) last (inr (inr (inl h))) = inr (inl (told_fault (folder ++ part) h))
+  accounts_from folder (part ∷ parts) last (inr (inr (inr h))) = inr (inr (accounts_from (inside folder part) parts last h))
+
+  pub finds_from : Finds files paths shown
+  finds_from = record {
+    rises = k.rises;
+    once = k.once;
+    real = λ f c. walked.real f (o.only f (k.only f c));
+    given = λ path c is. either (told_found (tidied path)) (told_fault (reported path)) (walked.given path c is);
+    below = λ path parts last c is. either (told_fault (reported path)) (accounts_from (top path) parts last) (walked.below path parts last c is);
+  }
 
 -- ---- in the code's terms
 
 pub on_ok_more : {A E : Type 0} (r : Result A E) (P Q : Type 0) → OnOk r P → (P → Q) → OnOk r Q
 on_ok_more (Ok a) P Q h f = f h
 on_ok_more (Err e) P Q h f = tt
+
+pub if_ok_more : {A E : Type 0} (r : Result A E) (P Q : A → Type 0) → IfOk r P → ((a : A) → P a → Q a) → IfOk r Q
+if_ok_more (Ok a) P Q h f = f a h
+if_ok_more (Err e) P Q h f = tt
 
 pub took_more : (files later : Files) (folder : Name) (names : List (Bor (List ℕ))) (i : ℕ) (d : Bor (List ℕ)) (old between new : Reached) → later ≡ files → i < length names
     → TakesAll files folder (map (λ name. name.now) (take i names)) old between → TakesEntry later folder (get_or names i d).now between new
@@ -496,7 +523,9 @@ walked_popped files later paths found all rest folder name new same is named so 
     (ap (λ l. map (λ (f : Vec ℕ Global). f.items) l) is ∙ map-append (λ (f : Vec ℕ Global). f.items) rest (folder ∷ []) ∙ ap (λ n. map (λ (f : Vec ℕ Global). f.items) rest ++ n ∷ []) (sym named)) so)
     (subst (λ f. TakesFolder f name (record { found = found; folders = map (λ f. f.items) rest }) new) same takes)
 
-pub finds_found : (files later : Files) (paths : List Name) (r : Reached) (found ordered : List Found) → later ≡ files → Walked files paths r
-    → ((given : List Name) → Walked later given r → Walked later given (record { found = found; folders = [] })) → Orders found ordered → Finds files paths ordered
-finds_found files later paths r found ordered same before all o =
-    finds_from files paths found ordered (subst (λ f. Walked f paths (record { found = found; folders = [] })) same (all paths (subst (λ f. Walked f paths r) (sym same) before))) o
+pub finds_found : (files later : Files) (paths : List Name) (r : Reached) (found ordered shown : List Found) → later ≡ files → Walked files paths r
+    → ((given : List Name) → Walked later given r → Walked later given (record { found = found; folders = [] })) → Orders found ordered → (Rises ordered → KeepsFirsts ordered shown)
+    → Finds files paths shown
+finds_found files later paths r found ordered shown same before all o k =
+    finds_from files paths found ordered shown
+    (subst (λ f. Walked f paths (record { found = found; folders = [] })) same (all paths (subst (λ f. Walked f paths r) (sym same) before))) o (k o.rises)

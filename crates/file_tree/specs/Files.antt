@@ -2,12 +2,21 @@
 use Rattle.std.specs.Prelude.{ℕ, Bool, true, false, List, [], ◌∷◌, ◌++◌, Option, Some, None, Result, Ok, Err, option_map, if◌then◌else◌}
 use Rattle.std.specs.Str.{bytes_eq}
 pub use Rattle.hcl_source.specs.Devices.{Tells}
+use Rattle.file_tree.specs.declared.kind.Identity.{Identity}
 use Rattle.file_tree.specs.declared.kind.Kind.{Kind}
+use Rattle.file_tree.specs.declared.kind.Kind.TheVariants.{File, Folder, Link, Other}
 use Rattle.file_tree.specs.declared.fault.TreeFault.{TreeFault}
 use Rattle.file_tree.specs.declared.fault.TreeFault.TheVariants.{ReadFailed}
 
 abbrev pub Name : Type 0
 Name = List ℕ
+
+-- what tells a file from every other one
+abbrev pub identity_of : Kind → Option Identity
+identity_of (File identity) = Some identity
+identity_of Folder = None
+identity_of Link = None
+identity_of Other = None
 
 -- for each name, as far as the device tells it:
 pub record Files : Type 0 where

@@ -1,5 +1,8 @@
 //! What a name stands for.
 
+ghost use Rattle.std.specs.Prelude.{◌≡◌};
+ghost use Rattle.file_tree.specs.Files.{identity_of};
+
 /// What tells a file from every other one, whatever its names.
 #[derive(Clone, Copy, Debug, PartialEq, Eq, PartialOrd, Ord)]
 pub struct Identity {
@@ -15,4 +18,16 @@ pub enum Kind {
     Link,
     /// A pipe, a socket or a device.
     Other,
+}
+
+impl Kind {
+    /// What tells a file from every other one.
+    pub fn identity(self) -> Option<Identity>
+        ensures { result ≡ identity_of self }
+    {
+        match self {
+            Kind::File(identity) => Some(identity),
+            _ => None,
+        }
+    }
 }

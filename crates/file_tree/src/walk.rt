@@ -8,8 +8,9 @@ ghost use Rattle.file_tree.specs.Inner.Walking.{Adds, Enters, Hears, Orders, Tak
 ghost use Rattle.file_tree.specs.Names.{is_taken};
 
 use crate::fault::TreeFault;
-use crate::kind::Kind;
+use crate::kind::{Identity, Kind};
 use crate::names::{is_passed_over, is_taken};
+use crate::once::first_names;
 use crate::path::{joined, names_in, place, reported, tidy, top};
 use crate::tree::Tree;
 use std::alloc::{AllocError, Global};
@@ -19,6 +20,8 @@ use std::alloc::{AllocError, Global};
 pub struct Found {
     pub name: Vec<u8>,
     pub fault: Option<TreeFault>,
+    /// What tells the file from every other one, where it is one.
+    pub identity: Option<Identity>,
 }
 
 /// What was found, and the folders that are still to be looked into, each with a `/` at its end or without a name.
@@ -36,10 +39,21 @@ fn is_met(name: &[u8]) -> bool
 }
 
 impl Walk {
-    fn add(&mut self, name: Vec<u8>, fault: Option<TreeFault>) -> Result<(), AllocError>
-        ensures { OnOk result (Adds name.items fault (reached self.old) (reached self.new)) }
+    fn add(
+        &mut self,
+        name: Vec<u8>,
+        fault: Option<TreeFault>,
+        identity: Option<Identity>,
+    ) -> Result<(), AllocError>
+        ensures { OnOk result (Adds name.items fault identity
+            (reached self.old) (reached self.new)) }
     {
-        match self.found.push(Found { name, fault }) {
+        let found = Found {
+            name,
+            fault,
+            identity,
+        };
+        match self.found.push(found) {
             Ok(()) => Ok(()),
             Err(_) => Err(AllocError),
         }
@@ -55,11 +69,17 @@ impl Walk {
     }
 
     /// Takes a file, if files of this kind of name are taken.
-    fn take_file(&mut self, is_taken: bool, path: Vec<u8>) -> Result<(), AllocError>
-        ensures { OnOk result (TakesIf is_taken path.items (reached self.old) (reached self.new)) }
+    fn take_file(
+        &mut self,
+        is_taken: bool,
+        path: Vec<u8>,
+        identity: Identity,
+    ) -> Result<(), AllocError>
+        ensures { OnOk result (TakesIf is_taken path.items identity
+            (reached self.old) (reached self.new)) }
     {
         if is_taken {
-            return self.add(path, None);
+            return self.add(path, None, Some(identity));
         }
         Ok(())
     }
@@ -70,7 +90,7 @@ impl Walk {
     {
         match kind {
             Kind::Folder => Ok(()),
-            _ => self.add(path, None),
+            _ => self.add(path, None, kind.identity()),
         }
     }
 
@@ -95,7 +115,7 @@ impl Walk {
         }
         match tree.kind(path.as_slice()) {
             Ok(kind) => self.take_linked(kind, path),
-            Err(fault) => self.add(path, Some(fault)),
+            Err(fault) => self.add(path, Some(fault), None),
         }
     }
 
@@ -122,7 +142,7 @@ impl Walk {
                 let folder = joined(alloc, path.as_slice(), b"/")?;
                 self.add_folder(folder)
             }
-            Kind::File(_) => self.take_file(is_taken(name), path),
+            Kind::File(identity) => self.take_file(is_taken(name), path, identity),
             Kind::Link => self.take_link(is_taken(name), path, tree),
             Kind::Other => Ok(()),
         }
@@ -147,7 +167,7 @@ impl Walk {
         let path = joined(alloc, folder, name)?;
         match tree.entry_kind(path.as_slice()) {
             Ok(kind) => self.take_kind(alloc, kind, name, path, tree),
-            Err(fault) => self.add(path, Some(fault)),
+            Err(fault) => self.add(path, Some(fault), None),
         }
     }
 
@@ -217,7 +237,7 @@ impl Walk {
             }
             Err(fault) => {
                 let path = joined(alloc, place, b"")?;
-                self.add(path, Some(fault))
+                self.add(path, Some(fault), None)
             }
         }
     }
@@ -231,7 +251,7 @@ impl Walk {
             return self.add_folder(folder);
         }
         let tidied = tidy(alloc, path)?;
-        self.add(tidied, None)
+        self.add(tidied, None, kind.identity())
     }
 
     /// Takes a name that was given.
@@ -253,7 +273,7 @@ impl Walk {
             Ok(kind) => self.take_kind_given(alloc, kind, path),
             Err(fault) => {
                 let name = reported(alloc, path)?;
-                self.add(name, Some(fault))
+                self.add(name, Some(fault), None)
             }
         }
     }
@@ -305,7 +325,8 @@ fn in_order(mut found: Vec<Found>) -> Vec<Found>
     found
 }
 
-/// The files that these names stand for, in the order of their names, each once.
+/// The files that these names stand for, in the order of their names, each once: one that is reached by several names under
+/// the first of these.
 pub fn find<T: Tree>(
     alloc: Global,
     operands: &[&[u8]],
@@ -322,5 +343,5 @@ pub fn find<T: Tree>(
 {
     let mut walk = Walk::over(alloc, operands, tree)?;
     walk.look_into_all(alloc, tree)?;
-    Ok(in_order(walk.found))
+    first_names(alloc, in_order(walk.found))
 }

@@ -5,4 +5,5 @@ mod folder;
 mod in_place;
 mod link;
 mod new_file;
+pub mod patient;
 pub mod system;

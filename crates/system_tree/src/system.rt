@@ -1,6 +1,7 @@
 //! The folders and files of the system.
 
 ghost use Rattle.std.specs.Prelude.{◌≡◌, false, None, IfOk};
+ghost use Rattle.std.specs.Io.{ReadsAtMost};
 ghost use Rattle.file_tree.specs.Files.{silent};
 
 use crate::folder::{Folder, identity_of};
@@ -10,30 +11,53 @@ use file_tree::fault::TreeFault;
 use file_tree::kind::{Identity, Kind};
 use file_tree::path::tidy;
 use file_tree::tree::{Replaced, Tree, WritableTree, Writing};
-use hcl_source::{ByteSource, Failed, FromRead};
+use hcl_source::{ByteSource, Failed};
 use std::fs::{File, Metadata};
 use std::io::{ErrorKind, Read};
 use std::rt::Files;
 use std::time::SystemTime;
 use std::{fs, io};
 
+/// How often a read is tried that a signal interrupts.
+const TURNS: u32 = 1_000;
+
 /// A file that was opened. It tells no bytes.
 #[derive(Drop)]
 pub struct FileReader {
-    reader: FromRead<File>,
+    file: File,
+    has_failed: bool,
+}
+
+/// Reads from a file, again where a signal interrupts it.
+fn read_some(file: &mut File, buffer: &mut [u8]) -> io::Result<usize>
+    ensures { ReadsAtMost result buffer.new }
+{
+    for _ in 0..TURNS {
+        match file.read(buffer) {
+            Err(error) if error.kind() == ErrorKind::Interrupted => {}
+            done => return done,
+        }
+    }
+    Err(io::Error::from(ErrorKind::Interrupted))
 }
 
 impl ByteSource for FileReader {
     ghost left = { λ s. None };
 
-    ghost failed = { λ s. ⟦<FromRead<File> as ByteSource>⟧.failed s.reader };
+    ghost failed = { λ s. s.has_failed };
 
     fn read(&mut self, buffer: &mut [u8]) -> Result<usize, Failed> {
-        self.reader.read(buffer)
+        match read_some(&mut self.file, buffer) {
+            Ok(n) => Ok(n),
+            Err(_) => {
+                self.has_failed = true;
+                Err(Failed)
+            }
+        }
     }
 
     fn has_failed(&self) -> bool {
-        self.reader.has_failed()
+        self.has_failed
     }
 }
 
@@ -180,6 +204,7 @@ impl SystemTree {
                         return Err(TreeFault::OutOfMemory);
                     }
                 }
+                Err(error) if error.kind() == ErrorKind::Interrupted => {}
                 Err(_) => return Err(TreeFault::UnreadableFolder),
             }
         }
@@ -200,7 +225,8 @@ impl SystemTree {
         match File::open(&self.rt, name) {
             Ok(file) => match file.metadata() {
                 Ok(metadata) if metadata.is_file() => Ok(FileReader {
-                    reader: FromRead::new(file),
+                    file,
+                    has_failed: false,
                 }),
                 Ok(_) => Err(TreeFault::NotAFile),
                 Err(_) => Err(TreeFault::Unreadable),

@@ -9,6 +9,7 @@ use crate::progress_line::ProgressLine;
 use command_line::{NoWords, borrowed_words, process_words};
 use hcl_scan::{ByteSink, FromRead, ToWrite};
 use std::process::ExitCode;
+use system_tree::patient::Patient;
 use system_tree::system::SystemTree;
 use tree_command::run::{bad_line, program};
 
@@ -16,8 +17,8 @@ use tree_command::run::{bad_line, program};
 const NO_WORDS: u8 = 4;
 
 fn main(rt: HostRuntime) -> ExitCode {
-    let mut out = ToWrite::new(rt.stdout());
-    let mut err = ToWrite::new(rt.stderr());
+    let mut out = ToWrite::new(Patient::new(rt.stdout()));
+    let mut err = ToWrite::new(Patient::new(rt.stderr()));
     let status = match process_words(&rt) {
         Ok(words) => run_over(&rt, words.as_slice(), &mut out, &mut err),
         Err(NoWords::NotUtf8) => bad_line(&mut out, &mut err),

@@ -1,13 +1,14 @@
 -- A walk, step by step: what was found, and the folders that are still to be looked into.
-use Rattle.std.specs.Prelude.{◌≡◌, ◌≢◌, ◌⊎◌, ℕ, Bool, true, false, List, [], ◌∷◌, ◌++◌, Option, Some, None, map}
+use Rattle.std.specs.Prelude.{◌≡◌, ◌≢◌, ◌⊎◌, ℕ, Bool, true, false, not, List, [], ◌∷◌, ◌++◌, Option, Some, None, map, if◌then◌else◌}
 use Rattle.std.specs.List.{Contains}
 use Rattle.file_tree.specs.Below.{IsBelow, IsGiven, is_met, listed}
-use Rattle.file_tree.specs.Files.{Faults, Files, Name, with_faults}
+use Rattle.file_tree.specs.Files.{Faults, Files, Name, identity_of, with_faults}
 use Rattle.hcl_source.specs.Devices.{Tells}
-use Rattle.file_tree.specs.Finds.{HasName, IsFolderOf, IsFound, IsOf, Rises}
+use Rattle.file_tree.specs.Finds.{IsEarlier, IsFolderOf, IsOf, IsSame, Rises}
 use Rattle.file_tree.specs.Names.{is_taken}
 use Rattle.file_tree.specs.Paths.{inside, place, reported, tidied, top}
 use Rattle.file_tree.specs.declared.fault.TreeFault.{TreeFault}
+use Rattle.file_tree.specs.declared.kind.Identity.{Identity}
 use Rattle.file_tree.specs.declared.kind.Kind.{Kind}
 use Rattle.file_tree.specs.declared.kind.Kind.TheVariants.{File, Folder, Link, Other}
 use Rattle.file_tree.specs.declared.walk.Found.{Found}
@@ -24,10 +25,11 @@ reached w = record { found = w.found.items; folders = map (λ folder. folder.ite
 -- ---- one step more
 
 -- a name was found, or reported
-pub record Adds (name : Name) (fault : Option TreeFault) (old new : Reached) : Type 0 where
+pub record Adds (name : Name) (fault : Option TreeFault) (identity : Option Identity) (old new : Reached) : Type 0 where
   pub f : Found
   pub name_is : f.name.items ≡ name
   pub fault_is : f.fault ≡ fault
+  pub identity_is : f.identity ≡ identity
   pub found : new.found ≡ old.found ++ f ∷ []
   pub folders : new.folders ≡ old.folders
 
@@ -38,17 +40,17 @@ pub record Enters (folder : Name) (old new : Reached) : Type 0 where
 
 -- a fault was reported under a name
 abbrev pub Reports : Name → Reached → Reached → Type 0
-Reports name old new = (fault : TreeFault) × Adds name (Some fault) old new
+Reports name old new = (fault : TreeFault) × Adds name (Some fault) None old new
 
 -- what stands under this name, whose last part this is, is a file that is taken, and it was found; or nothing was
-abbrev pub TakesIf : Bool → Name → Reached → Reached → Type 0
-TakesIf true path old new = Adds path None old new
-TakesIf false path old new = new ≡ old
+abbrev pub TakesIf : Bool → Name → Identity → Reached → Reached → Type 0
+TakesIf true path identity old new = Adds path None (Some identity) old new
+TakesIf false path identity old new = new ≡ old
 
 -- what a link adds that leads to this, or that can't be followed
 abbrev pub TakesLinked : Kind → Name → Reached → Reached → Type 0
 TakesLinked Folder path old new = new ≡ old
-TakesLinked _ path old new = Adds path None old new
+TakesLinked kind path old new = Adds path None (identity_of kind) old new
 
 -- what a link adds, of a name that is taken or isn't
 abbrev pub TakesLink : Bool → Files → Name → Reached → Reached → Type 0
@@ -58,7 +60,7 @@ TakesLink false files path old new = new ≡ old
 -- what an entry of this kind adds
 abbrev pub TakesKind : Kind → Files → Name → Name → Reached → Reached → Type 0
 TakesKind Folder files path name old new = Enters (path ++ (47 ∷ [])) old new
-TakesKind (File identity) files path name old new = TakesIf (is_taken name) path old new
+TakesKind (File identity) files path name old new = TakesIf (is_taken name) path identity old new
 TakesKind Link files path name old new = TakesLink (is_taken name) files path old new
 TakesKind Other files path name old new = new ≡ old
 
@@ -83,12 +85,18 @@ TakesFolder files folder old new =
 -- what a path adds that is given
 abbrev pub TakesKindGiven : Kind → Name → Reached → Reached → Type 0
 TakesKindGiven Folder path old new = Enters (top path) old new
-TakesKindGiven _ path old new = Adds (tidied path) None old new
+TakesKindGiven kind path old new = Adds (tidied path) None (identity_of kind) old new
 
 abbrev pub TakesGiven : Files → Name → Reached → Reached → Type 0
 TakesGiven files path old new = Reports (reported path) old new ⊎ ((kind : Kind) × Tells (files.kind path) kind × TakesKindGiven kind path old new)
 
 -- ---- the walk so far
+
+abbrev pub IsFound : List Found → Name → Type 0
+IsFound found name = (f : Found) × Contains found f × (f.name.items ≡ name) × (f.fault ≡ None)
+
+abbrev pub HasName : List Found → Name → Type 0
+HasName found name = (f : Found) × Contains found f × (f.name.items ≡ name)
 
 abbrev pub IsFault : List Found → Name → Type 0
 IsFault found name = (f : Found) × Contains found f × (f.name.items ≡ name) × (f.fault ≢ None)
@@ -113,6 +121,31 @@ pub record Orders (found ordered : List Found) : Type 0 where
   pub only : (f : Found) → Contains ordered f → Contains found f
   pub kept : (name : Name) → IsFound found name → IsFound ordered name
   pub named : (name : Name) → HasName found name → HasName ordered name
+
+-- what was found, each file under the first of its names
+pub record KeepsFirsts (found kept : List Found) : Type 0 where
+  pub rises : Rises kept
+  pub once : (f g : Found) → Contains kept f → Contains kept g → IsSame f g → f.name.items ≡ g.name.items
+  pub only : (f : Found) → Contains kept f → Contains found f
+  pub stays : (g : Found) → Contains found g → Contains kept g ⊎ ((f : Found) × Contains kept f × IsEarlier f g)
+
+-- of the files that were met these were kept, and their identities are noted
+pub record Firsts (met kept : List Found) (has : Identity → Bool) : Type 0 where
+  pub keeps : KeepsFirsts met kept
+  pub noted : (f : Found) (identity : Identity) → Contains kept f → f.identity ≡ Some identity → has identity ≡ true
+  pub known : (identity : Identity) → has identity ≡ true → (f : Found) × Contains kept f × (f.identity ≡ Some identity)
+
+-- an identity was noted, and this says whether it wasn't before
+pub record NotesIdentity (had has : Identity → Bool) (identity : Identity) (is_new : Bool) : Type 0 where
+  pub is : is_new ≡ not (had identity)
+  pub now : has identity ≡ true
+  pub kept : (other : Identity) → had other ≡ true → has other ≡ true
+  pub more : (other : Identity) → has other ≡ true → (other ≡ identity) ⊎ (had other ≡ true)
+
+-- one more was met: it is kept if it is no file, or one that wasn't noted
+abbrev pub MeetsBy : Option Identity → Found → (Identity → Bool) → (Identity → Bool) → List Found → List Found → Type 0
+MeetsBy None f had has old new = (has ≡ had) × (new ≡ old ++ f ∷ [])
+MeetsBy (Some identity) f had has old new = (is_new : Bool) × NotesIdentity had has identity is_new × (new ≡ (if is_new then old ++ f ∷ [] else old))
 
 -- ---- what the device's calls answered
 

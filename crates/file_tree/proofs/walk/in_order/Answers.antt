@@ -5,5 +5,5 @@ use Rattle.file_tree.proofs.walk.in_order.Goals as goal
 
 pub returns : goal.returns
 returns c =
-    orders _ c.args.found.items c.sort_unstable.new.self.items c.dedup_by.new.self.items c.sort_unstable.ensures.permutation c.sort_unstable.ensures.sorted
+    orders _ _ c.args.found.items c.sort_unstable.new.self.items c.dedup_by.new.self.items c.sort_unstable.ensures.permutation c.sort_unstable.ensures.sorted
     (dedup_same _ same_name _ (λ x y b f' x' y' k. search rules) _ _ c.dedup_by.ensures.filtered)
