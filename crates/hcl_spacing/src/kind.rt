@@ -4,7 +4,7 @@ ghost use Rattle.std.specs.Prelude.{◌≡◌};
 ghost use Rattle.hcl_tokens.specs.Balanced.{is_opener};
 ghost use Rattle.hcl_spacing.specs.Spacing.{closes_group, is_operator, awaits_operand};
 
-use hcl_tokens::Kind;
+use hcl_tokens::{Kind, Nesting};
 
 /// What closes a paren, a bracket or a sequence.
 pub fn closes_group(kind: Kind) -> bool
@@ -49,8 +49,5 @@ pub fn awaits_operand(kind: Kind) -> bool
 pub fn is_opener(kind: Kind) -> bool
     ensures { result ≡ is_opener kind }
 {
-    matches!(
-        kind,
-        Kind::ParenOpen | Kind::BracketOpen | Kind::BraceOpen | Kind::InterpOpen | Kind::ControlOpen
-    )
+    matches!(kind.nesting(), Nesting::Opens)
 }

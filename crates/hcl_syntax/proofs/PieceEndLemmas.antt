@@ -8,8 +8,9 @@ use Rattle.hcl_tokens.specs.declared.token.Kind.{Kind}
 use Rattle.hcl_tokens.specs.declared.token.Kind.TheVariants as kind
 use Rattle.hcl_tokens.specs.Kinds.{is}
 use Rattle.hcl_grammar.specs.Items.{deepen, is_closed}
-use Rattle.hcl_syntax.specs.declared.nesting.Nesting.TheVariants as nesting
-use Rattle.hcl_syntax.specs.Inner.Pieces.{AreEnds, ArePassed, CanBegin, first_len, leads, newline_from, nesting_of, AreNewlinesAhead}
+use Rattle.hcl_tokens.specs.Balanced.{nesting}
+use Rattle.hcl_tokens.specs.declared.token.Nesting.TheVariants.{Opens, Closes, Neither}
+use Rattle.hcl_syntax.specs.Inner.Pieces.{AreEnds, ArePassed, CanBegin, first_len, is_passed, leads, newline_from, AreNewlinesAhead}
 use Rattle.hcl_grammar.proofs.NumberedLemmas.{drop_at}
 
 -- what a kind does to the depth
@@ -26,11 +27,11 @@ up d = omega arith
 down : (d : ℕ) → d + 0 - 1 ≡ d - 1
 down d = omega arith
 
-pub at_newline : (k : Kind) → nesting_of k ≡ nesting.Newline → Moves k true (λ d. d)
+pub at_newline : (k : Kind) → is kind.Newline k ≡ true → Moves k true (λ d. d)
 at_newline kind.Newline e = record { newline_is = refl; moves = flat }
 at_newline _ e = absurd (cc)
 
-pub at_opener : (k : Kind) → nesting_of k ≡ nesting.Opens → Moves k false (λ d. d + 1)
+pub at_opener : (k : Kind) → nesting k ≡ Opens → Moves k false (λ d. d + 1)
 at_opener kind.ParenOpen e = record { newline_is = refl; moves = up }
 at_opener kind.BracketOpen e = record { newline_is = refl; moves = up }
 at_opener kind.BraceOpen e = record { newline_is = refl; moves = up }
@@ -38,14 +39,14 @@ at_opener kind.InterpOpen e = record { newline_is = refl; moves = up }
 at_opener kind.ControlOpen e = record { newline_is = refl; moves = up }
 at_opener _ e = absurd (cc)
 
-pub at_closer : (k : Kind) → nesting_of k ≡ nesting.Closes → Moves k false (λ d. d - 1)
+pub at_closer : (k : Kind) → nesting k ≡ Closes → Moves k false (λ d. d - 1)
 at_closer kind.ParenClose e = record { newline_is = refl; moves = down }
 at_closer kind.BracketClose e = record { newline_is = refl; moves = down }
 at_closer kind.BraceClose e = record { newline_is = refl; moves = down }
 at_closer kind.SeqClose e = record { newline_is = refl; moves = down }
 at_closer _ e = absurd (cc)
 
-pub at_other : (k : Kind) → nesting_of k ≡ nesting.Passes → Moves k false (λ d. d)
+pub at_other : (k : Kind) → is_passed k ≡ true → Moves k false (λ d. d)
 at_other kind.Newline e = absurd (cc)
 at_other kind.ParenOpen e = absurd (cc)
 at_other kind.BracketOpen e = absurd (cc)
@@ -57,6 +58,10 @@ at_other kind.BracketClose e = absurd (cc)
 at_other kind.BraceClose e = absurd (cc)
 at_other kind.SeqClose e = absurd (cc)
 at_other _ e = record { newline_is = refl; moves = flat }
+
+-- what neither is a newline nor opens or closes anything is passed over
+pub passed_is : (k other : Kind) → k ≡ other → is kind.Newline k ≡ false → nesting k ≡ Neither → is_passed other ≡ true
+passed_is k other same plain neither = ap is_passed (sym same) ∙ rw (plain, neither) refl
 
 module _ (ts : List Lexeme) (n : ℕ) (t : Lexeme) (e : slice_get ts n ≡ Some t) where
   from_here : (d : ℕ) → newline_from ts d n ≡ n + cond (is kind.Newline t.kind && is_closed d) 0 (first_len (deepen d t.kind) (drop (n + 1) ts) + 1)
@@ -79,16 +84,16 @@ module _ (ts : List Lexeme) (n : ℕ) (t : Lexeme) (e : slice_get ts n ≡ Some 
       ∙ ap (λ m. n + (first_len m (drop (n + 1) ts) + 1)) moved
       ∙ omega arith
 
-  pub passes : (ahead : List ℕ) → nesting_of t.kind ≡ nesting.Passes → AreNewlinesAhead ts ahead (n + 1) → AreNewlinesAhead ts ahead n
+  pub passes : (ahead : List ℕ) → is_passed t.kind ≡ true → AreNewlinesAhead ts ahead (n + 1) → AreNewlinesAhead ts ahead n
   passes ahead is h d = let m = at_other t.kind is in h d ∙ sym (from_next d d m.newline_is (m.moves d))
 
-  pub opens : (old new : List ℕ) → nesting_of t.kind ≡ nesting.Opens → ((d : ℕ) → get_or (reverse new) d (length ts) ≡ get_or (reverse old) (suc d) (length ts)) → AreNewlinesAhead ts old (n + 1) → AreNewlinesAhead ts new n
+  pub opens : (old new : List ℕ) → nesting t.kind ≡ Opens → ((d : ℕ) → get_or (reverse new) d (length ts) ≡ get_or (reverse old) (suc d) (length ts)) → AreNewlinesAhead ts old (n + 1) → AreNewlinesAhead ts new n
   opens old new is popped h d =
       let m = at_opener t.kind is in
       let s : d + 1 ≡ suc d = omega arith in
       popped d ∙ h (suc d) ∙ sym (from_next d (suc d) m.newline_is (m.moves d ∙ s))
 
-  pub closes : (old new : List ℕ) (last : ℕ) → nesting_of t.kind ≡ nesting.Closes → last ≡ get_or (reverse old) 0 (length ts) → new ≡ old ++ last ∷ [] → AreNewlinesAhead ts old (n + 1) → AreNewlinesAhead ts new n
+  pub closes : (old new : List ℕ) (last : ℕ) → nesting t.kind ≡ Closes → last ≡ get_or (reverse old) 0 (length ts) → new ≡ old ++ last ∷ [] → AreNewlinesAhead ts old (n + 1) → AreNewlinesAhead ts new n
   closes old new last is top pushed h d = ap (λ r. get_or r d (length ts)) (ap reverse pushed ∙ reverse-append old (last ∷ [])) ∙ by d
     where
       m : Moves t.kind false (λ k. k - 1)
@@ -98,7 +103,7 @@ module _ (ts : List Lexeme) (n : ℕ) (t : Lexeme) (e : slice_get ts n ≡ Some 
       by zero = top ∙ h 0 ∙ sym (from_next 0 0 m.newline_is (m.moves 0))
       by (suc k) = let s : suc k - 1 ≡ k = omega arith in h k ∙ sym (from_next (suc k) k m.newline_is (m.moves (suc k) ∙ s))
 
-  pub newline : (old mid new : List ℕ) → nesting_of t.kind ≡ nesting.Newline → ((d c : ℕ) → get_or (reverse mid) d c ≡ get_or (reverse old) (suc d) c) → new ≡ mid ++ n ∷ [] → AreNewlinesAhead ts old (n + 1)
+  pub newline : (old mid new : List ℕ) → is kind.Newline t.kind ≡ true → ((d c : ℕ) → get_or (reverse mid) d c ≡ get_or (reverse old) (suc d) c) → new ≡ mid ++ n ∷ [] → AreNewlinesAhead ts old (n + 1)
       → AreNewlinesAhead ts new n
   newline old mid new is popped pushed h d = ap (λ r. get_or r d (length ts)) (ap reverse pushed ∙ reverse-append mid (n ∷ [])) ∙ by d
     where
@@ -118,10 +123,10 @@ pub last_first : (rest : List ℕ) (top c : ℕ) → get_or (reverse (rest ++ to
 last_first rest top c = ap (λ r. get_or r 0 c) (reverse-append rest (top ∷ []))
 
 module _ (ts : List Lexeme) (n : ℕ) (t : Lexeme) (e : slice_get ts n ≡ Some t) (rest : List ℕ) (top : ℕ) where
-  pub top_newline : nesting_of t.kind ≡ nesting.Newline → AreNewlinesAhead ts (rest ++ top ∷ []) (n + 1) → AreNewlinesAhead ts (rest ++ n ∷ []) n
+  pub top_newline : is kind.Newline t.kind ≡ true → AreNewlinesAhead ts (rest ++ top ∷ []) (n + 1) → AreNewlinesAhead ts (rest ++ n ∷ []) n
   top_newline is = newline ts n t e (rest ++ top ∷ []) rest (rest ++ n ∷ []) is (λ d c. sym (last_behind rest top d c)) refl
 
-  pub top_opens : (left : List ℕ) (next count : ℕ) → count ≡ length ts → nesting_of t.kind ≡ nesting.Opens → next ≡ get_or (reverse rest) 0 count → ((i : ℕ) → get_or (reverse left) i count ≡ get_or (reverse rest) (suc i) count)
+  pub top_opens : (left : List ℕ) (next count : ℕ) → count ≡ length ts → nesting t.kind ≡ Opens → next ≡ get_or (reverse rest) 0 count → ((i : ℕ) → get_or (reverse left) i count ≡ get_or (reverse rest) (suc i) count)
       → AreNewlinesAhead ts (rest ++ top ∷ []) (n + 1) → AreNewlinesAhead ts (left ++ next ∷ []) n
   top_opens left next count is_count is taken kept = opens ts n t e (rest ++ top ∷ []) (left ++ next ∷ []) is by
     where
@@ -132,12 +137,12 @@ module _ (ts : List Lexeme) (n : ℕ) (t : Lexeme) (e : slice_get ts n ≡ Some 
       by : (d : ℕ) → get_or (reverse (left ++ next ∷ [])) d (length ts) ≡ get_or (reverse (rest ++ top ∷ [])) (suc d) (length ts)
       by d = let P : ℕ → Type 0 = λ c. get_or (reverse (left ++ next ∷ [])) d c ≡ get_or (reverse (rest ++ top ∷ [])) (suc d) c in subst P is_count (at_count d)
 
-  pub top_closes : (more : List ℕ) → nesting_of t.kind ≡ nesting.Closes → more ≡ rest ++ top ∷ [] → AreNewlinesAhead ts (rest ++ top ∷ []) (n + 1) → AreNewlinesAhead ts (more ++ top ∷ []) n
+  pub top_closes : (more : List ℕ) → nesting t.kind ≡ Closes → more ≡ rest ++ top ∷ [] → AreNewlinesAhead ts (rest ++ top ∷ []) (n + 1) → AreNewlinesAhead ts (more ++ top ∷ []) n
   top_closes more is pushed = closes ts n t e (rest ++ top ∷ []) (more ++ top ∷ []) top is (sym (last_first rest top (length ts))) (ap (λ r. r ++ top ∷ []) pushed)
 
 -- ---- the table
 
-none_leads : (k : Kind) → nesting_of k ≡ nesting.Passes → leads k ≡ true → ⊥
+none_leads : (k : Kind) → is_passed k ≡ true → leads k ≡ true → ⊥
 none_leads kind.Newline e l = absurd (cc)
 none_leads kind.BraceOpen e l = absurd (cc)
 none_leads _ e l = absurd (cc)
@@ -167,7 +172,7 @@ starts_filled ts count ends is made = record {
     none (suc d) = refl
 
 -- a token that is passed over leads to no piece
-passed_over : (ts : List Lexeme) (ends ahead : List ℕ) (last n : ℕ) → last ≡ n + 1 → n < length ts → ((t : Lexeme) → slice_get ts n ≡ Some t → nesting_of t.kind ≡ nesting.Passes)
+passed_over : (ts : List Lexeme) (ends ahead : List ℕ) (last n : ℕ) → last ≡ n + 1 → n < length ts → ((t : Lexeme) → slice_get ts n ≡ Some t → is_passed t.kind ≡ true)
     → IsFilled ts ends ahead last → IsFilled ts ends ahead n
 passed_over ts ends ahead last n at less means h = by (found ts n less)
   where
@@ -184,11 +189,11 @@ passed_over ts ends ahead last n at less means h = by (found ts n less)
         from i below begins (inr ne) above = h.each i (omega (arith, at, above, ne)) below begins
 
 -- nor do many
-pub one_more_passed : (ts : List Lexeme) (n last before : ℕ) (k : Kind) → last ≡ n + 1 → ((t : Lexeme) → slice_get ts n ≡ Some t → k ≡ t.kind) → nesting_of k ≡ nesting.Passes → ArePassed ts last before → ArePassed ts n before
+pub one_more_passed : (ts : List Lexeme) (n last before : ℕ) (k : Kind) → last ≡ n + 1 → ((t : Lexeme) → slice_get ts n ≡ Some t → k ≡ t.kind) → is_passed k ≡ true → ArePassed ts last before → ArePassed ts n before
 one_more_passed ts n last before k at is passed h = λ i t from below here. by i t from below here (cases_eq i n)
   where
-    by : (i : ℕ) (t : Lexeme) → n ≤ i → i < before → slice_get ts i ≡ Some t → (i ≡ n) ⊎ (i ≢ n) → nesting_of t.kind ≡ nesting.Passes
-    by i t from below here (inl e) = ap nesting_of (sym (is t (ap (slice_get ts) (sym e) ∙ here))) ∙ passed
+    by : (i : ℕ) (t : Lexeme) → n ≤ i → i < before → slice_get ts i ≡ Some t → (i ≡ n) ⊎ (i ≢ n) → is_passed t.kind ≡ true
+    by i t from below here (inl e) = ap is_passed (sym (is t (ap (slice_get ts) (sym e) ∙ here))) ∙ passed
     by i t from below here (inr ne) = h i t (omega (arith, at, from, ne)) below here
 
 all_passed : (ts : List Lexeme) (ends ahead : List ℕ) (n d last : ℕ) → last ≡ n + d → last ≤ length ts → ArePassed ts n last → IsFilled ts ends ahead last → IsFilled ts ends ahead n

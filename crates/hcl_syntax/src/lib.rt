@@ -10,7 +10,6 @@ mod cursor;
 mod expected;
 mod expression;
 mod file;
-mod nesting;
 mod outlining;
 mod piece_end;
 mod pieces;

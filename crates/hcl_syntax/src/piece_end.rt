@@ -12,33 +12,16 @@
 ghost use Rattle.std.specs.Prelude.{◌≡◌, true, ◌<◌, ◌≤◌, ◌+◌, ◌++◌, ◌∷◌, [], ℕ, suc, List, length, get_or, reverse, slice_get, Some, IfOk};
 ghost use Rattle.hcl_source.specs.Load.{max_source};
 ghost use Rattle.hcl_tokens.specs.Lexemes.{Lexeme};
-ghost use Rattle.hcl_syntax.specs.declared.nesting.Nesting.TheVariants.{Newline, Passes};
-ghost use Rattle.hcl_syntax.specs.Inner.Pieces.{AreEnds, ArePassed, nesting_of, AreNewlinesAhead};
+ghost use Rattle.hcl_tokens.specs.Kinds.{is};
+ghost use Rattle.hcl_tokens.specs.declared.token.Kind.TheVariants.{Newline};
+ghost use Rattle.hcl_syntax.specs.Inner.Pieces.{AreEnds, ArePassed, AreNewlinesAhead, is_passed};
 
-use crate::nesting::Nesting;
-use hcl_tokens::{Kind, MAX_SOURCE, Tokens};
+use hcl_tokens::{Kind, MAX_SOURCE, Nesting, Tokens};
 use std::alloc::{AllocError, Global};
 
 #[inline(always)]
-fn nesting_of(kind: Kind) -> Nesting
-    ensures { result ≡ nesting_of kind }
-{
-    match kind {
-        Kind::Newline => Nesting::Newline,
-        Kind::ParenOpen
-        | Kind::BracketOpen
-        | Kind::BraceOpen
-        | Kind::InterpOpen
-        | Kind::ControlOpen => Nesting::Opens,
-        Kind::ParenClose | Kind::BracketClose | Kind::BraceClose | Kind::SeqClose =>
-            Nesting::Closes,
-        _ => Nesting::Passes,
-    }
-}
-
-#[inline(always)]
 fn is_newline(kind: Kind) -> bool
-    ensures { result ≡ true → nesting_of kind ≡ Newline }
+    ensures { result ≡ is Newline kind }
 {
     matches!(kind, Kind::Newline)
 }
@@ -46,21 +29,9 @@ fn is_newline(kind: Kind) -> bool
 /// Whether tokens of this kind mean nothing to the search for newlines.
 #[inline(always)]
 fn is_passed(kind: Kind) -> bool
-    ensures { result ≡ true → nesting_of kind ≡ Passes }
+    ensures { result ≡ is_passed kind }
 {
-    !matches!(
-        kind,
-        Kind::Newline
-            | Kind::ParenOpen
-            | Kind::BracketOpen
-            | Kind::BraceOpen
-            | Kind::InterpOpen
-            | Kind::ControlOpen
-            | Kind::ParenClose
-            | Kind::BracketClose
-            | Kind::BraceClose
-            | Kind::SeqClose
-    )
+    !is_newline(kind) && matches!(kind.nesting(), Nesting::Neither)
 }
 
 /// One past the number of the last token before another that means something to the search for newlines, or 0.
@@ -118,14 +89,13 @@ fn pass(
     if is_newline(kind) {
         return Ok(number);
     }
-    match nesting_of(kind) {
-        Nesting::Newline => Ok(number),
+    match kind.nesting() {
         Nesting::Opens => Ok(take_last(rest, count)),
         Nesting::Closes => {
             rest.push(top)?;
             Ok(top)
         }
-        Nesting::Passes => Ok(top),
+        Nesting::Neither => Ok(top),
     }
 }
 

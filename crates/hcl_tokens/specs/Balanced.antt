@@ -1,18 +1,40 @@
 -- Openers and closers in token lists: what a layout may rest on when it indents by them. An opener is `(`, `[`, `{`,
 -- `${` or `%{`, and a closer its counterpart (HCL Native Syntax Specification, "Operators and Delimiters" and
 -- "Templates"); quotes and heredocs don't count. That `max_open` are open at most is the scan's bound, and our own choice.
-use Rattle.std.specs.Prelude.{◌≡◌, ◌≤◌, ◌+◌, ◌||◌, ℕ, Bool, List, [], ◌∷◌, ◌++◌, if◌then◌else◌}
-use Rattle.hcl_tokens.specs.Kinds.{is}
+use Rattle.std.specs.Prelude.{◌≡◌, ◌≤◌, ◌+◌, ℕ, Bool, true, false, List, [], ◌∷◌, ◌++◌, if◌then◌else◌}
 use Rattle.hcl_tokens.specs.Lexemes.{Lexeme}
 pub use Rattle.hcl_tokens.specs.Lexemes.{max_open}
 use Rattle.hcl_tokens.specs.declared.token.Kind.{Kind}
+use Rattle.hcl_tokens.specs.declared.token.Nesting.{Nesting}
+use Rattle.hcl_tokens.specs.declared.token.Nesting.TheVariants.{Opens, Closes, Neither}
 use Rattle.hcl_tokens.specs.declared.token.Kind.TheVariants.{ParenOpen, BracketOpen, BraceOpen, InterpOpen, ControlOpen, ParenClose, BracketClose, SeqClose, BraceClose}
 
+-- whether a token of the kind opens a group or closes one
+abbrev pub nesting : Kind → Nesting
+nesting ParenOpen = Opens
+nesting BracketOpen = Opens
+nesting BraceOpen = Opens
+nesting InterpOpen = Opens
+nesting ControlOpen = Opens
+nesting ParenClose = Closes
+nesting BracketClose = Closes
+nesting BraceClose = Closes
+nesting SeqClose = Closes
+nesting _ = Neither
+
+abbrev pub is_opens : Nesting → Bool
+is_opens Opens = true
+is_opens _ = false
+
+abbrev pub is_closes : Nesting → Bool
+is_closes Closes = true
+is_closes _ = false
+
 abbrev pub is_opener : Kind → Bool
-is_opener k = is ParenOpen k || is BracketOpen k || is BraceOpen k || is InterpOpen k || is ControlOpen k
+is_opener k = is_opens (nesting k)
 
 abbrev pub is_closer : Kind → Bool
-is_closer k = is ParenClose k || is BracketClose k || is BraceClose k || is SeqClose k
+is_closer k = is_closes (nesting k)
 
 -- each counts as one
 abbrev pub opening : Kind → ℕ

@@ -1,7 +1,7 @@
 -- A text made of tokens and blanks: each token with the number of spaces before it, and which numbers leave the tokens
 -- as they are. Nothing here knows why a blank is put. Our own words; that the numbers leave the tokens so is the law
 -- `other_gaps` of `hcl_scan`.
-use Rattle.std.specs.Prelude.{ℕ, ◌+◌, ◌==◌, ◌||◌, not, Bool, true, false, IsTrue, List, [], ◌∷◌, ◌++◌, length, if◌then◌else◌, replicate, map}
+use Rattle.std.specs.Prelude.{ℕ, ◌+◌, ◌==◌, ◌||◌, not, Bool, true, IsTrue, List, [], ◌∷◌, ◌++◌, length, if◌then◌else◌, replicate, map}
 use Rattle.hcl_tokens.specs.Lexemes.{Lexeme}
 use Rattle.hcl_tokens.specs.Kinds.{is}
 use Rattle.hcl_tokens.specs.Neighbours.{joins}

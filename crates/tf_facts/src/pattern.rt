@@ -19,7 +19,7 @@ ghost use Rattle.tf_facts.specs.Inner.Closings.{part_of};
 use crate::comment::put_comment;
 use crate::found::FoundComment;
 use crate::part::Part;
-use hcl_tokens::{Kind, Tokens};
+use hcl_tokens::{Kind, Nesting, Tokens};
 use std::alloc::{AllocError, Global};
 
 fn is_number(kind: Kind) -> bool
@@ -49,13 +49,11 @@ fn part_of(kind: Kind) -> Part
         Kind::InlineComment | Kind::Blank | Kind::Newline => Part::PassedOver,
         Kind::Dot => Part::Dot,
         Kind::QuoteOpen => Part::QuoteOpen,
-        Kind::ParenOpen
-        | Kind::BracketOpen
-        | Kind::BraceOpen
-        | Kind::InterpOpen
-        | Kind::ControlOpen => Part::Opens,
-        Kind::ParenClose | Kind::BracketClose | Kind::BraceClose | Kind::SeqClose => Part::Closes,
-        _ => Part::Plain,
+        _ => match kind.nesting() {
+            Nesting::Opens => Part::Opens,
+            Nesting::Closes => Part::Closes,
+            Nesting::Neither => Part::Plain,
+        },
     }
 }
 

@@ -1,6 +1,6 @@
 -- What the scanner keeps of what is open, and what this stands for: the openers, their offsets, what heredocs hide.
 -- Our own choice of representation: a heredoc is kept by where its closing marker ends and where what was seen around it ends.
-use Rattle.std.specs.Prelude.{ℕ, ◌-◌, Bool, true, false, List, [], ◌∷◌, length, map, drop, if◌then◌else◌, slice_range, Option, Some, None}
+use Rattle.std.specs.Prelude.{ℕ, ◌-◌, ◌||◌, Bool, true, false, List, [], ◌∷◌, length, map, drop, if◌then◌else◌, slice_range, Option, Some, None}
 use Rattle.hcl_tokens.specs.Lexemes as lexemes
 use Rattle.hcl_tokens.specs.Lexemes.{is_group, open_after, same_opener}
 use Rattle.hcl_tokens.specs.Spelling.{Context, Template, Expression, context_in}
@@ -8,8 +8,10 @@ use Rattle.hcl_tokens.specs.Scans.{Hidden, owes}
 use Rattle.hcl_scan.specs.declared.stack.Opener.{Opener}
 use Rattle.hcl_scan.specs.declared.stack.Opener.TheVariants.{Quote, Heredoc, Sequence, Brace, Bracket, Paren}
 use Rattle.hcl_scan.specs.declared.stack.Opened.{Opened}
+use Rattle.hcl_tokens.specs.Balanced.{is_closer, is_opener}
+use Rattle.hcl_tokens.specs.Kinds.{is}
 use Rattle.hcl_tokens.specs.declared.token.Kind.{Kind}
-use Rattle.hcl_tokens.specs.declared.token.Kind.TheVariants.{HeredocOpen, QuoteOpen, InterpOpen, ControlOpen, ParenOpen, BracketOpen, BraceOpen, ParenClose, BracketClose, SeqClose, BraceClose, QuoteClose, HeredocClose}
+use Rattle.hcl_tokens.specs.declared.token.Kind.TheVariants.{HeredocOpen, QuoteOpen, InterpOpen, ControlOpen, ParenOpen, BracketOpen, BraceOpen, QuoteClose, HeredocClose}
 
 abbrev pub opener_of : Opener → lexemes.Opener
 opener_of Quote = lexemes.Quote
@@ -78,22 +80,9 @@ abbrev pub quoted_in : Context → Option Bool
 quoted_in (Template quoted) = Some quoted
 quoted_in Expression = None
 
--- tokens of this kind change what is open
+-- tokens of this kind change what is open: of a group, a quote or a heredoc
 abbrev pub opens_or_closes : Kind → Bool
-opens_or_closes HeredocOpen = true
-opens_or_closes QuoteOpen = true
-opens_or_closes ParenOpen = true
-opens_or_closes BracketOpen = true
-opens_or_closes BraceOpen = true
-opens_or_closes ParenClose = true
-opens_or_closes BracketClose = true
-opens_or_closes SeqClose = true
-opens_or_closes BraceClose = true
-opens_or_closes InterpOpen = true
-opens_or_closes ControlOpen = true
-opens_or_closes QuoteClose = true
-opens_or_closes HeredocClose = true
-opens_or_closes _ = false
+opens_or_closes k = is_opener k || is_closer k || is QuoteOpen k || is QuoteClose k || is HeredocOpen k || is HeredocClose k
 
 -- what a token of this kind opens, heredocs aside
 abbrev pub opened_by : Kind → Option Opener

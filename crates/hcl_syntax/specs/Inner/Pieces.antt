@@ -1,12 +1,10 @@
 -- Pieces of items by token numbers, as the code finds them.
-use Rattle.std.specs.Prelude.{◌≡◌, ◌<◌, ◌≤◌, ℕ, ◌+◌, ◌-◌, ◌&&◌, ◌||◌, Bool, true, Some, slice_get, List, [], ◌∷◌, drop, take, length, get_or, reverse, ◌==◌, if◌then◌else◌}
+use Rattle.std.specs.Prelude.{◌≡◌, ◌<◌, ◌≤◌, ℕ, ◌+◌, ◌-◌, ◌&&◌, ◌||◌, Bool, true, Some, slice_get, List, [], ◌∷◌, drop, take, length, get_or, reverse, not, if◌then◌else◌}
 use Rattle.hcl_tokens.specs.Kinds.{is}
 use Rattle.hcl_tokens.specs.declared.token.Kind.TheVariants as kind
 use Rattle.hcl_tokens.specs.Lexemes.{Lexeme}
 use Rattle.hcl_tokens.specs.declared.token.Kind.{Kind}
-use Rattle.hcl_tokens.specs.Balanced.{opening, closing}
-use Rattle.hcl_syntax.specs.declared.nesting.Nesting.{Nesting}
-use Rattle.hcl_syntax.specs.declared.nesting.Nesting.TheVariants as nesting
+use Rattle.hcl_tokens.specs.Balanced.{is_closer, is_opener}
 use Rattle.hcl_grammar.specs.Numbered.{Numbered, numbered_from, without_comments}
 use Rattle.hcl_grammar.specs.Items.{deepen, is_closed, items}
 use Rattle.hcl_grammar.specs.declared.item.Item.{Item}
@@ -27,13 +25,13 @@ pub record IsFirst (tokens : List Lexeme) (from to : ℕ) (word : NumberedKind) 
   pub from_on : from ≤ word.number
   pub within : word.number < to
 
--- what a token means to the search for newlines
-abbrev pub nesting_of : Kind → Nesting
-nesting_of k = if is kind.Newline k then nesting.Newline else if opening k == 1 then nesting.Opens else if closing k == 1 then nesting.Closes else nesting.Passes
+-- tokens of the kind mean nothing to the search for newlines
+abbrev pub is_passed : Kind → Bool
+is_passed k = not (is kind.Newline k || is_opener k || is_closer k)
 
 -- the tokens from a number on to before another mean nothing to it
 abbrev pub ArePassed : List Lexeme → ℕ → ℕ → Type 0
-ArePassed tokens from to = (k : ℕ) (t : Lexeme) → from ≤ k → k < to → slice_get tokens k ≡ Some t → nesting_of t.kind ≡ nesting.Passes
+ArePassed tokens from to = (k : ℕ) (t : Lexeme) → from ≤ k → k < to → slice_get tokens k ≡ Some t → is_passed t.kind ≡ true
 
 -- how many tokens stand before the first newline outside all openers, where so many are open
 abbrev pub first_len : ℕ → List Lexeme → ℕ
