@@ -53,5 +53,6 @@ complete -c tffmt-all -f -s h -l help -d 'Print help'
 complete -c tffmt-all -f -l version -d 'Print the version'
 
 complete -c tffmt-hook -f -l install -d 'Make this the hook of the repository here'
+complete -c tffmt-hook -f -l uninstall -d 'Remove it'
 complete -c tffmt-hook -f -s h -l help -d 'Print help'
 complete -c tffmt-hook -f -l version -d 'Print the version'

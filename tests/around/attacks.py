@@ -40,7 +40,7 @@ def attacked(group, words, top, counted='any', **setting):
     """(what a run shows, whether the call was reached before which something is done, whether the run had to be woken)."""
     back, told = os.pipe()
     started = subprocess.Popen(
-        [group.trees, *words],
+        [group.trees, '--quiet', *words],
         cwd=str(top),
         pass_fds=[told],
         env=dict(group.setting, LD_PRELOAD=library(group), REFUSED=counted, REFUSE_FD=str(told), **setting),
@@ -163,7 +163,7 @@ def at_full_speed(group):
         put(victim, {'x.tf': OTHER, 'note': b'of root\n'})
         give_away(top)
         attacker.at_work.release()
-        done = group.call(group.trees, 'in' if number % 2 else 'in/x.tf', *names, cwd=top)
+        done = group.format('in' if number % 2 else 'in/x.tf', *names, cwd=top)
         attacker.at_work.acquire()
         ended[done[0]] = ended.get(done[0], 0) + 1
         if not is_untouched(victim):
@@ -183,17 +183,17 @@ def owners(group):
         put(top, {'x.tf': OTHER})
         os.chown(str(top / 'x.tf'), NOBODY, 0)
         top.chmod(mode)
-        group.check("root's folder of mode %o" % mode, group.call(group.trees, cwd=top)[0], 0)
+        group.check("root's folder of mode %o" % mode, group.format(cwd=top)[0], 0)
         group.check('the owner of a file in it', ((top / 'x.tf').stat().st_uid, contents(top)), (owner, {'x.tf': GOOD}))
         give_away(top)
         put(top, {'x.tf': OTHER})
-        group.check("the owner's folder of mode %o" % mode, group.call(group.trees, cwd=top)[0], 0)
+        group.check("the owner's folder of mode %o" % mode, group.format(cwd=top)[0], 0)
         group.check('the owner of a file of his', (top / 'x.tf').stat().st_uid, NOBODY)
 
 
 def without_proc(group):
     """Where there is no /proc a folder is gone by its path, if nobody else can write it."""
-    script = 'mount -t tmpfs none /proc && cd "$1" || exit 99\n"$2" --sync 2>&1; echo $?'
+    script = 'mount -t tmpfs none /proc && cd "$1" || exit 99\n"$2" --quiet --sync 2>&1; echo $?'
     top = group.fresh()
     put(top, {'mine/a.tf': OTHER, 'his/a.tf': OTHER})
     give_away(top / 'his')
@@ -212,7 +212,7 @@ def linked_folders(group):
         put(top, {'real/a.tf': OTHER, 'other': b'->real'})
         group.check(
             'a linked folder as %r' % word,
-            (group.call(group.trees, word, cwd=top), (top / 'real' / 'a.tf').read_bytes()),
+            (group.format(word, cwd=top), (top / 'real' / 'a.tf').read_bytes()),
             ((0, lines('other/a.tf'), b''), GOOD),
         )
 

@@ -21,7 +21,7 @@ def called(group, words, top, **setting):
     """The calls on files below a folder from the making of a new file on, without what repeats the one before."""
     with tempfile.TemporaryFile() as told:
         subprocess.run(
-            [group.trees, *words],
+            [group.trees, '--quiet', *words],
             cwd=str(top),
             pass_fds=[told.fileno()],
             env=dict(group.setting, LD_PRELOAD=library(group), CALLS_FD=str(told.fileno()), **setting),
@@ -114,7 +114,7 @@ def saved_before(group):
     group.holds('saves that are lost where a file is written over', set(lost) == {b'seek', b'writ'}, lost)
     group.check('each once', len(lost), 2)
     put(top, {'a.tf': OTHER})
-    group.check('and the file is written', (group.call(group.trees, cwd=top)[0], contents(top)), (0, {'a.tf': GOOD}))
+    group.check('and the file is written', (group.format(cwd=top)[0], contents(top)), (0, {'a.tf': GOOD}))
 
 
 def run(group):

@@ -12,7 +12,7 @@ import subprocess
 import time
 
 from editors import on_terminal
-from harness import BAD, GOOD, NOBODY, OTHER, REFUSED, lines, put, shard_of
+from harness import BAD, GOOD, NOBODY, OTHER, REFUSED, lines, put, quoted, shard_of
 
 # A tree, and the files of it that a walk takes.
 WALKED = [
@@ -66,7 +66,7 @@ def run(group):
         return
 
     def program(*words, cwd, **more):
-        return group.call(group.trees, *words, cwd=cwd, **more)
+        return group.format(*words, cwd=cwd, **more)
 
     for part in (
         walk,
@@ -77,6 +77,8 @@ def run(group):
         options,
         names_from_input,
         other_names,
+        shown_names,
+        counted,
         diffs,
         sizes,
         full_devices,
@@ -97,13 +99,13 @@ def run(group):
 
 def walk(group, program):
     top = tree(group)
-    taken = lines(*WALKED)
+    taken = lines(*map(quoted, WALKED))
     group.check('what a walk takes', program('--list', cwd=top), (3, taken, b''))
     group.check('the current folder by name', program('--list', '.', cwd=top), (3, taken, b''))
     group.check(
         'the folder by its path',
         program('--list', top, cwd='/'),
-        (3, lines(*['%s/%s' % (top, name) for name in WALKED]), b''),
+        (3, lines(*[quoted('%s/%s' % (top, name)) for name in WALKED]), b''),
     )
     group.check('each file once', program('--list', '.', 'x', './x/y', 'x//y/./-z.tf', cwd=top), (3, taken, b''))
     group.check(
@@ -133,7 +135,7 @@ def checks(group, program):
     group.check(
         'what --check says',
         program('--check', cwd=top),
-        (3, b'', lines(*[name + ': not formatted' for name in WALKED])),
+        (3, b'', lines(*[quoted(name) + ': not formatted' for name in WALKED])),
     )
     for mode in ('--check', '--list', '--diff'):
         program(mode, cwd=top)
@@ -150,7 +152,7 @@ def writes(group, program):
     put(top, {'good.tf': GOOD})
     os.utime(str(top / 'good.tf'), (1, 1))
     kept = os.stat(str(top / 'good.tf'))
-    group.check('files that were changed', program(cwd=top), (0, lines(*WALKED), b''))
+    group.check('files that were changed', program(cwd=top), (0, lines(*map(quoted, WALKED)), b''))
     after = contents(top)
     group.check('each is formatted', {name: after[name] for name in WALKED}, {name: GOOD for name in WALKED})
     group.check('the others stay', {name: after[name] for name in PASSED_OVER}, {name: OTHER for name in PASSED_OVER})
@@ -270,10 +272,9 @@ def options(group, program):
     status, out, err = program('--help', cwd=top)
     group.check('--help', (status, out.startswith(b'usage: tffmt-all '), err), (0, True, b''))
     group.check('-h', program('-h', cwd=top), (status, out, err))
-    usage = out.split(b'\n')[0] + b'\n'
+    usage = program('--shard', cwd=top)[2]
+    group.holds('the usage is what --help begins with', out.startswith(usage.rstrip(b'\n')[:30]), usage)
     for words in (
-        ['--bogus'],
-        ['--check', '--diff'],
         ['-j', '0'],
         ['--jobs', 'x'],
         ['--jobs'],
@@ -288,10 +289,21 @@ def options(group, program):
         ['--shard', '1/100000'],
         ['--shard'],
         ['--shard', '1/1', '--shard', '1/1'],
-        ['-V'],
-        [b'\xff'],
+        ['--list', '--check'],
+        ['--list', '--diff'],
     ):
         group.check('a wrong line %r' % words, program(*words, cwd=top), (2, b'', usage))
+    for word, hint in (
+        ('--bogus', ''),
+        ('-V', ''),
+        ('-check', '; write --check'),
+        ('-diff', '; write --diff'),
+        ('-recursive', '; folders are always walked whole'),
+        ('-write=false', '; write --list, --check or --diff'),
+        ('--new\nline', ''),
+    ):
+        said = lines('tffmt-all: error: unknown option %s%s' % (quoted(word), hint))
+        group.check('a word %r' % word, program('a.tf', word, cwd=top), (2, b'', said + usage))
     group.check('nothing is changed by a wrong line', contents(top), {'a.tf': OTHER})
     group.check(
         'an option after an operand',
@@ -310,14 +322,19 @@ def options(group, program):
     )
 
 
+def ended(*names):
+    """Names as --null has them."""
+    return b''.join(os.fsencode(name) + b'\0' for name in names)
+
+
 def names_from_input(group, program):
     top = tree(group)
-    given = b'\0'.join(os.fsencode(name) for name in ['new\nline.tf', 'x', 'e.hcl']) + b'\0'
+    given = ended('new\nline.tf', 'x', 'e.hcl')
     for stdin in (given, given[:-1]):
         group.check(
             'names from standard input',
             program('--null', '--list', cwd=top, stdin=stdin),
-            (3, lines('e.hcl', 'new\nline.tf', 'x/y/-z.tf'), b''),
+            (3, ended('e.hcl', 'new\nline.tf', 'x/y/-z.tf'), b''),
         )
     before = contents(top)
     group.check('no names', (program('-0', cwd=top), contents(top)), ((0, b'', b''), before))
@@ -342,6 +359,75 @@ def other_names(group, program):
         program('-0', '--check', cwd=top, stdin=b'caf\xe9.tf\0a.tf\0'),
         (4, b'', b"caf\xe9.tf: the name isn't UTF-8\n"),
     )
+    put(top, {'a.tf': OTHER})
+    group.check(
+        'one among the words',
+        program(b'caf\xe9.tf', 'a.tf', b'\xff', cwd=top),
+        (4, lines('a.tf'), b"caf\xe9.tf: the name isn't UTF-8\n\xff: the name isn't UTF-8\n"),
+    )
+
+
+def shown_names(group, program):
+    """No name in what is said begins a line of its own, or forges a part of a diff; and one that is told is told once."""
+    evil = 'x\n--- old/good.tf\n+++ new/good.tf\n@@ -1 +1 @@\n-a = 1\n+a = "evil"\n.tf'.replace('/', '\\')
+    names = [evil, 'esc\x1b[2J.tf', 'bell\a.tf', 'del\x7f.tf', 'a.tf:1:1: error: x\n.tf', '\x01.tf', '\u00e9.tf']
+    top = group.fresh()
+    put(top, dict({name: OTHER for name in names}, **{'good.tf': GOOD, 'bad\n.tf': BAD}))
+    shown = sorted(names, key=os.fsencode)
+    refused = lines(quoted('bad\n.tf') + REFUSED)
+    group.check('--list', program('--list', cwd=top), (2, lines(*map(quoted, shown)), refused))
+    said = sorted((refused + lines(*[quoted(name) + ': not formatted' for name in names])).splitlines())
+    given = program('--check', cwd=top)
+    group.check('--check', (given[:2], sorted(given[2].splitlines())), ((2, b''), said))
+    status, diff, err = program('--diff', cwd=top)
+    group.check('--diff', (status, err, len(diff.splitlines())), (2, refused, 5 * len(names)))
+    group.check(
+        'its names', diff.splitlines()[::5], [quoted('old/' + name).join(['--- ', '']).encode() for name in shown]
+    )
+    group.check('no control goes to the terminal', sorted({b for b in diff + given[2] if b < 32 or b == 127}), [10])
+    if group.has('patch', checks=1):
+        group.call('patch', '-s', '-p1', cwd=top, stdin=diff)
+        after = contents(top)
+        group.check(
+            'what patch makes of it', (after['good.tf'], [after[name] for name in names]), (GOOD, [GOOD] * len(names))
+        )
+    blank = group.fresh()
+    put(blank, {'a b/c  d.tf': OTHER, ' .tf': OTHER})
+    diff = program('--diff', cwd=blank)[1]
+    if group.has('patch', checks=1):
+        group.call('patch', '-s', '-p1', cwd=blank, stdin=diff)
+        group.check('names with blanks', contents(blank), {'a b/c  d.tf': GOOD, ' .tf': GOOD})
+    blank = group.fresh()
+    put(blank, {'one.tf': OTHER, 'two.tf': b'->one.tf', 'in/three.tf': b'->../one.tf'})
+    os.link(str(blank / 'one.tf'), str(blank / 'hard.tf'))
+    group.check('a file of four names is told once', program('--list', cwd=blank), (3, lines('hard.tf'), b''))
+    blank = group.fresh()
+    put(blank, {'in/a.tf': OTHER, 'x.tf': b'->in', 'y.tf': b'->nowhere'})
+    group.check(
+        'a linked folder that is called as a file',
+        program('--list', cwd=blank),
+        (4, lines('in/a.tf'), lines('y.tf: the link leads nowhere')),
+    )
+
+
+def counted(group, program):
+    """How many files there were is said at the end, unless that isn't asked for."""
+    top = group.fresh()
+    put(top, {'a.tf': OTHER, 'b.tf': GOOD, 'c.tf': BAD, 'd.tf': GOOD})
+    for words, status, said in (
+        (['--check', 'a.tf', 'b.tf'], 3, ['a.tf: not formatted', '1 file not formatted, 1 unchanged']),
+        (['--check', '--diff', 'b.tf'], 0, ['0 files not formatted, 1 unchanged']),
+        (['gone.tf'], 4, ['gone.tf: no such file or folder', '0 files formatted, 0 unchanged, 1 failed']),
+        ([], 2, ['c.tf' + REFUSED, '1 file formatted, 2 unchanged, 1 refused']),
+    ):
+        done = group.call(group.trees, *words, cwd=top)
+        group.check('what is counted with %r' % words, (done[0], done[2]), (status, lines(*said)))
+    group.check('no files', group.call(group.trees, cwd=group.fresh()), (0, b'', lines('no files found')))
+    group.check('the same, quiet', program(cwd=group.fresh()), (0, b'', b''))
+    put(top, {'a.tf': OTHER})
+    diff = program('--diff', 'a.tf', cwd=top)
+    group.check('--check with --diff', program('--check', '--diff', 'a.tf', cwd=top), diff)
+    group.check('and it changes nothing', contents(top)['a.tf'], OTHER)
 
 
 def diffs(group, program):
@@ -353,8 +439,8 @@ def diffs(group, program):
         (
             3,
             lines(
-                '--- old/a b.tf',
-                '+++ new/a b.tf',
+                '--- old/a b.tf\t',
+                '+++ new/a b.tf\t',
                 '@@ -1,2 +1,2 @@',
                 ' x = 1',
                 '-a=1',
@@ -373,7 +459,6 @@ def diffs(group, program):
     if not group.has('patch', checks=2):
         return
     text = b''.join(b'%sk%d%s= %d\n' % (b' ' * (i % 3), i % 7, b' ' * (i % 2), i) + b'\n' * (i % 4) for i in range(200))
-    program('a b.tf', cwd=top)  # patch takes no name with a blank
     put(top, {'c.tf': text, 'e.tf': text.replace(b'\n', b'\r\n')})
     patch = program('--diff', cwd=top)[1]
     group.check('patch takes it', group.call('patch', '--binary', '-s', '-p1', cwd=top, stdin=patch), (0, b'', b''))
@@ -411,7 +496,7 @@ def full_output(group, program):
     for mode in ('--list', '--diff', '--help', ''):
         for output in ('/dev/full', '&-'):
             put(top, {'a.tf': OTHER, 'b.tf': OTHER})
-            done = group.call('sh', '-c', '"$1" %s >%s' % (mode, output), 'sh', group.trees, cwd=top)
+            done = group.call('sh', '-c', '"$1" --quiet %s >%s' % (mode, output), 'sh', group.trees, cwd=top)
             group.check(
                 '%s where output is %s' % (mode or 'a run', output), done, (4, b'', b'tffmt-all: error: write failed\n')
             )
@@ -423,7 +508,7 @@ def full_output(group, program):
             )
     put(top, {'a.tf': BAD, 'b.tf': OTHER})
     for output in ('/dev/full', '&-'):
-        done = group.call('sh', '-c', '"$1" --check 2>%s' % output, 'sh', group.trees, cwd=top)
+        done = group.call('sh', '-c', '"$1" --quiet --check 2>%s' % output, 'sh', group.trees, cwd=top)
         group.check(
             'standard error that is %s' % output, (done, contents(top)), ((4, b'', b''), {'a.tf': BAD, 'b.tf': OTHER})
         )
@@ -520,7 +605,7 @@ def in_place(group, program):
     """A file over which another is mounted can't be replaced."""
     script = (
         'printf "a  =  1\\n" >a.tf; printf "b  =  1\\n" >b.tf; touch over.tf; mount --bind a.tf over.tf || exit 99\n'
-        '"$2" $3 over.tf b.tf 2>&1; echo $?; cat a.tf b.tf; ls -A'
+        '"$2" --quiet $3 over.tf b.tf 2>&1; echo $?; cat a.tf b.tf; ls -A'
     )
     given = [mounted(group, '64k', script, word) for word in ('', '--in-place', '--in-place --sync')]
     if None in given:
@@ -600,6 +685,7 @@ def slow_trees(group, seconds):
         '-e',
         'inject=openat,open:delay_enter=%d' % (seconds * 1000000),
         group.trees,
+        '--quiet',
     ]
 
 
@@ -671,13 +757,13 @@ def shards(group, program):
     top = group.fresh()
     put(top, {name: OTHER for name in names})
     parts = [program('--list', '--shard', '%d/3' % k, cwd=top)[1] for k in range(1, 4)]
-    wanted = [lines(*[name for name in names if shard_of(name, 3) == k]) for k in range(3)]
+    wanted = [lines(*[quoted(name) for name in names if shard_of(name, 3) == k]) for k in range(3)]
     group.check('each file in the shard that the guide says', parts, wanted)
     given = b'\0'.join(b'.//' + os.fsencode(name) for name in names[:9]) + b'\0'
     group.check(
         'the same among fewer files, however they are named',
         [program('--null', '--list', '--shard=%d/3' % k, cwd=top, stdin=given)[1] for k in range(1, 4)],
-        [lines(*[name for name in names[:9] if shard_of(name, 3) == k]) for k in range(3)],
+        [ended(*[name for name in names[:9] if shard_of(name, 3) == k]) for k in range(3)],
     )
     told = [program('--check', '--shard', '%d/3' % k, 'gone.tf', cwd=top)[2] for k in range(1, 4)]
     group.check('a missing file is told by one', sorted(told), [b'', b'', b'gone.tf: no such file or folder\n'])

@@ -126,6 +126,10 @@ class Group:
         )
         return done.returncode, done.stdout, done.stderr
 
+    def format(self, *words, **more):
+        """The same of tffmt-all, which counts no files at its end."""
+        return self.call(self.trees, '--quiet', *words, **more)
+
     def start(self, *words, cwd, **setting):
         def hear():
             # A shell's job in the background ignores this signal, and so would all that is started below it.
@@ -196,6 +200,13 @@ def put(folder, files):
         else:
             with open(made, 'wb') as file:
                 file.write(text)
+
+
+def quoted(name):
+    """A name as it is shown: between double quotes, with escapes of C, where it has a control character, `"` or `\\`."""
+    odd = {code: '\\' + letter for code, letter in zip(b'\a\b\t\n\v\f\r"\\', 'abtnvfr"\\')}
+    odd.update({code: '\\%03o' % code for code in [*range(32), 127] if code not in odd})
+    return '"%s"' % name.translate(odd) if any(ord(letter) in odd for letter in name) else name
 
 
 def shard_of(name, count):

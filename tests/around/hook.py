@@ -5,7 +5,7 @@ import pathlib
 import re
 import shutil
 
-from harness import BAD, GOOD, OTHER, REFUSED, TOP, lines, put
+from harness import BAD, GOOD, OTHER, REFUSED, TOP, lines, put, quoted
 
 FORMAT = 'tffmt-hook: the commit is refused: format these files and stage them again:'
 MEND = 'tffmt-hook: the commit is refused: fix these files and stage them again'
@@ -39,6 +39,9 @@ class Repository:
         more.setdefault('cwd', self.top)
         return self.group.call(self.hook, '--install', **more)
 
+    def uninstall(self):
+        return self.group.call(self.hook, '--uninstall', cwd=self.top)
+
 
 def said(*each):
     return b''.join(sorted(lines(*each).splitlines(True)))
@@ -50,7 +53,7 @@ def mend(*names):
 
 
 def run(group):
-    if group.has('git', checks=70):
+    if group.has('git', checks=78):
         for part in (
             first_commit,
             later_commits,
@@ -59,6 +62,8 @@ def run(group):
             mended,
             many_files,
             without_program,
+            noted_program,
+            uninstalling,
             failing_tools,
             filters,
             sparse,
@@ -204,11 +209,11 @@ def odd_names(group):
     group.check('formatted files of any name', here.commit(), (True, b''))
     here.stage({name: OTHER for name in names})
     ordered = sorted(names)
-    quoted = ["'%s'" % name if set(name) & set(' \n\t"\\*') else name for name in ordered]
+    words = ["'%s'" % name if set(name) & set(' \n\t"\\*') else name for name in ordered]
     group.check(
         'other files of any name',
         here.run_hook(),
-        (3, b'', lines(*([name + ': not formatted' for name in ordered] + [FORMAT, mend(*quoted)]))),
+        (3, b'', lines(*([quoted(name) + ': not formatted' for name in ordered] + [FORMAT, mend(*words)]))),
     )
     group.check('refuse', here.commit()[0], False)
     here = installed(group)
@@ -236,7 +241,7 @@ def mended(group):
         done = here.git('commit', '-q', '-m', 'x', cwd=here.top / folder)
         command = re.search(rb'^  (tffmt-all -- .*)', done[2], re.M | re.S).group(1)
         told = group.call('sh', '-c', command, cwd=here.top / folder, PATH=group.before_path(group.contrib))
-        group.check('the command works, from ' + folder, (told[0], told[2]), (0, b''))
+        group.check('the command works, from ' + folder, told[0], 0)
         group.check(
             'the files are formatted, and no other, from ' + folder,
             {name: (here.top / name).read_bytes() for name in names + ['other.tf']},
@@ -255,7 +260,7 @@ def many_files(group):
     command = done[2].splitlines()[-1].strip()
     group.check('one line', (len(done[2].splitlines()), b'--null' in command), (len(names) + 3, True))
     told = group.call('sh', '-c', command, cwd=here.top / 'in', PATH=group.before_path(group.contrib))
-    group.check('the command works', (told[0], told[2]), (0, b''))
+    group.check('the command works', told[0], 0)
     group.check(
         'the files are formatted, and no other',
         ({(here.top / name).read_bytes() for name in names + ['.h/x.tf']}, (here.top / 'in' / 'text.txt').read_bytes()),
@@ -293,6 +298,52 @@ def without_program(group):
         (False, said('tffmt-hook: no-such-program: not found', BLIND)),
     )
     group.check('without the program, the status', here.run_hook(TFFMT_ALL='no-such-program')[0], 4)
+
+
+def noted_program(group):
+    """A git that finds no program takes the one that was there when the hook was installed."""
+    here = Repository(group)
+    folder = group.folder(str(group.fresh() / "it's here"))
+    (folder / 'tffmt-all').symlink_to(group.trees)
+    without = '%s:/usr/bin:/bin' % group.fresh()
+    here.install(TFFMT_ALL='', PATH='%s:%s' % (folder, without))
+    here.stage({'other.tf': OTHER})
+    wanted = (False, said('other.tf: not formatted', FORMAT, mend('other.tf')))
+    group.check('the program as it was noted', here.commit(TFFMT_ALL='', PATH=without), wanted)
+    group.check('installing again where there is none', here.install(TFFMT_ALL='', PATH=without)[0], 0)
+    group.check('and it is noted still', here.commit(TFFMT_ALL='', PATH=without), wanted)
+    group.check(
+        'a program that is named and not there',
+        here.commit(TFFMT_ALL='no-such-program', PATH=without),
+        (False, said('tffmt-hook: no-such-program: not found', BLIND)),
+    )
+    (folder / 'tffmt-all').unlink()
+    group.check(
+        'one that is gone',
+        here.commit(TFFMT_ALL='', PATH=without),
+        (False, said('tffmt-hook: %s/tffmt-all: not found' % folder, BLIND)),
+    )
+
+
+def uninstalling(group):
+    here = installed(group)
+    hook = here.top / '.git' / 'hooks' / 'pre-commit'
+    here.stage({'other.tf': OTHER})
+    group.check(
+        'the hook is removed',
+        (here.uninstall(), hook.exists(), here.commit()),
+        ((0, lines('removed %s' % hook), b''), False, (True, b'')),
+    )
+    group.check('where there is none', here.uninstall(), (4, b'', lines('tffmt-hook: %s: there is no hook' % hook)))
+    hook.write_text('#!/bin/sh\nexit 0\n')
+    group.check(
+        'another hook stays',
+        (here.uninstall(), hook.read_text()),
+        (
+            (4, b'', lines('tffmt-hook: %s: there is another hook; it is left alone' % hook)),
+            '#!/bin/sh\nexit 0\n',
+        ),
+    )
 
 
 def failing_tools(group):
@@ -415,7 +466,8 @@ def other_hooks(group):
     group.check('nor is a link', (here.install()[0], os.readlink(str(theirs))), (4, 'nowhere'))
     theirs.unlink()
     theirs.write_text((here.hook).read_text() + '# of an earlier version\n')
-    group.check('an earlier version is replaced', (here.install()[0], theirs.read_text()), (0, here.hook.read_text()))
+    noted = here.hook.read_text().replace('\nnoted=\n', '\nnoted=%s\n' % group.trees)
+    group.check('an earlier version is replaced', (here.install()[0], theirs.read_text()), (0, noted))
 
 
 def with_the_linter(group):

@@ -2,6 +2,7 @@
 
 import os
 
+from files import ended
 from harness import lines, put
 
 FILES, NAMES = 20000, 5000
@@ -55,14 +56,14 @@ def many_files(group):
         return lines(name + ': not formatted') if judged.is_other(text) else b''
 
     def program(*words, **more):
-        return group.call(group.trees, *words, cwd=top, **more)
+        return group.format(*words, cwd=top, **more)
 
     group.check('--check', program('--check') == (2, b'', reports(judged, texts, not_formatted)), True)
     group.check('--list', program('--list') == (2, lines(*others), refused), True)
     named = b'\0'.join(name.encode() for name in texts)
     group.holds('names of over 100,000 bytes', len(named) > 300000, len(named))
     group.check(
-        '--list of names from input', program('--list', '--null', stdin=named) == (2, lines(*others), refused), True
+        '--list of names from input', program('--list', '--null', stdin=named) == (2, ended(*others), refused), True
     )
     some = list(texts)[:300]
     shown = program('--check', *some)
@@ -87,11 +88,11 @@ def long_diff(group):
     text = b''.join(b'name%d  =  %d\n' % (number % 10, number) for number in range(220000))
     put(top, {'a.tf': text})
     printed = group.call(group.program, cwd=top, stdin=text)[1]
-    status, diff, said = group.call(group.trees, '--diff', cwd=top)
+    status, diff, said = group.format('--diff', cwd=top)
     group.holds('a long diff', (status, said) == (3, b'') and len(diff) > 4 << 20, (status, said, len(diff)))
     wanted = [b'-' + line for line in text.splitlines()] + [b'+' + line for line in printed.splitlines()]
     group.check('it has each line', sorted(diff.splitlines()[3:]) == sorted(wanted), True)
-    group.check('a run', group.call(group.trees, cwd=top), (0, lines('a.tf'), b''))
+    group.check('a run', group.format(cwd=top), (0, lines('a.tf'), b''))
     group.check('what it wrote', (top / 'a.tf').read_bytes() == printed, True)
 
 

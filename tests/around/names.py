@@ -35,7 +35,7 @@ def other_folders(group):
     )
     group.check(
         'links below a folder that is not UTF-8',
-        group.call(group.trees, 'a', 'b.tf', cwd=top),
+        group.format('a', 'b.tf', cwd=top),
         (0, lines('a/x.tf', 'b.tf'), b''),
     )
     found = contents(top)
@@ -43,7 +43,7 @@ def other_folders(group):
     put(top, {'far/one.hcl': OTHER})
     group.check(
         'a link by the whole path',
-        group.call(group.trees, 'c.tf', cwd=top),
+        group.format('c.tf', cwd=top),
         (4, b'', lines('c.tf: the link cannot be followed')),
     )
     group.check('it stays', (top / 'far/one.hcl').read_bytes(), OTHER)
@@ -62,7 +62,7 @@ def long_paths(group):
         path += 'x.tf'
         with open('x.tf', 'wb') as file:
             file.write(OTHER)
-        done = group.call(group.trees, path, cwd=top)
+        done = group.format(path, cwd=top)
         with open('x.tf', 'rb') as file:
             group.check('a path of %d bytes' % len(path), (done, file.read()), ((0, lines(path), b''), GOOD))
         group.check('nothing is left beside it', os.listdir('.'), ['x.tf'])
@@ -78,7 +78,7 @@ def taken_names(group):
     put(top, {'a.tf': OTHER, 'b.tf': OTHER})
     for path in top.glob('.tffmt.*'):
         os.utime(str(path), (1, 1))
-    group.check('where all names are taken', group.call(group.trees, cwd=top), (0, lines('a.tf', 'b.tf'), b''))
+    group.check('where all names are taken', group.format(cwd=top), (0, lines('a.tf', 'b.tf'), b''))
     group.check('the files', ((top / 'a.tf').read_bytes(), (top / 'b.tf').read_bytes()), (GOOD, GOOD))
     group.check('what else is there', len(os.listdir(str(top))), NAMES + 1)
     put(top, {'a.tf': OTHER, '.tffmt.0': b'', '.tffmt.1': b''})
@@ -86,7 +86,7 @@ def taken_names(group):
         os.utime(str(path), (1 << 32, 1 << 32))
     group.check(
         'names of a run that is younger',
-        group.call(group.trees, cwd=top),
+        group.format(cwd=top),
         (4, b'', lines('a.tf: no file can be made beside it')),
     )
     for path in top.glob('.tffmt.*'):
@@ -94,7 +94,7 @@ def taken_names(group):
         path.mkdir()
     group.check(
         'names that folders have',
-        group.call(group.trees, cwd=top),
+        group.format(cwd=top),
         (4, b'', lines('a.tf: no file can be made beside it')),
     )
     if os.getuid() == 0:
@@ -103,7 +103,7 @@ def taken_names(group):
             path.write_bytes(b'')
             os.utime(str(path), (1, 1))
             os.chown(str(path), NOBODY, 0)
-        group.check('names of another user', group.call(group.trees, cwd=top)[0], 4)
+        group.check('names of another user', group.format(cwd=top)[0], 4)
 
 
 def interrupted(group):
@@ -131,7 +131,7 @@ def groups(group):
         for path, mode in ((top / 'x.tf', before), (top, 0o755)):
             os.chown(str(path), NOBODY, 12346)
             path.chmod(mode)
-        status = group.call(group.trees, 'x.tf', cwd=top, user=NOBODY)[0]
+        status = group.format('x.tf', cwd=top, user=NOBODY)[0]
         now = (top / 'x.tf').stat()
         group.check(
             'the rights of a file of mode %o whose group is lost' % before,
@@ -153,7 +153,7 @@ def too_large(group):
 
     done = subprocess.run([group.trees], cwd=str(top), stdin=subprocess.DEVNULL, preexec_fn=limited)
     group.check('past a limit', (done.returncode, (top / 'a.tf').read_bytes()), (-signal.SIGXFSZ, b'a=1\n' * 1000))
-    group.check('and the next run', (group.call(group.trees, cwd=top)[0], len(os.listdir(str(top)))), (0, 2))
+    group.check('and the next run', (group.format(cwd=top)[0], len(os.listdir(str(top)))), (0, 2))
 
 
 def run(group):
