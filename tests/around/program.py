@@ -31,7 +31,7 @@ def run(group):
 
 
 def walk(group):
-    """The first walk of docs/USING.md, line by line. A line that says `refused: TEXT` or `status 2: TEXT` must fail and say so."""
+    """The first walk of docs/USING.md. A line with `refused: TEXT` or `status 2: TEXT` must fail and say so."""
     if not group.has('git', checks=6):
         return
     text = (TOP / 'docs/USING.md').read_text(encoding='utf-8')
