@@ -12,7 +12,7 @@ DESTDIR =
 PROGRAMS := $(subst _,-,$(patsubst crates/%/src/main.rt,%,$(wildcard crates/*/src/main.rt)))
 SCRIPTS := $(patsubst contrib/%,%,$(wildcard contrib/tffmt-* contrib/tfrules-*))
 COMMANDS = $(PROGRAMS) $(SCRIPTS)
-EXAMPLES := pre-commit-config.yaml treefmt.toml $(sort $(patsubst contrib/%,%,$(shell \
+EXAMPLES := pre-commit-config.yaml pre-commit-wheel.yaml treefmt.toml $(sort $(patsubst contrib/%,%,$(shell \
   find contrib/ci contrib/editors contrib/emacs contrib/vim -type f)))
 BUILT := $(addprefix bin/,$(PROGRAMS))
 OBJECTS := $(foreach name,$(subst -,_,$(PROGRAMS)),crates/$(name)/out/$(name).o)
