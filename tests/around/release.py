@@ -222,12 +222,13 @@ def releasing(group):
     """The tarball and the package are installed into an empty root, run there, and removed; nothing is left. The same in
     a root with busybox alone, where the script that installs and the one that lints modules run too."""
     if not may_chroot():
-        group.skip('an empty root', 21, 'chroot is not allowed here')
+        group.skip('an empty root', 22, 'chroot is not allowed here')
         return
-    if missing(group, NEEDS + ('dpkg',), 21):
+    if missing(group, NEEDS + ('dpkg',), 22):
         return
     made = group.fresh() / 'dist'
     group.check('packing', pack(group, made)[0], 0)
+    as_the_readme_says(group, made)
     from_tarball(group, next(made.glob('*-linux-x86_64.tar.gz')))
     from_package(group, next(made.glob('*.deb')))
     beside_busybox(group, next(made.glob('*-linux-x86_64.tar.gz')))
@@ -251,6 +252,18 @@ def told(prefix, path=False):
         said += ['add to PATH, in the file that your shell reads first: export PATH="%s/bin:$PATH"' % prefix]
     said += ['to remove it again: sh "%s/share/doc/tffmt/install.sh" --remove "%s"' % (prefix, prefix)]
     return lines(*said)
+
+
+def as_the_readme_says(group, made):
+    """The commands of the README that install a release, with the folder of the release as its place."""
+    if not group.has('curl'):
+        return
+    blocks = re.findall(r'```sh\n(.*?)```', (TOP / 'README.md').read_text(encoding='utf-8'), re.S)
+    script = next(it for it in blocks if 'PLACE/' in it).replace('PLACE/', 'file://%s/' % made)
+    home = group.fresh()
+    done = group.call('sh', '-ec', script, cwd=group.fresh(), HOME=str(home))
+    version = group.call(home / '.local/bin/tffmt-all', '--version', cwd=home)[1] if done[0] == 0 else done
+    group.check('as the README says', version, lines('tffmt-all ' + (TOP / 'VERSION').read_text().strip()))
 
 
 def from_tarball(group, file):
