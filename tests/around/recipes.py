@@ -439,7 +439,7 @@ def pages(group):
         )
         if group.has('mandoc'):
             group.check('mandoc -Tlint ' + name, group.call('mandoc', '-Tlint', page, cwd=group.top), (0, b'', b''))
-    for words in ([group.program], *([group.contrib / name] for name in PAGES[3:])):
+    for words in ([group.program], *([group.contrib / name] for name in PAGES[4:])):
         told = group.call(*words, '--help', cwd=group.top)[1].decode().splitlines()
         group.check('%s --help fits 80 columns' % words[0], [it for it in told if len(it) > 80], [])
     rules = re.findall(r'^\| \[`(terraform_\w+)`', (TOP / 'docs/RULES.md').read_text(), re.M)
