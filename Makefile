@@ -1,8 +1,9 @@
 # `make try` formats the README's example at once, with nothing proved; `make` proves the crates and builds the programs
 # as bin/tffmt, bin/tfrules and bin/tffmt-all, `make bin/tffmt` what that one stands on alone; `make test` runs the whole gate;
 # `make install PREFIX=FOLDER` puts the programs, the scripts around them, their man pages, completions and examples
-# below the folder; `make dist` packs the same as a release, into dist.
-.PHONY: all try test install uninstall dist clean FORCE
+# below the folder; `make dist` packs the same as a release, into dist. `make check-around` needs no kit: it tests scripts,
+# documents and settings on installed programs.
+.PHONY: all try test check-around install uninstall dist clean FORCE
 
 PREFIX = /usr/local
 DESTDIR =
@@ -11,7 +12,7 @@ DESTDIR =
 PROGRAMS := $(subst _,-,$(patsubst crates/%/src/main.rt,%,$(wildcard crates/*/src/main.rt)))
 SCRIPTS := $(patsubst contrib/%,%,$(wildcard contrib/tffmt-* contrib/tfrules-*))
 COMMANDS = $(PROGRAMS) $(SCRIPTS)
-EXAMPLES := pre-commit-config.yaml treefmt.toml $(sort $(patsubst contrib/%,%,$(shell \
+EXAMPLES := pre-commit-config.yaml pre-commit-wheel.yaml treefmt.toml $(sort $(patsubst contrib/%,%,$(shell \
   find contrib/ci contrib/editors contrib/emacs contrib/vim -type f)))
 BUILT := $(addprefix bin/,$(PROGRAMS))
 OBJECTS := $(foreach name,$(subst -,_,$(PROGRAMS)),crates/$(name)/out/$(name).o)
@@ -52,6 +53,10 @@ test:
 	$(NEEDS_PYTHON)
 	$(NEEDS_KIT)
 	./tests/gate
+
+check-around:
+	$(NEEDS_PYTHON)
+	@./tools/check-around
 
 # A release is linked from the objects, which `rt ci` doesn't always leave.
 dist: bin/programs $(OBJECTS)

@@ -15,7 +15,8 @@ MIB = 1048576
 MAX = 4 * MIB  # the largest file, and the largest result
 
 
-def _spawn(words, path):
+def spawn(words, path):
+    """Starts a program with a file as its standard input; its process."""
     return os.posix_spawn(
         words[0],
         words,
@@ -31,7 +32,7 @@ def _spawn(words, path):
 def once(words, path, limit=None):
     """(seconds, status) of one run; status None if it took longer than `limit` seconds and was ended."""
     begin = time.perf_counter()
-    child = _spawn(words, path)
+    child = spawn(words, path)
     late = []
     if limit:
 
@@ -54,13 +55,13 @@ def best(jobs, times, limit=None):
     """(least seconds, status) of a number of runs of each job, which is the words of a program and a file.
 
     The jobs take turns, so that a slow spell of the machine doesn't hit just one of them. A job that took
-    longer than `limit` seconds isn't run again.
+    longer than `limit` seconds isn't run again, and one that takes longer than a second is run three times.
     """
     found = [once(words, path, limit) for words, path in jobs]
-    for _ in range(times - 1):
+    for turn in range(times - 1):
         for number, (words, path) in enumerate(jobs):
             least, status = found[number]
-            if status is None:
+            if status is None or least > 1 and turn > 1:
                 continue
             taken, again = once(words, path, limit)
             if again != status:

@@ -144,7 +144,9 @@ def run_packaged_vim(group):
     words = ['vim', '-N', '-i', 'NONE', '-es'] if editor == 'vim' else ['nvim', '-i', 'NONE', '--headless']
     path = group.before_path(group.script('tffmt', 'exec %s "$@"\n' % group.program).parent, group.contrib)
     (home / '.vimrc').touch()
-    done = group.call(*words, '-S', 'test.vim', cwd=here, HOME=str(home), XDG_DATA_HOME=str(home / '.local/share'), PATH=path)
+    done = group.call(
+        *words, '-S', 'test.vim', cwd=here, HOME=str(home), XDG_DATA_HOME=str(home / '.local/share'), PATH=path
+    )
     told = [(here / name).read_text().split() if (here / name).exists() else done for name in ('told', 'compiler')]
     is_nvim = str(int(editor == 'nvim'))
     group.check('what the package brings', told, [['2', 'a', '=', '1', is_nvim], ['tfrules']])

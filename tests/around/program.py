@@ -31,7 +31,7 @@ def run(group):
 
 
 def walk(group):
-    """The first walk of docs/USING.md, line by line. A line that says `refused: TEXT` or `status 2: TEXT` must fail and say so."""
+    """The first walk of docs/USING.md. A line with `refused: TEXT` or `status 2: TEXT` must fail and say so."""
     if not group.has('git', checks=6):
         return
     text = (TOP / 'docs/USING.md').read_text(encoding='utf-8')
@@ -81,4 +81,5 @@ def readme(group):
     )
     group.check('1.2.3', group.call(group.program, cwd=group.top, stdin=b'v = 1.2.3\n'), (0, b'v = 1.2 .3\n', b''))
     group.holds('1.2.3 is explained', '1.2 .3' in (TOP / 'docs/TERRAFORM-FMT.md').read_text(encoding='utf-8'))
+    group.check('the figures are drawn', group.call(TOP / 'bench' / 'plot', '--check', cwd=group.top)[0], 0)
     group.holds('the README has at most 1,200 words', len(text.split()) <= 1200, '%d words' % len(text.split()))

@@ -248,9 +248,9 @@ def recipes(group):
         )
     kinds = [
         set(re.search(r'files: \\\.\((.*?)\)\$', (TOP / name).read_text()).group(1).replace('\\.', '.').split('|'))
-        for name in ('.pre-commit-hooks.yaml', 'contrib/pre-commit-config.yaml')
+        for name in ('.pre-commit-hooks.yaml', 'contrib/pre-commit-config.yaml', 'contrib/pre-commit-wheel.yaml')
     ]
-    group.check('the kinds of files for pre-commit', kinds, [suffixes] * 2)
+    group.check('the kinds of files for pre-commit', kinds, [suffixes] * 3)
     treefmt = set(re.findall(r'"\*\.([a-z.]+)"', (contrib / 'treefmt.toml').read_text()))
     group.check('the kinds of files', (gitlab, treefmt), ([suffixes, {'tf', 'tofu'}, {'tf', 'tofu'}], suffixes))
     python = next(
@@ -262,11 +262,11 @@ def recipes(group):
         None,
     )
     if python is None:
-        group.skip('yaml', 7, 'no PyYAML')
+        group.skip('yaml', 8, 'no PyYAML')
     else:
         for name in (
             *sorted((contrib / 'ci').glob('*.yml')),
-            contrib / 'pre-commit-config.yaml',
+            *sorted(contrib.glob('*.yaml')),
             TOP / '.pre-commit-hooks.yaml',
         ):
             group.check(
@@ -439,6 +439,12 @@ def pages(group):
         )
         if group.has('mandoc'):
             group.check('mandoc -Tlint ' + name, group.call('mandoc', '-Tlint', page, cwd=group.top), (0, b'', b''))
+    for words in ([group.program], *([group.contrib / name] for name in PAGES[4:])):
+        told = group.call(*words, '--help', cwd=group.top)[1].decode().splitlines()
+        group.check('%s --help fits 80 columns' % words[0], [it for it in told if len(it) > 80], [])
+    rules = re.findall(r'^\| \[`(terraform_\w+)`', (TOP / 'docs/RULES.md').read_text(), re.M)
+    page = (TOP / 'man' / 'tfrules.1').read_text().partition('.SH RULES')[2].partition('.SH ')[0]
+    group.check('tfrules(1) names the rules', sorted(re.findall(r'^\.B (terraform_\w+)$', page, re.M)), rules)
     text = (TOP / 'man' / 'tffmt.1').read_text()
     for name in ('README.md', 'docs/USING.md', 'man/tffmt.1'):
         group.check(
@@ -529,7 +535,7 @@ def installing(group):
     documents = ['VERSION', 'README.md', 'CONTRIBUTING.md', 'CHANGELOG.md', 'bench/HISTORY.md']
     documents += ['docs/' + it.name for kind in ('*.md', '*.svg') for it in (TOP / 'docs').glob(kind)]
     wanted += ['share/doc/tffmt/' + name for name in documents]
-    examples = ['pre-commit-config.yaml', 'treefmt.toml'] + [
+    examples = ['pre-commit-config.yaml', 'pre-commit-wheel.yaml', 'treefmt.toml'] + [
         str(p.relative_to(TOP / 'contrib'))
         for folder in ('ci', 'editors', 'emacs', 'vim')
         for p in (TOP / 'contrib' / folder).rglob('*')

@@ -222,12 +222,13 @@ def releasing(group):
     """The tarball and the package are installed into an empty root, run there, and removed; nothing is left. The same in
     a root with busybox alone, where the script that installs and the one that lints modules run too."""
     if not may_chroot():
-        group.skip('an empty root', 21, 'chroot is not allowed here')
+        group.skip('an empty root', 22, 'chroot is not allowed here')
         return
-    if missing(group, NEEDS + ('dpkg',), 21):
+    if missing(group, NEEDS + ('dpkg',), 22):
         return
     made = group.fresh() / 'dist'
     group.check('packing', pack(group, made)[0], 0)
+    as_the_readme_says(group, made)
     from_tarball(group, next(made.glob('*-linux-x86_64.tar.gz')))
     from_package(group, next(made.glob('*.deb')))
     beside_busybox(group, next(made.glob('*-linux-x86_64.tar.gz')))
@@ -251,6 +252,18 @@ def told(prefix, path=False):
         said += ['add to PATH, in the file that your shell reads first: export PATH="%s/bin:$PATH"' % prefix]
     said += ['to remove it again: sh "%s/share/doc/tffmt/install.sh" --remove "%s"' % (prefix, prefix)]
     return lines(*said)
+
+
+def as_the_readme_says(group, made):
+    """The commands of the README that install a release, with the folder of the release as its place."""
+    if not group.has('curl'):
+        return
+    blocks = re.findall(r'```sh\n(.*?)```', (TOP / 'README.md').read_text(encoding='utf-8'), re.S)
+    script = next(it for it in blocks if 'PLACE/' in it).replace('PLACE/', 'file://%s/' % made)
+    home = group.fresh()
+    done = group.call('sh', '-ec', script, cwd=group.fresh(), HOME=str(home))
+    version = group.call(home / '.local/bin/tffmt-all', '--version', cwd=home)[1] if done[0] == 0 else done
+    group.check('as the README says', version, lines('tffmt-all ' + (TOP / 'VERSION').read_text().strip()))
 
 
 def from_tarball(group, file):
@@ -399,3 +412,93 @@ def older_debian(group):
     group.call('chroot', root, 'sh', '/release/install.sh', '/opt/tffmt', cwd=group.top)
     got, wanted = runs_in(group, root, '/opt/tffmt/bin')
     group.check('run in Debian 11, by the tarball', got, wanted)
+
+
+# Where Debian has the wheels that pip itself builds with; pre-commit's own package for an environment needs them.
+BUILDERS = '/usr/share/python-wheels'
+
+
+def wheel(group):
+    """The wheel is installed by pip without an index, runs, and is removed; and pre-commit takes it from a folder."""
+    if missing(group, NEEDS, 7):
+        return
+    python = shutil.which('python3')
+    if subprocess.run([python, '-c', 'import ensurepip, venv'], stderr=subprocess.DEVNULL).returncode:
+        group.skip('the wheel', 7, 'no venv')
+        return
+    made = group.fresh() / 'dist'
+    group.check('packing', pack(group, made)[0], 0)
+    here = group.fresh()
+    group.check('venv', group.call(python, '-m', 'venv', 'env', cwd=here)[0], 0)
+    before = [name for name, _ in tree(here / 'env')]
+    file = next(made.glob('*.whl'))
+    done = group.call('env/bin/pip', 'install', '--no-index', '--no-compile', file, cwd=here)
+    group.check('pip install', (done[0], done[2]), (0, b''))
+    (here / 'a.tf').write_bytes(OTHER)
+    path = '%s:%s' % (here / 'env/bin', group.setting['PATH'])
+    said = [
+        group.call('env/bin/tffmt', cwd=here, stdin=OTHER)[:2],
+        group.call('env/bin/tffmt-all', cwd=here)[:2],
+        group.call('tfrules-modules', cwd=here, PATH=path, TFRULES='tfrules')[0],
+        (here / 'env/share/man/man1/tffmt.1').exists(),
+    ]
+    group.check('what it installed runs', said, [(0, GOOD), (0, b'a.tf\n'), 0, True])
+    group.call('env/bin/pip', 'uninstall', '-y', 'tffmt', cwd=here)
+    left = [name for name, _ in tree(here / 'env') if '__pycache__' not in name]
+    group.check('pip uninstall', [it for it in left if it not in before and '.' in it], [])
+    by_wheel(group, made)
+
+
+def by_wheel(group, made):
+    """The example for pre-commit with the wheel, of which pip knows only a folder."""
+    if not all([group.has('git', checks=0), group.has('pre-commit', checks=2)]):
+        return
+    if not os.path.isdir(BUILDERS):
+        group.skip('pre-commit with the wheel', 2, 'no ' + BUILDERS)
+        return
+    here, home = group.fresh(), group.fresh()
+    (here / 'a.tf').write_bytes(OTHER)
+    (here / 'v.tf').write_bytes(b'variable "n" {}\n')
+    shutil.copy(str(group.contrib / 'pre-commit-wheel.yaml'), str(here / '.pre-commit-config.yaml'))
+    for words in (['init', '-q'], ['add', '-A']):
+        group.call('git', *words, cwd=here)
+    # The programs are those of the wheel, and this test's own Python may hide that of pre-commit.
+    how = {'PATH': '/usr/bin:/bin', 'PRE_COMMIT_HOME': str(home), 'TFRULES': 'tfrules'}
+    how.update(PIP_NO_INDEX='1', PIP_FIND_LINKS='%s %s' % (made, BUILDERS))
+    status, out, _ = group.call('pre-commit', 'run', '--all-files', cwd=here, **how)
+    group.holds('pre-commit with the wheel', status == 1 and b'v.tf:1:1: Warning' in out, out)
+    group.check('formats the files', (here / 'a.tf').read_bytes(), GOOD)
+
+
+def image(group):
+    """The image on an empty base, built of the tarball, and a check of a file in it."""
+    if os.geteuid():
+        group.skip('an image', 3, 'needs root')
+        return
+    if missing(group, NEEDS, 3) or not group.has('buildah', checks=3):
+        return
+    made = group.fresh() / 'dist'
+    group.check('packing', pack(group, made)[0], 0)
+    shutil.copy(str(group.contrib / 'ci/Containerfile'), str(made))
+    version = (TOP / 'VERSION').read_text().strip()
+    store = ['--storage-driver', 'vfs', '--root', group.folder('store'), '--runroot', group.folder('run')]
+
+    def buildah(*words):
+        return group.call('buildah', *store, *words, cwd=made)
+
+    words = [
+        '--isolation',
+        'chroot',
+        '--build-arg',
+        'VERSION=' + version,
+        '--target',
+        'programs',
+        '--tag',
+        'tffmt',
+        '.',
+    ]
+    group.holds('built on an empty base', buildah('bud', *words)[0] == 0)
+    name = buildah('from', 'tffmt')[1].decode().strip()
+    done = buildah('run', '--isolation', 'chroot', name, '--', 'tffmt-all', '--version')
+    group.check('a program runs in it', done[:2], (0, lines('tffmt-all ' + version)))
+    buildah('rm', '--all')
