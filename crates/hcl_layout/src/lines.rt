@@ -4,11 +4,10 @@ ghost use Rattle.hcl_tokens.specs.Scanned.{lexeme};
 ghost use Rattle.hcl_tokens.specs.Balanced.{max_open};
 ghost use Rattle.hcl_layout.specs.Gaps.{indent as indent_of};
 ghost use Rattle.hcl_layout.specs.Inner.Depths.{Sound};
-ghost use Rattle.hcl_layout.specs.Inner.Laid.{FindsComment, FindsSign, GoesBack, HasGaps, HasSignGaps, IsAt, IsCommentColumn, IsDone, IsLaid, IsSignColumn, KeepsRuns, Laid, LeavesGaps, Moves, MovesSign, RunsGrow, SignsGrow, Spans, TellsWrong, bare_after, cell_in, comment_width_on, comments_ended, ends_all_wrong, ends_wrong, gap_on, greatest_of, left_after, no_lines, none_at, plain_gap_on, shape, sign_width_on, signs_ended, text_of, widest_comment, widest_sign, width_on, with_comment_in, with_sign_in};
+ghost use Rattle.hcl_layout.specs.Inner.Laid.{FindsComment, FindsSign, GoesBack, HasGaps, HasSignGaps, IsAt, IsCommentColumn, IsDone, IsLaid, IsSignColumn, KeepsRuns, Laid, LeavesGaps, Moves, MovesSign, Reads, RunsGrow, SignsGrow, Spans, TellsWrong, bare_after, cell_in, comment_width_on, comments_ended, ends_all_wrong, ends_wrong, gap_on, greatest_of, left_after, no_lines, none_at, plain_gap_on, shape, sign_width_on, signs_ended, text_of, widest_comment, widest_sign, width_on, with_comment_in, with_sign_in};
 ghost use Rattle.hcl_layout.specs.Inner.Left.{IsGapAt, IsGapBefore, token_before};
 ghost use Rattle.hcl_layout.specs.Inner.LineGaps.{IsSigned, IsUntoldAt, plain_of};
 ghost use Rattle.hcl_layout.specs.Inner.Simple.{IsFrom};
-ghost use Rattle.hcl_layout.specs.Inner.Survey.{IsLine, facts_in};
 ghost use Rattle.hcl_layout.specs.declared.lines.Columns.TheVariants.{Ahead};
 
 use crate::levels::{DEPTHS, next_level};
@@ -410,9 +409,7 @@ impl Lines {
     /// Passes a line but for its comment.
     #[inline(always)]
     fn pass_sign(&mut self, tokens: &Measured<'_, '_>, line: Line) -> LaidLine
-        requires at { IsAt tokens.now.tokens self.old }
-        requires first { line.first ≡ self.old.next }
-        requires line { IsLine tokens.now.tokens self.old.next self.old.depth (facts_in line) }
+        requires { Reads tokens.now.tokens self.old line }
         ensures spans { Spans result line }
         ensures laid { Laid tokens.now.tokens result }
         ensures signed { IsSigned (shape result) (text_of tokens.now.tokens result) }
@@ -495,9 +492,7 @@ impl Lines {
     /// Passes a line, and gives it with both cells in their columns.
     #[inline(always)]
     fn pass_line(&mut self, tokens: &Measured<'_, '_>, line: Line) -> LaidLine
-        requires at { IsAt tokens.now.tokens self.old }
-        requires first { line.first ≡ self.old.next }
-        requires line { IsLine tokens.now.tokens self.old.next self.old.depth (facts_in line) }
+        requires { Reads tokens.now.tokens self.old line }
         ensures spans { Spans result line }
         ensures laid { Laid tokens.now.tokens result }
         ensures gaps { HasGaps tokens.now.tokens self.old self.new result }

@@ -12,6 +12,7 @@ use Rattle.hcl_layout.specs.Inner.Depths.{fresh, level_at, next_levels}
 use Rattle.hcl_layout.specs.Inner.Left.{gap_before, plain_gap_before, token_before}
 use Rattle.hcl_layout.specs.Inner.LineGaps.{Cell, LineGaps, gaps_from, gaps_in}
 use Rattle.hcl_layout.specs.Inner.Stream.{assign_column, assign_width, assign_widths, comment_column, comment_widths, commented, next_of, plain}
+use Rattle.hcl_layout.specs.Inner.Survey.{IsLine, facts_in}
 use Rattle.hcl_layout.specs.Inner.Walks.{HasCome, Walk, comment_widths_at, sign_widths_at}
 use Rattle.hcl_layout.specs.declared.line.Line.{Line as LineRead}
 use Rattle.hcl_layout.specs.declared.lines.Cell.{Cell as CellLaid}
@@ -89,6 +90,12 @@ pub record IsAt (ts : List Lexeme) (s : Lines) : Type 0 where
   pub come : HasCome ts s.next (walk_of s)
   pub within : s.next ≤ length ts
   pub few : length ts ≤ 2 ^ 22
+
+-- the line that begins there was read
+pub record Reads (ts : List Lexeme) (s : Lines) (r : LineRead) : Type 0 where
+  pub at : IsAt ts s
+  pub first : r.first ≡ s.next
+  pub line : IsLine ts s.next s.depth (facts_in r)
 
 -- a line more was passed, whatever its cells
 pub record Moves (old : Lines) (r : LineRead) (new : Lines) : Type 0 where
