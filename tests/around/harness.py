@@ -13,6 +13,8 @@ SHELLS = ['sh', 'dash', 'bash', 'busybox']
 GOOD, OTHER, BAD = b'a = 1\n', b'a=1\n', b'a=\n'
 REFUSED = ':1:3: unexpected token'
 LIMIT = 60
+# What a git or a make around the tests says to those that they start, which isn't meant for these.
+FOREIGN = ('GIT_', 'MAKE', 'MFLAGS')
 
 
 def is_sh(shell):
@@ -35,7 +37,7 @@ class Group:
         self.made = tempfile.TemporaryDirectory(prefix='tffmt-tests-')
         self.top = pathlib.Path(os.path.realpath(self.made.name))
         self.top.chmod(0o755)
-        self.setting = {name: value for name, value in os.environ.items() if not name.startswith('GIT_')}
+        self.setting = {name: value for name, value in os.environ.items() if not name.startswith(FOREIGN)}
         beside = pathlib.Path(program).with_name('tfrules')
         self.linter = str(beside if beside.exists() else TOP / 'bin' / 'tfrules')
         beside = pathlib.Path(program).with_name('tffmt-all')
