@@ -10,5 +10,4 @@ pub mod LabelLemmas
 pub mod BlockLemmas
 pub mod ItemPieceLemmas
 pub mod OutlineLemmas
-pub mod PlainLemmas
 pub mod ShortLemmas

@@ -5,11 +5,10 @@ ghost use Rattle.std.specs.Bool.{OnTrue, OnFalse};
 ghost use Rattle.hcl_grammar.specs.Classes.{lookaheads, lookaheads_from};
 ghost use Rattle.hcl_grammar.specs.Grammar.{fits, ◌at◌, the, expr};
 ghost use Rattle.hcl_syntax.specs.Inner.Cursors.{shown, first, after_first, is_shown};
-ghost use Rattle.hcl_syntax.specs.Inner.Parsing.{Advances, Parses, said, awaited_symbols, is_operand, waits, TookTerminal, LacksTerminal, is_short_operand, ends_expression};
+ghost use Rattle.hcl_syntax.specs.Inner.Parsing.{Parses, said, TookTerminal, LacksTerminal, is_short_operand, ends_expression};
 
 use crate::class::lookahead_at;
-use crate::expected::{Pause, Refused};
-use crate::plain::{begins_plain, ends_expression, is_short_operand, past_plain};
+use crate::expected::Refused;
 use hcl_grammar::{Class, Lookahead, Newlines, Refusal, Terminal, Word};
 use hcl_tokens::Tokens;
 use std::marker::Model;
@@ -72,6 +71,34 @@ fn fits(terminal: Terminal, class: Class) -> bool
         (Terminal::EndSequence, Class::SeqClose) => true,
         (Terminal::EndQuote, Class::QuoteClose) => true,
         (Terminal::EndHeredoc, Class::HeredocClose) => true,
+        _ => false,
+    }
+}
+
+/// Whether a token of the class is an operand by itself, but for what goes on after it.
+#[inline(always)]
+fn is_short_operand(class: Class) -> bool
+    ensures { result ≡ is_short_operand class }
+{
+    matches!(class, Class::Ident(_) | Class::Number(_))
+}
+
+/// Whether a token of the class goes on with no expression, and isn't passed over.
+#[inline(always)]
+fn ends_expression(newlines: Newlines, class: Class) -> bool
+    ensures { result ≡ ends_expression newlines class }
+{
+    match class {
+        Class::Newline => matches!(newlines, Newlines::Seen),
+        Class::Comma
+        | Class::ParenClose
+        | Class::BracketClose
+        | Class::BraceClose
+        | Class::SeqClose
+        | Class::Assign
+        | Class::Arrow
+        | Class::Colon
+        | Class::Ellipsis => true,
         _ => false,
     }
 }
@@ -189,35 +216,6 @@ impl<'t, 's> Cursor<'t, 's> {
         }
         self.next = next + 1;
         true
-    }
-
-    /// Whether the next token may be the first of an expression's plain tokens, and no comment follows it.
-    #[inline(always)]
-    pub fn is_plain_next(&self) -> bool {
-        let next = self.next;
-        if self.count - next < 2 {
-            return false;
-        }
-        if !begins_plain(lookahead_at(self.tokens, next).class) {
-            return false;
-        }
-        !matches!(lookahead_at(self.tokens, next + 1).class, Class::Trivia)
-    }
-
-    /// Reads the plain tokens at the front of an expression, and says where they end. It is called, since a copy of its loop
-    /// at each place would cost more than the call.
-    #[inline(never)]
-    pub fn plain(&mut self, newlines: Newlines) -> Pause
-        ensures leads { (count : ℕ) → Advances count (expr at newlines ∷ []) self.old.left (Ok (tt {0})) (awaited_symbols newlines result.awaited ++ waits newlines result.waiting []) self.new.left }
-        ensures shorter { is_operand result.awaited ≡ false → length self.new.left < length self.old.left }
-        ensures room { result.waiting + length self.new.left ≤ length self.old.left }
-    {
-        let paused = past_plain(self.tokens, self.next, newlines);
-        self.next = paused.number;
-        Pause {
-            awaited: paused.awaited,
-            waiting: paused.waiting,
-        }
     }
 
     /// Reads the next token, which has to be what the terminal waits for. It is inlined, as `look` is.

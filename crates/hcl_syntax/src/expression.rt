@@ -5,13 +5,12 @@ ghost use Rattle.std.specs.Prelude.{◌≡◌, ◌+◌, ◌<◌, ◌≤◌, ◌^
 ghost use Rattle.std.specs.Bool.{OnTrue, OnFalse};
 ghost use Rattle.hcl_syntax.specs.Inner.Cursors.{shown, first};
 ghost use Rattle.hcl_grammar.specs.Grammar.{◌at◌, the, expr, after, after_ident, path, index, args, tuple, tuple_item, tuple_if, object, object_item, group, object_if, separator, names, step};
-ghost use Rattle.hcl_syntax.specs.Inner.Parsing.{Advances, Parses, said, after_follow, awaited_symbols, goes_on, is_operand, is_prefix, waits};
+ghost use Rattle.hcl_syntax.specs.Inner.Parsing.{Advances, Parses, said, after_follow, goes_on, is_prefix};
 ghost use Rattle.hcl_grammar.specs.declared.expected.Terminal.TheVariants.{Name, Separator, FatArrow, EndBracket, EndBrace};
 ghost use Rattle.hcl_grammar.specs.declared.expected.Newlines.TheVariants.{Seen, Dropped};
 
 use crate::cursor::Cursor;
-use crate::expected::{Awaited, Follow, Refused};
-use crate::plain::is_ended;
+use crate::expected::{Follow, Refused};
 use hcl_grammar::{Class, Lookahead, Newlines, Refusal, Terminal};
 
 impl<'t, 's> Cursor<'t, 's> {
@@ -52,7 +51,7 @@ impl<'t, 's> Cursor<'t, 's> {
             }
             Class::ParenOpen => {
                 self.bump(token);
-                self.inner_expr(Newlines::Dropped, directives)?;
+                self.expr(Newlines::Dropped, directives)?;
                 self.expect(Newlines::Dropped, Terminal::EndParen)
             }
             Class::BracketOpen => {
@@ -166,7 +165,7 @@ impl<'t, 's> Cursor<'t, 's> {
         if self.takes(Newlines::Dropped, Terminal::Asterisk) {
             return self.expect(Newlines::Dropped, Terminal::EndBracket);
         }
-        self.inner_expr(Newlines::Dropped, directives)?;
+        self.expr(Newlines::Dropped, directives)?;
         self.expect(Newlines::Dropped, Terminal::EndBracket)
     }
 
@@ -180,120 +179,18 @@ impl<'t, 's> Cursor<'t, 's> {
         if self.takes_short(newlines) {
             return Ok(());
         }
-        if self.is_plain_next() {
-            return self.plain_expr(newlines, directives);
-        }
-        self.room();
-        self.whole_expr(0, newlines, directives)
+        self.whole_expr(newlines, directives)
     }
 
-    /// An expression in brackets or of a `for`, which rarely is more than one plain token. It is inlined, as `expr` is.
+    /// An expression of any length. How many `?` in it wait for their `:` is counted.
     #[cycle(parser)]
-    #[inline(always)]
-    fn inner_expr(&mut self, newlines: Newlines, directives: usize) -> Result<(), Refused>
-        ensures parses { Parses directives (expr at newlines ∷ []) self.old.left (said result self.new.refusal) self.new.left }
-        ensures shorter { OnOk result (length self.new.left < length self.old.left) }
-    {
-        if self.takes_short(newlines) {
-            return Ok(());
-        }
-        self.room();
-        self.whole_expr(0, newlines, directives)
-    }
-
-    /// The same where the first token is plain. It is inlined, so that where all are, what reads these alone is called.
-    #[cycle(parser)]
-    #[inline(always)]
-    fn plain_expr(&mut self, newlines: Newlines, directives: usize) -> Result<(), Refused>
+    #[inline(never)]
+    fn whole_expr(&mut self, newlines: Newlines, directives: usize) -> Result<(), Refused>
         ensures parses { Parses directives (expr at newlines ∷ []) self.old.left (said result self.new.refusal) self.new.left }
         ensures shorter { OnOk result (length self.new.left < length self.old.left) }
     {
         self.room();
-        let paused = self.plain(newlines);
-        if is_ended(paused.awaited) && paused.waiting == 0 {
-            return Ok(());
-        }
-        self.resumed_expr(paused.awaited, paused.waiting, newlines, directives)
-    }
-
-    /// The rest of an expression after its first plain tokens, where so many `?` wait for their `:`.
-    #[cycle(parser)]
-    #[inline(never)]
-    fn resumed_expr(
-        &mut self,
-        awaited: Awaited,
-        waiting: usize,
-        newlines: Newlines,
-        directives: usize,
-    ) -> Result<(), Refused>
-        requires { waiting + length self.old.left < 2 ^ 64 }
-        ensures parses { Parses directives (awaited_symbols newlines awaited ++ waits newlines waiting []) self.old.left (said result self.new.refusal) self.new.left }
-        ensures shorter { OnOk result (length self.new.left ≤ length self.old.left) }
-        ensures shorter_operand { is_operand awaited ≡ true → OnOk result (length self.new.left < length self.old.left) }
-    {
-        match awaited {
-            Awaited::Operand => self.whole_expr(waiting, newlines, directives),
-            Awaited::AfterName => {
-                self.call(newlines, directives)?;
-                self.sequel(waiting, newlines, directives)
-            }
-            Awaited::AfterOperand => self.sequel(waiting, newlines, directives),
-            Awaited::AfterExpression => self.chosen(waiting, newlines, directives),
-        }
-    }
-
-    /// The rest of an expression after an operand.
-    #[cycle(parser)]
-    fn sequel(
-        &mut self,
-        waiting: usize,
-        newlines: Newlines,
-        directives: usize,
-    ) -> Result<(), Refused>
-        requires { waiting + length self.old.left < 2 ^ 64 }
-        ensures parses { Parses directives (after at newlines ∷ waits newlines waiting []) self.old.left (said result self.new.refusal) self.new.left }
-        ensures shorter { OnOk result (length self.new.left ≤ length self.old.left) }
-    {
-        match self.follow(newlines, directives)? {
-            Follow::Operator => self.whole_expr(waiting, newlines, directives),
-            Follow::Choice => self.whole_expr(waiting + 1, newlines, directives),
-            Follow::Other => self.chosen(waiting, newlines, directives),
-        }
-    }
-
-    /// What is left where so many `?` wait for their `:`.
-    #[cycle(parser)]
-    fn chosen(
-        &mut self,
-        waiting: usize,
-        newlines: Newlines,
-        directives: usize,
-    ) -> Result<(), Refused>
-        requires { waiting + length self.old.left < 2 ^ 64 }
-        ensures parses { Parses directives (waits newlines waiting []) self.old.left (said result self.new.refusal) self.new.left }
-        ensures shorter { OnOk result (length self.new.left ≤ length self.old.left) }
-    {
-        if waiting == 0 {
-            return Ok(());
-        }
-        self.expect(newlines, Terminal::Separator)?;
-        self.whole_expr(waiting - 1, newlines, directives)
-    }
-
-    /// An expression of any length, where so many `?` before it wait for their `:`, and what follows each of these.
-    #[cycle(parser)]
-    #[inline(never)]
-    fn whole_expr(
-        &mut self,
-        waiting: usize,
-        newlines: Newlines,
-        directives: usize,
-    ) -> Result<(), Refused>
-        requires { waiting + length self.old.left < 2 ^ 64 }
-        ensures parses { Parses directives (expr at newlines ∷ waits newlines waiting []) self.old.left (said result self.new.refusal) self.new.left }
-        ensures shorter { OnOk result (length self.new.left < length self.old.left) }
-    {
-        let mut waiting = waiting;
+        let mut waiting: usize = 0;
         loop {
             self.operand(newlines, directives)?;
             match self.follow(newlines, directives)? {
@@ -383,9 +280,9 @@ impl<'t, 's> Cursor<'t, 's> {
         ensures shorter { OnOk result (length self.new.left < length self.old.left) }
     {
         self.names()?;
-        self.inner_expr(Newlines::Dropped, directives)?;
+        self.expr(Newlines::Dropped, directives)?;
         self.expect(Newlines::Dropped, Terminal::Separator)?;
-        self.inner_expr(Newlines::Dropped, directives)
+        self.expr(Newlines::Dropped, directives)
     }
 
     /// The condition of a for-expression in brackets, where it has one, and the closing bracket.
@@ -395,7 +292,7 @@ impl<'t, 's> Cursor<'t, 's> {
         ensures shorter { OnOk result (length self.new.left < length self.old.left) }
     {
         if self.takes(Newlines::Dropped, Terminal::IfWord) {
-            self.inner_expr(Newlines::Dropped, directives)?;
+            self.expr(Newlines::Dropped, directives)?;
             return self.expect(Newlines::Dropped, Terminal::EndBracket);
         }
         self.expect(Newlines::Dropped, Terminal::EndBracket)
@@ -456,7 +353,7 @@ impl<'t, 's> Cursor<'t, 's> {
     {
         self.generator(directives)?;
         self.expect(Newlines::Dropped, Terminal::FatArrow)?;
-        self.inner_expr(Newlines::Dropped, directives)?;
+        self.expr(Newlines::Dropped, directives)?;
         self.grouping();
         self.object_condition(directives)
     }
@@ -478,7 +375,7 @@ impl<'t, 's> Cursor<'t, 's> {
         ensures shorter { OnOk result (length self.new.left < length self.old.left) }
     {
         if self.takes(Newlines::Dropped, Terminal::IfWord) {
-            self.inner_expr(Newlines::Dropped, directives)?;
+            self.expr(Newlines::Dropped, directives)?;
             return self.expect(Newlines::Dropped, Terminal::EndBrace);
         }
         self.expect(Newlines::Dropped, Terminal::EndBrace)

@@ -13,7 +13,6 @@ mod file;
 mod outlining;
 mod piece_end;
 mod pieces;
-mod plain;
 mod template;
 mod words;
 

@@ -1,8 +1,8 @@
 -- What a part of a recursive descent does, in terms of the predictor: our own words for the contracts of the parser.
-use Rattle.std.specs.Prelude.{◌≡◌, ◌<◌, ◌≤◌, length, drop, ℕ, zero, suc, ◌+◌, Bool, true, false, List, [], ◌∷◌, ◌++◌, ◌==◌, if◌then◌else◌, Option, Some, Result, Ok, Err}
+use Rattle.std.specs.Prelude.{◌≡◌, ◌<◌, ℕ, zero, suc, ◌+◌, Bool, true, false, List, [], ◌∷◌, ◌++◌, Option, Some, Result, Ok, Err}
 use Rattle.hcl_grammar.specs.declared.class.Lookahead.{Lookahead}
 use Rattle.hcl_grammar.specs.declared.class.Class.{Class}
-use Rattle.hcl_grammar.specs.declared.class.Class.TheVariants.{Ident, Number, QuoteOpen, Newline, Comma, ParenClose, BracketClose, BraceClose, SeqClose, Assign, Arrow, Colon, Ellipsis, Question, Not, Minus, Star, Binary}
+use Rattle.hcl_grammar.specs.declared.class.Class.TheVariants.{Ident, Number, Newline, Comma, ParenClose, BracketClose, BraceClose, SeqClose, Assign, Arrow, Colon, Ellipsis, Not, Minus}
 use Rattle.hcl_grammar.specs.declared.class.Word.TheVariants.{Else, Endif, Endfor}
 use Rattle.hcl_grammar.specs.declared.expected.Section.{Section}
 use Rattle.hcl_grammar.specs.declared.expected.Section.TheVariants.{InIf, InElse, InFor}
@@ -12,20 +12,14 @@ use Rattle.hcl_grammar.specs.declared.expected.Newlines.{Newlines}
 use Rattle.hcl_grammar.specs.declared.expected.Newlines.TheVariants.{Seen}
 use Rattle.hcl_grammar.specs.declared.expected.Terminal.{Terminal}
 use Rattle.hcl_grammar.specs.declared.expected.Terminal.TheVariants.{Separator, EndBrace, EndSequence}
-use Rattle.hcl_syntax.specs.declared.expected.Awaited.{Awaited}
-use Rattle.hcl_syntax.specs.declared.expected.Awaited.TheVariants.{Operand, AfterName, AfterOperand, AfterExpression}
-use Rattle.hcl_syntax.specs.declared.expected.Sequel.{Sequel}
-use Rattle.hcl_syntax.specs.declared.expected.Sequel.TheVariants as next
 use Rattle.hcl_syntax.specs.declared.expected.Refused.{Refused}
 use Rattle.hcl_syntax.specs.declared.expected.Follow.{Follow}
 use Rattle.hcl_syntax.specs.declared.expected.Follow.TheVariants.{Operator, Choice, Other}
 use Rattle.hcl_grammar.specs.declared.refusal.Refusal.{Refusal}
 use Rattle.hcl_grammar.specs.declared.refusal.Refusal.TheVariants.{UnexpectedToken, UnexpectedEnd, TooDeep}
 use Rattle.hcl_syntax.specs.Inner.Cursors.{shown, first, Looks}
-use Rattle.hcl_grammar.specs.Grammar.{Marked, Action, ◌at◌, ◌then◌, reads, closes, inside, directive_row, the, file, body, eol, expr, after, after_ident, fits}
-use Rattle.hcl_grammar.specs.Classes.{lookaheads_from}
+use Rattle.hcl_grammar.specs.Grammar.{Marked, Action, ◌at◌, ◌then◌, reads, closes, inside, directive_row, the, file, body, eol, expr, fits}
 use Rattle.hcl_grammar.specs.Predictor.{run}
-use Rattle.hcl_tokens.specs.Lexemes.{Lexeme}
 
 -- the refusal that was met, or else what comes of the rest
 abbrev pub outcome : {A : Type 0} → Result A Refusal → Option Refusal → Option Refusal
@@ -107,53 +101,6 @@ ends_expression m Arrow = true
 ends_expression m Colon = true
 ends_expression m Ellipsis = true
 ends_expression m _ = false
-
--- a token that may be the first of an expression's plain tokens
-abbrev pub begins_plain : Class → Bool
-begins_plain (Ident w) = true
-begins_plain (Number d) = true
-begins_plain QuoteOpen = true
-begins_plain Minus = true
-begins_plain Not = true
-begins_plain _ = false
-
--- what is waited for, as symbols
-abbrev pub awaited_symbols : Newlines → Awaited → List Marked
-awaited_symbols m Operand = expr at m ∷ []
-awaited_symbols m AfterName = after_ident at m ∷ []
-awaited_symbols m AfterOperand = after at m ∷ []
-awaited_symbols m AfterExpression = []
-
--- what a token after an operand does, where so many `?` wait for their `:`
-abbrev pub sequel : Newlines → ℕ → Class → Sequel
-sequel m waiting Minus = next.Operator
-sequel m waiting Star = next.Operator
-sequel m waiting Binary = next.Operator
-sequel m waiting Question = next.Choice
-sequel m waiting Colon = if waiting == 0 then next.End else next.Separator
-sequel m waiting c = if ends_expression m c then next.End else next.Unknown
-
--- whether an operand is waited for
-abbrev pub is_operand : Awaited → Bool
-is_operand Operand = true
-is_operand _ = false
-
--- whether what may follow an operand is waited for
-abbrev pub is_after : Awaited → Bool
-is_after AfterName = true
-is_after AfterOperand = true
-is_after _ = false
-
--- whether the expression has ended
-abbrev pub is_ended : Awaited → Bool
-is_ended AfterExpression = true
-is_ended _ = false
-
--- With the symbols xs first, the predictor comes from the tokens from one number on to those from another on with ys in
--- their place, whatever is open.
-pub record LeadsOn (tokens : List Lexeme) (from to : ℕ) (xs ys : List Marked) : Type 0 where
-  pub leads : (count : ℕ) → Advances count xs (lookaheads_from from (drop from tokens)) (Ok (tt {0})) ys (lookaheads_from to (drop to tokens))
-  pub shorter : length (lookaheads_from to (drop to tokens)) ≤ length (lookaheads_from from (drop from tokens))
 
 -- what follows a body's items
 abbrev pub body_symbols : Bool → List Marked

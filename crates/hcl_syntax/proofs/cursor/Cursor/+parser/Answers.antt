@@ -1,11 +1,10 @@
-use Rattle.std.proofs.Common.{rules, arith, subst, refl, sym, [], ◌∷◌, ap, ◌∙◌, ◌≡◌, ◌-◌}
+use Rattle.std.proofs.Common.{rules, arith, subst, refl, [], ◌∷◌, ap, ◌∙◌, ◌≡◌, ◌-◌}
 use Rattle.hcl_grammar.specs.declared.expected.Section.TheVariants.{InIf, InElse, InFor}
 use Rattle.hcl_grammar.specs.declared.expected.Newlines.TheVariants.{Seen, Dropped}
 use Rattle.hcl_grammar.specs.declared.expected.Terminal.TheVariants.{Name, EndParen, EndBracket, EndBrace, EndSequence, EndQuote, EndHeredoc, Separator, FatArrow}
 use Rattle.hcl_grammar.specs.Grammar.{◌at◌, row, the, expr, after, after_ident, arg_next, tuple, tuple_item, tuple_next, tuple_if, object, object_item, object_next, object_if, group, separator, parts, names, inside, section_directive, directive}
 use Rattle.hcl_syntax.specs.Inner.Parsing.{turning, waits, follow_symbols}
 use Rattle.hcl_syntax.proofs.CursorStepLemmas.{expr-stays, directive-stays, same-token, opening-row, too-deep, closing, turning-onward, turning-closing, turning-inner, end-onward, end-fails, end-quits, looks, reading, vanishing, vanishing-end, refusing, refusing-end, onward, beside, quits, done, begins, alike, args-end, args-else, tuple-end, tuple-else, index-star, index-else, no-token, waits-down, renamed, tuple-for, tuple-listed, tuple-if, tuple-plain, object-if, object-plain, object-for, object-listed, object-passes, item-passes, item-end, item-else, past-reading, past-alike, past-begins, kept-refusal, end-kept-refusal, kept-refusal-end}
-use Rattle.hcl_syntax.proofs.PlainLemmas.{nothing_left}
 use Rattle.hcl_syntax.proofs.cursor.Cursor.+parser.Goals as goal
 
 pub args-returns-then-takes-clause-parses : goal.args-returns-then-takes-clause-parses
@@ -67,12 +66,12 @@ call-returns-in_default-class n c = record {
 pub index-returns-then-takes-clause-parses : goal.index-returns-then-takes-clause-parses
 index-returns-then-takes-clause-parses n c = reading c.if-takes.ensures.yes.looks (index-star _ _ c.if-takes.ensures.yes.fits) (c.expect.ensures.parses _)
 
-pub index-returns-in_err-inner_expr-clause-parses : goal.index-returns-in_err-inner_expr-clause-parses
-index-returns-in_err-inner_expr-clause-parses n c = quits _ c.from_residual.ensures.1
-    (begins refl refl (expr-stays _) (λ t e. index-else _ _ (c.if-takes.ensures.no.unfit t e)) c.if-takes.ensures.no.shows (beside (the EndBracket at Dropped ∷ []) c.in_err-inner_expr.ensures.parses))
+pub index-returns-in_err-expr-clause-parses : goal.index-returns-in_err-expr-clause-parses
+index-returns-in_err-expr-clause-parses n c = quits _ c.from_residual.ensures.1
+    (begins refl refl (expr-stays _) (λ t e. index-else _ _ (c.if-takes.ensures.no.unfit t e)) c.if-takes.ensures.no.shows (beside (the EndBracket at Dropped ∷ []) c.in_err-expr.ensures.parses))
 
 pub index-returns-clause-parses : goal.index-returns-clause-parses
-index-returns-clause-parses n c = begins refl refl (expr-stays _) (λ t e. index-else _ _ (c.if-takes.ensures.no.unfit t e)) c.if-takes.ensures.no.shows (onward (beside (the EndBracket at Dropped ∷ []) c.in_ok-inner_expr.ensures.parses) (c.expect-2.ensures.parses _))
+index-returns-clause-parses n c = begins refl refl (expr-stays _) (λ t e. index-else _ _ (c.if-takes.ensures.no.unfit t e)) c.if-takes.ensures.no.shows (onward (beside (the EndBracket at Dropped ∷ []) c.in_ok-expr.ensures.parses) (c.expect-2.ensures.parses _))
 
 pub tuple_items-returns-then-takes-clause-parses : goal.tuple_items-returns-then-takes-clause-parses
 tuple_items-returns-then-takes-clause-parses n c =
@@ -115,14 +114,14 @@ operand-returns-in-Number-clause-leads n c = onward (c.start.ensures.leads _) (r
 pub operand-returns-in-Ident-clause-leads : goal.operand-returns-in-Ident-clause-leads
 operand-returns-in-Ident-clause-leads n c = onward (c.start.ensures.leads _) (reading (looks _ _ _ _ _ c.start.ensures.left c.in-Some.ensures.found c.bump-in-Ident.ensures.left) (search rules) c.call.ensures.leads)
 
-pub operand-returns-in_err-inner_expr-in-ParenOpen-clause-leads : goal.operand-returns-in_err-inner_expr-in-ParenOpen-clause-leads
-operand-returns-in_err-inner_expr-in-ParenOpen-clause-leads n c = quits _ c.from_residual.ensures.1
-    (onward (c.start.ensures.leads _) (reading (looks _ _ _ _ _ c.start.ensures.left c.in-Some.ensures.found c.bump-in-ParenOpen.ensures.left) (search rules) (beside (the EndParen at Dropped ∷ after at c.args.newlines ∷ []) c.in_err-inner_expr-in-ParenOpen.ensures.parses)))
+pub operand-returns-in_err-expr-in-ParenOpen-clause-leads : goal.operand-returns-in_err-expr-in-ParenOpen-clause-leads
+operand-returns-in_err-expr-in-ParenOpen-clause-leads n c = quits _ c.from_residual.ensures.1
+    (onward (c.start.ensures.leads _) (reading (looks _ _ _ _ _ c.start.ensures.left c.in-Some.ensures.found c.bump-in-ParenOpen.ensures.left) (search rules) (beside (the EndParen at Dropped ∷ after at c.args.newlines ∷ []) c.in_err-expr-in-ParenOpen.ensures.parses)))
 
-pub operand-returns-in_ok-inner_expr-in-ParenOpen-clause-leads : goal.operand-returns-in_ok-inner_expr-in-ParenOpen-clause-leads
-operand-returns-in_ok-inner_expr-in-ParenOpen-clause-leads n c =
+pub operand-returns-in_ok-expr-in-ParenOpen-clause-leads : goal.operand-returns-in_ok-expr-in-ParenOpen-clause-leads
+operand-returns-in_ok-expr-in-ParenOpen-clause-leads n c =
     onward (c.start.ensures.leads _) (reading (looks _ _ _ _ _ c.start.ensures.left c.in-Some.ensures.found c.bump-in-ParenOpen.ensures.left) (search rules)
-    (onward (beside (the EndParen at Dropped ∷ after at c.args.newlines ∷ []) c.in_ok-inner_expr-in-ParenOpen.ensures.parses) (beside (after at c.args.newlines ∷ []) (c.expect.ensures.parses _))))
+    (onward (beside (the EndParen at Dropped ∷ after at c.args.newlines ∷ []) c.in_ok-expr-in-ParenOpen.ensures.parses) (beside (after at c.args.newlines ∷ []) (c.expect.ensures.parses _))))
 
 pub operand-returns-in-BracketOpen-clause-leads : goal.operand-returns-in-BracketOpen-clause-leads
 operand-returns-in-BracketOpen-clause-leads n c = onward (c.start.ensures.leads _) (reading (looks _ _ _ _ _ c.start.ensures.left c.in-Some.ensures.found c.bump-in-BracketOpen.ensures.left) (search rules) (beside (after at c.args.newlines ∷ []) c.tuple.ensures.parses))
@@ -221,23 +220,6 @@ whole_expr-loop-self-preserved n c = record {
   shorter = omega (arith, c.in_ok-operand.ensures.shorter, c.in_ok-follow.ensures.shorter, c.in_ok-expect-in-Other.ensures.shorter);
   room = omega (arith, c.loop-self.invariant.room, c.in_ok-operand.ensures.shorter, c.in_ok-follow.ensures.shorter, c.in_ok-expect-in-Other.ensures.shorter);
 }
-
-pub chosen-returns-in_err-expect-clause-parses : goal.chosen-returns-in_err-expect-clause-parses
-chosen-returns-in_err-expect-clause-parses n c = quits _ c.from_residual.ensures.1
-    (onward (renamed (waits-down c.args.newlines c.args.waiting c.if-waiting-eq0.false) (done {a = tt {0}}))
-    (beside (expr at c.args.newlines ∷ waits c.args.newlines (c.args.waiting - 1) []) (c.in_err-expect.ensures.parses _)))
-
-pub chosen-returns-clause-parses : goal.chosen-returns-clause-parses
-chosen-returns-clause-parses n c =
-    onward (renamed (waits-down c.args.newlines c.args.waiting c.if-waiting-eq0.false) (done {a = tt {0}}))
-    (onward (beside (expr at c.args.newlines ∷ waits c.args.newlines (c.args.waiting - 1) []) (c.in_ok-expect.ensures.parses _)) c.whole_expr.ensures.parses)
-
-pub plain_expr-returns-then-paused-eq0-clause-parses : goal.plain_expr-returns-then-paused-eq0-clause-parses
-plain_expr-returns-then-paused-eq0-clause-parses n c =
-    renamed (nothing_left c.args.newlines c.plain-paused.result.awaited c.plain-paused.result.waiting (sym c.is_ended.ensures ∙ c.if-is_ended.true) c.if-paused-eq0.true) (c.plain-paused.ensures.leads _)
-
-pub plain_expr-returns-clause-parses : goal.plain_expr-returns-clause-parses
-plain_expr-returns-clause-parses n c = onward (c.plain-paused.ensures.leads _) c.resumed_expr.ensures.parses
 
 pub sequence-returns-clause-parses : goal.sequence-returns-clause-parses
 sequence-returns-clause-parses n c = onward (beside (the EndSequence at Dropped ∷ []) c.in_ok-expr.ensures.parses) (c.expect.ensures.parses _)
@@ -356,29 +338,29 @@ tuple-returns-clause-parses n c = onward (alike {a = tt {0}} {s = tuple} {s' = t
 pub generator-returns-in_err-names-clause-parses : goal.generator-returns-in_err-names-clause-parses
 generator-returns-in_err-names-clause-parses n c = quits _ c.from_residual.ensures.1 (beside (expr at Dropped ∷ the Separator at Dropped ∷ expr at Dropped ∷ []) (c.in_err-names.ensures.parses _))
 
-pub generator-returns-in_err-inner_expr-clause-parses : goal.generator-returns-in_err-inner_expr-clause-parses
-generator-returns-in_err-inner_expr-clause-parses n c = quits _ c.from_residual-in_err-inner_expr.ensures.1 (onward (beside (expr at Dropped ∷ the Separator at Dropped ∷ expr at Dropped ∷ []) (c.in_ok-names.ensures.parses _)) (beside (the Separator at Dropped ∷ expr at Dropped ∷ []) c.in_err-inner_expr.ensures.parses))
+pub generator-returns-in_err-expr-clause-parses : goal.generator-returns-in_err-expr-clause-parses
+generator-returns-in_err-expr-clause-parses n c = quits _ c.from_residual-in_err-expr.ensures.1 (onward (beside (expr at Dropped ∷ the Separator at Dropped ∷ expr at Dropped ∷ []) (c.in_ok-names.ensures.parses _)) (beside (the Separator at Dropped ∷ expr at Dropped ∷ []) c.in_err-expr.ensures.parses))
 
 pub generator-returns-in_err-expect-clause-parses : goal.generator-returns-in_err-expect-clause-parses
-generator-returns-in_err-expect-clause-parses n c = quits _ c.from_residual-in_err-expect.ensures.1 (onward (beside (expr at Dropped ∷ the Separator at Dropped ∷ expr at Dropped ∷ []) (c.in_ok-names.ensures.parses _)) (onward (beside (the Separator at Dropped ∷ expr at Dropped ∷ []) c.in_ok-inner_expr.ensures.parses) (beside (expr at Dropped ∷ []) (c.in_err-expect.ensures.parses _))))
+generator-returns-in_err-expect-clause-parses n c = quits _ c.from_residual-in_err-expect.ensures.1 (onward (beside (expr at Dropped ∷ the Separator at Dropped ∷ expr at Dropped ∷ []) (c.in_ok-names.ensures.parses _)) (onward (beside (the Separator at Dropped ∷ expr at Dropped ∷ []) c.in_ok-expr.ensures.parses) (beside (expr at Dropped ∷ []) (c.in_err-expect.ensures.parses _))))
 
 pub generator-returns-clause-parses : goal.generator-returns-clause-parses
-generator-returns-clause-parses n c = onward (beside (expr at Dropped ∷ the Separator at Dropped ∷ expr at Dropped ∷ []) (c.in_ok-names.ensures.parses _)) (onward (beside (the Separator at Dropped ∷ expr at Dropped ∷ []) c.in_ok-inner_expr.ensures.parses) (onward (beside (expr at Dropped ∷ []) (c.in_ok-expect.ensures.parses _)) c.inner_expr-2.ensures.parses))
+generator-returns-clause-parses n c = onward (beside (expr at Dropped ∷ the Separator at Dropped ∷ expr at Dropped ∷ []) (c.in_ok-names.ensures.parses _)) (onward (beside (the Separator at Dropped ∷ expr at Dropped ∷ []) c.in_ok-expr.ensures.parses) (onward (beside (expr at Dropped ∷ []) (c.in_ok-expect.ensures.parses _)) c.expr-2.ensures.parses))
 
-pub tuple_condition-returns-in_err-inner_expr-clause-parses : goal.tuple_condition-returns-in_err-inner_expr-clause-parses
-tuple_condition-returns-in_err-inner_expr-clause-parses n c = quits _ c.from_residual.ensures.1 (reading c.if-takes.ensures.yes.looks (tuple-if _ _ c.if-takes.ensures.yes.fits) (beside (the EndBracket at Dropped ∷ []) c.in_err-inner_expr.ensures.parses))
+pub tuple_condition-returns-in_err-expr-clause-parses : goal.tuple_condition-returns-in_err-expr-clause-parses
+tuple_condition-returns-in_err-expr-clause-parses n c = quits _ c.from_residual.ensures.1 (reading c.if-takes.ensures.yes.looks (tuple-if _ _ c.if-takes.ensures.yes.fits) (beside (the EndBracket at Dropped ∷ []) c.in_err-expr.ensures.parses))
 
 pub tuple_condition-returns-then-takes-clause-parses : goal.tuple_condition-returns-then-takes-clause-parses
-tuple_condition-returns-then-takes-clause-parses n c = reading c.if-takes.ensures.yes.looks (tuple-if _ _ c.if-takes.ensures.yes.fits) (onward (beside (the EndBracket at Dropped ∷ []) c.in_ok-inner_expr.ensures.parses) (c.expect.ensures.parses _))
+tuple_condition-returns-then-takes-clause-parses n c = reading c.if-takes.ensures.yes.looks (tuple-if _ _ c.if-takes.ensures.yes.fits) (onward (beside (the EndBracket at Dropped ∷ []) c.in_ok-expr.ensures.parses) (c.expect.ensures.parses _))
 
 pub tuple_condition-returns-clause-parses : goal.tuple_condition-returns-clause-parses
 tuple_condition-returns-clause-parses n c = onward (alike {a = tt {0}} {s = tuple_if} {s' = the EndBracket} refl (λ t e. tuple-plain _ _ (c.if-takes.ensures.no.unfit t e)) c.if-takes.ensures.no.shows) (c.expect-2.ensures.parses _)
 
-pub object_condition-returns-in_err-inner_expr-clause-parses : goal.object_condition-returns-in_err-inner_expr-clause-parses
-object_condition-returns-in_err-inner_expr-clause-parses n c = quits _ c.from_residual.ensures.1 (reading c.if-takes.ensures.yes.looks (object-if _ _ c.if-takes.ensures.yes.fits) (beside (the EndBrace at Dropped ∷ []) c.in_err-inner_expr.ensures.parses))
+pub object_condition-returns-in_err-expr-clause-parses : goal.object_condition-returns-in_err-expr-clause-parses
+object_condition-returns-in_err-expr-clause-parses n c = quits _ c.from_residual.ensures.1 (reading c.if-takes.ensures.yes.looks (object-if _ _ c.if-takes.ensures.yes.fits) (beside (the EndBrace at Dropped ∷ []) c.in_err-expr.ensures.parses))
 
 pub object_condition-returns-then-takes-clause-parses : goal.object_condition-returns-then-takes-clause-parses
-object_condition-returns-then-takes-clause-parses n c = reading c.if-takes.ensures.yes.looks (object-if _ _ c.if-takes.ensures.yes.fits) (onward (beside (the EndBrace at Dropped ∷ []) c.in_ok-inner_expr.ensures.parses) (c.expect.ensures.parses _))
+object_condition-returns-then-takes-clause-parses n c = reading c.if-takes.ensures.yes.looks (object-if _ _ c.if-takes.ensures.yes.fits) (onward (beside (the EndBrace at Dropped ∷ []) c.in_ok-expr.ensures.parses) (c.expect.ensures.parses _))
 
 pub object_condition-returns-clause-parses : goal.object_condition-returns-clause-parses
 object_condition-returns-clause-parses n c = onward (alike {a = tt {0}} {s = object_if} {s' = the EndBrace} refl (λ t e. object-plain _ _ (c.if-takes.ensures.no.unfit t e)) c.if-takes.ensures.no.shows) (c.expect-2.ensures.parses _)
@@ -428,8 +410,8 @@ object_for-returns-in_err-generator-clause-parses n c = quits _ c.from_residual.
 pub object_for-returns-in_err-expect-clause-parses : goal.object_for-returns-in_err-expect-clause-parses
 object_for-returns-in_err-expect-clause-parses n c = quits _ c.from_residual-in_err-expect.ensures.1 (onward (beside (the FatArrow at Dropped ∷ expr at Dropped ∷ group at Dropped ∷ []) c.in_ok-generator.ensures.parses) (beside (expr at Dropped ∷ group at Dropped ∷ []) (c.in_err-expect.ensures.parses _)))
 
-pub object_for-returns-in_err-inner_expr-clause-parses : goal.object_for-returns-in_err-inner_expr-clause-parses
-object_for-returns-in_err-inner_expr-clause-parses n c = quits _ c.from_residual-in_err-inner_expr.ensures.1 (onward (beside (the FatArrow at Dropped ∷ expr at Dropped ∷ group at Dropped ∷ []) c.in_ok-generator.ensures.parses) (onward (beside (expr at Dropped ∷ group at Dropped ∷ []) (c.in_ok-expect.ensures.parses _)) (beside (group at Dropped ∷ []) c.in_err-inner_expr.ensures.parses)))
+pub object_for-returns-in_err-expr-clause-parses : goal.object_for-returns-in_err-expr-clause-parses
+object_for-returns-in_err-expr-clause-parses n c = quits _ c.from_residual-in_err-expr.ensures.1 (onward (beside (the FatArrow at Dropped ∷ expr at Dropped ∷ group at Dropped ∷ []) c.in_ok-generator.ensures.parses) (onward (beside (expr at Dropped ∷ group at Dropped ∷ []) (c.in_ok-expect.ensures.parses _)) (beside (group at Dropped ∷ []) c.in_err-expr.ensures.parses)))
 
 pub object_for-returns-clause-parses : goal.object_for-returns-clause-parses
-object_for-returns-clause-parses n c = onward (beside (the FatArrow at Dropped ∷ expr at Dropped ∷ group at Dropped ∷ []) c.in_ok-generator.ensures.parses) (onward (beside (expr at Dropped ∷ group at Dropped ∷ []) (c.in_ok-expect.ensures.parses _)) (onward (beside (group at Dropped ∷ []) c.in_ok-inner_expr.ensures.parses) (onward (c.grouping.ensures.leads _) c.object_condition.ensures.parses)))
+object_for-returns-clause-parses n c = onward (beside (the FatArrow at Dropped ∷ expr at Dropped ∷ group at Dropped ∷ []) c.in_ok-generator.ensures.parses) (onward (beside (expr at Dropped ∷ group at Dropped ∷ []) (c.in_ok-expect.ensures.parses _)) (onward (beside (group at Dropped ∷ []) c.in_ok-expr.ensures.parses) (onward (c.grouping.ensures.leads _) c.object_condition.ensures.parses)))

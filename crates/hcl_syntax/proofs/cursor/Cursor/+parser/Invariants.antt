@@ -16,21 +16,6 @@ decreases-expr l = 10 * length l.self.now.left + 6
 abbrev pub decreases-whole_expr : goal.decreases-whole_expr
 decreases-whole_expr l = 10 * length l.self.now.left + 1
 
-abbrev pub decreases-chosen : goal.decreases-chosen
-decreases-chosen l = 10 * length l.self.now.left + 2
-
-abbrev pub decreases-sequel : goal.decreases-sequel
-decreases-sequel l = 10 * length l.self.now.left + 3
-
-abbrev pub decreases-resumed_expr : goal.decreases-resumed_expr
-decreases-resumed_expr l = 10 * length l.self.now.left + 4
-
-abbrev pub decreases-inner_expr : goal.decreases-inner_expr
-decreases-inner_expr l = 10 * length l.self.now.left + 6
-
-abbrev pub decreases-plain_expr : goal.decreases-plain_expr
-decreases-plain_expr l = 10 * length l.self.now.left + 5
-
 abbrev pub decreases-index : goal.decreases-index
 decreases-index l = 10 * length l.self.now.left + 7
 
@@ -75,7 +60,7 @@ decreases-args-loop-directives l = length l.self.left
 
 abbrev pub invariant-whole_expr-loop-self : goal.invariant-whole_expr-loop-self
 invariant-whole_expr-loop-self l = record {
-  leads : Advances l.directives (expr at l.newlines ∷ waits l.newlines l.fn.waiting []) l.fn.self.left (Ok (tt {0})) (expr at l.newlines ∷ waits l.newlines l.waiting []) l.self.left;
+  leads : Advances l.directives (expr at l.newlines ∷ []) l.fn.self.left (Ok (tt {0})) (expr at l.newlines ∷ waits l.newlines l.waiting []) l.self.left;
   shorter : length l.self.left ≤ length l.fn.self.left;
   room : l.waiting + length l.self.left < 2 ^ 64;
 }
