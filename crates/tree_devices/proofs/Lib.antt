@@ -1,1 +1,3 @@
+pub mod PlanLemmas
 pub mod StoredLemmas
+pub mod UseLemmas

@@ -1,10 +1,11 @@
 -- A text that is stored before others.
-use Rattle.std.proofs.Common.{◌≡◌, ◌∙◌, ℕ, Bool, true, false, List, [], ◌∷◌, Option, Some, None, refl, sym, ap, subst, cond, true≢false}
-use Rattle.std.specs.Prelude.{IsSome, find, is_some, option_map, if◌then◌else◌}
+use Rattle.std.proofs.Common.{◌≡◌, ℕ, Bool, true, false, List, ◌∷◌, Option, Some, None, refl, sym, subst, cond, true≢false}
+use Rattle.std.specs.Prelude.{IsSome, find, option_map, if◌then◌else◌}
 use Rattle.std.specs.Str.{bytes_eq}
 use Rattle.std.proofs.lemmas.Slice.Eq.{bytes_eq-Decides}
 use Rattle.file_tree.specs.Files.{Name, put}
 use Rattle.tree_devices.specs.MemoryFiles.{files_in, text_in}
+use Rattle.tree_devices.specs.declared.known.Known.{Known}
 use Rattle.tree_devices.specs.declared.stored.Stored.{Stored}
 
 given : (o : Option (List ℕ)) (bytes : List ℕ) → IsSome o → Some bytes ≡ option_map (λ _. bytes) o
@@ -22,6 +23,6 @@ one_more files s other h = by (bytes_eq other s.name.items) refl
     by false e = refl
 
 -- it is the text under its name, if there was one
-pub put_first : (files links : List Stored) (s : Stored) → IsSome (text_in files s.name.items)
-    → files_in (s ∷ files) links ≡ put (files_in files links) s.name.items s.bytes.items
-put_first files links s h = λ i. record (files_in files links) { told = λ other. one_more files s other h i }
+pub put_first : (known : List Known) (files links : List Stored) (s : Stored) → IsSome (text_in files s.name.items)
+    → files_in known (s ∷ files) links ≡ put (files_in known files links) s.name.items s.bytes.items
+put_first known files links s h = λ i. record (files_in known files links) { told = λ other. one_more files s other h i }

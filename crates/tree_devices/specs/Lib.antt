@@ -1,1 +1,3 @@
 pub mod MemoryFiles
+pub mod PlannedFiles
+pub mod Uses

@@ -4,6 +4,9 @@
 
 pub mod calls;
 pub mod entry;
+pub mod known;
 pub mod memory_reader;
 pub mod memory_tree;
+pub mod planned_tree;
 pub mod stored;
+pub mod uses;

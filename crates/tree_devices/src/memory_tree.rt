@@ -2,26 +2,29 @@
 
 ghost use Rattle.std.specs.Prelude.{◌≡◌, false, IfOk, None, OnErr, OnOk, Some, find, option_map};
 ghost use Rattle.std.specs.Str.{bytes_eq};
-ghost use Rattle.file_tree.specs.Files.{put};
-ghost use Rattle.tree_devices.specs.MemoryFiles.{files_in, real_in, text_in};
+ghost use Rattle.file_tree.specs.Files.{Tells, put};
+ghost use Rattle.tree_devices.specs.MemoryFiles.{files_in, kind_told, known_in, listing_told, real_in, text_in};
 
 use crate::calls::{Calls, Failures, Step};
 use crate::entry::{Entry, Stands};
+use crate::known::Known;
 use crate::memory_reader::MemoryReader;
 use crate::stored::Stored;
 use file_tree::fault::TreeFault;
 use file_tree::kind::{Identity, Kind};
+use file_tree::path::joined;
 use file_tree::tree::{Replaced, Tree, WritableTree, Writing};
 use hcl_scan::ByteSource;
 use std::alloc::{AllocError, Global};
 
-/// Folders, files, links and pipes in memory. It tells the bytes of its files, and where its links lead; a link to a link
-/// leads nowhere. A file is told from others by the number of its entry. A name that isn't UTF-8 it doesn't take, as the
-/// system's.
+/// Folders, files, links and pipes in memory. It tells what its names stand for and what its folders list, the bytes of its
+/// files, and where its links lead; a link to a link leads nowhere. A file is told from others by the number of its entry.
+/// A name that isn't UTF-8 it doesn't take, as the system's.
 #[derive(Drop)]
 pub struct MemoryTree<'a> {
     alloc: Global,
     entries: &'a [Entry<'a>],
+    known: Vec<Known>,
     files: Vec<Stored>,
     links: Vec<Stored>,
     calls: Calls,
@@ -29,9 +32,17 @@ pub struct MemoryTree<'a> {
 
 /// What is stored under a name.
 fn stored_as<'s>(stored: &'s [Stored], name: &[u8]) -> Option<&'s Stored>
-    ensures { option_map (λ s. s.now) result ≡ find (λ s. bytes_eq name.now s.name.items) stored.now }
+    ensures { option_map (λ s. s.now) result
+        ≡ find (λ s. bytes_eq name.now s.name.items) stored.now }
 {
     stored.iter().find(|s| *name == *s.name.as_slice())
+}
+
+/// What is known of a name.
+fn known_as<'s>(known: &'s [Known], name: &[u8]) -> Option<&'s Known>
+    ensures { option_map (λ k. k.now) result ≡ known_in known.now name.now }
+{
+    known.iter().find(|k| *name == *k.name.as_slice())
 }
 
 /// The text under a name.
@@ -113,13 +124,98 @@ impl<'a> MemoryTree<'a> {
                 Stands::Folder | Stands::Gone | Stands::Pipe => {}
             }
         }
-        Ok(MemoryTree {
+        let mut tree = MemoryTree {
             alloc,
             entries,
+            known: Vec::new(alloc),
             files,
             links,
             calls: Calls::new(alloc, failures),
-        })
+        };
+        for entry in entries {
+            tree.learn(entry)?;
+        }
+        Ok(tree)
+    }
+
+    /// Keeps the answers of an entry: of its name, and where it is a folder, of that with a slash.
+    fn learn(&mut self, entry: &Entry<'_>) -> Result<(), AllocError> {
+        self.keep_answers(entry.name)?;
+        if entry.name.is_empty() {
+            return self.keep_answers(b"./");
+        }
+        if entry.stands != Stands::Folder {
+            return Ok(());
+        }
+        let folder = joined(self.alloc, entry.name, b"/")?;
+        self.keep_answers(folder.as_slice())
+    }
+
+    fn keep_answers(&mut self, name: &[u8]) -> Result<(), AllocError> {
+        let Ok(entry) = self.entry_kind_of(name) else {
+            return Ok(());
+        };
+        let kind = match self.kind_of(name) {
+            Ok(kind) => Some(kind),
+            Err(_) => None,
+        };
+        let listing = match self.names_in(name) {
+            Ok(names) => Some(names),
+            Err(TreeFault::OutOfMemory) => return Err(AllocError),
+            Err(_) => None,
+        };
+        let name = Vec::from_slice(self.alloc, name)?;
+        let known = Known {
+            name,
+            kind,
+            entry,
+            listing,
+        };
+        match self.known.push(known) {
+            Ok(()) => Ok(()),
+            Err(_) => Err(AllocError),
+        }
+    }
+
+    /// What is told of a name, links followed.
+    fn told_kind(&self, name: &[u8]) -> Result<Kind, TreeFault>
+        ensures { IfOk result (Tells (kind_told (known_in self.now.known.items name.now))) }
+    {
+        match known_as(self.known.as_slice(), name) {
+            Some(known) => match known.kind {
+                Some(kind) => Ok(kind),
+                None => Err(TreeFault::DeadLink),
+            },
+            None => self.kind_of(name),
+        }
+    }
+
+    /// What is told of a name, a link being one.
+    fn told_entry(&self, name: &[u8]) -> Result<Kind, TreeFault>
+        ensures { IfOk result
+            (Tells (option_map (λ k. k.entry) (known_in self.now.known.items name.now))) }
+    {
+        match known_as(self.known.as_slice(), name) {
+            Some(known) => Ok(known.entry),
+            None => self.entry_kind_of(name),
+        }
+    }
+
+    /// What is told of the names in a folder.
+    fn told_names(&self, folder: &[u8]) -> Result<Vec<u8>, TreeFault>
+        ensures { IfOk result
+            (λ names. Tells (listing_told (known_in self.now.known.items folder.now)) names.items) }
+    {
+        let Some(known) = known_as(self.known.as_slice(), folder) else {
+            return self.names_in(folder);
+        };
+        let Some(listing) = &known.listing else {
+            return Err(TreeFault::UnreadableFolder);
+        };
+        match Vec::from_slice(self.alloc, listing.as_slice()) {
+            Ok(names) => Ok(names),
+            Err(_) => Err(TreeFault::OutOfMemory),
+        }
     }
 
     /// The calls so far.
@@ -217,7 +313,8 @@ impl<'a> MemoryTree<'a> {
 
     fn open(&self, name: &[u8], good_reads: Option<usize>) -> Result<MemoryReader, TreeFault>
         ensures fresh { IfOk result (λ r. ⟦<MemoryReader as ByteSource>⟧.failed r ≡ false) }
-        ensures bytes { IfOk result (λ r. ⟦<MemoryReader as ByteSource>⟧.left r ≡ text_in self.now.files.items (real_in self.now.links.items name.now)) }
+        ensures bytes { IfOk result (λ r. ⟦<MemoryReader as ByteSource>⟧.left r
+            ≡ text_in self.now.files.items (real_in self.now.links.items name.now)) }
     {
         if let Some(fault) = self.unopened(name) {
             return Err(fault);
@@ -245,8 +342,13 @@ impl<'a> MemoryTree<'a> {
 
     /// Gives the file to which a name leads new bytes.
     fn put(&mut self, name: &[u8], new: &[u8]) -> Result<(), TreeFault>
-        ensures ok { OnOk result (files_in self.new.files.items self.new.links.items ≡ put (files_in self.old.files.items self.old.links.items) (real_in self.old.links.items name.now) new.now) }
-        ensures err { OnErr result (files_in self.new.files.items self.new.links.items ≡ files_in self.old.files.items self.old.links.items) }
+        ensures known { self.new.known.items ≡ self.old.known.items }
+        ensures links { self.new.links.items ≡ self.old.links.items }
+        ensures ok { OnOk result (
+            files_in self.old.known.items self.new.files.items self.old.links.items
+            ≡ put (files_in self.old.known.items self.old.files.items self.old.links.items)
+            (real_in self.old.links.items name.now) new.now) }
+        ensures err { OnErr result (self.new.files.items ≡ self.old.files.items) }
     {
         let real = real_in(self.links.as_slice(), name);
         if text_in(self.files.as_slice(), real).is_none() {
@@ -268,7 +370,7 @@ impl<'a> MemoryTree<'a> {
 impl<'a> Tree for MemoryTree<'a> {
     type Reader = MemoryReader;
 
-    ghost files = { λ s. files_in s.files.items s.links.items };
+    ghost files = { λ s. files_in s.known.items s.files.items s.links.items };
 
     ghost faults = { λ s. None };
 
@@ -277,7 +379,7 @@ impl<'a> Tree for MemoryTree<'a> {
     #[tactic(auto, using(file_tree::proofs::FileLemmas::silent_noted))]
     fn kind(&mut self, name: &[u8]) -> Result<Kind, TreeFault> {
         match self.calls.make(Step::Kind, name) {
-            Ok(()) => self.kind_of(name),
+            Ok(()) => self.told_kind(name),
             Err(fault) => Err(fault),
         }
     }
@@ -285,7 +387,7 @@ impl<'a> Tree for MemoryTree<'a> {
     #[tactic(auto, using(file_tree::proofs::FileLemmas::silent_noted))]
     fn entry_kind(&mut self, name: &[u8]) -> Result<Kind, TreeFault> {
         match self.calls.make(Step::EntryKind, name) {
-            Ok(()) => self.entry_kind_of(name),
+            Ok(()) => self.told_entry(name),
             Err(fault) => Err(fault),
         }
     }
@@ -293,7 +395,7 @@ impl<'a> Tree for MemoryTree<'a> {
     #[tactic(auto, using(file_tree::proofs::FileLemmas::silent_noted))]
     fn listing(&mut self, folder: &[u8]) -> Result<Vec<u8>, TreeFault> {
         match self.calls.make(Step::Listing, folder) {
-            Ok(()) => self.names_in(folder),
+            Ok(()) => self.told_names(folder),
             Err(fault) => Err(fault),
         }
     }

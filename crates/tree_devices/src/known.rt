@@ -1,0 +1,15 @@
+//! What a tree in memory tells of a name.
+
+use file_tree::kind::Kind;
+
+/// A name as it may be asked for, and what is answered.
+#[derive(Debug, Drop)]
+pub struct Known {
+    pub name: Vec<u8>,
+    /// Links followed, unless the link leads nowhere.
+    pub kind: Option<Kind>,
+    /// A link being one.
+    pub entry: Kind,
+    /// The names in it, each ended by NUL, where it is a folder.
+    pub listing: Option<Vec<u8>>,
+}
