@@ -112,11 +112,15 @@ static const char *open_name(int file, char into[4200]) {
 
 /* The name of a path, which may go by a folder that is open. */
 static const char *path_name(const char *path, char into[4200]) {
-    int file, end = 0;
-    if (calls_descriptor < 0 || (path[0] == '/' && strncmp(path, "/proc/self/fd/", 14) != 0))
+    int process, file, end = 0;
+    if (calls_descriptor < 0 || (path[0] == '/' && strncmp(path, "/proc/", 6) != 0))
         return path;
     if (sscanf(path, "/proc/self/fd/%d/%n", &file, &end) == 1 && end > 0)
         open_name(file, into);
+    else if (sscanf(path, "/proc/%d/fd/%d/%n", &process, &file, &end) == 2 && end > 0)
+        open_name(file, into);
+    else if (path[0] == '/')
+        return path;
     else if (!getcwd(into, 4100))
         abort();
     size_t length = strlen(into);

@@ -18,7 +18,7 @@ _tffmt() {
   case ${1##*/} in
     tffmt) options='--check --help' ;;
     tfrules) options='--rules --naming --minimum-failure-severity --force --help' files=linted ;;
-    tffmt-all) options='--check --diff --list --in-place --sync --jobs --shard --null --help --version' files=formatted ;;
+    tffmt-all) options='--check --diff --list --in-place --sync --quiet --jobs --shard --null --help --version' files=formatted ;;
     tffmt-hook) options='--install --uninstall --help --version' ;;
     tfrules-modules)
       options='--rules --naming --minimum-failure-severity --force --check-comments --no-config --shard --jobs --null --help --version'

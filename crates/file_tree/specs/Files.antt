@@ -56,8 +56,3 @@ fault_of (Err fault) = Some fault
 abbrev pub fault_of_reader : Bool → Option TreeFault
 fault_of_reader false = None
 fault_of_reader true = Some ReadFailed
-
--- what a device tells at some time
-pub record State : Type 0 where
-  pub files : Files
-  pub faults : Faults

@@ -93,6 +93,6 @@ hunk_at ts n =
 abbrev pub hunks : Texts → List ℕ
 hunks ts = each (hunk_at ts) 0 (count ts)
 
--- THE DIFF of a text and another, under a name
-abbrev pub diff_of : List ℕ → List ℕ → List ℕ → List ℕ
-diff_of name old new = codes "--- old/" ++ (name ++ (codes "\n+++ new/" ++ (name ++ (codes "\n" ++ hunks (texts old new)))))
+-- THE DIFF of a text and another, under these two names as they are to be shown
+abbrev pub diff_of : List ℕ → List ℕ → List ℕ → List ℕ → List ℕ
+diff_of old_name new_name old new = codes "--- " ++ (old_name ++ (codes "\n+++ " ++ (new_name ++ (codes "\n" ++ hunks (texts old new)))))

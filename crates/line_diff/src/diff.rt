@@ -231,18 +231,24 @@ fn push_hunks(to: &mut Vec<u8>, lines: &Lines<'_>) -> Result<(), AllocError>
     Ok(())
 }
 
-/// What changes from one text to the other, under a name.
-pub fn diff(alloc: Global, name: &[u8], old: &[u8], new: &[u8]) -> Result<Vec<u8>, AllocError>
-    ensures { IfOk result (λ text. text.items ≡ diff_of name.now old.now new.now) }
+/// What changes from one text to the other, under two names as they are to be shown.
+pub fn diff(
+    alloc: Global,
+    old_name: &[u8],
+    new_name: &[u8],
+    old: &[u8],
+    new: &[u8],
+) -> Result<Vec<u8>, AllocError>
+    ensures { IfOk result (λ text. text.items ≡ diff_of old_name.now new_name.now old.now new.now) }
 {
     let old = lines_of(alloc, old)?;
     let new = lines_of(alloc, new)?;
     let lines = Lines::new(old, new);
     let mut to = Vec::new(alloc);
-    push(&mut to, b"--- old/")?;
-    push(&mut to, name)?;
-    push(&mut to, b"\n+++ new/")?;
-    push(&mut to, name)?;
+    push(&mut to, b"--- ")?;
+    push(&mut to, old_name)?;
+    push(&mut to, b"\n+++ ")?;
+    push(&mut to, new_name)?;
     push(&mut to, b"\n")?;
     push_hunks(&mut to, &lines)?;
     Ok(to)

@@ -25,7 +25,7 @@ pub struct Folder {
     /// None where the folder can't be read.
     handle: Option<File>,
     metadata: Metadata,
-    /// `/proc/self/fd/N/`: a name after it goes by the handle. Without a handle, or where there is no `/proc`, the path.
+    /// `/proc/PID/fd/N/`: a name after it goes by the handle. Without a handle, or where there is no `/proc`, the path.
     front: String,
     is_held: bool,
 }
@@ -64,6 +64,23 @@ fn found_at(rt: &HostRuntime, path: &str, linked: &[Identity]) -> Result<Metadat
     }
 }
 
+/// What stands before names that go by a handle. The number of the process is found quicker than `self`.
+fn front_of(rt: &HostRuntime, handle: &File) -> Result<String, TreeFault> {
+    let number = handle.as_raw_fd();
+    let front = match fs::read_link(rt, "/proc/self") {
+        Ok(own) => {
+            let own = own.to_string_lossy();
+            format!(in rt.alloc(); "/proc/{own}/fd/{number}/")
+        }
+        Err(error) if error.kind() == ErrorKind::OutOfMemory => return Err(TreeFault::OutOfMemory),
+        Err(_) => format!(in rt.alloc(); "/proc/self/fd/{number}/"),
+    };
+    match front {
+        Ok(front) => Ok(front),
+        Err(_) => Err(TreeFault::OutOfMemory),
+    }
+}
+
 impl Folder {
     /// A folder whose files are named by its path.
     fn by_path(
@@ -94,10 +111,7 @@ impl Folder {
         handle: File,
         metadata: Metadata,
     ) -> Result<Folder, TreeFault> {
-        let number = handle.as_raw_fd();
-        let Ok(front) = format!(in rt.alloc(); "/proc/self/fd/{number}/") else {
-            return Err(TreeFault::OutOfMemory);
-        };
+        let front = front_of(rt, &handle)?;
         match fs::metadata(rt, front.as_str()) {
             Ok(there) if identity_of(&there) == identity_of(&metadata) => {}
             _ => return Folder::by_path(rt, path, Some(handle), metadata),
@@ -131,18 +145,14 @@ impl Folder {
         }
     }
 
-    /// This folder, if it is the one of a path, which leads to it still.
-    pub fn again(mut self, rt: &HostRuntime, path: &str, linked: &[Identity]) -> Option<Folder> {
-        if self.path.as_str() != path {
-            return None;
-        }
-        match found_at(rt, path, linked) {
-            Ok(metadata) if identity_of(&metadata) == identity_of(&self.metadata) => {
-                self.metadata = metadata;
-                Some(self)
-            }
-            _ => None,
-        }
+    /// What tells the folder from every other one.
+    pub fn identity(&self) -> Identity {
+        identity_of(&self.metadata)
+    }
+
+    /// Whether this path led to the folder when it was opened.
+    pub fn is_of(&self, path: &str) -> bool {
+        self.path.as_str() == path
     }
 
     /// What stands before the name of a file in the folder.

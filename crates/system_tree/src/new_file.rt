@@ -2,7 +2,9 @@
 
 use crate::folder::{Folder, identity_of};
 use crate::in_place::{has_bytes, write_over};
+use crate::link::parted;
 use file_tree::fault::TreeFault;
+use file_tree::kind::Identity;
 use file_tree::mode::new_mode;
 use file_tree::tree::{Replaced, Writing};
 use std::fs::{File, Metadata, OpenOptions, Permissions};
@@ -16,6 +18,13 @@ const TRIES: u32 = 1_000;
 
 /// How often a call is tried that a signal interrupts.
 const TURNS: u32 = 1_000;
+
+/// The bytes that a file is to have still, and those that it gets.
+#[derive(Clone, Copy)]
+pub struct Texts<'a> {
+    pub old: &'a [u8],
+    pub new: &'a [u8],
+}
 
 /// A file that is to be replaced.
 #[derive(Drop)]
@@ -273,45 +282,44 @@ fn replace_by_new(
     }
 }
 
-/// Replaces a file of a folder, if it has its old bytes still. `began` is when the run did.
+/// Replaces the file of a path in its folder, if it is the one that was read and has its old bytes still. `began` is when the
+/// run did.
 pub fn replace(
     rt: &HostRuntime,
     folder: &Folder,
-    name: &str,
-    bytes: &[u8],
-    new: &[u8],
+    path: &str,
+    read: Identity,
+    texts: Texts<'_>,
     writing: Writing,
     began: Option<SystemTime>,
 ) -> Result<Replaced, TreeFault> {
     let front = folder.front();
-    let Ok(path) = format!(in rt.alloc(); "{front}{name}") else {
+    let name = parted(path).1;
+    let Ok(path_held) = format!(in rt.alloc(); "{front}{name}") else {
         return Err(TreeFault::OutOfMemory);
     };
-    // A pipe in its place isn't waited for where it is opened for both reading and writing.
-    let Ok(mut file) = OpenOptions::new()
-        .read(true)
-        .write(true)
-        .open(rt, path.as_str())
-    else {
+    // A pipe in its place isn't waited for where it is opened for both reading and writing. That the folder has what is opened
+    // here is asked before anything is replaced.
+    let Ok(mut file) = OpenOptions::new().read(true).write(true).open(rt, path) else {
         return Err(TreeFault::NotWritable);
     };
     let Ok(metadata) = file.metadata() else {
         return Err(TreeFault::Unreadable);
     };
-    if !metadata.is_file() {
+    if identity_of(&metadata) != read {
         return Err(TreeFault::Changed);
     }
     let old = Old {
-        path: path.as_str(),
-        bytes,
+        path: path_held.as_str(),
+        bytes: texts.old,
         metadata,
     };
-    match replace_by_new(rt, folder, &mut file, &old, new, writing.sync, began) {
+    match replace_by_new(rt, folder, &mut file, &old, texts.new, writing.sync, began) {
         Err(TreeFault::NoneBeside | TreeFault::NotReplaced) if writing.in_place => {
             if !is_unchanged(rt, &mut file, &old) {
                 return Err(TreeFault::Changed);
             }
-            write_over(&mut file, bytes, new, writing.sync)?;
+            write_over(&mut file, texts.old, texts.new, writing.sync)?;
             Ok(Replaced::Kept)
         }
         done => done,

@@ -6,7 +6,7 @@ ghost use Rattle.file_tree.specs.Files.{silent};
 
 use crate::folder::{Folder, identity_of};
 use crate::link::{parted, real_path};
-use crate::new_file::replace;
+use crate::new_file::{Texts, replace};
 use file_tree::fault::TreeFault;
 use file_tree::kind::{Identity, Kind};
 use file_tree::path::tidy;
@@ -61,12 +61,20 @@ impl ByteSource for FileReader {
     }
 }
 
+/// The file that was opened last.
+#[derive(Clone, Copy)]
+struct Opened {
+    identity: Identity,
+    is_linked: bool,
+}
+
 /// The tree of the system, by std. It tells nothing.
 #[derive(Drop)]
 pub struct SystemTree {
     rt: HostRuntime,
     /// When the run began, where there is a clock.
     began: Option<SystemTime>,
+    opened: Option<Opened>,
     /// The folder of the file that was replaced last.
     held: Option<Folder>,
     /// The folders that the caller named by links to them, or in whose names he put such a link.
@@ -112,6 +120,7 @@ impl SystemTree {
         SystemTree {
             rt,
             began,
+            opened: None,
             held: None,
             linked,
             is_walking: false,
@@ -211,23 +220,39 @@ impl SystemTree {
         Err(TreeFault::UnreadableFolder)
     }
 
+    /// Whether a name is a link to a file, if it leads to one.
+    fn is_linked_file(&self, name: &str) -> Result<bool, TreeFault> {
+        let (kind, is_linked) = match fs::symlink_metadata(&self.rt, name) {
+            Ok(metadata) if !metadata.is_symlink() => (kind_in(&metadata), false),
+            Ok(_) => (self.kind_of(name)?, true),
+            Err(error) => return Err(self.metadata_fault(name, &error)),
+        };
+        match kind {
+            Kind::File(_) => Ok(is_linked),
+            _ => Err(TreeFault::NotAFile),
+        }
+    }
+
     /// Opens a file. What it is is asked first, so that no pipe is waited for, and again of what was opened: a pipe that
     /// takes its place in between is waited for.
-    fn open(&self, name: &[u8]) -> Result<FileReader, TreeFault>
+    fn open(&mut self, name: &[u8]) -> Result<FileReader, TreeFault>
         ensures { IfOk result (λ r. ⟦<FileReader as ByteSource>⟧.failed r ≡ false) }
     {
         let name = text_of(name)?;
-        match self.kind_of(name) {
-            Ok(Kind::File(_)) => {}
-            Ok(_) => return Err(TreeFault::NotAFile),
-            Err(fault) => return Err(fault),
-        }
+        let is_linked = self.is_linked_file(name)?;
         match File::open(&self.rt, name) {
             Ok(file) => match file.metadata() {
-                Ok(metadata) if metadata.is_file() => Ok(FileReader {
-                    file,
-                    has_failed: false,
-                }),
+                Ok(metadata) if metadata.is_file() => {
+                    let identity = identity_of(&metadata);
+                    self.opened = Some(Opened {
+                        identity,
+                        is_linked,
+                    });
+                    Ok(FileReader {
+                        file,
+                        has_failed: false,
+                    })
+                }
                 Ok(_) => Err(TreeFault::NotAFile),
                 Err(_) => Err(TreeFault::Unreadable),
             },
@@ -236,31 +261,73 @@ impl SystemTree {
         }
     }
 
-    /// The folder of a path, held open: the one that was held last, if it is that.
-    fn folder_at(&mut self, path: &str) -> Result<Folder, TreeFault> {
-        let linked = self.linked.as_slice();
-        if let Some(held) = self.held.take()
-            && let Some(folder) = held.again(&self.rt, path, linked)
-        {
-            return Ok(folder);
+    /// The path of the file that was opened last, by this name.
+    fn opened_path(&self, name: &str, opened: Opened) -> Result<String, TreeFault> {
+        if opened.is_linked {
+            return real_path(&self.rt, name);
         }
-        Folder::open(&self.rt, path, linked)
+        match String::from_str(self.rt.alloc(), name) {
+            Ok(path) => Ok(path),
+            Err(_) => Err(TreeFault::OutOfMemory),
+        }
     }
 
+    /// Replaces the file of a path, which was opened last, in its folder, which is held open for the next one.
+    fn replace_at(
+        &mut self,
+        path: &str,
+        folder: Folder,
+        opened: Opened,
+        texts: Texts<'_>,
+        writing: Writing,
+    ) -> Result<Replaced, TreeFault> {
+        let done = replace(
+            &self.rt,
+            &folder,
+            path,
+            opened.identity,
+            texts,
+            writing,
+            self.began,
+        );
+        self.held = Some(folder);
+        done
+    }
+
+    /// Replaces the file that was opened last.
     fn replace_named(
         &mut self,
         name: &[u8],
-        old: &[u8],
-        new: &[u8],
+        texts: Texts<'_>,
         writing: Writing,
     ) -> Result<Replaced, TreeFault> {
         let name = text_of(name)?;
-        let path = real_path(&self.rt, name)?;
-        let (place, last) = parted(path.as_str());
-        let folder = self.folder_at(place)?;
-        let done = replace(&self.rt, &folder, last, old, new, writing, self.began);
-        self.held = Some(folder);
-        done
+        let Some(opened) = self.opened else {
+            return Err(TreeFault::Changed);
+        };
+        let path = self.opened_path(name, opened)?;
+        let path = path.as_str();
+        let place = parted(path).0;
+        let Some(held) = self.held.take() else {
+            let folder = Folder::open(&self.rt, place, self.linked.as_slice())?;
+            return self.replace_at(path, folder, opened, texts, writing);
+        };
+        if !held.is_of(place) {
+            let folder = Folder::open(&self.rt, place, self.linked.as_slice())?;
+            return self.replace_at(path, folder, opened, texts, writing);
+        }
+        let before = held.identity();
+        match self.replace_at(path, held, opened, texts, writing) {
+            Err(TreeFault::Changed) => {
+                // The path may lead to another folder by now.
+                let folder = Folder::open(&self.rt, place, self.linked.as_slice())?;
+                if folder.identity() == before {
+                    return Err(TreeFault::Changed);
+                }
+                self.replace_at(path, folder, opened, texts, writing)
+            }
+            done => done,
+        }
     }
 }
 
@@ -308,6 +375,6 @@ impl WritableTree for SystemTree {
         new: &[u8],
         writing: Writing,
     ) -> Result<Replaced, TreeFault> {
-        self.replace_named(name, old, new, writing)
+        self.replace_named(name, Texts { old, new }, writing)
     }
 }

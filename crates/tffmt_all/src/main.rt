@@ -4,14 +4,15 @@
 ghost use Rattle.std.specs.Prelude.{◌≡◌, false};
 
 mod progress_line;
+mod words;
 
 use crate::progress_line::ProgressLine;
-use command_line::{NoWords, borrowed_words, process_words};
+use crate::words::{borrowed_words, process_words};
 use hcl_scan::{ByteSink, FromRead, ToWrite};
 use std::process::ExitCode;
 use system_tree::patient::Patient;
 use system_tree::system::SystemTree;
-use tree_command::run::{bad_line, program};
+use tree_command::run::program;
 
 /// The status of a run that got no words: nothing is printed.
 const NO_WORDS: u8 = 4;
@@ -21,8 +22,7 @@ fn main(rt: HostRuntime) -> ExitCode {
     let mut err = ToWrite::new(Patient::new(rt.stderr()));
     let status = match process_words(&rt) {
         Ok(words) => run_over(&rt, words.as_slice(), &mut out, &mut err),
-        Err(NoWords::NotUtf8) => bad_line(&mut out, &mut err),
-        Err(NoWords::NotGiven) => NO_WORDS,
+        Err(_) => NO_WORDS,
     };
     ExitCode::from(status)
 }
@@ -30,7 +30,7 @@ fn main(rt: HostRuntime) -> ExitCode {
 /// Runs the program by these words over the files of the system.
 fn run_over<O: ByteSink, E: ByteSink>(
     rt: &HostRuntime,
-    words: &[String],
+    words: &[Vec<u8>],
     out: &mut O,
     err: &mut E,
 ) -> u8

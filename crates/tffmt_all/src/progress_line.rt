@@ -72,7 +72,7 @@ impl Progress for ProgressLine {
         self.looked = self.looked.saturating_add(1);
         match outcome {
             Outcome::Formatted => {}
-            Outcome::Changed | Outcome::Differs(_) => {
+            Outcome::Changed(_) | Outcome::Differs(_) => {
                 self.changed = self.changed.saturating_add(1);
                 self.wipe();
             }

@@ -54,7 +54,7 @@ no_slash text h =
 
 -- ---- a line
 
-pub with_parts : (m m' : Option Mode) (s s' : Option (Option Shard)) (g null null' : Bool) (n n' : ℕ) (j j' : Bool) (names : List (List ℕ)) → m ≡ m' → s ≡ s'
-    → g ≡ is_good null n j → null ≡ null' → n ≡ n' → j ≡ j' → asking_by m s g null names ≡ asking_by m' s' (is_good null' n' j') null' names
-with_parts m m' s s' g null null' n n' j j' names em es eg enull en ej =
-    (λ i. asking_by (em i) (es i) (eg i) null names) ∙ (λ i. asking_by m' s' (is_good (enull i) (en i) (ej i)) (enull i) names)
+pub with_parts : (m m' : Option Mode) (s s' : Option (Option Shard)) (g null null' quiet quiet' : Bool) (n n' : ℕ) (j j' : Bool) (names : List (List ℕ)) → m ≡ m' → s ≡ s'
+    → g ≡ is_good null n j → null ≡ null' → quiet ≡ quiet' → n ≡ n' → j ≡ j' → asking_by m s g null quiet names ≡ asking_by m' s' (is_good null' n' j') null' quiet' names
+with_parts m m' s s' g null null' quiet quiet' n n' j j' names em es eg enull equiet en ej =
+    (λ i. asking_by (em i) (es i) (eg i) null quiet names) ∙ (λ i. asking_by m' s' (is_good (enull i) (en i) (ej i)) (enull i) (equiet i) names)

@@ -2,3 +2,4 @@ pub mod AskedPartLemmas
 pub mod PathLemmas
 pub mod ProgramRunLemmas
 pub mod UsageLemmas
+pub mod WordLemmas

@@ -5,7 +5,7 @@ use Rattle.tree_command.specs.declared.options.TreeOptions.{TreeOptions}
 use Rattle.tree_command.specs.declared.usage.Usage.{Usage}
 
 abbrev pub asking_of : TreeOptions → Asking
-asking_of o = record { mode = o.mode; shard = o.shard; null = o.null; names = map (λ name. name.now) o.names.items }
+asking_of o = record { mode = o.mode; shard = o.shard; null = o.null; quiet = o.quiet; names = map (λ name. name.now) o.names.items }
 
 abbrev pub asked_by : Result TreeOptions Usage → Result Asking Usage
 asked_by (Ok o) = Ok (asking_of o)

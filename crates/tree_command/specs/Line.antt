@@ -1,27 +1,32 @@
--- What the words of a `tffmt-all` line ask for. clap reads them as a simple command: its own definitions of the matches and
--- the faults of a line decide. What its options may say is our own choice.
-use Rattle.std.specs.Prelude.{ℕ, ◌==◌, ◌&&◌, ◌||◌, not, Bool, true, false, List, [], ◌∷◌, Option, Some, None, Result, Ok, Err, codes, fold, length, nat_le, nat_lt, option_map, slice_get, unwrap_or, if◌then◌else◌}
+-- What the words of a `tffmt-all` line ask for. clap reads those that are UTF-8 as a simple command: its own definitions of the
+-- matches and the faults of a line decide. What its options may say, and that the other words are names, is our own choice.
+use Rattle.std.specs.Prelude.{ℕ, ◌==◌, ◌&&◌, ◌||◌, not, Bool, true, false, List, [], ◌∷◌, ◌++◌, Option, Some, None, Result, Ok, Err, codes, drop, filter, fold, length, nat_le, nat_lt, option_map, slice_get, unwrap_or, if◌then◌else◌}
 use Rattle.std.specs.List.{after_first, before_first, list_all}
 use Rattle.std.specs.Char.{is_ascii_digit}
 use Rattle.std.specs.Option.{option_map_or}
+use Rattle.std.specs.Str.{is_utf8}
 use Rattle.std.specs.Str.Parse.{digits_value}
 use Rattle.clap.specs.Words.{App, Row, Rule, Text, all_of, count_of, fault_of, first_of, matches_of, new_app, new_rule, with_rule}
 use Rattle.clap.specs.declared.builder.ArgAction.TheVariants.{Append, Count}
 use Rattle.command_line.specs.Arguments.{option_rule, unless_fault, usage_by}
+use Rattle.file_tree.specs.Files.{Name}
 use Rattle.file_tree.specs.declared.tree.Writing.{Writing}
+use Rattle.tree_format.specs.declared.mode.Ending.{Ending}
+use Rattle.tree_format.specs.declared.mode.Ending.TheVariants.{Line, Null}
 use Rattle.tree_format.specs.declared.mode.Mode.{Mode}
 use Rattle.tree_format.specs.declared.mode.Mode.TheVariants.{Write, Check, List as Listed, Diff}
 use Rattle.tree_command.specs.declared.shard.Shard.{Shard}
 use Rattle.tree_command.specs.declared.usage.Usage.{Usage}
 use Rattle.tree_command.specs.declared.usage.Usage.TheVariants.{Help, Version, BadLine, OutOfMemory}
 
--- what a line asks for: what is to be done, with which part of the files, whether names are read from standard input, and
--- the names of the line
+-- what a line asks for: what is to be done, with which part of the files, whether names are read from standard input, whether
+-- nothing is said of the run as a whole, and the names of the line
 pub record Asking : Type 0 where
   pub mode : Mode
   pub shard : Option Shard
   pub null : Bool
-  pub names : List Text
+  pub quiet : Bool
+  pub names : List Name
 
 -- ---- the command
 
@@ -40,13 +45,13 @@ jobs_rule = record (new_rule (codes "jobs")) { long = Some (codes "jobs"); short
 abbrev pub file_rule : Rule
 file_rule = record (new_rule (codes "file")) { action = Some Append }
 
--- `tffmt-all [--check | --diff | --list] [--in-place] [--sync] [--shard K/N] [--jobs NUMBER] [--null] [--version] [--]
+-- `tffmt-all [--check | --diff | --list] [--in-place] [--sync] [--quiet] [--shard K/N] [--jobs NUMBER] [--null] [--version] [--]
 -- [FILE|FOLDER]...`
 abbrev pub tffmt_all : App
 tffmt_all =
     fold with_rule (new_app (codes "tffmt-all"))
     (count_rule (codes "check") ∷ count_rule (codes "diff") ∷ count_rule (codes "list") ∷ count_rule (codes "in-place") ∷ count_rule (codes "sync")
-    ∷ count_rule (codes "version") ∷ null_rule ∷ option_rule (codes "shard") ∷ jobs_rule ∷ file_rule ∷ [])
+    ∷ count_rule (codes "quiet") ∷ count_rule (codes "version") ∷ null_rule ∷ option_rule (codes "shard") ∷ jobs_rule ∷ file_rule ∷ [])
 
 abbrev pub is_given : Text → List Row → Bool
 is_given name rows = nat_lt 0 (count_of name rows)
@@ -56,17 +61,22 @@ texts_of id rows = unwrap_or (all_of id rows) []
 
 -- ---- what is to be done
 
--- one of the three flags, or none of them
-abbrev pub mode_by : Bool → Bool → Bool → Writing → Option Mode
-mode_by false false false writing = Some (Write writing)
-mode_by true false false writing = Some Check
-mode_by false true false writing = Some Diff
-mode_by false false true writing = Some Listed
-mode_by _ _ _ writing = None
+-- one of the three flags, or none of them; `--check --diff` is `--diff`, which has the status of the check
+abbrev pub mode_by : Bool → Bool → Bool → Ending → Writing → Option Mode
+mode_by false false false ending writing = Some (Write writing)
+mode_by true false false ending writing = Some Check
+mode_by false true false ending writing = Some Diff
+mode_by true true false ending writing = Some Diff
+mode_by false false true ending writing = Some (Listed ending)
+mode_by _ _ _ ending writing = None
+
+-- with `--null` names are printed as they are read
+abbrev pub ending_by : Bool → Ending
+ending_by null = if null then Null else Line
 
 abbrev pub mode_asked : List Row → Option Mode
 mode_asked rows =
-    mode_by (is_given (codes "check") rows) (is_given (codes "diff") rows) (is_given (codes "list") rows)
+    mode_by (is_given (codes "check") rows) (is_given (codes "diff") rows) (is_given (codes "list") rows) (ending_by (is_given (codes "null") rows))
     (record { in_place = is_given (codes "in-place") rows; sync = is_given (codes "sync") rows })
 
 -- ---- numbers
@@ -104,28 +114,48 @@ shard_given (Some text) = option_map Some (shard_in text)
 
 -- ---- the line
 
-abbrev pub asking_by : Option Mode → Option (Option Shard) → Bool → Bool → List Text → Result Asking Usage
-asking_by None shard is_good null names = Err BadLine
-asking_by (Some mode) None is_good null names = Err BadLine
-asking_by (Some mode) (Some shard) false null names = Err BadLine
-asking_by (Some mode) (Some shard) true null names = Ok (record { mode = mode; shard = shard; null = null; names = names })
+abbrev pub asking_by : Option Mode → Option (Option Shard) → Bool → Bool → Bool → List Name → Result Asking Usage
+asking_by None shard is_good null quiet names = Err BadLine
+asking_by (Some mode) None is_good null quiet names = Err BadLine
+asking_by (Some mode) (Some shard) false null quiet names = Err BadLine
+asking_by (Some mode) (Some shard) true null quiet names = Ok (record { mode = mode; shard = shard; null = null; quiet = quiet; names = names })
 
 -- names come from the line or from standard input, and not from both
 abbrev pub is_good : Bool → ℕ → Bool → Bool
 is_good null names are_jobs = are_jobs && (not null || names == 0)
 
-abbrev pub asking_with : List Row → List Text → Result Asking Usage
+abbrev pub asking_with : List Row → List Name → Result Asking Usage
 asking_with rows names =
     asking_by (mode_asked rows) (shard_given (first_of (codes "shard") rows))
-    (is_good (is_given (codes "null") rows) (length names) (list_all is_jobs (texts_of (codes "jobs") rows))) (is_given (codes "null") rows) names
+    (is_good (is_given (codes "null") rows) (length names) (list_all is_jobs (texts_of (codes "jobs") rows))) (is_given (codes "null") rows)
+    (is_given (codes "quiet") rows) names
 
-abbrev pub asking_of_rows : List Row → Result Asking Usage
-asking_of_rows rows = if is_given (codes "version") rows then Err Version else asking_with rows (texts_of (codes "file") rows)
+-- the names of a line are those that clap finds, and then the other ones
+abbrev pub asking_of_rows : List Name → List Row → Result Asking Usage
+asking_of_rows others rows = if is_given (codes "version") rows then Err Version else asking_with rows (texts_of (codes "file") rows ++ others)
 
--- WHAT THE WORDS ASK FOR, unless memory runs out
-abbrev pub asking_of_words : List Text → Result Asking Usage
-asking_of_words words = unless_fault (usage_by OutOfMemory Help BadLine) (fault_of tffmt_all words) (asking_of_rows (matches_of tffmt_all words))
+-- what these texts ask for, and these names beside them, unless memory runs out
+abbrev pub asking_of_texts : List Text → List Name → Result Asking Usage
+asking_of_texts texts others =
+    unless_fault (usage_by OutOfMemory Help BadLine) (fault_of tffmt_all texts) (asking_of_rows others (matches_of tffmt_all texts))
 
 -- what they ask to be done with files, where clap finds no fault in them
-abbrev pub mode_of_words : List Text → Option Mode
-mode_of_words words = mode_asked (matches_of tffmt_all words)
+abbrev pub mode_of_texts : List Text → Option Mode
+mode_of_texts texts = mode_asked (matches_of tffmt_all texts)
+
+-- ---- words that aren't UTF-8
+
+-- the name of the program, whatever the first word is, and the words after it that are UTF-8
+abbrev pub texts_in : List (List ℕ) → List Text
+texts_in words = codes "tffmt-all" ∷ filter is_utf8 (drop 1 words)
+
+-- the words that aren't: names, wherever they stand
+abbrev pub others_in : List (List ℕ) → List Name
+others_in words = filter (λ word. not (is_utf8 word)) (drop 1 words)
+
+-- WHAT THE WORDS ASK FOR, the program's name first, unless memory runs out
+abbrev pub asking_of_words : List (List ℕ) → Result Asking Usage
+asking_of_words words = asking_of_texts (texts_in words) (others_in words)
+
+abbrev pub mode_of_words : List (List ℕ) → Option Mode
+mode_of_words words = mode_of_texts (texts_in words)

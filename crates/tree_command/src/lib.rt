@@ -7,3 +7,4 @@ pub mod pick;
 pub mod run;
 pub mod shard;
 pub mod usage;
+mod words;

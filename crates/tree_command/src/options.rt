@@ -1,12 +1,12 @@
 //! The words of the command line.
 
-ghost use Rattle.std.specs.Prelude.{◌≡◌, ◌==◌, ◌⊎◌, false, codes, Err, IfOk, Some, length, map, option_map, slice_get};
+ghost use Rattle.std.specs.Prelude.{◌≡◌, ◌==◌, ◌⊎◌, ◌++◌, false, codes, Err, IfOk, Some, length, map, option_map, slice_get};
 ghost use Rattle.std.specs.Char.{is_ascii_digit};
 ghost use Rattle.std.specs.List.{list_all};
 ghost use Rattle.std.specs.Option.{option_map_or};
 ghost use Rattle.clap.specs.Words.{app_of, first_of, found_of, rows_of, rule_of};
 ghost use Rattle.tree_command.specs.Asked.{asked_by};
-ghost use Rattle.tree_command.specs.Line.{asking_by, asking_of_rows, asking_of_words, asking_with, count_rule, file_rule, is_given, is_good, is_jobs, is_number, jobs_rule, mode_asked, mode_by, mode_of_words, null_rule, number_in, shard_by, shard_given, shard_in, texts_of, tffmt_all};
+ghost use Rattle.tree_command.specs.Line.{asking_by, asking_of_rows, asking_of_texts, asking_with, count_rule, ending_by, file_rule, is_given, is_good, is_jobs, is_number, jobs_rule, mode_asked, mode_by, mode_of_texts, null_rule, number_in, shard_by, shard_given, shard_in, texts_of, tffmt_all};
 ghost use Rattle.tree_command.specs.declared.usage.Usage.TheVariants.{OutOfMemory};
 
 use crate::shard::Shard;
@@ -15,7 +15,7 @@ use clap::{Arg, ArgAction, ArgMatches, Command};
 use command_line::{option_named, usage_for};
 use file_tree::tree::Writing;
 use std::alloc::{AllocError, Global};
-use tree_format::mode::Mode;
+use tree_format::mode::{Ending, Mode};
 
 /// The most digits of a number.
 const MOST_DIGITS: usize = 5;
@@ -31,8 +31,10 @@ pub struct TreeOptions<'a> {
     pub shard: Option<Shard>,
     /// The names are read from standard input.
     pub null: bool,
+    /// Nothing is said of the run as a whole.
+    pub quiet: bool,
     /// The names of the line.
-    pub names: Vec<&'a str>,
+    pub names: Vec<&'a [u8]>,
 }
 
 /// The flag `--NAME`, which may be given more than once.
@@ -83,6 +85,7 @@ fn command<'a>(alloc: Global) -> Result<Command<'a>, AllocError>
         .arg(counted_flag(alloc, "list"))?
         .arg(counted_flag(alloc, "in-place"))?
         .arg(counted_flag(alloc, "sync"))?
+        .arg(counted_flag(alloc, "quiet"))?
         .arg(counted_flag(alloc, "version"))?
         .arg(null(alloc))?
         .arg(option_named(alloc, "shard"))?
@@ -97,20 +100,27 @@ fn is_given(matches: &ArgMatches<'_>, name: &str) -> bool
     matches.get_count(name) > 0
 }
 
-/// The one mode that these flags ask for.
-fn mode_by(check: bool, diff: bool, list: bool, writing: Writing) -> Option<Mode>
-    ensures { result ≡ mode_by check diff list writing }
+/// The mode that these flags ask for, where they go together.
+fn mode_by(check: bool, diff: bool, list: bool, ending: Ending, writing: Writing) -> Option<Mode>
+    ensures { result ≡ mode_by check diff list ending writing }
 {
     match (check, diff, list) {
         (false, false, false) => Some(Mode::Write(writing)),
         (true, false, false) => Some(Mode::Check),
-        (false, true, false) => Some(Mode::Diff),
-        (false, false, true) => Some(Mode::List),
+        (_, true, false) => Some(Mode::Diff),
+        (false, false, true) => Some(Mode::List(ending)),
         _ => None,
     }
 }
 
-/// The one mode that is asked for.
+/// How names are printed.
+fn ending_by(null: bool) -> Ending
+    ensures { result ≡ ending_by null }
+{
+    if null { Ending::Null } else { Ending::Line }
+}
+
+/// The mode that is asked for.
 fn mode_of(matches: &ArgMatches<'_>) -> Option<Mode>
     ensures { result ≡ mode_asked (rows_of (found_of matches.now)) }
 {
@@ -121,7 +131,8 @@ fn mode_of(matches: &ArgMatches<'_>) -> Option<Mode>
     let check = is_given(matches, "check");
     let diff = is_given(matches, "diff");
     let list = is_given(matches, "list");
-    mode_by(check, diff, list, writing)
+    let ending = ending_by(is_given(matches, "null"));
+    mode_by(check, diff, list, ending, writing)
 }
 
 fn begins_with_zero(digits: &[u8]) -> bool
@@ -232,22 +243,22 @@ fn shard_of(matches: &ArgMatches<'_>) -> Option<Option<Shard>>
 }
 
 /// Whether names come from the line or from standard input, and not from both, and the numbers of jobs are numbers.
-fn is_good(null: bool, given: &[&str], are_jobs: bool) -> bool
-    ensures { result ≡ is_good null (length given.now) are_jobs }
+fn is_good(null: bool, names: &[&[u8]], are_jobs: bool) -> bool
+    ensures { result ≡ is_good null (length names.now) are_jobs }
 {
-    are_jobs && (!null || given.is_empty())
+    are_jobs && (!null || names.is_empty())
 }
 
 /// The options of these parts of a line.
 fn options_by<'a>(
-    alloc: Global,
     mode: Option<Mode>,
     shard: Option<Option<Shard>>,
     is_good: bool,
     null: bool,
-    given: &[&'a str],
+    quiet: bool,
+    names: Vec<&'a [u8]>,
 ) -> Result<TreeOptions<'a>, Usage>
-    ensures asked { (result ≡ Err OutOfMemory) ⊎ (asked_by result ≡ asking_by mode shard is_good null (map (λ name. name.now) given.now)) }
+    ensures asked { asked_by result ≡ asking_by mode shard is_good null quiet (map (λ name. name.now) names.entry.items) }
     ensures mode { IfOk result (λ options. mode ≡ Some options.mode) }
 {
     let Some(mode) = mode else {
@@ -259,59 +270,97 @@ fn options_by<'a>(
     if !is_good {
         return Err(Usage::BadLine);
     }
-    match Vec::from_slice(alloc, given) {
-        Ok(names) => Ok(TreeOptions {
-            mode,
-            shard,
-            null,
-            names,
-        }),
-        Err(_) => Err(Usage::OutOfMemory),
-    }
+    Ok(TreeOptions {
+        mode,
+        shard,
+        null,
+        quiet,
+        names,
+    })
 }
 
 /// The options that the matches of a line give, which has these names.
 fn options_with<'a>(
-    alloc: Global,
-    given: &[&'a str],
+    names: Vec<&'a [u8]>,
     matches: &ArgMatches<'a>,
 ) -> Result<TreeOptions<'a>, Usage>
-    ensures asked { (result ≡ Err OutOfMemory) ⊎ (asked_by result ≡ asking_with (rows_of (found_of matches.now)) (map (λ name. name.now) given.now)) }
+    ensures asked { asked_by result ≡ asking_with (rows_of (found_of matches.now)) (map (λ name. name.now) names.entry.items) }
     ensures mode { IfOk result (λ options. mode_asked (rows_of (found_of matches.now)) ≡ Some options.mode) }
 {
     let mode = mode_of(matches);
     let shard = shard_of(matches);
     let null = is_given(matches, "null");
-    let is_good = is_good(null, given, are_jobs_good(matches));
-    options_by(alloc, mode, shard, is_good, null, given)
+    let quiet = is_given(matches, "quiet");
+    let is_good = is_good(null, names.as_slice(), are_jobs_good(matches));
+    options_by(mode, shard, is_good, null, quiet, names)
 }
 
-/// The options that the matches of a line give.
-fn options_of<'a>(alloc: Global, matches: &ArgMatches<'a>) -> Result<TreeOptions<'a>, Usage>
-    ensures asked { (result ≡ Err OutOfMemory) ⊎ (asked_by result ≡ asking_of_rows (rows_of (found_of matches.now))) }
+/// The names of a line: those that clap found, and the others.
+fn names_of<'a>(
+    alloc: Global,
+    given: &[&'a str],
+    others: &[&'a [u8]],
+) -> Result<Vec<&'a [u8]>, AllocError>
+    ensures { IfOk result (λ names. map (λ name. name.now) names.items ≡ map (λ name. name.now) given.now ++ map (λ name. name.now) others.now) }
+{
+    let mut names = Vec::new(alloc);
+    for name in given {
+        if names.push(name.as_bytes()).is_err() {
+            return Err(AllocError);
+        }
+    }
+    names.extend_from_slice(others)?;
+    Ok(names)
+}
+
+/// All names of a line of which the matches are these.
+fn names_in<'a>(
+    alloc: Global,
+    others: &[&'a [u8]],
+    matches: &ArgMatches<'a>,
+) -> Result<Vec<&'a [u8]>, AllocError>
+    ensures { IfOk result (λ names. map (λ name. name.now) names.items ≡ texts_of (codes "file") (rows_of (found_of matches.now)) ++ map (λ name. name.now) others.now) }
+{
+    match matches.get_strs("file") {
+        Some(given) => names_of(alloc, given, others),
+        None => names_of(alloc, &[], others),
+    }
+}
+
+/// The options that the matches of a line give, beside which there are these names.
+fn options_of<'a>(
+    alloc: Global,
+    others: &[&'a [u8]],
+    matches: &ArgMatches<'a>,
+) -> Result<TreeOptions<'a>, Usage>
+    ensures asked { (result ≡ Err OutOfMemory) ⊎ (asked_by result ≡ asking_of_rows (map (λ name. name.now) others.now) (rows_of (found_of matches.now))) }
     ensures mode { IfOk result (λ options. mode_asked (rows_of (found_of matches.now)) ≡ Some options.mode) }
 {
     if is_given(matches, "version") {
         return Err(Usage::Version);
     }
-    match matches.get_strs("file") {
-        Some(given) => options_with(alloc, given, matches),
-        None => options_with(alloc, &[], matches),
+    match names_in(alloc, others, matches) {
+        Ok(names) => options_with(names, matches),
+        Err(_) => Err(Usage::OutOfMemory),
     }
 }
 
-/// The options that the words give, the program's name first, or the usage that they have. Where memory runs out it answers
-/// `OutOfMemory`.
-pub fn options<'a>(alloc: Global, words: &'a [&'a str]) -> Result<TreeOptions<'a>, Usage>
-    ensures asked { (result ≡ Err OutOfMemory) ⊎ (asked_by result ≡ asking_of_words (map (λ word. word.now) words.entry.now)) }
+/// The options that the words give, the program's name first, and the names beside them, or the usage that they have. Where
+/// memory runs out it answers `OutOfMemory`.
+pub fn options<'a>(
+    alloc: Global,
+    words: &'a [&'a str],
+    others: &[&'a [u8]],
+) -> Result<TreeOptions<'a>, Usage>
+    ensures asked { (result ≡ Err OutOfMemory) ⊎ (asked_by result ≡ asking_of_texts (map (λ word. word.now) words.entry.now) (map (λ name. name.now) others.now)) }
     // What is to be done with files is what the words ask for.
-    ensures mode { IfOk result (λ options. mode_of_words (map (λ word. word.now) words.entry.now) ≡ Some options.mode) }
+    ensures mode { IfOk result (λ options. mode_of_texts (map (λ word. word.now) words.entry.now) ≡ Some options.mode) }
 {
     let Ok(command) = command(alloc) else {
         return Err(Usage::OutOfMemory);
     };
     match command.try_get_matches_from(words) {
-        Ok(matches) => options_of(alloc, &matches),
+        Ok(matches) => options_of(alloc, others, &matches),
         Err(error) => Err(usage_for(&error, Usage::OutOfMemory, Usage::Help, Usage::BadLine)),
     }
 }

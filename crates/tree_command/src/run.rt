@@ -1,28 +1,33 @@
 //! A run over any tree and any devices.
 
-ghost use Rattle.std.specs.Prelude.{◌≡◌, ℕ, List, [], false, IfOk, map};
-ghost use Rattle.command_line.specs.Rows.{Shows, end_of};
+ghost use Rattle.std.specs.Prelude.{◌≡◌, ◌||◌, ℕ, List, [], false, IfOk, Some, if◌then◌else◌, map};
+ghost use Rattle.command_line.specs.Rows.{Shows, Took, end_of, writer};
 ghost use Rattle.file_tree.specs.Files.{Tells};
-ghost use Rattle.tree_command.specs.Ends.{FormatsNamed, FormatsOr, IsEnd, IsPartOf, ReadsAndFormats, formatter, usage_row};
-ghost use Rattle.tree_command.specs.Line.{mode_of_words};
+ghost use Rattle.tree_command.specs.Ends.{EndsAsked, FormatsNamed, FormatsOr, IsEnd, IsEndOf, IsPartOf, ReadsAndFormats, usage_row, words_at_end};
+ghost use Rattle.tree_command.specs.Asked.{asking_of};
+ghost use Rattle.tree_command.specs.Formatter.{formatter};
+ghost use Rattle.tree_command.specs.Line.{mode_of_texts, mode_of_words};
 ghost use Rattle.tree_command.specs.declared.usage.Usage.TheVariants.{BadLine};
 ghost use Rattle.tree_command.specs.Paths.{paths_of_input, paths_of_line, without_last_nul};
 ghost use Rattle.tree_format.specs.declared.mode.Mode.{Mode};
 ghost use Rattle.tree_format.specs.Runs.{IsSafe, Kept};
+ghost use Rattle.tree_format.specs.States.{state_of};
 
-use crate::options::options;
+use crate::options::{TreeOptions, options};
 use crate::pick::pick;
 use crate::shard::Shard;
 use crate::usage::{HELP, USAGE, Usage, VERSION};
+use crate::words::words_of;
 use command_line::Program;
 use file_tree::path::names_in;
-use file_tree::tree::Tree;
+use file_tree::tree::{Tree, WritableTree};
 use file_tree::walk::{Found, find};
 use hcl_scan::{ByteSink, ByteSource, Failed};
 use std::alloc::{AllocError, Global};
 use tree_format::mode::Mode;
 use tree_format::progress::Progress;
-use tree_format::run::run_over;
+use tree_format::run::{Ran, run_over};
+use tree_format::tally::tell_tally;
 
 /// The status of a run in which something failed.
 const FAILURE: u8 = 4;
@@ -50,16 +55,34 @@ fn find_part<T: Tree>(
 ) -> Result<Vec<Found>, AllocError>
     // Nothing is changed.
     ensures files { T.files tree.new ≡ T.files tree.old }
+    ensures asked { T.asked tree.new ≡ T.asked tree.old }
     ensures finds { IfOk result (λ found. IsPartOf (T.files tree.old) (T.faults tree.old) (T.faults tree.new) shard (map (λ operand. operand.now) operands.now) found.items) }
 {
     let found = find(alloc, operands, tree)?;
     pick(alloc, found, shard)
 }
 
+/// Says the last words of a run, and gives its status.
+fn finish<O: ByteSink, E: ByteSink>(quiet: bool, mode: Mode, ran: &Ran, out: &O, err: &mut E) -> u8
+    requires err { E.failed err.old ≡ false }
+    ensures took { Took (writer E.ByteSink err.old err.new)
+        (words_at_end quiet mode (O.failed out.now) ran.now.tally) }
+    ensures exit { result ≡ (if O.failed out.now || E.failed err.new then 4 else ran.now.status) }
+{
+    if quiet || out.has_failed() {
+        return formatter().finish(out, err, ran.status);
+    }
+    match tell_tally(err, mode, &ran.tally) {
+        Ok(()) => ran.status,
+        Err(_) => FAILURE,
+    }
+}
+
 /// Finds the files and goes over them.
 #[tactic(auto, using(tree_format::proofs::KeptFormatLemmas::kept_same, tree_format::proofs::KeptFormatLemmas::kept_still, tree_format::proofs::KeptFormatLemmas::kept_from))]
-fn run<T: Tree, P: Progress, O: ByteSink, E: ByteSink>(
+fn run<T: WritableTree, P: Progress, O: ByteSink, E: ByteSink>(
     alloc: Global,
+    quiet: bool,
     mode: Mode,
     shard: Option<Shard>,
     operands: &[&[u8]],
@@ -72,16 +95,16 @@ fn run<T: Tree, P: Progress, O: ByteSink, E: ByteSink>(
     requires err { E.failed err.old ≡ false }
     // However the run goes, each file is then as it was, or, where files are to be written, it has the format of its bytes.
     ensures kept { (name : List ℕ) → Kept mode ((T.files tree.old).told name) ((T.files tree.new).told name) }
-    ensures ends { FormatsOr mode shard (map (λ operand. operand.now) operands.now) (record { files = T.files tree.old; faults = T.faults tree.old }) (record { files = T.files tree.new; faults = T.faults tree.new }) (end_of O.ByteSink out.old out.new E.ByteSink err.old err.new result) }
+    ensures ends { FormatsOr quiet mode shard (map (λ operand. operand.now) operands.now) (state_of T.Tree tree.old) (state_of T.Tree tree.new) (end_of O.ByteSink out.old out.new E.ByteSink err.old err.new result) }
 {
     match find_part(alloc, shard, operands, tree) {
         Ok(found) => {
-            let status = run_over(alloc, mode, found.as_slice(), tree, progress, out, err);
+            let ran = run_over(alloc, mode, found.as_slice(), tree, progress, out, err);
             progress.end();
             if err.has_failed() {
                 return FAILURE;
             }
-            formatter().finish(out, err, status)
+            finish(quiet, mode, &ran, out, err)
         }
         Err(_) => formatter().tell_out_of_memory(out, err),
     }
@@ -137,33 +160,21 @@ fn here<'a>(alloc: Global) -> Result<Vec<&'a [u8]>, AllocError>
     }
 }
 
-/// Names as bytes.
-fn bytes_of<'a>(alloc: Global, names: &[&'a str]) -> Result<Vec<&'a [u8]>, AllocError>
-    ensures { IfOk result (λ operands. map (λ operand. operand.now) operands.items ≡ map (λ name. name.now) names.now) }
-{
-    let mut operands = Vec::new(alloc);
-    for name in names {
-        if operands.push(name.as_bytes()).is_err() {
-            return Err(AllocError);
-        }
-    }
-    Ok(operands)
-}
-
 /// The names of a line, or the current folder where there is none.
-fn operands_of<'a>(alloc: Global, names: &[&'a str]) -> Result<Vec<&'a [u8]>, AllocError>
+fn operands_of<'a>(alloc: Global, names: &[&'a [u8]]) -> Result<Vec<&'a [u8]>, AllocError>
     ensures { IfOk result (λ operands. map (λ operand. operand.now) operands.items ≡ paths_of_line (map (λ name. name.now) names.now)) }
 {
     if names.is_empty() {
         return here(alloc);
     }
-    bytes_of(alloc, names)
+    Vec::from_slice(alloc, names)
 }
 
 /// Takes the names from a device.
 #[tactic(auto, using(tree_format::proofs::KeptFormatLemmas::kept_same, tree_format::proofs::KeptFormatLemmas::kept_still, tree_format::proofs::KeptFormatLemmas::kept_from))]
-fn run_null<T: Tree, P: Progress, R: ByteSource, O: ByteSink, E: ByteSink>(
+fn run_null<T: WritableTree, P: Progress, R: ByteSource, O: ByteSink, E: ByteSink>(
     alloc: Global,
+    quiet: bool,
     mode: Mode,
     shard: Option<Shard>,
     input: &mut R,
@@ -177,7 +188,7 @@ fn run_null<T: Tree, P: Progress, R: ByteSource, O: ByteSink, E: ByteSink>(
     requires err { E.failed err.old ≡ false }
     // However the run goes, each file is then as it was, or, where files are to be written, it has the format of its bytes.
     ensures kept { (name : List ℕ) → Kept mode ((T.files tree.old).told name) ((T.files tree.new).told name) }
-    ensures ends { ReadsAndFormats mode shard (R.failed input.new) (R.left input.old) (record { files = T.files tree.old; faults = T.faults tree.old }) (record { files = T.files tree.new; faults = T.faults tree.new }) (end_of O.ByteSink out.old out.new E.ByteSink err.old err.new result) }
+    ensures ends { ReadsAndFormats quiet mode shard (R.failed input.new) (R.left input.old) (state_of T.Tree tree.old) (state_of T.Tree tree.new) (end_of O.ByteSink out.old out.new E.ByteSink err.old err.new result) }
 {
     let read = read_names(alloc, input);
     if input.has_failed() {
@@ -189,6 +200,7 @@ fn run_null<T: Tree, P: Progress, R: ByteSource, O: ByteSink, E: ByteSink>(
     match operands_in(alloc, names.as_slice()) {
         Ok(operands) => run(
             alloc,
+            quiet,
             mode,
             shard,
             operands.as_slice(),
@@ -203,11 +215,12 @@ fn run_null<T: Tree, P: Progress, R: ByteSource, O: ByteSink, E: ByteSink>(
 
 /// Takes the names from the line.
 #[tactic(auto, using(tree_format::proofs::KeptFormatLemmas::kept_same, tree_format::proofs::KeptFormatLemmas::kept_still, tree_format::proofs::KeptFormatLemmas::kept_from))]
-fn run_named<T: Tree, P: Progress, O: ByteSink, E: ByteSink>(
+fn run_named<T: WritableTree, P: Progress, O: ByteSink, E: ByteSink>(
     alloc: Global,
+    quiet: bool,
     mode: Mode,
     shard: Option<Shard>,
-    names: &[&str],
+    names: &[&[u8]],
     tree: &mut T,
     progress: &mut P,
     out: &mut O,
@@ -217,11 +230,12 @@ fn run_named<T: Tree, P: Progress, O: ByteSink, E: ByteSink>(
     requires err { E.failed err.old ≡ false }
     // However the run goes, each file is then as it was, or, where files are to be written, it has the format of its bytes.
     ensures kept { (name : List ℕ) → Kept mode ((T.files tree.old).told name) ((T.files tree.new).told name) }
-    ensures ends { FormatsNamed mode shard (map (λ name. name.now) names.now) (record { files = T.files tree.old; faults = T.faults tree.old }) (record { files = T.files tree.new; faults = T.faults tree.new }) (end_of O.ByteSink out.old out.new E.ByteSink err.old err.new result) }
+    ensures ends { FormatsNamed quiet mode shard (map (λ name. name.now) names.now) (state_of T.Tree tree.old) (state_of T.Tree tree.new) (end_of O.ByteSink out.old out.new E.ByteSink err.old err.new result) }
 {
     match operands_of(alloc, names) {
         Ok(operands) => run(
             alloc,
+            quiet,
             mode,
             shard,
             operands.as_slice(),
@@ -235,7 +249,7 @@ fn run_named<T: Tree, P: Progress, O: ByteSink, E: ByteSink>(
 }
 
 /// Says what the lines of this program are.
-pub fn bad_line<O: ByteSink, E: ByteSink>(out: &mut O, err: &mut E) -> u8
+fn bad_line<O: ByteSink, E: ByteSink>(out: &mut O, err: &mut E) -> u8
     requires out { O.failed out.old ≡ false }
     requires err { E.failed err.old ≡ false }
     ensures { Shows formatter (usage_row BadLine) (end_of O.ByteSink out.old out.new E.ByteSink err.old err.new result) }
@@ -257,11 +271,69 @@ fn say<O: ByteSink, E: ByteSink>(usage: Usage, out: &mut O, err: &mut E) -> u8
     }
 }
 
-/// The whole program over any tree and any devices.
+/// Does what is asked for.
 #[tactic(auto, using(tree_format::proofs::KeptFormatLemmas::safe_same, tree_format::proofs::KeptFormatLemmas::safe_kept))]
-pub fn program<T: Tree, P: Progress, R: ByteSource, O: ByteSink, E: ByteSink>(
+fn run_asked<T: WritableTree, P: Progress, R: ByteSource, O: ByteSink, E: ByteSink>(
     alloc: Global,
-    words: &[&str],
+    options: &TreeOptions<'_>,
+    tree: &mut T,
+    progress: &mut P,
+    input: &mut R,
+    out: &mut O,
+    err: &mut E,
+) -> u8
+    requires input { R.failed input.old ≡ false }
+    requires out { O.failed out.old ≡ false }
+    requires err { E.failed err.old ≡ false }
+    // However the run goes, each file is then as it was, or, where files are to be written, it has the format of its bytes.
+    ensures kept { (name : List ℕ) → Kept options.now.mode ((T.files tree.old).told name) ((T.files tree.new).told name) }
+    ensures ends { EndsAsked (asking_of options.now) (R.failed input.new) (R.left input.old)
+        (state_of T.Tree tree.old) (state_of T.Tree tree.new)
+        (end_of O.ByteSink out.old out.new E.ByteSink err.old err.new result) }
+{
+    let quiet = options.quiet;
+    let mode = options.mode;
+    let shard = options.shard;
+    if options.null {
+        return run_null(alloc, quiet, mode, shard, input, tree, progress, out, err);
+    }
+    let names = options.names.as_slice();
+    run_named(alloc, quiet, mode, shard, names, tree, progress, out, err)
+}
+
+/// The program of words that are texts, and names beside them.
+#[tactic(auto, using(tree_format::proofs::KeptFormatLemmas::safe_same, tree_format::proofs::KeptFormatLemmas::safe_kept))]
+fn run_line<'w, T: WritableTree, P: Progress, R: ByteSource, O: ByteSink, E: ByteSink>(
+    alloc: Global,
+    words: &'w [&'w str],
+    others: &'w [&'w [u8]],
+    tree: &mut T,
+    progress: &mut P,
+    input: &mut R,
+    out: &mut O,
+    err: &mut E,
+) -> u8
+    requires input { R.failed input.old ≡ false }
+    requires out { O.failed out.old ≡ false }
+    requires err { E.failed err.old ≡ false }
+    // However the run goes, each file is then as it was, or has the format of its bytes.
+    ensures safe { (name : List ℕ) → IsSafe ((T.files tree.old).told name) ((T.files tree.new).told name) }
+    // It has its format only where the words ask for that.
+    ensures kept { (mode : Mode) → mode_of_texts (map (λ word. word.now) words.now) ≡ Some mode → (name : List ℕ) → Kept mode ((T.files tree.old).told name) ((T.files tree.new).told name) }
+    // What was looked at and said, and with which status it ends.
+    ensures ends { IsEndOf (map (λ word. word.now) words.now) (map (λ name. name.now) others.now) (R.failed input.new) (R.left input.old) (state_of T.Tree tree.old) (state_of T.Tree tree.new) (end_of O.ByteSink out.old out.new E.ByteSink err.old err.new result) }
+{
+    match options(alloc, words, others) {
+        Ok(options) => run_asked(alloc, &options, tree, progress, input, out, err),
+        Err(usage) => say(usage, out, err),
+    }
+}
+
+/// The whole program over any tree and any devices. The words are those of the process, its name first.
+#[tactic(auto, using(tree_format::proofs::KeptFormatLemmas::safe_same, tree_format::proofs::KeptFormatLemmas::safe_kept))]
+pub fn program<T: WritableTree, P: Progress, R: ByteSource, O: ByteSink, E: ByteSink>(
+    alloc: Global,
+    words: &[&[u8]],
     tree: &mut T,
     progress: &mut P,
     input: &mut R,
@@ -276,29 +348,19 @@ pub fn program<T: Tree, P: Progress, R: ByteSource, O: ByteSink, E: ByteSink>(
     // It has its format only where the words ask for that.
     ensures kept { (mode : Mode) → mode_of_words (map (λ word. word.now) words.now) ≡ Some mode → (name : List ℕ) → Kept mode ((T.files tree.old).told name) ((T.files tree.new).told name) }
     // What was looked at and said, and with which status it ends.
-    ensures ends { IsEnd (map (λ word. word.now) words.now) (R.failed input.new) (R.left input.old) (record { files = T.files tree.old; faults = T.faults tree.old }) (record { files = T.files tree.new; faults = T.faults tree.new }) (end_of O.ByteSink out.old out.new E.ByteSink err.old err.new result) }
+    ensures ends { IsEnd (map (λ word. word.now) words.now) (R.failed input.new) (R.left input.old) (state_of T.Tree tree.old) (state_of T.Tree tree.new) (end_of O.ByteSink out.old out.new E.ByteSink err.old err.new result) }
 {
-    match options(alloc, words) {
-        Ok(options) if options.null => run_null(
-            alloc,
-            options.mode,
-            options.shard,
-            input,
-            tree,
-            progress,
-            out,
-            err,
-        ),
-        Ok(options) => run_named(
-            alloc,
-            options.mode,
-            options.shard,
-            options.names.as_slice(),
-            tree,
-            progress,
-            out,
-            err,
-        ),
-        Err(usage) => say(usage, out, err),
-    }
+    let Ok(words) = words_of(alloc, words) else {
+        return formatter().tell_out_of_memory(out, err);
+    };
+    run_line(
+        alloc,
+        words.texts.as_slice(),
+        words.others.as_slice(),
+        tree,
+        progress,
+        input,
+        out,
+        err,
+    )
 }

@@ -13,36 +13,48 @@ pub enum Usage {
     OutOfMemory,
 }
 
-/// What is said of a line that isn't one of this program.
-pub static USAGE: &str =
-    "usage: tffmt-all [--check | --diff | --list] [--in-place] [--sync] [--shard K/N] [--null] [--] [FILE|FOLDER]...\n";
+/// What lines this program has.
+pub static USAGE: &str = "\
+usage: tffmt-all [--check | --diff | --list] [--in-place] [--sync] [--quiet]
+                 [--shard K/N] [--null] [--] [FILE|FOLDER]...
+";
 
 /// What `--version` says.
 pub static VERSION: &str = "tffmt-all 0.2.0\n";
 
 /// What `--help` says.
 pub static HELP: &str = "\
-usage: tffmt-all [--check | --diff | --list] [--in-place] [--sync] [--shard K/N] [--null] [--] [FILE|FOLDER]...
+usage: tffmt-all [--check | --diff | --list] [--in-place] [--sync] [--quiet]
+                 [--shard K/N] [--null] [--] [FILE|FOLDER]...
 
 Formats files in place and prints the names of those that it changed.
 
-A folder stands for the .tf, .tfvars, .tofu, .tftest.hcl, .tfmock.hcl, .tfquery.hcl and .tofutest.hcl files in it
-and below. Files and folders whose names begin with a dot or end with ~, and those named #...#, are passed over.
-Without an operand it is the current folder. A file that is named is taken whatever it is called.
+A folder stands for the .tf, .tfvars, .tofu, .tftest.hcl, .tfmock.hcl,
+.tfquery.hcl and .tofutest.hcl files in it and below. Files and folders whose
+names begin with a dot or end with ~, and those named #...#, are passed over.
+Without an operand it is the current folder. A file that is named is taken
+whatever it is called.
 
   --check          change nothing; report each file that isn't formatted
-  --diff           change nothing; show what would change
-  --list           change nothing; print the names of the files that would change
+  --diff           change nothing; show what would change; --check may stand
+                   beside it
+  --list           change nothing; print the names of the files that would
+                   change
   --in-place       write over a file where no new one can be put in its place
-  --sync           have each new file on the disk before the next one is looked at
+  --sync           have each new file on the disk before the next one is
+                   looked at
+  --quiet          say nothing of the run as a whole: no count of the files
+                   at its end
   --shard K/N      take the K-th of N parts of the files
   -0, --null       read names, each ended by NUL, from standard input
-  -j, --jobs N     taken, and of no use: files are worked on one after the other
+  -j, --jobs N     taken, and of no use: files are worked on one after the
+                   other
   -h, --help       print this
   --version        print the version
 
 Status: 0  all files are formatted, or are now
         2  a file was refused, or the command line is wrong
-        3  with --check, --diff or --list: a file isn't formatted, and nothing is worse
+        3  with --check, --diff or --list: a file isn't formatted, and nothing
+           is worse
         4  a file could not be read or written
 ";

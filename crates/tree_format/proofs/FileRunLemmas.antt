@@ -1,13 +1,20 @@
 -- A run over names that were found, one look after the other.
-use Rattle.std.proofs.Common.{◌≡◌, ◌∙◌, ◌⊎◌, ◌++◌, ◌∷◌, [], ℕ, Bool, true, false, List, Option, Some, None, ap, append_assoc, append-nil, map, refl, subst, sym}
-use Rattle.std.specs.Prelude.{◌≢◌, ◌||◌, ◌==◌, fold, max, if◌then◌else◌}
-use Rattle.std.specs.List.{concat}
+use Rattle.std.proofs.Common.{◌≡◌, ◌∙◌, ◌⊎◌, ◌++◌, ◌∷◌, [], ◌<◌, ◌+◌, ℕ, Bool, true, false, List, Option, Some, None, ap, append_assoc, append-nil, arith, cond, drop, length, length-append, map, refl, subst, suc, sym, take}
+use Rattle.std.specs.Prelude.{◌≢◌, ◌||◌, ◌==◌, ◌-◌, fold, max, if◌then◌else◌}
+use Rattle.std.specs.List.{concat, count_by}
+use Rattle.std.proofs.lemmas.List.{map-append, take-append-drop, take-append-le, take_all}
+use Rattle.std.proofs.lemmas.List.Folds.{concat-append}
+use Rattle.std.proofs.lemmas.List.Sums.{count_by-le-length, sum_by-append}
 use Rattle.std.specs.Io.KnownBytes.{Appends}
 use Rattle.command_line.specs.Rows.{End, TookBy, Writer}
-use Rattle.file_tree.specs.Files.{Name, State}
+use Rattle.file_tree.specs.Files.{Name}
+use Rattle.tree_format.specs.States.{State}
 use Rattle.file_tree.specs.declared.walk.Found.{Found}
 use Rattle.tree_format.specs.Reports.{Report, report_of, worse, worst}
-use Rattle.tree_format.specs.Runs.{IsRun, Looked, Sees, is_failed, reports_of}
+use Rattle.tree_format.specs.Inner.Counts.{CanGrow, tally_with}
+use Rattle.tree_format.specs.Runs.{HasWhole, Looked, Sees, but_last, is_failed, reports_of}
+use Rattle.tree_format.specs.Tally.{Tallies, is_changed, is_formatted, is_refused, tally_of}
+use Rattle.tree_format.specs.declared.tally.Tally.{Tally}
 use Rattle.tree_format.specs.declared.mode.Mode.{Mode}
 use Rattle.tree_format.specs.declared.mode.Mode.TheVariants.{Write, Check, List as Listed, Diff}
 use Rattle.tree_format.specs.declared.outcome.Outcome.{Outcome}
@@ -28,7 +35,7 @@ second_good one other bad e = bad (ap (λ n. worse one n) e ∙ ap (λ (v : Bool
 
 pub good_answer : (mode : Mode) (name : Name) (answer : Outcome) → (report_of mode name answer).status ≢ 4 → is_failed answer ≡ false
 good_answer mode name outcome.Formatted good = refl
-good_answer mode name outcome.Changed good = refl
+good_answer mode name (outcome.Changed how) good = refl
 good_answer mode name (outcome.Differs text) good = refl
 good_answer mode name (outcome.Refused fault) good = refl
 good_answer mode name (outcome.Failed fault) good = absurd (good refl)
@@ -68,29 +75,62 @@ errs mode seen answers = concat (map (λ r. r.err) (reports_of mode seen answers
 abbrev statuses : Mode → List Found → List Outcome → ℕ
 statuses mode seen answers = worst (map (λ r. r.status) (reports_of mode seen answers))
 
+-- ---- the tally
+
+count_more : (p : Outcome → Bool) (xs : List Outcome) (x : Outcome) (v : Bool) → p x ≡ v → count_by p (xs ++ x ∷ []) ≡ count_by p xs + (0 + cond v 1 0)
+count_more p xs x v e = sum_by-append (λ y. cond (p y) 1 0) xs (x ∷ []) ∙ ap (λ w. count_by p xs + (0 + cond w 1 0)) e
+
+tally_more : (answers : List Outcome) (answer : Outcome) → tally_of (answers ++ answer ∷ []) ≡ tally_with (tally_of answers) answer
+tally_more xs x = by x refl
+  where
+    at : (c u r f : ℕ) → count_by is_changed (xs ++ x ∷ []) ≡ c → count_by is_formatted (xs ++ x ∷ []) ≡ u → count_by is_refused (xs ++ x ∷ []) ≡ r → count_by is_failed (xs ++ x ∷ []) ≡ f
+        → tally_of (xs ++ x ∷ []) ≡ record { changed = c; unchanged = u; refused = r; failed = f }
+    at c u r f ec eu er ef = λ i. record { changed = ec i; unchanged = eu i; refused = er i; failed = ef i }
+
+    more : (p : Outcome → Bool) → p x ≡ true → count_by p (xs ++ x ∷ []) ≡ count_by p xs + 1
+    more p e = count_more p xs x true e
+
+    same : (p : Outcome → Bool) → p x ≡ false → count_by p (xs ++ x ∷ []) ≡ count_by p xs
+    same p e = count_more p xs x false e ∙ omega arith
+
+    by : (y : Outcome) → x ≡ y → tally_of (xs ++ x ∷ []) ≡ tally_with (tally_of xs) x
+    by outcome.Formatted e = at _ _ _ _ (same is_changed (ap is_changed e)) (more is_formatted (ap is_formatted e)) (same is_refused (ap is_refused e)) (same is_failed (ap is_failed e)) ∙ sym (ap (tally_with (tally_of xs)) e)
+    by (outcome.Changed how) e = at _ _ _ _ (more is_changed (ap is_changed e)) (same is_formatted (ap is_formatted e)) (same is_refused (ap is_refused e)) (same is_failed (ap is_failed e)) ∙ sym (ap (tally_with (tally_of xs)) e)
+    by (outcome.Differs text) e = at _ _ _ _ (more is_changed (ap is_changed e)) (same is_formatted (ap is_formatted e)) (same is_refused (ap is_refused e)) (same is_failed (ap is_failed e)) ∙ sym (ap (tally_with (tally_of xs)) e)
+    by (outcome.Refused fault) e = at _ _ _ _ (same is_changed (ap is_changed e)) (same is_formatted (ap is_formatted e)) (more is_refused (ap is_refused e)) (same is_failed (ap is_failed e)) ∙ sym (ap (tally_with (tally_of xs)) e)
+    by (outcome.Failed fault) e = at _ _ _ _ (same is_changed (ap is_changed e)) (same is_formatted (ap is_formatted e)) (same is_refused (ap is_refused e)) (more is_failed (ap is_failed e)) ∙ sym (ap (tally_with (tally_of xs)) e)
+
+answers_of : (mode : Mode) (seen : List Found) (answers : List Outcome) (a b : State) → Looked mode seen answers a b → length answers ≡ length seen
+answers_of mode [] [] a b l = refl
+answers_of mode [] (y ∷ answers) a b l = absurd l
+answers_of mode (x ∷ seen) [] a b l = absurd l
+answers_of mode (x ∷ seen) (y ∷ answers) a b l = ap suc (answers_of mode seen answers l.0 b l.2)
+
 -- ---- the run so far: no writer failed
 
-pub record SoFar (mode : Mode) (seen : List Found) (a b : State) (out out' err err' : Option (List ℕ)) (status : ℕ) : Type 0 where
+pub record SoFar (mode : Mode) (seen : List Found) (a b : State) (out out' err err' : Option (List ℕ)) (status : ℕ) (tally : Tally) : Type 0 where
   pub answers : List Outcome
   pub looks : Looked mode seen answers a b
   pub output : Appends out out' (concat (map (λ r. r.out) (reports_of mode seen answers)))
   pub message : Appends err err' (concat (map (λ r. r.err) (reports_of mode seen answers)))
   pub exit : status ≡ worst (map (λ r. r.status) (reports_of mode seen answers))
+  pub counts : tally ≡ tally_of answers
 
-pub so_far_none : (mode : Mode) (a : State) (out err : Option (List ℕ)) → SoFar mode [] a a out out err err 0
-so_far_none mode a out err = record { answers = []; looks = refl; output = appends_nothing out; message = appends_nothing err; exit = refl }
+pub so_far_none : (mode : Mode) (a : State) (out err : Option (List ℕ)) (tally : Tally) → tally ≡ tally_of [] → SoFar mode [] a a out out err err 0 tally
+so_far_none mode a out err tally e = record { answers = []; looks = refl; output = appends_nothing out; message = appends_nothing err; exit = refl; counts = e }
 
-pub so_far_more : (mode : Mode) (seen more : List Found) (found : Found) (answer : Outcome) (a b c : State) (o o' o'' e e' e'' : Option (List ℕ)) (s s' : ℕ) (f g : Bool)
-    → more ≡ seen ++ found ∷ [] → SoFar mode seen a b o o' e e' s → Sees mode found answer b c → f ≡ false → TookBy f o' o'' (report_of mode found.name.items answer).out → g ≡ false
-    → TookBy g e' e'' (report_of mode found.name.items answer).err → s' ≡ worse s (report_of mode found.name.items answer).status → SoFar mode more a c o o'' e e'' s'
-so_far_more mode seen more found answer a b c o o' o'' e e' e'' s s' f g all before sees good out good' err status =
-    subst (λ l. SoFar mode l a c o o'' e e'' s') (sym all) (record {
+pub so_far_more : (mode : Mode) (seen more : List Found) (found : Found) (answer : Outcome) (a b c : State) (o o' o'' e e' e'' : Option (List ℕ)) (s s' : ℕ) (t t' : Tally) (f g : Bool)
+    → more ≡ seen ++ found ∷ [] → SoFar mode seen a b o o' e e' s t → t' ≡ tally_with t answer → Sees mode found answer b c → f ≡ false → TookBy f o' o'' (report_of mode found.name.items answer).out → g ≡ false
+    → TookBy g e' e'' (report_of mode found.name.items answer).err → s' ≡ worse s (report_of mode found.name.items answer).status → SoFar mode more a c o o'' e e'' s' t'
+so_far_more mode seen more found answer a b c o o' o'' e e' e'' s s' t t' f g all before tallied sees good out good' err status =
+    subst (λ l. SoFar mode l a c o o'' e e'' s' t') (sym all) (record {
       answers = before.answers ++ answer ∷ [];
       looks = looked_more mode seen before.answers found answer a b c before.looks sees;
       output = text (λ r. r.out) o o' o'' before.output (subst (λ v. TookBy v o' o'' (report_of mode found.name.items answer).out) good out);
       message = text (λ r. r.err) e e' e'' before.message (subst (λ v. TookBy v e' e'' (report_of mode found.name.items answer).err) good' err);
       exit = status ∙ ap (λ n. worse n (report_of mode found.name.items answer).status) before.exit
           ∙ sym (ap (λ rs. worst (map (λ r. r.status) rs)) reports ∙ fold_more 0 (reports_of mode seen before.answers) (report_of mode found.name.items answer));
+      counts = tallied ∙ ap (λ (u : Tally). tally_with u answer) before.counts ∙ sym (tally_more before.answers answer);
     })
   where
     reports : reports_of mode (seen ++ found ∷ []) (before.answers ++ answer ∷ []) ≡ reports_of mode seen before.answers ++ report_of mode found.name.items answer ∷ []
@@ -100,54 +140,115 @@ so_far_more mode seen more found answer a b c o o' o'' e e' e'' s s' f g all bef
         → Appends x z (concat (map f (reports_of mode (seen ++ found ∷ []) (before.answers ++ answer ∷ []))))
     text f x y z p q = subst (Appends x z) (sym (ap (λ rs. concat (map f rs)) reports ∙ one_text f (reports_of mode seen before.answers) (report_of mode found.name.items answer))) (appends_then x y z _ _ p q)
 
+-- one file more can be counted
+pub can_grow : (mode : Mode) (seen : List Found) (a b : State) (o o' e e' : Option (List ℕ)) (s : ℕ) (t : Tally) → SoFar mode seen a b o o' e e' s t → length seen < 18446744073709551615 → CanGrow t
+can_grow mode seen a b o o' e e' s t before lt = subst CanGrow (sym before.counts) (record {
+  changed = below is_changed;
+  unchanged = below is_formatted;
+  refused = below is_refused;
+  failed = below is_failed;
+})
+  where
+    below : (p : Outcome → Bool) → count_by p before.answers + 1 < 18446744073709551616
+    below p = omega (arith, count_by-le-length p before.answers, answers_of mode seen before.answers a b before.looks, lt)
+
 -- ---- its end
 
 failed_either : (f g : Bool) → (f || g) ≡ true → (f || g) ≡ false → ⊥
 failed_either f g h k = cc
 
--- a report could not be written
-pub run_cut : (mode : Mode) (found seen rest : List Found) (here : Found) (answer : Outcome) (a b c : State) (o' e' : Option (List ℕ)) (s : ℕ) (out err : Writer)
-    → found ≡ seen ++ here ∷ rest → SoFar mode seen a b out.before o' err.before e' s → Sees mode here answer b c → (out.failed || err.failed) ≡ true
-    → TookBy out.failed o' out.after (report_of mode here.name.items answer).out → TookBy err.failed e' err.after (report_of mode here.name.items answer).err
-    → IsRun mode found [] a c (record { out = out; err = err; status = 4 })
-run_cut mode found seen rest here answer a b c o' e' s out err all before sees bad output message = record {
-  seen = seen ++ here ∷ [];
-  rest = rest;
-  all = all ∙ sym (append_assoc seen (here ∷ []) rest);
-  whole = λ good. absurd (failed_either out.failed err.failed bad good);
-  answers = before.answers ++ answer ∷ [];
-  looks = looked_more mode seen before.answers here answer a b c before.looks sees;
-  output = text (λ r. r.out) out.failed out.before o' out.after before.output output;
-  message = subst (TookBy err.failed err.before err.after) (sym (append-nil (concat (map (λ r. r.err) (reports_of mode (seen ++ here ∷ []) (before.answers ++ answer ∷ []))))))
-      (text (λ r. r.err) err.failed err.before e' err.after before.message message);
-  exit = sym (ap (λ (v : Bool). if v then 4 else worst (map (λ r. r.status) (reports_of mode (seen ++ here ∷ []) (before.answers ++ answer ∷ [])))) bad);
-}
+take_front : (xs : List Report) (x : Report) → but_last (xs ++ x ∷ []) ≡ xs
+take_front xs x =
+    let size : length (xs ++ x ∷ []) - 1 ≡ length xs = omega (arith, length-append xs (x ∷ [])) in
+    ap (λ n. take n (xs ++ x ∷ [])) size ∙ take-append-le (length xs) xs (x ∷ []) (omega arith) ∙ take_all (length xs) xs (omega arith)
+
+-- a text was taken whole, of one that was
+whole_part : (w : Writer) (all text rest : List ℕ) → all ≡ text ++ rest → w.failed ≡ false → Appends w.before w.after all → HasWhole w text
+whole_part w all text rest e good took = by w.before w.after refl refl (subst (Appends w.before w.after) e took)
   where
+    at : (a c : Option (List ℕ)) → w.before ≡ a → w.after ≡ c → (between : Option (List ℕ)) → Appends a between text → Appends between c rest → HasWhole w text
+    at a c ea ec between p q = record {
+      more = rest;
+      between = between;
+      whole = subst (λ x. Appends x between text) (sym ea) p;
+      later = subst (λ v. TookBy v between w.after rest) (sym good) (subst (λ x. Appends between x rest) (sym ec) q);
+    }
+
+    by : (a c : Option (List ℕ)) → w.before ≡ a → w.after ≡ c → Appends a c (text ++ rest) → HasWhole w text
+    by None c ea ec p = at None c ea ec None tt tt
+    by (Some a) None ea ec p = absurd p
+    by (Some a) (Some c) ea ec p = at (Some a) (Some c) ea ec (Some (a ++ text)) refl (p ∙ sym (append_assoc a text rest))
+
+-- of a list of reports, all but the last
+whole_reports : (w : Writer) (f : Report → List ℕ) (rs : List Report) → w.failed ≡ false → Appends w.before w.after (concat (map f rs)) → HasWhole w (concat (map f (but_last rs)))
+whole_reports w f rs good took =
+    whole_part w (concat (map f rs)) (concat (map f (but_last rs))) (concat (map f (drop (length rs - 1) rs)))
+    (ap (λ l. concat (map f l)) (sym (take-append-drop (length rs - 1) rs)) ∙ ap concat (map-append f (but_last rs) (drop (length rs - 1) rs)) ∙ concat-append (map f (but_last rs)) (map f (drop (length rs - 1) rs)))
+    good took
+
+-- a report could not be written
+pub run_cut : (mode : Mode) (found seen rest : List Found) (here : Found) (answer : Outcome) (a b c : State) (o' e' : Option (List ℕ)) (s : ℕ) (t t' : Tally) (out err : Writer)
+    → found ≡ seen ++ here ∷ rest → SoFar mode seen a b out.before o' err.before e' s t → t' ≡ tally_with t answer → Sees mode here answer b c → (out.failed || err.failed) ≡ true
+    → TookBy out.failed o' out.after (report_of mode here.name.items answer).out → TookBy err.failed e' err.after (report_of mode here.name.items answer).err
+    → Tallies mode found a c (record { out = out; err = err; status = 4 }) t'
+run_cut mode found seen rest here answer a b c o' e' s t t' out err all before tallied sees bad output message = (
+  record {
+    seen = seen ++ here ∷ [];
+    rest = rest;
+    all = all ∙ sym (append_assoc seen (here ∷ []) rest);
+    whole = λ good. absurd (failed_either out.failed err.failed bad good);
+    answers = before.answers ++ answer ∷ [];
+    looks = looked_more mode seen before.answers here answer a b c before.looks sees;
+    output = text (λ r. r.out) out.failed out.before o' out.after before.output output;
+    message = subst (TookBy err.failed err.before err.after) (sym (append-nil (concat (map (λ r. r.err) (reports_of mode (seen ++ here ∷ []) (before.answers ++ answer ∷ []))))))
+        (text (λ r. r.err) err.failed err.before e' err.after before.message message);
+    stops = record { output = stop (λ r. r.out) out o' before.output output; message = stop (λ r. r.err) err e' before.message message };
+    exit = sym (ap (λ (v : Bool). if v then 4 else worst (map (λ r. r.status) (reports_of mode (seen ++ here ∷ []) (before.answers ++ answer ∷ [])))) bad);
+  },
+  tallied ∙ ap (λ (u : Tally). tally_with u answer) before.counts ∙ sym (tally_more before.answers answer),
+)
+  where
+    reports : reports_of mode (seen ++ here ∷ []) (before.answers ++ answer ∷ []) ≡ reports_of mode seen before.answers ++ report_of mode here.name.items answer ∷ []
+    reports = reports_more mode seen before.answers here answer a b before.looks
+
     text : (f : Report → List ℕ) (v : Bool) (x y z : Option (List ℕ)) → Appends x y (concat (map f (reports_of mode seen before.answers))) → TookBy v y z (f (report_of mode here.name.items answer))
         → TookBy v x z (concat (map f (reports_of mode (seen ++ here ∷ []) (before.answers ++ answer ∷ []))))
     text f v x y z p q =
-        subst (TookBy v x z) (sym (ap (λ rs. concat (map f rs)) (reports_more mode seen before.answers here answer a b before.looks) ∙ one_text f (reports_of mode seen before.answers) (report_of mode here.name.items answer)))
+        subst (TookBy v x z) (sym (ap (λ rs. concat (map f rs)) reports ∙ one_text f (reports_of mode seen before.answers) (report_of mode here.name.items answer)))
         (took_behind x y z v (concat (map f (reports_of mode seen before.answers))) (f (report_of mode here.name.items answer)) p q)
 
--- all are reported
-pub run_whole : (mode : Mode) (found : List Found) (a c : State) (s : ℕ) (out err : Writer) → SoFar mode found a c out.before out.after err.before err.after s → out.failed ≡ false → err.failed ≡ false
-    → IsRun mode found [] a c (record { out = out; err = err; status = s })
-run_whole mode found a c s out err before good good' = record {
-  seen = found;
-  rest = [];
-  all = sym (append-nil found);
-  whole = λ _. refl;
-  answers = before.answers;
-  looks = before.looks;
-  output = subst (λ v. TookBy v out.before out.after (outs mode found before.answers)) (sym good) before.output;
-  message = subst (TookBy err.failed err.before err.after) (sym (append-nil (errs mode found before.answers))) (subst (λ v. TookBy v err.before err.after (errs mode found before.answers)) (sym good') before.message);
-  exit = before.exit ∙ sym (ap (λ (v : Bool). if v then 4 else statuses mode found before.answers) (ap (λ v. v || err.failed) good ∙ good'));
-}
+    stop : (f : Report → List ℕ) (w : Writer) (y : Option (List ℕ)) → Appends w.before y (concat (map f (reports_of mode seen before.answers))) → TookBy w.failed y w.after (f (report_of mode here.name.items answer))
+        → HasWhole w (concat (map f (but_last (reports_of mode (seen ++ here ∷ []) (before.answers ++ answer ∷ [])))))
+    stop f w y p q = record {
+      more = f (report_of mode here.name.items answer);
+      between = y;
+      whole = subst (λ rs. Appends w.before y (concat (map f rs))) (sym (ap but_last reports ∙ take_front (reports_of mode seen before.answers) (report_of mode here.name.items answer))) p;
+      later = q;
+    }
 
-pub run_all : (mode : Mode) (found seen : List Found) (a c : State) (s : ℕ) (out err : Writer) → seen ≡ found → SoFar mode seen a c out.before out.after err.before err.after s → out.failed ≡ false → err.failed ≡ false
-    → IsRun mode found [] a c (record { out = out; err = err; status = s })
-run_all mode found seen a c s out err same before good good' =
-    run_whole mode found a c s out err (subst (λ l. SoFar mode l a c out.before out.after err.before err.after s) same before) good good'
+-- all are reported
+pub run_whole : (mode : Mode) (found : List Found) (a c : State) (s : ℕ) (t : Tally) (out err : Writer) → SoFar mode found a c out.before out.after err.before err.after s t → out.failed ≡ false → err.failed ≡ false
+    → Tallies mode found a c (record { out = out; err = err; status = s }) t
+run_whole mode found a c s t out err before good good' = (
+  record {
+    seen = found;
+    rest = [];
+    all = sym (append-nil found);
+    whole = λ _. refl;
+    answers = before.answers;
+    looks = before.looks;
+    output = subst (λ v. TookBy v out.before out.after (outs mode found before.answers)) (sym good) before.output;
+    message = subst (TookBy err.failed err.before err.after) (sym (append-nil (errs mode found before.answers))) (subst (λ v. TookBy v err.before err.after (errs mode found before.answers)) (sym good') before.message);
+    stops = record { output = whole_reports out (λ r. r.out) (reports_of mode found before.answers) good before.output; message = whole_reports err (λ r. r.err) (reports_of mode found before.answers) good' before.message };
+    exit = before.exit ∙ sym (ap (λ (v : Bool). if v then 4 else statuses mode found before.answers) (ap (λ v. v || err.failed) good ∙ good'));
+  },
+  before.counts,
+)
+
+pub run_all : (mode : Mode) (found seen : List Found) (a c : State) (s : ℕ) (t : Tally) (out err : Writer) → seen ≡ found → SoFar mode seen a c out.before out.after err.before err.after s t → out.failed ≡ false → err.failed ≡ false
+    → Tallies mode found a c (record { out = out; err = err; status = s }) t
+run_all mode found seen a c s t out err same before good good' =
+    run_whole mode found a c s t out err (subst (λ l. SoFar mode l a c out.before out.after err.before err.after s t) same before) good good'
 
 -- ---- whether a report was written
 

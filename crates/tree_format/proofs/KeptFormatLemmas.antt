@@ -25,15 +25,16 @@ use Rattle.hcl_layout.specs.Print.{print}
 use Rattle.layout_laws.specs.Reprinted.{printed_tokens}
 use Rattle.layout_laws.proofs.ForgetPlaceLemmas.{print_again}
 use Rattle.layout_laws.proofs.RescanLemmas.{scans_again}
+use Rattle.file_tree.specs.Asked.{Asked}
 use Rattle.file_tree.specs.Files.{Faults, Files, Name, fault_of_reader, with_fault, put}
 use Rattle.hcl_source.specs.Devices.{Tells}
 use Rattle.file_tree.specs.declared.fault.TreeFault.{TreeFault}
 use Rattle.file_tree.specs.declared.fault.TreeFault.TheVariants.{OutOfMemory}
 use Rattle.file_tree.specs.declared.tree.Writing.{Writing}
 use Rattle.tree_format.specs.Format.{IsFault, IsFormat}
-use Rattle.tree_format.specs.Looks.{Changes, Left, Looks, Notes, Visits, failure_of}
+use Rattle.tree_format.specs.Looks.{Asks, AsksIn, Changes, Left, Looks, Notes, Visits, failure_of}
 use Rattle.tree_format.specs.Runs.{IsSafe, Kept, Settled, is_failed}
-use Rattle.tree_format.specs.Inner.Steps.{IsShown, LoadNotes, LoadsFile, Makes, outcome_by}
+use Rattle.tree_format.specs.Inner.Steps.{IsShown, LoadNotes, LoadsFile, Makes, MakesAsking, PrintAsked, outcome_by}
 use Rattle.tree_format.specs.declared.mode.Mode.{Mode}
 use Rattle.tree_format.specs.declared.mode.Mode.TheVariants.{Write, Check, List as Listed, Diff}
 use Rattle.tree_format.specs.declared.outcome.Outcome.{Outcome}
@@ -52,7 +53,7 @@ pub kept_same : (mode : Mode) (a b : Option (List ℕ)) → b ≡ a → Kept mod
 kept_same (Write w) None b e = e
 kept_same (Write w) (Some x) b e = inl e
 kept_same Check a b e = e
-kept_same Listed a b e = e
+kept_same (Listed ending) a b e = e
 kept_same Diff a b e = e
 
 kept_on : (w : Writing) (x y : List ℕ) (c : Option (List ℕ)) → IsFormat x y → Kept (Write w) (Some y) c → Kept (Write w) (Some x) c
@@ -64,7 +65,7 @@ kept_trans (Write w) None b c e k = subst (λ o. Kept (Write w) o c) e k
 kept_trans (Write w) (Some x) b c (inl e) k = subst (λ o. Kept (Write w) o c) e k
 kept_trans (Write w) (Some x) b c (inr (y, f, e)) k = kept_on w x y c f (subst (λ o. Kept (Write w) o c) e k)
 kept_trans Check a b c e k = k ∙ e
-kept_trans Listed a b c e k = k ∙ e
+kept_trans (Listed ending) a b c e k = k ∙ e
 kept_trans Diff a b c e k = k ∙ e
 
 -- ---- one look
@@ -89,7 +90,7 @@ left_kept : (mode : Mode) (old new : Files) (name bytes formatted other : List �
 left_kept (Write w) old new name bytes formatted other t f l =
     subst (λ (files : Files). Kept (Write w) (old.told other) (files.told other)) (sym l) (put_kept w old name bytes formatted other t f)
 left_kept Check old new name bytes formatted other t f l = same_told old new other l
-left_kept Listed old new name bytes formatted other t f l = same_told old new other l
+left_kept (Listed ending) old new name bytes formatted other t f l = same_told old new other l
 left_kept Diff old new name bytes formatted other t f l = same_told old new other l
 
 unmoved : (mode : Mode) (old new : Files) (other : Name) → new ≡ old → Kept mode (old.told other) (new.told other)
@@ -98,7 +99,7 @@ unmoved mode old new other e = kept_same mode (old.told other) (new.told other) 
 pub visit_kept : (mode : Mode) (old new : Files) (given : Name) (name : Name) (answer : Outcome) → Visits mode old new given name answer → (other : Name)
     → Kept mode (old.told other) (new.told other)
 visit_kept mode old new given name outcome.Formatted v other = unmoved mode old new other v.2.1
-visit_kept mode old new given name outcome.Changed v other = left_kept mode old new name v.0 v.2.1.formatted other v.1 v.2.1.is v.2.1.left
+visit_kept mode old new given name (outcome.Changed how) v other = left_kept mode old new name v.0 v.2.1.formatted other v.1 v.2.1.is v.2.1.left
 visit_kept mode old new given name (outcome.Differs text) v other = unmoved mode old new other v.2.1.left
 visit_kept mode old new given name (outcome.Refused fault) v other = unmoved mode old new other v.2.1
 visit_kept mode old new given name (outcome.Failed fault) v other = unmoved mode old new other v
@@ -109,14 +110,14 @@ same_real old new other e = ap (λ (f : Files). f.real other) e
 left_real : (mode : Mode) (old new : Files) (name formatted other : List ℕ) → Left mode old new name formatted → new.real other ≡ old.real other
 left_real (Write w) old new name formatted other l = ap (λ (f : Files). f.real other) l
 left_real Check old new name formatted other l = same_real old new other l
-left_real Listed old new name formatted other l = same_real old new other l
+left_real (Listed ending) old new name formatted other l = same_real old new other l
 left_real Diff old new name formatted other l = same_real old new other l
 
 -- where names lead, no look changes
 pub visit_real : (mode : Mode) (old new : Files) (given : Name) (name : Name) (answer : Outcome) → Visits mode old new given name answer → (other : Name)
     → new.real other ≡ old.real other
 visit_real mode old new given name outcome.Formatted v other = same_real old new other v.2.1
-visit_real mode old new given name outcome.Changed v other = left_real mode old new name v.2.1.formatted other v.2.1.left
+visit_real mode old new given name (outcome.Changed how) v other = left_real mode old new name v.2.1.formatted other v.2.1.left
 visit_real mode old new given name (outcome.Differs text) v other = same_real old new other v.2.1.left
 visit_real mode old new given name (outcome.Refused fault) v other = same_real old new other v.2.1
 visit_real mode old new given name (outcome.Failed fault) v other = same_real old new other v
@@ -133,13 +134,13 @@ elsewhere old name formatted other ne = by (bytes_eq other name) refl
 left_elsewhere : (mode : Mode) (old new : Files) (name formatted other : List ℕ) → Left mode old new name formatted → ((other ≡ name) → ⊥) → new.told other ≡ old.told other
 left_elsewhere (Write w) old new name formatted other l ne = ap (λ (f : Files). f.told other) l ∙ elsewhere old name formatted other ne
 left_elsewhere Check old new name formatted other l ne = same_told old new other l
-left_elsewhere Listed old new name formatted other l ne = same_told old new other l
+left_elsewhere (Listed ending) old new name formatted other l ne = same_told old new other l
 left_elsewhere Diff old new name formatted other l ne = same_told old new other l
 
 pub visit_elsewhere : (mode : Mode) (old new : Files) (given : Name) (name : Name) (answer : Outcome) → Visits mode old new given name answer → (other : Name)
     → ((other ≡ name) → ⊥) → new.told other ≡ old.told other
 visit_elsewhere mode old new given name outcome.Formatted v other ne = same_told old new other v.2.1
-visit_elsewhere mode old new given name outcome.Changed v other ne = left_elsewhere mode old new name v.2.1.formatted other v.2.1.left ne
+visit_elsewhere mode old new given name (outcome.Changed how) v other ne = left_elsewhere mode old new name v.2.1.formatted other v.2.1.left ne
 visit_elsewhere mode old new given name (outcome.Differs text) v other ne = same_told old new other v.2.1.left
 visit_elsewhere mode old new given name (outcome.Refused fault) v other ne = same_told old new other v.2.1
 visit_elsewhere mode old new given name (outcome.Failed fault) v other ne = same_told old new other v
@@ -186,7 +187,7 @@ module _ (mode : Mode) (old new : Files) (given : Name) (name : Name) where
   looks_by : (s : Scanned) (answer : Outcome) → IsText s.text → Scans s.text s.tokens → IsAccepted s.tokens → Makes mode old new given name s answer → Looks mode old new given name s.text answer
   looks_by s outcome.Formatted is scans accepted m =
       (record { text = is; tokens = s.tokens; scanned = scans; accepted = accepted; printed = sym m.0; fits = is.small }, m.1)
-  looks_by s outcome.Changed is scans accepted m = (
+  looks_by s (outcome.Changed how) is scans accepted m = (
     m.0,
     record {
       formatted = print s.tokens;
@@ -227,12 +228,69 @@ module _ (mode : Mode) (old new : Files) (given : Name) (name : Name) where
       subst (λ t. Looks mode old new given name t answer) same
       (makes_looks s accepted answer (subst IsText (sym same) is) (subst (λ t. Scans t s.tokens) (sym same) scans) v m)
 
+-- ---- what is asked for
+
+module _ (given : Name) (told : Option (List ℕ)) (before after : Asked) (s : Scanned) (is : IsText s.text) (scans : Scans s.text s.tokens) (accepted : IsAccepted s.tokens) (tells : Tells told s.text) where
+  asks_print : (mode : Mode) → PrintAsked mode given s before after → AsksIn mode given told before after
+  asks_print (Write w) m = record {
+    bytes = s.text;
+    tells = tells;
+    formatted = print s.tokens;
+    is = record { text = is; tokens = s.tokens; scanned = scans; accepted = accepted; printed = refl; fits = m.1 };
+    changed = m.0;
+    asked = m.2;
+  }
+  asks_print Check m = m
+  asks_print (Listed ending) m = m
+  asks_print Diff m = m
+
+  asks_by : (mode : Mode) (answer : Outcome) → MakesAsking mode given s before after answer → Asks mode given told before after answer
+  asks_by mode outcome.Formatted m = m
+  asks_by mode (outcome.Changed how) m = asks_print mode m
+  asks_by mode (outcome.Differs text) m = m
+  asks_by mode (outcome.Refused fault) m = m
+  asks_by mode (outcome.Failed fault) (inl e) = inl e
+  asks_by mode (outcome.Failed fault) (inr m) = inr (asks_print mode m)
+
+module _ (mode : Mode) (given : Name) (told : Option (List ℕ)) (before after : Asked) where
+  not_ok_here : (s : Scanned) (f : Fault) → (Ok s ≡ Err f) → ⊥
+  not_ok_here s f e = cc
+
+  abbrev ok_here : Scanned → Result Scanned Fault → Scanned
+  ok_here s (Ok u) = u
+  ok_here s (Err f) = s
+
+  makes_asks : (s accepted : Scanned) (answer : Outcome) → IsText s.text → Scans s.text s.tokens → Tells told s.text → Ok accepted ≡ verdict s → MakesAsking mode given accepted before after answer
+      → Asks mode given told before after answer
+  makes_asks s accepted answer is scans tells v m = by (refusal_of (lookaheads s.tokens)) refl v
+    where
+      by : (r : Option Refusal) → refusal_of (lookaheads s.tokens) ≡ r → Ok accepted ≡ verdict_by s r → Asks mode given told before after answer
+      by None e h = asks_by given told before after s is scans e tells mode answer (subst (λ (t : Scanned). MakesAsking mode given t before after answer) (ap (ok_here accepted) h) m)
+      by (Some r) e h = absurd (not_ok_here accepted (fault_at s r) h)
+
+  pub text_asks : (text : List ℕ) (s accepted : Scanned) (answer : Outcome) → s.text ≡ text → IsText text → Scans text s.tokens → Tells told text → Ok accepted ≡ verdict s
+      → MakesAsking mode given accepted before after answer → Asks mode given told before after answer
+  text_asks text s accepted answer same is scans tells v m =
+      makes_asks s accepted answer (subst IsText (sym same) is) (subst (λ t. Scans t s.tokens) (sym same) scans) (subst (Tells told) (sym same) tells) v m
+
+  pub asks_unloaded : (answer : Outcome) → LoadsFile told (Err answer) → after ≡ before → Asks mode given told before after answer
+  asks_unloaded outcome.Formatted l e = absurd l
+  asks_unloaded (outcome.Changed how) l e = absurd l
+  asks_unloaded (outcome.Differs shown) l e = absurd l
+  asks_unloaded (outcome.Refused fault) l e = e
+  asks_unloaded (outcome.Failed fault) l e = inl e
+
+pub asks_loaded : (mode : Mode) (given : Name) (old mid : Files) (a b c : Asked) (answer : Outcome) → mid ≡ old → b ≡ a → Asks mode given (mid.told (mid.real given)) b c answer
+    → Asks mode given (old.told (old.real given)) a c answer
+asks_loaded mode given old mid a b c answer same e asks =
+    subst (λ (files : Files). Asks mode given (files.told (files.real given)) a c answer) same (subst (λ (x : Asked). Asks mode given (mid.told (mid.real given)) x c answer) e asks)
+
 -- ---- a look at a file that was read, or wasn't
 
 visits_by : (mode : Mode) (old new : Files) (given : Name) (name text : List ℕ) (answer : Outcome) → Tells (old.told name) text → Looks mode old new given name text answer
     → Visits mode old new given name answer
 visits_by mode old new given name text outcome.Formatted t l = (text, t, l)
-visits_by mode old new given name text outcome.Changed t l = (text, t, l)
+visits_by mode old new given name text (outcome.Changed how) t l = (text, t, l)
 visits_by mode old new given name text (outcome.Differs shown) t l = (text, t, l)
 visits_by mode old new given name text (outcome.Refused fault) t l = (text, t, l)
 visits_by mode old new given name text (outcome.Failed fault) t l = l
@@ -245,7 +303,7 @@ visits_loaded mode old mid new given name text answer same t l =
 pub visits_unloaded : (mode : Mode) (old new : Files) (given : Name) (name : List ℕ) (answer : Outcome) → new ≡ old → LoadsFile (old.told name) (Err answer)
     → Visits mode old new given name answer
 visits_unloaded mode old new given name outcome.Formatted same l = absurd l
-visits_unloaded mode old new given name outcome.Changed same l = absurd l
+visits_unloaded mode old new given name (outcome.Changed how) same l = absurd l
 visits_unloaded mode old new given name (outcome.Differs shown) same l = absurd l
 visits_unloaded mode old new given name (outcome.Refused fault) same l = (l.0, l.1, (inl l.2, same))
 visits_unloaded mode old new given name (outcome.Failed fault) same l = same
@@ -280,7 +338,7 @@ settled_kept (Write w) None b c s k = tt
 settled_kept (Write w) (Some x) b c (inl (y, f, e)) k = settled_on w x y c f (subst (λ o. Kept (Write w) o c) e k)
 settled_kept (Write w) (Some x) b c (inr (f, is, e)) k = refused_on w x c f is (subst (λ o. Kept (Write w) o c) e k)
 settled_kept Check a b c s k = tt
-settled_kept Listed a b c s k = tt
+settled_kept (Listed ending) a b c s k = tt
 settled_kept Diff a b c s k = tt
 
 own_format : (w : Writing) (a b : Option (List ℕ)) (bytes y : List ℕ) → Tells a bytes → IsFormat bytes y → b ≡ option_map (λ _. y) a → Settled (Write w) a b
@@ -301,7 +359,7 @@ put_here old name bytes = ap (λ b. if b then option_map (λ _. bytes) (old.told
 visit_writes : (w : Writing) (old new : Files) (given : Name) (name : Name) (answer : Outcome) → Visits (Write w) old new given name answer → is_failed answer ≡ false
     → Settled (Write w) (old.told name) (new.told name)
 visit_writes w old new given name outcome.Formatted v good = same_format w (old.told name) (new.told name) v.0 v.1 v.2.0 (same_told old new name v.2.1)
-visit_writes w old new given name outcome.Changed v good =
+visit_writes w old new given name (outcome.Changed how) v good =
     own_format w (old.told name) (new.told name) v.0 v.2.1.formatted v.1 v.2.1.is (ap (λ (f : Files). f.told name) v.2.1.left ∙ put_here old name v.2.1.formatted)
 visit_writes w old new given name (outcome.Differs text) v good = absurd (no v.2.0)
   where
@@ -317,7 +375,7 @@ pub visit_settled : (mode : Mode) (old new : Files) (given : Name) (name : Name)
     → Settled mode (old.told name) (new.told name)
 visit_settled (Write w) old new given name answer v good = visit_writes w old new given name answer v good
 visit_settled Check old new given name answer v good = tt
-visit_settled Listed old new given name answer v good = tt
+visit_settled (Listed ending) old new given name answer v good = tt
 visit_settled Diff old new given name answer v good = tt
 
 -- one file more, of the files of these names
@@ -338,7 +396,7 @@ settled_after (Write w) (Some x) b c (inr (y, f, e)) s = by (subst (λ o. Settle
     by (inl (z, g, h)) = inl (y, f, h ∙ ap (λ l. Some l) (format_once x y z f g))
     by (inr (fault, is, h)) = inl (y, f, h)
 settled_after Check a b c k s = tt
-settled_after Listed a b c k s = tt
+settled_after (Listed ending) a b c k s = tt
 settled_after Diff a b c k s = tt
 
 -- ---- whole runs
@@ -357,7 +415,7 @@ safe_same (Some x) b e = inl e
 pub safe_kept : (mode : Mode) (a b : Option (List ℕ)) → Kept mode a b → IsSafe a b
 safe_kept (Write w) a b k = k
 safe_kept Check a b k = safe_same a b k
-safe_kept Listed a b k = safe_same a b k
+safe_kept (Listed ending) a b k = safe_same a b k
 safe_kept Diff a b k = safe_same a b k
 
 -- ---- failures are real
@@ -373,7 +431,7 @@ notes_memory before after fault e m = record { is = inr (ap (λ f. Some f) m, e)
 
 pub notes_shown : (before after : Faults) (given : Name) (s : Scanned) (answer : Outcome) → after ≡ before → IsShown given s answer → Notes before after answer
 notes_shown before after given s outcome.Formatted e shown = absurd shown
-notes_shown before after given s outcome.Changed e shown = absurd shown
+notes_shown before after given s (outcome.Changed how) e shown = absurd shown
 notes_shown before after given s (outcome.Differs text) e shown = record { is = inl e }
 notes_shown before after given s (outcome.Refused fault) e shown = absurd shown
 notes_shown before after given s (outcome.Failed fault) e shown = notes_memory before after fault e shown

@@ -16,14 +16,15 @@ use Rattle.hcl_tokens.proofs.NonemptyLemmas.{nonempty}
 use Rattle.hcl_scan.proofs.SpellingLemmas.{one_kind}
 use Rattle.hcl_grammar.specs.Verdict.{IsAccepted, verdict}
 use Rattle.hcl_layout.specs.Print.{print}
-use Rattle.line_diff.specs.Diffs.{diff_of}
-use Rattle.file_tree.specs.Files.{Files, Name, State, put}
+use Rattle.file_tree.specs.Files.{Files, Name, put}
+use Rattle.tree_format.specs.States.{State}
 use Rattle.file_tree.specs.declared.fault.TreeFault.{TreeFault}
+use Rattle.file_tree.specs.declared.tree.Replaced.TheVariants.{Kept as AllKept, Narrowed}
 use Rattle.file_tree.specs.declared.tree.Writing.{Writing}
 use Rattle.file_tree.specs.declared.walk.Found.{Found}
-use Rattle.tree_format.specs.GoodRuns.{AreTold}
+use Rattle.tree_format.specs.GoodRuns.{AreTold, is_narrowed}
 use Rattle.tree_format.specs.Format.{IsFault, IsFormat, IsTextFault}
-use Rattle.tree_format.specs.Looks.{Left, Looks, Visits}
+use Rattle.tree_format.specs.Looks.{Left, Looks, Visits, shown_diff}
 use Rattle.tree_format.specs.Reports.{Report, report_of, worse, worst}
 use Rattle.tree_format.specs.Runs.{IsRun, IsSafe, Kept, Looked, Sees, SeesBy, is_failed, reports_of}
 use Rattle.tree_format.specs.declared.mode.Mode.{Mode}
@@ -74,8 +75,25 @@ one_reason x f g (inr l) (inr m) = one_text_fault x f g l.1 m.1
 one_left : (mode : Mode) (old new new' : Files) (name y z : List ℕ) → y ≡ z → Left mode old new name y → Left mode old new' name z → new ≡ new'
 one_left (Write w) old new new' name y z e l m = l ∙ ap (put old name) e ∙ sym m
 one_left Check old new new' name y z e l m = l ∙ sym m
-one_left Listed old new new' name y z e l m = l ∙ sym m
+one_left (Listed ending) old new new' name y z e l m = l ∙ sym m
 one_left Diff old new new' name y z e l m = l ∙ sym m
+
+-- an answer that another look needn't give: it failed, or the rights to the file were narrowed
+abbrev is_uneven : Outcome → Bool
+is_uneven (outcome.Failed fault) = true
+is_uneven (outcome.Changed Narrowed) = true
+is_uneven (outcome.Changed AllKept) = false
+is_uneven outcome.Formatted = false
+is_uneven (outcome.Differs text) = false
+is_uneven (outcome.Refused fault) = false
+
+even_answer : (answer : Outcome) → is_failed answer ≡ false → is_narrowed answer ≡ false → is_uneven answer ≡ false
+even_answer (outcome.Failed fault) e f = e
+even_answer (outcome.Changed Narrowed) e f = f
+even_answer (outcome.Changed AllKept) e f = refl
+even_answer outcome.Formatted e f = refl
+even_answer (outcome.Differs text) e f = refl
+even_answer (outcome.Refused fault) e f = refl
 
 no_failure : {X : Type 0} → true ≡ false → X
 no_failure e = absurd (cc)
@@ -84,30 +102,32 @@ module _ (mode : Mode) (old new new' : Files) (given name bytes : List ℕ) wher
   abbrev Same : Outcome → Outcome → Type 0
   Same answer other = (report_of mode given answer ≡ report_of mode given other) × (new ≡ new')
 
-  one_look : (answer other : Outcome) → Looks mode old new given name bytes answer → Looks mode old new' given name bytes other → is_failed answer ≡ false → is_failed other ≡ false
+  one_look : (answer other : Outcome) → Looks mode old new given name bytes answer → Looks mode old new' given name bytes other → is_uneven answer ≡ false → is_uneven other ≡ false
       → Same answer other
   one_look (outcome.Failed fault) other l m good good' = no_failure good
   one_look outcome.Formatted (outcome.Failed fault) l m good good' = no_failure good'
-  one_look outcome.Changed (outcome.Failed fault) l m good good' = no_failure good'
+  one_look (outcome.Changed how) (outcome.Failed fault) l m good good' = no_failure good'
   one_look (outcome.Differs text) (outcome.Failed fault) l m good good' = no_failure good'
   one_look (outcome.Refused f) (outcome.Failed fault) l m good good' = no_failure good'
   one_look outcome.Formatted outcome.Formatted l m good good' = (refl, l.1 ∙ sym m.1)
-  one_look outcome.Formatted outcome.Changed l m good good' = absurd (m.1.changed (one_format bytes m.1.formatted bytes m.1.is l.0))
+  one_look outcome.Formatted (outcome.Changed how) l m good good' = absurd (m.1.changed (one_format bytes m.1.formatted bytes m.1.is l.0))
   one_look outcome.Formatted (outcome.Differs text) l m good good' = absurd (m.1.changed (one_format bytes m.1.formatted bytes m.1.is l.0))
   one_look outcome.Formatted (outcome.Refused fault) l m good good' = absurd (no_format bytes bytes fault m.0 l.0)
-  one_look outcome.Changed outcome.Formatted l m good good' = absurd (l.1.changed (one_format bytes l.1.formatted bytes l.1.is m.0))
-  one_look outcome.Changed outcome.Changed l m good good' =
+  one_look (outcome.Changed how) outcome.Formatted l m good good' = absurd (l.1.changed (one_format bytes l.1.formatted bytes l.1.is m.0))
+  one_look (outcome.Changed Narrowed) (outcome.Changed other) l m good good' = no_failure good
+  one_look (outcome.Changed AllKept) (outcome.Changed Narrowed) l m good good' = no_failure good'
+  one_look (outcome.Changed AllKept) (outcome.Changed AllKept) l m good good' =
       (refl, one_left mode old new new' name l.1.formatted m.1.formatted (one_format bytes l.1.formatted m.1.formatted l.1.is m.1.is) l.1.left m.1.left)
-  one_look outcome.Changed (outcome.Differs text) l m good good' = absurd (l.0 m.0)
-  one_look outcome.Changed (outcome.Refused fault) l m good good' = absurd (no_format bytes l.1.formatted fault m.0 l.1.is)
+  one_look (outcome.Changed how) (outcome.Differs text) l m good good' = absurd (l.0 m.0)
+  one_look (outcome.Changed how) (outcome.Refused fault) l m good good' = absurd (no_format bytes l.1.formatted fault m.0 l.1.is)
   one_look (outcome.Differs text) outcome.Formatted l m good good' = absurd (l.1.changed (one_format bytes l.1.formatted bytes l.1.is m.0))
-  one_look (outcome.Differs text) outcome.Changed l m good good' = absurd (m.0 l.0)
+  one_look (outcome.Differs text) (outcome.Changed how) l m good good' = absurd (m.0 l.0)
   one_look (outcome.Differs text) (outcome.Differs other) l m good good' =
-      let same = l.2 ∙ ap (diff_of given bytes) (one_format bytes l.1.formatted m.1.formatted l.1.is m.1.is) ∙ sym m.2 in
+      let same = l.2 ∙ ap (shown_diff given bytes) (one_format bytes l.1.formatted m.1.formatted l.1.is m.1.is) ∙ sym m.2 in
       ((λ i. record { out = same i; err = []; status = 3 }), l.1.left ∙ sym m.1.left)
   one_look (outcome.Differs text) (outcome.Refused fault) l m good good' = absurd (no_format bytes l.1.formatted fault m.0 l.1.is)
   one_look (outcome.Refused fault) outcome.Formatted l m good good' = absurd (no_format bytes bytes fault l.0 m.0)
-  one_look (outcome.Refused fault) outcome.Changed l m good good' = absurd (no_format bytes m.1.formatted fault l.0 m.1.is)
+  one_look (outcome.Refused fault) (outcome.Changed how) l m good good' = absurd (no_format bytes m.1.formatted fault l.0 m.1.is)
   one_look (outcome.Refused fault) (outcome.Differs text) l m good good' = absurd (no_format bytes m.1.formatted fault l.0 m.1.is)
   one_look (outcome.Refused fault) (outcome.Refused other) l m good good' =
       (ap (λ (f : Fault). report_of mode given (outcome.Refused f)) (one_reason bytes fault other l.0 m.0), l.1 ∙ sym m.1)
@@ -120,7 +140,7 @@ told_bytes told x y e t = sym (subst (λ o. Tells o y) e t)
 looks_of : (mode : Mode) (old new : Files) (given name bytes : List ℕ) (answer : Outcome) → old.told name ≡ Some bytes → Visits mode old new given name answer
     → Looks mode old new given name bytes answer
 looks_of mode old new given name bytes outcome.Formatted e v = subst (λ b. Looks mode old new given name b outcome.Formatted) (told_bytes (old.told name) bytes v.0 e v.1) v.2
-looks_of mode old new given name bytes outcome.Changed e v = subst (λ b. Looks mode old new given name b outcome.Changed) (told_bytes (old.told name) bytes v.0 e v.1) v.2
+looks_of mode old new given name bytes (outcome.Changed how) e v = subst (λ b. Looks mode old new given name b (outcome.Changed how)) (told_bytes (old.told name) bytes v.0 e v.1) v.2
 looks_of mode old new given name bytes (outcome.Differs text) e v =
     subst (λ b. Looks mode old new given name b (outcome.Differs text)) (told_bytes (old.told name) bytes v.0 e v.1) v.2
 looks_of mode old new given name bytes (outcome.Refused fault) e v =
@@ -128,7 +148,7 @@ looks_of mode old new given name bytes (outcome.Refused fault) e v =
 looks_of mode old new given name bytes (outcome.Failed fault) e v = v
 
 one_visit : (mode : Mode) (old new new' : Files) (given name : List ℕ) (answer other : Outcome) → IsSome (old.told name) → Visits mode old new given name answer
-    → Visits mode old new' given name other → is_failed answer ≡ false → is_failed other ≡ false
+    → Visits mode old new' given name other → is_uneven answer ≡ false → is_uneven other ≡ false
     → (report_of mode given answer ≡ report_of mode given other) × (new ≡ new')
 one_visit mode old new new' given name answer other some v w good good' = by (old.told name) refl some
   where
@@ -138,9 +158,9 @@ one_visit mode old new new' given name answer other some v w good good' = by (ol
         one_look mode old new new' given name bytes answer other (looks_of mode old new given name bytes answer e v) (looks_of mode old new' given name bytes other e w) good good'
 
 one_seen_by : (mode : Mode) (name : Name) (fault : Option TreeFault) (answer other : Outcome) (a b a' b' : State) → IsSome (a.files.told (a.files.real name)) → a'.files ≡ a.files
-    → SeesBy mode name fault answer a b → SeesBy mode name fault other a' b' → is_failed answer ≡ false → is_failed other ≡ false
+    → SeesBy mode name fault answer a b → SeesBy mode name fault other a' b' → is_uneven answer ≡ false → is_uneven other ≡ false
     → (report_of mode name answer ≡ report_of mode name other) × (b.files ≡ b'.files)
-one_seen_by mode name (Some fault) answer other a b a' b' some same s t good good' = no_failure (sym (ap is_failed s.0) ∙ good)
+one_seen_by mode name (Some fault) answer other a b a' b' some same s t good good' = no_failure (sym (ap is_uneven s.0) ∙ good)
 one_seen_by mode name None answer other a b a' b' some same s t good good' =
     one_visit mode a.files b.files b'.files name (a.files.real name) answer other some s.0
     (subst (λ (files : Files). Visits mode files b'.files name (files.real name) other) same t.0) good good'
@@ -152,7 +172,7 @@ kept_some (Write w) None y k some = absurd (cc)
 kept_some (Write w) (Some x) y (inl e) some = subst (λ o. IsSome o) (sym e) refl
 kept_some (Write w) (Some x) y (inr f) some = subst (λ o. IsSome o) (sym f.2) refl
 kept_some Check x y k some = subst (λ o. IsSome o) (sym k) some
-kept_some Listed x y k some = subst (λ o. IsSome o) (sym k) some
+kept_some (Listed ending) x y k some = subst (λ o. IsSome o) (sym k) some
 kept_some Diff x y k some = subst (λ o. IsSome o) (sym k) some
 
 told_after_visit : (mode : Mode) (old new : Files) (given name other : List ℕ) (answer : Outcome) → Visits mode old new given name answer → IsSome (old.told (old.real other))
@@ -177,7 +197,7 @@ second_false true w e = absurd (cc)
 second_false false w e = e
 
 one_looked : (mode : Mode) (seen : List Found) (answers others : List Outcome) (a b a' b' : State) → AreTold a.files seen → a'.files ≡ a.files → Looked mode seen answers a b → Looked mode seen others a' b'
-    → list_any is_failed answers ≡ false → list_any is_failed others ≡ false
+    → list_any is_uneven answers ≡ false → list_any is_uneven others ≡ false
     → (reports_of mode seen answers ≡ reports_of mode seen others) × (b.files ≡ b'.files)
 one_looked mode [] [] [] a b a' b' told same l m good good' = (refl, ap (λ (s : State). s.files) l ∙ sym same ∙ sym (ap (λ (s : State). s.files) m))
 one_looked mode [] (x ∷ xs) others a b a' b' told same l m good good' = absurd l
@@ -185,13 +205,19 @@ one_looked mode [] [] (y ∷ ys) a b a' b' told same l m good good' = absurd m
 one_looked mode (f ∷ seen) [] others a b a' b' told same l m good good' = absurd l
 one_looked mode (f ∷ seen) (x ∷ xs) [] a b a' b' told same l m good good' = absurd m
 one_looked mode (f ∷ seen) (x ∷ xs) (y ∷ ys) a b a' b' told same l m good good' =
-    let one = one_seen_by mode f.name.items f.fault x y a l.0 a' m.0 (All-head (λ g. IsSome (a.files.told (a.files.real g.name.items))) f seen told) same l.1 m.1 (first_false (is_failed x) (list_any is_failed xs) good)
-    (first_false (is_failed y) (list_any is_failed ys) good') in
+    let one = one_seen_by mode f.name.items f.fault x y a l.0 a' m.0 (All-head (λ g. IsSome (a.files.told (a.files.real g.name.items))) f seen told) same l.1 m.1 (first_false (is_uneven x) (list_any is_uneven xs) good)
+    (first_false (is_uneven y) (list_any is_uneven ys) good') in
     let rest = one_looked mode seen xs ys l.0 b m.0 b'
     (All-weaker (λ g. IsSome (a.files.told (a.files.real g.name.items))) (λ g. IsSome (l.0.files.told (l.0.files.real g.name.items)))
     (λ g some. told_after mode f.name.items f.fault x a l.0 g.name.items l.1 some) seen (All-tail (λ g. IsSome (a.files.told (a.files.real g.name.items))) f seen told))
-    (sym one.1) l.2 m.2 (second_false (is_failed x) (list_any is_failed xs) good) (second_false (is_failed y) (list_any is_failed ys) good') in
+    (sym one.1) l.2 m.2 (second_false (is_uneven x) (list_any is_uneven xs) good) (second_false (is_uneven y) (list_any is_uneven ys) good') in
     ((λ i. one.0 i ∷ rest.0 i), rest.1)
+
+even_answers : (answers : List Outcome) → list_any is_failed answers ≡ false → list_any is_narrowed answers ≡ false → list_any is_uneven answers ≡ false
+even_answers [] e f = refl
+even_answers (x ∷ xs) e f =
+    ap (λ v. v || list_any is_uneven xs) (even_answer x (first_false (is_failed x) (list_any is_failed xs) e) (first_false (is_narrowed x) (list_any is_narrowed xs) f))
+    ∙ even_answers xs (second_false (is_failed x) (list_any is_failed xs) e) (second_false (is_narrowed x) (list_any is_narrowed xs) f)
 
 -- ---- runs that don't have status 4
 
@@ -215,7 +241,7 @@ record Good (mode : Mode) (found : List Found) (before after : State) (answers :
   pub good : list_any is_failed answers ≡ false
   pub exit : status ≡ worst (map (λ r. r.status) (reports_of mode found answers))
 
-good_run : (mode : Mode) (found : List Found) (last : List ℕ) (before after : State) (end : End) (run : IsRun mode found last before after end) → end.status ≢ 4
+good_run : (mode : Mode) (found : List Found) (last : List Outcome → List ℕ) (before after : State) (end : End) (run : IsRun mode found last before after end) → end.status ≢ 4
     → (found ≡ run.seen) × Good mode found before after run.answers end.status
 good_run mode found last before after end run ne =
     let writers = good_writers (end.out.failed || end.err.failed) end.status (worst (map (λ r. r.status) (reports_of mode run.seen run.answers))) run.exit ne in
@@ -228,14 +254,14 @@ good_run mode found last before after end run ne =
       }),
     )
 
-pub one_run : (mode : Mode) (found : List Found) (last other_last : List ℕ) (before other_before after other_after : State) (end other_end : End) → AreTold before.files found
+pub one_run : (mode : Mode) (found : List Found) (last other_last : List Outcome → List ℕ) (before other_before after other_after : State) (end other_end : End) → AreTold before.files found
     → other_before.files ≡ before.files → (run : IsRun mode found last before after end) → (other : IsRun mode found other_last other_before other_after other_end)
-    → end.status ≢ 4 → other_end.status ≢ 4
+    → end.status ≢ 4 → other_end.status ≢ 4 → list_any is_narrowed run.answers ≡ false → list_any is_narrowed other.answers ≡ false
     → (reports_of mode run.seen run.answers ≡ reports_of mode other.seen other.answers) × (end.status ≡ other_end.status) × (after.files ≡ other_after.files)
-one_run mode found last other_last before other_before after other_after end other_end told same run other ne other_ne =
+one_run mode found last other_last before other_before after other_after end other_end told same run other ne other_ne kept other_kept =
     let g = good_run mode found last before after end run ne in
     let h = good_run mode found other_last other_before other_after other_end other other_ne in
-    let one = one_looked mode found run.answers other.answers before after other_before other_after told same g.1.looks h.1.looks g.1.good h.1.good in (
+    let one = one_looked mode found run.answers other.answers before after other_before other_after told same g.1.looks h.1.looks (even_answers run.answers g.1.good kept) (even_answers other.answers h.1.good other_kept) in (
       ap (λ l. reports_of mode l run.answers) (sym g.0) ∙ one.0 ∙ ap (λ l. reports_of mode l other.answers) h.0,
       g.1.exit ∙ ap (λ rs. worst (map (λ r. r.status) rs)) one.0 ∙ sym h.1.exit,
       one.1,

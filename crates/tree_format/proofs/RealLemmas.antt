@@ -4,7 +4,9 @@ use Rattle.std.specs.Prelude.{◌≢◌, ◌||◌, ◌==◌, fold, if◌then◌e
 use Rattle.std.specs.List.{list_any}
 use Rattle.std.proofs.lemmas.Bool.Decides.{eqb_tells}
 use Rattle.command_line.specs.Rows.{End}
-use Rattle.file_tree.specs.Files.{Name, State}
+use Rattle.file_tree.specs.Files.{Name}
+use Rattle.tree_format.specs.States.{State}
+use Rattle.file_tree.specs.declared.tree.Replaced.{Replaced}
 use Rattle.file_tree.specs.declared.walk.Found.{Found}
 use Rattle.tree_format.specs.Reports.{report_of, worse, worst}
 use Rattle.tree_format.specs.Runs.{IsRun, Looked, is_failed, reports_of}
@@ -30,15 +32,15 @@ worse_four one other e = by (eqb_tells one 4) (eqb_tells other 4)
 pub not_four : (n : ℕ) → n < 4 → n ≢ 4
 not_four n lt h = omega (arith, lt, h)
 
-changed_good : (mode : Mode) (name : Name) → (report_of mode name outcome.Changed).status ≢ 4
-changed_good (Write writing) name = not_four 0 (lit< tt)
-changed_good Check name = not_four 3 (lit< tt)
-changed_good Listed name = not_four 3 (lit< tt)
-changed_good Diff name = not_four 3 (lit< tt)
+changed_good : (mode : Mode) (how : Replaced) (name : Name) → (report_of mode name (outcome.Changed how)).status ≢ 4
+changed_good (Write writing) how name = not_four 0 (lit< tt)
+changed_good Check how name = not_four 3 (lit< tt)
+changed_good (Listed ending) how name = not_four 3 (lit< tt)
+changed_good Diff how name = not_four 3 (lit< tt)
 
 status_good : (mode : Mode) (name : Name) (answer : Outcome) → is_failed answer ≡ false → (report_of mode name answer).status ≢ 4
 status_good mode name outcome.Formatted good = not_four 0 (lit< tt)
-status_good mode name outcome.Changed good = changed_good mode name
+status_good mode name (outcome.Changed how) good = changed_good mode how name
 status_good mode name (outcome.Differs text) good = not_four 3 (lit< tt)
 status_good mode name (outcome.Refused fault) good = not_four 2 (lit< tt)
 status_good mode name (outcome.Failed fault) good = absurd (no good)
@@ -67,7 +69,7 @@ fold_four mode (f ∷ seen) (x ∷ answers) a b n good l e =
     by rest true h = ap (λ v. v || list_any is_failed answers) h
     by rest false h = ap (λ v. v || list_any is_failed answers) h ∙ rest h
 
-pub real_failures : (mode : Mode) (found : List Found) (last : List ℕ) (before after : State) (end : End) (run : IsRun mode found last before after end) → end.status ≡ 4
+pub real_failures : (mode : Mode) (found : List Found) (last : List Outcome → List ℕ) (before after : State) (end : End) (run : IsRun mode found last before after end) → end.status ≡ 4
     → (end.out.failed || end.err.failed) ≡ false → list_any is_failed run.answers ≡ true
 real_failures mode found last before after end run four good =
     fold_four mode run.seen run.answers before after 0 (not_four 0 (lit< tt)) run.looks

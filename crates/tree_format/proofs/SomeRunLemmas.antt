@@ -24,13 +24,15 @@ use Rattle.layout_laws.specs.Reprinted.{printed_tokens}
 use Rattle.layout_laws.proofs.PrintLoadLemmas.{loads_again}
 use Rattle.layout_laws.proofs.ForgetPlaceLemmas.{print_again, seen_again}
 use Rattle.layout_laws.proofs.RescanLemmas.{scans_again}
-use Rattle.file_tree.specs.Files.{Files, Name, State, with_fault, put}
+use Rattle.file_tree.specs.Files.{Files, Name, with_fault, put}
+use Rattle.tree_format.specs.States.{State}
 use Rattle.file_tree.specs.declared.fault.TreeFault.{TreeFault}
+use Rattle.file_tree.specs.Asked.{Asked, with_asked}
+use Rattle.file_tree.specs.declared.tree.Replaced.TheVariants.{Kept as AllKept}
 use Rattle.file_tree.specs.declared.walk.Found.{Found}
-use Rattle.line_diff.specs.Diffs.{diff_of}
 use Rattle.tree_format.specs.GoodRuns.{HasFormatOrFault, AreReady, HasRoom, Holds, IsReady}
 use Rattle.tree_format.specs.Format.{IsFault, IsFormat}
-use Rattle.tree_format.specs.Looks.{Changes, Looks, Visits, failure_of}
+use Rattle.tree_format.specs.Looks.{Asks, Changes, Looks, Visits, failure_of, shown_diff}
 use Rattle.tree_format.specs.Reports.{worst}
 use Rattle.tree_format.specs.Runs.{IsRun, Kept, Looked, Sees, SeesBy, is_failed, reports_of}
 use Rattle.tree_format.specs.declared.mode.Mode.{Mode}
@@ -67,29 +69,29 @@ by_reading text is (inr f) = inr (record { kind = f.0; at = place text f.1 }, in
 abbrev SomeLook : Mode → Files → Name → Name → List ℕ → Type 0
 SomeLook mode old given name bytes = (answer : Outcome) × (new : Files) × Looks mode old new given name bytes answer × (is_failed answer ≡ false)
 
-shown : (old : Files) (given name bytes formatted : List ℕ) → IsFormat bytes formatted → formatted ≢ bytes → (answer : Outcome) → Holds answer (diff_of given bytes formatted) → SomeLook Diff old given name bytes
+shown : (old : Files) (given name bytes formatted : List ℕ) → IsFormat bytes formatted → formatted ≢ bytes → (answer : Outcome) → Holds answer (shown_diff given bytes formatted) → SomeLook Diff old given name bytes
 shown old given name bytes formatted is ne (outcome.Differs text) h =
     (outcome.Differs text, old, (refl, record { formatted = formatted; is = is; changed = ne; left = refl }, h), refl)
 shown old given name bytes formatted is ne outcome.Formatted h = absurd h
-shown old given name bytes formatted is ne outcome.Changed h = absurd h
+shown old given name bytes formatted is ne (outcome.Changed how) h = absurd h
 shown old given name bytes formatted is ne (outcome.Refused fault) h = absurd h
 shown old given name bytes formatted is ne (outcome.Failed fault) h = absurd h
 
 changed : (mode : Mode) (old : Files) (given name bytes formatted : List ℕ) → HasRoom mode given bytes → IsFormat bytes formatted → formatted ≢ bytes → SomeLook mode old given name bytes
 changed (Write w) old given name bytes formatted room is ne =
-    (outcome.Changed, put old name formatted, (no, record { formatted = formatted; is = is; changed = ne; left = refl }), refl)
+    (outcome.Changed AllKept, put old name formatted, (no, record { formatted = formatted; is = is; changed = ne; left = refl }), refl)
   where
     no : Write w ≡ Diff → ⊥
     no e = cc
 changed Check old given name bytes formatted room is ne =
-    (outcome.Changed, old, (no, record { formatted = formatted; is = is; changed = ne; left = refl }), refl)
+    (outcome.Changed AllKept, old, (no, record { formatted = formatted; is = is; changed = ne; left = refl }), refl)
   where
     no : Check ≡ Diff → ⊥
     no e = cc
-changed Listed old given name bytes formatted room is ne =
-    (outcome.Changed, old, (no, record { formatted = formatted; is = is; changed = ne; left = refl }), refl)
+changed (Listed ending) old given name bytes formatted room is ne =
+    (outcome.Changed AllKept, old, (no, record { formatted = formatted; is = is; changed = ne; left = refl }), refl)
   where
-    no : Listed ≡ Diff → ⊥
+    no : (Listed ending) ≡ Diff → ⊥
     no e = cc
 changed Diff old given name bytes formatted room is ne =
     let answer = room formatted is ne in
@@ -112,14 +114,29 @@ some_look mode old given name bytes room (inr f) = (outcome.Refused f.0, old, (f
 visits_by : (mode : Mode) (old new : Files) (given name bytes : List ℕ) (answer : Outcome) → old.told name ≡ Some bytes → Looks mode old new given name bytes answer
     → Visits mode old new given name answer
 visits_by mode old new given name bytes outcome.Formatted e l = (bytes, subst (λ o. Tells o bytes) (sym e) refl, l)
-visits_by mode old new given name bytes outcome.Changed e l = (bytes, subst (λ o. Tells o bytes) (sym e) refl, l)
+visits_by mode old new given name bytes (outcome.Changed how) e l = (bytes, subst (λ o. Tells o bytes) (sym e) refl, l)
 visits_by mode old new given name bytes (outcome.Differs text) e l = (bytes, subst (λ o. Tells o bytes) (sym e) refl, l)
 visits_by mode old new given name bytes (outcome.Refused fault) e l = (bytes, subst (λ o. Tells o bytes) (sym e) refl, l)
 visits_by mode old new given name bytes (outcome.Failed fault) e l = l
 
+-- what is then asked for
+some_asked : (mode : Mode) (old new : Files) (given name bytes : List ℕ) (answer : Outcome) (before : Asked) → Looks mode old new given name bytes answer
+    → (after : Asked) × Asks mode given (Some bytes) before after answer
+some_asked mode old new given name bytes outcome.Formatted before l = (before, refl)
+some_asked (Write w) old new given name bytes (outcome.Changed how) before l = (
+  with_asked before (record { name = given; old = bytes; new = l.1.formatted; writing = w }),
+  record { bytes = bytes; tells = refl; formatted = l.1.formatted; is = l.1.is; changed = l.1.changed; asked = refl },
+)
+some_asked Check old new given name bytes (outcome.Changed how) before l = (before, refl)
+some_asked (Listed ending) old new given name bytes (outcome.Changed how) before l = (before, refl)
+some_asked Diff old new given name bytes (outcome.Changed how) before l = (before, refl)
+some_asked mode old new given name bytes (outcome.Differs text) before l = (before, refl)
+some_asked mode old new given name bytes (outcome.Refused fault) before l = (before, refl)
+some_asked mode old new given name bytes (outcome.Failed fault) before l = (before, inl refl)
+
 no_failure_of : (answer : Outcome) → is_failed answer ≡ false → failure_of answer ≡ None
 no_failure_of outcome.Formatted e = refl
-no_failure_of outcome.Changed e = refl
+no_failure_of (outcome.Changed how) e = refl
 no_failure_of (outcome.Differs text) e = refl
 no_failure_of (outcome.Refused fault) e = refl
 no_failure_of (outcome.Failed fault) e = absurd (cc)
@@ -134,12 +151,14 @@ some_sight mode name fault before none ready = subst (λ f. SomeSight mode name 
     by : (told : Option (List ℕ)) → before.files.told (before.files.real name) ≡ told → IsReady mode name told → SomeSight mode name None before
     by None e ready = absurd ready
     by (Some bytes) e ready =
-        let look = some_look mode before.files name (before.files.real name) bytes ready.1 ready.0 in (
+        let look = some_look mode before.files name (before.files.real name) bytes ready.1 ready.0 in
+        let asked = some_asked mode before.files look.1 name (before.files.real name) bytes look.0 before.asked look.2 in (
           look.0,
-          record { files = look.1; faults = before.faults },
+          record { files = look.1; faults = before.faults; asked = asked.0 },
           (
             visits_by mode before.files look.1 name (before.files.real name) bytes look.0 e look.2,
             record { is = inl (sym (ap (with_fault before.faults) (no_failure_of look.0 look.3))) },
+            subst (λ (o : Option (List ℕ)). Asks mode name o before.asked asked.0 look.0) (sym e) asked.1,
           ),
           look.3,
         )
@@ -163,7 +182,7 @@ ready_kept (Write w) name None b k ready = absurd ready
 ready_kept (Write w) name (Some x) b (inl e) ready = subst (IsReady (Write w) name) (sym e) ready
 ready_kept (Write w) name (Some x) b (inr f) ready = subst (IsReady (Write w) name) (sym f.2) (inl (f.0, formatted_again x f.0 f.1), tt)
 ready_kept Check name a b k ready = subst (IsReady Check name) (sym k) ready
-ready_kept Listed name a b k ready = subst (IsReady Listed name) (sym k) ready
+ready_kept (Listed ending) name a b k ready = subst (IsReady (Listed ending) name) (sym k) ready
 ready_kept Diff name a b k ready = subst (IsReady Diff name) (sym k) ready
 
 ready_after_visit : (mode : Mode) (old new : Files) (given name : Name) (answer : Outcome) → Visits mode old new given name answer → (other : Name)
@@ -199,7 +218,7 @@ abbrev quiet : Writer
 quiet = record { before = None; after = None; failed = false; flushed = false; flushes_before = Never; flushes_after = Never }
 
 pub a_run : (mode : Mode) (found : List Found) (before : State) → AreReady mode before.files found
-    → (after : State) × (end : End) × (run : IsRun mode found [] before after end) × (end.status ≢ 4)
+    → (after : State) × (end : End) × (run : IsRun mode found (λ answers. []) before after end) × (end.status ≢ 4)
 a_run mode found before ready =
     let looks = some_looks mode found before ready in
     let status = worst (map (λ r. r.status) (reports_of mode found looks.0)) in (
@@ -214,6 +233,10 @@ a_run mode found before ready =
         looks = looks.2;
         output = tt;
         message = tt;
+        stops = record {
+          output = record { more = []; between = None; whole = tt; later = tt };
+          message = record { more = []; between = None; whole = tt; later = tt };
+        };
         exit = refl;
       },
       λ e. no (sym (fold_four mode found looks.0 before looks.1 0 (not_four 0 (lit< tt)) looks.2 e) ∙ looks.3),

@@ -1,10 +1,11 @@
 -- What the laws say of runs in which nothing fails: the files are told, and nothing stands in the way of a look. Our own words.
-use Rattle.std.specs.Prelude.{◌≡◌, ◌≢◌, ◌⊎◌, ℕ, List, Option, Some, None, All, IsSome}
+use Rattle.std.specs.Prelude.{◌≡◌, ◌≢◌, ◌⊎◌, ℕ, Bool, true, false, List, Option, Some, None, All, IsSome}
 use Rattle.hcl_source.specs.declared.fault.Fault.{Fault}
 use Rattle.file_tree.specs.Files.{Files, Name}
+use Rattle.file_tree.specs.declared.tree.Replaced.TheVariants.{Narrowed}
 use Rattle.file_tree.specs.declared.walk.Found.{Found}
-use Rattle.line_diff.specs.Diffs.{diff_of}
 use Rattle.tree_format.specs.Format.{IsFormat, IsFault}
+use Rattle.tree_format.specs.Looks.{shown_diff}
 use Rattle.tree_format.specs.declared.mode.Mode.{Mode}
 use Rattle.tree_format.specs.declared.mode.Mode.TheVariants.{Write, Check, List as Listed, Diff}
 use Rattle.tree_format.specs.declared.outcome.Outcome.{Outcome}
@@ -22,7 +23,7 @@ AreTold files found = All (λ f. IsSome (files.told (files.real f.name.items))) 
 abbrev pub Holds : Outcome → List ℕ → Type 0
 Holds (outcome.Differs text) shown = text.items ≡ shown
 Holds outcome.Formatted shown = ⊥
-Holds outcome.Changed shown = ⊥
+Holds (outcome.Changed how) shown = ⊥
 Holds (outcome.Refused fault) shown = ⊥
 Holds (outcome.Failed fault) shown = ⊥
 
@@ -30,8 +31,8 @@ Holds (outcome.Failed fault) shown = ⊥
 abbrev pub HasRoom : Mode → Name → List ℕ → Type 0
 HasRoom (Write writing) name bytes = Unit {0}
 HasRoom Check name bytes = Unit {0}
-HasRoom Listed name bytes = Unit {0}
-HasRoom Diff name bytes = (formatted : List ℕ) → IsFormat bytes formatted → formatted ≢ bytes → (answer : Outcome) × Holds answer (diff_of name bytes formatted)
+HasRoom (Listed ending) name bytes = Unit {0}
+HasRoom Diff name bytes = (formatted : List ℕ) → IsFormat bytes formatted → formatted ≢ bytes → (answer : Outcome) × Holds answer (shown_diff name bytes formatted)
 
 -- the bytes of a file are told, and nothing stands in the way of a look at it
 abbrev pub IsReady : Mode → Name → Option (List ℕ) → Type 0
@@ -40,3 +41,8 @@ IsReady mode name (Some bytes) = HasFormatOrFault bytes × HasRoom mode name byt
 
 abbrev pub AreReady : Mode → Files → List Found → Type 0
 AreReady mode files found = All (λ f. (f.fault ≡ None) × IsReady mode f.name.items (files.told (files.real f.name.items))) found
+
+-- a file was written whose group couldn't be kept
+abbrev pub is_narrowed : Outcome → Bool
+is_narrowed (outcome.Changed Narrowed) = true
+is_narrowed _ = false

@@ -1,10 +1,13 @@
 -- One look at a file: what it answers, and what the files are then.
-use Rattle.std.specs.Prelude.{◌≡◌, ◌≢◌, ◌⊎◌, ℕ, List, Option, Some, None}
+use Rattle.std.specs.Prelude.{◌≡◌, ◌≢◌, ◌⊎◌, ◌++◌, ℕ, List, Option, Some, None, codes}
 use Rattle.hcl_source.specs.declared.fault.Fault.{Fault}
+use Rattle.file_tree.specs.Asked.{Asked, with_asked}
 use Rattle.file_tree.specs.Files.{Faults, Files, Name, with_fault, put}
 use Rattle.hcl_source.specs.Devices.{Tells}
 use Rattle.file_tree.specs.declared.fault.TreeFault.{TreeFault}
 use Rattle.file_tree.specs.declared.fault.TreeFault.TheVariants.{OutOfMemory}
+use Rattle.file_tree.specs.declared.tree.Writing.{Writing}
+use Rattle.file_tree.specs.Quotes.{shown_head}
 use Rattle.line_diff.specs.Diffs.{diff_of}
 use Rattle.tree_format.specs.Format.{IsFormat, IsFault}
 use Rattle.tree_format.specs.declared.mode.Mode.{Mode}
@@ -24,13 +27,17 @@ pub record Changes (mode : Mode) (old new : Files) (name : Name) (bytes : List �
   pub changed : formatted ≢ bytes
   pub left : Left mode old new name formatted
 
+-- WHAT CHANGES in a file of this name, as it is shown: the name stands in the heads below `old/` and `new/`
+abbrev pub shown_diff : Name → List ℕ → List ℕ → List ℕ
+shown_diff given bytes formatted = diff_of (shown_head (codes "old/" ++ given)) (shown_head (codes "new/" ++ given)) bytes formatted
+
 -- What a look at bytes of a file answers, of this real name, that was named so, and what the files are then. Where what changes
 -- is to be shown, it is.
 abbrev pub Looks : Mode → Files → Files → Name → Name → List ℕ → Outcome → Type 0
 Looks mode old new given name bytes outcome.Formatted = IsFormat bytes bytes × (new ≡ old)
-Looks mode old new given name bytes outcome.Changed = (mode ≢ Diff) × Changes mode old new name bytes
+Looks mode old new given name bytes (outcome.Changed how) = (mode ≢ Diff) × Changes mode old new name bytes
 Looks mode old new given name bytes (outcome.Differs text) =
-    (mode ≡ Diff) × (changes : Changes Diff old new name bytes) × (text.items ≡ diff_of given bytes changes.formatted)
+    (mode ≡ Diff) × (changes : Changes Diff old new name bytes) × (text.items ≡ shown_diff given bytes changes.formatted)
 Looks mode old new given name bytes (outcome.Refused fault) = IsFault bytes fault × (new ≡ old)
 Looks mode old new given name bytes (outcome.Failed fault) = new ≡ old
 
@@ -48,3 +55,26 @@ failure_of _ = None
 -- call failed.
 pub record Notes (before after : Faults) (answer : Outcome) : Type 0 where
   pub is : (after ≡ with_fault before (failure_of answer)) ⊎ ((failure_of answer ≡ Some OutOfMemory) × (after ≡ before))
+
+-- one file was to be replaced: this one, in place of the bytes that it has, by the format of these, in this way
+pub record AsksFor (writing : Writing) (given : Name) (told : Option (List ℕ)) (before after : Asked) : Type 0 where
+  pub bytes : List ℕ
+  pub tells : Tells told bytes
+  pub formatted : List ℕ
+  pub is : IsFormat bytes formatted
+  pub changed : formatted ≢ bytes
+  pub asked : after ≡ with_asked before (record { name = given; old = bytes; new = formatted; writing = writing })
+
+-- the same where files are to be written, and nothing otherwise
+abbrev pub AsksIn : Mode → Name → Option (List ℕ) → Asked → Asked → Type 0
+AsksIn (Write writing) given told before after = AsksFor writing given told before after
+AsksIn mode given told before after = after ≡ before
+
+-- WHAT A LOOK ASKS FOR, at a file of which the device tells these bytes: where it is to be written and isn't formatted, that it
+-- gets its format, in the way that the run was asked for. A look that fails may have asked for that too.
+abbrev pub Asks : Mode → Name → Option (List ℕ) → Asked → Asked → Outcome → Type 0
+Asks mode given told before after outcome.Formatted = after ≡ before
+Asks mode given told before after (outcome.Changed how) = AsksIn mode given told before after
+Asks mode given told before after (outcome.Differs text) = after ≡ before
+Asks mode given told before after (outcome.Refused fault) = after ≡ before
+Asks mode given told before after (outcome.Failed fault) = (after ≡ before) ⊎ AsksIn mode given told before after

@@ -1,8 +1,13 @@
--- What is said of each file that a run looks at, and the status of the run. The texts and statuses are our own choice.
-use Rattle.std.specs.Prelude.{ℕ, List, [], ◌++◌, ◌==◌, ◌||◌, codes, fold, map, max, if◌then◌else◌}
+-- What is said of each file that a run looks at, and the status of the run: names stand in it as they are shown. The texts and statuses are our own choice.
+use Rattle.std.specs.Prelude.{ℕ, List, [], ◌∷◌, ◌++◌, ◌==◌, ◌||◌, codes, fold, map, max, if◌then◌else◌}
 use Rattle.command_line.specs.Rows.{fault_words, line}
 use Rattle.file_tree.specs.Files.{Name}
 use Rattle.file_tree.specs.FaultTexts.{tree_fault_text}
+use Rattle.file_tree.specs.Quotes.{quoted}
+use Rattle.file_tree.specs.declared.tree.Replaced.{Replaced}
+use Rattle.file_tree.specs.declared.tree.Replaced.TheVariants.{Kept, Narrowed}
+use Rattle.tree_format.specs.declared.mode.Ending.{Ending}
+use Rattle.tree_format.specs.declared.mode.Ending.TheVariants.{Line, Null}
 use Rattle.tree_format.specs.declared.mode.Mode.{Mode}
 use Rattle.tree_format.specs.declared.mode.Mode.TheVariants.{Write, Check, List as Listed, Diff}
 use Rattle.tree_format.specs.declared.outcome.Outcome.{Outcome}
@@ -16,20 +21,34 @@ pub record Report : Type 0 where
 
 -- `NAME: TEXT`
 abbrev pub about : Name → List ℕ → List ℕ
-about name text = name ++ (codes ": " ++ line text)
+about name text = quoted name ++ (codes ": " ++ line text)
+
+-- a name that is printed: as it is shown, or as it is
+abbrev pub listed : Ending → Name → List ℕ
+listed Line name = line (quoted name)
+listed Null name = name ++ 0 ∷ []
+
+-- the group of a file that was written couldn't be kept
+abbrev pub narrowed_text : List ℕ
+narrowed_text = codes "its group cannot be kept: group and others have the rights that both had"
+
+-- what is said of the rights to a file that was written
+abbrev pub rights_words : Replaced → Name → List ℕ
+rights_words Kept name = []
+rights_words Narrowed name = about name narrowed_text
 
 -- a file isn't formatted, or wasn't before
-abbrev pub changed_report : Mode → Name → Report
-changed_report (Write writing) name = record { out = line name; err = []; status = 0 }
-changed_report Check name = record { out = []; err = about name (codes "not formatted"); status = 3 }
-changed_report Listed name = record { out = line name; err = []; status = 3 }
-changed_report Diff name = record { out = line name; err = []; status = 3 }
+abbrev pub changed_report : Mode → Replaced → Name → Report
+changed_report (Write writing) how name = record { out = line (quoted name); err = rights_words how name; status = 0 }
+changed_report Check how name = record { out = []; err = about name (codes "not formatted"); status = 3 }
+changed_report (Listed ending) how name = record { out = listed ending name; err = []; status = 3 }
+changed_report Diff how name = record { out = line (quoted name); err = []; status = 3 }
 
 abbrev pub report_of : Mode → Name → Outcome → Report
 report_of mode name outcome.Formatted = record { out = []; err = []; status = 0 }
-report_of mode name outcome.Changed = changed_report mode name
+report_of mode name (outcome.Changed how) = changed_report mode how name
 report_of mode name (outcome.Differs text) = record { out = text.items; err = []; status = 3 }
-report_of mode name (outcome.Refused fault) = record { out = []; err = name ++ (codes ":" ++ fault_words fault); status = 2 }
+report_of mode name (outcome.Refused fault) = record { out = []; err = quoted name ++ (codes ":" ++ fault_words fault); status = 2 }
 report_of mode name (outcome.Failed fault) = record { out = []; err = about name (tree_fault_text fault); status = 4 }
 
 -- 4 is worse than 2, 2 is worse than 3, and 3 than 0

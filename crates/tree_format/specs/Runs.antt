@@ -1,12 +1,13 @@
 -- What a run over files makes of each of them.
-use Rattle.std.specs.Prelude.{◌≡◌, ◌⊎◌, ◌||◌, ℕ, Bool, true, false, List, [], ◌∷◌, ◌++◌, Option, Some, None, map, if◌then◌else◌}
+use Rattle.std.specs.Prelude.{◌≡◌, ◌⊎◌, ◌||◌, ◌-◌, ℕ, Bool, true, false, List, [], ◌∷◌, ◌++◌, Option, Some, None, length, map, take, if◌then◌else◌}
 use Rattle.std.specs.List.{concat}
-use Rattle.command_line.specs.Rows.{End, Took}
-use Rattle.file_tree.specs.Files.{Name, State}
+use Rattle.command_line.specs.Rows.{End, Took, TookBy, Writer}
+use Rattle.file_tree.specs.Files.{Name}
 use Rattle.file_tree.specs.declared.fault.TreeFault.{TreeFault}
 use Rattle.file_tree.specs.declared.walk.Found.{Found}
-use Rattle.tree_format.specs.Looks.{Notes, Visits}
+use Rattle.tree_format.specs.Looks.{Asks, Notes, Visits}
 use Rattle.tree_format.specs.Reports.{Report, report_of, worst}
+use Rattle.tree_format.specs.States.{State}
 use Rattle.hcl_source.specs.declared.fault.Fault.{Fault}
 use Rattle.tree_format.specs.Format.{IsFormat, IsFault}
 use Rattle.tree_format.specs.declared.mode.Mode.{Mode}
@@ -42,7 +43,9 @@ Settled mode before after = Unit {0}
 -- a look at a name that was found: it is at the file to which the name leads, unless there is a fault for which it can't be
 abbrev pub SeesBy : Mode → Name → Option TreeFault → Outcome → State → State → Type 0
 SeesBy mode name (Some fault) answer before after = (answer ≡ outcome.Failed fault) × (after ≡ before)
-SeesBy mode name None answer before after = Visits mode before.files after.files name (before.files.real name) answer × Notes before.faults after.faults answer
+SeesBy mode name None answer before after =
+    Visits mode before.files after.files name (before.files.real name) answer × Notes before.faults after.faults answer
+    × Asks mode name (before.files.told (before.files.real name)) before.asked after.asked answer
 
 abbrev pub Sees : Mode → Found → Outcome → State → State → Type 0
 Sees mode found = SeesBy mode found.name.items found.fault
@@ -59,10 +62,26 @@ reports_of mode (found ∷ more) (answer ∷ answers) = report_of mode found.nam
 reports_of mode (found ∷ more) [] = []
 reports_of mode [] answers = []
 
+-- all but the last one
+abbrev pub but_last : {X : Type 0} → List X → List X
+but_last xs = take (length xs - 1) xs
+
+-- a writer took all of this text, and what came after it is a part of what it took
+pub record HasWhole (w : Writer) (text : List ℕ) : Type 0 where
+  pub more : List ℕ
+  pub between : Option (List ℕ)
+  pub whole : TookBy false w.before between text
+  pub later : TookBy w.failed between w.after more
+
+-- all reports but the last one were written whole: so after one that wasn't, no name was looked at
+pub record AreWhole (out err : Writer) (reports : List Report) : Type 0 where
+  pub output : HasWhole out (concat (map (λ r. r.out) (but_last reports)))
+  pub message : HasWhole err (concat (map (λ r. r.err) (but_last reports)))
+
 -- THE RUN over names that were found: each is looked at and reported, up to one whose report can't be written, and then the
--- last words are said. Each writer took what was reported to it, or a part from the front where it failed, and the status
--- is the worst one, or 4 where a writer failed.
-pub record IsRun (mode : Mode) (found : List Found) (last : List ℕ) (before after : State) (end : End) : Type 0 where
+-- last words are said, which may rest on what was answered. Each writer took what was reported to it, or a part from the front
+-- where it failed, and the status is the worst one, or 4 where a writer failed.
+pub record IsRun (mode : Mode) (found : List Found) (last : List Outcome → List ℕ) (before after : State) (end : End) : Type 0 where
   pub seen : List Found
   pub rest : List Found
   pub all : found ≡ seen ++ rest
@@ -70,5 +89,6 @@ pub record IsRun (mode : Mode) (found : List Found) (last : List ℕ) (before af
   pub answers : List Outcome
   pub looks : Looked mode seen answers before after
   pub output : Took end.out (concat (map (λ r. r.out) (reports_of mode seen answers)))
-  pub message : Took end.err (concat (map (λ r. r.err) (reports_of mode seen answers)) ++ last)
+  pub message : Took end.err (concat (map (λ r. r.err) (reports_of mode seen answers)) ++ last answers)
+  pub stops : AreWhole end.out end.err (reports_of mode seen answers)
   pub exit : end.status ≡ (if end.out.failed || end.err.failed then 4 else worst (map (λ r. r.status) (reports_of mode seen answers)))

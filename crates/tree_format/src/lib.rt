@@ -9,3 +9,4 @@ mod printed;
 pub mod progress;
 pub mod report;
 pub mod run;
+pub mod tally;

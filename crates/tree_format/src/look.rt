@@ -1,26 +1,29 @@
 //! One file.
 
-ghost use Rattle.std.specs.Prelude.{◌≡◌, ◌≢◌, ◌≤◌, Some, length, IfOk, IfErr};
+ghost use Rattle.std.specs.Prelude.{◌≡◌, ◌≢◌, ◌≤◌, ◌++◌, Some, length, IfOk, IfErr};
 ghost use Rattle.hcl_layout.specs.Print.{print};
 ghost use Rattle.hcl_source.specs.Devices.{Tells};
 ghost use Rattle.hcl_source.specs.Load.{max_source, IsText};
-ghost use Rattle.tree_format.specs.Looks.{Looks, Notes, Visits};
+ghost use Rattle.tree_format.specs.Looks.{Asks, Looks, Notes, Visits, shown_diff};
+ghost use Rattle.file_tree.specs.Quotes.{shown_head};
 ghost use Rattle.tree_format.specs.declared.mode.Mode.TheVariants.{Write};
 ghost use Rattle.file_tree.specs.declared.fault.TreeFault.TheVariants.{OutOfMemory};
-ghost use Rattle.tree_format.specs.Inner.Steps.{IsShown, LoadNotes, LoadsFile, Makes, outcome_by, outcome_of_scan};
+ghost use Rattle.tree_format.specs.Inner.Steps.{IsShown, LoadNotes, LoadsFile, Makes, MakesAsking, outcome_by, outcome_of_scan};
 
 use crate::mode::Mode;
 use crate::outcome::Outcome;
 use crate::printed::Printed;
 use file_tree::fault::TreeFault;
-use file_tree::tree::{Tree, Writing};
+use file_tree::path::joined;
+use file_tree::quote::shown_head;
+use file_tree::tree::{Replaced, Tree, WritableTree, Writing};
 use hcl_layout::{emit, fits, is_formatted};
 use hcl_scan::{
     ByteSink, Fault, FaultKind, LoadError, MAX_SOURCE, Position, ScanError, Source, scan,
 };
 use hcl_syntax::{Accepted, accepts};
 use line_diff::diff::diff;
-use std::alloc::Global;
+use std::alloc::{AllocError, Global};
 
 /// The print, in memory.
 fn print_of(alloc: Global, accepted: &Accepted<'_, '_>) -> Result<Printed, TreeFault>
@@ -36,7 +39,7 @@ fn print_of(alloc: Global, accepted: &Accepted<'_, '_>) -> Result<Printed, TreeF
 
 /// Puts the print in place of a file.
 #[tactic(auto, using(crate::proofs::KeptFormatLemmas::notes_call, crate::proofs::KeptFormatLemmas::notes_fault, crate::proofs::KeptFormatLemmas::notes_memory))]
-fn write_print<T: Tree>(
+fn write_print<T: WritableTree>(
     alloc: Global,
     name: &[u8],
     accepted: &Accepted<'_, '_>,
@@ -48,6 +51,7 @@ fn write_print<T: Tree>(
     requires old { Tells ((T.files tree.old).told ((T.files tree.old).real name.now)) accepted.now.text }
     ensures makes { Makes (Write writing) (T.files tree.old) (T.files tree.new) name.now ((T.files tree.old).real name.now) accepted.now result }
     ensures notes { Notes (T.faults tree.old) (T.faults tree.new) result }
+    ensures asks { MakesAsking (Write writing) name.now accepted.now (T.asked tree.old) (T.asked tree.new) result }
 {
     let printed = match print_of(alloc, accepted) {
         Ok(printed) => printed,
@@ -55,9 +59,26 @@ fn write_print<T: Tree>(
     };
     let old = accepted.tokens().source().text().as_bytes();
     match tree.replace(name, old, printed.bytes(), writing) {
-        Ok(()) => Outcome::Changed,
+        Ok(how) => Outcome::Changed(how),
         Err(fault) => Outcome::Failed(fault),
     }
+}
+
+/// A name below a folder, as the head of a diff shows it.
+fn head_of(alloc: Global, folder: &[u8], name: &[u8]) -> Result<Vec<u8>, AllocError>
+    ensures { IfOk result (λ head. head.items ≡ shown_head (folder.now ++ name.now)) }
+{
+    let path = joined(alloc, folder, name)?;
+    shown_head(alloc, path.as_slice())
+}
+
+/// What changes in a file of this name, as it is shown.
+fn shown_diff(alloc: Global, name: &[u8], old: &[u8], new: &[u8]) -> Result<Vec<u8>, AllocError>
+    ensures { IfOk result (λ text. text.items ≡ shown_diff name.now old.now new.now) }
+{
+    let old_name = head_of(alloc, b"old/", name)?;
+    let new_name = head_of(alloc, b"new/", name)?;
+    diff(alloc, old_name.as_slice(), new_name.as_slice(), old, new)
 }
 
 /// Shows what the print changes.
@@ -69,7 +90,7 @@ fn show_print(alloc: Global, name: &[u8], accepted: &Accepted<'_, '_>) -> Outcom
         Err(fault) => return Outcome::Failed(fault),
     };
     let old = accepted.tokens().source().text().as_bytes();
-    match diff(alloc, name, old, printed.bytes()) {
+    match shown_diff(alloc, name, old, printed.bytes()) {
         Ok(text) => Outcome::Differs(text),
         Err(_) => Outcome::Failed(TreeFault::OutOfMemory),
     }
@@ -77,7 +98,7 @@ fn show_print(alloc: Global, name: &[u8], accepted: &Accepted<'_, '_>) -> Outcom
 
 /// Does with an accepted file what is asked for.
 #[tactic(auto, using(crate::proofs::KeptFormatLemmas::notes_call, crate::proofs::KeptFormatLemmas::notes_shown))]
-fn change<T: Tree>(
+fn change<T: WritableTree>(
     alloc: Global,
     mode: Mode,
     name: &[u8],
@@ -87,6 +108,7 @@ fn change<T: Tree>(
     requires old { Tells ((T.files tree.old).told ((T.files tree.old).real name.now)) accepted.now.text }
     ensures makes { Makes mode (T.files tree.old) (T.files tree.new) name.now ((T.files tree.old).real name.now) accepted.now result }
     ensures notes { Notes (T.faults tree.old) (T.faults tree.new) result }
+    ensures asks { MakesAsking mode name.now accepted.now (T.asked tree.old) (T.asked tree.new) result }
 {
     if is_formatted(accepted) {
         return Outcome::Formatted;
@@ -98,7 +120,7 @@ fn change<T: Tree>(
         });
     }
     match mode {
-        Mode::Check | Mode::List => Outcome::Changed,
+        Mode::Check | Mode::List(_) => Outcome::Changed(Replaced::Kept),
         Mode::Diff => show_print(alloc, name, accepted),
         Mode::Write(writing) => write_print(alloc, name, accepted, writing, tree),
     }
@@ -106,7 +128,7 @@ fn change<T: Tree>(
 
 /// Does with a source what is asked for.
 #[tactic(auto, using(crate::proofs::KeptFormatLemmas::notes_call, crate::proofs::KeptFormatLemmas::notes_memory))]
-fn change_source<T: Tree>(
+fn change_source<T: WritableTree>(
     alloc: Global,
     mode: Mode,
     name: &[u8],
@@ -117,6 +139,8 @@ fn change_source<T: Tree>(
     requires old { Tells ((T.files tree.old).told ((T.files tree.old).real name.now)) source.now }
     ensures looks { Looks mode (T.files tree.old) (T.files tree.new) name.now ((T.files tree.old).real name.now) source.now result }
     ensures notes { Notes (T.faults tree.old) (T.faults tree.new) result }
+    ensures asks { Asks mode name.now ((T.files tree.old).told ((T.files tree.old).real name.now))
+        (T.asked tree.old) (T.asked tree.new) result }
 {
     match scan(alloc, source) {
         Ok(tokens) => match accepts(&tokens) {
@@ -154,6 +178,7 @@ fn outcome_of_scan(error: ScanError) -> Outcome
 fn load<T: Tree>(alloc: Global, name: &[u8], tree: &mut T) -> Result<Source, Outcome>
     ensures loads { LoadsFile ((T.files tree.old).told ((T.files tree.old).real name.now)) result }
     ensures files { T.files tree.new ≡ T.files tree.old }
+    ensures asked { T.asked tree.new ≡ T.asked tree.old }
     ensures notes { LoadNotes (T.faults tree.old) (T.faults tree.new) result }
 {
     let mut reader = match tree.reader(name) {
@@ -166,10 +191,12 @@ fn load<T: Tree>(alloc: Global, name: &[u8], tree: &mut T) -> Result<Source, Out
 }
 
 /// Looks at one file and does what is asked for.
-#[tactic(auto, using(crate::proofs::KeptFormatLemmas::visits_loaded, crate::proofs::KeptFormatLemmas::visits_unloaded))]
-pub fn visit<T: Tree>(alloc: Global, mode: Mode, name: &[u8], tree: &mut T) -> Outcome
+#[tactic(auto, using(crate::proofs::KeptFormatLemmas::visits_loaded, crate::proofs::KeptFormatLemmas::visits_unloaded, crate::proofs::KeptFormatLemmas::asks_loaded, crate::proofs::KeptFormatLemmas::asks_unloaded))]
+pub fn visit<T: WritableTree>(alloc: Global, mode: Mode, name: &[u8], tree: &mut T) -> Outcome
     ensures visits { Visits mode (T.files tree.old) (T.files tree.new) name.now ((T.files tree.old).real name.now) result }
     ensures notes { Notes (T.faults tree.old) (T.faults tree.new) result }
+    ensures asks { Asks mode name.now ((T.files tree.old).told ((T.files tree.old).real name.now))
+        (T.asked tree.old) (T.asked tree.new) result }
 {
     match load(alloc, name, tree) {
         Ok(source) => change_source(alloc, mode, name, &source, tree),

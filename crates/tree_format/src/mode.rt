@@ -2,6 +2,15 @@
 
 use file_tree::tree::Writing;
 
+/// How names are printed.
+#[derive(Clone, Copy, Debug, PartialEq, Eq)]
+pub enum Ending {
+    /// Each as it is shown, on a line of its own.
+    Line,
+    /// Each as it is, ended by NUL.
+    Null,
+}
+
 /// What is to be done with files that aren't formatted.
 #[derive(Clone, Copy, Debug, PartialEq, Eq)]
 pub enum Mode {
@@ -10,7 +19,7 @@ pub enum Mode {
     /// They are reported.
     Check,
     /// Their names are printed.
-    List,
+    List(Ending),
     /// What would change is shown.
     Diff,
 }

@@ -1,6 +1,7 @@
 //! What became of a file.
 
 use file_tree::fault::TreeFault;
+use file_tree::tree::Replaced;
 use hcl_scan::Fault;
 
 /// What became of a file.
@@ -8,8 +9,8 @@ use hcl_scan::Fault;
 pub enum Outcome {
     /// It is formatted.
     Formatted,
-    /// It isn't formatted, or wasn't before.
-    Changed,
+    /// It isn't formatted, or wasn't before. Of one that was written, what is left of the rights to it.
+    Changed(Replaced),
     /// It isn't formatted; this shows what would change.
     Differs(Vec<u8>),
     /// It has no format.

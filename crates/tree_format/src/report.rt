@@ -3,17 +3,21 @@
 ghost use Rattle.std.specs.Prelude.{◌≡◌, ◌||◌, [], false, ◌++◌, codes, is_err, map};
 ghost use Rattle.std.specs.List.{concat};
 ghost use Rattle.command_line.specs.Rows.{Took, fault_words, writer};
+ghost use Rattle.file_tree.specs.Quotes.{quoted};
 ghost use Rattle.file_tree.specs.Files.{Name};
-ghost use Rattle.tree_format.specs.Reports.{about, report_of, worse};
+ghost use Rattle.tree_format.specs.Reports.{about, listed, report_of, rights_words, worse};
+ghost use Rattle.tree_format.specs.declared.mode.Ending.TheVariants.{Line};
 ghost use Rattle.tree_format.specs.Inner.Pieces.{place_words};
 
-use crate::mode::Mode;
+use crate::mode::{Ending, Mode};
 use crate::outcome::Outcome;
+use file_tree::quote::write_quoted;
+use file_tree::tree::Replaced;
 use hcl_scan::{ByteSink, Failed, Fault, write_fully};
 use itoa::Buffer;
 
 /// Writes the pieces one after the other, up to the first write that fails. So a line needs no memory.
-fn write_pieces<S: ByteSink>(sink: &mut S, pieces: &[&[u8]]) -> Result<(), Failed>
+pub(crate) fn write_pieces<S: ByteSink>(sink: &mut S, pieces: &[&[u8]]) -> Result<(), Failed>
     requires { S.failed sink.old ≡ false }
     ensures took { Took (writer S.ByteSink sink.old sink.new) (concat (map (λ piece. piece.now) pieces.now)) }
     ensures failed { S.failed sink.new ≡ is_err result }
@@ -26,48 +30,52 @@ fn write_pieces<S: ByteSink>(sink: &mut S, pieces: &[&[u8]]) -> Result<(), Faile
     Ok(())
 }
 
+/// Writes a name as it is shown, and then the pieces.
+fn write_named<S: ByteSink>(sink: &mut S, name: &[u8], pieces: &[&[u8]]) -> Result<(), Failed>
+    requires { S.failed sink.old ≡ false }
+    ensures took { Took (writer S.ByteSink sink.old sink.new)
+        (quoted name.now ++ concat (map (λ piece. piece.now) pieces.now)) }
+    ensures failed { S.failed sink.new ≡ is_err result }
+{
+    if write_quoted(sink, name).is_err() {
+        return Err(Failed);
+    }
+    write_pieces(sink, pieces)
+}
+
 /// Writes `NAME: TEXT`.
-fn tell_about<'p, S: ByteSink>(sink: &mut S, name: &'p [u8], text: &'p str) -> Result<(), Failed>
+fn tell_about<S: ByteSink>(sink: &mut S, name: &[u8], text: &str) -> Result<(), Failed>
     requires { S.failed sink.old ≡ false }
     ensures took { Took (writer S.ByteSink sink.old sink.new) (about name.now text.now) }
     ensures failed { S.failed sink.new ≡ is_err result }
 {
-    write_pieces(sink, &[name, b": ", text.as_bytes(), b"\n"])
+    write_named(sink, name, &[b": ", text.as_bytes(), b"\n"])
 }
 
 /// Writes `NAME:LINE:COLUMN: TEXT`.
 fn tell_at<'p, S: ByteSink>(
     sink: &mut S,
-    name: &'p [u8],
+    name: &[u8],
     line: &'p str,
     column: &'p str,
     text: &'p str,
 ) -> Result<(), Failed>
     requires { S.failed sink.old ≡ false }
-    ensures took { Took (writer S.ByteSink sink.old sink.new) (place_words name.now line.now column.now text.now) }
+    ensures took { Took (writer S.ByteSink sink.old sink.new)
+        (quoted name.now ++ place_words line.now column.now text.now) }
     ensures failed { S.failed sink.new ≡ is_err result }
 {
     let line = line.as_bytes();
     let column = column.as_bytes();
-    write_pieces(
-        sink,
-        &[
-            name,
-            b":",
-            line,
-            b":",
-            column,
-            b": ",
-            text.as_bytes(),
-            b"\n",
-        ],
-    )
+    let text = text.as_bytes();
+    write_named(sink, name, &[b":", line, b":", column, b": ", text, b"\n"])
 }
 
 /// Writes where a file is refused, and why.
 fn tell_fault<S: ByteSink>(sink: &mut S, name: &[u8], fault: &Fault) -> Result<(), Failed>
     requires { S.failed sink.old ≡ false }
-    ensures took { Took (writer S.ByteSink sink.old sink.new) (name.now ++ (codes ":" ++ fault_words fault.now)) }
+    ensures took { Took (writer S.ByteSink sink.old sink.new)
+        (quoted name.now ++ (codes ":" ++ fault_words fault.now)) }
     ensures failed { S.failed sink.new ≡ is_err result }
 {
     let mut line = Buffer::new();
@@ -75,6 +83,54 @@ fn tell_fault<S: ByteSink>(sink: &mut S, name: &[u8], fault: &Fault) -> Result<(
     let line = line.format(fault.at.line);
     let column = column.format(fault.at.column);
     tell_at(sink, name, line, column, fault.kind.text())
+}
+
+/// Prints a name.
+fn tell_name<S: ByteSink>(sink: &mut S, ending: Ending, name: &[u8]) -> Result<(), Failed>
+    requires { S.failed sink.old ≡ false }
+    ensures took { Took (writer S.ByteSink sink.old sink.new) (listed ending name.now) }
+    ensures failed { S.failed sink.new ≡ is_err result }
+{
+    match ending {
+        Ending::Line => write_named(sink, name, &[b"\n"]),
+        Ending::Null => write_pieces(sink, &[name, b"\0"]),
+    }
+}
+
+/// Says of a file that was written what is left of the rights to it.
+fn tell_rights<S: ByteSink>(sink: &mut S, how: Replaced, name: &[u8]) -> Result<(), Failed>
+    requires { S.failed sink.old ≡ false }
+    ensures took { Took (writer S.ByteSink sink.old sink.new) (rights_words how name.now) }
+    ensures failed { S.failed sink.new ≡ is_err result }
+{
+    match how {
+        Replaced::Kept => Ok(()),
+        Replaced::Narrowed => tell_about(
+            sink,
+            name,
+            "its group cannot be kept: group and others have the rights that both had",
+        ),
+    }
+}
+
+/// Says that a file was written.
+fn tell_written<O: ByteSink, E: ByteSink>(
+    how: Replaced,
+    name: &[u8],
+    out: &mut O,
+    err: &mut E,
+) -> Result<(), Failed>
+    requires out { O.failed out.old ≡ false }
+    requires err { E.failed err.old ≡ false }
+    ensures out { Took (writer O.ByteSink out.old out.new) (listed Line name.now) }
+    ensures err { Took (writer E.ByteSink err.old err.new) (rights_words how name.now) }
+    ensures failed { is_err result ≡ (O.failed out.new || E.failed err.new) }
+{
+    let told = tell_rights(err, how, name);
+    if tell_name(out, Ending::Line, name).is_err() {
+        return Err(Failed);
+    }
+    told
 }
 
 /// Says what became of a file.
@@ -93,9 +149,11 @@ pub fn report<O: ByteSink, E: ByteSink>(
 {
     match outcome {
         Outcome::Formatted => Ok(()),
-        Outcome::Changed => match mode {
+        Outcome::Changed(how) => match mode {
+            Mode::Write(_) => tell_written(*how, name, out, err),
             Mode::Check => tell_about(err, name, "not formatted"),
-            _ => write_pieces(out, &[name, b"\n"]),
+            Mode::List(ending) => tell_name(out, ending, name),
+            Mode::Diff => tell_name(out, Ending::Line, name),
         },
         Outcome::Differs(text) => write_pieces(out, &[text.as_slice()]),
         Outcome::Refused(fault) => tell_fault(err, name, fault),
@@ -109,7 +167,7 @@ pub fn status_of(mode: Mode, outcome: &Outcome) -> u8
 {
     match outcome {
         Outcome::Formatted => 0,
-        Outcome::Changed => match mode {
+        Outcome::Changed(_) => match mode {
             Mode::Write(_) => 0,
             _ => 3,
         },

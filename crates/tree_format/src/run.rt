@@ -2,27 +2,30 @@
 
 ghost use Rattle.std.specs.Prelude.{◌≡◌, ◌≢◌, ℕ, List, [], All, false};
 ghost use Rattle.command_line.specs.Rows.{end_of};
-ghost use Rattle.tree_format.specs.Runs.{IsRun, Kept, Sees, Settled, is_failed};
+ghost use Rattle.tree_format.specs.Runs.{Kept, Sees, Settled, is_failed};
+ghost use Rattle.tree_format.specs.States.{state_of};
+ghost use Rattle.tree_format.specs.Tally.{Tallies};
 
 use crate::look::visit;
 use crate::mode::Mode;
 use crate::outcome::Outcome;
 use crate::progress::Progress;
 use crate::report::{report, status_of, worse};
-use file_tree::tree::Tree;
+use crate::tally::Tally;
+use file_tree::tree::WritableTree;
 use file_tree::walk::Found;
 use hcl_scan::ByteSink;
 use std::alloc::Global;
 
 /// Looks at one name.
 #[tactic(auto, using(crate::proofs::KeptFormatLemmas::kept_same, crate::proofs::KeptFormatLemmas::visit_kept, crate::proofs::KeptFormatLemmas::visit_real, crate::proofs::KeptFormatLemmas::visit_elsewhere))]
-fn look<T: Tree>(alloc: Global, mode: Mode, found: &Found, tree: &mut T) -> Outcome
+fn look<T: WritableTree>(alloc: Global, mode: Mode, found: &Found, tree: &mut T) -> Outcome
     ensures kept { (name : List ℕ) → Kept mode ((T.files tree.old).told name) ((T.files tree.new).told name) }
     ensures settled { let real = (T.files tree.old).real found.now.name.items in
         is_failed result ≡ false → Settled mode ((T.files tree.old).told real) ((T.files tree.new).told real) }
     ensures elsewhere { (name : List ℕ) → name ≢ (T.files tree.old).real found.now.name.items → (T.files tree.new).told name ≡ (T.files tree.old).told name }
     ensures real { (name : List ℕ) → (T.files tree.new).real name ≡ (T.files tree.old).real name }
-    ensures sees { Sees mode found.now result (record { files = T.files tree.old; faults = T.faults tree.old }) (record { files = T.files tree.new; faults = T.faults tree.new }) }
+    ensures sees { Sees mode found.now result (state_of T.Tree tree.old) (state_of T.Tree tree.new) }
 {
     match found.fault {
         Some(fault) => Outcome::Failed(fault),
@@ -30,9 +33,18 @@ fn look<T: Tree>(alloc: Global, mode: Mode, found: &Found, tree: &mut T) -> Outc
     }
 }
 
+/// How a run over files ended.
+#[derive(Clone, Copy, Debug, PartialEq, Eq)]
+pub struct Ran {
+    /// The worst status of a file, or that of a failed report.
+    pub status: u8,
+    /// What came of the files that were looked at.
+    pub tally: Tally,
+}
+
 /// Goes over the files.
 #[tactic(auto, using(crate::proofs::KeptFormatLemmas::kept_same, crate::proofs::KeptFormatLemmas::kept_trans))]
-pub fn run_over<T: Tree, P: Progress, O: ByteSink, E: ByteSink>(
+pub fn run_over<T: WritableTree, P: Progress, O: ByteSink, E: ByteSink>(
     alloc: Global,
     mode: Mode,
     all: &[Found],
@@ -40,27 +52,31 @@ pub fn run_over<T: Tree, P: Progress, O: ByteSink, E: ByteSink>(
     progress: &mut P,
     out: &mut O,
     err: &mut E,
-) -> u8
+) -> Ran
     requires out { O.failed out.old ≡ false }
     requires err { E.failed err.old ≡ false }
     // However the run goes, each file is then as it was, or, where files are to be written, it has the format of its bytes.
     ensures kept { (name : List ℕ) → Kept mode ((T.files tree.old).told name) ((T.files tree.new).told name) }
     // Where nothing failed, nothing is left to do for the files that were found.
-    ensures done { result ≢ 4 → All (λ f. Settled mode ((T.files tree.old).told ((T.files tree.old).real f.name.items)) ((T.files tree.new).told ((T.files tree.old).real f.name.items))) all.now }
+    ensures done { result.status ≢ 4 → All (λ f. Settled mode ((T.files tree.old).told ((T.files tree.old).real f.name.items)) ((T.files tree.new).told ((T.files tree.old).real f.name.items))) all.now }
     // A file to which no name that was found leads keeps its bytes.
     ensures untouched { (name : List ℕ) → All (λ f. name ≢ (T.files tree.old).real f.name.items) all.now → (T.files tree.new).told name ≡ (T.files tree.old).told name }
     // What was seen, reported and answered.
-    ensures ran { IsRun mode all.now [] (record { files = T.files tree.old; faults = T.faults tree.old }) (record { files = T.files tree.new; faults = T.faults tree.new }) (end_of O.ByteSink out.old out.new E.ByteSink err.old err.new result) }
+    ensures ran { Tallies mode all.now (state_of T.Tree tree.old) (state_of T.Tree tree.new)
+        (end_of O.ByteSink out.old out.new E.ByteSink err.old err.new result.status) result.tally }
 {
+    let _count = all.len();
     let mut status = 0;
+    let mut tally = Tally::new();
     for found in all {
         let outcome = look(alloc, mode, found, tree);
         progress.looked(&outcome);
+        tally = tally.add(&outcome);
         if report(mode, found.name.as_slice(), &outcome, out, err).is_err() {
-            return 4;
+            return Ran { status: 4, tally };
         }
         progress.reported();
         status = worse(status, status_of(mode, &outcome));
     }
-    status
+    Ran { status, tally }
 }

@@ -1,6 +1,6 @@
 //! That a run shows and leaves what its row and its failures say.
 
-use crate::compared::{At, holds, same_bytes, same_number};
+use crate::compared::{At, Words, holds, same_bytes, same_number};
 use crate::devices::{Devices, Ended};
 use crate::expected::{Line, Said, Shown, lines_after, lines_of, shown_lines, shown_text};
 use crate::rows::Row;
@@ -29,6 +29,19 @@ fn wanted_lines(rt: &impl Abort, alloc: Global, row: &Row, run: &Ended<'_>) -> V
     }
 }
 
+// Whether files are written by these words, and whether the run is quiet.
+fn manner_of(words: Words) -> (bool, bool) {
+    let mut manner = (true, false);
+    for word in words {
+        manner = match *word {
+            "--check" | "--list" | "--diff" => (false, manner.1),
+            "--quiet" => (manner.0, true),
+            _ => manner,
+        };
+    }
+    manner
+}
+
 // What is to be shown.
 fn wanted(
     rt: &impl Abort,
@@ -46,7 +59,7 @@ fn wanted(
             let text = (out.as_bytes(), err.as_bytes(), status);
             shown_text(rt, alloc, text, devices)
         }
-        None => shown_lines(rt, alloc, lines, devices),
+        None => shown_lines(rt, alloc, lines, devices, manner_of(row.words)),
     }
 }
 

@@ -88,10 +88,33 @@ fn sink(most: usize, write: Option<usize>, flush: bool) -> MemorySink
     if flush { sink.failing_flush() } else { sink }
 }
 
-/// Runs the program on a tree of these entries. Where there is no memory for the tree, it doesn't.
+/// The words as the process has them.
+pub fn words_as_bytes<'a>(alloc: Global, words: &[&'a str]) -> Result<Vec<&'a [u8]>, AllocError> {
+    let mut all = Vec::new(alloc);
+    for word in words {
+        if all.push(word.as_bytes()).is_err() {
+            return Err(AllocError);
+        }
+    }
+    Ok(all)
+}
+
+/// Runs the program on a tree of these entries, with words that are texts. Where there is no memory for the tree, it doesn't.
 pub fn run<'a>(
     alloc: Global,
     words: &[&str],
+    names: &[u8],
+    entries: &'a [Entry<'a>],
+    devices: &Devices,
+) -> Result<Ended<'a>, AllocError> {
+    let words = words_as_bytes(alloc, words)?;
+    run_bytes(alloc, words.as_slice(), names, entries, devices)
+}
+
+/// The same with words that may be any bytes.
+pub fn run_bytes<'a>(
+    alloc: Global,
+    words: &[&[u8]],
     names: &[u8],
     entries: &'a [Entry<'a>],
     devices: &Devices,

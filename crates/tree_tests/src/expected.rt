@@ -21,6 +21,10 @@ pub enum Said {
 }
 
 impl Said {
+    fn is_formatted(self) -> bool {
+        matches!(self, Said::Formatted)
+    }
+
     /// The status that it gives.
     fn status(self) -> u8 {
         match self {
@@ -30,6 +34,14 @@ impl Said {
             Said::Failed(_) => 4,
         }
     }
+}
+
+/// How many of the lines have this status.
+fn count_of(lines: &[Line], status: u8) -> usize {
+    lines
+        .iter()
+        .filter(|line| line.said.status() == status)
+        .count()
 }
 
 /// What is said of the names that are found, in their order.
@@ -214,6 +226,63 @@ impl Streams {
             self.err.put(rt, b"tffmt-all: error: write failed\n");
         }
     }
+
+    fn tell_number(&mut self, rt: &impl Abort, alloc: Global, number: usize) {
+        let text = format!(in alloc; "{number}").expect(rt, "memory");
+        self.err.put(rt, text.as_bytes());
+    }
+
+    /// Says how many files there were of which this is said, where there are some.
+    fn tell_count(&mut self, rt: &impl Abort, alloc: Global, number: usize, word: &[u8]) {
+        if number > 0 {
+            self.err.put(rt, b", ");
+            self.tell_number(rt, alloc, number);
+            self.err.put(rt, word);
+        }
+    }
+
+    /// Says what became of all files.
+    fn tell_tally(&mut self, rt: &impl Abort, alloc: Global, lines: &[Line], writes: bool) {
+        if lines.is_empty() {
+            self.err.put(rt, b"no files found\n");
+            return;
+        }
+        let refused = count_of(lines, 2);
+        let failed = count_of(lines, 4);
+        let unchanged = lines.iter().filter(|line| line.said.is_formatted()).count();
+        let others = refused.saturating_add(failed).saturating_add(unchanged);
+        let changed = lines.len().saturating_sub(others);
+        self.tell_number(rt, alloc, changed);
+        self.err
+            .put(rt, if changed == 1 { b" file" } else { b" files" });
+        self.err.put(
+            rt,
+            if writes {
+                b" formatted, "
+            } else {
+                b" not formatted, "
+            },
+        );
+        self.tell_number(rt, alloc, unchanged);
+        self.err.put(rt, b" unchanged");
+        self.tell_count(rt, alloc, refused, b" refused");
+        self.tell_count(rt, alloc, failed, b" failed");
+        self.err.put(rt, b"\n");
+    }
+
+    /// Says the last words of a run over these lines.
+    fn end(
+        &mut self,
+        rt: &impl Abort,
+        alloc: Global,
+        lines: &[Line],
+        (writes, quiet): (bool, bool),
+    ) {
+        self.finish(rt);
+        if !quiet && !self.has_failed() {
+            self.tell_tally(rt, alloc, lines, writes);
+        }
+    }
 }
 
 // 4 is worse than 2, and 2 than 3.
@@ -247,11 +316,17 @@ impl Shown {
     }
 }
 
-/// What a run shows that tells these lines.
-pub fn shown_lines(rt: &impl Abort, alloc: Global, lines: &[Line], devices: &Devices) -> Shown {
+/// What a run shows that tells these lines, and whether it writes files and is quiet.
+pub fn shown_lines(
+    rt: &impl Abort,
+    alloc: Global,
+    lines: &[Line],
+    devices: &Devices,
+    manner: (bool, bool),
+) -> Shown {
     let mut streams = Streams::new(alloc, devices);
     let (looked, status) = streams.tell_all(rt, lines);
-    streams.finish(rt);
+    streams.end(rt, alloc, lines, manner);
     Shown::of(streams, status, looked)
 }
 

@@ -13,6 +13,10 @@ mod expected;
 #[cfg(test)]
 mod failure_tests;
 #[cfg(test)]
+mod large_tests;
+#[cfg(test)]
+mod large_tree;
+#[cfg(test)]
 mod rows;
 #[cfg(test)]
 mod tests;

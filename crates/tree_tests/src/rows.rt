@@ -160,8 +160,10 @@ const OF_MIXED: Lines = &[
 ];
 
 /// What is said of a line that is none of this program.
-pub const USAGE: &str =
-    "usage: tffmt-all [--check | --diff | --list] [--in-place] [--sync] [--shard K/N] [--null] [--] [FILE|FOLDER]...\n";
+pub const USAGE: &str = "\
+usage: tffmt-all [--check | --diff | --list] [--in-place] [--sync] [--quiet]
+                 [--shard K/N] [--null] [--] [FILE|FOLDER]...
+";
 
 /// Files get their format.
 pub static WRITES: Row = Row {

@@ -2,7 +2,7 @@
 
 use crate::checks::check;
 use crate::compared::{At, Words, holds, repeated, same_bytes, same_number};
-use crate::devices::{run, steady};
+use crate::devices::{run, run_bytes, steady};
 use crate::expected::Said;
 use crate::rows::{
     BAD_WORD, CHECKS, LISTS, NAMES_GIVEN, OF_EACH_KIND, ONLY_IN_PLACE, Row, SHOWS, SMALL, SYNCS,
@@ -57,7 +57,6 @@ fn shows_text(rt: &impl Abort, alloc: Global, words: Words, text: Text) {
 
 static BAD_WORDS: [Words; 10] = [
     &["tffmt-all", "--bogus"],
-    &["tffmt-all", "--check", "--diff"],
     &["tffmt-all", "--check", "--list"],
     &["tffmt-all", "--diff", "--list", "a.tf"],
     &["tffmt-all", "--shard"],
@@ -66,6 +65,7 @@ static BAD_WORDS: [Words; 10] = [
     &["tffmt-all", "--shard", "1"],
     &["tffmt-all", "-0", "a.tf"],
     &["tffmt-all", "--jobs", "x"],
+    &["tffmt-all", "--list", "--check", "--diff"],
 ];
 
 #[test]
@@ -134,4 +134,133 @@ fn a_large_file_is_written(rt: HostRuntime) {
     same_number(&rt, u64::from(run.status), 0, at_all());
     let found = run.tree.bytes_of(b"a.tf");
     holds(&rt, found == Some(new.as_slice()), at_all());
+}
+
+// What a run over these bytes as words, and these entries, shows and answers.
+fn shows_bytes(
+    rt: &impl Abort,
+    alloc: Global,
+    words: &[&[u8]],
+    entries: &[Entry<'_>],
+    (out, err, status): (&[u8], &[u8], u8),
+) {
+    let run = run_bytes(alloc, words, b"", entries, &at_all().devices).expect(rt, "memory");
+    same_bytes(rt, run.out.bytes(), out, at_all());
+    same_bytes(rt, run.err.bytes(), err, at_all());
+    same_number(rt, u64::from(run.status), u64::from(status), at_all());
+}
+
+// A name that isn't UTF-8 is told, and the others are formatted; alone it doesn't stand for the current folder.
+#[test]
+fn a_name_that_is_not_utf8_is_told(rt: HostRuntime) {
+    let told = (
+        b"b.tf\n".as_slice(),
+        b"\xff.tf: the name isn't UTF-8\n1 file formatted, 1 unchanged, 1 failed\n".as_slice(),
+        4,
+    );
+    let words: [&[u8]; 4] = [b"tffmt-all", b"\xff.tf", b"a.tf", b"b.tf"];
+    shows_bytes(&rt, rt.alloc(), &words, SMALL, told);
+    let alone = (
+        b"".as_slice(),
+        b"-\xff: the name isn't UTF-8\n0 files formatted, 0 unchanged, 1 failed\n".as_slice(),
+        4,
+    );
+    let words: [&[u8]; 2] = [b"\xff", b"-\xff"];
+    shows_bytes(&rt, rt.alloc(), &words, SMALL, alone);
+    let listed = (b"".as_slice(), USAGE.as_bytes(), 2);
+    let words: [&[u8]; 3] = [b"tffmt-all", b"--null", b"\xff"];
+    shows_bytes(&rt, rt.alloc(), &words, SMALL, listed);
+}
+
+// Files whose names are quoted, or have a blank.
+static ODD: [Entry<'static>; 4] = [
+    Entry {
+        name: b"",
+        stands: Stands::Folder,
+    },
+    Entry {
+        name: b"a\n+++ b\\\".tf",
+        stands: Stands::File(b"a=1\n"),
+    },
+    Entry {
+        name: b"b c.tf",
+        stands: Stands::File(b"a=1\n"),
+    },
+    Entry {
+        name: b"d\x1b\x7f.tf",
+        stands: Stands::File(b"=\n"),
+    },
+];
+
+static SHOWN_ODD: &[u8] = b"\
+--- \"old/a\\n+++ b\\\\\\\".tf\"
++++ \"new/a\\n+++ b\\\\\\\".tf\"
+@@ -1 +1 @@
+-a=1
++a = 1
+--- old/b c.tf\t
++++ new/b c.tf\t
+@@ -1 +1 @@
+-a=1
++a = 1
+";
+
+static REFUSED_ODD: &[u8] = b"\"d\\033\\177.tf\":1:1: ";
+
+#[test]
+fn names_are_quoted_where_they_are_shown(rt: HostRuntime) {
+    let words: [&[u8]; 3] = [b"tffmt-all", b"--quiet", b"--diff"];
+    let run = run_bytes(rt.alloc(), &words, b"", &ODD, &at_all().devices).expect(&rt, "memory");
+    same_bytes(&rt, run.out.bytes(), SHOWN_ODD, at_all());
+    holds(&rt, run.err.bytes().starts_with(REFUSED_ODD), at_all());
+    same_number(&rt, u64::from(run.status), 2, at_all());
+}
+
+#[test]
+fn names_are_listed_quoted_or_raw(rt: HostRuntime) {
+    let shown = (
+        b"\"a\\n+++ b\\\\\\\".tf\"\nb c.tf\n".as_slice(),
+        b"".as_slice(),
+        3,
+    );
+    let words: [&[u8]; 5] = [
+        b"tffmt-all",
+        b"--quiet",
+        b"--list",
+        b"a\n+++ b\\\".tf",
+        b"b c.tf",
+    ];
+    shows_bytes(&rt, rt.alloc(), &words, &ODD, shown);
+    let words: [&[u8]; 4] = [b"tffmt-all", b"--quiet", b"--list", b"--null"];
+    let input = b"b c.tf\0a\n+++ b\\\".tf\0";
+    let run = run_bytes(rt.alloc(), &words, input, &ODD, &at_all().devices).expect(&rt, "memory");
+    same_bytes(&rt, run.out.bytes(), b"a\n+++ b\\\".tf\0b c.tf\0", at_all());
+    same_bytes(&rt, run.err.bytes(), b"", at_all());
+    same_number(&rt, u64::from(run.status), 3, at_all());
+}
+
+// A check that shows the differences too has the status of the check.
+#[test]
+fn a_check_may_show_differences(rt: HostRuntime) {
+    let shown = (
+        b"--- old/b.tf\n+++ new/b.tf\n@@ -1 +1 @@\n-b=1\n+b = 1\n".as_slice(),
+        b"1 file not formatted, 1 unchanged\n".as_slice(),
+        3,
+    );
+    let words: [&[u8]; 5] = [b"tffmt-all", b"--check", b"--diff", b"a.tf", b"b.tf"];
+    shows_bytes(&rt, rt.alloc(), &words, SMALL, shown);
+}
+
+// Where nothing is found it says so, unless it is to be quiet.
+#[test]
+fn no_files_are_told(rt: HostRuntime) {
+    let empty = [Entry {
+        name: b"",
+        stands: Stands::Folder,
+    }];
+    let words: [&[u8]; 1] = [b"tffmt-all"];
+    let told = (b"".as_slice(), b"no files found\n".as_slice(), 0);
+    shows_bytes(&rt, rt.alloc(), &words, &empty, told);
+    let words: [&[u8]; 2] = [b"tffmt-all", b"--quiet"];
+    shows_bytes(&rt, rt.alloc(), &words, &empty, (b"", b"", 0));
 }

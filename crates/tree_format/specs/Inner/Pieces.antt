@@ -2,6 +2,6 @@
 use Rattle.std.specs.Prelude.{ℕ, List, ◌++◌, codes}
 use Rattle.command_line.specs.Rows.{line}
 
--- `NAME:LINE:COLUMN: TEXT`
-abbrev pub place_words : List ℕ → List ℕ → List ℕ → List ℕ → List ℕ
-place_words name row column text = name ++ (codes ":" ++ (row ++ (codes ":" ++ (column ++ (codes ": " ++ line text)))))
+-- `:LINE:COLUMN: TEXT`
+abbrev pub place_words : List ℕ → List ℕ → List ℕ → List ℕ
+place_words row column text = codes ":" ++ (row ++ (codes ":" ++ (column ++ (codes ": " ++ line text))))

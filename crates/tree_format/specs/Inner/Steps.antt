@@ -1,5 +1,5 @@
 -- One look at a file, step by step.
-use Rattle.std.specs.Prelude.{◌≡◌, ◌≢◌, ◌≤◌, ◌<◌, ℕ, List, Option, Result, Ok, Err, length}
+use Rattle.std.specs.Prelude.{◌≡◌, ◌≢◌, ◌≤◌, ◌<◌, ◌⊎◌, ℕ, List, Option, Result, Ok, Err, length}
 use Rattle.hcl_source.specs.Load.{max_source, IsText, IsLoadFault, print_too_large}
 use Rattle.hcl_source.specs.declared.fault.LoadError.{LoadError}
 use Rattle.hcl_source.specs.declared.fault.LoadError.TheVariants as error
@@ -7,12 +7,12 @@ use Rattle.hcl_tokens.specs.Scanned.{Scanned}
 use Rattle.hcl_tokens.specs.declared.token.ScanError.{ScanError}
 use Rattle.hcl_tokens.specs.declared.token.ScanError.TheVariants as scan_error
 use Rattle.hcl_layout.specs.Print.{print}
-use Rattle.line_diff.specs.Diffs.{diff_of}
-use Rattle.tree_format.specs.Looks.{Left, Notes}
+use Rattle.tree_format.specs.Looks.{Left, Notes, shown_diff}
+use Rattle.file_tree.specs.Asked.{Asked, with_asked}
 use Rattle.file_tree.specs.Files.{Faults, Files, Name}
 use Rattle.hcl_source.specs.Devices.{Tells}
 use Rattle.tree_format.specs.declared.mode.Mode.{Mode}
-use Rattle.tree_format.specs.declared.mode.Mode.TheVariants.{Diff}
+use Rattle.tree_format.specs.declared.mode.Mode.TheVariants.{Write, Diff}
 use Rattle.tree_format.specs.declared.outcome.Outcome.{Outcome}
 use Rattle.tree_format.specs.declared.outcome.Outcome.TheVariants as outcome
 use Rattle.file_tree.specs.declared.fault.TreeFault.TheVariants.{ReadFailed, OutOfMemory}
@@ -35,28 +35,42 @@ LoadsFile told (Ok text) = Tells told text × IsText text
 LoadsFile told (Err (outcome.Refused fault)) = (bytes : List ℕ) × Tells told bytes × IsLoadFault bytes fault
 LoadsFile told (Err (outcome.Failed fault)) = Unit {0}
 LoadsFile told (Err outcome.Formatted) = ⊥
-LoadsFile told (Err outcome.Changed) = ⊥
+LoadsFile told (Err (outcome.Changed how)) = ⊥
 LoadsFile told (Err (outcome.Differs text)) = ⊥
 
 -- what is answered of accepted tokens of a file that was named so, and what the files are then
 abbrev pub Makes : Mode → Files → Files → Name → Name → Scanned → Outcome → Type 0
 Makes mode old new given name s outcome.Formatted = (print s.tokens ≡ s.text) × (new ≡ old)
-Makes mode old new given name s outcome.Changed =
+Makes mode old new given name s (outcome.Changed how) =
     (mode ≢ Diff) × (print s.tokens ≢ s.text) × (length (print s.tokens) ≤ max_source) × Left mode old new name (print s.tokens)
 Makes mode old new given name s (outcome.Differs text) =
-    (mode ≡ Diff) × (print s.tokens ≢ s.text) × (length (print s.tokens) ≤ max_source) × (new ≡ old) × (text.items ≡ diff_of given s.text (print s.tokens))
+    (mode ≡ Diff) × (print s.tokens ≢ s.text) × (length (print s.tokens) ≤ max_source) × (new ≡ old) × (text.items ≡ shown_diff given s.text (print s.tokens))
 Makes mode old new given name s (outcome.Refused fault) = (max_source < length (print s.tokens)) × (fault ≡ print_too_large) × (new ≡ old)
 Makes mode old new given name s (outcome.Failed fault) = new ≡ old
 
 -- the difference is shown, of a file that was named so, or memory ran out
 abbrev pub IsShown : Name → Scanned → Outcome → Type 0
-IsShown given s (outcome.Differs text) = text.items ≡ diff_of given s.text (print s.tokens)
+IsShown given s (outcome.Differs text) = text.items ≡ shown_diff given s.text (print s.tokens)
 IsShown given s (outcome.Failed fault) = fault ≡ OutOfMemory
 IsShown given s outcome.Formatted = ⊥
-IsShown given s outcome.Changed = ⊥
+IsShown given s (outcome.Changed how) = ⊥
 IsShown given s (outcome.Refused fault) = ⊥
 
 -- the same of a load
 abbrev pub LoadNotes : {X : Type 0} → Faults → Faults → Result X Outcome → Type 0
 LoadNotes before after (Ok x) = after ≡ before
 LoadNotes before after (Err answer) = Notes before after answer
+
+-- what is asked for of accepted tokens of a file that was named so
+abbrev pub PrintAsked : Mode → Name → Scanned → Asked → Asked → Type 0
+PrintAsked (Write writing) given s before after =
+    (print s.tokens ≢ s.text) × (length (print s.tokens) ≤ max_source)
+    × (after ≡ with_asked before (record { name = given; old = s.text; new = print s.tokens; writing = writing }))
+PrintAsked mode given s before after = after ≡ before
+
+abbrev pub MakesAsking : Mode → Name → Scanned → Asked → Asked → Outcome → Type 0
+MakesAsking mode given s before after outcome.Formatted = after ≡ before
+MakesAsking mode given s before after (outcome.Changed how) = PrintAsked mode given s before after
+MakesAsking mode given s before after (outcome.Differs text) = after ≡ before
+MakesAsking mode given s before after (outcome.Refused fault) = after ≡ before
+MakesAsking mode given s before after (outcome.Failed fault) = (after ≡ before) ⊎ PrintAsked mode given s before after

@@ -1,0 +1,24 @@
+use Rattle.std.proofs.Common.{◌≡◌, ◌∙◌, List, ℕ, ap, map, subst}
+use Rattle.command_line.specs.Rows.{end_of}
+use Rattle.std.specs.Borrow.{Bor}
+use Rattle.tree_command.specs.Ends.{IsEndOf}
+use Rattle.tree_command.specs.Line.{mode_of_texts, others_in, texts_in}
+use Rattle.tree_format.specs.States.{state_of}
+use Rattle.tree_command.proofs.run.program.Goals as goal
+
+pub returns-clause-kept : goal.returns-clause-kept
+returns-clause-kept g c mode asked =
+    c.run_line.ensures.kept mode (ap mode_of_texts (ap (map (λ (word : Bor (List ℕ)). word.now)) c.as_slice.ensures.value ∙ c.in-Ok.ensures.texts) ∙ asked)
+
+pub returns-clause-ends : goal.returns-clause-ends
+returns-clause-ends g c =
+    let words : List (List ℕ) = map (λ (word : Bor (List ℕ)). word.now) c.args.words.now in
+    let others : List (List ℕ) = map (λ (word : Bor (List ℕ)). word.now) c.as_slice-2.result.now in
+    subst
+    (λ (names : List (List ℕ)). IsEndOf (texts_in words) names (g.R.ByteSource.failed c.run_line.new.input) (g.R.ByteSource.left c.args.input.now) (state_of g.T.Tree c.args.tree.now) (state_of g.T.Tree c.run_line.new.tree)
+    (end_of g.O.ByteSink c.args.out.now c.run_line.new.out g.E.ByteSink c.args.err.now c.run_line.new.err c.run_line.result))
+    (ap (map (λ (word : Bor (List ℕ)). word.now)) c.as_slice-2.ensures.value ∙ c.in-Ok.ensures.others)
+    (subst
+    (λ (texts : List (List ℕ)). IsEndOf texts others (g.R.ByteSource.failed c.run_line.new.input) (g.R.ByteSource.left c.args.input.now) (state_of g.T.Tree c.args.tree.now) (state_of g.T.Tree c.run_line.new.tree)
+    (end_of g.O.ByteSink c.args.out.now c.run_line.new.out g.E.ByteSink c.args.err.now c.run_line.new.err c.run_line.result))
+    (ap (map (λ (word : Bor (List ℕ)). word.now)) c.as_slice.ensures.value ∙ c.in-Ok.ensures.texts) c.run_line.ensures.ends)

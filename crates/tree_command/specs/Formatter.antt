@@ -1,0 +1,10 @@
+-- The program as its messages have it.
+use Rattle.std.specs.Prelude.{ℕ, List, codes}
+use Rattle.command_line.specs.Rows.{Program}
+
+abbrev pub formatter : Program
+formatter = record { name = codes "tffmt-all"; failure = 4 }
+
+-- what lines it has
+abbrev pub usage_line : List ℕ
+usage_line = codes "usage: tffmt-all [--check | --diff | --list] [--in-place] [--sync] [--quiet]\n                 [--shard K/N] [--null] [--] [FILE|FOLDER]...\n"

@@ -1,0 +1,20 @@
+-- How a tally grows.
+use Rattle.std.specs.Prelude.{◌<◌, ◌+◌}
+use Rattle.tree_format.specs.declared.outcome.Outcome.{Outcome}
+use Rattle.tree_format.specs.declared.outcome.Outcome.TheVariants as outcome
+use Rattle.tree_format.specs.declared.tally.Tally.{Tally}
+
+-- one file more
+abbrev pub tally_with : Tally → Outcome → Tally
+tally_with t outcome.Formatted = record t { unchanged = t.unchanged + 1 }
+tally_with t (outcome.Changed how) = record t { changed = t.changed + 1 }
+tally_with t (outcome.Differs text) = record t { changed = t.changed + 1 }
+tally_with t (outcome.Refused fault) = record t { refused = t.refused + 1 }
+tally_with t (outcome.Failed fault) = record t { failed = t.failed + 1 }
+
+-- none of its numbers is the largest one
+pub record CanGrow (t : Tally) : Type 0 where
+  pub changed : t.changed + 1 < 18446744073709551616
+  pub unchanged : t.unchanged + 1 < 18446744073709551616
+  pub refused : t.refused + 1 < 18446744073709551616
+  pub failed : t.failed + 1 < 18446744073709551616
