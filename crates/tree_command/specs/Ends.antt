@@ -68,7 +68,7 @@ ReadsAndFormats quiet mode shard failed input before after end =
 -- ---- runs that look at no file
 
 abbrev pub version_line : List ℕ
-version_line = codes "tffmt-all 0.2.0\n"
+version_line = codes "tffmt-all 0.3.0\n"
 
 abbrev pub help_text : List ℕ
 help_text = codes "usage: tffmt-all [--check | --diff | --list] [--in-place] [--sync] [--quiet]\n                 [--shard K/N] [--null] [--] [FILE|FOLDER]...\n\nFormats files in place and prints the names of those that it changed.\n\nA folder stands for the .tf, .tfvars, .tofu, .tftest.hcl, .tfmock.hcl,\n.tfquery.hcl and .tofutest.hcl files in it and below. Files and folders whose\nnames begin with a dot or end with ~, and those named #...#, are passed over.\nWithout an operand it is the current folder. A file that is named is taken\nwhatever it is called.\n\n  --check          change nothing; report each file that isn't formatted\n  --diff           change nothing; show what would change; --check may stand\n                   beside it\n  --list           change nothing; print the names of the files that would\n                   change\n  --in-place       write over a file where no new one can be put in its place\n  --sync           have each new file on the disk before the next one is\n                   looked at\n  --quiet          say nothing of the run as a whole: no count of the files\n                   at its end\n  --shard K/N      take the K-th of N parts of the files\n  -0, --null       read names, each ended by NUL, from standard input\n  -j, --jobs N     taken, and of no use: files are worked on one after the\n                   other\n  -h, --help       print this\n  --version        print the version\n\nStatus: 0  all files are formatted, or are now\n        2  a file was refused, or the command line is wrong\n        3  with --check, --diff or --list: a file isn't formatted, and nothing\n           is worse\n        4  a file could not be read or written\n"

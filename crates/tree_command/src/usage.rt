@@ -20,7 +20,7 @@ usage: tffmt-all [--check | --diff | --list] [--in-place] [--sync] [--quiet]
 ";
 
 /// What `--version` says.
-pub static VERSION: &str = "tffmt-all 0.2.0\n";
+pub static VERSION: &str = "tffmt-all 0.3.0\n";
 
 /// What `--help` says.
 pub static HELP: &str = "\

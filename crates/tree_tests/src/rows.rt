@@ -271,7 +271,7 @@ pub static VERSION: Row = Row {
     entries: SMALL,
     making: false,
     in_place: false,
-    text: Some(("tffmt-all 0.2.0\n", "", 0)),
+    text: Some(("tffmt-all 0.3.0\n", "", 0)),
     lines: &[],
 };
 
