@@ -291,19 +291,11 @@ def options(group, program):
         ['--shard', '1/1', '--shard', '1/1'],
         ['--list', '--check'],
         ['--list', '--diff'],
+        ['--bogus'],
+        ['-V'],
+        ['a.tf', '-check'],
     ):
         group.check('a wrong line %r' % words, program(*words, cwd=top), (2, b'', usage))
-    for word, hint in (
-        ('--bogus', ''),
-        ('-V', ''),
-        ('-check', '; write --check'),
-        ('-diff', '; write --diff'),
-        ('-recursive', '; folders are always walked whole'),
-        ('-write=false', '; write --list, --check or --diff'),
-        ('--new\nline', ''),
-    ):
-        said = lines('tffmt-all: error: unknown option %s%s' % (quoted(word), hint))
-        group.check('a word %r' % word, program('a.tf', word, cwd=top), (2, b'', said + usage))
     group.check('nothing is changed by a wrong line', contents(top), {'a.tf': OTHER})
     group.check(
         'an option after an operand',
