@@ -2,7 +2,7 @@
 -- one that is ASCII without CR.
 use Rattle.std.proofs.Common.{IsUtf8, cond, get_or, not, one-add, subst, length-append, length-take-le, ◌≡◌, ◌∙◌, ◌+◌, ◌-◌, ◌*◌, ◌≤◌, ◌<◌, ◌==◌, ◌&&◌, ap, ap₂, sym, refl, true≢false, ℕ, suc, zero, Bool, true, false, List, [], ◌∷◌, length, arith, drop, take, add-one, inl, inr}
 use Rattle.std.specs.Prelude.{encode_utf8_all, ◌++◌, ◌||◌, map, nat_le, nat_lt, unwrap_or}
-use Rattle.hcl_layout.specs.Inner.Simple.{IsFrom, IsSimpleIn, are_alone, first_alone, further_alone, is_alone, is_simple, is_simple_byte, within_any}
+use Rattle.hcl_layout.specs.Inner.Simple.{IsFrom, are_alone, first_alone, further_alone, is_alone, is_simple, is_simple_byte, within_any}
 use Rattle.hcl_source.proofs.SimpleLemmas.{Breaks, clusters_apart, clusters_simple, simple_parts}
 use Rattle.std.proofs.lemmas.List.{length-map, take-append-drop}
 use Rattle.std.proofs.lemmas.List.Folds.{list_all-append}
@@ -185,21 +185,6 @@ below_alone c lt ne =
           or_right (nat_le 0 c && nat_le c 12) _ (or_left (nat_le 14 c && nat_le c 767) _ (and_from (nat_le 14 c) (nat_le c 767) (le-leb 14 c past) (le-leb c 767 (omega arith))))
     ]
 
-pub alone_below : (c : ℕ) → c < 768 → not (c == 13) ≡ is_alone c
-alone_below c lt = go (c == 13) refl
-  where
-    go : (v : Bool) → (c == 13) ≡ v → not v ≡ is_alone c
-    go true e =
-        let same : c ≡ 13 = grind (arith, nat_tests, e) in
-        sym (ap is_alone same)
-    go false e = sym (below_alone c lt e)
-
-pub alone_above : (c : ℕ) → 768 ≤ c → is_alone c ≡ within_any (0x370, 0x482) (drop 2 further_alone) c
-alone_above c le =
-    let first : (nat_le 0 c && nat_le c 12) ≡ false = and_right (nat_le 0 c) (nat_le c 12) (grind (arith, nat_tests, le)) in
-    let second : (nat_le 14 c && nat_le c 767) ≡ false = and_right (nat_le 14 c) (nat_le c 767) (grind (arith, nat_tests, le)) in
-    ap₂ (λ v w. v || (w || within_any (0x370, 0x482) (drop 2 further_alone) c)) first second
-
 -- ---- ASCII
 
 simple_ascii : (text : List ℕ) (i : ℕ) → is_simple text ≡ true → get_or text i 0 < 128
@@ -264,14 +249,3 @@ simple_take (suc n) (b ∷ text) e =
 
 pub clusters_part : (source : List ℕ) (start : ℕ) (text : List ℕ) → IsFrom source start text → is_simple source ≡ true → length (graphemes true text) ≡ length text
 clusters_part source start text p e = clusters_simple text (ap is_simple p.0 ∙ simple_take (length text) (drop start source) (simple_drop start source e))
-
-simple_within : (n from : ℕ) (source : List ℕ) → IsSimpleIn source from (from + n) → is_simple (take n (drop from source)) ≡ true
-simple_within zero from source p = refl
-simple_within (suc n) zero [] p = refl
-simple_within (suc n) (suc from) [] p = refl
-simple_within (suc n) zero (b ∷ source) p =
-    and_from (is_simple_byte b) _ (p 0 (omega arith) (omega arith)) (simple_within n 0 source (λ k low high. p (suc k) (omega arith) (omega (arith, high))))
-simple_within (suc n) (suc from) (b ∷ source) p = simple_within (suc n) from source (λ k low high. p (suc k) (omega (arith, low)) (omega (arith, high)))
-
-pub clusters_within : (source : List ℕ) (start : ℕ) (text : List ℕ) → IsFrom source start text → IsSimpleIn source start (start + length text) → length (graphemes true text) ≡ length text
-clusters_within source start text p simple = clusters_simple text (ap is_simple p.0 ∙ simple_within (length text) start source simple)

@@ -58,8 +58,8 @@ front_text xs text e = go (starts_with nat_eq xs text) refl
     go true v = v
     go false v = absurd (not_text xs text (drop (length text) xs) v whole)
 
-pub behind : (gap at : ℕ) (left bytes : List ℕ) → left ≡ drop at bytes → drop gap left ≡ drop (at + gap) bytes
-behind gap at left bytes e = ap (drop gap) e ∙ twice
+pub after : (gap at : ℕ) (left bytes : List ℕ) → left ≡ drop at bytes → drop gap left ≡ drop (at + gap) bytes
+after gap at left bytes e = ap (drop gap) e ∙ twice
   where
     twice : drop gap (drop at bytes) ≡ drop (at + gap) bytes
     twice = grind (arith, common_steps)
@@ -75,15 +75,15 @@ piece_found xs at gap text e f =
 pub piece_there : (xs : List ℕ) (at gap start : ℕ) (text : List ℕ) → at + gap ≡ start → text ≡ take (length text) (drop start xs) → drop at xs ≡ replicate gap 32 ++ drop gap (drop at xs)
     → drop at xs ≡ (replicate gap 32 ++ text) ++ drop (start + length text) xs
 piece_there xs at gap start text e s b =
-    let here : drop gap (drop at xs) ≡ drop start xs = behind gap at (drop at xs) xs refl ∙ ap (λ k. drop k xs) e in
+    let here : drop gap (drop at xs) ≡ drop start xs = after gap at (drop at xs) xs refl ∙ ap (λ k. drop k xs) e in
     let front : drop start xs ≡ text ++ drop (length text) (drop start xs) = sym (take-append-drop (length text) (drop start xs)) ∙ ap (λ l. l ++ drop (length text) (drop start xs)) (sym s) in
     piece_found xs at gap text b (subst (λ l. l ≡ text ++ drop (length text) l) (sym here) front) ∙ ap (λ k. (replicate gap 32 ++ text) ++ drop (k + length text) xs) e
 
 pub other_piece : (xs : List ℕ) (gap : ℕ) (text rest : List ℕ) → xs ≡ replicate gap 32 ++ drop gap xs → starts_with nat_eq (drop gap xs) text ≡ false → xs ≢ (replicate gap 32 ++ text) ++ rest
 other_piece xs gap text rest e f g =
     let whole : xs ≡ replicate gap 32 ++ (text ++ rest) = g ∙ append_assoc (replicate gap 32) text rest in
-    let behind : drop gap xs ≡ text ++ rest = ap₂ drop (sym (length-replicate {A = ℕ} gap 32)) whole ∙ drop-append_seam (replicate gap 32) (text ++ rest) in
-    not_text (drop gap xs) text rest f behind
+    let after : drop gap xs ≡ text ++ rest = ap₂ drop (sym (length-replicate {A = ℕ} gap 32)) whole ∙ drop-append_seam (replicate gap 32) (text ++ rest) in
+    not_text (drop gap xs) text rest f after
 
 -- ---- the whole
 

@@ -1,27 +1,21 @@
 -- The gaps and the widths of a laid line, by numbers of tokens.
-use Rattle.std.proofs.Common.{◌*◌, ◌≡◌, ◌∙◌, ◌+◌, ◌-◌, ◌<◌, ◌≤◌, ◌==◌, ◌^◌, ℕ, suc, zero, Bool, true, false, List, [], ◌∷◌, Option, Some, None, length, ap, ap₂, refl, sym, arith, subst, take, drop}
-use Rattle.std.specs.Prelude.{IfSome, if◌then◌else◌, nat_lt, slice_get}
+use Rattle.std.proofs.Common.{◌*◌, ◌≡◌, ◌∙◌, ◌+◌, ◌-◌, ◌<◌, ◌≤◌, ◌==◌, ◌^◌, ℕ, suc, Bool, true, false, List, Option, Some, length, ap, ap₂, refl, sym, arith, take, drop}
+use Rattle.std.specs.Prelude.{nat_lt, slice_get}
 use Rattle.std.proofs.lemmas.Bool.Decides.{nat_tests}
 use Rattle.hcl_tokens.specs.Balanced.{max_open}
 use Rattle.hcl_tokens.specs.Lexemes.{Lexeme}
 use Rattle.hcl_layout.specs.Gaps.{clusters, plain_gaps, width}
 use Rattle.hcl_layout.specs.Lines.{Line}
-use Rattle.hcl_layout.specs.Inner.Laid.{Laid, cell_of, gaps_on, rest_of, shape, text_of, width_on}
+use Rattle.hcl_layout.specs.Inner.Laid.{Laid, cell_of, rest_of, shape, text_of, width_on}
 use Rattle.hcl_layout.specs.Inner.Left.{gap_before, plain_gap_before, token_before}
 use Rattle.hcl_layout.specs.Inner.LineGaps.{Cell, IsSigned, LineGaps, cell_gap, gap_of, gaps_from, gaps_in, known_place, known_width, len_with_blanks, plain_of}
 use Rattle.hcl_layout.specs.declared.lines.Cell.{Cell as CellLaid}
 use Rattle.hcl_layout.specs.declared.lines.LaidLine.{LaidLine}
-use Rattle.hcl_layout.proofs.LeftLemmas.{none_behind, plain_small, printed_behind, width_known, width_none}
+use Rattle.hcl_layout.proofs.LeftLemmas.{plain_small, printed_after, width_known, width_none}
 use Rattle.hcl_layout.proofs.RunLemmas.{plain_in, plain_low, signed_narrow}
 use Rattle.hcl_layout.proofs.SurveyLemmas.{drop_at}
 
 -- ---- cells
-
-same_place : (a n f : ℕ) → a ≡ n → (a - f == n - f) ≡ true
-same_place a n f e = rw e (go (n - f))
-  where
-    go : (k : ℕ) → (k == k) ≡ true
-    go k = grind (arith, nat_tests)
 
 other_place : (a n f : ℕ) → f < a → f ≤ n → (a ≡ n → ⊥) → (a - f == n - f) ≡ false
 other_place a n f lt le apart = go (a - f == n - f) refl
@@ -36,13 +30,6 @@ other_place a n f lt le apart = go (a - f == n - f) refl
 less : (a b : ℕ) → a < b → nat_lt a b ≡ true
 less a b h = grind (arith, nat_tests)
 
--- the gap of a cell at its token
-pub cell_here : (l : LaidLine) (c : CellLaid) (n x : ℕ) → n < l.end → n ≡ c.number → cell_gap (cell_of l c) (n - l.first) x ≡ c.gap
-cell_here l c n x lt e =
-    let in_line : nat_lt c.number l.end ≡ true = less c.number l.end (omega (arith, lt, e)) in
-    let there : (c.number - l.first == n - l.first) ≡ true = same_place c.number n l.first (sym e) in
-    rw (in_line, there) refl
-
 -- and no other
 pub cell_elsewhere : (l : LaidLine) (c : CellLaid) (n x : ℕ) → l.first < c.number → l.first ≤ n → (n ≡ c.number → ⊥) → cell_gap (cell_of l c) (n - l.first) x ≡ x
 cell_elsewhere l c n x lt le apart = go (nat_lt c.number l.end) refl
@@ -54,19 +41,11 @@ cell_elsewhere l c n x lt le apart = go (nat_lt c.number l.end) refl
     go true e = rw (e, there) refl
     go false e = rw e refl
 
-pub gap_at_comment : (ts : List Lexeme) (l : LaidLine) (n : ℕ) (t : Lexeme) → n < l.end → n ≡ l.comment.number → l.comment.gap ≡ gap_before ts (shape l) l.first n t
-gap_at_comment ts l n t lt e = sym (cell_here l l.comment n (cell_gap (cell_of l l.sign) (n - l.first) (plain_gap_before ts l.level l.first n t)) lt e)
-
-pub gap_at_sign : (ts : List Lexeme) (l : LaidLine) (n : ℕ) (t : Lexeme) → Laid ts l → l.first ≤ n → n < l.end → (n ≡ l.comment.number → ⊥) → n ≡ l.sign.number → l.sign.gap ≡ gap_before ts (shape l) l.first n t
-gap_at_sign ts l n t p le lt apart e =
-    sym (cell_elsewhere l l.comment n (cell_gap (cell_of l l.sign) (n - l.first) (plain_gap_before ts l.level l.first n t)) p.comment_front le apart
-      ∙ cell_here l l.sign n (plain_gap_before ts l.level l.first n t) lt e)
-
 pub gap_plain : (ts : List Lexeme) (l : LaidLine) (n : ℕ) (t : Lexeme) → Laid ts l → l.first ≤ n → (n ≡ l.comment.number → ⊥) → (n ≡ l.sign.number → ⊥)
     → plain_gap_before ts l.level l.first n t ≡ gap_before ts (shape l) l.first n t
 gap_plain ts l n t p le apart other =
     sym (cell_elsewhere l l.comment n (cell_gap (cell_of l l.sign) (n - l.first) (plain_gap_before ts l.level l.first n t)) p.comment_front le apart
-      ∙ cell_elsewhere l l.sign n (plain_gap_before ts l.level l.first n t) p.sign_front le other)
+    ∙ cell_elsewhere l l.sign n (plain_gap_before ts l.level l.first n t) p.sign_front le other)
 
 pub plain_before_small : (ts : List Lexeme) (level first n : ℕ) (t : Lexeme) → level ≤ max_open → plain_gap_before ts level first n t ≤ 2 * max_open
 plain_before_small ts level first n t low = plain_small level (token_before ts first (n - 1)) (token_before ts first n) t low
@@ -88,10 +67,7 @@ width_more ts l n stop t e le lt within =
     let last : n ≡ (n + 1) - 1 = omega arith in
     ap₂ (λ (m : ℕ) (xs : Line). width m (gaps_from g k b s xs) xs) many (ap₂ take one (drop_at ts n t e))
     ∙ ap (λ j. gap_of g k b s t + clusters t + width (stop - (n + 1)) (gaps_from g j s (Some t) rest) rest) place
-    ∙ ap₂ (λ (m : ℕ) (u : Option Lexeme). gap_of g k b s t + clusters t + width (stop - (n + 1)) (gaps_from g ((n + 1) - l.first) (token_before ts l.first m) u rest) rest) last (sym (printed_behind ts l.first n t e le))
-
-pub width_over : (ts : List Lexeme) (l : LaidLine) (n stop : ℕ) → stop ≤ n → width_on ts l n stop ≡ 0
-width_over ts l n stop le = width_none (stop - n) (gaps_on ts l n) (rest_of ts l n) (omega (arith, le))
+    ∙ ap₂ (λ (m : ℕ) (u : Option Lexeme). gap_of g k b s t + clusters t + width (stop - (n + 1)) (gaps_from g ((n + 1) - l.first) (token_before ts l.first m) u rest) rest) last (sym (printed_after ts l.first n t e le))
 
 -- before a token, and on from there
 pub width_split : (ts : List Lexeme) (l : LaidLine) (k n : ℕ) → Laid ts l → l.first ≤ k → k ≤ n → n ≤ l.end

@@ -1,14 +1,14 @@
 -- What is left to print, piece by piece.
-use Rattle.std.proofs.Common.{◌*◌, ◌≡◌, ◌∙◌, ◌+◌, ◌-◌, ◌++◌, ◌<◌, ◌≤◌, ◌==◌, ◌^◌, ℕ, suc, zero, Bool, true, false, List, [], ◌∷◌, Option, Some, None, length, ap, ap₂, refl, sym, arith, subst, take, drop, replicate}
-use Rattle.std.specs.Prelude.{IfSome, if◌then◌else◌, nat_lt, slice_get}
+use Rattle.std.proofs.Common.{◌*◌, ◌≡◌, ◌∙◌, ◌+◌, ◌-◌, ◌++◌, ◌<◌, ◌≤◌, ◌^◌, ℕ, suc, zero, true, false, List, Option, Some, None, length, ap, ap₂, refl, sym, arith, subst, take, drop, replicate}
+use Rattle.std.specs.Prelude.{IfSome, nat_lt, slice_get}
 use Rattle.std.proofs.lemmas.Bool.Decides.{nat_tests}
 use Rattle.hcl_tokens.specs.Balanced.{max_open}
 use Rattle.hcl_layout.specs.Inner.Left.{token_before}
 use Rattle.std.specs.List.{flat_map}
 use Rattle.hcl_tokens.specs.Lexemes.{Lexeme}
 use Rattle.hcl_layout.specs.Inner.Depths.{BalancedFrom, fresh}
-use Rattle.hcl_layout.specs.Gaps.{clusters, gaps, indent, width}
-use Rattle.hcl_layout.specs.Inner.LineGaps.{len_with_blanks, cell_gap, gap_of, gaps_from, gaps_in, plain_gap, plain_of}
+use Rattle.hcl_layout.specs.Gaps.{clusters, gaps, width}
+use Rattle.hcl_layout.specs.Inner.LineGaps.{gap_of, gaps_from, gaps_in, plain_gap}
 use Rattle.hcl_layout.specs.Lines.{lines}
 use Rattle.hcl_layout.specs.Print.{printed_text}
 use Rattle.hcl_layout.specs.Inner.Stream.{commented}
@@ -25,31 +25,31 @@ start_all ts d levels column comment p e f g h =
     ∙ ap₂ (λ (x y : Option ℕ). flat_map (λ g. g) (commented 0 fresh x y (lines ts))) g h ∙ sym (gaps_all ts p)
 
 -- the first token of a line has none after it
-pub none_behind : (ts : List Lexeme) (at n : ℕ) → n ≤ at → token_before ts at n ≡ None
-none_behind ts at n le = rw (not_less at n le) refl
+pub none_after : (ts : List Lexeme) (at n : ℕ) → n ≤ at → token_before ts at n ≡ None
+none_after ts at n le = rw (not_less at n le) refl
   where
     not_less : (a b : ℕ) → b ≤ a → nat_lt a b ≡ false
     not_less a b h = grind (arith, nat_tests)
 
 -- the token that was printed is after the next
-pub printed_behind : (ts : List Lexeme) (start next : ℕ) (t : Lexeme) → slice_get ts next ≡ Some t → start ≤ next → token_before ts start (next + 1) ≡ Some t
-printed_behind ts start next t e le = rw (less start next le) (ap (slice_get ts) (omega arith) ∙ e)
+pub printed_after : (ts : List Lexeme) (start next : ℕ) (t : Lexeme) → slice_get ts next ≡ Some t → start ≤ next → token_before ts start (next + 1) ≡ Some t
+printed_after ts start next t e le = rw (less start next le) (ap (slice_get ts) (omega arith) ∙ e)
   where
     less : (a b : ℕ) → a ≤ b → nat_lt a (b + 1) ≡ true
     less a b h = grind (arith, nat_tests)
 
 -- the width on from a place of the line, by the tokens after it, is that of the token there and that on from the next
-pub width_behind : (g : LineGaps) (ts : List Lexeme) (at len k i : ℕ) (t : Lexeme) → slice_get ts (at + k) ≡ Some t → i ≤ len → k < i
+pub width_after : (g : LineGaps) (ts : List Lexeme) (at len k i : ℕ) (t : Lexeme) → slice_get ts (at + k) ≡ Some t → i ≤ len → k < i
     → width (i - k) (gaps_from g k (token_before ts at ((at + k) - 1)) (token_before ts at (at + k)) (take (len - k) (drop (at + k) ts))) (take (len - k) (drop (at + k) ts))
     ≡ gap_of g k (token_before ts at ((at + k) - 1)) (token_before ts at (at + k)) t + clusters t
     + width (i - (k + 1)) (gaps_from g (k + 1) (token_before ts at ((at + (k + 1)) - 1)) (token_before ts at (at + (k + 1))) (take (len - (k + 1)) (drop (at + (k + 1)) ts))) (take (len - (k + 1)) (drop (at + (k + 1)) ts))
-width_behind g ts at len k i t e le lt =
+width_after g ts at len k i t e le lt =
     let b = token_before ts at ((at + k) - 1) in
     let s = token_before ts at (at + k) in
     let rest : List Lexeme = take (len - (k + 1)) (drop (at + (k + 1)) ts) in
     let last : at + k ≡ (at + (k + 1)) - 1 = omega arith in
     let next : (at + k) + 1 ≡ at + (k + 1) = omega arith in
-    let there : Some t ≡ token_before ts at (at + (k + 1)) = sym (printed_behind ts at (at + k) t e (omega arith)) ∙ ap (token_before ts at) next in
+    let there : Some t ≡ token_before ts at (at + (k + 1)) = sym (printed_after ts at (at + k) t e (omega arith)) ∙ ap (token_before ts at) next in
     width_next g ts at len k i b s t e le lt
     ∙ ap₂ (λ (n : ℕ) (u : Option Lexeme). gap_of g k b s t + clusters t + width (i - (k + 1)) (gaps_from g (k + 1) (token_before ts at n) u rest) rest) last there
 
@@ -65,20 +65,10 @@ width_front g ts at len i =
     let whole : i - 0 ≡ i = omega arith in
     zero_plus (width (i - 0) (gaps_from g 0 b s (take (len - 0) (drop (at + 0) ts))) (take (len - 0) (drop (at + 0) ts)))
     ∙ ap₂ (λ (n : ℕ) (xs : List Lexeme). width n (gaps_from g 0 b s xs) xs) whole same
-    ∙ ap₂ (λ (x y : Option Lexeme). width i (gaps_from g 0 x y line) line) (none_behind ts at ((at + 0) - 1) (omega arith)) (none_behind ts at (at + 0) (omega arith))
+    ∙ ap₂ (λ (x y : Option Lexeme). width i (gaps_from g 0 x y line) line) (none_after ts at ((at + 0) - 1) (omega arith)) (none_after ts at (at + 0) (omega arith))
   where
     zero_plus : (n : ℕ) → 0 + n ≡ n
     zero_plus n = omega arith
-
--- the first token follows the indent
-pub width_first : (level : ℕ) (ts : List Lexeme) (at len i : ℕ) (t : Lexeme) → slice_get ts at ≡ Some t → i ≤ len → 0 < i
-    → (indent level t + clusters t) + width (i - 1) (gaps_from (plain_of level) 1 (token_before ts at ((at + 1) - 1)) (token_before ts at (at + 1)) (take (len - 1) (drop (at + 1) ts))) (take (len - 1) (drop (at + 1) ts))
-    ≡ width i (gaps_in (plain_of level) (take len (drop at ts))) (take len (drop at ts))
-width_first level ts at len i t e le lt =
-    let g : LineGaps = plain_of level in
-    let here : slice_get ts (at + 0) ≡ Some t = ap (slice_get ts) (omega arith) ∙ e in
-    let gap : plain_gap level (token_before ts at ((at + 0) - 1)) (token_before ts at (at + 0)) t ≡ indent level t = ap (λ s. plain_gap level (token_before ts at ((at + 0) - 1)) s t) (none_behind ts at (at + 0) (omega arith)) in
-    omega (arith, width_front g ts at len i, width_behind g ts at len 0 i t here le lt, gap)
 
 suc_is : (k : ℕ) → k + 1 ≡ suc k
 suc_is k = omega arith
@@ -98,9 +88,9 @@ width_known g ts at len (suc k) i room le within =
     let further : List Lexeme = take (len - (k + 1)) (drop (at + (k + 1)) ts) in
     let all = width_known g ts at len k i room (omega (arith, le)) within in
     let one = width_known g ts at len k (k + 1) room (omega arith) (omega (arith, le, within)) in
-    let last = width_behind g ts at len k (k + 1) here.0 here.1 (omega (arith, le, within)) (omega arith) in
+    let last = width_after g ts at len k (k + 1) here.0 here.1 (omega (arith, le, within)) (omega arith) in
     let none = width_none ((k + 1) - (k + 1)) (gaps_from g (k + 1) (token_before ts at ((at + (k + 1)) - 1)) (token_before ts at (at + (k + 1))) further) further (omega arith) in
-    let next = width_behind g ts at len k i here.0 here.1 within (omega (arith, le)) in
+    let next = width_after g ts at len k i here.0 here.1 within (omega (arith, le)) in
     subst (λ n. width n (gaps_in g line) line + width (i - n) (gaps_from g n (token_before ts at ((at + n) - 1)) (token_before ts at (at + n)) (take (len - n) (drop (at + n) ts))) (take (len - n) (drop (at + n) ts)) ≡ width i (gaps_in g line) line)
     (suc_is k) (omega (arith, all, one, last, none, next))
 
@@ -118,51 +108,12 @@ piece_left ts next start end set rest t gap e lt le g =
     ap₂ (λ (n : ℕ) (xs : List Lexeme). printed_text (gaps_from set (next - start) b s (take n xs) ++ rest) xs) one (drop_at ts next t e)
     ∙ ap (λ k. (replicate k 32 ++ t.text) ++ printed_text (gaps_from set ((next - start) + 1) s (Some t) (take (end - (next + 1)) left) ++ rest) left) (sym g)
     ∙ ap (λ k. (replicate gap 32 ++ t.text) ++ printed_text (gaps_from set k s (Some t) (take (end - (next + 1)) left) ++ rest) left) place
-    ∙ ap₂ (λ (n : ℕ) (u : Option Lexeme). (replicate gap 32 ++ t.text) ++ printed_text (gaps_from set ((next + 1) - start) (token_before ts start n) u (take (end - (next + 1)) left) ++ rest) left) last (sym (printed_behind ts start next t e le))
-
-behind_front : (o : Option Cell) (k gap : ℕ) → IfSome o (λ c. 0 < c.place) → k ≡ 0 → cell_gap o k gap ≡ gap
-behind_front None k gap p e = refl
-behind_front (Some c) k gap p e = rw (apart c.place k (omega (arith, p, e))) refl
-  where
-    apart : (a b : ℕ) → b < a → (a == b) ≡ false
-    apart a b h = grind (arith, nat_tests)
-
--- the gap of the first piece of a line, where no cell stands
-pub front_gap : (set : LineGaps) (ts : List Lexeme) (start next : ℕ) (t : Lexeme) → start ≡ next → IfSome set.assign (λ c. 0 < c.place) → IfSome set.comment (λ c. 0 < c.place)
-    → indent set.level t ≡ gap_of set (next - start) (token_before ts start (next - 1)) (token_before ts start next) t
-front_gap set ts start next t e p q =
-    let b = token_before ts start (next - 1) in
-    let k : ℕ = next - start in
-    let front : k ≡ 0 = omega (arith, e) in
-    let plain : ℕ = plain_gap set.level b (token_before ts start next) t in
-    sym (behind_front set.comment k (cell_gap set.assign k plain) q front ∙ behind_front set.assign k plain p front ∙ ap (λ s. plain_gap set.level b s t) (none_behind ts start next (omega (arith, e))))
+    ∙ ap₂ (λ (n : ℕ) (u : Option Lexeme). (replicate gap 32 ++ t.text) ++ printed_text (gaps_from set ((next + 1) - start) (token_before ts start n) u (take (end - (next + 1)) left) ++ rest) left) last (sym (printed_after ts start next t e le))
 
 pub plain_small : (level : ℕ) (b s : Option Lexeme) (t : Lexeme) → level ≤ max_open → plain_gap level b s t ≤ 2 * max_open
 plain_small level b None t low = omega (arith, indented level t)
 plain_small level b (Some s) t low = omega (arith, blank b s t)
 
-cell_small : (c : Option Cell) (k gap : ℕ) → IfSome c (λ x. x.gap ≤ 2 ^ 34) → gap ≤ 2 ^ 34 → cell_gap c k gap ≤ 2 ^ 34
-cell_small None k gap p q = q
-cell_small (Some c) k gap p q = go (c.place == k)
-  where
-    go : (v : Bool) → (if v then c.gap else gap) ≤ 2 ^ 34
-    go true = p
-    go false = q
-
 wider : (c : Option Cell) → IfSome c (λ x. x.gap ≤ 2 ^ 33) → IfSome c (λ x. x.gap ≤ 2 ^ 34)
 wider None p = tt
 wider (Some c) p = omega (arith, p)
-
-pub gap_small : (set : LineGaps) (k : ℕ) (b s : Option Lexeme) (t : Lexeme) → set.level ≤ max_open → IfSome set.assign (λ c. c.gap ≤ 2 ^ 33) → IfSome set.comment (λ c. c.gap ≤ 2 ^ 34) → gap_of set k b s t ≤ 2 ^ 34
-gap_small set k b s t low p q =
-    cell_small set.comment k (cell_gap set.assign k (plain_gap set.level b s t)) q
-    (cell_small set.assign k (plain_gap set.level b s t) (wider set.assign p) (omega (arith, plain_small set.level b s t low)))
-
-pub text_len_with_blanks : (ts : List Lexeme) (i : ℕ) (t : Lexeme) → slice_get ts i ≡ Some t → length t.text ≤ len_with_blanks ts
-text_len_with_blanks [] zero t e = cc
-text_len_with_blanks [] (suc i) t e = cc
-text_len_with_blanks (u ∷ ts) zero t e = let same : u ≡ t = one u t e in omega (arith, ap (λ (x : Lexeme). length x.text) same)
-  where
-    one : (x y : Lexeme) → Some x ≡ Some y → x ≡ y
-    one x y e = cc
-text_len_with_blanks (u ∷ ts) (suc i) t e = omega (arith, text_len_with_blanks ts i t e)

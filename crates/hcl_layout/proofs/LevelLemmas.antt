@@ -6,7 +6,7 @@ use Rattle.std.proofs.lemmas.List.{get_or-set_other}
 use Rattle.std.proofs.lemmas.Grind.{get_or-set_at}
 use Rattle.hcl_tokens.specs.Balanced.{max_open}
 use Rattle.hcl_layout.specs.Levels.{Net, is_above, level, levels_after, no_net, plus, stays_above}
-use Rattle.hcl_layout.specs.Inner.Depths.{Sound, raised, levels_behind}
+use Rattle.hcl_layout.specs.Inner.Depths.{Sound, raised, next_levels}
 
 -- ---- the groups that are open, one after another
 
@@ -183,30 +183,30 @@ raised_within levels top from (suc n) k le lt room =
     go r true e = r (grind arith)
     go r false e = raised_before (slice_set levels from top) top (from + 1) n k (grind arith) ∙ get_or-set_at levels from k top 0 (grind arith) (omega arith)
 
-pub levels_behind_length : (d e : ℕ) (levels : List ℕ) → length (levels_behind d e levels) ≡ length levels
-levels_behind_length d e levels = raised_length levels (get_or levels d 0 + 1) (d + 1) (e - d)
+pub next_levels_length : (d e : ℕ) (levels : List ℕ) → length (next_levels d e levels) ≡ length levels
+next_levels_length d e levels = raised_length levels (get_or levels d 0 + 1) (d + 1) (e - d)
 
-pub levels_behind_before : (d e : ℕ) (levels : List ℕ) (k : ℕ) → k ≤ d → get_or (levels_behind d e levels) k 0 ≡ get_or levels k 0
-levels_behind_before d e levels k le = raised_before levels (get_or levels d 0 + 1) (d + 1) (e - d) k (omega arith)
+pub next_levels_before : (d e : ℕ) (levels : List ℕ) (k : ℕ) → k ≤ d → get_or (next_levels d e levels) k 0 ≡ get_or levels k 0
+next_levels_before d e levels k le = raised_before levels (get_or levels d 0 + 1) (d + 1) (e - d) k (omega arith)
 
-pub levels_behind_above : (d e : ℕ) (levels : List ℕ) (k : ℕ) → d < k → k ≤ e → e < length levels → get_or (levels_behind d e levels) k 0 ≡ get_or levels d 0 + 1
-levels_behind_above d e levels k lt le room = raised_within levels (get_or levels d 0 + 1) (d + 1) (e - d) k (omega arith) (omega arith) (omega arith)
+pub next_levels_above : (d e : ℕ) (levels : List ℕ) (k : ℕ) → d < k → k ≤ e → e < length levels → get_or (next_levels d e levels) k 0 ≡ get_or levels d 0 + 1
+next_levels_above d e levels k lt le room = raised_within levels (get_or levels d 0 + 1) (d + 1) (e - d) k (omega arith) (omega arith) (omega arith)
 
 pub raised_more : (levels : List ℕ) (top from to : ℕ) → from < to → raised levels top from (to - from) ≡ raised (slice_set levels from top) top (from + 1) (to - (from + 1))
 raised_more levels top from to lt =
     let one : to - from ≡ suc (to - (from + 1)) = omega arith in
     ap (raised levels top from) one
 
-pub levels_behind_sound : (d e : ℕ) (levels new : List ℕ) → d < e → e ≤ max_open → Sound d levels → new ≡ levels_behind d e levels → Sound e new
-levels_behind_sound d e levels new lt low p q = (ap length q ∙ levels_behind_length d e levels ∙ p.0, λ k le. go k le (nat_lt d k) refl)
+pub next_levels_sound : (d e : ℕ) (levels new : List ℕ) → d < e → e ≤ max_open → Sound d levels → new ≡ next_levels d e levels → Sound e new
+next_levels_sound d e levels new lt low p q = (ap length q ∙ next_levels_length d e levels ∙ p.0, λ k le. go k le (nat_lt d k) refl)
   where
     go : (k : ℕ) → k ≤ e → (v : Bool) → nat_lt d k ≡ v → get_or new k 0 ≤ k
     go k le true v =
-        omega (arith, ap (λ l. get_or {A = ℕ} l k 0) q, levels_behind_above d e levels k (grind arith) le (omega (arith, p.0)), p.1 d (omega arith), lt_of v)
+        omega (arith, ap (λ l. get_or {A = ℕ} l k 0) q, next_levels_above d e levels k (grind arith) le (omega (arith, p.0)), p.1 d (omega arith), lt_of v)
       where
         lt_of : nat_lt d k ≡ true → d < k
         lt_of w = grind arith
-    go k le false v = omega (arith, ap (λ l. get_or {A = ℕ} l k 0) q, levels_behind_before d e levels k (le_of v), p.1 k (le_of v))
+    go k le false v = omega (arith, ap (λ l. get_or {A = ℕ} l k 0) q, next_levels_before d e levels k (le_of v), p.1 k (le_of v))
       where
         le_of : nat_lt d k ≡ false → k ≤ d
         le_of w = grind arith

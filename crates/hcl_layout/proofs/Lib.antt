@@ -15,7 +15,7 @@ pub mod LeftLemmas
 pub mod SizeLemmas
 pub mod BalanceLemmas
 pub mod GapCountLemmas
-pub mod ExtentLemmas
+pub mod BoundLemmas
 pub mod EmptyLemmas
 pub mod OutLemmas
 pub mod FormatLemmas

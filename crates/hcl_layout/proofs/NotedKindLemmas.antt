@@ -7,9 +7,8 @@ use Rattle.hcl_tokens.specs.Kinds.{is}
 use Rattle.hcl_tokens.specs.declared.token.Kind.TheVariants as kind
 use Rattle.hcl_grammar.specs.Items.{deepen}
 use Rattle.hcl_layout.specs.Inner.Depths.{Steps}
-use Rattle.hcl_layout.specs.Cells.{is_trailing}
 use Rattle.hcl_layout.specs.Lines.{ends_line}
-use Rattle.hcl_layout.specs.Inner.Survey.{changes, marks, step_of, stops}
+use Rattle.hcl_layout.specs.Inner.Survey.{marks, step_of, stops}
 use Rattle.hcl_spacing.proofs.KindLemmas.{each}
 
 pub passes : (a b : Bool) → (a || not b) ≡ true → a ≡ false → b ≡ false
@@ -24,26 +23,12 @@ unstopped_unmarked k e = passes (stops k) (marks k) (each (λ j. stops j || not 
 pub unstopped_goes_on : (t : Lexeme) → stops t.kind ≡ false → ends_line t ≡ false
 unstopped_goes_on t e = rw (passes (stops t.kind) (is kind.Newline t.kind) (each (λ j. stops j || not (is kind.Newline j)) refl t.kind) e) refl
 
-pub end_passed : (t : Lexeme) → ends_line t ≡ true → changes t.kind ≡ false
-end_passed t e = go (is kind.Newline t.kind) refl e
-  where
-    go : (v : Bool) → is kind.Newline t.kind ≡ v → (v && not t.inside_heredoc) ≡ true → changes t.kind ≡ false
-    go true q h = passes (not (is kind.Newline t.kind)) (changes t.kind) (each (λ j. not (is kind.Newline j) || not (changes j)) refl t.kind) (ap not q)
-    go false q h = cc
-
 -- a newline neither changes the depth nor tears a cell
 pub end_stops : (t : Lexeme) → ends_line t ≡ true → stops t.kind ≡ true
 end_stops t e = go (is kind.Newline t.kind) refl e
   where
     go : (v : Bool) → is kind.Newline t.kind ≡ v → (v && not t.inside_heredoc) ≡ true → stops t.kind ≡ true
     go true q h = rw q refl
-    go false q h = cc
-
-pub end_whole : (t : Lexeme) → ends_line t ≡ true → is kind.InlineComment t.kind ≡ false
-end_whole t e = go (is kind.Newline t.kind) refl e
-  where
-    go : (v : Bool) → is kind.Newline t.kind ≡ v → (v && not t.inside_heredoc) ≡ true → is kind.InlineComment t.kind ≡ false
-    go true q h = passes (not (is kind.Newline t.kind)) (is kind.InlineComment t.kind) (each (λ j. not (is kind.Newline j) || not (is kind.InlineComment j)) refl t.kind) (ap not q)
     go false q h = cc
 
 -- ---- the steps
@@ -81,9 +66,6 @@ steps_deepen k d step e more s =
         let deep : deepen d k ≡ d = rw (p, q) (omega arith) in
         record { on = on; rises = omega (arith, is); stays = omega (arith, is); deepens = omega (arith, is, deep) }
 
-pub unstopped_whole : (k : Kind) → stops k ≡ false → is kind.InlineComment k ≡ false
-unstopped_whole k e = passes (stops k) (is kind.InlineComment k) (each (λ j. stops j || not (is kind.InlineComment j)) refl k) e
-
 -- a point stands for the kinds of which more is asked, which open and close nothing
 pub pointed : (k : Kind) (step : ℕ) → step ≡ step_of k → step ≡ 46 → stops k ≡ true
 pointed k step e is = go (stops k) refl
@@ -100,9 +82,3 @@ stopped_level k d e =
     let opener : is_opener k ≡ false = passes (not (stops k)) (is_opener k) (each (λ j. not (stops j) || not (is_opener j)) refl k) (ap not e) in
     let closer : is_closer k ≡ false = passes (not (stops k)) (is_closer k) (each (λ j. not (stops j) || not (is_closer j)) refl k) (ap not e) in
     rw (opener, closer) (omega arith)
-
-pub inline_goes_on : (t : Lexeme) → is kind.InlineComment t.kind ≡ true → ends_line t ≡ false
-inline_goes_on t e = rw (passes (not (is kind.InlineComment t.kind)) (is kind.Newline t.kind) (each (λ j. not (is kind.InlineComment j) || not (is kind.Newline j)) refl t.kind) (ap not e)) refl
-
-pub inline_untrailing : (t : Lexeme) → is kind.InlineComment t.kind ≡ true → is_trailing t ≡ false
-inline_untrailing t e = rw (passes (not (is kind.InlineComment t.kind)) (is kind.LineComment t.kind) (each (λ j. not (is kind.InlineComment j) || not (is kind.LineComment j)) refl t.kind) (ap not e)) refl

@@ -1,6 +1,6 @@
 -- Bytes that go out one after another, through a buffer.
 use Rattle.std.proofs.Common.{◌≡◌, ◌∙◌, ◌++◌, ◌+◌, ◌-◌, ◌<◌, ◌≤◌, ℕ, suc, zero, List, [], ◌∷◌, Option, Some, None, ap, arith, sym, subst, refl, length, drop, take, append_assoc, replicate, length-append}
-use Rattle.std.proofs.Math.Seq.{take-add, take-append-add, take-append_seam}
+use Rattle.std.proofs.Math.Seq.{take-add, take-append_seam}
 use Rattle.std.proofs.lemmas.List.{append-nil, length-take-le, take-append-le}
 use Rattle.std.specs.Prelude.{IfErr, OnOk, Result, Ok, Err}
 use Rattle.std.specs.Io.KnownBytes.{Appends}
@@ -8,7 +8,7 @@ use Rattle.hcl_source.specs.declared.device.WriteFault.{WriteFault}
 use Rattle.hcl_layout.specs.Inner.Out.{Out, CutShort, held, stretched}
 use Rattle.hcl_layout.specs.declared.buffer.Buffer.{Buffer}
 use Rattle.hcl_layout.specs.declared.buffer.Stretch.{Stretch}
-use Rattle.hcl_layout.proofs.FormatLemmas.{behind}
+use Rattle.hcl_layout.proofs.FormatLemmas.{after}
 
 pub Appends-then : (a b c : Option (List ℕ)) (xs ys : List ℕ) → Appends a b xs → Appends b c ys → Appends a c (xs ++ ys)
 Appends-then None b c xs ys p q = tt
@@ -33,15 +33,6 @@ out_sent base now new b b' front e f long q p = record {
   out = Appends-then base now new p.sent (held b) p.out q;
 }
 
--- more was put into the buffer
-pub out_held : (base now : Option (List ℕ)) (b b' : Buffer) (front text : List ℕ) → held b' ≡ held b ++ text → b'.sent ≡ b.sent → Out base now b front → Out base now b' (front ++ text)
-out_held base now b b' front text e f p = record {
-  sent = p.sent;
-  whole = ap (λ l. l ++ text) p.whole ∙ append_assoc p.sent (held b) text ∙ ap (λ l. p.sent ++ l) (sym e);
-  count = f ∙ p.count;
-  out = p.out;
-}
-
 -- more was written past the empty buffer
 pub out_past : (base now new : Option (List ℕ)) (b b' : Buffer) (front text : List ℕ) → b.len ≡ 0 → b'.len ≡ 0 → b'.sent ≡ b.sent + length text → Appends now new text → Out base now b front → Out base new b' (front ++ text)
 out_past base now new b b' front text e e' f q p =
@@ -52,19 +43,6 @@ out_past base now new b b' front text e e' f q p =
       count = omega (arith, f, p.count, length-append p.sent text);
       out = Appends-then base now new p.sent text p.out q;
     }
-
--- a write of a piece failed after what was sent
-cut_short_piece : (base now new : Option (List ℕ)) (sent piece : List ℕ) (n : ℕ) (fault : WriteFault) → fault.written ≡ length sent + n → n < length piece → Appends base now sent → Appends now new (take n piece)
-    → CutShort base new (sent ++ piece) fault
-cut_short_piece base now new sent piece n fault e lt p q =
-    let front : take fault.written (sent ++ piece) ≡ sent ++ take n piece = ap (λ k. take k (sent ++ piece)) e ∙ take-append-add sent piece n in
-    (omega (arith, e, length-append sent piece), subst (Appends base new) (sym front) (Appends-then base now new sent (take n piece) p q))
-
-pub cut_short_past : (base now new : Option (List ℕ)) (b : Buffer) (front text : List ℕ) (n : ℕ) (fault : WriteFault) → b.len ≡ 0 → fault.written ≡ b.sent + n → n < length text → Appends now new (take n text) → Out base now b front
-    → CutShort base new (front ++ text) fault
-cut_short_past base now new b front text n fault e f lt q p =
-    let all : front ≡ p.sent = p.whole ∙ ap (λ l. p.sent ++ l) (held_none b e) ∙ append-nil p.sent in
-    subst (λ l. CutShort base new (l ++ text) fault) (sym all) (cut_short_piece base now new p.sent text n fault (f ∙ ap (λ k. k + n) p.count) lt p.out q)
 
 -- what stopped within a front stopped within what goes on from it
 pub cut_short_more : (base new : Option (List ℕ)) (front text : List ℕ) (fault : WriteFault) → CutShort base new front fault → CutShort base new (front ++ text) fault
@@ -118,7 +96,7 @@ grown source s piece end le e f =
     let n : ℕ = s.end - s.start in
     let long : end - s.start ≡ n + length piece = omega (arith, e) in
     let all : s.start + n ≡ s.end = omega arith in
-    let more : take (length piece) (drop n left) ≡ piece = ap (take (length piece)) (behind n s.start left source refl ∙ ap (λ k. drop k source) all ∙ f) ∙ take-append_seam piece (drop end source) in
+    let more : take (length piece) (drop n left) ≡ piece = ap (take (length piece)) (after n s.start left source refl ∙ ap (λ k. drop k source) all ∙ f) ∙ take-append_seam piece (drop end source) in
     ap (λ k. replicate s.gap 32 ++ take k left) long
     ∙ ap (λ l. replicate s.gap 32 ++ l) (take-add n (length piece) left ∙ ap (λ l. take n left ++ l) more)
     ∙ sym (append_assoc (replicate s.gap 32) (take n left) piece)

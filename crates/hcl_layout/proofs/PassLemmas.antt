@@ -1,21 +1,21 @@
 -- A line that is passed with its sign, and with its comment, in the columns of their runs.
-use Rattle.std.proofs.Common.{◌≡◌, ◌∙◌, ◌+◌, ◌-◌, ◌<◌, ◌≤◌, ◌^◌, ℕ, Bool, true, false, List, [], ◌∷◌, Option, Some, None, length, ap, ap₂, refl, sym, arith, subst, take, drop}
-use Rattle.std.specs.Prelude.{IfSome, if◌then◌else◌, nat_lt, option_map, slice_set}
+use Rattle.std.proofs.Common.{◌≡◌, ◌∙◌, ◌+◌, ◌-◌, ◌<◌, ◌≤◌, ◌^◌, ℕ, true, false, List, ◌∷◌, Option, Some, None, length, ap, ap₂, refl, sym, arith, subst, take, drop}
+use Rattle.std.specs.Prelude.{nat_lt, option_map, slice_set}
 use Rattle.std.proofs.lemmas.Bool.Decides.{nat_tests}
 use Rattle.hcl_tokens.specs.Balanced.{max_open}
 use Rattle.hcl_tokens.specs.Lexemes.{Lexeme}
-use Rattle.hcl_layout.specs.Cells.{assign_cell, running_comment, trailing_comment}
+use Rattle.hcl_layout.specs.Cells.{assign_cell, trailing_comment}
 use Rattle.hcl_layout.specs.Gaps.{align, gap_to, plain_gaps, width}
 use Rattle.hcl_layout.specs.Lines.{Line, lines}
-use Rattle.hcl_layout.specs.Inner.Depths.{level_at, levels_behind}
+use Rattle.hcl_layout.specs.Inner.Depths.{level_at, next_levels}
 use Rattle.hcl_layout.specs.Inner.Laid.{Laid, bare_line, cell_of, shape, text_of}
-use Rattle.hcl_layout.specs.Inner.LineGaps.{Cell, IsSigned, LineGaps, gaps_in, plain_of}
+use Rattle.hcl_layout.specs.Inner.LineGaps.{IsSigned, LineGaps, gaps_in, plain_of}
 use Rattle.hcl_layout.specs.Inner.Stream.{assign_column, assign_width, assign_widths, next_of, plain}
 use Rattle.hcl_layout.specs.Inner.Survey.{IsLine, facts_in}
 use Rattle.hcl_layout.specs.declared.line.Line.{Line as LineRead}
 use Rattle.hcl_layout.specs.declared.lines.LaidLine.{LaidLine}
-use Rattle.hcl_layout.proofs.RunLemmas.{aligned_none, aligned_some, assigned_in, comment_cell, commented_in, plain_in, signed_none, signed_set}
-use Rattle.hcl_layout.proofs.WalkLemmas.{comment_is, read_level, read_order, read_within, sign_behind, sign_is, sign_none, sign_step, sign_within}
+use Rattle.hcl_layout.proofs.RunLemmas.{aligned_none, aligned_some, assigned_in, comment_cell, commented_in, plain_in, signed_set}
+use Rattle.hcl_layout.proofs.WalkLemmas.{comment_is, read_level, read_order, read_within, sign_after, sign_is, sign_none, sign_step, sign_within}
 
 less : (a b : ℕ) → a < b → nat_lt a b ≡ true
 less a b h = grind (arith, nat_tests)
@@ -42,19 +42,13 @@ module _ (ts : List Lexeme) (d : ℕ) (r : LineRead) (p : IsLine ts r.first d (f
   bare_gaps column e =
       ap (λ (s : LineGaps). gaps_in s (text_in ts r)) bare ∙ plain_in level (text_in ts r) ∙ level_gaps ∙ aligned_none (plain d levels (text_in ts r)) (text_in ts r) column (sign_none ts d r p e)
 
-  pub bare_signed : IsSigned (shape (bare_line r level)) (text_in ts r)
-  bare_signed = subst (λ (s : LineGaps). IsSigned s (text_in ts r)) (sym bare) (signed_none level (text_in ts r) low)
-
-  pub bare_width_none : r.sign ≡ None → assign_width d levels (text_in ts r) ≡ None
-  bare_width_none e = ap (option_map (λ i. width i (plain d levels (text_in ts r)) (text_in ts r))) (sign_none ts d r p e)
-
   -- a line with one
   module _ (n w gap : ℕ) (e : r.sign ≡ Some n) (own : w ≡ width (n - r.first) (plain_gaps level (text_in ts r)) (text_in ts r)) where
     set : shape (with_sign_at (bare_line r level) n w gap) ≡ record { level = level; assign = Some (record { place = n - r.first; width = w; gap = gap }); comment = None }
     set = rw (less n r.end (sign_within ts d r p n e), not_less r.end) refl
 
     pub set_laid : length ts ≤ 2 ^ 22 → gap ≤ 2 ^ 33 → Laid ts (with_sign_at (bare_line r level) n w gap)
-    set_laid few small = record { some = read_order ts d r p; within = read_within ts d r p; few = few; level = low; sign_front = sign_behind ts d r p n e; comment_front = read_order ts d r p; sign_gap = small; comment_gap = omega arith }
+    set_laid few small = record { some = read_order ts d r p; within = read_within ts d r p; few = few; level = low; sign_front = sign_after ts d r p n e; comment_front = read_order ts d r p; sign_gap = small; comment_gap = omega arith }
 
     pub set_signed : gap ≤ 2 ^ 33 → IsSigned (shape (with_sign_at (bare_line r level) n w gap)) (text_in ts r)
     set_signed small = subst (λ (s : LineGaps). IsSigned s (text_in ts r)) (sym set) (signed_set level (n - r.first) w gap (text_in ts r) low (sign_is ts d r p n e) own small)
@@ -73,21 +67,11 @@ module _ (ts : List Lexeme) (d : ℕ) (r : LineRead) (p : IsLine ts r.first d (f
         (g ∙ ap (λ k. column - k + 1) (own ∙ ap (λ (gs : List ℕ). width (n - r.first) gs (text_in ts r)) level_gaps))
 
     -- the column that its run has
-    pub set_column : (run : Option ℕ) (column : ℕ) → Some column ≡ next_of run (Some w ∷ assign_widths r.depth (levels_behind d r.depth levels) (lines (drop r.end ts)))
+    pub set_column : (run : Option ℕ) (column : ℕ) → Some column ≡ next_of run (Some w ∷ assign_widths r.depth (next_levels d r.depth levels) (lines (drop r.end ts)))
         → Some column ≡ assign_column d levels run (lines (drop r.first ts))
     set_column run column q =
-        q ∙ ap (λ (x : Option ℕ). next_of run (x ∷ assign_widths r.depth (levels_behind d r.depth levels) (lines (drop r.end ts)))) (sym set_width)
+        q ∙ ap (λ (x : Option ℕ). next_of run (x ∷ assign_widths r.depth (next_levels d r.depth levels) (lines (drop r.end ts)))) (sym set_width)
         ∙ sym (ap (next_of run) (sign_step ts d r p levels))
-
-  pub bare_column : (run : Option ℕ) → r.sign ≡ None → None ≡ assign_column d levels run (lines (drop r.first ts))
-  bare_column run e =
-      none run (assign_widths r.depth (levels_behind d r.depth levels) (lines (drop r.end ts)))
-      ∙ ap (λ (x : Option ℕ). next_of run (x ∷ assign_widths r.depth (levels_behind d r.depth levels) (lines (drop r.end ts)))) (sym (bare_width_none e))
-      ∙ sym (ap (next_of run) (sign_step ts d r p levels))
-    where
-      none : (c : Option ℕ) (rest : List (Option ℕ)) → None ≡ next_of c (None ∷ rest)
-      none None rest = refl
-      none (Some c) rest = refl
 
 -- with its comment
 abbrev pub with_comment_at : LaidLine → ℕ → ℕ → ℕ → LaidLine

@@ -1,20 +1,16 @@
 -- What is left to print of the lines, piece by piece and line by line.
-use Rattle.std.proofs.Common.{◌*◌, ◌≡◌, ◌∙◌, ◌+◌, ◌-◌, ◌++◌, ◌<◌, ◌≤◌, ◌^◌, ℕ, suc, zero, List, [], ◌∷◌, Option, Some, None, length, ap, ap₂, refl, sym, arith, subst, take, drop, replicate, length-append, append_assoc}
+use Rattle.std.proofs.Common.{◌≡◌, ◌∙◌, ◌+◌, ◌-◌, ◌++◌, ◌<◌, ◌≤◌, ℕ, zero, List, Some, None, length, ap, ap₂, refl, sym, arith, take, drop, replicate, length-append}
 use Rattle.std.specs.Prelude.{slice_get}
 use Rattle.std.proofs.lemmas.List.{length-replicate}
-use Rattle.std.specs.List.{flat_map}
 use Rattle.hcl_tokens.specs.Lexemes.{Lexeme}
-use Rattle.hcl_layout.specs.Gaps.{gaps}
-use Rattle.hcl_layout.specs.Lines.{Line, lines}
 use Rattle.hcl_layout.specs.Print.{print, printed_text}
-use Rattle.hcl_layout.specs.Inner.Depths.{BalancedFrom, Sound, fresh}
-use Rattle.hcl_layout.specs.Inner.Laid.{IsAt, Laid, gaps_after, gaps_on, left_after, left_on, rest_of, shape, text_of}
+use Rattle.hcl_layout.specs.Inner.Depths.{BalancedFrom, fresh}
+use Rattle.hcl_layout.specs.Inner.Laid.{gaps_after, gaps_on, left_after, left_on, shape}
 use Rattle.hcl_layout.specs.Inner.Left.{gap_before, token_before}
-use Rattle.hcl_layout.specs.Inner.LineGaps.{gaps_from, gaps_in}
-use Rattle.hcl_layout.specs.Inner.Stream.{commented}
+use Rattle.hcl_layout.specs.Inner.LineGaps.{gaps_from}
 use Rattle.hcl_layout.specs.declared.lines.LaidLine.{LaidLine}
 use Rattle.hcl_layout.specs.declared.lines.Lines.{Lines}
-use Rattle.hcl_layout.proofs.LeftLemmas.{none_behind, piece_left, start_all}
+use Rattle.hcl_layout.proofs.LeftLemmas.{piece_left, start_all}
 
 -- a line that follows
 pub left_line : (ts : List Lexeme) (old new : Lines) (l : LaidLine) → gaps_after ts old ≡ gaps_on ts l l.first ++ gaps_after ts new → l.first ≡ old.next → left_after ts old ≡ left_on ts l (gaps_after ts new) l.first

@@ -1,26 +1,24 @@
 -- Columns that are right at the end of each run are those of the definition, whatever way they were come by.
-use Rattle.std.proofs.Common.{◌≡◌, ◌∙◌, ◌+◌, ◌-◌, ◌++◌, ◌<◌, ◌≤◌, ◌==◌, ◌||◌, not, ℕ, Bool, true, false, List, [], ◌∷◌, Option, Some, None, max, length, ap, ap₂, refl, sym, arith, subst, take, drop}
-use Rattle.std.specs.Prelude.{IfSome, MatchOption, option_map, if◌then◌else◌}
+use Rattle.std.proofs.Common.{◌≡◌, ◌∙◌, ◌-◌, ◌++◌, ◌≤◌, ◌==◌, ◌||◌, not, ℕ, Bool, true, false, List, [], ◌∷◌, Option, Some, None, length, ap, ap₂, refl, sym, arith, subst, take, drop}
+use Rattle.std.specs.Prelude.{option_map}
 use Rattle.std.specs.List.{flat_map}
 use Rattle.std.proofs.Math.ListN.{drop_of_length-le}
 use Rattle.std.proofs.lemmas.Bool.Decides.{nat_tests}
 use Rattle.hcl_tokens.specs.Lexemes.{Lexeme}
 use Rattle.hcl_layout.specs.Cells.{assign_cell, running_comment, trailing_comment}
-use Rattle.hcl_layout.specs.Columns.{widest}
 use Rattle.hcl_layout.specs.Gaps.{align, width}
 use Rattle.hcl_layout.specs.Lines.{Line, lines}
-use Rattle.hcl_layout.specs.Inner.Depths.{depth_after, levels_behind}
-use Rattle.hcl_layout.specs.Inner.Laid.{AreRight, Grows, IsCommentAhead, IsRight, IsSignAhead, Moves, RunsGrow, column_of, ends_wrong, ends_wrong_at, gaps_after, gaps_on, greatest_of, laid_gaps, shape, signed_gaps, text_of}
+use Rattle.hcl_layout.specs.Inner.Depths.{next_levels}
+use Rattle.hcl_layout.specs.Inner.Laid.{AreRight, Grows, IsRight, Moves, RunsGrow, column_of, ends_wrong, ends_wrong_at, gaps_after, gaps_on, laid_gaps, shape, signed_gaps, text_of}
 use Rattle.hcl_layout.specs.Inner.Left.{token_before}
 use Rattle.hcl_layout.specs.Inner.LineGaps.{gaps_from, gaps_in}
-use Rattle.hcl_layout.specs.Inner.Stream.{assign_column, assign_width, assign_widths, assigned_line, comment_column, comment_widths, commented, next_of, plain}
+use Rattle.hcl_layout.specs.Inner.Stream.{assign_column, assign_widths, assigned_line, comment_column, comment_widths, commented, next_of, plain}
 use Rattle.hcl_layout.specs.Inner.Survey.{IsLine, facts_in}
 use Rattle.hcl_layout.specs.declared.line.Line.{Line as LineRead}
 use Rattle.hcl_layout.specs.declared.lines.LaidLine.{LaidLine}
 use Rattle.hcl_layout.specs.declared.lines.Lines.{Lines}
 use Rattle.hcl_layout.specs.declared.lines.Run.{Run}
-use Rattle.hcl_layout.proofs.LeftLemmas.{none_behind}
-use Rattle.hcl_layout.proofs.PassLemmas.{text_in}
+use Rattle.hcl_layout.proofs.LeftLemmas.{none_after}
 use Rattle.hcl_layout.proofs.WalkLemmas.{read_cut, sign_step}
 
 -- ---- one run
@@ -52,28 +50,28 @@ module _ (ts : List Lexeme) (old new : Lines) (r : LineRead) (p : IsLine ts r.fi
   abbrev t : Line
   t = take (r.end - r.first) (drop r.first ts)
 
-  abbrev behind : List Line
-  behind = lines (drop r.end ts)
+  abbrev after : List Line
+  after = lines (drop r.end ts)
 
   abbrev levels' : List ℕ
-  levels' = levels_behind old.depth r.depth old.levels
+  levels' = next_levels old.depth r.depth old.levels
 
   comment_step : (column : Option ℕ) → comment_widths old.depth old.levels column (lines (drop r.first ts))
       ≡ option_map (λ i. width i (assigned_line old.depth old.levels column t (lines (drop r.first ts))) t) (running_comment t)
-      ∷ comment_widths r.depth levels' (assign_column old.depth old.levels column (lines (drop r.first ts))) behind
+      ∷ comment_widths r.depth levels' (assign_column old.depth old.levels column (lines (drop r.first ts))) after
   comment_step column =
       let cut = read_cut ts old.depth r p in
       ap (comment_widths old.depth old.levels column) cut
-      ∙ ap₂ (λ (c : Option ℕ) (k : ℕ). option_map (λ i. width i (align assign_cell (plain old.depth old.levels t) t c) t) (running_comment t) ∷ comment_widths k (levels_behind old.depth k old.levels) c behind)
+      ∙ ap₂ (λ (c : Option ℕ) (k : ℕ). option_map (λ i. width i (align assign_cell (plain old.depth old.levels t) t c) t) (running_comment t) ∷ comment_widths k (next_levels old.depth k old.levels) c after)
       (ap (assign_column old.depth old.levels column) (sym cut)) (sym p.depth)
 
-  sign_widths_new : assign_widths new.depth new.levels (lines (drop new.next ts)) ≡ assign_widths r.depth levels' behind
+  sign_widths_new : assign_widths new.depth new.levels (lines (drop new.next ts)) ≡ assign_widths r.depth levels' after
   sign_widths_new = ap₂ (λ (d : ℕ) (v : List ℕ). assign_widths d v (lines (drop new.next ts))) m.depth m.levels ∙ ap (λ n. assign_widths r.depth levels' (lines (drop n ts))) m.next
 
-  comment_widths_new : (c : Option ℕ) → comment_widths new.depth new.levels c (lines (drop new.next ts)) ≡ comment_widths r.depth levels' c behind
+  comment_widths_new : (c : Option ℕ) → comment_widths new.depth new.levels c (lines (drop new.next ts)) ≡ comment_widths r.depth levels' c after
   comment_widths_new c = ap₂ (λ (d : ℕ) (v : List ℕ). comment_widths d v c (lines (drop new.next ts))) m.depth m.levels ∙ ap (λ n. comment_widths r.depth levels' c (lines (drop n ts))) m.next
 
-  gaps_new : gaps_after ts new ≡ flat_map (λ g. g) (commented r.depth levels' (column_of new.signs) (column_of new.comments) behind)
+  gaps_new : gaps_after ts new ≡ flat_map (λ g. g) (commented r.depth levels' (column_of new.signs) (column_of new.comments) after)
   gaps_new =
       ap₂ (λ (d : ℕ) (v : List ℕ). flat_map (λ g. g) (commented d v (column_of new.signs) (column_of new.comments) (lines (drop new.next ts)))) m.depth m.levels
       ∙ ap (λ n. flat_map (λ g. g) (commented r.depth levels' (column_of new.signs) (column_of new.comments) (lines (drop n ts)))) m.next
@@ -86,28 +84,27 @@ module _ (ts : List Lexeme) (old new : Lines) (r : LineRead) (p : IsLine ts r.fi
       let cut = read_cut ts old.depth r p in
       ap (λ n. flat_map (λ g. g) (commented old.depth old.levels (column_of old.signs) (column_of old.comments) (lines (drop n ts)))) (sym at)
       ∙ ap (λ ls. flat_map (λ g. g) (commented old.depth old.levels (column_of old.signs) (column_of old.comments) ls)) cut
-      ∙ ap (λ d. align trailing_comment (align assign_cell (plain old.depth old.levels t) t (assign_column old.depth old.levels (column_of old.signs) (t ∷ behind))) t (comment_column old.depth old.levels (column_of old.signs) (column_of old.comments) (t ∷ behind))
-          ++ flat_map (λ g. g) (commented d (levels_behind old.depth d old.levels) (assign_column old.depth old.levels (column_of old.signs) (t ∷ behind)) (comment_column old.depth old.levels (column_of old.signs) (column_of old.comments) (t ∷ behind)) behind)) (sym p.depth)
-      ∙ ap₂ (λ (x y : Option ℕ). align trailing_comment (align assign_cell (plain old.depth old.levels t) t x) t y ++ flat_map (λ g. g) (commented r.depth levels' x y behind))
+      ∙ ap (λ d. align trailing_comment (align assign_cell (plain old.depth old.levels t) t (assign_column old.depth old.levels (column_of old.signs) (t ∷ after))) t (comment_column old.depth old.levels (column_of old.signs) (column_of old.comments) (t ∷ after))
+      ++ flat_map (λ g. g) (commented d (next_levels old.depth d old.levels) (assign_column old.depth old.levels (column_of old.signs) (t ∷ after)) (comment_column old.depth old.levels (column_of old.signs) (column_of old.comments) (t ∷ after)) after)) (sym p.depth)
+      ∙ ap₂ (λ (x y : Option ℕ). align trailing_comment (align assign_cell (plain old.depth old.levels t) t x) t y ++ flat_map (λ g. g) (commented r.depth levels' x y after))
       (sym (c ∙ ap (assign_column old.depth old.levels (column_of old.signs)) cut)) (sym (k ∙ ap (comment_column old.depth old.levels (column_of old.signs) (column_of old.comments)) cut))
       ∙ ap (λ gs. laid_gaps old new t ++ gs) (sym gaps_new)
 
-  -- the columns that were right behind the line are right before it, and it stands in them
+  -- the columns that were right after the line are right before it, and it stands in them
   pub right_step : RunsGrow old t new → new.wrong ≡ false → AreRight ts new → (old.wrong ≡ false) × AreRight ts old × (gaps_after ts old ≡ laid_gaps old new t ++ gaps_after ts new)
   right_step g wrong right =
       let parts = or_false old.wrong (ends_wrong_at old.signs (assign_cell t)) (ends_wrong_at old.comments (running_comment t)) (sym g.wrong ∙ wrong) in
       let c = column_of old.signs in
-      let signs = run_back old.signs new.signs (assign_cell t) (λ i. width i (plain old.depth old.levels t) t) (assign_widths r.depth levels' behind) g.signs parts.1
+      let signs = run_back old.signs new.signs (assign_cell t) (λ i. width i (plain old.depth old.levels t) t) (assign_widths r.depth levels' after) g.signs parts.1
       (subst (λ (ws : List (Option ℕ)). IsRight new.signs ws) sign_widths_new right.0) in
       let step = sign_step ts old.depth r p old.levels in
       let column : column_of new.signs ≡ assign_column old.depth old.levels c (lines (drop r.first ts)) = signs.column ∙ ap (next_of c) (sym step) in
       let own : ℕ → ℕ = λ i. width i (signed_gaps old new t) t in
-      let comments = run_back old.comments new.comments (running_comment t) own (comment_widths r.depth levels' (column_of new.signs) behind) g.comments parts.2
+      let comments = run_back old.comments new.comments (running_comment t) own (comment_widths r.depth levels' (column_of new.signs) after) g.comments parts.2
       (subst (λ (ws : List (Option ℕ)). IsRight new.comments ws) (comment_widths_new (column_of new.signs)) right.1) in
-      let more : comment_widths old.depth old.levels c (lines (drop r.first ts)) ≡ option_map own (running_comment t) ∷ comment_widths r.depth levels' (column_of new.signs) behind =
-      comment_step c ∙ ap (λ (x : Option ℕ). option_map (λ i. width i (align assign_cell (plain old.depth old.levels t) t x) t) (running_comment t) ∷ comment_widths r.depth levels' x behind) (sym column) in
-      let other : column_of new.comments ≡ comment_column old.depth old.levels c (column_of old.comments) (lines (drop r.first ts)) = comments.column ∙ ap (next_of (column_of old.comments)) (sym more) in
-      (
+      let more : comment_widths old.depth old.levels c (lines (drop r.first ts)) ≡ option_map own (running_comment t) ∷ comment_widths r.depth levels' (column_of new.signs) after =
+      comment_step c ∙ ap (λ (x : Option ℕ). option_map (λ i. width i (align assign_cell (plain old.depth old.levels t) t x) t) (running_comment t) ∷ comment_widths r.depth levels' x after) (sym column) in
+      let other : column_of new.comments ≡ comment_column old.depth old.levels c (column_of old.comments) (lines (drop r.first ts)) = comments.column ∙ ap (next_of (column_of old.comments)) (sym more) in (
         parts.0,
         (
           subst (λ n. IsRight old.signs (assign_widths old.depth old.levels (lines (drop n ts)))) at (subst (λ (ws : List (Option ℕ)). IsRight old.signs ws) (sym step) signs.right),
@@ -121,7 +118,7 @@ pub front_gaps : (ts : List Lexeme) (l : LaidLine) → gaps_in (shape l) (text_o
 front_gaps ts l =
     let place : l.first - l.first ≡ 0 = omega arith in
     sym (ap (λ (k : ℕ). gaps_from (shape l) k (token_before ts l.first (l.first - 1)) (token_before ts l.first l.first) (text_of ts l)) place
-      ∙ ap₂ (λ (x y : Option Lexeme). gaps_from (shape l) 0 x y (text_of ts l)) (none_behind ts l.first (l.first - 1) (omega arith)) (none_behind ts l.first l.first (omega arith)))
+    ∙ ap₂ (λ (x y : Option Lexeme). gaps_from (shape l) 0 x y (text_of ts l)) (none_after ts l.first (l.first - 1) (omega arith)) (none_after ts l.first l.first (omega arith)))
 
 -- a run that ends well was right
 run_end : (run : Option Run) → ends_wrong run ≡ false → IsRight run []
@@ -138,8 +135,7 @@ not_any false false false h = (refl, refl, refl)
 pub all_right : (ts : List Lexeme) (s : Lines) → length ts ≤ s.next → not (s.wrong || ends_wrong s.signs || ends_wrong s.comments) ≡ true → (s.wrong ≡ false) × AreRight ts s
 all_right ts s le e =
     let parts = not_any s.wrong (ends_wrong s.signs) (ends_wrong s.comments) e in
-    let none = sym (drop_of_length-le ts le) in
-    (
+    let none = sym (drop_of_length-le ts le) in (
       parts.0,
       (
         subst (λ (xs : List Lexeme). IsRight s.signs (assign_widths s.depth s.levels (lines xs))) none (run_end s.signs parts.1),

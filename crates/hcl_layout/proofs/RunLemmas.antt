@@ -1,14 +1,12 @@
 -- Reading a run ahead, line by line.
-use Rattle.std.proofs.Common.{◌*◌, ◌≡◌, ◌∙◌, ◌+◌, ◌-◌, ◌<◌, ◌≤◌, ◌^◌, ℕ, suc, zero, Bool, true, false, List, [], ◌∷◌, Option, Some, None, length, ap, ap₂, refl, subst, sym, arith, take, drop, length-take}
-use Rattle.std.specs.Prelude.{IfSome, option_map, slice_set, if◌then◌else◌}
+use Rattle.std.proofs.Common.{◌*◌, ◌≡◌, ◌∙◌, ◌+◌, ◌-◌, ◌<◌, ◌≤◌, ◌^◌, ℕ, suc, zero, Bool, true, false, List, [], ◌∷◌, Option, Some, None, length, ap, refl, subst, sym, arith, take, drop}
+use Rattle.std.specs.Prelude.{IfSome, slice_set, if◌then◌else◌}
 use Rattle.hcl_tokens.specs.Lexemes.{Lexeme}
 use Rattle.hcl_tokens.specs.Balanced.{max_open}
-use Rattle.hcl_layout.specs.Cells.{assign_cell, before_comment, has_multiline, if_level, is_level, is_assignment, is_trailing, first_place_from, running_comment, trailing_comment, until}
+use Rattle.hcl_layout.specs.Cells.{assign_cell, before_comment, has_multiline, if_level, is_level, is_assignment, is_trailing, first_place_from, trailing_comment, until}
 use Rattle.hcl_layout.specs.Gaps.{align, gap_to, plain_gaps, width}
 use Rattle.hcl_layout.specs.Levels.{net_of}
 use Rattle.hcl_layout.specs.Inner.LineGaps.{AreSet, IsKnown, IsSigned, len_with_blanks, gaps_in, plain_of, set_cell}
-use Rattle.hcl_layout.specs.Inner.Depths.{depth_after, levels_behind}
-use Rattle.hcl_layout.specs.Inner.Stream.{assign_column, assigned_line, column_behind, comment_column, comment_widths, next_of}
 use Rattle.hcl_layout.specs.Lines.{Line}
 use Rattle.hcl_layout.specs.Inner.LineGaps.{Cell}
 use Rattle.hcl_layout.specs.Inner.LineGaps.{LineGaps}
@@ -16,10 +14,6 @@ use Rattle.hcl_layout.proofs.LineLemmas.{gaps_in_is, width_before, width_set, wi
 use Rattle.hcl_layout.proofs.SurveyLemmas.{place_within}
 
 -- ---- sizes
-
-pub length_len_with_blanks : (ts : List Lexeme) → length ts ≤ len_with_blanks ts
-length_len_with_blanks [] = omega arith
-length_len_with_blanks (t ∷ ts) = omega (arith, length_len_with_blanks ts)
 
 len_with_blanks_cut : (n : ℕ) (ts : List Lexeme) → len_with_blanks (take n ts) + len_with_blanks (drop n ts) ≡ len_with_blanks ts
 len_with_blanks_cut zero ts = omega arith
@@ -86,50 +80,19 @@ pub assign_before : (line : Line) (i j : ℕ) → assign_cell line ≡ Some i �
 assign_before [] i j e f = let h : None ≡ Some i = multiline_some (has_multiline []) None i e in cc
 assign_before (t ∷ line) i j e f = omega (arith, (place_within is_assignment 1 (until is_trailing line) i (assign_sign t line i e)).1, until_found is_trailing 1 line j f)
 
-pub assign_apart : (line : Line) (i j : ℕ) → assign_cell line ≡ Some i → trailing_comment line ≡ Some j → i < j
-assign_apart [] i j e f = let h : None ≡ Some i = multiline_some (has_multiline []) None i e in cc
-assign_apart (t ∷ line) i j e f = omega (arith, (place_within is_assignment 1 (until is_trailing line) i (assign_sign t line i e)).1, until_found is_trailing 1 line j f)
-
 -- no cell stands at the line's front
-pub assign_behind : (line : Line) (i : ℕ) → assign_cell line ≡ Some i → 0 < i
-assign_behind [] i e = let h : None ≡ Some i = multiline_some (has_multiline []) None i e in cc
-assign_behind (t ∷ line) i e = omega (arith, (place_within is_assignment 1 (until is_trailing line) i (assign_sign t line i e)).0)
+pub assign_after : (line : Line) (i : ℕ) → assign_cell line ≡ Some i → 0 < i
+assign_after [] i e = let h : None ≡ Some i = multiline_some (has_multiline []) None i e in cc
+assign_after (t ∷ line) i e = omega (arith, (place_within is_assignment 1 (until is_trailing line) i (assign_sign t line i e)).0)
 
-pub comment_behind : (line : Line) (i : ℕ) → trailing_comment line ≡ Some i → 0 < i
-comment_behind [] i e = cc
-comment_behind (t ∷ line) i e = omega (arith, (place_within is_trailing 1 line i e).0)
-
-line_short : (ts : List Lexeme) (at n i : ℕ) → i < length (take n (drop at ts)) → i < n
-line_short ts at n i lt = omega (arith, length-take n (drop at ts))
-
-pub assign_there : (ts : List Lexeme) (at n i : ℕ) (cell : Option ℕ) → cell ≡ assign_cell (take n (drop at ts)) → Some i ≡ cell → i ≤ n
-assign_there ts at n i cell e f = omega (arith, line_short ts at n i (assign_within (take n (drop at ts)) i (sym (f ∙ e))))
-
-pub comment_there : (ts : List Lexeme) (at n i : ℕ) (cell : Option ℕ) → cell ≡ trailing_comment (take n (drop at ts)) → Some i ≡ cell → i ≤ n
-comment_there ts at n i cell e f = omega (arith, line_short ts at n i (comment_within (take n (drop at ts)) i (sym (f ∙ e))))
-
-pub running_there : (ts : List Lexeme) (at n i : ℕ) (cell : Option ℕ) → cell ≡ running_comment (take n (drop at ts)) → Some i ≡ cell → i ≤ n
-running_there ts at n i cell e f =
-    let comment : trailing_comment (take n (drop at ts)) ≡ Some i = multiline_some (has_multiline (take n (drop at ts))) (trailing_comment (take n (drop at ts))) i (sym (f ∙ e)) in
-    omega (arith, line_short ts at n i (comment_within (take n (drop at ts)) i comment))
-
--- so the token of a cell is there
-pub assign_inside : (ts : List Lexeme) (at n i : ℕ) (cell : Option ℕ) → at + n ≤ length ts → cell ≡ assign_cell (take n (drop at ts)) → cell ≡ Some i → at + i < length ts
-assign_inside ts at n i cell room e f = omega (arith, room, line_short ts at n i (assign_within (take n (drop at ts)) i (sym e ∙ f)))
-
-pub running_inside : (ts : List Lexeme) (at n i : ℕ) (cell : Option ℕ) → at + n ≤ length ts → cell ≡ running_comment (take n (drop at ts)) → cell ≡ Some i → at + i < length ts
-running_inside ts at n i cell room e f =
-    let line : Line = take n (drop at ts) in
-    omega (arith, room, line_short ts at n i (comment_within line i (multiline_some (has_multiline line) (trailing_comment line) i (sym e ∙ f))))
+pub comment_after : (line : Line) (i : ℕ) → trailing_comment line ≡ Some i → 0 < i
+comment_after [] i e = cc
+comment_after (t ∷ line) i e = omega (arith, (place_within is_trailing 1 line i e).0)
 
 -- ---- the gaps of a line with its cells
 
 pub aligned_none : (gaps : List ℕ) (l : Line) (column : Option ℕ) → assign_cell l ≡ None → gaps ≡ align assign_cell gaps l column
 aligned_none gaps l column e = rw e refl
-
--- one blank after what stands before it
-pub aligned_one : (gaps : List ℕ) (l : Line) (i : ℕ) → assign_cell l ≡ Some i → slice_set gaps i 1 ≡ align assign_cell gaps l None
-aligned_one gaps l i e = rw e refl
 
 pub aligned_some : (gaps : List ℕ) (l : Line) (column i gap : ℕ) → assign_cell l ≡ Some i → gap ≡ column - width i gaps l + 1 → slice_set gaps i gap ≡ align assign_cell gaps l (Some column)
 aligned_some gaps l column i gap e f = rw (e, f) refl
@@ -155,9 +118,6 @@ signed_narrow ts at len g k n low plain small =
 
 -- ---- a line with its sign
 
-pub signed_none : (level : ℕ) (line : Line) → level ≤ max_open → IsSigned (plain_of level) line
-signed_none level line low = record { level = low; plain = refl; known = refl; gap = tt; front = tt; order = λ i e. omega arith }
-
 pub signed_set : (level i own gap : ℕ) (line : Line) → level ≤ max_open → assign_cell line ≡ Some i → own ≡ width i (plain_gaps level line) line → gap ≤ 2 ^ 33
     → IsSigned (record { level = level; assign = Some (record { place = i; width = own; gap = gap }); comment = None }) line
 signed_set level i own gap line low e w small = record {
@@ -165,7 +125,7 @@ signed_set level i own gap line low e w small = record {
   plain = refl;
   known = known_set level i own gap line w;
   gap = small;
-  front = assign_behind line i e;
+  front = assign_after line i e;
   order = λ j f. assign_before line i j e f;
 }
 
@@ -178,9 +138,6 @@ commented_in level assign comment i own gap line e =
 pub comment_cell : (gaps : List ℕ) (l : Line) (column : Option ℕ) (i gap : ℕ) → trailing_comment l ≡ Some i → gap ≡ gap_to column (width i gaps l) → slice_set gaps i gap ≡ align trailing_comment gaps l column
 comment_cell gaps l column i gap e f = rw (e, f) refl
 
-pub comment_none : (gaps : List ℕ) (l : Line) (column : Option ℕ) → trailing_comment l ≡ None → gaps ≡ align trailing_comment gaps l column
-comment_none gaps l column e = rw e refl
-
 pub set_signed : (g : LineGaps) (l : Line) → IsSigned g l → AreSet g
 set_signed g l p = record {
   level = p.level;
@@ -190,42 +147,4 @@ set_signed g l p = record {
   comment_front = subst (λ (o : Option Cell). IfSome o (λ c. 0 < c.place)) (sym p.plain) tt;
 }
 
-pub set_commented : (g : LineGaps) (l : Line) (i own gap : ℕ) → IsSigned g l → trailing_comment l ≡ Some i → gap ≤ 2 ^ 34
-    → AreSet (record { level = g.level; assign = g.assign; comment = Some (record { place = i; width = own; gap = gap }) })
-set_commented g l i own gap p e small = record { level = p.level; sign_gap = p.gap; comment_gap = small; sign_front = p.front; comment_front = comment_behind l i e }
-
 -- ---- the column of a line's comment
-
-pub no_running : (l : Line) → trailing_comment l ≡ None → running_comment l ≡ None
-no_running l e = go (has_multiline l)
-  where
-    go : (v : Bool) → (if v then None else trailing_comment l) ≡ None
-    go true = refl
-    go false = e
-
-pub running_place : (l : Line) (i j : ℕ) → running_comment l ≡ Some j → trailing_comment l ≡ Some i → running_comment l ≡ Some i
-running_place l i j e f = e ∙ sym (multiline_some (has_multiline l) (trailing_comment l) j e) ∙ f
-
-next_none : (column : Option ℕ) (rest : List (Option ℕ)) → None ≡ next_of column (None ∷ rest)
-next_none None rest = refl
-next_none (Some c) rest = refl
-
--- where it takes part in no run
-pub column_none : (gaps : List ℕ) (l : Line) (column : Option ℕ) (rest : List (Option ℕ)) → running_comment l ≡ None → None ≡ column_behind gaps l column rest
-column_none gaps l column rest e = rw e (next_none column rest)
-
--- and where it does
-pub column_some : (gaps : List ℕ) (l : Line) (column : Option ℕ) (rest : List (Option ℕ)) (i own c : ℕ) → running_comment l ≡ Some i → own ≡ width i gaps l → Some c ≡ next_of column (Some own ∷ rest)
-    → Some c ≡ column_behind gaps l column rest
-column_some gaps l column rest i own c e f g = g ∙ ap (λ w. next_of column (Some w ∷ rest)) f ∙ ap (λ (x : Option ℕ). next_of column (option_map (λ k. width k gaps l) x ∷ rest)) (sym e)
-
--- by what is known after the line but for the comment
-pub column_is : (d : ℕ) (levels : List ℕ) (column comment : Option ℕ) (l : Line) (ls rest : List Line) (gaps : List ℕ) (d' : ℕ) (levels' : List ℕ) (column' : Option ℕ)
-    → ls ≡ l ∷ rest → gaps ≡ assigned_line d levels column l ls → d' ≡ depth_after d l → levels' ≡ levels_behind d (depth_after d l) levels → column' ≡ assign_column d levels column ls
-    → column_behind gaps l comment (comment_widths d' levels' column' rest) ≡ comment_column d levels column comment ls
-column_is d levels column comment l ls rest gaps d' levels' column' cut g e f h =
-    let now : List ℕ = assigned_line d levels column l (l ∷ rest) in
-    ap (λ (gs : List ℕ). column_behind gs l comment (comment_widths d' levels' column' rest)) (g ∙ ap (assigned_line d levels column l) cut)
-    ∙ ap₂ (λ (x : ℕ) (y : List ℕ). column_behind now l comment (comment_widths x y column' rest)) e f
-    ∙ ap (λ (x : Option ℕ). column_behind now l comment (comment_widths (depth_after d l) (levels_behind d (depth_after d l) levels) x rest)) (h ∙ ap (assign_column d levels column) cut)
-    ∙ sym (ap (comment_column d levels column comment) cut)

@@ -1,5 +1,5 @@
 -- What was seen of a line, and what its survey is, token by token.
-use Rattle.std.proofs.Common.{◌≡◌, ◌∙◌, ◌+◌, ◌-◌, ◌<◌, ◌≤◌, ◌&&◌, ◌||◌, ◌^◌, not, ℕ, Bool, true, false, List, [], ◌∷◌, Option, Some, None, length, ap, ap₂, refl, sym, arith, subst, drop}
+use Rattle.std.proofs.Common.{◌≡◌, ◌∙◌, ◌+◌, ◌-◌, ◌≤◌, ◌&&◌, ◌||◌, ◌^◌, not, ℕ, Bool, true, false, List, Option, Some, None, length, ap, ap₂, refl, sym, arith, subst, drop}
 use Rattle.std.specs.Prelude.{is_some, option_map, slice_get}
 use Rattle.hcl_tokens.specs.Lexemes.{Lexeme}
 use Rattle.hcl_tokens.specs.Balanced.{max_open}
@@ -9,7 +9,7 @@ use Rattle.hcl_grammar.specs.Items.{deepen}
 use Rattle.hcl_layout.specs.Cells.{is_assignment, is_multiline, is_trailing}
 use Rattle.hcl_layout.specs.Lines.{ends_line}
 use Rattle.hcl_layout.specs.Inner.Depths.{BalancedFrom}
-use Rattle.hcl_layout.specs.Inner.Survey.{IsLine, Survey, body_of, changes, facts_in, facts_of, first_noted, going, marks, noted, survey_of, surveyed, takes_sign}
+use Rattle.hcl_layout.specs.Inner.Survey.{IsLine, Survey, facts_in, facts_of, first_noted, marks, noted, survey_of, surveyed, takes_sign}
 use Rattle.hcl_layout.specs.declared.line.Line.{Line}
 use Rattle.hcl_layout.specs.declared.line.Seen.{Seen}
 use Rattle.hcl_spacing.proofs.KindLemmas.{each}

@@ -8,7 +8,7 @@ use Rattle.hcl_tokens.specs.Lexemes.{Lexeme}
 use Rattle.hcl_tokens.specs.declared.token.Kind.{Kind}
 use Rattle.hcl_layout.specs.Cells.{assign_cell, running_comment, trailing_comment}
 use Rattle.hcl_grammar.specs.Items.{deepen}
-use Rattle.hcl_layout.specs.Inner.Depths.{net_of_kind, BalancedFrom, Steps, depth_after, fresh, level_at, levels_behind}
+use Rattle.hcl_layout.specs.Inner.Depths.{net_of_kind, BalancedFrom, Steps, depth_after, fresh, level_at, next_levels}
 use Rattle.hcl_layout.specs.Gaps.{aligned_gaps, aligned_gaps_by, align, gaps, indented_gaps, line_gaps, plain_gaps, zip_with}
 use Rattle.hcl_tokens.specs.Balanced.{is_closer, is_opener, max_open}
 use Rattle.hcl_layout.specs.Levels.{Net, is_above, levels, net_of, no_net, plus}
@@ -16,7 +16,7 @@ use Rattle.hcl_layout.specs.Lines.{Line, ends_line, lines, onto_line}
 use Rattle.hcl_layout.specs.Inner.Stream.{assign_column, assign_widths, assigned, comment_column, comment_widths, commented, leveled, plain}
 use Rattle.hcl_layout.proofs.BalanceLemmas.{disjoint}
 use Rattle.hcl_layout.proofs.ColumnLemmas.{columns_at, before_run}
-use Rattle.hcl_layout.proofs.LevelLemmas.{Counted, Is, above_is, count, deeper_is, filter_higher, filter_lower, groups_then, is_deeper, levels_from, levels_of_state, levels_behind_above, levels_behind_before, levels_behind_length}
+use Rattle.hcl_layout.proofs.LevelLemmas.{Counted, Is, above_is, count, deeper_is, filter_higher, filter_lower, groups_then, is_deeper, levels_from, levels_of_state, next_levels_above, next_levels_before, next_levels_length}
 
 -- ---- depths of nets
 
@@ -43,11 +43,6 @@ after_is (t ∷ l) d s p q =
     (after_is l (deepen d t.kind) (plus s (net_of_kind t.kind)) (step_is t.kind d s p q.0) q.1)
 
 -- ---- line after line
-
--- no more are open than may be
-abbrev pub Low : ℕ → List Line → Type 0
-Low d [] = d ≤ max_open
-Low d (l ∷ ls) = (d ≤ max_open) × Low (depth_after d l) ls
 
 abbrev pub BalancedLines : ℕ → List Line → Type 0
 BalancedLines d [] = Unit {0}
@@ -87,18 +82,18 @@ count_more m sum groups true e = ap length (filter-append (λ g. is_deeper m g) 
 count_more m sum groups false e = ap length (filter-append (λ g. is_deeper m g) groups (sum ∷ [])) ∙ length-append (filter (λ g. is_deeper m g) groups) (filter (λ g. is_deeper m g) (sum ∷ [])) ∙ rw e refl
 
 deeper_below : (d e : ℕ) (sum : Net) (groups : List Net) (levels : List ℕ) → Is d sum → d < e → e ≤ max_open → Counted d groups levels
-    → (k : ℕ) (m : Net) → Is k m → k ≤ e → count m (groups ++ sum ∷ []) ≡ get_or (levels_behind d e levels) k 0
+    → (k : ℕ) (m : Net) → Is k m → k ≤ e → count m (groups ++ sum ∷ []) ≡ get_or (next_levels d e levels) k 0
 deeper_below d e sum groups levels p lt low c k m q le = go (nat_lt d k) refl
   where
-    go : (v : Bool) → nat_lt d k ≡ v → count m (groups ++ sum ∷ []) ≡ get_or (levels_behind d e levels) k 0
+    go : (v : Bool) → nat_lt d k ≡ v → count m (groups ++ sum ∷ []) ≡ get_or (next_levels d e levels) k 0
     go true v =
         let above : d < k = grind arith in
         let all : count m groups ≡ length groups = ap length (c.all k m q (omega arith)) in
         let here : length groups ≡ get_or levels d 0 = sym (ap length (c.all d sum p (omega arith))) ∙ c.below d sum p (omega arith) in
-        count_more m sum groups true (deeper_is k d m sum q p ∙ v) ∙ ap (λ x. x + 1) (all ∙ here) ∙ sym (levels_behind_above d e levels k above le (omega (arith, c.room)))
+        count_more m sum groups true (deeper_is k d m sum q p ∙ v) ∙ ap (λ x. x + 1) (all ∙ here) ∙ sym (next_levels_above d e levels k above le (omega (arith, c.room)))
     go false v =
         let low : k ≤ d = grind arith in
-        count_more m sum groups false (deeper_is k d m sum q p ∙ v) ∙ add-zero _ ∙ c.below k m q low ∙ sym (levels_behind_before d e levels k low)
+        count_more m sum groups false (deeper_is k d m sum q p ∙ v) ∙ add-zero _ ∙ c.below k m q low ∙ sym (next_levels_before d e levels k low)
 
 deeper_all : (d e : ℕ) (sum : Net) (groups : List Net) (levels : List ℕ) → Is d sum → d < e → Counted d groups levels
     → (k : ℕ) (m : Net) → Is k m → e ≤ k → filter (λ g. is_deeper m g) (groups ++ sum ∷ []) ≡ groups ++ sum ∷ []
@@ -110,26 +105,26 @@ deeper_all d e sum groups levels p lt c k m q le =
 
 -- one line more
 counted_then : (d e : ℕ) (sum n : Net) (groups : List Net) (levels : List ℕ) → Is d sum → Is e (plus sum n) → e ≤ max_open → Counted d groups levels
-    → Counted e (groups_then sum groups n) (levels_behind d e levels)
+    → Counted e (groups_then sum groups n) (next_levels d e levels)
 counted_then d e sum n groups levels p q low c = go (nat_lt d e) refl
   where
-    go : (v : Bool) → nat_lt d e ≡ v → Counted e (groups_then sum groups n) (levels_behind d e levels)
+    go : (v : Bool) → nat_lt d e ≡ v → Counted e (groups_then sum groups n) (next_levels d e levels)
     go true v =
         let lt : d < e = grind arith in
         let same : filter (λ g. is_deeper (plus sum n) g) groups ≡ groups = c.all e (plus sum n) q (omega arith) in
         let above : is_above n ≡ true = above_is d e sum n p q ∙ v in
         let now : groups_then sum groups n ≡ groups ++ sum ∷ [] = ap₂ (λ (l : List Net) (b : Bool). l ++ (if b then sum ∷ [] else [])) same above in
-        subst (λ g. Counted e g (levels_behind d e levels)) (sym now)
-        (record { room = levels_behind_length d e levels ∙ c.room; below = deeper_below d e sum groups levels p lt low c; all = deeper_all d e sum groups levels p lt c })
+        subst (λ g. Counted e g (next_levels d e levels)) (sym now)
+        (record { room = next_levels_length d e levels ∙ c.room; below = deeper_below d e sum groups levels p lt low c; all = deeper_all d e sum groups levels p lt c })
     go false v =
         let le : e ≤ d = grind arith in
         let above : is_above n ≡ false = above_is d e sum n p q ∙ v in
         let kept : List Net = filter (λ g. is_deeper (plus sum n) g) groups in
         let now : groups_then sum groups n ≡ kept = ap (λ (b : Bool). kept ++ (if b then sum ∷ [] else [])) above ∙ append-nil kept in
-        subst (λ g. Counted e g (levels_behind d e levels)) (sym now)
+        subst (λ g. Counted e g (next_levels d e levels)) (sym now)
         (record {
-          room = levels_behind_length d e levels ∙ c.room;
-          below = λ k m r low. ap length (filter_lower k e m (plus sum n) groups r q low) ∙ c.below k m r (omega arith) ∙ sym (levels_behind_before d e levels k (omega arith));
+          room = next_levels_length d e levels ∙ c.room;
+          below = λ k m r low. ap length (filter_lower k e m (plus sum n) groups r q low) ∙ c.below k m r (omega arith) ∙ sym (next_levels_before d e levels k (omega arith));
           all = λ k m r high. filter_higher k e m (plus sum n) groups r q high;
         })
 
@@ -152,7 +147,7 @@ leveled_is (l ∷ ls) d s groups levels p c low r =
     let now : Is (depth_after d l) (plus s (net_of l)) = after_is l d s p r.0 in
     let low' : depth_after d l ≤ max_open = after_low l d r.0 low in
     ap₂ (λ (k : ℕ) (r : List (List ℕ)). plain_gaps k l ∷ r) (level_is d (depth_after d l) s (plus s (net_of l)) groups levels p now c)
-    (leveled_is ls (depth_after d l) (plus s (net_of l)) (groups_then s groups (net_of l)) (levels_behind d (depth_after d l) levels) now
+    (leveled_is ls (depth_after d l) (plus s (net_of l)) (groups_then s groups (net_of l)) (next_levels d (depth_after d l) levels) now
     (counted_then d (depth_after d l) s (net_of l) groups levels p now low' c) low' r.1)
 
 pub zeros_get : (n k : ℕ) → get_or {A = ℕ} (replicate n 0) k 0 ≡ zero
@@ -172,14 +167,14 @@ assigned_is : (ls : List Line) (d : ℕ) (levels : List ℕ) (column : Option �
 assigned_is [] d levels column = refl
 assigned_is (l ∷ ls) d levels column =
     ap (λ r. align assign_cell (plain d levels l) l (assign_column d levels column (l ∷ ls)) ∷ r)
-    (assigned_is ls (depth_after d l) (levels_behind d (depth_after d l) levels) (assign_column d levels column (l ∷ ls)))
+    (assigned_is ls (depth_after d l) (next_levels d (depth_after d l) levels) (assign_column d levels column (l ∷ ls)))
 
 commented_is : (ls : List Line) (d : ℕ) (levels : List ℕ) (column comment : Option ℕ)
     → aligned_gaps_by trailing_comment (assigned d levels column ls) ls (columns_at comment (comment_widths d levels column ls)) ≡ commented d levels column comment ls
 commented_is [] d levels column comment = refl
 commented_is (l ∷ ls) d levels column comment =
     ap (λ r. align trailing_comment (align assign_cell (plain d levels l) l (assign_column d levels column (l ∷ ls))) l (comment_column d levels column comment (l ∷ ls)) ∷ r)
-    (commented_is ls (depth_after d l) (levels_behind d (depth_after d l) levels) (assign_column d levels column (l ∷ ls)) (comment_column d levels column comment (l ∷ ls)))
+    (commented_is ls (depth_after d l) (next_levels d (depth_after d l) levels) (assign_column d levels column (l ∷ ls)) (comment_column d levels column comment (l ∷ ls)))
 
 assigned_all : (ls : List Line) → BalancedLines 0 ls → aligned_gaps assign_cell assign_cell (indented_gaps ls) ls ≡ assigned 0 fresh None ls
 assigned_all ls p =

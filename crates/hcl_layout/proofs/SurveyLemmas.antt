@@ -9,15 +9,14 @@ use Rattle.hcl_tokens.specs.Lexemes.{Lexeme}
 use Rattle.hcl_tokens.specs.Balanced.{max_open}
 use Rattle.hcl_tokens.specs.Kinds.{is}
 use Rattle.hcl_tokens.specs.declared.token.Kind.{Kind}
-use Rattle.hcl_tokens.specs.declared.token.Kind.TheVariants.{Assign, InlineComment, LineComment}
 use Rattle.hcl_layout.specs.Cells.{assign_cell, has_multiline, if_level, is_level, is_assignment, is_multiline, is_trailing, first_place_from, running_comment, trailing_comment, until}
 use Rattle.hcl_grammar.specs.Items.{deepen}
 use Rattle.hcl_layout.specs.Inner.Depths.{BalancedFrom, Steps, depth_after}
 use Rattle.hcl_layout.specs.Levels.{Net, net_of}
 use Rattle.hcl_layout.specs.Lines.{Line, ends_line, lines, onto_line}
-use Rattle.hcl_layout.specs.Inner.Survey.{IsLine, assign_of, cell_if, facts_of, first_noted, going, noted, step_of, stops, surveyed, takes_sign}
+use Rattle.hcl_layout.specs.Inner.Survey.{IsLine, assign_of, cell_if, facts_of, first_noted, going, noted, step_of, surveyed, takes_sign}
 use Rattle.hcl_layout.specs.Inner.Survey.{Survey}
-use Rattle.hcl_layout.proofs.NotedKindLemmas.{Stepped, inline_untrailing, steps_deepen}
+use Rattle.hcl_layout.proofs.NotedKindLemmas.{Stepped, steps_deepen}
 use Rattle.hcl_layout.proofs.StreamLemmas.{after_is, after_low, deepen_low}
 
 -- the token at a place, and what is after it
@@ -290,9 +289,6 @@ cell_is l d t p =
     level_at_sign (suc i) e p q r =
         level_same (suc i) d (t ∷ until is_trailing l) r ∙ ap₂ nat_eq (sym (q i (e ∙ ap (λ (k : ℕ). Some k) (omega arith)))) (sym p)
 
-running_is : (a : Bool) (x y : Option ℕ) → x ≡ y → (if a then None else x) ≡ (if a then None else y)
-running_is a x y e = ap (λ (z : Option ℕ). if a then None else z) e
-
 pub is_line : (ts : List Lexeme) (at d : ℕ) (t : Lexeme) (s : Survey) → slice_get ts at ≡ Some t → length ts ≤ 2 ^ 22 → BalancedFrom d (drop at ts) → d ≤ max_open
     → s ≡ surveyed (first_noted d t) t (drop (at + 1) ts) → IsLine ts at d (facts_of s)
 is_line ts at d t s e few p low q =
@@ -307,7 +303,7 @@ is_line ts at d t s e few p low q =
     let short : n ≤ length rest = tail_short rest t in
     let all : length rest ≡ length ts - (at + 1) = grind (arith, common_steps) in
     let line : take s.len (drop at ts) ≡ t ∷ l = ap₂ take len cut ∙ ap (λ x. t ∷ x) (tail_take rest t) in
-    let behind : drop (at + s.len) ts ≡ left_of t rest = ap (λ k. drop (at + k) ts) len ∙ there at n ∙ left_drop rest t in
+    let after : drop (at + s.len) ts ≡ left_of t rest = ap (λ k. drop (at + k) ts) len ∙ there at n ∙ left_drop rest t in
     let balanced : BalancedFrom d (t ∷ l) = subst (BalancedFrom d) line (balanced_take s.len d (drop at ts) p) in
     let depth : s.depth ≡ depth_after d (t ∷ l) = ap (λ (x : Survey). x.depth) same ∙ fold_depth l (first_noted d t) in
     let comment : s.comment ≡ trailing_comment (t ∷ l) = ap (λ (x : Survey). x.comment) same ∙ (found l (first_noted d t) refl refl).0 in
@@ -316,7 +312,7 @@ is_line ts at d t s e few p low q =
       some = omega arith;
       within = omega arith;
       fits = omega (arith, few);
-      cut = ap lines cut ∙ lines_tail rest t ∙ ap₂ (λ (a : Line) (b : List Lexeme). a ∷ lines b) (sym line) (sym behind);
+      cut = ap lines cut ∙ lines_tail rest t ∙ ap₂ (λ (a : Line) (b : List Lexeme). a ∷ lines b) (sym line) (sym after);
       depth = depth ∙ ap (depth_after d) (sym line);
       low = subst (λ k. k ≤ max_open) (sym depth) (after_low (t ∷ l) d balanced low);
       rest = subst (λ k. BalancedFrom k (drop (at + s.len) ts)) (ap (depth_after d) line ∙ sym depth)
@@ -362,15 +358,6 @@ surveyed_end (x ∷ xs) last s whole e p = sym (p ∙ rw e refl)
 pub going_out : (ts : List Lexeme) (i : ℕ) (s whole : Survey) → length ts ≤ i → whole ≡ going s (drop i ts) → s ≡ whole
 going_out ts i s whole le p = sym (p ∙ ap (going s) (drop_of_length-le ts le))
 
--- what is left after a token that was noted
-pub behind_token : (ts : List Lexeme) (i : ℕ) (s new : Survey) (t : Lexeme) → slice_get ts i ≡ Some t → new ≡ noted s t → BalancedFrom s.depth (drop i ts) → s.depth ≤ max_open
-    → BalancedFrom new.depth (drop (i + 1) ts) × (new.depth ≤ max_open)
-behind_token ts i s new t e same p low =
-    let depth : new.depth ≡ deepen s.depth t.kind = ap (λ (x : Survey). x.depth) same in (
-      subst (λ d. BalancedFrom d (drop (i + 1) ts)) (sym depth) (rest_at ts i s.depth t e p),
-      subst (λ d. d ≤ max_open) (sym depth) (low_at ts i s.depth t e p low),
-    )
-
 pub same_token : (ts : List Lexeme) (i : ℕ) (t u : Lexeme) → slice_get ts i ≡ Some t → slice_get ts i ≡ Some u → t ≡ u
 same_token ts i t u p q = some_is t u (sym p ∙ q)
   where
@@ -381,40 +368,11 @@ same_token ts i t u p q = some_is t u (sym p ∙ q)
 pub step_at : (ts : List Lexeme) (i d step : ℕ) (t : Lexeme) (k : Kind) → slice_get ts i ≡ Some t → k ≡ t.kind → step ≡ step_of k → (step ≡ 46 → ⊥) → BalancedFrom d (drop i ts) → Stepped d step t.kind
 step_at ts i d step t k e same is more p = steps_deepen t.kind d step (is ∙ ap step_of same) more (steps_at ts i d t e p)
 
-pub noted_open : (s : Survey) (t : Lexeme) → s.comment ≡ None → (noted s t).comment ≡ None → (noted s t).body_depth ≡ (noted s t).depth
-noted_open s t e f = go (is_trailing t) refl
-  where
-    some_none : (i : ℕ) → Some i ≡ None → ⊥
-    some_none i h = cc
-
-    go : (v : Bool) → is_trailing t ≡ v → (noted s t).body_depth ≡ (noted s t).depth
-    go true v = let h : Some s.len ≡ None = rw (e, v) at f in absurd (some_none s.len h)
-    go false v = rw (e, v) refl
-
 -- ---- a token of which more was asked, and what is after it
 
 module _ (ts : List Lexeme) (at : ℕ) (t : Lexeme) (s new : Survey) where
   further : new ≡ noted s t → at + s.len + 1 ≡ at + new.len
   further same = let len : new.len ≡ s.len + 1 = ap (λ (x : Survey). x.len) same in omega (arith, len)
-
-  pub more_same : (whole : Survey) → slice_get ts (at + s.len) ≡ Some t → new ≡ noted s t → ends_line t ≡ false → whole ≡ going s (drop (at + s.len) ts) → whole ≡ going new (drop (at + new.len) ts)
-  more_same whole e same goes p = going_on ts (at + s.len) t s new whole e same goes p ∙ ap (λ k. going new (drop k ts)) (further same)
-
-  pub more_balanced : slice_get ts (at + s.len) ≡ Some t → new ≡ noted s t → BalancedFrom s.depth (drop (at + s.len) ts) → s.depth ≤ max_open → BalancedFrom new.depth (drop (at + new.len) ts)
-  more_balanced e same p low = subst (λ k. BalancedFrom new.depth (drop k ts)) (further same) (behind_token ts (at + s.len) s new t e same p low).0
-
-  pub more_low : slice_get ts (at + s.len) ≡ Some t → new ≡ noted s t → BalancedFrom s.depth (drop (at + s.len) ts) → s.depth ≤ max_open → new.depth ≤ max_open
-  more_low e same p low = (behind_token ts (at + s.len) s new t e same p low).1
-
-  pub more_within : slice_get ts (at + s.len) ≡ Some t → new ≡ noted s t → at + new.len ≤ length ts
-  more_within e same = omega (arith, further same, slice_get_within ts (at + s.len) t e)
-
-  pub more_open : new ≡ noted s t → s.comment ≡ None → new.comment ≡ None → new.body_depth ≡ new.depth
-  more_open same e f = subst (λ (x : Survey). x.body_depth ≡ x.depth) (sym same) (noted_open s t e (ap (λ (x : Survey). x.comment) (sym same) ∙ f))
-
--- an inline comment is no trailing one
-pub inline_open : (s : Survey) (t : Lexeme) → s.comment ≡ None → is InlineComment t.kind ≡ true → (noted s t).comment ≡ None
-inline_open s t e f = rw (e, inline_untrailing t f) refl
 
 -- some token stands there
 pub token_at : (ts : List Lexeme) (i : ℕ) → i < length ts → (t : Lexeme) × (slice_get ts i ≡ Some t)

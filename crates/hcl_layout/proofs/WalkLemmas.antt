@@ -1,38 +1,29 @@
 -- A line that is passed, and the widths and columns of those after it.
-use Rattle.std.proofs.Common.{◌≡◌, ◌∙◌, ◌+◌, ◌-◌, ◌<◌, ◌≤◌, ◌^◌, ℕ, suc, zero, Bool, true, false, List, [], ◌∷◌, Option, Some, None, length, ap, ap₂, refl, sym, arith, subst, take, drop, max, length-take}
-use Rattle.std.specs.Prelude.{IfSome, if◌then◌else◌, nat_lt, not, option_map, slice_set}
-use Rattle.std.proofs.Math.ListN.{drop_of_length-le}
+use Rattle.std.proofs.Common.{◌≡◌, ◌∙◌, ◌+◌, ◌-◌, ◌<◌, ◌≤◌, ◌^◌, ℕ, Bool, true, false, List, ◌∷◌, Option, Some, None, length, ap, refl, sym, arith, subst, take, drop, length-take}
+use Rattle.std.specs.Prelude.{if◌then◌else◌, nat_lt, not, option_map}
 use Rattle.std.proofs.lemmas.Bool.Decides.{nat_tests}
 use Rattle.hcl_tokens.specs.Balanced.{max_open}
 use Rattle.hcl_tokens.specs.Lexemes.{Lexeme}
-use Rattle.hcl_layout.specs.Cells.{assign_cell, has_multiline, running_comment, trailing_comment}
-use Rattle.hcl_layout.specs.Columns.{widest}
-use Rattle.hcl_layout.specs.Gaps.{align, plain_gaps, width}
+use Rattle.hcl_layout.specs.Cells.{assign_cell, trailing_comment}
+use Rattle.hcl_layout.specs.Gaps.{plain_gaps}
 use Rattle.hcl_layout.specs.Lines.{Line, lines}
-use Rattle.hcl_layout.specs.Inner.Depths.{BalancedFrom, Sound, depth_after, fresh, level_at, levels_behind}
-use Rattle.hcl_layout.specs.Inner.Laid.{IsAt, Laid, Moves, bare_line, cell_of, column_of, none_at, shape, text_of, walk_of}
-use Rattle.hcl_layout.specs.Inner.LineGaps.{Cell, IsSigned, LineGaps, gaps_in, plain_of}
-use Rattle.hcl_layout.specs.Inner.Stream.{assign_column, assign_width, assign_widths, assigned_line, comment_column, comment_widths, next_of, plain}
+use Rattle.hcl_layout.specs.Inner.Depths.{BalancedFrom, fresh, level_at, next_levels}
+use Rattle.hcl_layout.specs.Inner.Laid.{IsAt, bare_line, shape}
+use Rattle.hcl_layout.specs.Inner.LineGaps.{plain_of}
+use Rattle.hcl_layout.specs.Inner.Stream.{assign_width, assign_widths, plain}
 use Rattle.hcl_layout.specs.Inner.Survey.{IsLine, facts_in}
-use Rattle.hcl_layout.specs.Inner.Walks.{sign_widths_at}
 use Rattle.hcl_layout.specs.declared.line.Line.{Line as LineRead}
 use Rattle.hcl_layout.specs.declared.lines.LaidLine.{LaidLine}
 use Rattle.hcl_layout.specs.declared.lines.Lines.{Lines}
 use Rattle.std.proofs.lemmas.List.{length-replicate}
 use Rattle.hcl_layout.proofs.StreamLemmas.{zeros_get}
-use Rattle.hcl_layout.proofs.RunLemmas.{aligned_none, aligned_some, assign_behind, assign_within, assigned_in, comment_behind, comment_within, multiline_some, plain_in, signed_none, signed_set}
+use Rattle.hcl_layout.proofs.RunLemmas.{assign_after, assign_within, comment_after, comment_within}
 
 not_less : (a : ℕ) → nat_lt a a ≡ false
 not_less a = grind (arith, nat_tests)
 
 less : (a b : ℕ) → a < b → nat_lt a b ≡ true
 less a b h = grind (arith, nat_tests)
-
-pub max_more : (a b c : ℕ) → max a (max b c) ≡ max (max a b) c
-max_more a b c = grind arith
-
-pub max_none : (a : ℕ) → max a 0 ≡ a
-max_none a = grind arith
 
 -- ---- the line that was read
 
@@ -62,8 +53,8 @@ module _ (ts : List Lexeme) (d : ℕ) (r : LineRead) (p : IsLine ts r.first d (f
   pub sign_none : r.sign ≡ None → assign_cell (take (r.end - r.first) (drop r.first ts)) ≡ None
   sign_none e = sym p.assign ∙ ap (option_map (λ k. k - r.first)) e
 
-  pub sign_behind : (n : ℕ) → r.sign ≡ Some n → r.first < n
-  sign_behind n e = omega (arith, assign_behind text (n - r.first) (sign_is n e))
+  pub sign_after : (n : ℕ) → r.sign ≡ Some n → r.first < n
+  sign_after n e = omega (arith, assign_after text (n - r.first) (sign_is n e))
 
   pub sign_within : (n : ℕ) → r.sign ≡ Some n → n < r.end
   sign_within n e = omega (arith, assign_within text (n - r.first) (sign_is n e), length-take (r.end - r.first) (drop r.first ts))
@@ -72,50 +63,22 @@ module _ (ts : List Lexeme) (d : ℕ) (r : LineRead) (p : IsLine ts r.first d (f
   pub comment_is : (n : ℕ) → r.comment ≡ Some n → trailing_comment (take (r.end - r.first) (drop r.first ts)) ≡ Some (n - r.first)
   comment_is n e = sym p.comment ∙ ap (option_map (λ k. k - r.first)) e
 
-  pub comment_no : r.comment ≡ None → trailing_comment (take (r.end - r.first) (drop r.first ts)) ≡ None
-  comment_no e = sym p.comment ∙ ap (option_map (λ k. k - r.first)) e
-
   pub comment_follows : (n : ℕ) → r.comment ≡ Some n → r.first < n
-  comment_follows n e = omega (arith, comment_behind text (n - r.first) (comment_is n e))
+  comment_follows n e = omega (arith, comment_after text (n - r.first) (comment_is n e))
 
   pub comment_in : (n : ℕ) → r.comment ≡ Some n → n < r.end
   comment_in n e = omega (arith, comment_within text (n - r.first) (comment_is n e), length-take (r.end - r.first) (drop r.first ts))
 
-  -- without its cells
-  pub bare_laid : (l : LaidLine) (level : ℕ) → l ≡ bare_line r level → level ≤ max_open → length ts ≤ 2 ^ 22 → Laid ts l
-  bare_laid l level e low few = subst (Laid ts) (sym e) (record { some = read_order; within = read_within; few = few; level = low; sign_front = read_order; comment_front = read_order; sign_gap = omega arith; comment_gap = omega arith })
-
-  pub sign_step : (levels : List ℕ) → assign_widths d levels (lines (drop r.first ts)) ≡ assign_width d levels (take (r.end - r.first) (drop r.first ts)) ∷ assign_widths r.depth (levels_behind d r.depth levels) (lines (drop r.end ts))
+  pub sign_step : (levels : List ℕ) → assign_widths d levels (lines (drop r.first ts)) ≡ assign_width d levels (take (r.end - r.first) (drop r.first ts)) ∷ assign_widths r.depth (next_levels d r.depth levels) (lines (drop r.end ts))
   sign_step levels =
       ap (assign_widths d levels) read_cut
-      ∙ ap (λ k. assign_width d levels text ∷ assign_widths k (levels_behind d k levels) (lines (drop r.end ts))) (sym p.depth)
+      ∙ ap (λ k. assign_width d levels text ∷ assign_widths k (next_levels d k levels) (lines (drop r.end ts))) (sym p.depth)
 
 pub bare_shape : (l : LaidLine) (r : LineRead) (level : ℕ) → l ≡ bare_line r level → shape l ≡ plain_of l.level
 bare_shape l r level e = subst (λ (x : LaidLine). shape x ≡ plain_of x.level) (sym e) (shaped (not_less r.end))
   where
     shaped : nat_lt r.end r.end ≡ false → shape (bare_line r level) ≡ plain_of level
     shaped h = rw h refl
-
--- past the last token
-pub widths_none : (ts : List Lexeme) (d : ℕ) (levels : List ℕ) (n : ℕ) → length ts ≤ n → assign_widths d levels (lines (drop n ts)) ≡ []
-widths_none ts d levels n le = ap (λ xs. assign_widths d levels (lines xs)) (drop_of_length-le ts le)
-
--- where the lines that were passed are one more
-pub moved_at : (ts : List Lexeme) (old new : Lines) (r : LineRead) → IsAt ts old → r.first ≡ old.next → IsLine ts r.first old.depth (facts_in r) → Moves old r new → Sound r.depth new.levels
-    → IfSome (column_of new.signs) (λ c. c < 2 ^ 33) → IfSome (column_of new.comments) (λ c. c < 2 ^ 34) → IsAt ts new
-moved_at ts old new r p e line m sound signs comments = record {
-  come = record {
-    stands = record {
-      balanced = subst (λ k. BalancedFrom new.depth (drop k ts)) (sym m.next) (subst (λ k. BalancedFrom k (drop r.end ts)) (sym m.depth) (read_rest ts old.depth r line));
-      low = subst (λ k. k ≤ max_open) (sym m.depth) line.low;
-      sound = subst (λ k. Sound k new.levels) (sym m.depth) sound;
-    };
-    signs = signs;
-    comments = comments;
-  };
-  within = subst (λ k. k ≤ length ts) (sym m.next) (read_within ts old.depth r line);
-  few = p.few;
-}
 
 pub running_some : (runs : Bool) (x : Option ℕ) (n : ℕ) → (if not runs then None else x) ≡ Some n → x ≡ Some n
 running_some true x n e = e

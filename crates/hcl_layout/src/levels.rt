@@ -16,7 +16,7 @@
 //! ```
 ghost use Rattle.std.specs.Prelude.{◌≡◌, ◌≤◌, ◌+◌, ◌*◌, ◌-◌};
 ghost use Rattle.hcl_tokens.specs.Balanced.{max_open};
-ghost use Rattle.hcl_layout.specs.Inner.Depths.{Sound, level_at, levels_behind, raised};
+ghost use Rattle.hcl_layout.specs.Inner.Depths.{Sound, level_at, next_levels, raised};
 
 use hcl_tokens::MAX_OPEN;
 
@@ -42,7 +42,7 @@ pub fn next_level(levels: &mut [u32; DEPTHS], before: u32, now: u32) -> u32
     requires now { now ≤ max_open }
     requires sound { Sound before levels.old }
     ensures level { result ≡ level_at before now levels.old }
-    ensures levels { levels.new ≡ levels_behind before now levels.old }
+    ensures levels { levels.new ≡ next_levels before now levels.old }
     ensures small { result ≤ max_open }
     ensures sound { Sound now levels.new }
 {

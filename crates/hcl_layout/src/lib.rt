@@ -20,8 +20,8 @@
 //! the column: 6 - 3 + 1 and 12 - 10 + 1 in the second line. The other gaps are those of the indent and of the spacing.
 #![tactic(auto)]
 
+mod bound;
 mod buffer;
-mod extent;
 pub mod laws;
 mod levels;
 mod line;
@@ -30,7 +30,7 @@ mod measured;
 mod print;
 mod writer;
 
-pub use extent::fits;
+pub use bound::fits;
 pub use hcl_spacing::space_between;
 pub use print::{is_formatted, is_found_formatted, printed_len, prints_nothing};
 pub use writer::emit;

@@ -1,14 +1,13 @@
 //! One line, in one walk: where it ends, how deep, and which cells it has.
-ghost use Rattle.std.specs.Prelude.{◌≡◌, false, true, ◌<◌, ◌≤◌, ◌+◌, ◌==◌, ◌&&◌, ◌||◌, ℕ, not, length, drop, slice_get, None, Some, if◌then◌else◌};
+ghost use Rattle.std.specs.Prelude.{◌≡◌, ◌<◌, ◌≤◌, ◌+◌, ◌==◌, ◌||◌, not, length, drop, None, if◌then◌else◌};
 ghost use Rattle.std.specs.List.{list_any};
-ghost use Rattle.hcl_tokens.specs.Lexemes.{Lexeme};
 ghost use Rattle.hcl_tokens.specs.Scanned.{lexeme};
 ghost use Rattle.hcl_tokens.specs.Balanced.{max_open};
 ghost use Rattle.hcl_layout.specs.Lines.{ends_line};
 ghost use Rattle.hcl_layout.specs.Cells.{is_assignment as is_assignment_of, is_multiline as is_multiline_of, is_trailing as is_trailing_of};
 ghost use Rattle.hcl_grammar.specs.Items.{deepen};
 ghost use Rattle.hcl_layout.specs.Inner.Depths.{BalancedFrom};
-ghost use Rattle.hcl_layout.specs.Inner.Survey.{IsLine, body_of, cell_if, facts_in, facts_of, first_noted, noted, step_of, survey_of};
+ghost use Rattle.hcl_layout.specs.Inner.Survey.{IsLine, Notes, NotesFirst, TellsEnd, body_of, facts_in, facts_of, seen_cell, step_of, survey_of, unseen};
 
 use crate::measured::Measured;
 use hcl_tokens::{Kind, Token};
@@ -132,7 +131,7 @@ impl Seen {
     #[inline(always)]
     fn with(self, token: Token<'_>, number: usize, depth: u32) -> Seen
         requires level { deepen depth token.kind ≡ depth }
-        ensures { (first : ℕ) → first ≤ number → survey_of result depth first (number + 1) ≡ noted (survey_of self depth first number) (lexeme token.entry) }
+        ensures { Notes self number depth (lexeme token.entry) result }
     {
         let passed = Seen {
             multiline: self.is_torn(token),
@@ -172,7 +171,7 @@ impl Seen {
     /// The sign, where it begins a cell.
     #[inline(always)]
     fn cell(self, depth: u32) -> Option<usize>
-        ensures { result ≡ cell_if (not self.multiline && (self.sign_depth == body_of self depth)) self.sign }
+        ensures { result ≡ seen_cell self depth }
     {
         if !self.multiline && self.sign_depth == self.body_depth(depth) {
             return self.sign;
@@ -200,7 +199,7 @@ impl Seen {
 /// What is seen of a line before a token of which more is asked.
 #[inline(always)]
 fn nothing_seen(multiline: bool) -> Seen
-    ensures { result ≡ record { sign = None; sign_depth = 0; comment = None; body_depth = 0; multiline = multiline } }
+    ensures { result ≡ unseen multiline }
 {
     Seen {
         sign: None,
@@ -217,15 +216,19 @@ fn read_first(tokens: &Measured<'_, '_>, first: usize, before: u32) -> (Seen, u3
     requires within { first < length tokens.now.tokens }
     requires balanced { BalancedFrom before (drop first tokens.now.tokens) }
     requires fits { before ≤ max_open }
-    ensures seen { (t : Lexeme) → slice_get tokens.now.tokens first ≡ Some t → survey_of result.0 result.1 first (first + 1) ≡ first_noted before t }
-    ensures end { (t : Lexeme) → slice_get tokens.now.tokens first ≡ Some t → result.2 ≡ ends_line t }
+    ensures seen { NotesFirst tokens.now.tokens first before result.0 result.1 }
+    ensures end { TellsEnd tokens.now.tokens first result.2 }
 {
     let step = step_of(tokens.kind(first));
     if step != MORE {
         return (nothing_seen(false), depth_after(before, step), false);
     }
     let token = tokens.get(first);
-    (nothing_seen(is_multiline(token)), before, is_line_end(token))
+    (
+        nothing_seen(is_multiline(token)),
+        before,
+        is_line_end(token),
+    )
 }
 
 /// The line that begins at a token, where the depth is known.

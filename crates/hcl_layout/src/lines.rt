@@ -1,19 +1,13 @@
 //! The lines, one after another, each with its level and its cells in the columns of their runs.
-ghost use Rattle.std.specs.Prelude.{◌≡◌, ◌<◌, ◌≤◌, ◌+◌, ◌-◌, ◌^◌, ◌||◌, ◌==◌, ◌*◌, not, length, slice_get, false, Some, None, IfSome, IfNone, ℕ, List, option_map, [], ◌∷◌, ◌++◌};
-ghost use Rattle.hcl_tokens.specs.Lexemes.{Lexeme};
+ghost use Rattle.std.specs.Prelude.{◌≡◌, ◌<◌, ◌≤◌, ◌+◌, ◌-◌, ◌^◌, not, length, slice_get, Some, IfSome, IfNone, ℕ, [], option_map};
 ghost use Rattle.hcl_tokens.specs.Scanned.{lexeme};
 ghost use Rattle.hcl_tokens.specs.Balanced.{max_open};
-ghost use Rattle.hcl_layout.specs.Cells.{assign_cell};
-ghost use Rattle.hcl_layout.specs.Columns.{widest};
-ghost use Rattle.hcl_layout.specs.Gaps.{indent as indent_of, plain_gaps, width as width_of};
-ghost use Rattle.hcl_layout.specs.Inner.Depths.{Sound, fresh, level_at};
-ghost use Rattle.hcl_layout.specs.Inner.Laid.{GoesBack, Grows, IsAt, IsCommentAhead, IsSignAhead, Laid, Moves, RunsGrow, Spans, bare_line, column_of, ends_wrong, ends_wrong_at, greatest_of, gaps_after, gaps_on, laid_gaps, left_after, shape, signed_gaps, text_of, walk_of, width_on};
-ghost use Rattle.hcl_layout.specs.Inner.Left.{gap_before, plain_gap_before, token_before};
-ghost use Rattle.hcl_layout.specs.Inner.LineGaps.{IsSigned, IsUntoldAt, gaps_in, plain_of};
+ghost use Rattle.hcl_layout.specs.Gaps.{indent as indent_of};
+ghost use Rattle.hcl_layout.specs.Inner.Depths.{Sound};
+ghost use Rattle.hcl_layout.specs.Inner.Laid.{FindsComment, FindsSign, GoesBack, HasGaps, HasSignGaps, IsAt, IsCommentColumn, IsDone, IsLaid, IsSignColumn, KeepsRuns, Laid, LeavesGaps, Moves, MovesSign, Reads, RunsGrow, SignsGrow, Spans, TellsWrong, bare_after, cell_in, comment_width_on, comments_ended, ends_all_wrong, ends_wrong, gap_on, greatest_of, left_after, no_lines, none_at, plain_gap_on, shape, sign_width_on, signs_ended, text_of, widest_comment, widest_sign, width_on, with_comment_in, with_sign_in};
+ghost use Rattle.hcl_layout.specs.Inner.Left.{IsGapAt, IsGapBefore, token_before};
+ghost use Rattle.hcl_layout.specs.Inner.LineGaps.{IsSigned, IsUntoldAt, plain_of};
 ghost use Rattle.hcl_layout.specs.Inner.Simple.{IsFrom};
-ghost use Rattle.hcl_layout.specs.Inner.Stream.{assign_width, next_of};
-ghost use Rattle.hcl_layout.specs.Inner.Survey.{IsLine, facts_in};
-ghost use Rattle.hcl_layout.specs.Inner.Walks.{comment_widths_at, sign_widths_at};
 ghost use Rattle.hcl_layout.specs.declared.lines.Columns.TheVariants.{Ahead};
 
 use crate::levels::{DEPTHS, next_level};
@@ -23,7 +17,7 @@ use hcl_spacing::{space_by_kinds, space_by_texts};
 use hcl_tokens::{Kind, Token};
 
 /// A cell: the number of its token, the width before it, and the gap that sets it into its column. Where a line has none, that is
-/// a cell behind its end.
+/// a cell after its end.
 #[derive(Clone, Copy)]
 pub struct Cell {
     pub number: usize,
@@ -109,7 +103,7 @@ fn widened(column: u64, run: Option<Run>, width: u64) -> Run
 #[inline(always)]
 fn found_column(tokens: &Measured<'_, '_>, number: usize, width: u64) -> u64
     requires within { number < length tokens.now.tokens }
-    requires behind { 0 < number }
+    requires after { 0 < number }
     requires narrow { width < 2 ^ 34 }
     ensures order { width ≤ result }
     ensures small { result ≤ width + 2 ^ 22 }
@@ -125,7 +119,7 @@ fn found_column(tokens: &Measured<'_, '_>, number: usize, width: u64) -> u64
 /// No cell, in a line with this end.
 #[inline(always)]
 fn no_cell(end: usize) -> Cell
-    ensures { result ≡ record { number = end; width = 0; gap = 0 } }
+    ensures { result ≡ none_at end }
 {
     Cell {
         number: end,
@@ -149,9 +143,9 @@ fn token_before<'s>(tokens: &Measured<'_, 's>, first: usize, number: usize) -> O
 #[inline(never)]
 fn asked_gap(tokens: &Measured<'_, '_>, first: usize, number: usize) -> u64
     requires within { number < length tokens.now.tokens }
-    requires behind { first < number }
+    requires after { first < number }
     requires untold { IsUntoldAt tokens.now.tokens number }
-    ensures { (level : ℕ) (t : Lexeme) → slice_get tokens.now.tokens number ≡ Some t → result ≡ plain_gap_before tokens.now.tokens level first number t }
+    ensures { IsGapAt tokens.now.tokens first number result }
 {
     let token = tokens.get(number);
     let subject = tokens.get(number - 1);
@@ -172,11 +166,11 @@ fn indent(level: u32, token: Token<'_>) -> u64
 
 /// The blank before a token of a line that isn't its first.
 #[inline(always)]
-fn gap_behind(tokens: &Measured<'_, '_>, first: usize, number: usize, token: Token<'_>) -> u64
+fn gap_after(tokens: &Measured<'_, '_>, first: usize, number: usize, token: Token<'_>) -> u64
     requires there { slice_get tokens.now.tokens number ≡ Some (lexeme token) }
     requires within { number < length tokens.now.tokens }
-    requires behind { first < number }
-    ensures { (level : ℕ) → result ≡ plain_gap_before tokens.now.tokens level first number (lexeme token.entry) }
+    requires after { first < number }
+    ensures { IsGapBefore tokens.now.tokens first number (lexeme token.entry) result }
 {
     match space_by_kinds(tokens.get(number - 1), token) {
         Some(space) => u64::from(space),
@@ -192,10 +186,10 @@ impl LaidLine {
         requires laid { Laid tokens.now.tokens self }
         requires order { self.first ≤ number }
         requires within { number < length tokens.now.tokens }
-        ensures { result ≡ plain_gap_before tokens.now.tokens self.level self.first number (lexeme token.entry) }
+        ensures { result ≡ plain_gap_on tokens.now.tokens self number (lexeme token.entry) }
     {
         if self.first < number {
-            return gap_behind(tokens, self.first, number, token);
+            return gap_after(tokens, self.first, number, token);
         }
         indent(self.level, token)
     }
@@ -207,7 +201,7 @@ impl LaidLine {
         requires laid { Laid tokens.now.tokens self }
         requires order { self.first ≤ number }
         requires within { number < self.end }
-        ensures value { result ≡ gap_before tokens.now.tokens (shape self) self.first number (lexeme token.entry) }
+        ensures value { result ≡ gap_on tokens.now.tokens self number (lexeme token.entry) }
         ensures small { result ≤ 2 ^ 34 }
     {
         if number == self.comment.number {
@@ -225,7 +219,7 @@ impl LaidLine {
         requires laid { Laid tokens.now.tokens self }
         requires order { self.first ≤ number }
         requires within { number < self.end }
-        ensures gap { result.gap ≡ gap_before tokens.now.tokens (shape self) self.first number (lexeme result.token) }
+        ensures gap { result.gap ≡ gap_on tokens.now.tokens self number (lexeme result.token) }
         ensures small { result.gap ≤ 2 ^ 34 }
         ensures token { slice_get tokens.now.tokens number ≡ Some (lexeme result.token) }
         ensures source { IsFrom tokens.now.text result.token.start result.token.text.now }
@@ -263,7 +257,7 @@ impl LaidLine {
         requires bare { shape self ≡ plain_of self.level }
         requires order { self.first ≤ number }
         requires within { number ≤ self.end }
-        ensures value { result ≡ width_of (number - self.first) (plain_gaps self.level (text_of tokens.now.tokens self)) (text_of tokens.now.tokens self) }
+        ensures value { result ≡ sign_width_on tokens.now.tokens self number }
         ensures small { result ≤ 2 ^ 24 }
     {
         // so the texts are short
@@ -278,7 +272,7 @@ impl LaidLine {
         requires signed { IsSigned (shape self) (text_of tokens.now.tokens self) }
         requires order { self.first ≤ number }
         requires within { number < self.end }
-        ensures value { result ≡ width_of (number - self.first) (gaps_in (shape self) (text_of tokens.now.tokens self)) (text_of tokens.now.tokens self) }
+        ensures value { result ≡ comment_width_on tokens.now.tokens self number }
         ensures narrow { result ≤ 2 ^ 33 + 2 ^ 24 }
     {
         // so the texts are short
@@ -293,7 +287,7 @@ impl LaidLine {
     #[inline(always)]
     fn with_sign(self, number: usize, width: u64, column: u64) -> LaidLine
         requires fits { column < 2 ^ 33 }
-        ensures { result ≡ record { first = self.first; end = self.end; level = self.level; sign = record { number = number; width = width; gap = column - width + 1 }; comment = self.comment } }
+        ensures { result ≡ with_sign_in self number width column }
     {
         LaidLine {
             sign: cell_at(number, width, column),
@@ -305,7 +299,7 @@ impl LaidLine {
     #[inline(always)]
     fn with_comment(self, number: usize, width: u64, column: u64) -> LaidLine
         requires fits { column < 2 ^ 34 }
-        ensures { result ≡ record { first = self.first; end = self.end; level = self.level; sign = self.sign; comment = record { number = number; width = width; gap = column - width + 1 } } }
+        ensures { result ≡ with_comment_in self number width column }
     {
         LaidLine {
             comment: cell_at(number, width, column),
@@ -318,7 +312,7 @@ impl LaidLine {
 #[inline(always)]
 fn cell_at(number: usize, width: u64, column: u64) -> Cell
     requires fits { column < 2 ^ 34 }
-    ensures { result ≡ record { number = number; width = width; gap = column - width + 1 } }
+    ensures { result ≡ cell_in number width column }
 {
     Cell {
         number,
@@ -329,7 +323,7 @@ fn cell_at(number: usize, width: u64, column: u64) -> Cell
 
 impl Lines {
     pub fn new(columns: Columns) -> Lines
-        ensures { result ≡ record { next = 0; depth = 0; levels = fresh; signs = None; comments = None; columns = columns; wrong = false } }
+        ensures { result ≡ no_lines columns }
     {
         Lines {
             next: 0,
@@ -344,7 +338,7 @@ impl Lines {
 
     /// Whether no run had another column than it was taken for, at the end of the text.
     pub fn are_right(&self) -> bool
-        ensures { result ≡ not (self.now.wrong || ends_wrong self.now.signs || ends_wrong self.now.comments) }
+        ensures { result ≡ not (ends_all_wrong self.now) }
     {
         !(self.wrong || is_wrong(self.signs) || is_wrong(self.comments))
     }
@@ -356,9 +350,9 @@ impl Lines {
         requires now { line.depth ≤ max_open }
         requires sound { Sound self.old.depth self.old.levels }
         ensures moved { Moves self.old line self.new }
-        ensures kept { (self.new.signs ≡ self.old.signs) × (self.new.comments ≡ self.old.comments) × (self.new.wrong ≡ self.old.wrong) }
+        ensures kept { KeepsRuns self.old self.new }
         ensures sound { Sound line.depth self.new.levels }
-        ensures laid { result ≡ bare_line line (level_at self.old.depth line.depth self.old.levels) }
+        ensures laid { result ≡ bare_after self.old line }
         ensures small { result.level ≤ max_open }
     {
         let level = next_level(&mut self.levels, self.depth, line.depth);
@@ -377,7 +371,7 @@ impl Lines {
     #[inline(never)]
     fn signs_ahead(&self, tokens: &Measured<'_, '_>) -> u64
         requires at { IsAt tokens.now.tokens self.now }
-        ensures value { result ≡ widest (sign_widths_at (walk_of self.now) tokens.now.tokens self.now.next) }
+        ensures value { result ≡ widest_sign tokens.now.tokens self.now }
         ensures small { result ≤ 2 ^ 24 }
     {
         let mut ahead = *self;
@@ -397,10 +391,10 @@ impl Lines {
     fn sign_column(&self, tokens: &Measured<'_, '_>, number: usize, width: u64) -> u64
         requires at { IsAt tokens.now.tokens self.now }
         requires within { number < length tokens.now.tokens }
-        requires behind { 0 < number }
+        requires after { 0 < number }
         requires narrow { width ≤ 2 ^ 24 }
         ensures kept { IfSome self.now.signs (λ r. result ≡ r.column) }
-        ensures ahead { self.now.columns ≡ Ahead → Some result ≡ next_of (column_of self.now.signs) (Some width ∷ sign_widths_at (walk_of self.now) tokens.now.tokens self.now.next) }
+        ensures ahead { IsSignColumn tokens.now.tokens self.now width result }
         ensures small { result < 2 ^ 33 }
     {
         if let Some(run) = self.signs {
@@ -415,17 +409,15 @@ impl Lines {
     /// Passes a line but for its comment.
     #[inline(always)]
     fn pass_sign(&mut self, tokens: &Measured<'_, '_>, line: Line) -> LaidLine
-        requires at { IsAt tokens.now.tokens self.old }
-        requires first { line.first ≡ self.old.next }
-        requires line { IsLine tokens.now.tokens self.old.next self.old.depth (facts_in line) }
+        requires { Reads tokens.now.tokens self.old line }
         ensures spans { Spans result line }
         ensures laid { Laid tokens.now.tokens result }
         ensures signed { IsSigned (shape result) (text_of tokens.now.tokens result) }
-        ensures gaps { gaps_in (shape result) (text_of tokens.now.tokens result) ≡ signed_gaps self.old self.new (text_of tokens.now.tokens result) }
-        ensures moved { Moves self.old line self.new × IsAt tokens.now.tokens self.new × (self.new.comments ≡ self.old.comments) }
-        ensures grows { Grows self.old.signs (assign_width self.old.depth self.old.levels (text_of tokens.now.tokens result)) self.new.signs }
-        ensures wrong { self.new.wrong ≡ (self.old.wrong || ends_wrong_at self.old.signs (assign_cell (text_of tokens.now.tokens result))) }
-        ensures ahead { self.old.columns ≡ Ahead → IsSignAhead tokens.now.tokens self.old self.new }
+        ensures gaps { HasSignGaps tokens.now.tokens self.old self.new result }
+        ensures moved { MovesSign tokens.now.tokens self.old line self.new }
+        ensures grows { SignsGrow tokens.now.tokens self.old self.new result }
+        ensures wrong { TellsWrong tokens.now.tokens self.old self.new result }
+        ensures ahead { FindsSign tokens.now.tokens self.old self.new }
     {
         let laid = self.pass(line);
         let Some(number) = line.sign else {
@@ -443,7 +435,7 @@ impl Lines {
     fn comments_ahead(&self, tokens: &Measured<'_, '_>) -> u64
         requires at { IsAt tokens.now.tokens self.now }
         requires ahead { self.now.columns ≡ Ahead }
-        ensures value { result ≡ widest (comment_widths_at (walk_of self.now) tokens.now.tokens self.now.next) }
+        ensures value { result ≡ widest_comment tokens.now.tokens self.now }
         ensures small { result < 2 ^ 34 }
     {
         let mut ahead = *self;
@@ -464,10 +456,10 @@ impl Lines {
     fn comment_column(&self, tokens: &Measured<'_, '_>, number: usize, width: u64) -> u64
         requires at { IsAt tokens.now.tokens self.now }
         requires within { number < length tokens.now.tokens }
-        requires behind { 0 < number }
+        requires after { 0 < number }
         requires narrow { width ≤ 2 ^ 33 + 2 ^ 24 }
         ensures kept { IfSome self.now.comments (λ r. result ≡ r.column) }
-        ensures ahead { self.now.columns ≡ Ahead → Some result ≡ next_of (column_of self.now.comments) (Some width ∷ comment_widths_at (walk_of self.now) tokens.now.tokens self.now.next) }
+        ensures ahead { IsCommentColumn tokens.now.tokens self.now width result }
         ensures small { result < 2 ^ 34 }
     {
         if let Some(run) = self.comments {
@@ -482,7 +474,7 @@ impl Lines {
     /// Ends the run of comments.
     #[inline(always)]
     fn end_comments(&mut self)
-        ensures { self.new ≡ record { next = self.old.next; depth = self.old.depth; levels = self.old.levels; signs = self.old.signs; comments = None; columns = self.old.columns; wrong = self.old.wrong || ends_wrong self.old.comments } }
+        ensures { self.new ≡ comments_ended self.old }
     {
         self.wrong = self.wrong || is_wrong(self.comments);
         self.comments = None;
@@ -491,7 +483,7 @@ impl Lines {
     /// Ends the run of signs.
     #[inline(always)]
     fn end_signs(&mut self)
-        ensures { self.new ≡ record { next = self.old.next; depth = self.old.depth; levels = self.old.levels; signs = None; comments = self.old.comments; columns = self.old.columns; wrong = self.old.wrong || ends_wrong self.old.signs } }
+        ensures { self.new ≡ signs_ended self.old }
     {
         self.wrong = self.wrong || is_wrong(self.signs);
         self.signs = None;
@@ -500,16 +492,14 @@ impl Lines {
     /// Passes a line, and gives it with both cells in their columns.
     #[inline(always)]
     fn pass_line(&mut self, tokens: &Measured<'_, '_>, line: Line) -> LaidLine
-        requires at { IsAt tokens.now.tokens self.old }
-        requires first { line.first ≡ self.old.next }
-        requires line { IsLine tokens.now.tokens self.old.next self.old.depth (facts_in line) }
+        requires { Reads tokens.now.tokens self.old line }
         ensures spans { Spans result line }
         ensures laid { Laid tokens.now.tokens result }
-        ensures gaps { gaps_in (shape result) (text_of tokens.now.tokens result) ≡ laid_gaps self.old self.new (text_of tokens.now.tokens result) }
+        ensures gaps { HasGaps tokens.now.tokens self.old self.new result }
         ensures moved { Moves self.old line self.new × IsAt tokens.now.tokens self.new }
         ensures runs { RunsGrow self.old (text_of tokens.now.tokens result) self.new }
-        ensures ahead_sign { self.old.columns ≡ Ahead → IsSignAhead tokens.now.tokens self.old self.new }
-        ensures ahead_comment { self.old.columns ≡ Ahead → IsCommentAhead tokens.now.tokens self.old self.new }
+        ensures ahead_sign { FindsSign tokens.now.tokens self.old self.new }
+        ensures ahead_comment { FindsComment tokens.now.tokens self.old self.new }
     {
         let laid = self.pass_sign(tokens, line);
         let Some(number) = line.comment else {
@@ -531,11 +521,11 @@ impl Lines {
     pub fn next(&mut self, tokens: &Measured<'_, '_>) -> Option<LaidLine>
         requires at { IsAt tokens.now.tokens self.old }
         ensures done { IfNone result (left_after tokens.now.tokens self.old ≡ []) }
-        ensures laid { IfSome result (λ l. Laid tokens.now.tokens l × (l.first ≡ self.old.next) × (l.end ≡ self.new.next)) }
+        ensures laid { IfSome result (IsLaid tokens.now.tokens self.old self.new) }
         ensures at { IsAt tokens.now.tokens self.new × (self.new.columns ≡ self.old.columns) }
-        ensures end { IfNone result ((self.new ≡ self.old) × (self.old.next ≡ length tokens.now.tokens)) }
+        ensures end { IfNone result (IsDone tokens.now.tokens self.old self.new) }
         ensures right { IfSome result (λ l. GoesBack tokens.now.tokens self.old l self.new) }
-        ensures left { self.old.columns ≡ Ahead → IfSome result (λ l. gaps_after tokens.now.tokens self.old ≡ gaps_on tokens.now.tokens l l.first ++ gaps_after tokens.now.tokens self.new) }
+        ensures left { LeavesGaps tokens.now.tokens self.old self.new result }
     {
         if self.next == tokens.len() {
             return None;

@@ -1,8 +1,8 @@
 //! How long the print is, and whether the source is its own print.
-ghost use Rattle.std.specs.Prelude.{◌≡◌, ◌↔◌, ◌<◌, ◌≤◌, ◌+◌, ◌^◌, ◌==◌, ◌&&◌, ◌++◌, IsTrue, IfSome, length, drop, take, nat_eq, nat_le};
+ghost use Rattle.std.specs.Prelude.{◌≡◌, ◌↔◌, ◌<◌, ◌≤◌, ◌+◌, ◌^◌, ◌==◌, IsTrue, IfSome, length, drop, nat_eq};
 ghost use Rattle.std.specs.List.{list_all, starts_with};
 ghost use Rattle.hcl_tokens.specs.Balanced.{IsBalanced};
-ghost use Rattle.hcl_layout.specs.Inner.Left.{EndsAt, bytes_of};
+ghost use Rattle.hcl_layout.specs.Inner.Left.{EndsAt, GoesOn, begins_blank};
 ghost use Rattle.hcl_layout.specs.Inner.Simple.{IsFrom};
 ghost use Rattle.hcl_layout.specs.Print.{print};
 
@@ -51,7 +51,7 @@ pub fn goes_on(source: &[u8], at: usize, piece: Piece<'_>) -> bool
     requires source { IsFrom source.now piece.token.start piece.token.text.now }
     requires gap { piece.gap ≤ 2 ^ 34 }
     requires small { length source.now < 2 ^ 32 }
-    ensures goes { IsTrue result → drop at source.now ≡ bytes_of piece.entry ++ drop (piece.entry.token.start + length piece.entry.token.text.now) source.now }
+    ensures goes { IsTrue result → GoesOn source.now at piece.entry }
     ensures end { IsTrue result → at + piece.entry.gap ≡ piece.entry.token.start }
 {
     if at as u64 + piece.gap != piece.token.start as u64 {
@@ -69,7 +69,7 @@ pub fn goes_on(source: &[u8], at: usize, piece: Piece<'_>) -> bool
 /// Whether so many spaces stand at the front.
 #[inline(always)]
 fn begins_blank(bytes: &[u8], gap: u64) -> bool
-    ensures { result ≡ (nat_le gap (length bytes.now) && list_all (λ b. b == 32) (take gap bytes.now)) }
+    ensures { result ≡ begins_blank gap bytes.now }
 {
     if gap > bytes.len() as u64 {
         return false;

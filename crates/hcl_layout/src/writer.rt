@@ -2,13 +2,13 @@
 ghost use Rattle.std.specs.Prelude.{◌≡◌, ◌<◌, ◌≤◌, ◌+◌, ◌-◌, ◌^◌, ◌++◌, IsTrue, false, length, take, drop, replicate, is_err, IfErr, IfSome, OnOk};
 ghost use Rattle.std.specs.Io.KnownBytes.{Appends};
 ghost use Rattle.hcl_layout.specs.Inner.Left.{bytes_of};
-ghost use Rattle.hcl_layout.specs.Inner.Out.{Fails, FailsBefore, Finishes, Keeps, Lies, Puts, held, stretched};
+ghost use Rattle.hcl_layout.specs.Inner.Out.{BeginsWith, Fails, FailsBefore, Finishes, Keeps, Lies, Puts, held, passed, stretch_len, stretched};
 ghost use Rattle.hcl_layout.specs.Inner.Simple.{IsFrom};
 ghost use Rattle.hcl_layout.specs.Print.{print};
 
 use crate::buffer::{Buffer, Stretch};
-use crate::measured::Measured;
 use crate::lines::{Columns, Lines, Piece};
+use crate::measured::Measured;
 use crate::print::goes_on;
 use hcl_grammar::Accepted;
 use hcl_tokens::{ByteSink, WriteFault, write_fully};
@@ -31,7 +31,7 @@ fn put_block(room: &mut [u8], block: &[u8; 32])
 fn block_at(source: &[u8], stretch: Stretch) -> Option<&[u8; 32]>
     requires lies { Lies source.now stretch }
     requires short { stretch.end ≤ stretch.start + 32 }
-    ensures { IfSome result (λ b. take (stretch.end - stretch.start) b.now ≡ take (stretch.end - stretch.start) (drop stretch.start source.now)) }
+    ensures { IfSome result (λ b. BeginsWith source.now stretch b.now) }
 {
     let (_, rest) = source.split_at(stretch.start);
     let Some(block) = rest.first_chunk::<32>() else {
@@ -148,7 +148,7 @@ fn send_past<W: ByteSink>(to: &mut W, buffer: &mut Buffer, text: &[u8]) -> Resul
     ensures err { IfErr result (Fails (W.taken to.old) (W.taken to.new) buffer.old text.now) }
     ensures failed { W.failed to.new ≡ is_err result }
     ensures flushes { W.flushes to.new ≡ W.flushes to.old }
-    ensures count { OnOk result (buffer.new.sent + buffer.new.len ≡ buffer.old.sent + buffer.old.len + length text.now) }
+    ensures count { OnOk result (passed buffer.new ≡ passed buffer.old + length text.now) }
 {
     if let Err(fault) = write_fully(to, text) {
         return Err(WriteFault {
@@ -163,12 +163,12 @@ fn send_past<W: ByteSink>(to: &mut W, buffer: &mut Buffer, text: &[u8]) -> Resul
 #[inline(always)]
 fn put<W: ByteSink>(to: &mut W, buffer: &mut Buffer, text: &[u8]) -> Result<(), WriteFault>
     requires fresh { W.failed to.old ≡ false }
-    requires room { buffer.old.sent + buffer.old.len + length text.now < 2 ^ 63 }
+    requires room { passed buffer.old + length text.now < 2 ^ 63 }
     ensures ok { OnOk result (Puts (W.taken to.old) (W.taken to.new) buffer.old buffer.new text.now) }
     ensures err { IfErr result (Fails (W.taken to.old) (W.taken to.new) buffer.old text.now) }
     ensures failed { W.failed to.new ≡ is_err result }
     ensures flushes { W.flushes to.new ≡ W.flushes to.old }
-    ensures count { OnOk result (buffer.new.sent + buffer.new.len ≡ buffer.old.sent + buffer.old.len + length text.now) }
+    ensures count { OnOk result (passed buffer.new ≡ passed buffer.old + length text.now) }
 {
     if text.len() <= 8192 - buffer.len {
         buffer.hold(text);
@@ -188,12 +188,14 @@ fn put<W: ByteSink>(to: &mut W, buffer: &mut Buffer, text: &[u8]) -> Result<(), 
 #[inline(always)]
 fn put_blanks<W: ByteSink>(to: &mut W, buffer: &mut Buffer, gap: u64) -> Result<(), WriteFault>
     requires fresh { W.failed to.old ≡ false }
-    requires room { buffer.old.sent + buffer.old.len + gap < 2 ^ 63 }
-    ensures ok { OnOk result (Puts (W.taken to.old) (W.taken to.new) buffer.old buffer.new (replicate gap 32)) }
-    ensures err { IfErr result (Fails (W.taken to.old) (W.taken to.new) buffer.old (replicate gap 32)) }
+    requires room { passed buffer.old + gap < 2 ^ 63 }
+    ensures ok { OnOk result
+        (Puts (W.taken to.old) (W.taken to.new) buffer.old buffer.new (replicate gap 32)) }
+    ensures err { IfErr result
+        (Fails (W.taken to.old) (W.taken to.new) buffer.old (replicate gap 32)) }
     ensures failed { W.failed to.new ≡ is_err result }
     ensures flushes { W.flushes to.new ≡ W.flushes to.old }
-    ensures count { OnOk result (buffer.new.sent + buffer.new.len ≡ buffer.old.sent + buffer.old.len + gap) }
+    ensures count { OnOk result (passed buffer.new ≡ passed buffer.old + gap) }
 {
     // a single blank is put quicker by itself
     if gap > 1 && gap <= 8192 - buffer.len as u64 {
@@ -217,12 +219,15 @@ fn put_text<W: ByteSink>(
     text: &[u8],
 ) -> Result<(), WriteFault>
     requires fresh { W.failed to.old ≡ false }
-    requires room { buffer.old.sent + buffer.old.len + gap + length text.now < 2 ^ 63 }
-    ensures ok { OnOk result (Puts (W.taken to.old) (W.taken to.new) buffer.old buffer.new (replicate gap 32 ++ text.now)) }
-    ensures err { IfErr result (Fails (W.taken to.old) (W.taken to.new) buffer.old (replicate gap 32 ++ text.now)) }
+    requires room { passed buffer.old + gap + length text.now < 2 ^ 63 }
+    ensures ok { OnOk result
+        (Puts (W.taken to.old) (W.taken to.new) buffer.old buffer.new
+        (replicate gap 32 ++ text.now)) }
+    ensures err { IfErr result
+        (Fails (W.taken to.old) (W.taken to.new) buffer.old (replicate gap 32 ++ text.now)) }
     ensures failed { W.failed to.new ≡ is_err result }
     ensures flushes { W.flushes to.new ≡ W.flushes to.old }
-    ensures count { OnOk result (buffer.new.sent + buffer.new.len ≡ buffer.old.sent + buffer.old.len + gap + length text.now) }
+    ensures count { OnOk result (passed buffer.new ≡ passed buffer.old + gap + length text.now) }
 {
     if let Err(fault) = put_blanks(to, buffer, gap) {
         return Err(fault);
@@ -241,12 +246,15 @@ fn put_stretch<W: ByteSink>(
 ) -> Result<(), WriteFault>
     requires fresh { W.failed to.old ≡ false }
     requires lies { Lies source.now stretch }
-    requires room { buffer.old.sent + buffer.old.len + stretch.gap + (stretch.end - stretch.start) < 2 ^ 63 }
-    ensures ok { OnOk result (Puts (W.taken to.old) (W.taken to.new) buffer.old buffer.new (stretched source.now stretch)) }
-    ensures err { IfErr result (Fails (W.taken to.old) (W.taken to.new) buffer.old (stretched source.now stretch)) }
+    requires room { passed buffer.old + stretch_len stretch < 2 ^ 63 }
+    ensures ok { OnOk result
+        (Puts (W.taken to.old) (W.taken to.new) buffer.old buffer.new
+        (stretched source.now stretch)) }
+    ensures err { IfErr result
+        (Fails (W.taken to.old) (W.taken to.new) buffer.old (stretched source.now stretch)) }
     ensures failed { W.failed to.new ≡ is_err result }
     ensures flushes { W.flushes to.new ≡ W.flushes to.old }
-    ensures count { OnOk result (buffer.new.sent + buffer.new.len ≡ buffer.old.sent + buffer.old.len + stretch.gap + (stretch.end - stretch.start)) }
+    ensures count { OnOk result (passed buffer.new ≡ passed buffer.old + stretch_len stretch) }
 {
     let (start, end) = (stretch.start, stretch.end);
     if !buffer.has_room(stretch) {
@@ -269,9 +277,11 @@ fn finish<W: ByteSink>(
 ) -> Result<(), WriteFault>
     requires fresh { W.failed to.old ≡ false }
     requires lies { Lies source.now stretch }
-    requires room { buffer.old.sent + buffer.old.len + stretch.gap + (stretch.end - stretch.start) < 2 ^ 62 }
-    ensures ok { OnOk result (Finishes (W.taken to.old) (W.taken to.new) buffer.old (stretched source.now stretch)) }
-    ensures err { IfErr result (Fails (W.taken to.old) (W.taken to.new) buffer.old (stretched source.now stretch)) }
+    requires room { passed buffer.old + stretch_len stretch < 2 ^ 62 }
+    ensures ok { OnOk result
+        (Finishes (W.taken to.old) (W.taken to.new) buffer.old (stretched source.now stretch)) }
+    ensures err { IfErr result
+        (Fails (W.taken to.old) (W.taken to.new) buffer.old (stretched source.now stretch)) }
     ensures failed { W.failed to.new ≡ is_err result }
     ensures flushes { W.flushes to.new ≡ W.flushes to.old }
 {
@@ -304,7 +314,9 @@ fn stretch_of(source: &[u8], piece: Piece<'_>) -> Stretch
 pub fn emit<W: ByteSink>(accepted: &Accepted<'_, '_>, to: &mut W) -> Result<(), WriteFault>
     requires { W.failed to.old ≡ false }
     ensures ok { OnOk result (Appends (W.taken to.old) (W.taken to.new) (print accepted.now.tokens)) }
-    ensures err { IfErr result (λ fault. Appends (W.taken to.old) (W.taken to.new) (take fault.written (print accepted.now.tokens))) }
+    ensures err { IfErr result
+        (λ fault. Appends (W.taken to.old) (W.taken to.new)
+        (take fault.written (print accepted.now.tokens))) }
     ensures written { IfErr result (λ fault. fault.written < length (print accepted.now.tokens)) }
     ensures failed { W.failed to.new ≡ is_err result }
     ensures flushes { W.flushes to.new ≡ W.flushes to.old }

@@ -1,9 +1,16 @@
 -- What the size of a source bounds: no source is longer than 4 MiB, no two tokens share a byte and none is empty.
-use Rattle.std.specs.Prelude.{◌≤◌, ◌^◌, length}
+use Rattle.std.specs.Prelude.{◌≤◌, ◌+◌, ◌^◌, ℕ, List, [], ◌∷◌, length}
+use Rattle.hcl_tokens.specs.Lexemes.{Lexeme}
 use Rattle.hcl_tokens.specs.Scanned.{Scanned}
 use Rattle.hcl_layout.specs.Inner.LineGaps.{len_with_blanks}
+
+-- each token begins where the one before it has ended, or after that
+abbrev pub AreApart : ℕ → List Lexeme → Type 0
+AreApart from [] = Unit {0}
+AreApart from (t ∷ ts) = (from ≤ t.start) × AreApart (t.start + length t.text) ts
 
 pub record IsBounded (s : Scanned) : Type 0 where
   pub text : length s.text ≤ 2 ^ 22
   pub tokens : length s.tokens ≤ 2 ^ 22
   pub blanks : len_with_blanks s.tokens ≤ 2 ^ 23
+  pub apart : AreApart 0 s.tokens

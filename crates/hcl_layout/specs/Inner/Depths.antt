@@ -38,8 +38,8 @@ raised levels level from zero = levels
 raised levels level from (suc n) = raised (slice_set levels from level) level (from + 1) n
 
 -- the same after a line
-abbrev pub levels_behind : ℕ → ℕ → List ℕ → List ℕ
-levels_behind before now levels = raised levels (get_or levels before 0 + 1) (before + 1) (now - before)
+abbrev pub next_levels : ℕ → ℕ → List ℕ → List ℕ
+next_levels before now levels = raised levels (get_or levels before 0 + 1) (before + 1) (now - before)
 
 -- no level is more than its depth
 abbrev pub Sound : ℕ → List ℕ → Type 0

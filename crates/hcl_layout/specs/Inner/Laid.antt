@@ -1,20 +1,23 @@
 -- A line as it is laid out, by numbers of tokens: its gaps, its widths, and the runs that go over it.
-use Rattle.std.specs.Prelude.{◌≡◌, ◌<◌, ◌≤◌, ◌+◌, ◌-◌, ◌^◌, ◌++◌, ◌==◌, ◌||◌, ℕ, Bool, true, false, not, List, Option, Some, None, IfSome, MatchOption, length, take, drop, max, nat_lt, option_map, if◌then◌else◌}
+use Rattle.std.specs.Prelude.{◌≡◌, ◌<◌, ◌≤◌, ◌+◌, ◌-◌, ◌^◌, ◌++◌, ◌==◌, ◌||◌, ℕ, Bool, false, not, List, Option, Some, None, IfSome, MatchOption, length, ◌∷◌, take, drop, max, nat_lt, option_map, if◌then◌else◌}
 use Rattle.std.specs.List.{flat_map}
 use Rattle.hcl_tokens.specs.Lexemes.{Lexeme}
 use Rattle.hcl_tokens.specs.Balanced.{max_open}
 use Rattle.hcl_layout.specs.Columns.{widest}
 use Rattle.hcl_layout.specs.Lines.{Line, lines}
-use Rattle.hcl_layout.specs.Gaps.{align, width}
+use Rattle.hcl_layout.specs.Gaps.{align, plain_gaps, width}
 use Rattle.hcl_layout.specs.Cells.{assign_cell, running_comment, trailing_comment}
 use Rattle.hcl_layout.specs.Print.{printed_text}
-use Rattle.hcl_layout.specs.Inner.Depths.{depth_after, levels_behind}
-use Rattle.hcl_layout.specs.Inner.Left.{token_before}
-use Rattle.hcl_layout.specs.Inner.LineGaps.{Cell, LineGaps, gaps_from}
-use Rattle.hcl_layout.specs.Inner.Stream.{assign_column, assign_width, assign_widths, comment_column, comment_widths, commented, plain}
-use Rattle.hcl_layout.specs.Inner.Walks.{HasCome, Walk}
+use Rattle.hcl_layout.specs.Inner.Depths.{fresh, level_at, next_levels}
+use Rattle.hcl_layout.specs.Inner.Left.{gap_before, plain_gap_before, token_before}
+use Rattle.hcl_layout.specs.Inner.LineGaps.{Cell, LineGaps, gaps_from, gaps_in}
+use Rattle.hcl_layout.specs.Inner.Stream.{assign_column, assign_width, assign_widths, comment_column, comment_widths, commented, next_of, plain}
+use Rattle.hcl_layout.specs.Inner.Survey.{IsLine, facts_in}
+use Rattle.hcl_layout.specs.Inner.Walks.{HasCome, Walk, comment_widths_at, sign_widths_at}
 use Rattle.hcl_layout.specs.declared.line.Line.{Line as LineRead}
 use Rattle.hcl_layout.specs.declared.lines.Cell.{Cell as CellLaid}
+use Rattle.hcl_layout.specs.declared.lines.Columns.{Columns}
+use Rattle.hcl_layout.specs.declared.lines.Columns.TheVariants.{Ahead}
 use Rattle.hcl_layout.specs.declared.lines.LaidLine.{LaidLine}
 use Rattle.hcl_layout.specs.declared.lines.Lines.{Lines}
 use Rattle.hcl_layout.specs.declared.lines.Run.{Run}
@@ -52,6 +55,20 @@ gaps_on ts l n = gaps_from (shape l) (n - l.first) (token_before ts l.first (n -
 abbrev pub width_on : List Lexeme → LaidLine → ℕ → ℕ → ℕ
 width_on ts l n stop = width (stop - n) (gaps_on ts l n) (rest_of ts l n)
 
+-- the gap before a token, by the level and the spacing alone, and with the line's cells
+abbrev pub plain_gap_on : List Lexeme → LaidLine → ℕ → Lexeme → ℕ
+plain_gap_on ts l n t = plain_gap_before ts l.level l.first n t
+
+abbrev pub gap_on : List Lexeme → LaidLine → ℕ → Lexeme → ℕ
+gap_on ts l n t = gap_before ts (shape l) l.first n t
+
+-- the width before a token, by the level and the spacing alone, and with the line's cells
+abbrev pub sign_width_on : List Lexeme → LaidLine → ℕ → ℕ
+sign_width_on ts l n = width (n - l.first) (plain_gaps l.level (text_of ts l)) (text_of ts l)
+
+abbrev pub comment_width_on : List Lexeme → LaidLine → ℕ → ℕ
+comment_width_on ts l n = width (n - l.first) (gaps_in (shape l) (text_of ts l)) (text_of ts l)
+
 -- it is the line that was read
 abbrev pub Spans : LaidLine → LineRead → Type 0
 Spans l r = (l.first ≡ r.first) × (l.end ≡ r.end)
@@ -64,17 +81,27 @@ column_of = option_map (λ (r : Run). r.column)
 abbrev pub walk_of : Lines → Walk
 walk_of s = record { depth = s.depth; levels = s.levels; signs = column_of s.signs; comments = column_of s.comments }
 
+-- no line was passed
+abbrev pub no_lines : Columns → Lines
+no_lines columns = record { next = 0; depth = 0; levels = fresh; signs = None; comments = None; columns = columns; wrong = false }
+
 -- they end before the next token
 pub record IsAt (ts : List Lexeme) (s : Lines) : Type 0 where
   pub come : HasCome ts s.next (walk_of s)
   pub within : s.next ≤ length ts
   pub few : length ts ≤ 2 ^ 22
 
+-- the line that begins there was read
+pub record Reads (ts : List Lexeme) (s : Lines) (r : LineRead) : Type 0 where
+  pub at : IsAt ts s
+  pub first : r.first ≡ s.next
+  pub line : IsLine ts s.next s.depth (facts_in r)
+
 -- a line more was passed, whatever its cells
 pub record Moves (old : Lines) (r : LineRead) (new : Lines) : Type 0 where
   pub next : new.next ≡ r.end
   pub depth : new.depth ≡ r.depth
-  pub levels : new.levels ≡ levels_behind old.depth r.depth old.levels
+  pub levels : new.levels ≡ next_levels old.depth r.depth old.levels
   pub columns : new.columns ≡ old.columns
 
 -- ---- runs
@@ -83,6 +110,16 @@ pub record Moves (old : Lines) (r : LineRead) (new : Lines) : Type 0 where
 abbrev pub ends_wrong : Option Run → Bool
 ends_wrong None = false
 ends_wrong (Some r) = not (r.column == r.greatest)
+
+abbrev pub ends_all_wrong : Lines → Bool
+ends_all_wrong s = s.wrong || ends_wrong s.signs || ends_wrong s.comments
+
+-- a run ends
+abbrev pub signs_ended : Lines → Lines
+signs_ended s = record { next = s.next; depth = s.depth; levels = s.levels; signs = None; comments = s.comments; columns = s.columns; wrong = s.wrong || ends_wrong s.signs }
+
+abbrev pub comments_ended : Lines → Lines
+comments_ended s = record { next = s.next; depth = s.depth; levels = s.levels; signs = s.signs; comments = None; columns = s.columns; wrong = s.wrong || ends_wrong s.comments }
 
 -- that of a line with such a width before the cell, or without one
 abbrev pub ends_wrong_at : Option Run → Option ℕ → Bool
@@ -107,6 +144,23 @@ none_at end = record { number = end; width = 0; gap = 0 }
 abbrev pub bare_line : LineRead → ℕ → LaidLine
 bare_line r level = record { first = r.first; end = r.end; level = level; sign = none_at r.end; comment = none_at r.end }
 
+abbrev pub bare_after : Lines → LineRead → LaidLine
+bare_after s r = bare_line r (level_at s.depth r.depth s.levels)
+
+-- with a cell in a column, before which it is so wide
+abbrev pub cell_in : ℕ → ℕ → ℕ → CellLaid
+cell_in number own column = record { number = number; width = own; gap = column - own + 1 }
+
+abbrev pub with_sign_in : LaidLine → ℕ → ℕ → ℕ → LaidLine
+with_sign_in l number own column = record { first = l.first; end = l.end; level = l.level; sign = cell_in number own column; comment = l.comment }
+
+abbrev pub with_comment_in : LaidLine → ℕ → ℕ → ℕ → LaidLine
+with_comment_in l number own column = record { first = l.first; end = l.end; level = l.level; sign = l.sign; comment = cell_in number own column }
+
+-- the runs stay as they are
+abbrev pub KeepsRuns : Lines → Lines → Type 0
+KeepsRuns old new = (new.signs ≡ old.signs) × (new.comments ≡ old.comments) × (new.wrong ≡ old.wrong)
+
 -- its gaps with its sign in the column of the run, whatever that is, and with its comment in that of its run too
 abbrev pub signed_gaps : Lines → Lines → Line → List ℕ
 signed_gaps old new l = align assign_cell (plain old.depth old.levels l) l (column_of new.signs)
@@ -120,6 +174,42 @@ IsSignAhead ts old new = column_of new.signs ≡ assign_column old.depth old.lev
 
 abbrev pub IsCommentAhead : List Lexeme → Lines → Lines → Type 0
 IsCommentAhead ts old new = column_of new.comments ≡ comment_column old.depth old.levels (column_of old.signs) (column_of old.comments) (lines (drop old.next ts))
+
+abbrev pub FindsSign : List Lexeme → Lines → Lines → Type 0
+FindsSign ts old new = old.columns ≡ Ahead → IsSignAhead ts old new
+
+abbrev pub FindsComment : List Lexeme → Lines → Lines → Type 0
+FindsComment ts old new = old.columns ≡ Ahead → IsCommentAhead ts old new
+
+-- the greatest width before a cell of the run that goes on with the next line, and the column of such a run
+abbrev pub widest_sign : List Lexeme → Lines → ℕ
+widest_sign ts s = widest (sign_widths_at (walk_of s) ts s.next)
+
+abbrev pub widest_comment : List Lexeme → Lines → ℕ
+widest_comment ts s = widest (comment_widths_at (walk_of s) ts s.next)
+
+abbrev pub IsSignColumn : List Lexeme → Lines → ℕ → ℕ → Type 0
+IsSignColumn ts s own column = s.columns ≡ Ahead → Some column ≡ next_of (column_of s.signs) (Some own ∷ sign_widths_at (walk_of s) ts s.next)
+
+abbrev pub IsCommentColumn : List Lexeme → Lines → ℕ → ℕ → Type 0
+IsCommentColumn ts s own column = s.columns ≡ Ahead → Some column ≡ next_of (column_of s.comments) (Some own ∷ comment_widths_at (walk_of s) ts s.next)
+
+-- it is laid out with its sign, and then with both cells
+abbrev pub HasSignGaps : List Lexeme → Lines → Lines → LaidLine → Type 0
+HasSignGaps ts old new l = gaps_in (shape l) (text_of ts l) ≡ signed_gaps old new (text_of ts l)
+
+abbrev pub HasGaps : List Lexeme → Lines → Lines → LaidLine → Type 0
+HasGaps ts old new l = gaps_in (shape l) (text_of ts l) ≡ laid_gaps old new (text_of ts l)
+
+-- a line was passed but for its comment
+abbrev pub MovesSign : List Lexeme → Lines → LineRead → Lines → Type 0
+MovesSign ts old r new = Moves old r new × IsAt ts new × (new.comments ≡ old.comments)
+
+abbrev pub SignsGrow : List Lexeme → Lines → Lines → LaidLine → Type 0
+SignsGrow ts old new l = Grows old.signs (assign_width old.depth old.levels (text_of ts l)) new.signs
+
+abbrev pub TellsWrong : List Lexeme → Lines → Lines → LaidLine → Type 0
+TellsWrong ts old new l = new.wrong ≡ (old.wrong || ends_wrong_at old.signs (assign_cell (text_of ts l)))
 
 -- both runs go over it
 pub record RunsGrow (old : Lines) (l : Line) (new : Lines) : Type 0 where
@@ -139,6 +229,18 @@ left_after ts s = printed_text (gaps_after ts s) (drop s.next ts)
 -- and those of the line at hand from a token on
 abbrev pub left_on : List Lexeme → LaidLine → List ℕ → ℕ → List ℕ
 left_on ts l rest n = printed_text (gaps_on ts l n ++ rest) (drop n ts)
+
+-- the next line is laid out
+abbrev pub IsLaid : List Lexeme → Lines → Lines → LaidLine → Type 0
+IsLaid ts old new l = Laid ts l × (l.first ≡ old.next) × (l.end ≡ new.next)
+
+-- or there is none
+abbrev pub IsDone : List Lexeme → Lines → Lines → Type 0
+IsDone ts old new = (new ≡ old) × (old.next ≡ length ts)
+
+-- what is left is the line and what is left after it
+abbrev pub LeavesGaps : List Lexeme → Lines → Lines → Option LaidLine → Type 0
+LeavesGaps ts old new line = old.columns ≡ Ahead → IfSome line (λ l. gaps_after ts old ≡ gaps_on ts l l.first ++ gaps_after ts new)
 
 -- ---- right columns
 

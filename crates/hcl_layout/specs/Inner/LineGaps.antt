@@ -1,5 +1,5 @@
 -- The gaps of a line from its level and two cells, token by token.
-use Rattle.std.specs.Prelude.{true, false, ◌≡◌, ◌<◌, ◌≤◌, ◌+◌, ◌-◌, ◌^◌, ◌==◌, ℕ, List, [], ◌∷◌, Option, Some, None, IfSome, length, option_map, slice_get, slice_set, if◌then◌else◌}
+use Rattle.std.specs.Prelude.{true, false, ◌≡◌, ◌<◌, ◌≤◌, ◌+◌, ◌-◌, ◌^◌, ◌==◌, ℕ, List, [], ◌∷◌, Option, Some, None, IfSome, length, slice_get, slice_set, if◌then◌else◌}
 use Rattle.hcl_tokens.specs.Lexemes.{Lexeme}
 use Rattle.hcl_tokens.specs.declared.token.Kind.TheVariants as kind
 use Rattle.hcl_tokens.specs.Kinds.{is}
@@ -41,15 +41,6 @@ IsUntoldAt ts number = (subject t : Lexeme) → slice_get ts (number - 1) ≡ So
 
 abbrev pub gap_of : LineGaps → ℕ → Option Lexeme → Option Lexeme → Lexeme → ℕ
 gap_of g k before subject t = cell_gap g.comment k (cell_gap g.assign k (plain_gap g.level before subject t))
-
--- the gap of a cell, if that is known, and else the other
-abbrev pub given_or : Option ℕ → ℕ → ℕ
-given_or None gap = gap
-given_or (Some own) gap = own
-
--- no cell stands at the places from one to another
-abbrev pub ArePlain : LineGaps → ℕ → ℕ → Type 0
-ArePlain g from to = (k gap : ℕ) → from ≤ k → k < to → cell_gap g.comment k (cell_gap g.assign k gap) ≡ gap
 
 -- from the token at a place on
 abbrev pub gaps_from : LineGaps → ℕ → Option Lexeme → Option Lexeme → Line → List ℕ
@@ -101,11 +92,3 @@ pub record AreSet (g : LineGaps) : Type 0 where
   pub comment_gap : IfSome g.comment (λ c. c.gap ≤ 2 ^ 34)
   pub sign_front : IfSome g.assign (λ c. 0 < c.place)
   pub comment_front : IfSome g.comment (λ c. 0 < c.place)
-
--- the width that is kept with a cell
-abbrev pub kept_width : Option Cell → Option ℕ
-kept_width = option_map (λ (c : Cell). c.width)
-
--- the width before the cell of a line, if it has one
-abbrev pub width_to : (Line → Option ℕ) → List ℕ → Line → Option ℕ
-width_to cell gaps line = option_map (λ i. width i gaps line) (cell line)

@@ -1,5 +1,5 @@
 -- What of a text has gone out, to the sink or into the buffer before it.
-use Rattle.std.specs.Prelude.{◌≡◌, ◌<◌, ◌≤◌, ◌-◌, ◌++◌, ℕ, List, Option, length, take, drop, replicate}
+use Rattle.std.specs.Prelude.{◌≡◌, ◌<◌, ◌≤◌, ◌+◌, ◌-◌, ◌++◌, ℕ, List, Option, length, take, drop, replicate}
 use Rattle.std.specs.Io.KnownBytes.{Appends}
 use Rattle.hcl_source.specs.declared.device.WriteFault.{WriteFault}
 use Rattle.hcl_layout.specs.declared.buffer.Buffer.{Buffer}
@@ -47,3 +47,14 @@ stretched source s = replicate s.gap 32 ++ take (s.end - s.start) (drop s.start 
 -- a stretch of the source lies in it
 abbrev pub Lies : List ℕ → Stretch → Type 0
 Lies source s = (s.start ≤ s.end) × (s.end ≤ length source)
+
+abbrev pub stretch_len : Stretch → ℕ
+stretch_len s = s.gap + (s.end - s.start)
+
+-- so many bytes went out before, into the sink or into the buffer
+abbrev pub passed : Buffer → ℕ
+passed b = b.sent + b.len
+
+-- a block begins as a stretch does
+abbrev pub BeginsWith : List ℕ → Stretch → List ℕ → Type 0
+BeginsWith source s block = take (s.end - s.start) block ≡ take (s.end - s.start) (drop s.start source)

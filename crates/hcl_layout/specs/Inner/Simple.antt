@@ -1,6 +1,6 @@
 -- Texts of ASCII without CR: each byte of them is an extended grapheme cluster (UAX 29), since among ASCII only CR LF
 -- is a cluster of two.
-use Rattle.std.specs.Prelude.{◌≡◌, ◌<◌, ◌≤◌, ◌==◌, ◌&&◌, ◌||◌, ℕ, Bool, List, [], ◌∷◌, true, not, nat_le, nat_lt, get_or, length, take, drop}
+use Rattle.std.specs.Prelude.{◌≡◌, ◌≤◌, ◌==◌, ◌&&◌, ◌||◌, ℕ, Bool, List, [], ◌∷◌, not, nat_le, nat_lt, length, take, drop}
 use Rattle.std.specs.List.{list_all}
 use Rattle.ucd_table.specs.Rows.{Range}
 
@@ -9,10 +9,6 @@ is_simple_byte b = nat_lt b 128 && not (b == 13)
 
 abbrev pub is_simple : List ℕ → Bool
 is_simple text = list_all is_simple_byte text
-
--- so are the bytes from one place up to another
-abbrev pub IsSimpleIn : List ℕ → ℕ → ℕ → Type 0
-IsSimpleIn text from until = (k : ℕ) → from ≤ k → k < until → is_simple_byte (get_or text k 0) ≡ true
 
 -- Ranges of characters each of which is a grapheme cluster by itself among such: Latin up to the combining accents, and
 -- controls but CR; Greek, Cyrillic and what stands between; further Latin and Greek; punctuation; signs, arrows and forms;

@@ -1,13 +1,12 @@
 -- The gaps of the lines that are left, by what is known of the lines before them: the depth, the levels by depth, and
 -- the columns of the runs in which the line before stands. It is the form that the code follows; the gaps of whole
 -- lists are the same (proofs/StreamLemmas).
-use Rattle.std.specs.Prelude.{ℕ, List, [], ◌∷◌, Option, Some, None, IfSome, ◌≡◌, option_map}
+use Rattle.std.specs.Prelude.{ℕ, List, [], ◌∷◌, Option, Some, None, option_map}
 use Rattle.hcl_layout.specs.Lines.{Line}
 use Rattle.hcl_layout.specs.Cells.{assign_cell, running_comment, trailing_comment}
 use Rattle.hcl_layout.specs.Columns.{widest}
 use Rattle.hcl_layout.specs.Gaps.{align, plain_gaps, width, widths}
-use Rattle.hcl_layout.specs.Inner.Depths.{depth_after, level_at, levels_behind}
-use Rattle.hcl_layout.specs.Inner.LineGaps.{Cell}
+use Rattle.hcl_layout.specs.Inner.Depths.{depth_after, level_at, next_levels}
 
 -- ---- runs
 
@@ -24,7 +23,7 @@ plain d levels l = plain_gaps (level_at d (depth_after d l) levels) l
 
 abbrev pub leveled : ℕ → List ℕ → List Line → List (List ℕ)
 leveled d levels [] = []
-leveled d levels (l ∷ ls) = plain d levels l ∷ leveled (depth_after d l) (levels_behind d (depth_after d l) levels) ls
+leveled d levels (l ∷ ls) = plain d levels l ∷ leveled (depth_after d l) (next_levels d (depth_after d l) levels) ls
 
 abbrev pub assign_widths : ℕ → List ℕ → List Line → List (Option ℕ)
 assign_widths d levels ls = widths assign_cell (leveled d levels ls) ls
@@ -41,7 +40,7 @@ abbrev pub assigned : ℕ → List ℕ → Option ℕ → List Line → List (Li
 assigned d levels column [] = []
 assigned d levels column (l ∷ ls) =
     align assign_cell (plain d levels l) l (assign_column d levels column (l ∷ ls))
-    ∷ assigned (depth_after d l) (levels_behind d (depth_after d l) levels) (assign_column d levels column (l ∷ ls)) ls
+    ∷ assigned (depth_after d l) (next_levels d (depth_after d l) levels) (assign_column d levels column (l ∷ ls)) ls
 
 abbrev pub comment_widths : ℕ → List ℕ → Option ℕ → List Line → List (Option ℕ)
 comment_widths d levels column ls = widths running_comment (assigned d levels column ls) ls
@@ -49,15 +48,11 @@ comment_widths d levels column ls = widths running_comment (assigned d levels co
 abbrev pub comment_column : ℕ → List ℕ → Option ℕ → Option ℕ → List Line → Option ℕ
 comment_column d levels column comment ls = next_of comment (comment_widths d levels column ls)
 
--- the same, by the first line's gaps with its assign cell in its column, and the widths of the lines after it
-abbrev pub column_behind : List ℕ → Line → Option ℕ → List (Option ℕ) → Option ℕ
-column_behind gaps l comment behind = next_of comment (option_map (λ i. width i gaps l) (running_comment l) ∷ behind)
-
 abbrev pub commented : ℕ → List ℕ → Option ℕ → Option ℕ → List Line → List (List ℕ)
 commented d levels column comment [] = []
 commented d levels column comment (l ∷ ls) =
     align trailing_comment (align assign_cell (plain d levels l) l (assign_column d levels column (l ∷ ls))) l (comment_column d levels column comment (l ∷ ls))
-    ∷ commented (depth_after d l) (levels_behind d (depth_after d l) levels) (assign_column d levels column (l ∷ ls)) (comment_column d levels column comment (l ∷ ls)) ls
+    ∷ commented (depth_after d l) (next_levels d (depth_after d l) levels) (assign_column d levels column (l ∷ ls)) (comment_column d levels column comment (l ∷ ls)) ls
 
 -- ---- the widths of the first line
 
@@ -68,7 +63,3 @@ assign_width d levels l = option_map (λ i. width i (plain d levels l) l) (assig
 -- the width before the comment, where the line takes part in runs of comments
 abbrev pub comment_width : ℕ → List ℕ → Option ℕ → Line → List Line → Option ℕ
 comment_width d levels column l ls = option_map (λ i. width i (assigned_line d levels column l ls) l) (running_comment l)
-
--- a cell was set after that width, if it is known
-abbrev pub HasWidth : Option Cell → Option ℕ → Type 0
-HasWidth cell width = IfSome width (λ w. option_map (λ (c : Cell). c.width) cell ≡ Some w)

@@ -9,7 +9,7 @@ use Rattle.hcl_layout.specs.Cells.{assign_cell, is_assignment, is_multiline, is_
 use Rattle.hcl_tokens.specs.Balanced.{is_closer, is_opener, max_open}
 use Rattle.hcl_grammar.specs.Items.{deepen}
 use Rattle.hcl_layout.specs.Inner.Depths.{BalancedFrom, depth_after}
-use Rattle.std.specs.Prelude.{option_map, ◌-◌}
+use Rattle.std.specs.Prelude.{option_map, slice_get, ◌-◌}
 use Rattle.hcl_layout.specs.declared.line.Line.{Line as LineRead}
 use Rattle.hcl_layout.specs.declared.line.Seen.{Seen}
 
@@ -138,3 +138,22 @@ facts_in l = record {
   comment = option_map (λ n. n - l.first) l.comment;
   running = if not l.runs then None else option_map (λ n. n - l.first) l.comment;
 }
+
+-- the sign that was seen, where it begins a cell
+abbrev pub seen_cell : Seen → ℕ → Option ℕ
+seen_cell s depth = cell_if (not s.multiline && (s.sign_depth == body_of s depth)) s.sign
+
+-- nothing but whether the first token holds a newline
+abbrev pub unseen : Bool → Seen
+unseen multiline = record { sign = None; sign_depth = 0; comment = None; body_depth = 0; multiline = multiline }
+
+-- a token more was passed
+abbrev pub Notes : Seen → ℕ → ℕ → Lexeme → Seen → Type 0
+Notes old number depth t new = (first : ℕ) → first ≤ number → survey_of new depth first (number + 1) ≡ noted (survey_of old depth first number) t
+
+-- the first token was passed
+abbrev pub NotesFirst : List Lexeme → ℕ → ℕ → Seen → ℕ → Type 0
+NotesFirst ts first before seen depth = (t : Lexeme) → slice_get ts first ≡ Some t → survey_of seen depth first (first + 1) ≡ first_noted before t
+
+abbrev pub TellsEnd : List Lexeme → ℕ → Bool → Type 0
+TellsEnd ts first ends = (t : Lexeme) → slice_get ts first ≡ Some t → ends ≡ ends_line t

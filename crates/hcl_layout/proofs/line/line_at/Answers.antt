@@ -6,7 +6,7 @@ use Rattle.hcl_layout.specs.Inner.Depths.{BalancedFrom}
 use Rattle.hcl_layout.specs.Inner.Survey.{Survey, first_noted, noted, step_of, survey_of, surveyed}
 use Rattle.hcl_layout.proofs.NotedKindLemmas.{pointed, stopped_level, unstopped_goes_on, unstopped_unmarked}
 use Rattle.hcl_layout.proofs.SeenLemmas.{line_read, seen_end, seen_noted}
-use Rattle.hcl_layout.proofs.SurveyLemmas.{going_more, going_on, going_out, low_at, rest_at, same_token, step_at, surveyed_end, surveyed_going, token_at}
+use Rattle.hcl_layout.proofs.SurveyLemmas.{going_more, going_on, going_out, low_at, rest_at, step_at, surveyed_end, surveyed_going, token_at}
 use Rattle.hcl_layout.proofs.line.line_at.Goals as goal
 
 pub returns-then-ends-clause-line : goal.returns-then-ends-clause-line
@@ -80,7 +80,7 @@ returns-then-is_line_end-clause-line c =
     let ends = sym c.is_line_end.ensures ∙ c.if-is_line_end.true in
     line_read ts at c.args.before found.0 c.line-then-is_line_end.result (survey_of seen d at (i + 1)) found.1 c.len-count.ensures.bounded.tokens c.requires.balanced c.requires.fits c.line-then-is_line_end.ensures.facts
     (seen_end seen u d at i (omega (arith, c.loop-number.invariant.order)) ends
-      ∙ surveyed_end (drop (i + 1) ts) u (noted (survey_of seen d at i) u) whole ends (going_more ts i u (survey_of seen d at i) whole c.get-token.ensures.token (c.loop-number.invariant.same found.0 found.1)))
+    ∙ surveyed_end (drop (i + 1) ts) u (noted (survey_of seen d at i) u) whole ends (going_more ts i u (survey_of seen d at i) whole c.get-token.ensures.token (c.loop-number.invariant.same found.0 found.1)))
 
 pub loop-number-preserved : goal.loop-number-preserved
 loop-number-preserved c =

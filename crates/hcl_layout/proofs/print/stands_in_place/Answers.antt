@@ -1,13 +1,11 @@
-use Rattle.std.proofs.Common.{◌≡◌, ◌+◌, ◌-◌, ◌++◌, ◌∙◌, ℕ, List, ap, arith, drop, length, length-drop, length-take, subst, sym}
+use Rattle.std.proofs.Common.{◌++◌, ◌∙◌, ℕ, List, ap, arith, drop, length, length-drop, length-take, sym}
 use Rattle.hcl_tokens.specs.Scanned.{lexeme}
 use Rattle.hcl_layout.specs.Inner.Depths.{BalancedFrom}
-use Rattle.hcl_layout.specs.Inner.Laid.{gaps_after, left_after, left_on}
+use Rattle.hcl_layout.specs.Inner.Laid.{gaps_after}
 use Rattle.hcl_layout.specs.Inner.Left.{bytes_of}
-use Rattle.hcl_layout.specs.Print.{print}
 use Rattle.hcl_layout.specs.declared.lines.Lines.{Lines}
 use Rattle.hcl_layout.proofs.BalanceLemmas.{balanced_from}
 use Rattle.hcl_layout.proofs.PrintedLemmas.{left_all, left_done, left_line, left_piece}
-use Rattle.hcl_layout.proofs.RightLemmas.{all_right}
 use Rattle.hcl_layout.proofs.WalkLemmas.{start_at}
 use Rattle.hcl_layout.proofs.print.stands_in_place.Goals as goal
 
@@ -34,7 +32,7 @@ loop-number-init c =
     let i = c.loop-line.invariant in
     record {
       step = λ right left. (let back = c.in-Some.ensures.right c.if-lines.false right in
-        i.step back.0 back.1 (left_line ts c.loop-line.lines c.next.new.self c.in-Some.line back.2 c.in-Some.ensures.laid.1 ∙ left));
+          i.step back.0 back.1 (left_line ts c.loop-line.lines c.next.new.self c.in-Some.line back.2 c.in-Some.ensures.laid.1 ∙ left));
       order = omega arith;
       inside = i.inside;
     }

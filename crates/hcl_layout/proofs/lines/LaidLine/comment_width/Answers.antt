@@ -1,4 +1,4 @@
-use Rattle.std.proofs.Common.{◌-◌, ◌<◌, ◌≤◌, arith}
+use Rattle.std.proofs.Common.{◌-◌, ◌<◌, arith}
 use Rattle.hcl_layout.proofs.LaidLemmas.{sign_known, signed_low, width_all, width_split}
 use Rattle.hcl_layout.proofs.lines.LaidLine.comment_width.Goals as goal
 

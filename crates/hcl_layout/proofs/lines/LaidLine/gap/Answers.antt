@@ -1,6 +1,6 @@
-use Rattle.std.proofs.Common.{◌∙◌, arith}
+use Rattle.std.proofs.Common.{arith}
 use Rattle.hcl_tokens.specs.Scanned.{lexeme}
-use Rattle.hcl_layout.proofs.LaidLemmas.{gap_plain, plain_before_small}
+use Rattle.hcl_layout.proofs.LaidLemmas.{plain_before_small}
 use Rattle.hcl_layout.proofs.lines.LaidLine.gap.Goals as goal
 
 pub returns-clause-small : goal.returns-clause-small

@@ -1,4 +1,4 @@
-use Rattle.std.proofs.Common.{◌+◌, ◌≡◌, ◌≤◌, arith}
+use Rattle.std.proofs.Common.{arith}
 use Rattle.hcl_tokens.specs.Scanned.{lexeme}
 use Rattle.hcl_layout.proofs.LaidLemmas.{width_more}
 use Rattle.hcl_layout.proofs.lines.LaidLine.width.Goals as goal

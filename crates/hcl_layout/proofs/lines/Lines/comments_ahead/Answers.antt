@@ -1,4 +1,4 @@
-use Rattle.std.proofs.Common.{◌≡◌, ◌∙◌, ◌≤◌, ap, arith, subst, sym}
+use Rattle.std.proofs.Common.{◌∙◌, arith, subst, sym}
 use Rattle.hcl_layout.specs.Inner.Survey.{IsLine, facts_in}
 use Rattle.hcl_layout.proofs.WalkLemmas.{comment_follows, comment_in, running_some}
 use Rattle.hcl_layout.proofs.lines.Lines.comments_ahead.Goals as goal

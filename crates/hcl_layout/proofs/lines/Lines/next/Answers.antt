@@ -4,7 +4,6 @@ use Rattle.hcl_layout.specs.Inner.Survey.{IsLine, facts_in}
 use Rattle.hcl_layout.specs.Lines.{Line}
 use Rattle.hcl_layout.proofs.PassLemmas.{text_in}
 use Rattle.hcl_layout.proofs.RightLemmas.{front_gaps, right_step}
-use Rattle.hcl_layout.proofs.WalkLemmas.{bare_shape}
 use Rattle.hcl_layout.proofs.lines.Lines.next.Goals as goal
 
 pub returns-clause-right : goal.returns-clause-right

@@ -1,4 +1,4 @@
-use Rattle.std.proofs.Common.{◌≡◌, ◌∙◌, ◌+◌, ◌-◌, ◌<◌, ◌≤◌, ◌^◌, ℕ, List, None, Some, ap, arith, refl, subst, sym}
+use Rattle.std.proofs.Common.{◌≡◌, ◌∙◌, ◌+◌, ◌-◌, ◌<◌, ℕ, List, None, Some, ap, arith, subst, sym}
 use Rattle.hcl_layout.specs.Cells.{trailing_comment}
 use Rattle.hcl_layout.specs.Gaps.{align}
 use Rattle.hcl_layout.specs.Inner.Laid.{Laid, column_of, shape, signed_gaps, text_of}
@@ -6,7 +6,7 @@ use Rattle.hcl_layout.specs.Inner.LineGaps.{gaps_in}
 use Rattle.hcl_layout.specs.Inner.Survey.{IsLine, facts_in}
 use Rattle.hcl_layout.specs.declared.lines.LaidLine.{LaidLine}
 use Rattle.hcl_layout.specs.declared.lines.Lines.{Lines}
-use Rattle.hcl_layout.proofs.PassLemmas.{comment_at, commented_gaps, commented_laid, to_own, with_comment_at}
+use Rattle.hcl_layout.proofs.PassLemmas.{comment_at, commented_gaps, commented_laid, to_own}
 use Rattle.hcl_layout.proofs.WalkLemmas.{comment_follows, comment_in, read_within}
 use Rattle.hcl_layout.proofs.lines.Lines.pass_line.Goals as goal
 
@@ -50,8 +50,8 @@ returns-then-not-line-clause-gaps c =
     let here : n < b.end = omega (arith, e.spans.1, comment_in ts s.depth r p n c.in-Some.is) in
     subst (λ (x : LaidLine). gaps_in (shape x) (text_of ts x) ≡ align trailing_comment (signed_gaps s c.end_comments-then-not-line.new.self (text_of ts x)) (text_of ts x) (column_of c.end_comments-then-not-line.new.self.comments)) (sym c.with_comment.ensures)
     (commented_gaps ts b n w (w - w + 1) None e.signed here (comment_at ts s.depth r b n p e.spans.0 e.spans.1 c.in-Some.is) (to_own w)
-      ∙ ap (λ (gs : List ℕ). align trailing_comment gs text None) e.gaps
-      ∙ ap (λ (x : Lines). align trailing_comment (signed_gaps s x text) text (column_of x.comments)) (sym c.end_comments-then-not-line.ensures))
+    ∙ ap (λ (gs : List ℕ). align trailing_comment gs text None) e.gaps
+    ∙ ap (λ (x : Lines). align trailing_comment (signed_gaps s x text) text (column_of x.comments)) (sym c.end_comments-then-not-line.ensures))
 
 pub comment_column-column-requires-clause-within : goal.comment_column-column-requires-clause-within
 comment_column-column-requires-clause-within c =
@@ -61,8 +61,8 @@ comment_column-column-requires-clause-within c =
     let p = subst (λ k. IsLine ts k d (facts_in r)) (sym c.requires.first) c.requires.line in
     omega (arith, read_within ts d r p, comment_in ts d r p c.in-Some.number c.in-Some.is)
 
-pub comment_column-column-requires-clause-behind : goal.comment_column-column-requires-clause-behind
-comment_column-column-requires-clause-behind c =
+pub comment_column-column-requires-clause-after : goal.comment_column-column-requires-clause-after
+comment_column-column-requires-clause-after c =
     let ts = c.args.tokens.now.tokens in
     let r = c.args.line in
     let d = c.args.self.now.depth in
@@ -94,5 +94,5 @@ returns-clause-gaps c =
     let here : n < b.end = omega (arith, e.spans.1, comment_in ts s.depth r p n c.in-Some.is) in
     subst (λ (x : LaidLine). gaps_in (shape x) (text_of ts x) ≡ align trailing_comment (signed_gaps s c.pass_sign-laid.new.self (text_of ts x)) (text_of ts x) (Some c.widened.result.column)) (sym c.with_comment-2.ensures)
     (commented_gaps ts b n w (column - w + 1) (Some column) e.signed here (comment_at ts s.depth r b n p e.spans.0 e.spans.1 c.in-Some.is) (ap (λ k. column - k + 1) c.comment_width-width.ensures.value)
-      ∙ ap (λ (gs : List ℕ). align trailing_comment gs text (Some column)) e.gaps
-      ∙ ap (λ (k : ℕ). align trailing_comment (signed_gaps s c.pass_sign-laid.new.self text) text (Some k)) (sym c.widened.ensures.column))
+    ∙ ap (λ (gs : List ℕ). align trailing_comment gs text (Some column)) e.gaps
+    ∙ ap (λ (k : ℕ). align trailing_comment (signed_gaps s c.pass_sign-laid.new.self text) text (Some k)) (sym c.widened.ensures.column))

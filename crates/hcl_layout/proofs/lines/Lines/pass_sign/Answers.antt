@@ -1,15 +1,15 @@
-use Rattle.std.proofs.Common.{◌≡◌, ◌∙◌, ◌+◌, ◌-◌, ◌≤◌, ◌^◌, ℕ, Option, Some, ap, arith, refl, subst, sym}
+use Rattle.std.proofs.Common.{◌≡◌, ◌∙◌, ◌+◌, ◌-◌, ◌≤◌, ℕ, Some, ap, arith, refl, subst, sym}
 use Rattle.hcl_tokens.specs.Balanced.{max_open}
 use Rattle.hcl_layout.specs.Cells.{assign_cell}
 use Rattle.hcl_layout.specs.Gaps.{align, plain_gaps, width}
 use Rattle.hcl_layout.specs.Inner.Depths.{level_at}
-use Rattle.hcl_layout.specs.Inner.Laid.{Laid, bare_line, column_of, shape, signed_gaps, text_of}
+use Rattle.hcl_layout.specs.Inner.Laid.{Laid, column_of, shape, signed_gaps, text_of}
 use Rattle.hcl_layout.specs.Inner.LineGaps.{IsSigned, gaps_in}
 use Rattle.hcl_layout.specs.Inner.Stream.{plain}
 use Rattle.hcl_layout.specs.Inner.Survey.{IsLine, facts_in}
 use Rattle.hcl_layout.specs.declared.lines.LaidLine.{LaidLine}
 use Rattle.hcl_layout.proofs.PassLemmas.{bare_gaps, set_gaps, set_laid, set_signed, text_in, with_sign_at}
-use Rattle.hcl_layout.proofs.WalkLemmas.{bare_shape, read_within, sign_behind, sign_within}
+use Rattle.hcl_layout.proofs.WalkLemmas.{read_within, sign_after, sign_within}
 use Rattle.hcl_layout.proofs.lines.Lines.pass_sign.Goals as goal
 
 pub returns-in_default-clause-gaps : goal.returns-in_default-clause-gaps
@@ -30,7 +30,7 @@ sign_width-width-requires-clause-order c =
     let r = c.args.line in
     let d = c.args.self.now.depth in
     let p = subst (λ k. IsLine ts k d (facts_in r)) (sym c.requires.first) c.requires.line in
-    omega (arith, ap (λ (x : LaidLine). x.first) c.pass-laid.ensures.laid, sign_behind ts d r p c.in-Some.number c.in-Some.is)
+    omega (arith, ap (λ (x : LaidLine). x.first) c.pass-laid.ensures.laid, sign_after ts d r p c.in-Some.number c.in-Some.is)
 
 pub sign_width-width-requires-clause-within : goal.sign_width-width-requires-clause-within
 sign_width-width-requires-clause-within c =
@@ -48,13 +48,13 @@ sign_column-column-requires-clause-within c =
     let p = subst (λ k. IsLine ts k d (facts_in r)) (sym c.requires.first) c.requires.line in
     omega (arith, read_within ts d r p, sign_within ts d r p c.in-Some.number c.in-Some.is)
 
-pub sign_column-column-requires-clause-behind : goal.sign_column-column-requires-clause-behind
-sign_column-column-requires-clause-behind c =
+pub sign_column-column-requires-clause-after : goal.sign_column-column-requires-clause-after
+sign_column-column-requires-clause-after c =
     let ts = c.args.tokens.now.tokens in
     let r = c.args.line in
     let d = c.args.self.now.depth in
     let p = subst (λ k. IsLine ts k d (facts_in r)) (sym c.requires.first) c.requires.line in
-    omega (arith, sign_behind ts d r p c.in-Some.number c.in-Some.is)
+    omega (arith, sign_after ts d r p c.in-Some.number c.in-Some.is)
 
 pub returns-clause-laid : goal.returns-clause-laid
 returns-clause-laid c =
@@ -104,4 +104,4 @@ returns-clause-gaps c =
     let own = c.sign_width-width.ensures.value ∙ ap (λ (b : LaidLine). width (n - b.first) (plain_gaps b.level (text_of ts b)) (text_of ts b)) laid in
     subst (λ (x : LaidLine). gaps_in (shape x) (text_of ts x) ≡ align assign_cell (plain s.depth s.levels (text_of ts x)) (text_of ts x) (Some c.widened.result.column)) (sym (c.with_sign.ensures ∙ ap (λ (b : LaidLine). with_sign_at b n w gap) laid))
     (set_gaps ts s.depth r p s.levels level low refl n w gap c.in-Some.is own column refl
-      ∙ ap (λ (k : ℕ). align assign_cell (plain s.depth s.levels (text_in ts r)) (text_in ts r) (Some k)) (sym c.widened.ensures.column))
+    ∙ ap (λ (k : ℕ). align assign_cell (plain s.depth s.levels (text_in ts r)) (text_in ts r) (Some k)) (sym c.widened.ensures.column))

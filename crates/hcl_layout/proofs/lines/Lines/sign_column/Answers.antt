@@ -1,2 +1,0 @@
-use Rattle.hcl_layout.proofs.WalkLemmas.{bare_shape}
-use Rattle.hcl_layout.proofs.lines.Lines.sign_column.Goals as goal

@@ -1,0 +1,146 @@
+//! Whether a print fits into so many bytes.
+//!
+//! Most prints are shown to fit by a bound that asks for no spacing and no column. Each token takes its text and a blank, and
+//! a line two blanks more for each opener that is open before it. The gap before a cell is, without its one blank, no wider
+//! than what stands before a cell in some line of its group, which is the lines next to one another that have a cell; before
+//! a comment it is twice that, since a sign before it may have been moved too:
+//!
+//! ```text
+//! line             each token and a blank     indent   before its last cell    cells, a comment for two
+//! locals {             7 + 2 + 2                 0
+//! a=1# one             2 + 2 + 2 + 6 + 2         2            2 + 6                      3
+//! long="x"# two        5 + 2 + 2 + 2 + 2 + 6     2            2 + 13                     3
+//! }                    2 + 2                     2
+//! ```
+//!
+//! Here two lines are a group. It takes at most 6 * 15 blanks more.
+ghost use Rattle.std.specs.Prelude.{◌≡◌, ◌↔◌, ◌<◌, ◌≤◌, ◌+◌, ◌*◌, ◌^◌, ℕ, IsTrue, Some, length};
+ghost use Rattle.hcl_tokens.specs.Balanced.{max_open};
+ghost use Rattle.hcl_layout.specs.Inner.Depths.{BalancedFrom};
+ghost use Rattle.hcl_layout.specs.Inner.Rooms.{IsSmall, cells_of, room_in, taken as taken_of, with_line_at};
+ghost use Rattle.hcl_layout.specs.Inner.Survey.{IsLine, facts_in};
+ghost use Rattle.hcl_layout.specs.Print.{print};
+
+use crate::line::{Line, line_at};
+use crate::measured::Measured;
+use crate::print::printed_len;
+use hcl_grammar::Accepted;
+
+/// What the gaps of the lines that were passed take, but for a blank before each token, and the group at hand: so many cells,
+/// of which a comment counts for two, and the greatest width before one.
+#[derive(Clone, Copy)]
+pub struct Extent {
+    pub passed: u64,
+    pub cells: u64,
+    pub width: u64,
+}
+
+/// No less than what the texts before a cell take, each with a blank: no byte is of two of them.
+#[inline(always)]
+fn room_before(tokens: &Measured<'_, '_>, line: Line, cell: Option<usize>) -> u64
+    requires line { line.end ≤ length tokens.now.tokens }
+    requires some { line.first < line.end }
+    requires there { (n : ℕ) → cell ≡ Some n → n < line.end }
+    requires order { (n : ℕ) → cell ≡ Some n → line.first ≤ n }
+    ensures value { result ≡ room_in tokens.now.tokens line cell }
+    ensures small { result ≤ 2 ^ 23 }
+{
+    let Some(number) = cell else {
+        return 0;
+    };
+    let start = tokens.get(line.first).start;
+    let room = tokens.get(number).start + (number - line.first);
+    room.saturating_sub(start) as u64
+}
+
+/// The cells of a line, of which a comment counts for two.
+#[inline(always)]
+fn cells_in(line: Line) -> u64
+    ensures { result ≡ cells_of (facts_in line).assign (facts_in line).running }
+{
+    let signs = u64::from(line.sign.is_some());
+    if line.running().is_some() {
+        return signs + 2;
+    }
+    signs
+}
+
+impl Extent {
+    /// What the cells of the group at hand take.
+    #[inline(always)]
+    fn taken(self) -> u64
+        requires { IsSmall (2 ^ 22) self }
+        ensures { result ≡ taken_of self }
+    {
+        self.cells * self.width
+    }
+
+    /// With a line that begins at a depth.
+    #[inline(always)]
+    fn with_line(self, tokens: &Measured<'_, '_>, depth: u32, line: Line) -> Extent
+        requires line { IsLine tokens.now.tokens line.first depth (facts_in line) }
+        requires depth { depth ≤ max_open }
+        requires few { IsSmall line.first self }
+        ensures value { result ≡ with_line_at tokens.now.tokens depth line self }
+        ensures few { IsSmall line.end result }
+    {
+        let indent = 2 * u64::from(depth);
+        let cells = cells_in(line);
+        if cells == 0 {
+            return Extent {
+                passed: self.passed + indent + self.taken(),
+                cells: 0,
+                width: 0,
+            };
+        }
+        let sign = room_before(tokens, line, line.sign);
+        let comment = room_before(tokens, line, line.running());
+        Extent {
+            passed: self.passed + indent,
+            cells: self.cells + cells,
+            width: self.width.max(indent + sign.max(comment)),
+        }
+    }
+}
+
+/// No less than the length of the print, in bytes.
+#[inline(never)]
+fn bound(tokens: &Measured<'_, '_>) -> u64
+    requires balanced { BalancedFrom 0 tokens.now.tokens }
+    ensures { length (print tokens.now.tokens) ≤ result }
+{
+    let count = tokens.len();
+    let mut extent = Extent {
+        passed: 0,
+        cells: 0,
+        width: 0,
+    };
+    let mut depth = 0;
+    let mut at = 0;
+    while at < count {
+        let line = line_at(tokens, at, depth);
+        extent = extent.with_line(tokens, depth, line);
+        depth = line.depth;
+        at = line.end;
+    }
+    tokens.len_bound() + extent.passed + extent.taken()
+}
+
+/// Whether the bound tells that the print has no more bytes than that.
+fn is_bound_to_fit(tokens: &Measured<'_, '_>, most: u64) -> bool
+    requires balanced { BalancedFrom 0 tokens.now.tokens }
+    ensures { IsTrue result → length (print tokens.now.tokens) ≤ most }
+{
+    tokens.len_bound() <= most && bound(tokens) <= most
+}
+
+/// Whether the print has no more bytes than that.
+pub fn fits(accepted: &Accepted<'_, '_>, most: u64) -> bool
+    ensures { IsTrue result ↔ (length (print accepted.now.tokens) ≤ most) }
+{
+    let unmeasured = Measured::unmeasured(accepted);
+    if is_bound_to_fit(&unmeasured, most) {
+        return true;
+    }
+    printed_len(accepted) <= most
+}
