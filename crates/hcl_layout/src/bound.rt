@@ -1,9 +1,9 @@
 //! Whether a print fits into so many bytes.
 //!
-//! Most prints are shown to fit by a bound that asks for no spacing and no column. Each token takes its text and a blank, and
-//! a line two blanks more for each opener that is open before it. The gap before a cell is, without its one blank, no wider
-//! than what stands before a cell in some line of its group, which is the lines next to one another that have a cell; before
-//! a comment it is twice that, since a sign before it may have been moved too:
+//! Most prints are shown to fit by a bound that asks for no spacing and no column. Each token takes its text and a
+//! blank, and a line two blanks more for each opener that is open before it. The gap before a cell is, without its one
+//! blank, no wider than what stands before a cell in some line of its group, which is the lines next to one another
+//! that have a cell; before a comment it is twice that, since a sign before it may have been moved too:
 //!
 //! ```text
 //! line             each token and a blank     indent   before its last cell    cells, a comment for two
@@ -26,8 +26,8 @@ use crate::measured::Measured;
 use crate::print::printed_len;
 use hcl_grammar::Accepted;
 
-/// What the gaps of the lines that were passed take, but for a blank before each token, and the group at hand: so many cells,
-/// of which a comment counts for two, and the greatest width before one.
+/// What the gaps of the lines that were passed take, but for a blank before each token, and the group at hand: so many
+/// cells, of which a comment counts for two, and the greatest width before one.
 #[derive(Clone, Copy)]
 pub struct Extent {
     pub passed: u64,

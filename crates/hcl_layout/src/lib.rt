@@ -1,11 +1,12 @@
 //! The layout of accepted tokens: how many blanks stand before each, and so what is printed.
 //!
-//! It is written once, as a walk over the lines ([`lines`]): each line comes with its level and with its cells in the columns
-//! of their runs, and gives its pieces, each a token with the gap before it. Three loops over lines and pieces compare them with
-//! the source ([`is_formatted`]), count them ([`printed_len`]) and write them ([`emit`]). Nothing is stored of a line that was
-//! passed but the depth, the levels by depth and the two runs in which it stands. The column of a run is found at its first
-//! line: the lines ahead are measured, or, for a comparison, it is where the cell stands in the source, and the run tells at its
-//! end whether that was right. [`fits`] counts only what a bound doesn't tell to fit.
+//! It is written once, as a walk over the lines ([`lines`]): each line comes with its level and with its cells in the
+//! columns of their runs, and gives its pieces, each a token with the gap before it. Three loops over lines and
+//! pieces compare them with the source ([`is_formatted`]), count them ([`printed_len`]) and write them ([`emit`]).
+//! Nothing is stored of a line that was passed but the depth, the levels by depth and the two runs in which it
+//! stands. The column of a run is found at its first line: the lines ahead are measured, or, for a comparison, it is
+//! where the cell stands in the source, and the run tells at its end whether that was right. [`fits`] counts only
+//! what a bound doesn't tell to fit.
 //!
 //! ```text
 //! line             level   before =   before #   gaps before its pieces   printed
@@ -15,9 +16,10 @@
 //! }                  0                           0 0                      }
 //! ```
 //!
-//! The two lines that have an assign cell are a run, and so are the two that have a comment at their end. The column of a
-//! run is its greatest width, 6 and 12 here, and the gap before a cell goes from the width before it to one blank after
-//! the column: 6 - 3 + 1 and 12 - 10 + 1 in the second line. The other gaps are those of the indent and of the spacing.
+//! The two lines that have an assign cell are a run, and so are the two that have a comment at their end. The column
+//! of a run is its greatest width, 6 and 12 here, and the gap before a cell goes from the width before it to one
+//! blank after the column: 6 - 3 + 1 and 12 - 10 + 1 in the second line. The other gaps are those of the indent and
+//! of the spacing.
 #![tactic(auto)]
 
 mod bound;

@@ -39,8 +39,8 @@ impl Line {
     }
 }
 
-/// By kind, the depth after a token of it that stands at depth 1, as a digit: `2` opens, `0` closes, and `1` does neither.
-/// A point stands for the kinds of which more is asked.
+/// By kind, the depth after a token of it that stands at depth 1, as a digit: `2` opens, `0` closes, and `1` does
+/// neither. A point stands for the kinds of which more is asked.
 static STEPS: [u8; 256] = *b"\
     ...111112220000111111.1111111111\
     1111112211......................\

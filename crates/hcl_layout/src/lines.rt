@@ -16,8 +16,8 @@ use crate::measured::Measured;
 use hcl_spacing::{space_between, space_by_kinds};
 use hcl_tokens::{Kind, Token};
 
-/// A cell: the number of its token, the width before it, and the gap that sets it into its column. Where a line has none, that is
-/// a cell after its end.
+/// A cell: the number of its token, the width before it, and the gap that sets it into its column. Where a line has
+/// none, that is a cell after its end.
 #[derive(Clone, Copy)]
 pub struct Cell {
     pub number: usize,
@@ -42,8 +42,8 @@ pub struct Piece<'s> {
     pub token: Token<'s>,
 }
 
-/// How the column of a run is come by at its first line: the lines ahead are measured, or it is where the cell stands in the
-/// source.
+/// How the column of a run is come by at its first line: the lines ahead are measured, or it is where the cell stands
+/// in the source.
 #[derive(Clone, Copy)]
 pub enum Columns {
     Ahead,

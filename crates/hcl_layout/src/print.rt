@@ -148,8 +148,8 @@ fn agrees(tokens: &Measured<'_, '_>) -> bool
     at == bytes.len()
 }
 
-/// Whether each piece stands where the source has it, with the columns of the runs taken from the source, and these are the
-/// columns of the runs. Nothing is read ahead. It is called, so that the scan keeps its registers.
+/// Whether each piece stands where the source has it, with the columns of the runs taken from the source, and these
+/// are the columns of the runs. Nothing is read ahead. It is called, so that the scan keeps its registers.
 #[inline(never)]
 fn stands_in_place(tokens: &Measured<'_, '_>) -> bool
     requires balanced { IsBalanced tokens.now.tokens }
