@@ -6,14 +6,14 @@ ghost use Rattle.hcl_layout.specs.Gaps.{indent as indent_of};
 ghost use Rattle.hcl_layout.specs.Inner.Depths.{Sound};
 ghost use Rattle.hcl_layout.specs.Inner.Laid.{FindsComment, FindsSign, GoesBack, HasGaps, HasSignGaps, IsAt, IsCommentColumn, IsDone, IsLaid, IsSignColumn, KeepsRuns, Laid, LeavesGaps, Moves, MovesSign, Reads, RunsGrow, SignsGrow, Spans, TellsWrong, bare_after, cell_in, comment_width_on, comments_ended, ends_all_wrong, ends_wrong, gap_on, greatest_of, left_after, no_lines, none_at, plain_gap_on, shape, sign_width_on, signs_ended, text_of, widest_comment, widest_sign, width_on, with_comment_in, with_sign_in};
 ghost use Rattle.hcl_layout.specs.Inner.Left.{IsGapAt, IsGapBefore, token_before};
-ghost use Rattle.hcl_layout.specs.Inner.LineGaps.{IsSigned, IsUntoldAt, plain_of};
+ghost use Rattle.hcl_layout.specs.Inner.LineGaps.{IsSigned, plain_of};
 ghost use Rattle.hcl_layout.specs.Inner.Simple.{IsFrom};
 ghost use Rattle.hcl_layout.specs.declared.lines.Columns.TheVariants.{Ahead};
 
 use crate::levels::{DEPTHS, next_level};
 use crate::line::{Line, line_at};
 use crate::measured::Measured;
-use hcl_spacing::{space_by_kinds, space_by_texts};
+use hcl_spacing::{space_between, space_by_kinds};
 use hcl_tokens::{Kind, Token};
 
 /// A cell: the number of its token, the width before it, and the gap that sets it into its column. Where a line has
@@ -144,13 +144,12 @@ fn token_before<'s>(tokens: &Measured<'_, 's>, first: usize, number: usize) -> O
 fn asked_gap(tokens: &Measured<'_, '_>, first: usize, number: usize) -> u64
     requires within { number < length tokens.now.tokens }
     requires after { first < number }
-    requires untold { IsUntoldAt tokens.now.tokens number }
     ensures { IsGapAt tokens.now.tokens first number result }
 {
     let token = tokens.get(number);
     let subject = tokens.get(number - 1);
     let before = token_before(tokens, first, number - 1);
-    u64::from(space_by_texts(before, subject, token))
+    u64::from(space_between(before, subject, token))
 }
 
 #[inline(always)]

@@ -1,5 +1,5 @@
 -- The table of spacing by pairs of kinds is the table of spacing: tried for all pairs, with all answers of the texts.
-use Rattle.std.proofs.Common.{◌≡◌, ◌∙◌, ◌&&◌, ◌||◌, not, Bool, true, false, Option, Some, None, ap, refl, sym}
+use Rattle.std.proofs.Common.{◌≡◌, ◌∙◌, ◌&&◌, ◌||◌, not, Bool, true, false, ℕ, List, [], Option, Some, None, ap, refl, sym}
 use Rattle.std.specs.Prelude.{codes, if◌then◌else◌, is_some}
 use Rattle.std.specs.List.{list_all}
 use Rattle.std.specs.Str.{bytes_eq}
@@ -7,8 +7,9 @@ use Rattle.hcl_tokens.specs.Lexemes.{Lexeme}
 use Rattle.hcl_tokens.specs.declared.token.Kind.{Kind}
 use Rattle.hcl_tokens.specs.Kinds.{is}
 use Rattle.hcl_tokens.specs.declared.token.Kind.TheVariants as kind
-use Rattle.hcl_spacing.specs.Spacing.{asks_more, begins_with_colon, begins_with_equals, closes_group, ends_operand, is_opening, opens_sequence, has_blank, stands_before}
+use Rattle.hcl_spacing.specs.Spacing.{AreUntold, begins_with_colon, begins_with_equals, closes_group, ends_operand, is_opening, opens_sequence, has_blank, stands_before}
 use Rattle.hcl_spacing.specs.Inner.KindPairs.{asked, asked_space, pair_space}
+use Rattle.hcl_tokens.proofs.BooleanLemmas.{not_true}
 use Rattle.hcl_spacing.proofs.KindLemmas.{each, kinds}
 
 -- The table outside heredocs, by the kinds and by what it asks of the texts and of the token before: whether the
@@ -140,40 +141,40 @@ given space subject after e f before = sym (ap (λ o. answered o (asked_space be
 pub asked_is : (before : Option Lexeme) (subject after : Lexeme) → after.inside_heredoc ≡ false → pair_space subject.kind after.kind ≡ None → asked_space before subject after ≡ has_blank before subject after
 asked_is before subject after e f = sym (ap (λ o. answered o (asked_space before subject after)) f) ∙ by_kinds before subject after e
 
--- where the kinds don't tell, the table asks for more
-abbrev tells : Kind → Kind → Bool
-tells l r = is_some (pair_space l r) || asks_more l r
+-- where the kinds don't tell, one blank stands between some tokens of these kinds, and none between others
+abbrev token_of : Kind → List ℕ → Lexeme
+token_of k text = record { kind = k; text = text; start = 0; inside_heredoc = false }
 
-all_tell : list_all (λ l. list_all (λ r. tells l r) kinds) kinds ≡ true
-all_tell = refl
+abbrev before_parted : Kind → Option Lexeme
+before_parted kind.Number = None
+before_parted _ = Some (token_of kind.Ident [])
 
-pub untold : (l r : Kind) → pair_space l r ≡ None → asks_more l r ≡ true
-untold l r e = second (is_some (pair_space l r)) (asks_more l r) (ap is_some e) (each (λ r. tells l r) (each (λ l. list_all (λ r. tells l r) kinds) all_tell l) r)
+abbrev text_parted : Kind → List ℕ
+text_parted kind.Not = codes "="
+text_parted kind.Colon = codes ":"
+text_parted _ = codes "~}"
 
--- and where it asks for more, the kinds don't tell, but at the end of a line
-abbrev asks : Kind → Kind → Bool
-asks l r = not (is_some (pair_space l r)) || (not (asks_more l r) || is kind.Newline r)
+abbrev before_together : Kind → Option Lexeme
+before_together kind.Number = Some (token_of kind.Dot [])
+before_together _ = None
 
-all_ask : list_all (λ l. list_all (λ r. asks l r) kinds) kinds ≡ true
-all_ask = refl
+abbrev parts : Kind → Kind → Bool
+parts l r = is_some (pair_space l r) || has_blank (before_parted l) (token_of l (codes "in")) (token_of r (text_parted l))
 
-pub untold_pair : (l r : Kind) → asks_more l r ≡ true → is kind.Newline r ≡ false → pair_space l r ≡ None
-untold_pair l r e f = go (pair_space l r) (each (λ r. asks l r) (each (λ l. list_all (λ r. asks l r) kinds) all_ask l) r)
-  where
-    go : (o : Option Bool) → (not (is_some o) || (not (asks_more l r) || is kind.Newline r)) ≡ true → o ≡ None
-    go None h = refl
-    go (Some space) h = let g : (not true || false) ≡ true = rw (e, f) at h in cc
+abbrev joins : Kind → Kind → Bool
+joins l r = is_some (pair_space l r) || not (has_blank (before_together l) (token_of l []) (token_of r []))
 
-abbrev line_tells : Kind → Kind → Bool
-line_tells l r = is_some (pair_space l r) || not (is kind.Newline r)
+all_part : list_all (λ l. list_all (λ r. parts l r) kinds) kinds ≡ true
+all_part = refl
 
-all_lines : list_all (λ l. list_all (λ r. line_tells l r) kinds) kinds ≡ true
-all_lines = refl
+all_join : list_all (λ l. list_all (λ r. joins l r) kinds) kinds ≡ true
+all_join = refl
 
-pub same_line : (l r : Kind) → pair_space l r ≡ None → is kind.Newline r ≡ false
-same_line l r e = third (is_some (pair_space l r)) (is kind.Newline r) (ap is_some e) (each (λ r. line_tells l r) (each (λ l. list_all (λ r. line_tells l r) kinds) all_lines l) r)
-  where
-    third : (v w : Bool) → v ≡ false → (v || not w) ≡ true → w ≡ false
-    third true w e h = cc
-    third false true e h = cc
-    third false false e h = refl
+pub untold : (l r : Kind) → pair_space l r ≡ None → AreUntold l r
+untold l r e =
+    let apart = second (is_some (pair_space l r)) (has_blank (before_parted l) (token_of l (codes "in")) (token_of r (text_parted l))) (ap is_some e) (each (λ r. parts l r) (each (λ l. list_all (λ r. parts l r) kinds) all_part l) r) in
+    let close = second (is_some (pair_space l r)) (not (has_blank (before_together l) (token_of l []) (token_of r []))) (ap is_some e) (each (λ r. joins l r) (each (λ l. list_all (λ r. joins l r) kinds) all_join l) r) in
+    record {
+      parted = record { before = before_parted l; first = token_of l (codes "in"); next = token_of r (text_parted l); first_is = refl; next_is = refl; outside = refl; gives = apart };
+      together = record { before = before_together l; first = token_of l []; next = token_of r []; first_is = refl; next_is = refl; outside = refl; gives = not_true (has_blank (before_together l) (token_of l []) (token_of r [])) close };
+    }

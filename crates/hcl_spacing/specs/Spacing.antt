@@ -1,6 +1,6 @@
 -- Whether one blank or none stands between two neighbours on a line: a table whose first row that fits decides.
 -- Our own choice, in the style of `terraform fmt`.
-use Rattle.std.specs.Prelude.{◌&&◌, ◌||◌, ◌==◌, ℕ, Bool, true, false, not, List, [], ◌∷◌, Option, Some, None, if◌then◌else◌, codes}
+use Rattle.std.specs.Prelude.{◌≡◌, ◌&&◌, ◌||◌, ◌==◌, ℕ, Bool, true, false, not, List, [], ◌∷◌, Option, Some, None, if◌then◌else◌, codes}
 use Rattle.std.specs.Str.{bytes_eq}
 use Rattle.hcl_tokens.specs.Lexemes.{Lexeme}
 use Rattle.hcl_tokens.specs.declared.token.Kind.{Kind}
@@ -98,10 +98,17 @@ has_blank before subject after =
     -- "All else" has one blank, but for what a closer holds
     else not (closes_group after.kind)
 
--- the kinds of two neighbours don't tell the answer: the table asks for their texts, or for what stands before
-abbrev pub asks_more : Kind → Kind → Bool
-asks_more subject after =
-    is kind.Not subject || is kind.Minus subject || is kind.Colon subject
-    || (is kind.Number subject && is kind.Dot after)
-    || (is kind.Ident subject && (is kind.BracketOpen after || closes_group after))
-    || (opens_sequence subject && is kind.SeqClose after)
+-- two tokens of these kinds, outside heredocs, between which one blank stands, or none
+pub record Stand (blank : Bool) (subject after : Kind) : Type 0 where
+  pub before : Option Lexeme
+  pub first : Lexeme
+  pub next : Lexeme
+  pub first_is : first.kind ≡ subject
+  pub next_is : next.kind ≡ after
+  pub outside : next.inside_heredoc ≡ false
+  pub gives : has_blank before first next ≡ blank
+
+-- the kinds of two neighbours don't tell the answer: between some such tokens stands one blank, and none between others
+pub record AreUntold (subject after : Kind) : Type 0 where
+  pub parted : Stand true subject after
+  pub together : Stand false subject after

@@ -2,16 +2,9 @@
 
 ghost use Rattle.std.specs.Prelude.{◌≡◌};
 ghost use Rattle.hcl_tokens.specs.Balanced.{is_opener};
-ghost use Rattle.hcl_spacing.specs.Spacing.{closes_group, is_operator, awaits_operand};
+ghost use Rattle.hcl_spacing.specs.Spacing.{is_operator, awaits_operand};
 
 use hcl_tokens::{Kind, Nesting};
-
-/// What closes a paren, a bracket or a sequence.
-pub fn closes_group(kind: Kind) -> bool
-    ensures { result ≡ closes_group kind }
-{
-    matches!(kind, Kind::ParenClose | Kind::BracketClose | Kind::SeqClose)
-}
 
 /// The binary operators and `!`.
 pub fn is_operator(kind: Kind) -> bool

@@ -1,8 +1,7 @@
 //! The blanks between two neighbours on a line: one or none, by a table.
 //!
 //! [`space_between`] asks the two tokens and the one before them; [`space_by_kinds`] answers where the two kinds tell, as
-//! they nearly always do, [`space_by_three_kinds`] where that of the token before tells the rest, and [`space_by_texts`] where
-//! none of these does. The module [`laws`] says what the table owes to a scan of what is printed.
+//! they nearly always do. The module [`laws`] says what the table owes to a scan of what is printed.
 #![tactic(auto)]
 
 mod kind;
@@ -10,4 +9,4 @@ pub mod laws;
 mod rows;
 mod spacing;
 
-pub use spacing::{space_between, space_by_kinds, space_by_texts, space_by_three_kinds};
+pub use spacing::{space_between, space_by_kinds};

@@ -5,7 +5,7 @@
 //! each kind, and a pair is looked up without a branch.
 ghost use Rattle.std.specs.Prelude.{◌≡◌, Option};
 ghost use Rattle.hcl_tokens.specs.declared.token.Kind.{Kind};
-ghost use Rattle.hcl_spacing.specs.Inner.KindPairs.{has, pair_space, stands_close, told};
+ghost use Rattle.hcl_spacing.specs.Inner.KindPairs.{has, pair_space, told};
 
 use hcl_tokens::Kind;
 
@@ -61,14 +61,6 @@ fn has(kinds: u64, kind: Kind) -> bool
     (kinds >> kind as u64) & 1 == 1
 }
 
-/// Whether the token stands close after whatever it doesn't join.
-#[inline(always)]
-pub fn stands_close(kind: Kind) -> bool
-    ensures { result ≡ stands_close kind }
-{
-    has(CLOSE, kind)
-}
-
 /// A row where the kinds tell all.
 #[inline(always)]
 fn telling(blank: u64) -> Row
@@ -83,11 +75,19 @@ fn row_of(left: Kind) -> Row
     ensures { (right : Kind) → told result right ≡ pair_space left right }
 {
     match left {
-        // "Not", "Minus": a sign stands at its operand. What comes before tells a sign, and a `!` may not join a `=`, nor
-        // a `:` another
-        Kind::Not | Kind::Minus | Kind::Colon => Row {
+        // "Not", "Minus": a sign stands at its operand. What comes before tells a sign, and a `!` may not join a `=`
+        Kind::Not => Row {
             blank: NONE,
             asked: !LINE_END,
+        },
+        Kind::Minus => Row {
+            blank: NONE,
+            asked: !CLOSE,
+        },
+        // "All else", but a `:` may not join another
+        Kind::Colon => Row {
+            blank: !(CLOSE | CLOSERS),
+            asked: (CLOSE | CLOSERS) & !LINE_END,
         },
         // "Quotes": what is added there would be text; "Two colons": a name is one thing to its reader
         Kind::QuoteOpen | Kind::Lit | Kind::ColonColon => telling(NONE),

@@ -1,10 +1,7 @@
 -- The gaps of a line from its level and two cells, token by token.
-use Rattle.std.specs.Prelude.{true, false, ◌≡◌, ◌<◌, ◌≤◌, ◌+◌, ◌-◌, ◌^◌, ◌==◌, ℕ, List, [], ◌∷◌, Option, Some, None, IfSome, length, slice_get, slice_set, if◌then◌else◌}
+use Rattle.std.specs.Prelude.{◌≡◌, ◌<◌, ◌≤◌, ◌+◌, ◌-◌, ◌^◌, ◌==◌, ℕ, List, [], ◌∷◌, Option, Some, None, IfSome, length, slice_set, if◌then◌else◌}
 use Rattle.hcl_tokens.specs.Lexemes.{Lexeme}
-use Rattle.hcl_tokens.specs.declared.token.Kind.TheVariants as kind
-use Rattle.hcl_tokens.specs.Kinds.{is}
 use Rattle.hcl_tokens.specs.Balanced.{max_open}
-use Rattle.hcl_spacing.specs.Spacing.{asks_more}
 use Rattle.hcl_layout.specs.Lines.{Line}
 use Rattle.hcl_layout.specs.Cells.{trailing_comment}
 use Rattle.hcl_layout.specs.Gaps.{blanks, indent, width}
@@ -30,14 +27,6 @@ cell_gap (Some c) k gap = if c.place == k then c.gap else gap
 abbrev pub plain_gap : ℕ → Option Lexeme → Option Lexeme → Lexeme → ℕ
 plain_gap level before None t = indent level t
 plain_gap level before (Some subject) t = blanks before subject t
-
--- the kinds of two neighbours don't tell whether a blank stands between them
-abbrev pub IsUntold : Lexeme → Lexeme → Type 0
-IsUntold subject t = (asks_more subject.kind t.kind ≡ true) × (t.inside_heredoc ≡ false) × (is kind.Newline t.kind ≡ false)
-
--- nor do those of a token and of the one before it
-abbrev pub IsUntoldAt : List Lexeme → ℕ → Type 0
-IsUntoldAt ts number = (subject t : Lexeme) → slice_get ts (number - 1) ≡ Some subject → slice_get ts number ≡ Some t → IsUntold subject t
 
 abbrev pub gap_of : LineGaps → ℕ → Option Lexeme → Option Lexeme → Lexeme → ℕ
 gap_of g k before subject t = cell_gap g.comment k (cell_gap g.assign k (plain_gap g.level before subject t))

@@ -2,14 +2,13 @@
 -- table is proved by trying all pairs of kinds (proofs/KindPairLemmas).
 use Rattle.std.specs.Prelude.{◌&&◌, ◌||◌, ◌==◌, ℕ, Bool, true, false, not, Option, Some, None, if◌then◌else◌, codes}
 use Rattle.std.specs.Str.{bytes_eq}
-use Rattle.hcl_tokens.specs.Balanced.{is_opener}
 use Rattle.hcl_tokens.specs.Lexemes.{Lexeme}
 use Rattle.hcl_tokens.specs.declared.token.Kind.{Kind}
 use Rattle.hcl_tokens.specs.declared.token.Kind.TheVariants as kind
 use Rattle.hcl_tokens.specs.Kinds.{is}
 use Rattle.hcl_spacing.specs.declared.rows.Row.{Row}
 use Rattle.std.specs.Int.{bit_at}
-use Rattle.hcl_spacing.specs.Spacing.{awaits_operand, begins_with_colon, begins_with_equals, closes_group, is_opening, is_operator, opens_sequence, stands_before}
+use Rattle.hcl_spacing.specs.Spacing.{begins_with_colon, begins_with_equals, closes_group, is_opening, opens_sequence, stands_before}
 
 -- what stands close after whatever it doesn't join
 abbrev pub stands_close : Kind → Bool
@@ -23,24 +22,28 @@ stands_close kind.QuoteClose = true
 stands_close _ = false
 
 -- after what an index may follow
-abbrev pub space_behind_operand : Kind → Bool
-space_behind_operand r = not (stands_close r || closes_group r || is kind.BracketOpen r)
+abbrev pub space_after_operand : Kind → Bool
+space_after_operand r = not (stands_close r || closes_group r || is kind.BracketOpen r)
 
 -- after `}`
-abbrev pub space_behind_brace : Kind → Bool
-space_behind_brace r = is kind.SeqClose r || space_behind_operand r
+abbrev pub space_after_brace : Kind → Bool
+space_after_brace r = is kind.SeqClose r || space_after_operand r
 
 -- after a number, unless it could join a dot
-abbrev pub space_behind_number : Kind → Option Bool
-space_behind_number r = if is kind.Dot r then None else Some (space_behind_operand r)
+abbrev pub space_after_number : Kind → Option Bool
+space_after_number r = if is kind.Dot r then None else Some (space_after_operand r)
 
 -- after a name, unless it could be the word `in`
-abbrev pub space_behind_name : Kind → Option Bool
-space_behind_name r = if is kind.BracketOpen r || closes_group r then None else Some (not (stands_close r || is kind.ParenOpen r))
+abbrev pub space_after_name : Kind → Option Bool
+space_after_name r = if is kind.BracketOpen r || closes_group r then None else Some (not (stands_close r || is kind.ParenOpen r))
 
 -- after `${` and `%{`, unless they could join the `~` of the closer
 abbrev pub space_in_sequence : Kind → Option Bool
 space_in_sequence r = if is kind.SeqClose r then None else Some (is kind.BraceOpen r || is kind.BraceClose r)
+
+-- after `:`, unless it could join another where none would stand
+abbrev pub space_after_colon : Kind → Option Bool
+space_after_colon r = if is kind.Newline r then Some false else if stands_close r || closes_group r then None else Some true
 
 -- not told, but at the end of a line
 abbrev pub unless_line_ends : Kind → Option Bool
@@ -49,8 +52,8 @@ unless_line_ends r = if is kind.Newline r then Some false else None
 -- the answer, where the two kinds give it, outside heredocs
 abbrev pub pair_space : Kind → Kind → Option Bool
 pair_space kind.Not r = unless_line_ends r
-pair_space kind.Minus r = unless_line_ends r
-pair_space kind.Colon r = unless_line_ends r
+pair_space kind.Minus r = if stands_close r then Some false else None
+pair_space kind.Colon r = space_after_colon r
 pair_space kind.ColonColon r = Some false
 pair_space kind.QuoteOpen r = Some false
 pair_space kind.Lit r = Some false
@@ -62,12 +65,12 @@ pair_space kind.BraceOpen r = Some (not (stands_close r || is kind.BraceClose r)
 pair_space kind.InterpOpen r = space_in_sequence r
 pair_space kind.ControlOpen r = space_in_sequence r
 pair_space kind.SeqClose r = Some (not (stands_close r || closes_group r || opens_sequence r))
-pair_space kind.BraceClose r = Some (space_behind_brace r)
-pair_space kind.Number r = space_behind_number r
-pair_space kind.Ident r = space_behind_name r
-pair_space kind.QuoteClose r = Some (space_behind_operand r)
-pair_space kind.ParenClose r = Some (space_behind_operand r)
-pair_space kind.BracketClose r = Some (space_behind_operand r)
+pair_space kind.BraceClose r = Some (space_after_brace r)
+pair_space kind.Number r = space_after_number r
+pair_space kind.Ident r = space_after_name r
+pair_space kind.QuoteClose r = Some (space_after_operand r)
+pair_space kind.ParenClose r = Some (space_after_operand r)
+pair_space kind.BracketClose r = Some (space_after_operand r)
 pair_space _ r = Some (not (stands_close r || closes_group r))
 
 -- the answer where the kinds don't give it, by what the table asks of the texts and of the token before: whether the
@@ -75,8 +78,8 @@ pair_space _ r = Some (not (stands_close r || closes_group r))
 -- and whether an expression begins after that
 abbrev pub asked : Kind → Kind → Bool → Bool → Bool → Bool → Bool → Bool → Bool → Bool
 asked kind.Not r equals colon tilde word name dot opening = equals
-asked kind.Colon r equals colon tilde word name dot opening = colon || not (stands_close r || closes_group r)
-asked kind.Minus r equals colon tilde word name dot opening = not (stands_close r || opening)
+asked kind.Colon r equals colon tilde word name dot opening = colon
+asked kind.Minus r equals colon tilde word name dot opening = not opening
 asked kind.Number r equals colon tilde word name dot opening = not dot
 asked kind.Ident r equals colon tilde word name dot opening = word && name
 asked _ r equals colon tilde word name dot opening = tilde
@@ -84,15 +87,6 @@ asked _ r equals colon tilde word name dot opening = tilde
 abbrev pub asked_space : Option Lexeme → Lexeme → Lexeme → Bool
 asked_space before subject after =
     asked subject.kind after.kind (begins_with_equals after.text) (begins_with_colon after.text) (bytes_eq after.text (codes "~}")) (bytes_eq subject.text (codes "in")) (stands_before (is kind.Ident) before) (stands_before (is kind.Dot) before) (is_opening before)
-
--- what is asked of the token before, by its kind
-abbrev pub kind_before : (Kind → Bool) → Option Kind → Bool
-kind_before test None = false
-kind_before test (Some k) = test k
-
-abbrev pub opening_kind : Option Kind → Bool
-opening_kind None = true
-opening_kind (Some k) = is_opener k || is_operator k || awaits_operand k
 
 -- the bit of a kind in a set of kinds
 abbrev pub number : Kind → ℕ
