@@ -1,0 +1,8 @@
+//! Tests of the linter of trees by its public items. They stand in a crate of their own, since a crate with tests is proved
+//! twice.
+#![tactic(auto)]
+
+#[cfg(test)]
+mod checks;
+#[cfg(test)]
+mod lists;
