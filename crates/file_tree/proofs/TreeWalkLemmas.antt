@@ -2,14 +2,15 @@
 use Rattle.std.proofs.Common.{◌≡◌, ◌≢◌, ◌∙◌, ◌<◌, ◌+◌, ◌⊎◌, ◌++◌, ◌∷◌, [], ℕ, suc, Bool, true, false, Bor, Global, List, Vec, Option, Some, None, Result, Ok, Err, OnOk, Contains, ap, append_assoc, append-nil, arith, get_or, inl, inr, length, map, refl, subst, sym, take, true≢false}
 use Rattle.std.proofs.lemmas.List.{map-append, map_more}
 use Rattle.std.proofs.lemmas.List.Elements.{Contains-append_left, Contains-push, Contains-push_cases}
-use Rattle.file_tree.specs.Below.{HasFile, HasFolder, IsBelow, IsEntry, IsGiven, Leads, Says, is_met, listed}
+use Rattle.file_tree.specs.Below.{HasFile, HasFolder, IsBelow, IsEntry, IsFile, IsGiven, Leads, Says, is_met, listed}
 use Rattle.file_tree.specs.Files.{Files, Name}
 use Rattle.hcl_source.specs.Devices.{Tells}
 use Rattle.file_tree.specs.Finds.{Accounts, Finds, HasName, IsFolderOf, IsFound, IsOf, IsOfBy}
 use Rattle.file_tree.specs.Names.{is_taken}
 use Rattle.file_tree.specs.Paths.{inside, place, reported, tidied, top, within}
-use Rattle.file_tree.specs.Inner.Walking.{Adds, Covers, Enters, IsFault, Orders, Reached, TakesAll, TakesEntry, TakesFolder, TakesGiven, TakesIf, TakesKind, TakesKindGiven, Walked}
+use Rattle.file_tree.specs.Inner.Walking.{Adds, Covers, Enters, IsFault, Orders, Reached, TakesAll, TakesEntry, TakesFolder, TakesGiven, TakesIf, TakesKind, TakesKindGiven, TakesLink, TakesLinked, Walked}
 use Rattle.file_tree.specs.declared.fault.TreeFault.{TreeFault}
+use Rattle.file_tree.specs.declared.kind.Identity.{Identity}
 use Rattle.file_tree.specs.declared.kind.Kind.{Kind}
 use Rattle.file_tree.specs.declared.kind.Kind.TheVariants.{File, Folder, Link, Other}
 use Rattle.file_tree.specs.declared.walk.Found.{Found}
@@ -41,16 +42,27 @@ grows_if : (v : Bool) (path : Name) (old new : Reached) → TakesIf v path old n
 grows_if true path old new h = grows_adds path None old new h
 grows_if false path old new h = grows_same old new h
 
-grows_kind : (kind : Kind) (path name : Name) (old new : Reached) → TakesKind kind path name old new → Grows old new
-grows_kind Folder path name old new h = grows_enters _ old new h
-grows_kind File path name old new h = grows_if (is_taken name) path old new h
-grows_kind Link path name old new h = grows_if (is_taken name) path old new h
-grows_kind Other path name old new h = grows_same old new h
+grows_linked : (kind : Kind) (path : Name) (old new : Reached) → TakesLinked kind path old new → Grows old new
+grows_linked Folder path old new h = grows_same old new h
+grows_linked (File identity) path old new h = grows_adds path None old new h
+grows_linked Link path old new h = grows_adds path None old new h
+grows_linked Other path old new h = grows_adds path None old new h
+
+grows_link : (v : Bool) (files : Files) (path : Name) (old new : Reached) → TakesLink v files path old new → Grows old new
+grows_link true files path old new (inl h) = grows_adds path (Some h.0) old new h.1
+grows_link true files path old new (inr h) = grows_linked h.0 path old new h.2
+grows_link false files path old new h = grows_same old new h
+
+grows_kind : (kind : Kind) (files : Files) (path name : Name) (old new : Reached) → TakesKind kind files path name old new → Grows old new
+grows_kind Folder files path name old new h = grows_enters _ old new h
+grows_kind (File identity) files path name old new h = grows_if (is_taken name) path old new h
+grows_kind Link files path name old new h = grows_link (is_taken name) files path old new h
+grows_kind Other files path name old new h = grows_same old new h
 
 grows_entry : (files : Files) (folder name : Name) (old new : Reached) → TakesEntry files folder name old new → Grows old new
 grows_entry files folder name old new (inl h) = grows_same old new h.1
 grows_entry files folder name old new (inr (met, inl h)) = grows_adds (folder ++ name) (Some h.0) old new h.1
-grows_entry files folder name old new (inr (met, inr h)) = grows_kind h.0 (folder ++ name) name old new h.2
+grows_entry files folder name old new (inr (met, inr h)) = grows_kind h.0 files (folder ++ name) name old new h.2
 
 grows_all : (files : Files) (folder : Name) (names : List Name) (old new : Reached) → TakesAll files folder names old new → Grows old new
 grows_all files folder [] old new h = grows_same old new h
@@ -62,7 +74,7 @@ grows_folder files folder old new (inr h) = grows_all files folder (listed h.0) 
 
 grows_kind_given : (kind : Kind) (path : Name) (old new : Reached) → TakesKindGiven kind path old new → Grows old new
 grows_kind_given Folder path old new h = grows_enters (top path) old new h
-grows_kind_given File path old new h = grows_adds (tidied path) None old new h
+grows_kind_given (File identity) path old new h = grows_adds (tidied path) None old new h
 grows_kind_given Link path old new h = grows_adds (tidied path) None old new h
 grows_kind_given Other path old new h = grows_adds (tidied path) None old new h
 
@@ -122,20 +134,32 @@ met_folder : (files : Files) (folder name : Name) (old new : Reached) → TakesE
 met_folder files folder name old new (inl h) met is = absurd (true≢false (sym met ∙ h.0))
 met_folder files folder name old new (inr (_, inl h)) met is = inr (fault_added (folder ++ name) h.0 old new h.1)
 met_folder files folder name old new (inr (_, inr h)) met is =
-    inl (folder_added (inside folder name) old new (subst (λ kind. TakesKind kind (folder ++ name) name old new) (sym (told_some (files.entry (folder ++ name)) Folder h.0 is h.1)) h.2))
+    inl (folder_added (inside folder name) old new (subst (λ kind. TakesKind kind files (folder ++ name) name old new) (sym (told_some (files.entry (folder ++ name)) Folder h.0 is h.1)) h.2))
 
 taken_if : (v : Bool) (path : Name) (old new : Reached) → v ≡ true → TakesIf v path old new → IsFound new.found path
 taken_if v path old new e h = found_added path old new (subst (λ w. TakesIf w path old new) e h)
 
-met_file : (files : Files) (folder name : Name) (old new : Reached) → TakesEntry files folder name old new → is_met name ≡ true
-    → (files.entry (folder ++ name) ≡ Some File) ⊎ (files.entry (folder ++ name) ≡ Some Link) → is_taken name ≡ true
+linked_file : (kind : Kind) (path : Name) (old new : Reached) → kind ≢ Folder → TakesLinked kind path old new → IsFound new.found path
+linked_file Folder path old new other h = absurd (other refl)
+linked_file (File identity) path old new other h = found_added path old new h
+linked_file Link path old new other h = found_added path old new h
+linked_file Other path old new other h = found_added path old new h
+
+link_met : (files : Files) (v : Bool) (path : Name) (old new : Reached) → v ≡ true → IsGiven true files path → TakesLink v files path old new → IsFault new.found path ⊎ IsFound new.found path
+link_met files true path old new e is (inl h) = inl (fault_added path h.0 old new h.1)
+link_met files true path old new e is (inr h) = inr (linked_file is.0 path old new is.2 (subst (λ kind. TakesLinked kind path old new) (sym (told_some (files.kind path) is.0 h.0 is.1 h.1)) h.2))
+link_met files false path old new e is h = absurd (true≢false (sym e))
+
+met_file : (files : Files) (folder name : Name) (old new : Reached) → TakesEntry files folder name old new → is_met name ≡ true → IsFile true files (folder ++ name) → is_taken name ≡ true
     → IsFault new.found (folder ++ name) ⊎ IsFound new.found (folder ++ name)
 met_file files folder name old new (inl h) met is taken = absurd (true≢false (sym met ∙ h.0))
 met_file files folder name old new (inr (_, inl h)) met is taken = inl (fault_added (folder ++ name) h.0 old new h.1)
-met_file files folder name old new (inr (_, inr h)) met (inl is) taken =
-    inr (taken_if (is_taken name) (folder ++ name) old new taken (subst (λ kind. TakesKind kind (folder ++ name) name old new) (sym (told_some (files.entry (folder ++ name)) File h.0 is h.1)) h.2))
-met_file files folder name old new (inr (_, inr h)) met (inr is) taken =
-    inr (taken_if (is_taken name) (folder ++ name) old new taken (subst (λ kind. TakesKind kind (folder ++ name) name old new) (sym (told_some (files.entry (folder ++ name)) Link h.0 is h.1)) h.2))
+met_file files folder name old new (inr (_, inr h)) met (inl (identity, is)) taken =
+    inr (taken_if (is_taken name) (folder ++ name) old new taken
+    (subst (λ kind. TakesKind kind files (folder ++ name) name old new) (sym (told_some (files.entry (folder ++ name)) (File identity) h.0 is h.1)) h.2))
+met_file files folder name old new (inr (_, inr h)) met (inr (is, leads)) taken =
+    link_met files (is_taken name) (folder ++ name) old new taken leads
+    (subst (λ kind. TakesKind kind files (folder ++ name) name old new) (sym (told_some (files.entry (folder ++ name)) Link h.0 is h.1)) h.2)
 
 -- ---- nor is one of several
 
@@ -158,7 +182,7 @@ all_folder files folder (first ∷ names) name old new h c met is =
     here (inr d) later = later d
 
 all_file : (files : Files) (folder : Name) (names : List Name) (name : Name) (old new : Reached) → TakesAll files folder names old new → Contains names name → is_met name ≡ true
-    → (files.entry (folder ++ name) ≡ Some File) ⊎ (files.entry (folder ++ name) ≡ Some Link) → is_taken name ≡ true
+    → IsFile true files (folder ++ name) → is_taken name ≡ true
     → IsFault new.found (folder ++ name) ⊎ IsFound new.found (folder ++ name)
 all_file files folder [] name old new h c met is taken = absurd (none_in name c)
 all_file files folder (first ∷ names) name old new h c met is taken =
@@ -260,28 +284,46 @@ leads_more sure files folder (part ∷ parts) name leads has = (leads.0, leads_m
 
 -- an entry of a folder that is given, or of one below
 module _ (files : Files) (paths : List Name) (path : Name) (c : Contains paths path) (parts : List Name) (is : Says false (files.kind path) Folder) (leads : Leads false files (top path) parts) where
-  sound_if : (name : Name) (v : Bool) (old new : Reached) → v ≡ is_taken name → IsEntry false files (within (top path) parts) name
-      → Says false (files.entry (within (top path) parts ++ name)) File ⊎ Says false (files.entry (within (top path) parts ++ name)) Link
+  sound_if : (name : Name) (v : Bool) (old new : Reached) → v ≡ is_taken name → IsEntry false files (within (top path) parts) name → IsFile false files (within (top path) parts ++ name)
       → TakesIf v (within (top path) parts ++ name) old new → Sound files paths old → Sound files paths new
   sound_if name true old new e entry kind h sound =
       sound_adds files paths path (within (top path) parts ++ name) None old new h c (inr (parts, name, (is, leads, (entry, kind, sym e)), refl)) sound
   sound_if name false old new e entry kind h sound = sound_same files paths old new h sound
 
+  -- a link is told of by its kind, and where it leads by that of what it leads to
+  sound_linked : (kind : Kind) (name : Name) (old new : Reached) → true ≡ is_taken name → IsEntry false files (within (top path) parts) name
+      → (kind ≢ Folder → IsFile false files (within (top path) parts ++ name))
+      → TakesLinked kind (within (top path) parts ++ name) old new → Sound files paths old → Sound files paths new
+  sound_linked Folder name old new e entry file h sound = sound_same files paths old new h sound
+  sound_linked (File identity) name old new e entry file h sound = sound_if name true old new e entry (file (λ q. cc)) h sound
+  sound_linked Link name old new e entry file h sound = sound_if name true old new e entry (file (λ q. cc)) h sound
+  sound_linked Other name old new e entry file h sound = sound_if name true old new e entry (file (λ q. cc)) h sound
+
+  sound_report : (name : Name) (fault : TreeFault) (old new : Reached) → IsEntry false files (within (top path) parts) name → Adds (within (top path) parts ++ name) (Some fault) old new
+      → Sound files paths old → Sound files paths new
+  sound_report name fault old new entry h sound =
+      sound_adds files paths path (within (top path) parts ++ name) (Some fault) old new h c (inr (within (top path) parts, (parts, is, leads, refl), inr (name, entry, refl))) sound
+
+  sound_link : (name : Name) (v : Bool) (old new : Reached) → v ≡ is_taken name → IsEntry false files (within (top path) parts) name
+      → Says false (files.entry (within (top path) parts ++ name)) Link
+      → TakesLink v files (within (top path) parts ++ name) old new → Sound files paths old → Sound files paths new
+  sound_link name true old new e entry tells (inl h) sound = sound_report name h.0 old new entry h.1 sound
+  sound_link name true old new e entry tells (inr h) sound = sound_linked h.0 name old new e entry (λ other. inr (tells, (h.0, h.1, other))) h.2 sound
+  sound_link name false old new e entry tells h sound = sound_same files paths old new h sound
+
   sound_kind : (kind : Kind) (name : Name) (old new : Reached) → IsEntry false files (within (top path) parts) name → Tells (files.entry (within (top path) parts ++ name)) kind
-      → TakesKind kind (within (top path) parts ++ name) name old new → Sound files paths old → Sound files paths new
+      → TakesKind kind files (within (top path) parts ++ name) name old new → Sound files paths old → Sound files paths new
   sound_kind Folder name old new entry tells h sound =
       sound_enters files paths (inside (within (top path) parts) name) old new h
       (path, c, (parts ++ name ∷ [], is, leads_more false files (top path) parts name leads (entry, tells), sym (within_more (top path) parts name))) sound
-  sound_kind File name old new entry tells h sound = sound_if name (is_taken name) old new refl entry (inl tells) h sound
-  sound_kind Link name old new entry tells h sound = sound_if name (is_taken name) old new refl entry (inr tells) h sound
+  sound_kind (File identity) name old new entry tells h sound = sound_if name (is_taken name) old new refl entry (inl (identity, tells)) h sound
+  sound_kind Link name old new entry tells h sound = sound_link name (is_taken name) old new refl entry tells h sound
   sound_kind Other name old new entry tells h sound = sound_same files paths old new h sound
 
   sound_entry : (listing : List ℕ) (name : Name) (old new : Reached) → Tells (files.listing (place (within (top path) parts))) listing → Contains (listed listing) name
       → TakesEntry files (within (top path) parts) name old new → Sound files paths old → Sound files paths new
   sound_entry listing name old new tells d (inl h) sound = sound_same files paths old new h.1 sound
-  sound_entry listing name old new tells d (inr (met, inl h)) sound =
-      sound_adds files paths path (within (top path) parts ++ name) (Some h.0) old new h.1 c
-      (inr (within (top path) parts, (parts, is, leads, refl), inr (name, (listing, tells, d, met), refl))) sound
+  sound_entry listing name old new tells d (inr (met, inl h)) sound = sound_report name h.0 old new (listing, tells, d, met) h.1 sound
   sound_entry listing name old new tells d (inr (met, inr h)) sound = sound_kind h.0 name old new (listing, tells, d, met) h.1 h.2 sound
 
   sound_all : (listing : List ℕ) (names : List Name) (old new : Reached) → Tells (files.listing (place (within (top path) parts))) listing
@@ -341,7 +383,7 @@ of_more files paths path f h = (h.0, Contains-append_left paths (path ∷ []) h.
 sound_kind_given : (files : Files) (paths : List Name) (path : Name) (c : Contains paths path) (kind : Kind) (old new : Reached) → Tells (files.kind path) kind → TakesKindGiven kind path old new
     → Sound files paths old → Sound files paths new
 sound_kind_given files paths path c Folder old new tells h sound = sound_enters files paths (top path) old new h (path, c, ([], tells, tt, refl)) sound
-sound_kind_given files paths path c File old new tells h sound = sound_adds files paths path (tidied path) None old new h c (inl ((File, tells, λ e. cc), refl)) sound
+sound_kind_given files paths path c (File identity) old new tells h sound = sound_adds files paths path (tidied path) None old new h c (inl ((File identity, tells, λ e. cc), refl)) sound
 sound_kind_given files paths path c Link old new tells h sound = sound_adds files paths path (tidied path) None old new h c (inl ((Link, tells, λ e. cc), refl)) sound
 sound_kind_given files paths path c Other old new tells h sound = sound_adds files paths path (tidied path) None old new h c (inl ((Other, tells, λ e. cc), refl)) sound
 
@@ -351,7 +393,7 @@ sound_given files paths path c old new (inr h) sound = sound_kind_given files pa
 
 given_kind : (kind : Kind) (path : Name) (old new : Reached) → kind ≢ Folder → TakesKindGiven kind path old new → IsFound new.found (tidied path)
 given_kind Folder path old new ne h = absurd (ne refl)
-given_kind File path old new ne h = found_added (tidied path) old new h
+given_kind (File identity) path old new ne h = found_added (tidied path) old new h
 given_kind Link path old new ne h = found_added (tidied path) old new h
 given_kind Other path old new ne h = found_added (tidied path) old new h
 

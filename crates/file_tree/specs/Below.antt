@@ -5,6 +5,7 @@ use Rattle.file_tree.specs.Files.{Files, Name}
 use Rattle.hcl_source.specs.Devices.{Tells}
 use Rattle.file_tree.specs.Names.{is_passed_over, is_taken}
 use Rattle.file_tree.specs.Paths.{inside, place, top, within}
+use Rattle.file_tree.specs.declared.kind.Identity.{Identity}
 use Rattle.file_tree.specs.declared.kind.Kind.{Kind}
 use Rattle.file_tree.specs.declared.kind.Kind.TheVariants.{File, Folder, Link}
 
@@ -29,19 +30,22 @@ IsEntry sure files folder name = (listing : List ℕ) × Says sure (files.listin
 abbrev pub HasFolder : Bool → Files → Name → Name → Type 0
 HasFolder sure files folder name = IsEntry sure files folder name × Says sure (files.entry (folder ++ name)) Folder
 
--- a folder has a file, or a link, of this name, and it is taken
+-- a path is no folder, links followed
+abbrev pub IsGiven : Bool → Files → Name → Type 0
+IsGiven sure files path = (kind : Kind) × Says sure (files.kind path) kind × (kind ≢ Folder)
+
+-- an entry is a file, or a link that leads to no folder
+abbrev pub IsFile : Bool → Files → Name → Type 0
+IsFile sure files name = ((identity : Identity) × Says sure (files.entry name) (File identity)) ⊎ (Says sure (files.entry name) Link × IsGiven sure files name)
+
+-- a folder has such a file of this name, and it is taken
 abbrev pub HasFile : Bool → Files → Name → Name → Type 0
-HasFile sure files folder name =
-    IsEntry sure files folder name × (Says sure (files.entry (folder ++ name)) File ⊎ Says sure (files.entry (folder ++ name)) Link) × (is_taken name ≡ true)
+HasFile sure files folder name = IsEntry sure files folder name × IsFile sure files (folder ++ name) × (is_taken name ≡ true)
 
 -- these parts of a name lead from a folder down, each a folder in the one before
 abbrev pub Leads : Bool → Files → Name → List Name → Type 0
 Leads sure files folder [] = Unit {0}
 Leads sure files folder (part ∷ parts) = HasFolder sure files folder part × Leads sure files (inside folder part) parts
-
--- a path that is given is no folder: it stands for itself, whatever it is called
-abbrev pub IsGiven : Bool → Files → Name → Type 0
-IsGiven sure files path = (kind : Kind) × Says sure (files.kind path) kind × (kind ≢ Folder)
 
 -- A FILE BELOW a folder that is given: these parts lead down to where it is, and this is the last part of its name
 abbrev pub IsBelow : Bool → Files → Name → List Name → Name → Type 0

@@ -6,6 +6,7 @@ use Rattle.file_tree.specs.Below.{HasFile, HasFolder, IsBelow, is_met, listed}
 use Rattle.file_tree.specs.Files.{Files, Name}
 use Rattle.file_tree.specs.Names.{is_taken}
 use Rattle.file_tree.specs.Paths.{place, reported, tidied, top, within}
+use Rattle.file_tree.specs.declared.kind.Identity.{Identity}
 use Rattle.file_tree.specs.declared.kind.Kind.{Kind}
 use Rattle.file_tree.specs.declared.kind.Kind.TheVariants.{File, Folder}
 
@@ -69,13 +70,16 @@ none = refl
 
 -- ---- a tree: `modules/net/main.tf`, `modules/net/notes.txt` and the folder `modules/.git`
 
+abbrev numbered : ℕ → Identity
+numbered inode = record { device = 1; inode = inode }
+
 abbrev kind_of : Name → Option Kind
 kind_of name =
     if bytes_eq name (codes "modules") then Some Folder
     else (if bytes_eq name (codes "modules/net") then Some Folder
     else (if bytes_eq name (codes "modules/.git") then Some Folder
-    else (if bytes_eq name (codes "modules/net/main.tf") then Some File
-    else (if bytes_eq name (codes "modules/net/notes.txt") then Some File else None))))
+    else (if bytes_eq name (codes "modules/net/main.tf") then Some (File (numbered 7))
+    else (if bytes_eq name (codes "modules/net/notes.txt") then Some (File (numbered 8)) else None))))
 
 abbrev listing_of : Name → Option (List ℕ)
 listing_of name =
@@ -90,7 +94,7 @@ net : HasFolder true small (codes "modules/") (codes "net")
 net = ((codes ".git" ++ (0 ∷ codes "net" ++ 0 ∷ []), refl, (1, lit< tt, refl), refl), refl)
 
 main : HasFile true small (codes "modules/net/") (codes "main.tf")
-main = ((codes "notes.txt" ++ (0 ∷ codes "main.tf" ++ 0 ∷ []), refl, (1, lit< tt, refl), refl), inl refl, refl)
+main = ((codes "notes.txt" ++ (0 ∷ codes "main.tf" ++ 0 ∷ []), refl, (1, lit< tt, refl), refl), inl (numbered 7, refl), refl)
 
 below : IsBelow true small (codes "modules") (codes "net" ∷ []) (codes "main.tf")
 below = (refl, (net, tt), main)

@@ -5,7 +5,7 @@ use Rattle.std.specs.List.{Contains}
 use Rattle.std.specs.List.Sorted.{IsStrictlySortedBy}
 use Rattle.std.specs.Ordering.{nat_cmp}
 use Rattle.file_tree.specs.Below.{IsBelow, IsEntry, IsGiven, Leads, Says}
-use Rattle.file_tree.specs.Files.{Files, Name}
+use Rattle.file_tree.specs.Files.{Faults, Files, Name, with_faults}
 use Rattle.file_tree.specs.Paths.{inside, place, reported, tidied, top, within}
 use Rattle.file_tree.specs.declared.fault.TreeFault.{TreeFault}
 use Rattle.file_tree.specs.declared.kind.Kind.TheVariants.{Folder}
@@ -62,3 +62,12 @@ pub record Finds (files : Files) (paths : List Name) (found : List Found) : Type
   pub given : (path : Name) → Contains paths path → IsGiven true files path → IsFound found (tidied path) ⊎ HasName found (reported path)
   pub below : (path : Name) (parts : List Name) (last : Name) → Contains paths path → IsBelow true files path parts last
       → HasName found (reported path) ⊎ Accounts found (top path) parts last
+
+-- ---- reported only where a call failed
+
+-- EACH REPORT IS REAL: where the device tells the faults of its calls, each name of which it is reported that it can't be
+-- looked at has that of a call that failed. So none is reported where no call failed.
+pub record AreReal (before after : Faults) (found : List Found) : Type 0 where
+  pub noted : List TreeFault  -- the faults of the walk's calls
+  pub is : after ≡ with_faults before noted
+  pub real : (f : Found) (fault : TreeFault) → Contains found f → f.fault ≡ Some fault → Contains noted fault

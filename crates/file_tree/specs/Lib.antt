@@ -1,8 +1,11 @@
+pub mod Asked
 pub mod Below
 pub mod Examples
 pub mod FaultTexts
 pub mod Files
 pub mod Finds
 pub mod Inner
+pub mod Modes
 pub mod Names
 pub mod Paths
+pub mod Quotes

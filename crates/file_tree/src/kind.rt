@@ -1,9 +1,16 @@
 //! What a name stands for.
 
+/// What tells a file from every other one, whatever its names.
+#[derive(Clone, Copy, Debug, PartialEq, Eq, PartialOrd, Ord)]
+pub struct Identity {
+    pub device: u64,
+    pub inode: u64,
+}
+
 /// What a name stands for.
 #[derive(Clone, Copy, Debug, PartialEq, Eq)]
 pub enum Kind {
-    File,
+    File(Identity),
     Folder,
     Link,
     /// A pipe, a socket or a device.

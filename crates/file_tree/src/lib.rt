@@ -3,7 +3,9 @@
 
 pub mod fault;
 pub mod kind;
+pub mod mode;
 pub mod names;
 pub mod path;
+pub mod quote;
 pub mod tree;
 pub mod walk;

@@ -1,6 +1,7 @@
 //! What files are found in, read from and written to.
 
 ghost use Rattle.std.specs.Prelude.{◌≡◌, false, OnOk, OnErr, IfOk};
+ghost use Rattle.file_tree.specs.Asked.{Asked, with_asked};
 ghost use Rattle.file_tree.specs.Files.{Faults, Files, fault_of, fault_of_reader, with_fault, put};
 ghost use Rattle.hcl_source.specs.Devices.{Tells};
 
@@ -17,7 +18,16 @@ pub struct Writing {
     pub sync: bool,
 }
 
-/// Folders and files by their names, which are bytes.
+/// What a replacement left of the rights to the file.
+#[derive(Clone, Copy, Debug, PartialEq, Eq)]
+pub enum Replaced {
+    /// Who might read or write it may still.
+    Kept,
+    /// Its group couldn't be kept, so its group and all others have the rights now that both had.
+    Narrowed,
+}
+
+/// Folders and files by their names, which are bytes: what can be asked of them.
 pub trait Tree {
     type Reader: ByteSource + Drop;
 
@@ -27,36 +37,47 @@ pub trait Tree {
     /// The faults that its calls had so far, where the device tells them.
     ghost faults: { Self → Faults };
 
+    /// What its calls were asked to replace so far, where the device tells it.
+    ghost asked: { Self → Asked };
+
     /// What a name stands for, links followed.
     fn kind(&mut self, name: &[u8]) -> Result<Kind, TreeFault>
         ensures kind { IfOk result (Tells ((files self.old).kind name.now)) }
         ensures files { files self.new ≡ files self.old }
-        ensures faults { faults self.new ≡ with_fault (faults self.old) (fault_of result) };
+        ensures faults { faults self.new ≡ with_fault (faults self.old) (fault_of result) }
+        ensures asked { asked self.new ≡ asked self.old };
 
     /// What a name stands for, a link being one.
     fn entry_kind(&mut self, name: &[u8]) -> Result<Kind, TreeFault>
         ensures kind { IfOk result (Tells ((files self.old).entry name.now)) }
         ensures files { files self.new ≡ files self.old }
-        ensures faults { faults self.new ≡ with_fault (faults self.old) (fault_of result) };
+        ensures faults { faults self.new ≡ with_fault (faults self.old) (fault_of result) }
+        ensures asked { asked self.new ≡ asked self.old };
 
     /// The names in a folder, in any order, each ended by NUL.
     fn listing(&mut self, folder: &[u8]) -> Result<Vec<u8>, TreeFault>
         ensures names { IfOk result (λ names. Tells ((files self.old).listing folder.now) names.items) }
         ensures files { files self.new ≡ files self.old }
-        ensures faults { faults self.new ≡ with_fault (faults self.old) (fault_of result) };
+        ensures faults { faults self.new ≡ with_fault (faults self.old) (fault_of result) }
+        ensures asked { asked self.new ≡ asked self.old };
 
     /// A reader of the file of this name, from its start.
     fn reader(&mut self, name: &[u8]) -> Result<Self::Reader, TreeFault>
         ensures fresh { IfOk result (λ r. Self.Reader.failed r ≡ false) }
         ensures bytes { IfOk result (λ r. Self.Reader.left r ≡ (files self.old).told ((files self.old).real name.now)) }
         ensures files { files self.new ≡ files self.old }
-        ensures faults { faults self.new ≡ with_fault (faults self.old) (fault_of result) };
+        ensures faults { faults self.new ≡ with_fault (faults self.old) (fault_of result) }
+        ensures asked { asked self.new ≡ asked self.old };
 
     /// Takes a reader back after its last read. A reader that failed is a fault of this call.
     fn give_back(&mut self, reader: Self::Reader)
         ensures files { files self.new ≡ files self.old }
-        ensures faults { faults self.new ≡ with_fault (faults self.old) (fault_of_reader (Self.Reader.failed reader)) };
+        ensures faults { faults self.new ≡ with_fault (faults self.old) (fault_of_reader (Self.Reader.failed reader)) }
+        ensures asked { asked self.new ≡ asked self.old };
+}
 
+/// Folders and files that can be changed.
+pub trait WritableTree: Tree {
     /// Puts new bytes in place of the old ones, all or none: where that fails, or the file has other bytes by now, it stays
     /// as it is.
     fn replace(
@@ -65,8 +86,11 @@ pub trait Tree {
         old: &[u8],
         new: &[u8],
         writing: Writing,
-    ) -> Result<(), TreeFault>
-        ensures ok { OnOk result (files self.new ≡ put (files self.old) ((files self.old).real name.now) new.now) }
-        ensures err { OnErr result (files self.new ≡ files self.old) }
-        ensures faults { faults self.new ≡ with_fault (faults self.old) (fault_of result) };
+    ) -> Result<Replaced, TreeFault>
+        // The old bytes are those that the file has, where the device tells them.
+        requires old { Tells ((Self.files self.old).told ((Self.files self.old).real name.now)) old.now }
+        ensures ok { OnOk result (Self.files self.new ≡ put (Self.files self.old) ((Self.files self.old).real name.now) new.now) }
+        ensures err { OnErr result (Self.files self.new ≡ Self.files self.old) }
+        ensures faults { Self.faults self.new ≡ with_fault (Self.faults self.old) (fault_of result) }
+        ensures asked { Self.asked self.new ≡ with_asked (Self.asked self.old) (record { name = name.now; old = old.now; new = new.now; writing = writing }) };
 }

@@ -3,8 +3,8 @@
 ghost use Rattle.std.specs.Prelude.{◌≡◌, [], IfOk, List, OnOk, map};
 ghost use Rattle.file_tree.specs.Below.{is_met};
 ghost use Rattle.file_tree.specs.Files.{Name};
-ghost use Rattle.file_tree.specs.Finds.{Finds};
-ghost use Rattle.file_tree.specs.Inner.Walking.{Adds, Enters, Orders, TakesAll, TakesEntry, TakesFolder, TakesGiven, TakesIf, TakesKind, TakesKindGiven, TakesMet, Walked, reached};
+ghost use Rattle.file_tree.specs.Finds.{AreReal, Finds};
+ghost use Rattle.file_tree.specs.Inner.Walking.{Adds, Enters, Hears, Orders, TakesAll, TakesEntry, TakesFolder, TakesGiven, TakesIf, TakesKind, TakesKindGiven, TakesLink, TakesLinked, TakesMet, Walked, reached};
 ghost use Rattle.file_tree.specs.Names.{is_taken};
 
 use crate::fault::TreeFault;
@@ -64,28 +64,68 @@ impl Walk {
         Ok(())
     }
 
+    /// Takes what a link leads to.
+    fn take_linked(&mut self, kind: Kind, path: Vec<u8>) -> Result<(), AllocError>
+        ensures { OnOk result (TakesLinked kind path.items (reached self.old) (reached self.new)) }
+    {
+        match kind {
+            Kind::Folder => Ok(()),
+            _ => self.add(path, None),
+        }
+    }
+
+    /// Takes a link, if files of this kind of name are taken. One that leads to a folder is passed over.
+    #[tactic(auto, using(crate::proofs::HearLemmas::hears_none, crate::proofs::HearLemmas::heard_linked, crate::proofs::HearLemmas::heard_fault))]
+    fn take_link<T: Tree>(
+        &mut self,
+        is_taken: bool,
+        path: Vec<u8>,
+        tree: &mut T,
+    ) -> Result<(), AllocError>
+        // Nothing is changed.
+        ensures files { T.files tree.new ≡ T.files tree.old }
+        ensures asked { T.asked tree.new ≡ T.asked tree.old }
+        ensures takes { OnOk result (TakesLink is_taken (T.files tree.old) path.items (reached self.old) (reached self.new)) }
+        ensures hears { OnOk result (Hears (reached self.old).found (reached self.new).found (T.faults tree.old) (T.faults tree.new)) }
+    {
+        if !is_taken {
+            return Ok(());
+        }
+        match tree.kind(path.as_slice()) {
+            Ok(kind) => self.take_linked(kind, path),
+            Err(fault) => self.add(path, Some(fault)),
+        }
+    }
+
     /// Takes what stands in a folder under a name.
-    fn take_kind(
+    #[tactic(auto, using(crate::proofs::HearLemmas::hears_none, crate::proofs::HearLemmas::heard_if, crate::proofs::HearLemmas::heard_enters))]
+    fn take_kind<T: Tree>(
         &mut self,
         alloc: Global,
         kind: Kind,
         name: &[u8],
         path: Vec<u8>,
+        tree: &mut T,
     ) -> Result<(), AllocError>
-        ensures { OnOk result (TakesKind kind path.items name.now (reached self.old) (reached self.new)) }
+        // Nothing is changed.
+        ensures files { T.files tree.new ≡ T.files tree.old }
+        ensures asked { T.asked tree.new ≡ T.asked tree.old }
+        ensures takes { OnOk result (TakesKind kind (T.files tree.old) path.items name.now (reached self.old) (reached self.new)) }
+        ensures hears { OnOk result (Hears (reached self.old).found (reached self.new).found (T.faults tree.old) (T.faults tree.new)) }
     {
         match kind {
             Kind::Folder => {
                 let folder = joined(alloc, path.as_slice(), b"/")?;
                 self.add_folder(folder)
             }
-            Kind::File => self.take_file(is_taken(name), path),
-            Kind::Link => self.take_file(is_taken(name), path),
+            Kind::File(_) => self.take_file(is_taken(name), path),
+            Kind::Link => self.take_link(is_taken(name), path, tree),
             Kind::Other => Ok(()),
         }
     }
 
     /// Looks at what stands in a folder under a name that isn't passed over.
+    #[tactic(auto, using(crate::proofs::HearLemmas::heard_after, crate::proofs::HearLemmas::heard_fault))]
     fn take_met<T: Tree>(
         &mut self,
         alloc: Global,
@@ -95,16 +135,19 @@ impl Walk {
     ) -> Result<(), AllocError>
         // Nothing is changed.
         ensures files { T.files tree.new ≡ T.files tree.old }
+        ensures asked { T.asked tree.new ≡ T.asked tree.old }
         ensures takes { OnOk result (TakesMet (T.files tree.old) folder.now name.now (reached self.old) (reached self.new)) }
+        ensures hears { OnOk result (Hears (reached self.old).found (reached self.new).found (T.faults tree.old) (T.faults tree.new)) }
     {
         let path = joined(alloc, folder, name)?;
         match tree.entry_kind(path.as_slice()) {
-            Ok(kind) => self.take_kind(alloc, kind, name, path),
+            Ok(kind) => self.take_kind(alloc, kind, name, path, tree),
             Err(fault) => self.add(path, Some(fault)),
         }
     }
 
     /// Looks at what stands in a folder under a name.
+    #[tactic(auto, using(crate::proofs::HearLemmas::hears_none, crate::proofs::HearLemmas::heard_after))]
     fn take_entry<T: Tree>(
         &mut self,
         alloc: Global,
@@ -114,7 +157,9 @@ impl Walk {
     ) -> Result<(), AllocError>
         // Nothing is changed.
         ensures files { T.files tree.new ≡ T.files tree.old }
+        ensures asked { T.asked tree.new ≡ T.asked tree.old }
         ensures takes { OnOk result (TakesEntry (T.files tree.old) folder.now name.now (reached self.old) (reached self.new)) }
+        ensures hears { OnOk result (Hears (reached self.old).found (reached self.new).found (T.faults tree.old) (T.faults tree.new)) }
     {
         if !is_met(name) {
             return Ok(());
@@ -132,7 +177,9 @@ impl Walk {
     ) -> Result<(), AllocError>
         // Nothing is changed.
         ensures files { T.files tree.new ≡ T.files tree.old }
+        ensures asked { T.asked tree.new ≡ T.asked tree.old }
         ensures takes { OnOk result (TakesAll (T.files tree.old) folder.now (map (λ name. name.now) names.now) (reached self.old) (reached self.new)) }
+        ensures hears { OnOk result (Hears (reached self.old).found (reached self.new).found (T.faults tree.old) (T.faults tree.new)) }
     {
         for name in names {
             self.take_entry(alloc, folder, name, tree)?;
@@ -141,6 +188,7 @@ impl Walk {
     }
 
     /// Looks at all that stands in a folder.
+    #[tactic(auto, using(crate::proofs::HearLemmas::heard_after, crate::proofs::HearLemmas::heard_fault))]
     fn take_folder<T: Tree>(
         &mut self,
         alloc: Global,
@@ -149,7 +197,9 @@ impl Walk {
     ) -> Result<(), AllocError>
         // Nothing is changed.
         ensures files { T.files tree.new ≡ T.files tree.old }
+        ensures asked { T.asked tree.new ≡ T.asked tree.old }
         ensures takes { OnOk result (TakesFolder (T.files tree.old) folder.now (reached self.old) (reached self.new)) }
+        ensures hears { OnOk result (Hears (reached self.old).found (reached self.new).found (T.faults tree.old) (T.faults tree.new)) }
     {
         let place = place(folder);
         match tree.listing(place) {
@@ -177,6 +227,7 @@ impl Walk {
     }
 
     /// Takes a name that was given.
+    #[tactic(auto, using(crate::proofs::HearLemmas::heard_given, crate::proofs::HearLemmas::heard_fault))]
     fn take_given<T: Tree>(
         &mut self,
         alloc: Global,
@@ -185,7 +236,9 @@ impl Walk {
     ) -> Result<(), AllocError>
         // Nothing is changed.
         ensures files { T.files tree.new ≡ T.files tree.old }
+        ensures asked { T.asked tree.new ≡ T.asked tree.old }
         ensures takes { OnOk result (TakesGiven (T.files tree.old) path.now (reached self.old) (reached self.new)) }
+        ensures hears { OnOk result (Hears (reached self.old).found (reached self.new).found (T.faults tree.old) (T.faults tree.new)) }
     {
         match tree.kind(path) {
             Ok(kind) => self.take_kind_given(alloc, kind, path),
@@ -200,7 +253,9 @@ impl Walk {
     fn over<T: Tree>(alloc: Global, paths: &[&[u8]], tree: &mut T) -> Result<Walk, AllocError>
         // Nothing is changed.
         ensures files { T.files tree.new ≡ T.files tree.old }
+        ensures asked { T.asked tree.new ≡ T.asked tree.old }
         ensures walked { IfOk result (λ walk. Walked (T.files tree.old) (map (λ path. path.now) paths.now) (reached walk)) }
+        ensures hears { IfOk result (λ walk. Hears [] (reached walk).found (T.faults tree.old) (T.faults tree.new)) }
     {
         let mut walk = Walk {
             found: Vec::new(alloc),
@@ -216,7 +271,9 @@ impl Walk {
     fn look_into_all<T: Tree>(&mut self, alloc: Global, tree: &mut T) -> Result<(), AllocError>
         // Nothing is changed.
         ensures files { T.files tree.new ≡ T.files tree.old }
+        ensures asked { T.asked tree.new ≡ T.asked tree.old }
         ensures walked { OnOk result ((paths : List Name) → Walked (T.files tree.old) paths (reached self.old) → Walked (T.files tree.old) paths (record { found = self.new.found.items; folders = [] })) }
+        ensures hears { OnOk result (Hears (reached self.old).found self.new.found.items (T.faults tree.old) (T.faults tree.new)) }
     {
         for _ in 0..u64::MAX {
             let Some(folder) = self.folders.pop() else {
@@ -243,10 +300,13 @@ pub fn find<T: Tree>(
     operands: &[&[u8]],
     tree: &mut T,
 ) -> Result<Vec<Found>, AllocError>
-    // Nothing is changed.
+    // Nothing is changed, nor asked to be.
     ensures files { T.files tree.new ≡ T.files tree.old }
+    ensures asked { T.asked tree.new ≡ T.asked tree.old }
     // All files that the names stand for, and nothing else.
     ensures finds { IfOk result (λ found. Finds (T.files tree.old) (map (λ operand. operand.now) operands.now) found.items) }
+    // Where the device tells the faults of its calls, none is reported that can't be looked at but where a call failed.
+    ensures real { IfOk result (λ found. AreReal (T.faults tree.old) (T.faults tree.new) found.items) }
 {
     let mut walk = Walk::over(alloc, operands, tree)?;
     walk.look_into_all(alloc, tree)?;

@@ -3,6 +3,7 @@
 
 ghost use Rattle.std.specs.Prelude.{◌≡◌, false};
 
+mod folder;
 mod in_place;
 mod new_file;
 mod progress_line;

@@ -3,6 +3,7 @@
 ghost use Rattle.std.specs.Prelude.{◌≡◌, false, None, IfOk};
 ghost use Rattle.file_tree.specs.Files.{silent};
 
+use crate::folder::open_folder;
 use crate::in_place::write_over;
 use crate::new_file::{Old, replace};
 use file_tree::fault::TreeFault;
@@ -162,10 +163,19 @@ impl SystemTree {
         new: &[u8],
         writing: Writing,
     ) -> Result<(), TreeFault> {
+        let (folder, name) = match path.rsplit_once('/') {
+            Some((folder, name)) => (&path[..folder.len() + 1], name),
+            None => ("", path),
+        };
+        let folder = open_folder(&self.rt, folder)?;
+        let front = folder.front.as_str();
+        let Ok(path) = format!(in self.rt.alloc(); "{front}{name}") else {
+            return Err(TreeFault::OutOfMemory);
+        };
         let Ok(mut file) = OpenOptions::new()
             .read(true)
             .write(true)
-            .open(&self.rt, path)
+            .open(&self.rt, path.as_str())
         else {
             return Err(TreeFault::NotWritable);
         };
@@ -173,11 +183,11 @@ impl SystemTree {
             return Err(TreeFault::Unreadable);
         };
         let old = Old {
-            path,
+            path: path.as_str(),
             bytes,
             metadata,
         };
-        match replace(&self.rt, &mut file, &old, new, writing) {
+        match replace(&self.rt, &folder, &mut file, &old, new, writing) {
             Err(TreeFault::NoneBeside | TreeFault::NotReplaced) if writing.in_place => {
                 write_over(&mut file, bytes, new, writing.sync)
             }

@@ -1,3 +1,4 @@
 pub mod AskedPartLemmas
 pub mod PathLemmas
 pub mod ProgramRunLemmas
+pub mod UsageLemmas

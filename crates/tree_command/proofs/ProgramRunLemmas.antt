@@ -72,16 +72,16 @@ status_kept true s s' e ne h = ne e
 status_kept false s s' e ne h = ne (e ∙ h)
 
 -- the files are those of before the walk
-formats_from : (mode : Mode) (shard : Option Shard) (paths : List Name) (files mid : Files) (was walked : Faults) (after : State) (end : End) (found : List Found) → mid ≡ files → IsPartOf files shard paths found
+formats_from : (mode : Mode) (shard : Option Shard) (paths : List Name) (files mid : Files) (was walked : Faults) (after : State) (end : End) (found : List Found) → mid ≡ files → IsPartOf files was walked shard paths found
     → IsRun mode found (last_words end.out.failed) (record { files = mid; faults = walked }) after end
     → (end.status ≢ 4 → All (λ f. Settled mode (mid.told (mid.real f.name.items)) (after.files.told (mid.real f.name.items))) found)
     → ((name : Name) → All (λ f. name ≢ mid.real f.name.items) found → after.files.told name ≡ mid.told name)
     → Formats mode shard paths (record { files = files; faults = was }) after end
 formats_from mode shard paths files mid was walked after end found same finds run done untouched =
-    subst (λ (f : Files). Formats mode shard paths (record { files = f; faults = was }) after end) same (record { found = found; finds = subst (λ (f : Files). IsPartOf f shard paths found) (sym same) finds; walked = walked; run = run; done = done; untouched = untouched })
+    subst (λ (f : Files). Formats mode shard paths (record { files = f; faults = was }) after end) same (record { found = found; finds = subst (λ (f : Files). IsPartOf f was walked shard paths found) (sym same) finds; walked = walked; run = run; done = done; untouched = untouched })
 
 -- standard error failed while the files were reported
-pub formats_stopped : (mode : Mode) (shard : Option Shard) (paths : List Name) (files mid : Files) (was walked : Faults) (after : State) (out err : Writer) (s : ℕ) (found : List Found) → mid ≡ files → IsPartOf files shard paths found
+pub formats_stopped : (mode : Mode) (shard : Option Shard) (paths : List Name) (files mid : Files) (was walked : Faults) (after : State) (out err : Writer) (s : ℕ) (found : List Found) → mid ≡ files → IsPartOf files was walked shard paths found
     → IsRun mode found [] (record { files = mid; faults = walked }) after (record { out = out; err = err; status = s })
     → ((name : Name) → All (λ f. name ≢ mid.real f.name.items) found → after.files.told name ≡ mid.told name) → err.failed ≡ true
     → Formats mode shard paths (record { files = files; faults = was }) after (record { out = out; err = err; status = 4 })
@@ -91,7 +91,7 @@ formats_stopped mode shard paths files mid was walked after out err s found same
     (λ ne. absurd (ne refl)) untouched
 
 -- it didn't
-formats_said : (mode : Mode) (shard : Option Shard) (paths : List Name) (files mid : Files) (was walked : Faults) (after : State) (out err fin : Writer) (s s' : ℕ) (found : List Found) → mid ≡ files → IsPartOf files shard paths found
+formats_said : (mode : Mode) (shard : Option Shard) (paths : List Name) (files mid : Files) (was walked : Faults) (after : State) (out err fin : Writer) (s s' : ℕ) (found : List Found) → mid ≡ files → IsPartOf files was walked shard paths found
     → IsRun mode found [] (record { files = mid; faults = walked }) after (record { out = out; err = err; status = s })
     → (s ≢ 4 → All (λ f. Settled mode (mid.told (mid.real f.name.items)) (after.files.told (mid.real f.name.items))) found)
     → ((name : Name) → All (λ f. name ≢ mid.real f.name.items) found → after.files.told name ≡ mid.told name)
@@ -102,7 +102,7 @@ formats_said mode shard paths files mid was walked after out err fin s s' found 
     (run_said mode found (record { files = mid; faults = walked }) after out err s run (last_words out.failed) fin s' good before took status)
     (λ ne. done (status_kept (out.failed || fin.failed) s s' status ne)) untouched
 
-pub formats_finished : (mode : Mode) (shard : Option Shard) (paths : List Name) (files mid : Files) (was walked : Faults) (after : State) (out err fin : Writer) (s s' : ℕ) (found : List Found) (p : Program) → mid ≡ files → IsPartOf files shard paths found
+pub formats_finished : (mode : Mode) (shard : Option Shard) (paths : List Name) (files mid : Files) (was walked : Faults) (after : State) (out err fin : Writer) (s s' : ℕ) (found : List Found) (p : Program) → mid ≡ files → IsPartOf files was walked shard paths found
     → IsRun mode found [] (record { files = mid; faults = walked }) after (record { out = out; err = err; status = s })
     → (s ≢ 4 → All (λ f. Settled mode (mid.told (mid.real f.name.items)) (after.files.told (mid.real f.name.items))) found)
     → ((name : Name) → All (λ f. name ≢ mid.real f.name.items) found → after.files.told name ≡ mid.told name)

@@ -1,10 +1,11 @@
 //! A run over any tree and any devices.
 
 ghost use Rattle.std.specs.Prelude.{◌≡◌, ℕ, List, [], false, IfOk, map};
-ghost use Rattle.command_line.specs.Rows.{ShowsOne, end_of};
+ghost use Rattle.command_line.specs.Rows.{Shows, end_of};
 ghost use Rattle.file_tree.specs.Files.{Tells};
-ghost use Rattle.tree_command.specs.Ends.{FormatsNamed, FormatsOr, IsBadLine, IsEnd, IsPartOf, ReadsAndFormats, formatter};
+ghost use Rattle.tree_command.specs.Ends.{FormatsNamed, FormatsOr, IsEnd, IsPartOf, ReadsAndFormats, formatter, usage_row};
 ghost use Rattle.tree_command.specs.Line.{mode_of_words};
+ghost use Rattle.tree_command.specs.declared.usage.Usage.TheVariants.{BadLine};
 ghost use Rattle.tree_command.specs.Paths.{paths_of_input, paths_of_line, without_last_nul};
 ghost use Rattle.tree_format.specs.declared.mode.Mode.{Mode};
 ghost use Rattle.tree_format.specs.Runs.{IsSafe, Kept};
@@ -49,7 +50,7 @@ fn find_part<T: Tree>(
 ) -> Result<Vec<Found>, AllocError>
     // Nothing is changed.
     ensures files { T.files tree.new ≡ T.files tree.old }
-    ensures finds { IfOk result (λ found. IsPartOf (T.files tree.old) shard (map (λ operand. operand.now) operands.now) found.items) }
+    ensures finds { IfOk result (λ found. IsPartOf (T.files tree.old) (T.faults tree.old) (T.faults tree.new) shard (map (λ operand. operand.now) operands.now) found.items) }
 {
     let found = find(alloc, operands, tree)?;
     pick(alloc, found, shard)
@@ -86,14 +87,8 @@ fn run<T: Tree, P: Progress, O: ByteSink, E: ByteSink>(
     }
 }
 
-/// Why no names were read.
-enum NoNames {
-    ReadFailed,
-    OutOfMemory,
-}
-
-/// All that a device has left.
-fn read_names<R: ByteSource>(alloc: Global, input: &mut R) -> Result<Vec<u8>, NoNames>
+/// All that a device has left, unless a read fails or memory runs out.
+fn read_names<R: ByteSource>(alloc: Global, input: &mut R) -> Result<Vec<u8>, AllocError>
     requires { R.failed input.old ≡ false }
     ensures { IfOk result (λ names. Tells (R.left input.old) names.items) }
 {
@@ -102,15 +97,11 @@ fn read_names<R: ByteSource>(alloc: Global, input: &mut R) -> Result<Vec<u8>, No
     for _ in 0..u64::MAX {
         match input.read(&mut buffer) {
             Ok(0) => return Ok(bytes),
-            Ok(n) => {
-                if bytes.extend_from_slice(&buffer[..n]).is_err() {
-                    return Err(NoNames::OutOfMemory);
-                }
-            }
-            Err(Failed) => return Err(NoNames::ReadFailed),
+            Ok(n) => bytes.extend_from_slice(&buffer[..n])?,
+            Err(Failed) => return Err(AllocError),
         }
     }
-    Err(NoNames::ReadFailed)
+    Err(AllocError)
 }
 
 /// Names without the NUL at their end.
@@ -186,14 +177,14 @@ fn run_null<T: Tree, P: Progress, R: ByteSource, O: ByteSink, E: ByteSink>(
     requires err { E.failed err.old ≡ false }
     // However the run goes, each file is then as it was, or, where files are to be written, it has the format of its bytes.
     ensures kept { (name : List ℕ) → Kept mode ((T.files tree.old).told name) ((T.files tree.new).told name) }
-    ensures ends { ReadsAndFormats mode shard (R.left input.old) (record { files = T.files tree.old; faults = T.faults tree.old }) (record { files = T.files tree.new; faults = T.faults tree.new }) (end_of O.ByteSink out.old out.new E.ByteSink err.old err.new result) }
+    ensures ends { ReadsAndFormats mode shard (R.failed input.new) (R.left input.old) (record { files = T.files tree.old; faults = T.faults tree.old }) (record { files = T.files tree.new; faults = T.faults tree.new }) (end_of O.ByteSink out.old out.new E.ByteSink err.old err.new result) }
 {
-    let names = match read_names(alloc, input) {
-        Ok(names) => names,
-        Err(NoNames::ReadFailed) => {
-            return formatter().tell(out, err, READ_FAILED, FAILURE);
-        }
-        Err(NoNames::OutOfMemory) => return formatter().tell_out_of_memory(out, err),
+    let read = read_names(alloc, input);
+    if input.has_failed() {
+        return formatter().tell(out, err, READ_FAILED, FAILURE);
+    }
+    let Ok(names) = read else {
+        return formatter().tell_out_of_memory(out, err);
     };
     match operands_in(alloc, names.as_slice()) {
         Ok(operands) => run(
@@ -247,9 +238,23 @@ fn run_named<T: Tree, P: Progress, O: ByteSink, E: ByteSink>(
 pub fn bad_line<O: ByteSink, E: ByteSink>(out: &mut O, err: &mut E) -> u8
     requires out { O.failed out.old ≡ false }
     requires err { E.failed err.old ≡ false }
-    ensures { ShowsOne formatter IsBadLine (end_of O.ByteSink out.old out.new E.ByteSink err.old err.new result) }
+    ensures { Shows formatter (usage_row BadLine) (end_of O.ByteSink out.old out.new E.ByteSink err.old err.new result) }
 {
     formatter().tell(out, err, USAGE, 2)
+}
+
+/// Says what words are answered that ask for no run.
+fn say<O: ByteSink, E: ByteSink>(usage: Usage, out: &mut O, err: &mut E) -> u8
+    requires out { O.failed out.old ≡ false }
+    requires err { E.failed err.old ≡ false }
+    ensures { Shows formatter (usage_row usage) (end_of O.ByteSink out.old out.new E.ByteSink err.old err.new result) }
+{
+    match usage {
+        Usage::Help => formatter().deliver(out, err, HELP, 0),
+        Usage::Version => formatter().deliver(out, err, VERSION, 0),
+        Usage::BadLine => bad_line(out, err),
+        Usage::OutOfMemory => formatter().tell_out_of_memory(out, err),
+    }
 }
 
 /// The whole program over any tree and any devices.
@@ -271,7 +276,7 @@ pub fn program<T: Tree, P: Progress, R: ByteSource, O: ByteSink, E: ByteSink>(
     // It has its format only where the words ask for that.
     ensures kept { (mode : Mode) → mode_of_words (map (λ word. word.now) words.now) ≡ Some mode → (name : List ℕ) → Kept mode ((T.files tree.old).told name) ((T.files tree.new).told name) }
     // What was looked at and said, and with which status it ends.
-    ensures ends { IsEnd (map (λ word. word.now) words.now) (R.left input.old) (record { files = T.files tree.old; faults = T.faults tree.old }) (record { files = T.files tree.new; faults = T.faults tree.new }) (end_of O.ByteSink out.old out.new E.ByteSink err.old err.new result) }
+    ensures ends { IsEnd (map (λ word. word.now) words.now) (R.failed input.new) (R.left input.old) (record { files = T.files tree.old; faults = T.faults tree.old }) (record { files = T.files tree.new; faults = T.faults tree.new }) (end_of O.ByteSink out.old out.new E.ByteSink err.old err.new result) }
 {
     match options(alloc, words) {
         Ok(options) if options.null => run_null(
@@ -294,9 +299,6 @@ pub fn program<T: Tree, P: Progress, R: ByteSource, O: ByteSink, E: ByteSink>(
             out,
             err,
         ),
-        Err(Usage::Help) => formatter().deliver(out, err, HELP, 0),
-        Err(Usage::Version) => formatter().deliver(out, err, VERSION, 0),
-        Err(Usage::BadLine) => bad_line(out, err),
-        Err(Usage::OutOfMemory) => formatter().tell_out_of_memory(out, err),
+        Err(usage) => say(usage, out, err),
     }
 }

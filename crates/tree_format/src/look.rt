@@ -2,6 +2,7 @@
 
 ghost use Rattle.std.specs.Prelude.{◌≡◌, ◌≢◌, ◌≤◌, Some, length, IfOk, IfErr};
 ghost use Rattle.hcl_layout.specs.Print.{print};
+ghost use Rattle.hcl_source.specs.Devices.{Tells};
 ghost use Rattle.hcl_source.specs.Load.{max_source, IsText};
 ghost use Rattle.tree_format.specs.Looks.{Looks, Notes, Visits};
 ghost use Rattle.tree_format.specs.declared.mode.Mode.TheVariants.{Write};
@@ -44,6 +45,7 @@ fn write_print<T: Tree>(
 ) -> Outcome
     requires changed { print accepted.now.tokens ≢ accepted.now.text }
     requires fits { length (print accepted.now.tokens) ≤ max_source }
+    requires old { Tells ((T.files tree.old).told ((T.files tree.old).real name.now)) accepted.now.text }
     ensures makes { Makes (Write writing) (T.files tree.old) (T.files tree.new) name.now ((T.files tree.old).real name.now) accepted.now result }
     ensures notes { Notes (T.faults tree.old) (T.faults tree.new) result }
 {
@@ -82,6 +84,7 @@ fn change<T: Tree>(
     accepted: &Accepted<'_, '_>,
     tree: &mut T,
 ) -> Outcome
+    requires old { Tells ((T.files tree.old).told ((T.files tree.old).real name.now)) accepted.now.text }
     ensures makes { Makes mode (T.files tree.old) (T.files tree.new) name.now ((T.files tree.old).real name.now) accepted.now result }
     ensures notes { Notes (T.faults tree.old) (T.faults tree.new) result }
 {
@@ -110,7 +113,8 @@ fn change_source<T: Tree>(
     source: &Source,
     tree: &mut T,
 ) -> Outcome
-    requires { IsText source.now }
+    requires text { IsText source.now }
+    requires old { Tells ((T.files tree.old).told ((T.files tree.old).real name.now)) source.now }
     ensures looks { Looks mode (T.files tree.old) (T.files tree.new) name.now ((T.files tree.old).real name.now) source.now result }
     ensures notes { Notes (T.faults tree.old) (T.faults tree.new) result }
 {

@@ -1,14 +1,14 @@
 //! That a run shows and leaves what its row and its failures say.
 
-use crate::calls::Step;
 use crate::compared::{At, holds, same_bytes, same_number};
 use crate::devices::{Devices, Ended};
-use crate::entry::{Entry, Stands};
 use crate::expected::{Line, Said, Shown, lines_after, lines_of, shown_lines, shown_text};
 use crate::rows::Row;
 use hcl_scan::ByteSink;
 use std::alloc::Global;
 use std::process::Abort;
+use tree_devices::calls::Step;
+use tree_devices::entry::{Entry, Stands};
 
 static READ_FAILED: &[u8] = b"tffmt-all: error: read failed\n";
 

@@ -2,12 +2,12 @@
 
 ghost use Rattle.std.specs.Prelude.{◌≡◌, false};
 
-use crate::calls::{Failures, STEADY};
-use crate::entry::Entry;
-use crate::memory_tree::MemoryTree;
 use hcl_scan::{ByteSource, MemorySink, MemorySource};
 use std::alloc::{AllocError, Global};
 use tree_command::run::program;
+use tree_devices::calls::{Failures, STEADY};
+use tree_devices::entry::Entry;
+use tree_devices::memory_tree::MemoryTree;
 use tree_format::outcome::Outcome;
 use tree_format::progress::Progress;
 

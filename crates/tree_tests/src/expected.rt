@@ -1,10 +1,10 @@
 //! What a run is to show, by what is said of each name: worked out by the stated rules, apart from the program.
 
-use crate::calls::Step;
 use crate::devices::Devices;
 use file_tree::fault::TreeFault;
 use std::alloc::Global;
 use std::process::Abort;
+use tree_devices::calls::Step;
 
 /// What is said of a name.
 #[derive(Clone, Copy, Debug)]

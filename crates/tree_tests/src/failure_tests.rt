@@ -2,7 +2,6 @@
 //! of standard output and the flush that a run reaches, and with each of them each write of the messages, with one byte a call
 //! of a stream and with many.
 
-use crate::calls::{Failures, STEADY};
 use crate::checks::check;
 use crate::compared::{At, same_number};
 use crate::devices::{Devices, Ended, run, steady};
@@ -13,6 +12,7 @@ use crate::rows::{
 use hcl_scan::{ByteSink, SINK_ROOM};
 use std::alloc::Global;
 use std::process::Abort;
+use tree_devices::calls::{Failures, STEADY};
 
 // More calls of one kind than any run here makes.
 const CALLS: usize = 1_000;

@@ -1,9 +1,9 @@
 //! Trees, words and what is said: worked out by hand.
 
 use crate::compared::Words;
-use crate::entry::{Entry, Stands};
 use crate::expected::{Lines, Said};
 use file_tree::fault::TreeFault;
+use tree_devices::entry::{Entry, Stands};
 
 /// What a run shows on both streams that looks at no file, and its status.
 pub type Text = (&'static str, &'static str, u8);

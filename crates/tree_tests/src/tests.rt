@@ -3,7 +3,6 @@
 use crate::checks::check;
 use crate::compared::{At, Words, holds, repeated, same_bytes, same_number};
 use crate::devices::{run, steady};
-use crate::entry::{Entry, Stands};
 use crate::expected::Said;
 use crate::rows::{
     BAD_WORD, CHECKS, LISTS, NAMES_GIVEN, OF_EACH_KIND, ONLY_IN_PLACE, Row, SHOWS, SMALL, SYNCS,
@@ -13,6 +12,7 @@ use hcl_scan::SINK_ROOM;
 use std::alloc::Global;
 use std::process::Abort;
 use tree_command::usage::HELP;
+use tree_devices::entry::{Entry, Stands};
 
 // Runs over what a row is given, and checks what is left.
 fn shows(rt: &impl Abort, alloc: Global, row: &Row) {

@@ -2,14 +2,14 @@
 use Rattle.std.specs.Prelude.{◌≡◌, ◌≢◌, ◌⊎◌, ℕ, Bool, true, false, List, [], ◌∷◌, ◌++◌, Option, Some, None, map}
 use Rattle.std.specs.List.{Contains}
 use Rattle.file_tree.specs.Below.{IsBelow, IsGiven, is_met, listed}
-use Rattle.file_tree.specs.Files.{Files, Name}
+use Rattle.file_tree.specs.Files.{Faults, Files, Name, with_faults}
 use Rattle.hcl_source.specs.Devices.{Tells}
 use Rattle.file_tree.specs.Finds.{HasName, IsFolderOf, IsFound, IsOf, Rises}
 use Rattle.file_tree.specs.Names.{is_taken}
 use Rattle.file_tree.specs.Paths.{inside, place, reported, tidied, top}
 use Rattle.file_tree.specs.declared.fault.TreeFault.{TreeFault}
 use Rattle.file_tree.specs.declared.kind.Kind.{Kind}
-use Rattle.file_tree.specs.declared.kind.Kind.TheVariants.{File, Folder, Link}
+use Rattle.file_tree.specs.declared.kind.Kind.TheVariants.{File, Folder, Link, Other}
 use Rattle.file_tree.specs.declared.walk.Found.{Found}
 use Rattle.file_tree.specs.declared.walk.Walk.{Walk}
 
@@ -40,26 +40,31 @@ pub record Enters (folder : Name) (old new : Reached) : Type 0 where
 abbrev pub Reports : Name → Reached → Reached → Type 0
 Reports name old new = (fault : TreeFault) × Adds name (Some fault) old new
 
-abbrev pub is_file : Kind → Bool
-is_file File = true
-is_file Link = true
-is_file _ = false
-
 -- what stands under this name, whose last part this is, is a file that is taken, and it was found; or nothing was
 abbrev pub TakesIf : Bool → Name → Reached → Reached → Type 0
 TakesIf true path old new = Adds path None old new
 TakesIf false path old new = new ≡ old
 
+-- what a link adds that leads to this, or that can't be followed
+abbrev pub TakesLinked : Kind → Name → Reached → Reached → Type 0
+TakesLinked Folder path old new = new ≡ old
+TakesLinked _ path old new = Adds path None old new
+
+-- what a link adds, of a name that is taken or isn't
+abbrev pub TakesLink : Bool → Files → Name → Reached → Reached → Type 0
+TakesLink true files path old new = Reports path old new ⊎ ((kind : Kind) × Tells (files.kind path) kind × TakesLinked kind path old new)
+TakesLink false files path old new = new ≡ old
+
 -- what an entry of this kind adds
-abbrev pub TakesKind : Kind → Name → Name → Reached → Reached → Type 0
-TakesKind Folder path name old new = Enters (path ++ (47 ∷ [])) old new
-TakesKind File path name old new = TakesIf (is_taken name) path old new
-TakesKind Link path name old new = TakesIf (is_taken name) path old new
-TakesKind _ path name old new = new ≡ old
+abbrev pub TakesKind : Kind → Files → Name → Name → Reached → Reached → Type 0
+TakesKind Folder files path name old new = Enters (path ++ (47 ∷ [])) old new
+TakesKind (File identity) files path name old new = TakesIf (is_taken name) path old new
+TakesKind Link files path name old new = TakesLink (is_taken name) files path old new
+TakesKind Other files path name old new = new ≡ old
 
 -- what an entry adds that is met
 abbrev pub TakesMet : Files → Name → Name → Reached → Reached → Type 0
-TakesMet files folder name old new = Reports (folder ++ name) old new ⊎ ((kind : Kind) × Tells (files.entry (folder ++ name)) kind × TakesKind kind (folder ++ name) name old new)
+TakesMet files folder name old new = Reports (folder ++ name) old new ⊎ ((kind : Kind) × Tells (files.entry (folder ++ name)) kind × TakesKind kind files (folder ++ name) name old new)
 
 -- what an entry adds
 abbrev pub TakesEntry : Files → Name → Name → Reached → Reached → Type 0
@@ -108,3 +113,20 @@ pub record Orders (found ordered : List Found) : Type 0 where
   pub only : (f : Found) → Contains ordered f → Contains found f
   pub kept : (name : Name) → IsFound found name → IsFound ordered name
   pub named : (name : Name) → HasName found name → HasName ordered name
+
+-- ---- what the device's calls answered
+
+abbrev pub faults_of : Option TreeFault → List TreeFault
+faults_of None = []
+faults_of (Some fault) = fault ∷ []
+
+-- the faults of names that were reported, in the order in which they were met
+abbrev pub faults_in : List Found → List TreeFault
+faults_in [] = []
+faults_in (f ∷ found) = faults_of f.fault ++ faults_in found
+
+-- the calls that failed since are those whose faults were reported
+pub record Hears (old new : List Found) (before after : Faults) : Type 0 where
+  pub more : List Found
+  pub found : new ≡ old ++ more
+  pub heard : after ≡ with_faults before (faults_in more)

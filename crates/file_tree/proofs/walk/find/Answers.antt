@@ -1,9 +1,14 @@
 use Rattle.std.proofs.Common.{map}
 use Rattle.file_tree.specs.Inner.Walking.{reached}
 use Rattle.file_tree.proofs.TreeWalkLemmas.{finds_found}
+use Rattle.file_tree.proofs.HearLemmas.{found_real}
 use Rattle.file_tree.proofs.walk.find.Goals as goal
 
 pub returns-clause-finds : goal.returns-clause-finds
 returns-clause-finds g c =
     finds_found (g.T.Tree.files c.args.tree.now) (g.T.Tree.files c.over.new.tree) (map (λ operand. operand.now) c.args.operands.now) (reached c.in_ok-walk.walk) c.look_into_all.new.self.found.items c.in_order.result.items
     c.over.ensures.files c.in_ok-walk.ensures.walked c.in_ok-look_into_all.ensures.walked c.in_order.ensures
+
+pub returns-clause-real : goal.returns-clause-real
+returns-clause-real g c =
+    found_real _ _ _ _ _ _ c.in_ok-walk.ensures.hears c.in_ok-look_into_all.ensures.hears c.in_order.ensures

@@ -7,5 +7,5 @@ use Rattle.tree_command.proofs.run.find_part.Goals as goal
 pub returns-clause-finds : goal.returns-clause-finds
 returns-clause-finds g c =
     if_ok_more c.pick.result (λ p. p.items ≡ picked_of c.args.shard c.in_ok-found.found.items)
-    (λ p. IsPartOf (g.T.Tree.files c.args.tree.now) c.args.shard (map (λ operand. operand.now) c.args.operands.now) p.items)
-    c.pick.ensures (λ p e. (c.in_ok-found.found.items, c.in_ok-found.ensures.finds, e))
+    (λ p. IsPartOf (g.T.Tree.files c.args.tree.now) (g.T.Tree.faults c.args.tree.now) (g.T.Tree.faults c.find.new.tree) c.args.shard (map (λ operand. operand.now) c.args.operands.now) p.items)
+    c.pick.ensures (λ p e. (c.in_ok-found.found.items, c.in_ok-found.ensures.finds, c.in_ok-found.ensures.real, e))

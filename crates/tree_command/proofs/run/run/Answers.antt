@@ -7,11 +7,11 @@ pub returns-then-has_failed-clause-ends : goal.returns-then-has_failed-clause-en
 returns-then-has_failed-clause-ends g c =
     let files = g.T.Tree.files c.args.tree.now in let mid = g.T.Tree.files c.find_part.new.tree in
     let was = g.T.Tree.faults c.args.tree.now in let walked = g.T.Tree.faults c.find_part.new.tree in
-    inr (formats_stopped c.args.mode c.args.shard (map (λ operand. operand.now) c.args.operands.now) files mid was walked _ _ _ c.run_over-status.result _ c.find_part.ensures.files (subst (λ l. IsPartOf files c.args.shard (map (λ operand. operand.now) c.args.operands.now) l) (sym c.as_slice.ensures.value) c.in-Ok.ensures.finds) c.run_over-status.ensures.ran c.run_over-status.ensures.untouched (sym c.has_failed.ensures ∙ c.if-has_failed.true))
+    inr (formats_stopped c.args.mode c.args.shard (map (λ operand. operand.now) c.args.operands.now) files mid was walked _ _ _ c.run_over-status.result _ c.find_part.ensures.files (subst (λ l. IsPartOf files was walked c.args.shard (map (λ operand. operand.now) c.args.operands.now) l) (sym c.as_slice.ensures.value) c.in-Ok.ensures.finds) c.run_over-status.ensures.ran c.run_over-status.ensures.untouched (sym c.has_failed.ensures ∙ c.if-has_failed.true))
 
 pub returns-else-has_failed-clause-ends : goal.returns-else-has_failed-clause-ends
 returns-else-has_failed-clause-ends g c =
     let files = g.T.Tree.files c.args.tree.now in let mid = g.T.Tree.files c.find_part.new.tree in
     let was = g.T.Tree.faults c.args.tree.now in let walked = g.T.Tree.faults c.find_part.new.tree in
-    inr (formats_finished c.args.mode c.args.shard (map (λ operand. operand.now) c.args.operands.now) files mid was walked _ _ _ _ c.run_over-status.result c.finish.result _ _ c.find_part.ensures.files (subst (λ l. IsPartOf files c.args.shard (map (λ operand. operand.now) c.args.operands.now) l) (sym c.as_slice.ensures.value) c.in-Ok.ensures.finds) c.run_over-status.ensures.ran c.run_over-status.ensures.done c.run_over-status.ensures.untouched
+    inr (formats_finished c.args.mode c.args.shard (map (λ operand. operand.now) c.args.operands.now) files mid was walked _ _ _ _ c.run_over-status.result c.finish.result _ _ c.find_part.ensures.files (subst (λ l. IsPartOf files was walked c.args.shard (map (λ operand. operand.now) c.args.operands.now) l) (sym c.as_slice.ensures.value) c.in-Ok.ensures.finds) c.run_over-status.ensures.ran c.run_over-status.ensures.done c.run_over-status.ensures.untouched
     (sym c.has_failed.ensures ∙ c.if-has_failed.false) refl c.formatter.ensures c.finish.ensures.took c.finish.ensures.exit)

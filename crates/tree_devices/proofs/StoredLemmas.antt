@@ -4,8 +4,8 @@ use Rattle.std.specs.Prelude.{IsSome, find, is_some, option_map, if◌then◌els
 use Rattle.std.specs.Str.{bytes_eq}
 use Rattle.std.proofs.lemmas.Slice.Eq.{bytes_eq-Decides}
 use Rattle.file_tree.specs.Files.{Name, put}
-use Rattle.tree_tests.specs.MemoryFiles.{files_in, text_in}
-use Rattle.tree_tests.specs.declared.stored.Stored.{Stored}
+use Rattle.tree_devices.specs.MemoryFiles.{files_in, text_in}
+use Rattle.tree_devices.specs.declared.stored.Stored.{Stored}
 
 given : (o : Option (List ℕ)) (bytes : List ℕ) → IsSome o → Some bytes ≡ option_map (λ _. bytes) o
 given None bytes h = absurd (true≢false (sym h))

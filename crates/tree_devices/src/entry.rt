@@ -1,6 +1,6 @@
 //! What a tree in memory is made of.
 
-use file_tree::kind::Kind;
+use file_tree::kind::{Identity, Kind};
 
 /// What stands under a name.
 #[derive(Clone, Copy, Debug, PartialEq, Eq)]
@@ -18,11 +18,11 @@ pub enum Stands<'a> {
 }
 
 impl<'a> Stands<'a> {
-    /// What it is, a link being one.
-    pub fn kind(self) -> Kind {
+    /// What it is, a link being one, where its file is this one.
+    pub fn kind(self, identity: Identity) -> Kind {
         match self {
             Stands::Folder => Kind::Folder,
-            Stands::File(_) | Stands::Busy(_) | Stands::Gone => Kind::File,
+            Stands::File(_) | Stands::Busy(_) | Stands::Gone => Kind::File(identity),
             Stands::Link(_) => Kind::Link,
             Stands::Pipe => Kind::Other,
         }

@@ -1,7 +1,7 @@
 //! The calls of a tree in memory, and which of them fail.
 
 use file_tree::fault::TreeFault;
-use file_tree::tree::Writing;
+use file_tree::tree::{Replaced, Writing};
 use std::alloc::Global;
 
 /// What a call does.
@@ -62,6 +62,8 @@ pub struct Failures {
     pub making: bool,
     /// Each removal of a file that was made beside another.
     pub removal: bool,
+    /// The keeping of each file's group.
+    pub group: bool,
 }
 
 /// No call fails.
@@ -71,6 +73,7 @@ pub const STEADY: Failures = Failures {
     read: None,
     making: false,
     removal: false,
+    group: false,
 };
 
 /// The calls so far: how many there were, and which failed.
@@ -191,23 +194,34 @@ impl Calls {
         self.make(Step::Overwriting, name)
     }
 
-    /// All that a replacement does until the new bytes are there.
+    /// What a new file keeps of the rights to the old one.
+    fn kept(&self) -> Replaced {
+        if self.failures.group {
+            Replaced::Narrowed
+        } else {
+            Replaced::Kept
+        }
+    }
+
+    /// All that a replacement does until the new bytes are there. What is written over keeps all rights.
     pub fn replace(
         &mut self,
         name: &[u8],
         is_link: bool,
         is_same: bool,
         writing: Writing,
-    ) -> Result<(), TreeFault> {
+    ) -> Result<Replaced, TreeFault> {
         if is_link {
             self.make(Step::Following, name)?;
         }
         self.make(Step::OpeningOld, name)?;
         match self.put_beside(name, is_same, writing.sync) {
+            Ok(()) => Ok(self.kept()),
             Err(TreeFault::NoneBeside | TreeFault::NotReplaced) if writing.in_place => {
-                self.write_over(name, is_same)
+                self.write_over(name, is_same)?;
+                Ok(Replaced::Kept)
             }
-            done => done,
+            Err(fault) => Err(fault),
         }
     }
 }

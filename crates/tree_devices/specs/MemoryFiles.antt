@@ -2,7 +2,7 @@
 use Rattle.std.specs.Prelude.{ℕ, List, Option, None, find, option_map, unwrap_or}
 use Rattle.std.specs.Str.{bytes_eq}
 use Rattle.file_tree.specs.Files.{Files, Name}
-use Rattle.tree_tests.specs.declared.stored.Stored.{Stored}
+use Rattle.tree_devices.specs.declared.stored.Stored.{Stored}
 
 -- the first text that is stored under a name
 abbrev pub text_in : List Stored → Name → Option (List ℕ)

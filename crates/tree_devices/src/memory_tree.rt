@@ -3,20 +3,21 @@
 ghost use Rattle.std.specs.Prelude.{◌≡◌, false, IfOk, None, OnErr, OnOk, Some, find, option_map};
 ghost use Rattle.std.specs.Str.{bytes_eq};
 ghost use Rattle.file_tree.specs.Files.{put};
-ghost use Rattle.tree_tests.specs.MemoryFiles.{files_in, real_in, text_in};
+ghost use Rattle.tree_devices.specs.MemoryFiles.{files_in, real_in, text_in};
 
 use crate::calls::{Calls, Failures, Step};
 use crate::entry::{Entry, Stands};
 use crate::memory_reader::MemoryReader;
 use crate::stored::Stored;
 use file_tree::fault::TreeFault;
-use file_tree::kind::Kind;
-use file_tree::tree::{Tree, Writing};
+use file_tree::kind::{Identity, Kind};
+use file_tree::tree::{Replaced, Tree, WritableTree, Writing};
 use hcl_scan::ByteSource;
 use std::alloc::{AllocError, Global};
 
 /// Folders, files, links and pipes in memory. It tells the bytes of its files, and where its links lead; a link to a link
-/// leads nowhere. A name that isn't UTF-8 it doesn't take, as the system's.
+/// leads nowhere. A file is told from others by the number of its entry. A name that isn't UTF-8 it doesn't take, as the
+/// system's.
 #[derive(Drop)]
 pub struct MemoryTree<'a> {
     alloc: Global,
@@ -141,13 +142,35 @@ impl<'a> MemoryTree<'a> {
         None
     }
 
+    /// What tells the file of this name from others: how many entries stand before its own.
+    fn identity_of(&self, name: &[u8]) -> Identity {
+        let name = plain(name);
+        let inode = self
+            .entries
+            .iter()
+            .take_while(|entry| entry.name != name)
+            .count();
+        Identity {
+            device: 1,
+            inode: inode as u64,
+        }
+    }
+
+    /// What a name stands for, a link being one, where it stands for something.
+    fn kind_at(&self, name: &[u8]) -> Option<Kind> {
+        match self.stands(name) {
+            Some(stands) => Some(stands.kind(self.identity_of(name))),
+            None => None,
+        }
+    }
+
     /// What a name stands for, a link being one.
     fn entry_kind_of(&self, name: &[u8]) -> Result<Kind, TreeFault> {
         if std::str::from_utf8(name).is_err() {
             return Err(TreeFault::NotUtf8);
         }
-        match self.stands(name) {
-            Some(stands) => Ok(stands.kind()),
+        match self.kind_at(name) {
+            Some(kind) => Ok(kind),
             None if name == b"-".as_slice() => Err(TreeFault::NoInput),
             None => Err(TreeFault::Missing),
         }
@@ -158,8 +181,8 @@ impl<'a> MemoryTree<'a> {
         let Some(Stands::Link(to)) = self.stands(name) else {
             return self.entry_kind_of(name);
         };
-        match self.stands(to) {
-            Some(stands) if stands.kind() != Kind::Link => Ok(stands.kind()),
+        match self.kind_at(to) {
+            Some(kind) if kind != Kind::Link => Ok(kind),
             _ => Err(TreeFault::DeadLink),
         }
     }
@@ -186,7 +209,7 @@ impl<'a> MemoryTree<'a> {
             return Some(TreeFault::Missing);
         }
         match self.kind_of(name) {
-            Ok(Kind::File) => None,
+            Ok(Kind::File(_)) => None,
             Ok(_) => Some(TreeFault::NotAFile),
             Err(fault) => Some(fault),
         }
@@ -249,6 +272,8 @@ impl<'a> Tree for MemoryTree<'a> {
 
     ghost faults = { λ s. None };
 
+    ghost asked = { λ s. None };
+
     #[tactic(auto, using(file_tree::proofs::FileLemmas::silent_noted))]
     fn kind(&mut self, name: &[u8]) -> Result<Kind, TreeFault> {
         match self.calls.make(Step::Kind, name) {
@@ -290,7 +315,9 @@ impl<'a> Tree for MemoryTree<'a> {
             self.calls.note_read();
         }
     }
+}
 
+impl<'a> WritableTree for MemoryTree<'a> {
     #[tactic(auto, using(file_tree::proofs::FileLemmas::silent_noted))]
     fn replace(
         &mut self,
@@ -298,11 +325,15 @@ impl<'a> Tree for MemoryTree<'a> {
         old: &[u8],
         new: &[u8],
         writing: Writing,
-    ) -> Result<(), TreeFault> {
+    ) -> Result<Replaced, TreeFault> {
         let is_link = self.entry_kind_of(name) == Ok(Kind::Link);
         let is_same = self.has_bytes(name, old);
-        match self.calls.replace(name, is_link, is_same, writing) {
-            Ok(()) => self.put(name, new),
+        let replaced = match self.calls.replace(name, is_link, is_same, writing) {
+            Ok(replaced) => replaced,
+            Err(fault) => return Err(fault),
+        };
+        match self.put(name, new) {
+            Ok(()) => Ok(replaced),
             Err(fault) => Err(fault),
         }
     }

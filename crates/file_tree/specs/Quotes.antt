@@ -1,0 +1,30 @@
+-- How a name is shown, in diffs and reports: as GNU diff and git show it.
+use Rattle.std.specs.Prelude.{ℕ, ◌==◌, ◌||◌, ◌&&◌, ◌+◌, ◌-◌, ◌/◌, ◌%◌, not, Bool, List, [], ◌∷◌, ◌++◌, codes, flat_map, get_or, nat_le, nat_lt, if◌then◌else◌}
+use Rattle.std.specs.List.{list_any}
+use Rattle.file_tree.specs.Files.{Name}
+
+-- below blank, or DEL
+abbrev pub is_control : ℕ → Bool
+is_control b = nat_lt b 32 || b == 127
+
+-- a byte for which a name is quoted: a control, `"` or `\`
+abbrev pub is_odd : ℕ → Bool
+is_odd b = is_control b || (b == 34 || b == 92)
+
+-- `\a`, `\b`, `\t`, `\n`, `\v`, `\f` and `\r` are 7 to 13
+abbrev pub letter : ℕ → ℕ
+letter b = get_or (codes "abtnvfr") (b - 7) 0
+
+-- `\"` and `\\`, a letter, or three octal digits
+abbrev pub escape : ℕ → List ℕ
+escape b =
+    if b == 34 || b == 92 then 92 ∷ b ∷ []
+    else (if nat_le 7 b && nat_le b 13 then 92 ∷ letter b ∷ []
+    else 92 ∷ (48 + b / 64) ∷ (48 + b / 8 % 8) ∷ (48 + b % 8) ∷ [])
+
+abbrev pub shown_byte : ℕ → List ℕ
+shown_byte b = if is_odd b then escape b else b ∷ []
+
+-- A NAME AS IT IS SHOWN: itself, or between double quotes where it has an odd byte
+abbrev pub quoted : Name → List ℕ
+quoted name = if list_any is_odd name then 34 ∷ (flat_map shown_byte name ++ 34 ∷ []) else name

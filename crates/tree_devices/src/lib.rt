@@ -1,0 +1,9 @@
+//! Trees in memory, for tests and as devices that tell what they have: of one the calls fail that are named, and the other's
+//! calls go by a plan.
+#![tactic(auto)]
+
+pub mod calls;
+pub mod entry;
+pub mod memory_reader;
+pub mod memory_tree;
+pub mod stored;
