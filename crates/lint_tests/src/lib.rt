@@ -6,3 +6,5 @@
 mod checks;
 #[cfg(test)]
 mod lists;
+#[cfg(test)]
+mod runs;
