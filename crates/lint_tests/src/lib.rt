@@ -5,6 +5,12 @@
 #[cfg(test)]
 mod checks;
 #[cfg(test)]
+mod documents;
+#[cfg(test)]
+mod form_rows;
+#[cfg(test)]
+mod forms;
+#[cfg(test)]
 mod lists;
 #[cfg(test)]
 mod runs;
