@@ -8,4 +8,4 @@ mod rule;
 mod rule_set;
 
 pub use rule::{ALL_RULES, Rule, Severity, rank, rule_named};
-pub use rule_set::{RuleSet, rules_of_both};
+pub use rule_set::{RuleSet, rules_of_both, rules_without};

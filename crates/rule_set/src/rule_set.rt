@@ -1,6 +1,6 @@
 //! Sets of rules.
 
-ghost use Rattle.std.specs.Prelude.{◌≡◌, ◌||◌, false, true};
+ghost use Rattle.std.specs.Prelude.{◌≡◌, ◌||◌, ◌&&◌, not, false, true};
 ghost use Rattle.std.specs.List.{list_any};
 ghost use Rattle.rule_set.specs.Rules.{all_rules, is_recommended, is_rule};
 ghost use Rattle.rule_set.specs.RuleSets.{holds};
@@ -88,4 +88,21 @@ pub fn rules_of_both(one: RuleSet, other: RuleSet) -> RuleSet
         joined[number] = either(one.held[number], other.held[number]);
     }
     RuleSet { held: joined }
+}
+
+fn first_alone(one: bool, other: bool) -> bool
+    ensures { result ≡ (one && not other) }
+{
+    one && !other
+}
+
+/// The rules of a set that another hasn't.
+pub fn rules_without(one: RuleSet, other: RuleSet) -> RuleSet
+    ensures { (rule : Rule) → holds result rule ≡ (holds one rule && not (holds other rule)) }
+{
+    let mut left = one.held;
+    for number in 0..10 {
+        left[number] = first_alone(one.held[number], other.held[number]);
+    }
+    RuleSet { held: left }
 }

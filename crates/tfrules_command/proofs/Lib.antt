@@ -1,4 +1,5 @@
 pub mod ListLemmas
+pub mod ModuleRowLemmas
 pub mod NameLemmas
 pub mod PageLemmas
 pub mod ReportPieceLemmas

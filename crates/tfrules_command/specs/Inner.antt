@@ -4,3 +4,4 @@ pub mod Outcomes
 pub mod Pages
 pub mod Pieces
 pub mod Steps
+pub mod Written

@@ -1,4 +1,5 @@
 pub mod Line
+pub mod Parted
 pub mod Asked
 pub mod Files
 pub mod Report

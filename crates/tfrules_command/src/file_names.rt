@@ -11,7 +11,7 @@ use std::marker::Model;
 /// The most files that a line may give.
 pub const MAX_FILES: usize = 256;
 
-/// One to `MAX_FILES` names of files, none twice. Only the reading of a line makes them.
+/// One to `MAX_FILES` names of files, none twice.
 #[derive(Debug, Drop)]
 pub struct FileNames<'a> {
     names: Vec<&'a str>,
@@ -53,7 +53,7 @@ fn add_name<'a>(names: &mut Vec<&'a str>, name: &'a str) -> Result<(), AllocErro
 
 impl<'a> FileNames<'a> {
     /// These names, each once, in the order of their first mention.
-    pub(crate) fn new(alloc: Global, given: &[&'a str]) -> Result<FileNames<'a>, AllocError>
+    pub fn new(alloc: Global, given: &[&'a str]) -> Result<FileNames<'a>, AllocError>
         requires few { length given.now ≤ max_files }
         requires some { 0 < length given.now }
         ensures { IfOk result (λ names. names ≡ each_once (map (λ name. name.now) given.now)) }

@@ -131,6 +131,7 @@ pub fn gather<'a, M: ModuleFiles>(
     requires back { M.is_out files.old ≡ false }
     requires none { facts.old ≡ nothing }
     ensures gathers { Gathers (M.told files.old) names.now (M.open_failed files.new) (M.read_failed files.new) facts.new result }
+    ensures told { (other : List ℕ) → M.told files.new other ≡ M.told files.old other }
     ensures back { M.is_out files.new ≡ false }
 {
     let mut size = 0;

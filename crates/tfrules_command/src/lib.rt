@@ -6,6 +6,7 @@ pub mod file_names;
 mod gather;
 pub mod laws;
 pub mod module_files;
+pub mod module_run;
 pub mod options;
 mod report;
 pub mod run;

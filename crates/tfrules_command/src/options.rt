@@ -89,7 +89,7 @@ fn rules_asked(text: &str) -> Option<RuleSet>
 }
 
 /// The naming that a text asks for.
-fn naming_asked(text: &str) -> Option<Naming>
+pub fn naming_asked(text: &str) -> Option<Naming>
     ensures { result ≡ naming_asked text.now }
 {
     if text == "snake_case" {
@@ -102,7 +102,7 @@ fn naming_asked(text: &str) -> Option<Naming>
 }
 
 /// The severity that a text asks for.
-fn severity_asked(text: &str) -> Option<Severity>
+pub fn severity_asked(text: &str) -> Option<Severity>
     ensures { result ≡ severity_asked text.now }
 {
     if text == "error" {

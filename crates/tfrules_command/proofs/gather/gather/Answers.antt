@@ -30,3 +30,6 @@ returns-clause-gathers g c =
     let all : length c.args.names.now ≤ c.loop-number.number = omega (arith, c.len-number-end.ensures.len, c.loop-number-test.false) in
     let kept = c.loop-number.invariant in
     (kept.0, (c.loop-number.size, subst (λ names. Reached (g.M.ModuleFiles.told c.args.files.now) names c.loop-number.size c.loop-number.facts) (take_all c.loop-number.number c.args.names.now all) kept.3))
+
+pub returns-in-Err-clause-told : goal.returns-in-Err-clause-told
+returns-in-Err-clause-told g c other = c.in-Err.ensures.told other ∙ c.loop-number.invariant.1 other

@@ -1,0 +1,6 @@
+pub mod AddsLemmas
+pub mod NumberLemmas
+pub mod SarifLemmas
+pub mod ShapeLemmas
+pub mod ValuesLemmas
+pub mod WholeLemmas

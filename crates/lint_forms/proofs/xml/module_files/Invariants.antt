@@ -1,0 +1,6 @@
+use Rattle.std.proofs.Common.{◌≡◌, flat_map, take}
+use Rattle.lint_forms.specs.Xml.{checkstyle_file}
+use Rattle.lint_forms.proofs.xml.module_files.Given as goal
+
+abbrev pub invariant-loop-remark : goal.invariant-loop-remark
+invariant-loop-remark l = l.text.items ≡ flat_map checkstyle_file (take l.remark-index l.remarks)

@@ -1,0 +1,5 @@
+-- Words for the code's own parts, which its inner contracts use. Nobody has to believe them.
+pub mod AddsTokens
+pub mod Parts
+pub mod SarifParts
+pub mod Shapes

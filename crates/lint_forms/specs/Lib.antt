@@ -1,0 +1,13 @@
+pub mod Words
+pub mod Values
+pub mod RuleTexts
+pub mod Tflint
+pub mod Sarif
+pub mod Gitlab
+pub mod Lines
+pub mod Xml
+pub mod Marks
+pub mod Places
+pub mod Forms
+pub mod Laws
+pub mod Inner

@@ -1,0 +1,110 @@
+-- SARIF 2.1.0. A file that is refused is a result with a rule of its own, after those of the linter. Columns are counted in
+-- UTF-16 code units.
+use Rattle.std.specs.Prelude.{ℕ, ◌==◌, ◌++◌, ◌∷◌, [], not, List, Option, Some, None, codes, decimal, map}
+use Rattle.json.specs.Json.{Json, array, boolean, item, member, no_items, no_members, number, object, string}
+use Rattle.json.specs.Token.{Token, begin_array, begin_object, end_array, end_object, key}
+use Rattle.json.specs.Tree.{json_tokens}
+use Rattle.rule_set.specs.Rules.{all_rules, rank, rule_name}
+use Rattle.rule_set.specs.declared.rule.Rule.{Rule}
+use Rattle.lint_forms.specs.RuleTexts.{reason, reports}
+use Rattle.lint_forms.specs.Values.{json_items}
+use Rattle.lint_forms.specs.Words.{level_word, rule_id}
+use Rattle.lint_forms.specs.declared.remark.Remark.{Remark}
+
+abbrev pub text_json : List ℕ → Json
+text_json text = object (member (codes "text") (string text) no_members)
+
+-- ---- rules
+
+abbrev pub configuration_json : List ℕ → Json
+configuration_json level = object (member (codes "level") (string level) no_members)
+
+abbrev pub help_json : List ℕ → List ℕ → Json
+help_json text markdown = object (member (codes "text") (string text) (member (codes "markdown") (string markdown) no_members))
+
+-- a rule of this name: what it reports, that and why, why, where more is said of it, and its level
+abbrev pub described : List ℕ → List ℕ → List ℕ → List ℕ → List ℕ → List ℕ → Json
+described name short full why page level =
+    object (member (codes "id") (string name) (member (codes "shortDescription") (text_json short) (member (codes "fullDescription") (text_json full)
+    (member (codes "help") (help_json full why) (member (codes "helpUri") (string page) (member (codes "defaultConfiguration") (configuration_json level) no_members))))))
+
+abbrev pub full_text : List ℕ → List ℕ → List ℕ
+full_text short why = codes "Reports " ++ (short ++ (codes ". " ++ why))
+
+-- TFLint's page on the rule
+abbrev pub page_of : List ℕ → List ℕ
+page_of name = codes "https://github.com/terraform-linters/tflint-ruleset-terraform/blob/main/docs/rules/" ++ (name ++ codes ".md")
+
+abbrev pub rule_json : Rule → Json
+rule_json rule = described (rule_name rule) (reports rule) (full_text (reports rule) (reason rule)) (reason rule) (page_of (rule_name rule)) (level_word (Some rule))
+
+-- that of files that are refused
+abbrev pub refusal_json : Json
+refusal_json =
+    object (member (codes "id") (string (rule_id None)) (member (codes "shortDescription") (text_json (codes "files that can't be linted"))
+    (member (codes "defaultConfiguration") (configuration_json (codes "error")) no_members)))
+
+-- ---- results
+
+abbrev pub rule_index : Option Rule → ℕ
+rule_index None = 10
+rule_index (Some rule) = rank rule
+
+abbrev pub region_json : Remark → Json
+region_json r = object (member (codes "startLine") (number (decimal r.line)) (member (codes "startColumn") (number (decimal r.units)) no_members))
+
+abbrev pub location_json : Remark → Json
+location_json r =
+    object (member (codes "physicalLocation") (object (member (codes "artifactLocation") (object (member (codes "uri") (string r.uri.now) no_members))
+    (member (codes "region") (region_json r) no_members))) no_members)
+
+abbrev pub marks_json : Remark → Json
+marks_json r = object (member (codes "primaryLocationLineHash") (string r.mark.now) (member (codes "tfrulesIssue/v1") (string r.mark.now) no_members))
+
+-- a result by a rule of this name, number and level
+abbrev pub result_by : List ℕ → ℕ → List ℕ → Remark → Json
+result_by name index level r =
+    object (member (codes "ruleId") (string name) (member (codes "ruleIndex") (number (decimal index)) (member (codes "level") (string level)
+    (member (codes "message") (text_json r.text.now) (member (codes "locations") (array (item (location_json r) no_items))
+    (member (codes "partialFingerprints") (marks_json r) no_members))))))
+
+-- A RESULT
+abbrev pub result_json : Remark → Json
+result_json r = result_by (rule_id r.rule) (rule_index r.rule) (level_word r.rule) r
+
+-- ---- the document
+
+abbrev pub tool_json : List ℕ → Json
+tool_json version =
+    object (member (codes "driver") (object (member (codes "name") (string (codes "tfrules-all")) (member (codes "version") (string version)
+    (member (codes "rules") (array (json_items (map rule_json all_rules ++ refusal_json ∷ []))) no_members)))) no_members)
+
+-- how the run ended: where something failed, its status is 1
+abbrev pub invocation_json : ℕ → Json
+invocation_json status =
+    object (member (codes "executionSuccessful") (boolean (not (status == 1))) (member (codes "exitCode") (number (decimal status)) no_members))
+
+abbrev pub run_json : List ℕ → ℕ → List Remark → Json
+run_json version status rs =
+    object (member (codes "tool") (tool_json version) (member (codes "columnKind") (string (codes "utf16CodeUnits"))
+    (member (codes "results") (array (json_items (map result_json rs))) (member (codes "invocations") (array (item (invocation_json status) no_items)) no_members))))
+
+-- THE DOCUMENT of what is said of all modules, by the program of a version in a run of a status
+abbrev pub sarif_json : List ℕ → ℕ → List Remark → Json
+sarif_json version status rs =
+    object (member (codes "$schema") (string (codes "https://json.schemastore.org/sarif-2.1.0.json")) (member (codes "version") (string (codes "2.1.0"))
+    (member (codes "runs") (array (item (run_json version status rs) no_items)) no_members)))
+
+-- ---- its parts
+
+-- the tokens before the results
+abbrev pub sarif_head : List ℕ → List Token
+sarif_head version =
+    begin_object ∷ key (codes "$schema") ∷ Token.string (codes "https://json.schemastore.org/sarif-2.1.0.json") ∷ key (codes "version") ∷ Token.string (codes "2.1.0")
+    ∷ key (codes "runs") ∷ begin_array ∷ begin_object ∷ key (codes "tool") ∷ (json_tokens (tool_json version)
+    ++ key (codes "columnKind") ∷ Token.string (codes "utf16CodeUnits") ∷ key (codes "results") ∷ begin_array ∷ [])
+
+-- and those after them
+abbrev pub sarif_foot : ℕ → List Token
+sarif_foot status =
+    end_array ∷ key (codes "invocations") ∷ begin_array ∷ (json_tokens (invocation_json status) ++ end_array ∷ end_object ∷ end_array ∷ end_object ∷ [])

@@ -1,0 +1,26 @@
+//! The forms in which forges and editors read what is said of modules: their issues, and why files are refused.
+//!
+//! The module [`laws`] holds what is proved of the definitions alone.
+#![tactic(auto)]
+
+pub mod form;
+mod gitlab;
+mod kind;
+pub mod laws;
+mod lines;
+pub mod marks;
+mod part;
+mod parts;
+pub mod places;
+mod remark;
+pub mod rule_texts;
+mod sarif;
+mod shape;
+mod tflint;
+mod tflint_frame;
+mod values;
+mod words;
+mod xml;
+
+pub use kind::Form;
+pub use remark::Remark;

@@ -1,0 +1,291 @@
+//! SARIF 2.1.0.
+
+ghost use Rattle.std.specs.Prelude.{◌≡◌, ◌++◌, IfOk};
+ghost use Rattle.std.specs.String.{string_bytes};
+ghost use Rattle.json.specs.Print.{print};
+ghost use Rattle.json.specs.Tree.{json_tokens};
+ghost use Rattle.lint_forms.specs.Inner.AddsTokens.{AddsTokens};
+ghost use Rattle.lint_forms.specs.Inner.SarifParts.{results_head, rules_tokens, sarif_start};
+ghost use Rattle.lint_forms.specs.Sarif.{described, full_text, page_of, refusal_json, result_json, rule_index, rule_json, sarif_foot, sarif_head};
+ghost use Rattle.lint_forms.specs.Values.{json_text};
+
+use crate::part::JsonPart;
+use crate::parts::{with_parts, write_parts};
+use crate::remark::Remark;
+use crate::rule_texts::{reason, reports};
+use crate::words::{level_word, rule_id};
+use json::Writer;
+use rule_set::{ALL_RULES, Rule, rank};
+use std::alloc::{AllocError, Global};
+
+/// The number of a rule among those that the document describes.
+fn rule_index(rule: Option<Rule>) -> u32
+    ensures { result ≡ rule_index rule }
+{
+    match rule {
+        Some(rule) => rank(rule) as u32,
+        None => 10,
+    }
+}
+
+/// A text, and a result after it.
+pub(crate) fn with_result(text: Vec<u8>, remark: Remark<'_>) -> Result<Vec<u8>, AllocError>
+    ensures { IfOk result (λ l. l.items ≡ text.items ++ json_text (result_json remark.entry)) }
+{
+    let name = rule_id(remark.rule);
+    let index = rule_index(remark.rule);
+    let level = level_word(remark.rule);
+    with_parts(
+        text,
+        &[
+            JsonPart::Object,
+            JsonPart::Key("ruleId"),
+            JsonPart::Text(name),
+            JsonPart::Key("ruleIndex"),
+            JsonPart::Number(index),
+            JsonPart::Key("level"),
+            JsonPart::Text(level),
+            JsonPart::Key("message"),
+            JsonPart::Object,
+            JsonPart::Key("text"),
+            JsonPart::Text(remark.text),
+            JsonPart::EndObject,
+            JsonPart::Key("locations"),
+            JsonPart::Array,
+            JsonPart::Object,
+            JsonPart::Key("physicalLocation"),
+            JsonPart::Object,
+            JsonPart::Key("artifactLocation"),
+            JsonPart::Object,
+            JsonPart::Key("uri"),
+            JsonPart::Text(remark.uri),
+            JsonPart::EndObject,
+            JsonPart::Key("region"),
+            JsonPart::Object,
+            JsonPart::Key("startLine"),
+            JsonPart::Number(remark.line),
+            JsonPart::Key("startColumn"),
+            JsonPart::Number(remark.units),
+            JsonPart::EndObject,
+            JsonPart::EndObject,
+            JsonPart::EndObject,
+            JsonPart::EndArray,
+            JsonPart::Key("partialFingerprints"),
+            JsonPart::Object,
+            JsonPart::Key("primaryLocationLineHash"),
+            JsonPart::Text(remark.mark),
+            JsonPart::Key("tfrulesIssue/v1"),
+            JsonPart::Text(remark.mark),
+            JsonPart::EndObject,
+            JsonPart::EndObject,
+        ],
+    )
+}
+
+/// What a rule reports, and why, in two sentences.
+fn full_text(alloc: Global, short: &str, why: &str) -> Result<String, AllocError>
+    ensures { IfOk result (λ text. string_bytes text ≡ full_text short.now why.now) }
+{
+    format!(in alloc; "Reports {}. {}", short, why)
+}
+
+/// Where TFLint's page on a rule is.
+fn page_of(alloc: Global, name: &str) -> Result<String, AllocError>
+    ensures { IfOk result (λ text. string_bytes text ≡ page_of name.now) }
+{
+    format!(in alloc;
+        "https://github.com/terraform-linters/tflint-ruleset-terraform/blob/main/docs/rules/{}.md",
+        name
+    )
+}
+
+/// What the document says of a rule of these texts.
+fn write_described<'a>(
+    writer: &mut Writer,
+    name: &'a str,
+    short: &'a str,
+    full: &'a str,
+    why: &'a str,
+    page: &'a str,
+    level: &'a str,
+) -> Result<(), AllocError>
+    ensures { AddsTokens result writer.old writer.new (json_tokens
+        (described name.now short.now full.now why.now page.now level.now)) }
+{
+    write_parts(
+        writer,
+        &[
+            JsonPart::Object,
+            JsonPart::Key("id"),
+            JsonPart::Text(name),
+            JsonPart::Key("shortDescription"),
+            JsonPart::Object,
+            JsonPart::Key("text"),
+            JsonPart::Text(short),
+            JsonPart::EndObject,
+            JsonPart::Key("fullDescription"),
+            JsonPart::Object,
+            JsonPart::Key("text"),
+            JsonPart::Text(full),
+            JsonPart::EndObject,
+            JsonPart::Key("help"),
+            JsonPart::Object,
+            JsonPart::Key("text"),
+            JsonPart::Text(full),
+            JsonPart::Key("markdown"),
+            JsonPart::Text(why),
+            JsonPart::EndObject,
+            JsonPart::Key("helpUri"),
+            JsonPart::Text(page),
+            JsonPart::Key("defaultConfiguration"),
+            JsonPart::Object,
+            JsonPart::Key("level"),
+            JsonPart::Text(level),
+            JsonPart::EndObject,
+            JsonPart::EndObject,
+        ],
+    )
+}
+
+/// What it says of a rule.
+fn write_rule(alloc: Global, writer: &mut Writer, rule: Rule) -> Result<(), AllocError>
+    ensures { AddsTokens result writer.old writer.new (json_tokens (rule_json rule)) }
+{
+    let name = rule.name();
+    let short = reports(rule);
+    let why = reason(rule);
+    let full = full_text(alloc, short, why)?;
+    let page = page_of(alloc, name)?;
+    let level = level_word(Some(rule));
+    write_described(
+        writer,
+        name,
+        short,
+        full.as_str(),
+        why,
+        page.as_str(),
+        level,
+    )
+}
+
+/// What it says of the rule for files that are refused.
+fn write_refusal_rule(writer: &mut Writer) -> Result<(), AllocError>
+    ensures { AddsTokens result writer.old writer.new (json_tokens refusal_json) }
+{
+    write_parts(
+        writer,
+        &[
+            JsonPart::Object,
+            JsonPart::Key("id"),
+            JsonPart::Text("refused_file"),
+            JsonPart::Key("shortDescription"),
+            JsonPart::Object,
+            JsonPart::Key("text"),
+            JsonPart::Text("files that can't be linted"),
+            JsonPart::EndObject,
+            JsonPart::Key("defaultConfiguration"),
+            JsonPart::Object,
+            JsonPart::Key("level"),
+            JsonPart::Text("error"),
+            JsonPart::EndObject,
+            JsonPart::EndObject,
+        ],
+    )
+}
+
+/// What it says of these rules.
+fn write_rules(alloc: Global, writer: &mut Writer, rules: &[Rule]) -> Result<(), AllocError>
+    ensures { AddsTokens result writer.old writer.new (rules_tokens rules.now) }
+{
+    for rule in rules {
+        write_rule(alloc, writer, *rule)?;
+    }
+    Ok(())
+}
+
+fn write_start(writer: &mut Writer, version: &str) -> Result<(), AllocError>
+    ensures { AddsTokens result writer.old writer.new (sarif_start version.now) }
+{
+    write_parts(
+        writer,
+        &[
+            JsonPart::Object,
+            JsonPart::Key("$schema"),
+            JsonPart::Text("https://json.schemastore.org/sarif-2.1.0.json"),
+            JsonPart::Key("version"),
+            JsonPart::Text("2.1.0"),
+            JsonPart::Key("runs"),
+            JsonPart::Array,
+            JsonPart::Object,
+            JsonPart::Key("tool"),
+            JsonPart::Object,
+            JsonPart::Key("driver"),
+            JsonPart::Object,
+            JsonPart::Key("name"),
+            JsonPart::Text("tfrules-all"),
+            JsonPart::Key("version"),
+            JsonPart::Text(version),
+            JsonPart::Key("rules"),
+            JsonPart::Array,
+        ],
+    )
+}
+
+fn write_results_head(writer: &mut Writer) -> Result<(), AllocError>
+    ensures { AddsTokens result writer.old writer.new results_head }
+{
+    write_parts(
+        writer,
+        &[
+            JsonPart::EndArray,
+            JsonPart::EndObject,
+            JsonPart::EndObject,
+            JsonPart::Key("columnKind"),
+            JsonPart::Text("utf16CodeUnits"),
+            JsonPart::Key("results"),
+            JsonPart::Array,
+        ],
+    )
+}
+
+fn write_head(alloc: Global, writer: &mut Writer, version: &str) -> Result<(), AllocError>
+    ensures { AddsTokens result writer.old writer.new (sarif_head version.now) }
+{
+    write_start(writer, version)?;
+    write_rules(alloc, writer, &ALL_RULES)?;
+    write_refusal_rule(writer)?;
+    write_results_head(writer)
+}
+
+/// What stands before the results.
+pub(crate) fn head(alloc: Global, version: &str) -> Result<Vec<u8>, AllocError>
+    ensures { IfOk result (λ text. text.items ≡ print (sarif_head version.now)) }
+{
+    let mut writer = Writer::new(Vec::new(alloc));
+    write_head(alloc, &mut writer, version)?;
+    Ok(writer.into_inner())
+}
+
+/// What stands after them, in a run of this status.
+pub(crate) fn foot(alloc: Global, status: u8) -> Result<Vec<u8>, AllocError>
+    ensures { IfOk result (λ text. text.items ≡ print (sarif_foot status)) }
+{
+    with_parts(
+        Vec::new(alloc),
+        &[
+            JsonPart::EndArray,
+            JsonPart::Key("invocations"),
+            JsonPart::Array,
+            JsonPart::Object,
+            JsonPart::Key("executionSuccessful"),
+            JsonPart::Flag(status != 1),
+            JsonPart::Key("exitCode"),
+            JsonPart::Number(status as u32),
+            JsonPart::EndObject,
+            JsonPart::EndArray,
+            JsonPart::EndObject,
+            JsonPart::EndArray,
+            JsonPart::EndObject,
+        ],
+    )
+}

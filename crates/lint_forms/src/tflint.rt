@@ -1,0 +1,95 @@
+//! The form of TFLint's own JSON.
+
+ghost use Rattle.std.specs.Prelude.{◌≡◌, ◌++◌, IfOk};
+ghost use Rattle.lint_forms.specs.Tflint.{error_json, issue_json};
+ghost use Rattle.lint_forms.specs.Values.{json_text};
+
+use crate::part::JsonPart;
+use crate::parts::with_parts;
+use crate::remark::Remark;
+use crate::words::{rule_id, severity_word};
+use std::alloc::AllocError;
+
+/// A text, and an issue after it.
+pub(crate) fn with_issue(text: Vec<u8>, remark: Remark<'_>) -> Result<Vec<u8>, AllocError>
+    ensures { IfOk result (λ l. l.items ≡ text.items ++ json_text (issue_json remark.entry)) }
+{
+    let name = rule_id(remark.rule);
+    let severity = severity_word(remark.rule);
+    with_parts(
+        text,
+        &[
+            JsonPart::Object,
+            JsonPart::Key("rule"),
+            JsonPart::Object,
+            JsonPart::Key("name"),
+            JsonPart::Text(name),
+            JsonPart::Key("severity"),
+            JsonPart::Text(severity),
+            JsonPart::Key("link"),
+            JsonPart::Text(""),
+            JsonPart::EndObject,
+            JsonPart::Key("message"),
+            JsonPart::Text(remark.text),
+            JsonPart::Key("range"),
+            JsonPart::Object,
+            JsonPart::Key("filename"),
+            JsonPart::Text(remark.file),
+            JsonPart::Key("start"),
+            JsonPart::Object,
+            JsonPart::Key("line"),
+            JsonPart::Number(remark.line),
+            JsonPart::Key("column"),
+            JsonPart::Number(remark.column),
+            JsonPart::EndObject,
+            JsonPart::Key("end"),
+            JsonPart::Object,
+            JsonPart::Key("line"),
+            JsonPart::Number(remark.line),
+            JsonPart::Key("column"),
+            JsonPart::Number(remark.column),
+            JsonPart::EndObject,
+            JsonPart::EndObject,
+            JsonPart::Key("callers"),
+            JsonPart::Array,
+            JsonPart::EndArray,
+            JsonPart::EndObject,
+        ],
+    )
+}
+
+/// A text, and after it why a file is refused.
+pub(crate) fn with_error(text: Vec<u8>, remark: Remark<'_>) -> Result<Vec<u8>, AllocError>
+    ensures { IfOk result (λ l. l.items ≡ text.items ++ json_text (error_json remark.entry)) }
+{
+    with_parts(
+        text,
+        &[
+            JsonPart::Object,
+            JsonPart::Key("message"),
+            JsonPart::Text(remark.text),
+            JsonPart::Key("severity"),
+            JsonPart::Text("error"),
+            JsonPart::Key("range"),
+            JsonPart::Object,
+            JsonPart::Key("filename"),
+            JsonPart::Text(remark.file),
+            JsonPart::Key("start"),
+            JsonPart::Object,
+            JsonPart::Key("line"),
+            JsonPart::Number(remark.line),
+            JsonPart::Key("column"),
+            JsonPart::Number(remark.column),
+            JsonPart::EndObject,
+            JsonPart::Key("end"),
+            JsonPart::Object,
+            JsonPart::Key("line"),
+            JsonPart::Number(remark.line),
+            JsonPart::Key("column"),
+            JsonPart::Number(remark.column),
+            JsonPart::EndObject,
+            JsonPart::EndObject,
+            JsonPart::EndObject,
+        ],
+    )
+}

@@ -1,0 +1,271 @@
+//! XML in the forms of Checkstyle and of JUnit.
+
+ghost use Rattle.std.specs.Prelude.{◌≡◌, ◌++◌, not, IfOk, OnOk, chars, filter, flat_map, length, string_bytes};
+ghost use Rattle.lint_forms.specs.Words.{is_issue};
+ghost use Rattle.lint_forms.specs.Xml.{attribute_char, attribute_text, case_head, case_tail, checkstyle_file, file_head, file_middle, file_tail, junit_case, junit_cases, junit_suite, kept_or_replaced, outcome_word, spot, suite_head, tests_of};
+
+use crate::remark::Remark;
+use crate::words::{is_issue, rule_id, severity_of, severity_word};
+use rule_set::Rule;
+use std::alloc::{AllocError, Global};
+
+static NO_ISSUE: &str = "<testcase classname=\"tfrules\" name=\"no issue\"/>\n";
+
+fn push_kept_or_replaced(c: char, text: &mut String) -> Result<(), AllocError>
+    ensures { OnOk result (string_bytes text.new ≡ string_bytes text.old ++ kept_or_replaced c) }
+{
+    if c < ' ' || c == '\u{fffe}' || c == '\u{ffff}' {
+        return text.push_str("\u{fffd}");
+    }
+    text.push(c)
+}
+
+fn push_attribute_char(c: char, text: &mut String) -> Result<(), AllocError>
+    ensures { OnOk result (string_bytes text.new ≡ string_bytes text.old ++ attribute_char c) }
+{
+    if c == '&' {
+        return text.push_str("&amp;");
+    }
+    if c == '<' {
+        return text.push_str("&lt;");
+    }
+    if c == '>' {
+        return text.push_str("&gt;");
+    }
+    if c == '"' {
+        return text.push_str("&quot;");
+    }
+    if c == '\t' {
+        return text.push_str("&#9;");
+    }
+    if c == '\n' {
+        return text.push_str("&#10;");
+    }
+    if c == '\r' {
+        return text.push_str("&#13;");
+    }
+    push_kept_or_replaced(c, text)
+}
+
+/// A text between quotes.
+fn attribute_text(alloc: Global, text: &str) -> Result<String, AllocError>
+    ensures { IfOk result (λ s. string_bytes s ≡ attribute_text text.now) }
+{
+    let mut escaped = String::new(alloc);
+    for c in text.chars() {
+        push_attribute_char(c, &mut escaped)?;
+    }
+    Ok(escaped)
+}
+
+/// An error in the form of Checkstyle, with its file, up to its place.
+fn file_head(alloc: Global, remark: Remark<'_>) -> Result<String, AllocError>
+    ensures { IfOk result (λ s. string_bytes s ≡ file_head remark.entry) }
+{
+    let file = attribute_text(alloc, remark.file)?;
+    format!(in alloc;
+        "<file name=\"{}\"><error line=\"{}\" column=\"{}",
+        file.as_str(),
+        remark.line,
+        remark.column
+    )
+}
+
+/// What comes before its message.
+fn file_middle(alloc: Global, remark: Remark<'_>) -> Result<String, AllocError>
+    ensures { IfOk result (λ s. string_bytes s ≡ file_middle remark.entry) }
+{
+    let severity = severity_word(remark.rule);
+    format!(in alloc; "\" severity=\"{}\" message=\"", severity)
+}
+
+/// Its message, and the rest of it.
+fn file_tail(alloc: Global, remark: Remark<'_>) -> Result<String, AllocError>
+    ensures { IfOk result (λ s. string_bytes s ≡ file_tail remark.entry) }
+{
+    let mut text = attribute_text(alloc, remark.text)?;
+    text.push_str("\" source=\"")?;
+    text.push_str(rule_id(remark.rule))?;
+    text.push_str("\"/></file>\n")?;
+    Ok(text)
+}
+
+/// An error in the form of Checkstyle, with its file.
+fn checkstyle_file(alloc: Global, remark: Remark<'_>) -> Result<String, AllocError>
+    ensures { IfOk result (λ s. string_bytes s ≡ checkstyle_file remark.entry) }
+{
+    let mut text = file_head(alloc, remark)?;
+    let middle = file_middle(alloc, remark)?;
+    text.push_str(middle.as_str())?;
+    let tail = file_tail(alloc, remark)?;
+    text.push_str(tail.as_str())?;
+    Ok(text)
+}
+
+fn push_file(alloc: Global, remark: Remark<'_>, text: &mut Vec<u8>) -> Result<(), AllocError>
+    ensures { OnOk result (text.new.items ≡ text.old.items ++ checkstyle_file remark.entry) }
+{
+    let file = checkstyle_file(alloc, remark)?;
+    text.extend_from_slice(file.as_bytes())
+}
+
+/// The errors of a module in the form of Checkstyle.
+pub(crate) fn module_files(alloc: Global, remarks: &[Remark<'_>]) -> Result<Vec<u8>, AllocError>
+    ensures { IfOk result (λ text. text.items ≡ flat_map checkstyle_file remarks.now) }
+{
+    let mut text = Vec::new(alloc);
+    for remark in remarks {
+        push_file(alloc, *remark, &mut text)?;
+    }
+    Ok(text)
+}
+
+/// The element for what became of a test.
+fn outcome_word(rule: Option<Rule>) -> &'static str
+    ensures { result.now ≡ outcome_word rule }
+{
+    match rule {
+        Some(_) => "failure",
+        None => "error",
+    }
+}
+
+/// Where a remark stands.
+fn spot(alloc: Global, remark: Remark<'_>) -> Result<String, AllocError>
+    ensures { IfOk result (λ text. string_bytes text ≡ spot remark.entry) }
+{
+    let file = attribute_text(alloc, remark.file)?;
+    format!(in alloc; "{}:{}:{}", file.as_str(), remark.line, remark.column)
+}
+
+/// The test of a remark up to what became of it.
+fn case_head(alloc: Global, remark: Remark<'_>) -> Result<String, AllocError>
+    ensures { IfOk result (λ s. string_bytes s ≡ case_head remark.entry) }
+{
+    let name = rule_id(remark.rule);
+    let spot = spot(alloc, remark)?;
+    let outcome = outcome_word(remark.rule);
+    format!(in alloc;
+        "<testcase classname=\"{}\" name=\"{}\"><{}",
+        name,
+        spot.as_str(),
+        outcome
+    )
+}
+
+/// The rest of it.
+fn case_tail(alloc: Global, remark: Remark<'_>) -> Result<String, AllocError>
+    ensures { IfOk result (λ s. string_bytes s ≡ case_tail remark.entry) }
+{
+    let severity = severity_of(remark.rule).text();
+    let spot = spot(alloc, remark)?;
+    let message = attribute_text(alloc, remark.text)?;
+    format!(in alloc;
+        " type=\"{}\" message=\"{}: {}\"/></testcase>\n",
+        severity,
+        spot.as_str(),
+        message.as_str()
+    )
+}
+
+/// The test of a remark.
+fn junit_case(alloc: Global, remark: Remark<'_>) -> Result<String, AllocError>
+    ensures { IfOk result (λ s. string_bytes s ≡ junit_case remark.entry) }
+{
+    let mut text = case_head(alloc, remark)?;
+    let tail = case_tail(alloc, remark)?;
+    text.push_str(tail.as_str())?;
+    Ok(text)
+}
+
+fn push_case(alloc: Global, remark: Remark<'_>, text: &mut Vec<u8>) -> Result<(), AllocError>
+    ensures { OnOk result (text.new.items ≡ text.old.items ++ junit_case remark.entry) }
+{
+    let case = junit_case(alloc, remark)?;
+    text.extend_from_slice(case.as_bytes())
+}
+
+/// The tests of some remarks.
+fn some_cases(alloc: Global, remarks: &[Remark<'_>]) -> Result<Vec<u8>, AllocError>
+    ensures { IfOk result (λ text. text.items ≡ flat_map junit_case remarks.now) }
+{
+    let mut text = Vec::new(alloc);
+    for remark in remarks {
+        push_case(alloc, *remark, &mut text)?;
+    }
+    Ok(text)
+}
+
+/// The tests of a module.
+fn junit_cases(alloc: Global, remarks: &[Remark<'_>]) -> Result<Vec<u8>, AllocError>
+    ensures { IfOk result (λ text. text.items ≡ junit_cases remarks.now) }
+{
+    if remarks.is_empty() {
+        let mut text = Vec::new(alloc);
+        text.extend_from_slice(NO_ISSUE.as_bytes())?;
+        return Ok(text);
+    }
+    some_cases(alloc, remarks)
+}
+
+/// How many tests a module has.
+fn tests_of(remarks: &[Remark<'_>]) -> usize
+    ensures { result ≡ tests_of remarks.now }
+{
+    if remarks.is_empty() {
+        return 1;
+    }
+    remarks.len()
+}
+
+fn issues_of(remarks: &[Remark<'_>]) -> usize
+    ensures { result ≡ length (filter (λ r. is_issue r.rule) remarks.now) }
+{
+    remarks
+        .iter()
+        .filter(|remark| is_issue(remark.rule))
+        .count()
+}
+
+fn refusals_of(remarks: &[Remark<'_>]) -> usize
+    ensures { result ≡ length (filter (λ r. not (is_issue r.rule)) remarks.now) }
+{
+    remarks
+        .iter()
+        .filter(|remark| !is_issue(remark.rule))
+        .count()
+}
+
+/// What stands before the tests of a module.
+fn suite_head(alloc: Global, folder: &str, remarks: &[Remark<'_>]) -> Result<String, AllocError>
+    ensures { IfOk result (λ text. string_bytes text ≡ suite_head folder.now remarks.now) }
+{
+    let name = attribute_text(alloc, folder)?;
+    let tests = tests_of(remarks);
+    let failures = issues_of(remarks);
+    let errors = refusals_of(remarks);
+    format!(in alloc;
+        "<testsuite name=\"{}\" tests=\"{}\" failures=\"{}\" errors=\"{}\">\n",
+        name.as_str(),
+        tests,
+        failures,
+        errors
+    )
+}
+
+/// The suite of a module in the form of JUnit.
+pub(crate) fn module_suite(
+    alloc: Global,
+    folder: &str,
+    remarks: &[Remark<'_>],
+) -> Result<Vec<u8>, AllocError>
+    ensures { IfOk result (λ text. text.items ≡ junit_suite folder.now remarks.now) }
+{
+    let head = suite_head(alloc, folder, remarks)?;
+    let cases = junit_cases(alloc, remarks)?;
+    let mut text = Vec::new(alloc);
+    text.extend_from_slice(head.as_bytes())?;
+    text.extend_from_slice(cases.as_slice())?;
+    text.extend_from_slice(b"</testsuite>\n")?;
+    Ok(text)
+}

@@ -1,0 +1,21 @@
+//! What these tests compare by, with one assertion each, so that it is proved once.
+
+use std::process::Abort;
+
+/// The files of modules.
+pub(crate) type Modules = &'static [&'static [&'static str]];
+
+/// Ends the test unless this is so, with what should have been so and of which row.
+pub(crate) fn holds(rt: &impl Abort, is_so: bool, what: &str, row: &str) {
+    assert!(rt; is_so, "{what}: {row}");
+}
+
+/// That bytes are the ones that are wanted of a run over modules.
+pub(crate) fn same_bytes(rt: &impl Abort, found: &[u8], wanted: &[u8], modules: Modules) {
+    assert_eq!(rt; found, wanted, "over {modules:?}");
+}
+
+/// That a number is the one that is wanted of a run over modules.
+pub(crate) fn same_number(rt: &impl Abort, found: u64, wanted: u64, modules: Modules) {
+    assert_eq!(rt; found, wanted, "over {modules:?}");
+}

@@ -1,0 +1,16 @@
+//! Tests of the linter of trees by its public items. They stand in a crate of their own, since a crate with tests is proved
+//! twice.
+#![tactic(auto)]
+
+#[cfg(test)]
+mod checks;
+#[cfg(test)]
+mod documents;
+#[cfg(test)]
+mod form_rows;
+#[cfg(test)]
+mod forms;
+#[cfg(test)]
+mod lists;
+#[cfg(test)]
+mod runs;

@@ -1,0 +1,298 @@
+//! Runs over modules of a tree in memory.
+
+ghost use Rattle.std.specs.Prelude.{◌≡◌, false};
+
+use crate::checks::{Modules, same_bytes, same_number};
+use hcl_scan::MemorySink;
+use std::alloc::{AllocError, Global};
+use std::process::Abort;
+use tf_rules::{Naming, RuleSet, Settings, Severity};
+use tfrules_command::Hashing;
+use tree_devices::calls::{Failures, STEADY};
+use tree_devices::entry::{Entry, Stands};
+use tree_devices::memory_tree::MemoryTree;
+use tree_lint::module_tree::ModuleTree;
+use tree_lint::modules::Module;
+use tree_lint::policy::Policy;
+use tree_lint::run::run_over;
+
+/// Two modules with issues, one that is refused and one without issues, which stands between them.
+static ENTRIES: &[Entry<'static>] = &[
+    Entry {
+        name: b"a/main.tf",
+        stands: Stands::File(b"variable \"x\" {}\noutput \"y\" {\n  value = var.x\n}\n"),
+    },
+    Entry {
+        name: b"b/main.tf",
+        stands: Stands::File(b"x = \n"),
+    },
+    Entry {
+        name: b"c/main.tf",
+        stands: Stands::File(b"locals {}\n"),
+    },
+    Entry {
+        name: b"d/a.tf",
+        stands: Stands::File(b"variable \"z\" {\n  type = string\n}\n"),
+    },
+    Entry {
+        name: b"d/b.tofu",
+        stands: Stands::File(b"variable \"w\" {}\n"),
+    },
+];
+
+static ALL: Modules = &[
+    &["a/main.tf"],
+    &["b/main.tf"],
+    &["c/main.tf"],
+    &["d/a.tf", "d/b.tofu"],
+];
+
+static C_ALONE: Modules = &[&["c/main.tf"]];
+
+static D_BETWEEN: Modules = &[&["c/main.tf"], &["d/a.tf", "d/b.tofu"], &["c/main.tf"]];
+
+static B_THEN_D: Modules = &[&["b/main.tf"], &["d/a.tf", "d/b.tofu"]];
+
+static EMPTY_THEN_A: Modules = &[&[], &["a/main.tf"]];
+
+static NONE: Modules = &[];
+
+static A_ALONE: Modules = &[&["a/main.tf"]];
+
+static A_THEN_B: Modules = &[&["a/main.tf"], &["b/main.tf"]];
+
+static A_THEN_D: Modules = &[&["a/main.tf"], &["d/a.tf", "d/b.tofu"]];
+
+static C_A_B: Modules = &[&["c/main.tf"], &["a/main.tf"], &["b/main.tf"]];
+
+static D_ALONE: Modules = &[&["d/a.tf", "d/b.tofu"]];
+
+static A_REPORT: &str =
+    "1 issue(s) found:\n\na/main.tf:1:1: Warning - variable \"x\" has no type (terraform_typed_variables)\n";
+
+static B_REFUSAL: &str = "tfrules: error: b/main.tf:1:5: unexpected token\n";
+
+static D_REPORT: &str =
+    "3 issue(s) found:\n\nd/a.tf:1:1: Warning - variable \"z\" is declared but not used (terraform_unused_declarations)\nd/b.tofu:1:1: Warning - variable \"w\" has no type (terraform_typed_variables)\nd/b.tofu:1:1: Warning - variable \"w\" is declared but not used (terraform_unused_declarations)\n";
+
+static BOTH_REPORTS: &str =
+    "1 issue(s) found:\n\na/main.tf:1:1: Warning - variable \"x\" has no type (terraform_typed_variables)\n\n3 issue(s) found:\n\nd/a.tf:1:1: Warning - variable \"z\" is declared but not used (terraform_unused_declarations)\nd/b.tofu:1:1: Warning - variable \"w\" has no type (terraform_typed_variables)\nd/b.tofu:1:1: Warning - variable \"w\" is declared but not used (terraform_unused_declarations)\n";
+
+/// What a run is given: the files of its modules, from which severity on an issue fails it, what fails, and after how many
+/// writes of standard output the next one fails.
+#[derive(Clone, Copy)]
+struct Given {
+    modules: Modules,
+    minimum: Severity,
+    force: bool,
+    failures: Failures,
+    write: Option<usize>,
+}
+
+/// What it shows: its reports, its messages and its status.
+#[derive(Drop)]
+struct Shown {
+    out: MemorySink,
+    err: MemorySink,
+    status: u8,
+}
+
+/// A run in which nothing fails.
+fn steady(modules: Modules) -> Given {
+    Given {
+        modules,
+        minimum: Severity::Notice,
+        force: false,
+        failures: STEADY,
+        write: None,
+    }
+}
+
+fn policy(given: &Given) -> Policy {
+    Policy {
+        settings: Settings {
+            rules: RuleSet::recommended(),
+            naming: Naming::SnakeCase,
+        },
+        minimum: given.minimum,
+        force: given.force,
+    }
+}
+
+fn module_of(alloc: Global, names: &[&str]) -> Result<Module, AllocError> {
+    let mut files = Vec::new(alloc);
+    for name in names {
+        files.push(String::from_str(alloc, *name)?)?;
+    }
+    Ok(Module { files })
+}
+
+fn modules_of(alloc: Global, given: &Given) -> Result<Vec<Module>, AllocError> {
+    let mut modules = Vec::new(alloc);
+    for names in given.modules {
+        modules.push(module_of(alloc, *names)?)?;
+    }
+    Ok(modules)
+}
+
+fn sink(write: Option<usize>) -> MemorySink
+    ensures { result.has_failed ≡ false }
+{
+    match write {
+        Some(good) => MemorySink::new(4096).failing_after(good),
+        None => MemorySink::new(4096),
+    }
+}
+
+/// Runs over modules of the tree.
+fn run(alloc: Global, given: &Given, modules: &[Module]) -> Result<Shown, AllocError> {
+    let tree = MemoryTree::new(alloc, ENTRIES, given.failures)?;
+    let mut files = ModuleTree::new(tree, Hashing::shared());
+    let mut out = sink(given.write);
+    let mut err = sink(None);
+    let status = run_over(
+        alloc,
+        policy(given),
+        modules,
+        &mut files,
+        &mut out,
+        &mut err,
+    );
+    Ok(Shown { out, err, status })
+}
+
+/// That a run shows this.
+fn shows(rt: &impl Abort, alloc: Global, given: Given, out: &str, err: &str, status: u8) {
+    let modules = modules_of(alloc, &given).expect(rt, "memory");
+    let shown = run(alloc, &given, modules.as_slice()).expect(rt, "memory");
+    same_bytes(rt, shown.out.bytes(), out.as_bytes(), given.modules);
+    same_bytes(rt, shown.err.bytes(), err.as_bytes(), given.modules);
+    same_number(
+        rt,
+        u64::from(shown.status),
+        u64::from(status),
+        given.modules,
+    );
+}
+
+#[test]
+fn a_refused_module_stops_no_other(rt: HostRuntime) {
+    shows(&rt, rt.alloc(), steady(ALL), BOTH_REPORTS, B_REFUSAL, 1);
+}
+
+#[test]
+fn the_status_is_the_worst(rt: HostRuntime) {
+    shows(&rt, rt.alloc(), steady(C_ALONE), "", "", 0);
+    shows(&rt, rt.alloc(), steady(D_BETWEEN), D_REPORT, "", 2);
+    shows(&rt, rt.alloc(), steady(B_THEN_D), D_REPORT, B_REFUSAL, 1);
+    shows(&rt, rt.alloc(), steady(EMPTY_THEN_A), A_REPORT, "", 2);
+    shows(&rt, rt.alloc(), steady(NONE), "", "", 0);
+}
+
+#[test]
+fn issues_fail_a_run_as_they_are_asked_to(rt: HostRuntime) {
+    let severe = Given {
+        minimum: Severity::Error,
+        ..steady(A_ALONE)
+    };
+    shows(&rt, rt.alloc(), severe, A_REPORT, "", 0);
+    let forced = Given {
+        force: true,
+        ..steady(A_THEN_B)
+    };
+    shows(&rt, rt.alloc(), forced, A_REPORT, B_REFUSAL, 1);
+}
+
+#[test]
+fn what_fails_at_one_module_stops_no_other(rt: HostRuntime) {
+    let unopened = Given {
+        failures: Failures {
+            call: Some(0),
+            ..STEADY
+        },
+        ..steady(A_THEN_D)
+    };
+    shows(
+        &rt,
+        rt.alloc(),
+        unopened,
+        D_REPORT,
+        "tfrules: error: a/main.tf: cannot be opened\n",
+        1,
+    );
+    let unread = Given {
+        failures: Failures {
+            read: Some((0, 0)),
+            ..STEADY
+        },
+        ..steady(A_THEN_D)
+    };
+    shows(
+        &rt,
+        rt.alloc(),
+        unread,
+        D_REPORT,
+        "tfrules: error: a/main.tf: read failed\n",
+        1,
+    );
+}
+
+#[test]
+fn a_failed_write_ends_the_run(rt: HostRuntime) {
+    let unwritten = Given {
+        write: Some(0),
+        ..steady(C_A_B)
+    };
+    shows(
+        &rt,
+        rt.alloc(),
+        unwritten,
+        "",
+        "tfrules: error: write failed\n",
+        1,
+    );
+}
+
+/// So many modules without issues, and one with an issue after them.
+fn many(alloc: Global, count: usize) -> Result<Vec<Module>, AllocError> {
+    let mut modules = Vec::new(alloc);
+    for _ in 0..count {
+        modules.push(module_of(alloc, &["c/main.tf"])?)?;
+    }
+    modules.push(module_of(alloc, &["a/main.tf"])?)?;
+    Ok(modules)
+}
+
+/// One module of so many files.
+fn large(alloc: Global, count: usize) -> Result<Vec<Module>, AllocError> {
+    let mut files = Vec::new(alloc);
+    for _ in 0..count {
+        files.push(String::from_str(alloc, "c/main.tf")?)?;
+    }
+    let mut modules = Vec::new(alloc);
+    modules.push(Module { files })?;
+    modules.push(module_of(alloc, &["a/main.tf"])?)?;
+    Ok(modules)
+}
+
+#[test]
+fn many_modules_are_linted(rt: HostRuntime) {
+    let modules = many(rt.alloc(), 1000).expect(&rt, "memory");
+    let shown = run(rt.alloc(), &steady(NONE), modules.as_slice()).expect(&rt, "memory");
+    same_bytes(&rt, shown.out.bytes(), A_REPORT.as_bytes(), A_ALONE);
+    same_number(&rt, u64::from(shown.status), 2, A_ALONE);
+}
+
+#[test]
+fn too_many_files_are_told(rt: HostRuntime) {
+    let modules = large(rt.alloc(), 257).expect(&rt, "memory");
+    let shown = run(rt.alloc(), &steady(NONE), modules.as_slice()).expect(&rt, "memory");
+    same_bytes(&rt, shown.out.bytes(), A_REPORT.as_bytes(), A_ALONE);
+    same_bytes(
+        &rt,
+        shown.err.bytes(),
+        b"tfrules: error: more than 256 files\n",
+        A_ALONE,
+    );
+    same_number(&rt, u64::from(shown.status), 1, A_ALONE);
+}

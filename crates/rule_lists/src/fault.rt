@@ -1,0 +1,10 @@
+//! Why a text is no list of rules.
+
+/// Why a text is no list of rules.
+#[derive(Clone, Copy, Debug, PartialEq, Eq)]
+pub enum ListFault {
+    /// A part of it names no rule.
+    UnknownRule,
+    /// No rule is left in it.
+    NoneLeft,
+}

@@ -1,0 +1,48 @@
+//! A whole list.
+
+ghost use Rattle.std.specs.Prelude.{◌≡◌, ◌==◌, ℕ, List, Some};
+ghost use Rattle.std.specs.List.{slice_split};
+ghost use Rattle.rule_lists.specs.Lists.{rules_found, rules_in, rules_of_parts};
+ghost use Rattle.rule_lists.specs.Inner.Listed.{Listed};
+
+use crate::fault::ListFault;
+use crate::part::with_part;
+use rule_set::RuleSet;
+
+/// The set after all parts of a list, or nothing where a part names no rule.
+fn after_parts(list: &str) -> Option<RuleSet>
+    ensures { Listed (slice_split (λ b. b == 44) list.now) result }
+{
+    let mut set = Some(RuleSet::none());
+    for part in list.split(',') {
+        set = with_part(set, part);
+    }
+    set
+}
+
+/// The set of all parts, unless no rule is left in it.
+fn unless_empty(set: RuleSet) -> Result<RuleSet, ListFault>
+    ensures { (parts : List (List ℕ)) → Listed parts (Some set)
+        → rules_found result ≡ rules_of_parts parts }
+{
+    if set.holds_any() {
+        return Ok(set);
+    }
+    Err(ListFault::NoneLeft)
+}
+
+/// The rules that a list of names with commas between them stands for: `all` for each rule, `default` for those that are
+/// recommended, and any other name for its own rule. A dash before a name takes its rules away; the last name that stands for
+/// a rule decides.
+///
+/// # Errors
+///
+/// `UnknownRule` where a name stands for no rule, and `NoneLeft` where the list takes every rule away.
+pub fn rules_in(list: &str) -> Result<RuleSet, ListFault>
+    ensures { rules_found result ≡ rules_in list.now }
+{
+    match after_parts(list) {
+        Some(set) => unless_empty(set),
+        None => Err(ListFault::UnknownRule),
+    }
+}

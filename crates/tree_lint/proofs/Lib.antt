@@ -1,0 +1,4 @@
+mod MemoryLemmas
+mod NamedLemmas
+mod RowLemmas
+mod TreeRunLemmas

@@ -1,0 +1,14 @@
+//! By what modules are linted.
+
+use tf_rules::{Settings, Severity};
+
+/// By what a module is linted.
+#[derive(Clone, Copy, Debug, PartialEq, Eq)]
+pub struct Policy {
+    /// The rules to look at, and how names are to be written.
+    pub settings: Settings,
+    /// From which severity on an issue fails the run.
+    pub minimum: Severity,
+    /// No issue fails the run.
+    pub force: bool,
+}
