@@ -553,7 +553,7 @@ def run_framework(group):
     status, out = framework(here, 'tffmt-check', 'run', '--all-files')
     group.check(
         'tffmt-check refuses',
-        (status, [line for line in out.splitlines() if 'not formatted' in line]),
+        (status, [line for line in out.splitlines() if ': not formatted' in line]),
         (1, ['-x.tfvars: not formatted', 'a b.tf: not formatted']),
     )
     status, out = framework(here, 'tffmt', 'run', '--all-files')

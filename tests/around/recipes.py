@@ -47,6 +47,7 @@ def completions(group):
                 b'--jobs',
                 b'--list',
                 b'--null',
+                b'--quiet',
                 b'--shard',
                 b'--sync',
                 b'--version',
@@ -160,6 +161,7 @@ def completions(group):
                 b'--jobs',
                 b'--list',
                 b'--null',
+                b'--quiet',
                 b'--shard',
                 b'--sync',
                 b'--version',
@@ -316,7 +318,8 @@ def sharded(group, path, suffixes):
             ]
 
             def issues(each):
-                return [line for line in (each[1] + each[2]).splitlines() if line and b'issue(s)' not in line]
+                said = (each[1] + each[2]).splitlines()
+                return [line for line in said if line and not re.search(rb'issue\(s\)|, [0-9]+ unchanged', line)]
 
             group.check(
                 'the shards of %s and %s' % (words[0], name),
