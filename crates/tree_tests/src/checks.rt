@@ -102,12 +102,16 @@ fn check_beside(rt: &impl Abort, devices: &Devices, run: &Ended<'_>, at: At) {
 }
 
 // Who watches is told of each look and each report, and of the end.
-fn check_watcher(rt: &impl Abort, row: &Row, looked: u64, run: &Ended<'_>, at: At) {
-    let has_failed = run.out.has_failed() || run.err.has_failed();
-    let reported = looked.saturating_sub(u64::from(has_failed));
+fn check_watcher(
+    rt: &impl Abort,
+    row: &Row,
+    (looked, reported): (usize, usize),
+    run: &Ended<'_>,
+    at: At,
+) {
     let ended = u64::from(row.text.is_none() && !run.has_read_failed);
-    same_number(rt, run.watcher.looked, looked, at);
-    same_number(rt, run.watcher.reported, reported, at);
+    same_number(rt, run.watcher.looked, looked as u64, at);
+    same_number(rt, run.watcher.reported, reported as u64, at);
     same_number(rt, run.watcher.ended, ended, at);
 }
 
@@ -122,8 +126,9 @@ pub fn check(rt: &impl Abort, alloc: Global, row: &Row, devices: &Devices, run: 
     same_bytes(rt, run.out.bytes(), wanted.out.as_slice(), at);
     same_bytes(rt, run.err.bytes(), wanted.err.as_slice(), at);
     same_number(rt, u64::from(run.status), u64::from(wanted.status), at);
+    let told = (wanted.looked, wanted.told);
     let lines = lines.as_slice().split_at(wanted.looked.min(lines.len())).0;
     check_files(rt, row, lines, run, at);
     check_beside(rt, devices, run, at);
-    check_watcher(rt, row, lines.len() as u64, run, at);
+    check_watcher(rt, row, told, run, at);
 }

@@ -205,19 +205,20 @@ impl Streams {
         }
     }
 
-    /// Tells the lines up to the first that can't be told. Gives how many there were, and the status.
-    fn tell_all(&mut self, rt: &impl Abort, lines: &[Line]) -> (usize, u8) {
+    /// Tells the lines up to the first that can't be told. Gives how many there were, how many of them were told, and the
+    /// status.
+    fn tell_all(&mut self, rt: &impl Abort, lines: &[Line]) -> (usize, usize, u8) {
         let mut count = 0_usize;
         let mut status = 0;
         for line in lines {
             count = count.saturating_add(1);
             self.tell(rt, line);
             if self.has_failed() {
-                return (count, 4);
+                return (count, count.saturating_sub(1), 4);
             }
             status = worse(status, line.said.status());
         }
-        (count, status)
+        (count, count, status)
     }
 
     /// Says that standard output failed, where it did.
@@ -295,23 +296,26 @@ fn worse(one: u8, other: u8) -> u8 {
     0
 }
 
-/// What a run shows, and at how many of the lines it has looked.
+/// What a run shows, at how many of the lines it has looked, and how many of these it told.
 #[derive(Debug, Drop)]
 pub struct Shown {
     pub out: Vec<u8>,
     pub err: Vec<u8>,
     pub status: u8,
     pub looked: usize,
+    /// How many of these it told whole.
+    pub told: usize,
 }
 
 impl Shown {
-    fn of(streams: Streams, status: u8, looked: usize) -> Shown {
+    fn of(streams: Streams, status: u8, (looked, told): (usize, usize)) -> Shown {
         let status = if streams.has_failed() { 4 } else { status };
         Shown {
             out: streams.out.taken,
             err: streams.err.taken,
             status,
             looked,
+            told,
         }
     }
 }
@@ -325,9 +329,9 @@ pub fn shown_lines(
     manner: (bool, bool),
 ) -> Shown {
     let mut streams = Streams::new(alloc, devices);
-    let (looked, status) = streams.tell_all(rt, lines);
+    let (looked, told, status) = streams.tell_all(rt, lines);
     streams.end(rt, alloc, lines, manner);
-    Shown::of(streams, status, looked)
+    Shown::of(streams, status, (looked, told))
 }
 
 /// What a run shows that looks at nothing and says one text on each stream.
@@ -344,5 +348,5 @@ pub fn shown_text(
     }
     streams.finish(rt);
     streams.err.put(rt, err);
-    Shown::of(streams, status, 0)
+    Shown::of(streams, status, (0, 0))
 }

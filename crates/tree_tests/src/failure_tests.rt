@@ -161,7 +161,7 @@ fn fail_row(
 
 #[test]
 fn each_call_fails(rt: HostRuntime) {
-    fail_row(&rt, rt.alloc(), &WRITES, STEADY, (2_236, 217));
+    fail_row(&rt, rt.alloc(), &WRITES, STEADY, (4_014, 606));
 }
 
 // A file that was made beside another and can't be removed is left there.
@@ -176,12 +176,12 @@ fn each_removal_fails(rt: HostRuntime) {
 
 #[test]
 fn each_call_fails_where_files_are_flushed(rt: HostRuntime) {
-    fail_row(&rt, rt.alloc(), &SYNCS, STEADY, (2_380, 232));
+    fail_row(&rt, rt.alloc(), &SYNCS, STEADY, (4_281, 648));
 }
 
 #[test]
 fn each_call_fails_where_files_are_written_over(rt: HostRuntime) {
-    fail_row(&rt, rt.alloc(), &WRITES_IN_PLACE, STEADY, (2_023, 193));
+    fail_row(&rt, rt.alloc(), &WRITES_IN_PLACE, STEADY, (3_741, 564));
     fail_row(&rt, rt.alloc(), &ONLY_IN_PLACE, STEADY, (1_993, 190));
 }
 
@@ -197,21 +197,21 @@ fn each_call_fails_beside_files_of_each_kind(rt: HostRuntime) {
 
 #[test]
 fn each_call_fails_where_files_are_checked(rt: HostRuntime) {
-    fail_row(&rt, rt.alloc(), &CHECKS, STEADY, (1_998, 349));
+    fail_row(&rt, rt.alloc(), &CHECKS, STEADY, (3_280, 602));
 }
 
 #[test]
 fn each_call_fails_where_files_are_listed(rt: HostRuntime) {
-    fail_row(&rt, rt.alloc(), &LISTS, STEADY, (893, 69));
+    fail_row(&rt, rt.alloc(), &LISTS, STEADY, (1_507, 192));
 }
 
 #[test]
 fn each_call_fails_where_differences_are_shown(rt: HostRuntime) {
-    fail_row(&rt, rt.alloc(), &SHOWS, STEADY, (1_764, 42));
+    fail_row(&rt, rt.alloc(), &SHOWS, STEADY, (2_154, 120));
 }
 
 #[test]
 fn each_call_fails_where_no_file_is_looked_at(rt: HostRuntime) {
     fail_row(&rt, rt.alloc(), &VERSION, STEADY, (544, 4));
-    fail_row(&rt, rt.alloc(), &BAD_WORD, STEADY, (112, 1));
+    fail_row(&rt, rt.alloc(), &BAD_WORD, STEADY, (139, 1));
 }

@@ -116,10 +116,10 @@ impl LargeTree {
     }
 
     fn names_in(&self, folder: &[u8]) -> Result<Vec<u8>, AllocError> {
-        if folder == b".".as_slice() {
-            return self.names_of_folders();
+        if folder.starts_with(b"d") {
+            return self.names_of_files();
         }
-        self.names_of_files()
+        self.names_of_folders()
     }
 
     fn open(&self, name: &[u8]) -> Result<MemoryReader, TreeFault>

@@ -87,7 +87,7 @@ fn help_looks_at_nothing(rt: HostRuntime) {
     }
 }
 
-// By its second name it is formatted by then.
+// It is told under the first of its names.
 static TWICE: Row = Row {
     words: &["tffmt-all", "link.tf", "in/c"],
     input: b"",
@@ -95,10 +95,7 @@ static TWICE: Row = Row {
     making: false,
     in_place: false,
     text: None,
-    lines: &[
-        (b"in/c", Said::Written(b"in/c", b"c = 1\n")),
-        (b"link.tf", Said::Formatted),
-    ],
+    lines: &[(b"in/c", Said::Written(b"in/c", b"c = 1\n"))],
 };
 
 #[test]
