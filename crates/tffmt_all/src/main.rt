@@ -21,8 +21,8 @@ fn main(rt: HostRuntime) -> ExitCode {
     let mut out = ToWrite::new(Patient::new(rt.stdout()));
     let mut err = ToWrite::new(Patient::new(rt.stderr()));
     let status = match process_words(&rt) {
-        Ok(words) => run_over(&rt, words.as_slice(), &mut out, &mut err),
-        Err(_) => NO_WORDS,
+        Ok(words) if !words.is_empty() => run_over(&rt, words.as_slice(), &mut out, &mut err),
+        _ => NO_WORDS,
     };
     ExitCode::from(status)
 }
