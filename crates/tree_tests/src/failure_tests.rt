@@ -171,7 +171,7 @@ fn each_removal_fails(rt: HostRuntime) {
         removal: true,
         ..STEADY
     };
-    fail_row(&rt, rt.alloc(), &WRITES, tree, (2_236, 217));
+    fail_row(&rt, rt.alloc(), &WRITES, tree, (4_014, 606));
 }
 
 #[test]
@@ -182,17 +182,17 @@ fn each_call_fails_where_files_are_flushed(rt: HostRuntime) {
 #[test]
 fn each_call_fails_where_files_are_written_over(rt: HostRuntime) {
     fail_row(&rt, rt.alloc(), &WRITES_IN_PLACE, STEADY, (3_741, 564));
-    fail_row(&rt, rt.alloc(), &ONLY_IN_PLACE, STEADY, (1_993, 190));
+    fail_row(&rt, rt.alloc(), &ONLY_IN_PLACE, STEADY, (3_618, 543));
 }
 
 #[test]
 fn each_call_fails_where_names_are_given(rt: HostRuntime) {
-    fail_row(&rt, rt.alloc(), &NAMES_GIVEN, STEADY, (1_749, 127));
+    fail_row(&rt, rt.alloc(), &NAMES_GIVEN, STEADY, (2_701, 340));
 }
 
 #[test]
 fn each_call_fails_beside_files_of_each_kind(rt: HostRuntime) {
-    fail_row(&rt, rt.alloc(), &OF_EACH_KIND, STEADY, (7_296, 827));
+    fail_row(&rt, rt.alloc(), &OF_EACH_KIND, STEADY, (8_875, 1_193));
 }
 
 #[test]

@@ -13,10 +13,6 @@ mod expected;
 #[cfg(test)]
 mod failure_tests;
 #[cfg(test)]
-mod large_tests;
-#[cfg(test)]
-mod large_tree;
-#[cfg(test)]
 mod rows;
 #[cfg(test)]
 mod tests;
