@@ -143,7 +143,16 @@ fn fail_by(rt: &impl Abort, alloc: Global, row: &Row, tree: Failures, most: usiz
     fail_each(rt, alloc, row, devices)
 }
 
-// Lets each call of a run fail in turn, with one byte a call of a stream and with many, and compares how many runs failed.
+// Lets each call of a run fail in turn, with so many bytes a call of a stream, and compares how many runs failed.
+fn fail_at(rt: &impl Abort, alloc: Global, row: &Row, tree: Failures, most: usize, wanted: u64) {
+    let at = At {
+        words: row.words,
+        devices: steady(most),
+    };
+    same_number(rt, fail_by(rt, alloc, row, tree, most), wanted, at);
+}
+
+// The same with one byte a call, and with many.
 fn fail_row(
     rt: &impl Abort,
     alloc: Global,
@@ -151,12 +160,8 @@ fn fail_row(
     tree: Failures,
     (by_bytes, by_rooms): (u64, u64),
 ) {
-    let at = At {
-        words: row.words,
-        devices: steady(1),
-    };
-    same_number(rt, fail_by(rt, alloc, row, tree, 1), by_bytes, at);
-    same_number(rt, fail_by(rt, alloc, row, tree, SINK_ROOM), by_rooms, at);
+    fail_at(rt, alloc, row, tree, 1, by_bytes);
+    fail_at(rt, alloc, row, tree, SINK_ROOM, by_rooms);
 }
 
 #[test]
@@ -182,6 +187,10 @@ fn each_call_fails_where_files_are_flushed(rt: HostRuntime) {
 #[test]
 fn each_call_fails_where_files_are_written_over(rt: HostRuntime) {
     fail_row(&rt, rt.alloc(), &WRITES_IN_PLACE, STEADY, (3_741, 564));
+}
+
+#[test]
+fn each_call_fails_where_no_file_can_be_made(rt: HostRuntime) {
     fail_row(&rt, rt.alloc(), &ONLY_IN_PLACE, STEADY, (3_618, 543));
 }
 
@@ -192,7 +201,12 @@ fn each_call_fails_where_names_are_given(rt: HostRuntime) {
 
 #[test]
 fn each_call_fails_beside_files_of_each_kind(rt: HostRuntime) {
-    fail_row(&rt, rt.alloc(), &OF_EACH_KIND, STEADY, (8_875, 1_193));
+    fail_at(&rt, rt.alloc(), &OF_EACH_KIND, STEADY, 1, 8_875);
+}
+
+#[test]
+fn each_call_of_many_bytes_fails_beside_files_of_each_kind(rt: HostRuntime) {
+    fail_at(&rt, rt.alloc(), &OF_EACH_KIND, STEADY, SINK_ROOM, 1_193);
 }
 
 #[test]
