@@ -561,7 +561,7 @@ def installing(group):
     del group.setting['TFFMT']
     group.check(
         'what is installed works',
-        (group.call('tffmt-all', cwd=here, PATH=path), (here / 'a.tf').read_bytes()),
+        (group.call('tffmt-all', '--quiet', cwd=here, PATH=path), (here / 'a.tf').read_bytes()),
         ((0, lines('a.tf'), b''), GOOD),
     )
     if group.has('bash') and os.path.exists('/usr/share/bash-completion/bash_completion'):

@@ -207,7 +207,7 @@ def runs_in(group, root, folder):
         group.call('chroot', root, '%s/tffmt' % folder, stdin=OTHER, **how),
         group.call('chroot', root, '%s/tffmt' % folder, stdin=b'a=\n', **how),
         group.call('chroot', root, '%s/tfrules' % folder, '/a.tf', **how)[::2],
-        group.call('chroot', root, '%s/tffmt-all' % folder, '/a.tf', **how),
+        group.call('chroot', root, '%s/tffmt-all' % folder, '--quiet', '/a.tf', **how),
         (root / 'a.tf').read_bytes(),
     ]
     (root / 'a.tf').unlink()
