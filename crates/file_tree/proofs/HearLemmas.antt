@@ -2,7 +2,8 @@
 use Rattle.std.proofs.Common.{◌≡◌, ◌∙◌, ◌⊎◌, ◌++◌, ◌∷◌, [], Bool, true, false, List, Option, Some, None, Result, Ok, Err, OnOk, Contains, ap, append_assoc, append-nil, arith, inl, inr, refl, subst, sym}
 use Rattle.file_tree.specs.Files.{Faults, Name, with_fault, with_faults}
 use Rattle.file_tree.specs.Finds.{AreReal, Rises}
-use Rattle.file_tree.specs.Inner.Walking.{Adds, Enters, Hears, KeepsFirsts, Orders, Reached, TakesIf, TakesKindGiven, TakesLinked, faults_in, faults_of}
+use Rattle.file_tree.specs.Inner.Walking.{Adds, Enters, Hears, KeepsFirsts, Reached, TakesIf, TakesKindGiven, TakesLinked, faults_in, faults_of}
+use Rattle.file_tree.specs.Ordered.{Orders}
 use Rattle.file_tree.specs.declared.fault.TreeFault.{TreeFault}
 use Rattle.file_tree.specs.declared.kind.Identity.{Identity}
 use Rattle.file_tree.specs.declared.kind.Kind.{Kind}

@@ -9,7 +9,8 @@ use Rattle.hcl_source.specs.Devices.{Tells}
 use Rattle.file_tree.specs.Finds.{Accounts, Finds, IsEarlier, IsEntryOf, IsFolderOf, IsOf, IsOfBy, IsShown, IsTold, Rises, Stands}
 use Rattle.file_tree.specs.Names.{is_taken}
 use Rattle.file_tree.specs.Paths.{inside, place, reported, tidied, top, within}
-use Rattle.file_tree.specs.Inner.Walking.{Adds, Covers, Enters, HasName, IsFault, IsFound, KeepsFirsts, Orders, Reached, TakesAll, TakesEntry, TakesFolder, TakesGiven, TakesIf, TakesKind, TakesKindGiven, TakesLink, TakesLinked, Walked}
+use Rattle.file_tree.specs.Inner.Walking.{Adds, Covers, Enters, IsFault, KeepsFirsts, Reached, TakesAll, TakesEntry, TakesFolder, TakesGiven, TakesIf, TakesKind, TakesKindGiven, TakesLink, TakesLinked, Walked}
+use Rattle.file_tree.specs.Ordered.{HasName, IsFound, Orders}
 use Rattle.file_tree.specs.declared.fault.TreeFault.{TreeFault}
 use Rattle.file_tree.specs.declared.kind.Identity.{Identity}
 use Rattle.file_tree.specs.declared.kind.Kind.{Kind}
@@ -202,12 +203,16 @@ all_file files folder (first ∷ names) name old new h c met is taken =
 abbrev and_folder : Reached → Name → Reached
 and_folder r folder = record { found = r.found; folders = r.folders ++ folder ∷ [] }
 
-file_met : (files : Files) (folder last : Name) (old new : Reached) → TakesFolder files folder old new → HasFile true files folder last → Covers new folder [] last
-file_met files folder last old new (inl h) has = inr (inl (fault_added (place folder) h.0 old new h.1))
-file_met files folder last old new (inr h) has =
+pub file_looked : (files : Files) (folder last : Name) (old new : Reached) → TakesFolder files folder old new → HasFile true files folder last
+    → IsFault new.found (place folder) ⊎ (IsFault new.found (folder ++ last) ⊎ IsFound new.found (folder ++ last))
+file_looked files folder last old new (inl h) has = inl (fault_added (place folder) h.0 old new h.1)
+file_looked files folder last old new (inr h) has =
     let same : has.0.0 ≡ h.0 = told_some (files.listing (place folder)) has.0.0 h.0 has.0.1 h.1 in
     let within : Contains (listed h.0) last = subst (λ l. Contains (listed l) last) same has.0.2 in
-    inr (inr (all_file files folder (listed h.0) last old new h.2 within has.0.3 has.1 has.2))
+    inr (all_file files folder (listed h.0) last old new h.2 within has.0.3 has.1 has.2)
+
+file_met : (files : Files) (folder last : Name) (old new : Reached) → TakesFolder files folder old new → HasFile true files folder last → Covers new folder [] last
+file_met files folder last old new takes has = inr (file_looked files folder last old new takes has)
 
 folder_met : (files : Files) (folder part : Name) (parts : List Name) (last : Name) (old new : Reached) → TakesFolder files folder old new → HasFolder true files folder part
     → Covers new folder (part ∷ parts) last

@@ -4,8 +4,10 @@ pub mod Examples
 pub mod FaultTexts
 pub mod Files
 pub mod Finds
+pub mod FolderFiles
 pub mod Inner
 pub mod Modes
 pub mod Names
+pub mod Ordered
 pub mod Paths
 pub mod Quotes

@@ -4,7 +4,9 @@ ghost use Rattle.std.specs.Prelude.{◌≡◌, [], IfOk, List, OnOk, map};
 ghost use Rattle.file_tree.specs.Below.{is_met};
 ghost use Rattle.file_tree.specs.Files.{Name};
 ghost use Rattle.file_tree.specs.Finds.{AreReal, Finds};
-ghost use Rattle.file_tree.specs.Inner.Walking.{Adds, Enters, Hears, Orders, TakesAll, TakesEntry, TakesFolder, TakesGiven, TakesIf, TakesKind, TakesKindGiven, TakesLink, TakesLinked, TakesMet, Walked, reached};
+ghost use Rattle.file_tree.specs.FolderFiles.{FindsIn};
+ghost use Rattle.file_tree.specs.Inner.Walking.{Adds, Enters, Hears, TakesAll, TakesEntry, TakesFolder, TakesGiven, TakesIf, TakesKind, TakesKindGiven, TakesLink, TakesLinked, TakesMet, Walked, reached};
+ghost use Rattle.file_tree.specs.Ordered.{Orders};
 ghost use Rattle.file_tree.specs.Names.{is_taken};
 
 use crate::fault::TreeFault;
@@ -317,7 +319,7 @@ impl Walk {
 }
 
 /// What was found in the order of the names, each once: where one was found with a fault and without, without.
-fn in_order(mut found: Vec<Found>) -> Vec<Found>
+pub fn in_order(mut found: Vec<Found>) -> Vec<Found>
     ensures { Orders found.items result.items }
 {
     found.sort_unstable();
@@ -344,4 +346,24 @@ pub fn find<T: Tree>(
     let mut walk = Walk::over(alloc, operands, tree)?;
     walk.look_into_all(alloc, tree)?;
     first_names(alloc, in_order(walk.found))
+}
+
+/// The files of a folder that are taken, without those in folders below it, and the names in it that can't be looked at: in the
+/// order of their names, each once. The folder's name has a `/` at its end, or is empty for the current one.
+pub fn find_in<T: Tree>(
+    alloc: Global,
+    folder: &[u8],
+    tree: &mut T,
+) -> Result<Vec<Found>, AllocError>
+    // Nothing is changed, nor asked to be.
+    ensures files { T.files tree.new ≡ T.files tree.old }
+    ensures asked { T.asked tree.new ≡ T.asked tree.old }
+    ensures finds { IfOk result (λ found. FindsIn (T.files tree.old) folder.now found.items) }
+{
+    let mut walk = Walk {
+        found: Vec::new(alloc),
+        folders: Vec::new(alloc),
+    };
+    walk.take_folder(alloc, folder, tree)?;
+    Ok(in_order(walk.found))
 }

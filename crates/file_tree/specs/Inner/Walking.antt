@@ -6,6 +6,7 @@ use Rattle.file_tree.specs.Files.{Faults, Files, Name, identity_of, with_faults}
 use Rattle.hcl_source.specs.Devices.{Tells}
 use Rattle.file_tree.specs.Finds.{IsEarlier, IsFolderOf, IsOf, IsSame, Rises}
 use Rattle.file_tree.specs.Names.{is_taken}
+use Rattle.file_tree.specs.Ordered.{IsFound}
 use Rattle.file_tree.specs.Paths.{inside, place, reported, tidied, top}
 use Rattle.file_tree.specs.declared.fault.TreeFault.{TreeFault}
 use Rattle.file_tree.specs.declared.kind.Identity.{Identity}
@@ -92,12 +93,6 @@ TakesGiven files path old new = Reports (reported path) old new ⊎ ((kind : Kin
 
 -- ---- the walk so far
 
-abbrev pub IsFound : List Found → Name → Type 0
-IsFound found name = (f : Found) × Contains found f × (f.name.items ≡ name) × (f.fault ≡ None)
-
-abbrev pub HasName : List Found → Name → Type 0
-HasName found name = (f : Found) × Contains found f × (f.name.items ≡ name)
-
 abbrev pub IsFault : List Found → Name → Type 0
 IsFault found name = (f : Found) × Contains found f × (f.name.items ≡ name) × (f.fault ≢ None)
 
@@ -114,13 +109,6 @@ pub record Walked (files : Files) (paths : List Name) (r : Reached) : Type 0 whe
       → IsFault r.found (reported path) ⊎ Covers r (top path) parts last
 
 -- ---- its end
-
--- what was found, in the order of the names and each once
-pub record Orders (found ordered : List Found) : Type 0 where
-  pub rises : Rises ordered
-  pub only : (f : Found) → Contains ordered f → Contains found f
-  pub kept : (name : Name) → IsFound found name → IsFound ordered name
-  pub named : (name : Name) → HasName found name → HasName ordered name
 
 -- what was found, each file under the first of its names
 pub record KeepsFirsts (found kept : List Found) : Type 0 where

@@ -1,0 +1,21 @@
+-- What was found, in the order of its names.
+use Rattle.std.specs.Prelude.{◌≡◌, List, None}
+use Rattle.std.specs.List.{Contains}
+use Rattle.file_tree.specs.Files.{Name}
+use Rattle.file_tree.specs.Finds.{Rises}
+use Rattle.file_tree.specs.declared.walk.Found.{Found}
+
+-- a name was found, without a fault
+abbrev pub IsFound : List Found → Name → Type 0
+IsFound found name = (f : Found) × Contains found f × (f.name.items ≡ name) × (f.fault ≡ None)
+
+-- a name was found, or is reported
+abbrev pub HasName : List Found → Name → Type 0
+HasName found name = (f : Found) × Contains found f × (f.name.items ≡ name)
+
+-- THE SAME IN THE ORDER OF THE NAMES, each once: where one was found with a fault and without, without
+pub record Orders (found ordered : List Found) : Type 0 where
+  pub rises : Rises ordered
+  pub only : (f : Found) → Contains ordered f → Contains found f
+  pub kept : (name : Name) → IsFound found name → IsFound ordered name
+  pub named : (name : Name) → HasName found name → HasName ordered name

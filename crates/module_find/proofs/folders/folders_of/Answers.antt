@@ -1,0 +1,5 @@
+use Rattle.module_find.proofs.ModuleLemmas.{folders_ordered}
+use Rattle.module_find.proofs.folders.folders_of.Goals as goal
+
+pub returns : goal.returns
+returns c = folders_ordered c.args.found.now c.in_ok-folders.folders.items c.in_order.result.items c.in_ok-folders.ensures c.in_order.ensures

@@ -1,0 +1,8 @@
+use Rattle.std.proofs.Common.{◌≡◌}
+use Rattle.module_find.specs.Modules.{AreModules}
+use Rattle.module_find.proofs.modules.modules_of.Given as goal
+
+abbrev pub invariant-loop-folder : goal.invariant-loop-folder
+invariant-loop-folder g l =
+    (g.T.Tree.files l.tree ≡ g.T.Tree.files l.initial.tree) × (g.T.Tree.asked l.tree ≡ g.T.Tree.asked l.initial.tree)
+    × AreModules (g.T.Tree.files l.initial.tree) l.yielded l.modules.items
