@@ -73,20 +73,17 @@ pair_space kind.ParenClose r = Some (space_after_operand r)
 pair_space kind.BracketClose r = Some (space_after_operand r)
 pair_space _ r = Some (not (stands_close r || closes_group r))
 
--- the answer where the kinds don't give it, by what the table asks of the texts and of the token before: whether the
--- second begins with `=` or `:`, whether it is `~}`, whether the first is `in`, whether an Ident or a Dot stands before,
--- and whether an expression begins after that
-abbrev pub asked : Kind → Kind → Bool → Bool → Bool → Bool → Bool → Bool → Bool → Bool
-asked kind.Not r equals colon tilde word name dot opening = equals
-asked kind.Colon r equals colon tilde word name dot opening = colon
-asked kind.Minus r equals colon tilde word name dot opening = not opening
-asked kind.Number r equals colon tilde word name dot opening = not dot
-asked kind.Ident r equals colon tilde word name dot opening = word && name
-asked _ r equals colon tilde word name dot opening = tilde
+-- the answer where the kinds don't give it, by what the table asks after this kind of the texts or of what stands before
+abbrev pub asked_after : Kind → Option Lexeme → Lexeme → Lexeme → Bool
+asked_after kind.Not before subject after = begins_with_equals after.text
+asked_after kind.Colon before subject after = begins_with_colon after.text
+asked_after kind.Minus before subject after = not (is_opening before)
+asked_after kind.Number before subject after = not (stands_before (is kind.Dot) before)
+asked_after kind.Ident before subject after = stands_before (is kind.Ident) before && bytes_eq subject.text (codes "in")
+asked_after _ before subject after = bytes_eq after.text (codes "~}")
 
 abbrev pub asked_space : Option Lexeme → Lexeme → Lexeme → Bool
-asked_space before subject after =
-    asked subject.kind after.kind (begins_with_equals after.text) (begins_with_colon after.text) (bytes_eq after.text (codes "~}")) (bytes_eq subject.text (codes "in")) (stands_before (is kind.Ident) before) (stands_before (is kind.Dot) before) (is_opening before)
+asked_space before subject after = asked_after subject.kind before subject after
 
 -- the bit of a kind in a set of kinds
 abbrev pub number : Kind → ℕ
