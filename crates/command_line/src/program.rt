@@ -10,7 +10,7 @@ use std::alloc::AllocError;
 
 impl Program {
     /// Writes a message, and gives the status, or that of a failure where the write failed.
-    fn complain<E: ByteSink>(&self, err: &mut E, message: &str, status: u8) -> u8
+    fn complain<E: ByteSink>(&self, err: &mut E, message: &[u8], status: u8) -> u8
         requires { E.failed err.old ≡ false }
         ensures took { Took (writer E.ByteSink err.old err.new) message.now }
         ensures exit { result ≡ (if E.failed err.new then self.now.failure else status) }
@@ -18,7 +18,7 @@ impl Program {
         ensures untouched { length message.now ≡ 0 → E.failed err.new ≡ false }
         ensures no_flush { E.flushes err.new ≡ E.flushes err.old }
     {
-        match write_fully(err, message.as_bytes()) {
+        match write_fully(err, message) {
             Ok(()) => status,
             Err(_) => self.failure(),
         }
@@ -30,6 +30,21 @@ impl Program {
         out: &mut O,
         err: &mut E,
         message: &str,
+        status: u8,
+    ) -> u8
+        requires out { O.failed out.old ≡ false }
+        requires err { E.failed err.old ≡ false }
+        ensures { Shows self.now (message_row message.now status) (end_of O.ByteSink out.old out.new E.ByteSink err.old err.new result) }
+    {
+        self.tell_bytes(out, err, message.as_bytes(), status)
+    }
+
+    /// The same of a message that may have names in it.
+    pub fn tell_bytes<O: ByteSink, E: ByteSink>(
+        &self,
+        out: &mut O,
+        err: &mut E,
+        message: &[u8],
         status: u8,
     ) -> u8
         requires out { O.failed out.old ≡ false }
@@ -77,7 +92,7 @@ impl Program {
         ensures no_flush { E.flushes err.new ≡ E.flushes err.old }
     {
         if out.has_failed() {
-            return self.complain(err, self.write_failed(), self.failure());
+            return self.complain(err, self.write_failed().as_bytes(), self.failure());
         }
         status
     }

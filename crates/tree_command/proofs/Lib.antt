@@ -3,3 +3,4 @@ pub mod PathLemmas
 pub mod ProgramRunLemmas
 pub mod UsageLemmas
 pub mod WordLemmas
+pub mod WrongWordLemmas

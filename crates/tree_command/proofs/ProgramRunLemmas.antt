@@ -7,9 +7,9 @@ use Rattle.file_tree.specs.Files.{Faults, Files, Name}
 use Rattle.file_tree.specs.declared.walk.Found.{Found}
 use Rattle.std.specs.List.{concat}
 use Rattle.tree_format.specs.Reports.{worst}
-use Rattle.tree_format.specs.Runs.{AreWhole, HasWhole, IsRun, Settled, reports_of}
+use Rattle.tree_format.specs.Runs.{HasWhole, IsRun, Settled, reports_of}
 use Rattle.tree_format.specs.States.{State}
-use Rattle.tree_format.specs.Tally.{Tallies, tally_of}
+use Rattle.tree_format.specs.Tally.{Tallies}
 use Rattle.tree_format.specs.declared.tally.Tally.{Tally}
 use Rattle.tree_format.specs.declared.outcome.Outcome.{Outcome}
 use Rattle.tree_format.specs.declared.mode.Mode.{Mode}

@@ -12,10 +12,11 @@ use Rattle.tree_format.specs.Tally.{end_line, tally_of}
 use Rattle.tree_format.specs.declared.mode.Mode.{Mode}
 use Rattle.tree_format.specs.declared.outcome.Outcome.{Outcome}
 use Rattle.tree_format.specs.declared.tally.Tally.{Tally}
-use Rattle.tree_command.specs.Formatter.{formatter, usage_line}
+use Rattle.tree_command.specs.Formatter.{formatter}
 use Rattle.tree_command.specs.Line.{Asking, asking_of_texts, others_in, texts_in}
 use Rattle.tree_command.specs.Paths.{paths_of_input, paths_of_line}
 use Rattle.tree_command.specs.Shards.{picked_of}
+use Rattle.tree_command.specs.WrongWords.{bad_line_words}
 use Rattle.tree_command.specs.declared.shard.Shard.{Shard}
 use Rattle.tree_command.specs.declared.usage.Usage.{Usage}
 use Rattle.tree_command.specs.declared.usage.Usage.TheVariants.{Help, Version, BadLine, OutOfMemory}
@@ -73,12 +74,16 @@ version_line = codes "tffmt-all 0.3.0\n"
 abbrev pub help_text : List ℕ
 help_text = codes "usage: tffmt-all [--check | --diff | --list] [--in-place] [--sync] [--quiet]\n                 [--shard K/N] [--null] [--] [FILE|FOLDER]...\n\nFormats files in place and prints the names of those that it changed.\n\nA folder stands for the .tf, .tfvars, .tofu, .tftest.hcl, .tfmock.hcl,\n.tfquery.hcl and .tofutest.hcl files in it and below. Files and folders whose\nnames begin with a dot or end with ~, and those named #...#, are passed over.\nWithout an operand it is the current folder. A file that is named is taken\nwhatever it is called.\n\n  --check          change nothing; report each file that isn't formatted\n  --diff           change nothing; show what would change; --check may stand\n                   beside it\n  --list           change nothing; print the names of the files that would\n                   change\n  --in-place       write over a file where no new one can be put in its place\n  --sync           have each new file on the disk before the next one is\n                   looked at\n  --quiet          say nothing of the run as a whole: no count of the files\n                   at its end\n  --shard K/N      take the K-th of N parts of the files\n  -0, --null       read names, each ended by NUL, from standard input\n  -j, --jobs N     taken, and of no use: files are worked on one after the\n                   other\n  -h, --help       print this\n  --version        print the version\n\nStatus: 0  all files are formatted, or are now\n        2  a file was refused, or the command line is wrong\n        3  with --check, --diff or --list: a file isn't formatted, and nothing\n           is worse\n        4  a file could not be read or written\n"
 
--- THE ROW of words that ask for a text, or are no line of this program's
-abbrev pub usage_row : Usage → Row
-usage_row Help = output_row help_text 0
-usage_row Version = output_row version_line 0
-usage_row BadLine = message_row usage_line 2
-usage_row OutOfMemory = out_of_memory formatter
+-- THE ROW of these texts where they ask for a text, or are no line of this program's
+abbrev pub usage_row : List Text → Usage → Row
+usage_row texts Help = output_row help_text 0
+usage_row texts Version = output_row version_line 0
+usage_row texts BadLine = message_row (bad_line_words texts) 2
+usage_row texts OutOfMemory = out_of_memory formatter
+
+-- it is shown, or that memory ran out
+abbrev pub ShowsUsage : List Text → Usage → End → Type 0
+ShowsUsage texts usage end = Shows formatter (out_of_memory formatter) end ⊎ Shows formatter (usage_row texts usage) end
 
 -- ---- all runs
 
@@ -90,14 +95,14 @@ EndsBy false quiet mode shard names failed input before after end = FormatsNamed
 abbrev pub EndsAsked : Asking → Bool → Option (List ℕ) → State → State → End → Type 0
 EndsAsked asking failed input before after end = EndsBy asking.null asking.quiet asking.mode asking.shard asking.names failed input before after end
 
-abbrev pub EndsFor : Result Asking Usage → Bool → Option (List ℕ) → State → State → End → Type 0
-EndsFor (Ok asking) failed input before after end = EndsAsked asking failed input before after end
-EndsFor (Err usage) failed input before after end = SaysOnly (usage_row usage) before after end
+abbrev pub EndsFor : List Text → Result Asking Usage → Bool → Option (List ℕ) → State → State → End → Type 0
+EndsFor texts (Ok asking) failed input before after end = EndsAsked asking failed input before after end
+EndsFor texts (Err usage) failed input before after end = SaysOnly (usage_row texts usage) before after end
 
 -- the end of a run with these texts, and these names beside them
 abbrev pub IsEndOf : List Text → List Name → Bool → Option (List ℕ) → State → State → End → Type 0
 IsEndOf texts others failed input before after end =
-    SaysOnly (out_of_memory formatter) before after end ⊎ EndsFor (asking_of_texts texts others) failed input before after end
+    SaysOnly (out_of_memory formatter) before after end ⊎ EndsFor texts (asking_of_texts texts others) failed input before after end
 
 -- THE END of a run with these words, where standard input has these bytes: what the words ask for; or memory ran out before
 -- a file was looked at

@@ -8,3 +8,4 @@ pub mod run;
 pub mod shard;
 pub mod usage;
 mod words;
+mod wrong;

@@ -3,7 +3,7 @@
 ghost use Rattle.std.specs.Prelude.{◌≡◌, ◌||◌, ℕ, List, [], false, IfOk, Some, if◌then◌else◌, map};
 ghost use Rattle.command_line.specs.Rows.{Shows, Took, end_of, writer};
 ghost use Rattle.file_tree.specs.Files.{Tells};
-ghost use Rattle.tree_command.specs.Ends.{EndsAsked, FormatsNamed, FormatsOr, IsEnd, IsEndOf, IsPartOf, ReadsAndFormats, usage_row, words_at_end};
+ghost use Rattle.tree_command.specs.Ends.{EndsAsked, FormatsNamed, FormatsOr, IsEnd, IsEndOf, IsPartOf, ReadsAndFormats, ShowsUsage, words_at_end};
 ghost use Rattle.tree_command.specs.Asked.{asking_of};
 ghost use Rattle.tree_command.specs.Formatter.{formatter};
 ghost use Rattle.tree_command.specs.Line.{mode_of_texts, mode_of_words};
@@ -16,8 +16,9 @@ ghost use Rattle.tree_format.specs.States.{state_of};
 use crate::options::{TreeOptions, options};
 use crate::pick::pick;
 use crate::shard::Shard;
-use crate::usage::{HELP, USAGE, Usage, VERSION};
+use crate::usage::{HELP, Usage, VERSION};
 use crate::words::words_of;
+use crate::wrong::bad_line_text;
 use command_line::Program;
 use file_tree::path::names_in;
 use file_tree::tree::{Tree, WritableTree};
@@ -248,25 +249,36 @@ fn run_named<T: WritableTree, P: Progress, O: ByteSink, E: ByteSink>(
     }
 }
 
-/// Says what the lines of this program are.
-fn bad_line<O: ByteSink, E: ByteSink>(out: &mut O, err: &mut E) -> u8
+/// Says of a line that is none of this program's which word is wrong, and what the lines are.
+fn bad_line<O: ByteSink, E: ByteSink>(alloc: Global, words: &[&str], out: &mut O, err: &mut E) -> u8
     requires out { O.failed out.old ≡ false }
     requires err { E.failed err.old ≡ false }
-    ensures { Shows formatter (usage_row BadLine) (end_of O.ByteSink out.old out.new E.ByteSink err.old err.new result) }
+    ensures { ShowsUsage (map (λ word. word.now) words.now) BadLine
+        (end_of O.ByteSink out.old out.new E.ByteSink err.old err.new result) }
 {
-    formatter().tell(out, err, USAGE, 2)
+    match bad_line_text(alloc, words) {
+        Ok(text) => formatter().tell_bytes(out, err, text.as_slice(), 2),
+        Err(_) => formatter().tell_out_of_memory(out, err),
+    }
 }
 
 /// Says what words are answered that ask for no run.
-fn say<O: ByteSink, E: ByteSink>(usage: Usage, out: &mut O, err: &mut E) -> u8
+fn say<O: ByteSink, E: ByteSink>(
+    alloc: Global,
+    words: &[&str],
+    usage: Usage,
+    out: &mut O,
+    err: &mut E,
+) -> u8
     requires out { O.failed out.old ≡ false }
     requires err { E.failed err.old ≡ false }
-    ensures { Shows formatter (usage_row usage) (end_of O.ByteSink out.old out.new E.ByteSink err.old err.new result) }
+    ensures { ShowsUsage (map (λ word. word.now) words.now) usage
+        (end_of O.ByteSink out.old out.new E.ByteSink err.old err.new result) }
 {
     match usage {
         Usage::Help => formatter().deliver(out, err, HELP, 0),
         Usage::Version => formatter().deliver(out, err, VERSION, 0),
-        Usage::BadLine => bad_line(out, err),
+        Usage::BadLine => bad_line(alloc, words, out, err),
         Usage::OutOfMemory => formatter().tell_out_of_memory(out, err),
     }
 }
@@ -325,7 +337,7 @@ fn run_line<'w, T: WritableTree, P: Progress, R: ByteSource, O: ByteSink, E: Byt
 {
     match options(alloc, words, others) {
         Ok(options) => run_asked(alloc, &options, tree, progress, input, out, err),
-        Err(usage) => say(usage, out, err),
+        Err(usage) => say(alloc, words, usage, out, err),
     }
 }
 

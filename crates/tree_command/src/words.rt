@@ -35,7 +35,7 @@ impl<'a> Words<'a> {
 }
 
 /// All words but the first.
-fn after_first<T>(words: &[T]) -> &[T]
+pub(crate) fn after_first<T>(words: &[T]) -> &[T]
     ensures { result.now ≡ drop 1 words.now }
 {
     match words.split_first() {

@@ -16,3 +16,5 @@ mod failure_tests;
 mod rows;
 #[cfg(test)]
 mod tests;
+#[cfg(test)]
+mod wrong_tests;

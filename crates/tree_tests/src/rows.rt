@@ -165,6 +165,13 @@ usage: tffmt-all [--check | --diff | --list] [--in-place] [--sync] [--quiet]
                  [--shard K/N] [--null] [--] [FILE|FOLDER]...
 ";
 
+/// The same of a line in which `--bogus` stands.
+const BOGUS: &str = "\
+tffmt-all: error: unknown option --bogus
+usage: tffmt-all [--check | --diff | --list] [--in-place] [--sync] [--quiet]
+                 [--shard K/N] [--null] [--] [FILE|FOLDER]...
+";
+
 /// Files get their format.
 pub static WRITES: Row = Row {
     words: &["tffmt-all"],
@@ -282,6 +289,6 @@ pub static BAD_WORD: Row = Row {
     entries: SMALL,
     making: false,
     in_place: false,
-    text: Some(("", USAGE, 2)),
+    text: Some(("", BOGUS, 2)),
     lines: &[],
 };

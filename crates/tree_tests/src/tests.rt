@@ -55,8 +55,7 @@ fn shows_text(rt: &impl Abort, alloc: Global, words: Words, text: Text) {
     shows(rt, alloc, &row);
 }
 
-static BAD_WORDS: [Words; 10] = [
-    &["tffmt-all", "--bogus"],
+static BAD_WORDS: [Words; 9] = [
     &["tffmt-all", "--check", "--list"],
     &["tffmt-all", "--diff", "--list", "a.tf"],
     &["tffmt-all", "--shard"],

@@ -1,8 +1,8 @@
-use Rattle.std.proofs.Common.{◌≡◌, ◌∙◌, List, ℕ, ap, map, subst}
+use Rattle.std.proofs.Common.{◌∙◌, List, ℕ, ap, map, subst}
 use Rattle.command_line.specs.Rows.{end_of}
 use Rattle.std.specs.Borrow.{Bor}
 use Rattle.tree_command.specs.Ends.{IsEndOf}
-use Rattle.tree_command.specs.Line.{mode_of_texts, others_in, texts_in}
+use Rattle.tree_command.specs.Line.{mode_of_texts, texts_in}
 use Rattle.tree_format.specs.States.{state_of}
 use Rattle.tree_command.proofs.run.program.Goals as goal
 
