@@ -1,12 +1,12 @@
 -- The gaps and the widths of a laid line, by numbers of tokens.
-use Rattle.std.proofs.Common.{◌*◌, ◌≡◌, ◌∙◌, ◌+◌, ◌-◌, ◌<◌, ◌≤◌, ◌==◌, ◌^◌, ℕ, suc, Bool, true, false, List, Option, Some, length, ap, ap₂, refl, sym, arith, take, drop}
+use Rattle.std.proofs.Common.{◌*◌, ◌≡◌, ◌∙◌, ◌+◌, ◌-◌, ◌<◌, ◌≤◌, ◌==◌, ◌^◌, ℕ, suc, Bool, true, false, List, Option, Some, None, length, ap, ap₂, refl, sym, arith, take, drop}
 use Rattle.std.specs.Prelude.{nat_lt, slice_get}
 use Rattle.std.proofs.lemmas.Bool.Decides.{nat_tests}
 use Rattle.hcl_tokens.specs.Balanced.{max_open}
 use Rattle.hcl_tokens.specs.Lexemes.{Lexeme}
 use Rattle.hcl_layout.specs.Gaps.{clusters, plain_gaps, width}
 use Rattle.hcl_layout.specs.Lines.{Line}
-use Rattle.hcl_layout.specs.Inner.Laid.{Laid, cell_of, rest_of, shape, text_of, width_on}
+use Rattle.hcl_layout.specs.Inner.Laid.{HasOwnGap, IsPlainOn, Laid, Stops, cell_of, rest_of, shape, text_of, width_on}
 use Rattle.hcl_layout.specs.Inner.Left.{gap_before, plain_gap_before, token_before}
 use Rattle.hcl_layout.specs.Inner.LineGaps.{Cell, IsSigned, LineGaps, cell_gap, gap_of, gaps_from, gaps_in, known_place, known_width, len_with_blanks, plain_of}
 use Rattle.hcl_layout.specs.declared.lines.Cell.{Cell as CellLaid}
@@ -49,6 +49,34 @@ gap_plain ts l n t p le apart other =
 
 pub plain_before_small : (ts : List Lexeme) (level first n : ℕ) (t : Lexeme) → level ≤ max_open → plain_gap_before ts level first n t ≤ 2 * max_open
 plain_before_small ts level first n t low = plain_small level (token_before ts first (n - 1)) (token_before ts first n) t low
+
+-- ---- stops
+
+-- nothing stands before the stop that stands here
+pub stops_here : (l : LaidLine) (n : ℕ) → HasOwnGap l n → Stops l n n
+stops_here l n own = record { order = omega arith; first = λ lt. absurd (omega (arith, lt)); sign = λ le. le; comment = λ le. le; own = λ lt. own }
+
+-- a cell that isn't there has the number of the line's end
+cell_none : (l : LaidLine) (c : CellLaid) → cell_of l c ≡ None → l.end ≤ c.number
+cell_none l c e = go (nat_lt c.number l.end) refl
+  where
+    go : (v : Bool) → nat_lt c.number l.end ≡ v → l.end ≤ c.number
+    go true q = absurd (some (cell_of l c) (rw q refl) e)
+      where
+        some : (o : Option Cell) → o ≡ Some (record { place = c.number - l.first; width = c.width; gap = c.gap }) → o ≡ None → ⊥
+        some o a b = cc
+    go false q = grind (arith, nat_tests)
+
+pub bare_plain : (l : LaidLine) (from stop : ℕ) → shape l ≡ plain_of l.level → stop ≤ l.end → IsPlainOn l from stop
+bare_plain l from stop bare within k lt le =
+    let comment = cell_none l l.comment (ap (λ (g : LineGaps). g.comment) bare) in
+    let sign = cell_none l l.sign (ap (λ (g : LineGaps). g.assign) bare) in
+    (λ e. omega (arith, comment, within, le, e), λ e. omega (arith, sign, within, le, e))
+
+pub signed_plain : (ts : List Lexeme) (l : LaidLine) (from stop : ℕ) → IsSigned (shape l) (text_of ts l) → stop ≤ l.end → (l.sign.number < stop → from ≡ l.sign.number) → IsPlainOn l from stop
+signed_plain ts l from stop p within known k lt le =
+    let comment = cell_none l l.comment p.plain in
+    (λ e. omega (arith, comment, within, le, e), λ e. omega (arith, e, le, lt, known (omega (arith, e, le))))
 
 -- ---- widths
 

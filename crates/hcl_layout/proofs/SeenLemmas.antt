@@ -1,6 +1,7 @@
 -- What was seen of a line, and what its survey is, token by token.
-use Rattle.std.proofs.Common.{◌≡◌, ◌∙◌, ◌+◌, ◌-◌, ◌≤◌, ◌&&◌, ◌||◌, ◌^◌, not, ℕ, Bool, true, false, List, Option, Some, None, length, ap, ap₂, refl, sym, arith, subst, drop}
+use Rattle.std.proofs.Common.{◌≡◌, ◌∙◌, ◌+◌, ◌-◌, ◌≤◌, ◌==◌, ◌&&◌, ◌||◌, ◌^◌, not, ℕ, Bool, true, false, List, Option, Some, None, length, ap, ap₂, refl, sym, arith, subst, drop}
 use Rattle.std.specs.Prelude.{is_some, option_map, slice_get}
+use Rattle.std.specs.List.{list_any}
 use Rattle.hcl_tokens.specs.Lexemes.{Lexeme}
 use Rattle.hcl_tokens.specs.Balanced.{max_open}
 use Rattle.hcl_tokens.specs.Kinds.{is}
@@ -9,7 +10,7 @@ use Rattle.hcl_grammar.specs.Items.{deepen}
 use Rattle.hcl_layout.specs.Cells.{is_assignment, is_multiline, is_trailing}
 use Rattle.hcl_layout.specs.Lines.{ends_line}
 use Rattle.hcl_layout.specs.Inner.Depths.{BalancedFrom}
-use Rattle.hcl_layout.specs.Inner.Survey.{IsLine, Survey, facts_in, facts_of, first_noted, marks, noted, survey_of, surveyed, takes_sign}
+use Rattle.hcl_layout.specs.Inner.Survey.{IsLine, Survey, facts_in, facts_of, Notes, first_noted, marks, noted, stops, survey_of, surveyed, takes_sign}
 use Rattle.hcl_layout.specs.declared.line.Line.{Line}
 use Rattle.hcl_layout.specs.declared.line.Seen.{Seen}
 use Rattle.hcl_spacing.proofs.KindLemmas.{each}
@@ -22,12 +23,9 @@ unmarked false true c h = cc
 unmarked false false c h = (refl, refl, h)
 
 -- a token that is no cell and tears none
-pub seen_noted : (s : Seen) (t : Lexeme) (d first n : ℕ) → first ≤ n → marks t.kind ≡ false → survey_of s (deepen d t.kind) first (n + 1) ≡ noted (survey_of s d first n) t
-seen_noted s t d first n le m =
-    let parts = unmarked (is LineComment t.kind) (is InlineComment t.kind) (is Assign t.kind) m in
-    let trailing : is_trailing t ≡ false = rw parts.0 refl in
-    let inline : is_multiline t ≡ false = rw parts.1 refl in
-    let assign : is_assignment t ≡ false = rw parts.2 refl in
+pub seen_kept : (s : Seen) (t : Lexeme) (d first n : ℕ) → first ≤ n → is_trailing t ≡ false → is_multiline t ≡ false → is_assignment t ≡ false
+    → survey_of s (deepen d t.kind) first (n + 1) ≡ noted (survey_of s d first n) t
+seen_kept s t d first n le trailing inline assign =
     let takes : takes_sign (survey_of s d first n) t ≡ false = rw assign (and_false (not (is_some (option_map (λ k. k - first) s.comment)) && not (is_trailing t) && not (is_some (option_map (λ k. k - first) s.sign)))) in
     go s.comment refl takes inline trailing
   where
@@ -49,6 +47,26 @@ seen_noted s t d first n le m =
     go (Some i) e takes inline trailing =
         let made : ℕ → Bool → Survey = λ k b. record { len = k; depth = deepen d t.kind; multiline = b; comment = Some (i - first); body_depth = s.body_depth; sign = option_map (λ j. j - first) s.sign; sign_depth = s.sign_depth } in
         rw (takes, inline, trailing, e) (ap₂ made len (or_false s.multiline))
+
+-- a token of a kind that neither is a cell nor tears one
+pub seen_noted : (s : Seen) (t : Lexeme) (d first n : ℕ) → first ≤ n → marks t.kind ≡ false → survey_of s (deepen d t.kind) first (n + 1) ≡ noted (survey_of s d first n) t
+seen_noted s t d first n le m =
+    let parts = unmarked (is LineComment t.kind) (is InlineComment t.kind) (is Assign t.kind) m in
+    seen_kept s t d first n le (rw parts.0 refl) (rw parts.1 refl) (rw parts.2 refl)
+
+-- a token inside a heredoc
+pub seen_inside : (s : Seen) (t : Lexeme) (d n : ℕ) → t.inside_heredoc ≡ true → stops t.kind ≡ true → Notes s n d t s
+seen_inside s t d n inside more first le =
+    ap (λ k. survey_of s k first (n + 1)) (sym (stopped_level t.kind d more))
+    ∙ seen_kept s t d first n le (rw inside (none (is LineComment t.kind))) (rw inside (neither (is InlineComment t.kind) (list_any (λ b. b == 10) t.text))) (rw inside (none (is Assign t.kind)))
+  where
+    none : (b : Bool) → (b && false) ≡ false
+    none true = refl
+    none false = refl
+
+    neither : (b c : Bool) → (b && false && c) ≡ false
+    neither true c = refl
+    neither false c = refl
 
 -- the newline that ends the line
 end_unmarked : (t : Lexeme) → ends_line t ≡ true → marks t.kind ≡ false

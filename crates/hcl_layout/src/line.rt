@@ -1,16 +1,15 @@
 //! One line, in one walk: where it ends, how deep, and which cells it has.
-ghost use Rattle.std.specs.Prelude.{◌≡◌, ◌<◌, ◌≤◌, ◌+◌, ◌==◌, ◌||◌, not, length, drop, None, if◌then◌else◌};
+ghost use Rattle.std.specs.Prelude.{◌≡◌, ◌<◌, ◌≤◌, ◌+◌, ◌==◌, ◌||◌, ℕ, not, false, length, drop, slice_get, Some, None, if◌then◌else◌};
 ghost use Rattle.std.specs.List.{list_any};
-ghost use Rattle.hcl_tokens.specs.Scanned.{lexeme};
+ghost use Rattle.hcl_tokens.specs.Lexemes.{Lexeme};
+ghost use Rattle.hcl_tokens.specs.declared.token.Kind.TheVariants.{Assign, InlineComment, LineComment};
 ghost use Rattle.hcl_tokens.specs.Balanced.{max_open};
-ghost use Rattle.hcl_layout.specs.Lines.{ends_line};
-ghost use Rattle.hcl_layout.specs.Cells.{is_assignment as is_assignment_of, is_multiline as is_multiline_of, is_trailing as is_trailing_of};
-ghost use Rattle.hcl_grammar.specs.Items.{deepen};
+ghost use Rattle.hcl_layout.specs.Cells.{is_multiline};
 ghost use Rattle.hcl_layout.specs.Inner.Depths.{BalancedFrom};
-ghost use Rattle.hcl_layout.specs.Inner.Survey.{IsLine, Notes, NotesFirst, TellsEnd, body_of, facts_in, facts_of, seen_cell, step_of, survey_of, unseen};
+ghost use Rattle.hcl_layout.specs.Inner.Survey.{AsksMore, IsLine, Notes, NotesAt, NotesFirst, PassesSteps, TellsEnd, body_of, facts_in, facts_of, seen_cell, step_of, survey_of, unseen};
 
 use crate::measured::Measured;
-use hcl_tokens::{Kind, Token};
+use hcl_tokens::Kind;
 
 /// A line: the numbers of its first token and of that after it, the depth after it, and the numbers of its cells.
 #[derive(Clone, Copy)]
@@ -71,26 +70,16 @@ pub fn depth_after(depth: u32, step: u8) -> u32
     depth + u32::from(step) - u32::from(b'1')
 }
 
-/// Whether a line ends with the token.
+/// Whether a line ends with the token of this number. Its text isn't asked for.
 #[inline(always)]
-pub fn is_line_end(token: Token<'_>) -> bool
-    ensures { result ≡ ends_line (lexeme token.entry) }
+fn is_line_end(tokens: &Measured<'_, '_>, number: usize) -> bool
+    requires { number < length tokens.now.tokens }
+    ensures { TellsEnd tokens.now.tokens number result }
 {
-    matches!(token.kind, Kind::Newline) && !token.inside_heredoc
-}
-
-#[inline(always)]
-fn is_trailing(token: Token<'_>) -> bool
-    ensures { result ≡ is_trailing_of (lexeme token.entry) }
-{
-    matches!(token.kind, Kind::LineComment) && !token.inside_heredoc
-}
-
-#[inline(always)]
-fn is_assignment(token: Token<'_>) -> bool
-    ensures { result ≡ is_assignment_of (lexeme token.entry) }
-{
-    matches!(token.kind, Kind::Assign) && !token.inside_heredoc
+    if tokens.is_inside_heredoc(number) {
+        return false;
+    }
+    matches!(tokens.kind(number), Kind::Newline)
 }
 
 #[inline(always)]
@@ -98,13 +87,6 @@ fn holds_newline(text: &str) -> bool
     ensures { result ≡ list_any (λ b. b == 10) text.now }
 {
     text.as_bytes().iter().any(|b| *b == b'\n')
-}
-
-#[inline(always)]
-fn is_multiline(token: Token<'_>) -> bool
-    ensures { result ≡ is_multiline_of (lexeme token.entry) }
-{
-    matches!(token.kind, Kind::InlineComment) && !token.inside_heredoc && holds_newline(token.text)
 }
 
 /// What of a line was passed.
@@ -119,42 +101,69 @@ pub struct Seen {
 }
 
 impl Seen {
-    /// Whether there was an inline comment that holds a newline, the token's too.
+    /// With a sign.
     #[inline(always)]
-    fn is_torn(self, token: Token<'_>) -> bool
-        ensures { result ≡ (self.multiline || is_multiline_of (lexeme token.entry)) }
+    fn with_sign(self, number: usize, depth: u32) -> Seen
+        ensures { (t : Lexeme) → t.kind ≡ Assign → t.inside_heredoc ≡ false
+            → Notes self number depth t result }
     {
-        self.multiline || is_multiline(token)
+        if self.sign.is_some() || self.comment.is_some() {
+            return self;
+        }
+        Seen {
+            sign: Some(number),
+            sign_depth: depth,
+            ..self
+        }
     }
 
-    /// With a token that neither opens nor closes.
+    /// With a comment to the end of its line.
     #[inline(always)]
-    fn with(self, token: Token<'_>, number: usize, depth: u32) -> Seen
-        requires level { deepen depth token.kind ≡ depth }
-        ensures { Notes self number depth (lexeme token.entry) result }
+    fn with_comment(self, number: usize, depth: u32) -> Seen
+        ensures { (t : Lexeme) → t.kind ≡ LineComment → t.inside_heredoc ≡ false
+            → Notes self number depth t result }
     {
-        let passed = Seen {
-            multiline: self.is_torn(token),
-            ..self
-        };
         if self.comment.is_some() {
-            return passed;
+            return self;
         }
-        if is_trailing(token) {
-            return Seen {
-                comment: Some(number),
-                body_depth: depth,
-                ..passed
-            };
+        Seen {
+            comment: Some(number),
+            body_depth: depth,
+            ..self
         }
-        if self.sign.is_none() && is_assignment(token) {
-            return Seen {
-                sign: Some(number),
-                sign_depth: depth,
-                ..passed
-            };
+    }
+
+    /// With an inline comment.
+    #[inline(always)]
+    fn with_text(self, number: usize, text: &str) -> Seen
+        ensures { (t : Lexeme) (depth : ℕ) → t.kind ≡ InlineComment → t.inside_heredoc ≡ false
+            → t.text ≡ text.now → Notes self number depth t result }
+    {
+        Seen {
+            multiline: self.multiline || holds_newline(text),
+            ..self
         }
-        passed
+    }
+
+    /// With a token of which more is asked, and with which the line doesn't end.
+    #[inline(always)]
+    fn with(self, tokens: &Measured<'_, '_>, number: usize, depth: u32) -> Seen
+        requires within { number < length tokens.now.tokens }
+        requires more { AsksMore tokens.now.tokens number }
+        requires on { TellsEnd tokens.now.tokens number false }
+        ensures { NotesAt tokens.now.tokens self number depth result }
+    {
+        if tokens.is_inside_heredoc(number) {
+            return self;
+        }
+        let kind = tokens.kind(number);
+        if matches!(kind, Kind::Assign) {
+            return self.with_sign(number, depth);
+        }
+        if matches!(kind, Kind::LineComment) {
+            return self.with_comment(number, depth);
+        }
+        self.with_text(number, tokens.get(number).text)
     }
 
     /// The depth before the comment.
@@ -196,6 +205,17 @@ impl Seen {
     }
 }
 
+/// Whether the token is an inline comment that holds a newline.
+#[inline(always)]
+fn is_torn_by(tokens: &Measured<'_, '_>, number: usize) -> bool
+    requires { number < length tokens.now.tokens }
+    ensures { (t : Lexeme) → slice_get tokens.now.tokens number ≡ Some t
+        → result ≡ is_multiline t }
+{
+    let token = tokens.get(number);
+    matches!(token.kind, Kind::InlineComment) && !token.inside_heredoc && holds_newline(token.text)
+}
+
 /// What is seen of a line before a token of which more is asked.
 #[inline(always)]
 fn nothing_seen(multiline: bool) -> Seen
@@ -223,12 +243,34 @@ fn read_first(tokens: &Measured<'_, '_>, first: usize, before: u32) -> (Seen, u3
     if step != MORE {
         return (nothing_seen(false), depth_after(before, step), false);
     }
-    let token = tokens.get(first);
-    (
-        nothing_seen(is_multiline(token)),
-        before,
-        is_line_end(token),
-    )
+    if is_line_end(tokens, first) {
+        return (nothing_seen(false), before, true);
+    }
+    (nothing_seen(is_torn_by(tokens, first)), before, false)
+}
+
+/// Passes the tokens from a number on that open, close or do neither, and of which no more is asked: the number of the
+/// next, or how many tokens there are, and the depth there.
+#[inline(always)]
+fn pass_steps(tokens: &Measured<'_, '_>, from: usize, before: u32) -> (usize, u32)
+    requires within { from ≤ length tokens.now.tokens }
+    requires balanced { BalancedFrom before (drop from tokens.now.tokens) }
+    requires fits { before ≤ max_open }
+    ensures passes { PassesSteps tokens.now.tokens from before result.0 result.1 }
+    ensures more { AsksMore tokens.now.tokens result.0 }
+{
+    let count = tokens.len();
+    let mut number = from;
+    let mut depth = before;
+    while number < count {
+        let step = step_of(tokens.kind(number));
+        if step == MORE {
+            return (number, depth);
+        }
+        depth = depth_after(depth, step);
+        number += 1;
+    }
+    (number, depth)
 }
 
 /// The line that begins at a token, where the depth is known.
@@ -246,21 +288,15 @@ pub fn line_at(tokens: &Measured<'_, '_>, first: usize, before: u32) -> Line
         return seen.line(first, first + 1, depth);
     }
     let mut seen = seen;
-    let mut depth = depth;
-    let mut number = first + 1;
+    let (mut number, mut depth) = pass_steps(tokens, first + 1, depth);
     while number < count {
-        let step = step_of(tokens.kind(number));
-        if step != MORE {
-            depth = depth_after(depth, step);
-            number += 1;
-            continue;
-        }
-        let token = tokens.get(number);
-        if is_line_end(token) {
+        if is_line_end(tokens, number) {
             return seen.line(first, number + 1, depth);
         }
-        seen = seen.with(token, number, depth);
-        number += 1;
+        seen = seen.with(tokens, number, depth);
+        let here = pass_steps(tokens, number + 1, depth);
+        number = here.0;
+        depth = here.1;
     }
     seen.line(first, number, depth)
 }

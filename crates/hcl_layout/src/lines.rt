@@ -1,10 +1,10 @@
 //! The lines, one after another, each with its level and its cells in the columns of their runs.
-ghost use Rattle.std.specs.Prelude.{◌≡◌, ◌<◌, ◌≤◌, ◌+◌, ◌-◌, ◌^◌, not, length, slice_get, Some, IfSome, IfNone, ℕ, [], option_map};
+ghost use Rattle.std.specs.Prelude.{◌≡◌, ◌≢◌, ◌<◌, ◌≤◌, ◌+◌, ◌-◌, ◌^◌, not, length, slice_get, Some, IfSome, IfNone, [], option_map};
 ghost use Rattle.hcl_tokens.specs.Scanned.{lexeme};
 ghost use Rattle.hcl_tokens.specs.Balanced.{max_open};
 ghost use Rattle.hcl_layout.specs.Gaps.{indent as indent_of};
 ghost use Rattle.hcl_layout.specs.Inner.Depths.{Sound};
-ghost use Rattle.hcl_layout.specs.Inner.Laid.{FindsComment, FindsSign, GoesBack, HasGaps, HasSignGaps, IsAt, IsCommentColumn, IsDone, IsLaid, IsSignColumn, KeepsRuns, Laid, LeavesGaps, Moves, MovesSign, Reads, RunsGrow, SignsGrow, Spans, TellsWrong, bare_after, cell_in, comment_width_on, comments_ended, ends_all_wrong, ends_wrong, gap_on, greatest_of, left_after, no_lines, none_at, plain_gap_on, shape, sign_width_on, signs_ended, text_of, widest_comment, widest_sign, width_on, with_comment_in, with_sign_in};
+ghost use Rattle.hcl_layout.specs.Inner.Laid.{FindsComment, FindsSign, GoesBack, HasGaps, HasOwnGap, HasSignGaps, IsAt, IsCommentColumn, IsDone, IsLaid, IsPlainOn, IsSignColumn, KeepsRuns, Laid, LeavesGaps, Moves, MovesSign, Reads, RunsGrow, SignsGrow, Spans, Stops, TellsWrong, bare_after, cell_in, comment_width_on, comments_ended, ends_all_wrong, ends_wrong, gap_on, greatest_of, left_after, no_lines, none_at, shape, sign_width_on, signs_ended, text_of, widest_comment, widest_sign, width_on, with_comment_in, with_sign_in};
 ghost use Rattle.hcl_layout.specs.Inner.Left.{IsGapAt, IsGapBefore, token_before};
 ghost use Rattle.hcl_layout.specs.Inner.LineGaps.{IsSigned, plain_of};
 ghost use Rattle.hcl_layout.specs.Inner.Simple.{IsFrom};
@@ -140,6 +140,7 @@ fn token_before<'s>(tokens: &Measured<'_, 's>, first: usize, number: usize) -> O
 }
 
 /// The blank before a token where the kinds of the two don't tell it.
+#[cold]
 #[inline(never)]
 fn asked_gap(tokens: &Measured<'_, '_>, first: usize, number: usize) -> u64
     requires within { number < length tokens.now.tokens }
@@ -178,57 +179,86 @@ fn gap_after(tokens: &Measured<'_, '_>, first: usize, number: usize, token: Toke
 }
 
 impl LaidLine {
-    /// The blanks before a token by the level and the spacing alone.
+    /// The blanks before the first token, the sign or the comment.
     #[inline(always)]
-    fn plain_gap(self, tokens: &Measured<'_, '_>, number: usize, token: Token<'_>) -> u64
+    fn own_gap(self, tokens: &Measured<'_, '_>, number: usize, token: Token<'_>) -> u64
         requires there { slice_get tokens.now.tokens number ≡ Some (lexeme token) }
         requires laid { Laid tokens.now.tokens self }
-        requires order { self.first ≤ number }
-        requires within { number < length tokens.now.tokens }
-        ensures { result ≡ plain_gap_on tokens.now.tokens self number (lexeme token.entry) }
-    {
-        if self.first < number {
-            return gap_after(tokens, self.first, number, token);
-        }
-        indent(self.level, token)
-    }
-
-    /// The blanks before a token.
-    #[inline(always)]
-    fn gap(self, tokens: &Measured<'_, '_>, number: usize, token: Token<'_>) -> u64
-        requires there { slice_get tokens.now.tokens number ≡ Some (lexeme token) }
-        requires laid { Laid tokens.now.tokens self }
-        requires order { self.first ≤ number }
+        requires own { HasOwnGap self number }
         requires within { number < self.end }
         ensures value { result ≡ gap_on tokens.now.tokens self number (lexeme token.entry) }
         ensures small { result ≤ 2 ^ 34 }
     {
+        let _ = tokens;
         if number == self.comment.number {
             return self.comment.gap;
         }
         if number == self.sign.number {
             return self.sign.gap;
         }
-        self.plain_gap(tokens, number, token)
+        indent(self.level, token)
     }
 
-    /// A token of the line with the blanks before it.
+    /// The blanks before another token.
     #[inline(always)]
-    pub fn piece<'s>(self, tokens: &Measured<'_, 's>, number: usize) -> Piece<'s>
+    fn other_gap(self, tokens: &Measured<'_, '_>, number: usize, token: Token<'_>) -> u64
+        requires there { slice_get tokens.now.tokens number ≡ Some (lexeme token) }
+        requires laid { Laid tokens.now.tokens self }
+        requires after { self.first < number }
+        requires within { number < self.end }
+        requires comment { number ≢ self.comment.number }
+        requires sign { number ≢ self.sign.number }
+        ensures value { result ≡ gap_on tokens.now.tokens self number (lexeme token.entry) }
+        ensures small { result ≤ 2 ^ 34 }
+    {
+        gap_after(tokens, self.first, number, token)
+    }
+
+    /// The first cell after a token, or the end.
+    #[inline(always)]
+    fn stop_after(self, number: usize) -> usize
+        requires order { self.first ≤ number }
+        requires within { number < self.end }
+        ensures { Stops self (number + 1) result }
+    {
+        if self.sign.number <= number {
+            if number < self.comment.number {
+                return self.comment.number;
+            }
+            return self.end;
+        }
+        if number < self.comment.number && self.comment.number < self.sign.number {
+            return self.comment.number;
+        }
+        self.sign.number
+    }
+
+    /// A token of the line with the blanks before it, where up to the stop none has a gap of its own; and the next stop.
+    #[inline(always)]
+    pub fn piece<'s>(
+        self,
+        tokens: &Measured<'_, 's>,
+        number: usize,
+        stop: usize,
+    ) -> (Piece<'s>, usize)
         requires laid { Laid tokens.now.tokens self }
         requires order { self.first ≤ number }
         requires within { number < self.end }
-        ensures gap { result.gap ≡ gap_on tokens.now.tokens self number (lexeme result.token) }
-        ensures small { result.gap ≤ 2 ^ 34 }
-        ensures token { slice_get tokens.now.tokens number ≡ Some (lexeme result.token) }
-        ensures source { IsFrom tokens.now.text result.token.start result.token.text.now }
-        ensures text { length result.token.text.now < 2 ^ 32 }
+        requires stops { Stops self number stop }
+        ensures gap { result.0.gap ≡ gap_on tokens.now.tokens self number (lexeme result.0.token) }
+        ensures small { result.0.gap ≤ 2 ^ 34 }
+        ensures token { slice_get tokens.now.tokens number ≡ Some (lexeme result.0.token) }
+        ensures source { IsFrom tokens.now.text result.0.token.start result.0.token.text.now }
+        ensures text { length result.0.token.text.now < 2 ^ 32 }
+        ensures stops { Stops self (number + 1) result.1 }
     {
         let token = tokens.get(number);
-        Piece {
-            gap: self.gap(tokens, number, token),
-            token,
+        if number == stop {
+            let gap = self.own_gap(tokens, number, token);
+            return (Piece { gap, token }, self.stop_after(number));
         }
+        let gap = self.other_gap(tokens, number, token);
+        (Piece { gap, token }, stop)
     }
 
     /// The width before a token, on from another before which it is known.
@@ -236,15 +266,18 @@ impl LaidLine {
     fn width(self, tokens: &Measured<'_, '_>, from: usize, sum: u64, number: usize) -> u64
         requires laid { Laid tokens.now.tokens self }
         requires begins { self.first ≤ from }
-        requires order { from ≤ number }
+        requires own { HasOwnGap self from }
+        requires order { from < number }
+        requires plain { IsPlainOn self from number }
         requires within { number ≤ self.end }
         requires narrow { sum + width_on tokens.now.tokens self from number < 2 ^ 35 }
         ensures { result ≡ sum + width_on tokens.now.tokens self from number }
     {
-        let mut sum = sum;
-        for k in from..number {
+        let token = tokens.get(from);
+        let mut sum = sum + self.own_gap(tokens, from, token) + tokens.clusters(token);
+        for k in from + 1..number {
             let token = tokens.get(k);
-            sum += self.gap(tokens, k, token) + tokens.clusters(token);
+            sum += self.other_gap(tokens, k, token) + tokens.clusters(token);
         }
         sum
     }
@@ -254,7 +287,7 @@ impl LaidLine {
     fn sign_width(self, tokens: &Measured<'_, '_>, number: usize) -> u64
         requires laid { Laid tokens.now.tokens self }
         requires bare { shape self ≡ plain_of self.level }
-        requires order { self.first ≤ number }
+        requires order { self.first < number }
         requires within { number ≤ self.end }
         ensures value { result ≡ sign_width_on tokens.now.tokens self number }
         ensures small { result ≤ 2 ^ 24 }
@@ -269,7 +302,7 @@ impl LaidLine {
     fn comment_width(self, tokens: &Measured<'_, '_>, number: usize) -> u64
         requires laid { Laid tokens.now.tokens self }
         requires signed { IsSigned (shape self) (text_of tokens.now.tokens self) }
-        requires order { self.first ≤ number }
+        requires order { self.first < number }
         requires within { number < self.end }
         ensures value { result ≡ comment_width_on tokens.now.tokens self number }
         ensures narrow { result ≤ 2 ^ 33 + 2 ^ 24 }
@@ -367,6 +400,7 @@ impl Lines {
     }
 
     /// The greatest width before the signs of the run that goes on with the next line.
+    #[cold]
     #[inline(never)]
     fn signs_ahead(&self, tokens: &Measured<'_, '_>) -> u64
         requires at { IsAt tokens.now.tokens self.now }
@@ -430,6 +464,7 @@ impl Lines {
     }
 
     /// The greatest width before the comments of the run that goes on with the next line.
+    #[cold]
     #[inline(never)]
     fn comments_ahead(&self, tokens: &Measured<'_, '_>) -> u64
         requires at { IsAt tokens.now.tokens self.now }
@@ -475,7 +510,10 @@ impl Lines {
     fn end_comments(&mut self)
         ensures { self.new ≡ comments_ended self.old }
     {
-        self.wrong = self.wrong || is_wrong(self.comments);
+        let Some(run) = self.comments else {
+            return;
+        };
+        self.wrong = self.wrong || run.column != run.greatest;
         self.comments = None;
     }
 
@@ -484,7 +522,10 @@ impl Lines {
     fn end_signs(&mut self)
         ensures { self.new ≡ signs_ended self.old }
     {
-        self.wrong = self.wrong || is_wrong(self.signs);
+        let Some(run) = self.signs else {
+            return;
+        };
+        self.wrong = self.wrong || run.column != run.greatest;
         self.signs = None;
     }
 
@@ -526,7 +567,7 @@ impl Lines {
         ensures right { IfSome result (λ l. GoesBack tokens.now.tokens self.old l self.new) }
         ensures left { LeavesGaps tokens.now.tokens self.old self.new result }
     {
-        if self.next == tokens.len() {
+        if self.next >= tokens.len() {
             return None;
         }
         let line = line_at(tokens, self.next, self.depth);

@@ -236,6 +236,16 @@ impl<'t, 's> Measured<'t, 's> {
         self.tokens.kind(i)
     }
 
+    /// Whether the token of this number is inside a heredoc.
+    #[inline(always)]
+    pub fn is_inside_heredoc(&self, i: usize) -> bool
+        requires { i < length self.now.tokens }
+        ensures { (t : Lexeme) → slice_get self.now.tokens i ≡ Some t
+            → result ≡ t.inside_heredoc }
+    {
+        self.tokens.is_inside_heredoc(i)
+    }
+
     /// How wide the text of a token is: how many grapheme clusters it has.
     #[inline(always)]
     pub fn clusters(&self, token: Token<'_>) -> u64

@@ -19,8 +19,10 @@ pub fn printed_len(accepted: &Accepted<'_, '_>) -> u64
     let mut lines = Lines::new(Columns::Ahead);
     let mut len = 0;
     while let Some(line) = lines.next(&tokens) {
+        let mut stop = line.first;
         for number in line.first..line.end {
-            let piece = line.piece(&tokens, number);
+            let (piece, next) = line.piece(&tokens, number, stop);
+            stop = next;
             len += piece.gap + piece.token.text.len() as u64;
         }
     }
@@ -138,8 +140,11 @@ fn agrees(tokens: &Measured<'_, '_>) -> bool
     let mut lines = Lines::new(Columns::Ahead);
     let mut at = 0;
     while let Some(line) = lines.next(tokens) {
+        let mut stop = line.first;
         for number in line.first..line.end {
-            let Some(end) = piece_end(bytes, at, line.piece(tokens, number)) else {
+            let (piece, next) = line.piece(tokens, number, stop);
+            stop = next;
+            let Some(end) = piece_end(bytes, at, piece) else {
                 return false;
             };
             at = end;
@@ -162,8 +167,10 @@ fn stands_in_place(tokens: &Measured<'_, '_>) -> bool
         if lines.wrong {
             return false;
         }
+        let mut stop = line.first;
         for number in line.first..line.end {
-            let piece = line.piece(tokens, number);
+            let (piece, next) = line.piece(tokens, number, stop);
+            stop = next;
             if !goes_on(source, at, piece) {
                 return false;
             }

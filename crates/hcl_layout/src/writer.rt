@@ -202,6 +202,13 @@ fn put_blanks<W: ByteSink>(to: &mut W, buffer: &mut Buffer, gap: u64) -> Result<
         buffer.hold_blanks(gap as usize);
         return Ok(());
     }
+    if gap > 1 && gap <= 8192 {
+        if let Err(fault) = send(to, buffer) {
+            return Err(fault);
+        }
+        buffer.hold_blanks(gap as usize);
+        return Ok(());
+    }
     for _ in 0..gap {
         if let Err(fault) = put(to, buffer, b" ") {
             return Err(fault);
@@ -211,7 +218,8 @@ fn put_blanks<W: ByteSink>(to: &mut W, buffer: &mut Buffer, gap: u64) -> Result<
 }
 
 /// Writes a text, and so many spaces before it.
-#[inline(always)]
+#[cold]
+#[inline(never)]
 fn put_text<W: ByteSink>(
     to: &mut W,
     buffer: &mut Buffer,
@@ -331,8 +339,10 @@ pub fn emit<W: ByteSink>(accepted: &Accepted<'_, '_>, to: &mut W) -> Result<(), 
         end: 0,
     };
     while let Some(line) = lines.next(&tokens) {
+        let mut stop = line.first;
         for number in line.first..line.end {
-            let piece = line.piece(&tokens, number);
+            let (piece, next) = line.piece(&tokens, number, stop);
+            stop = next;
             let alone = stretch_of(source, piece);
             if goes_on(source, waiting.end, piece) {
                 waiting.end = alone.end;

@@ -162,6 +162,7 @@ fn is_ruled_out(text: &[u8], marker: &[u8], place: usize) -> bool
 
 /// The likely places from the first on at which the marker isn't ruled out. A call, since so many loops in one function
 /// take each other's registers; it calls nothing.
+#[cold]
 #[inline(never)]
 fn from_first_in_doubt(text: &[u8], marker: &[u8], at: usize, likely: u64) -> u64
     requires room { at + PLACES + length marker.now < length text.now }
@@ -235,6 +236,7 @@ fn past_unlikely(text: &[u8], marker: &[u8], place: usize) -> usize
 
 /// Where the marker stands that comes first after a line's beginning, of those that may be a marker line's. A call, since
 /// the loop needs more registers than the scan leaves.
+#[cold]
 #[inline(never)]
 fn next_place(text: &[u8], marker: &[u8], at: usize) -> Option<usize>
     requires some { 0 < length marker.now }

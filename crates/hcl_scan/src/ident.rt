@@ -128,6 +128,7 @@ fn continuing_len(text: &str) -> usize
 }
 
 /// How many bytes the longest identifier at the front has.
+#[cold]
 #[inline(never)]
 pub(crate) fn ident_len(text: &str) -> Option<usize>
     ensures found { IfSome result (IsLongestFront IsIdent text.now) }

@@ -10,7 +10,9 @@ use hcl_source::{Fault, Source};
 use hcl_tokens::{Entries, ScanError, Tokens};
 use std::alloc::Global;
 
-/// The tokens of a source, or the one fault that it is refused for.
+/// The tokens of a source, or the one fault that it is refused for. It is called, and what it calls seldom is marked as cold,
+/// so that its loop keeps its registers.
+#[inline(never)]
 pub fn scan<'s>(alloc: Global, source: &'s Source) -> Result<Tokens<'s>, ScanError>
     ensures source { IfOk result (λ t. t.text ≡ source.now) }
     ensures tokens { IfOk result (λ t. Scans source.now t.tokens) }

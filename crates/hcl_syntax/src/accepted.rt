@@ -50,6 +50,7 @@ fn fault_at(tokens: &Tokens, refusal: Refusal) -> Fault
 /// The tokens again, where they are a file, and else the one fault of the grammar: `UnexpectedToken` at the first token
 /// that can't come where it stands, `UnexpectedEnd` at the end of the text, or `TooDeep` at the `%{` of the first
 /// directive past as many open ones as may be. It takes no memory, and time linear in the tokens.
+#[inline(never)]
 pub fn accepts<'t, 's>(tokens: &'t Tokens<'s>) -> Result<Accepted<'t, 's>, Fault>
     ensures { result ≡ verdict tokens.now }
 {

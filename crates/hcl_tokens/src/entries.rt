@@ -117,6 +117,15 @@ impl Entries {
         self.kept[i].kind
     }
 
+    /// Whether the entry of this number is inside a heredoc.
+    #[inline(always)]
+    pub(crate) fn is_inside_heredoc(&self, i: usize) -> bool
+        requires { i < length self.now }
+        ensures { (e : Entry) → slice_get self.now i ≡ Some e → result ≡ e.inside_heredoc }
+    {
+        self.kept[i].inside_heredoc
+    }
+
     /// Puts an entry at the end. Of a source there are no more entries than it has bytes. A refused growth leaves the list
     /// as it was.
     pub fn push(&mut self, entry: Entry) -> Result<(), AllocError>

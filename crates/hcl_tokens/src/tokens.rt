@@ -95,4 +95,14 @@ impl<'s> Tokens<'s> {
         let _ = &self.origin;
         self.entries.kind(i)
     }
+
+    /// Whether the token of this number is inside a heredoc.
+    #[inline(always)]
+    pub fn is_inside_heredoc(&self, i: usize) -> bool
+        requires { i < length self.now.tokens }
+        ensures { (t : Lexeme) → slice_get self.now.tokens i ≡ Some t → result ≡ t.inside_heredoc }
+    {
+        let _ = &self.origin;
+        self.entries.is_inside_heredoc(i)
+    }
 }

@@ -1,5 +1,5 @@
 -- A line as it is laid out, by numbers of tokens: its gaps, its widths, and the runs that go over it.
-use Rattle.std.specs.Prelude.{◌≡◌, ◌<◌, ◌≤◌, ◌+◌, ◌-◌, ◌^◌, ◌++◌, ◌==◌, ◌||◌, ℕ, Bool, false, not, List, Option, Some, None, IfSome, MatchOption, length, ◌∷◌, take, drop, max, nat_lt, option_map, if◌then◌else◌}
+use Rattle.std.specs.Prelude.{◌≡◌, ◌≢◌, ◌<◌, ◌≤◌, ◌+◌, ◌-◌, ◌^◌, ◌++◌, ◌==◌, ◌||◌, ℕ, Bool, false, not, List, Option, Some, None, IfSome, MatchOption, length, ◌∷◌, take, drop, max, nat_lt, option_map, if◌then◌else◌}
 use Rattle.std.specs.List.{flat_map}
 use Rattle.hcl_tokens.specs.Lexemes.{Lexeme}
 use Rattle.hcl_tokens.specs.Balanced.{max_open}
@@ -9,7 +9,7 @@ use Rattle.hcl_layout.specs.Gaps.{align, plain_gaps, width}
 use Rattle.hcl_layout.specs.Cells.{assign_cell, running_comment, trailing_comment}
 use Rattle.hcl_layout.specs.Print.{printed_text}
 use Rattle.hcl_layout.specs.Inner.Depths.{fresh, level_at, next_levels}
-use Rattle.hcl_layout.specs.Inner.Left.{gap_before, plain_gap_before, token_before}
+use Rattle.hcl_layout.specs.Inner.Left.{gap_before, token_before}
 use Rattle.hcl_layout.specs.Inner.LineGaps.{Cell, LineGaps, gaps_from, gaps_in}
 use Rattle.hcl_layout.specs.Inner.Stream.{assign_column, assign_width, assign_widths, comment_column, comment_widths, commented, next_of, plain}
 use Rattle.hcl_layout.specs.Inner.Survey.{IsLine, facts_in}
@@ -55,10 +55,7 @@ gaps_on ts l n = gaps_from (shape l) (n - l.first) (token_before ts l.first (n -
 abbrev pub width_on : List Lexeme → LaidLine → ℕ → ℕ → ℕ
 width_on ts l n stop = width (stop - n) (gaps_on ts l n) (rest_of ts l n)
 
--- the gap before a token, by the level and the spacing alone, and with the line's cells
-abbrev pub plain_gap_on : List Lexeme → LaidLine → ℕ → Lexeme → ℕ
-plain_gap_on ts l n t = plain_gap_before ts l.level l.first n t
-
+-- the gap before a token
 abbrev pub gap_on : List Lexeme → LaidLine → ℕ → Lexeme → ℕ
 gap_on ts l n t = gap_before ts (shape l) l.first n t
 
@@ -68,6 +65,22 @@ sign_width_on ts l n = width (n - l.first) (plain_gaps l.level (text_of ts l)) (
 
 abbrev pub comment_width_on : List Lexeme → LaidLine → ℕ → ℕ
 comment_width_on ts l n = width (n - l.first) (gaps_in (shape l) (text_of ts l)) (text_of ts l)
+
+-- the gap before the token goes by no token before it
+abbrev pub HasOwnGap : LaidLine → ℕ → Type 0
+HasOwnGap l n = (n ≡ l.comment.number → ⊥) → (n ≡ l.sign.number → ⊥) → n ≡ l.first
+
+-- neither the line's first token nor a cell stands from a number on before the stop
+pub record Stops (l : LaidLine) (n stop : ℕ) : Type 0 where
+  pub order : n ≤ stop
+  pub first : n < stop → l.first < n
+  pub sign : n ≤ l.sign.number → stop ≤ l.sign.number
+  pub comment : n ≤ l.comment.number → stop ≤ l.comment.number
+  pub own : stop < l.end → HasOwnGap l stop
+
+-- no cell stands after one number and before another
+abbrev pub IsPlainOn : LaidLine → ℕ → ℕ → Type 0
+IsPlainOn l from stop = (k : ℕ) → from < k → k < stop → (k ≢ l.comment.number) × (k ≢ l.sign.number)
 
 -- it is the line that was read
 abbrev pub Spans : LaidLine → LineRead → Type 0

@@ -151,9 +151,25 @@ unseen multiline = record { sign = None; sign_depth = 0; comment = None; body_de
 abbrev pub Notes : Seen → ℕ → ℕ → Lexeme → Seen → Type 0
 Notes old number depth t new = (first : ℕ) → first ≤ number → survey_of new depth first (number + 1) ≡ noted (survey_of old depth first number) t
 
+-- the token of that number was passed
+abbrev pub NotesAt : List Lexeme → Seen → ℕ → ℕ → Seen → Type 0
+NotesAt ts old number depth new = (t : Lexeme) → slice_get ts number ≡ Some t → Notes old number depth t new
+
 -- the first token was passed
 abbrev pub NotesFirst : List Lexeme → ℕ → ℕ → Seen → ℕ → Type 0
 NotesFirst ts first before seen depth = (t : Lexeme) → slice_get ts first ≡ Some t → survey_of seen depth first (first + 1) ≡ first_noted before t
+
+-- the tokens from one number up to another were passed, none of which is a cell, tears one or ends the line
+pub record PassesSteps (ts : List Lexeme) (from before number depth : ℕ) : Type 0 where
+  pub order : from ≤ number
+  pub within : number ≤ length ts
+  pub balanced : BalancedFrom depth (drop number ts)
+  pub low : depth ≤ max_open
+  pub same : (seen : Seen) (first : ℕ) → first ≤ from → going (survey_of seen before first from) (drop from ts) ≡ going (survey_of seen depth first number) (drop number ts)
+
+-- more is asked of the token there
+abbrev pub AsksMore : List Lexeme → ℕ → Type 0
+AsksMore ts number = (t : Lexeme) → slice_get ts number ≡ Some t → stops t.kind ≡ true
 
 abbrev pub TellsEnd : List Lexeme → ℕ → Bool → Type 0
 TellsEnd ts first ends = (t : Lexeme) → slice_get ts first ≡ Some t → ends ≡ ends_line t

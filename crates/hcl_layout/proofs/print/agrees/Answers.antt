@@ -8,6 +8,7 @@ use Rattle.hcl_layout.specs.Print.{print}
 use Rattle.hcl_layout.specs.declared.lines.Lines.{Lines}
 use Rattle.hcl_layout.proofs.BalanceLemmas.{balanced_from}
 use Rattle.hcl_layout.proofs.FormatLemmas.{Agrees, agrees_all, agrees_end, agrees_more, differs}
+use Rattle.hcl_layout.proofs.LaidLemmas.{stops_here}
 use Rattle.hcl_layout.proofs.PrintedLemmas.{left_all, left_done, left_line, left_piece}
 use Rattle.hcl_layout.proofs.WalkLemmas.{start_at}
 use Rattle.hcl_layout.proofs.print.agrees.Goals as goal
@@ -35,6 +36,7 @@ loop-number-init c =
     let ts = c.args.tokens.now.tokens in
     let i = c.loop-line.invariant in
     record {
+      stops = stops_here c.in-Some.line c.in-Some.line.first (λ a b. refl);
       same = subst (λ (xs : List ℕ). Agrees (print ts) c.source-bytes.result.now xs c.loop-line.at) (left_line ts c.loop-line.lines c.next.new.self c.in-Some.line (c.in-Some.ensures.left i.ahead) c.in-Some.ensures.laid.1) i.same;
       order = omega arith;
       inside = i.inside;
@@ -68,10 +70,10 @@ returns-in_default-piece_end c =
     let ts = c.args.tokens.now.tokens in
     let i = c.loop-number.invariant in
     let l = c.in-Some.line in
-    let p = c.piece.result in
+    let p = c.piece-next.result.0 in
     let n = c.loop-number.number in
     let rest = gaps_after ts c.next.new.self in
-    let left = left_piece ts l rest n p.gap (lexeme p.token) c.piece.ensures.token i.order c.loop-number-test.true c.piece.ensures.gap in (
+    let left = left_piece ts l rest n p.gap (lexeme p.token) c.piece-next.ensures.token i.order c.loop-number-test.true c.piece-next.ensures.gap in (
       λ t. absurd (never t),
       λ q. absurd (differs (print ts) c.source-bytes.result.now (bytes_of p) (left_on ts l rest n) (left_on ts l rest (n + 1)) c.loop-number.at left c.in_default-piece_end.ensures.found i.same (q ∙ sym c.source-bytes.ensures.text)),
     )
@@ -81,11 +83,12 @@ loop-number-preserved c =
     let ts = c.args.tokens.now.tokens in
     let i = c.loop-number.invariant in
     let l = c.in-Some.line in
-    let p = c.piece.result in
+    let p = c.piece-next.result.0 in
     let n = c.loop-number.number in
     let rest = gaps_after ts c.next.new.self in
-    let left = left_piece ts l rest n p.gap (lexeme p.token) c.piece.ensures.token i.order c.loop-number-test.true c.piece.ensures.gap in
+    let left = left_piece ts l rest n p.gap (lexeme p.token) c.piece-next.ensures.token i.order c.loop-number-test.true c.piece-next.ensures.gap in
     record {
+      stops = c.piece-next.ensures.stops;
       same = agrees_more (print ts) c.source-bytes.result.now (bytes_of p) (left_on ts l rest n) (left_on ts l rest (n + 1)) c.loop-number.at c.in-Some-piece_end.end left c.in-Some-piece_end.ensures.found i.same;
       order = omega (arith, i.order);
       inside = c.in-Some-piece_end.ensures.within;

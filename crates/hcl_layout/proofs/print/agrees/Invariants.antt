@@ -1,5 +1,5 @@
 use Rattle.std.proofs.Common.{◌≡◌, ◌≤◌, ◌-◌, length}
-use Rattle.hcl_layout.specs.Inner.Laid.{IsAt, gaps_after, left_after, left_on}
+use Rattle.hcl_layout.specs.Inner.Laid.{IsAt, Stops, gaps_after, left_after, left_on}
 use Rattle.hcl_layout.specs.Print.{print}
 use Rattle.hcl_layout.specs.declared.lines.Columns.TheVariants.{Ahead}
 use Rattle.hcl_layout.proofs.FormatLemmas.{Agrees}
@@ -18,6 +18,7 @@ decreases-loop-line l = length l.tokens.tokens - l.lines.next
 
 abbrev pub invariant-loop-number : goal.invariant-loop-number
 invariant-loop-number l = record {
+  stops : Stops l.line l.number l.stop;
   same : Agrees (print l.tokens.tokens) l.bytes (left_on l.tokens.tokens l.line (gaps_after l.tokens.tokens l.lines) l.number) l.at;
   order : l.line.first ≤ l.number;
   inside : l.at ≤ length l.bytes;

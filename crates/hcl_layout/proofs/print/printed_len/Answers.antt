@@ -1,10 +1,11 @@
-use Rattle.std.proofs.Common.{◌+◌, ap, arith, length, subst, sym}
+use Rattle.std.proofs.Common.{◌+◌, ap, arith, length, subst, sym, refl}
 use Rattle.hcl_tokens.specs.Scanned.{Scanned, lexeme}
 use Rattle.hcl_tokens.specs.Balanced.{IsBalanced}
 use Rattle.hcl_layout.specs.Inner.Depths.{BalancedFrom}
 use Rattle.hcl_layout.specs.Inner.Laid.{gaps_after, left_on}
 use Rattle.hcl_layout.specs.declared.lines.Lines.{Lines}
 use Rattle.hcl_layout.proofs.BalanceLemmas.{balanced_from}
+use Rattle.hcl_layout.proofs.LaidLemmas.{stops_here}
 use Rattle.hcl_layout.proofs.PrintedLemmas.{left_all, left_piece, piece_len}
 use Rattle.hcl_layout.proofs.WalkLemmas.{start_at}
 use Rattle.hcl_layout.proofs.print.printed_len.Goals as goal
@@ -33,11 +34,12 @@ loop-number-preserved c =
     let l = c.in-Some.line in
     let rest = gaps_after ts c.next.new.self in
     let n = c.loop-number.number in
-    let t = lexeme c.piece-piece.result.token in
-    let gap = c.piece-piece.result.gap in
-    let piece = piece_len (left_on ts l rest n) t.text (left_on ts l rest (n + 1)) gap (left_piece ts l rest n gap t c.piece-piece.ensures.token c.loop-number.invariant.order c.loop-number-test.true c.piece-piece.ensures.gap) in
+    let t = lexeme c.piece-next.result.0.token in
+    let gap = c.piece-next.result.0.gap in
+    let piece = piece_len (left_on ts l rest n) t.text (left_on ts l rest (n + 1)) gap (left_piece ts l rest n gap t c.piece-next.ensures.token c.loop-number.invariant.order c.loop-number-test.true c.piece-next.ensures.gap) in
     record {
+      stops = c.piece-next.ensures.stops;
       whole = omega (arith, piece, c.loop-number.invariant.whole);
-      small = omega (arith, c.loop-number.invariant.small, c.piece-piece.ensures.small, c.piece-piece.ensures.text);
+      small = omega (arith, c.loop-number.invariant.small, c.piece-next.ensures.small, c.piece-next.ensures.text);
       order = omega (arith, c.loop-number.invariant.order);
     }

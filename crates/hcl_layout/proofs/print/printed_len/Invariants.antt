@@ -1,5 +1,5 @@
 use Rattle.std.proofs.Common.{◌≡◌, ◌≤◌, ◌+◌, ◌-◌, ◌*◌, ◌^◌, length}
-use Rattle.hcl_layout.specs.Inner.Laid.{IsAt, gaps_after, left_after, left_on}
+use Rattle.hcl_layout.specs.Inner.Laid.{IsAt, Stops, gaps_after, left_after, left_on}
 use Rattle.hcl_layout.specs.Print.{print}
 use Rattle.hcl_layout.specs.declared.lines.Columns.TheVariants.{Ahead}
 use Rattle.hcl_layout.proofs.print.printed_len.Given as goal
@@ -17,6 +17,7 @@ decreases-loop-line l = length l.tokens.tokens - l.lines.next
 
 abbrev pub invariant-loop-number : goal.invariant-loop-number
 invariant-loop-number l = record {
+  stops : Stops l.line l.number l.stop;
   whole : length (print l.tokens.tokens) ≡ l.len + length (left_on l.tokens.tokens l.line (gaps_after l.tokens.tokens l.lines) l.number);
   small : l.len ≤ l.number * 2 ^ 35;
   order : l.line.first ≤ l.number;

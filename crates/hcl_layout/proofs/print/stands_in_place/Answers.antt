@@ -1,10 +1,11 @@
-use Rattle.std.proofs.Common.{◌++◌, ◌∙◌, ℕ, List, ap, arith, drop, length, length-drop, length-take, sym}
+use Rattle.std.proofs.Common.{◌++◌, ◌∙◌, ℕ, List, ap, arith, drop, length, length-drop, length-take, sym, refl}
 use Rattle.hcl_tokens.specs.Scanned.{lexeme}
 use Rattle.hcl_layout.specs.Inner.Depths.{BalancedFrom}
 use Rattle.hcl_layout.specs.Inner.Laid.{gaps_after}
 use Rattle.hcl_layout.specs.Inner.Left.{bytes_of}
 use Rattle.hcl_layout.specs.declared.lines.Lines.{Lines}
 use Rattle.hcl_layout.proofs.BalanceLemmas.{balanced_from}
+use Rattle.hcl_layout.proofs.LaidLemmas.{stops_here}
 use Rattle.hcl_layout.proofs.PrintedLemmas.{left_all, left_done, left_line, left_piece}
 use Rattle.hcl_layout.proofs.WalkLemmas.{start_at}
 use Rattle.hcl_layout.proofs.print.stands_in_place.Goals as goal
@@ -31,6 +32,7 @@ loop-number-init c =
     let ts = c.args.tokens.now.tokens in
     let i = c.loop-line.invariant in
     record {
+      stops = stops_here c.in-Some.line c.in-Some.line.first (λ a b. refl);
       step = λ right left. (let back = c.in-Some.ensures.right c.if-lines.false right in
           i.step back.0 back.1 (left_line ts c.loop-line.lines c.next.new.self c.in-Some.line back.2 c.in-Some.ensures.laid.1 ∙ left));
       order = omega arith;
@@ -41,12 +43,13 @@ pub loop-number-preserved : goal.loop-number-preserved
 loop-number-preserved c =
     let ts = c.args.tokens.now.tokens in
     let i = c.loop-number.invariant in
-    let p = c.piece-piece.result in
+    let p = c.piece-next.result.0 in
     let source = c.source-source.result.now in
-    let from = c.piece-piece.ensures.source in
+    let from = c.piece-next.ensures.source in
     let n = c.loop-number.number in
     record {
-      step = λ right left. i.step right (left_piece ts c.in-Some.line (gaps_after ts c.next.new.self) n p.gap (lexeme p.token) c.piece-piece.ensures.token i.order c.loop-number-test.true c.piece-piece.ensures.gap
+      stops = c.piece-next.ensures.stops;
+      step = λ right left. i.step right (left_piece ts c.in-Some.line (gaps_after ts c.next.new.self) n p.gap (lexeme p.token) c.piece-next.ensures.token i.order c.loop-number-test.true c.piece-next.ensures.gap
           ∙ ap (λ (xs : List ℕ). bytes_of p ++ xs) left ∙ sym (c.goes_on.ensures.goes c.if-not-goes_on.false));
       order = omega (arith, i.order);
       inside = omega (arith, ap length from.0, length-take (length p.token.text.now) (drop p.token.start c.args.tokens.now.text), length-drop p.token.start c.args.tokens.now.text, from.1, ap length c.source-source.ensures.text);

@@ -11,6 +11,7 @@ use Rattle.hcl_layout.specs.Print.{print}
 use Rattle.hcl_layout.specs.declared.lines.Lines.{Lines}
 use Rattle.hcl_layout.proofs.BalanceLemmas.{balanced_from}
 use Rattle.hcl_layout.proofs.OutLemmas.{err_by, grown, ok_to, out_none, print_end, print_grown, print_put, cut_short_print}
+use Rattle.hcl_layout.proofs.LaidLemmas.{stops_here}
 use Rattle.hcl_layout.proofs.PrintedLemmas.{left_all, left_done, left_line, left_piece}
 use Rattle.hcl_layout.proofs.WalkLemmas.{start_at}
 use Rattle.hcl_layout.proofs.writer.emit.Goals as goal
@@ -43,6 +44,7 @@ loop-number-init g c =
     let o = i.out in
     let l = c.in-Some.line in
     record {
+      stops = stops_here c.in-Some.line c.in-Some.line.first (λ a b. refl);
       order = omega arith;
       fresh = i.fresh;
       out = (
@@ -62,16 +64,17 @@ loop-number-preserved-then-goes_on g c =
     let o = i.out in
     let source = c.source-source.result.now in
     let w = c.loop-number.waiting in
-    let p = c.piece-piece.result in
+    let p = c.piece-next.result.0 in
     let l = c.in-Some.line in
     let rest = gaps_after ts c.next.new.self in
     let n = c.loop-number.number in
     let piece : List ℕ = bytes_of p in
-    let left = left_piece ts l rest n p.gap (lexeme p.token) c.piece-piece.ensures.token i.order c.loop-number-test.true c.piece-piece.ensures.gap in
+    let left = left_piece ts l rest n p.gap (lexeme p.token) c.piece-next.ensures.token i.order c.loop-number-test.true c.piece-next.ensures.gap in
     let at = c.goes_on.ensures.end c.if-goes_on.true in
     let end : c.stretch_of-alone.result.end ≡ w.end + length piece = omega (arith, at, c.stretch_of-alone.ensures.end, length-append (replicate p.gap 32) p.token.text.now, length-replicate {A = ℕ} p.gap 32) in
     let there = c.goes_on.ensures.goes c.if-goes_on.true ∙ ap (λ k. piece ++ drop k source) (sym c.stretch_of-alone.ensures.end) in
     record {
+      stops = c.piece-next.ensures.stops;
       order = omega (arith, i.order);
       fresh = i.fresh;
       out = (
@@ -81,7 +84,7 @@ loop-number-preserved-then-goes_on g c =
         o.2,
       );
       lies = (omega (arith, end, i.lies.0), c.stretch_of-alone.ensures.lies.1);
-      small = omega (arith, end, at, c.stretch_of-alone.ensures.end, c.piece-piece.ensures.small, c.piece-piece.ensures.text, i.small, i.lies.0);
+      small = omega (arith, end, at, c.stretch_of-alone.ensures.end, c.piece-next.ensures.small, c.piece-next.ensures.text, i.small, i.lies.0);
       flushes = i.flushes;
     }
 
@@ -91,14 +94,15 @@ loop-number-preserved g c =
     let i = c.loop-number.invariant in
     let o = i.out in
     let source = c.source-source.result.now in
-    let p = c.piece-piece.result in
+    let p = c.piece-next.result.0 in
     let l = c.in-Some.line in
     let rest = gaps_after ts c.next.new.self in
     let n = c.loop-number.number in
     let alone = c.stretch_of-alone.result in
     let text : List ℕ = stretched source c.loop-number.waiting in
-    let left = left_piece ts l rest n p.gap (lexeme p.token) c.piece-piece.ensures.token i.order c.loop-number-test.true c.piece-piece.ensures.gap in
+    let left = left_piece ts l rest n p.gap (lexeme p.token) c.piece-next.ensures.token i.order c.loop-number-test.true c.piece-next.ensures.gap in
     record {
+      stops = c.piece-next.ensures.stops;
       order = omega (arith, i.order);
       fresh = c.in_default-put_stretch.ensures.failed;
       out = (
@@ -107,7 +111,7 @@ loop-number-preserved g c =
         c.in_default-put_stretch.ensures.ok (g.W.ByteSink.taken c.args.to.now) o.0 o.2,
       );
       lies = c.stretch_of-alone.ensures.lies;
-      small = omega (arith, c.in_default-put_stretch.ensures.count, c.stretch_of-alone.ensures.gap, c.stretch_of-alone.ensures.len, c.piece-piece.ensures.small, c.piece-piece.ensures.text, i.small);
+      small = omega (arith, c.in_default-put_stretch.ensures.count, c.stretch_of-alone.ensures.gap, c.stretch_of-alone.ensures.len, c.piece-next.ensures.small, c.piece-next.ensures.text, i.small);
       flushes = c.in_default-put_stretch.ensures.flushes ∙ i.flushes;
     }
 

@@ -1,5 +1,5 @@
 use Rattle.std.proofs.Common.{◌≡◌, ◌≤◌, ◌+◌, ◌-◌, ◌*◌, ◌^◌, ◌++◌, ℕ, List, false, length}
-use Rattle.hcl_layout.specs.Inner.Laid.{IsAt, gaps_after, left_after, left_on}
+use Rattle.hcl_layout.specs.Inner.Laid.{IsAt, Stops, gaps_after, left_after, left_on}
 use Rattle.hcl_layout.specs.Inner.Out.{Lies, Out, stretched}
 use Rattle.hcl_layout.specs.Print.{print}
 use Rattle.hcl_layout.specs.declared.lines.Columns.TheVariants.{Ahead}
@@ -21,6 +21,7 @@ decreases-loop-line g l = length l.tokens.tokens - l.lines.next
 
 abbrev pub invariant-loop-number : goal.invariant-loop-number
 invariant-loop-number g l = record {
+  stops : Stops l.line l.number l.stop;
   order : l.line.first ≤ l.number;
   fresh : g.W.ByteSink.failed l.to ≡ false;
   out : (front : List ℕ) × (print l.tokens.tokens ≡ front ++ (stretched l.source l.waiting ++ left_on l.tokens.tokens l.line (gaps_after l.tokens.tokens l.lines) l.number)) × Out (g.W.ByteSink.taken l.fn.to) (g.W.ByteSink.taken l.to) l.buffer front;

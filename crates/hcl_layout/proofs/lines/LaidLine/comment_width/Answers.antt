@@ -1,5 +1,5 @@
-use Rattle.std.proofs.Common.{◌-◌, ◌<◌, arith}
-use Rattle.hcl_layout.proofs.LaidLemmas.{sign_known, signed_low, width_all, width_split}
+use Rattle.std.proofs.Common.{◌-◌, ◌<◌, arith, refl}
+use Rattle.hcl_layout.proofs.LaidLemmas.{sign_known, signed_low, signed_plain, width_all, width_split}
 use Rattle.hcl_layout.proofs.lines.LaidLine.comment_width.Goals as goal
 
 pub width-requires-clause-narrow : goal.width-requires-clause-narrow
@@ -27,16 +27,22 @@ pub width-requires-2-clause-narrow : goal.width-requires-2-clause-narrow
 width-requires-2-clause-narrow c =
     let ts = c.args.tokens.now.tokens in
     let l = c.args.self in
-    omega (arith, width_all ts l c.args.number c.requires.laid c.requires.order (omega (arith, c.requires.within)), signed_low ts l (c.args.number - l.first) c.requires.signed c.len-count.ensures.bounded.blanks)
+    omega (arith, width_all ts l c.args.number c.requires.laid (omega (arith, c.requires.order)) (omega (arith, c.requires.within)), signed_low ts l (c.args.number - l.first) c.requires.signed c.len-count.ensures.bounded.blanks)
 
 pub returns-clause-narrow : goal.returns-clause-narrow
 returns-clause-narrow c =
     let ts = c.args.tokens.now.tokens in
     let l = c.args.self in
-    omega (arith, c.width-2.ensures, width_all ts l c.args.number c.requires.laid c.requires.order (omega (arith, c.requires.within)), signed_low ts l (c.args.number - l.first) c.requires.signed c.len-count.ensures.bounded.blanks)
+    omega (arith, c.width-2.ensures, width_all ts l c.args.number c.requires.laid (omega (arith, c.requires.order)) (omega (arith, c.requires.within)), signed_low ts l (c.args.number - l.first) c.requires.signed c.len-count.ensures.bounded.blanks)
 
 pub returns-clause-value : goal.returns-clause-value
 returns-clause-value c =
     let ts = c.args.tokens.now.tokens in
     let l = c.args.self in
-    omega (arith, c.width-2.ensures, width_all ts l c.args.number c.requires.laid c.requires.order (omega (arith, c.requires.within)))
+    omega (arith, c.width-2.ensures, width_all ts l c.args.number c.requires.laid (omega (arith, c.requires.order)) (omega (arith, c.requires.within)))
+
+pub width-requires-clause-plain : goal.width-requires-clause-plain
+width-requires-clause-plain c = signed_plain c.args.tokens.now.tokens c.args.self c.args.self.sign.number c.args.number c.requires.signed (omega (arith, c.requires.within)) (λ lt. refl)
+
+pub width-requires-2-clause-plain : goal.width-requires-2-clause-plain
+width-requires-2-clause-plain c = signed_plain c.args.tokens.now.tokens c.args.self c.args.self.first c.args.number c.requires.signed (omega (arith, c.requires.within)) (λ lt. absurd (omega (arith, lt)))
