@@ -291,11 +291,24 @@ def options(group, program):
         ['--shard', '1/1', '--shard', '1/1'],
         ['--list', '--check'],
         ['--list', '--diff'],
-        ['--bogus'],
-        ['-V'],
-        ['a.tf', '-check'],
+        ['--check=1'],
+        ['--shard=3/2', '--', '--bogus'],
     ):
         group.check('a wrong line %r' % words, program(*words, cwd=top), (2, b'', usage))
+    for words, said in (
+        (['--bogus'], b'--bogus'),
+        (['-V'], b'-V'),
+        (['-j', '-4'], b'-4'),
+        (['--list', '--check', '--a\nb'], b'"--a\\nb"'),
+        (['a.tf', '-check'], b'-check; write --check'),
+        (['-diff'], b'-diff; write --diff'),
+        (['-recursive', '-check'], b'-recursive; folders are always walked whole'),
+        (['--recursive'], b'--recursive; folders are always walked whole'),
+        (['-write=false'], b'-write=false; write --list, --check or --diff'),
+        (['--write=false'], b'--write=false; write --list, --check or --diff'),
+    ):
+        told = b'tffmt-all: error: unknown option ' + said + b'\n' + usage
+        group.check('a wrong word %r' % words, program(*words, cwd=top), (2, b'', told))
     group.check('nothing is changed by a wrong line', contents(top), {'a.tf': OTHER})
     group.check(
         'an option after an operand',
