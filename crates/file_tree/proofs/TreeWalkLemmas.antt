@@ -3,15 +3,17 @@ use Rattle.std.proofs.Common.{◌≡◌, ◌≢◌, ◌∙◌, ◌<◌, ◌+◌,
 use Rattle.std.specs.Prelude.{IfOk}
 use Rattle.std.proofs.lemmas.List.{map-append, map_more}
 use Rattle.std.proofs.lemmas.List.Elements.{Contains-append_left, Contains-push, Contains-push_cases}
-use Rattle.file_tree.specs.Below.{HasFile, HasFolder, IsBelow, IsEntry, IsFile, IsGiven, Leads, Says, is_met, listed}
-use Rattle.file_tree.specs.Files.{Files, Name}
+use Rattle.file_tree.specs.Below.{HasFile, HasFolder, IsBelow, IsEntry, IsFile, IsGiven, IsNamed, IsOther, Leads, Says, is_met, listed}
+use Rattle.file_tree.specs.Choices.{Chosen, is_excluded, is_wanted}
+use Rattle.file_tree.specs.Files.{Files, Name, identity_of}
 use Rattle.hcl_source.specs.Devices.{Tells}
 use Rattle.file_tree.specs.Finds.{Accounts, Finds, IsEarlier, IsEntryOf, IsFolderOf, IsOf, IsOfBy, IsShown, IsTold, Rises, Stands}
 use Rattle.file_tree.specs.Names.{is_taken}
 use Rattle.file_tree.specs.Paths.{inside, place, reported, tidied, top, within}
-use Rattle.file_tree.specs.Inner.Walking.{Adds, Covers, Enters, IsFault, KeepsFirsts, Reached, TakesAll, TakesEntry, TakesFolder, TakesGiven, TakesIf, TakesKind, TakesKindGiven, TakesLink, TakesLinked, Walked}
+use Rattle.file_tree.specs.Inner.Walking.{Adds, Covers, Enters, IsFault, KeepsFirsts, Reached, TakesAll, TakesAsked, TakesEntry, TakesFolder, TakesGiven, TakesIf, TakesKind, TakesKindGiven, TakesLink, TakesLinked, TakesNamed, Walked}
 use Rattle.file_tree.specs.Ordered.{HasName, IsFound, Orders}
 use Rattle.file_tree.specs.declared.fault.TreeFault.{TreeFault}
+use Rattle.file_tree.specs.declared.fault.TreeFault.TheVariants.{OtherKind}
 use Rattle.file_tree.specs.declared.kind.Identity.{Identity}
 use Rattle.file_tree.specs.declared.kind.Kind.{Kind}
 use Rattle.file_tree.specs.declared.kind.Kind.TheVariants.{File, Folder, Link, Other}
@@ -61,28 +63,33 @@ grows_kind (File identity) files path name old new h = grows_if (is_taken name) 
 grows_kind Link files path name old new h = grows_link (is_taken name) files path old new h
 grows_kind Other files path name old new h = grows_same old new h
 
-grows_entry : (files : Files) (folder name : Name) (old new : Reached) → TakesEntry files folder name old new → Grows old new
-grows_entry files folder name old new (inl h) = grows_same old new h.1
-grows_entry files folder name old new (inr (met, inl h)) = grows_adds (folder ++ name) (Some h.0) _ old new h.1
-grows_entry files folder name old new (inr (met, inr h)) = grows_kind h.0 files (folder ++ name) name old new h.2
+grows_entry : (files : Files) (chosen : Chosen) (folder name : Name) (old new : Reached) → TakesEntry files chosen folder name old new → Grows old new
+grows_entry files chosen folder name old new (inl h) = grows_same old new h.1
+grows_entry files chosen folder name old new (inr (met, inl h)) = grows_adds (folder ++ name) (Some h.0) _ old new h.1
+grows_entry files chosen folder name old new (inr (met, inr h)) = grows_kind h.0 files (folder ++ name) name old new h.2
 
-grows_all : (files : Files) (folder : Name) (names : List Name) (old new : Reached) → TakesAll files folder names old new → Grows old new
-grows_all files folder [] old new h = grows_same old new h
-grows_all files folder (name ∷ names) old new h = grows_then old h.0 new (grows_entry files folder name old h.0 h.1) (grows_all files folder names h.0 new h.2)
+grows_all : (files : Files) (chosen : Chosen) (folder : Name) (names : List Name) (old new : Reached) → TakesAll files chosen folder names old new → Grows old new
+grows_all files chosen folder [] old new h = grows_same old new h
+grows_all files chosen folder (name ∷ names) old new h = grows_then old h.0 new (grows_entry files chosen folder name old h.0 h.1) (grows_all files chosen folder names h.0 new h.2)
 
-grows_folder : (files : Files) (folder : Name) (old new : Reached) → TakesFolder files folder old new → Grows old new
-grows_folder files folder old new (inl h) = grows_adds (place folder) (Some h.0) _ old new h.1
-grows_folder files folder old new (inr h) = grows_all files folder (listed h.0) old new h.2
+grows_folder : (files : Files) (chosen : Chosen) (folder : Name) (old new : Reached) → TakesFolder files chosen folder old new → Grows old new
+grows_folder files chosen folder old new (inl h) = grows_adds (place folder) (Some h.0) _ old new h.1
+grows_folder files chosen folder old new (inr h) = grows_all files chosen folder (listed h.0) old new h.2
 
-grows_kind_given : (kind : Kind) (path : Name) (old new : Reached) → TakesKindGiven kind path old new → Grows old new
-grows_kind_given Folder path old new h = grows_enters (top path) old new h
-grows_kind_given (File identity) path old new h = grows_adds (tidied path) None _ old new h
-grows_kind_given Link path old new h = grows_adds (tidied path) None _ old new h
-grows_kind_given Other path old new h = grows_adds (tidied path) None _ old new h
+grows_named : (v : Bool) (name : Name) (identity : Option Identity) (old new : Reached) → TakesNamed v name identity old new → Grows old new
+grows_named true name identity old new h = grows_adds name None identity old new h
+grows_named false name identity old new h = grows_adds name (Some OtherKind) None old new h
 
-grows_given : (files : Files) (path : Name) (old new : Reached) → TakesGiven files path old new → Grows old new
-grows_given files path old new (inl h) = grows_adds (reported path) (Some h.0) _ old new h.1
-grows_given files path old new (inr h) = grows_kind_given h.0 path old new h.2
+grows_kind_given : (chosen : Chosen) (kind : Kind) (path : Name) (old new : Reached) → TakesKindGiven chosen kind path old new → Grows old new
+grows_kind_given chosen Folder path old new h = grows_enters (top path) old new h
+grows_kind_given chosen (File identity) path old new h = grows_named (is_wanted chosen (tidied path)) (tidied path) _ old new h
+grows_kind_given chosen Link path old new h = grows_named (is_wanted chosen (tidied path)) (tidied path) _ old new h
+grows_kind_given chosen Other path old new h = grows_named (is_wanted chosen (tidied path)) (tidied path) _ old new h
+
+grows_given : (files : Files) (chosen : Chosen) (path : Name) (old new : Reached) → TakesGiven files chosen path old new → Grows old new
+grows_given files chosen path old new (inl h) = grows_same old new h.1
+grows_given files chosen path old new (inr (_, inl h)) = grows_adds (reported path) (Some h.0) _ old new h.1
+grows_given files chosen path old new (inr (_, inr h)) = grows_kind_given chosen h.0 path old new h.2
 
 module _ (old new : Reached) (grows : Grows old new) where
   stays : (f : Found) → Contains old.found f → Contains new.found f
@@ -131,11 +138,11 @@ told_some told x y e h = subst (λ o. Tells o y) e h
 
 -- ---- an entry of a folder is not passed over
 
-met_folder : (files : Files) (folder name : Name) (old new : Reached) → TakesEntry files folder name old new → is_met name ≡ true → files.entry (folder ++ name) ≡ Some Folder
+met_folder : (files : Files) (chosen : Chosen) (folder name : Name) (old new : Reached) → TakesEntry files chosen folder name old new → is_met chosen folder name ≡ true → files.entry (folder ++ name) ≡ Some Folder
     → Contains new.folders (inside folder name) ⊎ IsFault new.found (folder ++ name)
-met_folder files folder name old new (inl h) met is = absurd (true≢false (sym met ∙ h.0))
-met_folder files folder name old new (inr (_, inl h)) met is = inr (fault_added (folder ++ name) h.0 old new h.1)
-met_folder files folder name old new (inr (_, inr h)) met is =
+met_folder files chosen folder name old new (inl h) met is = absurd (true≢false (sym met ∙ h.0))
+met_folder files chosen folder name old new (inr (_, inl h)) met is = inr (fault_added (folder ++ name) h.0 old new h.1)
+met_folder files chosen folder name old new (inr (_, inr h)) met is =
     inl (folder_added (inside folder name) old new (subst (λ kind. TakesKind kind files (folder ++ name) name old new) (sym (told_some (files.entry (folder ++ name)) Folder h.0 is h.1)) h.2))
 
 taken_if : (v : Bool) (path : Name) (identity : Identity) (old new : Reached) → v ≡ true → TakesIf v path identity old new → IsFound new.found path
@@ -152,14 +159,14 @@ link_met files true path old new e is (inl h) = inl (fault_added path h.0 old ne
 link_met files true path old new e is (inr h) = inr (linked_file is.0 path old new is.2 (subst (λ kind. TakesLinked kind path old new) (sym (told_some (files.kind path) is.0 h.0 is.1 h.1)) h.2))
 link_met files false path old new e is h = absurd (true≢false (sym e))
 
-met_file : (files : Files) (folder name : Name) (old new : Reached) → TakesEntry files folder name old new → is_met name ≡ true → IsFile true files (folder ++ name) → is_taken name ≡ true
+met_file : (files : Files) (chosen : Chosen) (folder name : Name) (old new : Reached) → TakesEntry files chosen folder name old new → is_met chosen folder name ≡ true → IsFile true files (folder ++ name) → is_taken name ≡ true
     → IsFault new.found (folder ++ name) ⊎ IsFound new.found (folder ++ name)
-met_file files folder name old new (inl h) met is taken = absurd (true≢false (sym met ∙ h.0))
-met_file files folder name old new (inr (_, inl h)) met is taken = inl (fault_added (folder ++ name) h.0 old new h.1)
-met_file files folder name old new (inr (_, inr h)) met (inl (identity, is)) taken =
+met_file files chosen folder name old new (inl h) met is taken = absurd (true≢false (sym met ∙ h.0))
+met_file files chosen folder name old new (inr (_, inl h)) met is taken = inl (fault_added (folder ++ name) h.0 old new h.1)
+met_file files chosen folder name old new (inr (_, inr h)) met (inl (identity, is)) taken =
     inr (taken_if (is_taken name) (folder ++ name) identity old new taken
     (subst (λ kind. TakesKind kind files (folder ++ name) name old new) (sym (told_some (files.entry (folder ++ name)) (File identity) h.0 is h.1)) h.2))
-met_file files folder name old new (inr (_, inr h)) met (inr (is, leads)) taken =
+met_file files chosen folder name old new (inr (_, inr h)) met (inr (is, leads)) taken =
     link_met files (is_taken name) (folder ++ name) old new taken leads
     (subst (λ kind. TakesKind kind files (folder ++ name) name old new) (sym (told_some (files.entry (folder ++ name)) Link h.0 is h.1)) h.2)
 
@@ -169,33 +176,33 @@ either : {A B C D : Type 0} → (A → C) → (B → D) → A ⊎ B → C ⊎ D
 either f g (inl a) = inl (f a)
 either f g (inr b) = inr (g b)
 
-all_folder : (files : Files) (folder : Name) (names : List Name) (name : Name) (old new : Reached) → TakesAll files folder names old new → Contains names name → is_met name ≡ true
+all_folder : (files : Files) (chosen : Chosen) (folder : Name) (names : List Name) (name : Name) (old new : Reached) → TakesAll files chosen folder names old new → Contains names name → is_met chosen folder name ≡ true
     → files.entry (folder ++ name) ≡ Some Folder → Contains new.folders (inside folder name) ⊎ IsFault new.found (folder ++ name)
-all_folder files folder [] name old new h c met is = absurd (none_in name c)
-all_folder files folder (first ∷ names) name old new h c met is =
-    here (cons_cases first name names c) (λ d. all_folder files folder names name h.0 new h.2 d met is)
+all_folder files chosen folder [] name old new h c met is = absurd (none_in name c)
+all_folder files chosen folder (first ∷ names) name old new h c met is =
+    here (cons_cases first name names c) (λ d. all_folder files chosen folder names name h.0 new h.2 d met is)
   where
     here : (first ≡ name) ⊎ Contains names name → (Contains names name → Contains new.folders (inside folder name) ⊎ IsFault new.found (folder ++ name))
         → Contains new.folders (inside folder name) ⊎ IsFault new.found (folder ++ name)
     here (inl e) later =
-        let grows = grows_all files folder names h.0 new h.2 in
+        let grows = grows_all files chosen folder names h.0 new h.2 in
         either (folder_stays h.0 new grows (inside folder name)) (fault_stays h.0 new grows (folder ++ name))
-        (met_folder files folder name old h.0 (subst (λ n. TakesEntry files folder n old h.0) e h.1) met is)
+        (met_folder files chosen folder name old h.0 (subst (λ n. TakesEntry files chosen folder n old h.0) e h.1) met is)
     here (inr d) later = later d
 
-all_file : (files : Files) (folder : Name) (names : List Name) (name : Name) (old new : Reached) → TakesAll files folder names old new → Contains names name → is_met name ≡ true
+all_file : (files : Files) (chosen : Chosen) (folder : Name) (names : List Name) (name : Name) (old new : Reached) → TakesAll files chosen folder names old new → Contains names name → is_met chosen folder name ≡ true
     → IsFile true files (folder ++ name) → is_taken name ≡ true
     → IsFault new.found (folder ++ name) ⊎ IsFound new.found (folder ++ name)
-all_file files folder [] name old new h c met is taken = absurd (none_in name c)
-all_file files folder (first ∷ names) name old new h c met is taken =
-    here (cons_cases first name names c) (λ d. all_file files folder names name h.0 new h.2 d met is taken)
+all_file files chosen folder [] name old new h c met is taken = absurd (none_in name c)
+all_file files chosen folder (first ∷ names) name old new h c met is taken =
+    here (cons_cases first name names c) (λ d. all_file files chosen folder names name h.0 new h.2 d met is taken)
   where
     here : (first ≡ name) ⊎ Contains names name → (Contains names name → IsFault new.found (folder ++ name) ⊎ IsFound new.found (folder ++ name))
         → IsFault new.found (folder ++ name) ⊎ IsFound new.found (folder ++ name)
     here (inl e) later =
-        let grows = grows_all files folder names h.0 new h.2 in
+        let grows = grows_all files chosen folder names h.0 new h.2 in
         either (fault_stays h.0 new grows (folder ++ name)) (found_stays h.0 new grows (folder ++ name))
-        (met_file files folder name old h.0 (subst (λ n. TakesEntry files folder n old h.0) e h.1) met is taken)
+        (met_file files chosen folder name old h.0 (subst (λ n. TakesEntry files chosen folder n old h.0) e h.1) met is taken)
     here (inr d) later = later d
 
 -- ---- a folder is taken off the stack, and looked into
@@ -203,144 +210,144 @@ all_file files folder (first ∷ names) name old new h c met is taken =
 abbrev and_folder : Reached → Name → Reached
 and_folder r folder = record { found = r.found; folders = r.folders ++ folder ∷ [] }
 
-pub file_looked : (files : Files) (folder last : Name) (old new : Reached) → TakesFolder files folder old new → HasFile true files folder last
+pub file_looked : (files : Files) (chosen : Chosen) (folder last : Name) (old new : Reached) → TakesFolder files chosen folder old new → HasFile true files chosen folder last
     → IsFault new.found (place folder) ⊎ (IsFault new.found (folder ++ last) ⊎ IsFound new.found (folder ++ last))
-file_looked files folder last old new (inl h) has = inl (fault_added (place folder) h.0 old new h.1)
-file_looked files folder last old new (inr h) has =
+file_looked files chosen folder last old new (inl h) has = inl (fault_added (place folder) h.0 old new h.1)
+file_looked files chosen folder last old new (inr h) has =
     let same : has.0.0 ≡ h.0 = told_some (files.listing (place folder)) has.0.0 h.0 has.0.1 h.1 in
     let within : Contains (listed h.0) last = subst (λ l. Contains (listed l) last) same has.0.2 in
-    inr (all_file files folder (listed h.0) last old new h.2 within has.0.3 has.1 has.2)
+    inr (all_file files chosen folder (listed h.0) last old new h.2 within has.0.3 has.1 has.2)
 
-file_met : (files : Files) (folder last : Name) (old new : Reached) → TakesFolder files folder old new → HasFile true files folder last → Covers new folder [] last
-file_met files folder last old new takes has = inr (file_looked files folder last old new takes has)
+file_met : (files : Files) (chosen : Chosen) (folder last : Name) (old new : Reached) → TakesFolder files chosen folder old new → HasFile true files chosen folder last → Covers new folder [] last
+file_met files chosen folder last old new takes has = inr (file_looked files chosen folder last old new takes has)
 
-folder_met : (files : Files) (folder part : Name) (parts : List Name) (last : Name) (old new : Reached) → TakesFolder files folder old new → HasFolder true files folder part
+folder_met : (files : Files) (chosen : Chosen) (folder part : Name) (parts : List Name) (last : Name) (old new : Reached) → TakesFolder files chosen folder old new → HasFolder true files chosen folder part
     → Covers new folder (part ∷ parts) last
-folder_met files folder part parts last old new (inl h) has = inr (inl (fault_added (place folder) h.0 old new h.1))
-folder_met files folder part parts last old new (inr h) has =
+folder_met files chosen folder part parts last old new (inl h) has = inr (inl (fault_added (place folder) h.0 old new h.1))
+folder_met files chosen folder part parts last old new (inr h) has =
     let same : has.0.0 ≡ h.0 = told_some (files.listing (place folder)) has.0.0 h.0 has.0.1 h.1 in
     let within : Contains (listed h.0) part = subst (λ l. Contains (listed l) part) same has.0.2 in
-    turn (all_folder files folder (listed h.0) part old new h.2 within has.0.3 has.1)
+    turn (all_folder files chosen folder (listed h.0) part old new h.2 within has.0.3 has.1)
   where
     turn : Contains new.folders (inside folder part) ⊎ IsFault new.found (folder ++ part) → Covers new folder (part ∷ parts) last
     turn (inl c) = inr (inr (inr (covers_at new (inside folder part) parts last c)))
     turn (inr f) = inr (inr (inl f))
 
-covers_step : (files : Files) (taken : Name) (old new : Reached) → TakesFolder files taken old new → (folder : Name) (parts : List Name) (last : Name)
-    → Leads true files folder parts → HasFile true files (within folder parts) last → Covers (and_folder old taken) folder parts last → Covers new folder parts last
-covers_step files taken old new takes folder [] last leads has (inl c) = here (Contains-push_cases old.folders taken folder c)
+covers_step : (files : Files) (chosen : Chosen) (taken : Name) (old new : Reached) → TakesFolder files chosen taken old new → (folder : Name) (parts : List Name) (last : Name)
+    → Leads true files chosen folder parts → HasFile true files chosen (within folder parts) last → Covers (and_folder old taken) folder parts last → Covers new folder parts last
+covers_step files chosen taken old new takes folder [] last leads has (inl c) = here (Contains-push_cases old.folders taken folder c)
   where
     here : Contains old.folders folder ⊎ (taken ≡ folder) → Covers new folder [] last
-    here (inl d) = inl (folder_stays old new (grows_folder files taken old new takes) folder d)
-    here (inr e) = file_met files folder last old new (subst (λ d. TakesFolder files d old new) e takes) has
-covers_step files taken old new takes folder [] last leads has (inr (inl h)) = inr (inl (fault_stays old new (grows_folder files taken old new takes) (place folder) h))
-covers_step files taken old new takes folder [] last leads has (inr (inr (inl h))) = inr (inr (inl (fault_stays old new (grows_folder files taken old new takes) (folder ++ last) h)))
-covers_step files taken old new takes folder [] last leads has (inr (inr (inr h))) = inr (inr (inr (found_stays old new (grows_folder files taken old new takes) (folder ++ last) h)))
-covers_step files taken old new takes folder (part ∷ parts) last leads has (inl c) = here (Contains-push_cases old.folders taken folder c)
+    here (inl d) = inl (folder_stays old new (grows_folder files chosen taken old new takes) folder d)
+    here (inr e) = file_met files chosen folder last old new (subst (λ d. TakesFolder files chosen d old new) e takes) has
+covers_step files chosen taken old new takes folder [] last leads has (inr (inl h)) = inr (inl (fault_stays old new (grows_folder files chosen taken old new takes) (place folder) h))
+covers_step files chosen taken old new takes folder [] last leads has (inr (inr (inl h))) = inr (inr (inl (fault_stays old new (grows_folder files chosen taken old new takes) (folder ++ last) h)))
+covers_step files chosen taken old new takes folder [] last leads has (inr (inr (inr h))) = inr (inr (inr (found_stays old new (grows_folder files chosen taken old new takes) (folder ++ last) h)))
+covers_step files chosen taken old new takes folder (part ∷ parts) last leads has (inl c) = here (Contains-push_cases old.folders taken folder c)
   where
     here : Contains old.folders folder ⊎ (taken ≡ folder) → Covers new folder (part ∷ parts) last
-    here (inl d) = inl (folder_stays old new (grows_folder files taken old new takes) folder d)
-    here (inr e) = folder_met files folder part parts last old new (subst (λ d. TakesFolder files d old new) e takes) leads.0
-covers_step files taken old new takes folder (part ∷ parts) last leads has (inr (inl h)) = inr (inl (fault_stays old new (grows_folder files taken old new takes) (place folder) h))
-covers_step files taken old new takes folder (part ∷ parts) last leads has (inr (inr (inl h))) = inr (inr (inl (fault_stays old new (grows_folder files taken old new takes) (folder ++ part) h)))
-covers_step files taken old new takes folder (part ∷ parts) last leads has (inr (inr (inr h))) =
-    inr (inr (inr (covers_step files taken old new takes (inside folder part) parts last leads.1 has h)))
+    here (inl d) = inl (folder_stays old new (grows_folder files chosen taken old new takes) folder d)
+    here (inr e) = folder_met files chosen folder part parts last old new (subst (λ d. TakesFolder files chosen d old new) e takes) leads.0
+covers_step files chosen taken old new takes folder (part ∷ parts) last leads has (inr (inl h)) = inr (inl (fault_stays old new (grows_folder files chosen taken old new takes) (place folder) h))
+covers_step files chosen taken old new takes folder (part ∷ parts) last leads has (inr (inr (inl h))) = inr (inr (inl (fault_stays old new (grows_folder files chosen taken old new takes) (folder ++ part) h)))
+covers_step files chosen taken old new takes folder (part ∷ parts) last leads has (inr (inr (inr h))) =
+    inr (inr (inr (covers_step files chosen taken old new takes (inside folder part) parts last leads.1 has h)))
 
 -- ---- nothing else is taken
 
-abbrev Deep : Files → List Name → Name → Type 0
-Deep files paths folder = (path : Name) × Contains paths path × IsFolderOf files path folder
+abbrev Deep : Files → Chosen → List Name → Name → Type 0
+Deep files chosen paths folder = (path : Name) × Contains paths path × IsFolderOf files chosen path folder
 
-abbrev Sound : Files → List Name → Reached → Type 0
-Sound files paths r = ((f : Found) → Contains r.found f → IsOf files paths f) × ((folder : Name) → Contains r.folders folder → Deep files paths folder)
+abbrev Sound : Files → Chosen → List Name → Reached → Type 0
+Sound files chosen paths r = ((f : Found) → Contains r.found f → IsOf files chosen paths f) × ((folder : Name) → Contains r.folders folder → Deep files chosen paths folder)
 
-sound_same : (files : Files) (paths : List Name) (old new : Reached) → new ≡ old → Sound files paths old → Sound files paths new
-sound_same files paths old new e h = subst (λ (r : Reached). Sound files paths r) (sym e) h
+sound_same : (files : Files) (chosen : Chosen) (paths : List Name) (old new : Reached) → new ≡ old → Sound files chosen paths old → Sound files chosen paths new
+sound_same files chosen paths old new e h = subst (λ (r : Reached). Sound files chosen paths r) (sym e) h
 
-sound_adds : (files : Files) (paths : List Name) (path name : Name) (fault : Option TreeFault) (identity : Option Identity) (old new : Reached) → Adds name fault identity old new → Contains paths path → IsOfBy files path name fault identity
-    → Sound files paths old → Sound files paths new
-sound_adds files paths path name fault identity old new h c of' sound = (
+sound_adds : (files : Files) (chosen : Chosen) (paths : List Name) (path name : Name) (fault : Option TreeFault) (identity : Option Identity) (old new : Reached) → Adds name fault identity old new → Contains paths path → IsOfBy files chosen path name fault identity
+    → Sound files chosen paths old → Sound files chosen paths new
+sound_adds files chosen paths path name fault identity old new h c of' sound = (
   λ f d. here f (Contains-push_cases old.found h.f f (subst (λ l. Contains l f) h.found d)),
   λ folder d. sound.1 folder (subst (λ l. Contains l folder) h.folders d),
 )
   where
-    here : (f : Found) → Contains old.found f ⊎ (h.f ≡ f) → IsOf files paths f
+    here : (f : Found) → Contains old.found f ⊎ (h.f ≡ f) → IsOf files chosen paths f
     here f (inl d) = sound.0 f d
-    here f (inr e) = subst (λ (x : Found). IsOf files paths x) e
-        (path, c, subst (λ n. IsOfBy files path n h.f.fault h.f.identity) (sym h.name_is) (subst (λ o. IsOfBy files path name o h.f.identity) (sym h.fault_is) (subst (λ i. IsOfBy files path name fault i) (sym h.identity_is) of')))
+    here f (inr e) = subst (λ (x : Found). IsOf files chosen paths x) e
+        (path, c, subst (λ n. IsOfBy files chosen path n h.f.fault h.f.identity) (sym h.name_is) (subst (λ o. IsOfBy files chosen path name o h.f.identity) (sym h.fault_is) (subst (λ i. IsOfBy files chosen path name fault i) (sym h.identity_is) of')))
 
-sound_enters : (files : Files) (paths : List Name) (folder : Name) (old new : Reached) → Enters folder old new → Deep files paths folder → Sound files paths old → Sound files paths new
-sound_enters files paths folder old new h deep sound = (
+sound_enters : (files : Files) (chosen : Chosen) (paths : List Name) (folder : Name) (old new : Reached) → Enters folder old new → Deep files chosen paths folder → Sound files chosen paths old → Sound files chosen paths new
+sound_enters files chosen paths folder old new h deep sound = (
   λ f d. sound.0 f (subst (λ l. Contains l f) h.found d),
   λ x d. here x (Contains-push_cases old.folders folder x (subst (λ l. Contains l x) h.folders d)),
 )
   where
-    here : (x : Name) → Contains old.folders x ⊎ (folder ≡ x) → Deep files paths x
+    here : (x : Name) → Contains old.folders x ⊎ (folder ≡ x) → Deep files chosen paths x
     here x (inl d) = sound.1 x d
-    here x (inr e) = subst (λ n. Deep files paths n) e deep
+    here x (inr e) = subst (λ n. Deep files chosen paths n) e deep
 
 within_more : (folder : Name) (parts : List Name) (name : Name) → within folder (parts ++ name ∷ []) ≡ inside (within folder parts) name
 within_more folder [] name = refl
 within_more folder (part ∷ parts) name = within_more (inside folder part) parts name
 
-leads_more : (sure : Bool) (files : Files) (folder : Name) (parts : List Name) (name : Name) → Leads sure files folder parts → HasFolder sure files (within folder parts) name
-    → Leads sure files folder (parts ++ name ∷ [])
-leads_more sure files folder [] name leads has = (has, tt)
-leads_more sure files folder (part ∷ parts) name leads has = (leads.0, leads_more sure files (inside folder part) parts name leads.1 has)
+leads_more : (sure : Bool) (files : Files) (chosen : Chosen) (folder : Name) (parts : List Name) (name : Name) → Leads sure files chosen folder parts → HasFolder sure files chosen (within folder parts) name
+    → Leads sure files chosen folder (parts ++ name ∷ [])
+leads_more sure files chosen folder [] name leads has = (has, tt)
+leads_more sure files chosen folder (part ∷ parts) name leads has = (leads.0, leads_more sure files chosen (inside folder part) parts name leads.1 has)
 
 -- an entry of a folder that is given, or of one below
-module _ (files : Files) (paths : List Name) (path : Name) (c : Contains paths path) (parts : List Name) (is : Says false (files.kind path) Folder) (leads : Leads false files (top path) parts) where
-  sound_found : (name : Name) (identity : Option Identity) (old new : Reached) → true ≡ is_taken name → IsEntry false files (within (top path) parts) name
+module _ (files : Files) (chosen : Chosen) (paths : List Name) (path : Name) (c : Contains paths path) (allowed : is_excluded chosen (tidied path) ≡ false) (parts : List Name) (is : Says false (files.kind path) Folder) (leads : Leads false files chosen (top path) parts) where
+  sound_found : (name : Name) (identity : Option Identity) (old new : Reached) → true ≡ is_taken name → IsEntry false files chosen (within (top path) parts) name
       → IsFile false files (within (top path) parts ++ name) → IsEntryOf files (within (top path) parts ++ name) identity
-      → Adds (within (top path) parts ++ name) None identity old new → Sound files paths old → Sound files paths new
+      → Adds (within (top path) parts ++ name) None identity old new → Sound files chosen paths old → Sound files chosen paths new
   sound_found name identity old new e entry kind known h sound =
-      sound_adds files paths path (within (top path) parts ++ name) None identity old new h c (inr (parts, name, (is, leads, (entry, kind, sym e)), refl, known)) sound
+      sound_adds files chosen paths path (within (top path) parts ++ name) None identity old new h c (inr (parts, name, (is, leads, (entry, kind, sym e), allowed), refl, known)) sound
 
-  sound_if : (name : Name) (v : Bool) (identity : Identity) (old new : Reached) → v ≡ is_taken name → IsEntry false files (within (top path) parts) name
+  sound_if : (name : Name) (v : Bool) (identity : Identity) (old new : Reached) → v ≡ is_taken name → IsEntry false files chosen (within (top path) parts) name
       → Says false (files.entry (within (top path) parts ++ name)) (File identity)
-      → TakesIf v (within (top path) parts ++ name) identity old new → Sound files paths old → Sound files paths new
+      → TakesIf v (within (top path) parts ++ name) identity old new → Sound files chosen paths old → Sound files chosen paths new
   sound_if name true identity old new e entry tells h sound = sound_found name (Some identity) old new e entry (inl (identity, tells)) (inl tells) h sound
-  sound_if name false identity old new e entry tells h sound = sound_same files paths old new h sound
+  sound_if name false identity old new e entry tells h sound = sound_same files chosen paths old new h sound
 
   -- a link is told of by its kind, and where it leads by that of what it leads to
-  sound_linked : (kind : Kind) (name : Name) (old new : Reached) → true ≡ is_taken name → IsEntry false files (within (top path) parts) name
+  sound_linked : (kind : Kind) (name : Name) (old new : Reached) → true ≡ is_taken name → IsEntry false files chosen (within (top path) parts) name
       → Says false (files.entry (within (top path) parts ++ name)) Link → Says false (files.kind (within (top path) parts ++ name)) kind
-      → TakesLinked kind (within (top path) parts ++ name) old new → Sound files paths old → Sound files paths new
-  sound_linked Folder name old new e entry link leads h sound = sound_same files paths old new h sound
+      → TakesLinked kind (within (top path) parts ++ name) old new → Sound files chosen paths old → Sound files chosen paths new
+  sound_linked Folder name old new e entry link leads h sound = sound_same files chosen paths old new h sound
   sound_linked (File identity) name old new e entry link leads h sound = sound_found name (Some identity) old new e entry (inr (link, (File identity, leads, λ q. cc))) (inr (File identity, leads, refl)) h sound
   sound_linked Link name old new e entry link leads h sound = sound_found name None old new e entry (inr (link, (Link, leads, λ q. cc))) (Link, leads, refl) h sound
   sound_linked Other name old new e entry link leads h sound = sound_found name None old new e entry (inr (link, (Other, leads, λ q. cc))) (Other, leads, refl) h sound
 
-  sound_report : (name : Name) (fault : TreeFault) (old new : Reached) → IsEntry false files (within (top path) parts) name → Adds (within (top path) parts ++ name) (Some fault) None old new
-      → Sound files paths old → Sound files paths new
+  sound_report : (name : Name) (fault : TreeFault) (old new : Reached) → IsEntry false files chosen (within (top path) parts) name → Adds (within (top path) parts ++ name) (Some fault) None old new
+      → Sound files chosen paths old → Sound files chosen paths new
   sound_report name fault old new entry h sound =
-      sound_adds files paths path (within (top path) parts ++ name) (Some fault) None old new h c (inr (within (top path) parts, (parts, is, leads, refl), inr (name, entry, refl)), refl) sound
+      sound_adds files chosen paths path (within (top path) parts ++ name) (Some fault) None old new h c (inl (inr (within (top path) parts, (parts, is, leads, refl, allowed), inr (name, entry, refl))), refl) sound
 
-  sound_link : (name : Name) (v : Bool) (old new : Reached) → v ≡ is_taken name → IsEntry false files (within (top path) parts) name
+  sound_link : (name : Name) (v : Bool) (old new : Reached) → v ≡ is_taken name → IsEntry false files chosen (within (top path) parts) name
       → Says false (files.entry (within (top path) parts ++ name)) Link
-      → TakesLink v files (within (top path) parts ++ name) old new → Sound files paths old → Sound files paths new
+      → TakesLink v files (within (top path) parts ++ name) old new → Sound files chosen paths old → Sound files chosen paths new
   sound_link name true old new e entry tells (inl h) sound = sound_report name h.0 old new entry h.1 sound
   sound_link name true old new e entry tells (inr h) sound = sound_linked h.0 name old new e entry tells h.1 h.2 sound
-  sound_link name false old new e entry tells h sound = sound_same files paths old new h sound
+  sound_link name false old new e entry tells h sound = sound_same files chosen paths old new h sound
 
-  sound_kind : (kind : Kind) (name : Name) (old new : Reached) → IsEntry false files (within (top path) parts) name → Tells (files.entry (within (top path) parts ++ name)) kind
-      → TakesKind kind files (within (top path) parts ++ name) name old new → Sound files paths old → Sound files paths new
+  sound_kind : (kind : Kind) (name : Name) (old new : Reached) → IsEntry false files chosen (within (top path) parts) name → Tells (files.entry (within (top path) parts ++ name)) kind
+      → TakesKind kind files (within (top path) parts ++ name) name old new → Sound files chosen paths old → Sound files chosen paths new
   sound_kind Folder name old new entry tells h sound =
-      sound_enters files paths (inside (within (top path) parts) name) old new h
-      (path, c, (parts ++ name ∷ [], is, leads_more false files (top path) parts name leads (entry, tells), sym (within_more (top path) parts name))) sound
+      sound_enters files chosen paths (inside (within (top path) parts) name) old new h
+      (path, c, (parts ++ name ∷ [], is, leads_more false files chosen (top path) parts name leads (entry, tells), sym (within_more (top path) parts name), allowed)) sound
   sound_kind (File identity) name old new entry tells h sound = sound_if name (is_taken name) identity old new refl entry tells h sound
   sound_kind Link name old new entry tells h sound = sound_link name (is_taken name) old new refl entry tells h sound
-  sound_kind Other name old new entry tells h sound = sound_same files paths old new h sound
+  sound_kind Other name old new entry tells h sound = sound_same files chosen paths old new h sound
 
   sound_entry : (listing : List ℕ) (name : Name) (old new : Reached) → Tells (files.listing (place (within (top path) parts))) listing → Contains (listed listing) name
-      → TakesEntry files (within (top path) parts) name old new → Sound files paths old → Sound files paths new
-  sound_entry listing name old new tells d (inl h) sound = sound_same files paths old new h.1 sound
+      → TakesEntry files chosen (within (top path) parts) name old new → Sound files chosen paths old → Sound files chosen paths new
+  sound_entry listing name old new tells d (inl h) sound = sound_same files chosen paths old new h.1 sound
   sound_entry listing name old new tells d (inr (met, inl h)) sound = sound_report name h.0 old new (listing, tells, d, met) h.1 sound
   sound_entry listing name old new tells d (inr (met, inr h)) sound = sound_kind h.0 name old new (listing, tells, d, met) h.1 h.2 sound
 
   sound_all : (listing : List ℕ) (names : List Name) (old new : Reached) → Tells (files.listing (place (within (top path) parts))) listing
-      → ((name : Name) → Contains names name → Contains (listed listing) name) → TakesAll files (within (top path) parts) names old new → Sound files paths old → Sound files paths new
-  sound_all listing [] old new tells some h sound = sound_same files paths old new h sound
+      → ((name : Name) → Contains names name → Contains (listed listing) name) → TakesAll files chosen (within (top path) parts) names old new → Sound files chosen paths old → Sound files chosen paths new
+  sound_all listing [] old new tells some h sound = sound_same files chosen paths old new h sound
   sound_all listing (name ∷ names) old new tells some h sound =
       sound_all listing names h.0 new tells (λ n d. some n (later n d)) h.2
       (sound_entry listing name old h.0 tells (some name (0, omega arith, refl)) h.1 sound)
@@ -348,134 +355,172 @@ module _ (files : Files) (paths : List Name) (path : Name) (c : Contains paths p
       later : (n : Name) → Contains names n → Contains (name ∷ names) n
       later n d = (suc d.0, omega (arith, d.1), d.2)
 
-  sound_within : (old new : Reached) → TakesFolder files (within (top path) parts) old new → Sound files paths old → Sound files paths new
+  sound_within : (old new : Reached) → TakesFolder files chosen (within (top path) parts) old new → Sound files chosen paths old → Sound files chosen paths new
   sound_within old new (inl h) sound =
-      sound_adds files paths path (place (within (top path) parts)) (Some h.0) None old new h.1 c (inr (within (top path) parts, (parts, is, leads, refl), inl refl), refl) sound
+      sound_adds files chosen paths path (place (within (top path) parts)) (Some h.0) None old new h.1 c (inl (inr (within (top path) parts, (parts, is, leads, refl, allowed), inl refl)), refl) sound
   sound_within old new (inr h) sound = sound_all h.0 (listed h.0) old new h.1 (λ n d. d) h.2 sound
 
-sound_folder : (files : Files) (paths : List Name) (folder : Name) (old new : Reached) → Deep files paths folder → TakesFolder files folder old new → Sound files paths old → Sound files paths new
-sound_folder files paths folder old new deep takes sound =
-    sound_within files paths deep.0 deep.1 deep.2.0 deep.2.1 deep.2.2 old new (subst (λ d. TakesFolder files d old new) deep.2.3 takes) sound
+sound_folder : (files : Files) (chosen : Chosen) (paths : List Name) (folder : Name) (old new : Reached) → Deep files chosen paths folder → TakesFolder files chosen folder old new → Sound files chosen paths old → Sound files chosen paths new
+sound_folder files chosen paths folder old new deep takes sound =
+    sound_within files chosen paths deep.0 deep.1 deep.2.4 deep.2.0 deep.2.1 deep.2.2 old new (subst (λ d. TakesFolder files chosen d old new) deep.2.3 takes) sound
 
 -- ---- one entry more
 
-pub takes_more : (files : Files) (folder : Name) (names : List Name) (name : Name) (old between new : Reached) → TakesAll files folder names old between → TakesEntry files folder name between new
-    → TakesAll files folder (names ++ name ∷ []) old new
-takes_more files folder [] name old between new h one = (new, subst (λ (r : Reached). TakesEntry files folder name r new) h one, refl)
-takes_more files folder (first ∷ names) name old between new h one = (h.0, h.1, takes_more files folder names name h.0 between new h.2 one)
+pub takes_more : (files : Files) (chosen : Chosen) (folder : Name) (names : List Name) (name : Name) (old between new : Reached) → TakesAll files chosen folder names old between → TakesEntry files chosen folder name between new
+    → TakesAll files chosen folder (names ++ name ∷ []) old new
+takes_more files chosen folder [] name old between new h one = (new, subst (λ (r : Reached). TakesEntry files chosen folder name r new) h one, refl)
+takes_more files chosen folder (first ∷ names) name old between new h one = (h.0, h.1, takes_more files chosen folder names name h.0 between new h.2 one)
 
 -- ---- the walk so far
 
-pub walked_folder : (files : Files) (paths : List Name) (folder : Name) (old new : Reached) → Walked files paths (and_folder old folder) → TakesFolder files folder old new → Walked files paths new
-walked_folder files paths folder old new walked takes = record {
+pub walked_folder : (files : Files) (chosen : Chosen) (paths : List Name) (folder : Name) (old new : Reached) → Walked files chosen paths (and_folder old folder) → TakesFolder files chosen folder old new → Walked files chosen paths new
+walked_folder files chosen paths folder old new walked takes = record {
   real = sound.0;
   deeper = sound.1;
   given = λ path c is. either (found_stays old new grows (tidied path)) (fault_stays old new grows (reported path)) (walked.given path c is);
+  other = λ path c is. either (fault_stays old new grows (tidied path)) (fault_stays old new grows (reported path)) (walked.other path c is);
   below = λ path parts last c is.
-      either (fault_stays old new grows (reported path)) (covers_step files folder old new takes (top path) parts last is.1 is.2) (walked.below path parts last c is);
+      either (fault_stays old new grows (reported path)) (covers_step files chosen folder old new takes (top path) parts last is.1 is.2) (walked.below path parts last c is);
 }
   where
     grows : Grows old new
-    grows = grows_folder files folder old new takes
+    grows = grows_folder files chosen folder old new takes
 
-    before : Sound files paths old
+    before : Sound files chosen paths old
     before = (walked.real, λ d c. walked.deeper d (Contains-append_left old.folders (folder ∷ []) d c))
 
-    sound : Sound files paths new
-    sound = sound_folder files paths folder old new (walked.deeper folder (Contains-push old.folders folder)) takes before
+    sound : Sound files chosen paths new
+    sound = sound_folder files chosen paths folder old new (walked.deeper folder (Contains-push old.folders folder)) takes before
 
 -- ---- one path more that was given
 
-deep_more : (files : Files) (paths : List Name) (path folder : Name) → Deep files paths folder → Deep files (paths ++ path ∷ []) folder
-deep_more files paths path folder h = (h.0, Contains-append_left paths (path ∷ []) h.0 h.1, h.2)
+deep_more : (files : Files) (chosen : Chosen) (paths : List Name) (path folder : Name) → Deep files chosen paths folder → Deep files chosen (paths ++ path ∷ []) folder
+deep_more files chosen paths path folder h = (h.0, Contains-append_left paths (path ∷ []) h.0 h.1, h.2)
 
-of_more : (files : Files) (paths : List Name) (path : Name) (f : Found) → IsOf files paths f → IsOf files (paths ++ path ∷ []) f
-of_more files paths path f h = (h.0, Contains-append_left paths (path ∷ []) h.0 h.1, h.2)
+of_more : (files : Files) (chosen : Chosen) (paths : List Name) (path : Name) (f : Found) → IsOf files chosen paths f → IsOf files chosen (paths ++ path ∷ []) f
+of_more files chosen paths path f h = (h.0, Contains-append_left paths (path ∷ []) h.0 h.1, h.2)
 
-sound_kind_given : (files : Files) (paths : List Name) (path : Name) (c : Contains paths path) (kind : Kind) (old new : Reached) → Tells (files.kind path) kind → TakesKindGiven kind path old new
-    → Sound files paths old → Sound files paths new
-sound_kind_given files paths path c Folder old new tells h sound = sound_enters files paths (top path) old new h (path, c, ([], tells, tt, refl)) sound
-sound_kind_given files paths path c (File identity) old new tells h sound = sound_adds files paths path (tidied path) None _ old new h c (inl ((File identity, tells, λ e. cc), refl, (File identity, tells, refl))) sound
-sound_kind_given files paths path c Link old new tells h sound = sound_adds files paths path (tidied path) None _ old new h c (inl ((Link, tells, λ e. cc), refl, (Link, tells, refl))) sound
-sound_kind_given files paths path c Other old new tells h sound = sound_adds files paths path (tidied path) None _ old new h c (inl ((Other, tells, λ e. cc), refl, (Other, tells, refl))) sound
+sound_named : (files : Files) (chosen : Chosen) (paths : List Name) (path : Name) (c : Contains paths path) (allowed : is_excluded chosen (tidied path) ≡ false) (kind : Kind) (v : Bool) (old new : Reached) → Says false (files.kind path) kind → kind ≢ Folder
+    → is_wanted chosen (tidied path) ≡ v → TakesNamed v (tidied path) (identity_of kind) old new → Sound files chosen paths old → Sound files chosen paths new
+sound_named files chosen paths path c allowed kind true old new tells ne is h sound =
+    sound_adds files chosen paths path (tidied path) None _ old new h c (inl (((kind, tells, ne), is, allowed), refl, (kind, tells, refl))) sound
+sound_named files chosen paths path c allowed kind false old new tells ne is h sound =
+    sound_adds files chosen paths path (tidied path) (Some OtherKind) None old new h c (inr (((kind, tells, ne), is, allowed), refl, refl), refl) sound
 
-sound_given : (files : Files) (paths : List Name) (path : Name) (c : Contains paths path) (old new : Reached) → TakesGiven files path old new → Sound files paths old → Sound files paths new
-sound_given files paths path c old new (inl h) sound = sound_adds files paths path (reported path) (Some h.0) None old new h.1 c (inl refl, refl) sound
-sound_given files paths path c old new (inr h) sound = sound_kind_given files paths path c h.0 old new h.1 h.2 sound
+sound_kind_given : (files : Files) (chosen : Chosen) (paths : List Name) (path : Name) (c : Contains paths path) (allowed : is_excluded chosen (tidied path) ≡ false) (kind : Kind) (old new : Reached) → Tells (files.kind path) kind
+    → TakesKindGiven chosen kind path old new → Sound files chosen paths old → Sound files chosen paths new
+sound_kind_given files chosen paths path c allowed Folder old new tells h sound = sound_enters files chosen paths (top path) old new h (path, c, ([], tells, tt, refl, allowed)) sound
+sound_kind_given files chosen paths path c allowed (File identity) old new tells h sound = sound_named files chosen paths path c allowed (File identity) _ old new tells (λ e. cc) refl h sound
+sound_kind_given files chosen paths path c allowed Link old new tells h sound = sound_named files chosen paths path c allowed Link _ old new tells (λ e. cc) refl h sound
+sound_kind_given files chosen paths path c allowed Other old new tells h sound = sound_named files chosen paths path c allowed Other _ old new tells (λ e. cc) refl h sound
 
-given_kind : (kind : Kind) (path : Name) (old new : Reached) → kind ≢ Folder → TakesKindGiven kind path old new → IsFound new.found (tidied path)
-given_kind Folder path old new ne h = absurd (ne refl)
-given_kind (File identity) path old new ne h = found_added (tidied path) _ old new h
-given_kind Link path old new ne h = found_added (tidied path) _ old new h
-given_kind Other path old new ne h = found_added (tidied path) _ old new h
+sound_given : (files : Files) (chosen : Chosen) (paths : List Name) (path : Name) (c : Contains paths path) (old new : Reached) → TakesGiven files chosen path old new → Sound files chosen paths old → Sound files chosen paths new
+sound_given files chosen paths path c old new (inl h) sound = sound_same files chosen paths old new h.1 sound
+sound_given files chosen paths path c old new (inr (allowed, inl h)) sound = sound_adds files chosen paths path (reported path) (Some h.0) None old new h.1 c (inl (inl (refl, allowed)), refl) sound
+sound_given files chosen paths path c old new (inr (allowed, inr h)) sound = sound_kind_given files chosen paths path c allowed h.0 old new h.1 h.2 sound
 
-given_itself : (files : Files) (path : Name) (old new : Reached) → TakesGiven files path old new → IsGiven true files path → IsFound new.found (tidied path) ⊎ IsFault new.found (reported path)
-given_itself files path old new (inl h) is = inr (fault_added (reported path) h.0 old new h.1)
-given_itself files path old new (inr h) is =
-    inl (given_kind h.0 path old new (subst (λ k. k ≢ Folder) (told_some (files.kind path) is.0 h.0 is.1 h.1) is.2) h.2)
+-- what a path that isn't excluded adds
+asked_given : (files : Files) (chosen : Chosen) (path : Name) (old new : Reached) → TakesGiven files chosen path old new → is_excluded chosen (tidied path) ≡ false → TakesAsked files chosen path old new
+asked_given files chosen path old new (inl h) allowed = absurd (true≢false (sym h.0 ∙ allowed))
+asked_given files chosen path old new (inr h) allowed = h.1
 
-given_folder : (files : Files) (path : Name) (old new : Reached) → TakesGiven files path old new → files.kind path ≡ Some Folder → IsFault new.found (reported path) ⊎ Contains new.folders (top path)
-given_folder files path old new (inl h) is = inl (fault_added (reported path) h.0 old new h.1)
-given_folder files path old new (inr h) is =
-    inr (folder_added (top path) old new (subst (λ k. TakesKindGiven k path old new) (sym (told_some (files.kind path) Folder h.0 is h.1)) h.2))
+named_found : (v : Bool) (name : Name) (identity : Option Identity) (old new : Reached) → v ≡ true → TakesNamed v name identity old new → IsFound new.found name
+named_found true name identity old new e h = (h.f, subst (λ l. Contains l h.f) (sym h.found) (Contains-push old.found h.f), h.name_is, h.fault_is)
+named_found false name identity old new e h = absurd (true≢false (sym e))
 
-pub walked_given : (files : Files) (paths : List Name) (path : Name) (old new : Reached) → Walked files paths old → TakesGiven files path old new → Walked files (paths ++ path ∷ []) new
-walked_given files paths path old new walked takes = record {
+named_told : (v : Bool) (name : Name) (identity : Option Identity) (old new : Reached) → v ≡ false → TakesNamed v name identity old new → IsFault new.found name
+named_told true name identity old new e h = absurd (true≢false e)
+named_told false name identity old new e h = fault_added name OtherKind old new h
+
+named_kind : (chosen : Chosen) (kind : Kind) (path : Name) (old new : Reached) → kind ≢ Folder → TakesKindGiven chosen kind path old new → TakesNamed (is_wanted chosen (tidied path)) (tidied path) (identity_of kind) old new
+named_kind chosen Folder path old new ne h = absurd (ne refl)
+named_kind chosen (File identity) path old new ne h = h
+named_kind chosen Link path old new ne h = h
+named_kind chosen Other path old new ne h = h
+
+given_itself : (files : Files) (chosen : Chosen) (path : Name) (old new : Reached) → TakesAsked files chosen path old new → IsNamed true files chosen path → IsFound new.found (tidied path) ⊎ IsFault new.found (reported path)
+given_itself files chosen path old new (inl h) is = inr (fault_added (reported path) h.0 old new h.1)
+given_itself files chosen path old new (inr h) is =
+    inl (named_found _ (tidied path) _ old new is.1
+    (named_kind chosen h.0 path old new (subst (λ k. k ≢ Folder) (told_some (files.kind path) is.0.0 h.0 is.0.1 h.1) is.0.2) h.2))
+
+given_other : (files : Files) (chosen : Chosen) (path : Name) (old new : Reached) → TakesAsked files chosen path old new → IsOther true files chosen path → IsFault new.found (tidied path) ⊎ IsFault new.found (reported path)
+given_other files chosen path old new (inl h) is = inr (fault_added (reported path) h.0 old new h.1)
+given_other files chosen path old new (inr h) is =
+    inl (named_told _ (tidied path) _ old new is.1
+    (named_kind chosen h.0 path old new (subst (λ k. k ≢ Folder) (told_some (files.kind path) is.0.0 h.0 is.0.1 h.1) is.0.2) h.2))
+
+given_folder : (files : Files) (chosen : Chosen) (path : Name) (old new : Reached) → TakesAsked files chosen path old new → files.kind path ≡ Some Folder → IsFault new.found (reported path) ⊎ Contains new.folders (top path)
+given_folder files chosen path old new (inl h) is = inl (fault_added (reported path) h.0 old new h.1)
+given_folder files chosen path old new (inr h) is =
+    inr (folder_added (top path) old new (subst (λ k. TakesKindGiven chosen k path old new) (sym (told_some (files.kind path) Folder h.0 is h.1)) h.2))
+
+pub walked_given : (files : Files) (chosen : Chosen) (paths : List Name) (path : Name) (old new : Reached) → Walked files chosen paths old → TakesGiven files chosen path old new → Walked files chosen (paths ++ path ∷ []) new
+walked_given files chosen paths path old new walked takes = record {
   real = sound.0;
   deeper = sound.1;
   given = λ other c is. itself other is (Contains-push_cases paths path other c);
+  other = λ other c is. told other is (Contains-push_cases paths path other c);
   below = λ other parts last c is. down other parts last is (Contains-push_cases paths path other c);
 }
   where
     grows : Grows old new
-    grows = grows_given files path old new takes
+    grows = grows_given files chosen path old new takes
 
-    before : Sound files (paths ++ path ∷ []) old
-    before = (λ f c. of_more files paths path f (walked.real f c), λ d c. deep_more files paths path d (walked.deeper d c))
+    before : Sound files chosen (paths ++ path ∷ []) old
+    before = (λ f c. of_more files chosen paths path f (walked.real f c), λ d c. deep_more files chosen paths path d (walked.deeper d c))
 
-    sound : Sound files (paths ++ path ∷ []) new
-    sound = sound_given files (paths ++ path ∷ []) path (Contains-push paths path) old new takes before
+    sound : Sound files chosen (paths ++ path ∷ []) new
+    sound = sound_given files chosen (paths ++ path ∷ []) path (Contains-push paths path) old new takes before
 
-    itself : (other : Name) → IsGiven true files other → Contains paths other ⊎ (path ≡ other) → IsFound new.found (tidied other) ⊎ IsFault new.found (reported other)
+    taken : (other : Name) → path ≡ other → is_excluded chosen (tidied other) ≡ false → TakesAsked files chosen other old new
+    taken other e allowed = asked_given files chosen other old new (subst (λ p. TakesGiven files chosen p old new) e takes) allowed
+
+    itself : (other : Name) → IsNamed true files chosen other → Contains paths other ⊎ (path ≡ other) → IsFound new.found (tidied other) ⊎ IsFault new.found (reported other)
     itself other is (inl c) = either (found_stays old new grows (tidied other)) (fault_stays old new grows (reported other)) (walked.given other c is)
-    itself other is (inr e) = given_itself files other old new (subst (λ p. TakesGiven files p old new) e takes) is
+    itself other is (inr e) = given_itself files chosen other old new (taken other e is.2) is
 
-    down : (other : Name) (parts : List Name) (last : Name) → IsBelow true files other parts last → Contains paths other ⊎ (path ≡ other)
+    told : (other : Name) → IsOther true files chosen other → Contains paths other ⊎ (path ≡ other) → IsFault new.found (tidied other) ⊎ IsFault new.found (reported other)
+    told other is (inl c) = either (fault_stays old new grows (tidied other)) (fault_stays old new grows (reported other)) (walked.other other c is)
+    told other is (inr e) = given_other files chosen other old new (taken other e is.2) is
+
+    down : (other : Name) (parts : List Name) (last : Name) → IsBelow true files chosen other parts last → Contains paths other ⊎ (path ≡ other)
         → IsFault new.found (reported other) ⊎ Covers new (top other) parts last
     down other parts last is (inl c) =
         either (fault_stays old new grows (reported other)) (covers_stays old new grows (top other) parts last) (walked.below other parts last c is)
     down other parts last is (inr e) =
-        either (λ f. f) (covers_at new (top other) parts last) (given_folder files other old new (subst (λ p. TakesGiven files p old new) e takes) is.0)
+        either (λ f. f) (covers_at new (top other) parts last) (given_folder files chosen other old new (taken other e is.3) is.0)
 
-pub walked_none : (files : Files) (r : Reached) → r.found ≡ [] → r.folders ≡ [] → Walked files [] r
-walked_none files r none nor = record {
+pub walked_none : (files : Files) (chosen : Chosen) (r : Reached) → r.found ≡ [] → r.folders ≡ [] → Walked files chosen [] r
+walked_none files chosen r none nor = record {
   real = λ f c. absurd (none_in f (subst (λ l. Contains l f) none c));
   deeper = λ d c. absurd (none_in d (subst (λ l. Contains l d) nor c));
   given = λ path c is. absurd (none_in path c);
+  other = λ path c is. absurd (none_in path c);
   below = λ path parts last c is. absurd (none_in path c);
 }
 
 -- ---- its end
 
-module _ (files : Files) (paths : List Name) (found ordered shown : List Found) (walked : Walked files paths (record { found = found; folders = [] })) (o : Orders found ordered) (k : KeepsFirsts ordered shown) where
-  stands : (g : Found) → Contains ordered g → Stands files paths shown g
+module _ (files : Files) (chosen : Chosen) (paths : List Name) (found ordered shown : List Found) (walked : Walked files chosen paths (record { found = found; folders = [] })) (o : Orders found ordered) (k : KeepsFirsts ordered shown) where
+  stands : (g : Found) → Contains ordered g → Stands files chosen paths shown g
   stands g c = turn (k.stays g c)
     where
-      turn : Contains shown g ⊎ ((f : Found) × Contains shown f × IsEarlier f g) → Stands files paths shown g
+      turn : Contains shown g ⊎ ((f : Found) × Contains shown f × IsEarlier f g) → Stands files chosen paths shown g
       turn (inl d) = inl d
       turn (inr d) = inr (walked.real g (o.only g c), d)
 
-  told_found : (name : Name) → IsFound found name → IsShown files paths shown name
+  told_found : (name : Name) → IsFound found name → IsShown files chosen paths shown name
   told_found name h = let w = o.kept name h in (w.0, stands w.0 w.1, w.2, w.3)
 
-  told_named : (name : Name) → HasName found name → IsTold files paths shown name
+  told_named : (name : Name) → HasName found name → IsTold files chosen paths shown name
   told_named name h = let w = o.named name h in (w.0, stands w.0 w.1, w.2)
 
-  told_fault : (name : Name) → IsFault found name → IsTold files paths shown name
+  told_fault : (name : Name) → IsFault found name → IsTold files chosen paths shown name
   told_fault name h = told_named name (h.0, h.1, h.2)
 
   accounts_from : (folder : Name) (parts : List Name) (last : Name) → Covers (record { found = found; folders = [] }) folder parts last
-      → Accounts (IsTold files paths shown) folder parts last
+      → Accounts (IsTold files chosen paths shown) folder parts last
   accounts_from folder [] last (inl c) = absurd (none_in folder c)
   accounts_from folder [] last (inr (inl h)) = inl (told_fault (place folder) h)
   accounts_from folder [] last (inr (inr (inl h))) = inr (told_fault (folder ++ last) h)
@@ -485,12 +530,13 @@ module _ (files : Files) (paths : List Name) (found ordered shown : List Found) 
   accounts_from folder (part ∷ parts) last (inr (inr (inl h))) = inr (inl (told_fault (folder ++ part) h))
   accounts_from folder (part ∷ parts) last (inr (inr (inr h))) = inr (inr (accounts_from (inside folder part) parts last h))
 
-  pub finds_from : Finds files paths shown
+  pub finds_from : Finds files chosen paths shown
   finds_from = record {
     rises = k.rises;
     once = k.once;
     real = λ f c. walked.real f (o.only f (k.only f c));
     given = λ path c is. either (told_found (tidied path)) (told_fault (reported path)) (walked.given path c is);
+    other = λ path c is. either (told_fault (tidied path)) (told_fault (reported path)) (walked.other path c is);
     below = λ path parts last c is. either (told_fault (reported path)) (accounts_from (top path) parts last) (walked.below path parts last c is);
   }
 
@@ -500,37 +546,58 @@ pub on_ok_more : {A E : Type 0} (r : Result A E) (P Q : Type 0) → OnOk r P →
 on_ok_more (Ok a) P Q h f = f h
 on_ok_more (Err e) P Q h f = tt
 
+takes_named_as : (chosen : Chosen) (kind : Kind) (path name : Name) (v : Bool) (identity : Option Identity) (old new : Reached) → name ≡ tidied path → v ≡ is_wanted chosen name → identity ≡ identity_of kind
+    → TakesNamed v name identity old new → TakesNamed (is_wanted chosen (tidied path)) (tidied path) (identity_of kind) old new
+takes_named_as chosen kind path name v identity old new same is known h =
+    subst (λ n. TakesNamed (is_wanted chosen n) n (identity_of kind) old new) same
+    (subst (λ w. TakesNamed w name (identity_of kind) old new) is (subst (λ o. TakesNamed v name o old new) known h))
+
+pub takes_kind_given : {X E : Type 0} (r : Result X E) (chosen : Chosen) (kind : Kind) (path name : Name) (v : Bool) (identity : Option Identity) (old new : Reached) → (kind ≡ Folder → ⊥) → name ≡ tidied path → v ≡ is_wanted chosen name
+    → identity ≡ identity_of kind → OnOk r (TakesNamed v name identity old new) → OnOk r (TakesKindGiven chosen kind path old new)
+takes_kind_given (Err e) chosen kind path name v identity old new other same is known h = tt
+takes_kind_given (Ok x) chosen Folder path name v identity old new other same is known h = absurd (other refl)
+takes_kind_given (Ok x) chosen (File i) path name v identity old new other same is known h = takes_named_as chosen (File i) path name v identity old new same is known h
+takes_kind_given (Ok x) chosen Link path name v identity old new other same is known h = takes_named_as chosen Link path name v identity old new same is known h
+takes_kind_given (Ok x) chosen Other path name v identity old new other same is known h = takes_named_as chosen Other path name v identity old new same is known h
+
 pub if_ok_more : {A E : Type 0} (r : Result A E) (P Q : A → Type 0) → IfOk r P → ((a : A) → P a → Q a) → IfOk r Q
 if_ok_more (Ok a) P Q h f = f a h
 if_ok_more (Err e) P Q h f = tt
 
-pub took_more : (files later : Files) (folder : Name) (names : List (Bor (List ℕ))) (i : ℕ) (d : Bor (List ℕ)) (old between new : Reached) → later ≡ files → i < length names
-    → TakesAll files folder (map (λ name. name.now) (take i names)) old between → TakesEntry later folder (get_or names i d).now between new
-    → TakesAll files folder (map (λ name. name.now) (take (i + 1) names)) old new
-took_more files later folder names i d old between new same within so one =
-    subst (λ l. TakesAll files folder l old new) (sym (map_more (λ (name : Bor (List ℕ)). name.now) names i d within))
-    (takes_more files folder (map (λ name. name.now) (take i names)) (get_or names i d).now old between new so
-    (subst (λ f. TakesEntry f folder (get_or names i d).now between new) same one))
+pub took_more : (files later : Files) (chosen : Chosen) (folder : Name) (names : List (Bor (List ℕ))) (i : ℕ) (d : Bor (List ℕ)) (old between new : Reached) → later ≡ files → i < length names
+    → TakesAll files chosen folder (map (λ name. name.now) (take i names)) old between → TakesEntry later chosen folder (get_or names i d).now between new
+    → TakesAll files chosen folder (map (λ name. name.now) (take (i + 1) names)) old new
+took_more files later chosen folder names i d old between new same within so one =
+    subst (λ l. TakesAll files chosen folder l old new) (sym (map_more (λ (name : Bor (List ℕ)). name.now) names i d within))
+    (takes_more files chosen folder (map (λ name. name.now) (take i names)) (get_or names i d).now old between new so
+    (subst (λ f. TakesEntry f chosen folder (get_or names i d).now between new) same one))
 
-pub walked_more : (files later : Files) (paths : List (Bor (List ℕ))) (i : ℕ) (d : Bor (List ℕ)) (old new : Reached) → later ≡ files → i < length paths
-    → Walked files (map (λ path. path.now) (take i paths)) old → TakesGiven later (get_or paths i d).now old new
-    → Walked files (map (λ path. path.now) (take (i + 1) paths)) new
-walked_more files later paths i d old new same within so one =
-    subst (λ l. Walked files l new) (sym (map_more (λ (path : Bor (List ℕ)). path.now) paths i d within))
-    (walked_given files (map (λ path. path.now) (take i paths)) (get_or paths i d).now old new so (subst (λ f. TakesGiven f (get_or paths i d).now old new) same one))
+pub walked_more : (files later : Files) (chosen : Chosen) (paths : List (Bor (List ℕ))) (i : ℕ) (d : Bor (List ℕ)) (old new : Reached) → later ≡ files → i < length paths
+    → Walked files chosen (map (λ path. path.now) (take i paths)) old → TakesGiven later chosen (get_or paths i d).now old new
+    → Walked files chosen (map (λ path. path.now) (take (i + 1) paths)) new
+walked_more files later chosen paths i d old new same within so one =
+    subst (λ l. Walked files chosen l new) (sym (map_more (λ (path : Bor (List ℕ)). path.now) paths i d within))
+    (walked_given files chosen (map (λ path. path.now) (take i paths)) (get_or paths i d).now old new so (subst (λ f. TakesGiven f chosen (get_or paths i d).now old new) same one))
 
-pub walked_popped : (files later : Files) (paths : List Name) (found : List Found) (all rest : List (Vec ℕ Global)) (folder : Vec ℕ Global) (name : Name) (new : Reached) → later ≡ files
-    → all ≡ rest ++ folder ∷ [] → name ≡ folder.items → Walked files paths (record { found = found; folders = map (λ f. f.items) all })
-    → TakesFolder later name (record { found = found; folders = map (λ f. f.items) rest }) new → Walked files paths new
-walked_popped files later paths found all rest folder name new same is named so takes =
-    walked_folder files paths name (record { found = found; folders = map (λ f. f.items) rest }) new
-    (subst (λ l. Walked files paths (record { found = found; folders = l }))
+pub walked_popped : (files later : Files) (chosen : Chosen) (paths : List Name) (found : List Found) (all rest : List (Vec ℕ Global)) (folder : Vec ℕ Global) (name : Name) (new : Reached) → later ≡ files
+    → all ≡ rest ++ folder ∷ [] → name ≡ folder.items → Walked files chosen paths (record { found = found; folders = map (λ f. f.items) all })
+    → TakesFolder later chosen name (record { found = found; folders = map (λ f. f.items) rest }) new → Walked files chosen paths new
+walked_popped files later chosen paths found all rest folder name new same is named so takes =
+    walked_folder files chosen paths name (record { found = found; folders = map (λ f. f.items) rest }) new
+    (subst (λ l. Walked files chosen paths (record { found = found; folders = l }))
     (ap (λ l. map (λ (f : Vec ℕ Global). f.items) l) is ∙ map-append (λ (f : Vec ℕ Global). f.items) rest (folder ∷ []) ∙ ap (λ n. map (λ (f : Vec ℕ Global). f.items) rest ++ n ∷ []) (sym named)) so)
-    (subst (λ f. TakesFolder f name (record { found = found; folders = map (λ f. f.items) rest }) new) same takes)
+    (subst (λ f. TakesFolder f chosen name (record { found = found; folders = map (λ f. f.items) rest }) new) same takes)
 
-pub finds_found : (files later : Files) (paths : List Name) (r : Reached) (found ordered shown : List Found) → later ≡ files → Walked files paths r
-    → ((given : List Name) → Walked later given r → Walked later given (record { found = found; folders = [] })) → Orders found ordered → (Rises ordered → KeepsFirsts ordered shown)
-    → Finds files paths shown
-finds_found files later paths r found ordered shown same before all o k =
-    finds_from files paths found ordered shown
-    (subst (λ f. Walked f paths (record { found = found; folders = [] })) same (all paths (subst (λ f. Walked f paths r) (sym same) before))) o (k o.rises)
+pub finds_found : (files later : Files) (chosen : Chosen) (paths : List Name) (r : Reached) (found ordered shown : List Found) → later ≡ files → Walked files chosen paths r
+    → ((given : List Name) → Walked later chosen given r → Walked later chosen given (record { found = found; folders = [] })) → Orders found ordered → (Rises ordered → KeepsFirsts ordered shown)
+    → Finds files chosen paths shown
+finds_found files later chosen paths r found ordered shown same before all o k =
+    finds_from files chosen paths found ordered shown
+    (subst (λ f. Walked f chosen paths (record { found = found; folders = [] })) same (all paths (subst (λ f. Walked f chosen paths r) (sym same) before))) o (k o.rises)
+
+-- the same where what judges has this choice
+pub finds_chosen : (files later : Files) (told chosen : Chosen) (paths : List Name) (r : Reached) (found ordered shown : List Found) → later ≡ files → told ≡ chosen → Walked files told paths r
+    → ((given : List Name) → Walked later told given r → Walked later told given (record { found = found; folders = [] })) → Orders found ordered → (Rises ordered → KeepsFirsts ordered shown)
+    → Finds files chosen paths shown
+finds_chosen files later told chosen paths r found ordered shown same is before all o k =
+    subst (λ (c : Chosen). Finds files c paths shown) is (finds_found files later told paths r found ordered shown same before all o k)

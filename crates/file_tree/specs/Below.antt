@@ -1,10 +1,11 @@
 -- What an operand stands for: itself, or the files in it and below.
 use Rattle.std.specs.Prelude.{◌≡◌, ◌≢◌, ◌⊎◌, ℕ, ◌==◌, ◌&&◌, not, Bool, true, false, List, [], ◌∷◌, ◌++◌, Option, Some, length}
 use Rattle.std.specs.List.{Contains, slice_split}
+use Rattle.file_tree.specs.Choices.{Chosen, is_excluded, is_wanted}
 use Rattle.file_tree.specs.Files.{Files, Name}
 use Rattle.hcl_source.specs.Devices.{Tells}
 use Rattle.file_tree.specs.Names.{is_passed_over, is_taken}
-use Rattle.file_tree.specs.Paths.{inside, place, top, within}
+use Rattle.file_tree.specs.Paths.{inside, place, tidied, top, within}
 use Rattle.file_tree.specs.declared.kind.Identity.{Identity}
 use Rattle.file_tree.specs.declared.kind.Kind.{Kind}
 use Rattle.file_tree.specs.declared.kind.Kind.TheVariants.{File, Folder, Link}
@@ -19,34 +20,43 @@ abbrev pub listed : List ℕ → List Name
 listed listing = slice_split (λ b. b == 0) listing
 
 -- a name that is looked at where it is met in a folder
-abbrev pub is_met : Name → Bool
-is_met name = not (length name == 0) && not (is_passed_over name)
+abbrev pub is_met : Chosen → Name → Name → Bool
+is_met chosen folder name = not (length name == 0) && not (is_passed_over name) && not (is_excluded chosen (folder ++ name))
 
 -- a folder has this name, and it is one to be looked at
-abbrev pub IsEntry : Bool → Files → Name → Name → Type 0
-IsEntry sure files folder name = (listing : List ℕ) × Says sure (files.listing (place folder)) listing × Contains (listed listing) name × (is_met name ≡ true)
+abbrev pub IsEntry : Bool → Files → Chosen → Name → Name → Type 0
+IsEntry sure files chosen folder name = (listing : List ℕ) × Says sure (files.listing (place folder)) listing × Contains (listed listing) name × (is_met chosen folder name ≡ true)
 
 -- a folder has a folder of this name
-abbrev pub HasFolder : Bool → Files → Name → Name → Type 0
-HasFolder sure files folder name = IsEntry sure files folder name × Says sure (files.entry (folder ++ name)) Folder
+abbrev pub HasFolder : Bool → Files → Chosen → Name → Name → Type 0
+HasFolder sure files chosen folder name = IsEntry sure files chosen folder name × Says sure (files.entry (folder ++ name)) Folder
 
 -- a path is no folder, links followed
 abbrev pub IsGiven : Bool → Files → Name → Type 0
 IsGiven sure files path = (kind : Kind) × Says sure (files.kind path) kind × (kind ≢ Folder)
+
+-- A FILE THAT IS NAMED, and taken
+abbrev pub IsNamed : Bool → Files → Chosen → Name → Type 0
+IsNamed sure files chosen path = IsGiven sure files path × (is_wanted chosen (tidied path) ≡ true) × (is_excluded chosen (tidied path) ≡ false)
+
+-- one whose name isn't of a kind that is taken
+abbrev pub IsOther : Bool → Files → Chosen → Name → Type 0
+IsOther sure files chosen path = IsGiven sure files path × (is_wanted chosen (tidied path) ≡ false) × (is_excluded chosen (tidied path) ≡ false)
 
 -- an entry is a file, or a link that leads to no folder
 abbrev pub IsFile : Bool → Files → Name → Type 0
 IsFile sure files name = ((identity : Identity) × Says sure (files.entry name) (File identity)) ⊎ (Says sure (files.entry name) Link × IsGiven sure files name)
 
 -- a folder has such a file of this name, and it is taken
-abbrev pub HasFile : Bool → Files → Name → Name → Type 0
-HasFile sure files folder name = IsEntry sure files folder name × IsFile sure files (folder ++ name) × (is_taken name ≡ true)
+abbrev pub HasFile : Bool → Files → Chosen → Name → Name → Type 0
+HasFile sure files chosen folder name = IsEntry sure files chosen folder name × IsFile sure files (folder ++ name) × (is_taken name ≡ true)
 
 -- these parts of a name lead from a folder down, each a folder in the one before
-abbrev pub Leads : Bool → Files → Name → List Name → Type 0
-Leads sure files folder [] = Unit {0}
-Leads sure files folder (part ∷ parts) = HasFolder sure files folder part × Leads sure files (inside folder part) parts
+abbrev pub Leads : Bool → Files → Chosen → Name → List Name → Type 0
+Leads sure files chosen folder [] = Unit {0}
+Leads sure files chosen folder (part ∷ parts) = HasFolder sure files chosen folder part × Leads sure files chosen (inside folder part) parts
 
 -- A FILE BELOW a folder that is given: these parts lead down to where it is, and this is the last part of its name
-abbrev pub IsBelow : Bool → Files → Name → List Name → Name → Type 0
-IsBelow sure files path parts last = Says sure (files.kind path) Folder × Leads sure files (top path) parts × HasFile sure files (within (top path) parts) last
+abbrev pub IsBelow : Bool → Files → Chosen → Name → List Name → Name → Type 0
+IsBelow sure files chosen path parts last =
+    Says sure (files.kind path) Folder × Leads sure files chosen (top path) parts × HasFile sure files chosen (within (top path) parts) last × (is_excluded chosen (tidied path) ≡ false)

@@ -3,6 +3,7 @@ use Rattle.std.specs.Prelude.{◌≡◌, ℕ, refl, true, false, List, [], ◌�
 use Rattle.std.specs.Str.{bytes_eq}
 use Rattle.std.proofs.Common.{inl, lit<}
 use Rattle.file_tree.specs.Below.{HasFile, HasFolder, IsBelow, is_met, listed}
+use Rattle.file_tree.specs.Choices.{Chosen, chosen_by, is_excluded, is_wanted}
 use Rattle.file_tree.specs.Files.{Files, Name}
 use Rattle.file_tree.specs.Names.{is_taken}
 use Rattle.file_tree.specs.Paths.{place, reported, tidied, top, within}
@@ -21,8 +22,8 @@ up = refl
 from_the_root : tidied (codes "//etc/./x") ≡ codes "/etc/x"
 from_the_root = refl
 
-here : tidied (codes ".") ≡ []
-here = refl
+this : tidied (codes ".") ≡ []
+this = refl
 
 root : tidied (codes "/") ≡ codes "/"
 root = refl
@@ -59,13 +60,17 @@ listed_there = refl
 two_names : listed (97 ∷ 0 ∷ 98 ∷ 99 ∷ 0 ∷ []) ≡ codes "a" ∷ codes "bc" ∷ [] ∷ []
 two_names = refl
 
-hidden : is_met (codes ".terraform") ≡ false
+-- nothing is excluded
+abbrev all : Chosen
+all = chosen_by false []
+
+hidden : is_met all [] (codes ".terraform") ≡ false
 hidden = refl
 
-backup : is_met (codes "main.tf~") ≡ false
+backup : is_met all [] (codes "main.tf~") ≡ false
 backup = refl
 
-none : is_met [] ≡ false
+none : is_met all [] [] ≡ false
 none = refl
 
 -- ---- a tree: `modules/net/main.tf`, `modules/net/notes.txt` and the folder `modules/.git`
@@ -90,18 +95,63 @@ abbrev small : Files
 small = record { kind = kind_of; entry = kind_of; listing = listing_of; real = λ name. name; told = λ name. None }
 
 -- its file is below what was given
-net : HasFolder true small (codes "modules/") (codes "net")
+net : HasFolder true small all (codes "modules/") (codes "net")
 net = ((codes ".git" ++ (0 ∷ codes "net" ++ 0 ∷ []), refl, (1, lit< tt, refl), refl), refl)
 
-main : HasFile true small (codes "modules/net/") (codes "main.tf")
+main : HasFile true small all (codes "modules/net/") (codes "main.tf")
 main = ((codes "notes.txt" ++ (0 ∷ codes "main.tf" ++ 0 ∷ []), refl, (1, lit< tt, refl), refl), inl (numbered 7, refl), refl)
 
-below : IsBelow true small (codes "modules") (codes "net" ∷ []) (codes "main.tf")
-below = (refl, (net, tt), main)
+below : IsBelow true small all (codes "modules") (codes "net" ∷ []) (codes "main.tf")
+below = (refl, (net, tt), main, refl)
 
 -- the other isn't, since files of its name aren't taken; nor is anything in the hidden folder
 notes : is_taken (codes "notes.txt") ≡ false
 notes = refl
 
-git : is_met (codes ".git") ≡ false
+git : is_met all (codes "modules/") (codes ".git") ≡ false
 git = refl
+
+-- ---- what is excluded, and what is named
+
+-- a name, with or without a slash, wherever it stands; but not a part of one
+abbrev vendor : Chosen
+vendor = chosen_by false (codes "vendor/" ∷ [])
+
+by_name : is_excluded vendor (codes "modules/vendor/main.tf") ≡ true
+by_name = refl
+
+itself : is_excluded vendor (codes "vendor") ≡ true
+itself = refl
+
+no_part : is_excluded vendor (codes "modules/vendors/main.tf") ≡ false
+no_part = refl
+
+-- a path, with all that is below it, and nothing of its name elsewhere
+abbrev here : Chosen
+here = chosen_by true (codes "./modules//net" ∷ [])
+
+by_path : is_excluded here (codes "modules/net/main.tf") ≡ true
+by_path = refl
+
+its_folder : is_excluded here (codes "modules/net") ≡ true
+its_folder = refl
+
+elsewhere : is_excluded here (codes "old/modules/net/main.tf") ≡ false
+elsewhere = refl
+
+beside : is_excluded here (codes "modules/nets") ≡ false
+beside = refl
+
+-- the current folder, and nothing, aren't excluded
+not_here : is_excluded (chosen_by false (codes "." ∷ [] ∷ [])) (codes "a.tf") ≡ false
+not_here = refl
+
+-- files that are named
+script : is_wanted vendor (codes "bin/env.sh") ≡ false
+script = refl
+
+lock_file : is_wanted vendor (codes ".terraform.lock.hcl") ≡ true
+lock_file = refl
+
+whatever : is_wanted here (codes "bin/env.sh") ≡ true
+whatever = refl

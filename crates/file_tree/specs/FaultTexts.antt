@@ -1,10 +1,11 @@
 -- The words that are said of each fault, after the name and a colon: our own choice.
 use Rattle.std.specs.Prelude.{ℕ, List, codes}
 use Rattle.file_tree.specs.declared.fault.TreeFault.{TreeFault}
-use Rattle.file_tree.specs.declared.fault.TreeFault.TheVariants.{NotUtf8, Missing, NoInput, DeadLink, NotAFile, Unreadable, UnreadableFolder, EndlessLink, NotWritable, NoneBeside, NotWritten, Changed, NotReplaced, WrittenInPart, NotSynced, ReadFailed, OutOfMemory}
+use Rattle.file_tree.specs.declared.fault.TreeFault.TheVariants.{NotUtf8, OtherKind, Missing, NoInput, DeadLink, NotAFile, Unreadable, UnreadableFolder, EndlessLink, NotWritable, NoneBeside, NotWritten, Changed, NotReplaced, WrittenInPart, NotSynced, ReadFailed, OutOfMemory}
 
 abbrev pub tree_fault_text : TreeFault → List ℕ
 tree_fault_text NotUtf8 = codes "the name isn't UTF-8"
+tree_fault_text OtherKind = codes "not named as a Terraform file; --any-name formats it"
 tree_fault_text Missing = codes "no such file or folder"
 tree_fault_text NoInput = codes "no such file or folder; tffmt reads standard input, and tffmt-all formats files"
 tree_fault_text DeadLink = codes "the link leads nowhere"

@@ -1,7 +1,8 @@
--- The files of one folder, without those in folders below it.
+-- The files of one folder, of which none is excluded, without those in folders below it.
 use Rattle.std.specs.Prelude.{◌≡◌, ◌⊎◌, true, false, List, ◌++◌, Option, Some, None}
 use Rattle.std.specs.List.{Contains}
 use Rattle.file_tree.specs.Below.{HasFile, IsEntry}
+use Rattle.file_tree.specs.Choices.{whole}
 use Rattle.file_tree.specs.Files.{Files, Name}
 use Rattle.file_tree.specs.Finds.{Rises}
 use Rattle.file_tree.specs.Ordered.{HasName}
@@ -11,12 +12,12 @@ use Rattle.file_tree.specs.declared.walk.Found.{Found}
 
 -- a file of the folder; or a name that is reported: that of the folder, or of an entry in it
 abbrev pub IsInBy : Files → Name → Name → Option TreeFault → Type 0
-IsInBy files folder name None = (last : Name) × HasFile false files folder last × (name ≡ folder ++ last)
-IsInBy files folder name (Some fault) = (name ≡ place folder) ⊎ ((last : Name) × IsEntry false files folder last × (name ≡ folder ++ last))
+IsInBy files folder name None = (last : Name) × HasFile false files whole folder last × (name ≡ folder ++ last)
+IsInBy files folder name (Some fault) = (name ≡ place folder) ⊎ ((last : Name) × IsEntry false files whole folder last × (name ≡ folder ++ last))
 
 -- THE FILES OF A FOLDER, by what the device tells: in the order of their names, each once, nothing else, and none passed over
 -- of which nothing is reported
 pub record FindsIn (files : Files) (folder : Name) (found : List Found) : Type 0 where
   pub rises : Rises found
   pub real : (f : Found) → Contains found f → IsInBy files folder f.name.items f.fault
-  pub all : (last : Name) → HasFile true files folder last → HasName found (place folder) ⊎ HasName found (folder ++ last)
+  pub all : (last : Name) → HasFile true files whole folder last → HasName found (place folder) ⊎ HasName found (folder ++ last)

@@ -1,3 +1,4 @@
 -- Words for the code's own parts, which its inner contracts use. Nobody has to believe them.
+pub mod Chosen
 pub mod Steps
 pub mod Walking

@@ -1,5 +1,6 @@
 pub mod Asked
 pub mod Below
+pub mod Choices
 pub mod Examples
 pub mod FaultTexts
 pub mod Files

@@ -8,6 +8,8 @@ ghost use Rattle.file_tree.specs.FaultTexts.{tree_fault_text};
 pub enum TreeFault {
     /// The name isn't UTF-8, which the device can't take.
     NotUtf8,
+    /// It was named, and its name isn't that of a file that is taken.
+    OtherKind,
     Missing,
     /// `-` names no file: it isn't standard input.
     NoInput,
@@ -39,6 +41,7 @@ impl TreeFault {
     {
         match self {
             TreeFault::NotUtf8 => "the name isn't UTF-8",
+            TreeFault::OtherKind => "not named as a Terraform file; --any-name formats it",
             TreeFault::Missing => "no such file or folder",
             TreeFault::NoInput =>
                 "no such file or folder; tffmt reads standard input, and tffmt-all formats files",

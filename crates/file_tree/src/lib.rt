@@ -1,6 +1,7 @@
 //! Folders and files by their names, on any device, and the files that names stand for.
 #![tactic(auto)]
 
+pub mod choice;
 pub mod fault;
 pub mod kind;
 pub mod mode;

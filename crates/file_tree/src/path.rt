@@ -47,7 +47,7 @@ fn root(path: &[u8]) -> &'static [u8]
 }
 
 /// Whether a part of a path leads somewhere.
-fn is_step(part: &[u8]) -> bool
+pub(crate) fn is_step(part: &[u8]) -> bool
     ensures { result ≡ is_step part.now }
 {
     !part.is_empty() && part != b".".as_slice()

@@ -1,14 +1,17 @@
 //! The files that names stand for.
 
-ghost use Rattle.std.specs.Prelude.{◌≡◌, [], IfOk, List, OnOk, map};
-ghost use Rattle.file_tree.specs.Below.{is_met};
+ghost use Rattle.std.specs.Prelude.{◌≡◌, ◌&&◌, not, ◌==◌, false, [], IfOk, List, OnOk, length, map};
+ghost use Rattle.file_tree.specs.Choices.{chosen, is_excluded};
 ghost use Rattle.file_tree.specs.Files.{Name};
 ghost use Rattle.file_tree.specs.Finds.{AreReal, Finds};
 ghost use Rattle.file_tree.specs.FolderFiles.{FindsIn};
-ghost use Rattle.file_tree.specs.Inner.Walking.{Adds, Enters, Hears, TakesAll, TakesEntry, TakesFolder, TakesGiven, TakesIf, TakesKind, TakesKindGiven, TakesLink, TakesLinked, TakesMet, Walked, reached};
+ghost use Rattle.file_tree.specs.Inner.Chosen.{told};
+ghost use Rattle.file_tree.specs.Inner.Walking.{Adds, Enters, Hears, HearsGiven, TakesAll, TakesAsked, TakesEntry, TakesFolder, TakesGiven, TakesIf, TakesKind, TakesKindGiven, TakesLink, TakesLinked, TakesMet, TakesNamed, Walked, reached};
 ghost use Rattle.file_tree.specs.Ordered.{Orders};
-ghost use Rattle.file_tree.specs.Names.{is_taken};
+ghost use Rattle.file_tree.specs.Names.{is_passed_over, is_taken};
+ghost use Rattle.file_tree.specs.Paths.{tidied};
 
+use crate::choice::{Choice, Chooser};
 use crate::fault::TreeFault;
 use crate::kind::{Identity, Kind};
 use crate::names::{is_passed_over, is_taken};
@@ -33,9 +36,9 @@ struct Walk {
     folders: Vec<Vec<u8>>,
 }
 
-/// Whether an entry of this name is looked at.
+/// Whether an entry of this name is looked at, unless it is excluded.
 fn is_met(name: &[u8]) -> bool
-    ensures { result ≡ is_met name.now }
+    ensures { result ≡ (not (length name.now == 0) && not (is_passed_over name.now)) }
 {
     !name.is_empty() && !is_passed_over(name)
 }
@@ -155,18 +158,18 @@ impl Walk {
     fn take_met<T: Tree>(
         &mut self,
         alloc: Global,
-        folder: &[u8],
         name: &[u8],
+        path: Vec<u8>,
         tree: &mut T,
     ) -> Result<(), AllocError>
         // Nothing is changed.
         ensures files { T.files tree.new ≡ T.files tree.old }
         ensures asked { T.asked tree.new ≡ T.asked tree.old }
-        ensures takes { OnOk result (TakesMet (T.files tree.old) folder.now name.now (reached self.old) (reached self.new)) }
+        ensures takes { OnOk result (TakesMet (T.files tree.old) path.items name.now
+            (reached self.old) (reached self.new)) }
         ensures hears { OnOk result (Hears (reached self.old).found (reached self.new).found
             (T.faults tree.old) (T.faults tree.new)) }
     {
-        let path = joined(alloc, folder, name)?;
         match tree.entry_kind(path.as_slice()) {
             Ok(kind) => self.take_kind(alloc, kind, name, path, tree),
             Err(fault) => self.add(path, Some(fault), None),
@@ -178,6 +181,7 @@ impl Walk {
     fn take_entry<T: Tree>(
         &mut self,
         alloc: Global,
+        chooser: &Chooser<'_>,
         folder: &[u8],
         name: &[u8],
         tree: &mut T,
@@ -185,20 +189,26 @@ impl Walk {
         // Nothing is changed.
         ensures files { T.files tree.new ≡ T.files tree.old }
         ensures asked { T.asked tree.new ≡ T.asked tree.old }
-        ensures takes { OnOk result (TakesEntry (T.files tree.old) folder.now name.now (reached self.old) (reached self.new)) }
+        ensures takes { OnOk result (TakesEntry (T.files tree.old) (told chooser.now) folder.now
+            name.now (reached self.old) (reached self.new)) }
         ensures hears { OnOk result (Hears (reached self.old).found (reached self.new).found
             (T.faults tree.old) (T.faults tree.new)) }
     {
         if !is_met(name) {
             return Ok(());
         }
-        self.take_met(alloc, folder, name, tree)
+        let path = joined(alloc, folder, name)?;
+        if chooser.is_excluded(path.as_slice()) {
+            return Ok(());
+        }
+        self.take_met(alloc, name, path, tree)
     }
 
     /// Looks at what stands in a folder under these names.
     fn take_entries<T: Tree>(
         &mut self,
         alloc: Global,
+        chooser: &Chooser<'_>,
         folder: &[u8],
         names: &[&[u8]],
         tree: &mut T,
@@ -206,12 +216,13 @@ impl Walk {
         // Nothing is changed.
         ensures files { T.files tree.new ≡ T.files tree.old }
         ensures asked { T.asked tree.new ≡ T.asked tree.old }
-        ensures takes { OnOk result (TakesAll (T.files tree.old) folder.now (map (λ name. name.now) names.now) (reached self.old) (reached self.new)) }
+        ensures takes { OnOk result (TakesAll (T.files tree.old) (told chooser.now) folder.now
+            (map (λ name. name.now) names.now) (reached self.old) (reached self.new)) }
         ensures hears { OnOk result (Hears (reached self.old).found (reached self.new).found
             (T.faults tree.old) (T.faults tree.new)) }
     {
         for name in names {
-            self.take_entry(alloc, folder, name, tree)?;
+            self.take_entry(alloc, chooser, folder, name, tree)?;
         }
         Ok(())
     }
@@ -221,13 +232,15 @@ impl Walk {
     fn take_folder<T: Tree>(
         &mut self,
         alloc: Global,
+        chooser: &Chooser<'_>,
         folder: &[u8],
         tree: &mut T,
     ) -> Result<(), AllocError>
         // Nothing is changed.
         ensures files { T.files tree.new ≡ T.files tree.old }
         ensures asked { T.asked tree.new ≡ T.asked tree.old }
-        ensures takes { OnOk result (TakesFolder (T.files tree.old) folder.now (reached self.old) (reached self.new)) }
+        ensures takes { OnOk result (TakesFolder (T.files tree.old) (told chooser.now) folder.now
+            (reached self.old) (reached self.new)) }
         ensures hears { OnOk result (Hears (reached self.old).found (reached self.new).found
             (T.faults tree.old) (T.faults tree.new)) }
     {
@@ -235,7 +248,7 @@ impl Walk {
         match tree.listing(place) {
             Ok(listing) => {
                 let names = names_in(alloc, listing.as_slice())?;
-                self.take_entries(alloc, folder, names.as_slice(), tree)
+                self.take_entries(alloc, chooser, folder, names.as_slice(), tree)
             }
             Err(fault) => {
                 let path = joined(alloc, place, b"")?;
@@ -244,35 +257,66 @@ impl Walk {
         }
     }
 
+    /// Takes a file that was named, if files of such a name are taken.
+    fn take_named(
+        &mut self,
+        is_wanted: bool,
+        name: Vec<u8>,
+        identity: Option<Identity>,
+    ) -> Result<(), AllocError>
+        ensures { OnOk result (TakesNamed is_wanted name.items identity
+            (reached self.old) (reached self.new)) }
+    {
+        if is_wanted {
+            return self.add(name, None, identity);
+        }
+        self.add(name, Some(TreeFault::OtherKind), None)
+    }
+
     /// Takes what stands under a name that was given.
-    fn take_kind_given(&mut self, alloc: Global, kind: Kind, path: &[u8]) -> Result<(), AllocError>
-        ensures { OnOk result (TakesKindGiven kind path.now (reached self.old) (reached self.new)) }
+    fn take_kind_given(
+        &mut self,
+        alloc: Global,
+        chooser: &Chooser<'_>,
+        kind: Kind,
+        path: &[u8],
+        name: Vec<u8>,
+    ) -> Result<(), AllocError>
+        requires tidied { name.items ≡ tidied path.now }
+        ensures { OnOk result (TakesKindGiven (told chooser.now) kind path.now
+            (reached self.old) (reached self.new)) }
     {
         if kind == Kind::Folder {
             let folder = top(alloc, path)?;
             return self.add_folder(folder);
         }
-        let tidied = tidy(alloc, path)?;
-        self.add(tidied, None, kind.identity())
+        let is_wanted = chooser.is_wanted(name.as_slice());
+        self.take_named(is_wanted, name, kind.identity())
     }
 
-    /// Takes a name that was given.
-    #[tactic(auto, using(crate::proofs::HearLemmas::heard_given, crate::proofs::HearLemmas::heard_fault))]
-    fn take_given<T: Tree>(
+    /// Takes a name that was given and isn't excluded.
+    #[tactic(auto, using(crate::proofs::HearLemmas::real_fault))]
+    fn take_asked<T: Tree>(
         &mut self,
         alloc: Global,
+        chooser: &Chooser<'_>,
         path: &[u8],
+        name: Vec<u8>,
         tree: &mut T,
     ) -> Result<(), AllocError>
+        requires tidied { name.items ≡ tidied path.now }
+        requires allowed { is_excluded (told chooser.now) (tidied path.now) ≡ false }
         // Nothing is changed.
         ensures files { T.files tree.new ≡ T.files tree.old }
         ensures asked { T.asked tree.new ≡ T.asked tree.old }
-        ensures takes { OnOk result (TakesGiven (T.files tree.old) path.now (reached self.old) (reached self.new)) }
-        ensures hears { OnOk result (Hears (reached self.old).found (reached self.new).found
+        ensures takes { OnOk result (TakesAsked (T.files tree.old) (told chooser.now) path.now
+            (reached self.old) (reached self.new)) }
+        ensures hears { OnOk result (HearsGiven (T.files tree.old) (told chooser.now) path.now
+            (reached self.old).found (reached self.new).found
             (T.faults tree.old) (T.faults tree.new)) }
     {
         match tree.kind(path) {
-            Ok(kind) => self.take_kind_given(alloc, kind, path),
+            Ok(kind) => self.take_kind_given(alloc, chooser, kind, path, name),
             Err(fault) => {
                 let name = reported(alloc, path)?;
                 self.add(name, Some(fault), None)
@@ -280,31 +324,71 @@ impl Walk {
         }
     }
 
-    /// A walk that has taken the names that were given.
-    fn over<T: Tree>(alloc: Global, paths: &[&[u8]], tree: &mut T) -> Result<Walk, AllocError>
+    /// Takes a name that was given, unless it is excluded.
+    #[tactic(auto, using(crate::proofs::HearLemmas::real_none))]
+    fn take_given<T: Tree>(
+        &mut self,
+        alloc: Global,
+        chooser: &Chooser<'_>,
+        path: &[u8],
+        tree: &mut T,
+    ) -> Result<(), AllocError>
         // Nothing is changed.
         ensures files { T.files tree.new ≡ T.files tree.old }
         ensures asked { T.asked tree.new ≡ T.asked tree.old }
-        ensures walked { IfOk result (λ walk. Walked (T.files tree.old) (map (λ path. path.now) paths.now) (reached walk)) }
-        ensures hears { IfOk result (λ walk. Hears [] (reached walk).found
+        ensures takes { OnOk result (TakesGiven (T.files tree.old) (told chooser.now) path.now
+            (reached self.old) (reached self.new)) }
+        ensures hears { OnOk result (HearsGiven (T.files tree.old) (told chooser.now) path.now
+            (reached self.old).found (reached self.new).found
             (T.faults tree.old) (T.faults tree.new)) }
+    {
+        let name = tidy(alloc, path)?;
+        if chooser.is_excluded(name.as_slice()) {
+            return Ok(());
+        }
+        self.take_asked(alloc, chooser, path, name, tree)
+    }
+
+    /// A walk that has taken the names that were given.
+    fn over<T: Tree>(
+        alloc: Global,
+        chooser: &Chooser<'_>,
+        paths: &[&[u8]],
+        tree: &mut T,
+    ) -> Result<Walk, AllocError>
+        // Nothing is changed.
+        ensures files { T.files tree.new ≡ T.files tree.old }
+        ensures asked { T.asked tree.new ≡ T.asked tree.old }
+        ensures walked { IfOk result (λ walk. Walked (T.files tree.old) (told chooser.now)
+            (map (λ path. path.now) paths.now) (reached walk)) }
+        ensures real { IfOk result (λ walk. AreReal (T.files tree.old) (told chooser.now)
+            (map (λ path. path.now) paths.now) (T.faults tree.old) (T.faults tree.new)
+            (reached walk).found) }
     {
         let mut walk = Walk {
             found: Vec::new(alloc),
             folders: Vec::new(alloc),
         };
         for path in paths {
-            walk.take_given(alloc, path, tree)?;
+            walk.take_given(alloc, chooser, path, tree)?;
         }
         Ok(walk)
     }
 
     /// Looks into the folders, and those in them, until none is left.
-    fn look_into_all<T: Tree>(&mut self, alloc: Global, tree: &mut T) -> Result<(), AllocError>
+    fn look_into_all<T: Tree>(
+        &mut self,
+        alloc: Global,
+        chooser: &Chooser<'_>,
+        tree: &mut T,
+    ) -> Result<(), AllocError>
         // Nothing is changed.
         ensures files { T.files tree.new ≡ T.files tree.old }
         ensures asked { T.asked tree.new ≡ T.asked tree.old }
-        ensures walked { OnOk result ((paths : List Name) → Walked (T.files tree.old) paths (reached self.old) → Walked (T.files tree.old) paths (record { found = self.new.found.items; folders = [] })) }
+        ensures walked { OnOk result ((paths : List Name)
+            → Walked (T.files tree.old) (told chooser.now) paths (reached self.old)
+            → Walked (T.files tree.old) (told chooser.now) paths
+            (record { found = self.new.found.items; folders = [] })) }
         ensures hears { OnOk result (Hears (reached self.old).found self.new.found.items
             (T.faults tree.old) (T.faults tree.new)) }
     {
@@ -312,7 +396,7 @@ impl Walk {
             let Some(folder) = self.folders.pop() else {
                 return Ok(());
             };
-            self.take_folder(alloc, folder.as_slice(), tree)?;
+            self.take_folder(alloc, chooser, folder.as_slice(), tree)?;
         }
         Err(AllocError)
     }
@@ -328,23 +412,27 @@ pub fn in_order(mut found: Vec<Found>) -> Vec<Found>
 }
 
 /// The files that these names stand for, in the order of their names, each once: one that is reached by several names under
-/// the first of these.
+/// the first of these. What is excluded is passed over, and what is named and isn't of a kind that is taken is told.
 pub fn find<T: Tree>(
     alloc: Global,
+    choice: Choice<'_>,
     operands: &[&[u8]],
     tree: &mut T,
 ) -> Result<Vec<Found>, AllocError>
     // Nothing is changed, nor asked to be.
     ensures files { T.files tree.new ≡ T.files tree.old }
     ensures asked { T.asked tree.new ≡ T.asked tree.old }
-    // All files that the names stand for, and nothing else.
-    ensures finds { IfOk result (λ found. Finds (T.files tree.old) (map (λ operand. operand.now) operands.now) found.items) }
-    // Where the device tells the faults of its calls, none is reported that can't be looked at but where a call failed.
-    ensures real { IfOk result
-        (λ found. AreReal (T.faults tree.old) (T.faults tree.new) found.items) }
+    // All files that the names stand for and that aren't excluded, and nothing else.
+    ensures finds { IfOk result (λ found. Finds (T.files tree.old) (chosen choice.entry)
+        (map (λ operand. operand.now) operands.now) found.items) }
+    // Where the device tells the faults of its calls, none is reported but where a call failed, or for its name.
+    ensures real { IfOk result (λ found. AreReal (T.files tree.old) (chosen choice.entry)
+        (map (λ operand. operand.now) operands.now) (T.faults tree.old) (T.faults tree.new)
+        found.items) }
 {
-    let mut walk = Walk::over(alloc, operands, tree)?;
-    walk.look_into_all(alloc, tree)?;
+    let chooser = Chooser::new(alloc, choice)?;
+    let mut walk = Walk::over(alloc, &chooser, operands, tree)?;
+    walk.look_into_all(alloc, &chooser, tree)?;
     first_names(alloc, in_order(walk.found))
 }
 
@@ -364,6 +452,7 @@ pub fn find_in<T: Tree>(
         found: Vec::new(alloc),
         folders: Vec::new(alloc),
     };
-    walk.take_folder(alloc, folder, tree)?;
+    let chooser = Chooser::new(alloc, Choice::whole())?;
+    walk.take_folder(alloc, &chooser, folder, tree)?;
     Ok(in_order(walk.found))
 }

@@ -2,6 +2,7 @@
 use Rattle.std.specs.Prelude.{◌≡◌, ◌≢◌, ◌⊎◌, ℕ, Bool, true, false, List, [], Option, Result, Ok, Err, All, codes, if◌then◌else◌}
 use Rattle.command_line.specs.Rows.{End, Row, Shows, fails_with, message_row, out_of_memory, output_row, write_failed}
 use Rattle.clap.specs.Words.{Text}
+use Rattle.file_tree.specs.Choices.{Chosen, chosen_by}
 use Rattle.file_tree.specs.Files.{Faults, Files, Name}
 use Rattle.file_tree.specs.Files.{Tells}
 use Rattle.file_tree.specs.Finds.{AreReal, Finds}
@@ -34,7 +35,7 @@ last_words quiet mode out_failed answers = words_at_end quiet mode out_failed (t
 -- what was found is what these paths stand for, as far as it is of the part; what can't be looked at is there since a call
 -- failed
 abbrev pub IsPartOf : Files → Faults → Faults → Option Shard → List Name → List Found → Type 0
-IsPartOf files was walked shard paths found = (all : List Found) × Finds files paths all × AreReal was walked all × (found ≡ picked_of shard all)
+IsPartOf files was walked shard paths found = (all : List Found) × Finds files (chosen_by true []) paths all × AreReal files (chosen_by true []) paths was walked all × (found ≡ picked_of shard all)
 
 -- THE FILES WERE FOUND that these paths stand for, and then each was looked at
 pub record Formats (quiet : Bool) (mode : Mode) (shard : Option Shard) (paths : List Name) (before after : State) (end : End) : Type 0 where

@@ -26,6 +26,7 @@ has_name shard name = nat_lt 0 shard.count && sum_of name % shard.count + 1 == s
 abbrev pub hides_nothing : TreeFault → Bool
 hides_nothing fault.Missing = true
 hides_nothing fault.NoInput = true
+hides_nothing fault.OtherKind = true
 hides_nothing fault.DeadLink = true
 hides_nothing _ = false
 

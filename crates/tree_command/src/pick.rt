@@ -38,7 +38,7 @@ fn hides_nothing(fault: TreeFault) -> bool
 {
     matches!(
         fault,
-        TreeFault::Missing | TreeFault::NoInput | TreeFault::DeadLink
+        TreeFault::OtherKind | TreeFault::Missing | TreeFault::NoInput | TreeFault::DeadLink
     )
 }
 

@@ -20,6 +20,7 @@ use crate::usage::{HELP, Usage, VERSION};
 use crate::words::words_of;
 use crate::wrong::bad_line_text;
 use command_line::Program;
+use file_tree::choice::Choice;
 use file_tree::path::names_in;
 use file_tree::tree::{Tree, WritableTree};
 use file_tree::walk::{Found, find};
@@ -59,7 +60,11 @@ fn find_part<T: Tree>(
     ensures asked { T.asked tree.new ≡ T.asked tree.old }
     ensures finds { IfOk result (λ found. IsPartOf (T.files tree.old) (T.faults tree.old) (T.faults tree.new) shard (map (λ operand. operand.now) operands.now) found.items) }
 {
-    let found = find(alloc, operands, tree)?;
+    let choice = Choice {
+        any_name: true,
+        excluded: &[],
+    };
+    let found = find(alloc, choice, operands, tree)?;
     pick(alloc, found, shard)
 }
 

@@ -1,14 +1,16 @@
 -- A walk, step by step: what was found, and the folders that are still to be looked into.
 use Rattle.std.specs.Prelude.{◌≡◌, ◌≢◌, ◌⊎◌, ℕ, Bool, true, false, not, List, [], ◌∷◌, ◌++◌, Option, Some, None, map, if◌then◌else◌}
 use Rattle.std.specs.List.{Contains}
-use Rattle.file_tree.specs.Below.{IsBelow, IsGiven, is_met, listed}
+use Rattle.file_tree.specs.Below.{IsBelow, IsNamed, IsOther, is_met, listed}
+use Rattle.file_tree.specs.Choices.{Chosen, is_excluded, is_wanted}
 use Rattle.file_tree.specs.Files.{Faults, Files, Name, identity_of, with_faults}
 use Rattle.hcl_source.specs.Devices.{Tells}
-use Rattle.file_tree.specs.Finds.{IsEarlier, IsFolderOf, IsOf, IsSame, Rises}
+use Rattle.file_tree.specs.Finds.{AreReal, IsEarlier, IsFolderOf, IsOf, IsSame, Rises}
 use Rattle.file_tree.specs.Names.{is_taken}
 use Rattle.file_tree.specs.Ordered.{IsFound}
 use Rattle.file_tree.specs.Paths.{inside, place, reported, tidied, top}
 use Rattle.file_tree.specs.declared.fault.TreeFault.{TreeFault}
+use Rattle.file_tree.specs.declared.fault.TreeFault.TheVariants.{OtherKind}
 use Rattle.file_tree.specs.declared.kind.Identity.{Identity}
 use Rattle.file_tree.specs.declared.kind.Kind.{Kind}
 use Rattle.file_tree.specs.declared.kind.Kind.TheVariants.{File, Folder, Link, Other}
@@ -67,29 +69,38 @@ TakesKind Other files path name old new = new ≡ old
 
 -- what an entry adds that is met
 abbrev pub TakesMet : Files → Name → Name → Reached → Reached → Type 0
-TakesMet files folder name old new = Reports (folder ++ name) old new ⊎ ((kind : Kind) × Tells (files.entry (folder ++ name)) kind × TakesKind kind files (folder ++ name) name old new)
+TakesMet files path name old new = Reports path old new ⊎ ((kind : Kind) × Tells (files.entry path) kind × TakesKind kind files path name old new)
 
 -- what an entry adds
-abbrev pub TakesEntry : Files → Name → Name → Reached → Reached → Type 0
-TakesEntry files folder name old new = ((is_met name ≡ false) × (new ≡ old)) ⊎ ((is_met name ≡ true) × TakesMet files folder name old new)
+abbrev pub TakesEntry : Files → Chosen → Name → Name → Reached → Reached → Type 0
+TakesEntry files chosen folder name old new = ((is_met chosen folder name ≡ false) × (new ≡ old)) ⊎ ((is_met chosen folder name ≡ true) × TakesMet files (folder ++ name) name old new)
 
 -- what some entries add, one after the other
-abbrev pub TakesAll : Files → Name → List Name → Reached → Reached → Type 0
-TakesAll files folder [] old new = new ≡ old
-TakesAll files folder (name ∷ names) old new = (between : Reached) × TakesEntry files folder name old between × TakesAll files folder names between new
+abbrev pub TakesAll : Files → Chosen → Name → List Name → Reached → Reached → Type 0
+TakesAll files chosen folder [] old new = new ≡ old
+TakesAll files chosen folder (name ∷ names) old new = (between : Reached) × TakesEntry files chosen folder name old between × TakesAll files chosen folder names between new
 
 -- what a folder adds
-abbrev pub TakesFolder : Files → Name → Reached → Reached → Type 0
-TakesFolder files folder old new =
-    Reports (place folder) old new ⊎ ((listing : List ℕ) × Tells (files.listing (place folder)) listing × TakesAll files folder (listed listing) old new)
+abbrev pub TakesFolder : Files → Chosen → Name → Reached → Reached → Type 0
+TakesFolder files chosen folder old new =
+    Reports (place folder) old new ⊎ ((listing : List ℕ) × Tells (files.listing (place folder)) listing × TakesAll files chosen folder (listed listing) old new)
+
+-- what a file adds that is named so, tidied
+abbrev pub TakesNamed : Bool → Name → Option Identity → Reached → Reached → Type 0
+TakesNamed true name identity old new = Adds name None identity old new
+TakesNamed false name identity old new = Adds name (Some OtherKind) None old new
 
 -- what a path adds that is given
-abbrev pub TakesKindGiven : Kind → Name → Reached → Reached → Type 0
-TakesKindGiven Folder path old new = Enters (top path) old new
-TakesKindGiven kind path old new = Adds (tidied path) None (identity_of kind) old new
+abbrev pub TakesKindGiven : Chosen → Kind → Name → Reached → Reached → Type 0
+TakesKindGiven chosen Folder path old new = Enters (top path) old new
+TakesKindGiven chosen kind path old new = TakesNamed (is_wanted chosen (tidied path)) (tidied path) (identity_of kind) old new
 
-abbrev pub TakesGiven : Files → Name → Reached → Reached → Type 0
-TakesGiven files path old new = Reports (reported path) old new ⊎ ((kind : Kind) × Tells (files.kind path) kind × TakesKindGiven kind path old new)
+abbrev pub TakesAsked : Files → Chosen → Name → Reached → Reached → Type 0
+TakesAsked files chosen path old new = Reports (reported path) old new ⊎ ((kind : Kind) × Tells (files.kind path) kind × TakesKindGiven chosen kind path old new)
+
+abbrev pub TakesGiven : Files → Chosen → Name → Reached → Reached → Type 0
+TakesGiven files chosen path old new =
+    ((is_excluded chosen (tidied path) ≡ true) × (new ≡ old)) ⊎ ((is_excluded chosen (tidied path) ≡ false) × TakesAsked files chosen path old new)
 
 -- ---- the walk so far
 
@@ -101,11 +112,12 @@ abbrev pub Covers : Reached → Name → List Name → Name → Type 0
 Covers r folder [] last = Contains r.folders folder ⊎ (IsFault r.found (place folder) ⊎ (IsFault r.found (folder ++ last) ⊎ IsFound r.found (folder ++ last)))
 Covers r folder (part ∷ parts) last = Contains r.folders folder ⊎ (IsFault r.found (place folder) ⊎ (IsFault r.found (folder ++ part) ⊎ Covers r (inside folder part) parts last))
 
-pub record Walked (files : Files) (paths : List Name) (r : Reached) : Type 0 where
-  pub real : (f : Found) → Contains r.found f → IsOf files paths f
-  pub deeper : (folder : Name) → Contains r.folders folder → (path : Name) × Contains paths path × IsFolderOf files path folder
-  pub given : (path : Name) → Contains paths path → IsGiven true files path → IsFound r.found (tidied path) ⊎ IsFault r.found (reported path)
-  pub below : (path : Name) (parts : List Name) (last : Name) → Contains paths path → IsBelow true files path parts last
+pub record Walked (files : Files) (chosen : Chosen) (paths : List Name) (r : Reached) : Type 0 where
+  pub real : (f : Found) → Contains r.found f → IsOf files chosen paths f
+  pub deeper : (folder : Name) → Contains r.folders folder → (path : Name) × Contains paths path × IsFolderOf files chosen path folder
+  pub other : (path : Name) → Contains paths path → IsOther true files chosen path → IsFault r.found (tidied path) ⊎ IsFault r.found (reported path)
+  pub given : (path : Name) → Contains paths path → IsNamed true files chosen path → IsFound r.found (tidied path) ⊎ IsFault r.found (reported path)
+  pub below : (path : Name) (parts : List Name) (last : Name) → Contains paths path → IsBelow true files chosen path parts last
       → IsFault r.found (reported path) ⊎ Covers r (top path) parts last
 
 -- ---- its end
@@ -151,3 +163,9 @@ pub record Hears (old new : List Found) (before after : Faults) : Type 0 where
   pub more : List Found
   pub found : new ≡ old ++ more
   pub heard : after ≡ with_faults before (faults_in more)
+
+-- what a path that is given adds to what was found is real
+pub record HearsGiven (files : Files) (chosen : Chosen) (path : Name) (old new : List Found) (before after : Faults) : Type 0 where
+  pub more : List Found
+  pub found : new ≡ old ++ more
+  pub real : AreReal files chosen (path ∷ []) before after more

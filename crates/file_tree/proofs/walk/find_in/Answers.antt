@@ -1,7 +1,9 @@
+use Rattle.std.proofs.Common.{◌∙◌}
 use Rattle.file_tree.specs.Inner.Walking.{reached}
-use Rattle.file_tree.proofs.FolderLemmas.{finds_in}
+use Rattle.file_tree.proofs.FolderLemmas.{finds_whole}
 use Rattle.file_tree.proofs.walk.find_in.Goals as goal
 
 pub returns-clause-finds : goal.returns-clause-finds
 returns-clause-finds g c =
-    finds_in (g.T.Tree.files c.args.tree.now) c.args.folder.now _ (reached c.take_folder.new.self) c.in_order.result.items c.in_ok-take_folder.ensures.takes c.new.ensures.items c.in_order.ensures
+    finds_whole (g.T.Tree.files c.args.tree.now) _ c.args.folder.now _ (reached c.take_folder.new.self) c.in_order.result.items
+    (c.in_ok-chooser.ensures ∙ c.whole.ensures) c.in_ok-take_folder.ensures.takes c.new.ensures.items c.in_order.ensures

@@ -1,0 +1,7 @@
+-- A choice as what judges by it has it.
+use Rattle.std.specs.Prelude.{map}
+use Rattle.file_tree.specs.Choices.{Chosen}
+use Rattle.file_tree.specs.declared.choice.Chooser.{Chooser}
+
+abbrev pub told : Chooser → Chosen
+told chooser = record { any_name = chooser.any_name; names = map (λ name. name.now) chooser.names.now; folders = map (λ folder. folder.items) chooser.folders.items }

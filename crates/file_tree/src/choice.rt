@@ -1,0 +1,152 @@
+//! Which files that are named are taken, and what is passed over since it is excluded.
+
+ghost use Rattle.std.specs.Prelude.{◌≡◌, ◌==◌, ◌&&◌, ◌||◌, IfOk, map};
+ghost use Rattle.std.specs.List.{list_any, slice_split};
+ghost use Rattle.std.specs.Str.{bytes_eq};
+ghost use Rattle.file_tree.specs.Choices.{chosen, has_part, is_at, is_excluded, is_wanted, plain, whole};
+ghost use Rattle.file_tree.specs.Inner.Chosen.{told};
+ghost use Rattle.file_tree.specs.Paths.{is_step, top};
+
+use crate::names::is_taken;
+use crate::path::{is_step, top};
+use std::alloc::{AllocError, Global};
+
+/// Which files that are named are taken, and what is passed over.
+#[derive(Clone, Copy, Debug)]
+pub struct Choice<'a> {
+    /// A file that is named is taken whatever it is called.
+    pub any_name: bool,
+    /// Names of files and folders, and their paths, that are passed over with all that is below them.
+    pub excluded: &'a [&'a [u8]],
+}
+
+impl<'a> Choice<'a> {
+    /// Nothing is excluded.
+    pub fn whole() -> Choice<'a>
+        ensures { chosen result ≡ whole }
+    {
+        Choice {
+            any_name: false,
+            excluded: &[],
+        }
+    }
+}
+
+/// A choice by which paths are judged.
+#[derive(Drop)]
+pub(crate) struct Chooser<'a> {
+    any_name: bool,
+    names: &'a [&'a [u8]],
+    folders: Vec<Vec<u8>>,
+}
+
+/// A name without a slash at its end.
+fn plain(name: &[u8]) -> &[u8]
+    ensures { result.now ≡ plain name.now }
+{
+    if name.ends_with(b"/") {
+        &name[..name.len() - 1]
+    } else {
+        name
+    }
+}
+
+/// Whether a part of a path is a step of this name.
+fn is_named(part: &[u8], name: &[u8]) -> bool
+    ensures { result ≡ (is_step part.now && bytes_eq part.now name.now) }
+{
+    is_step(part) && part == name
+}
+
+fn either(one: bool, other: bool) -> bool
+    ensures { result ≡ (one || other) }
+{
+    one || other
+}
+
+/// Whether a path has a step of this name.
+fn has_step(name: &[u8], path: &[u8]) -> bool
+    ensures { result ≡ list_any (λ part. is_step part && bytes_eq part name.now)
+        (slice_split (λ b. b == 47) path.now) }
+{
+    let mut has = false;
+    for part in path.split(|b| *b == b'/') {
+        has = either(has, is_named(part, name));
+    }
+    has
+}
+
+/// Whether a part of a path has this name.
+fn has_part(name: &[u8], path: &[u8]) -> bool
+    ensures { result ≡ has_part name.now path.now }
+{
+    has_step(plain(name), path)
+}
+
+/// Whether a path is that of a folder or leads below it.
+fn is_at(folder: &[u8], path: &[u8]) -> bool
+    ensures { result ≡ is_at folder.now path.now }
+{
+    !folder.is_empty() && (path == plain(folder) || path.starts_with(folder))
+}
+
+/// Whether a part of a path has one of these names.
+fn any_part(names: &[&[u8]], path: &[u8]) -> bool
+    ensures { result ≡ list_any (λ name. has_part name.now path.now) names.now }
+{
+    names.iter().any(|name| has_part(name, path))
+}
+
+/// Whether a path is that of one of these folders or leads below it.
+fn any_at(folders: &[Vec<u8>], path: &[u8]) -> bool
+    ensures { result ≡ list_any (λ folder. is_at folder.items path.now) folders.now }
+{
+    folders.iter().any(|folder| is_at(folder.as_slice(), path))
+}
+
+/// The paths as those of folders.
+#[tactic(auto, using(crate::proofs::ChoiceLemmas::folders_more))]
+fn folders_of(alloc: Global, paths: &[&[u8]]) -> Result<Vec<Vec<u8>>, AllocError>
+    ensures { IfOk result (λ folders. map (λ folder. folder.items) folders.items
+        ≡ map top (map (λ path. path.now) paths.now)) }
+{
+    let mut folders = Vec::new(alloc);
+    for path in paths {
+        let folder = top(alloc, path)?;
+        if folders.push(folder).is_err() {
+            return Err(AllocError);
+        }
+    }
+    Ok(folders)
+}
+
+impl<'a> Chooser<'a> {
+    /// What judges by this choice.
+    pub(crate) fn new(alloc: Global, choice: Choice<'a>) -> Result<Chooser<'a>, AllocError>
+        ensures { IfOk result (λ chooser. told chooser ≡ chosen choice.entry) }
+    {
+        let folders = folders_of(alloc, choice.excluded)?;
+        Ok(Chooser {
+            any_name: choice.any_name,
+            names: choice.excluded,
+            folders,
+        })
+    }
+
+    /// Whether a path is excluded.
+    pub(crate) fn is_excluded(&self, path: &[u8]) -> bool
+        ensures { result ≡ is_excluded (told self.now) path.now }
+    {
+        either(
+            any_part(self.names, path),
+            any_at(self.folders.as_slice(), path),
+        )
+    }
+
+    /// Whether a file is taken that is named so.
+    pub(crate) fn is_wanted(&self, name: &[u8]) -> bool
+        ensures { result ≡ is_wanted (told self.now) name.now }
+    {
+        self.any_name || is_taken(name) || name.ends_with(b".hcl")
+    }
+}
