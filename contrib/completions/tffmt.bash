@@ -18,7 +18,7 @@ _tffmt() {
   case ${1##*/} in
     tffmt) options='--check --help' ;;
     tfrules) options='--rules --naming --minimum-failure-severity --force --help' files=linted ;;
-    tffmt-all) options='--check --diff --list --in-place --sync --quiet --jobs --shard --null --help --version' files=formatted ;;
+    tffmt-all) options='--check --diff --list --in-place --sync --quiet --exclude --any-name --jobs --shard --null --help --version' files=formatted ;;
     tffmt-hook) options='--install --uninstall --help --version' ;;
     tfrules-modules)
       options='--rules --naming --minimum-failure-severity --force --check-comments --no-config --shard --jobs --null --help --version'
@@ -36,6 +36,7 @@ _tffmt() {
     tfrules*:--naming) values='snake_case mixed_snake_case' ;;
     tfrules*:--minimum-failure-severity) values='error warning notice' ;;
     *:-j | *:--jobs | *:--shard) return ;;
+    tffmt-all:--exclude) options='' files=any ;;
   esac
   if [[ -n $values ]]; then
     while IFS= read -r found; do
@@ -51,6 +52,7 @@ _tffmt() {
       case $files:$found in
         *:*.tf | *:*.tofu) COMPREPLY+=("$found") ;;
         formatted:*.tfvars | formatted:*.tftest.hcl | formatted:*.tfmock.hcl) COMPREPLY+=("$found") ;;
+        any:*) COMPREPLY+=("$found") ;;
         formatted:*.tfquery.hcl | formatted:*.tofutest.hcl) COMPREPLY+=("$found") ;;
         *) [[ ! -d $found ]] || COMPREPLY+=("$found") ;;
       esac

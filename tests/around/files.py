@@ -119,6 +119,36 @@ def walk(group, program):
         program('--list', 'e.hcl', './d.tfvars', cwd=top),
         (3, lines('d.tfvars', 'e.hcl'), b''),
     )
+    other = ': not named as a Terraform file; --any-name formats it'
+    names = ['h.txt', './f.tf.json', 'd.tfvars', 'g.tf~', 'x']
+    group.check(
+        'a file of another kind that is named',
+        program('--list', *names, cwd=top),
+        (4, lines('d.tfvars', 'x/y/-z.tf'), lines(*[name + other for name in ('f.tf.json', 'g.tf~', 'h.txt')])),
+    )
+    group.check(
+        'the same with any name',
+        program('--list', '--any-name', *names, cwd=top),
+        (3, lines('d.tfvars', 'f.tf.json', 'g.tf~', 'h.txt', 'x/y/-z.tf'), b''),
+    )
+    put(top, {'env.sh': OTHER, 'env.hcl': OTHER})
+    done = program('env.sh', 'env.hcl', cwd=top)
+    kept = [(top / name).read_bytes() == OTHER for name in ('env.sh', 'env.hcl')]
+    group.check('a script that is named', (*done, kept), (4, lines('env.hcl'), lines('env.sh' + other), [True, False]))
+    os.remove(top / 'env.sh')
+    os.remove(top / 'env.hcl')
+    excluded = [name for name in WALKED if name.split('/')[0] not in ('[x]', 'x') and name != 'link.tf']
+    group.check(
+        'what is excluded',
+        program('--list', '--exclude', '[x]/', '--exclude=y', '--exclude', './link.tf', '.', 'x/y', 'link.tf', cwd=top),
+        (3, lines(*map(quoted, excluded)), b''),
+    )
+    group.check(
+        'an excluded path, which is nothing elsewhere',
+        program('--list', '--exclude', 'y', '--exclude', './a.tf', '[x]', 'x', cwd=top),
+        (3, lines('[x]/a.tf'), b''),
+    )
+    group.check('all is excluded', program('--check', '--exclude', 'x', 'x', 'x/y/-z.tf', cwd=top), (0, b'', b''))
     (top / 'other').symlink_to('x')
     group.check('a linked folder by name', program('--list', 'other', cwd=top), (3, lines('other/y/-z.tf'), b''))
     group.check(

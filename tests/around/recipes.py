@@ -25,7 +25,7 @@ def completions(group):
     here = group.fresh()
     put(here, {'good.tf': GOOD, 'text.txt': GOOD, 'in/x.tf': GOOD, 't.tftest.hcl': GOOD, 'v.tfvars': GOOD})
     path = group.before_path(group.script('tffmt', 'exit 0\n').parent, group.contrib)
-    if group.has('bash', checks=21):
+    if group.has('bash', checks=22):
 
         def bash(line):
             words = line.split(' ')
@@ -40,8 +40,10 @@ def completions(group):
             'bash: options',
             bash('tffmt-all --'),
             [
+                b'--any-name',
                 b'--check',
                 b'--diff',
+                b'--exclude',
                 b'--help',
                 b'--in-place',
                 b'--jobs',
@@ -58,6 +60,7 @@ def completions(group):
             'bash: files and folders', bash('tffmt-all --check '), [b'good.tf', b'in', b't.tftest.hcl', b'v.tfvars']
         )
         group.check('bash: no option behind --', bash('tffmt-all -- --'), [])
+        group.check('bash: what is excluded', bash('tffmt-all --exclude i'), [b'in'])
         for name in ('tfrules', 'tfrules-modules'):
             group.check(
                 'bash: ' + name,
@@ -154,8 +157,10 @@ def completions(group):
             'fish: options',
             fish('tffmt-all --'),
             [
+                b'--any-name',
                 b'--check',
                 b'--diff',
+                b'--exclude',
                 b'--help',
                 b'--in-place',
                 b'--jobs',

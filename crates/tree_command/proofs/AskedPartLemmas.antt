@@ -8,8 +8,7 @@ use Rattle.std.specs.Char.{is_ascii_digit}
 use Rattle.std.specs.List.{after_first, before_first, list_all, position_or_len}
 use Rattle.std.specs.Result.{result_ok}
 use Rattle.std.specs.Str.Parse.{ParsesUnsigned, digits_value}
-use Rattle.tree_format.specs.declared.mode.Mode.{Mode}
-use Rattle.tree_command.specs.Line.{asking_by, is_good, is_number, number_in, shard_by, shard_in}
+use Rattle.tree_command.specs.Line.{is_number, number_in, shard_by, shard_in}
 use Rattle.tree_command.specs.declared.shard.Shard.{Shard}
 
 -- ---- numbers
@@ -51,10 +50,3 @@ pub no_slash : (text : List ℕ) → position_or_len (λ b. b == 47) text ≡ le
 no_slash text h =
     let after : after_first (λ b. b == 47) text ≡ [] = ap (λ n. drop (n + 1) text) h ∙ drop_all (length text + 1) text (omega arith) in
     no_count (number_in (before_first (λ b. b == 47) text)) ∙ ap (λ t. shard_by (number_in (before_first (λ b. b == 47) text)) (number_in t)) (sym after)
-
--- ---- a line
-
-pub with_parts : (m m' : Option Mode) (s s' : Option (Option Shard)) (g null null' quiet quiet' : Bool) (n n' : ℕ) (j j' : Bool) (names : List (List ℕ)) → m ≡ m' → s ≡ s'
-    → g ≡ is_good null n j → null ≡ null' → quiet ≡ quiet' → n ≡ n' → j ≡ j' → asking_by m s g null quiet names ≡ asking_by m' s' (is_good null' n' j') null' quiet' names
-with_parts m m' s s' g null null' quiet quiet' n n' j j' names em es eg enull equiet en ej =
-    (λ i. asking_by (em i) (es i) (eg i) null quiet names) ∙ (λ i. asking_by m' s' (is_good (enull i) (en i) (ej i)) (enull i) (equiet i) names)

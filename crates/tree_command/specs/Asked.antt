@@ -1,12 +1,28 @@
 -- What the options of a call ask for, in the words of a line.
 use Rattle.std.specs.Prelude.{Result, Ok, Err, map}
-use Rattle.tree_command.specs.Line.{Asking}
+use Rattle.file_tree.specs.Choices.{chosen}
+use Rattle.tree_command.specs.Line.{Asking, Given, Part}
+use Rattle.tree_command.specs.declared.options.Given.{Given as GivenWords}
 use Rattle.tree_command.specs.declared.options.TreeOptions.{TreeOptions}
+use Rattle.tree_command.specs.declared.part.Part.{Part as PartOfFiles}
 use Rattle.tree_command.specs.declared.usage.Usage.{Usage}
 
+abbrev pub given_of : GivenWords → Given
+given_of g = record {
+  null = g.null;
+  quiet = g.quiet;
+  any_name = g.any_name;
+  excluded = map (λ name. name.now) g.excluded.items;
+  names = map (λ name. name.now) g.names.items;
+}
+
 abbrev pub asking_of : TreeOptions → Asking
-asking_of o = record { mode = o.mode; shard = o.shard; null = o.null; quiet = o.quiet; names = map (λ name. name.now) o.names.items }
+asking_of o = record { mode = o.mode; shard = o.shard; given = given_of o.given }
 
 abbrev pub asked_by : Result TreeOptions Usage → Result Asking Usage
 asked_by (Ok o) = Ok (asking_of o)
 asked_by (Err usage) = Err usage
+
+-- a part of the files as the code has it
+abbrev pub part_told : PartOfFiles → Part
+part_told part = record { shard = part.shard; chosen = chosen part.choice }

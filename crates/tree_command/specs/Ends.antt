@@ -2,7 +2,6 @@
 use Rattle.std.specs.Prelude.{◌≡◌, ◌≢◌, ◌⊎◌, ℕ, Bool, true, false, List, [], Option, Result, Ok, Err, All, codes, if◌then◌else◌}
 use Rattle.command_line.specs.Rows.{End, Row, Shows, fails_with, message_row, out_of_memory, output_row, write_failed}
 use Rattle.clap.specs.Words.{Text}
-use Rattle.file_tree.specs.Choices.{Chosen, chosen_by}
 use Rattle.file_tree.specs.Files.{Faults, Files, Name}
 use Rattle.file_tree.specs.Files.{Tells}
 use Rattle.file_tree.specs.Finds.{AreReal, Finds}
@@ -14,11 +13,10 @@ use Rattle.tree_format.specs.declared.mode.Mode.{Mode}
 use Rattle.tree_format.specs.declared.outcome.Outcome.{Outcome}
 use Rattle.tree_format.specs.declared.tally.Tally.{Tally}
 use Rattle.tree_command.specs.Formatter.{formatter}
-use Rattle.tree_command.specs.Line.{Asking, asking_of_texts, others_in, texts_in}
+use Rattle.tree_command.specs.Line.{Asking, Part, asking_of_texts, others_in, part_of, texts_in}
 use Rattle.tree_command.specs.Paths.{paths_of_input, paths_of_line}
 use Rattle.tree_command.specs.Shards.{picked_of}
 use Rattle.tree_command.specs.WrongWords.{bad_line_words}
-use Rattle.tree_command.specs.declared.shard.Shard.{Shard}
 use Rattle.tree_command.specs.declared.usage.Usage.{Usage}
 use Rattle.tree_command.specs.declared.usage.Usage.TheVariants.{Help, Version, BadLine, OutOfMemory}
 
@@ -34,14 +32,15 @@ last_words quiet mode out_failed answers = words_at_end quiet mode out_failed (t
 
 -- what was found is what these paths stand for, as far as it is of the part; what can't be looked at is there since a call
 -- failed
-abbrev pub IsPartOf : Files → Faults → Faults → Option Shard → List Name → List Found → Type 0
-IsPartOf files was walked shard paths found = (all : List Found) × Finds files (chosen_by true []) paths all × AreReal files (chosen_by true []) paths was walked all × (found ≡ picked_of shard all)
+abbrev pub IsPartOf : Files → Faults → Faults → Part → List Name → List Found → Type 0
+IsPartOf files was walked part paths found =
+    (all : List Found) × Finds files part.chosen paths all × AreReal files part.chosen paths was walked all × (found ≡ picked_of part.shard all)
 
 -- THE FILES WERE FOUND that these paths stand for, and then each was looked at
-pub record Formats (quiet : Bool) (mode : Mode) (shard : Option Shard) (paths : List Name) (before after : State) (end : End) : Type 0 where
+pub record Formats (quiet : Bool) (mode : Mode) (part : Part) (paths : List Name) (before after : State) (end : End) : Type 0 where
   pub found : List Found
   pub walked : Faults  -- those of calls up to the end of the walk
-  pub finds : IsPartOf before.files before.faults walked shard paths found
+  pub finds : IsPartOf before.files before.faults walked part paths found
   pub run : IsRun mode found (last_words quiet mode end.out.failed) (record before { faults = walked }) after end
   -- unless something failed, nothing is left to do for a file that was found
   pub done : end.status ≢ 4 → All (λ f. Settled mode (before.files.told (before.files.real f.name.items)) (after.files.told (before.files.real f.name.items))) found
@@ -53,19 +52,19 @@ abbrev pub SaysOnly : Row → State → State → End → Type 0
 SaysOnly row before after end = (after.files ≡ before.files) × (after.asked ≡ before.asked) × Shows formatter row end
 
 -- memory ran out before a file was looked at, or the files were formatted
-abbrev pub FormatsOr : Bool → Mode → Option Shard → List Name → State → State → End → Type 0
-FormatsOr quiet mode shard paths before after end = SaysOnly (out_of_memory formatter) before after end ⊎ Formats quiet mode shard paths before after end
+abbrev pub FormatsOr : Bool → Mode → Part → List Name → State → State → End → Type 0
+FormatsOr quiet mode part paths before after end = SaysOnly (out_of_memory formatter) before after end ⊎ Formats quiet mode part paths before after end
 
 -- the same where the paths are those of the line
-abbrev pub FormatsNamed : Bool → Mode → Option Shard → List Name → State → State → End → Type 0
-FormatsNamed quiet mode shard names before after end = FormatsOr quiet mode shard (paths_of_line names) before after end
+abbrev pub FormatsNamed : Bool → Mode → Part → List Name → State → State → End → Type 0
+FormatsNamed quiet mode part names before after end = FormatsOr quiet mode part (paths_of_line names) before after end
 
 -- the same where they are read from standard input, which has these bytes where it tells them, unless its read failed
-abbrev pub ReadsAndFormats : Bool → Mode → Option Shard → Bool → Option (List ℕ) → State → State → End → Type 0
-ReadsAndFormats quiet mode shard failed input before after end =
+abbrev pub ReadsAndFormats : Bool → Mode → Part → Bool → Option (List ℕ) → State → State → End → Type 0
+ReadsAndFormats quiet mode part failed input before after end =
     SaysOnly (out_of_memory formatter) before after end
     ⊎ (((failed ≡ true) × SaysOnly read_failed before after end)
-    ⊎ ((failed ≡ false) × (bytes : List ℕ) × Tells input bytes × Formats quiet mode shard (paths_of_input bytes) before after end))
+    ⊎ ((failed ≡ false) × (bytes : List ℕ) × Tells input bytes × Formats quiet mode part (paths_of_input bytes) before after end))
 
 -- ---- runs that look at no file
 
@@ -73,7 +72,7 @@ abbrev pub version_line : List ℕ
 version_line = codes "tffmt-all 0.3.0\n"
 
 abbrev pub help_text : List ℕ
-help_text = codes "usage: tffmt-all [--check | --diff | --list] [--in-place] [--sync] [--quiet]\n                 [--shard K/N] [--null] [--] [FILE|FOLDER]...\n\nFormats files in place and prints the names of those that it changed.\n\nA folder stands for the .tf, .tfvars, .tofu, .tftest.hcl, .tfmock.hcl,\n.tfquery.hcl and .tofutest.hcl files in it and below. Files and folders whose\nnames begin with a dot or end with ~, and those named #...#, are passed over.\nWithout an operand it is the current folder. A file that is named is taken\nwhatever it is called.\n\n  --check          change nothing; report each file that isn't formatted\n  --diff           change nothing; show what would change; --check may stand\n                   beside it\n  --list           change nothing; print the names of the files that would\n                   change\n  --in-place       write over a file where no new one can be put in its place\n  --sync           have each new file on the disk before the next one is\n                   looked at\n  --quiet          say nothing of the run as a whole: no count of the files\n                   at its end\n  --shard K/N      take the K-th of N parts of the files\n  -0, --null       read names, each ended by NUL, from standard input\n  -j, --jobs N     taken, and of no use: files are worked on one after the\n                   other\n  -h, --help       print this\n  --version        print the version\n\nStatus: 0  all files are formatted, or are now\n        2  a file was refused, or the command line is wrong\n        3  with --check, --diff or --list: a file isn't formatted, and nothing\n           is worse\n        4  a file could not be read or written\n"
+help_text = codes "usage: tffmt-all [--check | --diff | --list] [--in-place] [--sync] [--quiet]\n                 [--shard K/N] [--exclude PATH]... [--any-name] [--null] [--]\n                 [FILE|FOLDER]...\n\nFormats files in place and prints the names of those that it changed.\n\nA folder stands for the .tf, .tfvars, .tofu, .tftest.hcl, .tfmock.hcl,\n.tfquery.hcl and .tofutest.hcl files in it and below. Files and folders whose\nnames begin with a dot or end with ~, and those named #...#, are passed over.\nWithout an operand it is the current folder. A file that is named is taken if\nit is called like these, or if its name ends with .hcl.\n\n  --check          change nothing; report each file that isn't formatted\n  --diff           change nothing; show what would change; --check may stand\n                   beside it\n  --list           change nothing; print the names of the files that would\n                   change\n  --in-place       write over a file where no new one can be put in its place\n  --sync           have each new file on the disk before the next one is\n                   looked at\n  --quiet          say nothing of the run as a whole: no count of the files\n                   at its end\n  --exclude PATH   pass over what has this name or this path, and all that is\n                   below; may be given again\n  --any-name       take a file that is named whatever it is called\n  --shard K/N      take the K-th of N parts of the files\n  -0, --null       read names, each ended by NUL, from standard input\n  -j, --jobs N     taken, and of no use: files are worked on one after the\n                   other\n  -h, --help       print this\n  --version        print the version\n\nStatus: 0  all files are formatted, or are now\n        2  a file was refused, or the command line is wrong\n        3  with --check, --diff or --list: a file isn't formatted, and nothing\n           is worse\n        4  a file could not be read or written\n"
 
 -- THE ROW of these texts where they ask for a text, or are no line of this program's
 abbrev pub usage_row : List Text → Usage → Row
@@ -89,12 +88,12 @@ ShowsUsage texts usage end = Shows formatter (out_of_memory formatter) end ⊎ S
 -- ---- all runs
 
 -- how a run ends that was asked for this
-abbrev pub EndsBy : Bool → Bool → Mode → Option Shard → List Name → Bool → Option (List ℕ) → State → State → End → Type 0
-EndsBy true quiet mode shard names failed input before after end = ReadsAndFormats quiet mode shard failed input before after end
-EndsBy false quiet mode shard names failed input before after end = FormatsNamed quiet mode shard names before after end
+abbrev pub EndsBy : Bool → Bool → Mode → Part → List Name → Bool → Option (List ℕ) → State → State → End → Type 0
+EndsBy true quiet mode part names failed input before after end = ReadsAndFormats quiet mode part failed input before after end
+EndsBy false quiet mode part names failed input before after end = FormatsNamed quiet mode part names before after end
 
 abbrev pub EndsAsked : Asking → Bool → Option (List ℕ) → State → State → End → Type 0
-EndsAsked asking failed input before after end = EndsBy asking.null asking.quiet asking.mode asking.shard asking.names failed input before after end
+EndsAsked asking failed input before after end = EndsBy asking.given.null asking.given.quiet asking.mode (part_of asking) asking.given.names failed input before after end
 
 abbrev pub EndsFor : List Text → Result Asking Usage → Bool → Option (List ℕ) → State → State → End → Type 0
 EndsFor texts (Ok asking) failed input before after end = EndsAsked asking failed input before after end

@@ -9,6 +9,7 @@ use Rattle.std.specs.Str.Parse.{digits_value}
 use Rattle.clap.specs.Words.{App, Row, Rule, Text, all_of, count_of, fault_of, first_of, matches_of, new_app, new_rule, with_rule}
 use Rattle.clap.specs.declared.builder.ArgAction.TheVariants.{Append, Count}
 use Rattle.command_line.specs.Arguments.{option_rule, unless_fault, usage_by}
+use Rattle.file_tree.specs.Choices.{Chosen, chosen_by}
 use Rattle.file_tree.specs.Files.{Name}
 use Rattle.file_tree.specs.declared.tree.Writing.{Writing}
 use Rattle.tree_format.specs.declared.mode.Ending.{Ending}
@@ -19,14 +20,28 @@ use Rattle.tree_command.specs.declared.shard.Shard.{Shard}
 use Rattle.tree_command.specs.declared.usage.Usage.{Usage}
 use Rattle.tree_command.specs.declared.usage.Usage.TheVariants.{Help, Version, BadLine, OutOfMemory}
 
--- what a line asks for: what is to be done, with which part of the files, whether names are read from standard input, whether
--- nothing is said of the run as a whole, and the names of the line
+-- what a line gives that is never wrong by itself: whether names are read from standard input, whether nothing is said of the
+-- run as a whole, whether a file that is named is taken whatever it is called, what is excluded, and the names of the line
+pub record Given : Type 0 where
+  pub null : Bool
+  pub quiet : Bool
+  pub any_name : Bool
+  pub excluded : List Name
+  pub names : List Name
+
+-- what a line asks for: what is to be done, with which part of the files, and what it gives
 pub record Asking : Type 0 where
   pub mode : Mode
   pub shard : Option Shard
-  pub null : Bool
-  pub quiet : Bool
-  pub names : List Name
+  pub given : Given
+
+-- which files a line chooses, of those that its names stand for
+pub record Part : Type 0 where
+  pub shard : Option Shard
+  pub chosen : Chosen
+
+abbrev pub part_of : Asking → Part
+part_of asking = record { shard = asking.shard; chosen = chosen_by asking.given.any_name asking.given.excluded }
 
 -- ---- the command
 
@@ -42,16 +57,21 @@ null_rule = record (new_rule (codes "null")) { long = Some (codes "null"); short
 abbrev pub jobs_rule : Rule
 jobs_rule = record (new_rule (codes "jobs")) { long = Some (codes "jobs"); short = Some 106; action = Some Append }
 
+-- `--exclude TEXT`, which may be given more than once
+abbrev pub exclude_rule : Rule
+exclude_rule = record (new_rule (codes "exclude")) { long = Some (codes "exclude"); action = Some Append }
+
 abbrev pub file_rule : Rule
 file_rule = record (new_rule (codes "file")) { action = Some Append }
 
--- `tffmt-all [--check | --diff | --list] [--in-place] [--sync] [--quiet] [--shard K/N] [--jobs NUMBER] [--null] [--version] [--]
--- [FILE|FOLDER]...`
+-- `tffmt-all [--check | --diff | --list] [--in-place] [--sync] [--quiet] [--shard K/N] [--exclude PATH]... [--any-name] [--jobs NUMBER]
+-- [--null] [--version] [--] [FILE|FOLDER]...`
 abbrev pub tffmt_all : App
 tffmt_all =
     fold with_rule (new_app (codes "tffmt-all"))
     (count_rule (codes "check") ∷ count_rule (codes "diff") ∷ count_rule (codes "list") ∷ count_rule (codes "in-place") ∷ count_rule (codes "sync")
-    ∷ count_rule (codes "quiet") ∷ count_rule (codes "version") ∷ null_rule ∷ option_rule (codes "shard") ∷ jobs_rule ∷ file_rule ∷ [])
+    ∷ count_rule (codes "quiet") ∷ count_rule (codes "any-name") ∷ count_rule (codes "version") ∷ null_rule ∷ option_rule (codes "shard") ∷ exclude_rule
+    ∷ jobs_rule ∷ file_rule ∷ [])
 
 abbrev pub is_given : Text → List Row → Bool
 is_given name rows = nat_lt 0 (count_of name rows)
@@ -114,25 +134,32 @@ shard_given (Some text) = option_map Some (shard_in text)
 
 -- ---- the line
 
-abbrev pub asking_by : Option Mode → Option (Option Shard) → Bool → Bool → Bool → List Name → Result Asking Usage
-asking_by None shard is_good null quiet names = Err BadLine
-asking_by (Some mode) None is_good null quiet names = Err BadLine
-asking_by (Some mode) (Some shard) false null quiet names = Err BadLine
-asking_by (Some mode) (Some shard) true null quiet names = Ok (record { mode = mode; shard = shard; null = null; quiet = quiet; names = names })
+abbrev pub asking_by : Option Mode → Option (Option Shard) → Bool → Given → Result Asking Usage
+asking_by None shard is_good given = Err BadLine
+asking_by (Some mode) None is_good given = Err BadLine
+asking_by (Some mode) (Some shard) false given = Err BadLine
+asking_by (Some mode) (Some shard) true given = Ok (record { mode = mode; shard = shard; given = given })
 
 -- names come from the line or from standard input, and not from both
-abbrev pub is_good : Bool → ℕ → Bool → Bool
-is_good null names are_jobs = are_jobs && (not null || names == 0)
-
-abbrev pub asking_with : List Row → List Name → Result Asking Usage
-asking_with rows names =
-    asking_by (mode_asked rows) (shard_given (first_of (codes "shard") rows))
-    (is_good (is_given (codes "null") rows) (length names) (list_all is_jobs (texts_of (codes "jobs") rows))) (is_given (codes "null") rows)
-    (is_given (codes "quiet") rows) names
+abbrev pub is_good : Given → Bool → Bool
+is_good given are_jobs = are_jobs && (not given.null || length given.names == 0)
 
 -- the names of a line are those that clap finds, and then the other ones
+abbrev pub given_by : List Name → List Row → Given
+given_by others rows = record {
+  null = is_given (codes "null") rows;
+  quiet = is_given (codes "quiet") rows;
+  any_name = is_given (codes "any-name") rows;
+  excluded = texts_of (codes "exclude") rows;
+  names = texts_of (codes "file") rows ++ others;
+}
+
+abbrev pub asking_with : List Row → Given → Result Asking Usage
+asking_with rows given =
+    asking_by (mode_asked rows) (shard_given (first_of (codes "shard") rows)) (is_good given (list_all is_jobs (texts_of (codes "jobs") rows))) given
+
 abbrev pub asking_of_rows : List Name → List Row → Result Asking Usage
-asking_of_rows others rows = if is_given (codes "version") rows then Err Version else asking_with rows (texts_of (codes "file") rows ++ others)
+asking_of_rows others rows = if is_given (codes "version") rows then Err Version else asking_with rows (given_by others rows)
 
 -- what these texts ask for, and these names beside them, unless memory runs out
 abbrev pub asking_of_texts : List Text → List Name → Result Asking Usage

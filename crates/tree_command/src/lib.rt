@@ -3,6 +3,7 @@
 #![tactic(auto)]
 
 pub mod options;
+pub mod part;
 pub mod pick;
 pub mod run;
 pub mod shard;

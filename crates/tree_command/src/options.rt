@@ -5,8 +5,8 @@ ghost use Rattle.std.specs.Char.{is_ascii_digit};
 ghost use Rattle.std.specs.List.{list_all};
 ghost use Rattle.std.specs.Option.{option_map_or};
 ghost use Rattle.clap.specs.Words.{app_of, first_of, found_of, rows_of, rule_of};
-ghost use Rattle.tree_command.specs.Asked.{asked_by};
-ghost use Rattle.tree_command.specs.Line.{asking_by, asking_of_rows, asking_of_texts, asking_with, count_rule, ending_by, file_rule, is_given, is_good, is_jobs, is_number, jobs_rule, mode_asked, mode_by, mode_of_texts, null_rule, number_in, shard_by, shard_given, shard_in, texts_of, tffmt_all};
+ghost use Rattle.tree_command.specs.Asked.{asked_by, given_of};
+ghost use Rattle.tree_command.specs.Line.{asking_by, asking_of_rows, asking_of_texts, asking_with, count_rule, ending_by, exclude_rule, file_rule, given_by, is_given, is_good, is_jobs, is_number, jobs_rule, mode_asked, mode_by, mode_of_texts, null_rule, number_in, shard_by, shard_given, shard_in, texts_of, tffmt_all};
 ghost use Rattle.tree_command.specs.declared.usage.Usage.TheVariants.{OutOfMemory};
 
 use crate::shard::Shard;
@@ -22,6 +22,21 @@ const MOST_DIGITS: usize = 5;
 
 const MAX_JOBS: u32 = 9_999;
 
+/// What the words give that is never wrong by itself.
+#[derive(Debug, Drop)]
+pub struct Given<'a> {
+    /// The names are read from standard input.
+    pub null: bool,
+    /// Nothing is said of the run as a whole.
+    pub quiet: bool,
+    /// A file that is named is taken whatever it is called.
+    pub any_name: bool,
+    /// Names and paths that are excluded.
+    pub excluded: Vec<&'a [u8]>,
+    /// The names of the line.
+    pub names: Vec<&'a [u8]>,
+}
+
 /// What the words ask for.
 #[derive(Debug, Drop)]
 pub struct TreeOptions<'a> {
@@ -29,12 +44,8 @@ pub struct TreeOptions<'a> {
     pub mode: Mode,
     /// The part of the files that is taken, where it isn't all.
     pub shard: Option<Shard>,
-    /// The names are read from standard input.
-    pub null: bool,
-    /// Nothing is said of the run as a whole.
-    pub quiet: bool,
-    /// The names of the line.
-    pub names: Vec<&'a [u8]>,
+    /// What else the words give.
+    pub given: Given<'a>,
 }
 
 /// The flag `--NAME`, which may be given more than once.
@@ -67,6 +78,16 @@ fn jobs<'a>(alloc: Global) -> Arg<'a>
         .action(ArgAction::Append)
 }
 
+/// `--exclude PATH`.
+fn exclude<'a>(alloc: Global) -> Arg<'a>
+    ensures rule { rule_of result ≡ exclude_rule }
+    ensures local { result.global ≡ false }
+{
+    Arg::new(alloc, "exclude")
+        .long("exclude")
+        .action(ArgAction::Append)
+}
+
 /// Files and folders.
 fn file<'a>(alloc: Global) -> Arg<'a>
     ensures rule { rule_of result ≡ file_rule }
@@ -86,9 +107,11 @@ fn command<'a>(alloc: Global) -> Result<Command<'a>, AllocError>
         .arg(counted_flag(alloc, "in-place"))?
         .arg(counted_flag(alloc, "sync"))?
         .arg(counted_flag(alloc, "quiet"))?
+        .arg(counted_flag(alloc, "any-name"))?
         .arg(counted_flag(alloc, "version"))?
         .arg(null(alloc))?
         .arg(option_named(alloc, "shard"))?
+        .arg(exclude(alloc))?
         .arg(jobs(alloc))?
         .arg(file(alloc))
 }
@@ -243,10 +266,10 @@ fn shard_of(matches: &ArgMatches<'_>) -> Option<Option<Shard>>
 }
 
 /// Whether names come from the line or from standard input, and not from both, and the numbers of jobs are numbers.
-fn is_good(null: bool, names: &[&[u8]], are_jobs: bool) -> bool
-    ensures { result ≡ is_good null (length names.now) are_jobs }
+fn is_good(given: &Given<'_>, are_jobs: bool) -> bool
+    ensures { result ≡ is_good (given_of given.now) are_jobs }
 {
-    are_jobs && (!null || names.is_empty())
+    are_jobs && (!given.null || given.names.is_empty())
 }
 
 /// The options of these parts of a line.
@@ -254,11 +277,9 @@ fn options_by<'a>(
     mode: Option<Mode>,
     shard: Option<Option<Shard>>,
     is_good: bool,
-    null: bool,
-    quiet: bool,
-    names: Vec<&'a [u8]>,
+    given: Given<'a>,
 ) -> Result<TreeOptions<'a>, Usage>
-    ensures asked { asked_by result ≡ asking_by mode shard is_good null quiet (map (λ name. name.now) names.entry.items) }
+    ensures asked { asked_by result ≡ asking_by mode shard is_good (given_of given.entry) }
     ensures mode { IfOk result (λ options. mode ≡ Some options.mode) }
 {
     let Some(mode) = mode else {
@@ -270,29 +291,18 @@ fn options_by<'a>(
     if !is_good {
         return Err(Usage::BadLine);
     }
-    Ok(TreeOptions {
-        mode,
-        shard,
-        null,
-        quiet,
-        names,
-    })
+    Ok(TreeOptions { mode, shard, given })
 }
 
-/// The options that the matches of a line give, which has these names.
-fn options_with<'a>(
-    names: Vec<&'a [u8]>,
-    matches: &ArgMatches<'a>,
-) -> Result<TreeOptions<'a>, Usage>
-    ensures asked { asked_by result ≡ asking_with (rows_of (found_of matches.now)) (map (λ name. name.now) names.entry.items) }
+/// The options that the matches of a line give, which gives this.
+fn options_with<'a>(given: Given<'a>, matches: &ArgMatches<'a>) -> Result<TreeOptions<'a>, Usage>
+    ensures asked { asked_by result ≡ asking_with (rows_of (found_of matches.now)) (given_of given.entry) }
     ensures mode { IfOk result (λ options. mode_asked (rows_of (found_of matches.now)) ≡ Some options.mode) }
 {
     let mode = mode_of(matches);
     let shard = shard_of(matches);
-    let null = is_given(matches, "null");
-    let quiet = is_given(matches, "quiet");
-    let is_good = is_good(null, names.as_slice(), are_jobs_good(matches));
-    options_by(mode, shard, is_good, null, quiet, names)
+    let is_good = is_good(&given, are_jobs_good(matches));
+    options_by(mode, shard, is_good, given)
 }
 
 /// The names of a line: those that clap found, and the others.
@@ -327,6 +337,37 @@ fn names_in<'a>(
     }
 }
 
+/// What is excluded by a line of which the matches are these.
+fn excluded_in<'a>(alloc: Global, matches: &ArgMatches<'a>) -> Result<Vec<&'a [u8]>, AllocError>
+    ensures { IfOk result (λ names. map (λ name. name.now) names.items
+        ≡ texts_of (codes "exclude") (rows_of (found_of matches.now))) }
+{
+    match matches.get_strs("exclude") {
+        Some(given) => names_of(alloc, given, &[]),
+        None => Ok(Vec::new(alloc)),
+    }
+}
+
+/// What a line gives of which the matches are these, and beside which there are these names.
+fn given_in<'a>(
+    alloc: Global,
+    others: &[&'a [u8]],
+    matches: &ArgMatches<'a>,
+) -> Result<Given<'a>, AllocError>
+    ensures { IfOk result (λ given. given_of given
+        ≡ given_by (map (λ name. name.now) others.now) (rows_of (found_of matches.now))) }
+{
+    let excluded = excluded_in(alloc, matches)?;
+    let names = names_in(alloc, others, matches)?;
+    Ok(Given {
+        null: is_given(matches, "null"),
+        quiet: is_given(matches, "quiet"),
+        any_name: is_given(matches, "any-name"),
+        excluded,
+        names,
+    })
+}
+
 /// The options that the matches of a line give, beside which there are these names.
 fn options_of<'a>(
     alloc: Global,
@@ -339,8 +380,8 @@ fn options_of<'a>(
     if is_given(matches, "version") {
         return Err(Usage::Version);
     }
-    match names_in(alloc, others, matches) {
-        Ok(names) => options_with(names, matches),
+    match given_in(alloc, others, matches) {
+        Ok(given) => options_with(given, matches),
         Err(_) => Err(Usage::OutOfMemory),
     }
 }

@@ -4,7 +4,7 @@ ghost use Rattle.std.specs.Prelude.{◌≡◌, ◌||◌, ℕ, List, [], false, I
 ghost use Rattle.command_line.specs.Rows.{Shows, Took, end_of, writer};
 ghost use Rattle.file_tree.specs.Files.{Tells};
 ghost use Rattle.tree_command.specs.Ends.{EndsAsked, FormatsNamed, FormatsOr, IsEnd, IsEndOf, IsPartOf, ReadsAndFormats, ShowsUsage, words_at_end};
-ghost use Rattle.tree_command.specs.Asked.{asking_of};
+ghost use Rattle.tree_command.specs.Asked.{asking_of, part_told};
 ghost use Rattle.tree_command.specs.Formatter.{formatter};
 ghost use Rattle.tree_command.specs.Line.{mode_of_texts, mode_of_words};
 ghost use Rattle.tree_command.specs.declared.usage.Usage.TheVariants.{BadLine};
@@ -14,13 +14,12 @@ ghost use Rattle.tree_format.specs.Runs.{IsSafe, Kept};
 ghost use Rattle.tree_format.specs.States.{state_of};
 
 use crate::options::{TreeOptions, options};
+use crate::part::{Part, part_of};
 use crate::pick::pick;
-use crate::shard::Shard;
 use crate::usage::{HELP, Usage, VERSION};
 use crate::words::words_of;
 use crate::wrong::bad_line_text;
 use command_line::Program;
-use file_tree::choice::Choice;
 use file_tree::path::names_in;
 use file_tree::tree::{Tree, WritableTree};
 use file_tree::walk::{Found, find};
@@ -51,21 +50,17 @@ fn formatter() -> Program
 /// The files that these names stand for, as far as they are of the part.
 fn find_part<T: Tree>(
     alloc: Global,
-    shard: Option<Shard>,
+    part: Part<'_>,
     operands: &[&[u8]],
     tree: &mut T,
 ) -> Result<Vec<Found>, AllocError>
     // Nothing is changed.
     ensures files { T.files tree.new ≡ T.files tree.old }
     ensures asked { T.asked tree.new ≡ T.asked tree.old }
-    ensures finds { IfOk result (λ found. IsPartOf (T.files tree.old) (T.faults tree.old) (T.faults tree.new) shard (map (λ operand. operand.now) operands.now) found.items) }
+    ensures finds { IfOk result (λ found. IsPartOf (T.files tree.old) (T.faults tree.old) (T.faults tree.new) (part_told part.entry) (map (λ operand. operand.now) operands.now) found.items) }
 {
-    let choice = Choice {
-        any_name: true,
-        excluded: &[],
-    };
-    let found = find(alloc, choice, operands, tree)?;
-    pick(alloc, found, shard)
+    let found = find(alloc, part.choice, operands, tree)?;
+    pick(alloc, found, part.shard)
 }
 
 /// Says the last words of a run, and gives its status.
@@ -90,7 +85,7 @@ fn run<T: WritableTree, P: Progress, O: ByteSink, E: ByteSink>(
     alloc: Global,
     quiet: bool,
     mode: Mode,
-    shard: Option<Shard>,
+    part: Part<'_>,
     operands: &[&[u8]],
     tree: &mut T,
     progress: &mut P,
@@ -101,9 +96,9 @@ fn run<T: WritableTree, P: Progress, O: ByteSink, E: ByteSink>(
     requires err { E.failed err.old ≡ false }
     // However the run goes, each file is then as it was, or, where files are to be written, it has the format of its bytes.
     ensures kept { (name : List ℕ) → Kept mode ((T.files tree.old).told name) ((T.files tree.new).told name) }
-    ensures ends { FormatsOr quiet mode shard (map (λ operand. operand.now) operands.now) (state_of T.Tree tree.old) (state_of T.Tree tree.new) (end_of O.ByteSink out.old out.new E.ByteSink err.old err.new result) }
+    ensures ends { FormatsOr quiet mode (part_told part.entry) (map (λ operand. operand.now) operands.now) (state_of T.Tree tree.old) (state_of T.Tree tree.new) (end_of O.ByteSink out.old out.new E.ByteSink err.old err.new result) }
 {
-    match find_part(alloc, shard, operands, tree) {
+    match find_part(alloc, part, operands, tree) {
         Ok(found) => {
             let ran = run_over(alloc, mode, found.as_slice(), tree, progress, out, err);
             progress.end();
@@ -182,7 +177,7 @@ fn run_null<T: WritableTree, P: Progress, R: ByteSource, O: ByteSink, E: ByteSin
     alloc: Global,
     quiet: bool,
     mode: Mode,
-    shard: Option<Shard>,
+    part: Part<'_>,
     input: &mut R,
     tree: &mut T,
     progress: &mut P,
@@ -194,7 +189,7 @@ fn run_null<T: WritableTree, P: Progress, R: ByteSource, O: ByteSink, E: ByteSin
     requires err { E.failed err.old ≡ false }
     // However the run goes, each file is then as it was, or, where files are to be written, it has the format of its bytes.
     ensures kept { (name : List ℕ) → Kept mode ((T.files tree.old).told name) ((T.files tree.new).told name) }
-    ensures ends { ReadsAndFormats quiet mode shard (R.failed input.new) (R.left input.old) (state_of T.Tree tree.old) (state_of T.Tree tree.new) (end_of O.ByteSink out.old out.new E.ByteSink err.old err.new result) }
+    ensures ends { ReadsAndFormats quiet mode (part_told part.entry) (R.failed input.new) (R.left input.old) (state_of T.Tree tree.old) (state_of T.Tree tree.new) (end_of O.ByteSink out.old out.new E.ByteSink err.old err.new result) }
 {
     let read = read_names(alloc, input);
     if input.has_failed() {
@@ -208,7 +203,7 @@ fn run_null<T: WritableTree, P: Progress, R: ByteSource, O: ByteSink, E: ByteSin
             alloc,
             quiet,
             mode,
-            shard,
+            part,
             operands.as_slice(),
             tree,
             progress,
@@ -225,7 +220,7 @@ fn run_named<T: WritableTree, P: Progress, O: ByteSink, E: ByteSink>(
     alloc: Global,
     quiet: bool,
     mode: Mode,
-    shard: Option<Shard>,
+    part: Part<'_>,
     names: &[&[u8]],
     tree: &mut T,
     progress: &mut P,
@@ -236,14 +231,14 @@ fn run_named<T: WritableTree, P: Progress, O: ByteSink, E: ByteSink>(
     requires err { E.failed err.old ≡ false }
     // However the run goes, each file is then as it was, or, where files are to be written, it has the format of its bytes.
     ensures kept { (name : List ℕ) → Kept mode ((T.files tree.old).told name) ((T.files tree.new).told name) }
-    ensures ends { FormatsNamed quiet mode shard (map (λ name. name.now) names.now) (state_of T.Tree tree.old) (state_of T.Tree tree.new) (end_of O.ByteSink out.old out.new E.ByteSink err.old err.new result) }
+    ensures ends { FormatsNamed quiet mode (part_told part.entry) (map (λ name. name.now) names.now) (state_of T.Tree tree.old) (state_of T.Tree tree.new) (end_of O.ByteSink out.old out.new E.ByteSink err.old err.new result) }
 {
     match operands_of(alloc, names) {
         Ok(operands) => run(
             alloc,
             quiet,
             mode,
-            shard,
+            part,
             operands.as_slice(),
             tree,
             progress,
@@ -308,14 +303,15 @@ fn run_asked<T: WritableTree, P: Progress, R: ByteSource, O: ByteSink, E: ByteSi
         (state_of T.Tree tree.old) (state_of T.Tree tree.new)
         (end_of O.ByteSink out.old out.new E.ByteSink err.old err.new result) }
 {
-    let quiet = options.quiet;
+    let given = &options.given;
+    let quiet = given.quiet;
     let mode = options.mode;
-    let shard = options.shard;
-    if options.null {
-        return run_null(alloc, quiet, mode, shard, input, tree, progress, out, err);
+    let part = part_of(options);
+    if given.null {
+        return run_null(alloc, quiet, mode, part, input, tree, progress, out, err);
     }
-    let names = options.names.as_slice();
-    run_named(alloc, quiet, mode, shard, names, tree, progress, out, err)
+    let names = given.names.as_slice();
+    run_named(alloc, quiet, mode, part, names, tree, progress, out, err)
 }
 
 /// The program of words that are texts, and names beside them.

@@ -16,7 +16,8 @@ pub enum Usage {
 /// What lines this program has.
 pub static USAGE: &str = "\
 usage: tffmt-all [--check | --diff | --list] [--in-place] [--sync] [--quiet]
-                 [--shard K/N] [--null] [--] [FILE|FOLDER]...
+                 [--shard K/N] [--exclude PATH]... [--any-name] [--null] [--]
+                 [FILE|FOLDER]...
 ";
 
 /// What `--version` says.
@@ -25,15 +26,16 @@ pub static VERSION: &str = "tffmt-all 0.3.0\n";
 /// What `--help` says.
 pub static HELP: &str = "\
 usage: tffmt-all [--check | --diff | --list] [--in-place] [--sync] [--quiet]
-                 [--shard K/N] [--null] [--] [FILE|FOLDER]...
+                 [--shard K/N] [--exclude PATH]... [--any-name] [--null] [--]
+                 [FILE|FOLDER]...
 
 Formats files in place and prints the names of those that it changed.
 
 A folder stands for the .tf, .tfvars, .tofu, .tftest.hcl, .tfmock.hcl,
 .tfquery.hcl and .tofutest.hcl files in it and below. Files and folders whose
 names begin with a dot or end with ~, and those named #...#, are passed over.
-Without an operand it is the current folder. A file that is named is taken
-whatever it is called.
+Without an operand it is the current folder. A file that is named is taken if
+it is called like these, or if its name ends with .hcl.
 
   --check          change nothing; report each file that isn't formatted
   --diff           change nothing; show what would change; --check may stand
@@ -45,6 +47,9 @@ whatever it is called.
                    looked at
   --quiet          say nothing of the run as a whole: no count of the files
                    at its end
+  --exclude PATH   pass over what has this name or this path, and all that is
+                   below; may be given again
+  --any-name       take a file that is named whatever it is called
   --shard K/N      take the K-th of N parts of the files
   -0, --null       read names, each ended by NUL, from standard input
   -j, --jobs N     taken, and of no use: files are worked on one after the

@@ -14,8 +14,8 @@ use std::alloc::{AllocError, Global};
 
 /// The options' names.
 static NAMES: &[&str] = &[
-    "check", "diff", "list", "in-place", "sync", "quiet", "version", "null", "shard", "jobs",
-    "help",
+    "check", "diff", "list", "in-place", "sync", "quiet", "any-name", "version", "null", "shard",
+    "exclude", "jobs", "help",
 ];
 
 /// The options' letters.

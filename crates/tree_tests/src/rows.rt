@@ -162,7 +162,8 @@ const OF_MIXED: Lines = &[
 /// What is said of a line that is none of this program.
 pub const USAGE: &str = "\
 usage: tffmt-all [--check | --diff | --list] [--in-place] [--sync] [--quiet]
-                 [--shard K/N] [--null] [--] [FILE|FOLDER]...
+                 [--shard K/N] [--exclude PATH]... [--any-name] [--null] [--]
+                 [FILE|FOLDER]...
 ";
 
 /// The same of a line in which `--bogus` stands.

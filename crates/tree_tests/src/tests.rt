@@ -8,6 +8,7 @@ use crate::rows::{
     BAD_WORD, CHECKS, LISTS, NAMES_GIVEN, OF_EACH_KIND, ONLY_IN_PLACE, Row, SHOWS, SMALL, SYNCS,
     Text, USAGE, VERSION, WRITES, WRITES_IN_PLACE,
 };
+use file_tree::fault::TreeFault;
 use hcl_scan::SINK_ROOM;
 use std::alloc::Global;
 use std::process::Abort;
@@ -88,7 +89,7 @@ fn help_looks_at_nothing(rt: HostRuntime) {
 
 // It is told under the first of its names.
 static TWICE: Row = Row {
-    words: &["tffmt-all", "link.tf", "in/c"],
+    words: &["tffmt-all", "--any-name", "link.tf", "in/c"],
     input: b"",
     entries: SMALL,
     making: false,
@@ -100,6 +101,50 @@ static TWICE: Row = Row {
 #[test]
 fn a_file_of_two_names_is_written_once(rt: HostRuntime) {
     shows(&rt, rt.alloc(), &TWICE);
+}
+
+// What is named is told where it isn't called like a file of Terraform's.
+static OTHER_KINDS: Row = Row {
+    words: &["tffmt-all", "notes.txt", "in/c", "b.tf", "pipe.tf"],
+    input: b"",
+    entries: SMALL,
+    making: false,
+    in_place: false,
+    text: None,
+    lines: &[
+        (b"b.tf", Said::Written(b"b.tf", b"b = 1\n")),
+        (b"in/c", Said::Failed(TreeFault::OtherKind)),
+        (b"notes.txt", Said::Failed(TreeFault::OtherKind)),
+        (b"pipe.tf", Said::Failed(TreeFault::NotAFile)),
+    ],
+};
+
+// The folder and what is below it are passed over, also where they are named.
+static EXCLUDED: Row = Row {
+    words: &[
+        "tffmt-all",
+        "--exclude",
+        "deep/",
+        "--exclude=./a.tf",
+        ".",
+        "in/deep/d.tfvars",
+        "in/deep",
+    ],
+    input: b"",
+    entries: SMALL,
+    making: false,
+    in_place: false,
+    text: None,
+    lines: &[
+        (b"b.tf", Said::Written(b"b.tf", b"b = 1\n")),
+        (b"link.tf", Said::Written(b"in/c", b"c = 1\n")),
+    ],
+};
+
+#[test]
+fn other_kinds_and_exclusions_are_left_alone(rt: HostRuntime) {
+    shows(&rt, rt.alloc(), &OTHER_KINDS);
+    shows(&rt, rt.alloc(), &EXCLUDED);
 }
 
 static ALL: Words = &["tffmt-all"];

@@ -1,0 +1,32 @@
+//! Which files are taken, of those that names stand for.
+
+ghost use Rattle.std.specs.Prelude.{◌≡◌};
+ghost use Rattle.tree_command.specs.Asked.{asking_of, part_told};
+ghost use Rattle.tree_command.specs.Line.{part_of};
+
+use crate::options::TreeOptions;
+use crate::shard::Shard;
+use file_tree::choice::Choice;
+
+/// Which files are taken, of those that names stand for.
+#[derive(Clone, Copy, Debug)]
+pub struct Part<'a> {
+    /// The part that is taken where several share the files.
+    pub shard: Option<Shard>,
+    /// What is excluded, and how a file may be called that is named.
+    pub choice: Choice<'a>,
+}
+
+/// The files that these options take.
+pub fn part_of<'a>(options: &'a TreeOptions<'_>) -> Part<'a>
+    ensures { part_told result ≡ part_of (asking_of options.now) }
+{
+    let choice = Choice {
+        any_name: options.given.any_name,
+        excluded: options.given.excluded.as_slice(),
+    };
+    Part {
+        shard: options.shard,
+        choice,
+    }
+}
