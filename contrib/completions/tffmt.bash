@@ -1,5 +1,5 @@
-# Completion of tffmt, tfrules, tffmt-all, tffmt-hook, tfrules-modules and tfrules-report for bash. `make install` puts it
-# where bash-completion finds it; without that, source it in ~/.bashrc.
+# Completion of tffmt, tfrules, tffmt-all, tfrules-all, tffmt-hook, tfrules-modules and tfrules-report for bash. `make
+# install` puts it where bash-completion finds it; without that, source it in ~/.bashrc.
 
 _tffmt() {
   local word=${COMP_WORDS[COMP_CWORD]} before=${COMP_WORDS[COMP_CWORD - 1]} options='' values='' files='' first='' i found
@@ -19,6 +19,9 @@ _tffmt() {
     tffmt) options='--check --help' ;;
     tfrules) options='--rules --naming --minimum-failure-severity --force --help' files=linted ;;
     tffmt-all) options='--check --diff --list --in-place --sync --quiet --exclude --any-name --jobs --shard --null --help --version' files=formatted ;;
+    tfrules-all)
+      options='--rules --naming --minimum-failure-severity --force --shard --null --help --version'
+      files=linted ;;
     tffmt-hook) options='--install --uninstall --help --version' ;;
     tfrules-modules)
       options='--rules --naming --minimum-failure-severity --force --check-comments --no-config --shard --jobs --null --help --version'
@@ -60,4 +63,4 @@ _tffmt() {
   fi
 }
 
-complete -F _tffmt tffmt tfrules tffmt-all tffmt-hook tfrules-modules tfrules-report
+complete -F _tffmt tffmt tfrules tffmt-all tfrules-all tffmt-hook tfrules-modules tfrules-report

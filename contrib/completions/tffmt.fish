@@ -1,4 +1,4 @@
-# Completion of tffmt, tfrules, tffmt-all, tffmt-hook, tfrules-modules and tfrules-report for fish.
+# Completion of tffmt, tfrules, tffmt-all, tfrules-all, tffmt-hook, tfrules-modules and tfrules-report for fish.
 
 function __tffmt_rules
     set -l rules default all terraform_comment_syntax terraform_deprecated_index terraform_deprecated_interpolation \
@@ -19,7 +19,7 @@ end
 complete -c tffmt -f -l check -d 'Say by the status whether standard input is formatted'
 complete -c tffmt -f -s h -l help -d 'Print the usage line'
 
-for command in tfrules tfrules-modules
+for command in tfrules tfrules-all tfrules-modules
     complete -c $command -f -a "(__tffmt_files 'tf|tofu')"
     complete -c $command -x -l rules -a '(__tffmt_rules)' -d 'The rules that are looked at'
     complete -c $command -x -l naming -a 'snake_case mixed_snake_case' -d 'How names are to be written'
@@ -27,6 +27,11 @@ for command in tfrules tfrules-modules
     complete -c $command -l force -d 'Do not fail because of issues'
 end
 complete -c tfrules -f -s h -l help -d 'Print the usage line'
+
+complete -c tfrules-all -x -l shard -d 'Take a part of the modules, K/N'
+complete -c tfrules-all -f -s 0 -l null -d 'Read names from standard input'
+complete -c tfrules-all -f -s h -l help -d 'Print help'
+complete -c tfrules-all -f -l version -d 'Print the version'
 
 complete -c tfrules-modules -l check-comments -d 'Tell names in silencing comments that no rule has'
 complete -c tfrules-modules -l no-config -d 'Read no .tfrules'

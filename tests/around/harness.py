@@ -42,7 +42,9 @@ class Group:
         self.linter = str(beside if beside.exists() else TOP / 'bin' / 'tfrules')
         beside = pathlib.Path(program).with_name('tffmt-all')
         self.trees = str(beside if beside.exists() else TOP / 'bin' / 'tffmt-all')
-        under_test = [self.program, self.linter, self.trees, str(self.contrib)]
+        beside = pathlib.Path(program).with_name('tfrules-all')
+        self.linted = str(beside if beside.exists() else TOP / 'bin' / 'tfrules-all')
+        under_test = [self.program, self.linter, self.trees, self.linted, str(self.contrib)]
         if all(map(os.path.exists, under_test)) and not all(map(is_open, under_test)):
             self.take_in()
         (self.folder('trees') / 'tffmt-all').symlink_to(self.trees)
@@ -61,8 +63,8 @@ class Group:
     def take_in(self):
         """Copies what is tested below the temporary folder, where another user reaches it."""
         under_test = self.folder('under-test')
-        self.program, self.linter, self.trees = (
-            shutil.copy(it, str(under_test)) for it in (self.program, self.linter, self.trees)
+        self.program, self.linter, self.trees, self.linted = (
+            shutil.copy(it, str(under_test)) for it in (self.program, self.linter, self.trees, self.linted)
         )
         shutil.copytree(str(self.contrib), str(under_test / 'contrib'))
         self.contrib = under_test / 'contrib'

@@ -11,8 +11,8 @@ import subprocess
 from editors import on_terminal
 from harness import BAD, GOOD, OTHER, TOP, lines, put
 
-PAGES = ['tffmt', 'tfrules', 'tffmt-all', 'tffmt-hook', 'tfrules-modules', 'tfrules-report']
-SCRIPTS = PAGES[3:5]
+PAGES = ['tffmt', 'tfrules', 'tffmt-all', 'tfrules-all', 'tffmt-hook', 'tfrules-modules', 'tfrules-report']
+SCRIPTS = PAGES[4:6]
 
 
 # --- completions -----------------------------------------------------------------------------------------------
@@ -431,7 +431,9 @@ def plain(roff):
 def pages(group):
     version = (TOP / 'VERSION').read_text().strip()
     group.holds('the changes tell of this version', '\n## %s\n' % version in (TOP / 'CHANGELOG.md').read_text())
-    for name, path in [('tffmt-all', group.trees)] + [(name, group.contrib / name) for name in PAGES[3:]]:
+    for name, path in [('tffmt-all', group.trees), ('tfrules-all', group.linted)] + [
+        (name, group.contrib / name) for name in PAGES[4:]
+    ]:
         group.check(
             '%s --version' % name,
             group.call(path, '--version', cwd=group.top),
@@ -447,7 +449,7 @@ def pages(group):
         )
         if group.has('mandoc'):
             group.check('mandoc -Tlint ' + name, group.call('mandoc', '-Tlint', page, cwd=group.top), (0, b'', b''))
-    for words in ([group.program], *([group.contrib / name] for name in PAGES[4:])):
+    for words in ([group.program], *([group.contrib / name] for name in PAGES[5:])):
         told = group.call(*words, '--help', cwd=group.top)[1].decode().splitlines()
         group.check('%s --help fits 80 columns' % words[0], [it for it in told if len(it) > 80], [])
     rules = re.findall(r'^\| \[`(terraform_\w+)`', (TOP / 'docs/RULES.md').read_text(), re.M)
@@ -527,7 +529,7 @@ def told_shells(group):
 
 
 def installing(group):
-    if not all(os.access(str(TOP / 'bin' / name), os.X_OK) for name in PAGES[:3]):
+    if not all(os.access(str(TOP / 'bin' / name), os.X_OK) for name in PAGES[:4]):
         group.skip('make install', 10, 'the programs are not built')
         return
     if not group.has('make', checks=10):

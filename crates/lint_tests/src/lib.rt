@@ -13,4 +13,6 @@ mod forms;
 #[cfg(test)]
 mod lists;
 #[cfg(test)]
+mod programs;
+#[cfg(test)]
 mod runs;

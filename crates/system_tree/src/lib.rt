@@ -7,3 +7,4 @@ mod link;
 mod new_file;
 pub mod patient;
 pub mod system;
+pub mod words;

@@ -200,8 +200,10 @@ impl SystemTree {
     fn names_in(&mut self, folder: &[u8]) -> Result<Vec<u8>, TreeFault> {
         self.is_walking = true;
         let folder = text_of(folder)?;
-        let Ok(mut dir) = self.rt.open_dir(folder) else {
-            return Err(TreeFault::UnreadableFolder);
+        let mut dir = match self.rt.open_dir(folder) {
+            Ok(dir) => dir,
+            Err(error) if error.kind() == ErrorKind::NotFound => return Err(TreeFault::Missing),
+            Err(_) => return Err(TreeFault::UnreadableFolder),
         };
         let mut names = Vec::new(self.rt.alloc());
         let mut buffer = [0; 16_384];

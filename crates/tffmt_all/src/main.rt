@@ -4,14 +4,13 @@
 ghost use Rattle.std.specs.Prelude.{◌≡◌, false};
 
 mod progress_line;
-mod words;
 
 use crate::progress_line::ProgressLine;
-use crate::words::{borrowed_words, process_words};
 use hcl_scan::{ByteSink, FromRead, ToWrite};
 use std::process::ExitCode;
 use system_tree::patient::Patient;
 use system_tree::system::SystemTree;
+use system_tree::words::{borrowed_words, process_words};
 use tree_command::run::program;
 
 /// The status of a run that got no words: nothing is printed.

@@ -107,4 +107,4 @@ IsEndOf texts others failed input before after end =
 -- THE END of a run with these words, where standard input has these bytes: what the words ask for; or memory ran out before
 -- a file was looked at
 abbrev pub IsEnd : List (List ℕ) → Bool → Option (List ℕ) → State → State → End → Type 0
-IsEnd words failed input before after end = IsEndOf (texts_in words) (others_in words) failed input before after end
+IsEnd words failed input before after end = IsEndOf (texts_in (codes "tffmt-all") words) (others_in words) failed input before after end

@@ -173,8 +173,8 @@ mode_of_texts texts = mode_asked (matches_of tffmt_all texts)
 -- ---- words that aren't UTF-8
 
 -- the name of the program, whatever the first word is, and the words after it that are UTF-8
-abbrev pub texts_in : List (List ℕ) → List Text
-texts_in words = codes "tffmt-all" ∷ filter is_utf8 (drop 1 words)
+abbrev pub texts_in : Text → List (List ℕ) → List Text
+texts_in program words = program ∷ filter is_utf8 (drop 1 words)
 
 -- the words that aren't: names, wherever they stand
 abbrev pub others_in : List (List ℕ) → List Name
@@ -182,7 +182,7 @@ others_in words = filter (λ word. not (is_utf8 word)) (drop 1 words)
 
 -- WHAT THE WORDS ASK FOR, the program's name first, unless memory runs out
 abbrev pub asking_of_words : List (List ℕ) → Result Asking Usage
-asking_of_words words = asking_of_texts (texts_in words) (others_in words)
+asking_of_words words = asking_of_texts (texts_in (codes "tffmt-all") words) (others_in words)
 
 abbrev pub mode_of_words : List (List ℕ) → Option Mode
-mode_of_words words = mode_of_texts (texts_in words)
+mode_of_words words = mode_of_texts (texts_in (codes "tffmt-all") words)

@@ -8,5 +8,5 @@ pub mod pick;
 pub mod run;
 pub mod shard;
 pub mod usage;
-mod words;
+pub mod words;
 mod wrong;

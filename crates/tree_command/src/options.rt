@@ -49,7 +49,7 @@ pub struct TreeOptions<'a> {
 }
 
 /// The flag `--NAME`, which may be given more than once.
-fn counted_flag<'a>(alloc: Global, name: &'a str) -> Arg<'a>
+pub fn counted_flag<'a>(alloc: Global, name: &'a str) -> Arg<'a>
     ensures rule { rule_of result ≡ count_rule name.entry.now }
     ensures local { result.global ≡ false }
 {
@@ -57,7 +57,7 @@ fn counted_flag<'a>(alloc: Global, name: &'a str) -> Arg<'a>
 }
 
 /// `-0` and `--null`.
-fn null<'a>(alloc: Global) -> Arg<'a>
+pub fn null<'a>(alloc: Global) -> Arg<'a>
     ensures rule { rule_of result ≡ null_rule }
     ensures local { result.global ≡ false }
 {
@@ -89,7 +89,7 @@ fn exclude<'a>(alloc: Global) -> Arg<'a>
 }
 
 /// Files and folders.
-fn file<'a>(alloc: Global) -> Arg<'a>
+pub fn file<'a>(alloc: Global) -> Arg<'a>
     ensures rule { rule_of result ≡ file_rule }
     ensures local { result.global ≡ false }
 {
@@ -117,7 +117,7 @@ fn command<'a>(alloc: Global) -> Result<Command<'a>, AllocError>
 }
 
 /// Whether a flag is given.
-fn is_given(matches: &ArgMatches<'_>, name: &str) -> bool
+pub fn is_given(matches: &ArgMatches<'_>, name: &str) -> bool
     ensures { result ≡ is_given name.now (rows_of (found_of matches.now)) }
 {
     matches.get_count(name) > 0
@@ -259,7 +259,7 @@ fn shard_given(text: Option<&str>) -> Option<Option<Shard>>
 }
 
 /// The part that the matches of a line give.
-fn shard_of(matches: &ArgMatches<'_>) -> Option<Option<Shard>>
+pub fn shard_of(matches: &ArgMatches<'_>) -> Option<Option<Shard>>
     ensures { result ≡ shard_given (first_of (codes "shard") (rows_of (found_of matches.now))) }
 {
     shard_given(matches.get_str("shard"))
@@ -324,7 +324,7 @@ fn names_of<'a>(
 }
 
 /// All names of a line of which the matches are these.
-fn names_in<'a>(
+pub fn names_in<'a>(
     alloc: Global,
     others: &[&'a [u8]],
     matches: &ArgMatches<'a>,

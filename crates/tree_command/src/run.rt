@@ -112,7 +112,7 @@ fn run<T: WritableTree, P: Progress, O: ByteSink, E: ByteSink>(
 }
 
 /// All that a device has left, unless a read fails or memory runs out.
-fn read_names<R: ByteSource>(alloc: Global, input: &mut R) -> Result<Vec<u8>, AllocError>
+pub fn read_names<R: ByteSource>(alloc: Global, input: &mut R) -> Result<Vec<u8>, AllocError>
     requires { R.failed input.old ≡ false }
     ensures { IfOk result (λ names. Tells (R.left input.old) names.items) }
 {
@@ -140,7 +140,7 @@ fn without_last_nul(names: &[u8]) -> &[u8]
 }
 
 /// The names, each ended by NUL, but for the last, which needs none.
-fn operands_in<'a>(alloc: Global, names: &'a [u8]) -> Result<Vec<&'a [u8]>, AllocError>
+pub fn operands_in<'a>(alloc: Global, names: &'a [u8]) -> Result<Vec<&'a [u8]>, AllocError>
     ensures { IfOk result (λ operands. map (λ operand. operand.now) operands.items ≡ paths_of_input names.entry.now) }
 {
     let names = without_last_nul(names);
@@ -162,7 +162,7 @@ fn here<'a>(alloc: Global) -> Result<Vec<&'a [u8]>, AllocError>
 }
 
 /// The names of a line, or the current folder where there is none.
-fn operands_of<'a>(alloc: Global, names: &[&'a [u8]]) -> Result<Vec<&'a [u8]>, AllocError>
+pub fn operands_of<'a>(alloc: Global, names: &[&'a [u8]]) -> Result<Vec<&'a [u8]>, AllocError>
     ensures { IfOk result (λ operands. map (λ operand. operand.now) operands.items ≡ paths_of_line (map (λ name. name.now) names.now)) }
 {
     if names.is_empty() {
@@ -363,7 +363,7 @@ pub fn program<T: WritableTree, P: Progress, R: ByteSource, O: ByteSink, E: Byte
     // What was looked at and said, and with which status it ends.
     ensures ends { IsEnd (map (λ word. word.now) words.now) (R.failed input.new) (R.left input.old) (state_of T.Tree tree.old) (state_of T.Tree tree.new) (end_of O.ByteSink out.old out.new E.ByteSink err.old err.new result) }
 {
-    let Ok(words) = words_of(alloc, words) else {
+    let Ok(words) = words_of(alloc, "tffmt-all", words) else {
         return formatter().tell_out_of_memory(out, err);
     };
     run_line(

@@ -44,16 +44,21 @@ pub(crate) fn after_first<T>(words: &[T]) -> &[T]
     }
 }
 
-/// The words of a line of bytes, of which the first is the program's name.
-pub fn words_of<'a>(alloc: Global, words: &[&'a [u8]]) -> Result<Words<'a>, AllocError>
-    ensures texts { IfOk result (λ of. map (λ text. text.now) of.texts.items ≡ texts_in (map (λ word. word.now) words.now)) }
+/// The words of a line of bytes, of which the first is the program's name, whatever it is called by.
+pub fn words_of<'a>(
+    alloc: Global,
+    program: &'a str,
+    words: &[&'a [u8]],
+) -> Result<Words<'a>, AllocError>
+    ensures texts { IfOk result (λ of. map (λ text. text.now) of.texts.items
+        ≡ texts_in program.entry.now (map (λ word. word.now) words.now)) }
     ensures others { IfOk result (λ of. map (λ word. word.now) of.others.items ≡ others_in (map (λ word. word.now) words.now)) }
 {
     let mut of = Words {
         texts: Vec::new(alloc),
         others: Vec::new(alloc),
     };
-    if of.texts.push("tffmt-all").is_err() {
+    if of.texts.push(program).is_err() {
         return Err(AllocError);
     }
     let rest = after_first(words);

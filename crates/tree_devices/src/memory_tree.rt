@@ -284,8 +284,10 @@ impl<'a> MemoryTree<'a> {
     }
 
     fn names_in(&self, folder: &[u8]) -> Result<Vec<u8>, TreeFault> {
-        if self.entry_kind_of(folder) != Ok(Kind::Folder) {
-            return Err(TreeFault::UnreadableFolder);
+        match self.entry_kind_of(folder) {
+            Ok(Kind::Folder) => {}
+            Err(TreeFault::Missing) => return Err(TreeFault::Missing),
+            _ => return Err(TreeFault::UnreadableFolder),
         }
         let folder = plain(folder);
         let mut names = Vec::new(self.alloc);

@@ -1,0 +1,3 @@
+mod EndingLemmas
+mod LineLemmas
+mod UsageLemmas

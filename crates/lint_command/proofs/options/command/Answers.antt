@@ -1,0 +1,15 @@
+use Rattle.std.proofs.Common.{◌∙◌, ap₂}
+use Rattle.std.proofs.lemmas.Result.{IfOk-weaker}
+use Rattle.clap.specs.Words.{with_rule}
+use Rattle.lint_command.proofs.options.command.Goals as goal
+
+pub returns : goal.returns
+returns c =
+    let shape1 = c.in_ok-arg.ensures.shape c.option_named.ensures.local ∙ ap₂ with_rule c.new.ensures.app c.option_named.ensures.rule in
+    let shape2 = c.in_ok-arg-2.ensures.shape c.option_named-2.ensures.local ∙ ap₂ with_rule shape1 c.option_named-2.ensures.rule in
+    let shape3 = c.in_ok-arg-3.ensures.shape c.option_named-3.ensures.local ∙ ap₂ with_rule shape2 c.option_named-3.ensures.rule in
+    let shape4 = c.in_ok-arg-4.ensures.shape c.counted_flag.ensures.local ∙ ap₂ with_rule shape3 c.counted_flag.ensures.rule in
+    let shape5 = c.in_ok-arg-5.ensures.shape c.counted_flag-2.ensures.local ∙ ap₂ with_rule shape4 c.counted_flag-2.ensures.rule in
+    let shape6 = c.in_ok-arg-6.ensures.shape c.null.ensures.local ∙ ap₂ with_rule shape5 c.null.ensures.rule in
+    let shape7 = c.in_ok-arg-7.ensures.shape c.option_named-4.ensures.local ∙ ap₂ with_rule shape6 c.option_named-4.ensures.rule in
+    IfOk-weaker c.arg-8.result _ _ (λ r h. h.shape c.file.ensures.local ∙ ap₂ with_rule shape7 c.file.ensures.rule) c.arg-8.ensures

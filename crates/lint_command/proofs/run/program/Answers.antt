@@ -1,0 +1,23 @@
+use Rattle.std.proofs.Common.{◌≡◌, ◌∙◌, List, ℕ, ap, codes, inl, map, subst}
+use Rattle.command_line.specs.Rows.{end_of}
+use Rattle.std.specs.Borrow.{Bor}
+use Rattle.tree_command.specs.Line.{texts_in}
+use Rattle.lint_command.specs.Ends.{IsEndOf}
+use Rattle.lint_command.proofs.UsageLemmas.{memory_said}
+use Rattle.lint_command.proofs.run.program.Goals as goal
+
+pub returns-clause-ends : goal.returns-clause-ends
+returns-clause-ends g c =
+    let words : List (List ℕ) = map (λ (word : Bor (List ℕ)). word.now) c.args.words.now in
+    let others : List (List ℕ) = map (λ (word : Bor (List ℕ)). word.now) c.as_slice-2.result.now in
+    subst
+    (λ (names : List (List ℕ)). IsEndOf (texts_in (codes "tfrules-all") words) names (g.R.ByteSource.failed c.run_line.new.input) (g.R.ByteSource.left c.args.input.now) (g.T.Tree.files c.args.files.now.tree)
+    (end_of g.O.ByteSink c.args.out.now c.run_line.new.out g.E.ByteSink c.args.err.now c.run_line.new.err c.run_line.result))
+    (ap (map (λ (word : Bor (List ℕ)). word.now)) c.as_slice-2.ensures.value ∙ c.in-Ok.ensures.others)
+    (subst
+    (λ (texts : List (List ℕ)). IsEndOf texts others (g.R.ByteSource.failed c.run_line.new.input) (g.R.ByteSource.left c.args.input.now) (g.T.Tree.files c.args.files.now.tree)
+    (end_of g.O.ByteSink c.args.out.now c.run_line.new.out g.E.ByteSink c.args.err.now c.run_line.new.err c.run_line.result))
+    (ap (map (λ (word : Bor (List ℕ)). word.now)) c.as_slice.ensures.value ∙ c.in-Ok.ensures.texts) c.run_line.ensures.ends)
+
+pub returns-in_default-clause-ends : goal.returns-in_default-clause-ends
+returns-in_default-clause-ends g c = inl (memory_said c.tree_linter.result _ c.tree_linter.ensures c.tell_out_of_memory.ensures)

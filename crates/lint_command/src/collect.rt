@@ -1,0 +1,51 @@
+//! The modules of what a call names.
+
+ghost use Rattle.std.specs.Prelude.{◌≡◌, IfOk, map};
+ghost use Rattle.file_tree.specs.Choices.{chosen};
+ghost use Rattle.lint_command.specs.Ends.{Collects, any_file};
+
+use file_tree::choice::Choice;
+use file_tree::tree::Tree;
+use file_tree::walk::{Found, find};
+use module_find::modules::modules_of;
+use module_find::{Module, faults_of, folders_of};
+use std::alloc::{AllocError, Global};
+use tree_command::pick::pick;
+use tree_command::shard::Shard;
+
+/// Modules, and what can't be looked at beside them.
+#[derive(Drop)]
+pub(crate) struct Collected {
+    pub modules: Vec<Module>,
+    pub faults: Vec<Found>,
+}
+
+/// A file stands for its folder, whatever it is called.
+fn any_file<'a>() -> Choice<'a>
+    ensures { chosen result ≡ any_file }
+{
+    Choice {
+        any_name: true,
+        excluded: &[],
+    }
+}
+
+/// The modules that these names stand for, as far as they are of the part.
+pub(crate) fn collect<T: Tree>(
+    alloc: Global,
+    shard: Option<Shard>,
+    operands: &[&[u8]],
+    tree: &mut T,
+) -> Result<Collected, AllocError>
+    // Nothing is changed.
+    ensures files { T.files tree.new ≡ T.files tree.old }
+    ensures collects { IfOk result (λ c. Collects (T.files tree.old) shard
+        (map (λ operand. operand.now) operands.now) c.modules.items c.faults.items) }
+{
+    let found = find(alloc, any_file(), operands, tree)?;
+    let folders = folders_of(alloc, found.as_slice())?;
+    let folders = pick(alloc, folders, shard)?;
+    let faults = pick(alloc, faults_of(alloc, found)?, shard)?;
+    let modules = modules_of(alloc, folders, tree)?;
+    Ok(Collected { modules, faults })
+}

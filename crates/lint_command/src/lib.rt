@@ -1,0 +1,11 @@
+//! What the program `tfrules-all` does, over any tree of files and any devices: it finds the modules that its words name,
+//! lints each by itself, and reports.
+#![tactic(auto)]
+
+mod collect;
+mod options;
+mod report;
+pub mod run;
+mod taken;
+mod usage;
+mod words;

@@ -1,0 +1,251 @@
+//! A run over any tree and any devices.
+
+ghost use Rattle.std.specs.Prelude.{◌≡◌, ◌||◌, List, ℕ, false, flat_map, map, if◌then◌else◌};
+ghost use Rattle.command_line.specs.Rows.{Took, end_of, writer};
+ghost use Rattle.tree_lint.specs.Runs.{StayTold, files_of, told_in, worse_status};
+ghost use Rattle.lint_command.specs.Asked.{asking_of, wanted_of};
+ghost use Rattle.lint_command.specs.Ends.{EndsAsked, IsEnd, IsEndOf, LintsOr, LintsNamed, ReadsAndLints, RunsThen};
+ghost use Rattle.lint_command.specs.Faults.{fault_line, fault_status};
+
+use crate::options::{LintOptions, options};
+use crate::report::{fault_status, tell_all};
+use crate::taken::{Taken, take_all};
+use crate::words::{say, tree_linter};
+use file_tree::tree::Tree;
+use file_tree::walk::Found;
+use hcl_scan::{ByteSink, ByteSource};
+use std::alloc::Global;
+use tfrules_command::module_files::ModuleFiles;
+use tree_command::run::{operands_in, operands_of, read_names};
+use tree_command::shard::Shard;
+use tree_command::words::words_of;
+use tree_lint::module_tree::ModuleTree;
+use tree_lint::policy::Policy;
+use tree_lint::run::{run_over, worse_status};
+
+static READ_FAILED: &str = "tfrules-all: error: read failed\n";
+
+/// Whether one of two devices has failed.
+fn has_failed<O: ByteSink, E: ByteSink>(out: &O, err: &E) -> bool
+    ensures { result ≡ (O.failed out.now || E.failed err.now) }
+{
+    out.has_failed() || err.has_failed()
+}
+
+/// Says what can't be linted, and gives the status of the run, of which this is that of the modules.
+fn finish<E: ByteSink>(status: u8, faults: &[Found], err: &mut E) -> u8
+    requires err { E.failed err.old ≡ false }
+    ensures took { Took (writer E.ByteSink err.old err.new) (flat_map fault_line faults.now) }
+    ensures exit { result ≡ (if E.failed err.new then 1
+        else worse_status status (fault_status faults.now)) }
+{
+    match tell_all(err, faults) {
+        Ok(()) => worse_status(status, fault_status(faults)),
+        Err(_) => 1,
+    }
+}
+
+/// Lints modules, and says what can't be linted.
+fn lint_taken<T: Tree + Drop, O: ByteSink, E: ByteSink>(
+    alloc: Global,
+    policy: Policy,
+    taken: &Taken,
+    files: &mut ModuleTree<T>,
+    out: &mut O,
+    err: &mut E,
+) -> u8
+    requires back { ⟦<ModuleTree<T> as ModuleFiles>⟧.is_out files.old ≡ false }
+    requires out { O.failed out.old ≡ false }
+    requires err { E.failed err.old ≡ false }
+    ensures ran { RunsThen (told_in (T.files files.old.tree)) policy
+        (map files_of taken.now.modules.items) taken.now.faults.items
+        (end_of O.ByteSink out.old out.new E.ByteSink err.old err.new result) }
+    ensures told { StayTold (T.files files.old.tree) (T.files files.new.tree) }
+    ensures back { ⟦<ModuleTree<T> as ModuleFiles>⟧.is_out files.new ≡ false }
+{
+    let status = run_over(alloc, policy, taken.modules.as_slice(), files, out, err);
+    if has_failed(out, err) {
+        return status;
+    }
+    finish(status, taken.faults.as_slice(), err)
+}
+
+/// Finds the modules and lints them.
+fn lint<T: Tree + Drop, O: ByteSink, E: ByteSink>(
+    alloc: Global,
+    policy: Policy,
+    shard: Option<Shard>,
+    operands: &[&[u8]],
+    files: &mut ModuleTree<T>,
+    out: &mut O,
+    err: &mut E,
+) -> u8
+    requires back { ⟦<ModuleTree<T> as ModuleFiles>⟧.is_out files.old ≡ false }
+    requires out { O.failed out.old ≡ false }
+    requires err { E.failed err.old ≡ false }
+    ensures ends { LintsOr (wanted_of policy) shard (map (λ operand. operand.now) operands.now)
+        (T.files files.old.tree)
+        (end_of O.ByteSink out.old out.new E.ByteSink err.old err.new result) }
+    ensures told { StayTold (T.files files.old.tree) (T.files files.new.tree) }
+    ensures back { ⟦<ModuleTree<T> as ModuleFiles>⟧.is_out files.new ≡ false }
+{
+    match take_all(alloc, shard, operands, &mut files.tree) {
+        Ok(taken) => lint_taken(alloc, policy, &taken, files, out, err),
+        Err(_) => tree_linter().tell_out_of_memory(out, err),
+    }
+}
+
+/// Takes the names from a device.
+fn lint_null<T: Tree + Drop, R: ByteSource, O: ByteSink, E: ByteSink>(
+    alloc: Global,
+    policy: Policy,
+    shard: Option<Shard>,
+    input: &mut R,
+    files: &mut ModuleTree<T>,
+    out: &mut O,
+    err: &mut E,
+) -> u8
+    requires back { ⟦<ModuleTree<T> as ModuleFiles>⟧.is_out files.old ≡ false }
+    requires input { R.failed input.old ≡ false }
+    requires out { O.failed out.old ≡ false }
+    requires err { E.failed err.old ≡ false }
+    ensures ends { ReadsAndLints (wanted_of policy) shard (R.failed input.new) (R.left input.old)
+        (T.files files.old.tree)
+        (end_of O.ByteSink out.old out.new E.ByteSink err.old err.new result) }
+    ensures told { StayTold (T.files files.old.tree) (T.files files.new.tree) }
+    ensures back { ⟦<ModuleTree<T> as ModuleFiles>⟧.is_out files.new ≡ false }
+{
+    let read = read_names(alloc, input);
+    if input.has_failed() {
+        return tree_linter().tell(out, err, READ_FAILED, 1);
+    }
+    let Ok(names) = read else {
+        return tree_linter().tell_out_of_memory(out, err);
+    };
+    match operands_in(alloc, names.as_slice()) {
+        Ok(operands) => lint(alloc, policy, shard, operands.as_slice(), files, out, err),
+        Err(_) => tree_linter().tell_out_of_memory(out, err),
+    }
+}
+
+/// Takes the names from the line.
+fn lint_named<T: Tree + Drop, O: ByteSink, E: ByteSink>(
+    alloc: Global,
+    policy: Policy,
+    shard: Option<Shard>,
+    names: &[&[u8]],
+    files: &mut ModuleTree<T>,
+    out: &mut O,
+    err: &mut E,
+) -> u8
+    requires back { ⟦<ModuleTree<T> as ModuleFiles>⟧.is_out files.old ≡ false }
+    requires out { O.failed out.old ≡ false }
+    requires err { E.failed err.old ≡ false }
+    ensures ends { LintsNamed (wanted_of policy) shard (map (λ name. name.now) names.now)
+        (T.files files.old.tree)
+        (end_of O.ByteSink out.old out.new E.ByteSink err.old err.new result) }
+    ensures told { StayTold (T.files files.old.tree) (T.files files.new.tree) }
+    ensures back { ⟦<ModuleTree<T> as ModuleFiles>⟧.is_out files.new ≡ false }
+{
+    match operands_of(alloc, names) {
+        Ok(operands) => lint(alloc, policy, shard, operands.as_slice(), files, out, err),
+        Err(_) => tree_linter().tell_out_of_memory(out, err),
+    }
+}
+
+/// Does what is asked for.
+fn run_asked<T: Tree + Drop, R: ByteSource, O: ByteSink, E: ByteSink>(
+    alloc: Global,
+    options: &LintOptions<'_>,
+    files: &mut ModuleTree<T>,
+    input: &mut R,
+    out: &mut O,
+    err: &mut E,
+) -> u8
+    requires back { ⟦<ModuleTree<T> as ModuleFiles>⟧.is_out files.old ≡ false }
+    requires input { R.failed input.old ≡ false }
+    requires out { O.failed out.old ≡ false }
+    requires err { E.failed err.old ≡ false }
+    ensures ends { EndsAsked (asking_of options.now) (R.failed input.new) (R.left input.old)
+        (T.files files.old.tree)
+        (end_of O.ByteSink out.old out.new E.ByteSink err.old err.new result) }
+    ensures told { StayTold (T.files files.old.tree) (T.files files.new.tree) }
+    ensures back { ⟦<ModuleTree<T> as ModuleFiles>⟧.is_out files.new ≡ false }
+{
+    let policy = options.policy;
+    let shard = options.shard;
+    if options.null {
+        return lint_null(alloc, policy, shard, input, files, out, err);
+    }
+    lint_named(
+        alloc,
+        policy,
+        shard,
+        options.names.as_slice(),
+        files,
+        out,
+        err,
+    )
+}
+
+/// The program of words that are texts, and names beside them.
+fn run_line<'w, T: Tree + Drop, R: ByteSource, O: ByteSink, E: ByteSink>(
+    alloc: Global,
+    words: &'w [&'w str],
+    others: &'w [&'w [u8]],
+    files: &mut ModuleTree<T>,
+    input: &mut R,
+    out: &mut O,
+    err: &mut E,
+) -> u8
+    requires back { ⟦<ModuleTree<T> as ModuleFiles>⟧.is_out files.old ≡ false }
+    requires input { R.failed input.old ≡ false }
+    requires out { O.failed out.old ≡ false }
+    requires err { E.failed err.old ≡ false }
+    ensures ends { IsEndOf (map (λ word. word.now) words.now) (map (λ name. name.now) others.now)
+        (R.failed input.new) (R.left input.old) (T.files files.old.tree)
+        (end_of O.ByteSink out.old out.new E.ByteSink err.old err.new result) }
+    ensures told { StayTold (T.files files.old.tree) (T.files files.new.tree) }
+    ensures back { ⟦<ModuleTree<T> as ModuleFiles>⟧.is_out files.new ≡ false }
+{
+    match options(alloc, words, others) {
+        Ok(options) => run_asked(alloc, &options, files, input, out, err),
+        Err(usage) => say(usage, out, err),
+    }
+}
+
+/// The whole program over any tree and any devices. The words are those of the process, its name first.
+pub fn program<T: Tree + Drop, R: ByteSource, O: ByteSink, E: ByteSink>(
+    alloc: Global,
+    words: &[&[u8]],
+    files: &mut ModuleTree<T>,
+    input: &mut R,
+    out: &mut O,
+    err: &mut E,
+) -> u8
+    requires back { ⟦<ModuleTree<T> as ModuleFiles>⟧.is_out files.old ≡ false }
+    requires input { R.failed input.old ≡ false }
+    requires out { O.failed out.old ≡ false }
+    requires err { E.failed err.old ≡ false }
+    // What was linted and said, and with which status it ends.
+    ensures ends { IsEnd (map (λ word. word.now) words.now) (R.failed input.new) (R.left input.old)
+        (T.files files.old.tree)
+        (end_of O.ByteSink out.old out.new E.ByteSink err.old err.new result) }
+    // All names lead to the same bytes as before.
+    ensures told { StayTold (T.files files.old.tree) (T.files files.new.tree) }
+    // No file is left open.
+    ensures back { ⟦<ModuleTree<T> as ModuleFiles>⟧.is_out files.new ≡ false }
+{
+    let Ok(words) = words_of(alloc, "tfrules-all", words) else {
+        return tree_linter().tell_out_of_memory(out, err);
+    };
+    run_line(
+        alloc,
+        words.texts.as_slice(),
+        words.others.as_slice(),
+        files,
+        input,
+        out,
+        err,
+    )
+}

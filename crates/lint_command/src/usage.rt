@@ -1,0 +1,61 @@
+//! Why a line of words has no options, and what is then said.
+
+/// Why there are no options.
+#[derive(Clone, Copy, Debug, PartialEq, Eq)]
+pub enum Usage {
+    /// The words ask for help.
+    Help,
+    /// The words ask for the version.
+    Version,
+    /// The words are no line of this program.
+    BadLine,
+    /// `--rules` says a name that stands for no rule.
+    UnknownRule,
+    /// `--rules` takes every rule away.
+    NoRuleLeft,
+    /// `--naming` says no naming.
+    BadNaming,
+    /// `--minimum-failure-severity` says no severity.
+    BadSeverity,
+    /// Memory ran out.
+    OutOfMemory,
+}
+
+/// What lines this program has.
+pub static USAGE: &str = "\
+usage: tfrules-all [--rules LIST] [--naming NAMING] [--minimum-failure-severity SEVERITY]
+                   [--force] [--shard K/N] [--null] [--] [FILE|FOLDER]...
+";
+
+/// What `--version` says.
+pub static VERSION: &str = "tfrules-all 0.3.0\n";
+
+/// What `--help` says.
+pub static HELP: &str = "\
+usage: tfrules-all [--rules LIST] [--naming NAMING] [--minimum-failure-severity SEVERITY]
+                   [--force] [--shard K/N] [--null] [--] [FILE|FOLDER]...
+
+Lints the modules of folders, each by itself, as tfrules lints its files.
+
+A module is the .tf and .tofu files of one folder. A file stands for its
+folder, also one that was deleted while the folder is there; a folder for
+itself and all below. Files and folders whose names begin with a dot or end
+with ~, and those named #...#, are passed over. Without an operand it is the
+current folder.
+
+  --rules LIST     default, all or names of rules, with commas between them; a
+                   dash before one takes its rules away: all,-terraform_...
+  --naming NAMING  snake_case or mixed_snake_case
+  --minimum-failure-severity SEVERITY
+                   error, warning or notice: from which severity on an issue
+                   fails the run
+  --force          no issue fails the run
+  --shard K/N      take the K-th of N parts of the folders
+  -0, --null       read names, each ended by NUL, from standard input
+  -h, --help       print this
+  --version        print the version
+
+Status: 0  no module has an issue that fails the run
+        1  something couldn't be linted, or the command line is wrong
+        2  an issue fails the run, and nothing is worse
+";

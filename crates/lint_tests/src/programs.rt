@@ -1,0 +1,306 @@
+//! Whole runs of the program over a tree in memory.
+
+use hcl_scan::{MemorySink, MemorySource};
+use lint_command::run::program;
+use std::alloc::Global;
+use std::process::Abort;
+use tfrules_command::Hashing;
+use tree_devices::calls::{Failures, STEADY};
+use tree_devices::entry::{Entry, Stands};
+use tree_devices::memory_tree::MemoryTree;
+use tree_lint::module_tree::ModuleTree;
+
+/// How many calls a run over `a` and `bad` makes of a tree.
+const FAILING_CALLS: u64 = 28;
+
+/// Words of a line.
+type Words = &'static [&'static [u8]];
+
+/// Three modules, one of them refused, in folders with much that is no file of a module.
+static ENTRIES: &[Entry<'static>] = &[
+    Entry {
+        name: b"",
+        stands: Stands::Folder,
+    },
+    Entry {
+        name: b"a",
+        stands: Stands::Folder,
+    },
+    Entry {
+        name: b"a/main.tf",
+        stands: Stands::File(b"variable \"x\" {}\noutput \"y\" {\n  value = var.x\n}\n"),
+    },
+    Entry {
+        name: b"a/sub",
+        stands: Stands::Folder,
+    },
+    Entry {
+        name: b"a/sub/b.tofu",
+        stands: Stands::File(b"variable \"z\" {}\n"),
+    },
+    Entry {
+        name: b"a/sub/a.tf",
+        stands: Stands::File(b"locals {}\n"),
+    },
+    Entry {
+        name: b"bad",
+        stands: Stands::Folder,
+    },
+    Entry {
+        name: b"bad/main.tf",
+        stands: Stands::File(b"x = \n"),
+    },
+    Entry {
+        name: b"bad/lost.tf",
+        stands: Stands::Link(b"nowhere"),
+    },
+    Entry {
+        name: b"bad/pipe.tf",
+        stands: Stands::Pipe,
+    },
+    Entry {
+        name: b"other",
+        stands: Stands::Folder,
+    },
+    Entry {
+        name: b"other/x.tfvars",
+        stands: Stands::File(b"a = 1\n"),
+    },
+    Entry {
+        name: b"other/.hidden.tf",
+        stands: Stands::File(b"variable \"h\" {}\n"),
+    },
+    Entry {
+        name: b"odd",
+        stands: Stands::Folder,
+    },
+    Entry {
+        name: b"odd/\xff.tf",
+        stands: Stands::File(b"variable \"o\" {}\n"),
+    },
+    Entry {
+        name: b"odd/main.tf",
+        stands: Stands::File(b"variable \"o\" {}\n"),
+    },
+];
+
+/// What a run is given, and what it shows.
+struct Row {
+    words: Words,
+    input: &'static [u8],
+    out: &'static [u8],
+    err: &'static [u8],
+    status: u8,
+}
+
+const A: &[u8] =
+    b"1 issue(s) found:\n\na/main.tf:1:1: Warning - variable \"x\" has no type (terraform_typed_variables)\n";
+
+const A_AND_SUB: &[u8] =
+    b"1 issue(s) found:\n\na/main.tf:1:1: Warning - variable \"x\" has no type (terraform_typed_variables)\n\n2 issue(s) found:\n\na/sub/b.tofu:1:1: Warning - variable \"z\" has no type (terraform_typed_variables)\na/sub/b.tofu:1:1: Warning - variable \"z\" is declared but not used (terraform_unused_declarations)\n";
+
+const SUB: &[u8] =
+    b"2 issue(s) found:\n\na/sub/b.tofu:1:1: Warning - variable \"z\" has no type (terraform_typed_variables)\na/sub/b.tofu:1:1: Warning - variable \"z\" is declared but not used (terraform_unused_declarations)\n";
+
+const ODD: &[u8] =
+    b"2 issue(s) found:\n\nodd/main.tf:1:1: Warning - variable \"o\" has no type (terraform_typed_variables)\nodd/main.tf:1:1: Warning - variable \"o\" is declared but not used (terraform_unused_declarations)\n";
+
+static ROWS: [Row; 18] = [
+    // A folder stands for itself and all below, a file for its folder alone.
+    Row {
+        words: &[b"tfrules-all", b"a"],
+        input: b"",
+        out: A_AND_SUB,
+        err: b"",
+        status: 2,
+    },
+    Row {
+        words: &[b"tfrules-all", b"a/main.tf"],
+        input: b"",
+        out: A,
+        err: b"",
+        status: 2,
+    },
+    Row {
+        words: &[b"tfrules-all", b"a/sub/a.tf", b"./a/sub", b"a/sub/b.tofu"],
+        input: b"",
+        out: SUB,
+        err: b"",
+        status: 2,
+    },
+    // So does one that was deleted; a name of which the folder isn't there either is told.
+    Row {
+        words: &[b"tfrules-all", b"a/gone.tf"],
+        input: b"",
+        out: A,
+        err: b"",
+        status: 2,
+    },
+    Row {
+        words: &[b"tfrules-all", b"a/main.tf", b"gone", b"gone/main.tf"],
+        input: b"",
+        out: A,
+        err: b"tfrules-all: error: gone: no such file or folder\ntfrules-all: error: gone/: no such file or folder\n",
+        status: 1,
+    },
+    // A refused module is told, and what can't be looked at once; a pipe is passed over.
+    Row {
+        words: &[b"tfrules-all", b"bad", b"a/main.tf"],
+        input: b"",
+        out: A,
+        err: b"tfrules: error: bad/main.tf:1:5: unexpected token\ntfrules-all: error: bad/lost.tf: the link leads nowhere\n",
+        status: 1,
+    },
+    Row {
+        words: &[b"tfrules-all", b"other"],
+        input: b"",
+        out: b"",
+        err: b"",
+        status: 0,
+    },
+    Row {
+        words: &[b"tfrules-all", b"odd"],
+        input: b"",
+        out: ODD,
+        err: b"tfrules-all: error: odd/\xff.tf: the name isn't UTF-8\n",
+        status: 1,
+    },
+    // Options.
+    Row {
+        words: &[
+            b"tfrules-all",
+            b"--rules",
+            b"all,-terraform_typed_variables,-terraform_documented_variables",
+            b"a/sub/a.tf",
+        ],
+        input: b"",
+        out: b"1 issue(s) found:\n\na/sub/b.tofu:1:1: Warning - variable \"z\" is declared but not used (terraform_unused_declarations)\n",
+        err: b"",
+        status: 2,
+    },
+    Row {
+        words: &[b"tfrules-all", b"--force", b"a/main.tf"],
+        input: b"",
+        out: A,
+        err: b"",
+        status: 0,
+    },
+    Row {
+        words: &[
+            b"tfrules-all",
+            b"--minimum-failure-severity",
+            b"error",
+            b"a/main.tf",
+        ],
+        input: b"",
+        out: A,
+        err: b"",
+        status: 0,
+    },
+    Row {
+        words: &[b"tfrules-all", b"-0"],
+        input: b"a/main.tf\0a/gone.tf",
+        out: A,
+        err: b"",
+        status: 2,
+    },
+    // A part has whole modules, by the sums of their folders' names.
+    Row {
+        words: &[b"tfrules-all", b"--shard", b"1/2", b"a"],
+        input: b"",
+        out: A,
+        err: b"",
+        status: 2,
+    },
+    Row {
+        words: &[b"tfrules-all", b"--shard", b"2/2", b"a"],
+        input: b"",
+        out: SUB,
+        err: b"",
+        status: 2,
+    },
+    // Words that ask for no run.
+    Row {
+        words: &[b"tfrules-all", b"--version"],
+        input: b"",
+        out: b"tfrules-all 0.3.0\n",
+        err: b"",
+        status: 0,
+    },
+    Row {
+        words: &[b"tfrules-all", b"--rules", b"all,-all", b"a"],
+        input: b"",
+        out: b"",
+        err: b"tfrules-all: error: no rule is left\n",
+        status: 1,
+    },
+    Row {
+        words: &[b"tfrules-all", b"--rules", b"terraform_typed", b"a"],
+        input: b"",
+        out: b"",
+        err: b"tfrules-all: error: unknown rule\n",
+        status: 1,
+    },
+    Row {
+        words: &[b"tfrules-all", b"--naming", b"camel", b"a"],
+        input: b"",
+        out: b"",
+        err: b"tfrules-all: error: unknown naming\n",
+        status: 1,
+    },
+];
+
+/// Runs the program by the words of a row, and compares what it shows.
+fn shows(rt: &impl Abort, alloc: Global, row: &Row) {
+    let tree = MemoryTree::new(alloc, ENTRIES, STEADY).expect(rt, "memory");
+    let mut files = ModuleTree::new(tree, Hashing::shared());
+    let mut input = MemorySource::new(row.input, 4096);
+    let mut out = MemorySink::new(4096);
+    let mut err = MemorySink::new(4096);
+    let status = program(alloc, row.words, &mut files, &mut input, &mut out, &mut err);
+    shown(rt, out.bytes(), row.out, row);
+    shown(rt, err.bytes(), row.err, row);
+    assert_eq!(rt; status, row.status, "of {:?}", row.words);
+}
+
+/// That a stream has these bytes.
+fn shown(rt: &impl Abort, found: &[u8], wanted: &[u8], row: &Row) {
+    assert_eq!(rt; found, wanted, "of {:?}", row.words);
+}
+
+#[test]
+fn rows_are_shown(rt: HostRuntime) {
+    for row in &ROWS {
+        shows(&rt, rt.alloc(), row);
+    }
+}
+
+/// What a run over `a` and `bad` shows of which this call of the tree fails, and whether one did.
+fn failing(rt: &impl Abort, alloc: Global, call: usize) -> (u8, bool, bool) {
+    let failures = Failures {
+        call: Some(call),
+        ..STEADY
+    };
+    let tree = MemoryTree::new(alloc, ENTRIES, failures).expect(rt, "memory");
+    let mut files = ModuleTree::new(tree, Hashing::shared());
+    let mut input = MemorySource::new(b"", 4096);
+    let mut out = MemorySink::new(4096);
+    let mut err = MemorySink::new(4096);
+    let words: [&[u8]; 3] = [b"tfrules-all", b"a", b"bad"];
+    let status = program(alloc, &words, &mut files, &mut input, &mut out, &mut err);
+    let has_failed = files.tree.calls().failed().is_some();
+    (status, has_failed, !err.bytes().is_empty())
+}
+
+#[test]
+fn each_failed_call_is_told(rt: HostRuntime) {
+    let mut count = 0;
+    for call in 0..100 {
+        let (status, has_failed, is_told) = failing(&rt, rt.alloc(), call);
+        assert!(&rt; status == 1 && is_told, "where call {call} fails");
+        if has_failed {
+            count = count.saturating_add(1);
+        }
+    }
+    assert_eq!(&rt; count, FAILING_CALLS, "calls of a run");
+}

@@ -1,0 +1,59 @@
+//! `tfrules-all` lints the modules of folders, each by itself.
+#![tactic(auto)]
+
+ghost use Rattle.std.specs.Prelude.{◌≡◌, false};
+
+use hcl_scan::{ByteSink, FromRead, ToWrite};
+use lint_command::run::program;
+use std::hash::RandomState;
+use std::process::ExitCode;
+use system_tree::patient::Patient;
+use system_tree::system::SystemTree;
+use system_tree::words::{borrowed_words, process_words};
+use tfrules_command::Hashing;
+use tree_lint::module_tree::ModuleTree;
+
+/// The status of a run that got no words, or no seed by which names are hashed: nothing is printed.
+const NO_WORDS: u8 = 1;
+
+fn main(rt: HostRuntime) -> ExitCode {
+    let mut out = ToWrite::new(Patient::new(rt.stdout()));
+    let mut err = ToWrite::new(Patient::new(rt.stderr()));
+    let status = match process_words(&rt) {
+        Ok(words) if !words.is_empty() => lint(&rt, words.as_slice(), &mut out, &mut err),
+        _ => NO_WORDS,
+    };
+    ExitCode::from(status)
+}
+
+/// Runs the program by these words over the files of the system. Names could be made that fall together under a seed that is
+/// known, so without one nothing is read.
+fn lint<O: ByteSink, E: ByteSink>(
+    rt: &HostRuntime,
+    words: &[Vec<u8>],
+    out: &mut O,
+    err: &mut E,
+) -> u8
+    requires out { O.failed out.old ≡ false }
+    requires err { E.failed err.old ≡ false }
+{
+    let Ok(words) = borrowed_words(rt.alloc(), words) else {
+        return NO_WORDS;
+    };
+    let Ok(own) = rt.clone() else {
+        return NO_WORDS;
+    };
+    let Ok(seed) = RandomState::new(rt) else {
+        return NO_WORDS;
+    };
+    let mut files = ModuleTree::new(SystemTree::new(own), Hashing::seeded(seed));
+    let mut input = FromRead::new(rt.stdin());
+    program(
+        rt.alloc(),
+        words.as_slice(),
+        &mut files,
+        &mut input,
+        out,
+        err,
+    )
+}

@@ -1,0 +1,244 @@
+"""The program tfrules-all on real folders: which files it lints together, what it says, and what its status is if something
+fails."""
+
+import os
+import re
+
+import modules
+from harness import BAD, NOBODY, TOP, lines, put, shard_of
+from modules import ALL, DECLARED, DEFAULT, UNTYPED, UNUSED, USED, report, unused
+
+
+def fault(name, text):
+    return 'tfrules-all: error: %s: %s' % (name, text)
+
+
+MISSING = 'no such file or folder'
+
+
+def run(group):
+    if not os.path.exists(group.linted):
+        group.skip('tfrules-all', 78, 'bin/tfrules-all is not built')
+        return
+
+    def lint(*words, cwd, **more):
+        return group.call(group.linted, *words, cwd=cwd, **more)
+
+    for part in (
+        modules.whole_modules,
+        names,
+        walk,
+        statuses,
+        options,
+        lists_of_rules,
+        deleted,
+        limits,
+        input_and_shards,
+        rights,
+    ):
+        part(group, lint)
+
+
+def tree(group, files):
+    top = group.fresh()
+    put(top, files)
+    return top
+
+
+def names(group, lint):
+    """Names with blanks, newlines, quotes, brackets and a dash in front."""
+    every = [
+        '-d/-z.tf',
+        '[x]/a.tf',
+        'a b/c d.tf',
+        'back\\slash/a.tf',
+        'new\nline/x\ny.tf',
+        'q"u\'o/a.tf',
+        '\u00e9/\u00e9.tf',
+    ]
+    top = tree(group, {name: DECLARED for name in every})
+    put(top, {'x/a.tf': b'', '[x]/*.tf': b''})
+    group.check('any name', lint('--', *every, cwd=top), (2, unused(*every), b''))
+    group.check('a file with a dash in front', lint('--', '-z.tf', cwd=top / '-d'), (2, unused('-z.tf'), b''))
+    group.check('any name in a walk', lint(cwd=top), (2, unused(*every), b''))
+    top = tree(group, {b'caf\xe9.tf': DECLARED, 'good.tf': DECLARED})
+    told = b'tfrules-all: error: caf\xe9.tf: the name isn\'t UTF-8\n'
+    group.check(
+        'a name that is not UTF-8 is told, and the others are linted', lint(cwd=top), (1, unused('good.tf'), told)
+    )
+    group.check('the same of a word', lint(b'caf\xe9.tf', 'good.tf', cwd=top), (1, unused('good.tf'), told))
+
+
+def walk(group, lint):
+    taken = ['a.tf', 'm/a.tf', 'm/in/a.tf', 'o/b.tofu']
+    passed_over = ['.hidden.tf', '.terraform/m/a.tf', 'old~/a.tf', '#x#/a.tf', 'n/a.tf~', 'n/b.hcl']
+    top = tree(group, {name: DECLARED for name in taken + passed_over})
+    put(top, {'linked': b'->m'})
+    group.check('what a walk takes', lint(cwd=top), (2, unused(*taken), b''))
+    group.check('a folder by name, and those below', lint('m', cwd=top), (2, unused('m/a.tf', 'm/in/a.tf'), b''))
+    group.check('a folder above one that is named', lint('m/in', 'm', cwd=top), (2, unused('m/a.tf', 'm/in/a.tf'), b''))
+    group.check('a hidden folder by name', lint('.terraform', cwd=top)[0], 2)
+    group.check('a linked folder by name', lint('linked/', cwd=top), (2, unused('linked/a.tf', 'linked/in/a.tf'), b''))
+    group.check('an empty folder', lint(cwd=group.fresh()), (0, b'', b''))
+    top = tree(group, {'a.tf': DECLARED, 'b.tf': b'->far/x', 'far/x': USED, 'c.tf/d.txt': b''})
+    group.check('a linked file is taken, a folder of such a name isn\'t', lint('a.tf', cwd=top), (0, b'', b''))
+    put(top, {'gone.tf': b'->nowhere'})
+    group.check(
+        'a link that leads nowhere is told once, and the others are linted',
+        lint('a.tf', '.', cwd=top),
+        (1, b'', lines(fault('gone.tf', 'the link leads nowhere'))),
+    )
+
+
+def statuses(group, lint):
+    """They mean what those of tfrules mean; the worst counts, and all modules are looked at."""
+    top = tree(
+        group, {'a/a.tf': DECLARED, 'b/b.tf': BAD, 'c/c.tf': DECLARED, 'd/d.tf': b'', 'e/e.tf': b'variable "n" {}\n'}
+    )
+    refused = lines('tfrules: error: b/b.tf:1:3: unexpected token')
+    group.check('an accepted module', lint('d', cwd=top), (0, b'', b''))
+    group.check('a refused one', lint('b', cwd=top), (1, b'', refused))
+    group.check('a refused one and issues', lint('a', 'b', 'c', cwd=top), (1, unused('a/a.tf', 'c/c.tf'), refused))
+    group.check('issues under --force', lint('--force', 'a', 'd', cwd=top), (0, unused('a/a.tf'), b''))
+    group.check('and a refusal', lint('--force', 'a', 'b', cwd=top), (1, unused('a/a.tf'), refused))
+    group.check(
+        'none severe enough', lint('--minimum-failure-severity', 'error', 'a', cwd=top), (0, unused('a/a.tf'), b'')
+    )
+    group.check('two issues', lint('e', cwd=top), (2, report(UNTYPED % 'e/e.tf', UNUSED % 'e/e.tf'), b''))
+    os.mkfifo(str(top / 'd' / 'pipe.tf'))
+    group.check('a pipe is passed over', lint('d', cwd=top), (0, b'', b''))
+    for name, told in (
+        ('nowhere', 'nowhere'),
+        ('nowhere/a.tf', 'nowhere/'),
+        ('nowhere.txt', 'nowhere.txt'),
+        ('-', '-'),
+    ):
+        group.check(
+            'a name that leads nowhere: ' + name,
+            lint('a', name, 'c', cwd=top),
+            (1, unused('a/a.tf', 'c/c.tf'), lines(fault(told, MISSING))),
+        )
+    group.check(
+        'a full device',
+        group.call('sh', '-c', 'exec "$0" a >/dev/full', group.linted, cwd=top),
+        (1, b'', b'tfrules: error: write failed\n'),
+    )
+    group.check('a closed standard output', group.call('sh', '-c', 'exec "$0" a >&-', group.linted, cwd=top)[0], 1)
+
+
+def options(group, lint):
+    top = tree(group, {'a.tf': DECLARED})
+    status, out, err = lint('--help', cwd=top)
+    group.check('--help', (status, out.startswith(b'usage: tfrules-all '), err), (0, True, b''))
+    group.check('-h', lint('-h', cwd=top), (status, out, err))
+    version = (TOP / 'VERSION').read_text().strip()
+    group.check('--version', lint('--version', cwd=top), (0, lines('tfrules-all ' + version), b''))
+    usage = b'\n'.join(out.split(b'\n')[:2]) + b'\n'
+    for words in (['--bogus'], ['--rules'], ['-0', 'a.tf'], ['--shard', '0/2'], ['--shard=3/2'], ['--shard', '1']):
+        group.check('a wrong line %r' % words, lint(*words, cwd=top), (1, b'', usage))
+    for words, told in (
+        (['--rules', 'default,x y,z'], 'unknown rule'),
+        (['--rules='], 'unknown rule'),
+        (['--rules', 'all,-terraform_x'], 'unknown rule'),
+        (['--rules', 'default,-all'], 'no rule is left'),
+        (['--naming', ''], 'unknown naming'),
+        (['--minimum-failure-severity=x'], 'unknown severity'),
+    ):
+        group.check(
+            'a wrong word is told once: %r' % words,
+            lint(*words, cwd=top),
+            (1, b'', lines('tfrules-all: error: ' + told)),
+        )
+    undescribed = report('a.tf:1:1: Notice - variable "n" has no description (terraform_documented_variables)')
+    for words in (
+        ['--rules', 'terraform_documented_variables', 'a.tf'],
+        ['a.tf', '--rules=terraform_documented_variables', '--naming', 'snake_case'],
+    ):
+        group.check('the options of tfrules %r' % words, lint(*words, cwd=top), (2, undescribed, b''))
+
+
+# a module in which each rule has one issue at least
+EACH = b'''// x
+variable "Bad" {}
+output "o" { value = "${var.Bad}" }
+module "m" { source = "git::https://example.com/m" }
+module "r" { source = "hashicorp/consul/aws" }
+locals { u = var.Bad.0 }
+data "a" "b" {}
+'''
+
+
+def lists_of_rules(group, lint):
+    top = tree(group, {'a.tf': EACH})
+
+    def rules_of(*words):
+        return sorted(set(re.findall(r'\((terraform_\w+)\)$', lint(*words, cwd=top)[1].decode(), re.M)))
+
+    group.check('each rule has an issue', rules_of('--rules', 'all'), ALL)
+    for given, wanted in (
+        ('default', set(DEFAULT)),
+        ('default,terraform_naming_convention', set(DEFAULT) | {'terraform_naming_convention'}),
+        ('all,-terraform_typed_variables', set(ALL) - {'terraform_typed_variables'}),
+        ('all,-default', set(ALL) - set(DEFAULT)),
+        ('terraform_typed_variables,-all,default', set(DEFAULT)),
+        ('default,default,-terraform_comment_syntax', set(DEFAULT)),
+    ):
+        group.check('--rules ' + given, rules_of('--rules', given), sorted(wanted))
+    group.check('without a list', rules_of(), DEFAULT)
+
+
+def deleted(group, lint):
+    """A file of a module that isn't there stands for its folder, if that is."""
+    top = tree(group, {'m/a.tf': DECLARED, 'o/a.tofu': DECLARED, 'none/x.txt': b''})
+    group.check(
+        'a file that was deleted', lint('m/gone.tf', 'o/gone.tofu', cwd=top), (2, unused('m/a.tf', 'o/a.tofu'), b'')
+    )
+    group.check('and one that is there', lint('m/gone.tf', 'm/a.tf', cwd=top), (2, unused('m/a.tf'), b''))
+    group.check('in the current folder', lint('gone.tf', cwd=top / 'm'), (2, unused('a.tf'), b''))
+    group.check('the last one of a folder', lint('none/gone.tf', cwd=top), (0, b'', b''))
+    group.check('one of another kind', lint('m/gone.tfvars', cwd=top), (1, b'', lines(fault('m/gone.tfvars', MISSING))))
+
+
+def limits(group, lint):
+    top = tree(group, {'m/%d.tf' % number: b'' for number in range(257)})
+    put(top, {'n/a.tf': DECLARED})
+    group.check(
+        'too many files, and the others are linted',
+        lint(cwd=top),
+        (1, unused('n/a.tf'), lines('tfrules: error: more than 256 files')),
+    )
+    (top / 'm' / '0.tf').unlink()
+    group.check('as many as there may be', lint('m', cwd=top), (0, b'', b''))
+
+
+def input_and_shards(group, lint):
+    every = {'%d/%d' % (number, each): b'' for number in range(4) for each in range(2)}
+    top = tree(group, {name + '/a.tf': DECLARED for name in every})
+    names = b'\0'.join(os.fsencode(name + '/a.tf') for name in sorted(every))
+    whole = lint(cwd=top)
+    group.check('names from standard input', lint('--null', cwd=top, stdin=names), whole)
+    group.check('the last one ended', lint('-0', cwd=top, stdin=names + b'\0'), whole)
+    group.check('none', lint('-0', cwd=top), (0, b'', b''))
+    parts = [lint('--shard', '%d/3' % (part + 1), cwd=top)[1] for part in range(3)]
+    taken = [re.findall(r'^(\S+/)a\.tf:', part.decode(), re.M) for part in parts]
+    wanted = [[name + '/' for name in sorted(every) if shard_of(name + '/', 3) == part] for part in range(3)]
+    group.check('each module is in one part, by its folder', taken, wanted)
+
+
+def rights(group, lint):
+    top = tree(group, {'m/a.tf': DECLARED, 'm/b.tf': USED, 'shut/a.tf': DECLARED, 'n/a.tf': DECLARED})
+    (top / 'shut').chmod(0o000)
+    (top / 'm' / 'b.tf').chmod(0o000)
+    user = None if os.getuid() else NOBODY
+    top.chmod(0o755)
+    done = lint(cwd=top, user=user)
+    group.check(
+        'a folder and a file that cannot be read are told, and the others are linted',
+        done,
+        (
+            1,
+            unused('n/a.tf'),
+            lines('tfrules: error: m/b.tf: cannot be opened', fault('shut/', 'the folder cannot be read')),
+        ),
+    )
+    (top / 'shut').chmod(0o755)
