@@ -15,7 +15,9 @@ use hcl_scan::laws::{list_or_fault, text_or_fault};
 /// A run over names that were found has status 4 only where a writer failed or a look did. What a failed look says is the
 /// fault of a call of the device, in the walk or in the look, or memory ran out: `Looked` has it.
 pub fn failures_are_real()
-    ensures { (mode : Mode) (found : List Found) (last : List Outcome → List ℕ) (before after : State) (end : End) → (run : IsRun mode found last before after end) → end.status ≡ 4
+    ensures { (mode : Mode) (found : List Found) (last : List Outcome → List ℕ)
+        (before after : State) (end : End)
+        → (run : IsRun mode found last before after end) → end.status ≡ 4
         → (end.out.failed || end.err.failed) ≡ false → list_any is_failed run.answers ≡ true }
 {}
 
@@ -23,11 +25,15 @@ pub fn failures_are_real()
 /// files, neither of which has status 4 or narrowed the rights to a file, the same is said of each name, the status is the
 /// same, and so are the files after.
 pub fn one_run()
-    ensures { (mode : Mode) (found : List Found) (last other_last : List Outcome → List ℕ) (before other_before after other_after : State) (end other_end : End) → AreTold before.files found
-        → other_before.files ≡ before.files → (run : IsRun mode found last before after end) → (other : IsRun mode found other_last other_before other_after other_end)
+    ensures { (mode : Mode) (found : List Found) (last other_last : List Outcome → List ℕ)
+        (before other_before after other_after : State) (end other_end : End)
+        → AreTold before.files found → other_before.files ≡ before.files
+        → (run : IsRun mode found last before after end)
+        → (other : IsRun mode found other_last other_before other_after other_end)
         → end.status ≢ 4 → other_end.status ≢ 4
         → list_any is_narrowed run.answers ≡ false → list_any is_narrowed other.answers ≡ false
-        → (reports_of mode run.seen run.answers ≡ reports_of mode other.seen other.answers) × (end.status ≡ other_end.status) × (after.files ≡ other_after.files) }
+        → (reports_of mode run.seen run.answers ≡ reports_of mode other.seen other.answers)
+        × (end.status ≡ other_end.status) × (after.files ≡ other_after.files) }
 {}
 
 /// Each file has a format, or a fault for which it has none. The body shows it for bytes that are there: it loads and scans,
@@ -44,5 +50,6 @@ pub fn format_or_fault(bytes: &[u8])
 /// Over names whose files are told, and for which there is memory, there is a run in which nothing fails.
 pub fn a_run()
     ensures { (mode : Mode) (found : List Found) (before : State) → AreReady mode before.files found
-        → (after : State) × (end : End) × (run : IsRun mode found (λ answers. []) before after end) × (end.status ≢ 4) }
+        → (after : State) × (end : End)
+        × (run : IsRun mode found (λ answers. []) before after end) × (end.status ≢ 4) }
 {}

@@ -27,7 +27,8 @@ use std::alloc::{AllocError, Global};
 
 /// The print, in memory.
 fn print_of(alloc: Global, accepted: &Accepted<'_, '_>) -> Result<Printed, TreeFault>
-    ensures print { IfOk result (λ p. ⟦<Printed as ByteSink>⟧.taken p ≡ Some (print accepted.now.tokens)) }
+    ensures print { IfOk result
+        (λ p. ⟦<Printed as ByteSink>⟧.taken p ≡ Some (print accepted.now.tokens)) }
     ensures fault { IfErr result (λ fault. fault ≡ OutOfMemory) }
 {
     let mut printed = Printed::new(alloc);
@@ -48,10 +49,13 @@ fn write_print<T: WritableTree>(
 ) -> Outcome
     requires changed { print accepted.now.tokens ≢ accepted.now.text }
     requires fits { length (print accepted.now.tokens) ≤ max_source }
-    requires old { Tells ((T.files tree.old).told ((T.files tree.old).real name.now)) accepted.now.text }
-    ensures makes { Makes (Write writing) (T.files tree.old) (T.files tree.new) name.now ((T.files tree.old).real name.now) accepted.now result }
+    requires old { Tells
+        ((T.files tree.old).told ((T.files tree.old).real name.now)) accepted.now.text }
+    ensures makes { Makes (Write writing) (T.files tree.old) (T.files tree.new) name.now
+        ((T.files tree.old).real name.now) accepted.now result }
     ensures notes { Notes (T.faults tree.old) (T.faults tree.new) result }
-    ensures asks { MakesAsking (Write writing) name.now accepted.now (T.asked tree.old) (T.asked tree.new) result }
+    ensures asks { MakesAsking (Write writing) name.now accepted.now
+        (T.asked tree.old) (T.asked tree.new) result }
 {
     let printed = match print_of(alloc, accepted) {
         Ok(printed) => printed,
@@ -105,10 +109,13 @@ fn change<T: WritableTree>(
     accepted: &Accepted<'_, '_>,
     tree: &mut T,
 ) -> Outcome
-    requires old { Tells ((T.files tree.old).told ((T.files tree.old).real name.now)) accepted.now.text }
-    ensures makes { Makes mode (T.files tree.old) (T.files tree.new) name.now ((T.files tree.old).real name.now) accepted.now result }
+    requires old { Tells
+        ((T.files tree.old).told ((T.files tree.old).real name.now)) accepted.now.text }
+    ensures makes { Makes mode (T.files tree.old) (T.files tree.new) name.now
+        ((T.files tree.old).real name.now) accepted.now result }
     ensures notes { Notes (T.faults tree.old) (T.faults tree.new) result }
-    ensures asks { MakesAsking mode name.now accepted.now (T.asked tree.old) (T.asked tree.new) result }
+    ensures asks { MakesAsking mode name.now accepted.now
+        (T.asked tree.old) (T.asked tree.new) result }
 {
     if is_formatted(accepted) {
         return Outcome::Formatted;
@@ -137,7 +144,8 @@ fn change_source<T: WritableTree>(
 ) -> Outcome
     requires text { IsText source.now }
     requires old { Tells ((T.files tree.old).told ((T.files tree.old).real name.now)) source.now }
-    ensures looks { Looks mode (T.files tree.old) (T.files tree.new) name.now ((T.files tree.old).real name.now) source.now result }
+    ensures looks { Looks mode (T.files tree.old) (T.files tree.new) name.now
+        ((T.files tree.old).real name.now) source.now result }
     ensures notes { Notes (T.faults tree.old) (T.faults tree.new) result }
     ensures asks { Asks mode name.now ((T.files tree.old).told ((T.files tree.old).real name.now))
         (T.asked tree.old) (T.asked tree.new) result }
@@ -193,7 +201,8 @@ fn load<T: Tree>(alloc: Global, name: &[u8], tree: &mut T) -> Result<Source, Out
 /// Looks at one file and does what is asked for.
 #[tactic(auto, using(crate::proofs::KeptFormatLemmas::visits_loaded, crate::proofs::KeptFormatLemmas::visits_unloaded, crate::proofs::KeptFormatLemmas::asks_loaded, crate::proofs::KeptFormatLemmas::asks_unloaded))]
 pub fn visit<T: WritableTree>(alloc: Global, mode: Mode, name: &[u8], tree: &mut T) -> Outcome
-    ensures visits { Visits mode (T.files tree.old) (T.files tree.new) name.now ((T.files tree.old).real name.now) result }
+    ensures visits { Visits mode (T.files tree.old) (T.files tree.new) name.now
+        ((T.files tree.old).real name.now) result }
     ensures notes { Notes (T.faults tree.old) (T.faults tree.new) result }
     ensures asks { Asks mode name.now ((T.files tree.old).told ((T.files tree.old).real name.now))
         (T.asked tree.old) (T.asked tree.new) result }

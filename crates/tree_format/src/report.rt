@@ -19,7 +19,8 @@ use itoa::Buffer;
 /// Writes the pieces one after the other, up to the first write that fails. So a line needs no memory.
 pub(crate) fn write_pieces<S: ByteSink>(sink: &mut S, pieces: &[&[u8]]) -> Result<(), Failed>
     requires { S.failed sink.old ≡ false }
-    ensures took { Took (writer S.ByteSink sink.old sink.new) (concat (map (λ piece. piece.now) pieces.now)) }
+    ensures took { Took (writer S.ByteSink sink.old sink.new)
+        (concat (map (λ piece. piece.now) pieces.now)) }
     ensures failed { S.failed sink.new ≡ is_err result }
 {
     for piece in pieces {
@@ -143,8 +144,10 @@ pub fn report<O: ByteSink, E: ByteSink>(
 ) -> Result<(), Failed>
     requires out { O.failed out.old ≡ false }
     requires err { E.failed err.old ≡ false }
-    ensures out { Took (writer O.ByteSink out.old out.new) (report_of mode name.now outcome.now).out }
-    ensures err { Took (writer E.ByteSink err.old err.new) (report_of mode name.now outcome.now).err }
+    ensures out { Took (writer O.ByteSink out.old out.new)
+        (report_of mode name.now outcome.now).out }
+    ensures err { Took (writer E.ByteSink err.old err.new)
+        (report_of mode name.now outcome.now).err }
     ensures failed { is_err result ≡ (O.failed out.new || E.failed err.new) }
 {
     match outcome {

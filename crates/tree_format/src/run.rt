@@ -20,12 +20,16 @@ use std::alloc::Global;
 /// Looks at one name.
 #[tactic(auto, using(crate::proofs::KeptFormatLemmas::kept_same, crate::proofs::KeptFormatLemmas::visit_kept, crate::proofs::KeptFormatLemmas::visit_real, crate::proofs::KeptFormatLemmas::visit_elsewhere))]
 fn look<T: WritableTree>(alloc: Global, mode: Mode, found: &Found, tree: &mut T) -> Outcome
-    ensures kept { (name : List ℕ) → Kept mode ((T.files tree.old).told name) ((T.files tree.new).told name) }
+    ensures kept { (name : List ℕ)
+        → Kept mode ((T.files tree.old).told name) ((T.files tree.new).told name) }
     ensures settled { let real = (T.files tree.old).real found.now.name.items in
-        is_failed result ≡ false → Settled mode ((T.files tree.old).told real) ((T.files tree.new).told real) }
-    ensures elsewhere { (name : List ℕ) → name ≢ (T.files tree.old).real found.now.name.items → (T.files tree.new).told name ≡ (T.files tree.old).told name }
+        is_failed result ≡ false
+        → Settled mode ((T.files tree.old).told real) ((T.files tree.new).told real) }
+    ensures elsewhere { (name : List ℕ) → name ≢ (T.files tree.old).real found.now.name.items
+        → (T.files tree.new).told name ≡ (T.files tree.old).told name }
     ensures real { (name : List ℕ) → (T.files tree.new).real name ≡ (T.files tree.old).real name }
-    ensures sees { Sees mode found.now result (state_of T.Tree tree.old) (state_of T.Tree tree.new) }
+    ensures sees { Sees mode found.now result
+        (state_of T.Tree tree.old) (state_of T.Tree tree.new) }
 {
     match found.fault {
         Some(fault) => Outcome::Failed(fault),
@@ -56,11 +60,16 @@ pub fn run_over<T: WritableTree, P: Progress, O: ByteSink, E: ByteSink>(
     requires out { O.failed out.old ≡ false }
     requires err { E.failed err.old ≡ false }
     // However the run goes, each file is then as it was, or, where files are to be written, it has the format of its bytes.
-    ensures kept { (name : List ℕ) → Kept mode ((T.files tree.old).told name) ((T.files tree.new).told name) }
+    ensures kept { (name : List ℕ)
+        → Kept mode ((T.files tree.old).told name) ((T.files tree.new).told name) }
     // Where nothing failed, nothing is left to do for the files that were found.
-    ensures done { result.status ≢ 4 → All (λ f. Settled mode ((T.files tree.old).told ((T.files tree.old).real f.name.items)) ((T.files tree.new).told ((T.files tree.old).real f.name.items))) all.now }
+    ensures done { result.status ≢ 4
+        → All (λ f. Settled mode ((T.files tree.old).told ((T.files tree.old).real f.name.items))
+        ((T.files tree.new).told ((T.files tree.old).real f.name.items))) all.now }
     // A file to which no name that was found leads keeps its bytes.
-    ensures untouched { (name : List ℕ) → All (λ f. name ≢ (T.files tree.old).real f.name.items) all.now → (T.files tree.new).told name ≡ (T.files tree.old).told name }
+    ensures untouched { (name : List ℕ)
+        → All (λ f. name ≢ (T.files tree.old).real f.name.items) all.now
+        → (T.files tree.new).told name ≡ (T.files tree.old).told name }
     // What was seen, reported and answered.
     ensures ran { Tallies mode all.now (state_of T.Tree tree.old) (state_of T.Tree tree.new)
         (end_of O.ByteSink out.old out.new E.ByteSink err.old err.new result.status) result.tally }
