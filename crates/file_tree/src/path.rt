@@ -62,7 +62,9 @@ fn gap(has_step: bool) -> &'static [u8]
 
 /// Adds a part of a path, after others or as the first one, unless it leads nowhere. Answers whether there is a part by now.
 fn add_step(tidied: &mut Vec<u8>, has_step: bool, part: &[u8]) -> Result<bool, AllocError>
-    ensures { IfOk result (λ has. (tidied.new.items ≡ tidied.old.items ++ added has_step part.now) × (has ≡ (has_step || is_step part.now))) }
+    ensures { IfOk result
+        (λ has. (tidied.new.items ≡ tidied.old.items ++ added has_step part.now)
+        × (has ≡ (has_step || is_step part.now))) }
 {
     if !is_step(part) {
         return Ok(has_step);

@@ -56,7 +56,8 @@ pub trait Tree {
 
     /// The names in a folder, in any order, each ended by NUL.
     fn listing(&mut self, folder: &[u8]) -> Result<Vec<u8>, TreeFault>
-        ensures names { IfOk result (λ names. Tells ((files self.old).listing folder.now) names.items) }
+        ensures names { IfOk result
+            (λ names. Tells ((files self.old).listing folder.now) names.items) }
         ensures files { files self.new ≡ files self.old }
         ensures faults { faults self.new ≡ with_fault (faults self.old) (fault_of result) }
         ensures asked { asked self.new ≡ asked self.old };
@@ -64,7 +65,8 @@ pub trait Tree {
     /// A reader of the file of this name, from its start.
     fn reader(&mut self, name: &[u8]) -> Result<Self::Reader, TreeFault>
         ensures fresh { IfOk result (λ r. Self.Reader.failed r ≡ false) }
-        ensures bytes { IfOk result (λ r. Self.Reader.left r ≡ (files self.old).told ((files self.old).real name.now)) }
+        ensures bytes { IfOk result
+            (λ r. Self.Reader.left r ≡ (files self.old).told ((files self.old).real name.now)) }
         ensures files { files self.new ≡ files self.old }
         ensures faults { faults self.new ≡ with_fault (faults self.old) (fault_of result) }
         ensures asked { asked self.new ≡ asked self.old };

@@ -45,7 +45,9 @@ pub fn process_words(rt: &HostRuntime) -> Result<Vec<Vec<u8>>, AllocError> {
 
 /// The same bytes, borrowed.
 pub fn borrowed_words<'a>(alloc: Global, words: &'a [Vec<u8>]) -> Result<Vec<&'a [u8]>, AllocError>
-    ensures { IfOk result (λ borrowed. map (λ word. word.now) borrowed.items ≡ map (λ word. word.items) words.entry.now) }
+    ensures { IfOk result
+        (λ borrowed. map (λ word. word.now) borrowed.items
+        ≡ map (λ word. word.items) words.entry.now) }
 {
     let mut borrowed = Vec::new(alloc);
     for word in words {

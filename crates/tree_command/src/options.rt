@@ -296,8 +296,10 @@ fn options_by<'a>(
 
 /// The options that the matches of a line give, which gives this.
 fn options_with<'a>(given: Given<'a>, matches: &ArgMatches<'a>) -> Result<TreeOptions<'a>, Usage>
-    ensures asked { asked_by result ≡ asking_with (rows_of (found_of matches.now)) (given_of given.entry) }
-    ensures mode { IfOk result (λ options. mode_asked (rows_of (found_of matches.now)) ≡ Some options.mode) }
+    ensures asked { asked_by result
+        ≡ asking_with (rows_of (found_of matches.now)) (given_of given.entry) }
+    ensures mode { IfOk result
+        (λ options. mode_asked (rows_of (found_of matches.now)) ≡ Some options.mode) }
 {
     let mode = mode_of(matches);
     let shard = shard_of(matches);
@@ -311,7 +313,9 @@ fn names_of<'a>(
     given: &[&'a str],
     others: &[&'a [u8]],
 ) -> Result<Vec<&'a [u8]>, AllocError>
-    ensures { IfOk result (λ names. map (λ name. name.now) names.items ≡ map (λ name. name.now) given.now ++ map (λ name. name.now) others.now) }
+    ensures { IfOk result
+        (λ names. map (λ name. name.now) names.items ≡ map (λ name. name.now) given.now
+        ++ map (λ name. name.now) others.now) }
 {
     let mut names = Vec::new(alloc);
     for name in given {
@@ -329,7 +333,10 @@ pub fn names_in<'a>(
     others: &[&'a [u8]],
     matches: &ArgMatches<'a>,
 ) -> Result<Vec<&'a [u8]>, AllocError>
-    ensures { IfOk result (λ names. map (λ name. name.now) names.items ≡ texts_of (codes "file") (rows_of (found_of matches.now)) ++ map (λ name. name.now) others.now) }
+    ensures { IfOk result
+        (λ names. map (λ name. name.now) names.items
+        ≡ texts_of (codes "file") (rows_of (found_of matches.now))
+        ++ map (λ name. name.now) others.now) }
 {
     match matches.get_strs("file") {
         Some(given) => names_of(alloc, given, others),
@@ -374,8 +381,11 @@ fn options_of<'a>(
     others: &[&'a [u8]],
     matches: &ArgMatches<'a>,
 ) -> Result<TreeOptions<'a>, Usage>
-    ensures asked { (result ≡ Err OutOfMemory) ⊎ (asked_by result ≡ asking_of_rows (map (λ name. name.now) others.now) (rows_of (found_of matches.now))) }
-    ensures mode { IfOk result (λ options. mode_asked (rows_of (found_of matches.now)) ≡ Some options.mode) }
+    ensures asked { (result ≡ Err OutOfMemory)
+        ⊎ (asked_by result ≡ asking_of_rows (map (λ name. name.now) others.now)
+        (rows_of (found_of matches.now))) }
+    ensures mode { IfOk result
+        (λ options. mode_asked (rows_of (found_of matches.now)) ≡ Some options.mode) }
 {
     if is_given(matches, "version") {
         return Err(Usage::Version);
@@ -393,9 +403,12 @@ pub fn options<'a>(
     words: &'a [&'a str],
     others: &[&'a [u8]],
 ) -> Result<TreeOptions<'a>, Usage>
-    ensures asked { (result ≡ Err OutOfMemory) ⊎ (asked_by result ≡ asking_of_texts (map (λ word. word.now) words.entry.now) (map (λ name. name.now) others.now)) }
+    ensures asked { (result ≡ Err OutOfMemory)
+        ⊎ (asked_by result ≡ asking_of_texts (map (λ word. word.now) words.entry.now)
+        (map (λ name. name.now) others.now)) }
     // What is to be done with files is what the words ask for.
-    ensures mode { IfOk result (λ options. mode_of_texts (map (λ word. word.now) words.entry.now) ≡ Some options.mode) }
+    ensures mode { IfOk result
+        (λ options. mode_of_texts (map (λ word. word.now) words.entry.now) ≡ Some options.mode) }
 {
     let Ok(command) = command(alloc) else {
         return Err(Usage::OutOfMemory);

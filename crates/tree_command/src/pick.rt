@@ -62,7 +62,8 @@ impl Shard {
 
     /// Adds what was found, where it is in this part.
     fn keep(self, found: Found, kept: &mut Vec<Found>) -> Result<(), AllocError>
-        ensures { OnOk result (kept.new.items ≡ kept.old.items ++ filter (is_of self) (found ∷ [])) }
+        ensures { OnOk result
+            (kept.new.items ≡ kept.old.items ++ filter (is_of self) (found ∷ [])) }
     {
         if !self.has(&found) {
             return Ok(());

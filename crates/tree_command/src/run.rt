@@ -57,7 +57,9 @@ fn find_part<T: Tree>(
     // Nothing is changed.
     ensures files { T.files tree.new ≡ T.files tree.old }
     ensures asked { T.asked tree.new ≡ T.asked tree.old }
-    ensures finds { IfOk result (λ found. IsPartOf (T.files tree.old) (T.faults tree.old) (T.faults tree.new) (part_told part.entry) (map (λ operand. operand.now) operands.now) found.items) }
+    ensures finds { IfOk result
+        (λ found. IsPartOf (T.files tree.old) (T.faults tree.old) (T.faults tree.new)
+        (part_told part.entry) (map (λ operand. operand.now) operands.now) found.items) }
 {
     let found = find(alloc, part.choice, operands, tree)?;
     pick(alloc, found, part.shard)
@@ -95,8 +97,12 @@ fn run<T: WritableTree, P: Progress, O: ByteSink, E: ByteSink>(
     requires out { O.failed out.old ≡ false }
     requires err { E.failed err.old ≡ false }
     // However the run goes, each file is then as it was, or, where files are to be written, it has the format of its bytes.
-    ensures kept { (name : List ℕ) → Kept mode ((T.files tree.old).told name) ((T.files tree.new).told name) }
-    ensures ends { FormatsOr quiet mode (part_told part.entry) (map (λ operand. operand.now) operands.now) (state_of T.Tree tree.old) (state_of T.Tree tree.new) (end_of O.ByteSink out.old out.new E.ByteSink err.old err.new result) }
+    ensures kept { (name : List ℕ)
+        → Kept mode ((T.files tree.old).told name) ((T.files tree.new).told name) }
+    ensures ends { FormatsOr quiet mode (part_told part.entry)
+        (map (λ operand. operand.now) operands.now) (state_of T.Tree tree.old)
+        (state_of T.Tree tree.new)
+        (end_of O.ByteSink out.old out.new E.ByteSink err.old err.new result) }
 {
     match find_part(alloc, part, operands, tree) {
         Ok(found) => {
@@ -141,7 +147,8 @@ fn without_last_nul(names: &[u8]) -> &[u8]
 
 /// The names, each ended by NUL, but for the last, which needs none.
 pub fn operands_in<'a>(alloc: Global, names: &'a [u8]) -> Result<Vec<&'a [u8]>, AllocError>
-    ensures { IfOk result (λ operands. map (λ operand. operand.now) operands.items ≡ paths_of_input names.entry.now) }
+    ensures { IfOk result
+        (λ operands. map (λ operand. operand.now) operands.items ≡ paths_of_input names.entry.now) }
 {
     let names = without_last_nul(names);
     if names.is_empty() {
@@ -152,7 +159,8 @@ pub fn operands_in<'a>(alloc: Global, names: &'a [u8]) -> Result<Vec<&'a [u8]>, 
 
 /// The current folder.
 fn here<'a>(alloc: Global) -> Result<Vec<&'a [u8]>, AllocError>
-    ensures { IfOk result (λ operands. map (λ operand. operand.now) operands.items ≡ paths_of_line []) }
+    ensures { IfOk result
+        (λ operands. map (λ operand. operand.now) operands.items ≡ paths_of_line []) }
 {
     let mut operands = Vec::new(alloc);
     match operands.push(b".".as_slice()) {
@@ -163,7 +171,9 @@ fn here<'a>(alloc: Global) -> Result<Vec<&'a [u8]>, AllocError>
 
 /// The names of a line, or the current folder where there is none.
 pub fn operands_of<'a>(alloc: Global, names: &[&'a [u8]]) -> Result<Vec<&'a [u8]>, AllocError>
-    ensures { IfOk result (λ operands. map (λ operand. operand.now) operands.items ≡ paths_of_line (map (λ name. name.now) names.now)) }
+    ensures { IfOk result
+        (λ operands. map (λ operand. operand.now) operands.items
+        ≡ paths_of_line (map (λ name. name.now) names.now)) }
 {
     if names.is_empty() {
         return here(alloc);
@@ -188,8 +198,11 @@ fn run_null<T: WritableTree, P: Progress, R: ByteSource, O: ByteSink, E: ByteSin
     requires out { O.failed out.old ≡ false }
     requires err { E.failed err.old ≡ false }
     // However the run goes, each file is then as it was, or, where files are to be written, it has the format of its bytes.
-    ensures kept { (name : List ℕ) → Kept mode ((T.files tree.old).told name) ((T.files tree.new).told name) }
-    ensures ends { ReadsAndFormats quiet mode (part_told part.entry) (R.failed input.new) (R.left input.old) (state_of T.Tree tree.old) (state_of T.Tree tree.new) (end_of O.ByteSink out.old out.new E.ByteSink err.old err.new result) }
+    ensures kept { (name : List ℕ)
+        → Kept mode ((T.files tree.old).told name) ((T.files tree.new).told name) }
+    ensures ends { ReadsAndFormats quiet mode (part_told part.entry) (R.failed input.new)
+        (R.left input.old) (state_of T.Tree tree.old) (state_of T.Tree tree.new)
+        (end_of O.ByteSink out.old out.new E.ByteSink err.old err.new result) }
 {
     let read = read_names(alloc, input);
     if input.has_failed() {
@@ -230,8 +243,11 @@ fn run_named<T: WritableTree, P: Progress, O: ByteSink, E: ByteSink>(
     requires out { O.failed out.old ≡ false }
     requires err { E.failed err.old ≡ false }
     // However the run goes, each file is then as it was, or, where files are to be written, it has the format of its bytes.
-    ensures kept { (name : List ℕ) → Kept mode ((T.files tree.old).told name) ((T.files tree.new).told name) }
-    ensures ends { FormatsNamed quiet mode (part_told part.entry) (map (λ name. name.now) names.now) (state_of T.Tree tree.old) (state_of T.Tree tree.new) (end_of O.ByteSink out.old out.new E.ByteSink err.old err.new result) }
+    ensures kept { (name : List ℕ)
+        → Kept mode ((T.files tree.old).told name) ((T.files tree.new).told name) }
+    ensures ends { FormatsNamed quiet mode (part_told part.entry) (map (λ name. name.now) names.now)
+        (state_of T.Tree tree.old) (state_of T.Tree tree.new)
+        (end_of O.ByteSink out.old out.new E.ByteSink err.old err.new result) }
 {
     match operands_of(alloc, names) {
         Ok(operands) => run(
@@ -298,7 +314,8 @@ fn run_asked<T: WritableTree, P: Progress, R: ByteSource, O: ByteSink, E: ByteSi
     requires out { O.failed out.old ≡ false }
     requires err { E.failed err.old ≡ false }
     // However the run goes, each file is then as it was, or, where files are to be written, it has the format of its bytes.
-    ensures kept { (name : List ℕ) → Kept options.now.mode ((T.files tree.old).told name) ((T.files tree.new).told name) }
+    ensures kept { (name : List ℕ)
+        → Kept options.now.mode ((T.files tree.old).told name) ((T.files tree.new).told name) }
     ensures ends { EndsAsked (asking_of options.now) (R.failed input.new) (R.left input.old)
         (state_of T.Tree tree.old) (state_of T.Tree tree.new)
         (end_of O.ByteSink out.old out.new E.ByteSink err.old err.new result) }
@@ -330,11 +347,17 @@ fn run_line<'w, T: WritableTree, P: Progress, R: ByteSource, O: ByteSink, E: Byt
     requires out { O.failed out.old ≡ false }
     requires err { E.failed err.old ≡ false }
     // However the run goes, each file is then as it was, or has the format of its bytes.
-    ensures safe { (name : List ℕ) → IsSafe ((T.files tree.old).told name) ((T.files tree.new).told name) }
+    ensures safe { (name : List ℕ)
+        → IsSafe ((T.files tree.old).told name) ((T.files tree.new).told name) }
     // It has its format only where the words ask for that.
-    ensures kept { (mode : Mode) → mode_of_texts (map (λ word. word.now) words.now) ≡ Some mode → (name : List ℕ) → Kept mode ((T.files tree.old).told name) ((T.files tree.new).told name) }
+    ensures kept { (mode : Mode) → mode_of_texts (map (λ word. word.now) words.now) ≡ Some mode
+        → (name : List ℕ) → Kept mode ((T.files tree.old).told name)
+        ((T.files tree.new).told name) }
     // What was looked at and said, and with which status it ends.
-    ensures ends { IsEndOf (map (λ word. word.now) words.now) (map (λ name. name.now) others.now) (R.failed input.new) (R.left input.old) (state_of T.Tree tree.old) (state_of T.Tree tree.new) (end_of O.ByteSink out.old out.new E.ByteSink err.old err.new result) }
+    ensures ends { IsEndOf (map (λ word. word.now) words.now) (map (λ name. name.now) others.now)
+        (R.failed input.new) (R.left input.old) (state_of T.Tree tree.old)
+        (state_of T.Tree tree.new)
+        (end_of O.ByteSink out.old out.new E.ByteSink err.old err.new result) }
 {
     match options(alloc, words, others) {
         Ok(options) => run_asked(alloc, &options, tree, progress, input, out, err),
@@ -357,11 +380,16 @@ pub fn program<T: WritableTree, P: Progress, R: ByteSource, O: ByteSink, E: Byte
     requires out { O.failed out.old ≡ false }
     requires err { E.failed err.old ≡ false }
     // However the run goes, each file is then as it was, or has the format of its bytes.
-    ensures safe { (name : List ℕ) → IsSafe ((T.files tree.old).told name) ((T.files tree.new).told name) }
+    ensures safe { (name : List ℕ)
+        → IsSafe ((T.files tree.old).told name) ((T.files tree.new).told name) }
     // It has its format only where the words ask for that.
-    ensures kept { (mode : Mode) → mode_of_words (map (λ word. word.now) words.now) ≡ Some mode → (name : List ℕ) → Kept mode ((T.files tree.old).told name) ((T.files tree.new).told name) }
+    ensures kept { (mode : Mode) → mode_of_words (map (λ word. word.now) words.now) ≡ Some mode
+        → (name : List ℕ) → Kept mode ((T.files tree.old).told name)
+        ((T.files tree.new).told name) }
     // What was looked at and said, and with which status it ends.
-    ensures ends { IsEnd (map (λ word. word.now) words.now) (R.failed input.new) (R.left input.old) (state_of T.Tree tree.old) (state_of T.Tree tree.new) (end_of O.ByteSink out.old out.new E.ByteSink err.old err.new result) }
+    ensures ends { IsEnd (map (λ word. word.now) words.now) (R.failed input.new) (R.left input.old)
+        (state_of T.Tree tree.old) (state_of T.Tree tree.new)
+        (end_of O.ByteSink out.old out.new E.ByteSink err.old err.new result) }
 {
     let Ok(words) = words_of(alloc, "tffmt-all", words) else {
         return formatter().tell_out_of_memory(out, err);

@@ -18,8 +18,13 @@ pub struct Words<'a> {
 impl<'a> Words<'a> {
     /// Takes one word more.
     fn take(&mut self, word: &'a [u8]) -> Result<(), AllocError>
-        ensures texts { OnOk result (map (λ text. text.now) self.new.texts.items ≡ map (λ text. text.now) self.old.texts.items ++ filter is_utf8 (word.now ∷ [])) }
-        ensures others { OnOk result (map (λ word. word.now) self.new.others.items ≡ map (λ word. word.now) self.old.others.items ++ filter (λ word. not (is_utf8 word)) (word.now ∷ [])) }
+        ensures texts { OnOk result
+            (map (λ text. text.now) self.new.texts.items
+            ≡ map (λ text. text.now) self.old.texts.items ++ filter is_utf8 (word.now ∷ [])) }
+        ensures others { OnOk result
+            (map (λ word. word.now) self.new.others.items
+            ≡ map (λ word. word.now) self.old.others.items
+            ++ filter (λ word. not (is_utf8 word)) (word.now ∷ [])) }
     {
         match std::str::from_utf8(word) {
             Ok(text) => match self.texts.push(text) {
@@ -52,7 +57,9 @@ pub fn words_of<'a>(
 ) -> Result<Words<'a>, AllocError>
     ensures texts { IfOk result (λ of. map (λ text. text.now) of.texts.items
         ≡ texts_in program.entry.now (map (λ word. word.now) words.now)) }
-    ensures others { IfOk result (λ of. map (λ word. word.now) of.others.items ≡ others_in (map (λ word. word.now) words.now)) }
+    ensures others { IfOk result
+        (λ of. map (λ word. word.now) of.others.items
+        ≡ others_in (map (λ word. word.now) words.now)) }
 {
     let mut of = Words {
         texts: Vec::new(alloc),
