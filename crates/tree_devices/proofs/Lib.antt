@@ -1,3 +1,4 @@
 pub mod PlanLemmas
+pub mod RunLemmas
 pub mod StoredLemmas
 pub mod UseLemmas

@@ -8,5 +8,6 @@ pub mod known;
 pub mod memory_reader;
 pub mod memory_tree;
 pub mod planned_tree;
+pub mod runs;
 pub mod stored;
 pub mod uses;

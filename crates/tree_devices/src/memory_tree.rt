@@ -228,6 +228,14 @@ impl<'a> MemoryTree<'a> {
         text_in(self.files.as_slice(), name)
     }
 
+    /// The bytes of the file to which a name leads.
+    pub fn bytes_at(&self, name: &[u8]) -> Option<&[u8]>
+        ensures { option_map (λ bytes. bytes.now) result
+            ≡ text_in self.now.files.items (real_in self.now.links.items name.now) }
+    {
+        text_in(self.files.as_slice(), real_in(self.links.as_slice(), name))
+    }
+
     fn stands(&self, name: &[u8]) -> Option<Stands<'a>> {
         let name = plain(name);
         for entry in self.entries {

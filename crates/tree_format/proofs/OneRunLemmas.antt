@@ -19,6 +19,7 @@ use Rattle.hcl_layout.specs.Print.{print}
 use Rattle.file_tree.specs.Files.{Files, Name, put}
 use Rattle.tree_format.specs.States.{State}
 use Rattle.file_tree.specs.declared.fault.TreeFault.{TreeFault}
+use Rattle.file_tree.specs.declared.tree.Replaced.{Replaced}
 use Rattle.file_tree.specs.declared.tree.Replaced.TheVariants.{Kept as AllKept, Narrowed}
 use Rattle.file_tree.specs.declared.tree.Writing.{Writing}
 use Rattle.file_tree.specs.declared.walk.Found.{Found}
@@ -219,6 +220,82 @@ even_answers (x ∷ xs) e f =
     ap (λ v. v || list_any is_uneven xs) (even_answer x (first_false (is_failed x) (list_any is_failed xs) e) (first_false (is_narrowed x) (list_any is_narrowed xs) f))
     ∙ even_answers xs (second_false (is_failed x) (list_any is_failed xs) e) (second_false (is_narrowed x) (list_any is_narrowed xs) f)
 
+-- ---- the same where rights were narrowed
+
+abbrev plain : Outcome → Outcome
+plain (outcome.Changed how) = outcome.Changed AllKept
+plain outcome.Formatted = outcome.Formatted
+plain (outcome.Differs text) = outcome.Differs text
+plain (outcome.Refused fault) = outcome.Refused fault
+plain (outcome.Failed fault) = outcome.Failed fault
+
+plain_seen : (mode : Mode) (name : Name) (fault : Option TreeFault) (answer : Outcome) (a b : State) → SeesBy mode name fault answer a b → SeesBy mode name fault (plain answer) a b
+plain_seen mode name (Some fault) answer a b s = (ap plain s.0, s.1)
+plain_seen mode name None (outcome.Changed how) a b s = (s.0, record { is = s.1.is }, s.2)
+plain_seen mode name None outcome.Formatted a b s = s
+plain_seen mode name None (outcome.Differs text) a b s = s
+plain_seen mode name None (outcome.Refused fault) a b s = s
+plain_seen mode name None (outcome.Failed fault) a b s = s
+
+plain_looked : (mode : Mode) (seen : List Found) (answers : List Outcome) (a b : State) → Looked mode seen answers a b → Looked mode seen (map plain answers) a b
+plain_looked mode [] [] a b l = l
+plain_looked mode [] (x ∷ xs) a b l = absurd l
+plain_looked mode (f ∷ seen) [] a b l = absurd l
+plain_looked mode (f ∷ seen) (x ∷ xs) a b l = (l.0, plain_seen mode f.name.items f.fault x a l.0 l.1, plain_looked mode seen xs l.0 b l.2)
+
+plain_even : (answers : List Outcome) → list_any is_uneven (map plain answers) ≡ list_any is_failed answers
+plain_even [] = refl
+plain_even (x ∷ xs) = (λ i. one x i || plain_even xs i)
+  where
+    one : (x : Outcome) → is_uneven (plain x) ≡ is_failed x
+    one (outcome.Changed how) = refl
+    one outcome.Formatted = refl
+    one (outcome.Differs text) = refl
+    one (outcome.Refused fault) = refl
+    one (outcome.Failed fault) = refl
+
+changed_out : (mode : Mode) (how : Replaced) (name : Name) → (report_of mode name (outcome.Changed how)).out ≡ (report_of mode name (outcome.Changed AllKept)).out
+changed_out (Write w) how name = refl
+changed_out Check how name = refl
+changed_out (Listed ending) how name = refl
+changed_out Diff how name = refl
+
+changed_status : (mode : Mode) (how : Replaced) (name : Name) → (report_of mode name (outcome.Changed how)).status ≡ (report_of mode name (outcome.Changed AllKept)).status
+changed_status (Write w) how name = refl
+changed_status Check how name = refl
+changed_status (Listed ending) how name = refl
+changed_status Diff how name = refl
+
+plain_out : (mode : Mode) (name : Name) (x : Outcome) → (report_of mode name x).out ≡ (report_of mode name (plain x)).out
+plain_out mode name (outcome.Changed how) = changed_out mode how name
+plain_out mode name outcome.Formatted = refl
+plain_out mode name (outcome.Differs text) = refl
+plain_out mode name (outcome.Refused fault) = refl
+plain_out mode name (outcome.Failed fault) = refl
+
+plain_status : (mode : Mode) (name : Name) (x : Outcome) → (report_of mode name x).status ≡ (report_of mode name (plain x)).status
+plain_status mode name (outcome.Changed how) = changed_status mode how name
+plain_status mode name outcome.Formatted = refl
+plain_status mode name (outcome.Differs text) = refl
+plain_status mode name (outcome.Refused fault) = refl
+plain_status mode name (outcome.Failed fault) = refl
+
+abbrev outs : Mode → List Found → List Outcome → List (List ℕ)
+outs mode seen answers = map (λ r. r.out) (reports_of mode seen answers)
+
+abbrev statuses : Mode → List Found → List Outcome → List ℕ
+statuses mode seen answers = map (λ r. r.status) (reports_of mode seen answers)
+
+plain_outs : (mode : Mode) (seen : List Found) (answers : List Outcome) → outs mode seen answers ≡ outs mode seen (map plain answers)
+plain_outs mode [] answers = refl
+plain_outs mode (f ∷ seen) [] = refl
+plain_outs mode (f ∷ seen) (x ∷ xs) = λ i. plain_out mode f.name.items x i ∷ plain_outs mode seen xs i
+
+plain_statuses : (mode : Mode) (seen : List Found) (answers : List Outcome) → statuses mode seen answers ≡ statuses mode seen (map plain answers)
+plain_statuses mode [] answers = refl
+plain_statuses mode (f ∷ seen) [] = refl
+plain_statuses mode (f ∷ seen) (x ∷ xs) = λ i. plain_status mode f.name.items x i ∷ plain_statuses mode seen xs i
+
 -- ---- runs that don't have status 4
 
 good_looks : (mode : Mode) (seen : List Found) (answers : List Outcome) (a b : State) (n : ℕ) → Looked mode seen answers a b
@@ -256,13 +333,18 @@ good_run mode found last before after end run ne =
 
 pub one_run : (mode : Mode) (found : List Found) (last other_last : List Outcome → List ℕ) (before other_before after other_after : State) (end other_end : End) → AreTold before.files found
     → other_before.files ≡ before.files → (run : IsRun mode found last before after end) → (other : IsRun mode found other_last other_before other_after other_end)
-    → end.status ≢ 4 → other_end.status ≢ 4 → list_any is_narrowed run.answers ≡ false → list_any is_narrowed other.answers ≡ false
-    → (reports_of mode run.seen run.answers ≡ reports_of mode other.seen other.answers) × (end.status ≡ other_end.status) × (after.files ≡ other_after.files)
-one_run mode found last other_last before other_before after other_after end other_end told same run other ne other_ne kept other_kept =
+    → end.status ≢ 4 → other_end.status ≢ 4
+    → (map (λ r. r.out) (reports_of mode run.seen run.answers) ≡ map (λ r. r.out) (reports_of mode other.seen other.answers)) × (end.status ≡ other_end.status) × (after.files ≡ other_after.files)
+    × (list_any is_narrowed run.answers ≡ false → list_any is_narrowed other.answers ≡ false → reports_of mode run.seen run.answers ≡ reports_of mode other.seen other.answers)
+one_run mode found last other_last before other_before after other_after end other_end told same run other ne other_ne =
     let g = good_run mode found last before after end run ne in
     let h = good_run mode found other_last other_before other_after other_end other other_ne in
-    let one = one_looked mode found run.answers other.answers before after other_before other_after told same g.1.looks h.1.looks (even_answers run.answers g.1.good kept) (even_answers other.answers h.1.good other_kept) in (
-      ap (λ l. reports_of mode l run.answers) (sym g.0) ∙ one.0 ∙ ap (λ l. reports_of mode l other.answers) h.0,
-      g.1.exit ∙ ap (λ rs. worst (map (λ r. r.status) rs)) one.0 ∙ sym h.1.exit,
-      one.1,
+    let p = one_looked mode found (map plain run.answers) (map plain other.answers) before after other_before other_after told same (plain_looked mode found run.answers before after g.1.looks)
+    (plain_looked mode found other.answers other_before other_after h.1.looks) (plain_even run.answers ∙ g.1.good) (plain_even other.answers ∙ h.1.good) in (
+      ap (λ l. outs mode l run.answers) (sym g.0) ∙ plain_outs mode found run.answers ∙ ap (λ rs. map (λ (r : Report). r.out) rs) p.0 ∙ sym (plain_outs mode found other.answers) ∙ ap (λ l. outs mode l other.answers) h.0,
+      g.1.exit ∙ ap worst (plain_statuses mode found run.answers) ∙ ap (λ rs. worst (map (λ (r : Report). r.status) rs)) p.0 ∙ ap worst (sym (plain_statuses mode found other.answers)) ∙ sym h.1.exit,
+      p.1,
+      λ kept other_kept.
+          let one = one_looked mode found run.answers other.answers before after other_before other_after told same g.1.looks h.1.looks (even_answers run.answers g.1.good kept) (even_answers other.answers h.1.good other_kept) in
+          ap (λ l. reports_of mode l run.answers) (sym g.0) ∙ one.0 ∙ ap (λ l. reports_of mode l other.answers) h.0,
     )

@@ -1,6 +1,6 @@
 //! What is proved of the definitions alone. No program calls these functions: their contracts are the laws.
 
-ghost use Rattle.std.specs.Prelude.{◌≡◌, ◌≢◌, ◌||◌, ℕ, List, [], false, true};
+ghost use Rattle.std.specs.Prelude.{◌≡◌, ◌≢◌, ◌||◌, ℕ, List, [], false, map, true};
 ghost use Rattle.std.specs.List.{list_any};
 ghost use Rattle.command_line.specs.Rows.{End};
 ghost use Rattle.file_tree.specs.declared.walk.Found.{Found};
@@ -16,24 +16,24 @@ use hcl_scan::laws::{list_or_fault, text_or_fault};
 /// fault of a call of the device, in the walk or in the look, or memory ran out: `Looked` has it.
 pub fn failures_are_real()
     ensures { (mode : Mode) (found : List Found) (last : List Outcome → List ℕ)
-        (before after : State) (end : End)
-        → (run : IsRun mode found last before after end) → end.status ≡ 4
+        (before after : State) (end : End) → (run : IsRun mode found last before after end)
+        → end.status ≡ 4
         → (end.out.failed || end.err.failed) ≡ false → list_any is_failed run.answers ≡ true }
 {}
 
-/// Unless something fails, a run is a function of the names that were found and of the files: of two runs over the same
-/// files, neither of which has status 4 or narrowed the rights to a file, the same is said of each name, the status is the
-/// same, and so are the files after.
+/// Unless something fails, a run is a function of the names that were found and of the files: two runs over the same files,
+/// neither of which has status 4, print the same of each name, and have the same status and the same files after. Where
+/// neither narrowed the rights to a file, they say the same of each name too.
 pub fn one_run()
     ensures { (mode : Mode) (found : List Found) (last other_last : List Outcome → List ℕ)
         (before other_before after other_after : State) (end other_end : End)
-        → AreTold before.files found → other_before.files ≡ before.files
-        → (run : IsRun mode found last before after end)
-        → (other : IsRun mode found other_last other_before other_after other_end)
+        → AreTold before.files found
+        → other_before.files ≡ before.files → (run : IsRun mode found last before after end) → (other : IsRun mode found other_last other_before other_after other_end)
         → end.status ≢ 4 → other_end.status ≢ 4
-        → list_any is_narrowed run.answers ≡ false → list_any is_narrowed other.answers ≡ false
-        → (reports_of mode run.seen run.answers ≡ reports_of mode other.seen other.answers)
-        × (end.status ≡ other_end.status) × (after.files ≡ other_after.files) }
+        → (map (λ r. r.out) (reports_of mode run.seen run.answers) ≡ map (λ r. r.out) (reports_of mode other.seen other.answers))
+        × (end.status ≡ other_end.status) × (after.files ≡ other_after.files)
+        × (list_any is_narrowed run.answers ≡ false → list_any is_narrowed other.answers ≡ false
+        → reports_of mode run.seen run.answers ≡ reports_of mode other.seen other.answers) }
 {}
 
 /// Each file has a format, or a fault for which it has none. The body shows it for bytes that are there: it loads and scans,
@@ -50,6 +50,5 @@ pub fn format_or_fault(bytes: &[u8])
 /// Over names whose files are told, and for which there is memory, there is a run in which nothing fails.
 pub fn a_run()
     ensures { (mode : Mode) (found : List Found) (before : State) → AreReady mode before.files found
-        → (after : State) × (end : End)
-        × (run : IsRun mode found (λ answers. []) before after end) × (end.status ≢ 4) }
+        → (after : State) × (end : End) × (run : IsRun mode found (λ answers. []) before after end) × (end.status ≢ 4) }
 {}

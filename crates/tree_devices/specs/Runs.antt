@@ -1,0 +1,42 @@
+-- What runs over trees in memory say.
+use Rattle.std.specs.Prelude.{◌≡◌, ◌≢◌, ◌⊎◌, ◌||◌, Bool, true, false, ℕ, List, [], ◌∷◌, Option, Some, None}
+use Rattle.std.specs.List.{list_any}
+use Rattle.command_line.specs.Rows.{End}
+use Rattle.file_tree.specs.Files.{Faults, Files, Name}
+use Rattle.file_tree.specs.declared.fault.TreeFault.{TreeFault}
+use Rattle.file_tree.specs.declared.fault.TreeFault.TheVariants.{OutOfMemory}
+use Rattle.file_tree.specs.declared.tree.Writing.{Writing}
+use Rattle.file_tree.specs.declared.walk.Found.{Found}
+use Rattle.tree_format.specs.GoodRuns.{HasFormatOrFault, IsReady}
+use Rattle.tree_format.specs.Looks.{failure_of}
+use Rattle.tree_format.specs.Runs.{IsRun, is_failed}
+use Rattle.tree_format.specs.States.{State}
+use Rattle.tree_format.specs.declared.mode.Mode.{Mode}
+use Rattle.tree_format.specs.declared.mode.Mode.TheVariants.{Write}
+use Rattle.tree_format.specs.declared.outcome.Outcome.{Outcome}
+
+-- a fault in a list, where there is one
+abbrev pub faults_of : Option TreeFault → List TreeFault
+faults_of None = []
+faults_of (Some fault) = fault ∷ []
+
+-- the tree told the fault of this answer as the one fault of its calls, or none where memory ran out
+abbrev pub NotesOne : Faults → Outcome → Type 0
+NotesOne told answer = (told ≡ Some (faults_of (failure_of answer))) ⊎ ((failure_of answer ≡ Some OutOfMemory) × (told ≡ Some []))
+
+-- where this run has status 4 and no writer failed, a look of it failed
+abbrev pub FailsByALook : Mode → List Found → State → State → End → Type 0
+FailsByALook mode found before after end =
+    end.status ≡ 4 → (end.out.failed || end.err.failed) ≡ false → (run : IsRun mode found (λ answers. []) before after end) × (list_any is_failed run.answers ≡ true)
+
+-- the tree tells the bytes of the file to which a name leads, which have a format or a fault
+abbrev pub IsToldIn : Files → Name → Type 0
+IsToldIn files name = (bytes : List ℕ) × (files.told (files.real name) ≡ Some bytes) × HasFormatOrFault bytes
+
+-- nothing stands in the way of a look at a file that is to be written
+abbrev pub IsReadyIn : Files → Found → Type 0
+IsReadyIn files f = (writing : Writing) → (f.fault ≡ None) × IsReady (Write writing) f.name.items (files.told (files.real f.name.items))
+
+-- there is a run over these files in which nothing fails
+abbrev pub HasGoodRun : List Found → State → Type 0
+HasGoodRun found before = (writing : Writing) → (after : State) × (end : End) × (run : IsRun (Write writing) found (λ answers. []) before after end) × (end.status ≢ 4)
