@@ -27,10 +27,12 @@ pub fn failures_are_real()
 pub fn one_run()
     ensures { (mode : Mode) (found : List Found) (last other_last : List Outcome → List ℕ)
         (before other_before after other_after : State) (end other_end : End)
-        → AreTold before.files found
-        → other_before.files ≡ before.files → (run : IsRun mode found last before after end) → (other : IsRun mode found other_last other_before other_after other_end)
+        → AreTold before.files found → other_before.files ≡ before.files
+        → (run : IsRun mode found last before after end)
+        → (other : IsRun mode found other_last other_before other_after other_end)
         → end.status ≢ 4 → other_end.status ≢ 4
-        → (map (λ r. r.out) (reports_of mode run.seen run.answers) ≡ map (λ r. r.out) (reports_of mode other.seen other.answers))
+        → (map (λ r. r.out) (reports_of mode run.seen run.answers)
+        ≡ map (λ r. r.out) (reports_of mode other.seen other.answers))
         × (end.status ≡ other_end.status) × (after.files ≡ other_after.files)
         × (list_any is_narrowed run.answers ≡ false → list_any is_narrowed other.answers ≡ false
         → reports_of mode run.seen run.answers ≡ reports_of mode other.seen other.answers) }
@@ -50,5 +52,6 @@ pub fn format_or_fault(bytes: &[u8])
 /// Over names whose files are told, and for which there is memory, there is a run in which nothing fails.
 pub fn a_run()
     ensures { (mode : Mode) (found : List Found) (before : State) → AreReady mode before.files found
-        → (after : State) × (end : End) × (run : IsRun mode found (λ answers. []) before after end) × (end.status ≢ 4) }
+        → (after : State) × (end : End)
+        × (run : IsRun mode found (λ answers. []) before after end) × (end.status ≢ 4) }
 {}
