@@ -297,8 +297,9 @@ impl LaidLine {
         self.width(tokens, self.first, 0, number)
     }
 
-    /// The width before a comment, where the sign is set.
-    #[inline(always)]
+    /// The width before a comment, where the sign is set. It is a call, since [`Lines::next`] would grow too large to be
+    /// inlined with it.
+    #[inline(never)]
     fn comment_width(self, tokens: &Measured<'_, '_>, number: usize) -> u64
         requires laid { Laid tokens.now.tokens self }
         requires signed { IsSigned (shape self) (text_of tokens.now.tokens self) }
