@@ -294,7 +294,7 @@ fn failing(rt: &impl Abort, alloc: Global, call: usize) -> (u8, bool, bool) {
 
 #[test]
 fn each_failed_call_is_told(rt: HostRuntime) {
-    let mut count = 0;
+    let mut count: u64 = 0;
     for call in 0..100 {
         let (status, has_failed, is_told) = failing(&rt, rt.alloc(), call);
         assert!(&rt; status == 1 && is_told, "where call {call} fails");

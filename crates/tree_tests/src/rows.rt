@@ -170,7 +170,8 @@ usage: tffmt-all [--check | --diff | --list] [--in-place] [--sync] [--quiet]
 const BOGUS: &str = "\
 tffmt-all: error: unknown option --bogus
 usage: tffmt-all [--check | --diff | --list] [--in-place] [--sync] [--quiet]
-                 [--shard K/N] [--null] [--] [FILE|FOLDER]...
+                 [--shard K/N] [--exclude PATH]... [--any-name] [--null] [--]
+                 [FILE|FOLDER]...
 ";
 
 /// Files get their format.
