@@ -227,5 +227,5 @@ fn each_call_fails_where_differences_are_shown(rt: HostRuntime) {
 #[test]
 fn each_call_fails_where_no_file_is_looked_at(rt: HostRuntime) {
     fail_row(&rt, rt.alloc(), &VERSION, STEADY, (544, 4));
-    fail_row(&rt, rt.alloc(), &BAD_WORD, STEADY, (180, 1));
+    fail_row(&rt, rt.alloc(), &BAD_WORD, STEADY, (230, 1));
 }
