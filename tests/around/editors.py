@@ -256,8 +256,8 @@ BATCH = '''
 (let ((began (float-time (get-internal-run-time))) (word (copy-marker 5)))
   (tffmt)
   (princ (format "in time: %S\\n" (< (- (float-time (get-internal-run-time)) began) 5)))
-  (princ (format "point stands behind: %S\\n" (buffer-substring (line-beginning-position) (point))))
-  (princ (format "a marker stands behind: %S\\n" (buffer-substring 1 word))))
+  (princ (format "point stands after: %S\\n" (buffer-substring (line-beginning-position) (point))))
+  (princ (format "a marker stands after: %S\\n" (buffer-substring 1 word))))
 (set-buffer-modified-p t)
 (save-buffer)
 '''
@@ -283,8 +283,8 @@ def batch(group):
             'loading turns on: nil',
             'undo restores: t',
             'in time: t',
-            'point stands behind: "a777   ="',
-            'a marker stands behind: "a0     = 0"',
+            'point stands after: "a777   ="',
+            'a marker stands after: "a0     = 0"',
         ],
     )
     group.check('with no other message', err.decode().splitlines()[1:], [])

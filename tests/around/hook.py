@@ -379,7 +379,7 @@ def filters(group):
     put(here.top, {'.gitattributes': b'*.tfvars filter=turned\n'})
     here.stage({'secret.tfvars': GOOD})
     group.check('a filter turns the text', here.git('cat-file', 'blob', ':secret.tfvars')[1] != GOOD, True)
-    group.check('a formatted file behind a filter', here.commit(), (True, b''))
+    group.check('a formatted file after a filter', here.commit(), (True, b''))
     here.stage({'secret.tfvars': OTHER})
     group.check(
         'another one', here.commit(), (False, said('secret.tfvars: not formatted', FORMAT, mend('secret.tfvars')))

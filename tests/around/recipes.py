@@ -59,7 +59,7 @@ def completions(group):
         group.check(
             'bash: files and folders', bash('tffmt-all --check '), [b'good.tf', b'in', b't.tftest.hcl', b'v.tfvars']
         )
-        group.check('bash: no option behind --', bash('tffmt-all -- --'), [])
+        group.check('bash: no option after --', bash('tffmt-all -- --'), [])
         group.check('bash: what is excluded', bash('tffmt-all --exclude i'), [b'in'])
         for name in ('tfrules', 'tfrules-modules'):
             group.check(

@@ -7,7 +7,7 @@ import xml.etree.ElementTree
 
 from harness import BAD, TOP, lines, put
 
-# Names that hold what else stands behind a name.
+# Names that hold what else stands after a name.
 NAMES = [
     'a:1:1.tf',
     'new\nline/x.tf',

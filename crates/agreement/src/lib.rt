@@ -20,10 +20,15 @@ ghost use Rattle.agreement.specs.Formatted.{IsFormatted, without_columns};
 /// them is too large for a source; and a report of the formatted files has the same issues in the same order, with the
 /// same lines, rules and messages: columns alone may differ.
 pub fn agree_at_any_size()
-    ensures accepted { (files formatted : List NamedFile) (sources : List Scanned) → AllZip IsAcceptedAs files sources → AllZip IsFormatted files formatted
-        → All (λ f. length f.bytes ≤ max_source) formatted → (others : List Scanned) × AllZip IsAcceptedAs formatted others }
-    ensures reports { (asked : issues.Asked) (files formatted : List NamedFile) (sources others : List Scanned) (report other : List issues.Issue) → AllZip IsFormatted files formatted
-        → AllZip IsAcceptedAs files sources → AllZip IsAcceptedAs formatted others → issues.IsReport asked (numbered_files 0 sources) report
+    ensures accepted { (files formatted : List NamedFile) (sources : List Scanned)
+        → AllZip IsAcceptedAs files sources → AllZip IsFormatted files formatted
+        → All (λ f. length f.bytes ≤ max_source) formatted
+        → (others : List Scanned) × AllZip IsAcceptedAs formatted others }
+    ensures reports { (asked : issues.Asked) (files formatted : List NamedFile)
+        (sources others : List Scanned) (report other : List issues.Issue)
+        → AllZip IsFormatted files formatted
+        → AllZip IsAcceptedAs files sources → AllZip IsAcceptedAs formatted others
+        → issues.IsReport asked (numbered_files 0 sources) report
         → issues.IsReport asked (numbered_files 0 others) other → told_all report ≡ told_all other }
 {}
 
@@ -31,10 +36,16 @@ pub fn agree_at_any_size()
 /// has the same issues in the same order, with the same lines, rules and messages, and the same status: columns alone may
 /// differ.
 pub fn agree()
-    ensures accepted { (files formatted : List NamedFile) (sources : List Scanned) → AreAccepted files sources → AllZip IsFormatted files formatted
-        → All (λ f. length f.bytes ≤ max_source) formatted → size_of formatted ≤ max_module → (others : List Scanned) × AreAccepted formatted others }
-    ensures issues { (asking : Asking) (files formatted : List NamedFile) (row other : Row) → AllZip IsFormatted files formatted
-        → (first : IsReported asking files row) → (again : IsReported asking formatted other) → without_columns first.issues ≡ without_columns again.issues }
-    ensures status { (asking : Asking) (files formatted : List NamedFile) (row other : Row) → AllZip IsFormatted files formatted
-        → IsReported asking files row → IsReported asking formatted other → row.status ≡ other.status }
+    ensures accepted { (files formatted : List NamedFile) (sources : List Scanned)
+        → AreAccepted files sources → AllZip IsFormatted files formatted
+        → All (λ f. length f.bytes ≤ max_source) formatted → size_of formatted ≤ max_module
+        → (others : List Scanned) × AreAccepted formatted others }
+    ensures issues { (asking : Asking) (files formatted : List NamedFile) (row other : Row)
+        → AllZip IsFormatted files formatted
+        → (first : IsReported asking files row) → (again : IsReported asking formatted other)
+        → without_columns first.issues ≡ without_columns again.issues }
+    ensures status { (asking : Asking) (files formatted : List NamedFile) (row other : Row)
+        → AllZip IsFormatted files formatted
+        → IsReported asking files row → IsReported asking formatted other
+        → row.status ≡ other.status }
 {}

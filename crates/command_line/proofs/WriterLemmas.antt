@@ -19,10 +19,10 @@ appends_nothing None = tt
 appends_nothing (Some a) = sym (append-nil a)
 
 -- a text was taken before
-pub took_behind : (a b c : Option (List ℕ)) (f : Bool) (s t : List ℕ) → Appends a b s
+pub took_after : (a b c : Option (List ℕ)) (f : Bool) (s t : List ℕ) → Appends a b s
     → TookBy f b c t → TookBy f a c (s ++ t)
-took_behind a b c false s t p q = appends_then a b c s t p q
-took_behind a b c true s t p q =
+took_after a b c false s t p q = appends_then a b c s t p q
+took_after a b c true s t p q =
     let front : take (length s + q.0) (s ++ t) ≡ s ++ take q.0 t = take-append-add s t q.0 in
     let within : q.0 ≤ length t = q.1 in
     (length s + q.0, omega (arith, length-append s t), subst (Appends a c) (sym front) (appends_then a b c s (take q.0 t) p q.2))
@@ -57,7 +57,7 @@ abbrev pub Goes : Option (List ℕ) → Option (List ℕ) → List ℕ → List 
 Goes start now rest whole = (after : Option (List ℕ)) (f : Bool) → TookBy f now after rest → TookBy f start after whole
 
 pub goes_on : (start now next : Option (List ℕ)) (text rest all whole : List ℕ) → all ≡ text ++ rest → Appends now next text → Goes start now all whole → Goes start next rest whole
-goes_on start now next text rest all whole e taken go = λ after f t. go after f (subst (TookBy f now after) (sym e) (took_behind now next after f text rest taken t))
+goes_on start now next text rest all whole e taken go = λ after f t. go after f (subst (TookBy f now after) (sym e) (took_after now next after f text rest taken t))
 
 pub goes_wrong : (start now after : Option (List ℕ)) (f : Bool) (text rest all whole : List ℕ) → all ≡ text ++ rest → f ≡ true → TookBy f now after text → Goes start now all whole
     → TookBy f start after whole

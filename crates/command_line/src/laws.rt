@@ -10,5 +10,6 @@ ghost use Rattle.command_line.specs.Faults.{One};
 /// A line of words for a command without subcommands has one fault at most, so which fault a
 /// program answers is a function of the words; and it is never running out of memory.
 pub fn one_fault()
-    ensures { (app : App) (words : List Text) → (built app).subs ≡ [] → (built app).top.is_leaf ≡ true → One (fault_of app words) }
+    ensures { (app : App) (words : List Text) → (built app).subs ≡ []
+        → (built app).top.is_leaf ≡ true → One (fault_of app words) }
 {}

@@ -40,7 +40,8 @@ pub fn process_words(rt: &HostRuntime) -> Result<Vec<String>, NoWords> {
 
 /// The same texts, borrowed.
 pub fn borrowed_words<'a>(alloc: Global, words: &'a [String]) -> Result<Vec<&'a str>, AllocError>
-    ensures { IfOk result (λ texts. map (λ text. text.now) texts.items ≡ map string_bytes words.entry.now) }
+    ensures { IfOk result (λ texts. map (λ text. text.now) texts.items
+        ≡ map string_bytes words.entry.now) }
 {
     let mut texts = Vec::new(alloc);
     for word in words {

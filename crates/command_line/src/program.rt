@@ -14,7 +14,8 @@ impl Program {
         requires { E.failed err.old ≡ false }
         ensures took { Took (writer E.ByteSink err.old err.new) message.now }
         ensures exit { result ≡ (if E.failed err.new then self.now.failure else status) }
-        ensures unflushed { E.failed err.new ≡ false → 0 < length message.now → E.flushed err.new ≡ false }
+        ensures unflushed { E.failed err.new ≡ false → 0 < length message.now
+            → E.flushed err.new ≡ false }
         ensures untouched { length message.now ≡ 0 → E.failed err.new ≡ false }
         ensures no_flush { E.flushes err.new ≡ E.flushes err.old }
     {
@@ -34,7 +35,8 @@ impl Program {
     ) -> u8
         requires out { O.failed out.old ≡ false }
         requires err { E.failed err.old ≡ false }
-        ensures { Shows self.now (message_row message.now status) (end_of O.ByteSink out.old out.new E.ByteSink err.old err.new result) }
+        ensures { Shows self.now (message_row message.now status)
+            (end_of O.ByteSink out.old out.new E.ByteSink err.old err.new result) }
     {
         self.tell_bytes(out, err, message.as_bytes(), status)
     }
@@ -49,7 +51,8 @@ impl Program {
     ) -> u8
         requires out { O.failed out.old ≡ false }
         requires err { E.failed err.old ≡ false }
-        ensures { Shows self.now (message_row message.now status) (end_of O.ByteSink out.old out.new E.ByteSink err.old err.new result) }
+        ensures { Shows self.now (message_row message.now status)
+            (end_of O.ByteSink out.old out.new E.ByteSink err.old err.new result) }
     {
         let _ = &*out;
         self.complain(err, message, status)
@@ -59,7 +62,8 @@ impl Program {
     pub fn tell_out_of_memory<O: ByteSink, E: ByteSink>(&self, out: &mut O, err: &mut E) -> u8
         requires out { O.failed out.old ≡ false }
         requires err { E.failed err.old ≡ false }
-        ensures { Shows self.now (out_of_memory self.now) (end_of O.ByteSink out.old out.new E.ByteSink err.old err.new result) }
+        ensures { Shows self.now (out_of_memory self.now)
+            (end_of O.ByteSink out.old out.new E.ByteSink err.old err.new result) }
     {
         self.tell(out, err, self.out_of_memory(), self.failure())
     }
@@ -74,7 +78,8 @@ impl Program {
     ) -> u8
         requires out { O.failed out.old ≡ false }
         requires err { E.failed err.old ≡ false }
-        ensures { ShowsOne self.now (IsLineRow self.now line status) (end_of O.ByteSink out.old out.new E.ByteSink err.old err.new result) }
+        ensures { ShowsOne self.now (IsLineRow self.now line status)
+            (end_of O.ByteSink out.old out.new E.ByteSink err.old err.new result) }
     {
         match line {
             Ok(line) => self.tell(out, err, line.as_str(), status),
@@ -85,9 +90,12 @@ impl Program {
     /// Ends a run that wrote to standard output: gives the status, or says that a write failed.
     pub fn finish<O: ByteSink, E: ByteSink>(&self, out: &O, err: &mut E, status: u8) -> u8
         requires err { E.failed err.old ≡ false }
-        ensures took { Took (writer E.ByteSink err.old err.new) (if O.failed out.now then write_failed self.now else []) }
-        ensures exit { result ≡ (if O.failed out.now || E.failed err.new then self.now.failure else status) }
-        ensures unflushed { E.failed err.new ≡ false → O.failed out.now ≡ true → E.flushed err.new ≡ false }
+        ensures took { Took (writer E.ByteSink err.old err.new)
+            (if O.failed out.now then write_failed self.now else []) }
+        ensures exit { result ≡ (if O.failed out.now || E.failed err.new then self.now.failure
+            else status) }
+        ensures unflushed { E.failed err.new ≡ false → O.failed out.now ≡ true
+            → E.flushed err.new ≡ false }
         ensures untouched { O.failed out.now ≡ false → E.failed err.new ≡ false }
         ensures no_flush { E.flushes err.new ≡ E.flushes err.old }
     {
@@ -107,7 +115,8 @@ impl Program {
     ) -> u8
         requires out { O.failed out.old ≡ false }
         requires err { E.failed err.old ≡ false }
-        ensures { Shows self.now (output_row text.now status) (end_of O.ByteSink out.old out.new E.ByteSink err.old err.new result) }
+        ensures { Shows self.now (output_row text.now status)
+            (end_of O.ByteSink out.old out.new E.ByteSink err.old err.new result) }
     {
         say(out, text);
         self.finish(out, err, status)
@@ -119,7 +128,8 @@ fn say<O: ByteSink>(out: &mut O, text: &str)
     requires { O.failed out.old ≡ false }
     ensures took { Took (writer O.ByteSink out.old out.new) text.now }
     ensures flushed { O.failed out.new ≡ false → 0 < length text.now → O.flushed out.new ≡ true }
-    ensures once { O.failed out.new ≡ false → 0 < length text.now → O.flushes out.new ≡ one_more (O.flushes out.old) }
+    ensures once { O.failed out.new ≡ false → 0 < length text.now
+        → O.flushes out.new ≡ one_more (O.flushes out.old) }
     ensures untouched { length text.now ≡ 0 → O.failed out.new ≡ false }
     ensures no_flush { length text.now ≡ 0 → O.flushes out.new ≡ O.flushes out.old }
 {

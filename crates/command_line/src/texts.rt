@@ -24,7 +24,8 @@ impl Model for Program {
     ghost view = { λ p. record { name = p.name.now; failure = p.failure } };
 
     ghost invariant = { λ p. (p.failed_write.now ≡ rows.write_failed (record { name = p.name.now; failure = p.failure }))
-        × (p.no_memory.now ≡ (rows.out_of_memory (record { name = p.name.now; failure = p.failure })).err) };
+        × (p.no_memory.now ≡ (rows.out_of_memory
+        (record { name = p.name.now; failure = p.failure })).err) };
 }
 
 impl Program {
@@ -35,8 +36,10 @@ impl Program {
         failed_write: &'static str,
         no_memory: &'static str,
     ) -> Program
-        requires failed_write { failed_write.now ≡ write_failed (record { name = name.now; failure = failure }) }
-        requires no_memory { no_memory.now ≡ (out_of_memory (record { name = name.now; failure = failure })).err }
+        requires failed_write { failed_write.now
+            ≡ write_failed (record { name = name.now; failure = failure }) }
+        requires no_memory { no_memory.now
+            ≡ (out_of_memory (record { name = name.now; failure = failure })).err }
         ensures { result ≡ record { name = name.entry.now; failure = failure } }
     {
         Program {

@@ -7,7 +7,7 @@ use Rattle.hcl_tokens.specs.declared.token.Kind.TheVariants.{Assign, BraceClose,
 use Rattle.hcl_tokens.specs.Lexemes.{Lexeme}
 use Rattle.hcl_tokens.specs.declared.token.Kind.{Kind}
 use Rattle.hcl_grammar.specs.Numbered.{Numbered, numbered, numbered_from, without_comments, is_comment, end_of}
-use Rattle.hcl_grammar.specs.Items.{deepen, is_closed, onto, pieces, behind_brace, block_end, body, block, item_of, items, label_at, labels, outline, closing_quote}
+use Rattle.hcl_grammar.specs.Items.{deepen, is_closed, onto, pieces, after_brace, block_end, body, block, item_of, items, label_at, labels, outline, closing_quote}
 use Rattle.hcl_grammar.specs.ItemOrder.{Climbs, Spans, lead, past}
 use Rattle.hcl_grammar.specs.declared.item.Item.{Item}
 use Rattle.hcl_grammar.specs.declared.item.Item.TheVariants as item
@@ -103,9 +103,9 @@ end_within from to [] h = omega arith
 end_within from to (t ∷ []) h = h.1
 end_within from to (t ∷ u ∷ ts) h = end_within (t.number + 1) to (u ∷ ts) h.1
 
-end_behind : (to : ℕ) (t : Numbered) (ts : List Numbered) → Rises (t.number + 1) ts to → t.number + 1 ≤ end_of (t ∷ ts)
-end_behind to t [] h = omega arith
-end_behind to t (u ∷ us) h = omega (arith, h.0, end_behind to u us h.1)
+end_after : (to : ℕ) (t : Numbered) (ts : List Numbered) → Rises (t.number + 1) ts to → t.number + 1 ≤ end_of (t ∷ ts)
+end_after to t [] h = omega arith
+end_after to t (u ∷ us) h = omega (arith, h.0, end_after to u us h.1)
 
 -- the labels in front of the first opening brace, and what follows it
 label_climbs : (n : ℕ) (k : Kind) (rest : List Numbered) → Climbs n (label_at n k rest) (n + 1)
@@ -116,12 +116,12 @@ label_climbs n k rest = by (is Ident k) (is QuoteOpen k)
     by false true = ((omega arith, omega arith), omega arith)
     by false false = omega arith
 
-labels_climb : (from to : ℕ) (ts : List Numbered) → Rises from ts to → (mid : ℕ) × Climbs from (labels ts) mid × Rises mid (behind_brace ts) to
+labels_climb : (from to : ℕ) (ts : List Numbered) → Rises from ts to → (mid : ℕ) × Climbs from (labels ts) mid × Rises mid (after_brace ts) to
 labels_climb from to [] h = (to, h, omega arith)
 labels_climb from to (t ∷ ts) h = by (is BraceOpen t.kind) (labels_climb (t.number + 1) to ts h.1)
   where
-    by : (b : Bool) → ((mid : ℕ) × Climbs (t.number + 1) (labels ts) mid × Rises mid (behind_brace ts) to)
-        → (mid : ℕ) × Climbs from (cond b [] (label_at t.number t.kind ts ++ labels ts)) mid × Rises mid (cond b ts (behind_brace ts)) to
+    by : (b : Bool) → ((mid : ℕ) × Climbs (t.number + 1) (labels ts) mid × Rises mid (after_brace ts) to)
+        → (mid : ℕ) × Climbs from (cond b [] (label_at t.number t.kind ts ++ labels ts)) mid × Rises mid (cond b ts (after_brace ts)) to
     by true r = (t.number + 1, omega (arith, h.0), h.1)
     by false r = (r.0, climbs_from from t.number r.0 (label_at t.number t.kind ts ++ labels ts) h.0 (climbs_both t.number (t.number + 1) r.0 (label_at t.number t.kind ts) (labels ts) (label_climbs t.number t.kind ts) r.1), r.2)
 
@@ -132,9 +132,9 @@ Climbing inner = (from to : ℕ) (ts : List Numbered) → Rises from ts to → C
 module _ (inner : List Numbered → List Item) (climb : Climbing inner) (level : ℕ) where
   block_climbs : (from to : ℕ) (kind : Numbered) (rest : List Numbered) → from ≤ kind.number → Rises (kind.number + 1) rest to → Climbs from (block inner level kind rest) to
   block_climbs from to kind rest h r =
-      let l : (mid : ℕ) × Climbs (kind.number + 1) (labels rest) mid × Rises mid (behind_brace rest) to = labels_climb (kind.number + 1) to rest r in (
+      let l : (mid : ℕ) × Climbs (kind.number + 1) (labels rest) mid × Rises mid (after_brace rest) to = labels_climb (kind.number + 1) to rest r in (
         (h, end_within (kind.number + 1) to (filter (λ t. is BraceClose t.kind) rest) (rises_filter (λ t. is BraceClose t.kind) (kind.number + 1) to rest r)),
-        climbs_both (kind.number + 1) l.0 to (labels rest) (inner (body rest)) l.1 (climb l.0 to (body rest) (rises_filter (λ t. nat_lt (t.number + 1) (block_end rest)) l.0 to (behind_brace rest) l.2)),
+        climbs_both (kind.number + 1) l.0 to (labels rest) (inner (body rest)) l.1 (climb l.0 to (body rest) (rises_filter (λ t. nat_lt (t.number + 1) (block_end rest)) l.0 to (after_brace rest) l.2)),
       )
 
   item_climbs : (from to : ℕ) (piece : List Numbered) → Rises from piece to → Climbs from (item_of inner level piece) to
@@ -145,7 +145,7 @@ module _ (inner : List Numbered → List Item) (climb : Climbing inner) (level :
       by : (b : Bool) → Climbs from (cond b (item.Attribute level name.number (second.number + 1) (end_of (second ∷ rest)) ∷ []) (block inner level name (second ∷ rest))) to
       by true =
           let last : end_of (second ∷ rest) ≤ to = end_within (name.number + 1) to (second ∷ rest) h.1 in
-          ((h.0, omega (arith, h.1.0), end_behind to second rest h.1.1, last), last)
+          ((h.0, omega (arith, h.1.0), end_after to second rest h.1.1, last), last)
       by false = block_climbs from to name (second ∷ rest) h.0 h.1
 
   all_climb : (from to : ℕ) (ps : List (List Numbered)) → AllRise from ps to → Climbs from (flat_map (item_of inner level) ps) to

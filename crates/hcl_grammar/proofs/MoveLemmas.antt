@@ -42,17 +42,17 @@ shift-dropped Seen c a h = cc
 shift-dropped Dropped Newline a h = refl
 shift-dropped Dropped _ a h = cc
 
-shift-behind : (c : Class) (a : List Opener) (xs ss : List Marked) → Shift c a (owes_all xs) → Shift c (a ++ owes_all ss) (owes_all (xs ++ ss))
-shift-behind c a xs ss h = subst (λ l. Shift c (a ++ owes_all ss) l) (sym (owes_all-append xs ss)) (shift-above c a (owes_all xs) (owes_all ss) h)
+shift-after : (c : Class) (a : List Opener) (xs ss : List Marked) → Shift c a (owes_all xs) → Shift c (a ++ owes_all ss) (owes_all (xs ++ ss))
+shift-after c a xs ss h = subst (λ l. Shift c (a ++ owes_all ss) l) (sym (owes_all-append xs ss)) (shift-above c a (owes_all xs) (owes_all ss) h)
 
 taken-moves : (P : ℕ → Type 0) (count : ℕ) (r : Action) (a : List Opener) (ss : List Marked) (passed : Effect) (t : Lookahead) → RowMoves P r a t.class → P t.number → HaveNumbers P ss →
     EffectMoves P passed (owes_all ss) t.class → EffectMoves P (row_effect count r ss passed t) (a ++ owes_all ss) t.class
 taken-moves P count none a ss passed t h p k q = p
 taken-moves P count nothing a ss passed t h p k q = subst (λ l. EffectMoves P passed (l ++ owes_all ss) t.class) h q
-taken-moves P count (reads xs) a ss passed t h p k q = (shift-behind t.class a xs ss h.0, numbers-append P xs ss h.1 k)
+taken-moves P count (reads xs) a ss passed t h p k q = (shift-after t.class a xs ss h.0, numbers-append P xs ss h.1 k)
 taken-moves P count (opens n xs) a ss passed t h p k q = elim (nat_lt count max_directives) as (λ b. EffectMoves P (cond b (on (count + 1) (xs ++ ss)) (stop (TooDeep n))) (a ++ owes_all ss) t.class)
-    [ true ↦ (shift-behind t.class a xs ss h.0, numbers-append P xs ss h.1 k) | false ↦ h.2 ]
-taken-moves P count (closes xs) a ss passed t h p k q = (shift-behind t.class a xs ss h.0, numbers-append P xs ss h.1 k)
+    [ true ↦ (shift-after t.class a xs ss h.0, numbers-append P xs ss h.1 k) | false ↦ h.2 ]
+taken-moves P count (closes xs) a ss passed t h p k q = (shift-after t.class a xs ss h.0, numbers-append P xs ss h.1 k)
 
 effect-by : (P : ℕ → Type 0) (count : ℕ) (s : Symbol) (m : Newlines) (ss : List Marked) (t : Lookahead) (b : Bool) → drops m t.class ≡ b → P t.number → HaveNumbers P (s at m ∷ ss) →
     EffectMoves P (effect count ss t) (owes_all ss) t.class → EffectMoves P (cond b (on count (s at m ∷ ss)) (row_effect count (row s m t) ss (effect count ss t) t)) (owes s ++ owes_all ss) t.class

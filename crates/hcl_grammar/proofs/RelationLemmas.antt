@@ -8,7 +8,7 @@ use Rattle.hcl_grammar.specs.declared.refusal.Refusal.TheVariants.{UnexpectedTok
 use Rattle.hcl_grammar.specs.Classes.{drops}
 use Rattle.hcl_grammar.specs.Grammar.{Symbol, Marked, ◌at◌, Action, none, nothing, reads, opens, closes, row, ends}
 use Rattle.hcl_grammar.specs.Predictor.{max_directives, ending, on, stop, opening_directive, row_effect, effect, next, run}
-use Rattle.hcl_grammar.specs.Relation.{Step, dropped, read, opened, closed, gone, Refuses, nothing_waited_for, no_row, too_deep, behind, Ending, complete, wanting, ended, ComesTo, at_end, step, refused}
+use Rattle.hcl_grammar.specs.Relation.{Step, dropped, read, opened, closed, gone, Refuses, nothing_waited_for, no_row, too_deep, past, Ending, complete, wanting, ended, ComesTo, at_end, step, refused}
 
 effect-row : (count : ℕ) (s : Symbol) (m : Newlines) (ss : List Marked) (t : Lookahead) (r : Action) → drops m t.class ≡ false → row s m t ≡ r → effect count (s at m ∷ ss) t ≡ row_effect count r ss (effect count ss t) t
 effect-row count s m ss t r d e = ap (λ b. cond b (on count (s at m ∷ ss)) (row_effect count (row s m t) ss (effect count ss t) t)) d ∙ ap (λ x. row_effect count x ss (effect count ss t) t) e
@@ -30,7 +30,7 @@ refuses-effect : (count : ℕ) (ss : List Marked) (t : Lookahead) (r : Refusal) 
 refuses-effect count ss t r (nothing_waited_for c u) = refl
 refuses-effect count ss t r (no_row c s m vs u d e) = effect-row c s m vs u none d e
 refuses-effect count ss t r (too_deep c n s m xs vs u d e many) = effect-row c s m vs u (opens n xs) d e ∙ opening-stop c n (xs ++ vs) many
-refuses-effect count ss t r (behind c s m vs u f d e h) = effect-row c s m vs u nothing d e ∙ refuses-effect c vs u f h
+refuses-effect count ss t r (past c s m vs u f d e h) = effect-row c s m vs u nothing d e ∙ refuses-effect c vs u f h
 
 ending-is : (ss : List Marked) (o : Option Refusal) → Ending ss o → ending ss ≡ o
 ending-is ss o complete = refl
@@ -51,7 +51,7 @@ Moves count ss t = ((later : ℕ) × (us : List Marked) × Step count ss t later
 moves-row : (count : ℕ) (s : Symbol) (m : Newlines) (ss : List Marked) (t : Lookahead) (r : Action) → drops m t.class ≡ false → row s m t ≡ r → Moves count ss t → Moves count (s at m ∷ ss) t
 moves-row count s m ss t none d e k = inr (UnexpectedToken t.number, no_row count s m ss t d e)
 moves-row count s m ss t nothing d e (inl k) = inl (k.0, k.1, gone count s m ss t k.0 k.1 d e k.2)
-moves-row count s m ss t nothing d e (inr k) = inr (k.0, behind count s m ss t k.0 d e k.1)
+moves-row count s m ss t nothing d e (inr k) = inr (k.0, past count s m ss t k.0 d e k.1)
 moves-row count s m ss t (reads xs) d e k = inl (count, xs ++ ss, read count s m xs ss t d e)
 moves-row count s m ss t (opens n xs) d e k = opens-by count n s m xs ss t d e (cases_lt count max_directives)
   where

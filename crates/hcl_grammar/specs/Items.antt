@@ -51,9 +51,9 @@ labels [] = []
 labels (t ∷ ts) = if is BraceOpen t.kind then [] else label_at t.number t.kind ts ++ labels ts
 
 -- what follows the first opening brace
-abbrev pub behind_brace : List Numbered → List Numbered
-behind_brace [] = []
-behind_brace (t ∷ ts) = if is BraceOpen t.kind then ts else behind_brace ts
+abbrev pub after_brace : List Numbered → List Numbered
+after_brace [] = []
+after_brace (t ∷ ts) = if is BraceOpen t.kind then ts else after_brace ts
 
 -- one past the number of the last closing brace
 abbrev pub block_end : List Numbered → ℕ
@@ -61,7 +61,7 @@ block_end ts = end_of (filter (λ t. is BraceClose t.kind) ts)
 
 -- between the first opening brace and the last closing one
 abbrev pub body : List Numbered → List Numbered
-body ts = filter (λ t. nat_lt (t.number + 1) (block_end ts)) (behind_brace ts)
+body ts = filter (λ t. nat_lt (t.number + 1) (block_end ts)) (after_brace ts)
 
 -- a block with its labels and the items of its body, where `rest` follows its kind
 abbrev pub block : (List Numbered → List Item) → ℕ → Numbered → List Numbered → List Item

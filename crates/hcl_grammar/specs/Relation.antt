@@ -27,7 +27,7 @@ pub data Refuses : ℕ → List Marked → Lookahead → Refusal → Type 0 wher
   nothing_waited_for : (count : ℕ) (t : Lookahead) → Refuses count [] t (UnexpectedToken t.number)
   no_row : (count : ℕ) (s : Symbol) (m : Newlines) (ss : List Marked) (t : Lookahead) → drops m t.class ≡ false → row s m t ≡ none → Refuses count (s at m ∷ ss) t (UnexpectedToken t.number)
   too_deep : (count n : ℕ) (s : Symbol) (m : Newlines) (xs ss : List Marked) (t : Lookahead) → drops m t.class ≡ false → row s m t ≡ opens n xs → max_directives ≤ count → Refuses count (s at m ∷ ss) t (TooDeep n)
-  behind : (count : ℕ) (s : Symbol) (m : Newlines) (ss : List Marked) (t : Lookahead) (r : Refusal) → drops m t.class ≡ false → row s m t ≡ nothing → Refuses count ss t r → Refuses count (s at m ∷ ss) t r
+  past : (count : ℕ) (s : Symbol) (m : Newlines) (ss : List Marked) (t : Lookahead) (r : Refusal) → drops m t.class ≡ false → row s m t ≡ nothing → Refuses count ss t r → Refuses count (s at m ∷ ss) t r
 
 -- what the end of input makes of a state
 pub data Ending : List Marked → Option Refusal → Type 0 where

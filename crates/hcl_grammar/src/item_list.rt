@@ -53,7 +53,8 @@ impl Outline {
         first: u32,
         end: u32,
     ) -> Result<(), AllocError>
-        ensures pushed { OnOk result (self.new ≡ self.old ++ item.Attribute level name first end ∷ []) }
+        ensures pushed { OnOk result (self.new
+            ≡ self.old ++ item.Attribute level name first end ∷ []) }
         ensures unchanged { OnErr result (self.new ≡ self.old) }
     {
         self.push(Entry::Attribute {
@@ -74,7 +75,8 @@ impl Outline {
 
     /// Puts a label after the items. A refused growth leaves them as they were.
     pub fn push_label(&mut self, first: u32, last: u32) -> Result<(), AllocError>
-        ensures pushed { OnOk result (self.new ≡ self.old ++ item.Label (record { first = first; last = last }) ∷ []) }
+        ensures pushed { OnOk result (self.new
+            ≡ self.old ++ item.Label (record { first = first; last = last }) ∷ []) }
         ensures unchanged { OnErr result (self.new ≡ self.old) }
     {
         self.push(Entry::Label { first, last })

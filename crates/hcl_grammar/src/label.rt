@@ -17,7 +17,7 @@ fn is_lit(kind: Kind) -> bool
 }
 
 /// The text of the token after this number where it is a literal, and else nothing.
-fn literal_behind<'s>(tokens: &Tokens<'s>, number: usize) -> &'s str
+fn literal_after<'s>(tokens: &Tokens<'s>, number: usize) -> &'s str
     requires { number < length tokens.now.tokens }
     ensures { result.now ≡ first_literal (drop (number + 1) (numbered tokens.now.tokens)) }
 {
@@ -43,5 +43,5 @@ pub fn label_text<'s>(accepted: &Accepted<'_, 's>, label: &Label) -> &'s str
         let token = tokens.get(label.first);
         return token.text;
     }
-    literal_behind(tokens, label.first)
+    literal_after(tokens, label.first)
 }

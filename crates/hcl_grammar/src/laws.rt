@@ -16,12 +16,14 @@ ghost use Rattle.hcl_grammar.specs.Items.{outline};
 
 /// In each front of the tokens of a file there are 0 to 256 more openers than closers.
 pub fn balanced()
-    ensures { (text : List ℕ) (tokens : List Lexeme) → Scans text tokens → IsAccepted tokens → IsBalanced tokens }
+    ensures { (text : List ℕ) (tokens : List Lexeme) → Scans text tokens → IsAccepted tokens
+        → IsBalanced tokens }
 {}
 
 /// A run of the grammar as a relation ends with the answer of the grammar as a function.
 pub fn run_is_answer()
-    ensures { (tokens : List Lookahead) (answer : Option Refusal) → ComesTo 0 (file at Seen ∷ []) tokens answer → refusal_of tokens ≡ answer }
+    ensures { (tokens : List Lookahead) (answer : Option Refusal)
+        → ComesTo 0 (file at Seen ∷ []) tokens answer → refusal_of tokens ≡ answer }
 {}
 
 /// The answer of the grammar as a function has a run of the relation.

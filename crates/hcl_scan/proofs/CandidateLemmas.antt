@@ -67,8 +67,8 @@ module _ (marker text : List ℕ) (m : ℕ) (is : IsMarkerLine marker text m) wh
   pub fits : m + front + length marker ≤ length text
   fits = omega (arith, starts_len (drop front (drop m text)) marker marked.0, length-drop front (drop m text), length-drop m text, is.within, prefix_len-le-length is_blank (drop m text))
 
-  behind_low : Low (get_or text (m + front + length marker) 0)
-  behind_low = subst Low (get_or-drop (closer_len marker (drop m text)) (drop m text) 0 0 ∙ get_or-drop m text (closer_len marker (drop m text) + 0) 0 ∙ ap (λ i. get_or text i 0) (omega arith))
+  after_low : Low (get_or text (m + front + length marker) 0)
+  after_low = subst Low (get_or-drop (closer_len marker (drop m text)) (drop m text) 0 0 ∙ get_or-drop m text (closer_len marker (drop m text) + 0) 0 ∙ ap (λ i. get_or text i 0) (omega arith))
       (end_low (drop (closer_len marker (drop m text)) (drop m text)) marked.1)
 
   before_low : (k : ℕ) → k + 1 ≡ m + front → Low (get_or text k 0)
@@ -81,13 +81,13 @@ module _ (marker text : List ℕ) (m : ℕ) (is : IsMarkerLine marker text m) wh
   byte k j e lt = ap (λ i. get_or text i 0) (omega (arith, e)) ∙ sym (get_or-drop (m + front) text j 0) ∙ starts_reads (drop (m + front) text) marker stands j lt
 
   -- so it stands there, by the bytes around it too
-  pub stands_behind : 0 < length marker → (k : ℕ) → k + 1 ≡ m + front → Stands text marker k
-  stands_behind some k e = record {
+  pub stands_after : 0 < length marker → (k : ℕ) → k + 1 ≡ m + front → Stands text marker k
+  stands_after some k e = record {
     likely = record {
       before = before_low k e;
       front = ap (λ i. get_or text i 0) (omega arith) ∙ byte k 0 e some;
       back = ap (λ i. get_or text i 0) (omega (arith, some)) ∙ byte k (length marker - 1) e (omega (arith, some));
-      behind = subst (λ i. Low (get_or text i 0)) (omega (arith, e)) behind_low;
+      following = subst (λ i. Low (get_or text i 0)) (omega (arith, e)) after_low;
     };
     begins = ap (λ i. starts (drop i text) marker) e ∙ stands;
   }
@@ -112,7 +112,7 @@ later marker text at here next some old stands_not past m low is =
     unlikely : here < m + prefix_len is_blank (drop m text) → m + prefix_len is_blank (drop m text) < next → ⊥
     unlikely above early =
         let k : ℕ = m + prefix_len is_blank (drop m text) - 1 in
-        past.none k (omega (arith, above)) (omega (arith, early, above)) (stands_behind marker text m is some k (omega (arith, above)))
+        past.none k (omega (arith, above)) (omega (arith, early, above)) (stands_after marker text m is some k (omega (arith, above)))
 
 -- where the text ends before a whole marker, none follows
 pub none_later : (marker text : List ℕ) (at here : ℕ) → here ≤ length text → length text - here < length marker → IsLater marker text at here → (m : ℕ) → at ≤ m → ¬ IsMarkerLine marker text m
@@ -210,10 +210,10 @@ module _ (marker text : List ℕ) (some : 0 < length marker) (begins : is_blank 
         from low = refused m (blank_front m is low high) (ends m is low high)
 
     none_but : (m : ℕ) → (place < m → ¬ IsMarkerLine marker text m) → ¬ IsMarkerLine marker text m
-    none_but m behind is = ⊎_elim (λ e. none_upto m (omega (arith, e)) is) (λ other. ⊎_elim (λ below. none_upto m (omega (arith, below)) is) (λ above. behind above is) other) (cases_order m place)
+    none_but m beyond is = ⊎_elim (λ e. none_upto m (omega (arith, e)) is) (λ other. ⊎_elim (λ below. none_upto m (omega (arith, below)) is) (λ above. beyond above is) other) (cases_order m place)
 
     pub none_before : (n : ℕ) → IsNextLine text place n → (m : ℕ) → m < n → ¬ IsMarkerLine marker text m
-    none_before n next m high is = none_but m (λ behind also. next.first m behind high (also.starts_line (omega (arith, behind)))) is
+    none_before n next m high is = none_but m (λ beyond also. next.first m beyond high (also.starts_line (omega (arith, beyond)))) is
 
     pub none_at_all : ((n : ℕ) → place < n → n ≤ length text → get_or text (n - 1) 0 ≢ 10) → (m : ℕ) → ¬ IsMarkerLine marker text m
-    none_at_all last m is = none_but m (λ behind also. last m behind also.within (also.starts_line (omega (arith, behind)))) is
+    none_at_all last m is = none_but m (λ beyond also. last m beyond also.within (also.starts_line (omega (arith, beyond)))) is

@@ -37,9 +37,9 @@ newline_alone opens dot text other is kind longer left e lt h = by is (subst (λ
     by (inr f) (inr g) = omega (arith, ap length f, ap length g, lt)
 
 -- ---- a comment to the end of its line
-any_behind : (text : List ℕ) (b : ℕ) (bs : List ℕ) → (b == 10) ≡ true → list_any (λ c. c == 10) (text ++ b ∷ bs) ≡ true
-any_behind [] b bs h = ap (λ v. v || list_any (λ c. c == 10) bs) h
-any_behind (c ∷ text) b bs h = ap (λ v. (c == 10) || v) (any_behind text b bs h) ∙ or_true (c == 10)
+any_after : (text : List ℕ) (b : ℕ) (bs : List ℕ) → (b == 10) ≡ true → list_any (λ c. c == 10) (text ++ b ∷ bs) ≡ true
+any_after [] b bs h = ap (λ v. v || list_any (λ c. c == 10) bs) h
+any_after (c ∷ text) b bs h = ap (λ v. (c == 10) || v) (any_after text b bs h) ∙ or_true (c == 10)
 
 comment_lead : (text other : List ℕ) → IsLineComment text → lead_of (text ++ other) ≡ HashOrSlashes
 comment_lead text other is = ⊎_elim
@@ -63,7 +63,7 @@ line_alone opens dot text other some is stop kind longer left e lt h = by more.b
     by [] some w a = omega arith
     by (b ∷ bs) some w a =
         let lf : (b == 10) ≡ true = ap ends_comment a ∙ stop in
-        let there : list_any (λ c. c == 10) longer ≡ true = ap (list_any (λ c. c == 10)) w ∙ any_behind text b bs lf in
+        let there : list_any (λ c. c == 10) longer ≡ true = ap (list_any (λ c. c == 10)) w ∙ any_after text b bs lf in
         let none : list_any (λ c. c == 10) longer ≡ false = is'.1 in absurd (cc)
 
 -- ---- a comment to its `*/`

@@ -69,7 +69,7 @@ ends_after : (gap : ℕ) (text more : List ℕ) → IsNewline text → at_line_e
 ends_after gap text more (inl e) = ap (λ l. at_line_end (skip_blanks (replicate gap 32 ++ (l ++ more)))) e ∙ ap (λ n. at_line_end (drop n (replicate gap 32 ++ 10 ∷ more))) (gap_is gap 10 more refl) ∙ ap at_line_end (drop_blanks gap (10 ∷ more))
 ends_after gap text more (inr e) = ap (λ l. at_line_end (skip_blanks (replicate gap 32 ++ (l ++ more)))) e ∙ ap (λ n. at_line_end (drop n (replicate gap 32 ++ 13 ∷ 10 ∷ more))) (gap_is gap 13 (10 ∷ more) refl) ∙ ap at_line_end (drop_blanks gap (13 ∷ 10 ∷ more))
 
--- BEHIND A MARKER LINE comes a newline, or the end
+-- AFTER A MARKER LINE comes a newline, or the end
 pub lines : (s end : State) (ps : List (ℕ × Lexeme)) → context s.opens ≡ Expression → in_heredoc s.opens ≡ false → at_line_end (skip_blanks s.seen) ≡ true → Run s (without_gaps ps) end → IsComplete end → at_line_end (skip_blanks (text_with_gaps ps)) ≡ true
 lines s end [] c plain ends run done = refl
 lines s end (p ∷ ps) c plain ends run done = ⊎_elim reads closes run.1

@@ -7,7 +7,7 @@ use Rattle.std.proofs.lemmas.Bool.Decides.{nat_tests}
 use Rattle.hcl_tokens.specs.Spelling.{IsIdent, IsNewline, IsHeredocOpen, starts}
 use Rattle.hcl_scan.specs.Inner.Found.{IsLongestFront, HasNoFront, IsMarker, heredoc_mark_len}
 use Rattle.hcl_scan.proofs.WordLemmas.{ident_word, is_word, begins_word}
-use Rattle.hcl_scan.proofs.NumeralLemmas.{behind, inside, all_at}
+use Rattle.hcl_scan.proofs.NumeralLemmas.{first_after, inside, all_at}
 use Rattle.hcl_scan.proofs.LongestFrontLemmas.{longest_is, front_dropped}
 use Rattle.hcl_scan.proofs.CommentTextLemmas.{starts_split}
 
@@ -27,7 +27,7 @@ marker_len text marker end left n f is newline whole = ⊎_elim short (λ e. e) 
         let len = length-take-le n text f.within in
         let word = all_at is_word (take n text) (length marker) (omega (arith, len)) (ident_word (take n text) f.formed).words in
         let byte : get_or (take n text) (length marker) 0 ≡ get_or (end ++ left) 0 0 =
-        sym (inside (take n text) (drop n text) text (length marker) (take-append-drop n text) (omega (arith, len))) ∙ behind marker (end ++ left) text whole in
+        sym (inside (take n text) (drop n text) text (length marker) (take-append-drop n text) (omega (arith, len))) ∙ first_after marker (end ++ left) text whole in
         let never : is_word (get_or (take n text) (length marker) 0) ≡ false = ap is_word byte ∙ newline_head end left newline in
         absurd (cc)
 
@@ -49,20 +49,20 @@ marked text front left n f is whole =
       size = omega (arith, ap length is.4, length-append is.0 is.1, len);
     }
 
-pub marker_found : (text behind_name : List ℕ) (n k : ℕ) → behind_name ≡ drop n text → IsLongestFront IsIdent text n → IsLongestFront IsNewline behind_name k → IsLongestFront IsMarker text (n + k)
-marker_found text behind_name n k e f g = longest_is IsMarker text front rest (n + k) len whole (take n text, take k behind_name, f.formed, g.formed, refl) longest
+pub marker_found : (text after_name : List ℕ) (n k : ℕ) → after_name ≡ drop n text → IsLongestFront IsIdent text n → IsLongestFront IsNewline after_name k → IsLongestFront IsMarker text (n + k)
+marker_found text after_name n k e f g = longest_is IsMarker text front rest (n + k) len whole (take n text, take k after_name, f.formed, g.formed, refl) longest
   where
     front : List ℕ
-    front = take n text ++ take k behind_name
+    front = take n text ++ take k after_name
 
     rest : List ℕ
-    rest = drop k behind_name
+    rest = drop k after_name
 
     len : n + k ≡ length front
-    len = omega (arith, length-append (take n text) (take k behind_name), length-take-le n text f.within, length-take-le k behind_name g.within)
+    len = omega (arith, length-append (take n text) (take k after_name), length-take-le n text f.within, length-take-le k after_name g.within)
 
     whole : front ++ rest ≡ text
-    whole = append_assoc (take n text) (take k behind_name) rest ∙ ap (λ l. take n text ++ l) (take-append-drop k behind_name ∙ e) ∙ take-append-drop n text
+    whole = append_assoc (take n text) (take k after_name) rest ∙ ap (λ l. take n text ++ l) (take-append-drop k after_name ∙ e) ∙ take-append-drop n text
 
     longest : (longer left : List ℕ) → longer ++ left ≡ text → IsMarker longer → length longer ≤ length front
     longest longer left same is =
@@ -70,8 +70,8 @@ marker_found text behind_name n k e f g = longest_is IsMarker text front rest (n
         let most = g.longest m.end left (m.there ∙ sym e) m.newline in
         omega (arith, m.size, most, len)
 
-pub marker_none : (text behind_name : List ℕ) (n : ℕ) → behind_name ≡ drop n text → IsLongestFront IsIdent text n → HasNoFront IsNewline behind_name → HasNoFront IsMarker text
-marker_none text behind_name n e f none front left same is = let m = marked text front left n f is same in none m.end left (m.there ∙ sym e) m.newline
+pub marker_none : (text after_name : List ℕ) (n : ℕ) → after_name ≡ drop n text → IsLongestFront IsIdent text n → HasNoFront IsNewline after_name → HasNoFront IsMarker text
+marker_none text after_name n e f none front left same is = let m = marked text front left n f is same in none m.end left (m.there ∙ sym e) m.newline
 
 -- what an opener leaves of a text
 pub record Opened (seen text rest : List ℕ) : Type 0 where

@@ -158,15 +158,15 @@ begun text bytes n same is stops may = at text (is ∙ ap (prefix_len continues_
 pub continued_more : (text rest : List ℕ) (len n : ℕ) → IsUtf8 text → Continued text len → rest ≡ drop len text → FirstChar continues_ident rest n → Continued text (len + n)
 continued_more text rest len n utf8 so_far e f =
     let c : ℕ = f.begins.first in
-    let behind : drop len text ≡ encode_utf8 c ++ f.begins.rest = sym e ∙ f.begins.whole in
+    let after : drop len text ≡ encode_utf8 c ++ f.begins.rest = sym e ∙ f.begins.whole in
     let within : len ≤ length text = so_far.boundary.0 in
     let front_len : length (take len text) ≡ len = length-take-le len text within in
     let size : n ≡ len_utf8 c = f.takes ∙ length-encode c in
     let taken : take (len + n) text ≡ take len text ++ encode_utf8 c =
     sym (ap (take (len + n)) (take-append-drop len text)) ∙ ap (λ k. take (k + n) (take len text ++ drop len text)) (sym front_len) ∙ take-append-add (take len text) (drop len text) n
-    ∙ ap (λ l. take len text ++ take n l) behind ∙ ap (λ k. take len text ++ take k (encode_utf8 c ++ f.begins.rest)) f.takes ∙ ap (λ l. take len text ++ l) (take-append_seam (encode_utf8 c) f.begins.rest) in
+    ∙ ap (λ l. take len text ++ take n l) after ∙ ap (λ k. take len text ++ take k (encode_utf8 c ++ f.begins.rest)) f.takes ∙ ap (λ l. take len text ++ l) (take-append_seam (encode_utf8 c) f.begins.rest) in
     record {
-      boundary = subst (λ k. IsCharBoundary text (len + k)) (sym size) (IsCharBoundary-past_char text f.begins.rest len c within (IsUtf8-drop text len utf8 so_far.boundary) behind);
+      boundary = subst (λ k. IsCharBoundary text (len + k)) (sym size) (IsCharBoundary-past_char text f.begins.rest len c within (IsUtf8-drop text len utf8 so_far.boundary) after);
       continuing = subst AreContinuing (sym taken) (more (take len text) so_far.continuing.0 c so_far.continuing.1 so_far.continuing.2 f.begins.passes);
     }
 

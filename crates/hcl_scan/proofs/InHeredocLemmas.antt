@@ -4,13 +4,13 @@ use Rattle.hcl_tokens.specs.Lexemes.{Lexeme, Opener, in_heredoc, marker_of, open
 use Rattle.hcl_tokens.specs.Kinds.{is}
 use Rattle.hcl_tokens.specs.declared.token.Kind.TheVariants as kind
 use Rattle.hcl_tokens.specs.Scans.{State, Hidden, hides, gap_len, gap_in, ahead, offsets_of, IsLongest, Leaves, Reads, Closes, Next}
-use Rattle.hcl_scan.specs.InHeredocs.{behind_last, SameInside, ReadsToo}
+use Rattle.hcl_scan.specs.InHeredocs.{after_last, SameInside, ReadsToo}
 use Rattle.hcl_scan.proofs.ShownLemmas.{Shown, opening, plain, shown, plain_shows, open_shows}
 use Rattle.hcl_scan.proofs.OtherStepLemmas.{gap_in_heredoc}
 
-behind_cons : (other : List ℕ) (h : Hidden) (hs : List Hidden) → 0 < length hs → behind_last other (h ∷ hs) ≡ h ∷ behind_last other hs
-behind_cons other h [] some = absurd (omega arith)
-behind_cons other h (k ∷ hs) some = refl
+after_cons : (other : List ℕ) (h : Hidden) (hs : List Hidden) → 0 < length hs → after_last other (h ∷ hs) ≡ h ∷ after_last other hs
+after_cons other h [] some = absurd (omega arith)
+after_cons other h (k ∷ hs) some = refl
 
 abbrev went : State → Lexeme → List ℕ → List Hidden → State
 went twin t seen hidden = record { at = twin.at + length t.text; opens = open_after t.kind twin.opens; offsets = offsets_of twin.at twin.opens (open_after t.kind twin.opens) twin.offsets; after_dot = is kind.Dot t.kind; seen = seen; hidden = hidden }
@@ -34,7 +34,7 @@ module _ (other : List ℕ) (s twin : State) (t : Lexeme) (next : State) (same :
       opens_is : open_after t.kind twin.opens ≡ next.opens
       opens_is = ap (open_after t.kind) same.opens ∙ sym r.opens
 
-      with_state : (seen : List ℕ) (hidden : List Hidden) → Leaves t.kind t.text r.rest twin.hidden seen hidden → seen ≡ next.seen → hidden ≡ behind_last other next.hidden → ReadsToo other twin t next
+      with_state : (seen : List ℕ) (hidden : List Hidden) → Leaves t.kind t.text r.rest twin.hidden seen hidden → seen ≡ next.seen → hidden ≡ after_last other next.hidden → ReadsToo other twin t next
       with_state seen hidden shows e f = record {
         state = went twin t seen hidden;
         read = inl (record {
@@ -53,31 +53,31 @@ module _ (other : List ℕ) (s twin : State) (t : Lexeme) (next : State) (same :
       }
 
       by : Shown t.kind t.text r.rest s.hidden next.seen next.hidden → ReadsToo other twin t next
-      by (plain k e e') = with_state r.rest twin.hidden (plain_shows t.kind t.text r.rest twin.hidden k) (sym e) (same.hidden ∙ ap (behind_last other) (sym e'))
+      by (plain k e e') = with_state r.rest twin.hidden (plain_shows t.kind t.text r.rest twin.hidden k) (sym e) (same.hidden ∙ ap (after_last other) (sym e'))
       by (opening k n first e e') =
           let h : Hidden = hides (marker_of t.text) (drop n r.rest) in
           with_state next.seen (h ∷ twin.hidden) (open_shows t.kind t.text r.rest twin.hidden next.seen (h ∷ twin.hidden) k n first e refl) refl
-          (ap (λ l. h ∷ l) same.hidden ∙ sym (behind_cons other h s.hidden some) ∙ ap (behind_last other) (sym e'))
+          (ap (λ l. h ∷ l) same.hidden ∙ sym (after_cons other h s.hidden some) ∙ ap (after_last other) (sym e'))
 
   closes_too : 0 < length next.hidden → Closes s t next → ReadsToo other twin t next
   closes_too inside c =
       let above : next.hidden ≡ c.above = ap (λ (z : State). z.hidden) c.next_is in
-      let line : twin.hidden ≡ record { closer = t.text; after = c.rest } ∷ behind_last other c.above = same.hidden ∙ ap (behind_last other) c.line ∙ behind_cons other (record { closer = t.text; after = c.rest }) c.above (omega (arith, inside, ap length above)) in
+      let line : twin.hidden ≡ record { closer = t.text; after = c.rest } ∷ after_last other c.above = same.hidden ∙ ap (after_last other) c.line ∙ after_cons other (record { closer = t.text; after = c.rest }) c.above (omega (arith, inside, ap length above)) in
       record {
-        state = record { at = twin.at + length t.text; opens = c.below; offsets = drop 1 twin.offsets; after_dot = false; seen = c.rest; hidden = behind_last other c.above };
+        state = record { at = twin.at + length t.text; opens = c.below; offsets = drop 1 twin.offsets; after_dot = false; seen = c.rest; hidden = after_last other c.above };
         read = inr (record {
           below = c.below;
           top = same.opens ∙ c.top;
           read = same.seen ∙ c.read;
           rest = c.rest;
-          above = behind_last other c.above;
+          above = after_last other c.above;
           line = line;
           kind = c.kind;
           start = refl;
           inside = c.inside;
           next_is = refl;
         });
-        same = record { opens = ap (λ (z : State). z.opens) (sym c.next_is); after_dot = ap (λ (z : State). z.after_dot) (sym c.next_is); seen = ap (λ (z : State). z.seen) (sym c.next_is); hidden = ap (behind_last other) (sym above) };
+        same = record { opens = ap (λ (z : State). z.opens) (sym c.next_is); after_dot = ap (λ (z : State). z.after_dot) (sym c.next_is); seen = ap (λ (z : State). z.seen) (sym c.next_is); hidden = ap (after_last other) (sym above) };
       }
 
   pub read_inside : in_heredoc s.opens ≡ true → 0 < length next.hidden → Next s t next → ReadsToo other twin t next

@@ -78,8 +78,8 @@ module _ (text marker : List ℕ) (at : ℕ) (some : 0 < length marker) (room : 
   abbrev back : List ℕ
   back = zip2 {C = ℕ} (λ a b. cond (eqb a b) 255 0) (chunk (at + length marker) 32 text) (replicate 32 last)
 
-  abbrev behind : List ℕ
-  behind = zip2 {C = ℕ} (λ a b. cond (leb a b) 255 0) (chunk (at + length marker + 1) 32 text) (replicate 32 32)
+  abbrev following : List ℕ
+  following = zip2 {C = ℕ} (λ a b. cond (leb a b) 255 0) (chunk (at + length marker + 1) 32 text) (replicate 32 32)
 
   abbrev two : ℕ → ℕ
   two k = bit_and (low (get_or text (at + k) 0)) (low (get_or text (at + length marker + 1 + k) 0))
@@ -91,7 +91,7 @@ module _ (text marker : List ℕ) (at : ℕ) (some : 0 < length marker) (room : 
   four k = bit_and (three k) (same (get_or text (at + length marker + k) 0) last)
 
   abbrev pub all : List ℕ
-  all = zip2 bit_and (zip2 bit_and (zip2 bit_and before behind) front) back
+  all = zip2 bit_and (zip2 bit_and (zip2 bit_and before following) front) back
 
   all_is : all ≡ map four (lanes 32)
   all_is =
@@ -110,10 +110,10 @@ module _ (text marker : List ℕ) (at : ℕ) (some : 0 < length marker) (room : 
   marks_likely = record {
     within = bit_within four all 32 (omega arith) all_is;
     set = λ k lt is. bit_set four all 32 (omega arith) all_is k lt
-        (set _ _ _ _ is.before (ap (λ i. get_or text i 0) (omega arith) ∙ is.front) (ap (λ i. get_or text i 0) (omega arith) ∙ is.back) (subst (λ i. get_or text i 0 ≤ 32) (omega arith) is.behind));
+        (set _ _ _ _ is.before (ap (λ i. get_or text i 0) (omega arith) ∙ is.front) (ap (λ i. get_or text i 0) (omega arith) ∙ is.back) (subst (λ i. get_or text i 0 ≤ 32) (omega arith) is.following));
   }
 
--- the places behind which the marker doesn't stand, of those that were marked and of those that are left
+-- the places following which the marker doesn't stand, of those that were marked and of those that are left
 abbrev pub LeftOf : List ℕ → List ℕ → ℕ → ℕ → Type 0
 LeftOf text marker at left = (k : ℕ) → k < 32 → Stands text marker (at + k) → bit_at left k ≡ 1
 
@@ -125,7 +125,7 @@ left_without text marker at left next out old differs kept k lt is = elim (cases
   | inr other ↦ kept k (omega (arith, lt)) other ∙ old k lt is
 ]
 
--- behind a place before the lowest that is left it doesn't stand
+-- following a place before the lowest that is left it doesn't stand
 pub none_below : (text marker : List ℕ) (at left lane : ℕ) → LeftOf text marker at left → lane < 32 → ((k : ℕ) → k < lane → bit_at left k ≡ 0) → IsAfterOthers text marker at (at + lane + 1)
 none_below text marker at left lane old few clear = record {
   low = omega arith;

@@ -47,7 +47,7 @@ pub mod GapLemmas
 pub mod MarkerLineLemmas
 pub mod HeredocMarkerLemmas
 pub mod InExpressionLemmas
-pub mod BehindCommentLemmas
+pub mod AfterCommentLemmas
 pub mod NextTokenLemmas
 pub mod OtherGapLemmas
 pub mod SideBySideLemmas

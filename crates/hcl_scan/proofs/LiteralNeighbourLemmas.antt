@@ -58,10 +58,10 @@ onward quoted b after e =
     else (if quoted && ends_quoted b after then e else Some 1))
 
 -- the token after literal text: a quote, or `${` or `%{`
-pub data Behind (x y : List ℕ) : Type 0 where
-  quote : (x' y' : List ℕ) → x ≡ 34 ∷ x' → y ≡ 34 ∷ y' → Behind x y
-  dollar : (x' y' : List ℕ) → x ≡ 36 ∷ 123 ∷ x' → y ≡ 36 ∷ 123 ∷ y' → Behind x y
-  percent : (x' y' : List ℕ) → x ≡ 37 ∷ 123 ∷ x' → y ≡ 37 ∷ 123 ∷ y' → Behind x y
+pub data CloseAlike (x y : List ℕ) : Type 0 where
+  quote : (x' y' : List ℕ) → x ≡ 34 ∷ x' → y ≡ 34 ∷ y' → CloseAlike x y
+  dollar : (x' y' : List ℕ) → x ≡ 36 ∷ 123 ∷ x' → y ≡ 36 ∷ 123 ∷ y' → CloseAlike x y
+  percent : (x' y' : List ℕ) → x ≡ 37 ∷ 123 ∷ x' → y ≡ 37 ∷ 123 ∷ y' → CloseAlike x y
 
 quote_only : (quoted : Bool) (b : ℕ) (p x y : List ℕ) → element_len quoted (b ∷ (p ++ 34 ∷ x)) ≡ element_len quoted (b ∷ (p ++ 34 ∷ y))
 quote_only quoted b [] x y = ap (onward quoted b (34 ∷ x)) (escape_only b [] 34 x y refl refl refl)
@@ -78,7 +78,7 @@ percent_only quoted b [] x y = ap (onward quoted b (37 ∷ 123 ∷ x)) (escape_o
 percent_only quoted b (c ∷ []) x y = ap (onward quoted b (c ∷ 37 ∷ 123 ∷ x)) (escape_only b (c ∷ []) 37 (123 ∷ x) (123 ∷ y) refl refl refl)
 percent_only quoted b (c ∷ d ∷ p) x y = ap (onward quoted b (c ∷ d ∷ (p ++ 37 ∷ 123 ∷ x))) (escape_only b (c ∷ d ∷ p) 37 (123 ∷ x) (123 ∷ y) refl refl refl)
 
-element_only : (quoted : Bool) (b : ℕ) (p x y : List ℕ) → Behind x y → element_len quoted (b ∷ (p ++ x)) ≡ element_len quoted (b ∷ (p ++ y))
+element_only : (quoted : Bool) (b : ℕ) (p x y : List ℕ) → CloseAlike x y → element_len quoted (b ∷ (p ++ x)) ≡ element_len quoted (b ∷ (p ++ y))
 element_only quoted b p x y (quote x' y' e e') = ap (λ l. element_len quoted (b ∷ (p ++ l))) e ∙ quote_only quoted b p x' y' ∙ ap (λ l. element_len quoted (b ∷ (p ++ l))) (sym e')
 element_only quoted b p x y (dollar x' y' e e') = ap (λ l. element_len quoted (b ∷ (p ++ l))) e ∙ dollar_only quoted b p x' y' ∙ ap (λ l. element_len quoted (b ∷ (p ++ l))) (sym e')
 element_only quoted b p x y (percent x' y' e e') = ap (λ l. element_len quoted (b ∷ (p ++ l))) e ∙ percent_only quoted b p x' y' ∙ ap (λ l. element_len quoted (b ∷ (p ++ l))) (sym e')
@@ -91,18 +91,18 @@ each quoted text x y None f = refl
 each quoted text x y (Some n) f = f (n - 1)
 
 -- LITERAL TEXT stays literal text
-pub literal_only : (quoted : Bool) (left : ℕ) (text x y : List ℕ) → Behind x y → are_elements quoted left text x ≡ are_elements quoted left text y
+pub literal_only : (quoted : Bool) (left : ℕ) (text x y : List ℕ) → CloseAlike x y → are_elements quoted left text x ≡ are_elements quoted left text y
 literal_only quoted zero [] x y h = refl
 literal_only quoted (suc left) [] x y h = refl
 literal_only quoted (suc left) (b ∷ text) x y h = literal_only quoted left text x y h
 literal_only quoted zero (b ∷ text) x y h =
     ap (goes_on quoted text x) (element_only quoted b text x y h) ∙ each quoted text x y (element_len quoted (b ∷ (text ++ y))) (λ n. literal_only quoted n text x y h)
 
-pub ends_here : (y y' : List ℕ) → Behind y' y → element_len true y ≡ None
+pub ends_here : (y y' : List ℕ) → CloseAlike y' y → element_len true y ≡ None
 ends_here y y' (quote a b e e') = ap (element_len true) e'
 ends_here y y' (dollar a b e e') = ap (element_len true) e'
 ends_here y y' (percent a b e e') = ap (element_len true) e'
 
 -- and no longer text is
-pub lit_alone : (text x y longer after : List ℕ) → Behind x y → are_elements true 0 text x ≡ true → longer ++ after ≡ text ++ y → length text < length longer → are_elements true 0 longer after ≡ true → ⊥
+pub lit_alone : (text x y longer after : List ℕ) → CloseAlike x y → are_elements true 0 text x ≡ true → longer ++ after ≡ text ++ y → length text < length longer → are_elements true 0 longer after ≡ true → ⊥
 lit_alone text x y longer after h is whole lt k = no_longer_lit true 0 text y longer after (sym (literal_only true 0 text x y h) ∙ is) (ends_here y x h) whole lt k

@@ -36,6 +36,6 @@ longer_is (b ∷ text) rest (c ∷ longer) left e lt =
     let head : c ≡ b = ap (λ l. get_or l 0 0) e in
     record { bs = rec.bs; some = rec.some; whole = (λ i. head i ∷ rec.whole i); after = rec.after }
 
-pub all_behind : (q : ℕ → Bool) (xs ys : List ℕ) → list_all q (xs ++ ys) ≡ true → list_all q ys ≡ true
-all_behind q [] ys h = h
-all_behind q (x ∷ xs) ys h = all_behind q xs ys (and_true (q x) (list_all q (xs ++ ys)) h).1
+pub all_after : (q : ℕ → Bool) (xs ys : List ℕ) → list_all q (xs ++ ys) ≡ true → list_all q ys ≡ true
+all_after q [] ys h = h
+all_after q (x ∷ xs) ys h = all_after q xs ys (and_true (q x) (list_all q (xs ++ ys)) h).1

@@ -26,7 +26,7 @@ use Rattle.hcl_scan.proofs.WordNeighbourLemmas.{ident_alone, number_alone, digit
 use Rattle.hcl_scan.proofs.PunctuationNeighbourLemmas.{mark_alone, stops_mark}
 use Rattle.hcl_scan.proofs.CommentNeighbourLemmas.{newline_alone, line_alone, inline_alone, slash_alone}
 use Rattle.hcl_scan.proofs.HeredocNeighbourLemmas.{heredoc_alone, closer_alone}
-use Rattle.hcl_scan.proofs.LiteralNeighbourLemmas.{Behind, quote, dollar, percent, literal_only, ends_here}
+use Rattle.hcl_scan.proofs.LiteralNeighbourLemmas.{CloseAlike, quote, dollar, percent, literal_only, ends_here}
 
 -- ---- the table, in the form that each kind takes
 for_ident : (other : List ℕ) → not (grows Ident (get_or other 0 0)) ≡ true → stops_ident other ≡ true
@@ -126,18 +126,18 @@ sure opens dot kind text rest other plain this h = by (ways opens dot kind text 
 found_front : (opens : List Opener) (dot : Bool) (kind : Kind) (text other : List ℕ) → Finds opens dot (text ++ other) kind (length text) → IsLongest opens dot (text ++ other) kind text other
 found_front opens dot kind text other f = subst (λ (z : List ℕ × List ℕ). IsLongest opens dot (text ++ other) kind z.0 z.1) (λ i. (take-append_seam text other i, drop-append_seam text other i)) f.longest
 
-behind_by : (rest other front : List ℕ) → (starts rest front && starts other front) ≡ true → (x y : List ℕ) × (rest ≡ front ++ x) × (other ≡ front ++ y)
-behind_by rest other front h =
+closer_by : (rest other front : List ℕ) → (starts rest front && starts other front) ≡ true → (x y : List ℕ) × (rest ≡ front ++ x) × (other ≡ front ++ y)
+closer_by rest other front h =
     let p = and_true (starts rest front) (starts other front) h in
     (drop (length front) rest, drop (length front) other, starts_is rest front p.0, starts_is other front p.1)
 
-behind_is : (rest other : List ℕ) → same_close rest other ≡ true → Behind rest other
-behind_is rest other h = ⊎_elim
+closer_is : (rest other : List ℕ) → same_close rest other ≡ true → CloseAlike rest other
+closer_is rest other h = ⊎_elim
     (λ two. ⊎_elim
-    (λ q. let b = behind_by rest other (34 ∷ []) q in quote b.0 b.1 b.2 b.3)
-    (λ d. let b = behind_by rest other (36 ∷ 123 ∷ []) d in dollar b.0 b.1 b.2 b.3)
+    (λ q. let b = closer_by rest other (34 ∷ []) q in quote b.0 b.1 b.2 b.3)
+    (λ d. let b = closer_by rest other (36 ∷ 123 ∷ []) d in dollar b.0 b.1 b.2 b.3)
     (or_cases (starts rest (34 ∷ []) && starts other (34 ∷ [])) (starts rest (36 ∷ 123 ∷ []) && starts other (36 ∷ 123 ∷ [])) two))
-    (λ p. let b = behind_by rest other (37 ∷ 123 ∷ []) p in percent b.0 b.1 b.2 b.3)
+    (λ p. let b = closer_by rest other (37 ∷ 123 ∷ []) p in percent b.0 b.1 b.2 b.3)
     (or_cases ((starts rest (34 ∷ []) && starts other (34 ∷ [])) || (starts rest (36 ∷ 123 ∷ []) && starts other (36 ∷ 123 ∷ []))) (starts rest (37 ∷ 123 ∷ []) && starts other (37 ∷ 123 ∷ [])) h)
 
 no_tilde : (other : List ℕ) → not (get_or other 0 0 == 126) ≡ true → starts other (126 ∷ []) ≡ false
@@ -149,7 +149,7 @@ no_tilde (b ∷ other) h = by (b == 126) h
     by false k = refl
 
 module _ (opens : List Opener) (dot : Bool) (here : context opens ≡ Template true) (text rest other : List ℕ) where
-  lit_kept : IsLiteral true text rest → Behind rest other → IsLongest opens dot (text ++ other) Lit text other
+  lit_kept : IsLiteral true text rest → CloseAlike rest other → IsLongest opens dot (text ++ other) Lit text other
   lit_kept is b =
       let elements : are_elements true 0 text other ≡ true = sym (literal_only true 0 text rest other b) ∙ is.1 in
       let n : ℕ = length text in
@@ -166,7 +166,7 @@ module _ (opens : List Opener) (dot : Bool) (here : context opens ≡ Template t
   opener_starts s same (inr e) = ap (λ l. starts (l ++ other) (s ∷ 123 ∷ [])) e ∙ (λ i. same i && starts (123 ∷ 126 ∷ other) (123 ∷ []))
 
   template_kept : (kind : Kind) → Way true kind text rest → stays dot kind rest other ≡ true → IsLongest opens dot (text ++ other) kind text other
-  template_kept kind (lit k x) h = subst (λ (z : Kind). IsLongest opens dot (text ++ other) z text other) (sym k) (lit_kept x (behind_is rest other (subst (λ (z : Kind). stays dot z rest other ≡ true) k h)))
+  template_kept kind (lit k x) h = subst (λ (z : Kind). IsLongest opens dot (text ++ other) z text other) (sym k) (lit_kept x (closer_is rest other (subst (λ (z : Kind). stays dot z rest other ≡ true) k h)))
   template_kept kind (interp k x) h =
       let t = (none_of (grows InterpOpen (get_or other 0 0)) (is Number InterpOpen && not dot && (get_or other 0 0 == 46) && is_ascii_digit (get_or other 1 0)) (subst (λ (z : Kind). stays dot z rest other ≡ true) k h)).0 in
       subst (λ (z : Kind). IsLongest opens dot (text ++ other) z text other) (sym k) (found_front opens dot InterpOpen text other (subst (λ n. Finds opens dot (text ++ other) InterpOpen n) (opener_size 36 x t) (interp_found true opens dot here (text ++ other) (opener_starts 36 refl x))))

@@ -17,7 +17,7 @@ use Rattle.hcl_scan.proofs.OtherStepLemmas.{zero_gap}
 use Rattle.hcl_scan.proofs.GapLemmas.{template_touches}
 use Rattle.hcl_scan.proofs.NeighbourLemmas.{kept}
 use Rattle.hcl_scan.proofs.InExpressionLemmas.{grower, growing_on, of_joins}
-use Rattle.hcl_scan.proofs.BehindCommentLemmas.{comment_on}
+use Rattle.hcl_scan.proofs.AfterCommentLemmas.{comment_on}
 
 -- the kinds, by what the table asks of what follows
 data Sort (kind : Kind) : Type 0 where

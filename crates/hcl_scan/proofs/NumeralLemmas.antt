@@ -16,8 +16,8 @@ all_at q (x ∷ xs) zero lt h = (and_true (q x) (list_all q xs) h).0
 all_at q (x ∷ xs) (suc k) lt h = all_at q xs k (omega arith) (and_true (q x) (list_all q xs) h).1
 
 -- the byte after a front
-pub behind : (front rest text : List ℕ) → front ++ rest ≡ text → get_or text (length front) 0 ≡ get_or rest 0 0
-behind front rest text e = sym (ap (λ t. get_or t (length front) 0) e) ∙ sym (ap (λ n. get_or (front ++ rest) n 0) (add-zero (length front))) ∙ get_or-append-add front rest 0 0
+pub first_after : (front rest text : List ℕ) → front ++ rest ≡ text → get_or text (length front) 0 ≡ get_or rest 0 0
+first_after front rest text e = sym (ap (λ t. get_or t (length front) 0) e) ∙ sym (ap (λ n. get_or (front ++ rest) n 0) (add-zero (length front))) ∙ get_or-append-add front rest 0 0
 
 pub inside : (front rest text : List ℕ) (k : ℕ) → front ++ rest ≡ text → k < length front → get_or text k 0 ≡ get_or front k 0
 inside front rest text k e lt = sym (ap (λ t. get_or t k 0) e) ∙ get_or_append_left front rest 0 k lt
@@ -153,23 +153,23 @@ pub number_found : (seen : List ℕ) (n m k : ℕ) → IsLongestFront IsDigits s
     IsLongestFront IsNumber seen (n + m + k)
 number_found seen n m k d f x = longest_is IsNumber seen text rest (n + m + k) len whole formed longest
   where
-    behind_digits : List ℕ
-    behind_digits = drop n seen
+    after_digits : List ℕ
+    after_digits = drop n seen
 
-    behind_fraction : List ℕ
-    behind_fraction = drop m behind_digits
+    after_fraction : List ℕ
+    after_fraction = drop m after_digits
 
     digits : List ℕ
     digits = take n seen
 
     fraction : List ℕ
-    fraction = take m behind_digits
+    fraction = take m after_digits
 
     exponent : List ℕ
-    exponent = take k behind_fraction
+    exponent = take k after_fraction
 
     rest : List ℕ
-    rest = drop k behind_fraction
+    rest = drop k after_fraction
 
     text : List ℕ
     text = digits ++ fraction ++ exponent
@@ -178,14 +178,14 @@ number_found seen n m k d f x = longest_is IsNumber seen text rest (n + m + k) l
     digits_len = length-take-le n seen d.within
 
     fraction_len : length fraction ≡ m
-    fraction_len = length-take-le m behind_digits f.within
+    fraction_len = length-take-le m after_digits f.within
 
     whole : text ++ rest ≡ seen
     whole = append_assoc (digits ++ fraction) exponent rest ∙ append_assoc digits fraction (exponent ++ rest)
-        ∙ ap (λ l. digits ++ (fraction ++ l)) (take-append-drop k behind_fraction) ∙ ap (λ l. digits ++ l) (take-append-drop m behind_digits) ∙ take-append-drop n seen
+        ∙ ap (λ l. digits ++ (fraction ++ l)) (take-append-drop k after_fraction) ∙ ap (λ l. digits ++ l) (take-append-drop m after_digits) ∙ take-append-drop n seen
 
     len : n + m + k ≡ length text
-    len = omega (arith, digits_len, fraction_len, length-take-le k behind_fraction x.within, length-append digits fraction, length-append (digits ++ fraction) exponent)
+    len = omega (arith, digits_len, fraction_len, length-take-le k after_fraction x.within, length-append digits fraction, length-append (digits ++ fraction) exponent)
 
     formed : IsNumber text
     formed = (digits, fraction, exponent, d.formed, f.formed, x.formed, refl)
@@ -202,7 +202,7 @@ number_found seen n m k d f x = longest_is IsNumber seen text rest (n + m + k) l
         short : length is.0 < n → length longer ≤ length text
         short lt =
             let byte : is_ascii_digit (get_or (is.1 ++ (is.2 ++ left)) 0 0) ≡ true =
-            ap is_ascii_digit (sym (behind is.0 (is.1 ++ (is.2 ++ left)) seen split) ∙ inside digits behind_digits seen (length is.0) (take-append-drop n seen) (omega (arith, digits_len)))
+            ap is_ascii_digit (sym (first_after is.0 (is.1 ++ (is.2 ++ left)) seen split) ∙ inside digits after_digits seen (length is.0) (take-append-drop n seen) (omega (arith, digits_len)))
             ∙ all_at is_ascii_digit digits (length is.0) (omega (arith, digits_len)) d.formed.1 in
             let none = no_fraction is.1 (is.2 ++ left) is.4 byte in
             let no_power = no_exponent is.2 left is.5 (ap (λ l. is_e (get_or (l ++ (is.2 ++ left)) 0 0)) (sym none) ∙ digit_no_e (get_or (is.1 ++ (is.2 ++ left)) 0 0) byte) in
@@ -211,20 +211,20 @@ number_found seen n m k d f x = longest_is IsNumber seen text rest (n + m + k) l
         full : length is.0 ≡ n → length longer ≤ length text
         full same = ⊎_elim less equal (below_or_same (length is.1) m (f.longest is.1 (is.2 ++ left) there is.4))
           where
-            there : is.1 ++ (is.2 ++ left) ≡ behind_digits
+            there : is.1 ++ (is.2 ++ left) ≡ after_digits
             there = sym (front_dropped is.0 (is.1 ++ (is.2 ++ left)) seen split) ∙ ap (λ a. drop a seen) same
 
             less : length is.1 < m → length longer ≤ length text
             less lt =
                 let byte : is_e (get_or (is.2 ++ left) 0 0) ≡ false =
-                ap is_e (sym (behind is.1 (is.2 ++ left) behind_digits there) ∙ inside fraction behind_fraction behind_digits (length is.1) (take-append-drop m behind_digits) (omega (arith, fraction_len)))
+                ap is_e (sym (first_after is.1 (is.2 ++ left) after_digits there) ∙ inside fraction after_fraction after_digits (length is.1) (take-append-drop m after_digits) (omega (arith, fraction_len)))
                 ∙ not_e_is (get_or fraction (length is.1) 0) (all_at not_e fraction (length is.1) (omega (arith, fraction_len)) (fraction_no_e fraction f.formed)) in
                 let no_power = no_exponent is.2 left is.5 byte in
                 omega (arith, total, len, ap length no_power)
 
             equal : length is.1 ≡ m → length longer ≤ length text
             equal at =
-                let last : is.2 ++ left ≡ behind_fraction = sym (front_dropped is.1 (is.2 ++ left) behind_digits there) ∙ ap (λ a. drop a behind_digits) at in
+                let last : is.2 ++ left ≡ after_fraction = sym (front_dropped is.1 (is.2 ++ left) after_digits there) ∙ ap (λ a. drop a after_digits) at in
                 let most = x.longest is.2 left last is.5 in
                 omega (arith, total, len, most)
 
@@ -239,7 +239,7 @@ exponent_at seen after power sign digits h e e' s d =
     subst (λ l. IsLongestFront IsExponent l (1 + sign + digits)) (sym (exponent_head seen h ∙ ap (λ l. get_or seen 0 0 ∷ l) (sym e)))
     (exponent_found (get_or seen 0 0) after sign digits h s (subst (λ l. IsLongestFront IsDigits l digits) e' d))
 
-pub number_at : (seen behind_digits last : List ℕ) (n m k : ℕ) → behind_digits ≡ drop n seen → last ≡ drop m behind_digits → IsLongestFront IsDigits seen n → IsLongestFront IsFraction behind_digits m → IsLongestFront IsExponent last k →
+pub number_at : (seen after_digits last : List ℕ) (n m k : ℕ) → after_digits ≡ drop n seen → last ≡ drop m after_digits → IsLongestFront IsDigits seen n → IsLongestFront IsFraction after_digits m → IsLongestFront IsExponent last k →
     IsLongestFront IsNumber seen (n + m + k)
-number_at seen behind_digits last n m k e e' d f x =
+number_at seen after_digits last n m k e e' d f x =
     number_found seen n m k d (subst (λ l. IsLongestFront IsFraction l m) e f) (subst (λ l. IsLongestFront IsExponent l k) (e' ∙ ap (drop m) e) x)

@@ -20,9 +20,9 @@ use Rattle.hcl_scan.proofs.GapLemmas.{drop_blanks, gaps, lines}
 use Rattle.hcl_scan.proofs.NextTokenLemmas.{follows}
 
 -- what is still to come of a text
-abbrev pub behind : List Hidden → List ℕ → List ℕ
-behind [] z = z
-behind (h ∷ hs) z = h.closer ++ (h.after ++ behind hs z)
+abbrev pub beyond : List Hidden → List ℕ → List ℕ
+beyond [] z = z
+beyond (h ∷ hs) z = h.closer ++ (h.after ++ beyond hs z)
 
 -- where the texts are read again, outside of heredocs and inside
 abbrev Outside : List (ℕ × Lexeme) → Type 0
@@ -32,7 +32,7 @@ Outside ps = (s end : State) (dot : Bool) (before : Kind) (at : ℕ) (offsets : 
 -- what the text holds after the outermost heredoc
 pub record Within (s : State) (hs : List Hidden) (last : Hidden) (ps : List (ℕ × Lexeme)) (at : ℕ) (offsets : List ℕ) : Type 0 where
   pub after : List ℕ
-  pub whole : text_with_gaps ps ≡ s.seen ++ behind hs (last.closer ++ after)
+  pub whole : text_with_gaps ps ≡ s.seen ++ beyond hs (last.closer ++ after)
   pub ends : at_line_end (skip_blanks after) ≡ true
   pub again : Again (record { at = at; opens = s.opens; offsets = offsets; after_dot = s.after_dot; seen = s.seen; hidden = hs ++ record { closer = last.closer; after = after } ∷ [] }) (placed_tokens at ps)
 
@@ -184,7 +184,7 @@ module _ (p : ℕ × Lexeme) (ps : List (ℕ × Lexeme)) (outside : Outside ps) 
             let h' : Hidden = record { closer = last.closer; after = w.after } in
             record {
               after = w.after;
-              whole = no_blanks p.0 (t.text ++ text_with_gaps ps) gap ∙ join_seen t.text (text_with_gaps ps) r.rest s.seen (behind hs (last.closer ++ w.after)) whole (w.whole ∙ ap (λ l. l ++ behind hs (last.closer ++ w.after)) e);
+              whole = no_blanks p.0 (t.text ++ text_with_gaps ps) gap ∙ join_seen t.text (text_with_gaps ps) r.rest s.seen (beyond hs (last.closer ++ w.after)) whole (w.whole ∙ ap (λ l. l ++ beyond hs (last.closer ++ w.after)) e);
               ends = w.ends;
               again = push next.seen (hs ++ h' ∷ []) (hs ++ h' ∷ []) (subst (λ l. Leaves t.kind t.text r.rest (hs ++ h' ∷ []) l (hs ++ h' ∷ [])) (sym e) (plain_shows t.kind t.text r.rest (hs ++ h' ∷ []) k)) w.again;
             }
@@ -192,7 +192,7 @@ module _ (p : ℕ × Lexeme) (ps : List (ℕ × Lexeme)) (outside : Outside ps) 
             let h : Hidden = hides (marker_of t.text) (drop n r.rest) in
             let w = inside next end (is Dot before) t.kind at' offsets' (h ∷ hs) last run.2 done (e' ∙ ap (λ l. h ∷ l) hidden) sound' ends r.after_dot parts.1 in
             let h' : Hidden = record { closer = last.closer; after = w.after } in
-            let tail : List ℕ = behind hs (last.closer ++ w.after) in
+            let tail : List ℕ = beyond hs (last.closer ++ w.after) in
             record {
               after = w.after;
               whole = no_blanks p.0 (t.text ++ text_with_gaps ps) gap ∙ join_seen t.text (text_with_gaps ps) r.rest s.seen tail whole (w.whole ∙ ap (λ l. l ++ (h.closer ++ (h.after ++ tail))) e ∙ join_hidden (marker_of t.text) r.rest n tail);
@@ -241,7 +241,7 @@ module _ (p : ℕ × Lexeme) (ps : List (ℕ × Lexeme)) (outside : Outside ps) 
           let above : c.above ≡ hs ++ last ∷ [] = sym (ap (λ l. drop 1 l) both) in
           let w = inside next end (is Dot before) p.1.kind at' (drop 1 offsets) hs last run_on done above sound_on ends not_dot parts.1 in
           let h' : Hidden = record { closer = last.closer; after = w.after } in
-          let tail : List ℕ = behind hs (last.closer ++ w.after) in
+          let tail : List ℕ = beyond hs (last.closer ++ w.after) in
           let pushed = push_closes at p.0 s.opens c.below offsets s.after_dot s.seen c.rest (hs ++ h' ∷ []) p.1 (placed_tokens at' ps) c.top c.read no_gap_here c.kind c.inside w.again in
           record {
             after = w.after;

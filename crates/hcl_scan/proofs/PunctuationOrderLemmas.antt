@@ -112,7 +112,7 @@ module _ (seen : List ℕ) where
         formed = inr later.formed;
         longest = λ other longer left e is. ⊎_elim
             (λ same. absurd (not_here m longer left w.0 same.0 e))
-            (λ behind. later.longest other longer left e behind) is;
+            (λ after. later.longest other longer left e after) is;
       })
       (cond_some (stands m) m y (find stands ms) h)
 

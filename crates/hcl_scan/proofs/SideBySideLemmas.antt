@@ -20,7 +20,7 @@ use Rattle.hcl_scan.proofs.ContextLemmas.{is_expression, expression_is, not_both
 use Rattle.hcl_scan.proofs.OpenStackLemmas.{Sound, is_grounded, stacks, below}
 use Rattle.hcl_scan.proofs.FirstByteLemmas.{begins}
 use Rattle.hcl_scan.proofs.InExpressionLemmas.{no_template}
-use Rattle.hcl_scan.proofs.BehindCommentLemmas.{comment_spelled, line_gap, comment_ends}
+use Rattle.hcl_scan.proofs.AfterCommentLemmas.{comment_spelled, line_gap, comment_ends}
 
 -- ---- where a template goes on
 popped_context : (is : Opener → Bool) → is Sequence ≡ false → (opens : List Opener) → context opens ≡ Expression → is_grounded opens ≡ true → context (pop_if is opens) ≡ Expression

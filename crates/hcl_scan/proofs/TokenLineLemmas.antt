@@ -14,7 +14,7 @@ use Rattle.hcl_tokens.specs.Scans.{State, has_gaps_in, gap_in, gap_len, ahead, b
 use Rattle.hcl_source.specs.Places.{line_of}
 use Rattle.hcl_tokens.proofs.BooleanLemmas.{and_true}
 use Rattle.hcl_scan.proofs.LongestFrontLemmas.{run_passes}
-use Rattle.hcl_scan.proofs.OtherGapLemmas.{behind, join_hidden}
+use Rattle.hcl_scan.proofs.OtherGapLemmas.{beyond, join_hidden}
 use Rattle.hcl_scan.proofs.ShownLemmas.{Shown, opening, plain, shown}
 
 -- how many lines end in these bytes
@@ -48,7 +48,7 @@ gap_taken opens seen = by (has_gaps_in (context opens) (in_heredoc opens))
 -- ---- one token
 -- what is still to come of a text
 abbrev coming : State → List ℕ
-coming s = s.seen ++ behind s.hidden []
+coming s = s.seen ++ beyond s.hidden []
 
 -- a gap that ends no line, the token, and what comes then
 record Step (s : State) (t : Lexeme) (next : State) : Type 0 where
@@ -62,9 +62,9 @@ reads_step : (s : State) (t : Lexeme) (next : State) → Reads s t next → Step
 reads_step s t next r = record {
   gap = take (gap_len s) s.seen;
   none_end = taken.0;
-  whole = ap (λ l. l ++ behind s.hidden []) (sym (take-append-drop (gap_len s) s.seen))
-      ∙ append_assoc (take (gap_len s) s.seen) (ahead s) (behind s.hidden [])
-      ∙ ap (λ l. take (gap_len s) s.seen ++ l) (ap (λ l. l ++ behind s.hidden []) (sym r.longest.whole) ∙ append_assoc t.text r.rest (behind s.hidden []) ∙ ap (λ l. t.text ++ l) (sym then));
+  whole = ap (λ l. l ++ beyond s.hidden []) (sym (take-append-drop (gap_len s) s.seen))
+      ∙ append_assoc (take (gap_len s) s.seen) (ahead s) (beyond s.hidden [])
+      ∙ ap (λ l. take (gap_len s) s.seen ++ l) (ap (λ l. l ++ beyond s.hidden []) (sym r.longest.whole) ∙ append_assoc t.text r.rest (beyond s.hidden []) ∙ ap (λ l. t.text ++ l) (sym then));
   start = r.start ∙ ap (λ n. s.at + n) (sym taken.1);
   at = r.at;
 }
@@ -72,24 +72,24 @@ reads_step s t next r = record {
     taken : (ends (take (gap_len s) s.seen) ≡ 0) × (length (take (gap_len s) s.seen) ≡ gap_len s)
     taken = gap_taken s.opens s.seen
 
-    by : Shown t.kind t.text r.rest s.hidden next.seen next.hidden → coming next ≡ r.rest ++ behind s.hidden []
-    by (plain k e e') = ap (λ l. l ++ behind next.hidden []) e ∙ ap (λ h. r.rest ++ behind h []) e'
-    by (opening k n first e e') = ap (λ l. l ++ behind next.hidden []) e ∙ ap (λ h. take n r.rest ++ behind h []) e' ∙ join_hidden (marker_of t.text) r.rest n (behind s.hidden [])
+    by : Shown t.kind t.text r.rest s.hidden next.seen next.hidden → coming next ≡ r.rest ++ beyond s.hidden []
+    by (plain k e e') = ap (λ l. l ++ beyond next.hidden []) e ∙ ap (λ h. r.rest ++ beyond h []) e'
+    by (opening k n first e e') = ap (λ l. l ++ beyond next.hidden []) e ∙ ap (λ h. take n r.rest ++ beyond h []) e' ∙ join_hidden (marker_of t.text) r.rest n (beyond s.hidden [])
 
-    then : coming next ≡ r.rest ++ behind s.hidden []
+    then : coming next ≡ r.rest ++ beyond s.hidden []
     then = by (shown t.kind t.text r.rest s.hidden next.seen next.hidden r.leaves)
 
 closes_step : (s : State) (t : Lexeme) (next : State) → Closes s t next → Step s t next
 closes_step s t next c = record {
   gap = [];
   none_end = refl;
-  whole = ap (λ l. l ++ behind s.hidden []) c.read ∙ ap (λ h. behind h []) c.line ∙ ap (λ l. t.text ++ l) (sym then);
+  whole = ap (λ l. l ++ beyond s.hidden []) c.read ∙ ap (λ h. beyond h []) c.line ∙ ap (λ l. t.text ++ l) (sym then);
   start = c.start ∙ omega arith;
   at = ap (λ (n : State). n.at) c.next_is ∙ ap (λ n. n + length t.text) (sym c.start);
 }
   where
-    then : coming next ≡ c.rest ++ behind c.above []
-    then = ap (λ (n : State). n.seen ++ behind n.hidden []) c.next_is
+    then : coming next ≡ c.rest ++ beyond c.above []
+    then = ap (λ (n : State). n.seen ++ beyond n.hidden []) c.next_is
 
 step : (s : State) (t : Lexeme) (next : State) → Next s t next → Step s t next
 step s t next (inl r) = reads_step s t next r

@@ -23,7 +23,7 @@ use Rattle.hcl_scan.proofs.LiteralLemmas.{element_is}
 use Rattle.hcl_scan.proofs.LongestFrontLemmas.{front_taken, front_dropped, front_within}
 use Rattle.hcl_scan.proofs.TextCutLemmas.{EndsLow, low_cut, run_cut, newline_low, blanks_low, number_low, inline_low, heredoc_low, closer_low, mark_low}
 use Rattle.hcl_scan.proofs.HeredocStepLemmas.{ascii_there, after_marker, line_boundary, closer_within}
-use Rattle.hcl_scan.proofs.BehindCommentLemmas.{comment_ends}
+use Rattle.hcl_scan.proofs.AfterCommentLemmas.{comment_ends}
 
 low_there : (text rest seen : List ℕ) → IsUtf8 seen → text ++ rest ≡ seen → EndsLow text → IsCharBoundary seen (length text)
 low_there text rest seen utf8 whole e = low_cut seen (length text) utf8 (front_within text rest seen whole) (subst EndsLow (sym (front_taken text rest seen whole)) e)

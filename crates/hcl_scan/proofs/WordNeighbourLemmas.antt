@@ -12,7 +12,7 @@ use Rattle.hcl_tokens.specs.declared.token.Kind.TheVariants.{Ident, Number}
 use Rattle.hcl_tokens.proofs.BooleanLemmas.{and_true}
 use Rattle.hcl_scan.proofs.WordLemmas.{IsWord, ident_word, is_word, number_ends, no_longer_number, stops_number, Whole, ends_number}
 use Rattle.hcl_scan.proofs.LeadLemmas.{letter_leads, digits_lead, letter_kind, digit_kind}
-use Rattle.hcl_scan.proofs.LongerTextLemmas.{Alone, Longer, longer_is, lead_kind, all_behind}
+use Rattle.hcl_scan.proofs.LongerTextLemmas.{Alone, Longer, longer_is, lead_kind, all_after}
 
 abbrev pub stops_digits : List ℕ → Bool
 stops_digits [] = true
@@ -29,7 +29,7 @@ grown (b ∷ bs) left some h k = let w = (and_true (is_word b) (list_all is_word
 -- AN IDENTIFIER
 pub ident_alone : (opens : List Opener) (dot : Bool) (text rest : List ℕ) → IsIdent text → stops_ident rest ≡ true → Alone opens dot text rest
 ident_alone opens dot text rest is stop kind longer left e lt h =
-    grown more.bs left more.some (all_behind is_word text more.bs (ap (list_all is_word) (sym more.whole) ∙ (ident_word longer (subst (λ (k : Kind). IsExpressionText opens dot k longer left) kind_is h)).words)) (ap stops_ident more.after ∙ stop)
+    grown more.bs left more.some (all_after is_word text more.bs (ap (list_all is_word) (sym more.whole) ∙ (ident_word longer (subst (λ (k : Kind). IsExpressionText opens dot k longer left) kind_is h)).words)) (ap stops_ident more.after ∙ stop)
   where
     more : Longer text rest longer left
     more = longer_is text rest longer left e lt
@@ -60,14 +60,14 @@ number_alone opens text rest is stop kind longer left e lt h =
     kind_is : kind ≡ Number
     kind_is = digit_kind kind (lead_kind opens false kind longer left (text ++ rest) e (omega (arith, ap length split, length-append is.0 (is.1 ++ is.2), is.3.0, lt)) h ∙ digit)
 
-digit_behind : (bs left : List ℕ) → 0 < length bs → list_all is_ascii_digit bs ≡ true → stops_digits (bs ++ left) ≡ true → ⊥
-digit_behind [] left some h k = omega arith
-digit_behind (b ∷ bs) left some h k = let w = (and_true (is_ascii_digit b) (list_all is_ascii_digit bs) h).0 in let clash : not true ≡ true = ap not (sym w) ∙ k in cc
+digit_after : (bs left : List ℕ) → 0 < length bs → list_all is_ascii_digit bs ≡ true → stops_digits (bs ++ left) ≡ true → ⊥
+digit_after [] left some h k = omega arith
+digit_after (b ∷ bs) left some h k = let w = (and_true (is_ascii_digit b) (list_all is_ascii_digit bs) h).0 in let clash : not true ≡ true = ap not (sym w) ∙ k in cc
 
 -- and where one stands before it
 pub digits_alone : (opens : List Opener) (text rest : List ℕ) → IsDigits text → stops_digits rest ≡ true → Alone opens true text rest
 digits_alone opens text rest is stop kind longer left e lt h =
-    digit_behind more.bs left more.some (all_behind is_ascii_digit text more.bs (ap (list_all is_ascii_digit) (sym more.whole) ∙ (subst (λ (k : Kind). IsExpressionText opens true k longer left) kind_is h).1)) (ap stops_digits more.after ∙ stop)
+    digit_after more.bs left more.some (all_after is_ascii_digit text more.bs (ap (list_all is_ascii_digit) (sym more.whole) ∙ (subst (λ (k : Kind). IsExpressionText opens true k longer left) kind_is h).1)) (ap stops_digits more.after ∙ stop)
   where
     more : Longer text rest longer left
     more = longer_is text rest longer left e lt

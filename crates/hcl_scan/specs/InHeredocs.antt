@@ -5,17 +5,17 @@ use Rattle.hcl_tokens.specs.Lexemes.{Lexeme}
 use Rattle.hcl_tokens.specs.Scans.{Hidden, Next, State}
 
 -- what the heredocs hide, with other text after the closing marker of the outermost
-abbrev pub behind_last : List ℕ → List Hidden → List Hidden
-behind_last other [] = []
-behind_last other (h ∷ []) = record { closer = h.closer; after = other } ∷ []
-behind_last other (h ∷ k ∷ hs) = h ∷ behind_last other (k ∷ hs)
+abbrev pub after_last : List ℕ → List Hidden → List Hidden
+after_last other [] = []
+after_last other (h ∷ []) = record { closer = h.closer; after = other } ∷ []
+after_last other (h ∷ k ∷ hs) = h ∷ after_last other (k ∷ hs)
 
 -- the same is open, seen and hidden, but for what follows the outermost; the offsets may differ
 pub record SameInside (other : List ℕ) (s twin : State) : Type 0 where
   pub opens : twin.opens ≡ s.opens
   pub after_dot : twin.after_dot ≡ s.after_dot
   pub seen : twin.seen ≡ s.seen
-  pub hidden : twin.hidden ≡ behind_last other s.hidden
+  pub hidden : twin.hidden ≡ after_last other s.hidden
 
 -- the token at another offset
 abbrev pub starting : ℕ → Lexeme → Lexeme

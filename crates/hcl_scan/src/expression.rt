@@ -41,7 +41,8 @@ fn found_as(kind: Kind, len: Option<usize>) -> Option<Found>
 
 /// The newline at the front: nearly always it is LF alone.
 fn found_newline(seen: &[u8]) -> Option<Found>
-    ensures found { IfSome result (λ f. (f.kind ≡ Newline) × IsLongestFront IsNewline seen.now f.len) }
+    ensures found { IfSome result (λ f. (f.kind ≡ Newline)
+        × IsLongestFront IsNewline seen.now f.len) }
     ensures none { IfNone result (HasNoFront IsNewline seen.now) }
 {
     if seen.starts_with(b"\n") {
@@ -105,7 +106,8 @@ fn closer_len(seen: &[u8], closes_sequence: bool) -> Option<usize>
 /// A heredoc's opener, or the first `<` of two.
 fn opener_or_less(seen: &str) -> Found
     requires { lead_of seen.now ≡ LessLess }
-    ensures found { (after_dot inside closes : Bool) → FindsAt after_dot inside closes seen.now result.kind result.len }
+    ensures found { (after_dot inside closes : Bool)
+        → FindsAt after_dot inside closes seen.now result.kind result.len }
     ensures boundary { IsCharBoundary seen.now result.len }
 {
     match heredoc_open_len(seen) {
@@ -123,9 +125,11 @@ fn opener_or_less(seen: &str) -> Found
 /// The longest token at the front of what is seen, where its first bytes are no mark.
 fn led(seen: &str, lead: Lead, around: Surroundings) -> Option<Found>
     requires { IsFront seen.now (Led lead) }
-    ensures found { IfSome result (λ f. FindsAt around.after_dot around.inside_heredoc around.closes_sequence seen.now f.kind f.len) }
+    ensures found { IfSome result (λ f. FindsAt around.after_dot around.inside_heredoc
+        around.closes_sequence seen.now f.kind f.len) }
     ensures boundary { IfSome result (λ f. IsCharBoundary seen.now f.len) }
-    ensures none { IfNone result (HasNoneAt around.after_dot around.inside_heredoc around.closes_sequence seen.now) }
+    ensures none { IfNone result (HasNoneAt around.after_dot around.inside_heredoc
+        around.closes_sequence seen.now) }
 {
     let bytes = seen.as_bytes();
     match lead {
@@ -153,9 +157,11 @@ fn led(seen: &str, lead: Lead, around: Surroundings) -> Option<Found>
 
 /// The longest token at the front of what is seen, where an expression is read. `seen` is what follows the gap.
 pub(crate) fn next_in_expression(seen: &str, around: Surroundings) -> Option<Found>
-    ensures found { IfSome result (λ f. FindsAt around.after_dot around.inside_heredoc around.closes_sequence seen.now f.kind f.len) }
+    ensures found { IfSome result (λ f. FindsAt around.after_dot around.inside_heredoc
+        around.closes_sequence seen.now f.kind f.len) }
     ensures boundary { IfSome result (λ f. IsCharBoundary seen.now f.len) }
-    ensures none { IfNone result (HasNoneAt around.after_dot around.inside_heredoc around.closes_sequence seen.now) }
+    ensures none { IfNone result (HasNoneAt around.after_dot around.inside_heredoc
+        around.closes_sequence seen.now) }
 {
     match front_of(seen.as_bytes()) {
         Front::Mark(kind, len) => Some(Found { kind, len }),

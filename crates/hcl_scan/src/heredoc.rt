@@ -35,7 +35,8 @@ fn word_len(text: &[u8]) -> usize
 /// What follows the `<<` or `<<-` of a heredoc's opener.
 fn named(opener: &[u8]) -> &[u8]
     requires { 2 ≤ length opener.now }
-    ensures { result.now ≡ (if starts_with nat_eq opener.now (codes "<<-") then drop 3 opener.now else drop 2 opener.now) }
+    ensures { result.now ≡ (if starts_with nat_eq opener.now (codes "<<-") then drop 3 opener.now
+        else drop 2 opener.now) }
 {
     if opener.starts_with(b"<<-") {
         let (_, after) = opener.split_at(3);
@@ -93,7 +94,8 @@ fn line_of_marker(text: &[u8], place: usize, end: usize) -> Option<usize>
     requires order { place ≤ end }
     requires within { end ≤ length text.now }
     ensures found { IfSome result (λ n. IsBlankFront text.now place n × EndsLine text.now end) }
-    ensures none { IfNone result ((n : ℕ) → IsBlankFront text.now place n → ¬ EndsLine text.now end) }
+    ensures none { IfNone result ((n : ℕ) → IsBlankFront text.now place n
+        → ¬ EndsLine text.now end) }
 {
     if ends_line(text, end) {
         blank_line_start(text, place)
@@ -199,7 +201,8 @@ fn places_in_doubt(text: &[u8], marker: &[u8], at: usize) -> u64
 fn first_standing(text: &[u8], marker: &[u8], at: usize, marked: u64) -> Option<usize>
     requires room { at + PLACES < length text.now }
     requires marks { MarksStanding text.now marker.now at marked }
-    ensures found { IfSome result (λ n. (n ≤ at + PLACES) × IsAfterOthers text.now marker.now at n) }
+    ensures found { IfSome result (λ n. (n ≤ at + PLACES)
+        × IsAfterOthers text.now marker.now at n) }
     ensures none { IfNone result (NoneStands text.now marker.now at (at + PLACES)) }
 {
     let mut left = marked;
@@ -219,7 +222,7 @@ fn first_standing(text: &[u8], marker: &[u8], at: usize, marked: u64) -> Option<
 fn past_unlikely(text: &[u8], marker: &[u8], place: usize) -> usize
     requires some { 0 < length marker.now }
     requires within { place + length marker.now ≤ length text.now }
-    ensures behind { IsAfterOthers text.now marker.now place result }
+    ensures after { IsAfterOthers text.now marker.now place result }
     ensures within { result ≤ length text.now }
 {
     let last = text.len() - marker.len();
@@ -258,7 +261,8 @@ fn next_place(text: &[u8], marker: &[u8], at: usize) -> Option<usize>
 fn next_line(text: &[u8], place: usize) -> Option<usize>
     requires { place ≤ length text.now }
     ensures found { IfSome result (IsNextLine text.now place) }
-    ensures none { IfNone result ((n : ℕ) → place < n → n ≤ length text.now → get_or text.now (n - 1) 0 ≢ 10) }
+    ensures none { IfNone result ((n : ℕ) → place < n → n ≤ length text.now
+        → get_or text.now (n - 1) 0 ≢ 10) }
 {
     let (_, rest) = text.split_at(place);
     let line = memchr(b'\n', rest)?;

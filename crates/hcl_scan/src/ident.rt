@@ -188,8 +188,8 @@ fn marker_len(seen: &str) -> Option<usize>
     let Some(name) = ident_len(seen) else {
         return None;
     };
-    let (_, behind) = seen.as_bytes().split_at(name);
-    match newline_len(behind) {
+    let (_, after) = seen.as_bytes().split_at(name);
+    match newline_len(after) {
         Some(end) => Some(name + end),
         None => None,
     }

@@ -102,7 +102,7 @@ pub(crate) fn likely_places(text: &[u8], at: usize, marker: &[u8]) -> u64
     let before = u8x32::from_slice(&text[at..]).simd_le(blank);
     let front = u8x32::from_slice(&text[at + 1..]).simd_eq(first);
     let back = u8x32::from_slice(&text[at + len..]).simd_eq(last);
-    let behind = u8x32::from_slice(&text[at + len + 1..]).simd_le(blank);
+    let after = u8x32::from_slice(&text[at + len + 1..]).simd_le(blank);
     // side by side the two tests of blanks are one of the larger bytes
-    (before & behind & front & back).to_bitmask()
+    (before & after & front & back).to_bitmask()
 }

@@ -26,7 +26,8 @@ pub use hcl_source::laws::{fault_or_text, one_load_fault, text_or_fault};
 /// A text is a list of tokens or has a scan fault. The body shows it: it scans, and keeps nothing.
 pub fn list_or_fault(text: &str)
     requires { length text.now ≤ max_source }
-    ensures { ((ts : List Lexeme) × Scans text.now ts) ⊎ ((kind : FaultKind) × (at : ℕ) × IsScanFault text.now kind at) }
+    ensures { ((ts : List Lexeme) × Scans text.now ts)
+        ⊎ ((kind : FaultKind) × (at : ℕ) × IsScanFault text.now kind at) }
 {
     let mut room = Room::new();
     let mut scanner = Scanner::new(text, &mut room);
@@ -51,17 +52,20 @@ pub fn one_fault()
 
 /// A text that has a fault is no list of tokens.
 pub fn fault_or_list()
-    ensures { (text : List ℕ) (kind : FaultKind) (at : ℕ) (ts : List Lexeme) → IsScanFault text kind at → ¬ Scans text ts }
+    ensures { (text : List ℕ) (kind : FaultKind) (at : ℕ) (ts : List Lexeme)
+        → IsScanFault text kind at → ¬ Scans text ts }
 {}
 
 /// What is open after a list of tokens is a function of the list.
 pub fn context_of_list()
-    ensures { (s : State) (ts : List Lexeme) (end : State) → Run s ts end → end.opens ≡ open_after_all s.opens ts }
+    ensures { (s : State) (ts : List Lexeme) (end : State) → Run s ts end
+        → end.opens ≡ open_after_all s.opens ts }
 {}
 
 /// After each front of a text's list of tokens at most `max_open` things are open.
 pub fn bounded()
-    ensures { (text : List ℕ) (front back : List Lexeme) → Scans text (front ++ back) → length (open_after_all [] front) ≤ max_open }
+    ensures { (text : List ℕ) (front back : List Lexeme) → Scans text (front ++ back)
+        → length (open_after_all [] front) ≤ max_open }
 {}
 
 /// What tells kinds apart leaves out no kind.
@@ -71,24 +75,30 @@ pub fn all_kinds_told()
 
 /// At one place a text has one kind, and no token is empty.
 pub fn one_kind()
-    ensures one_kind { (opens : List Opener) (after_dot : Bool) (kind other : Kind) (text rest : List ℕ) → IsSpelling opens after_dot kind text rest
+    ensures one_kind { (opens : List Opener) (after_dot : Bool) (kind other : Kind)
+        (text rest : List ℕ) → IsSpelling opens after_dot kind text rest
         → IsSpelling opens after_dot other text rest → kind ≡ other }
-    ensures nonempty { (opens : List Opener) (after_dot : Bool) (kind : Kind) (text rest : List ℕ) → IsSpelling opens after_dot kind text rest → 0 < length text }
+    ensures nonempty { (opens : List Opener) (after_dot : Bool) (kind : Kind) (text rest : List ℕ)
+        → IsSpelling opens after_dot kind text rest → 0 < length text }
 {}
 
 /// Outside heredocs a token that was the longest before one text is the longest before another,
 /// except where the table of neighbours says that they join.
 pub fn neighbours()
-    ensures { (opens : List Opener) (after_dot : Bool) (kind : Kind) (text rest other : List ℕ) → IsFalse (in_heredoc opens)
-        → IsLongest opens after_dot (text ++ rest) kind text rest → IsTrue (stays after_dot kind rest other)
+    ensures { (opens : List Opener) (after_dot : Bool) (kind : Kind) (text rest other : List ℕ)
+        → IsFalse (in_heredoc opens)
+        → IsLongest opens after_dot (text ++ rest) kind text rest
+        → IsTrue (stays after_dot kind rest other)
         → IsLongest opens after_dot (text ++ other) kind text other }
 {}
 
 /// What follows the marker line of a heredoc doesn't move it, as long as it ends the line.
 pub fn marker_line_kept()
-    ensures { (opens : List Opener) (after_dot : Bool) (text rest after : List ℕ) (n : ℕ) → IsSpelling opens after_dot HeredocOpen text rest
+    ensures { (opens : List Opener) (after_dot : Bool) (text rest after : List ℕ) (n : ℕ)
+        → IsSpelling opens after_dot HeredocOpen text rest
         → IsFirstMarkerLine (marker_of text) rest n → IsTrue (at_line_end (skip_blanks after))
-        → IsFirstMarkerLine (marker_of text) (take n rest ++ ((hides (marker_of text) (drop n rest)).closer ++ after)) n }
+        → IsFirstMarkerLine (marker_of text)
+        (take n rest ++ ((hides (marker_of text) (drop n rest)).closer ++ after)) n }
 {}
 
 /// What a scan says of tokens that stand side by side.
@@ -98,23 +108,27 @@ pub fn side_by_side()
 
 /// The same tokens with other gaps between them, where these fit, are scanned again.
 pub fn other_gaps()
-    ensures { (text : List ℕ) (ps : List (ℕ × Lexeme)) → Scans text (without_gaps ps) → AllFit false Newline ps → Scans (text_with_gaps ps) (placed_tokens 0 ps) }
+    ensures { (text : List ℕ) (ps : List (ℕ × Lexeme)) → Scans text (without_gaps ps)
+        → AllFit false Newline ps → Scans (text_with_gaps ps) (placed_tokens 0 ps) }
 {}
 
 /// The tokens of a text that is UTF-8 are UTF-8, and the first begins with no byte order mark.
 pub fn texts()
     ensures utf8 { (text : List ℕ) (ts : List Lexeme) → IsUtf8 text → Scans text ts → AreTexts ts }
-    ensures unmarked { (text : List ℕ) (t : Lexeme) (ts : List Lexeme) (more : List ℕ) → Scans text (t ∷ ts) → IsFalse (has_byte_order_mark (t.text ++ more)) }
+    ensures unmarked { (text : List ℕ) (t : Lexeme) (ts : List Lexeme) (more : List ℕ)
+        → Scans text (t ∷ ts) → IsFalse (has_byte_order_mark (t.text ++ more)) }
 {}
 
 /// Inside an outermost heredoc the tokens are the same, whatever text follows it.
 pub fn heredoc_kept()
-    ensures { (other : List ℕ) (s twin : State) (t : Lexeme) (next : State) → SameInside other s twin → IsTrue (in_heredoc s.opens) → 0 < length s.hidden
+    ensures { (other : List ℕ) (s twin : State) (t : Lexeme) (next : State)
+        → SameInside other s twin → IsTrue (in_heredoc s.opens) → 0 < length s.hidden
         → 0 < length next.hidden → Next s t next → ReadsToo other twin t next }
 {}
 
 /// The line of a token is 1 and the LFs in the texts before it: what stands between tokens ends no line.
 pub fn line_of_token()
-    ensures { (text : List ℕ) (front : List Lexeme) (t : Lexeme) (back : List Lexeme) → Scans text (front ++ t ∷ back)
+    ensures { (text : List ℕ) (front : List Lexeme) (t : Lexeme) (back : List Lexeme)
+        → Scans text (front ++ t ∷ back)
         → line_of text t.start ≡ 1 + count_by (λ b. b == 10) (flat_map (λ u. u.text) front) }
 {}

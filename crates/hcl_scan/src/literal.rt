@@ -27,7 +27,9 @@ fn hex_digits(bytes: &[u8], count: usize) -> bool
 
 /// Whether an escape of a backslash and one character stands at the front.
 fn is_short_escape(seen: &[u8]) -> bool
-    ensures { result ≡ (starts seen.now (codes "\\n") || starts seen.now (codes "\\r") || starts seen.now (codes "\\t") || starts seen.now (codes "\\\"") || starts seen.now (codes "\\\\")) }
+    ensures { result ≡ (starts seen.now (codes "\\n") || starts seen.now (codes "\\r")
+        || starts seen.now (codes "\\t")
+        || starts seen.now (codes "\\\"") || starts seen.now (codes "\\\\")) }
 {
     seen.starts_with(b"\\n")
         || seen.starts_with(b"\\r")
@@ -168,7 +170,8 @@ fn element_len(seen: &[u8], b: u8, after: &[u8], quoted: bool) -> Option<usize>
 /// How many bytes of literal text stand at the front.
 pub fn literal_len(seen: &[u8], quoted: bool) -> usize
     ensures within { result ≤ length seen.now }
-    ensures elements { IsTrue (are_elements quoted 0 (take result seen.now) (drop result seen.now)) }
+    ensures elements { IsTrue (are_elements quoted 0 (take result seen.now)
+        (drop result seen.now)) }
     ensures ends { element_len quoted (drop result seen.now) ≡ None }
 {
     let mut len = past_ordinary(seen, 0);

@@ -78,8 +78,8 @@ pub(crate) fn number_len(seen: &[u8]) -> Option<usize>
     let Some(whole) = digits_len(seen) else {
         return None;
     };
-    let (_, behind) = seen.split_at(whole);
-    let fraction = fraction_len(behind);
-    let (_, last) = behind.split_at(fraction);
+    let (_, after) = seen.split_at(whole);
+    let fraction = fraction_len(after);
+    let (_, last) = after.split_at(fraction);
     Some(whole + fraction + exponent_len(last))
 }

@@ -49,7 +49,7 @@ impl Model for AfterDot {
 
 impl AfterDot {
     /// After a token of this kind.
-    fn behind(before: Kind) -> AfterDot
+    fn after(before: Kind) -> AfterDot
         ensures { result ≡ is Dot before }
     {
         AfterDot { before }
@@ -181,9 +181,12 @@ impl<'s, 'k> Scanner<'s, 'k> {
     fn find(&self, start: usize) -> Option<Found>
         requires sound { IsSound self.now }
         requires start { IsStart self.now start }
-        ensures found { IfSome result (λ f. Finds (openers_of self.now.stack) self.now.after_dot (slice_range self.now.text.now start self.now.end) f.kind f.len) }
-        ensures boundary { IfSome result (λ f. IsCharBoundary (slice_range self.now.text.now start self.now.end) f.len) }
-        ensures none { IfNone result (HasNone (openers_of self.now.stack) self.now.after_dot (slice_range self.now.text.now start self.now.end)) }
+        ensures found { IfSome result (λ f. Finds (openers_of self.now.stack) self.now.after_dot
+            (slice_range self.now.text.now start self.now.end) f.kind f.len) }
+        ensures boundary { IfSome result
+            (λ f. IsCharBoundary (slice_range self.now.text.now start self.now.end) f.len) }
+        ensures none { IfNone result (HasNone (openers_of self.now.stack) self.now.after_dot
+            (slice_range self.now.text.now start self.now.end)) }
     {
         let seen = &self.text[start..self.end];
         match self.stack.template() {
@@ -204,7 +207,8 @@ impl<'s, 'k> Scanner<'s, 'k> {
         requires sound { IsSound self.now }
         requires start { IsStart self.now start }
         requires some { start < self.now.end }
-        requires none { HasNone (openers_of self.now.stack) self.now.after_dot (slice_range self.now.text.now start self.now.end) }
+        requires none { HasNone (openers_of self.now.stack) self.now.after_dot
+            (slice_range self.now.text.now start self.now.end) }
         ensures { IsStopped self.now result }
     {
         let seen = self.text[start..self.end].as_bytes();
@@ -258,7 +262,7 @@ impl<'s, 'k> Scanner<'s, 'k> {
         ensures { Moves self.old entry self.new }
     {
         self.at = entry.end as usize;
-        self.after_dot = AfterDot::behind(entry.kind);
+        self.after_dot = AfterDot::after(entry.kind);
     }
 
     /// Reads what closes something.
@@ -335,7 +339,8 @@ impl<'s, 'k> Scanner<'s, 'k> {
     fn close_heredoc(&mut self, closer_end: u32, outer_end: u32) -> Entry
         requires sound { IsSound self.old }
         requires read { self.old.at ≡ self.old.end }
-        requires top { (o : Opened) × (below : List Opened) × (self.old.stack ≡ o ∷ below) × (o.by ≡ Opener.Heredoc closer_end outer_end) }
+        requires top { (o : Opened) × (below : List Opened) × (self.old.stack ≡ o ∷ below)
+            × (o.by ≡ Opener.Heredoc closer_end outer_end) }
         ensures { Moves self.old result self.new }
     {
         let entry = Entry {

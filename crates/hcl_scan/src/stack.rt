@@ -310,7 +310,8 @@ impl<'k> Stack<'k> {
     }
 
     pub fn pop(&mut self) -> Option<Opened>
-        ensures popped { MatchOption result ((self.old ≡ []) × (self.new ≡ [])) (λ o. self.old ≡ o ∷ self.new) }
+        ensures popped { MatchOption result ((self.old ≡ []) × (self.new ≡ []))
+            (λ o. self.old ≡ o ∷ self.new) }
         ensures rest { self.new ≡ drop 1 self.old }
     {
         if self.room.depth == 0 {

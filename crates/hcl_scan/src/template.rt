@@ -22,8 +22,10 @@ fn sequence_open_len(seen: &[u8]) -> usize
 
 /// The longest token at the front of what is seen of a template.
 pub fn next_in_template(seen: &[u8], quoted: bool) -> Option<Found>
-    ensures found { IfSome result (λ f. (opens : List Opener) (after_dot : Bool) → context opens ≡ Template quoted → Finds opens after_dot seen.now f.kind f.len) }
-    ensures none { IfNone result ((opens : List Opener) (after_dot : Bool) → context opens ≡ Template quoted → HasNone opens after_dot seen.now) }
+    ensures found { IfSome result (λ f. (opens : List Opener) (after_dot : Bool)
+        → context opens ≡ Template quoted → Finds opens after_dot seen.now f.kind f.len) }
+    ensures none { IfNone result ((opens : List Opener) (after_dot : Bool)
+        → context opens ≡ Template quoted → HasNone opens after_dot seen.now) }
     ensures boundary { IsUtf8 seen.now → IfSome result (λ f. IsCharBoundary seen.now f.len) }
 {
     if quoted && seen.starts_with(b"\"") {

@@ -210,7 +210,8 @@ pub struct WriteFault {
 pub fn write_fully<W: ByteSink>(sink: &mut W, bytes: &[u8]) -> Result<(), WriteFault>
     requires { W.failed sink.old ≡ false }
     ensures ok { OnOk result (Appends (W.taken sink.old) (W.taken sink.new) bytes.now) }
-    ensures err { IfErr result (λ fault. Appends (W.taken sink.old) (W.taken sink.new) (take fault.written bytes.now)) }
+    ensures err { IfErr result (λ fault. Appends (W.taken sink.old) (W.taken sink.new)
+        (take fault.written bytes.now)) }
     ensures written { IfErr result (λ fault. fault.written < length bytes.now) }
     ensures pending { OnOk result (0 < length bytes.now → W.flushed sink.new ≡ false) }
     ensures failed { W.failed sink.new ≡ is_err result }
@@ -247,7 +248,8 @@ pub(crate) fn read_up_to<R: ByteSource>(
     requires ready { R.failed source.old ≡ false }
     requires small { limit ≤ max_source }
     ensures given { IfOk result (λ v. Consumes (R.left source.old) (R.left source.new) v.items) }
-    ensures taken { (bytes : List ℕ) × Consumes (R.left source.old) (R.left source.new) bytes × (length bytes ≤ limit + 1) }
+    ensures taken { (bytes : List ℕ) × Consumes (R.left source.old) (R.left source.new) bytes
+        × (length bytes ≤ limit + 1) }
     ensures len { IfOk result (λ v. vec_len v ≤ limit + 1) }
     ensures all { IfOk result (λ v. vec_len v ≤ limit → IsAtEnd (R.left source.new)) }
     ensures failed { R.failed source.new ≡ is_read_failed result }

@@ -9,7 +9,8 @@ use crate::source::load_fault;
 
 /// Bytes have one load fault at most.
 pub fn one_load_fault()
-    ensures { (bytes : List ℕ) (fault other : Fault) → IsLoadFault bytes fault → IsLoadFault bytes other → fault ≡ other }
+    ensures { (bytes : List ℕ) (fault other : Fault) → IsLoadFault bytes fault
+        → IsLoadFault bytes other → fault ≡ other }
 {}
 
 /// Bytes that have a load fault are no source.

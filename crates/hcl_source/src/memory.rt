@@ -55,7 +55,12 @@ impl<'a> MemorySource<'a> {
     /// A source of these bytes that doesn't fail.
     pub fn new(bytes: &'a [u8], most: usize) -> Self
         requires { 0 < most }
-        ensures { result ≡ record { rest = bytes.now; most = most; good_reads = None; has_failed = false } }
+        ensures { result ≡ record {
+          rest = bytes.now;
+          most = most;
+          good_reads = None;
+          has_failed = false;
+        } }
     {
         MemorySource {
             rest: bytes,
@@ -90,7 +95,11 @@ impl<'a> MemorySource<'a> {
         ensures fails { is_err result ≡ is_due self.old.good_reads }
         ensures count { IfOk result (λ n. n ≡ read_len self.old (length buffer.old)) }
         ensures bytes { IfOk result (λ n. buffer.new ≡ take n self.old.rest ++ drop n buffer.old) }
-        ensures ok { IfOk result (λ n. self.new ≡ record self.old { rest = drop n self.old.rest; good_reads = one_less self.old.good_reads }) }
+        ensures ok { IfOk result (λ n. self.new
+            ≡ record self.old {
+              rest = drop n self.old.rest;
+              good_reads = one_less self.old.good_reads;
+            }) }
         ensures end { IfOk result (λ n. n ≡ 0 → 0 < length buffer.old → self.old.rest ≡ []) }
         ensures err { OnErr result (self.new ≡ record self.old { has_failed = true }) }
         ensures unmoved { OnErr result (buffer.new ≡ buffer.old) }
@@ -151,7 +160,15 @@ impl Model for MemorySink {
 impl MemorySink {
     /// An empty sink that fails only where it can take none of some bytes.
     pub fn new(most: usize) -> Self
-        ensures { result ≡ record { bytes = []; most = most; good_writes = None; flush_fails = false; has_failed = false; is_flushed = true; flushes = Flushes.Never } }
+        ensures { result ≡ record {
+          bytes = [];
+          most = most;
+          good_writes = None;
+          flush_fails = false;
+          has_failed = false;
+          is_flushed = true;
+          flushes = Flushes.Never;
+        } }
     {
         MemorySink {
             buffer: [0; SINK_ROOM],
@@ -208,7 +225,12 @@ impl MemorySink {
         requires { self.old.has_failed ≡ false }
         ensures fails { is_err result ≡ write_fails self.old bytes.now }
         ensures count { IfOk result (λ n. n ≡ write_len self.old bytes.now) }
-        ensures ok { IfOk result (λ n. self.new ≡ record self.old { bytes = self.old.bytes ++ take n bytes.now; good_writes = one_less self.old.good_writes; is_flushed = self.old.is_flushed && n == 0 }) }
+        ensures ok { IfOk result (λ n. self.new
+            ≡ record self.old {
+              bytes = self.old.bytes ++ take n bytes.now;
+              good_writes = one_less self.old.good_writes;
+              is_flushed = self.old.is_flushed && n == 0;
+            }) }
         ensures err { OnErr result (self.new ≡ record self.old { has_failed = true }) }
     {
         let count = self.most.min(bytes.len()).min(SINK_ROOM - self.len);
@@ -227,8 +249,10 @@ impl MemorySink {
     pub fn hand_on(&mut self) -> Result<(), Failed>
         requires { self.old.has_failed ≡ false }
         ensures fails { is_err result ≡ self.old.flush_fails }
-        ensures ok { OnOk result (self.new ≡ record self.old { is_flushed = true; flushes = one_more self.old.flushes }) }
-        ensures err { OnErr result (self.new ≡ record self.old { has_failed = true; flushes = one_more self.old.flushes }) }
+        ensures ok { OnOk result (self.new
+            ≡ record self.old { is_flushed = true; flushes = one_more self.old.flushes }) }
+        ensures err { OnErr result (self.new
+            ≡ record self.old { has_failed = true; flushes = one_more self.old.flushes }) }
     {
         self.flushes = self.flushes.one_more();
         if self.flush_fails {

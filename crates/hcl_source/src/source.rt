@@ -40,7 +40,7 @@ impl Model for Source {
 fn line_start(bytes: &[u8]) -> usize
     ensures within { result ≤ length bytes.now }
     ensures start { drop result bytes.now ≡ after_last (λ b. b == 10) bytes.now }
-    ensures behind_lf { 0 < result → slice_index bytes.now (result - 1) ≡ 10 }
+    ensures after_lf { 0 < result → slice_index bytes.now (result - 1) ≡ 10 }
 {
     let mut start = bytes.len();
     while start > 0 && bytes[start - 1] != b'\n' {

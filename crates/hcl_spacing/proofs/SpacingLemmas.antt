@@ -24,34 +24,34 @@ abbrev is_heredoc_close : Kind → Bool
 is_heredoc_close kind.HeredocClose = true
 is_heredoc_close _ = false
 
-behind_quote : (before : Option Lexeme) (u t : Lexeme) (k : Kind) → regapped.is_template k ≡ true → is_heredoc_close k ≡ false → has_blank before (of_kind kind.QuoteOpen u) (outside k t) ≡ false
-behind_quote before u t kind.Lit h c = refl
-behind_quote before u t kind.InterpOpen h c = refl
-behind_quote before u t kind.ControlOpen h c = refl
-behind_quote before u t kind.QuoteClose h c = refl
-behind_quote before u t kind.HeredocClose h c = absurd (cc)
-behind_quote before u t _ h c = never h
+after_quote : (before : Option Lexeme) (u t : Lexeme) (k : Kind) → regapped.is_template k ≡ true → is_heredoc_close k ≡ false → has_blank before (of_kind kind.QuoteOpen u) (outside k t) ≡ false
+after_quote before u t kind.Lit h c = refl
+after_quote before u t kind.InterpOpen h c = refl
+after_quote before u t kind.ControlOpen h c = refl
+after_quote before u t kind.QuoteClose h c = refl
+after_quote before u t kind.HeredocClose h c = absurd (cc)
+after_quote before u t _ h c = never h
 
-behind_lit : (before : Option Lexeme) (u t : Lexeme) (k : Kind) → regapped.is_template k ≡ true → is_heredoc_close k ≡ false → has_blank before (of_kind kind.Lit u) (outside k t) ≡ false
-behind_lit before u t kind.Lit h c = refl
-behind_lit before u t kind.InterpOpen h c = refl
-behind_lit before u t kind.ControlOpen h c = refl
-behind_lit before u t kind.QuoteClose h c = refl
-behind_lit before u t kind.HeredocClose h c = absurd (cc)
-behind_lit before u t _ h c = never h
+after_lit : (before : Option Lexeme) (u t : Lexeme) (k : Kind) → regapped.is_template k ≡ true → is_heredoc_close k ≡ false → has_blank before (of_kind kind.Lit u) (outside k t) ≡ false
+after_lit before u t kind.Lit h c = refl
+after_lit before u t kind.InterpOpen h c = refl
+after_lit before u t kind.ControlOpen h c = refl
+after_lit before u t kind.QuoteClose h c = refl
+after_lit before u t kind.HeredocClose h c = absurd (cc)
+after_lit before u t _ h c = never h
 
-behind_sequence : (before : Option Lexeme) (u t : Lexeme) (k : Kind) → regapped.is_template k ≡ true → is_heredoc_close k ≡ false → has_blank before (of_kind kind.SeqClose u) (outside k t) ≡ false
-behind_sequence before u t kind.Lit h c = refl
-behind_sequence before u t kind.InterpOpen h c = refl
-behind_sequence before u t kind.ControlOpen h c = refl
-behind_sequence before u t kind.QuoteClose h c = refl
-behind_sequence before u t kind.HeredocClose h c = absurd (cc)
-behind_sequence before u t _ h c = never h
+after_sequence : (before : Option Lexeme) (u t : Lexeme) (k : Kind) → regapped.is_template k ≡ true → is_heredoc_close k ≡ false → has_blank before (of_kind kind.SeqClose u) (outside k t) ≡ false
+after_sequence before u t kind.Lit h c = refl
+after_sequence before u t kind.InterpOpen h c = refl
+after_sequence before u t kind.ControlOpen h c = refl
+after_sequence before u t kind.QuoteClose h c = refl
+after_sequence before u t kind.HeredocClose h c = absurd (cc)
+after_sequence before u t _ h c = never h
 
 template_rows : (before : Option Lexeme) (u t : Lexeme) (k k' : Kind) → beside.opens_template k ≡ true → regapped.is_template k' ≡ true → is_heredoc_close k' ≡ false → has_blank before (of_kind k u) (outside k' t) ≡ false
-template_rows before u t kind.QuoteOpen k' h i c = behind_quote before u t k' i c
-template_rows before u t kind.Lit k' h i c = behind_lit before u t k' i c
-template_rows before u t kind.SeqClose k' h i c = behind_sequence before u t k' i c
+template_rows before u t kind.QuoteOpen k' h i c = after_quote before u t k' i c
+template_rows before u t kind.Lit k' h i c = after_lit before u t k' i c
+template_rows before u t kind.SeqClose k' h i c = after_sequence before u t k' i c
 template_rows before u t _ k' h i c = never h
 
 not_heredoc_close : (k : Kind) (inside : Bool) → inside ≡ false → (k ≡ kind.HeredocClose → inside ≡ true) → is_heredoc_close k ≡ false

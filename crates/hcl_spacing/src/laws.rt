@@ -11,13 +11,18 @@ ghost use Rattle.hcl_spacing.specs.Spacing.{has_blank, stands_before};
 
 /// Outside heredocs and templates neighbours are parted that a scan would read otherwise if they stood together.
 pub fn parted()
-    ensures { (before : Option Lexeme) (u t : Lexeme) → Beside u.kind t → t.inside_heredoc ≡ false → is_template t.kind ≡ false
-        → joins (stands_before (is Dot) before) u.kind t.kind t.text ≡ true → has_blank before u t ≡ true }
+    ensures { (before : Option Lexeme) (u t : Lexeme) → Beside u.kind t → t.inside_heredoc ≡ false
+        → is_template t.kind ≡ false
+        → joins (stands_before (is Dot) before) u.kind t.kind t.text ≡ true
+        → has_blank before u t ≡ true }
 {}
 
 /// Nothing is added before a newline, inside a heredoc, and where a template goes on.
 pub fn kept()
-    ensures newline { (before : Option Lexeme) (u t : Lexeme) → is Newline t.kind ≡ true → has_blank before u t ≡ false }
-    ensures heredoc { (before : Option Lexeme) (u t : Lexeme) → t.inside_heredoc ≡ true → has_blank before u t ≡ false }
-    ensures template { (before : Option Lexeme) (u t : Lexeme) → Beside u.kind t → t.inside_heredoc ≡ false → is_template t.kind ≡ true → has_blank before u t ≡ false }
+    ensures newline { (before : Option Lexeme) (u t : Lexeme) → is Newline t.kind ≡ true
+        → has_blank before u t ≡ false }
+    ensures heredoc { (before : Option Lexeme) (u t : Lexeme) → t.inside_heredoc ≡ true
+        → has_blank before u t ≡ false }
+    ensures template { (before : Option Lexeme) (u t : Lexeme) → Beside u.kind t
+        → t.inside_heredoc ≡ false → is_template t.kind ≡ true → has_blank before u t ≡ false }
 {}

@@ -52,7 +52,7 @@ const DOT: u64 = 1 << Kind::Dot as u64;
 const DOTS: u64 = DOT | 1 << Kind::Ellipsis as u64;
 
 /// By "Indexes" `[` hugs what is indexed.
-const BEHIND_OPERAND: u64 = !(CLOSE | CLOSERS | BRACKET);
+const AFTER_OPERAND: u64 = !(CLOSE | CLOSERS | BRACKET);
 
 #[inline(always)]
 fn has(kinds: u64, kind: Kind) -> bool
@@ -108,10 +108,10 @@ fn row_of(left: Kind) -> Row
         // "Quotes and templates": what is added between a sequence and the next would be text
         Kind::SeqClose => telling(!(CLOSE | CLOSERS | SEQUENCES)),
         // "Braces": `}}` reads badly at the end of a template
-        Kind::BraceClose => telling(BEHIND_OPERAND | SEQUENCE_END),
+        Kind::BraceClose => telling(AFTER_OPERAND | SEQUENCE_END),
         // "A number and a dot": they could be read as one number, unless a dot stands before both
         Kind::Number => Row {
-            blank: BEHIND_OPERAND,
+            blank: AFTER_OPERAND,
             asked: DOT,
         },
         // "Calls": a name hugs its parenthesis. By "`in`" that word has a blank after it, while an index hugs a name, and a
@@ -120,7 +120,7 @@ fn row_of(left: Kind) -> Row
             blank: !(CLOSE | PAREN),
             asked: BRACKET | CLOSERS,
         },
-        Kind::QuoteClose | Kind::ParenClose | Kind::BracketClose => telling(BEHIND_OPERAND),
+        Kind::QuoteClose | Kind::ParenClose | Kind::BracketClose => telling(AFTER_OPERAND),
         // "All else" has one blank, but before a closer and what stands close
         _ => telling(!(CLOSE | CLOSERS)),
     }

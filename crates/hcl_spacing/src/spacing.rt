@@ -34,7 +34,7 @@ fn begins_with_colon(text: &str) -> bool
 
 /// Whether the token before is a Dot.
 #[inline(always)]
-fn is_behind_dot(before: Option<Token<'_>>) -> bool
+fn is_after_dot(before: Option<Token<'_>>) -> bool
     ensures { result ≡ stands_before (is Dot) (option_map lexeme before.entry) }
 {
     let Some(before) = before else {
@@ -45,7 +45,7 @@ fn is_behind_dot(before: Option<Token<'_>>) -> bool
 
 /// Whether the token before is an Ident.
 #[inline(always)]
-fn is_behind_ident(before: Option<Token<'_>>) -> bool
+fn is_after_ident(before: Option<Token<'_>>) -> bool
     ensures { result ≡ stands_before (is Ident) (option_map lexeme before.entry) }
 {
     let Some(before) = before else {
@@ -69,7 +69,8 @@ fn is_opening(before: Option<Token<'_>>) -> bool
 /// number a dot, or the opening of a sequence the `~` that closes it, whether a minus is a sign, and whether a name is the word `in`.
 #[inline(always)]
 fn asked_space(before: Option<Token<'_>>, subject: Token<'_>, after: Token<'_>) -> bool
-    ensures { result ≡ asked_space (option_map lexeme before.entry) (lexeme subject.entry) (lexeme after.entry) }
+    ensures { result ≡ asked_space (option_map lexeme before.entry) (lexeme subject.entry)
+        (lexeme after.entry) }
 {
     match subject.kind {
         // "Not" has no blank after it, unless the two would be read as `!=`
@@ -79,9 +80,9 @@ fn asked_space(before: Option<Token<'_>>, subject: Token<'_>, after: Token<'_>) 
         // "Minus" has none after it where it is a sign: where an expression begins
         Kind::Minus => !is_opening(before),
         // "A number and a dot": after a dot the number is a step, and joins no other dot
-        Kind::Number => !is_behind_dot(before),
+        Kind::Number => !is_after_dot(before),
         // "`in`" after a name, as in a `for`
-        Kind::Ident => is_behind_ident(before) && subject.text == "in",
+        Kind::Ident => is_after_ident(before) && subject.text == "in",
         // "A number and a dot": `${~` would be another opener
         _ => after.text == "~}",
     }
@@ -91,7 +92,8 @@ fn asked_space(before: Option<Token<'_>>, subject: Token<'_>, after: Token<'_>) 
 #[inline(always)]
 fn is_kept(after: Token<'_>) -> bool
     ensures inside { result ≡ after.entry.inside_heredoc }
-    ensures row { IsTrue result → (is Newline after.entry.kind || after.entry.inside_heredoc) ≡ true }
+    ensures row { IsTrue result → (is Newline after.entry.kind || after.entry.inside_heredoc)
+        ≡ true }
 {
     after.inside_heredoc
 }
@@ -99,9 +101,12 @@ fn is_kept(after: Token<'_>) -> bool
 /// What their kinds tell of two tokens, and else what has to be asked.
 #[inline(always)]
 fn kinds_space(subject: Token<'_>, after: Token<'_>) -> Option<bool>
-    ensures given { IfSome result (λ space. (before : Option Lexeme) → space ≡ has_blank before (lexeme subject.entry) (lexeme after.entry)) }
+    ensures given { IfSome result (λ space. (before : Option Lexeme)
+        → space ≡ has_blank before (lexeme subject.entry) (lexeme after.entry)) }
     ensures untold { IfNone result (AreUntold subject.entry.kind after.entry.kind) }
-    ensures asked { IfNone result ((before : Option Lexeme) → asked_space before (lexeme subject.entry) (lexeme after.entry) ≡ has_blank before (lexeme subject.entry) (lexeme after.entry)) }
+    ensures asked { IfNone result ((before : Option Lexeme)
+        → asked_space before (lexeme subject.entry) (lexeme after.entry)
+        ≡ has_blank before (lexeme subject.entry) (lexeme after.entry)) }
 {
     if is_kept(after) {
         return Some(false);
@@ -113,7 +118,8 @@ fn kinds_space(subject: Token<'_>, after: Token<'_>) -> Option<bool>
 /// texts are and whatever stands before them.
 #[inline(always)]
 pub fn space_by_kinds(subject: Token<'_>, after: Token<'_>) -> Option<bool>
-    ensures told { IfSome result (λ space. (before : Option Lexeme) → space ≡ has_blank before (lexeme subject.entry) (lexeme after.entry)) }
+    ensures told { IfSome result (λ space. (before : Option Lexeme)
+        → space ≡ has_blank before (lexeme subject.entry) (lexeme after.entry)) }
     ensures untold { IfNone result (AreUntold subject.entry.kind after.entry.kind) }
 {
     kinds_space(subject, after)
@@ -123,7 +129,8 @@ pub fn space_by_kinds(subject: Token<'_>, after: Token<'_>) -> Option<bool>
 /// is the token before the subject on that line, if there is one.
 #[inline(always)]
 pub fn space_between(before: Option<Token<'_>>, subject: Token<'_>, after: Token<'_>) -> bool
-    ensures { result ≡ has_blank (option_map lexeme before.entry) (lexeme subject.entry) (lexeme after.entry) }
+    ensures { result ≡ has_blank (option_map lexeme before.entry) (lexeme subject.entry)
+        (lexeme after.entry) }
 {
     match kinds_space(subject, after) {
         Some(space) => space,

@@ -4,7 +4,7 @@ use Rattle.std.specs.Prelude.{filter, nat_lt}
 use borrow.Author.Tests.{ltb-true, ltb-false}
 use Rattle.hcl_tokens.specs.Lexemes.{Lexeme}
 use Rattle.hcl_grammar.specs.Numbered.{Numbered, numbered_from, without_comments, is_comment}
-use Rattle.hcl_grammar.specs.Items.{behind_brace, block_end, body, labels}
+use Rattle.hcl_grammar.specs.Items.{after_brace, block_end, body, labels}
 use Rattle.hcl_syntax.specs.Inner.Pieces.{between, CanBegin, words}
 use Rattle.hcl_syntax.specs.Inner.Bodies.{PutsBlock}
 use Rattle.hcl_grammar.specs.declared.item.Item.{Item}
@@ -58,10 +58,10 @@ words_before ts first to last h =
     ∙ ap without_comments (before_taken last (to - first) first (drop first ts) ∙ ap (λ j. take j (numbered_from first (drop first ts))) e)
 
 pub puts_block : (ts : List Lexeme) (level kind to first last end : ℕ) (old mid new : List Item)
-    → words ts first to ≡ behind_brace (words ts (kind + 1) to) → kind + 1 ≤ first → last ≡ block_end (words ts (kind + 1) to) → last ≤ to → (first < to → CanBegin ts first) → end ≡ last - 1
+    → words ts first to ≡ after_brace (words ts (kind + 1) to) → kind + 1 ≤ first → last ≡ block_end (words ts (kind + 1) to) → last ≤ to → (first < to → CanBegin ts first) → end ≡ last - 1
     → mid ≡ old ++ item.Block level kind last ∷ [] → new ≡ mid ++ labels (words ts (kind + 1) to)
     → PutsBlock ts level kind to old new (record { first = first; end = end })
-puts_block ts level kind to first last end old mid new behind above is within begins at pushed put = record {
+puts_block ts level kind to first last end old mid new after above is within begins at pushed put = record {
   is = λ inner head same.
       ap (λ r. r ++ inner (words ts first end)) (put ∙ ap (λ r. r ++ labels rest) pushed)
       ∙ append_assoc (old ++ item.Block level kind last ∷ []) (labels rest) (inner (words ts first end))
@@ -80,5 +80,5 @@ puts_block ts level kind to first last end old mid new behind above is within be
     inside =
         ap (λ n. words ts first n) at
         ∙ sym (words_before ts first to last within)
-        ∙ ap (filter (λ t. nat_lt (t.number + 1) last)) behind
-        ∙ ap (λ n. filter (λ t. nat_lt (t.number + 1) n) (behind_brace rest)) is
+        ∙ ap (filter (λ t. nat_lt (t.number + 1) last)) after
+        ∙ ap (λ n. filter (λ t. nat_lt (t.number + 1) n) (after_brace rest)) is

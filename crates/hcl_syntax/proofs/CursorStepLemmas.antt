@@ -65,7 +65,7 @@ run-looks count s m ss looks = run-shown count s m ss _ ∙ ap (λ l. run count 
 -- The row of the first symbol reads the token.
 pub reading : {A : Type 0} {count : ℕ} {s : Symbol} {m : Newlines} {xs ys : List Marked} {old left new : List Lookahead} {t : Lookahead} {r : Result A Refusal} →
     Looks m old t left → row s m t ≡ reads xs → Advances count xs left r ys new → Advances count (s at m ∷ []) old r ys new
-reading {count = count} {s = s} {m = m} {left = left} {t = t} l e h = record { same = λ behind. run-looks count s m behind l ∙ ap (λ r. next (row_effect count r behind (effect count behind t) t) (λ o rest. run o rest left)) e ∙ h.same behind }
+reading {count = count} {s = s} {m = m} {left = left} {t = t} l e h = record { same = λ after. run-looks count s m after l ∙ ap (λ r. next (row_effect count r after (effect count after t) t) (λ o rest. run o rest left)) e ∙ h.same after }
 
 -- The row takes the symbol away.
 run-same : (count : ℕ) (ss : List Marked) (t : Lookahead) (ts : List Lookahead) → next (effect count ss t) (λ o rest. run o rest ts) ≡ run count ss (t ∷ ts)
@@ -74,12 +74,12 @@ run-same count ss t ts = refl
 
 pub vanishing : {A : Type 0} {a : A} {count : ℕ} {s : Symbol} {m : Newlines} {old left new : List Lookahead} {t : Lookahead} →
     Looks m old t left → row s m t ≡ nothing → new ≡ shown m old → Advances count (s at m ∷ []) old (Ok a) [] new
-vanishing {count = count} {s = s} {m = m} {left = left} {t = t} l e shows = record { same = λ behind. run-looks count s m behind l ∙ ap (λ r. next (row_effect count r behind (effect count behind t) t) (λ o rest. run o rest left)) e ∙ run-same count behind t left ∙ ap (λ ts. run count behind ts) (sym l.is ∙ sym shows) }
+vanishing {count = count} {s = s} {m = m} {left = left} {t = t} l e shows = record { same = λ after. run-looks count s m after l ∙ ap (λ r. next (row_effect count r after (effect count after t) t) (λ o rest. run o rest left)) e ∙ run-same count after t left ∙ ap (λ ts. run count after ts) (sym l.is ∙ sym shows) }
 
 -- There is no row.
 pub refusing : {A : Type 0} {count : ℕ} {s : Symbol} {m : Newlines} {ys : List Marked} {old left new : List Lookahead} {t : Lookahead} →
     Looks m old t left → row s m t ≡ none → Advances {A = A} count (s at m ∷ []) old (Err (UnexpectedToken t.number)) ys new
-refusing {count = count} {s = s} {m = m} {left = left} {t = t} l e = record { same = λ behind. run-looks count s m behind l ∙ ap (λ r. next (row_effect count r behind (effect count behind t) t) (λ o rest. run o rest left)) e }
+refusing {count = count} {s = s} {m = m} {left = left} {t = t} l e = record { same = λ after. run-looks count s m after l ∙ ap (λ r. next (row_effect count r after (effect count after t) t) (λ o rest. run o rest left)) e }
 
 -- The end of input.
 run-end : (count : ℕ) (ss : List Marked) → run count ss [] ≡ ending ss
@@ -92,28 +92,28 @@ nothing-left (t ∷ ts) l e f = cc
 
 pub refusing-end : {A : Type 0} {count : ℕ} {s : Symbol} {m : Newlines} {ys : List Marked} {old new : List Lookahead} →
     new ≡ shown m old → None ≡ first new → ends s ≡ false → Advances {A = A} count (s at m ∷ []) old (Err UnexpectedEnd) ys new
-refusing-end {count = count} {s = s} {m = m} {old = old} {new = new} look found e = let shows : [] ≡ shown m old = nothing-left new _ look found in record { same = λ behind. run-shown count s m behind _ ∙ ap (λ l. run count (s at m ∷ behind) l) (sym shows) ∙ run-end count (s at m ∷ behind) ∙ ap (λ b. cond b (ending behind) (Some UnexpectedEnd)) e }
+refusing-end {count = count} {s = s} {m = m} {old = old} {new = new} look found e = let shows : [] ≡ shown m old = nothing-left new _ look found in record { same = λ after. run-shown count s m after _ ∙ ap (λ l. run count (s at m ∷ after) l) (sym shows) ∙ run-end count (s at m ∷ after) ∙ ap (λ b. cond b (ending after) (Some UnexpectedEnd)) e }
 
 pub vanishing-end : {A : Type 0} {a : A} {count : ℕ} {s : Symbol} {m : Newlines} {old new : List Lookahead} →
     new ≡ shown m old → None ≡ first new → ends s ≡ true → Advances count (s at m ∷ []) old (Ok a) [] new
-vanishing-end {count = count} {s = s} {m = m} {old = old} {new = new} look found e = let shows : [] ≡ shown m old = nothing-left new _ look found in record { same = λ behind. run-shown count s m behind _ ∙ ap (λ l. run count (s at m ∷ behind) l) (sym shows) ∙ run-end count (s at m ∷ behind) ∙ ap (λ b. cond b (ending behind) (Some UnexpectedEnd)) e ∙ sym (run-end count behind) ∙ ap (λ l. run count behind l) (shows ∙ sym look) }
+vanishing-end {count = count} {s = s} {m = m} {old = old} {new = new} look found e = let shows : [] ≡ shown m old = nothing-left new _ look found in record { same = λ after. run-shown count s m after _ ∙ ap (λ l. run count (s at m ∷ after) l) (sym shows) ∙ run-end count (s at m ∷ after) ∙ ap (λ b. cond b (ending after) (Some UnexpectedEnd)) e ∙ sym (run-end count after) ∙ ap (λ l. run count after l) (shows ∙ sym look) }
 
 pub done : {A : Type 0} {a : A} {count : ℕ} {xs : List Marked} {old : List Lookahead} → Advances count xs old (Ok a) xs old
-done = record { same = λ behind. refl }
+done = record { same = λ after. refl }
 
 -- Two stretches.
 pub onward : {A B : Type 0} {a : A} {count : ℕ} {xs ys zs : List Marked} {old mid new : List Lookahead} {r : Result B Refusal} →
     Advances count xs old (Ok a) ys mid → Advances count ys mid r zs new → Advances count xs old r zs new
-onward h k = record { same = λ behind. h.same behind ∙ k.same behind }
+onward h k = record { same = λ after. h.same after ∙ k.same after }
 
 -- The same with more after it.
 pub beside : {A : Type 0} {count : ℕ} {xs ys : List Marked} {old new : List Lookahead} {r : Result A Refusal} (zs : List Marked) →
     Advances count xs old r ys new → Advances count (xs ++ zs) old r (ys ++ zs) new
-beside {count = count} {xs = xs} {ys = ys} {old = old} {new = new} {r = r} zs h = record { same = λ behind. ap (λ l. run count l old) (append_assoc xs zs behind) ∙ h.same (zs ++ behind) ∙ ap (λ l. outcome r (run count l new)) (sym (append_assoc ys zs behind)) }
+beside {count = count} {xs = xs} {ys = ys} {old = old} {new = new} {r = r} zs h = record { same = λ after. ap (λ l. run count l old) (append_assoc xs zs after) ∙ h.same (zs ++ after) ∙ ap (λ l. outcome r (run count l new)) (sym (append_assoc ys zs after)) }
 
 -- Newlines are passed over.
 pub dropping : {A : Type 0} {a : A} {count : ℕ} {s : Symbol} {m : Newlines} {xs : List Marked} {old new : List Lookahead} → new ≡ shown m old → Advances count (s at m ∷ xs) old (Ok a) (s at m ∷ xs) new
-dropping {count = count} {s = s} {m = m} {xs = xs} shows = record { same = λ behind. run-shown count s m (xs ++ behind) _ ∙ ap (λ l. run count (s at m ∷ (xs ++ behind)) l) (sym shows) }
+dropping {count = count} {s = s} {m = m} {xs = xs} shows = record { same = λ after. run-shown count s m (xs ++ after) _ ∙ ap (λ l. run count (s at m ∷ (xs ++ after)) l) (sym shows) }
 
 -- What is left after a fault doesn't matter, nor what would have been returned.
 pub failed : {A B : Type 0} {count : ℕ} {xs ys zs : List Marked} {old mid new : List Lookahead} {f : Refusal} → Advances {A = A} count xs old (Err f) ys mid → Advances {A = B} count xs old (Err f) zs new
@@ -126,11 +126,11 @@ quits (Err e) q h = record { same = h.same }
 
 -- The exit with a refusal that the cursor keeps.
 pub kept-refusal : {A : Type 0} {count : ℕ} {xs ys : List Marked} {old new : List Lookahead} {f g : Refusal} → g ≡ f → Advances {A = A} count xs old (Err f) ys new → Advances {A = A} count xs old (Err g) ys new
-kept-refusal e h = record { same = λ behind. h.same behind ∙ ap (λ x. Some x) (sym e) }
+kept-refusal e h = record { same = λ after. h.same after ∙ ap (λ x. Some x) (sym e) }
 
 -- the same where no token is left
 pub kept-refusal-end : {A : Type 0} {count : ℕ} {xs ys : List Marked} {old mid new : List Lookahead} {f g : Refusal} → g ≡ f → Advances {A = A} count xs old (Err f) ys mid → Advances {A = A} count xs old (Err g) ys new
-kept-refusal-end e h = record { same = λ behind. h.same behind ∙ ap (λ x. Some x) (sym e) }
+kept-refusal-end e h = record { same = λ after. h.same after ∙ ap (λ x. Some x) (sym e) }
 
 pub row-fits : (e : Terminal) (m : Newlines) (t : Lookahead) (b : Bool) → b ≡ fits e t.class → b ≡ true → row (the e) m t ≡ reads []
 row-fits e m t b f h = ap (λ b. cond b (reads []) none) (sym f ∙ h)
@@ -161,41 +161,41 @@ directive-stays p m t = directive-stays-at p m t.class
     directive-stays-at p m (Ident For) = refl
     directive-stays-at p m _ = refl
 
-taken-then : (count : ℕ) (r : Action) (ys behind : List Marked) (p q : Effect) (t : Lookahead) → vanishes r ≡ false → row_effect count (r then ys) behind p t ≡ row_effect count r (ys ++ behind) q t
-taken-then count none ys behind p q t h = refl
-taken-then count nothing ys behind p q t h = cc
-taken-then count (reads xs) ys behind p q t h = ap (λ l. on count l) (append_assoc xs ys behind)
-taken-then count (opens n xs) ys behind p q t h = ap (λ l. opening_directive count n l) (append_assoc xs ys behind)
-taken-then count (closes xs) ys behind p q t h = ap (λ l. on (count - 1) l) (append_assoc xs ys behind)
+taken-then : (count : ℕ) (r : Action) (ys after : List Marked) (p q : Effect) (t : Lookahead) → vanishes r ≡ false → row_effect count (r then ys) after p t ≡ row_effect count r (ys ++ after) q t
+taken-then count none ys after p q t h = refl
+taken-then count nothing ys after p q t h = cc
+taken-then count (reads xs) ys after p q t h = ap (λ l. on count l) (append_assoc xs ys after)
+taken-then count (opens n xs) ys after p q t h = ap (λ l. opening_directive count n l) (append_assoc xs ys after)
+taken-then count (closes xs) ys after p q t h = ap (λ l. on (count - 1) l) (append_assoc xs ys after)
 
 -- A symbol that another one begins.
-begins-at : (count : ℕ) (s s' : Symbol) (m : Newlines) (ys behind : List Marked) (old mid : List Lookahead) → ends s ≡ false → ends s' ≡ false → ((t : Lookahead) → vanishes (row s' m t) ≡ false) →
-    ((t : Lookahead) → Some t ≡ first mid → row s m t ≡ (row s' m t then ys)) → mid ≡ shown m old → run count (s at m ∷ behind) old ≡ run count (s' at m ∷ (ys ++ behind)) mid
+begins-at : (count : ℕ) (s s' : Symbol) (m : Newlines) (ys after : List Marked) (old mid : List Lookahead) → ends s ≡ false → ends s' ≡ false → ((t : Lookahead) → vanishes (row s' m t) ≡ false) →
+    ((t : Lookahead) → Some t ≡ first mid → row s m t ≡ (row s' m t then ys)) → mid ≡ shown m old → run count (s at m ∷ after) old ≡ run count (s' at m ∷ (ys ++ after)) mid
 unfolding run
-begins-at count s s' m ys behind old [] e e' v f shows = run-shown count s m behind old ∙ ap (λ l. run count (s at m ∷ behind) l) (sym shows) ∙ ap (λ b. cond b (ending behind) (Some UnexpectedEnd)) e ∙ sym (ap (λ b. cond b (ending (ys ++ behind)) (Some UnexpectedEnd)) e')
-begins-at count s s' m ys behind old (t ∷ ts) e e' v f shows =
+begins-at count s s' m ys after old [] e e' v f shows = run-shown count s m after old ∙ ap (λ l. run count (s at m ∷ after) l) (sym shows) ∙ ap (λ b. cond b (ending after) (Some UnexpectedEnd)) e ∙ sym (ap (λ b. cond b (ending (ys ++ after)) (Some UnexpectedEnd)) e')
+begins-at count s s' m ys after old (t ∷ ts) e e' v f shows =
     let l : Looks m old t ts = looks m old (t ∷ ts) ts t shows refl refl in
-    run-looks count s m behind l ∙ ap (λ r. next (row_effect count r behind (effect count behind t) t) (λ o rest. run o rest ts)) (f t refl)
-    ∙ ap (λ x. next x (λ o rest. run o rest ts)) (taken-then count (row s' m t) ys behind (effect count behind t) (effect count (ys ++ behind) t) t (v t))
-    ∙ sym (run-row count s' m (ys ++ behind) t ts l.kept)
+    run-looks count s m after l ∙ ap (λ r. next (row_effect count r after (effect count after t) t) (λ o rest. run o rest ts)) (f t refl)
+    ∙ ap (λ x. next x (λ o rest. run o rest ts)) (taken-then count (row s' m t) ys after (effect count after t) (effect count (ys ++ after) t) t (v t))
+    ∙ sym (run-row count s' m (ys ++ after) t ts l.kept)
 
 pub begins : {A : Type 0} {count : ℕ} {s s' : Symbol} {m : Newlines} {ys zs : List Marked} {old mid new : List Lookahead} {r : Result A Refusal} → ends s ≡ false → ends s' ≡ false → ((t : Lookahead) → vanishes (row s' m t) ≡ false) →
     ((t : Lookahead) → Some t ≡ first mid → row s m t ≡ (row s' m t then ys)) → mid ≡ shown m old → Advances count (s' at m ∷ ys) mid r zs new → Advances count (s at m ∷ []) old r zs new
-begins {count = count} {s = s} {s' = s'} {m = m} {ys = ys} {old = old} {mid = mid} e e' v f shows h = record { same = λ behind. begins-at count s s' m ys behind old mid e e' v f shows ∙ h.same behind }
+begins {count = count} {s = s} {s' = s'} {m = m} {ys = ys} {old = old} {mid = mid} e e' v f shows h = record { same = λ after. begins-at count s s' m ys after old mid e e' v f shows ∙ h.same after }
 
 -- A symbol that another stands for.
-alike-at : (count : ℕ) (s s' : Symbol) (m : Newlines) (behind : List Marked) (old mid : List Lookahead) → ends s ≡ ends s' →
-    ((t : Lookahead) → Some t ≡ first mid → row s m t ≡ row s' m t) → mid ≡ shown m old → run count (s at m ∷ behind) old ≡ run count (s' at m ∷ behind) mid
+alike-at : (count : ℕ) (s s' : Symbol) (m : Newlines) (after : List Marked) (old mid : List Lookahead) → ends s ≡ ends s' →
+    ((t : Lookahead) → Some t ≡ first mid → row s m t ≡ row s' m t) → mid ≡ shown m old → run count (s at m ∷ after) old ≡ run count (s' at m ∷ after) mid
 unfolding run
-alike-at count s s' m behind old [] e f shows = run-shown count s m behind old ∙ ap (λ l. run count (s at m ∷ behind) l) (sym shows) ∙ ap (λ b. cond b (ending behind) (Some UnexpectedEnd)) e
-alike-at count s s' m behind old (t ∷ ts) e f shows =
+alike-at count s s' m after old [] e f shows = run-shown count s m after old ∙ ap (λ l. run count (s at m ∷ after) l) (sym shows) ∙ ap (λ b. cond b (ending after) (Some UnexpectedEnd)) e
+alike-at count s s' m after old (t ∷ ts) e f shows =
     let l : Looks m old t ts = looks m old (t ∷ ts) ts t shows refl refl in
-    run-looks count s m behind l ∙ ap (λ r. next (row_effect count r behind (effect count behind t) t) (λ o rest. run o rest ts)) (f t refl)
-    ∙ sym (run-row count s' m behind t ts l.kept)
+    run-looks count s m after l ∙ ap (λ r. next (row_effect count r after (effect count after t) t) (λ o rest. run o rest ts)) (f t refl)
+    ∙ sym (run-row count s' m after t ts l.kept)
 
 pub alike : {A : Type 0} {a : A} {count : ℕ} {s s' : Symbol} {m : Newlines} {old mid : List Lookahead} → ends s ≡ ends s' →
     ((t : Lookahead) → Some t ≡ first mid → row s m t ≡ row s' m t) → mid ≡ shown m old → Advances count (s at m ∷ []) old (Ok a) (s' at m ∷ []) mid
-alike {count = count} {s = s} {s' = s'} {m = m} {old = old} {mid = mid} e f shows = record { same = λ behind. alike-at count s s' m behind old mid e f shows }
+alike {count = count} {s = s} {s' = s'} {m = m} {old = old} {mid = mid} e f shows = record { same = λ after. alike-at count s s' m after old mid e f shows }
 
 -- A read terminal.
 pub args-end : (m : Newlines) (k : Class) → fits EndParen k ≡ true → args_row m k ≡ reads []
@@ -247,27 +247,27 @@ names-else m _ h = refl
 pub opening-row : {A : Type 0} {count : ℕ} {s : Symbol} {m : Newlines} {p : ℕ} {xs : List Marked} {old left new : List Lookahead} {t : Lookahead} {r : Result A Refusal} →
     Looks m old t left → row s m t ≡ opens p xs → count < max_directives → Ends count xs left r new → Advances count (s at m ∷ []) old r [] new
 opening-row {count = count} {s = s} {m = m} {p = p} {xs = xs} {left = left} {t = t} l e few h = record {
-  same = λ behind. run-looks count s m behind l ∙ ap (λ r. next (row_effect count r behind (effect count behind t) t) (λ o rest. run o rest left)) e
-      ∙ ap (λ b. next (cond b (on (count + 1) (xs ++ behind)) (stop (TooDeep p))) (λ o rest. run o rest left)) (lt-ltb count max_directives few) ∙ h.same behind;
+  same = λ after. run-looks count s m after l ∙ ap (λ r. next (row_effect count r after (effect count after t) t) (λ o rest. run o rest left)) e
+      ∙ ap (λ b. next (cond b (on (count + 1) (xs ++ after)) (stop (TooDeep p))) (λ o rest. run o rest left)) (lt-ltb count max_directives few) ∙ h.same after;
 }
 
 pub too-deep : {A : Type 0} {count : ℕ} {s : Symbol} {m : Newlines} {p : ℕ} {xs ys : List Marked} {old left new : List Lookahead} {t : Lookahead} →
     Looks m old t left → row s m t ≡ opens p xs → max_directives ≤ count → Advances {A = A} count (s at m ∷ []) old (Err (TooDeep p)) ys new
 too-deep {count = count} {s = s} {m = m} {p = p} {xs = xs} {left = left} {t = t} l e many = record {
-  same = λ behind. run-looks count s m behind l ∙ ap (λ r. next (row_effect count r behind (effect count behind t) t) (λ o rest. run o rest left)) e
-      ∙ ap (λ b. next (cond b (on (count + 1) (xs ++ behind)) (stop (TooDeep p))) (λ o rest. run o rest left)) (le-ltb count max_directives many);
+  same = λ after. run-looks count s m after l ∙ ap (λ r. next (row_effect count r after (effect count after t) t) (λ o rest. run o rest left)) e
+      ∙ ap (λ b. next (cond b (on (count + 1) (xs ++ after)) (stop (TooDeep p))) (λ o rest. run o rest left)) (le-ltb count max_directives many);
 }
 
 pub closing : {A : Type 0} {count : ℕ} {s : Symbol} {m : Newlines} {xs : List Marked} {old left new : List Lookahead} {t : Lookahead} {r : Result A Refusal} →
     Looks m old t left → row s m t ≡ closes xs → Advances count xs left r [] new → Ends count (s at m ∷ []) old r new
 closing {count = count} {s = s} {m = m} {xs = xs} {left = left} {t = t} l e h = record {
-  same = λ behind. run-looks (count + 1) s m behind l ∙ ap (λ r. next (row_effect (count + 1) r behind (effect (count + 1) behind t) t) (λ o rest. run o rest left)) e
-      ∙ ap (λ n. run n (xs ++ behind) left) (omega arith) ∙ h.same behind;
+  same = λ after. run-looks (count + 1) s m after l ∙ ap (λ r. next (row_effect (count + 1) r after (effect (count + 1) after t) t) (λ o rest. run o rest left)) e
+      ∙ ap (λ n. run n (xs ++ after) left) (omega arith) ∙ h.same after;
 }
 
 pub end-onward : {A B : Type 0} {a : A} {count : ℕ} {xs ys : List Marked} {old mid new : List Lookahead} {r : Result B Refusal} →
     Advances (count + 1) xs old (Ok a) ys mid → Ends count ys mid r new → Ends count xs old r new
-end-onward h k = record { same = λ behind. h.same behind ∙ k.same behind }
+end-onward h k = record { same = λ after. h.same after ∙ k.same after }
 
 pub end-fails : {A B : Type 0} {count : ℕ} {xs ys : List Marked} {old mid new : List Lookahead} {f : Refusal} →
     Advances {A = A} (count + 1) xs old (Err f) ys mid → Ends {A = B} count xs old (Err f) new
@@ -278,7 +278,7 @@ end-quits (Ok b) q h = absurd q
 end-quits (Err e) q h = record { same = h.same }
 
 pub end-kept-refusal : {A : Type 0} {count : ℕ} {xs : List Marked} {old new : List Lookahead} {f g : Refusal} → g ≡ f → Ends {A = A} count xs old (Err f) new → Ends {A = A} count xs old (Err g) new
-end-kept-refusal e h = record { same = λ behind. h.same behind ∙ ap (λ x. Some x) (sym e) }
+end-kept-refusal e h = record { same = λ after. h.same after ∙ ap (λ x. Some x) (sym e) }
 
 -- the row by what the word does
 by-turning : (e : Section) (m : Newlines) (p : ℕ) (k : Class) → section_directive_row e m p k ≡ turning_row (turning e k) e m p k
@@ -429,7 +429,7 @@ passes count s ss [] p = refl
 passes count s ss (t ∷ ts) p = passes-by count s ss t ts (drops Dropped t.class) refl p (passes count s ss ts p)
 
 pub passing : {A : Type 0} {a : A} {count : ℕ} {s : Symbol} {xs : List Marked} (old : List Lookahead) → PassesNewlines s → Advances count (s at Seen ∷ xs) old (Ok a) (s at Seen ∷ xs) (shown Dropped old)
-passing {count = count} {s = s} {xs = xs} old p = record { same = λ behind. passes count s (xs ++ behind) old p }
+passing {count = count} {s = s} {xs = xs} old p = record { same = λ after. passes count s (xs ++ after) old p }
 
 -- where all is seen, what is left is what was
 seen-all : (l : List Lookahead) → shown Seen l ≡ l

@@ -5,7 +5,7 @@ use Rattle.std.specs.List.{flat_map}
 use Rattle.hcl_tokens.specs.Kinds.{is}
 use Rattle.hcl_tokens.specs.declared.token.Kind.TheVariants.{Assign, BraceOpen, Newline}
 use Rattle.hcl_grammar.specs.Numbered.{Numbered, end_of}
-use Rattle.hcl_grammar.specs.Items.{deepen, is_closed, onto, pieces, behind_brace, block_end, body, block, item_of, items, labels}
+use Rattle.hcl_grammar.specs.Items.{deepen, is_closed, onto, pieces, after_brace, block_end, body, block, item_of, items, labels}
 use Rattle.hcl_syntax.specs.Inner.Pieces.{items_at}
 use Rattle.hcl_grammar.specs.declared.item.Item.{Item}
 use Rattle.hcl_grammar.specs.declared.item.Item.TheVariants as item
@@ -32,11 +32,11 @@ pieces_short depth (t ∷ ts) = by (is Newline t.kind && is_closed depth) (piece
     by true h = (omega arith, short_more (length ts) (pieces (deepen depth t.kind) ts) h)
     by false h = short_onto (length ts) t (pieces (deepen depth t.kind) ts) h
 
-behind_short : (ts : List Numbered) → length (behind_brace ts) ≤ length ts
-behind_short [] = omega arith
-behind_short (t ∷ ts) = by (is BraceOpen t.kind) (behind_short ts)
+after_short : (ts : List Numbered) → length (after_brace ts) ≤ length ts
+after_short [] = omega arith
+after_short (t ∷ ts) = by (is BraceOpen t.kind) (after_short ts)
   where
-    by : (b : Bool) → length (behind_brace ts) ≤ length ts → length (cond b ts (behind_brace ts)) ≤ length (t ∷ ts)
+    by : (b : Bool) → length (after_brace ts) ≤ length ts → length (cond b ts (after_brace ts)) ≤ length (t ∷ ts)
     by true h = omega arith
     by false h = omega (arith, h)
 
@@ -49,7 +49,7 @@ filter_short p (x ∷ xs) = by (p x) (filter_short p xs)
     by false h = omega (arith, h)
 
 pub body_short : (ts : List Numbered) → length (body ts) ≤ length ts
-body_short ts = omega (arith, filter_short (λ t. nat_lt (t.number + 1) (block_end ts)) (behind_brace ts), behind_short ts)
+body_short ts = omega (arith, filter_short (λ t. nat_lt (t.number + 1) (block_end ts)) (after_brace ts), after_short ts)
 
 -- functions that agree on what is shorter than a piece give the same item of it
 module _ (f g : List Numbered → List Item) (level : ℕ) where

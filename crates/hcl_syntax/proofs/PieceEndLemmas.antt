@@ -116,23 +116,23 @@ module _ (ts : List Lexeme) (n : ℕ) (t : Lexeme) (e : slice_get ts n ≡ Some 
 
 -- ---- the newlines ahead, of which the first is apart from the rest
 
-pub last_behind : (rest : List ℕ) (top d c : ℕ) → get_or (reverse (rest ++ top ∷ [])) (suc d) c ≡ get_or (reverse rest) d c
-last_behind rest top d c = ap (λ r. get_or r (suc d) c) (reverse-append rest (top ∷ []))
+pub last_after : (rest : List ℕ) (top d c : ℕ) → get_or (reverse (rest ++ top ∷ [])) (suc d) c ≡ get_or (reverse rest) d c
+last_after rest top d c = ap (λ r. get_or r (suc d) c) (reverse-append rest (top ∷ []))
 
 pub last_first : (rest : List ℕ) (top c : ℕ) → get_or (reverse (rest ++ top ∷ [])) 0 c ≡ top
 last_first rest top c = ap (λ r. get_or r 0 c) (reverse-append rest (top ∷ []))
 
 module _ (ts : List Lexeme) (n : ℕ) (t : Lexeme) (e : slice_get ts n ≡ Some t) (rest : List ℕ) (top : ℕ) where
   pub top_newline : is kind.Newline t.kind ≡ true → AreNewlinesAhead ts (rest ++ top ∷ []) (n + 1) → AreNewlinesAhead ts (rest ++ n ∷ []) n
-  top_newline is = newline ts n t e (rest ++ top ∷ []) rest (rest ++ n ∷ []) is (λ d c. sym (last_behind rest top d c)) refl
+  top_newline is = newline ts n t e (rest ++ top ∷ []) rest (rest ++ n ∷ []) is (λ d c. sym (last_after rest top d c)) refl
 
   pub top_opens : (left : List ℕ) (next count : ℕ) → count ≡ length ts → nesting t.kind ≡ Opens → next ≡ get_or (reverse rest) 0 count → ((i : ℕ) → get_or (reverse left) i count ≡ get_or (reverse rest) (suc i) count)
       → AreNewlinesAhead ts (rest ++ top ∷ []) (n + 1) → AreNewlinesAhead ts (left ++ next ∷ []) n
   top_opens left next count is_count is taken kept = opens ts n t e (rest ++ top ∷ []) (left ++ next ∷ []) is by
     where
       at_count : (d : ℕ) → get_or (reverse (left ++ next ∷ [])) d count ≡ get_or (reverse (rest ++ top ∷ [])) (suc d) count
-      at_count zero = last_first left next count ∙ taken ∙ sym (last_behind rest top 0 count)
-      at_count (suc d) = last_behind left next d count ∙ kept d ∙ sym (last_behind rest top (suc d) count)
+      at_count zero = last_first left next count ∙ taken ∙ sym (last_after rest top 0 count)
+      at_count (suc d) = last_after left next d count ∙ kept d ∙ sym (last_after rest top (suc d) count)
 
       by : (d : ℕ) → get_or (reverse (left ++ next ∷ [])) d (length ts) ≡ get_or (reverse (rest ++ top ∷ [])) (suc d) (length ts)
       by d = let P : ℕ → Type 0 = λ c. get_or (reverse (left ++ next ∷ [])) d c ≡ get_or (reverse (rest ++ top ∷ [])) (suc d) c in subst P is_count (at_count d)

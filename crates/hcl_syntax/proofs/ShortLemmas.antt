@@ -54,7 +54,7 @@ operand_seen _ h = absurd (cc)
 pub end_seen : (m : Newlines) (k : Class) → ends_expression m k ≡ true → is_trivia k ≡ false
 end_seen m k h = (ended m k h).seen
 
--- THE TOKEN, AND WHAT ENDS THE EXPRESSION BEHIND IT
+-- THE TOKEN, AND WHAT ENDS THE EXPRESSION AFTER IT
 module _ (m : Newlines) (t u : Lookahead) (old left more : List Lookahead) (old_is : old ≡ t ∷ left) (left_is : left ≡ u ∷ more) (ends : ends_expression m u.class ≡ true) where
   operand_kept : (k : Class) → is_short_operand k ≡ true → drops m k ≡ false
   operand_kept k h = by m k h
@@ -70,16 +70,16 @@ module _ (m : Newlines) (t u : Lookahead) (old left more : List Lookahead) (old_
   looks_first : is_short_operand t.class ≡ true → Looks m old t left
   looks_first h = record { is = ap (shown m) old_is ∙ ap (λ v. cond v (shown m left) (t ∷ left)) (operand_kept t.class h); kept = operand_kept t.class h }
 
-  looks_behind : Looks m left u more
-  looks_behind = record { is = ap (shown m) left_is ∙ ap (λ v. cond v (shown m more) (u ∷ more)) (ended m u.class ends).kept; kept = (ended m u.class ends).kept }
+  looks_past : Looks m left u more
+  looks_past = record { is = ap (shown m) left_is ∙ ap (λ v. cond v (shown m more) (u ∷ more)) (ended m u.class ends).kept; kept = (ended m u.class ends).kept }
 
   stays : left ≡ shown m left
-  stays = left_is ∙ sym looks_behind.is
+  stays = left_is ∙ sym looks_past.is
 
   -- the row of the first token, by its class
   by_class : (count : ℕ) (k : Class) → t.class ≡ k → is_short_operand k ≡ true → Parses count (expr at m ∷ []) old (Ok (tt {0})) left
-  by_class count (Ident w) e h = reading (looks_first (ap is_short_operand e ∙ h)) (ap (expr_row m) e) (vanishing {s = after_ident} looks_behind (ended m u.class ends).after_ident stays)
-  by_class count (Number d) e h = reading (looks_first (ap is_short_operand e ∙ h)) (ap (expr_row m) e) (vanishing {s = after} looks_behind (ended m u.class ends).after stays)
+  by_class count (Ident w) e h = reading (looks_first (ap is_short_operand e ∙ h)) (ap (expr_row m) e) (vanishing {s = after_ident} looks_past (ended m u.class ends).after_ident stays)
+  by_class count (Number d) e h = reading (looks_first (ap is_short_operand e ∙ h)) (ap (expr_row m) e) (vanishing {s = after} looks_past (ended m u.class ends).after stays)
   by_class count _ e h = absurd (cc)
 
   pub short_expression : is_short_operand t.class ≡ true → (count : ℕ) → Parses count (expr at m ∷ []) old (Ok (tt {0})) left

@@ -7,7 +7,7 @@ use Rattle.hcl_tokens.specs.Lexemes.{Lexeme}
 use Rattle.hcl_tokens.specs.declared.token.Kind.{Kind}
 use Rattle.hcl_tokens.specs.declared.token.Kind.TheVariants as kind
 use Rattle.hcl_grammar.specs.Numbered.{Numbered, is_comment, end_of}
-use Rattle.hcl_grammar.specs.Items.{closing_quote, behind_brace, block_end}
+use Rattle.hcl_grammar.specs.Items.{closing_quote, after_brace, block_end}
 use Rattle.hcl_syntax.specs.Inner.Pieces.{words}
 use Rattle.hcl_grammar.proofs.NumberedLemmas.{number_of}
 use Rattle.hcl_syntax.proofs.WordRangeLemmas.{words_parts, words_step, words_past, words_here, open_word}
@@ -33,16 +33,16 @@ module _ (ts : List Lexeme) (from to : ℕ) (t : Lexeme) (e : slice_get ts from 
       by true = ap (λ b. cond b from (closing_quote (words ts (from + 1) to))) is
       by false = refl
 
-  pub brace_here : is kind.BraceOpen t.kind ≡ true → behind_brace (words ts from to) ≡ words ts (from + 1) to
+  pub brace_here : is kind.BraceOpen t.kind ≡ true → after_brace (words ts from to) ≡ words ts (from + 1) to
   brace_here is =
-      ap behind_brace (words_here ts from to t e h (open_word t.kind is))
-      ∙ ap (λ b. cond b (words ts (from + 1) to) (behind_brace (words ts (from + 1) to))) is
+      ap after_brace (words_here ts from to t e h (open_word t.kind is))
+      ∙ ap (λ b. cond b (words ts (from + 1) to) (after_brace (words ts (from + 1) to))) is
 
-  pub brace_past : is kind.BraceOpen t.kind ≡ false → behind_brace (words ts from to) ≡ behind_brace (words ts (from + 1) to)
-  brace_past is = ap behind_brace (words_step ts from to t e h) ∙ by (not (is_comment t.kind))
+  pub brace_past : is kind.BraceOpen t.kind ≡ false → after_brace (words ts from to) ≡ after_brace (words ts (from + 1) to)
+  brace_past is = ap after_brace (words_step ts from to t e h) ∙ by (not (is_comment t.kind))
     where
-      by : (b : Bool) → behind_brace (cond b (number_of from t ∷ words ts (from + 1) to) (words ts (from + 1) to)) ≡ behind_brace (words ts (from + 1) to)
-      by true = ap (λ b. cond b (words ts (from + 1) to) (behind_brace (words ts (from + 1) to))) is
+      by : (b : Bool) → after_brace (cond b (number_of from t ∷ words ts (from + 1) to) (words ts (from + 1) to)) ≡ after_brace (words ts (from + 1) to)
+      by true = ap (λ b. cond b (words ts (from + 1) to) (after_brace (words ts (from + 1) to))) is
       by false = refl
 
 end_of-last : (xs : List Numbered) (t : Numbered) → end_of (xs ++ t ∷ []) ≡ t.number + 1
@@ -65,19 +65,19 @@ pub record NoWord (ts : List Lexeme) (end to : ℕ) : Type 0 where
 
 module _ (ts : List Lexeme) (end to : ℕ) (t : Lexeme) (e : slice_get ts end ≡ Some t) (h : end < to) where
   pub close_past : (last : ℕ) → last ≡ end + 1 → is kind.BraceClose t.kind ≡ false → NoClose ts last to → NoClose ts end to
-  close_past last at is behind = let P : ℕ → Type 0 = λ n. NoClose ts n to in let rest : NoClose ts (end + 1) to = subst P at behind in record { none = ap (filter closes) (words_step ts end to t e h) ∙ by (not (is_comment t.kind)) ∙ rest.none; within = omega (arith, h) }
+  close_past last at is after = let P : ℕ → Type 0 = λ n. NoClose ts n to in let rest : NoClose ts (end + 1) to = subst P at after in record { none = ap (filter closes) (words_step ts end to t e h) ∙ by (not (is_comment t.kind)) ∙ rest.none; within = omega (arith, h) }
     where
       by : (b : Bool) → filter closes (cond b (number_of end t ∷ words ts (end + 1) to) (words ts (end + 1) to)) ≡ filter closes (words ts (end + 1) to)
       by true = ap (λ b. cond b (number_of end t ∷ filter closes (words ts (end + 1) to)) (filter closes (words ts (end + 1) to))) is
       by false = refl
 
   pub word_past : (last : ℕ) → last ≡ end + 1 → is_comment t.kind ≡ true → NoWord ts last to → NoWord ts end to
-  word_past last at is behind = let P : ℕ → Type 0 = λ n. NoWord ts n to in let rest : NoWord ts (end + 1) to = subst P at behind in record { none = words_past ts end to t e h is ∙ rest.none; within = omega (arith, h) }
+  word_past last at is after = let P : ℕ → Type 0 = λ n. NoWord ts n to in let rest : NoWord ts (end + 1) to = subst P at after in record { none = words_past ts end to t e h is ∙ rest.none; within = omega (arith, h) }
 
   pub close_here : (last from : ℕ) → last ≡ end + 1 → from ≤ end → is kind.BraceClose t.kind ≡ true → NoClose ts last to → last ≡ block_end (words ts from to)
-  close_here last from at k is behind =
+  close_here last from at k is after =
       let P : ℕ → Type 0 = λ n. NoClose ts n to in
-      let rest : NoClose ts (end + 1) to = subst P at behind in
+      let rest : NoClose ts (end + 1) to = subst P at after in
       at ∙ sym (
       ap block_end (words_parts ts from end to k (omega (arith, h)) ∙ ap (λ r. words ts from end ++ r) (words_here ts end to t e h (brace_word t.kind is)))
       ∙ ap end_of (filter-append closes (words ts from end) (number_of end t ∷ words ts (end + 1) to)
@@ -86,9 +86,9 @@ module _ (ts : List Lexeme) (end to : ℕ) (t : Lexeme) (e : slice_get ts end �
       ∙ end_of-last (filter closes (words ts from end)) (number_of end t))
 
   pub word_here : (last from : ℕ) → last ≡ end + 1 → from ≤ end → is_comment t.kind ≡ false → NoWord ts last to → last ≡ end_of (words ts from to)
-  word_here last from at k is behind =
+  word_here last from at k is after =
       let P : ℕ → Type 0 = λ n. NoWord ts n to in
-      let rest : NoWord ts (end + 1) to = subst P at behind in
+      let rest : NoWord ts (end + 1) to = subst P at after in
       at ∙ sym (
       ap end_of (words_parts ts from end to k (omega (arith, h)) ∙ ap (λ r. words ts from end ++ r) (words_here ts end to t e h is ∙ ap (λ r. number_of end t ∷ r) rest.none))
       ∙ end_of-last (words ts from end) (number_of end t))

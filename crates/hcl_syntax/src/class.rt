@@ -83,7 +83,10 @@ fn narrow(tokens: &Tokens, number: usize) -> u32
 #[inline(always)]
 pub fn lookahead_at(tokens: &Tokens, number: usize) -> Lookahead
     requires { number < length tokens.now.tokens }
-    ensures { lookaheads_from number (drop number tokens.now.tokens) ≡ (if is_trivia result.class then lookaheads_from (number + 1) (drop (number + 1) tokens.now.tokens) else result ∷ lookaheads_from (number + 1) (drop (number + 1) tokens.now.tokens)) }
+    ensures { lookaheads_from number (drop number tokens.now.tokens)
+        ≡ (if is_trivia result.class then lookaheads_from (number + 1)
+        (drop (number + 1) tokens.now.tokens)
+        else result ∷ lookaheads_from (number + 1) (drop (number + 1) tokens.now.tokens)) }
 {
     let token = tokens.get(number);
     Lookahead {

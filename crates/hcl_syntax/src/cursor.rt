@@ -114,7 +114,8 @@ fn find(
     requires within { from ≤ count }
     requires count { count ≡ length tokens.now.tokens }
     ensures within { result.0 ≤ length tokens.now.tokens }
-    ensures left { lookaheads_from result.0 (drop result.0 tokens.now.tokens) ≡ shown newlines (lookaheads_from from (drop from tokens.now.tokens)) }
+    ensures left { lookaheads_from result.0 (drop result.0 tokens.now.tokens)
+        ≡ shown newlines (lookaheads_from from (drop from tokens.now.tokens)) }
     ensures found { result.1 ≡ first (lookaheads_from result.0 (drop result.0 tokens.now.tokens)) }
 {
     let mut number = from;
@@ -198,7 +199,8 @@ impl<'t, 's> Cursor<'t, 's> {
     /// False says only that these two don't tell it.
     #[inline(always)]
     pub fn takes_short(&mut self, newlines: Newlines) -> bool
-        ensures yes { OnTrue result ((count : ℕ) → Parses count (expr at newlines ∷ []) self.old.left (Ok (tt {0})) self.new.left) }
+        ensures yes { OnTrue result ((count : ℕ)
+            → Parses count (expr at newlines ∷ []) self.old.left (Ok (tt {0})) self.new.left) }
         ensures no { OnFalse result (self.new.left ≡ self.old.left) }
         ensures shorter { OnTrue result (length self.new.left < length self.old.left) }
     {
@@ -210,8 +212,8 @@ impl<'t, 's> Cursor<'t, 's> {
         if !is_short_operand(operand.class) {
             return false;
         }
-        let behind = lookahead_at(self.tokens, next + 1);
-        if !ends_expression(newlines, behind.class) {
+        let after = lookahead_at(self.tokens, next + 1);
+        if !ends_expression(newlines, after.class) {
             return false;
         }
         self.next = next + 1;
@@ -221,7 +223,8 @@ impl<'t, 's> Cursor<'t, 's> {
     /// Reads the next token, which has to be what the terminal waits for. It is inlined, as `look` is.
     #[inline(always)]
     pub fn expect(&mut self, newlines: Newlines, terminal: Terminal) -> Result<(), Refused>
-        ensures parses { (count : ℕ) → Parses count (the terminal at newlines ∷ []) self.old.left (said result self.new.refusal) self.new.left }
+        ensures parses { (count : ℕ) → Parses count (the terminal at newlines ∷ []) self.old.left
+            (said result self.new.refusal) self.new.left }
         ensures shorter { OnOk result (length self.new.left < length self.old.left) }
     {
         match self.look(newlines) {

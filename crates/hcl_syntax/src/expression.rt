@@ -16,7 +16,8 @@ use hcl_grammar::{Class, Lookahead, Newlines, Refusal, Terminal};
 impl<'t, 's> Cursor<'t, 's> {
     /// Passes over the signs before an operand, and looks at the token after them.
     fn start(&mut self, newlines: Newlines) -> Option<Lookahead>
-        ensures leads { (count : ℕ) → Advances count (expr at newlines ∷ []) self.old.left (Ok (tt {0})) (expr at newlines ∷ []) self.new.left }
+        ensures leads { (count : ℕ) → Advances count (expr at newlines ∷ []) self.old.left
+            (Ok (tt {0})) (expr at newlines ∷ []) self.new.left }
         ensures left { self.new.left ≡ shown newlines self.new.left }
         ensures found { result ≡ first self.new.left }
         ensures plain { IfSome result (λ t. is_prefix t.class ≡ false) }
@@ -34,7 +35,8 @@ impl<'t, 's> Cursor<'t, 's> {
     /// An expression up to where its first operand ends.
     #[cycle(parser)]
     fn operand(&mut self, newlines: Newlines, directives: usize) -> Result<(), Refused>
-        ensures leads { Advances directives (expr at newlines ∷ []) self.old.left (said result self.new.refusal) (after at newlines ∷ []) self.new.left }
+        ensures leads { Advances directives (expr at newlines ∷ []) self.old.left
+            (said result self.new.refusal) (after at newlines ∷ []) self.new.left }
         ensures shorter { OnOk result (length self.new.left < length self.old.left) }
     {
         let Some(token) = self.start(newlines) else {
@@ -80,7 +82,8 @@ impl<'t, 's> Cursor<'t, 's> {
     #[cycle(parser)]
     #[inline(always)]
     fn call(&mut self, newlines: Newlines, directives: usize) -> Result<(), Refused>
-        ensures leads { Advances directives (after_ident at newlines ∷ []) self.old.left (said result self.new.refusal) (after at newlines ∷ []) self.new.left }
+        ensures leads { Advances directives (after_ident at newlines ∷ []) self.old.left
+            (said result self.new.refusal) (after at newlines ∷ []) self.new.left }
         ensures shorter { OnOk result (length self.new.left ≤ length self.old.left) }
     {
         let Some(token) = self.look(newlines) else {
@@ -102,7 +105,10 @@ impl<'t, 's> Cursor<'t, 's> {
 
     /// The further names of a function after its first `::`, and the parenthesis of its call.
     fn path(&mut self, newlines: Newlines) -> Result<(), Refused>
-        ensures leads { (count : ℕ) → Advances count (the Name at newlines ∷ path at newlines ∷ []) self.old.left (said result self.new.refusal) (args at Dropped ∷ after at newlines ∷ []) self.new.left }
+        ensures leads { (count : ℕ) → Advances count
+            (the Name at newlines ∷ path at newlines ∷ []) self.old.left
+            (said result self.new.refusal) (args at Dropped ∷ after at newlines ∷ [])
+            self.new.left }
         ensures shorter { OnOk result (length self.new.left ≤ length self.old.left) }
     {
         loop {
@@ -125,9 +131,11 @@ impl<'t, 's> Cursor<'t, 's> {
     #[cycle(parser)]
     #[inline(always)]
     fn follow(&mut self, newlines: Newlines, directives: usize) -> Result<Follow, Refused>
-        ensures leads { Advances directives (after at newlines ∷ []) self.old.left (said result self.new.refusal) (after_follow newlines result) self.new.left }
+        ensures leads { Advances directives (after at newlines ∷ []) self.old.left
+            (said result self.new.refusal) (after_follow newlines result) self.new.left }
         ensures shorter { OnOk result (length self.new.left ≤ length self.old.left) }
-        ensures onward { IfOk result (λ f. goes_on f ≡ true → length self.new.left < length self.old.left) }
+        ensures onward { IfOk result (λ f. goes_on f ≡ true
+            → length self.new.left < length self.old.left) }
     {
         loop {
             let Some(token) = self.look(newlines) else {
@@ -159,7 +167,8 @@ impl<'t, 's> Cursor<'t, 's> {
     #[cycle(parser)]
     #[inline(always)]
     fn index(&mut self, directives: usize) -> Result<(), Refused>
-        ensures parses { Parses directives (index at Dropped ∷ []) self.old.left (said result self.new.refusal) self.new.left }
+        ensures parses { Parses directives (index at Dropped ∷ []) self.old.left
+            (said result self.new.refusal) self.new.left }
         ensures shorter { OnOk result (length self.new.left < length self.old.left) }
     {
         if self.takes(Newlines::Dropped, Terminal::Asterisk) {
@@ -173,7 +182,8 @@ impl<'t, 's> Cursor<'t, 's> {
     #[cycle(parser)]
     #[inline(always)]
     pub fn expr(&mut self, newlines: Newlines, directives: usize) -> Result<(), Refused>
-        ensures parses { Parses directives (expr at newlines ∷ []) self.old.left (said result self.new.refusal) self.new.left }
+        ensures parses { Parses directives (expr at newlines ∷ []) self.old.left
+            (said result self.new.refusal) self.new.left }
         ensures shorter { OnOk result (length self.new.left < length self.old.left) }
     {
         if self.takes_short(newlines) {
@@ -186,7 +196,8 @@ impl<'t, 's> Cursor<'t, 's> {
     #[cycle(parser)]
     #[inline(never)]
     fn whole_expr(&mut self, newlines: Newlines, directives: usize) -> Result<(), Refused>
-        ensures parses { Parses directives (expr at newlines ∷ []) self.old.left (said result self.new.refusal) self.new.left }
+        ensures parses { Parses directives (expr at newlines ∷ []) self.old.left
+            (said result self.new.refusal) self.new.left }
         ensures shorter { OnOk result (length self.new.left < length self.old.left) }
     {
         self.room();
@@ -210,7 +221,8 @@ impl<'t, 's> Cursor<'t, 's> {
     /// The arguments of a call after its parenthesis.
     #[cycle(parser)]
     fn args(&mut self, directives: usize) -> Result<(), Refused>
-        ensures parses { Parses directives (args at Dropped ∷ []) self.old.left (said result self.new.refusal) self.new.left }
+        ensures parses { Parses directives (args at Dropped ∷ []) self.old.left
+            (said result self.new.refusal) self.new.left }
         ensures shorter { OnOk result (length self.new.left < length self.old.left) }
     {
         loop {
@@ -239,7 +251,8 @@ impl<'t, 's> Cursor<'t, 's> {
     /// A tuple after its bracket.
     #[cycle(parser)]
     fn tuple(&mut self, directives: usize) -> Result<(), Refused>
-        ensures parses { Parses directives (tuple at Dropped ∷ []) self.old.left (said result self.new.refusal) self.new.left }
+        ensures parses { Parses directives (tuple at Dropped ∷ []) self.old.left
+            (said result self.new.refusal) self.new.left }
         ensures shorter { OnOk result (length self.new.left < length self.old.left) }
     {
         if self.takes(Newlines::Dropped, Terminal::ForWord) {
@@ -251,7 +264,8 @@ impl<'t, 's> Cursor<'t, 's> {
 
     #[cycle(parser)]
     fn tuple_items(&mut self, directives: usize) -> Result<(), Refused>
-        ensures parses { Parses directives (tuple_item at Dropped ∷ []) self.old.left (said result self.new.refusal) self.new.left }
+        ensures parses { Parses directives (tuple_item at Dropped ∷ []) self.old.left
+            (said result self.new.refusal) self.new.left }
         ensures shorter { OnOk result (length self.new.left < length self.old.left) }
     {
         loop {
@@ -276,7 +290,8 @@ impl<'t, 's> Cursor<'t, 's> {
     /// The names of a for-expression, what it goes over, and its first result.
     #[cycle(parser)]
     fn generator(&mut self, directives: usize) -> Result<(), Refused>
-        ensures parses { Parses directives (the Name at Dropped ∷ names at Dropped ∷ expr at Dropped ∷ the Separator at Dropped ∷ expr at Dropped ∷ []) self.old.left (said result self.new.refusal) self.new.left }
+        ensures parses { Parses directives
+            (the Name at Dropped ∷ names at Dropped ∷ expr at Dropped ∷ the Separator at Dropped ∷ expr at Dropped ∷ []) self.old.left (said result self.new.refusal) self.new.left }
         ensures shorter { OnOk result (length self.new.left < length self.old.left) }
     {
         self.names()?;
@@ -288,7 +303,8 @@ impl<'t, 's> Cursor<'t, 's> {
     /// The condition of a for-expression in brackets, where it has one, and the closing bracket.
     #[cycle(parser)]
     fn tuple_condition(&mut self, directives: usize) -> Result<(), Refused>
-        ensures parses { Parses directives (tuple_if at Dropped ∷ []) self.old.left (said result self.new.refusal) self.new.left }
+        ensures parses { Parses directives (tuple_if at Dropped ∷ []) self.old.left
+            (said result self.new.refusal) self.new.left }
         ensures shorter { OnOk result (length self.new.left < length self.old.left) }
     {
         if self.takes(Newlines::Dropped, Terminal::IfWord) {
@@ -301,7 +317,8 @@ impl<'t, 's> Cursor<'t, 's> {
     /// An object after its brace.
     #[cycle(parser)]
     fn object(&mut self, directives: usize) -> Result<(), Refused>
-        ensures parses { Parses directives (object at Seen ∷ []) self.old.left (said result self.new.refusal) self.new.left }
+        ensures parses { Parses directives (object at Seen ∷ []) self.old.left
+            (said result self.new.refusal) self.new.left }
         ensures shorter { OnOk result (length self.new.left < length self.old.left) }
     {
         if self.takes(Newlines::Dropped, Terminal::ForWord) {
@@ -313,7 +330,8 @@ impl<'t, 's> Cursor<'t, 's> {
     /// The entries of an object, through its closing brace. Newlines count only after an entry.
     #[cycle(parser)]
     fn entries(&mut self, directives: usize) -> Result<(), Refused>
-        ensures parses { Parses directives (object_item at Seen ∷ []) self.old.left (said result self.new.refusal) self.new.left }
+        ensures parses { Parses directives (object_item at Seen ∷ []) self.old.left
+            (said result self.new.refusal) self.new.left }
         ensures shorter { OnOk result (length self.new.left < length self.old.left) }
     {
         loop {
@@ -337,7 +355,9 @@ impl<'t, 's> Cursor<'t, 's> {
 
     #[cycle(parser)]
     fn entry(&mut self, directives: usize) -> Result<(), Refused>
-        ensures parses { Parses directives (expr at Seen ∷ separator at Seen ∷ expr at Seen ∷ []) self.old.left (said result self.new.refusal) self.new.left }
+        ensures parses { Parses directives
+            (expr at Seen ∷ separator at Seen ∷ expr at Seen ∷ []) self.old.left
+            (said result self.new.refusal) self.new.left }
         ensures shorter { OnOk result (length self.new.left < length self.old.left) }
     {
         self.expr(Newlines::Seen, directives)?;
@@ -348,7 +368,8 @@ impl<'t, 's> Cursor<'t, 's> {
     /// A for-expression in braces after its `for`.
     #[cycle(parser)]
     fn object_for(&mut self, directives: usize) -> Result<(), Refused>
-        ensures parses { Parses directives (the Name at Dropped ∷ names at Dropped ∷ expr at Dropped ∷ the Separator at Dropped ∷ expr at Dropped ∷ the FatArrow at Dropped ∷ expr at Dropped ∷ group at Dropped ∷ []) self.old.left (said result self.new.refusal) self.new.left }
+        ensures parses { Parses directives
+            (the Name at Dropped ∷ names at Dropped ∷ expr at Dropped ∷ the Separator at Dropped ∷ expr at Dropped ∷ the FatArrow at Dropped ∷ expr at Dropped ∷ group at Dropped ∷ []) self.old.left (said result self.new.refusal) self.new.left }
         ensures shorter { OnOk result (length self.new.left < length self.old.left) }
     {
         self.generator(directives)?;
@@ -360,7 +381,8 @@ impl<'t, 's> Cursor<'t, 's> {
 
     /// The `...` of a for-expression in braces, where it has one.
     fn grouping(&mut self)
-        ensures leads { (count : ℕ) → Advances count (group at Dropped ∷ []) self.old.left (Ok (tt {0})) (object_if at Dropped ∷ []) self.new.left }
+        ensures leads { (count : ℕ) → Advances count (group at Dropped ∷ []) self.old.left
+            (Ok (tt {0})) (object_if at Dropped ∷ []) self.new.left }
         ensures shorter { length self.new.left ≤ length self.old.left }
     {
         if self.takes(Newlines::Dropped, Terminal::Ellipses) {
@@ -371,7 +393,8 @@ impl<'t, 's> Cursor<'t, 's> {
     /// The condition of a for-expression in braces, where it has one, and the closing brace.
     #[cycle(parser)]
     fn object_condition(&mut self, directives: usize) -> Result<(), Refused>
-        ensures parses { Parses directives (object_if at Dropped ∷ []) self.old.left (said result self.new.refusal) self.new.left }
+        ensures parses { Parses directives (object_if at Dropped ∷ []) self.old.left
+            (said result self.new.refusal) self.new.left }
         ensures shorter { OnOk result (length self.new.left < length self.old.left) }
     {
         if self.takes(Newlines::Dropped, Terminal::IfWord) {
@@ -383,7 +406,9 @@ impl<'t, 's> Cursor<'t, 's> {
 
     /// The names of a `for`, and its `in`.
     pub fn names(&mut self) -> Result<(), Refused>
-        ensures parses { (count : ℕ) → Parses count (the Name at Dropped ∷ names at Dropped ∷ []) self.old.left (said result self.new.refusal) self.new.left }
+        ensures parses { (count : ℕ) → Parses count
+            (the Name at Dropped ∷ names at Dropped ∷ []) self.old.left
+            (said result self.new.refusal) self.new.left }
         ensures shorter { OnOk result (length self.new.left < length self.old.left) }
     {
         self.expect(Newlines::Dropped, Terminal::Name)?;
@@ -392,7 +417,8 @@ impl<'t, 's> Cursor<'t, 's> {
 
     /// What follows the first name of a `for`.
     fn more_names(&mut self) -> Result<(), Refused>
-        ensures parses { (count : ℕ) → Parses count (names at Dropped ∷ []) self.old.left (said result self.new.refusal) self.new.left }
+        ensures parses { (count : ℕ) → Parses count (names at Dropped ∷ []) self.old.left
+            (said result self.new.refusal) self.new.left }
         ensures shorter { OnOk result (length self.new.left < length self.old.left) }
     {
         if self.takes(Newlines::Dropped, Terminal::InWord) {
@@ -406,7 +432,8 @@ impl<'t, 's> Cursor<'t, 's> {
     /// What follows a dot.
     #[inline(always)]
     pub fn step(&mut self, newlines: Newlines) -> Result<(), Refused>
-        ensures parses { (count : ℕ) → Parses count (step at newlines ∷ []) self.old.left (said result self.new.refusal) self.new.left }
+        ensures parses { (count : ℕ) → Parses count (step at newlines ∷ []) self.old.left
+            (said result self.new.refusal) self.new.left }
         ensures shorter { OnOk result (length self.new.left < length self.old.left) }
     {
         match self.look(newlines) {
@@ -429,7 +456,8 @@ impl<'t, 's> Cursor<'t, 's> {
 
     /// What parts a key of an object from its value.
     pub fn separator(&mut self) -> Result<(), Refused>
-        ensures parses { (count : ℕ) → Parses count (separator at Seen ∷ []) self.old.left (said result self.new.refusal) self.new.left }
+        ensures parses { (count : ℕ) → Parses count (separator at Seen ∷ []) self.old.left
+            (said result self.new.refusal) self.new.left }
         ensures shorter { OnOk result (length self.new.left < length self.old.left) }
     {
         match self.look(Newlines::Seen) {

@@ -13,7 +13,8 @@ use hcl_grammar::{Class, Newlines, Refusal, Terminal};
 impl<'t, 's> Cursor<'t, 's> {
     /// A quoted label after its opening quote.
     fn label(&mut self) -> Result<(), Refused>
-        ensures parses { Parses 0 (label_literal at Seen ∷ the EndQuote at Seen ∷ []) self.old.left (said result self.new.refusal) self.new.left }
+        ensures parses { Parses 0 (label_literal at Seen ∷ the EndQuote at Seen ∷ []) self.old.left
+            (said result self.new.refusal) self.new.left }
         ensures shorter { OnOk result (length self.new.left ≤ length self.old.left) }
     {
         let Some(token) = self.look(Newlines::Seen) else {
@@ -34,7 +35,8 @@ impl<'t, 's> Cursor<'t, 's> {
 
     /// The labels of a block and its opening brace.
     fn labels(&mut self) -> Result<(), Refused>
-        ensures leads { Advances 0 (labels at Seen ∷ []) self.old.left (said result self.new.refusal) (start at Seen ∷ []) self.new.left }
+        ensures leads { Advances 0 (labels at Seen ∷ []) self.old.left
+            (said result self.new.refusal) (start at Seen ∷ []) self.new.left }
         ensures shorter { OnOk result (length self.new.left ≤ length self.old.left) }
     {
         loop {
@@ -58,7 +60,8 @@ impl<'t, 's> Cursor<'t, 's> {
 
     /// What follows a block's opening brace. The answer is whether its body goes on over lines.
     fn block(&mut self) -> Result<bool, Refused>
-        ensures leads { Advances 0 (start at Seen ∷ []) self.old.left (said result self.new.refusal) (after_item result) self.new.left }
+        ensures leads { Advances 0 (start at Seen ∷ []) self.old.left (said result self.new.refusal)
+            (after_item result) self.new.left }
         ensures shorter { OnOk result (length self.new.left ≤ length self.old.left) }
     {
         let Some(token) = self.look(Newlines::Seen) else {
@@ -96,7 +99,8 @@ impl<'t, 's> Cursor<'t, 's> {
 
     /// An attribute or a block after its first identifier.
     fn item(&mut self) -> Result<bool, Refused>
-        ensures leads { Advances 0 (rest at Seen ∷ []) self.old.left (said result self.new.refusal) (after_item result) self.new.left }
+        ensures leads { Advances 0 (rest at Seen ∷ []) self.old.left (said result self.new.refusal)
+            (after_item result) self.new.left }
         ensures shorter { OnOk result (length self.new.left ≤ length self.old.left) }
     {
         if self.takes(Newlines::Seen, Terminal::Equals) {
@@ -110,7 +114,8 @@ impl<'t, 's> Cursor<'t, 's> {
 
     /// A file. Of the blocks that are open it keeps the number.
     pub fn file(&mut self) -> Result<(), Refused>
-        ensures { run 0 (file at Seen ∷ []) self.old.left ≡ outcome (said result self.new.refusal) None }
+        ensures { run 0 (file at Seen ∷ []) self.old.left
+            ≡ outcome (said result self.new.refusal) None }
     {
         self.room();
         let mut levels: usize = 0;
@@ -145,7 +150,8 @@ impl<'t, 's> Cursor<'t, 's> {
 
     /// The end of a line, or of the input.
     pub fn end_of_line(&mut self) -> Result<(), Refused>
-        ensures parses { Parses 0 (eol at Seen ∷ []) self.old.left (said result self.new.refusal) self.new.left }
+        ensures parses { Parses 0 (eol at Seen ∷ []) self.old.left
+            (said result self.new.refusal) self.new.left }
         ensures shorter { OnOk result (length self.new.left ≤ length self.old.left) }
     {
         let Some(end) = self.look(Newlines::Seen) else {

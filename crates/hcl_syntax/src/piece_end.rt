@@ -64,7 +64,8 @@ pub fn token_count(tokens: &Tokens<'_>) -> u32
 #[inline(always)]
 fn take_last(numbers: &mut Vec<u32>, other: u32) -> u32
     ensures taken { result ≡ get_or (reverse numbers.old.items) 0 other }
-    ensures left { (i : ℕ) → get_or (reverse numbers.new.items) i other ≡ get_or (reverse numbers.old.items) (suc i) other }
+    ensures left { (i : ℕ) → get_or (reverse numbers.new.items) i other
+        ≡ get_or (reverse numbers.old.items) (suc i) other }
 {
     match numbers.pop() {
         Some(number) => number,
@@ -83,8 +84,10 @@ fn pass(
     top: u32,
     rest: &mut Vec<u32>,
 ) -> Result<u32, AllocError>
-    ensures { (tokens : List Lexeme) (t : Lexeme) → count ≡ length tokens → slice_get tokens number ≡ Some t → kind ≡ t.kind
-        → AreNewlinesAhead tokens (rest.old.items ++ top ∷ []) (number + 1) → IfOk result (λ next. AreNewlinesAhead tokens (rest.new.items ++ next ∷ []) number) }
+    ensures { (tokens : List Lexeme) (t : Lexeme) → count ≡ length tokens
+        → slice_get tokens number ≡ Some t → kind ≡ t.kind
+        → AreNewlinesAhead tokens (rest.old.items ++ top ∷ []) (number + 1)
+        → IfOk result (λ next. AreNewlinesAhead tokens (rest.new.items ++ next ∷ []) number) }
 {
     if is_newline(kind) {
         return Ok(number);

@@ -3,7 +3,7 @@
 ghost use Rattle.std.specs.Prelude.{◌≡◌, ◌<◌, ◌≤◌, ◌+◌, ◌++◌, length, IfOk, OnOk};
 ghost use Rattle.hcl_source.specs.Load.{max_source};
 ghost use Rattle.hcl_syntax.specs.Inner.Pieces.{AreEnds, CanBegin, items_at, words};
-ghost use Rattle.hcl_syntax.specs.Inner.Bodies.{IsBehindBrace, PutsBlock, PutsPiece};
+ghost use Rattle.hcl_syntax.specs.Inner.Bodies.{IsAfterBrace, PutsBlock, PutsPiece};
 ghost use Rattle.hcl_grammar.specs.Items.{label_at, labels};
 
 use crate::words::{block_end, closing_quote, first_word, is_assign, is_brace_open, words_end};
@@ -28,7 +28,8 @@ fn put_label(
 ) -> Result<(), AllocError>
     requires within { to ≤ length tokens.now.tokens }
     requires before { number < to }
-    ensures { OnOk result (items.new ≡ items.old ++ label_at number kind (words tokens.now.tokens (number + 1) to)) }
+    ensures { OnOk result (items.new
+        ≡ items.old ++ label_at number kind (words tokens.now.tokens (number + 1) to)) }
 {
     match kind {
         Kind::Ident => items.push_label(number, number),
@@ -49,8 +50,9 @@ fn put_labels(
 ) -> Result<u32, AllocError>
     requires within { to ≤ length tokens.now.tokens }
     requires ordered { from ≤ to }
-    ensures labels { OnOk result (items.new ≡ items.old ++ labels (words tokens.now.tokens from to)) }
-    ensures behind { IfOk result (IsBehindBrace tokens.now.tokens from to) }
+    ensures labels { OnOk result (items.new
+        ≡ items.old ++ labels (words tokens.now.tokens from to)) }
+    ensures after { IfOk result (IsAfterBrace tokens.now.tokens from to) }
 {
     for number in from..to {
         let token = tokens.get(number as usize);
@@ -124,7 +126,8 @@ pub fn put_items(
     requires within { to ≤ length tokens.now.tokens }
     requires deep { from < to → level ≤ from }
     requires begins { from < to → CanBegin tokens.now.tokens from }
-    ensures { OnOk result (items.new ≡ items.old ++ items_at level (words tokens.now.tokens from to)) }
+    ensures { OnOk result (items.new
+        ≡ items.old ++ items_at level (words tokens.now.tokens from to)) }
 {
     let mut start = from;
     while start < to {

@@ -30,7 +30,8 @@ impl<'t, 's> Cursor<'t, 's> {
     /// A template up to its closing quote or marker.
     #[cycle(parser)]
     pub fn parts(&mut self, newlines: Newlines, directives: usize) -> Result<(), Refused>
-        ensures parses { Parses directives (parts at newlines ∷ []) self.old.left (said result self.new.refusal) self.new.left }
+        ensures parses { Parses directives (parts at newlines ∷ []) self.old.left
+            (said result self.new.refusal) self.new.left }
         ensures shorter { OnOk result (length self.new.left ≤ length self.old.left) }
     {
         loop {
@@ -56,7 +57,9 @@ impl<'t, 's> Cursor<'t, 's> {
     /// An expression and the end of its sequence.
     #[cycle(parser)]
     fn sequence(&mut self, directives: usize) -> Result<(), Refused>
-        ensures parses { Parses directives (expr at Dropped ∷ the EndSequence at Dropped ∷ []) self.old.left (said result self.new.refusal) self.new.left }
+        ensures parses { Parses directives
+            (expr at Dropped ∷ the EndSequence at Dropped ∷ []) self.old.left
+            (said result self.new.refusal) self.new.left }
         ensures shorter { OnOk result (length self.new.left < length self.old.left) }
     {
         self.expr(Newlines::Dropped, directives)?;
@@ -66,7 +69,8 @@ impl<'t, 's> Cursor<'t, 's> {
     /// A directive after its `%{`, which is the token of this number.
     #[cycle(parser)]
     fn directive(&mut self, number: u32, directives: usize) -> Result<(), Refused>
-        ensures parses { Parses directives (directive number at Dropped ∷ []) self.old.left (said result self.new.refusal) self.new.left }
+        ensures parses { Parses directives (directive number at Dropped ∷ []) self.old.left
+            (said result self.new.refusal) self.new.left }
         ensures shorter { OnOk result (length self.new.left < length self.old.left) }
     {
         let Some(token) = self.look(Newlines::Dropped) else {
@@ -101,7 +105,8 @@ impl<'t, 's> Cursor<'t, 's> {
     #[cycle(parser)]
     fn section(&mut self, section: Section, directives: usize) -> Result<(), Refused>
         requires { directives < max_directives }
-        ensures ends { Ends directives (inside section at Dropped ∷ []) self.old.left (said result self.new.refusal) self.new.left }
+        ensures ends { Ends directives (inside section at Dropped ∷ []) self.old.left
+            (said result self.new.refusal) self.new.left }
         ensures shorter { OnOk result (length self.new.left < length self.old.left) }
     {
         let mut section = section;

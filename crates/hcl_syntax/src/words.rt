@@ -49,7 +49,8 @@ fn is_brace_close(kind: Kind) -> bool
 /// The first token from a number on to before another that is no comment.
 pub fn first_word(tokens: &Tokens<'_>, from: u32, to: u32) -> Option<NumberedKind>
     requires { to ≤ length tokens.now.tokens }
-    ensures { MatchOption result (words tokens.now.tokens from to ≡ []) (IsFirst tokens.now.tokens from to) }
+    ensures { MatchOption result (words tokens.now.tokens from to ≡ [])
+        (IsFirst tokens.now.tokens from to) }
 {
     for number in from..to {
         let token = tokens.get(number as usize);

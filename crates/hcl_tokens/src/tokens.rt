@@ -74,7 +74,8 @@ impl<'s> Tokens<'s> {
         requires { i < length self.now.tokens }
         ensures token { slice_get self.now.tokens i ≡ Some (lexeme result) }
         ensures start { IsCharBoundary self.now.text result.start }
-        ensures text { result.text.now ≡ take (length result.text.now) (drop result.start self.now.text) }
+        ensures text { result.text.now ≡ take (length result.text.now)
+            (drop result.start self.now.text) }
     {
         let given = self.entries.get(i);
         let start = given.start;

@@ -25,8 +25,8 @@ begins_dot [] = false
 begins_dot (t ∷ ts) = is kind.Dot t.kind
 
 -- the last token that isn't passed over is a dot
-abbrev pub behind_dot : Bool → Kind → Bool
-behind_dot dot k = cond (is_passed_over k) dot (is kind.Dot k)
+abbrev pub follows_dot : Bool → Kind → Bool
+follows_dot dot k = cond (is_passed_over k) dot (is kind.Dot k)
 
 -- a quote, or an identifier beside no dot
 abbrev pub is_apart : Bool → Kind → List Numbered → Bool
@@ -35,7 +35,7 @@ is_apart dot k rest = is kind.QuoteOpen k || (is kind.Ident k && (not dot && not
 -- token by token
 abbrev pub apart : Bool → List Numbered → List Bool
 apart dot [] = []
-apart dot (t ∷ ts) = is_apart dot t.kind ts ∷ apart (behind_dot dot t.kind) ts
+apart dot (t ∷ ts) = is_apart dot t.kind ts ∷ apart (follows_dot dot t.kind) ts
 
 abbrev pub first : List Bool → Bool
 first [] = false
@@ -44,7 +44,7 @@ first (b ∷ bs) = b
 abbrev pub IsApart : List Numbered → ℕ → Type 0
 IsApart all n = first (drop n (apart false all)) ≡ true
 
-pub apart_on : (all : List Numbered) (n : ℕ) (dot : Bool) (t : Numbered) (ts : List Numbered) → drop n (apart false all) ≡ apart dot (t ∷ ts) → drop (n + 1) (apart false all) ≡ apart (behind_dot dot t.kind) ts
+pub apart_on : (all : List Numbered) (n : ℕ) (dot : Bool) (t : Numbered) (ts : List Numbered) → drop n (apart false all) ≡ apart dot (t ∷ ts) → drop (n + 1) (apart false all) ≡ apart (follows_dot dot t.kind) ts
 apart_on all n dot t ts e = sym (drop-drop 1 n (apart false all)) ∙ ap (drop 1) e
 
 -- ---- which tokens name
@@ -79,21 +79,21 @@ abbrev pub Follows : List Numbered → Type 0
 Follows [] = Unit {0}
 Follows (t ∷ ts) = follows t.kind ≡ true
 
-behind_labels : (k : ℕ) (b : Bool) (t : Kind) (q : Place) → turn (labelled k b) t ≡ Some q → follows t ≡ true
-behind_labels k b kind.Ident q e = refl
-behind_labels k b kind.QuoteOpen q e = refl
-behind_labels k b kind.BraceOpen q e = refl
-behind_labels k b kind.Assign q e = refl
-behind_labels k b t q e = let n : None ≡ Some q = e in absurd (cc)
+after_labels : (k : ℕ) (b : Bool) (t : Kind) (q : Place) → turn (labelled k b) t ≡ Some q → follows t ≡ true
+after_labels k b kind.Ident q e = refl
+after_labels k b kind.QuoteOpen q e = refl
+after_labels k b kind.BraceOpen q e = refl
+after_labels k b kind.Assign q e = refl
+after_labels k b t q e = let n : None ≡ Some q = e in absurd (cc)
 
-behind_name : (k : ℕ) (t : Kind) (q : Place) → turn (named k) t ≡ Some q → follows t ≡ true
-behind_name k kind.Assign q e = refl
-behind_name k t q e = let n : None ≡ Some q = e in absurd (cc)
+after_name : (k : ℕ) (t : Kind) (q : Place) → turn (named k) t ≡ Some q → follows t ≡ true
+after_name k kind.Assign q e = refl
+after_name k t q e = let n : None ≡ Some q = e in absurd (cc)
 
 pub name_next : (p q r : Place) (t : Kind) → is_name p kind.Ident ≡ true → turn p kind.Ident ≡ Some q → turn q t ≡ Some r → follows t ≡ true
-name_next (line k) q r t e turned next = let f : labelled k true ≡ q = cc in behind_labels k true t r (subst (λ x. turn x t ≡ Some r) (sym f) next)
-name_next (labelled k b) q r t e turned next = let f : labelled k false ≡ q = cc in behind_labels k false t r (subst (λ x. turn x t ≡ Some r) (sym f) next)
-name_next (started k) q r t e turned next = let f : named k ≡ q = cc in behind_name k t r (subst (λ x. turn x t ≡ Some r) (sym f) next)
+name_next (line k) q r t e turned next = let f : labelled k true ≡ q = cc in after_labels k true t r (subst (λ x. turn x t ≡ Some r) (sym f) next)
+name_next (labelled k b) q r t e turned next = let f : labelled k false ≡ q = cc in after_labels k false t r (subst (λ x. turn x t ≡ Some r) (sym f) next)
+name_next (started k) q r t e turned next = let f : named k ≡ q = cc in after_name k t r (subst (λ x. turn x t ≡ Some r) (sym f) next)
 name_next _ q r t e turned next = absurd (true≢false (sym e))
 
 pub no_dot : (ts : List Numbered) → Follows (without_comments ts) → begins_dot (significant ts) ≡ false
@@ -171,7 +171,7 @@ newline_steps count n later (s at m ∷ ss) us h e = absurd (true≢false (sym h
 
 -- ONE TOKEN
 pub step_stays : (count n later : ℕ) (t : Kind) (text : List ℕ) (ss us : List Marked) (dot : Bool) → (dot ≡ true → steps ss ≡ true) → is_trivia (class_at t text) ≡ false
-    → effect count ss (record { class = class_at t text; number = n }) ≡ on later us → behind_dot dot t ≡ true → steps us ≡ true
+    → effect count ss (record { class = class_at t text; number = n }) ≡ on later us → follows_dot dot t ≡ true → steps us ≡ true
 step_stays count n later kind.Dot text ss us dot h plain e d = dot_steps count n later ss us e
 step_stays count n later kind.Newline text ss us dot h plain e d = newline_steps count n later ss us (h d) e
 step_stays count n later kind.Blank text ss us dot h plain e d = absurd (true≢false plain)

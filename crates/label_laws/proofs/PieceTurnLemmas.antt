@@ -8,7 +8,7 @@ use Rattle.std.proofs.lemmas.List.Elements.{filter-append}
 use Rattle.hcl_tokens.specs.Kinds.{is}
 use Rattle.hcl_tokens.specs.declared.token.Kind.{Kind}
 use Rattle.hcl_tokens.specs.declared.token.Kind.TheVariants as kind
-use Rattle.hcl_grammar.specs.Items.{behind_brace, block, block_end, body, closing_quote, deepen, is_closed, item_of, items, label_at, labels, onto, pieces}
+use Rattle.hcl_grammar.specs.Items.{after_brace, block, block_end, body, closing_quote, deepen, is_closed, item_of, items, label_at, labels, onto, pieces}
 use Rattle.hcl_grammar.specs.Labels.{first_literal, label_text, text_of}
 use Rattle.label_laws.specs.AsWritten.{IsAsWritten, between_quotes}
 use Rattle.hcl_grammar.specs.Numbered.{Numbered, end_of}
@@ -325,25 +325,25 @@ module _ (all : List Numbered) where
     good_quote n [] next leads = absurd (true≢false (sym stops.0 ∙ ap may_stop (sym leads)))
     good_quote n (u ∷ us) next leads = by (quote_turn k u.kind leads.0 leads.1)
       where
-        behind : (vs : List Numbered) → u.kind ≡ kind.Lit → Begins (u.number + 1) vs → Leads all (Inside k) (at.written k) vs end
+        after : (vs : List Numbered) → u.kind ≡ kind.Lit → Begins (u.number + 1) vs → Leads all (Inside k) (at.written k) vs end
             → IsAsWritten (between_quotes all (record { first = n; last = closing_quote (u ∷ vs) })) (label_text all (record { first = n; last = closing_quote (u ∷ vs) }))
-        behind [] lit begin more = absurd (true≢false (sym stops.0 ∙ ap may_stop (sym more)))
-        behind (v ∷ vs) lit begin more = literal_label n u v vs lit (literal_turn k v.kind more.0 more.1).0 next begin leads.3.0
+        after [] lit begin more = absurd (true≢false (sym stops.0 ∙ ap may_stop (sym more)))
+        after (v ∷ vs) lit begin more = literal_label n u v vs lit (literal_turn k v.kind more.0 more.1).0 next begin leads.3.0
 
         by : ((u.kind ≡ kind.Lit) × (leads.0 ≡ at.written k)) ⊎ ((u.kind ≡ kind.QuoteClose) × (leads.0 ≡ labelled k false))
             → IsAsWritten (between_quotes all (record { first = n; last = closing_quote (u ∷ us) })) (label_text all (record { first = n; last = closing_quote (u ∷ us) }))
-        by (inl h) = behind us h.0 (leads.4 (ap in_quotes h.1)) (subst (λ x. Leads all (Inside k) x us end) h.1 leads.5)
+        by (inl h) = after us h.0 (leads.4 (ap in_quotes h.1)) (subst (λ x. Leads all (Inside k) x us end) h.1 leads.5)
         by (inr h) = closed_label n u us h.0 next leads.3.0
 
     -- the labels are good, and after the first brace stands a body
     abbrev Labels : List Numbered → Type 0
-    Labels ts = AllGood (labels ts) × ((behind_brace ts ≡ []) ⊎ Leads all (Inside k) (started k) (behind_brace ts) end)
+    Labels ts = AllGood (labels ts) × ((after_brace ts ≡ []) ⊎ Leads all (Inside k) (started k) (after_brace ts) end)
 
     -- with a token in front that is no brace
     passed : (t : Numbered) (ts : List Numbered) (x : Kind) → t.kind ≡ x → is kind.BraceOpen x ≡ false → AllGood (label_at t.number x ts) → Labels ts → Labels (t ∷ ts)
     passed t ts x e plain good h =
         let L : labels (t ∷ ts) ≡ label_at t.number x ts ++ labels ts = ap (λ y. cond (is kind.BraceOpen y) [] (label_at t.number y ts ++ labels ts)) e ∙ ap (λ b. cond b [] (label_at t.number x ts ++ labels ts)) plain in
-        let B : behind_brace (t ∷ ts) ≡ behind_brace ts = ap (λ y. cond (is kind.BraceOpen y) ts (behind_brace ts)) e ∙ ap (λ b. cond b ts (behind_brace ts)) plain in
+        let B : after_brace (t ∷ ts) ≡ after_brace ts = ap (λ y. cond (is kind.BraceOpen y) ts (after_brace ts)) e ∙ ap (λ b. cond b ts (after_brace ts)) plain in
         (subst AllGood (sym L) (good_both (label_at t.number x ts) (labels ts) good h.0), subst (λ r. (r ≡ []) ⊎ Leads all (Inside k) (started k) r end) (sym B) h.1)
 
     pub data Among (p : Place) (ts : List Numbered) : Type 0 where
@@ -375,7 +375,7 @@ module _ (all : List Numbered) where
             (rest (begun to))
         one b e unsign rest (brace x to) =
             let L : labels (t ∷ ts) ≡ [] = ap (λ y. cond (is kind.BraceOpen y) [] (label_at t.number y ts ++ labels ts)) x in
-            let B : behind_brace (t ∷ ts) ≡ ts = ap (λ y. cond (is kind.BraceOpen y) ts (behind_brace ts)) x in
+            let B : after_brace (t ∷ ts) ≡ ts = ap (λ y. cond (is kind.BraceOpen y) ts (after_brace ts)) x in
             (subst AllGood (sym L) tt, inr (subst (λ r. Leads all (Inside k) (started k) r end) (sym B) (subst (λ y. Leads all (Inside k) y ts end) to leads.5)))
         one b e unsign rest (sign may x) = absurd (true≢false (sym (ap (is kind.Assign) x) ∙ unsign may))
 
@@ -390,11 +390,11 @@ module _ (all : List Numbered) where
 
   -- ---- the body of a block is what its braces hold
 
-  front_of : (ts : List Numbered) → (front : List Numbered) × (ts ≡ front ++ behind_brace ts)
+  front_of : (ts : List Numbered) → (front : List Numbered) × (ts ≡ front ++ after_brace ts)
   front_of [] = ([], refl)
   front_of (t ∷ ts) = by (is kind.BraceOpen t.kind) (front_of ts)
     where
-      by : (b : Bool) → (front : List Numbered) × (ts ≡ front ++ behind_brace ts) → (front : List Numbered) × (t ∷ ts ≡ front ++ cond b ts (behind_brace ts))
+      by : (b : Bool) → (front : List Numbered) × (ts ≡ front ++ after_brace ts) → (front : List Numbered) × (t ∷ ts ≡ front ++ cond b ts (after_brace ts))
       by true h = (t ∷ [], refl)
       by false h = (t ∷ h.0, ap (λ r. t ∷ r) h.1)
 
@@ -420,7 +420,7 @@ module _ (all : List Numbered) where
       let more = before_last (x.number + 1) to e xs t h.1 is in
       (ap (λ b. cond b (x ∷ filter (λ u. nat_lt (u.number + 1) e) (xs ++ t ∷ [])) (filter (λ u. nat_lt (u.number + 1) e) (xs ++ t ∷ []))) (lt-ltb (x.number + 1) e (omega (arith, is, more.1))) ∙ ap (λ r. x ∷ r) more.0, omega (arith, h.0, more.1))
 
-  body_is : (from to : ℕ) (ts inner : List Numbered) (t : Numbered) → Rises from ts to → behind_brace ts ≡ inner ++ t ∷ [] → is kind.BraceClose t.kind ≡ true → (body ts ≡ inner) × ((mid : ℕ) × Rises mid (inner ++ t ∷ []) to)
+  body_is : (from to : ℕ) (ts inner : List Numbered) (t : Numbered) → Rises from ts to → after_brace ts ≡ inner ++ t ∷ [] → is kind.BraceClose t.kind ≡ true → (body ts ≡ inner) × ((mid : ℕ) × Rises mid (inner ++ t ∷ []) to)
   body_is from to ts inner t rises this closes =
       let f = front_of ts in
       let whole : ts ≡ f.0 ++ (inner ++ t ∷ []) = f.1 ∙ ap (λ r. f.0 ++ r) this in
@@ -452,13 +452,13 @@ module _ (all : List Numbered) where
     block_good : (k from to : ℕ) (name : Numbered) (ts : List Numbered) (end : Place) → Rises from ts to → NoSign ts → Leads all (Inside k) (labelled k true) ts end → Stops k end → AllGood (block inner lev name ts)
     block_good k from to name ts end rises unsign leads stops = (tt, good_both (labels ts) (inner (body ts)) l.0 (by l.1))
       where
-        l : AllGood (labels ts) × ((behind_brace ts ≡ []) ⊎ Leads all (Inside k) (started k) (behind_brace ts) end)
+        l : AllGood (labels ts) × ((after_brace ts ≡ []) ⊎ Leads all (Inside k) (started k) (after_brace ts) end)
         l = good_labels k end stops (labelled k true) ts (among true refl (λ i. unsign)) leads
 
-        by : (behind_brace ts ≡ []) ⊎ Leads all (Inside k) (started k) (behind_brace ts) end → AllGood (inner (body ts))
+        by : (after_brace ts ≡ []) ⊎ Leads all (Inside k) (started k) (after_brace ts) end → AllGood (inner (body ts))
         by (inl none) = subst (λ r. AllGood (inner r)) (sym (ap (λ r. filter (λ u. nat_lt (u.number + 1) (block_end ts)) r) none)) nothing_good
         by (inr more) =
-            let b = bodied k (started k) (behind_brace ts) end (omega arith) more stops in
+            let b = bodied k (started k) (after_brace ts) end (omega arith) more stops in
             let is = body_is from to ts b.inner b.close rises b.is b.brace in
             let z : depth (started k) - suc k ≡ 0 = omega arith in
             let ps : Pieces (suc k) (started k) (pieces 0 b.inner) = subst (λ (n : ℕ). Pieces (suc k) (started k) (pieces n b.inner)) z (cut (suc k) (started k) b.inner b.end (omega arith) b.leads b.stops) in
@@ -514,13 +514,13 @@ module _ (all : List Numbered) where
         q : Place
         q = leads.0
 
-        behind : is kind.Assign second.kind ≡ false → (q ≡ labelled k true) ⊎ ((j : ℕ) × (q ≡ named j)) → AllGood (block inner lev name (second ∷ rest))
-        behind unsign (inl e) = block_good k (name.number + 1) to name (second ∷ rest) piece.0 rises.1 unsign (subst (λ x. Leads all (Inside k) x (second ∷ rest) piece.0) e leads.5) piece.2
-        behind unsign (inr e) = absurd (true≢false (sym (named_turn e.0 second.kind leads.5.0 (subst (λ x. turn x second.kind ≡ Some leads.5.0) e.1 leads.5.1)) ∙ unsign))
+        after : is kind.Assign second.kind ≡ false → (q ≡ labelled k true) ⊎ ((j : ℕ) × (q ≡ named j)) → AllGood (block inner lev name (second ∷ rest))
+        after unsign (inl e) = block_good k (name.number + 1) to name (second ∷ rest) piece.0 rises.1 unsign (subst (λ x. Leads all (Inside k) x (second ∷ rest) piece.0) e leads.5) piece.2
+        after unsign (inr e) = absurd (true≢false (sym (named_turn e.0 second.kind leads.5.0 (subst (λ x. turn x second.kind ≡ Some leads.5.0) e.1 leads.5.1)) ∙ unsign))
 
         by : (b : Bool) → is kind.Assign second.kind ≡ b → AllGood (cond b (item.Attribute lev name.number (second.number + 1) (end_of (second ∷ rest)) ∷ []) (block inner lev name (second ∷ rest)))
         by true e = (leads.3.1 (first_names k p q name.kind begin leads.1 leads.2), tt)
-        by false e = behind e (first_turn k p q name.kind begin leads.1 leads.2)
+        by false e = after e (first_turn k p q name.kind begin leads.1 leads.2)
 
     lines_good : (k from to : ℕ) (ps : List (List Numbered)) → AllRise from ps to → LinePieces k ps → AllGood (flat_map (item_of inner lev) ps)
     lines_good k from to [] rises h = tt

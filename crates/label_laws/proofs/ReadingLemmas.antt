@@ -26,7 +26,7 @@ use Rattle.hcl_grammar.proofs.RowLemmas.{owes_all-append}
 use Rattle.hcl_grammar.proofs.MoveLemmas.{EffectMoves, effect-moves}
 use Rattle.hcl_grammar.proofs.BalancedRowLemmas.{counted, groups, shifted}
 use Rattle.label_laws.proofs.InnerLemmas.{AreInner, Passes, inner_ends, inner_passes, landed, newline_passes, stopped}
-use Rattle.label_laws.proofs.NamePlaceLemmas.{Follows, IsApart, apart, apart_on, behind_dot, is_name, name_apart, name_next, step_stays, steps}
+use Rattle.label_laws.proofs.NamePlaceLemmas.{Follows, IsApart, apart, apart_on, follows_dot, is_name, name_apart, name_next, step_stays, steps}
 use Rattle.label_laws.proofs.TurnLemmas.{Place, line, labelled, quoted, written, started, named, single, value, ended, turn}
 use Rattle.label_laws.proofs.PieceTurnLemmas.{Adjoins, Begins, Leads, Stands, Stops, Within, in_quotes}
 
@@ -417,7 +417,7 @@ module _ (all : List Numbered) where
   lead s end [] p ss count n scanned same a accepted here dot stepping beside = (p, refl, stop_there p ss a accepted)
   lead s end (t ∷ ts) p ss count n scanned same a accepted here dot stepping beside =
       by (is_comment t.kind) refl
-      (λ q us later o b c f. lead scanned.0 end ts q us later (n + 1) scanned.2 o b c (there n t ts here) (behind_dot dot t.kind) f (apart_on all n dot it (numbered_from (n + 1) ts) beside))
+      (λ q us later o b c f. lead scanned.0 end ts q us later (n + 1) scanned.2 o b c (there n t ts here) (follows_dot dot t.kind) f (apart_on all n dot it (numbered_from (n + 1) ts) beside))
     where
       fits : IsFitting s.opens t.kind
       fits = fitting s t scanned.0 scanned.1
@@ -438,7 +438,7 @@ module _ (all : List Numbered) where
       here_it = here ∙ ap (λ r. it ∷ r) (sym (there n t ts here))
 
       On : Type 0
-      On = (q : Place) (us : List Marked) (later : ℕ) → scanned.0.opens ≡ owes_all us → At q us → run later us L ≡ None → (behind_dot dot t.kind ≡ true → steps us ≡ true) → Led q W
+      On = (q : Place) (us : List Marked) (later : ℕ) → scanned.0.opens ≡ owes_all us → At q us → run later us L ≡ None → (follows_dot dot t.kind ≡ true → steps us ≡ true) → Led q W
 
       adjoins : (q : Place) (us : List Marked) → scanned.0.opens ≡ owes_all us → At q us → Adjoins q n W
       adjoins q us o b i = next_begins scanned.0 end ts q us (n + 1) scanned.2 o b i
@@ -451,7 +451,7 @@ module _ (all : List Numbered) where
           let o : scanned.0.opens ≡ owes_all ss = next_opens ∙ ap (λ x. open_after x s.opens) e ∙ same in
           lead_on p p it W (ap (λ x. turn p x) e ∙ blank_turn p ss a (sym (ap in_heredoc same) ∙ fits.blank e))
           (here_it, (λ h. absurd (true≢false (sym h ∙ ap (λ x. is_name p x) e ∙ blank_names p))))
-          (adjoins p ss o a) (on_ p ss count o a (skipped trivial) (λ d. stepping (sym (ap (λ x. behind_dot dot x) e) ∙ d)))
+          (adjoins p ss o a) (on_ p ss count o a (skipped trivial) (λ d. stepping (sym (ap (λ x. follows_dot dot x) e) ∙ d)))
 
       named_there : (q : Place) → turn p t.kind ≡ Some q → Led q W → is_name p t.kind ≡ true → IsApart all n
       named_there q turned led e =

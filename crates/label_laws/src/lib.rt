@@ -17,5 +17,7 @@ ghost use Rattle.label_laws.specs.AsWritten.{IsAsWritten, between_quotes};
 /// Between the quotes of a label of a file stands nothing, or one literal, which is its text as written.
 pub fn one_literal()
     ensures { (text : List ℕ) (tokens : List Lexeme) → Scans text tokens → IsAccepted tokens
-        → (i : ℕ) (l : Label) → slice_get (outline tokens) i ≡ Some (item.Label l) → l.first < l.last → IsAsWritten (between_quotes (numbered tokens) l) (label_text (numbered tokens) l) }
+        → (i : ℕ) (l : Label) → slice_get (outline tokens) i ≡ Some (item.Label l)
+        → l.first < l.last → IsAsWritten (between_quotes (numbered tokens) l)
+        (label_text (numbered tokens) l) }
 {}

@@ -49,9 +49,9 @@ template_cell kind.HeredocClose n h = refl
 template_cell _ n h = absurd (cc)
 
 -- no gap, where the spacing gives none and no cell begins
-zero_behind : (before : Option Lexeme) (u t : Lexeme) (g : ℕ) → GapFor before (Some u) g t → has_blank before u t ≡ false → is_cell t ≡ false → g ≡ 0
-zero_behind before u t g (inl e) h c = e ∙ no_blank before u t h
-zero_behind before u t g (inr x) h c = absurd (let y = x.1 in cc)
+zero_after : (before : Option Lexeme) (u t : Lexeme) (g : ℕ) → GapFor before (Some u) g t → has_blank before u t ≡ false → is_cell t ≡ false → g ≡ 0
+zero_after before u t g (inl e) h c = e ∙ no_blank before u t h
+zero_after before u t g (inr x) h c = absurd (let y = x.1 in cc)
 
 zero_fits : (v : Bool) (g : ℕ) (j : Bool) → v ≡ true → g ≡ 0 → cond v (g == 0) (not (g == 0) || not j) ≡ true
 zero_fits true g j h e = ap (λ n. n == 0) e
@@ -84,20 +84,20 @@ module _ (before u : Option Lexeme) (dot : Bool) (k : Kind) (g : ℕ) (t : Lexem
   -- in a heredoc
   inside_zero : (u : Option Lexeme) → GapFor before u g t → t.inside_heredoc ≡ true → g ≡ 0
   inside_zero None gap e = gap e
-  inside_zero (Some u) gap e = zero_behind before u t g gap (row_one before u t (ap (λ v. is kind.Newline t.kind || v) e ∙ or_true (is kind.Newline t.kind))) (cell_outside t e)
+  inside_zero (Some u) gap e = zero_after before u t g gap (row_one before u t (ap (λ v. is kind.Newline t.kind || v) e ∙ or_true (is kind.Newline t.kind))) (cell_outside t e)
 
   -- a token of a template, outside heredocs
   template_zero : (u : Option Lexeme) → Coherent before u dot k → GapFor before u g t → t.inside_heredoc ≡ false → regapped.is_template t.kind ≡ true → g ≡ 0
   template_zero None c gap e h = absurd (let x = beside.template e h in let y : opens_template k ≡ false = ap opens_template c in cc)
   template_zero (Some u) c gap e h =
-      zero_behind before u t g gap (rows.template_touches before u t e (sym (ap opens_template c.0) ∙ beside.template e h) h beside.closer) (template_cell t.kind (not t.inside_heredoc) h)
+      zero_after before u t g gap (rows.template_touches before u t e (sym (ap opens_template c.0) ∙ beside.template e h) h beside.closer) (template_cell t.kind (not t.inside_heredoc) h)
 
   -- after a comment
   comment_zero : (u : Option Lexeme) → Coherent before u dot k → GapFor before u g t → t.inside_heredoc ≡ false → k ≡ kind.LineComment → g ≡ 0
   comment_zero None c gap e h = absurd (let x : kind.Newline ≡ kind.LineComment = sym c ∙ h in cc)
   comment_zero (Some u) c gap e h =
       let n : t.kind ≡ kind.Newline = beside.comment e h in
-      zero_behind before u t g gap (row_one before u t (λ i. is kind.Newline (n i) || t.inside_heredoc)) (λ i. (is kind.Assign (n i) && not t.inside_heredoc) || (is kind.LineComment (n i) && not t.inside_heredoc))
+      zero_after before u t g gap (row_one before u t (λ i. is kind.Newline (n i) || t.inside_heredoc)) (λ i. (is kind.Assign (n i) && not t.inside_heredoc) || (is kind.LineComment (n i) && not t.inside_heredoc))
 
   -- where the neighbours would join
   apart : (u : Option Lexeme) → Coherent before u dot k → GapFor before u g t → t.inside_heredoc ≡ false → regapped.is_template t.kind ≡ false → g ≡ 0 → neighbours.joins dot k t.kind t.text ≡ true → ⊥

@@ -25,8 +25,8 @@ record Meets (u t : Lexeme) : Type 0 where
   right : is kind.ColonColon t.kind ≡ false
   apart : t.inside_heredoc ≡ false → (is kind.Colon u.kind && begins_with_colon t.text) ≡ false
 
-abbrev rows_behind : Option Lexeme → Lexeme → Lexeme → Bool
-rows_behind before subject after =
+abbrev rows_after : Option Lexeme → Lexeme → Lexeme → Bool
+rows_after before subject after =
     if is kind.Comma after.kind || is kind.Ellipsis after.kind then false
     else if is kind.Comma subject.kind then true
     else if is kind.QuoteOpen subject.kind || is kind.Lit subject.kind || is kind.Lit after.kind || is kind.QuoteClose after.kind then false
@@ -62,7 +62,7 @@ space_same before u t m = by (is kind.Newline t.kind || t.inside_heredoc) refl
     by true h = was_row_one before u t h ∙ sym (row_one before u t h)
     by false h =
         let n = m.apart (outside (is kind.Newline t.kind) t.inside_heredoc h) in
-        table_same (is kind.Newline t.kind || t.inside_heredoc) (is kind.Ident u.kind && is kind.ParenOpen t.kind) (is kind.Dot u.kind || is kind.Dot t.kind) (rows_behind before u t) (would_have_joined before u t) (would_join before u t) (is kind.ColonColon u.kind || is kind.ColonColon t.kind)
+        table_same (is kind.Newline t.kind || t.inside_heredoc) (is kind.Ident u.kind && is kind.ParenOpen t.kind) (is kind.Dot u.kind || is kind.Dot t.kind) (rows_after before u t) (would_have_joined before u t) (would_join before u t) (is kind.ColonColon u.kind || is kind.ColonColon t.kind)
         (sym ((λ i. would_have_joined before u t || n i) ∙ or_false (would_have_joined before u t))) (λ i. m.left i || m.right i)
 
 -- ---- all neighbours
@@ -118,14 +118,14 @@ abbrev MeetsLine : Lexeme → List Line → Type 0
 MeetsLine u [] = Unit {0}
 MeetsLine u (l ∷ ls) = MeetsFirst u l
 
-line_behind : (u t : Lexeme) (v : Bool) (ls : List Line) → Meets u t → MeetsLine u (if v then (t ∷ []) ∷ ls else onto_line t ls)
-line_behind u t true ls m = m
-line_behind u t false [] m = m
-line_behind u t false (l ∷ ls) m = m
+line_after : (u t : Lexeme) (v : Bool) (ls : List Line) → Meets u t → MeetsLine u (if v then (t ∷ []) ∷ ls else onto_line t ls)
+line_after u t true ls m = m
+line_after u t false [] m = m
+line_after u t false (l ∷ ls) m = m
 
 first_line : (u : Lexeme) (ts : List Lexeme) → MeetsFirst u ts → MeetsLine u (lines ts)
 first_line u [] m = tt
-first_line u (t ∷ ts) m = line_behind u t (ends_line t) (lines ts) m
+first_line u (t ∷ ts) m = line_after u t (ends_line t) (lines ts) m
 
 lines_on : (t : Lexeme) (v : Bool) (ls : List Line) → MeetsLine t ls → LinesMeet ls → LinesMeet (if v then (t ∷ []) ∷ ls else onto_line t ls)
 lines_on t true ls m all = ((tt, tt), all)

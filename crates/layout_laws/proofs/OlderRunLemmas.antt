@@ -345,14 +345,14 @@ module _ (n : ℕ) (t : Lexeme) (ts : List Lexeme) (count : ℕ) (ss : List Mark
 
   parted_on : (v : Bool) → is_trivia (class_of t) ≡ v → Parted ss (t ∷ ts)
   parted_on true e =
-      let behind = more count ss (subst (λ (l : List Lookahead). ComesTo count ss l None) (list_is true e) r) p in
+      let beyond = more count ss (subst (λ (l : List Lookahead). ComesTo count ss l None) (list_is true e) r) p in
       let no = trivia_no_colon t.kind t.text e in
-      record { parts_all = ((λ h. let f : true ≡ false = sym h ∙ no in cc), behind.parts_all); front = λ b. no }
+      record { parts_all = ((λ h. let f : true ≡ false = sym h ∙ no in cc), beyond.parts_all); front = λ b. no }
   parted_on false e =
       let st = stepped count ss (lookaheads_from n (t ∷ ts)) None r refl seen (lookaheads_from (n + 1) ts) (list_is false e) in
       let here = led count ss seen st.later st.us st.taken_so p in
-      let behind = more st.later st.us st.left here.pairs in
-      record { parts_all = ((λ h. behind.front (here.expects (colon_class t.kind t.text h))), behind.parts_all); front = λ b. plain st b (is kind.Colon t.kind) refl }
+      let beyond = more st.later st.us st.left here.pairs in
+      record { parts_all = ((λ h. beyond.front (here.expects (colon_class t.kind t.text h))), beyond.parts_all); front = λ b. plain st b (is kind.Colon t.kind) refl }
 
 parted : (n : ℕ) (ts : List Lexeme) (count : ℕ) (ss : List Marked) → ComesTo count ss (lookaheads_from n ts) None → paired ss ≡ true → Parted ss ts
 parted n [] count ss r p = record { parts_all = tt; front = λ b. refl }

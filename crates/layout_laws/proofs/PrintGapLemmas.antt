@@ -95,9 +95,9 @@ until_cell test j (t ∷ line) c = by (test t) j c (λ k. until_cell test k line
 abbrev CellOf : Line → ℕ → Type 0
 CellOf line i = (j : ℕ) × (i ≡ suc j) × CellAt (suc j) line
 
-behind_first : (line : Line) (i : ℕ) → Found 1 i (drop 1 line) → CellOf line i
-behind_first [] i f = absurd (f.2)
-behind_first (t ∷ line) i f = (f.0, omega (arith, f.1), f.2)
+after_first : (line : Line) (i : ℕ) → Found 1 i (drop 1 line) → CellOf line i
+after_first [] i f = absurd (f.2)
+after_first (t ∷ line) i f = (f.0, omega (arith, f.1), f.2)
 
 cell_before_comment : (line : Line) (i : ℕ) → Found 1 i (drop 1 (before_comment line)) → Found 1 i (drop 1 line)
 cell_before_comment [] i f = f
@@ -122,10 +122,10 @@ assign_at line i e = by (has_multiline line) e
   where
     by : (v : Bool) → (if v then None else if_level (before_comment line) (first_place is_assignment (before_comment line))) ≡ Some i → CellOf line i
     by true e = absurd (cc)
-    by false e = behind_first line i (cell_before_comment line i (place_cell is_assignment sign_cell 1 i (drop 1 (before_comment line)) (level_place (before_comment line) (first_place is_assignment (before_comment line)) i e)))
+    by false e = after_first line i (cell_before_comment line i (place_cell is_assignment sign_cell 1 i (drop 1 (before_comment line)) (level_place (before_comment line) (first_place is_assignment (before_comment line)) i e)))
 
 trailing_at : (line : Line) (i : ℕ) → trailing_comment line ≡ Some i → CellOf line i
-trailing_at line i e = behind_first line i (place_cell is_trailing trailing_cell 1 i (drop 1 line) e)
+trailing_at line i e = after_first line i (place_cell is_trailing trailing_cell 1 i (drop 1 line) e)
 
 some_gap : (column : Option ℕ) (own : ℕ) → 0 < gap_to column own
 some_gap None own = omega arith

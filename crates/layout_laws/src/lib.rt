@@ -20,7 +20,8 @@ ghost use Rattle.hcl_source.specs.Places.{line_of};
 
 /// A print is scanned to the tokens of which it is made: none join, split or change their kind.
 pub fn rescan()
-    ensures { (text : List ℕ) (ts : List Lexeme) → Scans text ts → Scans (print ts) (printed_tokens ts) }
+    ensures { (text : List ℕ) (ts : List Lexeme) → Scans text ts
+        → Scans (print ts) (printed_tokens ts) }
 {}
 
 /// The tokens of a print print it again, and the grammar sees them as it saw the first.
@@ -32,13 +33,16 @@ pub fn print_kept()
 /// Printing twice changes nothing: a print that isn't too large is a source, its tokens are a file,
 /// and their print is the same.
 pub fn idempotent()
-    ensures { (text : List ℕ) (ts : List Lexeme) → IsText text → Scans text ts → IsAccepted ts → length (print ts) ≤ max_source
-        → IsText (print ts) × Scans (print ts) (printed_tokens ts) × IsAccepted (printed_tokens ts) × (print (printed_tokens ts) ≡ print ts) }
+    ensures { (text : List ℕ) (ts : List Lexeme) → IsText text → Scans text ts → IsAccepted ts
+        → length (print ts) ≤ max_source
+        → IsText (print ts) × Scans (print ts) (printed_tokens ts) × IsAccepted (printed_tokens ts)
+        × (print (printed_tokens ts) ≡ print ts) }
 {}
 
 /// A print has the tokens of its text, by kind and text in the same order, and each on the same line.
 pub fn same_lines()
-    ensures tokens { (text : List ℕ) (ts us : List Lexeme) → Scans text ts → Scans (print ts) us → numbered us ≡ numbered ts }
+    ensures tokens { (text : List ℕ) (ts us : List Lexeme) → Scans text ts → Scans (print ts) us
+        → numbered us ≡ numbered ts }
     ensures lines { (text : List ℕ) (ts us : List Lexeme) → Scans text ts → Scans (print ts) us
         → (n : ℕ) → line_of (print ts) (start_of us n) ≡ line_of text (start_of ts n) }
 {}
@@ -46,12 +50,14 @@ pub fn same_lines()
 /// A text that was accepted by the tables before names with `::` has the same tokens by those of
 /// now, is accepted, and has the same print.
 pub fn older_files()
-    ensures { (text : List ℕ) (ts : List Lexeme) → WasScanned text ts → WasAccepted ts → Scans text ts × IsAccepted ts × (was_print ts ≡ print ts) }
+    ensures { (text : List ℕ) (ts : List Lexeme) → WasScanned text ts → WasAccepted ts
+        → Scans text ts × IsAccepted ts × (was_print ts ≡ print ts) }
 {}
 
 /// What has no `::` was scanned to the same tokens before there were names with `::`, and accepted where it is accepted
 /// now: so [`older_files`] speaks of all such files.
 pub fn older_without_paths()
-    ensures scanned { (text : List ℕ) (ts : List Lexeme) → Scans text ts → HasNoPath ts → WasScanned text ts }
+    ensures scanned { (text : List ℕ) (ts : List Lexeme) → Scans text ts → HasNoPath ts
+        → WasScanned text ts }
     ensures accepted { (ts : List Lexeme) → IsAccepted ts → HasNoPath ts → WasAccepted ts }
 {}

@@ -52,7 +52,8 @@ fn begins_hunk(lines: &Lines<'_>, number: usize) -> bool
 #[tactic(auto, using(crate::proofs::DiffLemmas::end_goes, crate::proofs::DiffLemmas::end_stops, crate::proofs::DiffLemmas::end_done))]
 fn end_of_change(lines: &Lines<'_>, start: usize) -> usize
     requires { start ≤ count lines.now }
-    ensures end { result ≡ start + run_length (is_changed lines.now) start (count lines.now - start) }
+    ensures end { result ≡ start + run_length (is_changed lines.now) start
+        (count lines.now - start) }
     ensures after { start ≤ result }
     ensures within { result ≤ count lines.now }
 {
@@ -106,7 +107,9 @@ fn push_line(to: &mut Vec<u8>, sign: &[u8], line: &[u8]) -> Result<(), AllocErro
 #[tactic(auto, using(crate::proofs::DiffLemmas::each_goes, crate::proofs::DiffLemmas::each_done))]
 fn push_old(to: &mut Vec<u8>, lines: &Lines<'_>, start: usize, end: usize) -> Result<(), AllocError>
     requires { start ≤ end }
-    ensures { OnOk result (to.new.items ≡ to.old.items ++ each (λ k. signed_line (codes "-") (line_at lines.now.old k)) start (end - start)) }
+    ensures { OnOk result (to.new.items
+        ≡ to.old.items ++ each (λ k. signed_line (codes "-") (line_at lines.now.old k)) start
+        (end - start)) }
 {
     for number in start..end {
         push_line(to, b"-", lines.old(number))?;
@@ -118,7 +121,9 @@ fn push_old(to: &mut Vec<u8>, lines: &Lines<'_>, start: usize, end: usize) -> Re
 #[tactic(auto, using(crate::proofs::DiffLemmas::each_goes, crate::proofs::DiffLemmas::each_done))]
 fn push_new(to: &mut Vec<u8>, lines: &Lines<'_>, start: usize, end: usize) -> Result<(), AllocError>
     requires { start ≤ end }
-    ensures { OnOk result (to.new.items ≡ to.old.items ++ each (λ k. signed_line (codes "+") (line_at lines.now.new k)) start (end - start)) }
+    ensures { OnOk result (to.new.items
+        ≡ to.old.items ++ each (λ k. signed_line (codes "+") (line_at lines.now.new k)) start
+        (end - start)) }
 {
     for number in start..end {
         push_line(to, b"+", lines.new_at(number))?;
@@ -199,7 +204,8 @@ fn push_body(
 ) -> Result<(), AllocError>
     requires order { start ≤ end }
     requires within { end ≤ count lines.now }
-    ensures { OnOk result (to.new.items ≡ to.old.items ++ each (body_at lines.now) start (end - start)) }
+    ensures { OnOk result (to.new.items
+        ≡ to.old.items ++ each (body_at lines.now) start (end - start)) }
 {
     for number in start..end {
         push_at(to, lines, number)?;

@@ -58,7 +58,10 @@ impl<'a> Model for Lines<'a> {
 
 impl<'a> Lines<'a> {
     pub fn new(old: Vec<&'a [u8]>, new: Vec<&'a [u8]>) -> Self
-        ensures { result ≡ record { old = map (λ line. line.now) old.entry.items; new = map (λ line. line.now) new.entry.items } }
+        ensures { result ≡ record {
+          old = map (λ line. line.now) old.entry.items;
+          new = map (λ line. line.now) new.entry.items;
+        } }
     {
         Lines { old, new }
     }

@@ -8,5 +8,6 @@ ghost use Rattle.rule_set.specs.declared.rule.Rule.{Rule};
 
 /// The order of the rules is that of their names, by bytes.
 pub fn ranked_by_name()
-    ensures { (a b : Rule) → nat_cmp (rank a) (rank b) ≡ slice_cmp nat_cmp (rule_name a) (rule_name b) }
+    ensures { (a b : Rule) → nat_cmp (rank a) (rank b)
+        ≡ slice_cmp nat_cmp (rule_name a) (rule_name b) }
 {}

@@ -103,7 +103,8 @@ impl Rule {
 
     /// The rule of this name, where there is one.
     pub fn from_name(name: &str) -> Option<Rule>
-        ensures { MatchOption result ((rule : Rule) → rule_name rule ≡ name.now → ⊥) (λ rule. rule_name rule ≡ name.now) }
+        ensures { MatchOption result ((rule : Rule) → rule_name rule ≡ name.now → ⊥)
+            (λ rule. rule_name rule ≡ name.now) }
     {
         rule_named(&ALL_RULES, name.as_bytes())
     }

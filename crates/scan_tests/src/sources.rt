@@ -70,7 +70,7 @@ fn counts_lines_and_clusters(rt: HostRuntime) -> Result<(), Fail> {
     same(&rt, &source.position(0), &place(1, 1), "the front");
     same(&rt, &source.position(2), &place(1, 3), "the end of a line");
     same(&rt, &source.position(3), &place(2, 1), "the next line");
-    same(&rt, &source.position(6), &place(2, 2), "behind a cluster");
+    same(&rt, &source.position(6), &place(2, 2), "after a cluster");
     same(&rt, &source.position(8), &place(2, 4), "the end");
     Ok(())
 }

@@ -9,7 +9,7 @@ use Rattle.hcl_tokens.specs.declared.token.Kind.TheVariants as kind
 use Rattle.hcl_tokens.specs.Balanced.{closing}
 use Rattle.hcl_grammar.specs.Items.{deepen, is_closed}
 use Rattle.hcl_grammar.specs.Numbered.{is_passed_over}
-use Rattle.tf_facts.specs.Patterns.{begins_with_close, behind_closer}
+use Rattle.tf_facts.specs.Patterns.{begins_with_close, after_closer}
 use Rattle.tf_facts.specs.Inner.Seen.{seen_from}
 use Rattle.tf_facts.specs.Inner.Closings.{AreAhead, closes_before_quote, part_of, quote_from}
 use Rattle.tf_facts.specs.declared.part.Part.{Part}
@@ -99,15 +99,15 @@ and_false false = refl
 module _ (ts : List Lexeme) (n : ℕ) (t : Lexeme) (e : slice_get ts n ≡ Some t) where
   -- of a token that is seen
   from_here : (d : ℕ) → is_passed_over t.kind ≡ false → closes_before_quote ts d n
-      ≡ begins_with_close (cond (is_closed d && (closing t.kind == 1)) (seen_from ts (n + 1)) (behind_closer (deepen d t.kind) (seen_from ts (n + 1))))
-  from_here d seen = ap (λ s. begins_with_close (behind_closer d s)) (seen_here ts n t e seen)
+      ≡ begins_with_close (cond (is_closed d && (closing t.kind == 1)) (seen_from ts (n + 1)) (after_closer (deepen d t.kind) (seen_from ts (n + 1))))
+  from_here d seen = ap (λ s. begins_with_close (after_closer d s)) (seen_here ts n t e seen)
 
   from_next : (d next : ℕ) → is_passed_over t.kind ≡ false → (closing t.kind == 1) ≡ false → deepen d t.kind ≡ next → closes_before_quote ts d n ≡ closes_before_quote ts next (n + 1)
   from_next d next seen plain moved =
       from_here d seen
-      ∙ ap (λ b. begins_with_close (cond (is_closed d && b) (seen_from ts (n + 1)) (behind_closer (deepen d t.kind) (seen_from ts (n + 1))))) plain
-      ∙ ap (λ b. begins_with_close (cond b (seen_from ts (n + 1)) (behind_closer (deepen d t.kind) (seen_from ts (n + 1))))) (and_false (is_closed d))
-      ∙ ap (λ m. begins_with_close (behind_closer m (seen_from ts (n + 1)))) moved
+      ∙ ap (λ b. begins_with_close (cond (is_closed d && b) (seen_from ts (n + 1)) (after_closer (deepen d t.kind) (seen_from ts (n + 1))))) plain
+      ∙ ap (λ b. begins_with_close (cond b (seen_from ts (n + 1)) (after_closer (deepen d t.kind) (seen_from ts (n + 1))))) (and_false (is_closed d))
+      ∙ ap (λ m. begins_with_close (after_closer m (seen_from ts (n + 1)))) moved
 
   pub passes : (dot quote : Bool) (ahead : List Bool) → Says t.kind dot quote false false (λ d. d) → AreAhead ts ahead (n + 1) → AreAhead ts ahead n
   passes dot quote ahead m h d = h d ∙ sym (from_next d d m.seen m.closer_is (m.moves d))
@@ -120,14 +120,14 @@ module _ (ts : List Lexeme) (n : ℕ) (t : Lexeme) (e : slice_get ts n ≡ Some 
   pub closes : (old new : List Bool) (quote : Bool) → Says t.kind false false false true (λ d. d - 1) → quote ≡ quote_from ts (n + 1) → new ≡ old ++ quote ∷ [] → AreAhead ts old (n + 1) → AreAhead ts new n
   closes old new quote m known pushed h d = ap (λ r. get_or r d false) (ap reverse pushed ∙ reverse-append old (quote ∷ [])) ∙ by d
     where
-      shut : (k : ℕ) → closes_before_quote ts k n ≡ begins_with_close (cond (is_closed k && true) (seen_from ts (n + 1)) (behind_closer (k - 1) (seen_from ts (n + 1))))
+      shut : (k : ℕ) → closes_before_quote ts k n ≡ begins_with_close (cond (is_closed k && true) (seen_from ts (n + 1)) (after_closer (k - 1) (seen_from ts (n + 1))))
       shut k =
           from_here k m.seen
-          ∙ ap (λ b. begins_with_close (cond (is_closed k && b) (seen_from ts (n + 1)) (behind_closer (deepen k t.kind) (seen_from ts (n + 1))))) m.closer_is
-          ∙ ap (λ j. begins_with_close (cond (is_closed k && true) (seen_from ts (n + 1)) (behind_closer j (seen_from ts (n + 1))))) (m.moves k)
+          ∙ ap (λ b. begins_with_close (cond (is_closed k && b) (seen_from ts (n + 1)) (after_closer (deepen k t.kind) (seen_from ts (n + 1))))) m.closer_is
+          ∙ ap (λ j. begins_with_close (cond (is_closed k && true) (seen_from ts (n + 1)) (after_closer j (seen_from ts (n + 1))))) (m.moves k)
 
       by : (k : ℕ) → get_or (quote ∷ reverse old) k false ≡ closes_before_quote ts k n
       by zero = known ∙ sym (shut zero)
       by (suc k) =
           let s : suc k - 1 ≡ k = omega arith in
-          h k ∙ sym (shut (suc k) ∙ ap (λ j. begins_with_close (behind_closer j (seen_from ts (n + 1)))) s)
+          h k ∙ sym (shut (suc k) ∙ ap (λ j. begins_with_close (after_closer j (seen_from ts (n + 1)))) s)

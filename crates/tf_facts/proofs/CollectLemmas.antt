@@ -12,7 +12,7 @@ use Rattle.hcl_tokens.specs.declared.token.Kind.{Kind}
 use Rattle.hcl_tokens.specs.declared.token.Kind.TheVariants as kind
 use Rattle.hcl_tokens.specs.Lexemes.{Lexeme}
 use Rattle.hcl_grammar.specs.Numbered.{Numbered, is_passed_over}
-use Rattle.tf_facts.specs.References.{Own, by_name, name_behind, reference_at, references_from, unless_own}
+use Rattle.tf_facts.specs.References.{Own, by_name, name_after, reference_at, references_from, unless_own}
 use Rattle.tf_facts.specs.Inner.Seen.{AreNoIdents, after_dot, number_of, seen_from}
 use Rattle.tf_facts.specs.OwnBlocks.{ArePassed, Extends}
 use Rattle.tf_facts.proofs.PatternLemmas.{there_is}
@@ -20,16 +20,16 @@ use Rattle.tf_facts.proofs.SeenLemmas.{after_past, after_seen, seen_here, seen_p
 
 -- ---- what follows a word
 
-no_dot : (d : Numbered) (rest : List Numbered) → is kind.Dot d.kind ≡ false → name_behind (d ∷ rest) ≡ None
+no_dot : (d : Numbered) (rest : List Numbered) → is kind.Dot d.kind ≡ false → name_after (d ∷ rest) ≡ None
 no_dot d [] e = refl
 no_dot d (n ∷ rest) e = ap (λ b. cond (b && is kind.Ident n.kind) (Some n) None) e
 
 module _ (ts : List Lexeme) (n : ℕ) where
-  pub unnamed_at_end : length ts ≤ n → name_behind (seen_from ts n) ≡ None
-  unnamed_at_end past = ap name_behind (seen_none ts n past)
+  pub unnamed_at_end : length ts ≤ n → name_after (seen_from ts n) ≡ None
+  unnamed_at_end past = ap name_after (seen_none ts n past)
 
-  pub unnamed : (t : Lexeme) → slice_get ts n ≡ Some t → is kind.Dot t.kind ≡ false → is_passed_over t.kind ≡ false → name_behind (seen_from ts n) ≡ None
-  unnamed t e dot seen = ap name_behind (seen_here ts n t e seen) ∙ no_dot (number_of n t) (seen_from ts (n + 1)) dot
+  pub unnamed : (t : Lexeme) → slice_get ts n ≡ Some t → is kind.Dot t.kind ≡ false → is_passed_over t.kind ≡ false → name_after (seen_from ts n) ≡ None
+  unnamed t e dot seen = ap name_after (seen_here ts n t e seen) ∙ no_dot (number_of n t) (seen_from ts (n + 1)) dot
 
 cond-same : {X : Type 0} (b : Bool) (x : X) → cond b x x ≡ x
 cond-same true x = refl
@@ -101,9 +101,9 @@ module _ (own : List Own) (ts : List Lexeme) (old : List (List ℕ)) where
   -- the same, where the loop's variables are equal to these
   pub skipped : (new into : List (List ℕ)) (after dot : Bool) (n : ℕ) (t : Lexeme) → slice_get ts n ≡ Some t → is_passed_over t.kind ≡ false → after ≡ true → dot ≡ is kind.Dot t.kind → into ≡ new
       → IsCollected own ts old new after n → IsCollected own ts old into dot (n + 1)
-  skipped new into after dot n t e seen behind is same h =
+  skipped new into after dot n t e seen is_after is same h =
       let P : Bool → Type 0 = λ b. IsCollected own ts old new b n in
-      rw same (rw is (skips new n t e seen (subst P behind h)))
+      rw same (rw is (skips new n t e seen (subst P is_after h)))
 
   pub collected : (new next into : List (List ℕ)) (after dot : Bool) (n : ℕ) (t : Lexeme) → slice_get ts n ≡ Some t → is_passed_over t.kind ≡ false → after ≡ false → dot ≡ is kind.Dot t.kind → into ≡ next
       → next ≡ insert_all bytes_eq new (unless_own own n (reference_at (number_of n t ∷ seen_from ts (n + 1))))
@@ -118,10 +118,10 @@ module _ (own : List Own) (ts : List Lexeme) (old : List (List ℕ)) where
   no_word new true dot n t e seen none is_dot h = skipped new new true dot n t e seen refl is_dot refl h
   no_word new false dot n t e seen none is_dot h =
       collected new new new false dot n t e seen refl is_dot refl
-      (sym (ap (λ b. insert_all bytes_eq new (unless_own own n (cond b (by_name t.text (name_behind (seen_from ts (n + 1))) (drop 2 (seen_from ts (n + 1)))) None))) none)) h
+      (sym (ap (λ b. insert_all bytes_eq new (unless_own own n (cond b (by_name t.text (name_after (seen_from ts (n + 1))) (drop 2 (seen_from ts (n + 1)))) None))) none)) h
 
   -- a word that no name after a dot follows begins no reference
-  pub no_name : (new : List (List ℕ)) (after dot : Bool) (n : ℕ) (t : Lexeme) → slice_get ts n ≡ Some t → is_passed_over t.kind ≡ false → name_behind (seen_from ts (n + 1)) ≡ None → after ≡ false → dot ≡ is kind.Dot t.kind
+  pub no_name : (new : List (List ℕ)) (after dot : Bool) (n : ℕ) (t : Lexeme) → slice_get ts n ≡ Some t → is_passed_over t.kind ≡ false → name_after (seen_from ts (n + 1)) ≡ None → after ≡ false → dot ≡ is kind.Dot t.kind
       → IsCollected own ts old new after n → IsCollected own ts old new dot (n + 1)
   no_name new after dot n t e seen none free same h =
       collected new new new after dot n t e seen free same refl
@@ -137,10 +137,10 @@ module _ (own : List Own) (ts : List Lexeme) (old : List (List ℕ)) where
       by false seen = no_word new (after_dot ts n) (after_dot ts (n + 1)) n t e seen none (after_seen ts n (n + 1) refl t e seen) h
 
   -- a word that no name after a dot follows begins no reference, whatever is before it
-  pub no_behind : (new : List (List ℕ)) (after dot : Bool) (n : ℕ) (t : Lexeme) → slice_get ts n ≡ Some t → is_passed_over t.kind ≡ false → name_behind (seen_from ts (n + 1)) ≡ None → dot ≡ is kind.Dot t.kind
+  pub no_after : (new : List (List ℕ)) (after dot : Bool) (n : ℕ) (t : Lexeme) → slice_get ts n ≡ Some t → is_passed_over t.kind ≡ false → name_after (seen_from ts (n + 1)) ≡ None → dot ≡ is kind.Dot t.kind
       → IsCollected own ts old new after n → IsCollected own ts old new dot (n + 1)
-  no_behind new true dot n t e seen none is_dot h = skipped new new true dot n t e seen refl is_dot refl h
-  no_behind new false dot n t e seen none is_dot h = no_name new false dot n t e seen none refl is_dot h
+  no_after new true dot n t e seen none is_dot h = skipped new new true dot n t e seen refl is_dot refl h
+  no_after new false dot n t e seen none is_dot h = no_name new false dot n t e seen none refl is_dot h
 
   -- nor do many
   pub no_idents : (new : List (List ℕ)) (n d m : ℕ) → m ≡ n + d → m ≤ length ts → AreNoIdents ts n m → IsCollected own ts old new (after_dot ts n) n → IsCollected own ts old new (after_dot ts m) m

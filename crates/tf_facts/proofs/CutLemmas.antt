@@ -7,7 +7,7 @@ use Rattle.std.proofs.Math.Seq.{take-add}
 use Rattle.std.proofs.lemmas.List.{append-nil, drop_all, take_all, take_more}
 use Rattle.std.proofs.lemmas.List.Folds.{list_any-append}
 use denote.Ref.{Bor}
-use Rattle.tf_facts.specs.Inner.Cuts.{behind_cut, parts_of}
+use Rattle.tf_facts.specs.Inner.Cuts.{after_cut, parts_of}
 use Rattle.tf_facts.specs.Sources.{is_address}
 use Rattle.tf_facts.specs.declared.cut.Cut.{Cut}
 
@@ -87,7 +87,7 @@ part_is text byte k e = ap first_or_none e ∙ first_split (λ b. b == byte) tex
 -- ---- five parts or more are no address
 
 pub rest_is : (text : List ℕ) (byte : ℕ) (k : Cut) (rest : Bor (List ℕ)) → k.rest ≡ Some rest → parts_of byte k ≡ slice_split (λ b. b == byte) text → slice_split (λ b. b == byte) text ≡ k.part.now ∷ slice_split (λ b. b == byte) rest.now
-rest_is text byte k rest is e = sym e ∙ ap (λ o. k.part.now ∷ behind_cut (λ (r : Bor (List ℕ)). r.now) byte o) is
+rest_is text byte k rest is e = sym e ∙ ap (λ o. k.part.now ∷ after_cut (λ (r : Bor (List ℕ)). r.now) byte o) is
 
 abbrev HasPart : List (List ℕ) → Type 0
 HasPart [] = ⊥
@@ -102,7 +102,7 @@ has_part p (x ∷ xs) = by (p x) (slice_split p xs)
     by false [] = tt
     by false (part ∷ parts) = tt
 
-five : (a b c d : List ℕ) (byte : ℕ) (o : Option (Bor (List ℕ))) → is_some o ≡ true → is_address (a ∷ b ∷ c ∷ d ∷ behind_cut (λ (r : Bor (List ℕ)). r.now) byte o) ≡ false
+five : (a b c d : List ℕ) (byte : ℕ) (o : Option (Bor (List ℕ))) → is_some o ≡ true → is_address (a ∷ b ∷ c ∷ d ∷ after_cut (λ (r : Bor (List ℕ)). r.now) byte o) ≡ false
 five a b c d byte None e = absurd (cc)
 five a b c d byte (Some rest) e = by (slice_split (λ x. x == byte) rest.now) (has_part (λ x. x == byte) rest.now)
   where

@@ -3,7 +3,7 @@ use Rattle.std.proofs.Common.{◌≡◌, ◌∙◌, ap, sym, ℕ, suc, ◌+◌, 
 use Rattle.std.specs.Prelude.{◌==◌}
 use Rattle.std.proofs.lemmas.List.{reverse-append, reverse-reverse, take_more}
 use Rattle.tf_facts.specs.Texts.{without_front, without_end}
-use Rattle.tf_facts.specs.Sources.{behind_question}
+use Rattle.tf_facts.specs.Sources.{after_question}
 
 drop_here : (text : List ℕ) (n : ℕ) → n < length text → drop n text ≡ get_or text n 0 ∷ drop (n + 1) text
 drop_here text n h = let m : suc n ≡ n + 1 = omega arith in drop-cons text n 0 h ∙ ap (λ j. get_or text n 0 ∷ drop j text) m
@@ -41,8 +41,8 @@ end_here_at passes text end n at h e = ap (λ k. without_end passes (take k text
 
 -- ---- after the first `?`
 
-pub question_past : (text : List ℕ) (n : ℕ) → n < length text → (get_or text n 0 == 63) ≡ false → behind_question (drop n text) ≡ behind_question (drop (n + 1) text)
-question_past text n h e = ap behind_question (drop_here text n h) ∙ ap (λ b. cond b (drop (n + 1) text) (behind_question (drop (n + 1) text))) e
+pub question_past : (text : List ℕ) (n : ℕ) → n < length text → (get_or text n 0 == 63) ≡ false → after_question (drop n text) ≡ after_question (drop (n + 1) text)
+question_past text n h e = ap after_question (drop_here text n h) ∙ ap (λ b. cond b (drop (n + 1) text) (after_question (drop (n + 1) text))) e
 
-pub question_here : (text : List ℕ) (n : ℕ) → n < length text → (get_or text n 0 == 63) ≡ true → behind_question (drop n text) ≡ drop (n + 1) text
-question_here text n h e = ap behind_question (drop_here text n h) ∙ ap (λ b. cond b (drop (n + 1) text) (behind_question (drop (n + 1) text))) e
+pub question_here : (text : List ℕ) (n : ℕ) → n < length text → (get_or text n 0 == 63) ≡ true → after_question (drop n text) ≡ drop (n + 1) text
+question_here text n h e = ap after_question (drop_here text n h) ∙ ap (λ b. cond b (drop (n + 1) text) (after_question (drop (n + 1) text))) e

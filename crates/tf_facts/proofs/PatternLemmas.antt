@@ -7,7 +7,7 @@ use Rattle.hcl_tokens.specs.declared.token.Kind.{Kind}
 use Rattle.hcl_tokens.specs.declared.token.Kind.TheVariants as kind
 use Rattle.hcl_grammar.specs.Numbered.{Numbered, is_passed_over}
 use Rattle.hcl_tokens.specs.Kinds.{is}
-use Rattle.tf_facts.specs.Patterns.{begins_with_close, behind_closer, is_index, is_wrapped, numbers_where}
+use Rattle.tf_facts.specs.Patterns.{begins_with_close, after_closer, is_index, is_wrapped, numbers_where}
 use Rattle.tf_facts.specs.Inner.Closings.{AreAhead, part_of, quote_from}
 use Rattle.tf_facts.specs.Inner.Seen.{number_of, seen_from}
 use Rattle.tf_facts.specs.declared.part.Part.{Part}
@@ -28,7 +28,7 @@ number_first (t ∷ ts) = is kind.Number t.kind
 
 abbrev pub wrapped_first : List Numbered → Bool
 wrapped_first [] = false
-wrapped_first (t ∷ ts) = is kind.InterpOpen t.kind && begins_with_close (behind_closer 0 ts)
+wrapped_first (t ∷ ts) = is kind.InterpOpen t.kind && begins_with_close (after_closer 0 ts)
 
 and_false : (b : Bool) → (b && false) ≡ false
 and_false true = refl
@@ -44,7 +44,7 @@ index_here t (x ∷ rest) = refl
 
 wrapped_here : (t : Numbered) (rest : List Numbered) → is_wrapped (t ∷ rest) ≡ (is kind.QuoteOpen t.kind && wrapped_first rest)
 wrapped_here t [] = sym (and_false (is kind.QuoteOpen t.kind))
-wrapped_here t (x ∷ rest) = and_then (is kind.QuoteOpen t.kind) (is kind.InterpOpen x.kind) (begins_with_close (behind_closer 0 rest))
+wrapped_here t (x ∷ rest) = and_then (is kind.QuoteOpen t.kind) (is kind.InterpOpen x.kind) (begins_with_close (after_closer 0 rest))
 
 -- ---- the walk
 
@@ -75,7 +75,7 @@ pub walk_begins : (ts : List Lexeme) (n : ℕ) (indexes interpolations : List �
     → IsWalkedBack ts indexes interpolations openers next closed n
 walk_begins ts n indexes interpolations openers next closed at is_empty ips ops none = record {
   within = omega (arith, at);
-  closes = λ d. ap (λ o. get_or (reverse o) d false) ops ∙ sym (ap (λ s. begins_with_close (behind_closer d s)) end);
+  closes = λ d. ap (λ o. get_or (reverse o) d false) ops ∙ sym (ap (λ s. begins_with_close (after_closer d s)) end);
   quote = ap (is kind.QuoteClose) none ∙ sym (ap begins_with_close end);
   number = ap (is kind.Number) none ∙ sym (ap number_first end);
   wrapped = ap (λ k. is kind.InterpOpen k && closed) none ∙ sym (ap wrapped_first end);
@@ -111,7 +111,7 @@ module _ (ts : List Lexeme) (n m : ℕ) (at : m ≡ n + 1) (indexes interpolatio
   pub walk_past : is_passed_over k ≡ true → IsWalkedBack ts indexes interpolations openers next closed n
   walk_past passed = record {
     within = omega (arith, h.within);
-    closes = λ d. h.closes d ∙ ap (λ s. begins_with_close (behind_closer d s)) same;
+    closes = λ d. h.closes d ∙ ap (λ s. begins_with_close (after_closer d s)) same;
     quote = h.quote ∙ ap begins_with_close same;
     number = h.number ∙ ap number_first same;
     wrapped = h.wrapped ∙ ap wrapped_first same;
@@ -127,9 +127,9 @@ module _ (ts : List Lexeme) (n m : ℕ) (at : m ≡ n + 1) (indexes interpolatio
       → dots ≡ indexes ++ cond (dot && is kind.Number next) (n ∷ []) [] → quotes ≡ interpolations ++ cond (quote && (is kind.InterpOpen next && closed)) (n ∷ []) []
       → (opener ≡ true → here ≡ get_or (reverse openers) 0 false) → AreAhead ts rest n
       → IsWalkedBack ts dots quotes rest k here n
-  walk_over dot quote opener closer move dots quotes rest here m dots_is quotes_is known behind = record {
+  walk_over dot quote opener closer move dots quotes rest here m dots_is quotes_is known after = record {
     within = omega (arith, h.within);
-    closes = behind;
+    closes = after;
     quote = ap (is kind.QuoteClose) is_k ∙ sym (ap begins_with_close cut);
     number = ap (is kind.Number) is_k ∙ sym (ap number_first cut);
     wrapped = ap (λ j. is kind.InterpOpen j && here) is_k ∙ m.opened here (get_or (reverse openers) 0 false) known ∙ ap (λ b. is kind.InterpOpen t.kind && b) (h.closes 0) ∙ sym (ap wrapped_first cut);

@@ -24,9 +24,9 @@ abbrev pub data_reference : List ℕ → List ℕ → List ℕ
 data_reference t n = codes "data." ++ (t ++ (codes "." ++ n))
 
 -- the identifier after a dot with which these tokens begin
-abbrev pub name_behind : List Numbered → Option Numbered
-name_behind (d ∷ n ∷ rest) = if is kind.Dot d.kind && is kind.Ident n.kind then Some n else None
-name_behind _ = None
+abbrev pub name_after : List Numbered → Option Numbered
+name_after (d ∷ n ∷ rest) = if is kind.Dot d.kind && is kind.Ident n.kind then Some n else None
+name_after _ = None
 
 abbrev pub data_of : List ℕ → Option Numbered → Option (List ℕ)
 data_of t None = None
@@ -37,7 +37,7 @@ abbrev pub reference_of : List ℕ → List ℕ → List Numbered → Option (Li
 reference_of word n rest =
     if bytes_eq word (codes "var") then Some (variable_reference n)
     else if bytes_eq word (codes "local") then Some (local_reference n)
-    else if bytes_eq word (codes "data") then data_of n (name_behind rest)
+    else if bytes_eq word (codes "data") then data_of n (name_after rest)
     else None
 
 abbrev pub by_name : List ℕ → Option Numbered → List Numbered → Option (List ℕ)
@@ -47,7 +47,7 @@ by_name word (Some n) rest = reference_of word n.text rest
 -- the reference with which these tokens begin
 abbrev pub reference_at : List Numbered → Option (List ℕ)
 reference_at [] = None
-reference_at (w ∷ ts) = if is kind.Ident w.kind then by_name w.text (name_behind ts) (drop 2 ts) else None
+reference_at (w ∷ ts) = if is kind.Ident w.kind then by_name w.text (name_after ts) (drop 2 ts) else None
 
 -- where a variable is declared, and as what
 pub record Own : Type 0 where

@@ -21,21 +21,21 @@ abbrev pub is_mercurial : List ℕ → Bool
 is_mercurial text = begins (codes "hg::") text
 
 -- what follows the first `?`, or nothing
-abbrev pub behind_question : List ℕ → List ℕ
-behind_question [] = []
-behind_question (b ∷ bs) = if b == 63 then bs else behind_question bs
+abbrev pub after_question : List ℕ → List ℕ
+after_question [] = []
+after_question (b ∷ bs) = if b == 63 then bs else after_question bs
 
 -- the parts of it between `&`
 abbrev pub parameters : List ℕ → List (List ℕ)
-parameters text = slice_split (λ b. b == 38) (behind_question text)
+parameters text = slice_split (λ b. b == 38) (after_question text)
 
-abbrev pub value_behind : List ℕ → Option (List ℕ) → List ℕ
-value_behind front None = []
-value_behind front (Some part) = drop (length front) part
+abbrev pub value_after : List ℕ → Option (List ℕ) → List ℕ
+value_after front None = []
+value_after front (Some part) = drop (length front) part
 
 -- what follows this front in the first parameter that begins with it, or nothing
 abbrev pub revision : List ℕ → List ℕ → List ℕ
-revision front text = value_behind front (find (begins front) (parameters text))
+revision front text = value_after front (find (begins front) (parameters text))
 
 abbrev pub is_default_branch : List ℕ → Bool
 is_default_branch r = list_any (bytes_eq r) (codes "master" ∷ codes "main" ∷ codes "default" ∷ codes "develop" ∷ [])

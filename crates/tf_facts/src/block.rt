@@ -22,8 +22,10 @@ struct LabelAt<'s> {
 /// The label of this number in the outline, where it is one.
 fn label_at<'s>(accepted: &Accepted<'_, 's>, items: &Outline, number: usize) -> Option<LabelAt<'s>>
     requires { items.now ≡ outline accepted.now.tokens }
-    ensures { MatchOption result (labels_in (numbered accepted.now.tokens) (drop number items.now) ≡ [])
-        (λ label. labels_in (numbered accepted.now.tokens) (drop number items.now) ≡ label.text.now ∷ labels_in (numbered accepted.now.tokens) (drop label.next items.now)) }
+    ensures { MatchOption result (labels_in (numbered accepted.now.tokens) (drop number items.now)
+        ≡ [])
+        (λ label. labels_in (numbered accepted.now.tokens) (drop number items.now)
+        ≡ label.text.now ∷ labels_in (numbered accepted.now.tokens) (drop label.next items.now)) }
 {
     if number >= items.len() {
         return None;
@@ -136,7 +138,8 @@ fn both(one: Body, other: Body) -> Body
 /// What the attributes directly in the body of the block say after which this number stands.
 pub fn body(accepted: &Accepted<'_, '_>, items: &Outline, from: usize) -> Body
     requires { items.now ≡ outline accepted.now.tokens }
-    ensures { result ≡ body_of (attributes_in (numbered accepted.now.tokens) (drop from items.now)) }
+    ensures { result ≡ body_of (attributes_in (numbered accepted.now.tokens)
+        (drop from items.now)) }
 {
     let mut body = nothing();
     for number in from..items.len() {

@@ -39,7 +39,12 @@ fn is_telling(slashes: bool, silences: RuleSet) -> bool
 
 /// What the line comment of this number and text says, where it says something.
 fn telling_comment(number: usize, text: &[u8]) -> Option<FoundComment>
-    ensures { comment_listed result ≡ if_telling (record { at = number; slashes = has_slashes text.now; silences = silenced_rules text.now }) }
+    ensures { comment_listed result
+        ≡ if_telling (record {
+          at = number;
+          slashes = has_slashes text.now;
+          silences = silenced_rules text.now;
+        }) }
 {
     let slashes = has_slashes(text);
     let silences = silenced_rules(text);
@@ -56,7 +61,8 @@ fn telling_comment(number: usize, text: &[u8]) -> Option<FoundComment>
 /// What the token of this number says, where it is a line comment that says something.
 fn comment_at(tokens: &Tokens<'_>, number: usize) -> Option<FoundComment>
     requires { number < length tokens.now.tokens }
-    ensures { (t : Lexeme) → slice_get tokens.now.tokens number ≡ Some t → comment_listed result ≡ comment_of (number_of number t) }
+    ensures { (t : Lexeme) → slice_get tokens.now.tokens number ≡ Some t
+        → comment_listed result ≡ comment_of (number_of number t) }
 {
     if !is_line_comment(tokens.kind(number)) {
         return None;
@@ -72,7 +78,9 @@ pub fn put_comment(
     found: &mut Vec<FoundComment>,
 ) -> Result<(), AllocError>
     requires { number < length tokens.now.tokens }
-    ensures { OnOk result ((t : Lexeme) → slice_get tokens.now.tokens number ≡ Some t → map comment found.new.items ≡ map comment found.old.items ++ comment_of (number_of number t)) }
+    ensures { OnOk result ((t : Lexeme) → slice_get tokens.now.tokens number ≡ Some t
+        → map comment found.new.items ≡ map comment found.old.items
+        ++ comment_of (number_of number t)) }
 {
     let Some(comment) = comment_at(tokens, number) else {
         return Ok(());

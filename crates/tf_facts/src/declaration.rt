@@ -63,7 +63,8 @@ fn declarer(word: &str) -> Option<Declarer>
 /// Whether there are so many labels.
 fn are_as_many(names: Names<'_>, labels: usize) -> bool
     requires { labels ≤ 2 }
-    ensures { (texts : List (List ℕ)) → AreNames names.entry texts → result ≡ (length texts == labels) }
+    ensures { (texts : List (List ℕ)) → AreNames names.entry texts
+        → result ≡ (length texts == labels) }
 {
     match names {
         Names::None => labels == 0,
@@ -82,7 +83,8 @@ fn is_module(kind: DeclarationKind) -> bool
 /// The source that the value of the first attribute `source` gives, where it is a plain text.
 fn module_source(accepted: &Accepted<'_, '_>, value: Option<Value>) -> Option<FoundSource>
     requires { IfSome value (λ v. v.end ≤ length accepted.now.tokens) }
-    ensures { (a : Option Attribute) → option_map value_of_attribute a ≡ value → option_map found_source result ≡ source_of_attribute (numbered accepted.now.tokens) a }
+    ensures { (a : Option Attribute) → option_map value_of_attribute a ≡ value
+        → option_map found_source result ≡ source_of_attribute (numbered accepted.now.tokens) a }
 {
     let Some(value) = value else {
         return None;
@@ -104,7 +106,9 @@ fn source_in(
     kind: DeclarationKind,
 ) -> Option<FoundSource>
     requires { IfSome value (λ v. v.end ≤ length accepted.now.tokens) }
-    ensures { (a : Option Attribute) → option_map value_of_attribute a ≡ value → option_map found_source result ≡ (if is_module kind then source_of_attribute (numbered accepted.now.tokens) a else None) }
+    ensures { (a : Option Attribute) → option_map value_of_attribute a ≡ value
+        → option_map found_source result
+        ≡ (if is_module kind then source_of_attribute (numbered accepted.now.tokens) a else None) }
 {
     if is_module(kind) {
         return module_source(accepted, value);
@@ -121,7 +125,9 @@ fn declared_by<'s>(
 ) -> Option<Declared<'s>>
     requires items { items.now ≡ outline accepted.now.tokens }
     requires token { token < length accepted.now.tokens }
-    ensures { listed result ≡ by_declarer (numbered accepted.now.tokens) token (labels_in (numbered accepted.now.tokens) (drop from items.now)) (attributes_in (numbered accepted.now.tokens) (drop from items.now))
+    ensures { listed result ≡ by_declarer (numbered accepted.now.tokens) token
+        (labels_in (numbered accepted.now.tokens) (drop from items.now))
+        (attributes_in (numbered accepted.now.tokens) (drop from items.now))
         (declarer (text_of (numbered accepted.now.tokens) token)) }
 {
     let Some(declarer) = declarer(word_at(accepted, token)) else {
@@ -146,7 +152,8 @@ fn declared_by<'s>(
 
 /// Puts what is there after what was found.
 fn put<'s>(declared: Option<Declared<'s>>, found: &mut Vec<Declared<'s>>) -> Result<(), AllocError>
-    ensures { OnOk result (map declaration found.new.items ≡ map declaration found.old.items ++ listed declared.entry) }
+    ensures { OnOk result (map declaration found.new.items
+        ≡ map declaration found.old.items ++ listed declared.entry) }
 {
     let Some(declared) = declared else {
         return Ok(());
@@ -158,7 +165,8 @@ fn put<'s>(declared: Option<Declared<'s>>, found: &mut Vec<Declared<'s>>) -> Res
 /// What an item in the body of a `locals` block declares.
 fn local_of<'s>(accepted: &Accepted<'_, 's>, item: Item) -> Option<Declared<'s>>
     requires { (i : ℕ) × (slice_get (outline accepted.now.tokens) i ≡ Some item) }
-    ensures { listed result ≡ map of_local (with_attribute (attribute (numbered accepted.now.tokens) item) []) }
+    ensures { listed result ≡ map of_local
+        (with_attribute (attribute (numbered accepted.now.tokens) item) []) }
 {
     let Item::Attribute { level, name, .. } = item else {
         return None;
@@ -185,7 +193,9 @@ fn put_locals<'s>(
     found: &mut Vec<Declared<'s>>,
 ) -> Result<(), AllocError>
     requires { items.now ≡ outline accepted.now.tokens }
-    ensures { OnOk result (map declaration found.new.items ≡ map declaration found.old.items ++ map of_local (attributes_in (numbered accepted.now.tokens) (drop from items.now))) }
+    ensures { OnOk result (map declaration found.new.items
+        ≡ map declaration found.old.items
+        ++ map of_local (attributes_in (numbered accepted.now.tokens) (drop from items.now))) }
 {
     for number in from..items.len() {
         let item = items.get(number);
@@ -215,7 +225,9 @@ fn put_block<'s>(
     requires items { items.now ≡ outline accepted.now.tokens }
     requires token { token < length accepted.now.tokens }
     ensures { OnOk result (map declaration found.new.items ≡ map declaration found.old.items
-        ++ of_block (numbered accepted.now.tokens) token (labels_in (numbered accepted.now.tokens) (drop from items.now)) (attributes_in (numbered accepted.now.tokens) (drop from items.now))) }
+        ++ of_block (numbered accepted.now.tokens) token
+        (labels_in (numbered accepted.now.tokens) (drop from items.now))
+        (attributes_in (numbered accepted.now.tokens) (drop from items.now))) }
 {
     if word_at(accepted, token) != "locals" {
         return put(declared_by(accepted, items, token, from), found);
@@ -237,7 +249,9 @@ fn put_item<'s>(
     requires within { number < length items.now }
     requires small { number + 1 < 2 ^ 64 }
     ensures { OnOk result ((item : Item) → slice_get items.now number ≡ Some item
-        → map declaration found.new.items ≡ map declaration found.old.items ++ of_item (numbered accepted.now.tokens) item (drop (number + 1) items.now)) }
+        → map declaration found.new.items
+        ≡ map declaration found.old.items
+        ++ of_item (numbered accepted.now.tokens) item (drop (number + 1) items.now)) }
 {
     let Item::Block { level, kind, .. } = items.get(number) else {
         return Ok(());
@@ -255,7 +269,8 @@ pub fn declarations<'s>(
     items: &Outline,
 ) -> Result<Vec<Declared<'s>>, AllocError>
     requires { items.now ≡ outline accepted.now.tokens }
-    ensures { IfOk result (λ found. map declaration found.items ≡ declarations (numbered accepted.now.tokens)) }
+    ensures { IfOk result (λ found. map declaration found.items
+        ≡ declarations (numbered accepted.now.tokens)) }
 {
     let mut found = Vec::new(alloc);
     for number in 0..items.len() {

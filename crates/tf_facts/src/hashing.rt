@@ -21,7 +21,8 @@ impl Hashing {
 
     /// By the seed of this run, which nobody who writes a file knows.
     pub fn seeded(seed: RandomState) -> Hashing
-        ensures { ⟦<Hashing as BuildHasher>⟧.build_hasher result ≡ ⟦<RandomState as BuildHasher>⟧.build_hasher seed }
+        ensures { ⟦<Hashing as BuildHasher>⟧.build_hasher result
+            ≡ ⟦<RandomState as BuildHasher>⟧.build_hasher seed }
     {
         Hashing {
             initial: seed.build_hasher(),

@@ -21,7 +21,8 @@ use std::alloc::{AllocError, Global};
 
 /// The only label, where there is one and no more.
 fn only<'s>(names: Names<'s>) -> Option<&'s str>
-    ensures { (texts : List (List ℕ)) → AreNames names.entry texts → MatchOption result ((length texts == 1) ≡ false) (λ name. texts ≡ name.now ∷ []) }
+    ensures { (texts : List (List ℕ)) → AreNames names.entry texts
+        → MatchOption result ((length texts == 1) ≡ false) (λ name. texts ≡ name.now ∷ []) }
 {
     match names {
         Names::None => None,
@@ -40,7 +41,9 @@ fn own_block_at<'s>(
     requires items { items.now ≡ outline accepted.now.tokens }
     requires within { number < length items.now }
     requires small { number + 1 < 2 ^ 64 }
-    ensures { (item : Item) → slice_get items.now number ≡ Some item → own_listed result ≡ own_of_item (numbered accepted.now.tokens) item (drop (number + 1) items.now) }
+    ensures { (item : Item) → slice_get items.now number ≡ Some item
+        → own_listed result ≡ own_of_item (numbered accepted.now.tokens) item
+        (drop (number + 1) items.now) }
 {
     let Item::Block { level, kind, end } = items.get(number) else {
         return None;
@@ -68,7 +71,8 @@ pub fn own_blocks<'s>(
     items: &Outline,
 ) -> Result<Vec<OwnBlock<'s>>, AllocError>
     requires { items.now ≡ outline accepted.now.tokens }
-    ensures blocks { IfOk result (λ found. map own_of found.items ≡ own_blocks (numbered accepted.now.tokens)) }
+    ensures blocks { IfOk result (λ found. map own_of found.items
+        ≡ own_blocks (numbered accepted.now.tokens)) }
     ensures apart { IfOk result (λ found. Apart 0 (map own_of found.items)) }
 {
     let mut found = Vec::new(alloc);
@@ -89,7 +93,8 @@ pub fn add_references_of(
     into: &mut TextSet,
 ) -> Result<(), AllocError>
     requires { items.now ≡ outline accepted.now.tokens }
-    ensures ok { OnOk result (into.new ≡ insert_all bytes_eq into.old (references (numbered accepted.now.tokens))) }
+    ensures ok { OnOk result (into.new
+        ≡ insert_all bytes_eq into.old (references (numbered accepted.now.tokens))) }
     ensures err { OnErr result (into.new ≡ into.old) }
 {
     let blocks = own_blocks(alloc, accepted, items)?;

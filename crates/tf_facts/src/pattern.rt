@@ -61,7 +61,9 @@ fn part_of(kind: Kind) -> Part
 #[inline(always)]
 fn take_last(flags: &mut Vec<bool>) -> bool
     ensures taken { result ≡ get_or (reverse flags.old.items) 0 false }
-    ensures left { (i : ℕ) (other : Bool) → get_or (reverse flags.new.items) i other ≡ get_or (reverse flags.old.items) (suc i) other }
+    ensures left { (i : ℕ) (other : Bool)
+        → get_or (reverse flags.new.items) i other
+        ≡ get_or (reverse flags.old.items) (suc i) other }
 {
     match flags.pop() {
         Some(flag) => flag,
@@ -114,9 +116,13 @@ fn in_order(
 
 /// The patterns of a file and its line comments that say something, in order.
 pub fn found_patterns(alloc: Global, tokens: &Tokens<'_>) -> Result<Patterns, AllocError>
-    ensures comments { IfOk result (λ found. map comment found.comments.items ≡ comments (numbered tokens.now.tokens)) }
-    ensures indexes { IfOk result (λ found. found.indexes.items ≡ legacy_indexes (numbered tokens.now.tokens)) }
-    ensures interpolations { IfOk result (λ found. found.interpolations.items ≡ wrapped_interpolations (numbered tokens.now.tokens)) }
+    ensures comments { IfOk result (λ found. map comment found.comments.items
+        ≡ comments (numbered tokens.now.tokens)) }
+    ensures indexes { IfOk result (λ found. found.indexes.items
+        ≡ legacy_indexes (numbered tokens.now.tokens)) }
+    ensures interpolations { IfOk result
+        (λ found. found.interpolations.items
+        ≡ wrapped_interpolations (numbered tokens.now.tokens)) }
 {
     let mut comments = Vec::new(alloc);
     let mut indexes = Vec::new(alloc);

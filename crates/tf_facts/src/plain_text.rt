@@ -43,7 +43,8 @@ fn is_lit(kind: Kind) -> bool
 /// The first token from a number on to before another that is no comment and no newline.
 fn next_value<'s>(tokens: &Tokens<'s>, from: usize, to: usize) -> Option<Seen<'s>>
     requires { to ≤ length tokens.now.tokens }
-    ensures { MatchOption result (values tokens.now.tokens from to ≡ []) (IsFirstValue tokens.now.tokens from to) }
+    ensures { MatchOption result (values tokens.now.tokens from to ≡ [])
+        (IsFirstValue tokens.now.tokens from to) }
 {
     for number in from..to {
         let token = tokens.get(number);

@@ -5,9 +5,9 @@ ghost use Rattle.std.specs.Str.{bytes_eq};
 ghost use Rattle.std.specs.Option.{option_map};
 ghost use Rattle.hcl_tokens.specs.Kinds.{is};
 ghost use Rattle.hcl_tokens.specs.declared.token.Kind.TheVariants.{Ident};
-ghost use Rattle.tf_facts.specs.References.{name_behind, reference_at, reference_of};
+ghost use Rattle.tf_facts.specs.References.{name_after, reference_at, reference_of};
 ghost use Rattle.tf_facts.specs.Inner.Seen.{seen_from, numbered_of};
-ghost use Rattle.tf_facts.specs.Inner.Spelled.{IsBehind, spelled};
+ghost use Rattle.tf_facts.specs.Inner.Spelled.{IsAfter, spelled};
 
 use crate::seen::{Seen, is_dot, is_passed_over, next_seen};
 use hcl_tokens::{Kind, Tokens};
@@ -32,7 +32,7 @@ pub fn is_ident(kind: Kind) -> bool
 pub fn may_be_named(tokens: &Tokens<'_>, number: usize) -> bool
     requires within { number < length tokens.now.tokens }
     requires small { number + 1 < 2 ^ 64 }
-    ensures { result ≡ false → name_behind (seen_from tokens.now.tokens (number + 1)) ≡ None }
+    ensures { result ≡ false → name_after (seen_from tokens.now.tokens (number + 1)) ≡ None }
 {
     let next = number + 1;
     if next >= tokens.len() {
@@ -43,9 +43,10 @@ pub fn may_be_named(tokens: &Tokens<'_>, number: usize) -> bool
 }
 
 /// The identifier after a dot with which the tokens from a number on begin.
-fn name_behind<'s>(tokens: &Tokens<'s>, from: usize) -> Option<Seen<'s>>
+fn name_after<'s>(tokens: &Tokens<'s>, from: usize) -> Option<Seen<'s>>
     requires { from ≤ length tokens.now.tokens }
-    ensures { MatchOption result (name_behind (seen_from tokens.now.tokens from) ≡ None) (IsBehind tokens.now.tokens from) }
+    ensures { MatchOption result (name_after (seen_from tokens.now.tokens from) ≡ None)
+        (IsAfter tokens.now.tokens from) }
 {
     let Some(dot) = next_seen(tokens, from) else {
         return None;
@@ -64,7 +65,8 @@ fn name_behind<'s>(tokens: &Tokens<'s>, from: usize) -> Option<Seen<'s>>
 
 /// Whether a reference can begin with this word.
 fn is_leading(word: &str) -> bool
-    ensures { result ≡ (bytes_eq word.now (codes "var") || bytes_eq word.now (codes "local") || bytes_eq word.now (codes "data")) }
+    ensures { result ≡ (bytes_eq word.now (codes "var") || bytes_eq word.now (codes "local")
+        || bytes_eq word.now (codes "data")) }
 {
     word == "var" || word == "local" || word == "data"
 }
@@ -73,7 +75,9 @@ fn is_leading(word: &str) -> bool
 pub fn reference_at<'s>(tokens: &Tokens<'s>, word: Seen<'s>) -> Option<Reference<'s>>
     requires within { word.number < length tokens.now.tokens }
     requires small { word.number + 1 < 2 ^ 64 }
-    ensures { option_map spelled result ≡ reference_at (numbered_of word.entry ∷ seen_from tokens.now.tokens (word.entry.number + 1)) }
+    ensures { option_map spelled result
+        ≡ reference_at (numbered_of word.entry ∷ seen_from tokens.now.tokens
+        (word.entry.number + 1)) }
 {
     if !is_ident(word.kind) {
         return None;
@@ -81,13 +85,13 @@ pub fn reference_at<'s>(tokens: &Tokens<'s>, word: Seen<'s>) -> Option<Reference
     if !is_leading(word.text) {
         return None;
     }
-    let Some(name) = name_behind(tokens, word.number + 1) else {
+    let Some(name) = name_after(tokens, word.number + 1) else {
         return None;
     };
     match word.text {
         "var" => Some(Reference::Variable(name.text)),
         "local" => Some(Reference::Local(name.text)),
-        "data" => match name_behind(tokens, name.number + 1) {
+        "data" => match name_after(tokens, name.number + 1) {
             Some(second) => Some(Reference::Data(name.text, second.text)),
             None => None,
         },

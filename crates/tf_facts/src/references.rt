@@ -113,7 +113,10 @@ fn put(
     requires passed { ArePassed (map own_of blocks.now) next word.number }
     requires next { next ≤ length blocks.now }
     requires ahead { IsAhead blocks.now next word.number }
-    ensures ok { OnOk result (into.new ≡ insert_all bytes_eq into.old (unless_own (map own_of blocks.now) word.entry.number (reference_at (numbered_of word.entry ∷ seen_from tokens.now.tokens (word.entry.number + 1))))) }
+    ensures ok { OnOk result (into.new
+        ≡ insert_all bytes_eq into.old (unless_own (map own_of blocks.now) word.entry.number
+        (reference_at (numbered_of word.entry ∷ seen_from tokens.now.tokens
+        (word.entry.number + 1))))) }
     ensures err { OnErr result (into.new ≡ into.old) }
 {
     let Some(reference) = reference_at(tokens, word) else {
@@ -155,7 +158,9 @@ pub fn collect(
     into: &mut TextSet,
 ) -> Result<(), AllocError>
     requires { Apart 0 (map own_of blocks.now) }
-    ensures ok { OnOk result (into.new ≡ insert_all bytes_eq into.old (references_from (map own_of blocks.now) false (seen_from tokens.now.tokens 0))) }
+    ensures ok { OnOk result (into.new
+        ≡ insert_all bytes_eq into.old (references_from (map own_of blocks.now) false
+        (seen_from tokens.now.tokens 0))) }
     ensures err { OnErr result (Extends into.old into.new) }
 {
     let count = tokens.len();
@@ -192,7 +197,9 @@ pub fn add_references(
     into: &mut TextSet,
 ) -> Result<(), AllocError>
     requires { Apart 0 (map own_of blocks.now) }
-    ensures ok { OnOk result (into.new ≡ insert_all bytes_eq into.old (references_from (map own_of blocks.now) false (seen_from tokens.now.tokens 0))) }
+    ensures ok { OnOk result (into.new
+        ≡ insert_all bytes_eq into.old (references_from (map own_of blocks.now) false
+        (seen_from tokens.now.tokens 0))) }
     ensures err { OnErr result (into.new ≡ into.old) }
 {
     let before = into.len();

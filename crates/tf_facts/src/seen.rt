@@ -36,7 +36,8 @@ pub fn is_dot(kind: Kind) -> bool
 /// The first token from a number on that is seen.
 pub fn next_seen<'s>(tokens: &Tokens<'s>, from: usize) -> Option<Seen<'s>>
     requires { from ≤ length tokens.now.tokens }
-    ensures { MatchOption result (seen_from tokens.now.tokens from ≡ []) (IsNextSeen tokens.now.tokens from) }
+    ensures { MatchOption result (seen_from tokens.now.tokens from ≡ [])
+        (IsNextSeen tokens.now.tokens from) }
 {
     for number in from..tokens.len() {
         if !is_passed_over(tokens.kind(number)) {

@@ -7,7 +7,7 @@ ghost use Rattle.hcl_tokens.specs.Spelling.{is_blank};
 ghost use Rattle.tf_facts.specs.Silencing.{has_slashes, is_margin, names, silences, trimmed, unmarked};
 ghost use Rattle.tf_facts.specs.Texts.{without_end, without_front};
 
-use crate::texts::{begins, behind, cut, equals};
+use crate::texts::{after, begins, cut, equals};
 use rule_set::{ALL_RULES, Rule, RuleSet, rule_named};
 
 /// What a silencing comment begins with, after its mark and blanks.
@@ -37,9 +37,9 @@ fn unmarked(text: &[u8]) -> &[u8]
     ensures { result.now ≡ unmarked text.now }
 {
     if has_slashes(text) {
-        return behind(text, 2);
+        return after(text, 2);
     }
-    behind(text, 1)
+    after(text, 1)
 }
 
 /// A text without the blanks at its front.
@@ -102,7 +102,8 @@ fn with_named(set: RuleSet, part: &[u8]) -> RuleSet
 
 /// The rules that a list of names between commas has.
 fn all_named(list: &[u8]) -> RuleSet
-    ensures { (rule : Rule) → holds result rule ≡ list_any (λ part. names rule (trimmed part)) (slice_split (λ b. b == 44) list.now) }
+    ensures { (rule : Rule) → holds result rule
+        ≡ list_any (λ part. names rule (trimmed part)) (slice_split (λ b. b == 44) list.now) }
 {
     let mut set = RuleSet::none();
     for part in list.split(|byte| *byte == b',') {
@@ -119,5 +120,5 @@ pub fn silenced_rules(text: &[u8]) -> RuleSet
     if !begins(KEYWORD, rest) {
         return RuleSet::none();
     }
-    all_named(cut(behind(rest, KEYWORD.len()), b'#').part)
+    all_named(cut(after(rest, KEYWORD.len()), b'#').part)
 }

@@ -2,11 +2,11 @@
 
 ghost use Rattle.std.specs.Prelude.{◌≡◌, ◌==◌, MatchOption, true, false};
 ghost use Rattle.std.specs.List.{list_all, list_any, slice_split};
-ghost use Rattle.tf_facts.specs.Sources.{before_slashes, behind_question, is_address, is_alphanumeric, is_default_branch, is_git, is_host, is_host_byte, is_local, is_mercurial, is_part, is_part_byte, is_registry, pinned_to, revision, source_of};
+ghost use Rattle.tf_facts.specs.Sources.{before_slashes, after_question, is_address, is_alphanumeric, is_default_branch, is_git, is_host, is_host_byte, is_local, is_mercurial, is_part, is_part_byte, is_registry, pinned_to, revision, source_of};
 ghost use Rattle.tf_facts.specs.Found.{source};
 
 use crate::module_source::ModuleSource;
-use crate::texts::{begins, behind, cut, equals};
+use crate::texts::{after, begins, cut, equals};
 
 fn is_alphanumeric(byte: u8) -> bool
     ensures { result ≡ is_alphanumeric byte }
@@ -79,7 +79,8 @@ fn is_local(text: &[u8]) -> bool
 
 /// The default branch that a revision is, where it is one.
 fn default_branch(revision: &[u8]) -> Option<&'static str>
-    ensures { MatchOption result (is_default_branch revision.now ≡ false) (λ branch. (is_default_branch revision.now ≡ true) × (branch.now ≡ revision.now)) }
+    ensures { MatchOption result (is_default_branch revision.now ≡ false)
+        (λ branch. (is_default_branch revision.now ≡ true) × (branch.now ≡ revision.now)) }
 {
     if equals(revision, b"master") {
         return Some("master");
@@ -109,8 +110,8 @@ fn before_slashes(text: &[u8]) -> &[u8]
 }
 
 /// What follows the first `?`, or nothing.
-fn behind_question(text: &[u8]) -> &[u8]
-    ensures { result.now ≡ behind_question text.now }
+fn after_question(text: &[u8]) -> &[u8]
+    ensures { result.now ≡ after_question text.now }
 {
     for start in 0..text.len() {
         if text[start] == b'?' {
@@ -124,12 +125,12 @@ fn behind_question(text: &[u8]) -> &[u8]
 fn revision<'a>(front: &[u8], text: &'a [u8]) -> &'a [u8]
     ensures { result.now ≡ revision front.now text.now }
 {
-    let found = behind_question(text)
+    let found = after_question(text)
         .split(|byte| *byte == b'&')
         .find(|parameter| begins(front, parameter));
     match found {
-        Some(parameter) => behind(parameter, front.len()),
-        None => behind(text, text.len()),
+        Some(parameter) => after(parameter, front.len()),
+        None => after(text, text.len()),
     }
 }
 

@@ -24,7 +24,7 @@ pub fn equals(text: &[u8], other: &[u8]) -> bool
 }
 
 /// What follows so many bytes, or nothing.
-pub fn behind(text: &[u8], count: usize) -> &[u8]
+pub fn after(text: &[u8], count: usize) -> &[u8]
     ensures { result.now ≡ drop count text.now }
 {
     let start = count.min(text.len());

@@ -16,8 +16,8 @@ use Rattle.tf_facts.specs.Declarations.{Declaration, SourceAt, declarations}
 use Rattle.tf_rules.specs.Growth.{entries, places_of, source_places}
 use Rattle.tf_rules.specs.Issues.{File, comment_at, place_in, tokens_of}
 use Rattle.tf_rules.specs.Kept.{Kept, declaration_at, source_at, with_file}
-use Rattle.tf_facts.specs.Patterns.{begins_with_close, behind_closer, is_index, is_wrapped, legacy_indexes, numbers_where, wrapped_interpolations}
-use Rattle.tf_facts.specs.References.{Own, by_name, is_own, name_behind, own_blocks, reference_at, references, references_from, unless_own}
+use Rattle.tf_facts.specs.Patterns.{begins_with_close, after_closer, is_index, is_wrapped, legacy_indexes, numbers_where, wrapped_interpolations}
+use Rattle.tf_facts.specs.References.{Own, by_name, is_own, name_after, own_blocks, reference_at, references, references_from, unless_own}
 use Rattle.tf_facts.specs.Silencing.{has_slashes, silenced_rules}
 use Rattle.tf_rules.proofs.ItemCostLemmas.{is_telling, places, places_few, tally, tally_filter}
 use Rattle.tf_rules.proofs.ItemWeightLemmas.{bit}
@@ -59,8 +59,8 @@ wrapped_by : (t : Numbered) (ts : List Numbered) → interpolates ts ≡ false �
 wrapped_by t [] e = refl
 wrapped_by t (i ∷ rest) e = by (is kind.QuoteOpen t.kind) (is kind.InterpOpen i.kind) e
   where
-    by : (a b : Bool) → b ≡ false → (a && b && begins_with_close (behind_closer 0 rest)) ≡ false
-    by true b h = ap (λ c. c && begins_with_close (behind_closer 0 rest)) h
+    by : (a b : Bool) → b ≡ false → (a && b && begins_with_close (after_closer 0 rest)) ≡ false
+    by true b h = ap (λ c. c && begins_with_close (after_closer 0 rest)) h
     by false b h = refl
 
 wrapped_few : (ts : List Numbered) → length (numbers_where is_wrapped ts) + bit (interpolates ts) ≤ tally (is kind.InterpOpen) ts
@@ -88,7 +88,7 @@ own_few own n (Some text) = by (is_own own n text)
     by true = omega arith
     by false = omega arith
 
-unnamed : (ts : List Numbered) → names_next ts ≡ false → name_behind ts ≡ None
+unnamed : (ts : List Numbered) → names_next ts ≡ false → name_after ts ≡ None
 unnamed [] e = refl
 unnamed (d ∷ []) e = refl
 unnamed (d ∷ n ∷ rest) e = ap (λ b. cond b (Some n) None) e
@@ -97,7 +97,7 @@ unnamed (d ∷ n ∷ rest) e = ap (λ b. cond b (Some n) None) e
 none_begun : (own : List Own) (t : Numbered) (ts : List Numbered) → (is kind.Ident t.kind && names_next ts) ≡ false → length (unless_own own t.number (reference_at (t ∷ ts))) ≡ 0
 none_begun own t ts e = ap (λ o. length (unless_own own t.number o)) (by (is kind.Ident t.kind) (names_next ts) (unnamed ts) e)
   where
-    by : (a b : Bool) → (b ≡ false → name_behind ts ≡ None) → (a && b) ≡ false → cond a (by_name t.text (name_behind ts) (drop 2 ts)) None ≡ None
+    by : (a b : Bool) → (b ≡ false → name_after ts ≡ None) → (a && b) ≡ false → cond a (by_name t.text (name_after ts) (drop 2 ts)) None ≡ None
     by true b u h = ap (λ o. by_name t.text o (drop 2 ts)) (u h)
     by false b u h = refl
 

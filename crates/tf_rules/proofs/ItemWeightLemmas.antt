@@ -4,7 +4,7 @@ use Rattle.std.specs.Prelude.{◌&&◌, filter, nat_lt}
 use Rattle.std.specs.List.{flat_map}
 use Rattle.hcl_tokens.specs.Kinds.{is}
 use Rattle.hcl_tokens.specs.declared.token.Kind.TheVariants.{Assign, BraceOpen, Newline}
-use Rattle.hcl_grammar.specs.Items.{behind_brace, block, block_end, body, deepen, is_closed, item_of, items, labels, label_at, onto, pieces}
+use Rattle.hcl_grammar.specs.Items.{after_brace, block, block_end, body, deepen, is_closed, item_of, items, labels, label_at, onto, pieces}
 use Rattle.hcl_grammar.specs.Numbered.{Numbered, end_of}
 use Rattle.hcl_grammar.specs.declared.item.Item.{Item}
 use Rattle.hcl_grammar.specs.declared.item.Item.TheVariants as item
@@ -34,12 +34,12 @@ pub record IsCounted (cost : List Item → ℕ) (weigh : Numbered → ℕ) : Typ
   pub label : (t : Numbered) (ts : List Numbered) → cost (label_at t.number t.kind ts) ≤ weigh t
 
 module _ (cost : List Item → ℕ) (weigh : Numbered → ℕ) (counted : IsCounted cost weigh) where
-  labels_cost : (ts : List Numbered) → cost (labels ts) + weight weigh (behind_brace ts) ≤ weight weigh ts
+  labels_cost : (ts : List Numbered) → cost (labels ts) + weight weigh (after_brace ts) ≤ weight weigh ts
   labels_cost [] = omega (arith, counted.none)
   labels_cost (t ∷ ts) = by (is BraceOpen t.kind) (labels_cost ts)
     where
-      by : (b : Bool) → cost (labels ts) + weight weigh (behind_brace ts) ≤ weight weigh ts
-          → cost (cond b [] (label_at t.number t.kind ts ++ labels ts)) + weight weigh (cond b ts (behind_brace ts)) ≤ weigh t + weight weigh ts
+      by : (b : Bool) → cost (labels ts) + weight weigh (after_brace ts) ≤ weight weigh ts
+          → cost (cond b [] (label_at t.number t.kind ts ++ labels ts)) + weight weigh (cond b ts (after_brace ts)) ≤ weigh t + weight weigh ts
       by true h = omega (arith, counted.none)
       by false h = omega (arith, h, counted.label t ts, counted.both (label_at t.number t.kind ts) (labels ts))
 
@@ -73,7 +73,7 @@ module _ (cost : List Item → ℕ) (weigh : Numbered → ℕ) (counted : IsCoun
           counted.both (labels rest) (inner (body rest)),
           labels_cost rest,
           costs (body rest),
-          weight_filter weigh (λ t. nat_lt (t.number + 1) (block_end rest)) (behind_brace rest),
+          weight_filter weigh (λ t. nat_lt (t.number + 1) (block_end rest)) (after_brace rest),
         )
 
     item_costs : (piece : List Numbered) → cost (item_of inner level piece) ≤ weight weigh piece

@@ -7,7 +7,7 @@ use Rattle.hcl_tokens.specs.Kinds.{is}
 use Rattle.hcl_tokens.specs.declared.token.Kind.{Kind}
 use Rattle.hcl_tokens.specs.declared.token.Kind.TheVariants as kind
 use Rattle.hcl_grammar.specs.Numbered.{Numbered}
-use Rattle.tf_facts.specs.References.{Own, by_name, data_of, is_own, local_reference, name_behind, reference_of, reference_at, references_from, unless_own, variable_reference}
+use Rattle.tf_facts.specs.References.{Own, by_name, data_of, is_own, local_reference, name_after, reference_of, reference_at, references_from, unless_own, variable_reference}
 use Rattle.tf_rules.specs.Growth.{bytes}
 use Rattle.tf_rules.proofs.DeclaredTextLemmas.{bytes_both}
 use Rattle.tf_rules.proofs.ItemWeightLemmas.{bit}
@@ -38,14 +38,14 @@ step_bytes (Some n) = 1 + length n.text
 
 abbrev steps_by : Option Numbered → List Numbered → ℕ
 steps_by None rest = 0
-steps_by (Some n) rest = 1 + (length n.text + step_bytes (name_behind rest))
+steps_by (Some n) rest = 1 + (length n.text + step_bytes (name_after rest))
 
 -- and another dot and name after them
 abbrev steps : List Numbered → ℕ
-steps ts = steps_by (name_behind ts) (drop 2 ts)
+steps ts = steps_by (name_after ts) (drop 2 ts)
 
-first_step : (ts : List Numbered) → step_bytes (name_behind ts) ≤ steps ts
-first_step ts = by (name_behind ts)
+first_step : (ts : List Numbered) → step_bytes (name_after ts) ≤ steps ts
+first_step ts = by (name_after ts)
   where
     by : (o : Option Numbered) → step_bytes o ≤ steps_by o (drop 2 ts)
     by None = omega arith
@@ -54,7 +54,7 @@ first_step ts = by (name_behind ts)
 same_length : (r x : List ℕ) (n : ℕ) → bytes_eq r x ≡ true → length x ≡ n → length r ≡ n
 same_length r x n e h = ap length ((bytes_eq-Decides r x).0 e) ∙ h
 
-named_short : (word n : List ℕ) (rest : List Numbered) → some_bytes (reference_of word n rest) ≤ length word + (1 + (length n + step_bytes (name_behind rest)))
+named_short : (word n : List ℕ) (rest : List Numbered) → some_bytes (reference_of word n rest) ≤ length word + (1 + (length n + step_bytes (name_after rest)))
 named_short word n rest = by (bytes_eq word (codes "var")) (bytes_eq word (codes "local")) (bytes_eq word (codes "data")) refl refl refl
   where
     variable : length (variable_reference n) ≡ 4 + length n
@@ -71,10 +71,10 @@ named_short word n rest = by (bytes_eq word (codes "var")) (bytes_eq word (codes
         omega (arith, e, a, b, length-append n (codes "." ++ m.text))
 
     by : (v l d : Bool) → bytes_eq word (codes "var") ≡ v → bytes_eq word (codes "local") ≡ l → bytes_eq word (codes "data") ≡ d
-        → some_bytes (cond v (Some (variable_reference n)) (cond l (Some (local_reference n)) (cond d (data_of n (name_behind rest)) None))) ≤ length word + (1 + (length n + step_bytes (name_behind rest)))
+        → some_bytes (cond v (Some (variable_reference n)) (cond l (Some (local_reference n)) (cond d (data_of n (name_after rest)) None))) ≤ length word + (1 + (length n + step_bytes (name_after rest)))
     by true l d e f g = omega (arith, variable, same_length word (codes "var") 3 e refl)
     by false true d e f g = omega (arith, local, same_length word (codes "local") 5 f refl)
-    by false false true e f g = data_short (name_behind rest) (same_length word (codes "data") 4 g refl)
+    by false false true e f g = data_short (name_after rest) (same_length word (codes "data") 4 g refl)
     by false false false e f g = omega arith
 
 own_short : (own : List Own) (n : ℕ) (o : Option (List ℕ)) → bytes (unless_own own n o) ≤ some_bytes o
@@ -85,7 +85,7 @@ own_short own n (Some text) = by (is_own own n text)
     by true = omega arith
     by false = omega arith
 
-no_name : (ts : List Numbered) → comes_dot ts ≡ false → name_behind ts ≡ None
+no_name : (ts : List Numbered) → comes_dot ts ≡ false → name_after ts ≡ None
 no_name [] e = refl
 no_name (d ∷ []) e = refl
 no_name (d ∷ n ∷ rest) e = ap (λ b. cond (b && is kind.Ident n.kind) (Some n) None) e
@@ -98,9 +98,9 @@ begun_short t ts = by (is kind.Ident t.kind) (comes_dot ts) refl
     word None = omega arith
     word (Some n) = named_short t.text n.text (drop 2 ts)
 
-    by : (i d : Bool) → comes_dot ts ≡ d → some_bytes (cond i (by_name t.text (name_behind ts) (drop 2 ts)) None) ≤ cond (i && d) (length t.text) 0 + steps ts
-    by true true e = word (name_behind ts)
-    by true false e = let none : some_bytes (by_name t.text (name_behind ts) (drop 2 ts)) ≡ 0 = ap (λ o. some_bytes (by_name t.text o (drop 2 ts))) (no_name ts e) in omega (arith, none)
+    by : (i d : Bool) → comes_dot ts ≡ d → some_bytes (cond i (by_name t.text (name_after ts) (drop 2 ts)) None) ≤ cond (i && d) (length t.text) 0 + steps ts
+    by true true e = word (name_after ts)
+    by true false e = let none : some_bytes (by_name t.text (name_after ts) (drop 2 ts)) ≡ 0 = ap (λ o. some_bytes (by_name t.text o (drop 2 ts))) (no_name ts e) in omega (arith, none)
     by false d e = omega arith
 
 -- ---- all of them
@@ -135,7 +135,7 @@ module _ (own : List Own) where
       on = ap (λ b. made b (n ∷ rest)) d ∙ ap (λ b. made b rest) (ident_is n.kind i)
 
       none : bytes (unless_own own t.number (reference_at (t ∷ n ∷ rest))) ≡ 0
-      none = ap (λ b. bytes (unless_own own t.number (cond b (by_name t.text (name_behind (n ∷ rest)) (drop 2 (n ∷ rest))) None))) (dot_is t.kind d)
+      none = ap (λ b. bytes (unless_own own t.number (cond b (by_name t.text (name_after (n ∷ rest)) (drop 2 (n ∷ rest))) None))) (dot_is t.kind d)
 
       by : (b : Bool) → made b (t ∷ n ∷ rest) ≤ made false rest
       by true = omega (arith, on)

@@ -108,14 +108,14 @@ is_before a b first apart = by_file (cases_order (key_of (issue_of a)).file (key
     y : Key
     y = key_of (issue_of b)
 
-    behind : (o : Ordering) → ordering_then (ordering_then (nat_cmp y.file x.file) (nat_cmp y.token x.token)) (nat_cmp y.rank x.rank) ≡ o → is_lt o ≡ true → ⊥
-    behind o e less = true≢false (sym less ∙ ap is_lt (sym e) ∙ first)
+    after : (o : Ordering) → ordering_then (ordering_then (nat_cmp y.file x.file) (nat_cmp y.token x.token)) (nat_cmp y.rank x.rank) ≡ o → is_lt o ≡ true → ⊥
+    after o e less = true≢false (sym less ∙ ap is_lt (sym e) ∙ first)
 
     by_rank : x.file ≡ y.file → x.token ≡ y.token → (x.rank ≡ y.rank) ⊎ ((x.rank < y.rank) ⊎ (y.rank < x.rank)) → Precedes x y
     by_rank f t (inl e) = absurd (true≢false (sym (and_from ((x.file == y.file) && (x.token == y.token)) (x.rank == y.rank) (and_from (x.file == y.file) (x.token == y.token) (eq-eqb x.file y.file f) (eq-eqb x.token y.token t)) (eq-eqb x.rank y.rank e)) ∙ apart))
     by_rank f t (inr (inl h)) = inr (f, inr (t, h))
     by_rank f t (inr (inr h)) =
-        absurd (behind Less (
+        absurd (after Less (
         ap (λ o. ordering_then (ordering_then o (nat_cmp y.token x.token)) (nat_cmp y.rank x.rank)) (cmp_equal y.file x.file (sym f))
         ∙ ap (λ o. ordering_then o (nat_cmp y.rank x.rank)) (cmp_equal y.token x.token (sym t))
         ∙ cmp_less y.rank x.rank h) refl)
@@ -124,14 +124,14 @@ is_before a b first apart = by_file (cases_order (key_of (issue_of a)).file (key
     by_token f (inl e) = by_rank f e (cases_order x.rank y.rank)
     by_token f (inr (inl h)) = inr (f, inl h)
     by_token f (inr (inr h)) =
-        absurd (behind Less (
+        absurd (after Less (
         ap (λ o. ordering_then (ordering_then o (nat_cmp y.token x.token)) (nat_cmp y.rank x.rank)) (cmp_equal y.file x.file (sym f))
         ∙ ap (λ o. ordering_then o (nat_cmp y.rank x.rank)) (cmp_less y.token x.token h)) refl)
 
     by_file : (x.file ≡ y.file) ⊎ ((x.file < y.file) ⊎ (y.file < x.file)) → Precedes x y
     by_file (inl e) = by_token e (cases_order x.token y.token)
     by_file (inr (inl h)) = inl h
-    by_file (inr (inr h)) = absurd (behind Less (ap (λ o. ordering_then (ordering_then o (nat_cmp y.token x.token)) (nat_cmp y.rank x.rank)) (cmp_less y.file x.file h)) refl)
+    by_file (inr (inr h)) = absurd (after Less (ap (λ o. ordering_then (ordering_then o (nat_cmp y.token x.token)) (nat_cmp y.rank x.rank)) (cmp_less y.file x.file h)) refl)
 
 through : (x y : Issue) (zs : List Issue) → Before x y → BeforeAll Before y zs → BeforeAll Before x zs
 through x y [] h k = tt

@@ -64,7 +64,8 @@ impl Model for Facts {
 /// Makes room in a list for so many more. An empty list needs none, since the list of more takes its place.
 fn make_room<T>(list: &mut Vec<T>, more: usize) -> Result<(), AllocError>
     ensures same { list.new.items ≡ list.old.items }
-    ensures room { OnOk result (0 < vec_len list.new → vec_len list.new + more ≤ vec_capacity list.new) }
+    ensures room { OnOk result (0 < vec_len list.new
+        → vec_len list.new + more ≤ vec_capacity list.new) }
 {
     if list.is_empty() {
         return Ok(());
@@ -73,7 +74,7 @@ fn make_room<T>(list: &mut Vec<T>, more: usize) -> Result<(), AllocError>
 }
 
 /// Moves all that is in one list after what is in another, which is empty or has room for it.
-fn move_behind<T>(from: &mut Vec<T>, into: &mut Vec<T>)
+fn move_to_end<T>(from: &mut Vec<T>, into: &mut Vec<T>)
     requires { 0 < vec_len into.old → vec_len into.old + vec_len from.old ≤ vec_capacity into.old }
     ensures { into.new.items ≡ into.old.items ++ from.old.items }
 {
@@ -116,7 +117,9 @@ impl Facts {
         kept: &mut KeptFile,
     ) -> Result<(), AllocError>
         requires { items.now ≡ outline accepted.now.tokens }
-        ensures ok { OnOk result (self.new ≡ with_found self.old (kept_facts kept.old) (references (numbered accepted.now.tokens))) }
+        ensures ok { OnOk result (self.new
+            ≡ with_found self.old (kept_facts kept.old)
+            (references (numbered accepted.now.tokens))) }
         ensures err { OnErr result (self.new ≡ self.old) }
     {
         make_room(&mut self.comments, kept.comments.len())?;
@@ -124,10 +127,10 @@ impl Facts {
         make_room(&mut self.interpolations, kept.interpolations.len())?;
         make_room(&mut self.declarations, kept.declarations.len())?;
         add_references_of(self.alloc, accepted, items, &mut self.references)?;
-        move_behind(&mut kept.comments, &mut self.comments);
-        move_behind(&mut kept.indexes, &mut self.indexes);
-        move_behind(&mut kept.interpolations, &mut self.interpolations);
-        move_behind(&mut kept.declarations, &mut self.declarations);
+        move_to_end(&mut kept.comments, &mut self.comments);
+        move_to_end(&mut kept.indexes, &mut self.indexes);
+        move_to_end(&mut kept.interpolations, &mut self.interpolations);
+        move_to_end(&mut kept.declarations, &mut self.declarations);
         Ok(())
     }
 
@@ -139,7 +142,8 @@ impl Facts {
         items: &Outline,
     ) -> Result<(), AllocError>
         requires { items.now ≡ outline accepted.now.tokens }
-        ensures ok { OnOk result (self.new ≡ with_file self.old (record { number = number; source = accepted.now })) }
+        ensures ok { OnOk result (self.new
+            ≡ with_file self.old (record { number = number; source = accepted.now })) }
         ensures err { OnErr result (self.new ≡ self.old) }
     {
         let mut kept = kept_file(self.alloc, number, accepted, items)?;
@@ -149,7 +153,8 @@ impl Facts {
     /// Keeps what the rules need of one file more, whose number is above those of the files before it. On refusal the
     /// facts are as they were.
     pub fn add_file(&mut self, number: u32, accepted: &Accepted<'_, '_>) -> Result<(), AllocError>
-        ensures ok { OnOk result (self.new ≡ with_file self.old (record { number = number; source = accepted.now })) }
+        ensures ok { OnOk result (self.new
+            ≡ with_file self.old (record { number = number; source = accepted.now })) }
         ensures err { OnErr result (self.new ≡ self.old) }
     {
         let items = outline(self.alloc, accepted)?;
@@ -163,7 +168,9 @@ impl Facts {
         rule: Rule,
         entries: &mut Vec<Entry<'f>>,
     ) -> Result<(), AllocError>
-        ensures { OnOk result (issues_of entries.new.items ≡ issues_of entries.old.items ++ map (issue_at rule) (findings naming self.now.references self.now.facts rule)) }
+        ensures { OnOk result (issues_of entries.new.items
+            ≡ issues_of entries.old.items ++ map (issue_at rule)
+            (findings naming self.now.references self.now.facts rule)) }
     {
         match rule {
             Rule::CommentSyntax => put_comments(&self.comments, entries),
@@ -197,7 +204,10 @@ impl Facts {
         rule: Rule,
         entries: &mut Vec<Entry<'f>>,
     ) -> Result<(), AllocError>
-        ensures { OnOk result (issues_of entries.new.items ≡ issues_of entries.old.items ++ (if holds settings.now.rules rule then map (issue_at rule) (findings settings.now.naming self.now.references self.now.facts rule) else [])) }
+        ensures { OnOk result (issues_of entries.new.items
+            ≡ issues_of entries.old.items ++ (if holds settings.now.rules rule
+            then map (issue_at rule) (findings settings.now.naming self.now.references
+            self.now.facts rule) else [])) }
     {
         if !settings.rules.holds(rule) {
             return Ok(());
@@ -211,7 +221,10 @@ impl Facts {
         settings: &Settings,
         rules: &[Rule],
     ) -> Result<Vec<Entry<'f>>, AllocError>
-        ensures { IfOk result (λ entries. issues_of entries.items ≡ flat_map (λ rule. map (issue_at rule) (findings settings.now.naming self.now.references self.now.facts rule)) (filter (holds settings.now.rules) rules.now)) }
+        ensures { IfOk result (λ entries. issues_of entries.items
+            ≡ flat_map (λ rule. map (issue_at rule)
+            (findings settings.now.naming self.now.references self.now.facts rule))
+            (filter (holds settings.now.rules) rules.now)) }
     {
         let mut entries = Vec::new(self.alloc);
         for rule in rules {
@@ -223,7 +236,8 @@ impl Facts {
     /// The issues of the files, by file, then token, then the name of the rule. No message is put together: a list tells
     /// each by pieces of what is kept.
     pub fn issue_list(&self, settings: &Settings) -> Result<IssueList<'_>, AllocError>
-        ensures { (files : List File) → self.now ≡ kept_of files → Rising files → IfOk result (λ issues. AreIssues (asked_of settings.now) files issues) }
+        ensures { (files : List File) → self.now ≡ kept_of files → Rising files
+            → IfOk result (λ issues. AreIssues (asked_of settings.now) files issues) }
     {
         let entries = self.reported(settings, &ALL_RULES)?;
         let lines = silenced_lines(self.alloc, &self.comments)?;
@@ -234,7 +248,8 @@ impl Facts {
 
     /// The same issues, each with a message that stands by itself.
     pub fn issues(&self, settings: &Settings) -> Result<Vec<Issue>, AllocError>
-        ensures { (files : List File) → self.now ≡ kept_of files → Rising files → IfOk result (λ issues. AreIssues (asked_of settings.now) files issues.items) }
+        ensures { (files : List File) → self.now ≡ kept_of files → Rising files
+            → IfOk result (λ issues. AreIssues (asked_of settings.now) files issues.items) }
     {
         match self.issue_list(settings) {
             Ok(issues) => owned_issues(self.alloc, &issues),

@@ -39,7 +39,9 @@ fn put<'f>(
     at: TokenPlace,
     said: Said<'f>,
 ) -> Result<(), AllocError>
-    ensures { OnOk result (issues_of entries.new.items ≡ issues_of entries.old.items ++ issue_at rule (record { at = place_of at; message = text_of said.entry }) ∷ []) }
+    ensures { OnOk result (issues_of entries.new.items
+        ≡ issues_of entries.old.items ++ issue_at rule
+        (record { at = place_of at; message = text_of said.entry }) ∷ []) }
 {
     entries.push(Entry { at, rule, said })?;
     Ok(())
@@ -55,7 +57,11 @@ fn put_lacking<'f>(
     declaration: &'f KeptDeclaration,
     rest: &'static str,
 ) -> Result<(), AllocError>
-    ensures { OnOk result (issues_of entries.new.items ≡ issues_of entries.old.items ++ map (issue_at rule) (says_if is_lacking (place_of declaration.now.at) (kind_text declaration.now.kind ++ opened (last_of (kept_names declaration.now.names)) rest.now))) }
+    ensures { OnOk result (issues_of entries.new.items
+        ≡ issues_of entries.old.items ++ map (issue_at rule)
+        (says_if is_lacking (place_of declaration.now.at)
+        (kind_text declaration.now.kind
+        ++ opened (last_of (kept_names declaration.now.names)) rest.now))) }
 {
     if !is_lacking {
         return Ok(());
@@ -75,7 +81,10 @@ fn put_unpinned_by<'f>(
     declaration: &'f KeptDeclaration,
     found: KeptSource,
 ) -> Result<(), AllocError>
-    ensures { OnOk result (issues_of entries.new.items ≡ issues_of entries.old.items ++ map (issue_at rule) (unpinned_findings_by (kept_declaration declaration.now) (place_of found.at) (source found.source))) }
+    ensures { OnOk result (issues_of entries.new.items
+        ≡ issues_of entries.old.items ++ map (issue_at rule)
+        (unpinned_findings_by (kept_declaration declaration.now) (place_of found.at)
+        (source found.source))) }
 {
     match found.source {
         ModuleSource::Other => Ok(()),
@@ -101,7 +110,10 @@ fn put_unpinned<'f>(
     rule: Rule,
     declaration: &'f KeptDeclaration,
 ) -> Result<(), AllocError>
-    ensures { OnOk result (issues_of entries.new.items ≡ issues_of entries.old.items ++ map (issue_at rule) (unpinned_findings (kept_declaration declaration.now) (option_map kept_source declaration.now.source))) }
+    ensures { OnOk result (issues_of entries.new.items
+        ≡ issues_of entries.old.items ++ map (issue_at rule)
+        (unpinned_findings (kept_declaration declaration.now)
+        (option_map kept_source declaration.now.source))) }
 {
     match declaration.source {
         Some(found) => put_unpinned_by(entries, rule, declaration, found),
@@ -127,7 +139,9 @@ fn put_misnamed<'f>(
     rule: Rule,
     declaration: &'f KeptDeclaration,
 ) -> Result<(), AllocError>
-    ensures { OnOk result (issues_of entries.new.items ≡ issues_of entries.old.items ++ map (issue_at rule) (finding naming [] Rule.NamingConvention (kept_declaration declaration.now))) }
+    ensures { OnOk result (issues_of entries.new.items
+        ≡ issues_of entries.old.items ++ map (issue_at rule)
+        (finding naming [] Rule.NamingConvention (kept_declaration declaration.now))) }
 {
     let name = last(&declaration.names);
     if matches_naming(naming, name) {
@@ -148,7 +162,8 @@ fn is_unknown(
     name: &str,
     text: &mut String,
 ) -> Result<bool, AllocError>
-    ensures { IfOk result (λ unknown. unknown ≡ not (list_any (bytes_eq (front.now ++ name.now)) used.now)) }
+    ensures { IfOk result (λ unknown. unknown
+        ≡ not (list_any (bytes_eq (front.now ++ name.now)) used.now)) }
 {
     text.clear();
     text.push_str(front)?;
@@ -163,7 +178,8 @@ fn is_unknown_data(
     name: &str,
     text: &mut String,
 ) -> Result<bool, AllocError>
-    ensures { IfOk result (λ unknown. unknown ≡ not (list_any (bytes_eq (data_reference kind.now name.now)) used.now)) }
+    ensures { IfOk result (λ unknown. unknown
+        ≡ not (list_any (bytes_eq (data_reference kind.now name.now)) used.now)) }
 {
     text.clear();
     text.push_str("data.")?;
@@ -175,7 +191,8 @@ fn is_unknown_data(
 
 /// Whether there is no reference to the data of these labels.
 fn is_unused_data(used: &TextSet, names: &KeptNames, text: &mut String) -> Result<bool, AllocError>
-    ensures { IfOk result (λ unused. unused ≡ is_unused used.now (uses_of DeclarationKind.Data (kept_names names.now))) }
+    ensures { IfOk result (λ unused. unused
+        ≡ is_unused used.now (uses_of DeclarationKind.Data (kept_names names.now))) }
 {
     match names {
         KeptNames::Two(kind, name) => is_unknown_data(used, kind.as_str(), name.as_str(), text),
@@ -191,7 +208,8 @@ fn is_unused(
     declaration: &KeptDeclaration,
     text: &mut String,
 ) -> Result<bool, AllocError>
-    ensures { IfOk result (λ unused. unused ≡ is_unused used.now (uses_of declaration.now.kind (kept_names declaration.now.names))) }
+    ensures { IfOk result (λ unused. unused
+        ≡ is_unused used.now (uses_of declaration.now.kind (kept_names declaration.now.names))) }
 {
     match declaration.kind {
         DeclarationKind::Variable => is_unknown(used, "var.", last(&declaration.names), text),
@@ -212,7 +230,10 @@ fn put_unused<'f>(
     declaration: &'f KeptDeclaration,
     text: &mut String,
 ) -> Result<(), AllocError>
-    ensures { OnOk result (issues_of entries.new.items ≡ issues_of entries.old.items ++ map (issue_at rule) (finding Naming.SnakeCase used.now Rule.UnusedDeclarations (kept_declaration declaration.now))) }
+    ensures { OnOk result (issues_of entries.new.items
+        ≡ issues_of entries.old.items ++ map (issue_at rule)
+        (finding Naming.SnakeCase used.now Rule.UnusedDeclarations
+        (kept_declaration declaration.now))) }
 {
     if !is_unused(used, declaration, text)? {
         return Ok(());
@@ -231,7 +252,9 @@ pub fn put_finding<'f>(
     text: &mut String,
     entries: &mut Vec<Entry<'f>>,
 ) -> Result<(), AllocError>
-    ensures { OnOk result (issues_of entries.new.items ≡ issues_of entries.old.items ++ map (issue_at rule) (finding naming used.now rule (kept_declaration declaration.now))) }
+    ensures { OnOk result (issues_of entries.new.items
+        ≡ issues_of entries.old.items ++ map (issue_at rule)
+        (finding naming used.now rule (kept_declaration declaration.now))) }
 {
     match rule {
         Rule::DocumentedOutputs => put_lacking(

@@ -21,7 +21,8 @@ fn put<'f>(
     rule: Rule,
     found: Option<Finding<'f>>,
 ) -> Result<(), AllocError>
-    ensures { OnOk result (issues_of entries.new.items ≡ issues_of entries.old.items ++ map (issue_at rule) (finding_listed found.entry)) }
+    ensures { OnOk result (issues_of entries.new.items
+        ≡ issues_of entries.old.items ++ map (issue_at rule) (finding_listed found.entry)) }
 {
     let Some(found) = found else {
         return Ok(());
@@ -52,7 +53,9 @@ pub fn put_comments(
     comments: &[KeptComment],
     entries: &mut Vec<Entry<'_>>,
 ) -> Result<(), AllocError>
-    ensures { OnOk result (issues_of entries.new.items ≡ issues_of entries.old.items ++ map (issue_at Rule.CommentSyntax) (flat_map slash_findings (map kept_comment comments.now))) }
+    ensures { OnOk result (issues_of entries.new.items
+        ≡ issues_of entries.old.items ++ map (issue_at Rule.CommentSyntax)
+        (flat_map slash_findings (map kept_comment comments.now))) }
 {
     for comment in comments {
         let found = slashed(*comment);
@@ -68,7 +71,9 @@ pub fn put_places(
     places: &[TokenPlace],
     entries: &mut Vec<Entry<'_>>,
 ) -> Result<(), AllocError>
-    ensures { OnOk result (issues_of entries.new.items ≡ issues_of entries.old.items ++ map (issue_at rule) (map (says_of text.now) (map place_of places.now))) }
+    ensures { OnOk result (issues_of entries.new.items
+        ≡ issues_of entries.old.items ++ map (issue_at rule)
+        (map (says_of text.now) (map place_of places.now))) }
 {
     for at in places {
         let found = Finding {
@@ -89,7 +94,9 @@ pub fn put_declarations<'f>(
     declarations: &'f [KeptDeclaration],
     entries: &mut Vec<Entry<'f>>,
 ) -> Result<(), AllocError>
-    ensures { OnOk result (issues_of entries.new.items ≡ issues_of entries.old.items ++ map (issue_at rule) (flat_map (finding naming used.now rule) (map kept_declaration declarations.now))) }
+    ensures { OnOk result (issues_of entries.new.items
+        ≡ issues_of entries.old.items ++ map (issue_at rule)
+        (flat_map (finding naming used.now rule) (map kept_declaration declarations.now))) }
 {
     let mut text = String::new(alloc);
     for declaration in declarations {

@@ -22,7 +22,8 @@ pub fn places(
     mut placer: Placer<'_, '_>,
 ) -> Result<Vec<TokenPlace>, AllocError>
     requires { CanGo placer numbers.now }
-    ensures { IfOk result (λ kept. map place_of kept.items ≡ map (place_in placer.entry.file) numbers.now) }
+    ensures { IfOk result (λ kept. map place_of kept.items
+        ≡ map (place_in placer.entry.file) numbers.now) }
 {
     let mut kept = Vec::with_capacity(alloc, numbers.len())?;
     for number in numbers {
@@ -33,7 +34,8 @@ pub fn places(
 
 fn kept_comment(comment: FoundComment, placer: &mut Placer<'_, '_>) -> KeptComment
     requires { CanGo placer.old (comment.at ∷ []) }
-    ensures kept { kept_comment result ≡ comment_at (place_in placer.old.file) (found.comment comment) }
+    ensures kept { kept_comment result
+        ≡ comment_at (place_in placer.old.file) (found.comment comment) }
     ensures moved { placer.new ≡ gone placer.old (comment.at ∷ []) }
 {
     KeptComment {
@@ -50,7 +52,8 @@ pub fn kept_comments(
     mut placer: Placer<'_, '_>,
 ) -> Result<Vec<KeptComment>, AllocError>
     requires { CanGo placer (map (λ c. c.at) comments.now) }
-    ensures { IfOk result (λ kept. map kept_comment kept.items ≡ map (λ c. comment_at (place_in placer.entry.file) (found.comment c)) comments.now) }
+    ensures { IfOk result (λ kept. map kept_comment kept.items
+        ≡ map (λ c. comment_at (place_in placer.entry.file) (found.comment c)) comments.now) }
 {
     let mut kept = Vec::with_capacity(alloc, comments.len())?;
     for comment in comments {
@@ -77,7 +80,8 @@ fn kept_names(alloc: Global, names: Names<'_>) -> Result<KeptNames, AllocError>
 
 fn kept_source(source: Option<FoundSource>, placer: &mut Placer<'_, '_>) -> Option<KeptSource>
     requires { CanGo placer.old (quotes (option_map found.found_source source)) }
-    ensures kept { option_map kept_source result ≡ source_at (place_in placer.old.file) (option_map found.found_source source) }
+    ensures kept { option_map kept_source result
+        ≡ source_at (place_in placer.old.file) (option_map found.found_source source) }
     ensures moved { placer.new ≡ gone placer.old (quotes (option_map found.found_source source)) }
 {
     let Some(source) = source else {
@@ -95,8 +99,10 @@ fn kept_declaration(
     placer: &mut Placer<'_, '_>,
 ) -> Result<KeptDeclaration, AllocError>
     requires { CanGo placer.old (numbers_of (declaration declared)) }
-    ensures kept { IfOk result (λ kept. kept_declaration kept ≡ declaration_at (place_in placer.old.file) (declaration declared.entry)) }
-    ensures moved { OnOk result (placer.new ≡ gone placer.old (numbers_of (declaration declared.entry))) }
+    ensures kept { IfOk result (λ kept. kept_declaration kept
+        ≡ declaration_at (place_in placer.old.file) (declaration declared.entry)) }
+    ensures moved { OnOk result (placer.new
+        ≡ gone placer.old (numbers_of (declaration declared.entry))) }
 {
     let names = kept_names(alloc, declared.names)?;
     let at = placer.place(declared.at);
@@ -119,7 +125,8 @@ pub fn kept_declarations(
     mut placer: Placer<'_, '_>,
 ) -> Result<Vec<KeptDeclaration>, AllocError>
     requires { CanGo placer (flat_map (λ d. numbers_of (declaration d)) declarations.now) }
-    ensures { IfOk result (λ kept. map kept_declaration kept.items ≡ map (λ d. declaration_at (place_in placer.entry.file) (declaration d)) declarations.now) }
+    ensures { IfOk result (λ kept. map kept_declaration kept.items
+        ≡ map (λ d. declaration_at (place_in placer.entry.file) (declaration d)) declarations.now) }
 {
     let mut kept = Vec::with_capacity(alloc, declarations.len())?;
     for declared in declarations {

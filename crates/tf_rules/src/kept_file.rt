@@ -31,7 +31,9 @@ pub fn kept_file(
     items: &Outline,
 ) -> Result<KeptFile, AllocError>
     requires { items.now ≡ outline accepted.now.tokens }
-    ensures { IfOk result (λ kept. kept_facts kept ≡ facts_at (place_in (record { number = number; source = accepted.now })) (facts_of (tokens_of (record { number = number; source = accepted.now })))) }
+    ensures { IfOk result (λ kept. kept_facts kept
+        ≡ facts_at (place_in (record { number = number; source = accepted.now }))
+        (facts_of (tokens_of (record { number = number; source = accepted.now })))) }
 {
     let tokens = accepted.tokens();
     let found = facts_of(alloc, accepted, items)?;

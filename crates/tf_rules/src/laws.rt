@@ -15,42 +15,51 @@ pub use tf_facts::laws::own_apart;
 
 /// What is kept of files and one more is a function of what is kept of the files, and of that one.
 pub fn kept_of_more()
-    ensures { (files : List File) (file : File) → kept_of (files ++ file ∷ []) ≡ with_file (kept_of files) file }
+    ensures { (files : List File) (file : File)
+        → kept_of (files ++ file ∷ []) ≡ with_file (kept_of files) file }
 {}
 
 /// Of one file more no more entries are kept, of all kinds together, than it has tokens.
 pub fn little_is_kept()
-    ensures { (kept : Kept) (file : File) → entries (with_file kept file) ≤ entries kept + length file.source.tokens }
+    ensures { (kept : Kept) (file : File)
+        → entries (with_file kept file) ≤ entries kept + length file.source.tokens }
 {}
 
 /// Of one file more, scanned and accepted, the texts that are kept have no more bytes than the file.
 pub fn short_names_are_kept()
-    ensures { (kept : Kept) (file : File) → Scans file.source.text file.source.tokens → IsAccepted file.source.tokens
+    ensures { (kept : Kept) (file : File) → Scans file.source.text file.source.tokens
+        → IsAccepted file.source.tokens
         → name_bytes (with_file kept file) ≤ name_bytes kept + length file.source.text }
 {}
 
 /// The issues of files are a function of what is kept of them.
 pub fn issues_of_kept()
-    ensures { (asked : Asked) (files : List File) → issues asked files ≡ issues_of_kept asked (kept_of files) }
+    ensures { (asked : Asked) (files : List File)
+        → issues asked files ≡ issues_of_kept asked (kept_of files) }
 {}
 
 /// Files have one ordered list of issues at most.
 pub fn one_report()
-    ensures { (asked : Asked) (files : List File) (report other : List Issue) → IsReport asked files report → IsReport asked files other → report ≡ other }
+    ensures { (asked : Asked) (files : List File) (report other : List Issue)
+        → IsReport asked files report → IsReport asked files other → report ≡ other }
 {}
 
 /// Files with the same tokens, by kind and text, on the same lines have the same issues, columns aside.
 pub fn issues_agree()
-    ensures { (asked : Asked) (files others : List File) → AllZip SameTokens files others → told_all (issues asked files) ≡ told_all (issues asked others) }
+    ensures { (asked : Asked) (files others : List File) → AllZip SameTokens files others
+        → told_all (issues asked files) ≡ told_all (issues asked others) }
 {}
 
 /// The ordered lists of issues of files with the same tokens on the same lines are the same, columns aside.
 pub fn reports_agree()
-    ensures { (asked : Asked) (files others : List File) (report other : List Issue) → AllZip SameTokens files others
-        → IsReport asked files report → IsReport asked others other → told_all report ≡ told_all other }
+    ensures { (asked : Asked) (files others : List File) (report other : List Issue)
+        → AllZip SameTokens files others
+        → IsReport asked files report → IsReport asked others other
+        → told_all report ≡ told_all other }
 {}
 
 /// Tokens begin in the order of their numbers.
 pub fn starts_rise()
-    ensures { (text : List ℕ) (tokens : List Lexeme) → Scans text tokens → (i j : ℕ) → i ≤ j → j < length tokens → start_of tokens i ≤ start_of tokens j }
+    ensures { (text : List ℕ) (tokens : List Lexeme) → Scans text tokens → (i j : ℕ) → i ≤ j
+        → j < length tokens → start_of tokens i ≤ start_of tokens j }
 {}

@@ -19,7 +19,8 @@ fn room_for(texts: &[&str]) -> usize {
 
 /// The texts one after another, in no more room than they take.
 fn joined(alloc: Global, texts: &[&str]) -> Result<String, AllocError>
-    ensures { IfOk result (λ joined. string_bytes joined ≡ concat (map (λ text. text.now) texts.now)) }
+    ensures { IfOk result (λ joined. string_bytes joined
+        ≡ concat (map (λ text. text.now) texts.now)) }
 {
     let mut joined = String::with_capacity(alloc, room_for(texts))?;
     for text in texts {
@@ -49,7 +50,8 @@ fn joined_five<'p>(
     other: &'p str,
     rest: &'p str,
 ) -> Result<String, AllocError>
-    ensures { IfOk result (λ text. string_bytes text ≡ front.now ++ (name.now ++ (between.now ++ (other.now ++ rest.now)))) }
+    ensures { IfOk result (λ text. string_bytes text
+        ≡ front.now ++ (name.now ++ (between.now ++ (other.now ++ rest.now)))) }
 {
     joined(alloc, &[front, name, between, other, rest])
 }

@@ -33,7 +33,8 @@ impl<'t, 's> Model for Placer<'t, 's> {
 impl<'t, 's> Placer<'t, 's> {
     /// At the start of the file of this number.
     pub fn new(file: u32, tokens: &'t Tokens<'s>) -> Placer<'t, 's>
-        ensures start { result ≡ record { file = record { number = file; source = tokens.now }; reached = 0 } }
+        ensures start { result ≡ record
+            { file = record { number = file; source = tokens.now }; reached = 0 } }
         ensures scanned { Scans tokens.now.text tokens.now.tokens }
     {
         let text = tokens.source().text();

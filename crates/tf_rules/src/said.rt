@@ -80,7 +80,9 @@ pub fn last(names: &KeptNames) -> &str
 
 /// `KIND "NAME` of a declaration, and what follows from the closing quote on.
 fn about<'f>(declaration: &'f KeptDeclaration, rest: &'static str) -> Pieces<'f>
-    ensures { text_of_pieces result ≡ kind_text declaration.now.kind ++ opened (last_of (kept_names declaration.now.names)) rest.now }
+    ensures { text_of_pieces result
+        ≡ kind_text declaration.now.kind
+        ++ opened (last_of (kept_names declaration.now.names)) rest.now }
 {
     let front = before_name(declaration.kind);
     let name = last(&declaration.names);
@@ -89,7 +91,9 @@ fn about<'f>(declaration: &'f KeptDeclaration, rest: &'static str) -> Pieces<'f>
 
 /// That the source of a module uses a default branch.
 fn about_branch<'f>(declaration: &'f KeptDeclaration, branch: &'static str) -> Pieces<'f>
-    ensures { text_of_pieces result ≡ about (kept_declaration declaration.now) (codes " source uses a default branch: " ++ branch.now) }
+    ensures { text_of_pieces result
+        ≡ about (kept_declaration declaration.now)
+        (codes " source uses a default branch: " ++ branch.now) }
 {
     let front = before_name(declaration.kind);
     let name = last(&declaration.names);
@@ -98,7 +102,10 @@ fn about_branch<'f>(declaration: &'f KeptDeclaration, branch: &'static str) -> P
 
 /// That a name must have a naming.
 fn about_naming<'f>(declaration: &'f KeptDeclaration, naming: Naming) -> Pieces<'f>
-    ensures { text_of_pieces result ≡ kind_text declaration.now.kind ++ (codes " name" ++ quoting (last_of (kept_names declaration.now.names)) (codes " must match " ++ naming_text naming)) }
+    ensures { text_of_pieces result
+        ≡ kind_text declaration.now.kind
+        ++ (codes " name" ++ quoting (last_of (kept_names declaration.now.names))
+        (codes " must match " ++ naming_text naming)) }
 {
     let front = before_misnamed(declaration.kind);
     let name = last(&declaration.names);
@@ -108,7 +115,8 @@ fn about_naming<'f>(declaration: &'f KeptDeclaration, naming: Naming) -> Pieces<
 
 /// That nothing refers to what has this name.
 fn unused_by_name<'f>(kind: DeclarationKind, name: &'f str) -> Pieces<'f>
-    ensures { text_of_pieces result ≡ kind_text kind ++ quoting name.now (codes " is declared but not used") }
+    ensures { text_of_pieces result
+        ≡ kind_text kind ++ quoting name.now (codes " is declared but not used") }
 {
     let front = before_name(kind);
     Pieces::Named(front, name, "\" is declared but not used")
@@ -116,7 +124,9 @@ fn unused_by_name<'f>(kind: DeclarationKind, name: &'f str) -> Pieces<'f>
 
 /// That nothing refers to what has these two labels.
 fn unused_by_both<'f>(kind: DeclarationKind, first: &'f str, second: &'f str) -> Pieces<'f>
-    ensures { text_of_pieces result ≡ kind_text kind ++ quoting first.now (quoting second.now (codes " is declared but not used")) }
+    ensures { text_of_pieces result
+        ≡ kind_text kind ++ quoting first.now
+        (quoting second.now (codes " is declared but not used")) }
 {
     let front = before_name(kind);
     Pieces::NamedTwice(front, first, "\" \"", second, "\" is declared but not used")
@@ -132,7 +142,9 @@ fn unused_by_none(kind: DeclarationKind) -> Pieces<'static>
 
 /// That nothing refers to a declaration.
 fn about_unused<'f>(declaration: &'f KeptDeclaration) -> Pieces<'f>
-    ensures { text_of_pieces result ≡ kind_text declaration.now.kind ++ both_quoted (kept_names declaration.now.names) (codes " is declared but not used") }
+    ensures { text_of_pieces result
+        ≡ kind_text declaration.now.kind
+        ++ both_quoted (kept_names declaration.now.names) (codes " is declared but not used") }
 {
     let kind = declaration.kind;
     match &declaration.names {

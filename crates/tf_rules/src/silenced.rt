@@ -36,7 +36,9 @@ fn silence(
     line: u32,
     rules: RuleSet,
 ) -> Result<(), AllocError>
-    ensures { OnOk result ((f l : ℕ) (rule : Rule) → silenced_at lines.new f l rule ≡ (silenced_at lines.old f l rule || ((file == f) && (line == l) && holds rules rule))) }
+    ensures { OnOk result ((f l : ℕ) (rule : Rule)
+        → silenced_at lines.new f l rule
+        ≡ (silenced_at lines.old f l rule || ((file == f) && (line == l) && holds rules rule))) }
 {
     let both = rules_of_both(rules_on(lines, file, line), rules);
     lines.insert((file, line), both)?;
@@ -45,7 +47,8 @@ fn silence(
 
 /// Silences what a comment does on its own line.
 fn silence_by(lines: &mut SilencedLines, comment: KeptComment) -> Result<(), AllocError>
-    ensures { (comments : List (Comment Place)) → AreSilenced lines.old comments → OnOk result (AreSilenced lines.new (comments ++ kept_comment comment ∷ [])) }
+    ensures { (comments : List (Comment Place)) → AreSilenced lines.old comments
+        → OnOk result (AreSilenced lines.new (comments ++ kept_comment comment ∷ [])) }
 {
     if !is_any(comment.silences) {
         return Ok(());
@@ -67,7 +70,8 @@ pub fn silenced_lines(alloc: Global, comments: &[KeptComment]) -> Result<Silence
 
 /// Whether an issue is silenced, on its own line or by the line above.
 fn is_silenced(lines: &SilencedLines, entry: &Entry<'_>) -> bool
-    ensures { (comments : List (Comment Place)) → AreSilenced lines.now comments → result ≡ is_silenced comments (issue_of entry.now) }
+    ensures { (comments : List (Comment Place)) → AreSilenced lines.now comments
+        → result ≡ is_silenced comments (issue_of entry.now) }
 {
     let place = entry.at;
     if rules_on(lines, place.file, place.at.line).holds(entry.rule) {
@@ -86,7 +90,9 @@ fn put_unsilenced<'f>(
     shown: &mut Vec<Entry<'f>>,
 ) -> Result<(), AllocError>
     ensures { (comments : List (Comment Place)) → AreSilenced lines.now comments
-        → OnOk result (issues_of shown.new.items ≡ issues_of shown.old.items ++ filter (λ i. not (is_silenced comments i)) (issue_of entry.entry ∷ [])) }
+        → OnOk result (issues_of shown.new.items
+        ≡ issues_of shown.old.items ++ filter (λ i. not (is_silenced comments i))
+        (issue_of entry.entry ∷ [])) }
 {
     if is_silenced(lines, &entry) {
         return Ok(());
@@ -102,7 +108,8 @@ fn without_silenced<'f>(
     lines: &SilencedLines,
 ) -> Result<Vec<Entry<'f>>, AllocError>
     ensures { (comments : List (Comment Place)) → AreSilenced lines.now comments
-        → IfOk result (λ shown. issues_of shown.items ≡ filter (λ i. not (is_silenced comments i)) (issues_of entries.now)) }
+        → IfOk result (λ shown. issues_of shown.items
+        ≡ filter (λ i. not (is_silenced comments i)) (issues_of entries.now)) }
 {
     let mut shown = Vec::with_capacity(alloc, entries.len())?;
     for entry in entries {
@@ -119,7 +126,8 @@ pub fn shown_entries<'f>(
     lines: &SilencedLines,
 ) -> Result<Vec<Entry<'f>>, AllocError>
     ensures { (comments : List (Comment Place)) → AreSilenced lines.now comments
-        → IfOk result (λ shown. issues_of shown.items ≡ filter (λ i. not (is_silenced comments i)) (issues_of entries.entry.items)) }
+        → IfOk result (λ shown. issues_of shown.items
+        ≡ filter (λ i. not (is_silenced comments i)) (issues_of entries.entry.items)) }
 {
     if lines.is_empty() {
         return Ok(entries);

@@ -22,14 +22,17 @@ pub fn an_answer(words: &[&str], input: &[u8])
 
 /// A line of words and an input have one answer at most.
 pub fn one_answer()
-    ensures { (words : List (List ℕ)) (input : List ℕ) (row other : Row) → IsAnswer words input row → IsAnswer words input other → row ≡ other }
+    ensures { (words : List (List ℕ)) (input : List ℕ) (row other : Row) → IsAnswer words input row
+        → IsAnswer words input other → row ≡ other }
 {}
 
 /// A print that a run gave with status 0, and that is no help, gives itself when it is the input of a later run, with an
 /// empty standard error and status 0. A check of it gives nothing and status 0.
 pub fn printed_twice()
-    ensures printed { (words later : List (List ℕ)) (input : List ℕ) (row : Row) → AskForPrint words → AskForPrint later → IsAnswer words input row
+    ensures printed { (words later : List (List ℕ)) (input : List ℕ) (row : Row) → AskForPrint words
+        → AskForPrint later → IsAnswer words input row
         → row.status ≡ 0 → IsAnswer later row.out (row_of_print row.out) }
-    ensures formatted { (words later : List (List ℕ)) (input : List ℕ) (row : Row) → AskForPrint words → AskForCheck later → IsAnswer words input row
+    ensures formatted { (words later : List (List ℕ)) (input : List ℕ) (row : Row)
+        → AskForPrint words → AskForCheck later → IsAnswer words input row
         → row.status ≡ 0 → IsAnswer later row.out row_of_check }
 {}

@@ -37,7 +37,8 @@ fn command<'a>(alloc: Global) -> Result<Command<'a>, AllocError>
 /// The options that the words give, the program's name first, or the usage that they have. Where
 /// memory runs out it answers `OutOfMemory`.
 pub fn options(alloc: Global, words: &[&str]) -> Result<FmtOptions, Usage>
-    ensures { (result ≡ Err OutOfMemory) ⊎ (result ≡ options_of (map (λ word. word.now) words.now)) }
+    ensures { (result ≡ Err OutOfMemory)
+        ⊎ (result ≡ options_of (map (λ word. word.now) words.now)) }
 {
     let Ok(command) = command(alloc) else {
         return Err(Usage::OutOfMemory);

@@ -49,7 +49,8 @@ fn fault_line(alloc: Global, fault: &Fault) -> Result<String, AllocError>
 fn refuse<O: ByteSink, E: ByteSink>(alloc: Global, out: &mut O, err: &mut E, fault: &Fault) -> u8
     requires out { O.failed out.old ≡ false }
     requires err { E.failed err.old ≡ false }
-    ensures { ShowsIfMemory formatter (λ row. row ≡ refusal_row fault.now) (end_of O.ByteSink out.old out.new E.ByteSink err.old err.new result) }
+    ensures { ShowsIfMemory formatter (λ row. row ≡ refusal_row fault.now)
+        (end_of O.ByteSink out.old out.new E.ByteSink err.old err.new result) }
 {
     formatter().tell_line(out, err, fault_line(alloc, fault), 2)
 }
@@ -58,10 +59,13 @@ fn refuse<O: ByteSink, E: ByteSink>(alloc: Global, out: &mut O, err: &mut E, fau
 fn print<O: ByteSink>(accepted: &Accepted<'_, '_>, out: &mut O)
     requires out { O.failed out.old ≡ false }
     ensures took { Took (writer O.ByteSink out.old out.new) (print accepted.now.tokens) }
-    ensures flushed { O.failed out.new ≡ false → 0 < length (print accepted.now.tokens) → O.flushed out.new ≡ true }
-    ensures once { O.failed out.new ≡ false → 0 < length (print accepted.now.tokens) → O.flushes out.new ≡ one_more (O.flushes out.old) }
+    ensures flushed { O.failed out.new ≡ false → 0 < length (print accepted.now.tokens)
+        → O.flushed out.new ≡ true }
+    ensures once { O.failed out.new ≡ false → 0 < length (print accepted.now.tokens)
+        → O.flushes out.new ≡ one_more (O.flushes out.old) }
     ensures untouched { length (print accepted.now.tokens) ≡ 0 → O.failed out.new ≡ false }
-    ensures no_flush { length (print accepted.now.tokens) ≡ 0 → O.flushes out.new ≡ O.flushes out.old }
+    ensures no_flush { length (print accepted.now.tokens) ≡ 0
+        → O.flushes out.new ≡ O.flushes out.old }
 {
     if emit(accepted, out).is_ok() && !prints_nothing(accepted) {
         let _ = out.flush();
@@ -72,7 +76,8 @@ fn print<O: ByteSink>(accepted: &Accepted<'_, '_>, out: &mut O)
 fn show<O: ByteSink, E: ByteSink>(accepted: &Accepted<'_, '_>, out: &mut O, err: &mut E) -> u8
     requires out { O.failed out.old ≡ false }
     requires err { E.failed err.old ≡ false }
-    ensures { Shows formatter (output_row (print accepted.now.tokens) 0) (end_of O.ByteSink out.old out.new E.ByteSink err.old err.new result) }
+    ensures { Shows formatter (output_row (print accepted.now.tokens) 0)
+        (end_of O.ByteSink out.old out.new E.ByteSink err.old err.new result) }
 {
     print(accepted, out);
     formatter().finish(out, err, 0)
@@ -96,7 +101,8 @@ fn show_formatted<O: ByteSink, E: ByteSink>(
     requires formatted { print accepted.now.tokens ≡ accepted.now.text }
     requires out { O.failed out.old ≡ false }
     requires err { E.failed err.old ≡ false }
-    ensures { Shows formatter (row_of_file options.now accepted.now) (end_of O.ByteSink out.old out.new E.ByteSink err.old err.new result) }
+    ensures { Shows formatter (row_of_file options.now accepted.now)
+        (end_of O.ByteSink out.old out.new E.ByteSink err.old err.new result) }
 {
     let text = text_of(accepted);
     if options.check {
@@ -117,7 +123,8 @@ fn show_changed<O: ByteSink, E: ByteSink>(
     requires changed { options.now.check ≡ true → print accepted.now.tokens ≢ accepted.now.text }
     requires out { O.failed out.old ≡ false }
     requires err { E.failed err.old ≡ false }
-    ensures { ShowsIfMemory formatter (λ row. row ≡ row_of_file options.now accepted.now) (end_of O.ByteSink out.old out.new E.ByteSink err.old err.new result) }
+    ensures { ShowsIfMemory formatter (λ row. row ≡ row_of_file options.now accepted.now)
+        (end_of O.ByteSink out.old out.new E.ByteSink err.old err.new result) }
 {
     if !fits(accepted, MAX_SOURCE as u64) {
         let fault = Fault {
@@ -137,7 +144,8 @@ fn show_changed<O: ByteSink, E: ByteSink>(
 /// once: the others are printed anew, and their runs needn't be read ahead twice.
 fn is_known_formatted(options: &FmtOptions, accepted: &Accepted<'_, '_>) -> bool
     ensures formatted { IsTrue result → print accepted.now.tokens ≡ accepted.now.text }
-    ensures check { options.now.check ≡ true → print accepted.now.tokens ≡ accepted.now.text → IsTrue result }
+    ensures check { options.now.check ≡ true → print accepted.now.tokens ≡ accepted.now.text
+        → IsTrue result }
 {
     if options.check {
         return is_formatted(accepted);
@@ -156,7 +164,8 @@ fn format<O: ByteSink, E: ByteSink>(
 ) -> u8
     requires out { O.failed out.old ≡ false }
     requires err { E.failed err.old ≡ false }
-    ensures { ShowsIfMemory formatter (λ row. row ≡ row_of_file options.now accepted.now) (end_of O.ByteSink out.old out.new E.ByteSink err.old err.new result) }
+    ensures { ShowsIfMemory formatter (λ row. row ≡ row_of_file options.now accepted.now)
+        (end_of O.ByteSink out.old out.new E.ByteSink err.old err.new result) }
 {
     if is_known_formatted(options, accepted) {
         show_formatted(options, accepted, out, err)
@@ -175,7 +184,8 @@ fn answer<O: ByteSink, E: ByteSink>(
 ) -> u8
     requires out { O.failed out.old ≡ false }
     requires err { E.failed err.old ≡ false }
-    ensures { ShowsIfMemory formatter (IsTextAnswer options.now source.now) (end_of O.ByteSink out.old out.new E.ByteSink err.old err.new result) }
+    ensures { ShowsIfMemory formatter (IsTextAnswer options.now source.now)
+        (end_of O.ByteSink out.old out.new E.ByteSink err.old err.new result) }
 {
     match scan(alloc, source) {
         Ok(tokens) => match accepts(&tokens) {
@@ -201,7 +211,8 @@ pub fn run<R: ByteSource, O: ByteSink, E: ByteSink>(
     requires out { O.failed out.old ≡ false }
     requires err { E.failed err.old ≡ false }
     // However the run goes, it shows a row.
-    ensures { ShowsOne formatter (IsRow (IsFileAnswer options.now) (R.failed input.new) (R.left input.old)) (end_of O.ByteSink out.old out.new E.ByteSink err.old err.new result) }
+    ensures { ShowsOne formatter (IsRow (IsFileAnswer options.now) (R.failed input.new)
+        (R.left input.old)) (end_of O.ByteSink out.old out.new E.ByteSink err.old err.new result) }
 {
     match Source::read_from(alloc, input) {
         Ok(source) => answer(alloc, options, &source, out, err),
@@ -215,7 +226,8 @@ pub fn run<R: ByteSource, O: ByteSink, E: ByteSink>(
 pub fn bad_line<O: ByteSink, E: ByteSink>(out: &mut O, err: &mut E) -> u8
     requires out { O.failed out.old ≡ false }
     requires err { E.failed err.old ≡ false }
-    ensures { Shows formatter (message_row usage_line 2) (end_of O.ByteSink out.old out.new E.ByteSink err.old err.new result) }
+    ensures { Shows formatter (message_row usage_line 2)
+        (end_of O.ByteSink out.old out.new E.ByteSink err.old err.new result) }
 {
     formatter().tell(out, err, USAGE, 2)
 }
@@ -233,13 +245,19 @@ pub fn program<R: ByteSource, O: ByteSink, E: ByteSink>(
     requires out { O.failed out.old ≡ false }
     requires err { E.failed err.old ≡ false }
     // However the run goes, it shows a row.
-    ensures row { ShowsOne formatter (IsRow (IsAnswer (map (λ word. word.now) words.now)) (R.failed input.new) (R.left input.old)) (end_of O.ByteSink out.old out.new E.ByteSink err.old err.new result) }
+    ensures row { ShowsOne formatter
+        (IsRow (IsAnswer (map (λ word. word.now) words.now)) (R.failed input.new)
+        (R.left input.old)) (end_of O.ByteSink out.old out.new E.ByteSink err.old err.new result) }
     // Where nothing failed and memory was there, it shows the row of its words and its input.
-    ensures answer { R.failed input.new ≡ false → O.failed out.new ≡ false → E.failed err.new ≡ false → result ≢ 4
-        → OfInput (R.left input.old) (λ bytes. (row : Row) × IsAnswer (map (λ word. word.now) words.now) bytes row
-        × Shows formatter row (end_of O.ByteSink out.old out.new E.ByteSink err.old err.new result)) }
+    ensures answer { R.failed input.new ≡ false → O.failed out.new ≡ false
+        → E.failed err.new ≡ false → result ≢ 4
+        → OfInput (R.left input.old) (λ bytes. (row : Row)
+        × IsAnswer (map (λ word. word.now) words.now) bytes row
+        × Shows formatter row (end_of O.ByteSink out.old out.new E.ByteSink err.old err.new
+        result)) }
     // Where the words give no options, nothing is read.
-    ensures unread { IfErr (options_of (map (λ word. word.now) words.now)) (λ _. (R.failed input.new ≡ false) × (R.left input.new ≡ R.left input.old)) }
+    ensures unread { IfErr (options_of (map (λ word. word.now) words.now))
+        (λ _. (R.failed input.new ≡ false) × (R.left input.new ≡ R.left input.old)) }
 {
     match options(alloc, words) {
         Ok(options) => run(alloc, &options, input, out, err),

@@ -175,7 +175,7 @@ fn failing(kind: Kind, good: usize, most: usize) -> Devices {
 }
 
 // What a run shows whose call of this kind fails after so many good ones.
-fn shown_behind<'a>(row: &Row<'a>, kind: Kind, good: usize, most: usize) -> Shown<'a> {
+fn shown_after<'a>(row: &Row<'a>, kind: Kind, good: usize, most: usize) -> Shown<'a> {
     match kind {
         Kind::Read => (b"", READ_FAILED, 4),
         Kind::Write => (front(row.shown.0, good, most), WRITE_FAILED, 4),
@@ -205,7 +205,7 @@ fn fail_kind(rt: &impl Abort, alloc: Global, row: &Row<'_>, most: usize, kind: K
         if !fails(rt, alloc, row, &devices, kind) {
             return (good as u64, failures);
         }
-        let wanted = shown_behind(row, kind, good, most);
+        let wanted = shown_after(row, kind, good, most);
         let messages = fail_messages(rt, alloc, row, devices, wanted);
         failures = failures.saturating_add(1).saturating_add(messages as u64);
     }

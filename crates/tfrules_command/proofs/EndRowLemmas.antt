@@ -52,31 +52,31 @@ module _ (told : List ℕ → Option (List ℕ)) where
   unread_files (n ∷ ns) = All-cons (λ (file : NamedFile). Tells (told file.name) file.bytes) (record { name = n; bytes = told_or (told n) }) (unread ns) (tells_or (told n)) (unread_files ns)
 
   -- a run that stopped at a refused file shows the answer
-  refused_first : (asking : Asking) (front behind : List (List ℕ)) (name bytes : List ℕ) (size : ℕ) (kept : Kept) (row : Row) → asking.files ≡ front ++ name ∷ behind → Reached told front size kept → Tells (told name) bytes
+  refused_first : (asking : Asking) (front after : List (List ℕ)) (name bytes : List ℕ) (size : ℕ) (kept : Kept) (row : Row) → asking.files ≡ front ++ name ∷ after → Reached told front size kept → Tells (told name) bytes
       → IsRefused size (record { name = name; bytes = bytes }) row → IsRowBy told (Ok asking) false false row
-  refused_first asking front behind name bytes size kept row split p tells refusal =
+  refused_first asking front after name bytes size kept row split p tells refusal =
       let file : NamedFile = record { name = name; bytes = bytes } in (
-        p.files ++ file ∷ unread behind,
-        All-append (λ (f : NamedFile). Tells (told f.name) f.bytes) p.files (file ∷ unread behind) p.are (All-cons (λ (f : NamedFile). Tells (told f.name) f.bytes) file (unread behind) tells (unread_files behind)),
+        p.files ++ file ∷ unread after,
+        All-append (λ (f : NamedFile). Tells (told f.name) f.bytes) p.files (file ∷ unread after) p.are (All-cons (λ (f : NamedFile). Tells (told f.name) f.bytes) file (unread after) tells (unread_files after)),
         (
-          map-append (λ (f : NamedFile). f.name) p.files (file ∷ unread behind) ∙ ap (λ l. l ++ name ∷ names_of (unread behind)) p.named ∙ ap (λ l. front ++ name ∷ l) (unread_names behind) ∙ sym split,
-          inr (record { before = p.files; file = file; behind = unread behind; split = refl; sources = p.sources; accepted = p.accepted; refusal = subst (λ n. IsRefused n file row) p.size_is refusal }),
+          map-append (λ (f : NamedFile). f.name) p.files (file ∷ unread after) ∙ ap (λ l. l ++ name ∷ names_of (unread after)) p.named ∙ ap (λ l. front ++ name ∷ l) (unread_names after) ∙ sym split,
+          inr (record { before = p.files; file = file; after = unread after; split = refl; sources = p.sources; accepted = p.accepted; refusal = subst (λ n. IsRefused n file row) p.size_is refusal }),
         ),
       )
 
   stop_rows : (asking : Asking) (o r : Bool) (name : List ℕ) (why : Stop) (row : Row) → StopsAt told asking.files o r name why → row ≡ stop_row name why → OrOutOfMemory linter (IsRowBy told (Ok asking) o r) row
   stop_rows asking o r name (stop.Refused fault) row s is =
       inr (subst (λ b. IsRowBy told (Ok asking) b r row) (sym s.by.0.0) (subst (λ b. IsRowBy told (Ok asking) false b row) (sym s.by.0.1)
-      (refused_first asking s.front s.behind name s.by.1.0 s.size s.kept row s.split s.reached s.by.1.1 (inl (fault, s.by.1.2, is)))))
+      (refused_first asking s.front s.after name s.by.1.0 s.size s.kept row s.split s.reached s.by.1.1 (inl (fault, s.by.1.2, is)))))
   stop_rows asking o r name stop.TooLarge row s is =
       inr (subst (λ b. IsRowBy told (Ok asking) b r row) (sym s.by.0.0) (subst (λ b. IsRowBy told (Ok asking) false b row) (sym s.by.0.1)
-      (refused_first asking s.front s.behind name s.by.1.0 s.size s.kept row s.split s.reached s.by.1.1 (inr (s.by.1.2, is)))))
+      (refused_first asking s.front s.after name s.by.1.0 s.size s.kept row s.split s.reached s.by.1.1 (inr (s.by.1.2, is)))))
   stop_rows asking o r name stop.NotOpened row s is =
       inr (subst (λ b. IsRowBy told (Ok asking) b r row) (sym s.by) (record {
         before = s.reached.files;
         name = name;
-        behind = s.behind;
-        split = s.split ∙ ap (λ l. l ++ name ∷ s.behind) (sym s.reached.named);
+        after = s.after;
+        split = s.split ∙ ap (λ l. l ++ name ∷ s.after) (sym s.reached.named);
         files = s.reached.are;
         sources = s.reached.sources;
         accepted = s.reached.accepted;
@@ -86,8 +86,8 @@ module _ (told : List ℕ → Option (List ℕ)) where
       inr (subst (λ b. IsRowBy told (Ok asking) b r row) (sym s.by.0) (subst (λ b. IsRowBy told (Ok asking) false b row) (sym s.by.1) (record {
         before = s.reached.files;
         name = name;
-        behind = s.behind;
-        split = s.split ∙ ap (λ l. l ++ name ∷ s.behind) (sym s.reached.named);
+        after = s.after;
+        split = s.split ∙ ap (λ l. l ++ name ∷ s.after) (sym s.reached.named);
         files = s.reached.are;
         sources = s.reached.sources;
         accepted = s.reached.accepted;

@@ -145,7 +145,7 @@ pub stops_at : (told : List ℕ → Option (List ℕ)) (names : List (List ℕ))
     → here ≡ told name → Reached told (take i names) size kept → StopsBy here size o r why → StopsAt told names o r name why
 stops_at told names i size name here kept o r why lt named same p h = record {
   front = take i names;
-  behind = drop (i + 1) names;
+  after = drop (i + 1) names;
   split = sym (take-append-drop i names) ∙ ap (λ l. take i names ++ l) (from_here names i name lt (named ∙ get_or_default names i [] name lt));
   size = size;
   kept = kept;

@@ -19,25 +19,25 @@ last_false true b e = absurd (off e)
 both_false : (a b : Bool) → a ≡ false → b ≡ false → (a || b) ≡ false
 both_false a b e f = ap (λ x. x || b) e ∙ f
 
-any_behind : (f : List ℕ → Bool) (ns : List (List ℕ)) (x : List ℕ) → list_any f ns ≡ false → f x ≡ false → list_any f (ns ++ x ∷ []) ≡ false
-any_behind f [] x e h = both_false (f x) false h refl
-any_behind f (n ∷ ns) x e h = both_false (f n) (list_any f (ns ++ x ∷ [])) (first_false (f n) (list_any f ns) e) (any_behind f ns x (last_false (f n) (list_any f ns) e) h)
+any_after : (f : List ℕ → Bool) (ns : List (List ℕ)) (x : List ℕ) → list_any f ns ≡ false → f x ≡ false → list_any f (ns ++ x ∷ []) ≡ false
+any_after f [] x e h = both_false (f x) false h refl
+any_after f (n ∷ ns) x e h = both_false (f n) (list_any f (ns ++ x ∷ [])) (first_false (f n) (list_any f ns) e) (any_after f ns x (last_false (f n) (list_any f ns) e) h)
 
-apart_behind : (ns : List (List ℕ)) (x : List ℕ) → NoneTwice ns → list_any (λ known. bytes_eq known x) ns ≡ false → NoneTwice (ns ++ x ∷ [])
-apart_behind [] x d e = (refl, tt)
-apart_behind (n ∷ ns) x d e =
-    (any_behind (bytes_eq n) ns x d.0 (first_false (bytes_eq n x) (list_any (λ known. bytes_eq known x) ns) e), apart_behind ns x d.1 (last_false (bytes_eq n x) (list_any (λ known. bytes_eq known x) ns) e))
+apart_after : (ns : List (List ℕ)) (x : List ℕ) → NoneTwice ns → list_any (λ known. bytes_eq known x) ns ≡ false → NoneTwice (ns ++ x ∷ [])
+apart_after [] x d e = (refl, tt)
+apart_after (n ∷ ns) x d e =
+    (any_after (bytes_eq n) ns x d.0 (first_false (bytes_eq n x) (list_any (λ known. bytes_eq known x) ns) e), apart_after ns x d.1 (last_false (bytes_eq n x) (list_any (λ known. bytes_eq known x) ns) e))
 
 pub apart_with : (ns : List (List ℕ)) (x : List ℕ) → NoneTwice ns → NoneTwice (with_name ns x)
 apart_with ns x d = by (list_any (λ known. bytes_eq known x) ns) refl
   where
     by : (b : Bool) → list_any (λ known. bytes_eq known x) ns ≡ b → NoneTwice (cond b ns (ns ++ x ∷ []))
     by true e = d
-    by false e = apart_behind ns x d e
+    by false e = apart_after ns x d e
 
-some_behind : (ns : List (List ℕ)) (x : List ℕ) → 0 < length (ns ++ x ∷ [])
-some_behind [] x = lit≤ tt
-some_behind (n ∷ ns) x = omega arith
+some_after : (ns : List (List ℕ)) (x : List ℕ) → 0 < length (ns ++ x ∷ [])
+some_after [] x = lit≤ tt
+some_after (n ∷ ns) x = omega arith
 
 pub some_with : (ns : List (List ℕ)) (x : List ℕ) → 0 < length (with_name ns x)
 some_with [] x = lit≤ tt
@@ -45,4 +45,4 @@ some_with (n ∷ ns) x = by (list_any (λ known. bytes_eq known x) (n ∷ ns))
   where
     by : (b : Bool) → 0 < length (cond b (n ∷ ns) (n ∷ ns ++ x ∷ []))
     by true = omega arith
-    by false = some_behind (n ∷ ns) x
+    by false = some_after (n ∷ ns) x

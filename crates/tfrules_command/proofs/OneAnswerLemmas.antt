@@ -85,19 +85,19 @@ not_refused : (size : ℕ) (file : NamedFile) (source : Scanned) (row : Row) →
 not_refused size file source row a fit (inl x) = no_fault_too size file source x.0 a x.1
 not_refused size file source row a fit (inr x) = omega (arith, x.0.1, fit)
 
-accepted_within : (before : List NamedFile) (file : NamedFile) (behind : List NamedFile) (sources : List Scanned) → AllZip IsAcceptedAs (before ++ file ∷ behind) sources → (source : Scanned) × IsAcceptedAs file source
-accepted_within [] file behind [] a = absurd a
-accepted_within [] file behind (s ∷ ss) a = (s, a.0)
-accepted_within (f ∷ fs) file behind [] a = absurd a
-accepted_within (f ∷ fs) file behind (s ∷ ss) a = accepted_within fs file behind ss a.1
+accepted_within : (before : List NamedFile) (file : NamedFile) (after : List NamedFile) (sources : List Scanned) → AllZip IsAcceptedAs (before ++ file ∷ after) sources → (source : Scanned) × IsAcceptedAs file source
+accepted_within [] file after [] a = absurd a
+accepted_within [] file after (s ∷ ss) a = (s, a.0)
+accepted_within (f ∷ fs) file after [] a = absurd a
+accepted_within (f ∷ fs) file after (s ∷ ss) a = accepted_within fs file after ss a.1
 
 -- none of accepted files is refused
-none_refused : (before : List NamedFile) (file : NamedFile) (behind : List NamedFile) (sources : List Scanned) (row : Row) → AreAccepted (before ++ file ∷ behind) sources → IsRefused (size_of before) file row → ⊥
-none_refused before file behind sources row are refusal =
-    let found = accepted_within before file behind sources are.each in
-    let all : size_of (before ++ file ∷ behind) ≡ size_of before + size_of (file ∷ behind) = sum_by-append (λ (f : NamedFile). length f.bytes) before (file ∷ behind) in
-    let rest : size_of (file ∷ behind) ≡ length file.bytes + size_of behind = sum_by-cons (λ (f : NamedFile). length f.bytes) file behind in
-    let fit : size_of (before ++ file ∷ behind) ≤ max_module = are.fit in
+none_refused : (before : List NamedFile) (file : NamedFile) (after : List NamedFile) (sources : List Scanned) (row : Row) → AreAccepted (before ++ file ∷ after) sources → IsRefused (size_of before) file row → ⊥
+none_refused before file after sources row are refusal =
+    let found = accepted_within before file after sources are.each in
+    let all : size_of (before ++ file ∷ after) ≡ size_of before + size_of (file ∷ after) = sum_by-append (λ (f : NamedFile). length f.bytes) before (file ∷ after) in
+    let rest : size_of (file ∷ after) ≡ length file.bytes + size_of after = sum_by-cons (λ (f : NamedFile). length f.bytes) file after in
+    let fit : size_of (before ++ file ∷ after) ≤ max_module = are.fit in
     not_refused (size_of before) file found.0 row found.1 (omega (arith, all, rest, fit)) refusal
 
 -- ---- a list that is split twice
@@ -106,9 +106,9 @@ module _ {X : Type 0} where
   head_or other [] = other
   head_or other (x ∷ xs) = x
 
-  abbrev behind_head : List X → List X
-  behind_head [] = []
-  behind_head (x ∷ xs) = xs
+  abbrev after_head : List X → List X
+  after_head [] = []
+  after_head (x ∷ xs) = xs
 
   -- at the same place, or one within what is before the other
   abbrev Splits : List X → List X → X → X → Type 0
@@ -123,12 +123,12 @@ module _ {X : Type 0} where
   split_twice [] more [] bs a b e = inl (refl, ap (head_or a) e)
   split_twice [] more (y ∷ ys) bs a b e = inr (inl (ys, ap (λ v. v ∷ ys) (sym (ap (head_or a) e))))
   split_twice (x ∷ xs) more [] bs a b e = inr (inr (xs, ap (λ v. v ∷ xs) (ap (head_or x) e)))
-  split_twice (x ∷ xs) more (y ∷ ys) bs a b e = further x y xs ys a b (ap (head_or x) e) (split_twice xs more ys bs a b (ap behind_head e))
+  split_twice (x ∷ xs) more (y ∷ ys) bs a b e = further x y xs ys a b (ap (head_or x) e) (split_twice xs more ys bs a b (ap after_head e))
 
 -- ---- the row
 
 one_refused_first : (files : List NamedFile) (row other : Row) → IsRefusedFirst files row → IsRefusedFirst files other → row ≡ other
-one_refused_first files row other x y = by (split_twice x.before x.behind y.before y.behind x.file y.file (sym x.split ∙ y.split))
+one_refused_first files row other x y = by (split_twice x.before x.after y.before y.after x.file y.file (sym x.split ∙ y.split))
   where
     by : Splits x.before y.before x.file y.file → row ≡ other
     by (inl s) =
@@ -138,7 +138,7 @@ one_refused_first files row other x y = by (split_twice x.before x.behind y.befo
     by (inr (inr s)) = absurd (none_refused y.before y.file s.0 x.sources other (subst (λ fs. AreAccepted fs x.sources) s.1 x.accepted) y.refusal)
 
 reported_or_refused : (asking : Asking) (files : List NamedFile) (row other : Row) → IsReported asking files row → IsRefusedFirst files other → ⊥
-reported_or_refused asking files row other x y = none_refused y.before y.file y.behind x.sources other (subst (λ fs. AreAccepted fs x.sources) y.split x.accepted) y.refusal
+reported_or_refused asking files row other x y = none_refused y.before y.file y.after x.sources other (subst (λ fs. AreAccepted fs x.sources) y.split x.accepted) y.refusal
 
 one_reported : (asking : Asking) (files : List NamedFile) (row other : Row) → IsReported asking files row → IsReported asking files other → row ≡ other
 one_reported asking files row other x y =

@@ -5,7 +5,7 @@ use Rattle.std.proofs.lemmas.List.{append-nil}
 use Rattle.std.specs.Io.KnownBytes.{Appends}
 use Rattle.command_line.specs.Rows.{TookBy}
 use Rattle.tfrules_command.specs.Inner.Pages.{GoesOut, Holds}
-use Rattle.command_line.proofs.WriterLemmas.{took_behind, took_front}
+use Rattle.command_line.proofs.WriterLemmas.{took_after, took_front}
 
 -- ---- a page
 
@@ -36,15 +36,15 @@ goes_wrong_before false before now old waits new text e same t = absurd (cc)
 -- what waited before it was taken, and it waits
 pub goes_after : (f : Bool) (before now : Option (List ℕ)) (old waits empty new text : List ℕ) → f ≡ false → waits ≡ old → Appends before now waits → empty ≡ [] → new ≡ empty ++ text → GoesOut f before now old new text
 goes_after false before now old waits empty new text e same taken none is = λ rest after f t.
-    took_behind before now after f old (text ++ rest) (subst (λ l. Appends before now l) same taken) (subst (λ l. TookBy f now after l) (ap (λ l. l ++ rest) (is ∙ ap (λ l. l ++ text) none)) t)
+    took_after before now after f old (text ++ rest) (subst (λ l. Appends before now l) same taken) (subst (λ l. TookBy f now after l) (ap (λ l. l ++ rest) (is ∙ ap (λ l. l ++ text) none)) t)
 goes_after true before now old waits empty new text e same taken none is = absurd (cc)
 
 -- what waited before it was taken, and it was written, too
 pub goes_past : (f : Bool) (before now next : Option (List ℕ)) (old waits new text : List ℕ) → waits ≡ old → Appends before now waits → new ≡ [] → TookBy f now next text → GoesOut f before next old new text
 goes_past false before now next old waits new text same taken none t = λ rest after f u.
-    took_behind before now after f old (text ++ rest) (subst (λ l. Appends before now l) same taken)
-    (took_behind now next after f text rest t (subst (λ l. TookBy f next after l) (ap (λ l. l ++ rest) none) u))
-goes_past true before now next old waits new text same taken none t = took_behind before now next true old text (subst (λ l. Appends before now l) same taken) t
+    took_after before now after f old (text ++ rest) (subst (λ l. Appends before now l) same taken)
+    (took_after now next after f text rest t (subst (λ l. TookBy f next after l) (ap (λ l. l ++ rest) none) u))
+goes_past true before now next old waits new text same taken none t = took_after before now next true old text (subst (λ l. Appends before now l) same taken) t
 
 pub goes_as : (f : Bool) (before now : Option (List ℕ)) (old new text other : List ℕ) → text ≡ other → GoesOut f before now old new text → GoesOut f before now old new other
 goes_as f before now old new text other same g = subst (λ (l : List ℕ). GoesOut f before now old new l) same g

@@ -52,8 +52,8 @@ report_is names [] e is f = absurd (cc)
 report_is names (i ∷ is) e same f = append_assoc (decimal (length (i ∷ is))) (line (line (codes " issue(s) found:"))) (flat_map (issue_line names) (i ∷ is))
 
 -- a text was written, and then flushed
-pub flushed_behind : (a b c : Option (List ℕ)) (f : Bool) (s t : List ℕ) → s ≡ t → Appends a b s → Keeps b c → TookBy f a c t
-flushed_behind a b c f s t same p k = subst (TookBy f a c) same (by f (kept a b c s p k))
+pub flushed_after : (a b c : Option (List ℕ)) (f : Bool) (s t : List ℕ) → s ≡ t → Appends a b s → Keeps b c → TookBy f a c t
+flushed_after a b c f s t same p k = subst (TookBy f a c) same (by f (kept a b c s p k))
   where
     kept : (a b c : Option (List ℕ)) (s : List ℕ) → Appends a b s → Keeps b c → Appends a c s
     kept None b c s p k = tt

@@ -128,8 +128,8 @@ module _ (asking : Asking) (reports : (sources : List Scanned) → (report : Lis
       let found = reports sources in
       (report_row asking (map shown_issue found.0), inl (record { sources = sources; accepted = are; issues = map shown_issue found.0; found = record { report = found.0; is = found.1; same = refl }; is = refl }))
 
-  refused_at : (before : List NamedFile) (file : NamedFile) (behind : List NamedFile) (sources : List Scanned) → AreAccepted before sources → (row : Row) → IsRefused (size_of before) file row → Ends (before ++ file ∷ behind)
-  refused_at before file behind sources are row refusal = (row, inr (record { before = before; file = file; behind = behind; split = refl; sources = sources; accepted = are; refusal = refusal }))
+  refused_at : (before : List NamedFile) (file : NamedFile) (after : List NamedFile) (sources : List Scanned) → AreAccepted before sources → (row : Row) → IsRefused (size_of before) file row → Ends (before ++ file ∷ after)
+  refused_at before file after sources are row refusal = (row, inr (record { before = before; file = file; after = after; split = refl; sources = sources; accepted = are; refusal = refusal }))
 
   one_more : (before : List NamedFile) (file : NamedFile) (sources : List Scanned) (source : Scanned) → AreAccepted before sources → IsAcceptedAs file source → size_of before + length file.bytes ≤ max_module
       → AreAccepted (before ++ file ∷ []) (sources ++ source ∷ [])
@@ -139,16 +139,16 @@ module _ (asking : Asking) (reports : (sources : List Scanned) → (report : Lis
       let none : size_of [] ≡ 0 = refl in
       record { each = all_zip_push before sources file source are.each a; fit = omega (arith, sum, last, none, fit) }
 
-  module _ (before : List NamedFile) (file : NamedFile) (behind : List NamedFile) (sources : List Scanned) (are : AreAccepted before sources)
-      (next : (source : Scanned) → AreAccepted (before ++ file ∷ []) (sources ++ source ∷ []) → Ends ((before ++ file ∷ []) ++ behind)) where
+  module _ (before : List NamedFile) (file : NamedFile) (after : List NamedFile) (sources : List Scanned) (are : AreAccepted before sources)
+      (next : (source : Scanned) → AreAccepted (before ++ file ∷ []) (sources ++ source ∷ []) → Ends ((before ++ file ∷ []) ++ after)) where
     text_ends : IsText file.bytes → (outcome : Result Scanned Fault) → IsOutcome file.bytes outcome → (size_of before + length file.bytes ≤ max_module) ⊎ (max_module < size_of before + length file.bytes)
-        → Ends (before ++ file ∷ behind)
-    text_ends is outcome has (inr more) = refused_at before file behind sources are (too_large file.name) (inr ((is, more), refl))
-    text_ends is (Err fault) has (inl fit) = refused_at before file behind sources are (refusal_row file.name fault) (inl (fault, inr (is, fit, has), refl))
-    text_ends is (Ok source) has (inl fit) = subst Ends (append_assoc before (file ∷ []) behind) (next source (one_more before file sources source are (is, has) fit))
+        → Ends (before ++ file ∷ after)
+    text_ends is outcome has (inr more) = refused_at before file after sources are (too_large file.name) (inr ((is, more), refl))
+    text_ends is (Err fault) has (inl fit) = refused_at before file after sources are (refusal_row file.name fault) (inl (fault, inr (is, fit, has), refl))
+    text_ends is (Ok source) has (inl fit) = subst Ends (append_assoc before (file ∷ []) after) (next source (one_more before file sources source are (is, has) fit))
 
-    file_ends : Outcome file → Ends (before ++ file ∷ behind)
-    file_ends (inl fault) = refused_at before file behind sources are (refusal_row file.name fault.0) (inl (fault.0, inl fault.1, refl))
+    file_ends : Outcome file → Ends (before ++ file ∷ after)
+    file_ends (inl fault) = refused_at before file after sources are (refusal_row file.name fault.0) (inl (fault.0, inl fault.1, refl))
     file_ends (inr text) = text_ends text.0 text.1.0 text.1.1 (above_or_not (size_of before + length file.bytes) max_module)
 
   files_end : (before rest : List NamedFile) (sources : List Scanned) → AreAccepted before sources → All Outcome rest → Ends (before ++ rest)

@@ -60,8 +60,8 @@ Sorted xs = (sorted : List Issue) × Ascends Before sorted × SameMembers xs sor
 first_of_all : (x y : Issue) (ys : List Issue) → Before x y → Ascends Before (y ∷ ys) → Sorted (x ∷ y ∷ ys)
 first_of_all x y ys h a = (x ∷ y ∷ ys, ((h, through x y ys h a.0), a), λ z. (λ m. m, λ m. m))
 
-behind_first : (x y : Issue) (ys : List Issue) → Before y x → Ascends Before (y ∷ ys) → Sorted (x ∷ ys) → Sorted (x ∷ y ∷ ys)
-behind_first x y ys h a s = (y ∷ s.0, (to_all Before y s.0 (λ z m. below z ((s.2 z).1 m)), s.1), λ z. (into z, from z))
+after_first : (x y : Issue) (ys : List Issue) → Before y x → Ascends Before (y ∷ ys) → Sorted (x ∷ ys) → Sorted (x ∷ y ∷ ys)
+after_first x y ys h a s = (y ∷ s.0, (to_all Before y s.0 (λ z m. below z ((s.2 z).1 m)), s.1), λ z. (into z, from z))
   where
     below : (z : Issue) → Member z (x ∷ ys) → Before y z
     below z (inl e) = subst (λ v. Before y v) (sym e) h
@@ -86,7 +86,7 @@ among x (y ∷ ys) d a = by (in_some_order (key_of x) (key_of y) d.0) (among x y
   where
     by : Precedes (key_of x) (key_of y) ⊎ Precedes (key_of y) (key_of x) → Sorted (x ∷ ys) → Sorted (x ∷ y ∷ ys)
     by (inl h) s = first_of_all x y ys h a
-    by (inr h) s = behind_first x y ys h a s
+    by (inr h) s = after_first x y ys h a s
 
 sorted : (xs : List Issue) → Ascends Differ xs → Sorted xs
 sorted [] d = ([], tt, λ z. (λ m. m, λ m. m))

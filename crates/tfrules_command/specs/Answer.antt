@@ -50,8 +50,8 @@ pub record IsReported (asking : Asking) (files : List NamedFile) (row : Row) : T
 pub record IsRefusedFirst (files : List NamedFile) (row : Row) : Type 0 where
   pub before : List NamedFile
   pub file : NamedFile
-  pub behind : List NamedFile
-  pub split : files ≡ before ++ file ∷ behind
+  pub after : List NamedFile
+  pub split : files ≡ before ++ file ∷ after
   pub sources : List Scanned
   pub accepted : AreAccepted before sources
   pub refusal : IsRefused (size_of before) file row

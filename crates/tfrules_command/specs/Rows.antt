@@ -16,8 +16,8 @@ AreFiles told files = All (λ file. Tells (told file.name) file.bytes) files
 pub record IsUnread (text : List ℕ) (told : List ℕ → Option (List ℕ)) (asking : Asking) (row : Row) : Type 0 where
   pub before : List NamedFile
   pub name : List ℕ
-  pub behind : List (List ℕ)
-  pub split : asking.files ≡ names_of before ++ name ∷ behind
+  pub after : List (List ℕ)
+  pub split : asking.files ≡ names_of before ++ name ∷ after
   pub files : AreFiles told before
   pub sources : List Scanned
   pub accepted : AreAccepted before sources

@@ -141,7 +141,7 @@ fn line_about(
 }
 
 // The message of a run whose call of this kind fails after so many good ones.
-fn message_behind(
+fn message_after(
     rt: &impl Abort,
     alloc: Global,
     row: &Row<'_>,
@@ -156,7 +156,7 @@ fn message_behind(
 }
 
 // What such a run writes of its report, with at most so many bytes a call.
-fn report_behind(
+fn report_after(
     rt: &impl Abort,
     alloc: Global,
     row: &Row<'_>,
@@ -195,8 +195,8 @@ fn fail_kind(rt: &impl Abort, alloc: Global, row: &Row<'_>, most: usize, kind: K
         if !fails(rt, alloc, row, &devices, kind) {
             return (good as u64, failures);
         }
-        let report = report_behind(rt, alloc, row, kind, good, most);
-        let message = message_behind(rt, alloc, row, kind, good);
+        let report = report_after(rt, alloc, row, kind, good, most);
+        let message = message_after(rt, alloc, row, kind, good);
         let messages = fail_messages(rt, alloc, row, devices, (&report, &message, 1));
         failures = failures.saturating_add(1).saturating_add(messages);
     }

@@ -13,7 +13,7 @@ use Rattle.tree_format.specs.Tally.{Tallies}
 use Rattle.tree_format.specs.declared.tally.Tally.{Tally}
 use Rattle.tree_format.specs.declared.outcome.Outcome.{Outcome}
 use Rattle.tree_format.specs.declared.mode.Mode.{Mode}
-use Rattle.command_line.proofs.WriterLemmas.{took_behind, took_front}
+use Rattle.command_line.proofs.WriterLemmas.{took_after, took_front}
 use Rattle.tree_command.specs.Ends.{Formats, IsPartOf, last_words, words_at_end}
 use Rattle.tree_command.specs.Line.{Part}
 
@@ -41,7 +41,7 @@ still_whole w fin text last good same took has = record {
   more = has.more ++ last;
   between = has.between;
   whole = subst (λ b. TookBy false b has.between text) (sym same) has.whole;
-  later = took_behind has.between w.after fin.after fin.failed has.more last (subst (λ v. TookBy v has.between w.after has.more) good has.later) took;
+  later = took_after has.between w.after fin.after fin.failed has.more last (subst (λ v. TookBy v has.between w.after has.more) good has.later) took;
 }
 
 module _ (mode : Mode) (found : List Found) (a c : State) (out err : Writer) (s : ℕ) (run : IsRun mode found (λ answers. []) a c (record { out = out; err = err; status = s })) where
@@ -72,7 +72,7 @@ module _ (mode : Mode) (found : List Found) (a c : State) (out err : Writer) (s 
     looks = run.looks;
     output = run.output;
     message = subst (λ b. TookBy fin.failed b fin.after (errs mode run.seen run.answers ++ last run.answers)) (sym same)
-        (took_behind err.before err.after fin.after fin.failed (errs mode run.seen run.answers) (last run.answers)
+        (took_after err.before err.after fin.after fin.failed (errs mode run.seen run.answers) (last run.answers)
         (subst (λ v. TookBy v err.before err.after (errs mode run.seen run.answers)) good (subst (TookBy err.failed err.before err.after) (append-nil (errs mode run.seen run.answers)) run.message)) took);
     stops = record { output = run.stops.output; message = still_whole err fin _ (last run.answers) good same took run.stops.message };
     exit = exit_by out.failed fin.failed err.failed s s' (statuses mode run.seen run.answers) good run.exit status;

@@ -19,7 +19,7 @@ use Rattle.tree_format.specs.declared.mode.Mode.{Mode}
 use Rattle.tree_format.specs.declared.mode.Mode.TheVariants.{Write, Check, List as Listed, Diff}
 use Rattle.tree_format.specs.declared.outcome.Outcome.{Outcome}
 use Rattle.tree_format.specs.declared.outcome.Outcome.TheVariants as outcome
-use Rattle.command_line.proofs.WriterLemmas.{appends_nothing, appends_then, took_behind}
+use Rattle.command_line.proofs.WriterLemmas.{appends_nothing, appends_then, took_after}
 
 -- ---- the worst status
 
@@ -215,7 +215,7 @@ run_cut mode found seen rest here answer a b c o' e' s t t' out err all before t
         → TookBy v x z (concat (map f (reports_of mode (seen ++ here ∷ []) (before.answers ++ answer ∷ []))))
     text f v x y z p q =
         subst (TookBy v x z) (sym (ap (λ rs. concat (map f rs)) reports ∙ one_text f (reports_of mode seen before.answers) (report_of mode here.name.items answer)))
-        (took_behind x y z v (concat (map f (reports_of mode seen before.answers))) (f (report_of mode here.name.items answer)) p q)
+        (took_after x y z v (concat (map f (reports_of mode seen before.answers))) (f (report_of mode here.name.items answer)) p q)
 
     stop : (f : Report → List ℕ) (w : Writer) (y : Option (List ℕ)) → Appends w.before y (concat (map f (reports_of mode seen before.answers))) → TookBy w.failed y w.after (f (report_of mode here.name.items answer))
         → HasWhole w (concat (map f (but_last (reports_of mode (seen ++ here ∷ []) (before.answers ++ answer ∷ [])))))

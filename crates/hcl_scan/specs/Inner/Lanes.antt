@@ -12,7 +12,7 @@ pub record IsLikely (text marker : List ℕ) (place : ℕ) : Type 0 where
   pub before : get_or text place 0 ≤ 32
   pub front : get_or text (place + 1) 0 ≡ get_or marker 0 0
   pub back : get_or text (place + length marker) 0 ≡ get_or marker (length marker - 1) 0
-  pub behind : get_or text (place + length marker + 1) 0 ≤ 32
+  pub following : get_or text (place + length marker + 1) 0 ≤ 32
 
 -- bit k is set where it may stand after `at + k`
 pub record MarksLikely (text marker : List ℕ) (at mask : ℕ) : Type 0 where

@@ -23,7 +23,7 @@ EndsLine text at = IsTrue (at_line_end (skip_blanks (drop at text)))
 
 -- the first line after the place begins after n bytes of the text
 pub record IsNextLine (text : List ℕ) (place n : ℕ) : Type 0 where
-  pub behind : place < n
+  pub beyond : place < n
   pub within : n ≤ length text
   pub starts_line : get_or text (n - 1) 0 ≡ 10
   pub first : (m : ℕ) → place < m → m < n → get_or text (m - 1) 0 ≢ 10

@@ -2,14 +2,14 @@
 use Rattle.std.specs.Prelude.{◌≡◌, ◌<◌, ◌≤◌, ◌+◌, ℕ, List, [], ◌++◌}
 use Rattle.hcl_tokens.specs.Lexemes.{Lexeme}
 use Rattle.hcl_grammar.specs.Numbered.{Numbered}
-use Rattle.hcl_grammar.specs.Items.{behind_brace, block, item_of}
+use Rattle.hcl_grammar.specs.Items.{after_brace, block, item_of}
 use Rattle.hcl_syntax.specs.Inner.Pieces.{CanBegin, words}
 use Rattle.hcl_syntax.specs.declared.pieces.Body.{Body}
 use Rattle.hcl_grammar.specs.declared.item.Item.{Item}
 
 -- the number is that of the token after the first opening brace, or the end
-pub record IsBehindBrace (tokens : List Lexeme) (from to first : ℕ) : Type 0 where
-  pub is : words tokens first to ≡ behind_brace (words tokens from to)
+pub record IsAfterBrace (tokens : List Lexeme) (from to first : ℕ) : Type 0 where
+  pub is : words tokens first to ≡ after_brace (words tokens from to)
   pub from_on : from ≤ first
   pub within : first ≤ to
   pub begins : first < to → CanBegin tokens first

@@ -34,11 +34,11 @@ said (Err e) f = Err f
 -- With the symbols xs first, whatever comes after them, the predictor comes from the old tokens to the new ones with
 -- ys in their place, or ends with the refusal.
 pub record Advances {A : Type 0} (count : ℕ) (xs : List Marked) (old : List Lookahead) (result : Result A Refusal) (ys : List Marked) (new : List Lookahead) : Type 0 where
-  pub same : (behind : List Marked) → run count (xs ++ behind) old ≡ outcome result (run count (ys ++ behind) new)
+  pub same : (after : List Marked) → run count (xs ++ after) old ≡ outcome result (run count (ys ++ after) new)
 
 -- The same with the symbols gone and one directive fewer open.
 pub record Ends {A : Type 0} (count : ℕ) (xs : List Marked) (old : List Lookahead) (result : Result A Refusal) (new : List Lookahead) : Type 0 where
-  pub same : (behind : List Marked) → run (count + 1) (xs ++ behind) old ≡ outcome result (run count behind new)
+  pub same : (after : List Marked) → run (count + 1) (xs ++ after) old ≡ outcome result (run count after new)
 
 -- The same with the symbols gone.
 abbrev pub Parses : ℕ → List Marked → List Lookahead → Result (Unit {0}) Refusal → List Lookahead → Type 0

@@ -6,7 +6,7 @@ use Rattle.hcl_tokens.specs.declared.token.Kind.{Kind}
 use Rattle.hcl_tokens.specs.declared.token.Kind.TheVariants as kind
 use Rattle.hcl_grammar.specs.Numbered.{is_passed_over}
 use Rattle.hcl_tokens.specs.Lexemes.{Lexeme}
-use Rattle.tf_facts.specs.Patterns.{begins_with_close, behind_closer}
+use Rattle.tf_facts.specs.Patterns.{begins_with_close, after_closer}
 use Rattle.tf_facts.specs.Inner.Seen.{seen_from}
 use Rattle.tf_facts.specs.declared.part.Part.{Part}
 use Rattle.tf_facts.specs.declared.part.Part.TheVariants as part
@@ -17,7 +17,7 @@ quote_from tokens n = begins_with_close (seen_from tokens n)
 
 -- so does what is seen after the closer of what is open there, where so many more are open
 abbrev pub closes_before_quote : List Lexeme → ℕ → ℕ → Bool
-closes_before_quote tokens depth n = begins_with_close (behind_closer depth (seen_from tokens n))
+closes_before_quote tokens depth n = begins_with_close (after_closer depth (seen_from tokens n))
 
 -- the answers by depth: for nothing more open last, for one before it, and so on
 abbrev pub AreAhead : List Lexeme → List Bool → ℕ → Type 0

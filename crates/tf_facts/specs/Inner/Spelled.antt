@@ -1,7 +1,7 @@
 -- The text that identifies a reference.
 use Rattle.std.specs.Prelude.{◌≡◌, ◌<◌, ◌+◌, ◌^◌, ℕ, List, drop, length, Some}
 use Rattle.hcl_tokens.specs.Lexemes.{Lexeme}
-use Rattle.tf_facts.specs.References.{name_behind, variable_reference, local_reference, data_reference}
+use Rattle.tf_facts.specs.References.{name_after, variable_reference, local_reference, data_reference}
 use Rattle.tf_facts.specs.Inner.Seen.{seen_from, numbered_of}
 use Rattle.tf_facts.specs.declared.seen.Seen.{Seen}
 use Rattle.tf_facts.specs.declared.reference.Reference.{Reference}
@@ -13,8 +13,8 @@ spelled (Local n) = local_reference n.now
 spelled (Data t n) = data_reference t.now n.now
 
 -- the token is the identifier after a dot with which the tokens from a number on begin
-pub record IsBehind (tokens : List Lexeme) (from : ℕ) (t : Seen) : Type 0 where
-  pub named : name_behind (seen_from tokens from) ≡ Some (numbered_of t)
+pub record IsAfter (tokens : List Lexeme) (from : ℕ) (t : Seen) : Type 0 where
+  pub named : name_after (seen_from tokens from) ≡ Some (numbered_of t)
   pub rest : drop 2 (seen_from tokens from) ≡ seen_from tokens (t.number + 1)
   pub within : t.number < length tokens
   pub small : t.number + 1 < 2 ^ 64

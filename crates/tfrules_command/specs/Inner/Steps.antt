@@ -100,8 +100,8 @@ pub record Reached (told : List ℕ → Option (List ℕ)) (names : List (List �
 -- the run came to the file of this name, and stopped
 pub record StopsAt (told : List ℕ → Option (List ℕ)) (names : List (List ℕ)) (o r : Bool) (name : List ℕ) (why : Stop) : Type 0 where
   pub front : List (List ℕ)
-  pub behind : List (List ℕ)
-  pub split : names ≡ front ++ name ∷ behind
+  pub after : List (List ℕ)
+  pub split : names ≡ front ++ name ∷ after
   pub size : ℕ
   pub kept : Kept
   pub reached : Reached told front size kept

@@ -11,9 +11,9 @@ returns-then-is_found_at-clause-found c = record {
 
 pub loop-here-preserved : goal.loop-here-preserved
 loop-here-preserved c = record {
-  low = omega (arith, c.past_unlikely-here.ensures.behind.low, c.loop-here.invariant.low);
+  low = omega (arith, c.past_unlikely-here.ensures.after.low, c.loop-here.invariant.low);
   within = c.past_unlikely-here.ensures.within;
-  later = later c.args.marker.now c.args.text.now c.args.at c.loop-here.here c.past_unlikely-here.result c.requires.some c.loop-here.invariant.later (sym c.is_found_at.ensures ∙ c.if-is_found_at.false) c.past_unlikely-here.ensures.behind;
+  later = later c.args.marker.now c.args.text.now c.args.at c.loop-here.here c.past_unlikely-here.result c.requires.some c.loop-here.invariant.later (sym c.is_found_at.ensures ∙ c.if-is_found_at.false) c.past_unlikely-here.ensures.after;
 }
 
 pub returns-clause-none : goal.returns-clause-none

@@ -3,6 +3,6 @@ use Rattle.hcl_syntax.proofs.pieces.put_block.Goals as goal
 
 pub returns : goal.returns
 returns c =
-    let behind = c.in_ok-first.ensures.behind in
+    let after = c.in_ok-first.ensures.after in
     puts_block c.args.tokens.now.tokens c.args.level c.args.kind c.args.to c.in_ok-first.first c.block_end-end.result c.saturating_sub.result c.args.items.now c.push_block.new.self c.put_labels.new.items
-    behind.is behind.from_on c.block_end-end.ensures.is c.block_end-end.ensures.within behind.begins c.saturating_sub.ensures c.in_ok-push_block.ensures.pushed c.in_ok-first.ensures.labels
+    after.is after.from_on c.block_end-end.ensures.is c.block_end-end.ensures.within after.begins c.saturating_sub.ensures c.in_ok-push_block.ensures.pushed c.in_ok-first.ensures.labels

@@ -10,12 +10,12 @@ returns-then-is_brace_open-clause-labels c =
     labels_brace c.args.tokens.now.tokens c.args.from c.args.to c.args.items.now c.loop-number.items c.loop-number.number (lexeme c.get-token.result) c.get-token.ensures.token c.loop-number-test.true
     (sym c.is_brace_open.ensures ∙ c.if-is_brace_open.true) c.loop-number.invariant.labels
 
-pub returns-then-is_brace_open-clause-behind : goal.returns-then-is_brace_open-clause-behind
-returns-then-is_brace_open-clause-behind c =
+pub returns-then-is_brace_open-clause-after : goal.returns-then-is_brace_open-clause-after
+returns-then-is_brace_open-clause-after c =
     let ts = c.args.tokens.now.tokens in
     let brace = sym c.is_brace_open.ensures ∙ c.if-is_brace_open.true in
     record {
-      is = sym (brace_here ts c.loop-number.number c.args.to (lexeme c.get-token.result) c.get-token.ensures.token c.loop-number-test.true brace) ∙ c.loop-number.invariant.behind;
+      is = sym (brace_here ts c.loop-number.number c.args.to (lexeme c.get-token.result) c.get-token.ensures.token c.loop-number-test.true brace) ∙ c.loop-number.invariant.after;
       from_on = omega (arith, c.loop-number.auto.number);
       within = omega (arith, c.loop-number-test.true);
       begins = λ _. brace_begins ts c.loop-number.number (lexeme c.get-token.result) c.get-token.ensures.token brace;
@@ -28,5 +28,5 @@ loop-number-preserved c =
     record {
       labels = labels_more ts c.args.from c.args.to c.args.items.now c.loop-number.items c.loop-number.number (lexeme c.get-token.result) c.put_label.new.items c.get-token.ensures.token
           c.loop-number-test.true other c.in_ok-put_label.ensures c.loop-number.invariant.labels;
-      behind = sym (brace_past ts c.loop-number.number c.args.to (lexeme c.get-token.result) c.get-token.ensures.token c.loop-number-test.true other) ∙ c.loop-number.invariant.behind;
+      after = sym (brace_past ts c.loop-number.number c.args.to (lexeme c.get-token.result) c.get-token.ensures.token c.loop-number-test.true other) ∙ c.loop-number.invariant.after;
     }

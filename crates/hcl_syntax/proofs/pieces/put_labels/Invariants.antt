@@ -1,5 +1,5 @@
 use Rattle.std.proofs.Common.{◌≡◌}
-use Rattle.hcl_grammar.specs.Items.{behind_brace}
+use Rattle.hcl_grammar.specs.Items.{after_brace}
 use Rattle.hcl_syntax.specs.Inner.Pieces.{words}
 use Rattle.hcl_syntax.proofs.LabelLemmas.{AreLabels}
 use Rattle.hcl_syntax.proofs.pieces.put_labels.Given as goal
@@ -7,5 +7,5 @@ use Rattle.hcl_syntax.proofs.pieces.put_labels.Given as goal
 abbrev pub invariant-loop-number : goal.invariant-loop-number
 invariant-loop-number l = record {
   labels : AreLabels l.tokens.tokens l.from l.to l.fn.items l.items l.number;
-  behind : behind_brace (words l.tokens.tokens l.number l.to) ≡ behind_brace (words l.tokens.tokens l.from l.to);
+  after : after_brace (words l.tokens.tokens l.number l.to) ≡ after_brace (words l.tokens.tokens l.from l.to);
 }

@@ -2,7 +2,7 @@ use Rattle.std.proofs.Common.{◌∙◌, ◌+◌, ◌<◌, sym, map, refl, lengt
 use Rattle.hcl_tokens.specs.Scanned.{lexeme}
 use Rattle.tf_facts.specs.Inner.Seen.{after_dot}
 use Rattle.tf_facts.specs.OwnBlocks.{own_of}
-use Rattle.tf_facts.proofs.CollectLemmas.{begins, collected, no_behind, over_no_idents, skipped}
+use Rattle.tf_facts.proofs.CollectLemmas.{begins, collected, no_after, over_no_idents, skipped}
 use Rattle.tf_facts.proofs.OwnLemmas.{nothing_passed, still_passed}
 use Rattle.tf_facts.proofs.PatternLemmas.{there_is}
 use Rattle.tf_facts.proofs.SeenLemmas.{after_seen, word_seen}
@@ -35,7 +35,7 @@ loop-next-preserved-then-not-may_be_named c =
     record {
       walked = record {
         collected = over_no_idents own ts c.args.into.now c.loop-next.into (n + 1) c.next_ident-next-in-loop-next.result next.order next.within next.none
-            (no_behind own ts c.args.into.now c.loop-next.into (after_dot ts n) (after_dot ts (n + 1)) n t.0 t.1 seen (c.may_be_named.ensures c.if-not-may_be_named.true) dot c.loop-next.invariant.walked.collected);
+            (no_after own ts c.args.into.now c.loop-next.into (after_dot ts n) (after_dot ts (n + 1)) n t.0 t.1 seen (c.may_be_named.ensures c.if-not-may_be_named.true) dot c.loop-next.invariant.walked.collected);
         passed = still_passed own c.loop-next.passed_blocks n c.next_ident-next-in-loop-next.result (omega (arith, next.order)) c.loop-next.invariant.walked.passed;
         within = c.loop-next.invariant.walked.within;
       };

@@ -16,6 +16,6 @@ returns c = λ rule.
     let rest = c.without_blanks-rest.result.now in
     let list = before_first (λ b. b == 35) (drop (length keyword) rest) in
     c.all_named.ensures rule
-    ∙ ap (λ text. any_names rule (slice_split (λ b. b == 44) text)) (part_is c.behind.result.now 35 c.cut.result c.cut.ensures ∙ ap (before_first (λ b. b == 35)) c.behind.ensures)
+    ∙ ap (λ text. any_names rule (slice_split (λ b. b == 44) text)) (part_is c.after.result.now 35 c.cut.result c.cut.ensures ∙ ap (before_first (λ b. b == 35)) c.after.ensures)
     ∙ ap (λ b. any_names rule (cond b (slice_split (λ x. x == 44) list) [])) (sym c.if-not-begins.false ∙ c.begins.ensures)
     ∙ ap (λ r. any_names rule (parts r)) (c.without_blanks-rest.ensures ∙ ap (without_front is_blank) c.unmarked.ensures)

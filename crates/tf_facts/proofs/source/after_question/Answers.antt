@@ -1,7 +1,7 @@
 use Rattle.std.proofs.Common.{◌∙◌, ◌+◌, sym, eq-eqb}
 use Rattle.std.proofs.lemmas.List.{take_rest}
 use Rattle.tf_facts.proofs.FrontLemmas.{question_here}
-use Rattle.tf_facts.proofs.source.behind_question.Goals as goal
+use Rattle.tf_facts.proofs.source.after_question.Goals as goal
 
 pub returns-then-text-start-eq63 : goal.returns-then-text-start-eq63
 returns-then-text-start-eq63 c =

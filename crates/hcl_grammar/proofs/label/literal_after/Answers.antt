@@ -2,7 +2,7 @@ use Rattle.std.proofs.Common.{◌∙◌, ap, sym, cond, [], ◌+◌, arith}
 use Rattle.hcl_tokens.specs.Scanned.{lexeme}
 use Rattle.hcl_grammar.specs.Labels.{first_literal}
 use Rattle.hcl_grammar.proofs.NumberedLemmas.{numbered_here, numbered_past}
-use Rattle.hcl_grammar.proofs.label.literal_behind.Goals as goal
+use Rattle.hcl_grammar.proofs.label.literal_after.Goals as goal
 
 pub returns-then-next-count : goal.returns-then-next-count
 returns-then-next-count c = ap first_literal (sym (numbered_past c.args.tokens.now.tokens (c.args.number + 1) (omega (arith, c.len-count.ensures.len))))
