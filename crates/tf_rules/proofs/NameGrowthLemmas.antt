@@ -17,7 +17,7 @@ use Rattle.hcl_grammar.specs.Verdict.{IsAccepted}
 use Rattle.hcl_grammar.specs.declared.item.Item.{Item}
 use Rattle.hcl_grammar.specs.declared.item.Item.TheVariants as item
 use Rattle.hcl_grammar.specs.declared.item.Label.{Label}
-use Rattle.label_laws.proofs.NamePlaceLemmas.{IsApart, apart, apart_on, begins_dot, after_dot, first, is_apart}
+use Rattle.label_laws.proofs.NamePlaceLemmas.{IsApart, apart, apart_on, begins_dot, follows_dot, first, is_apart}
 use Rattle.label_laws.proofs.PieceTurnLemmas.{AllGood, Good}
 use Rattle.label_laws.proofs.PlainLabelLemmas.{file_good}
 use Rattle.tf_facts.specs.Declarations.{Declaration, SourceAt, declarations}
@@ -83,7 +83,7 @@ one_token kind.Lit dot next n m h = omega arith
 one_token _ dot next n m h = omega arith
 
 dotted_here : (dot : Bool) (t : Numbered) (ts : List Numbered)
-    → dotted dot (significant (t ∷ ts)) ≡ in_reference dot (begins_dot (significant ts)) t.kind (length t.text) + dotted (after_dot dot t.kind) (significant ts)
+    → dotted dot (significant (t ∷ ts)) ≡ in_reference dot (begins_dot (significant ts)) t.kind (length t.text) + dotted (follows_dot dot t.kind) (significant ts)
 dotted_here dot t ts = by (is_passed_over t.kind)
   where
     by : (b : Bool) → dotted dot (cond (not b) (t ∷ significant ts) (significant ts))
@@ -109,7 +109,7 @@ module _ (all : List Numbered) where
   all_few n dot (t ∷ ts) here marks solid =
       omega (
         arith,
-        all_few (n + 1) (after_dot dot t.kind) ts there (apart_on all n dot it more marks) solid.1,
+        all_few (n + 1) (follows_dot dot t.kind) ts there (apart_on all n dot it more marks) solid.1,
         weighs,
         one_token t.kind dot (begins_dot (significant more)) (length t.text) (literal more) solid.0,
         dotted_here dot it more,
