@@ -5,6 +5,7 @@ use Rattle.file_tree.specs.Below.{IsOther}
 use Rattle.file_tree.specs.Choices.{Chosen, is_excluded, is_wanted}
 use Rattle.file_tree.specs.Files.{Faults, Files, Name, Tells, identity_of, with_fault, with_faults}
 use Rattle.file_tree.specs.Finds.{AreReal, IsOtherIn, Rises}
+use Rattle.file_tree.specs.FolderFiles.{AreHeard}
 use Rattle.file_tree.specs.Inner.Walking.{Adds, Enters, Hears, HearsGiven, KeepsFirsts, Reached, TakesIf, TakesKindGiven, TakesLinked, TakesNamed, faults_in, faults_of}
 use Rattle.file_tree.specs.Ordered.{Orders}
 use Rattle.file_tree.specs.Paths.{tidied}
@@ -224,3 +225,12 @@ pub real_chosen : (files : Files) (told chosen : Chosen) (paths : List Name) (fi
     → Hears first found mid after → Orders found ordered → (Rises ordered → KeepsFirsts ordered shown) → AreReal files chosen paths before after shown
 real_chosen files told chosen paths first found ordered shown before mid after is one two o k =
     subst (λ (c : Chosen). AreReal files c paths before after shown) is (found_real files told paths first found ordered shown before mid after one two o k)
+
+-- ---- one folder
+
+pub folder_heard : (old found ordered : List Found) (before after : Faults) → old ≡ [] → Hears old found before after → Orders found ordered → AreHeard before after ordered
+folder_heard old found ordered before after none h o = record {
+  noted = faults_in h.more;
+  is = h.heard;
+  real = λ f fault c e. reported_in h.more f fault (subst (λ l. Contains l f) (h.found ∙ ap (λ l. l ++ h.more) none) (o.only f c)) e;
+}

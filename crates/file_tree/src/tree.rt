@@ -37,7 +37,7 @@ pub trait Tree {
     /// The faults that its calls had so far, where the device tells them.
     ghost faults: { Self → Faults };
 
-    /// What its calls were asked to replace so far, where the device tells it.
+    /// What its calls were asked to replace so far, and what they answered, where the device tells it.
     ghost asked: { Self → Asked };
 
     /// What a name stands for, links followed.
@@ -99,5 +99,11 @@ pub trait WritableTree: Tree {
         ensures faults { Self.faults self.new
             ≡ with_fault (Self.faults self.old) (fault_of result) }
         ensures asked { Self.asked self.new ≡ with_asked (Self.asked self.old)
-            (record { name = name.now; old = old.now; new = new.now; writing = writing }) };
+            (record {
+              name = name.now;
+              old = old.now;
+              new = new.now;
+              writing = writing;
+              answer = result;
+            }) };
 }

@@ -4,7 +4,7 @@ ghost use Rattle.std.specs.Prelude.{◌≡◌, ◌&&◌, not, ◌==◌, false, [
 ghost use Rattle.file_tree.specs.Choices.{chosen, is_excluded};
 ghost use Rattle.file_tree.specs.Files.{Name};
 ghost use Rattle.file_tree.specs.Finds.{AreReal, Finds};
-ghost use Rattle.file_tree.specs.FolderFiles.{FindsIn};
+ghost use Rattle.file_tree.specs.FolderFiles.{AreHeard, FindsIn};
 ghost use Rattle.file_tree.specs.Inner.Chosen.{told};
 ghost use Rattle.file_tree.specs.Inner.Walking.{Adds, Enters, Hears, HearsGiven, TakesAll, TakesAsked, TakesEntry, TakesFolder, TakesGiven, TakesIf, TakesKind, TakesKindGiven, TakesLink, TakesLinked, TakesMet, TakesNamed, Walked, reached};
 ghost use Rattle.file_tree.specs.Ordered.{Orders};
@@ -447,6 +447,9 @@ pub fn find_in<T: Tree>(
     ensures files { T.files tree.new ≡ T.files tree.old }
     ensures asked { T.asked tree.new ≡ T.asked tree.old }
     ensures finds { IfOk result (λ found. FindsIn (T.files tree.old) folder.now found.items) }
+    // Where the device tells the faults of its calls, none is reported but where a call failed.
+    ensures real { IfOk result (λ found. AreHeard (T.faults tree.old) (T.faults tree.new)
+        found.items) }
 {
     let mut walk = Walk {
         found: Vec::new(alloc),

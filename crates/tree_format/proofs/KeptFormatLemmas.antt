@@ -30,6 +30,7 @@ use Rattle.file_tree.specs.Files.{Faults, Files, Name, fault_of_reader, with_fau
 use Rattle.hcl_source.specs.Devices.{Tells}
 use Rattle.file_tree.specs.declared.fault.TreeFault.{TreeFault}
 use Rattle.file_tree.specs.declared.fault.TreeFault.TheVariants.{OutOfMemory}
+use Rattle.file_tree.specs.declared.tree.Replaced.{Replaced}
 use Rattle.file_tree.specs.declared.tree.Writing.{Writing}
 use Rattle.tree_format.specs.Format.{IsFault, IsFormat}
 use Rattle.tree_format.specs.Looks.{Asks, AsksIn, Changes, Left, Looks, Notes, Visits, failure_of}
@@ -231,8 +232,8 @@ module _ (mode : Mode) (old new : Files) (given : Name) (name : Name) where
 -- ---- what is asked for
 
 module _ (given : Name) (told : Option (List ℕ)) (before after : Asked) (s : Scanned) (is : IsText s.text) (scans : Scans s.text s.tokens) (accepted : IsAccepted s.tokens) (tells : Tells told s.text) where
-  asks_print : (mode : Mode) → PrintAsked mode given s before after → AsksIn mode given told before after
-  asks_print (Write w) m = record {
+  asks_print : (mode : Mode) (r : Result Replaced TreeFault) → PrintAsked mode given s before after r → AsksIn mode given told before after r
+  asks_print (Write w) r m = record {
     bytes = s.text;
     tells = tells;
     formatted = print s.tokens;
@@ -240,17 +241,17 @@ module _ (given : Name) (told : Option (List ℕ)) (before after : Asked) (s : S
     changed = m.0;
     asked = m.2;
   }
-  asks_print Check m = m
-  asks_print (Listed ending) m = m
-  asks_print Diff m = m
+  asks_print Check r m = m
+  asks_print (Listed ending) r m = m
+  asks_print Diff r m = m
 
   asks_by : (mode : Mode) (answer : Outcome) → MakesAsking mode given s before after answer → Asks mode given told before after answer
   asks_by mode outcome.Formatted m = m
-  asks_by mode (outcome.Changed how) m = asks_print mode m
+  asks_by mode (outcome.Changed how) m = asks_print mode (Ok how) m
   asks_by mode (outcome.Differs text) m = m
   asks_by mode (outcome.Refused fault) m = m
   asks_by mode (outcome.Failed fault) (inl e) = inl e
-  asks_by mode (outcome.Failed fault) (inr m) = inr (asks_print mode m)
+  asks_by mode (outcome.Failed fault) (inr m) = inr (asks_print mode (Err fault) m)
 
 module _ (mode : Mode) (given : Name) (told : Option (List ℕ)) (before after : Asked) where
   not_ok_here : (s : Scanned) (f : Fault) → (Ok s ≡ Err f) → ⊥

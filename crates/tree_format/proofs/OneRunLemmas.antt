@@ -158,13 +158,35 @@ one_visit mode old new new' given name answer other some v w good good' = by (ol
     by (Some bytes) e some =
         one_look mode old new new' given name bytes answer other (looks_of mode old new given name bytes answer e v) (looks_of mode old new' given name bytes other e w) good good'
 
+-- ---- what looks make of the files, whatever they ask for
+
+abbrev VisitsBy : Mode → Name → Option TreeFault → Outcome → State → State → Type 0
+VisitsBy mode name (Some fault) answer before after = (answer ≡ outcome.Failed fault) × (after ≡ before)
+VisitsBy mode name None answer before after = Visits mode before.files after.files name (before.files.real name) answer
+
+abbrev Visited : Mode → List Found → List Outcome → State → State → Type 0
+Visited mode [] [] before after = after ≡ before
+Visited mode [] (answer ∷ answers) before after = ⊥
+Visited mode (found ∷ more) [] before after = ⊥
+Visited mode (found ∷ more) (answer ∷ answers) before after = (between : State) × VisitsBy mode found.name.items found.fault answer before between × Visited mode more answers between after
+
+visits_of : (mode : Mode) (name : Name) (fault : Option TreeFault) (answer : Outcome) (a b : State) → SeesBy mode name fault answer a b → VisitsBy mode name fault answer a b
+visits_of mode name (Some fault) answer a b s = s
+visits_of mode name None answer a b s = s.0
+
+visited : (mode : Mode) (seen : List Found) (answers : List Outcome) (a b : State) → Looked mode seen answers a b → Visited mode seen answers a b
+visited mode [] [] a b l = l
+visited mode [] (x ∷ xs) a b l = absurd l
+visited mode (f ∷ seen) [] a b l = absurd l
+visited mode (f ∷ seen) (x ∷ xs) a b l = (l.0, visits_of mode f.name.items f.fault x a l.0 l.1, visited mode seen xs l.0 b l.2)
+
 one_seen_by : (mode : Mode) (name : Name) (fault : Option TreeFault) (answer other : Outcome) (a b a' b' : State) → IsSome (a.files.told (a.files.real name)) → a'.files ≡ a.files
-    → SeesBy mode name fault answer a b → SeesBy mode name fault other a' b' → is_uneven answer ≡ false → is_uneven other ≡ false
+    → VisitsBy mode name fault answer a b → VisitsBy mode name fault other a' b' → is_uneven answer ≡ false → is_uneven other ≡ false
     → (report_of mode name answer ≡ report_of mode name other) × (b.files ≡ b'.files)
 one_seen_by mode name (Some fault) answer other a b a' b' some same s t good good' = no_failure (sym (ap is_uneven s.0) ∙ good)
 one_seen_by mode name None answer other a b a' b' some same s t good good' =
-    one_visit mode a.files b.files b'.files name (a.files.real name) answer other some s.0
-    (subst (λ (files : Files). Visits mode files b'.files name (files.real name) other) same t.0) good good'
+    one_visit mode a.files b.files b'.files name (a.files.real name) answer other some s
+    (subst (λ (files : Files). Visits mode files b'.files name (files.real name) other) same t) good good'
 
 -- ---- what is told stays told
 
@@ -182,10 +204,10 @@ told_after_visit mode old new given name other answer v some =
     subst (λ n. IsSome (new.told n)) (sym (visit_real mode old new given name answer v other))
     (kept_some mode (old.told (old.real other)) (new.told (old.real other)) (visit_kept mode old new given name answer v (old.real other)) some)
 
-told_after : (mode : Mode) (name : Name) (fault : Option TreeFault) (answer : Outcome) (a b : State) (other : Name) → SeesBy mode name fault answer a b
+told_after : (mode : Mode) (name : Name) (fault : Option TreeFault) (answer : Outcome) (a b : State) (other : Name) → VisitsBy mode name fault answer a b
     → IsSome (a.files.told (a.files.real other)) → IsSome (b.files.told (b.files.real other))
 told_after mode name (Some fault) answer a b other s some = subst (λ (state : State). IsSome (state.files.told (state.files.real other))) (sym s.1) some
-told_after mode name None answer a b other s some = told_after_visit mode a.files b.files name (a.files.real name) other answer s.0 some
+told_after mode name None answer a b other s some = told_after_visit mode a.files b.files name (a.files.real name) other answer s some
 
 -- ---- one look after the other
 
@@ -197,7 +219,7 @@ second_false : (v w : Bool) → (v || w) ≡ false → w ≡ false
 second_false true w e = absurd (cc)
 second_false false w e = e
 
-one_looked : (mode : Mode) (seen : List Found) (answers others : List Outcome) (a b a' b' : State) → AreTold a.files seen → a'.files ≡ a.files → Looked mode seen answers a b → Looked mode seen others a' b'
+one_looked : (mode : Mode) (seen : List Found) (answers others : List Outcome) (a b a' b' : State) → AreTold a.files seen → a'.files ≡ a.files → Visited mode seen answers a b → Visited mode seen others a' b'
     → list_any is_uneven answers ≡ false → list_any is_uneven others ≡ false
     → (reports_of mode seen answers ≡ reports_of mode seen others) × (b.files ≡ b'.files)
 one_looked mode [] [] [] a b a' b' told same l m good good' = (refl, ap (λ (s : State). s.files) l ∙ sym same ∙ sym (ap (λ (s : State). s.files) m))
@@ -229,15 +251,15 @@ plain (outcome.Differs text) = outcome.Differs text
 plain (outcome.Refused fault) = outcome.Refused fault
 plain (outcome.Failed fault) = outcome.Failed fault
 
-plain_seen : (mode : Mode) (name : Name) (fault : Option TreeFault) (answer : Outcome) (a b : State) → SeesBy mode name fault answer a b → SeesBy mode name fault (plain answer) a b
+plain_seen : (mode : Mode) (name : Name) (fault : Option TreeFault) (answer : Outcome) (a b : State) → VisitsBy mode name fault answer a b → VisitsBy mode name fault (plain answer) a b
 plain_seen mode name (Some fault) answer a b s = (ap plain s.0, s.1)
-plain_seen mode name None (outcome.Changed how) a b s = (s.0, record { is = s.1.is }, s.2)
+plain_seen mode name None (outcome.Changed how) a b s = s
 plain_seen mode name None outcome.Formatted a b s = s
 plain_seen mode name None (outcome.Differs text) a b s = s
 plain_seen mode name None (outcome.Refused fault) a b s = s
 plain_seen mode name None (outcome.Failed fault) a b s = s
 
-plain_looked : (mode : Mode) (seen : List Found) (answers : List Outcome) (a b : State) → Looked mode seen answers a b → Looked mode seen (map plain answers) a b
+plain_looked : (mode : Mode) (seen : List Found) (answers : List Outcome) (a b : State) → Visited mode seen answers a b → Visited mode seen (map plain answers) a b
 plain_looked mode [] [] a b l = l
 plain_looked mode [] (x ∷ xs) a b l = absurd l
 plain_looked mode (f ∷ seen) [] a b l = absurd l
@@ -314,7 +336,7 @@ good_writers false status n e ne = (refl, e)
 
 -- what is known of a run that doesn't have status 4
 record Good (mode : Mode) (found : List Found) (before after : State) (answers : List Outcome) (status : ℕ) : Type 0 where
-  pub looks : Looked mode found answers before after
+  pub looks : Visited mode found answers before after
   pub good : list_any is_failed answers ≡ false
   pub exit : status ≡ worst (map (λ r. r.status) (reports_of mode found answers))
 
@@ -325,7 +347,7 @@ good_run mode found last before after end run ne =
     let all : found ≡ run.seen = run.all ∙ ap (λ l. run.seen ++ l) (run.whole writers.0) ∙ append-nil run.seen in (
       all,
       subst (λ l. Good mode l before after run.answers end.status) (sym all) (record {
-        looks = run.looks;
+        looks = visited mode run.seen run.answers before after run.looks;
         good = (good_looks mode run.seen run.answers before after 0 run.looks (λ e. ne (writers.1 ∙ e))).1;
         exit = writers.1;
       }),

@@ -124,7 +124,7 @@ some_asked : (mode : Mode) (old new : Files) (given name bytes : List ℕ) (answ
     → (after : Asked) × Asks mode given (Some bytes) before after answer
 some_asked mode old new given name bytes outcome.Formatted before l = (before, refl)
 some_asked (Write w) old new given name bytes (outcome.Changed how) before l = (
-  with_asked before (record { name = given; old = bytes; new = l.1.formatted; writing = w }),
+  with_asked before (record { name = given; old = bytes; new = l.1.formatted; writing = w; answer = Ok how }),
   record { bytes = bytes; tells = refl; formatted = l.1.formatted; is = l.1.is; changed = l.1.changed; asked = refl },
 )
 some_asked Check old new given name bytes (outcome.Changed how) before l = (before, refl)

@@ -1,11 +1,12 @@
 -- One look at a file: what it answers, and what the files are then.
-use Rattle.std.specs.Prelude.{◌≡◌, ◌≢◌, ◌⊎◌, ◌++◌, ℕ, List, Option, Some, None, codes}
+use Rattle.std.specs.Prelude.{◌≡◌, ◌≢◌, ◌⊎◌, ◌++◌, ℕ, List, Option, Some, None, Result, Ok, Err, codes}
 use Rattle.hcl_source.specs.declared.fault.Fault.{Fault}
 use Rattle.file_tree.specs.Asked.{Asked, with_asked}
 use Rattle.file_tree.specs.Files.{Faults, Files, Name, with_fault, put}
 use Rattle.hcl_source.specs.Devices.{Tells}
 use Rattle.file_tree.specs.declared.fault.TreeFault.{TreeFault}
 use Rattle.file_tree.specs.declared.fault.TreeFault.TheVariants.{OutOfMemory}
+use Rattle.file_tree.specs.declared.tree.Replaced.{Replaced}
 use Rattle.file_tree.specs.declared.tree.Writing.{Writing}
 use Rattle.file_tree.specs.Quotes.{shown_head}
 use Rattle.line_diff.specs.Diffs.{diff_of}
@@ -56,25 +57,27 @@ failure_of _ = None
 pub record Notes (before after : Faults) (answer : Outcome) : Type 0 where
   pub is : (after ≡ with_fault before (failure_of answer)) ⊎ ((failure_of answer ≡ Some OutOfMemory) × (after ≡ before))
 
--- one file was to be replaced: this one, in place of the bytes that it has, by the format of these, in this way
-pub record AsksFor (writing : Writing) (given : Name) (told : Option (List ℕ)) (before after : Asked) : Type 0 where
+-- one file was to be replaced: this one, in place of the bytes that it has, by the format of these, in this way; and this
+-- was answered
+pub record AsksFor (writing : Writing) (given : Name) (told : Option (List ℕ)) (before after : Asked) (answer : Result Replaced TreeFault) : Type 0 where
   pub bytes : List ℕ
   pub tells : Tells told bytes
   pub formatted : List ℕ
   pub is : IsFormat bytes formatted
   pub changed : formatted ≢ bytes
-  pub asked : after ≡ with_asked before (record { name = given; old = bytes; new = formatted; writing = writing })
+  pub asked : after ≡ with_asked before (record { name = given; old = bytes; new = formatted; writing = writing; answer = answer })
 
 -- the same where files are to be written, and nothing otherwise
-abbrev pub AsksIn : Mode → Name → Option (List ℕ) → Asked → Asked → Type 0
-AsksIn (Write writing) given told before after = AsksFor writing given told before after
-AsksIn mode given told before after = after ≡ before
+abbrev pub AsksIn : Mode → Name → Option (List ℕ) → Asked → Asked → Result Replaced TreeFault → Type 0
+AsksIn (Write writing) given told before after answer = AsksFor writing given told before after answer
+AsksIn mode given told before after answer = after ≡ before
 
 -- WHAT A LOOK ASKS FOR, at a file of which the device tells these bytes: where it is to be written and isn't formatted, that it
--- gets its format, in the way that the run was asked for. A look that fails may have asked for that too.
+-- gets its format, in the way that the run was asked for. What the look says of the rights to the file is what was answered.
+-- A look that fails may have asked for that too, and then has the fault that was answered.
 abbrev pub Asks : Mode → Name → Option (List ℕ) → Asked → Asked → Outcome → Type 0
 Asks mode given told before after outcome.Formatted = after ≡ before
-Asks mode given told before after (outcome.Changed how) = AsksIn mode given told before after
+Asks mode given told before after (outcome.Changed how) = AsksIn mode given told before after (Ok how)
 Asks mode given told before after (outcome.Differs text) = after ≡ before
 Asks mode given told before after (outcome.Refused fault) = after ≡ before
-Asks mode given told before after (outcome.Failed fault) = (after ≡ before) ⊎ AsksIn mode given told before after
+Asks mode given told before after (outcome.Failed fault) = (after ≡ before) ⊎ AsksIn mode given told before after (Err fault)

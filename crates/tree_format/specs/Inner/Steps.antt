@@ -15,7 +15,9 @@ use Rattle.tree_format.specs.declared.mode.Mode.{Mode}
 use Rattle.tree_format.specs.declared.mode.Mode.TheVariants.{Write, Diff}
 use Rattle.tree_format.specs.declared.outcome.Outcome.{Outcome}
 use Rattle.tree_format.specs.declared.outcome.Outcome.TheVariants as outcome
+use Rattle.file_tree.specs.declared.fault.TreeFault.{TreeFault}
 use Rattle.file_tree.specs.declared.fault.TreeFault.TheVariants.{ReadFailed, OutOfMemory}
+use Rattle.file_tree.specs.declared.tree.Replaced.{Replaced}
 
 -- what a loaded text is for a look
 abbrev pub outcome_by : Result (List ℕ) LoadError → Result (List ℕ) Outcome
@@ -61,16 +63,16 @@ abbrev pub LoadNotes : {X : Type 0} → Faults → Faults → Result X Outcome �
 LoadNotes before after (Ok x) = after ≡ before
 LoadNotes before after (Err answer) = Notes before after answer
 
--- what is asked for of accepted tokens of a file that was named so
-abbrev pub PrintAsked : Mode → Name → Scanned → Asked → Asked → Type 0
-PrintAsked (Write writing) given s before after =
+-- what is asked for of accepted tokens of a file that was named so, and answered
+abbrev pub PrintAsked : Mode → Name → Scanned → Asked → Asked → Result Replaced TreeFault → Type 0
+PrintAsked (Write writing) given s before after answer =
     (print s.tokens ≢ s.text) × (length (print s.tokens) ≤ max_source)
-    × (after ≡ with_asked before (record { name = given; old = s.text; new = print s.tokens; writing = writing }))
-PrintAsked mode given s before after = after ≡ before
+    × (after ≡ with_asked before (record { name = given; old = s.text; new = print s.tokens; writing = writing; answer = answer }))
+PrintAsked mode given s before after answer = after ≡ before
 
 abbrev pub MakesAsking : Mode → Name → Scanned → Asked → Asked → Outcome → Type 0
 MakesAsking mode given s before after outcome.Formatted = after ≡ before
-MakesAsking mode given s before after (outcome.Changed how) = PrintAsked mode given s before after
+MakesAsking mode given s before after (outcome.Changed how) = PrintAsked mode given s before after (Ok how)
 MakesAsking mode given s before after (outcome.Differs text) = after ≡ before
 MakesAsking mode given s before after (outcome.Refused fault) = after ≡ before
-MakesAsking mode given s before after (outcome.Failed fault) = (after ≡ before) ⊎ PrintAsked mode given s before after
+MakesAsking mode given s before after (outcome.Failed fault) = (after ≡ before) ⊎ PrintAsked mode given s before after (Err fault)
