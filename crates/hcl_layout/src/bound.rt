@@ -36,7 +36,6 @@ pub struct Extent {
 }
 
 /// No less than what the texts before a cell take, each with a blank: no byte is of two of them.
-#[inline(always)]
 fn room_before(tokens: &Measured<'_, '_>, line: Line, cell: Option<usize>) -> u64
     requires line { line.end ≤ length tokens.now.tokens }
     requires some { line.first < line.end }
@@ -54,7 +53,6 @@ fn room_before(tokens: &Measured<'_, '_>, line: Line, cell: Option<usize>) -> u6
 }
 
 /// The cells of a line, of which a comment counts for two.
-#[inline(always)]
 fn cells_in(line: Line) -> u64
     ensures { result ≡ cells_of (facts_in line).assign (facts_in line).running }
 {
@@ -67,7 +65,6 @@ fn cells_in(line: Line) -> u64
 
 impl Extent {
     /// What the cells of the group at hand take.
-    #[inline(always)]
     fn taken(self) -> u64
         requires { IsSmall (2 ^ 22) self }
         ensures { result ≡ taken_of self }
@@ -76,7 +73,6 @@ impl Extent {
     }
 
     /// With a line that begins at a depth.
-    #[inline(always)]
     fn with_line(self, tokens: &Measured<'_, '_>, depth: u32, line: Line) -> Extent
         requires line { IsLine tokens.now.tokens line.first depth (facts_in line) }
         requires depth { depth ≤ max_open }

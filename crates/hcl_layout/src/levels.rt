@@ -24,7 +24,6 @@ use hcl_tokens::MAX_OPEN;
 pub const DEPTHS: usize = MAX_OPEN + 1;
 
 /// Sets the level of depths that stand next to one another.
-#[inline(always)]
 fn raise(levels: &mut [u32; DEPTHS], level: u32, from: u32, to: u32)
     requires order { from ≤ to }
     requires within { to ≤ max_open + 1 }

@@ -27,7 +27,6 @@ pub struct Line {
 
 impl Line {
     /// The comment, where it is of a run.
-    #[inline(always)]
     pub fn running(self) -> Option<usize>
         ensures { result ≡ (if not self.runs then None else self.comment) }
     {
@@ -82,7 +81,6 @@ fn is_line_end(tokens: &Measured<'_, '_>, number: usize) -> bool
     matches!(tokens.kind(number), Kind::Newline)
 }
 
-#[inline(always)]
 fn holds_newline(text: &str) -> bool
     ensures { result ≡ list_any (λ b. b == 10) text.now }
 {
@@ -206,7 +204,6 @@ impl Seen {
 }
 
 /// Whether the token is an inline comment that holds a newline.
-#[inline(always)]
 fn is_torn_by(tokens: &Measured<'_, '_>, number: usize) -> bool
     requires { number < length tokens.now.tokens }
     ensures { (t : Lexeme) → slice_get tokens.now.tokens number ≡ Some t
@@ -217,7 +214,6 @@ fn is_torn_by(tokens: &Measured<'_, '_>, number: usize) -> bool
 }
 
 /// What is seen of a line before a token of which more is asked.
-#[inline(always)]
 fn nothing_seen(multiline: bool) -> Seen
     ensures { result ≡ unseen multiline }
 {

@@ -71,7 +71,6 @@ pub struct Lines {
     pub wrong: bool,
 }
 
-#[inline(always)]
 fn is_wrong(run: Option<Run>) -> bool
     ensures { result ≡ ends_wrong run }
 {
@@ -82,7 +81,6 @@ fn is_wrong(run: Option<Run>) -> bool
 }
 
 /// The run with a further line of that width before the cell.
-#[inline(always)]
 fn widened(column: u64, run: Option<Run>, width: u64) -> Run
     ensures column { result.column ≡ column }
     ensures greatest { result.greatest ≡ greatest_of run width }
@@ -100,7 +98,6 @@ fn widened(column: u64, run: Option<Run>, width: u64) -> Run
 }
 
 /// The column in which a cell stands in the source, before which a line is so wide.
-#[inline(always)]
 fn found_column(tokens: &Measured<'_, '_>, number: usize, width: u64) -> u64
     requires within { number < length tokens.now.tokens }
     requires after { 0 < number }
@@ -117,7 +114,6 @@ fn found_column(tokens: &Measured<'_, '_>, number: usize, width: u64) -> u64
 }
 
 /// No cell, in a line with this end.
-#[inline(always)]
 fn no_cell(end: usize) -> Cell
     ensures { result ≡ none_at end }
 {
@@ -128,7 +124,6 @@ fn no_cell(end: usize) -> Cell
     }
 }
 
-#[inline(always)]
 fn token_before<'s>(tokens: &Measured<'_, 's>, first: usize, number: usize) -> Option<Token<'s>>
     requires { number ≤ length tokens.now.tokens }
     ensures { option_map lexeme result ≡ token_before tokens.now.tokens first number }
@@ -141,7 +136,6 @@ fn token_before<'s>(tokens: &Measured<'_, 's>, first: usize, number: usize) -> O
 
 /// The blank before a token where the kinds of the two don't tell it.
 #[cold]
-#[inline(never)]
 fn asked_gap(tokens: &Measured<'_, '_>, first: usize, number: usize) -> u64
     requires within { number < length tokens.now.tokens }
     requires after { first < number }
@@ -153,7 +147,6 @@ fn asked_gap(tokens: &Measured<'_, '_>, first: usize, number: usize) -> u64
     u64::from(space_between(before, subject, token))
 }
 
-#[inline(always)]
 fn indent(level: u32, token: Token<'_>) -> u64
     requires { level ≤ max_open }
     ensures { result ≡ indent_of level (lexeme token.entry) }
@@ -317,7 +310,6 @@ impl LaidLine {
     }
 
     /// With its sign, before which the line is so wide, in a column.
-    #[inline(always)]
     fn with_sign(self, number: usize, width: u64, column: u64) -> LaidLine
         requires fits { column < 2 ^ 33 }
         ensures { result ≡ with_sign_in self number width column }
@@ -329,7 +321,6 @@ impl LaidLine {
     }
 
     /// With its comment, before which the line is so wide, in a column.
-    #[inline(always)]
     fn with_comment(self, number: usize, width: u64, column: u64) -> LaidLine
         requires fits { column < 2 ^ 34 }
         ensures { result ≡ with_comment_in self number width column }
@@ -342,7 +333,6 @@ impl LaidLine {
 }
 
 /// A cell in a column.
-#[inline(always)]
 fn cell_at(number: usize, width: u64, column: u64) -> Cell
     requires fits { column < 2 ^ 34 }
     ensures { result ≡ cell_in number width column }
@@ -402,7 +392,6 @@ impl Lines {
 
     /// The greatest width before the signs of the run that goes on with the next line.
     #[cold]
-    #[inline(never)]
     fn signs_ahead(&self, tokens: &Measured<'_, '_>) -> u64
         requires at { IsAt tokens.now.tokens self.now }
         ensures value { result ≡ widest_sign tokens.now.tokens self.now }
@@ -466,7 +455,6 @@ impl Lines {
 
     /// The greatest width before the comments of the run that goes on with the next line.
     #[cold]
-    #[inline(never)]
     fn comments_ahead(&self, tokens: &Measured<'_, '_>) -> u64
         requires at { IsAt tokens.now.tokens self.now }
         requires ahead { self.now.columns ≡ Ahead }
@@ -507,7 +495,6 @@ impl Lines {
     }
 
     /// Ends the run of comments.
-    #[inline(always)]
     fn end_comments(&mut self)
         ensures { self.new ≡ comments_ended self.old }
     {
@@ -519,7 +506,6 @@ impl Lines {
     }
 
     /// Ends the run of signs.
-    #[inline(always)]
     fn end_signs(&mut self)
         ensures { self.new ≡ signs_ended self.old }
     {

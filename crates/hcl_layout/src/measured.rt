@@ -33,7 +33,8 @@ impl<'t, 's> Model for Measured<'t, 's> {
 
     ghost view = { λ m. m.tokens.now };
 
-    ghost invariant = { λ m. (m.simple ≡ true → is_simple m.tokens.now.text ≡ true) × IsBounded m.tokens.now };
+    ghost invariant = { λ m. (m.simple ≡ true → is_simple m.tokens.now.text ≡ true)
+        × IsBounded m.tokens.now };
 }
 
 /// Whether the bytes are ASCII without CR, so that each is a grapheme cluster. All of them are looked at, whatever the
@@ -50,7 +51,6 @@ pub fn is_simple(bytes: &[u8]) -> bool
     highest < 128 && !returns
 }
 
-#[inline(always)]
 fn is_between(c: char, first: char, last: char) -> bool
     ensures { result ≡ (nat_le first c && nat_le c last) }
 {
@@ -82,7 +82,6 @@ fn is_alone_above(c: char) -> bool
 
 /// Whether a character is a grapheme cluster by itself among such, as nearly all are outside a few scripts: one that never
 /// joins with the one before it or after it, as combining accents, CR and half of a flag do.
-#[inline(always)]
 fn is_alone(c: char) -> bool
     ensures { result ≡ is_alone_of c }
 {
@@ -93,7 +92,6 @@ fn is_alone(c: char) -> bool
 }
 
 /// How many bytes at the front are ASCII and no CR.
-#[inline(always)]
 fn simple_len(bytes: &[u8]) -> usize
     ensures count { result ≡ prefix_len is_simple_byte bytes.now }
     ensures within { result ≤ length bytes.now }
@@ -105,7 +103,6 @@ fn simple_len(bytes: &[u8]) -> usize
 }
 
 /// How many characters a text has, where each of them is a grapheme cluster by itself.
-#[inline(always)]
 fn count_alone(text: &str) -> Option<u64>
     ensures alone { IfSome result (λ n. are_alone (chars text.now) ≡ true) }
     ensures count { IfSome result (λ n. n ≡ length (chars text.now)) }
@@ -144,7 +141,6 @@ fn count_clusters(text: &str) -> u64
 }
 
 /// Whether a text is one byte of ASCII and no CR, as most of the signs are.
-#[inline(always)]
 fn is_one_byte(text: &str) -> bool
     ensures simple { IsTrue result → is_simple_of text.now ≡ true }
     ensures one { IsTrue result → length text.now ≡ 1 }
@@ -199,7 +195,6 @@ impl<'t, 's> Measured<'t, 's> {
     }
 
     /// Whether all texts are as wide as they have bytes.
-    #[inline(always)]
     pub fn is_simple(&self) -> bool
         ensures { IsTrue result → is_simple_of self.now.text ≡ true }
     {
@@ -208,7 +203,6 @@ impl<'t, 's> Measured<'t, 's> {
     }
 
     /// How many tokens there are.
-    #[inline(always)]
     pub fn len(&self) -> usize
         ensures len { result ≡ length self.now.tokens }
         ensures bounded { IsBounded self.now }
@@ -228,7 +222,6 @@ impl<'t, 's> Measured<'t, 's> {
     }
 
     /// The kind of the token of this number.
-    #[inline(always)]
     pub fn kind(&self, i: usize) -> Kind
         requires { i < length self.now.tokens }
         ensures { (t : Lexeme) → slice_get self.now.tokens i ≡ Some t → result ≡ t.kind }
@@ -237,7 +230,6 @@ impl<'t, 's> Measured<'t, 's> {
     }
 
     /// Whether the token of this number is inside a heredoc.
-    #[inline(always)]
     pub fn is_inside_heredoc(&self, i: usize) -> bool
         requires { i < length self.now.tokens }
         ensures { (t : Lexeme) → slice_get self.now.tokens i ≡ Some t

@@ -39,7 +39,6 @@ pub fn prints_nothing(accepted: &Accepted<'_, '_>) -> bool
     tokens.is_empty()
 }
 
-#[inline(always)]
 pub fn are_spaces(bytes: &[u8]) -> bool
     ensures { result ≡ list_all (λ b. b == 32) bytes.now }
 {
@@ -69,7 +68,6 @@ pub fn goes_on(source: &[u8], at: usize, piece: Piece<'_>) -> bool
 }
 
 /// Whether so many spaces stand at the front.
-#[inline(always)]
 fn begins_blank(bytes: &[u8], gap: u64) -> bool
     ensures { result ≡ begins_blank gap bytes.now }
 {
@@ -82,7 +80,6 @@ fn begins_blank(bytes: &[u8], gap: u64) -> bool
 
 /// Whether the text of a piece of the source stands at a place. Where nothing changed it stands
 /// there already, and isn't compared.
-#[inline(always)]
 fn stands_at(bytes: &[u8], at: usize, piece: Piece<'_>) -> bool
     requires within { at ≤ length bytes.now }
     requires source { IsFrom bytes.now piece.token.start piece.token.text.now }
@@ -115,7 +112,6 @@ fn moved_end(bytes: &[u8], at: usize, piece: Piece<'_>) -> Option<usize>
 }
 
 /// Where a piece of the source ends that stands at a place, if it stands there.
-#[inline(always)]
 fn piece_end(bytes: &[u8], at: usize, piece: Piece<'_>) -> Option<usize>
     requires within { at ≤ length bytes.now }
     requires source { IsFrom bytes.now piece.token.start piece.token.text.now }

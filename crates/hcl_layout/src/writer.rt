@@ -14,7 +14,6 @@ use hcl_grammar::Accepted;
 use hcl_tokens::{ByteSink, WriteFault, write_fully};
 
 /// Writes a block over another. As arrays the two are known to lie apart, which a copy of slices would ask.
-#[inline(always)]
 fn put_block(room: &mut [u8], block: &[u8; 32])
     requires { length room.old ≡ 32 }
     ensures len { length room.new ≡ length room.old }
@@ -27,7 +26,6 @@ fn put_block(room: &mut [u8], block: &[u8; 32])
 }
 
 /// The block of the source that begins with a short stretch, if the source goes on so far.
-#[inline(always)]
 fn block_at(source: &[u8], stretch: Stretch) -> Option<&[u8; 32]>
     requires lies { Lies source.now stretch }
     requires short { stretch.end ≤ stretch.start + 32 }
@@ -53,7 +51,6 @@ impl Buffer {
     }
 
     /// Takes bytes for which there is room.
-    #[inline(always)]
     fn hold(&mut self, text: &[u8])
         requires { self.old.len + length text.now ≤ 8192 }
         ensures held { held self.new ≡ held self.old ++ text.now }
@@ -66,7 +63,6 @@ impl Buffer {
     }
 
     /// Takes so many spaces, for which there is room.
-    #[inline(always)]
     fn hold_blanks(&mut self, count: usize)
         requires { self.old.len + count ≤ 8192 }
         ensures held { held self.new ≡ held self.old ++ replicate count 32 }
@@ -79,7 +75,6 @@ impl Buffer {
     }
 
     /// Takes so many spaces: a block of them is written, and of that only so much taken.
-    #[inline(always)]
     fn hold_few_blanks(&mut self, count: usize)
         requires few { count ≤ 16 }
         requires room { self.old.len + 16 ≤ 8192 }
@@ -93,7 +88,6 @@ impl Buffer {
     }
 
     /// Takes so many bytes of a block: the block is written, and of that only so much taken.
-    #[inline(always)]
     fn hold_front(&mut self, block: &[u8; 32], count: usize)
         requires few { count ≤ 32 }
         requires room { self.old.len + 32 ≤ 8192 }
@@ -107,7 +101,6 @@ impl Buffer {
     }
 
     /// Whether a stretch of the source is short, and there is room for the blocks that it is written by.
-    #[inline(always)]
     fn has_room(&self, stretch: Stretch) -> bool
         requires order { stretch.start ≤ stretch.end }
         ensures gap { IsTrue result → stretch.gap ≤ 16 }
@@ -144,7 +137,8 @@ fn send_past<W: ByteSink>(to: &mut W, buffer: &mut Buffer, text: &[u8]) -> Resul
     requires fresh { W.failed to.old ≡ false }
     requires empty { buffer.old.len ≡ 0 }
     requires room { buffer.old.sent + length text.now < 2 ^ 63 }
-    ensures ok { OnOk result (Puts (W.taken to.old) (W.taken to.new) buffer.old buffer.new text.now) }
+    ensures ok { OnOk result
+        (Puts (W.taken to.old) (W.taken to.new) buffer.old buffer.new text.now) }
     ensures err { IfErr result (Fails (W.taken to.old) (W.taken to.new) buffer.old text.now) }
     ensures failed { W.failed to.new ≡ is_err result }
     ensures flushes { W.flushes to.new ≡ W.flushes to.old }
@@ -164,7 +158,8 @@ fn send_past<W: ByteSink>(to: &mut W, buffer: &mut Buffer, text: &[u8]) -> Resul
 fn put<W: ByteSink>(to: &mut W, buffer: &mut Buffer, text: &[u8]) -> Result<(), WriteFault>
     requires fresh { W.failed to.old ≡ false }
     requires room { passed buffer.old + length text.now < 2 ^ 63 }
-    ensures ok { OnOk result (Puts (W.taken to.old) (W.taken to.new) buffer.old buffer.new text.now) }
+    ensures ok { OnOk result
+        (Puts (W.taken to.old) (W.taken to.new) buffer.old buffer.new text.now) }
     ensures err { IfErr result (Fails (W.taken to.old) (W.taken to.new) buffer.old text.now) }
     ensures failed { W.failed to.new ≡ is_err result }
     ensures flushes { W.flushes to.new ≡ W.flushes to.old }
@@ -185,7 +180,6 @@ fn put<W: ByteSink>(to: &mut W, buffer: &mut Buffer, text: &[u8]) -> Result<(), 
 }
 
 /// Writes so many spaces.
-#[inline(always)]
 fn put_blanks<W: ByteSink>(to: &mut W, buffer: &mut Buffer, gap: u64) -> Result<(), WriteFault>
     requires fresh { W.failed to.old ≡ false }
     requires room { passed buffer.old + gap < 2 ^ 63 }
@@ -219,7 +213,6 @@ fn put_blanks<W: ByteSink>(to: &mut W, buffer: &mut Buffer, gap: u64) -> Result<
 
 /// Writes a text, and so many spaces before it.
 #[cold]
-#[inline(never)]
 fn put_text<W: ByteSink>(
     to: &mut W,
     buffer: &mut Buffer,
@@ -300,7 +293,6 @@ fn finish<W: ByteSink>(
 }
 
 /// A piece by itself.
-#[inline(always)]
 fn stretch_of(source: &[u8], piece: Piece<'_>) -> Stretch
     requires source { IsFrom source.now piece.token.start piece.token.text.now }
     ensures same { stretched source.now result ≡ bytes_of piece.entry }
@@ -321,7 +313,8 @@ fn stretch_of(source: &[u8], piece: Piece<'_>) -> Stretch
 #[inline(never)]
 pub fn emit<W: ByteSink>(accepted: &Accepted<'_, '_>, to: &mut W) -> Result<(), WriteFault>
     requires { W.failed to.old ≡ false }
-    ensures ok { OnOk result (Appends (W.taken to.old) (W.taken to.new) (print accepted.now.tokens)) }
+    ensures ok { OnOk result
+        (Appends (W.taken to.old) (W.taken to.new) (print accepted.now.tokens)) }
     ensures err { IfErr result
         (λ fault. Appends (W.taken to.old) (W.taken to.new)
         (take fault.written (print accepted.now.tokens))) }
