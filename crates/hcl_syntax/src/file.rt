@@ -88,7 +88,9 @@ impl<'t, 's> Cursor<'t, 's> {
 
     /// The one attribute of a block on one line, after its name, and the rest of that line.
     fn attribute_line(&mut self) -> Result<(), Refused>
-        ensures parses { Parses 0 (the Equals at Seen ∷ expr at Seen ∷ the EndBrace at Seen ∷ eol at Seen ∷ []) self.old.left (said result self.new.refusal) self.new.left }
+        ensures parses { Parses 0
+            (the Equals at Seen ∷ expr at Seen ∷ the EndBrace at Seen ∷ eol at Seen ∷ [])
+            self.old.left (said result self.new.refusal) self.new.left }
         ensures shorter { OnOk result (length self.new.left ≤ length self.old.left) }
     {
         self.expect(Newlines::Seen, Terminal::Equals)?;
