@@ -37,10 +37,12 @@ fn is_known(names: &[&str], name: &str) -> bool
 
 /// Puts a name after the others, where it isn't among them.
 fn add_name<'a>(names: &mut Vec<&'a str>, name: &'a str) -> Result<(), AllocError>
-    ensures names { OnOk result (map (λ known. known.now) names.new.items ≡ with_name (map (λ known. known.now) names.old.items) name.entry.now) }
+    ensures names { OnOk result (map (λ known. known.now) names.new.items
+        ≡ with_name (map (λ known. known.now) names.old.items) name.entry.now) }
     ensures few { OnOk result (length names.new.items ≤ length names.old.items + 1) }
     ensures some { OnOk result (0 < length names.new.items) }
-    ensures apart { OnOk result (NoneTwice (map (λ known. known.now) names.old.items) → NoneTwice (map (λ known. known.now) names.new.items)) }
+    ensures apart { OnOk result (NoneTwice (map (λ known. known.now) names.old.items)
+        → NoneTwice (map (λ known. known.now) names.new.items)) }
 {
     if is_known(names.as_slice(), name) {
         return Ok(());

@@ -33,7 +33,8 @@ fn read_file<M: ModuleFiles>(alloc: Global, name: &str, files: &mut M) -> Result
     requires opened { M.open_failed files.old ≡ false }
     requires read { M.read_failed files.old ≡ false }
     requires back { M.is_out files.old ≡ false }
-    ensures reads { ReadsFile (M.told files.old name.now) (M.open_failed files.new) (M.read_failed files.new) result }
+    ensures reads { ReadsFile (M.told files.old name.now) (M.open_failed files.new)
+        (M.read_failed files.new) result }
     ensures told { (other : List ℕ) → M.told files.new other ≡ M.told files.old other }
     ensures back { M.is_out files.new ≡ false }
 {
@@ -109,7 +110,8 @@ fn add_file<M: ModuleFiles>(
     requires read { M.read_failed files.old ≡ false }
     requires back { M.is_out files.old ≡ false }
     requires small { size ≤ max_module }
-    ensures adds { Adds (M.told files.old name.now) size number (M.open_failed files.new) (M.read_failed files.new) facts.old facts.new result }
+    ensures adds { Adds (M.told files.old name.now) size number (M.open_failed files.new)
+        (M.read_failed files.new) facts.old facts.new result }
     ensures told { (other : List ℕ) → M.told files.new other ≡ M.told files.old other }
     ensures back { M.is_out files.new ≡ false }
 {
@@ -130,7 +132,8 @@ pub fn gather<'a, M: ModuleFiles>(
     requires read { M.read_failed files.old ≡ false }
     requires back { M.is_out files.old ≡ false }
     requires none { facts.old ≡ nothing }
-    ensures gathers { Gathers (M.told files.old) names.now (M.open_failed files.new) (M.read_failed files.new) facts.new result }
+    ensures gathers { Gathers (M.told files.old) names.now (M.open_failed files.new)
+        (M.read_failed files.new) facts.new result }
     ensures told { (other : List ℕ) → M.told files.new other ≡ M.told files.old other }
     ensures back { M.is_out files.new ≡ false }
 {

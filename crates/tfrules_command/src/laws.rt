@@ -24,7 +24,8 @@ fn show_outcome(bytes: &[u8])
 /// A line of words and the files that it names have an answer. The body shows it for files that are there: it loads and
 /// scans each.
 pub fn an_answer(words: &[&str], files: &[(&str, &[u8])])
-    ensures { let line = map (λ word. word.now) words.now in let given = map (λ file. named_file file.0.now file.1.now) files.now in
+    ensures { let line = map (λ word. word.now) words.now in
+        let given = map (λ file. named_file file.0.now file.1.now) files.now in
         AreNamed (options_of line) given → (row : Row) × IsAnswer line given row }
 {
     let _ = words;
@@ -35,11 +36,13 @@ pub fn an_answer(words: &[&str], files: &[(&str, &[u8])])
 
 /// A line of words and the files that it names have one answer at most.
 pub fn one_answer()
-    ensures { (words : List (List ℕ)) (files : List NamedFile) (row other : Row) → IsAnswer words files row → IsAnswer words files other → row ≡ other }
+    ensures { (words : List (List ℕ)) (files : List NamedFile) (row other : Row)
+        → IsAnswer words files row → IsAnswer words files other → row ≡ other }
 {}
 
 /// The status of a report goes by the rules of its issues alone.
 pub fn status_by_rules()
-    ensures { (asking : Asking) (issues others : List Issue) → map (λ i. i.rule) issues ≡ map (λ i. i.rule) others
+    ensures { (asking : Asking) (issues others : List Issue)
+        → map (λ i. i.rule) issues ≡ map (λ i. i.rule) others
         → status asking issues ≡ status asking others }
 {}

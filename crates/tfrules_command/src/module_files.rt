@@ -42,7 +42,8 @@ pub trait ModuleFiles {
         requires { is_out self.old ≡ true }
         ensures told { (other : List ℕ) → told self.new other ≡ told self.old other }
         ensures open_failed { open_failed self.new ≡ open_failed self.old }
-        ensures read_failed { read_failed self.new ≡ (read_failed self.old || Self.Reader.failed reader) }
+        ensures read_failed { read_failed self.new
+            ≡ (read_failed self.old || Self.Reader.failed reader) }
         ensures back { is_out self.new ≡ false };
 
     /// Whether an opening has failed or a failed reader was given back so far.

@@ -137,7 +137,8 @@ fn options_for<'a>(
 ) -> Result<LintOptions<'a>, Usage>
     requires { 0 < length given.now }
     ensures { (result ≡ Err OutOfMemory)
-        ⊎ (asked_by result ≡ asking_for force (map (λ name. name.now) given.now) (Some (rules_of settings.rules)) (Some settings.naming) (Some minimum)) }
+        ⊎ (asked_by result ≡ asking_for force (map (λ name. name.now) given.now)
+        (Some (rules_of settings.rules)) (Some settings.naming) (Some minimum)) }
 {
     if given.len() > MAX_FILES {
         return Err(Usage::TooManyFiles);
@@ -159,7 +160,9 @@ fn options_with<'a>(
     given: &[&'a str],
     matches: &ArgMatches<'a>,
 ) -> Result<LintOptions<'a>, Usage>
-    ensures { (result ≡ Err OutOfMemory) ⊎ (asked_by result ≡ asking_with (rows_of (found_of matches.now)) (Some (map (λ name. name.now) given.now))) }
+    ensures { (result ≡ Err OutOfMemory)
+        ⊎ (asked_by result ≡ asking_with (rows_of (found_of matches.now))
+        (Some (map (λ name. name.now) given.now))) }
 {
     if given.is_empty() {
         return Err(Usage::BadLine);
@@ -184,7 +187,8 @@ fn options_with<'a>(
 
 /// The options that the matches of a line give.
 fn options_of<'a>(alloc: Global, matches: &ArgMatches<'a>) -> Result<LintOptions<'a>, Usage>
-    ensures { (result ≡ Err OutOfMemory) ⊎ (asked_by result ≡ asking_of_rows (rows_of (found_of matches.now))) }
+    ensures { (result ≡ Err OutOfMemory)
+        ⊎ (asked_by result ≡ asking_of_rows (rows_of (found_of matches.now))) }
 {
     match matches.get_strs("file") {
         Some(given) => options_with(alloc, given, matches),
@@ -195,7 +199,8 @@ fn options_of<'a>(alloc: Global, matches: &ArgMatches<'a>) -> Result<LintOptions
 /// The options that the words give, the program's name first, or the usage that they have. Where memory runs out it answers
 /// `OutOfMemory`.
 pub fn options<'a>(alloc: Global, words: &'a [&'a str]) -> Result<LintOptions<'a>, Usage>
-    ensures { (result ≡ Err OutOfMemory) ⊎ (asked_by result ≡ options_of (map (λ word. word.now) words.entry.now)) }
+    ensures { (result ≡ Err OutOfMemory)
+        ⊎ (asked_by result ≡ options_of (map (λ word. word.now) words.entry.now)) }
 {
     let Ok(command) = command(alloc) else {
         return Err(Usage::OutOfMemory);

@@ -111,7 +111,8 @@ fn write_place(at: Position, room: &mut [u8; PLACE]) -> usize
 /// Writes the pieces one after another, up to the first write that fails.
 fn write_each<O: ByteSink>(out: &mut O, pieces: &[&[u8]]) -> Result<(), WriteFault>
     requires { O.failed out.old ≡ false }
-    ensures took { Took (writer O.ByteSink out.old out.new) (concat (map (λ piece. piece.now) pieces.now)) }
+    ensures took { Took (writer O.ByteSink out.old out.new)
+        (concat (map (λ piece. piece.now) pieces.now)) }
     ensures failed { O.failed out.new ≡ is_err result }
     ensures flushes { O.flushes out.new ≡ O.flushes out.old }
 {
@@ -125,7 +126,8 @@ fn write_each<O: ByteSink>(out: &mut O, pieces: &[&[u8]]) -> Result<(), WriteFau
 
 /// Puts the pieces after what waits, or none of them where there is no room for all.
 fn hold(page: &mut Page, pieces: &[&[u8]]) -> bool
-    ensures { Holds result page.old.items page.new.items (concat (map (λ piece. piece.now) pieces.now)) }
+    ensures { Holds result page.old.items page.new.items
+        (concat (map (λ piece. piece.now) pieces.now)) }
 {
     let before = page.len();
     for piece in pieces {
@@ -159,7 +161,9 @@ fn write_pieces<O: ByteSink>(
     pieces: &[&[u8]],
 ) -> Result<(), WriteFault>
     requires { O.failed out.old ≡ false }
-    ensures goes { GoesOut (O.failed out.new) (O.taken out.old) (O.taken out.new) page.old.items page.new.items (concat (map (λ piece. piece.now) pieces.now)) }
+    ensures goes { GoesOut (O.failed out.new) (O.taken out.old)
+        (O.taken out.new) page.old.items page.new.items
+        (concat (map (λ piece. piece.now) pieces.now)) }
     ensures failed { O.failed out.new ≡ is_err result }
     ensures flushes { O.flushes out.new ≡ O.flushes out.old }
 {
@@ -183,7 +187,9 @@ fn write_line<'p, O: ByteSink>(
     message: Pieces<'p>,
 ) -> Result<(), WriteFault>
     requires { O.failed out.old ≡ false }
-    ensures goes { GoesOut (O.failed out.new) (O.taken out.old) (O.taken out.new) page.old.items page.new.items (framed frame.entry (text_of_pieces message.entry)) }
+    ensures goes { GoesOut (O.failed out.new) (O.taken out.old)
+        (O.taken out.new) page.old.items page.new.items
+        (framed frame.entry (text_of_pieces message.entry)) }
     ensures failed { O.failed out.new ≡ is_err result }
     ensures flushes { O.flushes out.new ≡ O.flushes out.old }
 {
@@ -244,7 +250,9 @@ fn write_issue<O: ByteSink>(
     issue: ListedIssue<'_>,
 ) -> Result<(), WriteFault>
     requires { O.failed out.old ≡ false }
-    ensures goes { GoesOut (O.failed out.new) (O.taken out.old) (O.taken out.new) page.old.items page.new.items (issue_line names.now (listed_issue issue.entry)) }
+    ensures goes { GoesOut (O.failed out.new) (O.taken out.old)
+        (O.taken out.new) page.old.items page.new.items
+        (issue_line names.now (listed_issue issue.entry)) }
     ensures failed { O.failed out.new ≡ is_err result }
     ensures flushes { O.flushes out.new ≡ O.flushes out.old }
 {
@@ -266,7 +274,8 @@ fn write_issue<O: ByteSink>(
 /// Writes how many issues there are, and an empty line.
 fn write_count<O: ByteSink>(out: &mut O, page: &mut Page, count: usize) -> Result<(), WriteFault>
     requires { O.failed out.old ≡ false }
-    ensures goes { GoesOut (O.failed out.new) (O.taken out.old) (O.taken out.new) page.old.items page.new.items (count_lines count) }
+    ensures goes { GoesOut (O.failed out.new) (O.taken out.old)
+        (O.taken out.new) page.old.items page.new.items (count_lines count) }
     ensures failed { O.failed out.new ≡ is_err result }
     ensures flushes { O.flushes out.new ≡ O.flushes out.old }
 {
@@ -286,7 +295,9 @@ fn write_issues<O: ByteSink>(
     issues: &IssueList<'_>,
 ) -> Result<(), WriteFault>
     requires { O.failed out.old ≡ false }
-    ensures goes { GoesOut (O.failed out.new) (O.taken out.old) (O.taken out.new) page.old.items page.new.items (flat_map (issue_line names.now) issues.now) }
+    ensures goes { GoesOut (O.failed out.new) (O.taken out.old)
+        (O.taken out.new) page.old.items page.new.items
+        (flat_map (issue_line names.now) issues.now) }
     ensures failed { O.failed out.new ≡ is_err result }
     ensures flushes { O.flushes out.new ≡ O.flushes out.old }
 {
@@ -323,10 +334,13 @@ fn write_report<O: ByteSink>(
 pub fn show_issues<O: ByteSink>(out: &mut O, names: &FileNames<'_>, issues: &IssueList<'_>)
     requires { O.failed out.old ≡ false }
     ensures took { Took (writer O.ByteSink out.old out.new) (report names.now issues.now) }
-    ensures flushed { O.failed out.new ≡ false → 0 < length (report names.now issues.now) → O.flushed out.new ≡ true }
-    ensures once { O.failed out.new ≡ false → 0 < length (report names.now issues.now) → O.flushes out.new ≡ one_more (O.flushes out.old) }
+    ensures flushed { O.failed out.new ≡ false → 0 < length (report names.now issues.now)
+        → O.flushed out.new ≡ true }
+    ensures once { O.failed out.new ≡ false → 0 < length (report names.now issues.now)
+        → O.flushes out.new ≡ one_more (O.flushes out.old) }
     ensures untouched { length (report names.now issues.now) ≡ 0 → O.failed out.new ≡ false }
-    ensures no_flush { length (report names.now issues.now) ≡ 0 → O.flushes out.new ≡ O.flushes out.old }
+    ensures no_flush { length (report names.now issues.now) ≡ 0
+        → O.flushes out.new ≡ O.flushes out.old }
 {
     if issues.is_empty() {
         return;

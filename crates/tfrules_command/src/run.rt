@@ -77,7 +77,8 @@ pub(crate) fn refuse<O: ByteSink, E: ByteSink>(
 ) -> u8
     requires out { O.failed out.old ≡ false }
     requires err { E.failed err.old ≡ false }
-    ensures { ShowsIfMemory linter (λ row. row ≡ stop_row name.now why) (end_of O.ByteSink out.old out.new E.ByteSink err.old err.new result) }
+    ensures { ShowsIfMemory linter (λ row. row ≡ stop_row name.now why)
+        (end_of O.ByteSink out.old out.new E.ByteSink err.old err.new result) }
 {
     linter().tell_line(out, err, stop_line(alloc, name, why), 1)
 }
@@ -101,7 +102,8 @@ fn show<O: ByteSink, E: ByteSink>(
 ) -> u8
     requires out { O.failed out.old ≡ false }
     requires err { E.failed err.old ≡ false }
-    ensures { Shows linter (report_row (asking_of options.now) issues.now) (end_of O.ByteSink out.old out.new E.ByteSink err.old err.new result) }
+    ensures { Shows linter (report_row (asking_of options.now) issues.now)
+        (end_of O.ByteSink out.old out.new E.ByteSink err.old err.new result) }
 {
     let status = status_of(options, issues);
     show_issues(out, &options.files, issues);
@@ -123,7 +125,9 @@ fn run_over<M: ModuleFiles, O: ByteSink, E: ByteSink>(
     requires back { M.is_out files.old ≡ false }
     requires out { O.failed out.old ≡ false }
     requires err { E.failed err.old ≡ false }
-    ensures row { ShowsOne linter (IsRow (M.told files.old) (Ok (asking_of options.now)) (M.open_failed files.new) (M.read_failed files.new)) (end_of O.ByteSink out.old out.new E.ByteSink err.old err.new result) }
+    ensures row { ShowsOne linter (IsRow (M.told files.old) (Ok (asking_of options.now))
+        (M.open_failed files.new) (M.read_failed files.new))
+        (end_of O.ByteSink out.old out.new E.ByteSink err.old err.new result) }
     // No file is left open.
     ensures back { M.is_out files.new ≡ false }
 {
@@ -152,7 +156,9 @@ pub fn run<M: ModuleFiles, O: ByteSink, E: ByteSink>(
     requires out { O.failed out.old ≡ false }
     requires err { E.failed err.old ≡ false }
     // However the run goes, it shows a row.
-    ensures row { ShowsOne linter (IsRow (M.told files.old) (Ok (asking_of options.now)) (M.open_failed files.new) (M.read_failed files.new)) (end_of O.ByteSink out.old out.new E.ByteSink err.old err.new result) }
+    ensures row { ShowsOne linter (IsRow (M.told files.old) (Ok (asking_of options.now))
+        (M.open_failed files.new) (M.read_failed files.new))
+        (end_of O.ByteSink out.old out.new E.ByteSink err.old err.new result) }
     // No file is left open.
     ensures back { M.is_out files.new ≡ false }
 {
@@ -166,7 +172,8 @@ pub fn run<M: ModuleFiles, O: ByteSink, E: ByteSink>(
 pub fn bad_line<O: ByteSink, E: ByteSink>(out: &mut O, err: &mut E) -> u8
     requires out { O.failed out.old ≡ false }
     requires err { E.failed err.old ≡ false }
-    ensures { Shows linter (message_row usage_line 1) (end_of O.ByteSink out.old out.new E.ByteSink err.old err.new result) }
+    ensures { Shows linter (message_row usage_line 1)
+        (end_of O.ByteSink out.old out.new E.ByteSink err.old err.new result) }
 {
     linter().tell(out, err, USAGE, 1)
 }
@@ -189,7 +196,8 @@ fn usage_text(usage: Usage) -> &'static str
 fn tell_usage<O: ByteSink, E: ByteSink>(usage: Usage, out: &mut O, err: &mut E) -> u8
     requires out { O.failed out.old ≡ false }
     requires err { E.failed err.old ≡ false }
-    ensures { Shows linter (usage_row usage) (end_of O.ByteSink out.old out.new E.ByteSink err.old err.new result) }
+    ensures { Shows linter (usage_row usage)
+        (end_of O.ByteSink out.old out.new E.ByteSink err.old err.new result) }
 {
     match usage {
         Usage::Help => linter().deliver(out, err, USAGE, 0),
@@ -212,11 +220,15 @@ pub fn program<M: ModuleFiles, O: ByteSink, E: ByteSink>(
     requires out { O.failed out.old ≡ false }
     requires err { E.failed err.old ≡ false }
     // However the run goes, it shows a row.
-    ensures row { ShowsOne linter (IsRow (M.told files.old) (options_of (map (λ word. word.now) words.now)) (M.open_failed files.new) (M.read_failed files.new)) (end_of O.ByteSink out.old out.new E.ByteSink err.old err.new result) }
+    ensures row { ShowsOne linter (IsRow (M.told files.old)
+        (options_of (map (λ word. word.now) words.now)) (M.open_failed files.new)
+        (M.read_failed files.new))
+        (end_of O.ByteSink out.old out.new E.ByteSink err.old err.new result) }
     // No file is left open.
     ensures back { M.is_out files.new ≡ false }
     // Where the words give no options, nothing is opened.
-    ensures unopened { IfErr (options_of (map (λ word. word.now) words.now)) (λ _. (M.open_failed files.new ≡ false) × (M.read_failed files.new ≡ false)) }
+    ensures unopened { IfErr (options_of (map (λ word. word.now) words.now))
+        (λ _. (M.open_failed files.new ≡ false) × (M.read_failed files.new ≡ false)) }
 {
     match options(alloc, words) {
         Ok(options) => run(alloc, &options, files, out, err),
