@@ -25,7 +25,35 @@ const TURNS: u32 = 1_000;
 #[derive(Drop)]
 pub struct FileReader {
     file: File,
+    /// How many bytes it had when it was opened.
+    length: u64,
+    /// How many were read.
+    taken: u64,
+    has_ended: bool,
     has_failed: bool,
+}
+
+impl FileReader {
+    /// A reader from the start of a file that had so many bytes.
+    fn new(file: File, length: u64) -> FileReader
+        ensures { ⟦<FileReader as ByteSource>⟧.failed result ≡ false }
+    {
+        FileReader {
+            file,
+            length,
+            taken: 0,
+            has_ended: false,
+            has_failed: false,
+        }
+    }
+
+    /// Counts what a read took. One that left room where the file had its last byte has met its end: it needn't be read.
+    fn note_taken(&mut self, taken: usize, room: usize)
+        ensures { self.new.has_failed ≡ self.old.has_failed }
+    {
+        self.taken = self.taken.saturating_add(taken as u64);
+        self.has_ended = self.taken == self.length && taken < room;
+    }
 }
 
 /// Reads from a file, again where a signal interrupts it.
@@ -47,8 +75,15 @@ impl ByteSource for FileReader {
     ghost failed = { λ s. s.has_failed };
 
     fn read(&mut self, buffer: &mut [u8]) -> Result<usize, Failed> {
+        if self.has_ended {
+            return Ok(0);
+        }
+        let room = buffer.len();
         match read_some(&mut self.file, buffer) {
-            Ok(n) => Ok(n),
+            Ok(n) => {
+                self.note_taken(n, room);
+                Ok(n)
+            }
             Err(_) => {
                 self.has_failed = true;
                 Err(Failed)
@@ -250,10 +285,7 @@ impl SystemTree {
                         identity,
                         is_linked,
                     });
-                    Ok(FileReader {
-                        file,
-                        has_failed: false,
-                    })
+                    Ok(FileReader::new(file, metadata.len()))
                 }
                 Ok(_) => Err(TreeFault::NotAFile),
                 Err(_) => Err(TreeFault::Unreadable),
