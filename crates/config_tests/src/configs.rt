@@ -1,0 +1,162 @@
+//! What the lines of a `.tfrules` say.
+
+use lint_config::{BadLine, Config, ConfigFault, Said, config_in};
+use rule_set::{Rule, RuleSet, Severity};
+use std::alloc::Global;
+use std::process::Abort;
+use tf_rules::Naming;
+
+/// What a text says: its good lines, and its bad ones.
+struct Row {
+    text: &'static str,
+    naming: Option<Naming>,
+    minimum: Option<Severity>,
+    force: bool,
+    has_rules: bool,
+    faults: &'static [BadLine],
+}
+
+static ROWS: [Row; 8] = [
+    Row {
+        text: "",
+        naming: None,
+        minimum: None,
+        force: false,
+        has_rules: false,
+        faults: &[],
+    },
+    Row {
+        text: " # --force\r\n\n",
+        naming: None,
+        minimum: None,
+        force: false,
+        has_rules: false,
+        faults: &[],
+    },
+    Row {
+        text: "--force # so\r\n--naming\tmixed_snake_case\r\n--minimum-failure-severity=warning",
+        naming: Some(Naming::MixedSnakeCase),
+        minimum: Some(Severity::Warning),
+        force: true,
+        has_rules: false,
+        faults: &[],
+    },
+    Row {
+        text: "--rules all,-terraform_typed_variables\n",
+        has_rules: true,
+        naming: None,
+        minimum: None,
+        force: false,
+        faults: &[],
+    },
+    Row {
+        text: "--force\n--bogus\nforce\n--null\n",
+        force: true,
+        faults: &[
+            BadLine {
+                line: 2,
+                fault: ConfigFault::UnknownOption,
+            },
+            BadLine {
+                line: 3,
+                fault: ConfigFault::UnknownOption,
+            },
+            BadLine {
+                line: 4,
+                fault: ConfigFault::UnknownOption,
+            },
+        ],
+        naming: None,
+        minimum: None,
+        has_rules: false,
+    },
+    Row {
+        text: "\n--rules terraform_typed,all\n--rules\n--rules default,-all\n",
+        faults: &[
+            BadLine {
+                line: 2,
+                fault: ConfigFault::UnknownRule,
+            },
+            BadLine {
+                line: 3,
+                fault: ConfigFault::UnknownRule,
+            },
+            BadLine {
+                line: 4,
+                fault: ConfigFault::NoRuleLeft,
+            },
+        ],
+        naming: None,
+        minimum: None,
+        force: false,
+        has_rules: false,
+    },
+    Row {
+        text: "--rules=all,-terraform_typed_variables\n--rules=default\n",
+        has_rules: true,
+        faults: &[BadLine {
+            line: 2,
+            fault: ConfigFault::GivenTwice,
+        }],
+        naming: None,
+        minimum: None,
+        force: false,
+    },
+    Row {
+        text: "--naming camel\n--minimum-failure-severity *\n--force yes",
+        faults: &[
+            BadLine {
+                line: 1,
+                fault: ConfigFault::UnknownNaming,
+            },
+            BadLine {
+                line: 2,
+                fault: ConfigFault::UnknownSeverity,
+            },
+            BadLine {
+                line: 3,
+                fault: ConfigFault::UnknownOption,
+            },
+        ],
+        naming: None,
+        minimum: None,
+        force: false,
+        has_rules: false,
+    },
+];
+
+/// Whether the rules are as a row has them: none, or all but one.
+fn are_rules(rules: Option<RuleSet>, has_rules: bool) -> bool {
+    match rules {
+        Some(rules) => {
+            has_rules && rules.holds(Rule::CommentSyntax) && !rules.holds(Rule::TypedVariables)
+        }
+        None => !has_rules,
+    }
+}
+
+/// Whether these options are those of a row.
+fn is_said(said: Said, row: &Row) -> bool {
+    said.naming == row.naming
+        && said.minimum == row.minimum
+        && said.force == row.force
+        && are_rules(said.rules, row.has_rules)
+}
+
+/// Whether a text says what its row has.
+fn says(config: &Config, row: &Row) -> bool {
+    is_said(config.said, row) && config.faults.as_slice() == row.faults
+}
+
+/// Reads the text of a row, and compares what it says.
+fn reads(rt: &impl Abort, alloc: Global, row: &Row) {
+    let config = config_in(alloc, row.text).expect(rt, "memory");
+    assert!(rt; says(&config, row), "of {:?}", row.text);
+}
+
+#[test]
+fn rows_are_read(rt: HostRuntime) {
+    for row in &ROWS {
+        reads(&rt, rt.alloc(), row);
+    }
+}

@@ -1,0 +1,6 @@
+//! Tests of the options of a project by its public items. They stand in a crate of their own, since a crate with tests is
+//! proved twice.
+#![tactic(auto)]
+
+#[cfg(test)]
+mod configs;

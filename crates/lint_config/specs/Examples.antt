@@ -1,0 +1,66 @@
+-- Lines and texts, by computation.
+use Rattle.std.specs.Prelude.{◌≡◌, ℕ, refl, true, List, [], ◌∷◌, Some, Ok, Err, codes}
+use Rattle.std.specs.Str.{chars, trim_end, trim_start}
+use Rattle.tf_rules.specs.declared.naming.Naming.TheVariants.{MixedSnakeCase}
+use Rattle.lint_config.specs.Lines.{bare, nothing, parts, read_text, with_line}
+use Rattle.lint_config.specs.declared.fault.ConfigFault.TheVariants.{UnknownOption, GivenTwice, UnknownRule, NoRuleLeft, UnknownNaming, UnknownSeverity}
+
+no_comment : bare (codes "  --force # so\r") ≡ codes "--force"
+unfolding chars trim_start trim_end lib.Utf8.encode
+no_comment = refl
+
+blank : with_line nothing (codes " \t# all\r") ≡ Ok nothing
+unfolding chars trim_start trim_end lib.Utf8.encode
+blank = refl
+
+by_blanks : parts (codes "--rules   all") ≡ (codes "--rules", codes "all")
+unfolding chars trim_start trim_end lib.Utf8.encode
+by_blanks = refl
+
+by_tab : parts (codes "--rules\tall") ≡ (codes "--rules", codes "all")
+unfolding chars trim_start trim_end lib.Utf8.encode
+by_tab = refl
+
+by_equals : parts (codes "--rules=all,-x") ≡ (codes "--rules", codes "all,-x")
+unfolding chars trim_start trim_end lib.Utf8.encode
+by_equals = refl
+
+alone : parts (codes "--force") ≡ (codes "--force", [])
+unfolding chars trim_start trim_end lib.Utf8.encode
+alone = refl
+
+bogus : with_line nothing (codes "--null") ≡ Err UnknownOption
+unfolding chars trim_start trim_end lib.Utf8.encode
+bogus = refl
+
+bare_word : with_line nothing (codes "force") ≡ Err UnknownOption
+unfolding chars trim_start trim_end lib.Utf8.encode
+bare_word = refl
+
+valueless : with_line nothing (codes "--rules") ≡ Err UnknownRule
+unfolding chars trim_start trim_end lib.Utf8.encode
+valueless = refl
+
+none_left : with_line nothing (codes "--rules default,-all") ≡ Err NoRuleLeft
+unfolding chars trim_start trim_end lib.Utf8.encode
+none_left = refl
+
+two_on_a_line : with_line nothing (codes "--naming snake_case --force") ≡ Err UnknownNaming
+unfolding chars trim_start trim_end lib.Utf8.encode
+two_on_a_line = refl
+
+not_severe : with_line nothing (codes "--minimum-failure-severity *") ≡ Err UnknownSeverity
+unfolding chars trim_start trim_end lib.Utf8.encode
+not_severe = refl
+
+forced_so : with_line nothing (codes "--force=yes") ≡ Err UnknownOption
+unfolding chars trim_start trim_end lib.Utf8.encode
+forced_so = refl
+
+-- two good lines, and the number of each bad one: the last is a second `--force`
+abbrev few : List ℕ
+few = codes "--x\n--force\n--naming=mixed_snake_case\n--force"
+
+all_bad_lines : read_text few ≡ record { said = record nothing { naming = Some MixedSnakeCase; force = true }; lines = 4; faults = (1, UnknownOption) ∷ (4, GivenTwice) ∷ [] }
+unfolding chars trim_start trim_end lib.Utf8.encode
+all_bad_lines = refl

@@ -1,0 +1,6 @@
+-- The parts of a line, in the words of the definitions.
+use Rattle.std.specs.Prelude.{ℕ, List}
+use Rattle.lint_config.specs.declared.parts.Cut.{Cut}
+
+abbrev pub cut_of : Cut → List ℕ × List ℕ
+cut_of p = (p.name.now, p.value.now)

@@ -1,0 +1,6 @@
+pub mod Configs
+pub mod Examples
+pub mod Inner
+pub mod Lines
+pub mod Options
+pub mod Texts

@@ -1,0 +1,84 @@
+-- What the lines of a `.tfrules` say. Our own choice.
+use Rattle.std.specs.Prelude.{ℕ, ◌+◌, ◌==◌, ◌&&◌, Bool, true, false, List, [], ◌∷◌, ◌++◌, Option, Some, None, Result, Ok, Err, codes, fold, length, nat_lt, ok_or, if◌then◌else◌}
+use Rattle.std.specs.List.{after_first, before_first, position_or_len, slice_split}
+use Rattle.std.specs.Str.{bytes_eq, trim}
+use Rattle.rule_set.specs.declared.rule.Rule.{Rule}
+use Rattle.rule_set.specs.declared.rule.Severity.{Severity}
+use Rattle.rule_lists.specs.Lists.{rules_in}
+use Rattle.rule_lists.specs.declared.fault.ListFault.{ListFault}
+use Rattle.rule_lists.specs.declared.fault.ListFault.TheVariants as list
+use Rattle.tf_rules.specs.declared.naming.Naming.{Naming}
+use Rattle.tfrules_command.specs.Line.{naming_asked, severity_asked}
+use Rattle.lint_config.specs.declared.fault.ConfigFault.{ConfigFault}
+use Rattle.lint_config.specs.declared.fault.ConfigFault.TheVariants.{UnknownOption, GivenTwice, UnknownRule, NoRuleLeft, UnknownNaming, UnknownSeverity}
+
+-- options that are given
+pub record Options : Type 0 where
+  pub rules : Option (List Rule)
+  pub naming : Option Naming
+  pub minimum : Option Severity
+  pub force : Bool
+
+abbrev pub nothing : Options
+nothing = record { rules = None; naming = None; minimum = None; force = false }
+
+-- ---- the parts of a line
+
+-- a line without its comment, and without the white space round it
+abbrev pub bare : List ℕ → List ℕ
+bare line = trim (before_first (λ b. b == 35) line)
+
+-- cut at the first of a byte, or as it is otherwise
+abbrev pub cut_or : ℕ → List ℕ → List ℕ × List ℕ → List ℕ × List ℕ
+cut_or c text others =
+    if nat_lt (position_or_len (λ b. b == c) text) (length text) then (trim (before_first (λ b. b == c) text), trim (after_first (λ b. b == c) text))
+    else others
+
+-- `NAME=VALUE`, `NAME VALUE`, or `NAME` with an empty value
+abbrev pub parts : List ℕ → List ℕ × List ℕ
+parts text = cut_or 61 text (cut_or 32 text (cut_or 9 text (text, [])))
+
+-- ---- what a line adds, or what is wrong with it
+
+-- an option is given once
+abbrev pub with_value : {A : Type 0} → Option A → Result A ConfigFault → (A → Options) → Result Options ConfigFault
+with_value (Some a) value put = Err GivenTwice
+with_value None (Err fault) put = Err fault
+with_value None (Ok a) put = Ok (put a)
+
+abbrev pub rules_or_fault : Result (List Rule) ListFault → Result (List Rule) ConfigFault
+rules_or_fault (Ok rules) = Ok rules
+rules_or_fault (Err list.UnknownRule) = Err UnknownRule
+rules_or_fault (Err list.NoneLeft) = Err NoRuleLeft
+
+abbrev pub with_option : Options → List ℕ → List ℕ → Result Options ConfigFault
+with_option said name value =
+    if bytes_eq name (codes "--rules") then with_value said.rules (rules_or_fault (rules_in value)) (λ rules. record said { rules = Some rules })
+    else (if bytes_eq name (codes "--naming") then with_value said.naming (ok_or (naming_asked value) UnknownNaming) (λ naming. record said { naming = Some naming })
+    else (if bytes_eq name (codes "--minimum-failure-severity")
+    then with_value said.minimum (ok_or (severity_asked value) UnknownSeverity) (λ minimum. record said { minimum = Some minimum })
+    else (if bytes_eq name (codes "--force") && length value == 0 then (if said.force then Err GivenTwice else Ok (record said { force = true }))
+    else Err UnknownOption)))
+
+-- THE OPTIONS after a line more: an empty one says nothing
+abbrev pub with_line : Options → List ℕ → Result Options ConfigFault
+with_line said line = if length (bare line) == 0 then Ok said else with_option said (parts (bare line)).0 (parts (bare line)).1
+
+-- ---- all lines
+
+-- the options so far, how many lines there were, and what is wrong with which of them
+pub record Read : Type 0 where
+  pub said : Options
+  pub lines : ℕ
+  pub faults : List (ℕ × ConfigFault)
+
+abbrev pub read_by : Read → Result Options ConfigFault → Read
+read_by r (Ok said) = record { said = said; lines = r.lines + 1; faults = r.faults }
+read_by r (Err fault) = record { said = r.said; lines = r.lines + 1; faults = r.faults ++ (r.lines + 1, fault) ∷ [] }
+
+abbrev pub read_line : Read → List ℕ → Read
+read_line r line = read_by r (with_line r.said line)
+
+-- WHAT A TEXT SAYS, and each line of it that is wrong, which says nothing
+abbrev pub read_text : List ℕ → Read
+read_text text = fold read_line (record { said = nothing; lines = 0; faults = [] }) (slice_split (λ b. b == 10) text)

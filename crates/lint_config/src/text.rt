@@ -1,0 +1,66 @@
+//! What a text says.
+
+ghost use Rattle.std.specs.Prelude.{◌≡◌, IfOk, OnOk};
+ghost use Rattle.lint_config.specs.Lines.{read_line, read_text};
+ghost use Rattle.lint_config.specs.Configs.{read_of};
+
+use crate::fault::ConfigFault;
+use crate::line::with_line;
+use crate::said::{NOTHING, Said};
+use std::alloc::{AllocError, Global};
+
+/// A line that is wrong, counted from 1.
+#[derive(Clone, Copy, Debug, PartialEq, Eq)]
+pub struct BadLine {
+    /// Which one it is.
+    pub line: usize,
+    /// What is wrong with it.
+    pub fault: ConfigFault,
+}
+
+/// What a text says: the options of its lines, and those that are wrong.
+#[derive(Debug, Drop)]
+pub struct Config {
+    /// The options of the others.
+    pub said: Said,
+    /// How many lines there are.
+    pub lines: usize,
+    /// The lines that are wrong, in their order.
+    pub faults: Vec<BadLine>,
+}
+
+impl Config {
+    /// Takes one line more.
+    fn take(&mut self, line: &str) -> Result<(), AllocError>
+        ensures { OnOk result (read_of self.new ≡ read_line (read_of self.old) line.now) }
+    {
+        let Some(number) = self.lines.checked_add(1) else {
+            return Err(AllocError);
+        };
+        match with_line(self.said, line) {
+            Ok(said) => self.said = said,
+            Err(fault) => self.faults.push(BadLine {
+                line: number,
+                fault,
+            })?,
+        }
+        self.lines = number;
+        Ok(())
+    }
+}
+
+/// The options that a text has, one a line, and each line of it that is wrong. A line is `NAME VALUE`, `NAME=VALUE` or a
+/// `NAME` alone, up to a `#`; an empty one says nothing, and neither does a wrong one.
+pub fn config_in(alloc: Global, text: &str) -> Result<Config, AllocError>
+    ensures { IfOk result (λ config. read_of config ≡ read_text text.now) }
+{
+    let mut config = Config {
+        said: NOTHING,
+        lines: 0,
+        faults: Vec::new(alloc),
+    };
+    for line in text.split('\n') {
+        config.take(line)?;
+    }
+    Ok(config)
+}
