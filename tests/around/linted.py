@@ -18,17 +18,18 @@ MISSING = 'no such file or folder'
 
 def run(group):
     if not os.path.exists(group.linted):
-        group.skip('tfrules-all', 78, 'bin/tfrules-all is not built')
+        group.skip('tfrules-all', 86, 'bin/tfrules-all is not built')
         return
 
     def lint(*words, cwd, **more):
-        return group.call(group.linted, *words, cwd=cwd, **more)
+        return group.call(group.linted, '--quiet', *words, cwd=cwd, **more)
 
     for part in (
         modules.whole_modules,
         names,
         walk,
         statuses,
+        summaries,
         options,
         lists_of_rules,
         deleted,
@@ -126,6 +127,34 @@ def statuses(group, lint):
     group.check('a closed standard output', group.call('sh', '-c', 'exec "$0" a >&-', group.linted, cwd=top)[0], 1)
 
 
+def summaries(group, lint):
+    """What is said at the end of a run, unless it is to be quiet."""
+    top = tree(
+        group,
+        {
+            'a/a.tf': DECLARED,
+            'b/b.tf': BAD,
+            'c/c.tf': b'variable "n" {}\n',
+            'd/d.tf': b'',
+            'none/x.txt': b'',
+        },
+    )
+    refused = lines('tfrules: error: b/b.tf:1:3: unexpected token')
+    for words, told, said in (
+        (['d'], b'', 'no issues in 1 module'),
+        (['a'], b'', '1 issue in 1 of 1 module'),
+        (['a', 'c', 'd'], b'', '3 issues in 2 of 3 modules'),
+        (['a', 'b'], refused, '1 issue in 1 of 2 modules, 1 refused'),
+        (['b'], refused, 'no issues in 1 module, 1 refused'),
+        (['none'], b'', 'no modules found'),
+        (['gone'], lines(fault('gone', MISSING)), 'no modules found'),
+    ):
+        group.check(
+            'what is said at the end: %r' % words, group.call(group.linted, *words, cwd=top)[2], told + lines(said)
+        )
+    group.check('nothing under --quiet', group.call(group.linted, 'none', '--quiet', cwd=top), (0, b'', b''))
+
+
 def options(group, lint):
     top = tree(group, {'a.tf': DECLARED})
     status, out, err = lint('--help', cwd=top)
@@ -133,7 +162,7 @@ def options(group, lint):
     group.check('-h', lint('-h', cwd=top), (status, out, err))
     version = (TOP / 'VERSION').read_text().strip()
     group.check('--version', lint('--version', cwd=top), (0, lines('tfrules-all ' + version), b''))
-    usage = b'\n'.join(out.split(b'\n')[:2]) + b'\n'
+    usage = out[: out.index(b'\n\n') + 1]
     for words in (['--bogus'], ['--rules'], ['-0', 'a.tf'], ['--shard', '0/2'], ['--shard=3/2'], ['--shard', '1']):
         group.check('a wrong line %r' % words, lint(*words, cwd=top), (1, b'', usage))
     for words, told in (

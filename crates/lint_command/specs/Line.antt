@@ -23,22 +23,24 @@ pub record Wanted : Type 0 where
   pub minimum : Severity
   pub force : Bool
 
--- what a line asks for: that, the part of the folders, whether names are read from standard input, and the names of the line
+-- what a line asks for: that, whether nothing is said of the run as a whole, the part of the folders, whether names are read
+-- from standard input, and the names of the line
 pub record Asking : Type 0 where
   pub wanted : Wanted
+  pub quiet : Bool
   pub shard : Option Shard
   pub null : Bool
   pub names : List Name
 
 -- ---- the command
 
--- `tfrules-all [--rules LIST] [--naming NAMING] [--minimum-failure-severity SEVERITY] [--force] [--version] [--null]
+-- `tfrules-all [--rules LIST] [--naming NAMING] [--minimum-failure-severity SEVERITY] [--force] [--quiet] [--version] [--null]
 -- [--shard K/N] [--] [FILE|FOLDER]...`
 abbrev pub tfrules_all : App
 tfrules_all =
     fold with_rule (new_app (codes "tfrules-all"))
     (option_rule (codes "rules") ∷ option_rule (codes "naming") ∷ option_rule (codes "minimum-failure-severity") ∷ count_rule (codes "force")
-    ∷ count_rule (codes "version") ∷ null_rule ∷ option_rule (codes "shard") ∷ file_rule ∷ [])
+    ∷ count_rule (codes "quiet") ∷ count_rule (codes "version") ∷ null_rule ∷ option_rule (codes "shard") ∷ file_rule ∷ [])
 
 -- ---- by what each module is linted
 
@@ -61,15 +63,15 @@ wanted_asked rows =
 abbrev pub is_good : Bool → ℕ → Bool
 is_good null names = not null || names == 0
 
-abbrev pub asking_by : Result Wanted Usage → Option (Option Shard) → Bool → Bool → List Name → Result Asking Usage
-asking_by (Err usage) shard is_good null names = Err usage
-asking_by (Ok wanted) None is_good null names = Err BadLine
-asking_by (Ok wanted) (Some shard) false null names = Err BadLine
-asking_by (Ok wanted) (Some shard) true null names = Ok (record { wanted = wanted; shard = shard; null = null; names = names })
+abbrev pub asking_by : Result Wanted Usage → Bool → Option (Option Shard) → Bool → Bool → List Name → Result Asking Usage
+asking_by (Err usage) quiet shard is_good null names = Err usage
+asking_by (Ok wanted) quiet None is_good null names = Err BadLine
+asking_by (Ok wanted) quiet (Some shard) false null names = Err BadLine
+asking_by (Ok wanted) quiet (Some shard) true null names = Ok (record { wanted = wanted; quiet = quiet; shard = shard; null = null; names = names })
 
 abbrev pub asking_with : List Row → List Name → Result Asking Usage
 asking_with rows names =
-    asking_by (wanted_asked rows) (shard_given (first_of (codes "shard") rows)) (is_good (is_given (codes "null") rows) (length names))
+    asking_by (wanted_asked rows) (is_given (codes "quiet") rows) (shard_given (first_of (codes "shard") rows)) (is_good (is_given (codes "null") rows) (length names))
     (is_given (codes "null") rows) names
 
 -- the names of a line are those that clap finds, and then the other ones

@@ -24,6 +24,8 @@ use tree_lint::policy::Policy;
 pub struct LintOptions<'a> {
     /// By what each module is linted.
     pub policy: Policy,
+    /// Nothing is said of the run as a whole.
+    pub quiet: bool,
     /// The part of the folders that is taken, where it isn't all.
     pub shard: Option<Shard>,
     /// The names are read from standard input.
@@ -41,6 +43,7 @@ fn command<'a>(alloc: Global) -> Result<Command<'a>, AllocError>
         .arg(option_named(alloc, "naming"))?
         .arg(option_named(alloc, "minimum-failure-severity"))?
         .arg(counted_flag(alloc, "force"))?
+        .arg(counted_flag(alloc, "quiet"))?
         .arg(counted_flag(alloc, "version"))?
         .arg(null(alloc))?
         .arg(option_named(alloc, "shard"))?
@@ -104,12 +107,13 @@ fn is_good(null: bool, names: &[&[u8]]) -> bool
 /// The options of these parts of a line.
 fn options_by<'a>(
     policy: Result<Policy, Usage>,
+    quiet: bool,
     shard: Option<Option<Shard>>,
     is_good: bool,
     null: bool,
     names: Vec<&'a [u8]>,
 ) -> Result<LintOptions<'a>, Usage>
-    ensures { asked_by result ≡ asking_by (wanted_in policy) shard is_good null
+    ensures { asked_by result ≡ asking_by (wanted_in policy) quiet shard is_good null
         (map (λ name. name.now) names.entry.items) }
 {
     let policy = match policy {
@@ -124,6 +128,7 @@ fn options_by<'a>(
     }
     Ok(LintOptions {
         policy,
+        quiet,
         shard,
         null,
         names,
@@ -139,10 +144,11 @@ fn options_with<'a>(
         (map (λ name. name.now) names.entry.items) }
 {
     let policy = policy_of(matches);
+    let quiet = is_given(matches, "quiet");
     let shard = shard_of(matches);
     let null = is_given(matches, "null");
     let is_good = is_good(null, names.as_slice());
-    options_by(policy, shard, is_good, null, names)
+    options_by(policy, quiet, shard, is_good, null, names)
 }
 
 /// The options that the matches of a line give, beside which there are these names.

@@ -24,7 +24,8 @@ pub enum Usage {
 /// What lines this program has.
 pub static USAGE: &str = "\
 usage: tfrules-all [--rules LIST] [--naming NAMING] [--minimum-failure-severity SEVERITY]
-                   [--force] [--shard K/N] [--null] [--] [FILE|FOLDER]...
+                   [--force] [--quiet] [--shard K/N] [--null] [--]
+                   [FILE|FOLDER]...
 ";
 
 /// What `--version` says.
@@ -33,7 +34,8 @@ pub static VERSION: &str = "tfrules-all 0.3.0\n";
 /// What `--help` says.
 pub static HELP: &str = "\
 usage: tfrules-all [--rules LIST] [--naming NAMING] [--minimum-failure-severity SEVERITY]
-                   [--force] [--shard K/N] [--null] [--] [FILE|FOLDER]...
+                   [--force] [--quiet] [--shard K/N] [--null] [--]
+                   [FILE|FOLDER]...
 
 Lints the modules of folders, each by itself, as tfrules lints its files.
 
@@ -50,6 +52,8 @@ current folder.
                    error, warning or notice: from which severity on an issue
                    fails the run
   --force          no issue fails the run
+  --quiet          say nothing of the run as a whole: no count of the issues
+                   at its end
   --shard K/N      take the K-th of N parts of the folders
   -0, --null       read names, each ended by NUL, from standard input
   -h, --help       print this
