@@ -268,7 +268,7 @@ fn run_line<'w, T: Tree + Drop, R: ByteSource, O: ByteSink, E: ByteSink>(
 {
     match options(alloc, words, others) {
         Ok(options) => run_asked(alloc, &options, files, input, out, err),
-        Err(usage) => say(usage, out, err),
+        Err(usage) => say(alloc, words, usage, out, err),
     }
 }
 

@@ -109,7 +109,7 @@ const ONE: &[u8] = b"1 issue in 1 of 1 module\n";
 
 const TWO: &[u8] = b"2 issues in 1 of 1 module\n";
 
-static ROWS: [Row; 20] = [
+static ROWS: [Row; 27] = [
     // A folder stands for itself and all below, a file for its folder alone.
     Row {
         words: &[b"tfrules-all", b"a"],
@@ -265,6 +265,55 @@ static ROWS: [Row; 20] = [
         input: b"",
         out: b"",
         err: b"tfrules-all: error: unknown naming\n",
+        status: 1,
+    },
+    Row {
+        words: &[b"tfrules-all", b"a", b"--bogus"],
+        input: b"",
+        out: b"",
+        err: b"tfrules-all: error: unknown option --bogus\nusage: tfrules-all [--rules LIST] [--naming NAMING]\n                   [--minimum-failure-severity SEVERITY] [--force] [--quiet]\n                   [--shard K/N] [--null] [--] [FILE|FOLDER]...\n       tfrules-all --list-rules\n       tfrules-all --explain RULE\n",
+        status: 1,
+    },
+    Row {
+        words: &[b"tfrules-all", b"--chdir=a"],
+        input: b"",
+        out: b"",
+        err: b"tfrules-all: error: unknown option --chdir=a; name the folder instead\nusage: tfrules-all [--rules LIST] [--naming NAMING]\n                   [--minimum-failure-severity SEVERITY] [--force] [--quiet]\n                   [--shard K/N] [--null] [--] [FILE|FOLDER]...\n       tfrules-all --list-rules\n       tfrules-all --explain RULE\n",
+        status: 1,
+    },
+    Row {
+        words: &[b"tfrules-all", b"-force", b"a"],
+        input: b"",
+        out: b"",
+        err: b"tfrules-all: error: unknown option -force; write --force\nusage: tfrules-all [--rules LIST] [--naming NAMING]\n                   [--minimum-failure-severity SEVERITY] [--force] [--quiet]\n                   [--shard K/N] [--null] [--] [FILE|FOLDER]...\n       tfrules-all --list-rules\n       tfrules-all --explain RULE\n",
+        status: 1,
+    },
+    Row {
+        words: &[b"tfrules-all", b"--shard", b"3/2", b"a"],
+        input: b"",
+        out: b"",
+        err: b"usage: tfrules-all [--rules LIST] [--naming NAMING]\n                   [--minimum-failure-severity SEVERITY] [--force] [--quiet]\n                   [--shard K/N] [--null] [--] [FILE|FOLDER]...\n       tfrules-all --list-rules\n       tfrules-all --explain RULE\n",
+        status: 1,
+    },
+    Row {
+        words: &[b"tfrules-all", b"--list-rules"],
+        input: b"",
+        out: b"terraform_comment_syntax (Warning): comments that begin with `//`\nterraform_deprecated_index (Warning, default): `list.0` instead of `list[0]`\nterraform_deprecated_interpolation (Warning, default): `\"${var.name}\"` instead of `var.name`\nterraform_documented_outputs (Notice): outputs without a description\nterraform_documented_variables (Notice): variables without a description\nterraform_module_pinned_source (Warning, default): modules from git or Mercurial at no fixed revision\nterraform_module_version (Warning, default): modules from a registry without a version\nterraform_naming_convention (Notice): names that don't follow the naming\nterraform_typed_variables (Warning, default): variables without a type\nterraform_unused_declarations (Warning, default): variables, locals and data sources that nothing refers to\n",
+        err: b"",
+        status: 0,
+    },
+    Row {
+        words: &[b"tfrules-all", b"--explain", b"terraform_typed_variables"],
+        input: b"",
+        out: b"terraform_typed_variables (Warning, default): variables without a type\n\nWithout a type any value is accepted, and a wrong one fails far from where it was set.\n\nA comment on the line of an issue, or on the line above it, silences it:\n\n  # tflint-ignore: terraform_typed_variables\n",
+        err: b"",
+        status: 0,
+    },
+    Row {
+        words: &[b"tfrules-all", b"--explain", b"typed"],
+        input: b"",
+        out: b"",
+        err: b"tfrules-all: error: unknown rule\n",
         status: 1,
     },
 ];
