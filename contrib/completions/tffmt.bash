@@ -20,7 +20,7 @@ _tffmt() {
     tfrules) options='--rules --naming --minimum-failure-severity --force --help' files=linted ;;
     tffmt-all) options='--check --diff --list --in-place --sync --quiet --exclude --any-name --jobs --shard --null --help --version' files=formatted ;;
     tfrules-all)
-      options='--rules --naming --minimum-failure-severity --force --shard --null --help --version'
+      options='--rules --naming --minimum-failure-severity --force --quiet --shard --null --list-rules --explain --help --version'
       files=linted ;;
     tffmt-hook) options='--install --uninstall --help --version' ;;
     tfrules-modules)
@@ -36,6 +36,7 @@ _tffmt() {
     tfrules*:--rules)
       values="default all $rules"
       [[ $word != *,* ]] || first=$first${word%,*}, word=${word##*,} ;;
+    tfrules-all:--explain) values=$rules ;;
     tfrules*:--naming) values='snake_case mixed_snake_case' ;;
     tfrules*:--minimum-failure-severity) values='error warning notice' ;;
     *:-j | *:--jobs | *:--shard) return ;;

@@ -28,7 +28,10 @@ for command in tfrules tfrules-all tfrules-modules
 end
 complete -c tfrules -f -s h -l help -d 'Print the usage line'
 
+complete -c tfrules-all -l quiet -d 'Say nothing of the run as a whole'
 complete -c tfrules-all -x -l shard -d 'Take a part of the modules, K/N'
+complete -c tfrules-all -f -l list-rules -d 'Print what the rules report'
+complete -c tfrules-all -x -l explain -a '(__tffmt_rules | string match "terraform_*")' -d 'Print what a rule reports, and why'
 complete -c tfrules-all -f -s 0 -l null -d 'Read names from standard input'
 complete -c tfrules-all -f -s h -l help -d 'Print help'
 complete -c tfrules-all -f -l version -d 'Print the version'

@@ -18,18 +18,20 @@ MISSING = 'no such file or folder'
 
 def run(group):
     if not os.path.exists(group.linted):
-        group.skip('tfrules-all', 78, 'bin/tfrules-all is not built')
+        group.skip('tfrules-all', 86, 'bin/tfrules-all is not built')
         return
 
     def lint(*words, cwd, **more):
-        return group.call(group.linted, *words, cwd=cwd, **more)
+        return group.call(group.linted, '--quiet', *words, cwd=cwd, **more)
 
     for part in (
         modules.whole_modules,
         names,
         walk,
         statuses,
+        summaries,
         options,
+        rule_texts,
         lists_of_rules,
         deleted,
         limits,
@@ -126,6 +128,34 @@ def statuses(group, lint):
     group.check('a closed standard output', group.call('sh', '-c', 'exec "$0" a >&-', group.linted, cwd=top)[0], 1)
 
 
+def summaries(group, lint):
+    """What is said at the end of a run, unless it is to be quiet."""
+    top = tree(
+        group,
+        {
+            'a/a.tf': DECLARED,
+            'b/b.tf': BAD,
+            'c/c.tf': b'variable "n" {}\n',
+            'd/d.tf': b'',
+            'none/x.txt': b'',
+        },
+    )
+    refused = lines('tfrules: error: b/b.tf:1:3: unexpected token')
+    for words, told, said in (
+        (['d'], b'', 'no issues in 1 module'),
+        (['a'], b'', '1 issue in 1 of 1 module'),
+        (['a', 'c', 'd'], b'', '3 issues in 2 of 3 modules'),
+        (['a', 'b'], refused, '1 issue in 1 of 2 modules, 1 refused'),
+        (['b'], refused, 'no issues in 1 module, 1 refused'),
+        (['none'], b'', 'no modules found'),
+        (['gone'], lines(fault('gone', MISSING)), 'no modules found'),
+    ):
+        group.check(
+            'what is said at the end: %r' % words, group.call(group.linted, *words, cwd=top)[2], told + lines(said)
+        )
+    group.check('nothing under --quiet', group.call(group.linted, 'none', '--quiet', cwd=top), (0, b'', b''))
+
+
 def options(group, lint):
     top = tree(group, {'a.tf': DECLARED})
     status, out, err = lint('--help', cwd=top)
@@ -133,9 +163,25 @@ def options(group, lint):
     group.check('-h', lint('-h', cwd=top), (status, out, err))
     version = (TOP / 'VERSION').read_text().strip()
     group.check('--version', lint('--version', cwd=top), (0, lines('tfrules-all ' + version), b''))
-    usage = b'\n'.join(out.split(b'\n')[:2]) + b'\n'
-    for words in (['--bogus'], ['--rules'], ['-0', 'a.tf'], ['--shard', '0/2'], ['--shard=3/2'], ['--shard', '1']):
+    group.check('--help fits 80 columns', [line for line in out.decode().split('\n') if len(line) > 80], [])
+    usage = out.split(b'\n\n')[0] + b'\n'
+    for words in (['--rules'], ['-0', 'a.tf'], ['--shard', '0/2'], ['--shard=3/2'], ['--shard', '1']):
         group.check('a wrong line %r' % words, lint(*words, cwd=top), (1, b'', usage))
+    for words, told in (
+        (['--bogus'], '--bogus'),
+        (['a.tf', '-x', '--bogus'], '-x'),
+        (['-rules=all'], '-rules=all'),
+        (['-force'], '-force; write --force'),
+        (['-recursive'], '-recursive; folders are always walked whole'),
+        (['--recursive'], '--recursive; folders are always walked whole'),
+        (['--chdir=a'], '--chdir=a; name the folder instead'),
+        (['-chdir=a'], '-chdir=a; name the folder instead'),
+        (['--chdir', 'a'], '--chdir; name the folder instead'),
+        (['--only=terraform_typed_variables'], '--only=terraform_typed_variables; write --rules LIST'),
+        (['--fix'], '--fix; no file is ever changed'),
+    ):
+        told = lines('tfrules-all: error: unknown option ' + told)
+        group.check('a wrong word is named: %r' % words, lint(*words, cwd=top), (1, b'', told + usage))
     for words, told in (
         (['--rules', 'default,x y,z'], 'unknown rule'),
         (['--rules='], 'unknown rule'),
@@ -155,6 +201,25 @@ def options(group, lint):
         ['a.tf', '--rules=terraform_documented_variables', '--naming', 'snake_case'],
     ):
         group.check('the options of tfrules %r' % words, lint(*words, cwd=top), (2, undescribed, b''))
+
+
+def rule_texts(group, lint):
+    """What is said of the rules is what docs/RULES.md says of them."""
+    page = (TOP / 'docs' / 'RULES.md').read_text()
+    rows = re.findall(r'^\| \[`(\w+)`\]\(#\1\) \| (\w+) \| (yes|no) \| (.*) \|$', page, re.M)
+    told = ['%s (%s%s): %s' % (name, how, ', default' * (given == 'yes'), what) for name, how, given, what in rows]
+    group.check('--list-rules', lint('--list-rules', cwd=TOP), (0, lines(*told), b''))
+    group.check('it has each rule', [name for name, *_ in rows], ALL)
+    for (name, *_), line in zip(rows, told):
+        status, out, err = lint('--explain', name, cwd=TOP)
+        first, _, why, _, how, _, comment, end = out.decode().split('\n')
+        wanted = (0, line, '  # tflint-ignore: ' + name, '', b'')
+        group.check('--explain ' + name, (status, first, comment, end, err), wanted)
+        section = re.search(r'^## %s\n(.*?)(?=^## |\Z)' % name, page, re.M | re.S).group(1)
+        group.check('why: ' + name, why in section.split('\n\n'), True)
+        group.check('how: ' + name, 'the line above it' in how, True)
+    for words in (['--explain', 'terraform_typed'], ['--explain=all'], ['--explain', '']):
+        group.check('no rule %r' % words, lint(*words, cwd=TOP), (1, b'', lines('tfrules-all: error: unknown rule')))
 
 
 # a module in which each rule has one issue at least

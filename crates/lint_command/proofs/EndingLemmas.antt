@@ -14,10 +14,11 @@ use Rattle.module_find.specs.declared.module.Module.{Module}
 use Rattle.tree_command.specs.Shards.{picked_of}
 use Rattle.tree_command.specs.declared.shard.Shard.{Shard}
 use Rattle.tree_lint.specs.Runs.{IsLintRun, files_of, told_in, worse_status}
+use Rattle.tree_lint.specs.declared.counts.Counts.{Counts}
 use Rattle.tree_lint.specs.declared.modules.Module.{Module as LintModule}
 use Rattle.tree_lint.specs.declared.policy.Policy.{Policy}
 use Rattle.lint_command.specs.Asked.{wanted_of}
-use Rattle.lint_command.specs.Ends.{AreTaken, Collects, LintsOr, RunsThen, Then, any_file, names_in}
+use Rattle.lint_command.specs.Ends.{AreTaken, Collects, LintsOr, RunsThen, Then, any_file, names_in, summary}
 use Rattle.lint_command.specs.Faults.{fault_line, fault_status}
 use Rattle.lint_command.specs.Inner.Taking.{Takes}
 use Rattle.lint_command.specs.declared.taken.Taken.{Taken}
@@ -74,44 +75,46 @@ last_status : (o e : Bool) (s a : ℕ) → o ≡ false → s ≡ (if e then 1 el
 last_status true e s a n h = absurd (cc)
 last_status false e s a n h = h
 
-module _ (told : Name → Option (List ℕ)) (policy : Policy) (named : List (List Name)) (faults : List Found) (between : End) (ran : IsLintRun told policy named between) where
+module _ (told : Name → Option (List ℕ)) (policy : Policy) (quiet : Bool) (named : List (List Name)) (faults : List Found) (between : End) (counts : Counts) (ran : IsLintRun told policy named between counts) where
   -- a write failed: nothing more is said
-  pub runs_cut : (v : Bool) → v ≡ (between.out.failed || between.err.failed) → v ≡ true → RunsThen told policy named faults between
+  pub runs_cut : (v : Bool) → v ≡ (between.out.failed || between.err.failed) → v ≡ true → RunsThen told policy quiet named faults between
   runs_cut v h e = record {
     between = between;
+    counts = counts;
     ran = ran;
     output = refl;
-    message = then_failed (between.out.failed || between.err.failed) between.err (flat_map fault_line faults) (sym h ∙ e);
+    message = then_failed (between.out.failed || between.err.failed) between.err (flat_map fault_line faults ++ summary quiet counts) (sym h ∙ e);
     exit = same_status (between.out.failed || between.err.failed) between.status _ _ (sym h ∙ e) ran.exit;
   }
 
   -- none did, and then it was said what can't be linted
   pub runs_then : (v : Bool) (end : End) → v ≡ (between.out.failed || between.err.failed) → v ≡ false → end.out ≡ between.out → end.err.before ≡ between.err.before
-      → TookBy end.err.failed between.err.after end.err.after (flat_map fault_line faults) → end.status ≡ (if end.err.failed then 1 else worse_status between.status (fault_status faults))
-      → RunsThen told policy named faults end
+      → TookBy end.err.failed between.err.after end.err.after (flat_map fault_line faults ++ summary quiet counts) → end.status ≡ (if end.err.failed then 1 else worse_status between.status (fault_status faults))
+      → RunsThen told policy quiet named faults end
   runs_then v end h e out err took exit = record {
     between = between;
+    counts = counts;
     ran = ran;
     output = out;
-    message = then_took (between.out.failed || between.err.failed) between.err end.err (flat_map fault_line faults) (sym h ∙ e) err took;
+    message = then_took (between.out.failed || between.err.failed) between.err end.err (flat_map fault_line faults ++ summary quiet counts) (sym h ∙ e) err took;
     exit = last_status end.out.failed end.err.failed end.status _ (ap (λ (w : Writer). w.failed) out ∙ out_good between.out.failed between.err.failed v h e) exit;
   }
 
 -- ---- in the code's terms
 
-pub cut_here : (told : Name → Option (List ℕ)) (policy : Policy) (modules items : List LintModule) (faults : List Found) (between : End) (v : Bool) → modules ≡ items → IsLintRun told policy (map files_of modules) between
-    → v ≡ (between.out.failed || between.err.failed) → v ≡ true → RunsThen told policy (map files_of items) faults between
-cut_here told policy modules items faults between v same ran h e = subst (λ l. RunsThen told policy (map files_of l) faults between) same (runs_cut told policy (map files_of modules) faults between ran v h e)
+pub cut_here : (told : Name → Option (List ℕ)) (policy : Policy) (quiet : Bool) (counts : Counts) (modules items : List LintModule) (faults : List Found) (between : End) (v : Bool) → modules ≡ items → IsLintRun told policy (map files_of modules) between counts
+    → v ≡ (between.out.failed || between.err.failed) → v ≡ true → RunsThen told policy quiet (map files_of items) faults between
+cut_here told policy quiet counts modules items faults between v same ran h e = subst (λ l. RunsThen told policy quiet (map files_of l) faults between) same (runs_cut told policy quiet (map files_of modules) faults between counts ran v h e)
 
-pub then_here : (told : Name → Option (List ℕ)) (policy : Policy) (modules items : List LintModule) (slice faults : List Found) (between end : End) (v : Bool) → modules ≡ items → slice ≡ faults
-    → IsLintRun told policy (map files_of modules) between → v ≡ (between.out.failed || between.err.failed) → v ≡ false → end.out ≡ between.out → end.err.before ≡ between.err.before
-    → TookBy end.err.failed between.err.after end.err.after (flat_map fault_line slice) → end.status ≡ (if end.err.failed then 1 else worse_status between.status (fault_status slice))
-    → RunsThen told policy (map files_of items) faults end
-then_here told policy modules items slice faults between end v same is ran h e out err took exit =
-    subst (λ l. RunsThen told policy (map files_of l) faults end) same
-    (subst (λ f. RunsThen told policy (map files_of modules) f end) is (runs_then told policy (map files_of modules) slice between ran v end h e out err took exit))
+pub then_here : (told : Name → Option (List ℕ)) (policy : Policy) (quiet : Bool) (counts : Counts) (modules items : List LintModule) (slice faults : List Found) (between end : End) (v : Bool) → modules ≡ items → slice ≡ faults
+    → IsLintRun told policy (map files_of modules) between counts → v ≡ (between.out.failed || between.err.failed) → v ≡ false → end.out ≡ between.out → end.err.before ≡ between.err.before
+    → TookBy end.err.failed between.err.after end.err.after (flat_map fault_line slice ++ summary quiet counts) → end.status ≡ (if end.err.failed then 1 else worse_status between.status (fault_status slice))
+    → RunsThen told policy quiet (map files_of items) faults end
+then_here told policy quiet counts modules items slice faults between end v same is ran h e out err took exit =
+    subst (λ l. RunsThen told policy quiet (map files_of l) faults end) same
+    (subst (λ f. RunsThen told policy quiet (map files_of modules) f end) is (runs_then told policy quiet (map files_of modules) slice between counts ran v end h e out err took exit))
 
-pub lints_found : (files later : Files) (policy : Policy) (shard : Option Shard) (paths : List Name) (named : List (List Name)) (faults : List Found) (end : End) → later ≡ files → AreTaken files shard paths named faults
-    → RunsThen (told_in later) policy named faults end → LintsOr (wanted_of policy) shard paths files end
-lints_found files later policy shard paths named faults end same taken runs =
-    inr (record { named = named; faults = faults; taken = taken; policy = policy; asked = refl; runs = subst (λ f. RunsThen (told_in f) policy named faults end) same runs })
+pub lints_found : (files later : Files) (policy : Policy) (quiet : Bool) (shard : Option Shard) (paths : List Name) (named : List (List Name)) (faults : List Found) (end : End) → later ≡ files → AreTaken files shard paths named faults
+    → RunsThen (told_in later) policy quiet named faults end → LintsOr (wanted_of policy) quiet shard paths files end
+lints_found files later policy quiet shard paths named faults end same taken runs =
+    inr (record { named = named; faults = faults; taken = taken; policy = policy; asked = refl; runs = subst (λ f. RunsThen (told_in f) policy quiet named faults end) same runs })

@@ -16,10 +16,10 @@ use Rattle.lint_command.specs.declared.usage.Usage.{Usage}
 pub wanted_parts : (r r' : Result (List Rule) ListFault) (n n' : Option Naming) (m m' : Option Severity) (f f' : Bool) → r ≡ r' → n ≡ n' → m ≡ m' → f ≡ f' → wanted_by r n m f ≡ wanted_by r' n' m' f'
 wanted_parts r r' n n' m m' f f' er en em ef = λ i. wanted_by (er i) (en i) (em i) (ef i)
 
-pub asking_parts : (w w' : Result Wanted Usage) (s s' : Option (Option Shard)) (g null null' : Bool) (k k' : ℕ) (names : List (List ℕ)) → w ≡ w' → s ≡ s' → g ≡ is_good null k → null ≡ null' → k ≡ k'
-    → asking_by w s g null names ≡ asking_by w' s' (is_good null' k') null' names
-asking_parts w w' s s' g null null' k k' names ew es eg enull ek =
-    (λ i. asking_by (ew i) (es i) (eg i) null names) ∙ (λ i. asking_by w' s' (is_good (enull i) (ek i)) (enull i) names)
+pub asking_parts : (w w' : Result Wanted Usage) (q q' : Bool) (s s' : Option (Option Shard)) (g null null' : Bool) (k k' : ℕ) (names : List (List ℕ)) → w ≡ w' → q ≡ q' → s ≡ s' → g ≡ is_good null k → null ≡ null' → k ≡ k'
+    → asking_by w q s g null names ≡ asking_by w' q' s' (is_good null' k') null' names
+asking_parts w w' q q' s s' g null null' k k' names ew eq es eg enull ek =
+    (λ i. asking_by (ew i) (eq i) (es i) (eg i) null names) ∙ (λ i. asking_by w' q' s' (is_good (enull i) (ek i)) (enull i) names)
 
 pub fault_said : (f : Found) (fault told : TreeFault) (name : List ℕ) → f.fault ≡ Some fault → told ≡ told_fault fault → name ≡ f.name.items → fault_line_by told name ≡ fault_line f
 fault_said f fault told name e et en = (λ i. fault_line_by (et i) (en i)) ∙ ap (λ o. fault_line_if o f.name.items) (sym e)

@@ -14,7 +14,7 @@ wanted_in (Ok policy) = Ok (wanted_of policy)
 wanted_in (Err usage) = Err usage
 
 abbrev pub asking_of : LintOptions → Asking
-asking_of o = record { wanted = wanted_of o.policy; shard = o.shard; null = o.null; names = map (λ name. name.now) o.names.items }
+asking_of o = record { wanted = wanted_of o.policy; quiet = o.quiet; shard = o.shard; null = o.null; names = map (λ name. name.now) o.names.items }
 
 abbrev pub asked_by : Result LintOptions Usage → Result Asking Usage
 asked_by (Ok o) = Ok (asking_of o)

@@ -1,12 +1,15 @@
 -- What the words of a `tfrules-all` line ask for. clap reads those that are UTF-8 as a simple command: its own definitions of
 -- the matches and the faults of a line decide. What its options may say, and that the other words are names, is our own choice.
-use Rattle.std.specs.Prelude.{ℕ, ◌==◌, ◌||◌, not, Bool, true, false, List, [], ◌∷◌, ◌++◌, Option, Some, None, Result, Ok, Err, codes, fold, length, if◌then◌else◌}
+use Rattle.std.specs.Prelude.{ℕ, ◌==◌, ◌||◌, not, Bool, true, false, List, [], ◌∷◌, ◌++◌, Option, Some, None, Result, Ok, Err, codes, find, fold, length, option_map, if◌then◌else◌}
+use Rattle.std.specs.Option.{option_map_or}
+use Rattle.std.specs.Str.{bytes_eq}
 use Rattle.clap.specs.Words.{App, Row, Text, fault_of, first_of, matches_of, new_app, with_rule}
 use Rattle.command_line.specs.Arguments.{option_rule, unless_fault, usage_by}
 use Rattle.file_tree.specs.Files.{Name}
 use Rattle.rule_lists.specs.Lists.{rules_in}
 use Rattle.rule_lists.specs.declared.fault.ListFault.{ListFault}
 use Rattle.rule_lists.specs.declared.fault.ListFault.TheVariants as list
+use Rattle.rule_set.specs.Rules.{all_rules, rule_name}
 use Rattle.rule_set.specs.declared.rule.Rule.{Rule}
 use Rattle.rule_set.specs.declared.rule.Severity.{Severity}
 use Rattle.tf_rules.specs.Issues.{Asked}
@@ -15,7 +18,7 @@ use Rattle.tfrules_command.specs.Line.{naming_asked, severity_asked, value_or}
 use Rattle.tree_command.specs.Line.{count_rule, file_rule, is_given, null_rule, others_in, shard_given, texts_in, texts_of}
 use Rattle.tree_command.specs.declared.shard.Shard.{Shard}
 use Rattle.lint_command.specs.declared.usage.Usage.{Usage}
-use Rattle.lint_command.specs.declared.usage.Usage.TheVariants.{Help, Version, BadLine, UnknownRule, NoRuleLeft, BadNaming, BadSeverity, OutOfMemory}
+use Rattle.lint_command.specs.declared.usage.Usage.TheVariants.{Help, Version, ListRules, Explain, BadLine, UnknownRule, NoRuleLeft, BadNaming, BadSeverity, OutOfMemory}
 
 -- by what each module is linted: rules and naming, the severity from which on an issue fails the run, and whether none does
 pub record Wanted : Type 0 where
@@ -23,22 +26,25 @@ pub record Wanted : Type 0 where
   pub minimum : Severity
   pub force : Bool
 
--- what a line asks for: that, the part of the folders, whether names are read from standard input, and the names of the line
+-- what a line asks for: that, whether nothing is said of the run as a whole, the part of the folders, whether names are read
+-- from standard input, and the names of the line
 pub record Asking : Type 0 where
   pub wanted : Wanted
+  pub quiet : Bool
   pub shard : Option Shard
   pub null : Bool
   pub names : List Name
 
 -- ---- the command
 
--- `tfrules-all [--rules LIST] [--naming NAMING] [--minimum-failure-severity SEVERITY] [--force] [--version] [--null]
--- [--shard K/N] [--] [FILE|FOLDER]...`
+-- `tfrules-all [--rules LIST] [--naming NAMING] [--minimum-failure-severity SEVERITY] [--force] [--quiet] [--version] [--null]
+-- [--shard K/N] [--list-rules] [--explain RULE] [--] [FILE|FOLDER]...`
 abbrev pub tfrules_all : App
 tfrules_all =
     fold with_rule (new_app (codes "tfrules-all"))
     (option_rule (codes "rules") ∷ option_rule (codes "naming") ∷ option_rule (codes "minimum-failure-severity") ∷ count_rule (codes "force")
-    ∷ count_rule (codes "version") ∷ null_rule ∷ option_rule (codes "shard") ∷ file_rule ∷ [])
+    ∷ count_rule (codes "quiet") ∷ count_rule (codes "version") ∷ null_rule ∷ option_rule (codes "shard") ∷ count_rule (codes "list-rules")
+    ∷ option_rule (codes "explain") ∷ file_rule ∷ [])
 
 -- ---- by what each module is linted
 
@@ -61,20 +67,30 @@ wanted_asked rows =
 abbrev pub is_good : Bool → ℕ → Bool
 is_good null names = not null || names == 0
 
-abbrev pub asking_by : Result Wanted Usage → Option (Option Shard) → Bool → Bool → List Name → Result Asking Usage
-asking_by (Err usage) shard is_good null names = Err usage
-asking_by (Ok wanted) None is_good null names = Err BadLine
-asking_by (Ok wanted) (Some shard) false null names = Err BadLine
-asking_by (Ok wanted) (Some shard) true null names = Ok (record { wanted = wanted; shard = shard; null = null; names = names })
+abbrev pub asking_by : Result Wanted Usage → Bool → Option (Option Shard) → Bool → Bool → List Name → Result Asking Usage
+asking_by (Err usage) quiet shard is_good null names = Err usage
+asking_by (Ok wanted) quiet None is_good null names = Err BadLine
+asking_by (Ok wanted) quiet (Some shard) false null names = Err BadLine
+asking_by (Ok wanted) quiet (Some shard) true null names = Ok (record { wanted = wanted; quiet = quiet; shard = shard; null = null; names = names })
 
 abbrev pub asking_with : List Row → List Name → Result Asking Usage
 asking_with rows names =
-    asking_by (wanted_asked rows) (shard_given (first_of (codes "shard") rows)) (is_good (is_given (codes "null") rows) (length names))
+    asking_by (wanted_asked rows) (is_given (codes "quiet") rows) (shard_given (first_of (codes "shard") rows)) (is_good (is_given (codes "null") rows) (length names))
     (is_given (codes "null") rows) names
+
+-- what is said of the rule that `--explain` names
+abbrev pub explain_asked : Text → Usage
+explain_asked name = option_map_or Explain (find (λ rule. bytes_eq (rule_name rule) name) all_rules) UnknownRule
+
+-- a line that asks for a text asks for nothing else, whatever stands beside that
+abbrev pub text_asked : List Row → Option Usage
+text_asked rows =
+    if is_given (codes "version") rows then Some Version
+    else (if is_given (codes "list-rules") rows then Some ListRules else option_map explain_asked (first_of (codes "explain") rows))
 
 -- the names of a line are those that clap finds, and then the other ones
 abbrev pub asking_of_rows : List Name → List Row → Result Asking Usage
-asking_of_rows others rows = if is_given (codes "version") rows then Err Version else asking_with rows (texts_of (codes "file") rows ++ others)
+asking_of_rows others rows = option_map_or Err (text_asked rows) (asking_with rows (texts_of (codes "file") rows ++ others))
 
 -- what these texts ask for, and these names beside them, unless memory runs out
 abbrev pub asking_of_texts : List Text → List Name → Result Asking Usage

@@ -3,6 +3,8 @@
 #![tactic(auto)]
 
 mod collect;
+mod explain;
+mod linter_words;
 mod options;
 mod report;
 pub mod run;

@@ -1,17 +1,18 @@
 //! The words of the command line.
 
-ghost use Rattle.std.specs.Prelude.{◌≡◌, ◌⊎◌, Err, IfOk, length, map};
-ghost use Rattle.clap.specs.Words.{app_of, found_of, rows_of};
+ghost use Rattle.std.specs.Prelude.{◌≡◌, ◌⊎◌, Err, IfOk, codes, length, map, option_map};
+ghost use Rattle.clap.specs.Words.{app_of, first_of, found_of, rows_of};
 ghost use Rattle.rule_lists.specs.Lists.{rules_found};
 ghost use Rattle.tfrules_command.specs.Line.{value_or};
 ghost use Rattle.lint_command.specs.Asked.{asked_by, wanted_in};
-ghost use Rattle.lint_command.specs.Line.{asking_by, asking_of_rows, asking_of_texts, asking_with, is_good, tfrules_all, wanted_asked, wanted_by};
+ghost use Rattle.lint_command.specs.Line.{asking_by, asking_of_rows, asking_of_texts, asking_with, explain_asked, is_good, text_asked, tfrules_all, wanted_asked, wanted_by};
 ghost use Rattle.lint_command.specs.declared.usage.Usage.TheVariants.{OutOfMemory};
 
 use crate::usage::Usage;
 use clap::{ArgMatches, Command};
 use command_line::{option_named, usage_for};
 use rule_lists::{ListFault, rules_in};
+use rule_set::{ALL_RULES, rule_named};
 use std::alloc::{AllocError, Global};
 use tf_rules::{Naming, RuleSet, Settings, Severity};
 use tfrules_command::options::{naming_asked, severity_asked};
@@ -24,6 +25,8 @@ use tree_lint::policy::Policy;
 pub struct LintOptions<'a> {
     /// By what each module is linted.
     pub policy: Policy,
+    /// Nothing is said of the run as a whole.
+    pub quiet: bool,
     /// The part of the folders that is taken, where it isn't all.
     pub shard: Option<Shard>,
     /// The names are read from standard input.
@@ -41,9 +44,12 @@ fn command<'a>(alloc: Global) -> Result<Command<'a>, AllocError>
         .arg(option_named(alloc, "naming"))?
         .arg(option_named(alloc, "minimum-failure-severity"))?
         .arg(counted_flag(alloc, "force"))?
+        .arg(counted_flag(alloc, "quiet"))?
         .arg(counted_flag(alloc, "version"))?
         .arg(null(alloc))?
         .arg(option_named(alloc, "shard"))?
+        .arg(counted_flag(alloc, "list-rules"))?
+        .arg(option_named(alloc, "explain"))?
         .arg(file(alloc))
 }
 
@@ -104,12 +110,13 @@ fn is_good(null: bool, names: &[&[u8]]) -> bool
 /// The options of these parts of a line.
 fn options_by<'a>(
     policy: Result<Policy, Usage>,
+    quiet: bool,
     shard: Option<Option<Shard>>,
     is_good: bool,
     null: bool,
     names: Vec<&'a [u8]>,
 ) -> Result<LintOptions<'a>, Usage>
-    ensures { asked_by result ≡ asking_by (wanted_in policy) shard is_good null
+    ensures { asked_by result ≡ asking_by (wanted_in policy) quiet shard is_good null
         (map (λ name. name.now) names.entry.items) }
 {
     let policy = match policy {
@@ -124,6 +131,7 @@ fn options_by<'a>(
     }
     Ok(LintOptions {
         policy,
+        quiet,
         shard,
         null,
         names,
@@ -139,10 +147,52 @@ fn options_with<'a>(
         (map (λ name. name.now) names.entry.items) }
 {
     let policy = policy_of(matches);
+    let quiet = is_given(matches, "quiet");
     let shard = shard_of(matches);
     let null = is_given(matches, "null");
     let is_good = is_good(null, names.as_slice());
-    options_by(policy, shard, is_good, null, names)
+    options_by(policy, quiet, shard, is_good, null, names)
+}
+
+/// What the words ask for that name a rule to explain.
+fn explain_asked(name: &str) -> Usage
+    ensures { result ≡ explain_asked name.now }
+{
+    match rule_named(&ALL_RULES, name.as_bytes()) {
+        Some(rule) => Usage::Explain(rule),
+        None => Usage::UnknownRule,
+    }
+}
+
+/// What the words ask for that may name a rule to explain.
+fn explanation_given(name: Option<&str>) -> Option<Usage>
+    ensures { result ≡ option_map explain_asked (option_map (λ name. name.now) name.entry) }
+{
+    match name {
+        Some(name) => Some(explain_asked(name)),
+        None => None,
+    }
+}
+
+/// What the matches of a line ask for, where it names a rule to explain.
+fn explanation_asked(matches: &ArgMatches<'_>) -> Option<Usage>
+    ensures { result ≡ option_map explain_asked
+        (first_of (codes "explain") (rows_of (found_of matches.now))) }
+{
+    explanation_given(matches.get_str("explain"))
+}
+
+/// The text that the matches of a line ask for, where they do.
+fn text_asked(matches: &ArgMatches<'_>) -> Option<Usage>
+    ensures { result ≡ text_asked (rows_of (found_of matches.now)) }
+{
+    if is_given(matches, "version") {
+        return Some(Usage::Version);
+    }
+    if is_given(matches, "list-rules") {
+        return Some(Usage::ListRules);
+    }
+    explanation_asked(matches)
 }
 
 /// The options that the matches of a line give, beside which there are these names.
@@ -155,8 +205,8 @@ fn options_of<'a>(
         ⊎ (asked_by result ≡ asking_of_rows (map (λ name. name.now) others.now)
         (rows_of (found_of matches.now))) }
 {
-    if is_given(matches, "version") {
-        return Err(Usage::Version);
+    if let Some(usage) = text_asked(matches) {
+        return Err(usage);
     }
     match names_in(alloc, others, matches) {
         Ok(names) => options_with(names, matches),

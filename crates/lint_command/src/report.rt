@@ -6,25 +6,11 @@ ghost use Rattle.command_line.specs.Rows.{Took, writer};
 ghost use Rattle.file_tree.specs.Quotes.{quoted};
 ghost use Rattle.lint_command.specs.Faults.{fault_line, fault_line_by, fault_status, told_fault, told_name};
 
+use command_line::write_pieces;
 use file_tree::fault::TreeFault;
 use file_tree::quote::write_quoted;
 use file_tree::walk::Found;
-use hcl_scan::{ByteSink, Failed, write_fully};
-
-/// Writes the pieces one after the other, up to the first write that fails. So a line needs no memory.
-fn write_pieces<S: ByteSink>(sink: &mut S, pieces: &[&[u8]]) -> Result<(), Failed>
-    requires { S.failed sink.old ≡ false }
-    ensures took { Took (writer S.ByteSink sink.old sink.new)
-        (concat (map (λ piece. piece.now) pieces.now)) }
-    ensures failed { S.failed sink.new ≡ is_err result }
-{
-    for piece in pieces {
-        if let Err(_fault) = write_fully(sink, piece) {
-            return Err(Failed);
-        }
-    }
-    Ok(())
-}
+use hcl_scan::{ByteSink, Failed};
 
 /// Writes a name as it is shown, and then the pieces.
 fn write_named<S: ByteSink>(sink: &mut S, name: &[u8], pieces: &[&[u8]]) -> Result<(), Failed>

@@ -1,10 +1,10 @@
 //! A run over any tree and any devices.
 
-ghost use Rattle.std.specs.Prelude.{◌≡◌, ◌||◌, List, ℕ, false, flat_map, map, if◌then◌else◌};
+ghost use Rattle.std.specs.Prelude.{◌≡◌, ◌||◌, ◌++◌, List, ℕ, false, flat_map, is_err, map, if◌then◌else◌};
 ghost use Rattle.command_line.specs.Rows.{Took, end_of, writer};
 ghost use Rattle.tree_lint.specs.Runs.{StayTold, files_of, told_in, worse_status};
 ghost use Rattle.lint_command.specs.Asked.{asking_of, wanted_of};
-ghost use Rattle.lint_command.specs.Ends.{EndsAsked, IsEnd, IsEndOf, LintsOr, LintsNamed, ReadsAndLints, RunsThen};
+ghost use Rattle.lint_command.specs.Ends.{EndsAsked, IsEnd, IsEndOf, LintsOr, LintsNamed, ReadsAndLints, RunsThen, summary};
 ghost use Rattle.lint_command.specs.Faults.{fault_line, fault_status};
 
 use crate::options::{LintOptions, options};
@@ -13,15 +13,16 @@ use crate::taken::{Taken, take_all};
 use crate::words::{say, tree_linter};
 use file_tree::tree::Tree;
 use file_tree::walk::Found;
-use hcl_scan::{ByteSink, ByteSource};
+use hcl_scan::{ByteSink, ByteSource, Failed};
 use std::alloc::Global;
 use tfrules_command::module_files::ModuleFiles;
 use tree_command::run::{operands_in, operands_of, read_names};
 use tree_command::shard::Shard;
 use tree_command::words::words_of;
+use tree_lint::counts::{Counts, tell_summary};
 use tree_lint::module_tree::ModuleTree;
 use tree_lint::policy::Policy;
-use tree_lint::run::{run_over, worse_status};
+use tree_lint::run::{RunEnd, run_over, worse_status};
 
 static READ_FAILED: &str = "tfrules-all: error: read failed\n";
 
@@ -32,15 +33,46 @@ fn has_failed<O: ByteSink, E: ByteSink>(out: &O, err: &E) -> bool
     out.has_failed() || err.has_failed()
 }
 
-/// Says what can't be linted, and gives the status of the run, of which this is that of the modules.
-fn finish<E: ByteSink>(status: u8, faults: &[Found], err: &mut E) -> u8
+/// Says what was found in all, unless the run is to be quiet.
+fn summarise<E: ByteSink>(quiet: bool, counts: &Counts, err: &mut E) -> Result<(), Failed>
     requires err { E.failed err.old ≡ false }
-    ensures took { Took (writer E.ByteSink err.old err.new) (flat_map fault_line faults.now) }
-    ensures exit { result ≡ (if E.failed err.new then 1
-        else worse_status status (fault_status faults.now)) }
+    ensures took { Took (writer E.ByteSink err.old err.new) (summary quiet counts.now) }
+    ensures failed { E.failed err.new ≡ is_err result }
 {
-    match tell_all(err, faults) {
-        Ok(()) => worse_status(status, fault_status(faults)),
+    if quiet {
+        return Ok(());
+    }
+    tell_summary(err, counts)
+}
+
+/// Says what can't be linted, and what was found in all.
+fn tell_end<E: ByteSink>(
+    quiet: bool,
+    counts: &Counts,
+    faults: &[Found],
+    err: &mut E,
+) -> Result<(), Failed>
+    requires err { E.failed err.old ≡ false }
+    ensures took { Took (writer E.ByteSink err.old err.new)
+        (flat_map fault_line faults.now ++ summary quiet counts.now) }
+    ensures failed { E.failed err.new ≡ is_err result }
+{
+    if tell_all(err, faults).is_err() {
+        return Err(Failed);
+    }
+    summarise(quiet, counts, err)
+}
+
+/// Says what there is to say after the modules were linted, and gives the status of the run.
+fn finish<E: ByteSink>(quiet: bool, ran: &RunEnd, faults: &[Found], err: &mut E) -> u8
+    requires err { E.failed err.old ≡ false }
+    ensures took { Took (writer E.ByteSink err.old err.new)
+        (flat_map fault_line faults.now ++ summary quiet ran.now.counts) }
+    ensures exit { result ≡ (if E.failed err.new then 1
+        else worse_status ran.now.status (fault_status faults.now)) }
+{
+    match tell_end(quiet, &ran.counts, faults, err) {
+        Ok(()) => worse_status(ran.status, fault_status(faults)),
         Err(_) => 1,
     }
 }
@@ -49,6 +81,7 @@ fn finish<E: ByteSink>(status: u8, faults: &[Found], err: &mut E) -> u8
 fn lint_taken<T: Tree + Drop, O: ByteSink, E: ByteSink>(
     alloc: Global,
     policy: Policy,
+    quiet: bool,
     taken: &Taken,
     files: &mut ModuleTree<T>,
     out: &mut O,
@@ -57,23 +90,24 @@ fn lint_taken<T: Tree + Drop, O: ByteSink, E: ByteSink>(
     requires back { ⟦<ModuleTree<T> as ModuleFiles>⟧.is_out files.old ≡ false }
     requires out { O.failed out.old ≡ false }
     requires err { E.failed err.old ≡ false }
-    ensures ran { RunsThen (told_in (T.files files.old.tree)) policy
+    ensures ran { RunsThen (told_in (T.files files.old.tree)) policy quiet
         (map files_of taken.now.modules.items) taken.now.faults.items
         (end_of O.ByteSink out.old out.new E.ByteSink err.old err.new result) }
     ensures told { StayTold (T.files files.old.tree) (T.files files.new.tree) }
     ensures back { ⟦<ModuleTree<T> as ModuleFiles>⟧.is_out files.new ≡ false }
 {
-    let status = run_over(alloc, policy, taken.modules.as_slice(), files, out, err);
+    let ran = run_over(alloc, policy, taken.modules.as_slice(), files, out, err);
     if has_failed(out, err) {
-        return status;
+        return ran.status;
     }
-    finish(status, taken.faults.as_slice(), err)
+    finish(quiet, &ran, taken.faults.as_slice(), err)
 }
 
 /// Finds the modules and lints them.
 fn lint<T: Tree + Drop, O: ByteSink, E: ByteSink>(
     alloc: Global,
     policy: Policy,
+    quiet: bool,
     shard: Option<Shard>,
     operands: &[&[u8]],
     files: &mut ModuleTree<T>,
@@ -83,14 +117,15 @@ fn lint<T: Tree + Drop, O: ByteSink, E: ByteSink>(
     requires back { ⟦<ModuleTree<T> as ModuleFiles>⟧.is_out files.old ≡ false }
     requires out { O.failed out.old ≡ false }
     requires err { E.failed err.old ≡ false }
-    ensures ends { LintsOr (wanted_of policy) shard (map (λ operand. operand.now) operands.now)
+    ensures ends { LintsOr (wanted_of policy) quiet shard
+        (map (λ operand. operand.now) operands.now)
         (T.files files.old.tree)
         (end_of O.ByteSink out.old out.new E.ByteSink err.old err.new result) }
     ensures told { StayTold (T.files files.old.tree) (T.files files.new.tree) }
     ensures back { ⟦<ModuleTree<T> as ModuleFiles>⟧.is_out files.new ≡ false }
 {
     match take_all(alloc, shard, operands, &mut files.tree) {
-        Ok(taken) => lint_taken(alloc, policy, &taken, files, out, err),
+        Ok(taken) => lint_taken(alloc, policy, quiet, &taken, files, out, err),
         Err(_) => tree_linter().tell_out_of_memory(out, err),
     }
 }
@@ -99,6 +134,7 @@ fn lint<T: Tree + Drop, O: ByteSink, E: ByteSink>(
 fn lint_null<T: Tree + Drop, R: ByteSource, O: ByteSink, E: ByteSink>(
     alloc: Global,
     policy: Policy,
+    quiet: bool,
     shard: Option<Shard>,
     input: &mut R,
     files: &mut ModuleTree<T>,
@@ -109,7 +145,8 @@ fn lint_null<T: Tree + Drop, R: ByteSource, O: ByteSink, E: ByteSink>(
     requires input { R.failed input.old ≡ false }
     requires out { O.failed out.old ≡ false }
     requires err { E.failed err.old ≡ false }
-    ensures ends { ReadsAndLints (wanted_of policy) shard (R.failed input.new) (R.left input.old)
+    ensures ends { ReadsAndLints (wanted_of policy) quiet shard (R.failed input.new)
+        (R.left input.old)
         (T.files files.old.tree)
         (end_of O.ByteSink out.old out.new E.ByteSink err.old err.new result) }
     ensures told { StayTold (T.files files.old.tree) (T.files files.new.tree) }
@@ -123,7 +160,16 @@ fn lint_null<T: Tree + Drop, R: ByteSource, O: ByteSink, E: ByteSink>(
         return tree_linter().tell_out_of_memory(out, err);
     };
     match operands_in(alloc, names.as_slice()) {
-        Ok(operands) => lint(alloc, policy, shard, operands.as_slice(), files, out, err),
+        Ok(operands) => lint(
+            alloc,
+            policy,
+            quiet,
+            shard,
+            operands.as_slice(),
+            files,
+            out,
+            err,
+        ),
         Err(_) => tree_linter().tell_out_of_memory(out, err),
     }
 }
@@ -132,6 +178,7 @@ fn lint_null<T: Tree + Drop, R: ByteSource, O: ByteSink, E: ByteSink>(
 fn lint_named<T: Tree + Drop, O: ByteSink, E: ByteSink>(
     alloc: Global,
     policy: Policy,
+    quiet: bool,
     shard: Option<Shard>,
     names: &[&[u8]],
     files: &mut ModuleTree<T>,
@@ -141,14 +188,23 @@ fn lint_named<T: Tree + Drop, O: ByteSink, E: ByteSink>(
     requires back { ⟦<ModuleTree<T> as ModuleFiles>⟧.is_out files.old ≡ false }
     requires out { O.failed out.old ≡ false }
     requires err { E.failed err.old ≡ false }
-    ensures ends { LintsNamed (wanted_of policy) shard (map (λ name. name.now) names.now)
+    ensures ends { LintsNamed (wanted_of policy) quiet shard (map (λ name. name.now) names.now)
         (T.files files.old.tree)
         (end_of O.ByteSink out.old out.new E.ByteSink err.old err.new result) }
     ensures told { StayTold (T.files files.old.tree) (T.files files.new.tree) }
     ensures back { ⟦<ModuleTree<T> as ModuleFiles>⟧.is_out files.new ≡ false }
 {
     match operands_of(alloc, names) {
-        Ok(operands) => lint(alloc, policy, shard, operands.as_slice(), files, out, err),
+        Ok(operands) => lint(
+            alloc,
+            policy,
+            quiet,
+            shard,
+            operands.as_slice(),
+            files,
+            out,
+            err,
+        ),
         Err(_) => tree_linter().tell_out_of_memory(out, err),
     }
 }
@@ -173,13 +229,15 @@ fn run_asked<T: Tree + Drop, R: ByteSource, O: ByteSink, E: ByteSink>(
     ensures back { ⟦<ModuleTree<T> as ModuleFiles>⟧.is_out files.new ≡ false }
 {
     let policy = options.policy;
+    let quiet = options.quiet;
     let shard = options.shard;
     if options.null {
-        return lint_null(alloc, policy, shard, input, files, out, err);
+        return lint_null(alloc, policy, quiet, shard, input, files, out, err);
     }
     lint_named(
         alloc,
         policy,
+        quiet,
         shard,
         options.names.as_slice(),
         files,
@@ -210,7 +268,7 @@ fn run_line<'w, T: Tree + Drop, R: ByteSource, O: ByteSink, E: ByteSink>(
 {
     match options(alloc, words, others) {
         Ok(options) => run_asked(alloc, &options, files, input, out, err),
-        Err(usage) => say(usage, out, err),
+        Err(usage) => say(alloc, words, usage, out, err),
     }
 }
 

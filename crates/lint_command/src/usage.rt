@@ -1,5 +1,7 @@
 //! Why a line of words has no options, and what is then said.
 
+use rule_set::Rule;
+
 /// Why there are no options.
 #[derive(Clone, Copy, Debug, PartialEq, Eq)]
 pub enum Usage {
@@ -7,6 +9,10 @@ pub enum Usage {
     Help,
     /// The words ask for the version.
     Version,
+    /// The words ask for the list of the rules.
+    ListRules,
+    /// The words ask what a rule reports, and why.
+    Explain(Rule),
     /// The words are no line of this program.
     BadLine,
     /// `--rules` says a name that stands for no rule.
@@ -23,8 +29,11 @@ pub enum Usage {
 
 /// What lines this program has.
 pub static USAGE: &str = "\
-usage: tfrules-all [--rules LIST] [--naming NAMING] [--minimum-failure-severity SEVERITY]
-                   [--force] [--shard K/N] [--null] [--] [FILE|FOLDER]...
+usage: tfrules-all [--rules LIST] [--naming NAMING]
+                   [--minimum-failure-severity SEVERITY] [--force] [--quiet]
+                   [--shard K/N] [--null] [--] [FILE|FOLDER]...
+       tfrules-all --list-rules
+       tfrules-all --explain RULE
 ";
 
 /// What `--version` says.
@@ -32,8 +41,11 @@ pub static VERSION: &str = "tfrules-all 0.3.0\n";
 
 /// What `--help` says.
 pub static HELP: &str = "\
-usage: tfrules-all [--rules LIST] [--naming NAMING] [--minimum-failure-severity SEVERITY]
-                   [--force] [--shard K/N] [--null] [--] [FILE|FOLDER]...
+usage: tfrules-all [--rules LIST] [--naming NAMING]
+                   [--minimum-failure-severity SEVERITY] [--force] [--quiet]
+                   [--shard K/N] [--null] [--] [FILE|FOLDER]...
+       tfrules-all --list-rules
+       tfrules-all --explain RULE
 
 Lints the modules of folders, each by itself, as tfrules lints its files.
 
@@ -50,8 +62,13 @@ current folder.
                    error, warning or notice: from which severity on an issue
                    fails the run
   --force          no issue fails the run
+  --quiet          say nothing of the run as a whole: no count of the issues
+                   at its end
   --shard K/N      take the K-th of N parts of the folders
   -0, --null       read names, each ended by NUL, from standard input
+  --list-rules     print each rule with its severity, whether it is a default
+                   one, and what it reports
+  --explain RULE   print that of a rule, why it does, and how to silence it
   -h, --help       print this
   --version        print the version
 

@@ -1,14 +1,19 @@
 //! What is said of words that ask for no run.
 
-ghost use Rattle.std.specs.Prelude.{◌≡◌, false};
-ghost use Rattle.command_line.specs.Rows.{Shows, end_of};
-ghost use Rattle.lint_command.specs.Ends.{usage_row};
+ghost use Rattle.std.specs.Prelude.{◌≡◌, ℕ, List, false, map};
+ghost use Rattle.command_line.specs.Rows.{end_of};
+ghost use Rattle.lint_command.specs.Ends.{ShowsUsage};
 ghost use Rattle.lint_command.specs.Linter.{tree_linter};
-ghost use Rattle.lint_command.specs.declared.usage.Usage.TheVariants.{BadLine};
+ghost use Rattle.lint_command.specs.declared.usage.Usage.TheVariants.{BadLine, Explain, ListRules};
 
-use crate::usage::{HELP, USAGE, Usage, VERSION};
+use crate::explain::{explained, rule_list};
+use crate::linter_words::linter_words;
+use crate::usage::{HELP, Usage, VERSION};
 use command_line::Program;
 use hcl_scan::ByteSink;
+use rule_set::Rule;
+use std::alloc::Global;
+use tree_command::wrong::bad_line_text;
 
 static UNKNOWN_RULE: &str = "tfrules-all: error: unknown rule\n";
 
@@ -30,27 +35,64 @@ pub(crate) fn tree_linter() -> Program
     )
 }
 
-/// Says what the lines of this program are.
-fn bad_line<O: ByteSink, E: ByteSink>(out: &mut O, err: &mut E) -> u8
+/// Says which word of a line is wrong, and what the lines of this program are.
+fn bad_line<O: ByteSink, E: ByteSink>(alloc: Global, words: &[&str], out: &mut O, err: &mut E) -> u8
     requires out { O.failed out.old ≡ false }
     requires err { E.failed err.old ≡ false }
-    ensures { Shows tree_linter (usage_row BadLine)
+    ensures { ShowsUsage (map (λ word. word.now) words.now) BadLine
         (end_of O.ByteSink out.old out.new E.ByteSink err.old err.new result) }
 {
-    tree_linter().tell(out, err, USAGE, 1)
+    match bad_line_text(alloc, &linter_words(), words) {
+        Ok(text) => tree_linter().tell_bytes(out, err, text.as_slice(), 1),
+        Err(_) => tree_linter().tell_out_of_memory(out, err),
+    }
+}
+
+/// Shows the list of the rules.
+fn list_rules<O: ByteSink, E: ByteSink>(alloc: Global, out: &mut O, err: &mut E) -> u8
+    requires out { O.failed out.old ≡ false }
+    requires err { E.failed err.old ≡ false }
+    ensures { (texts : List (List ℕ)) → ShowsUsage texts ListRules
+        (end_of O.ByteSink out.old out.new E.ByteSink err.old err.new result) }
+{
+    match rule_list(alloc) {
+        Ok(text) => tree_linter().deliver(out, err, text.as_str(), 0),
+        Err(_) => tree_linter().tell_out_of_memory(out, err),
+    }
+}
+
+/// Shows what is said of a rule.
+fn explain<O: ByteSink, E: ByteSink>(alloc: Global, rule: Rule, out: &mut O, err: &mut E) -> u8
+    requires out { O.failed out.old ≡ false }
+    requires err { E.failed err.old ≡ false }
+    ensures { (texts : List (List ℕ)) → ShowsUsage texts (Explain rule)
+        (end_of O.ByteSink out.old out.new E.ByteSink err.old err.new result) }
+{
+    match explained(alloc, rule) {
+        Ok(text) => tree_linter().deliver(out, err, text.as_str(), 0),
+        Err(_) => tree_linter().tell_out_of_memory(out, err),
+    }
 }
 
 /// Says what words are answered that ask for no run.
-pub(crate) fn say<O: ByteSink, E: ByteSink>(usage: Usage, out: &mut O, err: &mut E) -> u8
+pub(crate) fn say<O: ByteSink, E: ByteSink>(
+    alloc: Global,
+    words: &[&str],
+    usage: Usage,
+    out: &mut O,
+    err: &mut E,
+) -> u8
     requires out { O.failed out.old ≡ false }
     requires err { E.failed err.old ≡ false }
-    ensures { Shows tree_linter (usage_row usage)
+    ensures { ShowsUsage (map (λ word. word.now) words.now) usage
         (end_of O.ByteSink out.old out.new E.ByteSink err.old err.new result) }
 {
     match usage {
         Usage::Help => tree_linter().deliver(out, err, HELP, 0),
         Usage::Version => tree_linter().deliver(out, err, VERSION, 0),
-        Usage::BadLine => bad_line(out, err),
+        Usage::ListRules => list_rules(alloc, out, err),
+        Usage::Explain(rule) => explain(alloc, rule, out, err),
+        Usage::BadLine => bad_line(alloc, words, out, err),
         Usage::UnknownRule => tree_linter().tell(out, err, UNKNOWN_RULE, 1),
         Usage::NoRuleLeft => tree_linter().tell(out, err, NO_RULE_LEFT, 1),
         Usage::BadNaming => tree_linter().tell(out, err, BAD_NAMING, 1),

@@ -1,6 +1,7 @@
 //! What these tests compare by, with one assertion each, so that it is proved once.
 
 use std::process::Abort;
+use tree_lint::counts::Counts;
 
 /// The files of modules.
 pub(crate) type Modules = &'static [&'static [&'static str]];
@@ -17,5 +18,10 @@ pub(crate) fn same_bytes(rt: &impl Abort, found: &[u8], wanted: &[u8], modules: 
 
 /// That a number is the one that is wanted of a run over modules.
 pub(crate) fn same_number(rt: &impl Abort, found: u64, wanted: u64, modules: Modules) {
+    assert_eq!(rt; found, wanted, "over {modules:?}");
+}
+
+/// That numbers are those that are wanted of a run over modules.
+pub(crate) fn same_counts(rt: &impl Abort, found: Counts, wanted: Counts, modules: Modules) {
     assert_eq!(rt; found, wanted, "over {modules:?}");
 }

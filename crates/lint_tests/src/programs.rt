@@ -105,27 +105,31 @@ const SUB: &[u8] =
 const ODD: &[u8] =
     b"2 issue(s) found:\n\nodd/main.tf:1:1: Warning - variable \"o\" has no type (terraform_typed_variables)\nodd/main.tf:1:1: Warning - variable \"o\" is declared but not used (terraform_unused_declarations)\n";
 
-static ROWS: [Row; 18] = [
+const ONE: &[u8] = b"1 issue in 1 of 1 module\n";
+
+const TWO: &[u8] = b"2 issues in 1 of 1 module\n";
+
+static ROWS: [Row; 27] = [
     // A folder stands for itself and all below, a file for its folder alone.
     Row {
         words: &[b"tfrules-all", b"a"],
         input: b"",
         out: A_AND_SUB,
-        err: b"",
+        err: b"3 issues in 2 of 2 modules\n",
         status: 2,
     },
     Row {
         words: &[b"tfrules-all", b"a/main.tf"],
         input: b"",
         out: A,
-        err: b"",
+        err: ONE,
         status: 2,
     },
     Row {
         words: &[b"tfrules-all", b"a/sub/a.tf", b"./a/sub", b"a/sub/b.tofu"],
         input: b"",
         out: SUB,
-        err: b"",
+        err: TWO,
         status: 2,
     },
     // So does one that was deleted; a name of which the folder isn't there either is told.
@@ -133,14 +137,14 @@ static ROWS: [Row; 18] = [
         words: &[b"tfrules-all", b"a/gone.tf"],
         input: b"",
         out: A,
-        err: b"",
+        err: ONE,
         status: 2,
     },
     Row {
         words: &[b"tfrules-all", b"a/main.tf", b"gone", b"gone/main.tf"],
         input: b"",
         out: A,
-        err: b"tfrules-all: error: gone: no such file or folder\ntfrules-all: error: gone/: no such file or folder\n",
+        err: b"tfrules-all: error: gone: no such file or folder\ntfrules-all: error: gone/: no such file or folder\n1 issue in 1 of 1 module\n",
         status: 1,
     },
     // A refused module is told, and what can't be looked at once; a pipe is passed over.
@@ -148,21 +152,21 @@ static ROWS: [Row; 18] = [
         words: &[b"tfrules-all", b"bad", b"a/main.tf"],
         input: b"",
         out: A,
-        err: b"tfrules: error: bad/main.tf:1:5: unexpected token\ntfrules-all: error: bad/lost.tf: the link leads nowhere\n",
+        err: b"tfrules: error: bad/main.tf:1:5: unexpected token\ntfrules-all: error: bad/lost.tf: the link leads nowhere\n1 issue in 1 of 2 modules, 1 refused\n",
         status: 1,
     },
     Row {
         words: &[b"tfrules-all", b"other"],
         input: b"",
         out: b"",
-        err: b"",
+        err: b"no modules found\n",
         status: 0,
     },
     Row {
         words: &[b"tfrules-all", b"odd"],
         input: b"",
         out: ODD,
-        err: b"tfrules-all: error: odd/\xff.tf: the name isn't UTF-8\n",
+        err: b"tfrules-all: error: odd/\xff.tf: the name isn't UTF-8\n2 issues in 1 of 1 module\n",
         status: 1,
     },
     // Options.
@@ -175,14 +179,14 @@ static ROWS: [Row; 18] = [
         ],
         input: b"",
         out: b"1 issue(s) found:\n\na/sub/b.tofu:1:1: Warning - variable \"z\" is declared but not used (terraform_unused_declarations)\n",
-        err: b"",
+        err: ONE,
         status: 2,
     },
     Row {
         words: &[b"tfrules-all", b"--force", b"a/main.tf"],
         input: b"",
         out: A,
-        err: b"",
+        err: ONE,
         status: 0,
     },
     Row {
@@ -194,14 +198,14 @@ static ROWS: [Row; 18] = [
         ],
         input: b"",
         out: A,
-        err: b"",
+        err: ONE,
         status: 0,
     },
     Row {
         words: &[b"tfrules-all", b"-0"],
         input: b"a/main.tf\0a/gone.tf",
         out: A,
-        err: b"",
+        err: ONE,
         status: 2,
     },
     // A part has whole modules, by the sums of their folders' names.
@@ -209,15 +213,30 @@ static ROWS: [Row; 18] = [
         words: &[b"tfrules-all", b"--shard", b"1/2", b"a"],
         input: b"",
         out: A,
-        err: b"",
+        err: ONE,
         status: 2,
     },
     Row {
         words: &[b"tfrules-all", b"--shard", b"2/2", b"a"],
         input: b"",
         out: SUB,
-        err: b"",
+        err: TWO,
         status: 2,
+    },
+    // What was found in all is said at the end, unless the run is to be quiet.
+    Row {
+        words: &[b"tfrules-all", b"--quiet", b"a", b"bad"],
+        input: b"",
+        out: A_AND_SUB,
+        err: b"tfrules: error: bad/main.tf:1:5: unexpected token\ntfrules-all: error: bad/lost.tf: the link leads nowhere\n",
+        status: 1,
+    },
+    Row {
+        words: &[b"tfrules-all", b"--rules", b"terraform_comment_syntax", b"a"],
+        input: b"",
+        out: b"",
+        err: b"no issues in 2 modules\n",
+        status: 0,
     },
     // Words that ask for no run.
     Row {
@@ -246,6 +265,55 @@ static ROWS: [Row; 18] = [
         input: b"",
         out: b"",
         err: b"tfrules-all: error: unknown naming\n",
+        status: 1,
+    },
+    Row {
+        words: &[b"tfrules-all", b"a", b"--bogus"],
+        input: b"",
+        out: b"",
+        err: b"tfrules-all: error: unknown option --bogus\nusage: tfrules-all [--rules LIST] [--naming NAMING]\n                   [--minimum-failure-severity SEVERITY] [--force] [--quiet]\n                   [--shard K/N] [--null] [--] [FILE|FOLDER]...\n       tfrules-all --list-rules\n       tfrules-all --explain RULE\n",
+        status: 1,
+    },
+    Row {
+        words: &[b"tfrules-all", b"--chdir=a"],
+        input: b"",
+        out: b"",
+        err: b"tfrules-all: error: unknown option --chdir=a; name the folder instead\nusage: tfrules-all [--rules LIST] [--naming NAMING]\n                   [--minimum-failure-severity SEVERITY] [--force] [--quiet]\n                   [--shard K/N] [--null] [--] [FILE|FOLDER]...\n       tfrules-all --list-rules\n       tfrules-all --explain RULE\n",
+        status: 1,
+    },
+    Row {
+        words: &[b"tfrules-all", b"-force", b"a"],
+        input: b"",
+        out: b"",
+        err: b"tfrules-all: error: unknown option -force; write --force\nusage: tfrules-all [--rules LIST] [--naming NAMING]\n                   [--minimum-failure-severity SEVERITY] [--force] [--quiet]\n                   [--shard K/N] [--null] [--] [FILE|FOLDER]...\n       tfrules-all --list-rules\n       tfrules-all --explain RULE\n",
+        status: 1,
+    },
+    Row {
+        words: &[b"tfrules-all", b"--shard", b"3/2", b"a"],
+        input: b"",
+        out: b"",
+        err: b"usage: tfrules-all [--rules LIST] [--naming NAMING]\n                   [--minimum-failure-severity SEVERITY] [--force] [--quiet]\n                   [--shard K/N] [--null] [--] [FILE|FOLDER]...\n       tfrules-all --list-rules\n       tfrules-all --explain RULE\n",
+        status: 1,
+    },
+    Row {
+        words: &[b"tfrules-all", b"--list-rules"],
+        input: b"",
+        out: b"terraform_comment_syntax (Warning): comments that begin with `//`\nterraform_deprecated_index (Warning, default): `list.0` instead of `list[0]`\nterraform_deprecated_interpolation (Warning, default): `\"${var.name}\"` instead of `var.name`\nterraform_documented_outputs (Notice): outputs without a description\nterraform_documented_variables (Notice): variables without a description\nterraform_module_pinned_source (Warning, default): modules from git or Mercurial at no fixed revision\nterraform_module_version (Warning, default): modules from a registry without a version\nterraform_naming_convention (Notice): names that don't follow the naming\nterraform_typed_variables (Warning, default): variables without a type\nterraform_unused_declarations (Warning, default): variables, locals and data sources that nothing refers to\n",
+        err: b"",
+        status: 0,
+    },
+    Row {
+        words: &[b"tfrules-all", b"--explain", b"terraform_typed_variables"],
+        input: b"",
+        out: b"terraform_typed_variables (Warning, default): variables without a type\n\nWithout a type any value is accepted, and a wrong one fails far from where it was set.\n\nA comment on the line of an issue, or on the line above it, silences it:\n\n  # tflint-ignore: terraform_typed_variables\n",
+        err: b"",
+        status: 0,
+    },
+    Row {
+        words: &[b"tfrules-all", b"--explain", b"typed"],
+        input: b"",
+        out: b"",
+        err: b"tfrules-all: error: unknown rule\n",
         status: 1,
     },
 ];
@@ -286,7 +354,7 @@ fn failing(rt: &impl Abort, alloc: Global, call: usize) -> (u8, bool, bool) {
     let mut input = MemorySource::new(b"", 4096);
     let mut out = MemorySink::new(4096);
     let mut err = MemorySink::new(4096);
-    let words: [&[u8]; 3] = [b"tfrules-all", b"a", b"bad"];
+    let words: [&[u8]; 4] = [b"tfrules-all", b"--quiet", b"a", b"bad"];
     let status = program(alloc, &words, &mut files, &mut input, &mut out, &mut err);
     let has_failed = files.tree.calls().failed().is_some();
     (status, has_failed, !err.bytes().is_empty())

@@ -2,7 +2,7 @@
 
 ghost use Rattle.std.specs.Prelude.{◌≡◌, false};
 
-use crate::checks::{Modules, same_bytes, same_number};
+use crate::checks::{Modules, same_bytes, same_counts, same_number};
 use hcl_scan::MemorySink;
 use std::alloc::{AllocError, Global};
 use std::process::Abort;
@@ -11,10 +11,11 @@ use tfrules_command::Hashing;
 use tree_devices::calls::{Failures, STEADY};
 use tree_devices::entry::{Entry, Stands};
 use tree_devices::memory_tree::MemoryTree;
+use tree_lint::counts::Counts;
 use tree_lint::module_tree::ModuleTree;
 use tree_lint::modules::Module;
 use tree_lint::policy::Policy;
-use tree_lint::run::run_over;
+use tree_lint::run::{RunEnd, run_over};
 
 /// Two modules with issues, one that is refused and one without issues, which stands between them.
 static ENTRIES: &[Entry<'static>] = &[
@@ -89,12 +90,12 @@ struct Given {
     write: Option<usize>,
 }
 
-/// What it shows: its reports, its messages and its status.
+/// What it shows: its reports and its messages, and how it ends.
 #[derive(Drop)]
 struct Shown {
     out: MemorySink,
     err: MemorySink,
-    status: u8,
+    end: RunEnd,
 }
 
 /// A run in which nothing fails.
@@ -150,7 +151,7 @@ fn run(alloc: Global, given: &Given, modules: &[Module]) -> Result<Shown, AllocE
     let mut files = ModuleTree::new(tree, Hashing::shared());
     let mut out = sink(given.write);
     let mut err = sink(None);
-    let status = run_over(
+    let end = run_over(
         alloc,
         policy(given),
         modules,
@@ -158,7 +159,7 @@ fn run(alloc: Global, given: &Given, modules: &[Module]) -> Result<Shown, AllocE
         &mut out,
         &mut err,
     );
-    Ok(Shown { out, err, status })
+    Ok(Shown { out, err, end })
 }
 
 /// That a run shows this.
@@ -169,7 +170,7 @@ fn shows(rt: &impl Abort, alloc: Global, given: Given, out: &str, err: &str, sta
     same_bytes(rt, shown.err.bytes(), err.as_bytes(), given.modules);
     same_number(
         rt,
-        u64::from(shown.status),
+        u64::from(shown.end.status),
         u64::from(status),
         given.modules,
     );
@@ -280,7 +281,7 @@ fn many_modules_are_linted(rt: HostRuntime) {
     let modules = many(rt.alloc(), 1000).expect(&rt, "memory");
     let shown = run(rt.alloc(), &steady(NONE), modules.as_slice()).expect(&rt, "memory");
     same_bytes(&rt, shown.out.bytes(), A_REPORT.as_bytes(), A_ALONE);
-    same_number(&rt, u64::from(shown.status), 2, A_ALONE);
+    same_number(&rt, u64::from(shown.end.status), 2, A_ALONE);
 }
 
 #[test]
@@ -294,5 +295,37 @@ fn too_many_files_are_told(rt: HostRuntime) {
         b"tfrules: error: more than 256 files\n",
         A_ALONE,
     );
-    same_number(&rt, u64::from(shown.status), 1, A_ALONE);
+    same_number(&rt, u64::from(shown.end.status), 1, A_ALONE);
+}
+
+/// That a run over modules gives these numbers.
+fn counts(rt: &impl Abort, alloc: Global, given: Given, wanted: Counts) {
+    let modules = modules_of(alloc, &given).expect(rt, "memory");
+    let shown = run(alloc, &given, modules.as_slice()).expect(rt, "memory");
+    same_counts(rt, shown.end.counts, wanted, given.modules);
+}
+
+#[test]
+fn issues_and_modules_are_counted(rt: HostRuntime) {
+    let all = Counts {
+        modules: 4,
+        refused: 1,
+        reported: 2,
+        issues: 4,
+    };
+    counts(&rt, rt.alloc(), steady(ALL), all);
+    let one = Counts {
+        modules: 1,
+        refused: 0,
+        reported: 1,
+        issues: 1,
+    };
+    counts(&rt, rt.alloc(), steady(EMPTY_THEN_A), one);
+    let none = Counts {
+        modules: 0,
+        refused: 0,
+        reported: 0,
+        issues: 0,
+    };
+    counts(&rt, rt.alloc(), steady(NONE), none);
 }

@@ -1,7 +1,9 @@
 -- The reports of several modules, one after another: an empty line stands between two. Our own choice.
-use Rattle.std.specs.Prelude.{◌≡◌, ℕ, Bool, true, false, List, [], ◌∷◌}
+use Rattle.std.specs.Prelude.{◌≡◌, ℕ, Bool, true, false, List, [], ◌∷◌, length}
 use Rattle.command_line.specs.Rows.{End, Row, ShowsOne}
 use Rattle.tfrules_command.specs.Answer.{linter}
+use Rattle.tf_rules.specs.declared.issue.Issue.{Issue}
+use Rattle.tfrules_command.specs.Report.{report}
 
 -- a text after others: an empty line stands before it, unless it is empty itself
 abbrev pub parted : Bool → List ℕ → List ℕ
@@ -20,6 +22,10 @@ is_some_text (b ∷ bs) = true
 abbrev pub has_report : Row → Bool
 has_report row = is_some_text row.out
 
--- a run shows a row of which this holds, after other reports or as the first, and tells whether it has one
-abbrev pub ShowsAfter : Bool → Bool → (Row → Type 0) → End → Type 0
-ShowsAfter is_after told P end = ShowsOne linter (λ shown. (row : Row) × P row × (shown ≡ parted_row is_after row) × (told ≡ has_report row)) end
+-- a text is the report of so many issues
+abbrev pub ReportsIssues : ℕ → List ℕ → Type 0
+ReportsIssues n text = (names : List (List ℕ)) × (issues : List Issue) × (text ≡ report names issues) × (n ≡ length issues)
+
+-- a run shows a row of which this holds, after other reports or as the first, and tells of how many issues its report is
+abbrev pub ShowsAfter : Bool → ℕ → (Row → Type 0) → End → Type 0
+ShowsAfter is_after told P end = ShowsOne linter (λ shown. (row : Row) × P row × (shown ≡ parted_row is_after row) × ReportsIssues told row.out) end

@@ -1,11 +1,11 @@
 //! The run over one module of several.
 
-ghost use Rattle.std.specs.Prelude.{◌≡◌, ℕ, List, false, true, Ok};
+ghost use Rattle.std.specs.Prelude.{◌≡◌, ℕ, List, false, length, true, Ok};
 ghost use Rattle.command_line.specs.Rows.{Shows, end_of, writer};
 ghost use Rattle.tf_rules.specs.Kept.{nothing};
 ghost use Rattle.tfrules_command.specs.Answer.{linter};
 ghost use Rattle.tfrules_command.specs.Asked.{asking_of};
-ghost use Rattle.tfrules_command.specs.Parted.{ShowsAfter, has_report, parted, parted_row};
+ghost use Rattle.tfrules_command.specs.Parted.{ShowsAfter, parted, parted_row};
 ghost use Rattle.tfrules_command.specs.Report.{report, report_row};
 ghost use Rattle.tfrules_command.specs.Rows.{IsRow};
 ghost use Rattle.tfrules_command.specs.Inner.Written.{IsWritten};
@@ -25,14 +25,15 @@ use tf_rules::{Facts, IssueList};
 pub struct Ended {
     /// 0, 1 or 2, as of a run over the module alone.
     pub status: u8,
-    /// It has a report on standard output.
-    pub has_report: bool,
+    /// How many issues its report on standard output has: none if there is no report.
+    pub issues: usize,
 }
 
 /// Writes an empty line and the report of issues, or leaves standard output alone where there is no issue.
 fn show_parted<O: ByteSink>(out: &mut O, names: &FileNames<'_>, issues: &IssueList<'_>)
     requires { O.failed out.old ≡ false }
-    ensures { IsWritten (writer O.ByteSink out.old out.new) (parted true (report names.now issues.now)) }
+    ensures { IsWritten (writer O.ByteSink out.old out.new)
+        (parted true (report names.now issues.now)) }
 {
     if issues.is_empty() {
         return;
@@ -52,7 +53,8 @@ fn show_after<O: ByteSink>(
     issues: &IssueList<'_>,
 )
     requires { O.failed out.old ≡ false }
-    ensures { IsWritten (writer O.ByteSink out.old out.new) (parted is_after (report names.now issues.now)) }
+    ensures { IsWritten (writer O.ByteSink out.old out.new)
+        (parted is_after (report names.now issues.now)) }
 {
     if is_after {
         return show_parted(out, names, issues);
@@ -70,15 +72,16 @@ fn show_module<O: ByteSink, E: ByteSink>(
 ) -> Ended
     requires out { O.failed out.old ≡ false }
     requires err { E.failed err.old ≡ false }
-    ensures shows { Shows linter (parted_row is_after (report_row (asking_of options.now) issues.now))
+    ensures shows { Shows linter (parted_row is_after
+        (report_row (asking_of options.now) issues.now))
         (end_of O.ByteSink out.old out.new E.ByteSink err.old err.new result.status) }
-    ensures has_report { result.has_report ≡ has_report (report_row (asking_of options.now) issues.now) }
+    ensures told { result.issues ≡ length issues.now }
 {
     let status = status_of(options, issues);
     show_after(is_after, out, &options.files, issues);
     Ended {
         status: linter().finish(out, err, status),
-        has_report: !issues.is_empty(),
+        issues: issues.len(),
     }
 }
 
@@ -98,24 +101,22 @@ fn lint_over<M: ModuleFiles, O: ByteSink, E: ByteSink>(
     requires back { M.is_out files.old ≡ false }
     requires out { O.failed out.old ≡ false }
     requires err { E.failed err.old ≡ false }
-    ensures row { ShowsAfter is_after result.has_report
-        (IsRow (M.told files.old) (Ok (asking_of options.now)) (M.open_failed files.new) (M.read_failed files.new))
+    ensures row { ShowsAfter is_after result.issues
+        (IsRow (M.told files.old) (Ok (asking_of options.now)) (M.open_failed files.new)
+        (M.read_failed files.new))
         (end_of O.ByteSink out.old out.new E.ByteSink err.old err.new result.status) }
     ensures told { (other : List ℕ) → M.told files.new other ≡ M.told files.old other }
     ensures back { M.is_out files.new ≡ false }
 {
     if let Err(stopped) = gather(alloc, &options.files, files, facts) {
         let status = refuse(alloc, out, err, stopped.name, stopped.why);
-        return Ended {
-            status,
-            has_report: false,
-        };
+        return Ended { status, issues: 0 };
     }
     match facts.issue_list(&options.settings) {
         Ok(issues) => show_module(is_after, options, &issues, out, err),
         Err(_) => Ended {
             status: linter().tell_out_of_memory(out, err),
-            has_report: false,
+            issues: 0,
         },
     }
 }
@@ -136,8 +137,9 @@ pub fn lint_module<M: ModuleFiles, O: ByteSink, E: ByteSink>(
     requires out { O.failed out.old ≡ false }
     requires err { E.failed err.old ≡ false }
     // It shows a row as `run` does.
-    ensures row { ShowsAfter is_after result.has_report
-        (IsRow (M.told files.old) (Ok (asking_of options.now)) (M.open_failed files.new) (M.read_failed files.new))
+    ensures row { ShowsAfter is_after result.issues
+        (IsRow (M.told files.old) (Ok (asking_of options.now)) (M.open_failed files.new)
+        (M.read_failed files.new))
         (end_of O.ByteSink out.old out.new E.ByteSink err.old err.new result.status) }
     // The files are those that they were.
     ensures told { (other : List ℕ) → M.told files.new other ≡ M.told files.old other }
@@ -146,10 +148,7 @@ pub fn lint_module<M: ModuleFiles, O: ByteSink, E: ByteSink>(
 {
     let Ok(mut facts) = Facts::with_hashing(alloc, files.hashing()) else {
         let status = linter().tell_out_of_memory(out, err);
-        return Ended {
-            status,
-            has_report: false,
-        };
+        return Ended { status, issues: 0 };
     };
     lint_over(alloc, is_after, &mut facts, options, files, out, err)
 }

@@ -13,6 +13,7 @@ use Rattle.tree_format.specs.declared.mode.Mode.{Mode}
 use Rattle.tree_format.specs.declared.outcome.Outcome.{Outcome}
 use Rattle.tree_format.specs.declared.tally.Tally.{Tally}
 use Rattle.tree_command.specs.Formatter.{formatter}
+use Rattle.tree_command.specs.FormatterWords.{formatter_words}
 use Rattle.tree_command.specs.Line.{Asking, Part, asking_of_texts, others_in, part_of, texts_in}
 use Rattle.tree_command.specs.Paths.{paths_of_input, paths_of_line}
 use Rattle.tree_command.specs.Shards.{picked_of}
@@ -78,7 +79,7 @@ help_text = codes "usage: tffmt-all [--check | --diff | --list] [--in-place] [--
 abbrev pub usage_row : List Text → Usage → Row
 usage_row texts Help = output_row help_text 0
 usage_row texts Version = output_row version_line 0
-usage_row texts BadLine = message_row (bad_line_words texts) 2
+usage_row texts BadLine = message_row (bad_line_words formatter_words texts) 2
 usage_row texts OutOfMemory = out_of_memory formatter
 
 -- it is shown, or that memory ran out

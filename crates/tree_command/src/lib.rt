@@ -2,11 +2,13 @@
 //! formats them in place or says which aren't formatted, and reports.
 #![tactic(auto)]
 
+mod formatter_words;
 pub mod options;
 pub mod part;
 pub mod pick;
 pub mod run;
 pub mod shard;
 pub mod usage;
+pub mod vocabulary;
 pub mod words;
-mod wrong;
+pub mod wrong;

@@ -13,6 +13,7 @@ ghost use Rattle.tree_format.specs.declared.mode.Mode.{Mode};
 ghost use Rattle.tree_format.specs.Runs.{IsSafe, Kept};
 ghost use Rattle.tree_format.specs.States.{state_of};
 
+use crate::formatter_words::formatter_words;
 use crate::options::{TreeOptions, options};
 use crate::part::{Part, part_of};
 use crate::pick::pick;
@@ -272,7 +273,7 @@ fn bad_line<O: ByteSink, E: ByteSink>(alloc: Global, words: &[&str], out: &mut O
     ensures { ShowsUsage (map (λ word. word.now) words.now) BadLine
         (end_of O.ByteSink out.old out.new E.ByteSink err.old err.new result) }
 {
-    match bad_line_text(alloc, words) {
+    match bad_line_text(alloc, &formatter_words(), words) {
         Ok(text) => formatter().tell_bytes(out, err, text.as_slice(), 2),
         Err(_) => formatter().tell_out_of_memory(out, err),
     }

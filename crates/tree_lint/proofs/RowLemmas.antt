@@ -1,7 +1,7 @@
 -- Rows of modules, one after another.
 use Rattle.std.proofs.Common.{◌≡◌, ◌∙◌, ◌⊎◌, ◌<◌, ◌+◌, ◌++◌, ◌∷◌, [], ℕ, Bool, true, false, List, Option, ap, append_assoc, append-nil, arith, codes, drop, eqb-true, get_or, inl, inr, length, map, refl, subst, sym, take}
 use Rattle.std.proofs.lemmas.List.{length-map, map-append}
-use Rattle.std.specs.Prelude.{◌||◌, ◌==◌, Ok, fold}
+use Rattle.std.specs.Prelude.{◌||◌, ◌==◌, Ok, fold, not, string_bytes}
 use Rattle.std.specs.Borrow.{Bor}
 use Rattle.std.specs.List.{AllZip, concat, list_any}
 use Rattle.command_line.specs.Rows.{End, Row, Shows, message_row, out_of_memory, write_failed}
@@ -13,6 +13,7 @@ use Rattle.tfrules_command.specs.Line.{each_once, max_files}
 use Rattle.tfrules_command.specs.Parted.{ShowsAfter, has_report, parted}
 use Rattle.tfrules_command.specs.Rows.{IsRow}
 use Rattle.tfrules_command.proofs.ModuleRowLemmas.{shown_silent}
+use Rattle.tree_lint.specs.Numbers.{has_file}
 use Rattle.tree_lint.specs.Runs.{IsModuleRow, but_last, errors_of, files_of, messages, reports_after, worse_status, worst_status}
 use Rattle.tree_lint.specs.declared.modules.Module.{Module}
 use Rattle.tree_lint.specs.declared.policy.Policy.{Policy}
@@ -62,29 +63,37 @@ zip_more R (a ∷ xs) (b ∷ ys) x y h r = (h.0, zip_more R xs ys x y h.1 r)
 
 -- ---- one module
 
-module _ (told : Name → Option (List ℕ)) (policy : Policy) (files : List Name) (is_after has : Bool) (end : End) where
-  no_report : (row : Row) → row.out ≡ [] → has ≡ false → IsModuleRow told policy files row → Shows linter row end → ShowsAfter is_after has (IsModuleRow told policy files) end
+module _ (told : Name → Option (List ℕ)) (policy : Policy) (files : List Name) (is_after : Bool) (issues : ℕ) (end : End) where
+  no_report : (row : Row) → row.out ≡ [] → issues ≡ 0 → IsModuleRow told policy files row → Shows linter row end → ShowsAfter is_after issues (IsModuleRow told policy files) end
   no_report row none h p s = subst (λ v. ShowsAfter is_after v (IsModuleRow told policy files) end) (sym h) (shown_silent is_after (IsModuleRow told policy files) end row none p s)
 
-  pub no_memory : has ≡ false → Shows linter (out_of_memory linter) end → ShowsAfter is_after has (IsModuleRow told policy files) end
+  pub no_memory : issues ≡ 0 → Shows linter (out_of_memory linter) end → ShowsAfter is_after issues (IsModuleRow told policy files) end
   no_memory h s = no_report (out_of_memory linter) refl h (inr (inr (false, false, inl refl))) s
 
-  pub nothing_said : has ≡ false → files ≡ [] → Shows linter (message_row [] 0) end → ShowsAfter is_after has (IsModuleRow told policy files) end
+  pub nothing_said : issues ≡ 0 → files ≡ [] → Shows linter (message_row [] 0) end → ShowsAfter is_after issues (IsModuleRow told policy files) end
   nothing_said h e s = no_report (message_row [] 0) refl h (inl (e, refl)) s
 
-  pub too_many_said : has ≡ false → max_files < length files → Shows linter (message_row (codes "tfrules: error: more than 256 files\n") 1) end → ShowsAfter is_after has (IsModuleRow told policy files) end
+  pub too_many_said : issues ≡ 0 → max_files < length files → Shows linter (message_row (codes "tfrules: error: more than 256 files\n") 1) end → ShowsAfter is_after issues (IsModuleRow told policy files) end
   too_many_said h e s = no_report (message_row (codes "tfrules: error: more than 256 files\n") 1) refl h (inr (inl (e, refl))) s
 
   pub linted : (names : List (List ℕ)) (o r : Bool) → names ≡ each_once files
-      → ShowsAfter is_after has (IsRow told (Ok (record { asked = asked_of policy.settings; minimum = policy.minimum; force = policy.force; files = names })) o r) end
-      → ShowsAfter is_after has (IsModuleRow told policy files) end
+      → ShowsAfter is_after issues (IsRow told (Ok (record { asked = asked_of policy.settings; minimum = policy.minimum; force = policy.force; files = names })) o r) end
+      → ShowsAfter is_after issues (IsModuleRow told policy files) end
   linted names o r e (shown, (row, p, same, h), s) = (shown, (row, inr (inr (o, r, q)), same, h), s)
     where
       q : IsRow told (Ok (record { asked = asked_of policy.settings; minimum = policy.minimum; force = policy.force; files = each_once files })) o r row
       q = subst (λ l. IsRow told (Ok (record { asked = asked_of policy.settings; minimum = policy.minimum; force = policy.force; files = l })) o r row) e p
 
-  pub told_as : (other : Name → Option (List ℕ)) → ((name : Name) → told name ≡ other name) → ShowsAfter is_after has (IsModuleRow told policy files) end → ShowsAfter is_after has (IsModuleRow other policy files) end
-  told_as other h s = subst (λ t. ShowsAfter is_after has (IsModuleRow t policy files) end) (λ i name. h name i) s
+  pub told_as : (other : Name → Option (List ℕ)) → ((name : Name) → told name ≡ other name) → ShowsAfter is_after issues (IsModuleRow told policy files) end → ShowsAfter is_after issues (IsModuleRow other policy files) end
+  told_as other h s = subst (λ t. ShowsAfter is_after issues (IsModuleRow t policy files) end) (λ i name. h name i) s
+
+pub has_mapped : {A : Type 0} (f : A → List ℕ) (xs : List A) (e : Bool) → e ≡ (length xs == 0) → not e ≡ has_file (map f xs)
+has_mapped f [] e is = ap not is
+has_mapped f (x ∷ xs) true is = absurd (omega (arith, eqb-true (length (x ∷ xs)) 0 (sym is)))
+has_mapped f (x ∷ xs) false is = refl
+
+pub has_as : (one : Module) (e : Bool) → e ≡ (length one.files.items == 0) → not e ≡ has_file (files_of one)
+has_as one e is = has_mapped string_bytes one.files.items e is
 
 pub map_none : (given : List (Bor (List ℕ))) (e : Bool) → e ≡ (length given == 0) → e ≡ true → map (λ name. name.now) given ≡ []
 map_none [] e is f = refl

@@ -9,6 +9,8 @@ use Rattle.tfrules_command.specs.Answer.{linter}
 use Rattle.tfrules_command.specs.Line.{Asking, each_once, max_files}
 use Rattle.tfrules_command.specs.Parted.{ShowsAfter, has_report, parted}
 use Rattle.tfrules_command.specs.Rows.{IsRow}
+use Rattle.tree_lint.specs.Numbers.{HasIssues, counts_of}
+use Rattle.tree_lint.specs.declared.counts.Counts.{Counts}
 use Rattle.tree_lint.specs.declared.modules.Module.{Module}
 use Rattle.tree_lint.specs.declared.policy.Policy.{Policy}
 
@@ -37,9 +39,9 @@ IsModuleRow told policy files row =
     ⊎ (((max_files < length files) × (row ≡ fails_with linter (codes "more than 256 files")))
     ⊎ ((open_failed : Bool) × (read_failed : Bool) × IsRow told (Ok (asking_under policy files)) open_failed read_failed row))
 
--- such a row is shown, after other reports or as the first, and it is told whether it has one
-abbrev pub ShowsModule : Bool → Bool → Files → Policy → List Name → End → Type 0
-ShowsModule is_after has_one files policy names end = ShowsAfter is_after has_one (IsModuleRow (told_in files) policy names) end
+-- such a row is shown, after other reports or as the first, and it is told how many issues its report has
+abbrev pub ShowsModule : Bool → ℕ → Files → Policy → List Name → End → Type 0
+ShowsModule is_after issues files policy names end = ShowsAfter is_after issues (IsModuleRow (told_in files) policy names) end
 
 -- ---- all modules
 
@@ -70,7 +72,8 @@ worst_status statuses = fold worse_status 0 statuses
 
 -- THE RUN over modules with these files: each has its row, whatever becomes of the others, up to one of which nothing more can
 -- be written. Each writer took what the rows say, or a part from the front where it failed, and the status is the worst one.
-pub record IsLintRun (told : Name → Option (List ℕ)) (policy : Policy) (modules : List (List Name)) (end : End) : Type 0 where
+-- If none failed, these are its numbers.
+pub record IsLintRun (told : Name → Option (List ℕ)) (policy : Policy) (modules : List (List Name)) (end : End) (counts : Counts) : Type 0 where
   pub seen : List (List Name)
   pub rest : List (List Name)
   pub all : modules ≡ seen ++ rest
@@ -80,3 +83,6 @@ pub record IsLintRun (told : Name → Option (List ℕ)) (policy : Policy) (modu
   pub output : Took end.out (reports_after false rows)
   pub message : Took end.err (messages end.out.failed rows)
   pub exit : end.status ≡ (if end.out.failed || end.err.failed then 1 else worst_status (map (λ row. row.status) rows))
+  pub issues : List ℕ  -- how many the report of each row has
+  pub reported : AllZip HasIssues rows issues
+  pub counted : (end.out.failed || end.err.failed) ≡ false → counts ≡ counts_of seen rows issues

@@ -4,8 +4,10 @@ ghost use Rattle.std.specs.Prelude.{◌≡◌, ◌||◌, ◌<◌, ◌≤◌, Lis
 ghost use Rattle.command_line.specs.Rows.{Shows, end_of, message_row, out_of_memory};
 ghost use Rattle.tfrules_command.specs.Answer.{linter};
 ghost use Rattle.tfrules_command.specs.Line.{max_files};
+ghost use Rattle.tree_lint.specs.Numbers.{has_file};
 ghost use Rattle.tree_lint.specs.Runs.{IsLintRun, ShowsModule, StayTold, files_of, told_in, worse_status};
 
+use crate::counts::Counts;
 use crate::module_tree::ModuleTree;
 use crate::modules::Module;
 use crate::policy::Policy;
@@ -27,13 +29,10 @@ fn say<O: ByteSink, E: ByteSink>(out: &mut O, err: &mut E, text: &str, status: u
     requires err { E.failed err.old ≡ false }
     ensures shows { Shows linter (message_row text.now status)
         (end_of O.ByteSink out.old out.new E.ByteSink err.old err.new result.status) }
-    ensures none { result.has_report ≡ false }
+    ensures none { result.issues ≡ 0 }
 {
     let status = linter().tell(out, err, text, status);
-    Ended {
-        status,
-        has_report: false,
-    }
+    Ended { status, issues: 0 }
 }
 
 /// Says that memory ran out at a module.
@@ -42,13 +41,10 @@ fn say_no_memory<O: ByteSink, E: ByteSink>(out: &mut O, err: &mut E) -> Ended
     requires err { E.failed err.old ≡ false }
     ensures shows { Shows linter (out_of_memory linter)
         (end_of O.ByteSink out.old out.new E.ByteSink err.old err.new result.status) }
-    ensures none { result.has_report ≡ false }
+    ensures none { result.issues ≡ 0 }
 {
     let status = linter().tell_out_of_memory(out, err);
-    Ended {
-        status,
-        has_report: false,
-    }
+    Ended { status, issues: 0 }
 }
 
 /// Lints the files of these names, of which there is one at least and not too many.
@@ -68,7 +64,7 @@ fn lint_named<T: Tree + Drop, O: ByteSink, E: ByteSink>(
     requires read { ⟦<ModuleTree<T> as ModuleFiles>⟧.read_failed files.old ≡ false }
     requires out { O.failed out.old ≡ false }
     requires err { E.failed err.old ≡ false }
-    ensures row { ShowsModule is_after result.has_report (T.files files.old.tree) policy
+    ensures row { ShowsModule is_after result.issues (T.files files.old.tree) policy
         (map (λ name. name.now) given.now)
         (end_of O.ByteSink out.old out.new E.ByteSink err.old err.new result.status) }
     ensures told { StayTold (T.files files.old.tree) (T.files files.new.tree) }
@@ -102,7 +98,7 @@ fn lint_some<T: Tree + Drop, O: ByteSink, E: ByteSink>(
     requires back { ⟦<ModuleTree<T> as ModuleFiles>⟧.is_out files.old ≡ false }
     requires out { O.failed out.old ≡ false }
     requires err { E.failed err.old ≡ false }
-    ensures row { ShowsModule is_after result.has_report (T.files files.old.tree) policy
+    ensures row { ShowsModule is_after result.issues (T.files files.old.tree) policy
         (map (λ name. name.now) given.now)
         (end_of O.ByteSink out.old out.new E.ByteSink err.old err.new result.status) }
     ensures told { StayTold (T.files files.old.tree) (T.files files.new.tree) }
@@ -128,7 +124,7 @@ fn lint_texts<T: Tree + Drop, O: ByteSink, E: ByteSink>(
     requires back { ⟦<ModuleTree<T> as ModuleFiles>⟧.is_out files.old ≡ false }
     requires out { O.failed out.old ≡ false }
     requires err { E.failed err.old ≡ false }
-    ensures row { ShowsModule is_after result.has_report (T.files files.old.tree) policy
+    ensures row { ShowsModule is_after result.issues (T.files files.old.tree) policy
         (map (λ name. name.now) given.now)
         (end_of O.ByteSink out.old out.new E.ByteSink err.old err.new result.status) }
     ensures told { StayTold (T.files files.old.tree) (T.files files.new.tree) }
@@ -153,7 +149,7 @@ fn lint_one<T: Tree + Drop, O: ByteSink, E: ByteSink>(
     requires back { ⟦<ModuleTree<T> as ModuleFiles>⟧.is_out files.old ≡ false }
     requires out { O.failed out.old ≡ false }
     requires err { E.failed err.old ≡ false }
-    ensures row { ShowsModule is_after result.has_report (T.files files.old.tree) policy
+    ensures row { ShowsModule is_after result.issues (T.files files.old.tree) policy
         (files_of one.now)
         (end_of O.ByteSink out.old out.new E.ByteSink err.old err.new result.status) }
     ensures told { StayTold (T.files files.old.tree) (T.files files.new.tree) }
@@ -188,6 +184,22 @@ fn either(one: bool, other: bool) -> bool
     one || other
 }
 
+/// Whether a module has a file.
+fn has_file(one: &Module) -> bool
+    ensures { result ≡ has_file (files_of one.now) }
+{
+    !one.files.as_slice().is_empty()
+}
+
+/// How a run over modules ended.
+#[derive(Clone, Copy, Debug, PartialEq, Eq)]
+pub struct RunEnd {
+    /// The worst status of a module, or that of a failed write.
+    pub status: u8,
+    /// What it found, in numbers, unless a write failed.
+    pub counts: Counts,
+}
+
 /// Lints modules one after another, whatever becomes of each: a refused module stops no other. Standard output gets the
 /// reports of those with issues, an empty line between two, and standard error why others are refused. Answers the worst
 /// status of a module, where 1 is worse than 2. Nothing more is linted once a write failed, which gives status 1.
@@ -198,13 +210,14 @@ pub fn run_over<T: Tree + Drop, O: ByteSink, E: ByteSink>(
     files: &mut ModuleTree<T>,
     out: &mut O,
     err: &mut E,
-) -> u8
+) -> RunEnd
     requires back { ⟦<ModuleTree<T> as ModuleFiles>⟧.is_out files.old ≡ false }
     requires out { O.failed out.old ≡ false }
     requires err { E.failed err.old ≡ false }
-    // What is said of each module, and the status.
+    // What is said of each module, the status, and what was found in numbers.
     ensures ran { IsLintRun (told_in (T.files files.old.tree)) policy (map files_of modules.now)
-        (end_of O.ByteSink out.old out.new E.ByteSink err.old err.new result) }
+        (end_of O.ByteSink out.old out.new E.ByteSink err.old err.new result.status)
+        result.counts }
     // The names lead to the same bytes as before.
     ensures told { StayTold (T.files files.old.tree) (T.files files.new.tree) }
     // No file is left open.
@@ -212,13 +225,15 @@ pub fn run_over<T: Tree + Drop, O: ByteSink, E: ByteSink>(
 {
     let mut status = 0;
     let mut is_after = false;
+    let mut counts = Counts::new();
     for one in modules {
         let ended = lint_one(alloc, is_after, policy, one, files, out, err);
         if has_failed(out, err) {
-            return 1;
+            return RunEnd { status: 1, counts };
         }
-        is_after = either(is_after, ended.has_report);
+        is_after = either(is_after, ended.issues > 0);
         status = worse_status(status, ended.status);
+        counts = counts.add(has_file(one), ended);
     }
-    status
+    RunEnd { status, counts }
 }

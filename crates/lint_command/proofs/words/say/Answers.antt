@@ -1,24 +1,25 @@
+use Rattle.std.proofs.Common.{map}
 use Rattle.lint_command.specs.declared.usage.Usage.TheVariants.{BadNaming, BadSeverity, Help, NoRuleLeft, UnknownRule, Version}
-use Rattle.lint_command.proofs.UsageLemmas.{shows_memory, shows_usage}
+use Rattle.lint_command.proofs.UsageLemmas.{memory_shown, shows_usage}
 use Rattle.lint_command.proofs.words.say.Goals as goal
 
 pub returns-in-Help : goal.returns-in-Help
-returns-in-Help g c = shows_usage c.args.usage Help c.tree_linter.result _ c.in-Help.is c.tree_linter.ensures c.deliver.ensures
+returns-in-Help g c = shows_usage (map (λ word. word.now) c.args.words.now) c.args.usage Help c.tree_linter.result _ c.in-Help.is c.tree_linter.ensures c.deliver.ensures
 
 pub returns-in-Version : goal.returns-in-Version
-returns-in-Version g c = shows_usage c.args.usage Version c.tree_linter-in-Version.result _ c.in-Version.is c.tree_linter-in-Version.ensures c.deliver-in-Version.ensures
+returns-in-Version g c = shows_usage (map (λ word. word.now) c.args.words.now) c.args.usage Version c.tree_linter-in-Version.result _ c.in-Version.is c.tree_linter-in-Version.ensures c.deliver-in-Version.ensures
 
 pub returns-in-UnknownRule : goal.returns-in-UnknownRule
-returns-in-UnknownRule g c = shows_usage c.args.usage UnknownRule c.tree_linter-in-UnknownRule.result _ c.in-UnknownRule.is c.tree_linter-in-UnknownRule.ensures c.tell.ensures
+returns-in-UnknownRule g c = shows_usage (map (λ word. word.now) c.args.words.now) c.args.usage UnknownRule c.tree_linter-in-UnknownRule.result _ c.in-UnknownRule.is c.tree_linter-in-UnknownRule.ensures c.tell.ensures
 
 pub returns-in-NoRuleLeft : goal.returns-in-NoRuleLeft
-returns-in-NoRuleLeft g c = shows_usage c.args.usage NoRuleLeft c.tree_linter-in-NoRuleLeft.result _ c.in-NoRuleLeft.is c.tree_linter-in-NoRuleLeft.ensures c.tell-in-NoRuleLeft.ensures
+returns-in-NoRuleLeft g c = shows_usage (map (λ word. word.now) c.args.words.now) c.args.usage NoRuleLeft c.tree_linter-in-NoRuleLeft.result _ c.in-NoRuleLeft.is c.tree_linter-in-NoRuleLeft.ensures c.tell-in-NoRuleLeft.ensures
 
 pub returns-in-BadNaming : goal.returns-in-BadNaming
-returns-in-BadNaming g c = shows_usage c.args.usage BadNaming c.tree_linter-in-BadNaming.result _ c.in-BadNaming.is c.tree_linter-in-BadNaming.ensures c.tell-in-BadNaming.ensures
+returns-in-BadNaming g c = shows_usage (map (λ word. word.now) c.args.words.now) c.args.usage BadNaming c.tree_linter-in-BadNaming.result _ c.in-BadNaming.is c.tree_linter-in-BadNaming.ensures c.tell-in-BadNaming.ensures
 
 pub returns-in-BadSeverity : goal.returns-in-BadSeverity
-returns-in-BadSeverity g c = shows_usage c.args.usage BadSeverity c.tree_linter-in-BadSeverity.result _ c.in-BadSeverity.is c.tree_linter-in-BadSeverity.ensures c.tell-in-BadSeverity.ensures
+returns-in-BadSeverity g c = shows_usage (map (λ word. word.now) c.args.words.now) c.args.usage BadSeverity c.tree_linter-in-BadSeverity.result _ c.in-BadSeverity.is c.tree_linter-in-BadSeverity.ensures c.tell-in-BadSeverity.ensures
 
 pub returns-in-OutOfMemory : goal.returns-in-OutOfMemory
-returns-in-OutOfMemory g c = shows_memory c.args.usage c.tree_linter-in-OutOfMemory.result _ c.in-OutOfMemory.is c.tree_linter-in-OutOfMemory.ensures c.tell_out_of_memory.ensures
+returns-in-OutOfMemory g c = memory_shown (map (λ word. word.now) c.args.words.now) c.args.usage c.tree_linter-in-OutOfMemory.result _ c.tree_linter-in-OutOfMemory.ensures c.tell_out_of_memory.ensures

@@ -19,7 +19,7 @@ returns-in-Ok-clause-row g c =
     let found = c.in-Ok.ensures (numbered_files 0 gathered.1.1.sources) gathered.1.1.kept_is (rising 0 gathered.1.1.sources) in
     let row = report_row (asking_of c.args.options.now) c.in-Ok.issues in (
       parted_row c.args.is_after row,
-      (row, inr (reported_row (g.M.ModuleFiles.told c.args.files.now) (asking_of c.args.options.now) _ _ _ _ c.in-Ok.issues gathered.0 gathered.1.1 found), refl, c.show_module.ensures.has_report),
+      (row, inr (reported_row (g.M.ModuleFiles.told c.args.files.now) (asking_of c.args.options.now) _ _ _ _ c.in-Ok.issues gathered.0 gathered.1.1 found), refl, (c.args.options.now.files, c.in-Ok.issues, refl, c.show_module.ensures.told)),
       c.show_module.ensures.shows,
     )
 

@@ -8,7 +8,7 @@ use Rattle.tree_lint.proofs.run.lint_one.Goals as goal
 
 pub returns-in-Ok-clause-row : goal.returns-in-Ok-clause-row
 returns-in-Ok-clause-row g c =
-    named_as (told_in (g.T.Tree.files c.args.files.now.tree)) c.args.policy c.args.is_after c.lint_texts.result.has_report _ _ (files_of c.args.one.now)
+    named_as (told_in (g.T.Tree.files c.args.files.now.tree)) c.args.policy c.args.is_after c.lint_texts.result.issues _ _ (files_of c.args.one.now)
     (ap (map (λ (name : Bor (List ℕ)). name.now)) c.as_slice-in-Ok.ensures.value ∙ c.in-Ok.ensures ∙ ap (map string_bytes) c.as_slice.ensures.value) c.lint_texts.ensures.row
 
 pub returns-in-Err-clause-row : goal.returns-in-Err-clause-row

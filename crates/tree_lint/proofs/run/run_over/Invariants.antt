@@ -9,4 +9,4 @@ invariant-loop-one g l =
     (g.O.ByteSink.failed l.out ≡ false) × (g.E.ByteSink.failed l.err ≡ false) × (l.files.is_out ≡ false)
     × ((name : List ℕ) → told_in now name ≡ told_in first name)
     × SoFar (told_in first) l.policy (map files_of (take l.one-index l.modules)) (g.O.ByteSink.taken l.initial.out) (g.O.ByteSink.taken l.out) (g.E.ByteSink.taken l.initial.err)
-    (g.E.ByteSink.taken l.err) l.is_after l.status
+    (g.E.ByteSink.taken l.err) l.is_after l.status l.counts

@@ -1,0 +1,22 @@
+//! Texts that are written without memory, piece by piece.
+
+ghost use Rattle.std.specs.Prelude.{◌≡◌, false, is_err, map};
+ghost use Rattle.std.specs.List.{concat};
+ghost use Rattle.command_line.specs.Rows.{Took, writer};
+
+use hcl_source::{ByteSink, Failed, write_fully};
+
+/// Writes the pieces one after the other, up to the first write that fails. So a line needs no memory.
+pub fn write_pieces<S: ByteSink>(sink: &mut S, pieces: &[&[u8]]) -> Result<(), Failed>
+    requires { S.failed sink.old ≡ false }
+    ensures took { Took (writer S.ByteSink sink.old sink.new)
+        (concat (map (λ piece. piece.now) pieces.now)) }
+    ensures failed { S.failed sink.new ≡ is_err result }
+{
+    for piece in pieces {
+        if let Err(_fault) = write_fully(sink, piece) {
+            return Err(Failed);
+        }
+    }
+    Ok(())
+}

@@ -1,0 +1,21 @@
+-- What `tfrules-all` tells a wrong word by. Our own choice.
+use Rattle.std.specs.Prelude.{[], ◌∷◌, codes}
+use Rattle.lint_command.specs.Line.{tfrules_all}
+use Rattle.lint_command.specs.Linter.{usage_line}
+use Rattle.tree_command.specs.WrongWords.{Vocabulary, letters_of, names_of}
+
+-- beside its own options, some of TFLint and of `terraform`
+abbrev pub linter_words : Vocabulary
+linter_words = record {
+  names = names_of tfrules_all;
+  letters = letters_of tfrules_all;
+  error = codes "tfrules-all: error: unknown option ";
+  foreign =
+      record { option = codes "-recursive"; hint = codes "; folders are always walked whole" }
+      ∷ record { option = codes "--recursive"; hint = codes "; folders are always walked whole" }
+      ∷ record { option = codes "-chdir"; hint = codes "; name the folder instead" }
+      ∷ record { option = codes "--chdir"; hint = codes "; name the folder instead" }
+      ∷ record { option = codes "--only"; hint = codes "; write --rules LIST" }
+      ∷ record { option = codes "--fix"; hint = codes "; no file is ever changed" } ∷ [];
+  usage = usage_line;
+}

@@ -1,0 +1,65 @@
+//! What `tfrules-all` tells a wrong word by.
+
+ghost use Rattle.std.specs.Prelude.{◌≡◌};
+ghost use Rattle.lint_command.specs.LinterWords.{linter_words};
+ghost use Rattle.tree_command.specs.Vocabularies.{vocabulary_of};
+
+use crate::usage::USAGE;
+use tree_command::vocabulary::{Foreign, Vocabulary};
+
+static NAMES: &[&str] = &[
+    "rules",
+    "naming",
+    "minimum-failure-severity",
+    "force",
+    "quiet",
+    "version",
+    "null",
+    "shard",
+    "list-rules",
+    "explain",
+    "help",
+];
+
+static LETTERS: &[u8] = b"0h";
+
+/// Options of TFLint and of `terraform`.
+static FOREIGN: &[Foreign] = &[
+    Foreign {
+        option: "-recursive",
+        hint: "; folders are always walked whole",
+    },
+    Foreign {
+        option: "--recursive",
+        hint: "; folders are always walked whole",
+    },
+    Foreign {
+        option: "-chdir",
+        hint: "; name the folder instead",
+    },
+    Foreign {
+        option: "--chdir",
+        hint: "; name the folder instead",
+    },
+    Foreign {
+        option: "--only",
+        hint: "; write --rules LIST",
+    },
+    Foreign {
+        option: "--fix",
+        hint: "; no file is ever changed",
+    },
+];
+
+/// What the program tells a wrong word by.
+pub(crate) fn linter_words() -> Vocabulary
+    ensures { vocabulary_of result ≡ linter_words }
+{
+    Vocabulary {
+        names: NAMES,
+        letters: LETTERS,
+        error: "tfrules-all: error: unknown option ",
+        foreign: FOREIGN,
+        usage: USAGE,
+    }
+}

@@ -1,0 +1,48 @@
+//! What `tffmt-all` tells a wrong word by.
+
+ghost use Rattle.std.specs.Prelude.{◌≡◌};
+ghost use Rattle.tree_command.specs.FormatterWords.{formatter_words};
+ghost use Rattle.tree_command.specs.Vocabularies.{vocabulary_of};
+
+use crate::usage::USAGE;
+use crate::vocabulary::{Foreign, Vocabulary};
+
+static NAMES: &[&str] = &[
+    "check", "diff", "list", "in-place", "sync", "quiet", "any-name", "version", "null", "shard",
+    "exclude", "jobs", "help",
+];
+
+static LETTERS: &[u8] = b"0jh";
+
+/// Options of `terraform fmt`, with one dash or with two.
+static FOREIGN: &[Foreign] = &[
+    Foreign {
+        option: "-recursive",
+        hint: "; folders are always walked whole",
+    },
+    Foreign {
+        option: "--recursive",
+        hint: "; folders are always walked whole",
+    },
+    Foreign {
+        option: "-write=false",
+        hint: "; write --list, --check or --diff",
+    },
+    Foreign {
+        option: "--write=false",
+        hint: "; write --list, --check or --diff",
+    },
+];
+
+/// What the program tells a wrong word by.
+pub(crate) fn formatter_words() -> Vocabulary
+    ensures { vocabulary_of result ≡ formatter_words }
+{
+    Vocabulary {
+        names: NAMES,
+        letters: LETTERS,
+        error: "tffmt-all: error: unknown option ",
+        foreign: FOREIGN,
+        usage: USAGE,
+    }
+}

@@ -1,0 +1,10 @@
+use Rattle.std.proofs.Common.{◌++◌, List, ℕ, ap, codes, subst, sym}
+use Rattle.std.specs.Prelude.{◌==◌, decimal, if◌then◌else◌}
+use Rattle.command_line.specs.Rows.{TookBy}
+use Rattle.tree_lint.specs.Numbers.{issues_word}
+use Rattle.tree_lint.proofs.counts.tell_issues.Goals as goal
+
+pub returns-then-counts-eq0-clause-took : goal.returns-then-counts-eq0-clause-took
+returns-then-counts-eq0-clause-took g c =
+    subst (λ (text : List ℕ). TookBy (g.S.ByteSink.failed c.write_pieces.new.sink) (g.S.ByteSink.taken c.args.sink.now) (g.S.ByteSink.taken c.write_pieces.new.sink) text)
+    (sym (ap (λ (n : ℕ). if n == 0 then codes "no issues in " else decimal n ++ (issues_word n ++ (decimal c.args.counts.now.reported ++ codes " of "))) c.if-counts-eq0.true)) c.write_pieces.ensures.took

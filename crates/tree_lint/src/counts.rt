@@ -1,0 +1,135 @@
+//! What a run over modules found, in numbers, and what is said of them at its end.
+
+ghost use Rattle.std.specs.Prelude.{◌≡◌, ◌≤◌, ◌+◌, [], false, is_err};
+ghost use Rattle.command_line.specs.Rows.{Took, writer};
+ghost use Rattle.tree_lint.specs.Numbers.{counts_of, issues_word, issues_words, modules_word, modules_words, some_line, summary_line};
+ghost use Rattle.tree_lint.specs.Inner.Growth.{HasRoom, counts_with, one_if};
+
+use command_line::write_pieces;
+use hcl_scan::{ByteSink, Failed};
+use itoa::Buffer;
+use tfrules_command::module_run::Ended;
+
+/// What a run over modules found, in numbers.
+#[derive(Clone, Copy, Debug, PartialEq, Eq)]
+pub struct Counts {
+    /// The modules that have a file.
+    pub modules: u64,
+    /// Those that could not be linted.
+    pub refused: u64,
+    /// Those with issues.
+    pub reported: u64,
+    /// The issues of all of them.
+    pub issues: u128,
+}
+
+fn one_if(is_so: bool) -> u64
+    ensures is { result ≡ one_if is_so }
+    ensures small { result ≤ 1 }
+{
+    if is_so { 1 } else { 0 }
+}
+
+impl Counts {
+    /// No module.
+    pub(crate) fn new() -> Counts
+        ensures { result ≡ counts_of [] [] [] }
+    {
+        Counts {
+            modules: 0,
+            refused: 0,
+            reported: 0,
+            issues: 0,
+        }
+    }
+
+    /// One module more, which has a file or none, and of which this came.
+    pub(crate) fn add(self, has_file: bool, ended: Ended) -> Counts
+        requires { HasRoom self }
+        ensures sum { result ≡ counts_with self has_file ended.status ended.issues }
+        ensures small { result.issues ≤ self.issues + 18446744073709551615 }
+    {
+        Counts {
+            modules: self.modules + one_if(has_file),
+            refused: self.refused + one_if(ended.status == 1),
+            reported: self.reported + one_if(ended.issues > 0),
+            issues: self.issues + ended.issues as u128,
+        }
+    }
+}
+
+/// What stands after a number of modules.
+fn modules_word(count: u64) -> &'static str
+    ensures { result.now ≡ modules_word count }
+{
+    if count == 1 { " module" } else { " modules" }
+}
+
+/// What stands after a number of issues.
+fn issues_word(count: u128) -> &'static str
+    ensures { result.now ≡ issues_word count }
+{
+    if count == 1 {
+        " issue in "
+    } else {
+        " issues in "
+    }
+}
+
+/// Writes how many issues there are, and in how many modules.
+fn tell_issues<S: ByteSink>(sink: &mut S, counts: &Counts) -> Result<(), Failed>
+    requires { S.failed sink.old ≡ false }
+    ensures took { Took (writer S.ByteSink sink.old sink.new) (issues_words counts.now) }
+    ensures failed { S.failed sink.new ≡ is_err result }
+{
+    if counts.issues == 0 {
+        return write_pieces(sink, &[b"no issues in "]);
+    }
+    let mut issues = Buffer::new();
+    let mut reported = Buffer::new();
+    let issues = issues.format(counts.issues).as_bytes();
+    let reported = reported.format(counts.reported).as_bytes();
+    let word = issues_word(counts.issues).as_bytes();
+    write_pieces(sink, &[issues, word, reported, b" of "])
+}
+
+/// Writes how many modules there are, and how many of them were refused, if there are such.
+fn tell_modules<S: ByteSink>(sink: &mut S, counts: &Counts) -> Result<(), Failed>
+    requires { S.failed sink.old ≡ false }
+    ensures took { Took (writer S.ByteSink sink.old sink.new) (modules_words counts.now) }
+    ensures failed { S.failed sink.new ≡ is_err result }
+{
+    let mut modules = Buffer::new();
+    let modules = modules.format(counts.modules).as_bytes();
+    let word = modules_word(counts.modules).as_bytes();
+    if counts.refused == 0 {
+        return write_pieces(sink, &[modules, word, b"\n"]);
+    }
+    let mut refused = Buffer::new();
+    let refused = refused.format(counts.refused).as_bytes();
+    write_pieces(sink, &[modules, word, b", ", refused, b" refused\n"])
+}
+
+/// Writes the last line of a run over some modules.
+fn tell_some<S: ByteSink>(sink: &mut S, counts: &Counts) -> Result<(), Failed>
+    requires { S.failed sink.old ≡ false }
+    ensures took { Took (writer S.ByteSink sink.old sink.new) (some_line counts.now) }
+    ensures failed { S.failed sink.new ≡ is_err result }
+{
+    if tell_issues(sink, counts).is_err() {
+        return Err(Failed);
+    }
+    tell_modules(sink, counts)
+}
+
+/// Writes the last line of a run.
+pub fn tell_summary<S: ByteSink>(sink: &mut S, counts: &Counts) -> Result<(), Failed>
+    requires { S.failed sink.old ≡ false }
+    ensures took { Took (writer S.ByteSink sink.old sink.new) (summary_line counts.now) }
+    ensures failed { S.failed sink.new ≡ is_err result }
+{
+    if counts.modules == 0 {
+        return write_pieces(sink, &[b"no modules found\n"]);
+    }
+    tell_some(sink, counts)
+}
