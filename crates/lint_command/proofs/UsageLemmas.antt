@@ -17,3 +17,6 @@ memory_said p end ep shows = subst (λ (q : Program). Shows q (out_of_memory q) 
 
 pub memory_shown : (texts : List Text) (usage : Usage) (p : Program) (end : End) → p ≡ tree_linter → Shows p (out_of_memory p) end → ShowsUsage texts usage end
 memory_shown texts usage p end ep shows = inl (memory_said p end ep shows)
+
+pub shown_as : (texts : List Text) (usage is : Usage) (end : End) → usage ≡ is → ShowsUsage texts is end → ShowsUsage texts usage end
+shown_as texts usage is end e shown = subst (λ (u : Usage). ShowsUsage texts u end) (sym e) shown

@@ -1,6 +1,6 @@
 use Rattle.std.proofs.Common.{map}
-use Rattle.lint_command.specs.declared.usage.Usage.TheVariants.{BadNaming, BadSeverity, Help, NoRuleLeft, UnknownRule, Version}
-use Rattle.lint_command.proofs.UsageLemmas.{memory_shown, shows_usage}
+use Rattle.lint_command.specs.declared.usage.Usage.TheVariants.{BadNaming, BadSeverity, Explain, Help, ListRules, NoRuleLeft, UnknownRule, Version}
+use Rattle.lint_command.proofs.UsageLemmas.{memory_shown, shown_as, shows_usage}
 use Rattle.lint_command.proofs.words.say.Goals as goal
 
 pub returns-in-Help : goal.returns-in-Help
@@ -8,6 +8,13 @@ returns-in-Help g c = shows_usage (map (λ word. word.now) c.args.words.now) c.a
 
 pub returns-in-Version : goal.returns-in-Version
 returns-in-Version g c = shows_usage (map (λ word. word.now) c.args.words.now) c.args.usage Version c.tree_linter-in-Version.result _ c.in-Version.is c.tree_linter-in-Version.ensures c.deliver-in-Version.ensures
+
+pub returns-in-ListRules : goal.returns-in-ListRules
+returns-in-ListRules g c = shown_as (map (λ word. word.now) c.args.words.now) c.args.usage ListRules _ c.in-ListRules.is (c.list_rules.ensures (map (λ word. word.now) c.args.words.now))
+
+pub returns-in-Explain : goal.returns-in-Explain
+returns-in-Explain g c =
+    shown_as (map (λ word. word.now) c.args.words.now) c.args.usage (Explain c.in-Explain.rule) _ c.in-Explain.is (c.explain.ensures (map (λ word. word.now) c.args.words.now))
 
 pub returns-in-UnknownRule : goal.returns-in-UnknownRule
 returns-in-UnknownRule g c = shows_usage (map (λ word. word.now) c.args.words.now) c.args.usage UnknownRule c.tree_linter-in-UnknownRule.result _ c.in-UnknownRule.is c.tree_linter-in-UnknownRule.ensures c.tell.ensures
