@@ -232,7 +232,12 @@ static ROWS: [Row; 27] = [
         status: 1,
     },
     Row {
-        words: &[b"tfrules-all", b"--rules", b"terraform_comment_syntax", b"a"],
+        words: &[
+            b"tfrules-all",
+            b"--rules",
+            b"terraform_comment_syntax",
+            b"a",
+        ],
         input: b"",
         out: b"",
         err: b"no issues in 2 modules\n",
