@@ -8,8 +8,8 @@
 PREFIX = /usr/local
 DESTDIR =
 
-# A crate that is a program is installed under its name, with `-` for `_`.
-PROGRAMS := $(subst _,-,$(patsubst crates/%/src/main.rt,%,$(wildcard crates/*/src/main.rt)))
+# A crate that is a program is installed under its name, with `-` for `_`, but for the benchmark's.
+PROGRAMS := $(subst _,-,$(filter-out workloads,$(patsubst crates/%/src/main.rt,%,$(wildcard crates/*/src/main.rt))))
 SCRIPTS := $(patsubst contrib/%,%,$(wildcard contrib/tffmt-* contrib/tfrules-*))
 COMMANDS = $(PROGRAMS) $(SCRIPTS)
 EXAMPLES := pre-commit-config.yaml pre-commit-wheel.yaml treefmt.toml $(sort $(patsubst contrib/%,%,$(shell \

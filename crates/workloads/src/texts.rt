@@ -1,0 +1,118 @@
+//! Texts made of pieces.
+
+ghost use Rattle.std.specs.Prelude.{◌≤◌};
+
+use crate::draw::Draw;
+use std::alloc::{AllocError, Global};
+
+/// A piece, as what stands between its numbers.
+#[derive(Drop)]
+pub struct Piece {
+    parts: Vec<&'static str>,
+}
+
+/// A kind of text: the pieces that it is made of.
+#[derive(Drop)]
+pub struct Shape {
+    pieces: Vec<Piece>,
+}
+
+fn piece_of(alloc: Global, text: &'static str) -> Result<Piece, AllocError> {
+    let mut parts = Vec::new(alloc);
+    for part in text.split('@') {
+        parts.push(part)?;
+    }
+    Ok(Piece { parts })
+}
+
+impl Shape {
+    pub fn new(alloc: Global, texts: &[&'static str]) -> Result<Shape, AllocError> {
+        let mut pieces = Vec::new(alloc);
+        for text in texts {
+            pieces.push(piece_of(alloc, text)?)?;
+        }
+        Ok(Shape { pieces })
+    }
+}
+
+/// The least number of seven digits.
+const FIRST: u32 = 1_000_000;
+
+/// The last seven digits of a number, of which the first isn't 0.
+fn digits_of(number: u32) -> [u8; 7] {
+    let mut left = FIRST + number % (9 * FIRST);
+    let mut digits = [b'0'; 7];
+    for place in 0..7 {
+        digits[6 - place] = b'0' + (left % 10) as u8;
+        left /= 10;
+    }
+    digits
+}
+
+/// Adds a piece with this number.
+fn add_piece(text: &mut Vec<u8>, piece: &Piece, number: u32) -> Result<(), AllocError> {
+    let digits = digits_of(number);
+    let mut is_after = false;
+    for part in piece.parts.as_slice() {
+        if is_after {
+            text.extend_from_slice(&digits)?;
+        }
+        text.extend_from_slice(part.as_bytes())?;
+        is_after = true;
+    }
+    Ok(())
+}
+
+/// What makes one text after another, with numbers that all differ.
+#[derive(Clone, Copy)]
+pub struct Maker {
+    draw: Draw,
+    number: u32,
+}
+
+impl Maker {
+    pub fn new(seed: u64) -> Maker {
+        let mut draw = Draw::new(seed);
+        let number = draw.below(1_000_000_000) as u32;
+        Maker { draw, number }
+    }
+
+    /// A number below a bound.
+    pub fn below(&mut self, bound: usize) -> usize
+        ensures { result ≤ bound }
+    {
+        self.draw.below(bound)
+    }
+
+    /// Adds pieces of a shape until the text has at least so many bytes.
+    pub fn add(
+        &mut self,
+        text: &mut Vec<u8>,
+        shape: &Shape,
+        size: usize,
+    ) -> Result<(), AllocError> {
+        for _ in 0..u64::MAX {
+            if text.len() >= size {
+                return Ok(());
+            }
+            let Some(piece) = self.draw.one_of(shape.pieces.as_slice()) else {
+                return Ok(());
+            };
+            add_piece(text, piece, self.number)?;
+            self.number = self.number.wrapping_add(1);
+        }
+        Ok(())
+    }
+
+    /// A text of pieces of a shape, of at least so many bytes.
+    pub fn text(
+        &mut self,
+        alloc: Global,
+        shape: &Shape,
+        size: usize,
+    ) -> Result<Vec<u8>, AllocError> {
+        let mut text = Vec::with_capacity(alloc, size)?;
+        self.add(&mut text, shape, size)?;
+        Ok(text)
+    }
+}
