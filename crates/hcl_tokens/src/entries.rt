@@ -1,6 +1,6 @@
 //! Entries, kept in 8 bytes each but for those of long tokens.
 
-ghost use Rattle.std.specs.Prelude.{◌≡◌, ◌≤◌, ◌<◌, ◌==◌, ◌++◌, ◌∷◌, [], length, slice_get, Some, OnErr, OnOk};
+ghost use Rattle.std.specs.Prelude.{◌≡◌, ◌≤◌, ◌<◌, ◌==◌, ◌++◌, ◌∷◌, [], length, slice_get, Some, IfOk, OnErr, OnOk};
 ghost use Rattle.hcl_source.specs.Load.{max_source};
 ghost use Rattle.hcl_tokens.specs.declared.token.Entry.{Entry};
 ghost use Rattle.hcl_tokens.specs.Inner.KeptEntries.{entry_given};
@@ -71,6 +71,16 @@ impl Entries {
             kept: Vec::new(alloc),
             long: Vec::new(alloc),
         }
+    }
+
+    /// No entries, with room for so many that aren't long.
+    pub fn with_room(alloc: Global, count: usize) -> Result<Entries, AllocError>
+        ensures { IfOk result (λ entries. entries ≡ []) }
+    {
+        Ok(Entries {
+            kept: Vec::with_capacity(alloc, count)?,
+            long: Vec::new(alloc),
+        })
     }
 
     pub(crate) fn len(&self) -> usize
