@@ -1,6 +1,6 @@
 //! What a file is made of, as a list.
 
-ghost use Rattle.std.specs.Prelude.{◌≡◌, ◌<◌, ◌==◌, ◌∷◌, ◌++◌, [], length, slice_get, OnErr, OnOk, Some};
+ghost use Rattle.std.specs.Prelude.{◌≡◌, ◌<◌, ◌==◌, ◌∷◌, ◌++◌, [], length, slice_get, IfOk, OnErr, OnOk, Some};
 ghost use Rattle.hcl_grammar.specs.Inner.Entries.{item_in};
 ghost use Rattle.hcl_grammar.specs.declared.item.Item.TheVariants as item;
 
@@ -35,6 +35,15 @@ impl Outline {
         Outline {
             entries: Vec::new(alloc),
         }
+    }
+
+    /// No items, with room for so many.
+    pub fn with_room(alloc: Global, count: usize) -> Result<Outline, AllocError>
+        ensures { IfOk result (λ items. items ≡ []) }
+    {
+        Ok(Outline {
+            entries: Vec::with_capacity(alloc, count)?,
+        })
     }
 
     fn push(&mut self, entry: Entry) -> Result<(), AllocError>

@@ -8,6 +8,13 @@ use crate::pieces::put_items;
 use hcl_grammar::{Accepted, Outline};
 use std::alloc::{AllocError, Global};
 
+/// How many tokens of a file there are for each item that the outline has room for at first. Most files have six to nine
+/// tokens an item, and where there are fewer the list grows.
+const TOKENS_AN_ITEM: usize = 6;
+
+/// How many items the outline has room for at most at first.
+const MOST_ROOM: usize = 1_024;
+
 /// The outline of a file, in time linear in its tokens.
 pub fn outline(alloc: Global, accepted: &Accepted<'_, '_>) -> Result<Outline, AllocError>
     ensures { IfOk result (λ items. items ≡ outline accepted.now.tokens) }
@@ -15,7 +22,7 @@ pub fn outline(alloc: Global, accepted: &Accepted<'_, '_>) -> Result<Outline, Al
     let tokens = accepted.tokens();
     let ends = newlines(alloc, tokens)?;
     let count = token_count(tokens);
-    let mut items = Outline::new(alloc);
+    let mut items = Outline::with_room(alloc, (tokens.len() / TOKENS_AN_ITEM).min(MOST_ROOM))?;
     put_items(tokens, &ends, 0, 0, count, &mut items)?;
     Ok(items)
 }

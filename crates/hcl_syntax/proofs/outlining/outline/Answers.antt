@@ -8,6 +8,6 @@ pub returns : goal.returns
 returns c =
     let ts = c.tokens-tokens.result.now.tokens in
     c.in_ok-put_items.ensures
-    ∙ ap₂ (λ old n. old ++ items_at 0 (words ts 0 n)) c.new-items.ensures c.token_count-count.ensures.is
+    ∙ ap₂ (λ old n. old ++ items_at 0 (words ts 0 n)) c.in_ok-items.ensures c.token_count-count.ensures.is
     ∙ outline_is ts
     ∙ ap (λ s. outline s.tokens) c.tokens-tokens.ensures.tokens
