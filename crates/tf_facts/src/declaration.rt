@@ -262,6 +262,13 @@ fn put_item<'s>(
     put_block(accepted, items, kind, number + 1, found)
 }
 
+/// How many items of an outline there are for each declaration that the list has room for at first. Most files have five
+/// to ten items a declaration, and where there are fewer the list grows.
+const ITEMS_A_DECLARATION: usize = 6;
+
+/// How many declarations the list has room for at most at first.
+const MOST_ROOM: usize = 256;
+
 /// What a file declares, in order, by its outline.
 pub fn declarations<'s>(
     alloc: Global,
@@ -272,7 +279,8 @@ pub fn declarations<'s>(
     ensures { IfOk result (λ found. map declaration found.items
         ≡ declarations (numbered accepted.now.tokens)) }
 {
-    let mut found = Vec::new(alloc);
+    let room = (items.len() / ITEMS_A_DECLARATION).min(MOST_ROOM);
+    let mut found = Vec::with_capacity(alloc, room)?;
     for number in 0..items.len() {
         put_item(accepted, items, number, &mut found)?;
     }
