@@ -1,6 +1,7 @@
 //! What is open while a text is scanned.
 
 ghost use Rattle.std.specs.Prelude.{◌≡◌, ◌==◌, ◌<◌, ◌≤◌, ◌∷◌, [], length, drop, slice_index_or, MatchOption};
+ghost use Rattle.hcl_tokens.specs.declared.token.Kind.TheVariants.{QuoteClose};
 ghost use Rattle.hcl_tokens.specs.Lexemes.{max_open, same_opener};
 ghost use Rattle.hcl_tokens.specs.Spelling.{context, context_in};
 ghost use Rattle.hcl_tokens.specs.Scans.{owes};
@@ -309,6 +310,7 @@ impl<'k> Stack<'k> {
         Some(opened_of(self.room.frame(self.room.depth - 1)))
     }
 
+    #[inline(always)]
     pub fn pop(&mut self) -> Option<Opened>
         ensures popped { MatchOption result ((self.old ≡ []) × (self.new ≡ []))
             (λ o. self.old ≡ o ∷ self.new) }
@@ -352,6 +354,14 @@ impl<'k> Stack<'k> {
             Some(_) => Some(top),
             None => None,
         }
+    }
+
+    /// Drops what a closing quote closes.
+    #[inline(always)]
+    pub fn close_quote(&mut self)
+        ensures { self.new ≡ closed QuoteClose self.old }
+    {
+        let _ = self.pop();
     }
 
     /// Drops what a token of this kind closes.

@@ -138,6 +138,7 @@ impl Entries {
 
     /// Puts an entry at the end. Of a source there are no more entries than it has bytes. A refused growth leaves the list
     /// as it was.
+    #[inline(always)]
     pub fn push(&mut self, entry: Entry) -> Result<(), AllocError>
         requires order { entry.start ≤ entry.end }
         requires room { length self.old < max_source }
@@ -165,6 +166,8 @@ impl Entries {
     }
 
     /// Puts the entry of a long token at the end.
+    #[cold]
+    #[inline(never)]
     fn push_long(&mut self, entry: Entry) -> Result<(), AllocError>
         requires order { entry.start ≤ entry.end }
         requires room { length self.old < max_source }
