@@ -1,24 +1,26 @@
--- An expression of one token.
-use Rattle.std.proofs.Common.{◌≡◌, ℕ, Bool, true, false, List, [], ◌∷◌, Ok, cond, refl, sym, ap, ◌∙◌}
+-- Operands of a few tokens, and the expressions that are one of them.
+use Rattle.std.proofs.Common.{◌≡◌, length, arith, ℕ, Bool, true, false, List, [], ◌∷◌, Option, Some, None, cond, refl, sym, ap, ◌∙◌}
+use Rattle.std.specs.Option.{IfSome}
 use Rattle.hcl_grammar.specs.declared.class.Lookahead.{Lookahead}
 use Rattle.hcl_grammar.specs.declared.class.Class.{Class}
-use Rattle.hcl_grammar.specs.declared.class.Class.TheVariants.{Ident, Number, Newline, Comma, ParenClose, BracketClose, BraceClose, SeqClose, Assign, Arrow, Colon, Ellipsis}
+use Rattle.hcl_grammar.specs.declared.class.Class.TheVariants.{Ident, Number, Dot, Lit, QuoteOpen, QuoteClose, Newline, Comma, ParenClose, BracketClose, BraceClose, SeqClose, Assign, Arrow, Colon, Ellipsis}
 use Rattle.hcl_grammar.specs.declared.expected.Newlines.{Newlines}
 use Rattle.hcl_grammar.specs.declared.expected.Newlines.TheVariants.{Seen, Dropped}
 use Rattle.hcl_grammar.specs.Classes.{is_trivia, drops}
-use Rattle.hcl_grammar.specs.Grammar.{◌at◌, nothing, expr, expr_row, after, after_row, after_ident, after_ident_row}
+use Rattle.hcl_grammar.specs.declared.expected.Terminal.TheVariants.{EndQuote}
+use Rattle.hcl_grammar.specs.Grammar.{◌at◌, the, nothing, expr, expr_row, after, after_row, after_ident, after_ident_row, parts, parts_row, step, step_row, terminal_row}
 use Rattle.hcl_syntax.specs.Inner.Cursors.{shown, Looks}
-use Rattle.hcl_syntax.specs.Inner.Parsing.{Parses, is_short_operand, ends_expression}
-use Rattle.hcl_syntax.proofs.CursorStepLemmas.{reading, vanishing}
+use Rattle.hcl_syntax.specs.Inner.ShortOperands.{ends_expression, is_short_operand, is_opening_quote, is_dot, is_identifier, is_quoted, ExpressionEnds, AreSteps, IsQuoted, IsOperand}
+use Rattle.hcl_syntax.proofs.CursorStepLemmas.{reading, vanishing, onward, beside, done}
 
 -- what the rows say of a token that ends an expression
-pub record Ends (m : Newlines) (k : Class) : Type 0 where
+record Ends (m : Newlines) (k : Class) : Type 0 where
   pub kept : drops m k ≡ false
   pub seen : is_trivia k ≡ false
   pub after_ident : after_ident_row m k ≡ nothing
   pub after : after_row m k ≡ nothing
 
-pub ended : (m : Newlines) (k : Class) → ends_expression m k ≡ true → Ends m k
+ended : (m : Newlines) (k : Class) → ends_expression m k ≡ true → Ends m k
 ended Seen Newline h = record { kept = refl; seen = refl; after_ident = refl; after = refl }
 ended Dropped Newline h = absurd (cc)
 ended Seen Comma h = record { kept = refl; seen = refl; after_ident = refl; after = refl }
@@ -43,44 +45,142 @@ ended Seen _ h = absurd (cc)
 ended Dropped _ h = absurd (cc)
 
 -- what the grammar sees where a number's token is no trivia
-pub seen_there : (l rest : List Lookahead) (t : Lookahead) (b : Bool) → b ≡ false → l ≡ cond b rest (t ∷ rest) → l ≡ t ∷ rest
+seen_there : (l rest : List Lookahead) (t : Lookahead) (b : Bool) → b ≡ false → l ≡ cond b rest (t ∷ rest) → l ≡ t ∷ rest
 seen_there l rest t b untold is = is ∙ ap (λ v. cond v rest (t ∷ rest)) untold
 
-pub operand_seen : (k : Class) → is_short_operand k ≡ true → is_trivia k ≡ false
-operand_seen (Ident w) h = refl
-operand_seen (Number d) h = refl
-operand_seen _ h = absurd (cc)
+-- a token that is first, and is no newline that is dropped
+looked : (m : Newlines) (old left : List Lookahead) (t : Lookahead) → old ≡ t ∷ left → drops m t.class ≡ false → Looks m old t left
+looked m old left t is shows = record { is = ap (shown m) is ∙ ap (λ v. cond v (shown m left) (t ∷ left)) shows; kept = shows }
 
-pub end_seen : (m : Newlines) (k : Class) → ends_expression m k ≡ true → is_trivia k ≡ false
-end_seen m k h = (ended m k h).seen
+-- ---- steps
 
--- THE TOKEN, AND WHAT ENDS THE EXPRESSION AFTER IT
-module _ (m : Newlines) (t u : Lookahead) (old left more : List Lookahead) (old_is : old ≡ t ∷ left) (left_is : left ≡ u ∷ more) (ends : ends_expression m u.class ≡ true) where
-  operand_kept : (k : Class) → is_short_operand k ≡ true → drops m k ≡ false
-  operand_kept k h = by m k h
-    where
-      by : (m : Newlines) (k : Class) → is_short_operand k ≡ true → drops m k ≡ false
-      by Seen (Ident w) h = refl
-      by Dropped (Ident w) h = refl
-      by Seen (Number d) h = refl
-      by Dropped (Number d) h = refl
-      by Seen _ h = absurd (cc)
-      by Dropped _ h = absurd (cc)
-
-  looks_first : is_short_operand t.class ≡ true → Looks m old t left
-  looks_first h = record { is = ap (shown m) old_is ∙ ap (λ v. cond v (shown m left) (t ∷ left)) (operand_kept t.class h); kept = operand_kept t.class h }
-
-  looks_past : Looks m left u more
-  looks_past = record { is = ap (shown m) left_is ∙ ap (λ v. cond v (shown m more) (u ∷ more)) (ended m u.class ends).kept; kept = (ended m u.class ends).kept }
+module _ (m : Newlines) (left : List Lookahead) (e : ExpressionEnds m left) where
+  end_looks : Looks m left e.token e.more
+  end_looks = looked m left e.more e.token e.is (ended m e.token.class e.ends).kept
 
   stays : left ≡ shown m left
-  stays = left_is ∙ sym looks_past.is
+  stays = e.is ∙ sym end_looks.is
 
-  -- the row of the first token, by its class
-  by_class : (count : ℕ) (k : Class) → t.class ≡ k → is_short_operand k ≡ true → Parses count (expr at m ∷ []) old (Ok (tt {0})) left
-  by_class count (Ident w) e h = reading (looks_first (ap is_short_operand e ∙ h)) (ap (expr_row m) e) (vanishing {s = after_ident} looks_past (ended m u.class ends).after_ident stays)
-  by_class count (Number d) e h = reading (looks_first (ap is_short_operand e ∙ h)) (ap (expr_row m) e) (vanishing {s = after} looks_past (ended m u.class ends).after stays)
-  by_class count _ e h = absurd (cc)
+pub no_steps : (l : List Lookahead) → AreSteps l l
+no_steps l = record {
+  after_ident = λ m count e. vanishing {s = after_ident} (end_looks m l e) (ended m e.token.class e.ends).after_ident (stays m l e);
+  after = λ m count e. vanishing {s = after} (end_looks m l e) (ended m e.token.class e.ends).after (stays m l e);
+  shorter = omega arith;
+}
 
-  pub short_expression : is_short_operand t.class ≡ true → (count : ℕ) → Parses count (expr at m ∷ []) old (Ok (tt {0})) left
-  short_expression h count = by_class count t.class refl h
+-- ---- tokens that stand one after another
+
+-- no newline, and none of what is passed over
+abbrev is_plain : Class → Bool
+is_plain (Ident w) = true
+is_plain (Number d) = true
+is_plain Dot = true
+is_plain Lit = true
+is_plain QuoteOpen = true
+is_plain QuoteClose = true
+is_plain _ = false
+
+plain_kept : (m : Newlines) (k : Class) → is_plain k ≡ true → drops m k ≡ false
+plain_kept Seen k h = refl
+plain_kept Dropped (Ident w) h = refl
+plain_kept Dropped (Number d) h = refl
+plain_kept Dropped Dot h = refl
+plain_kept Dropped Lit h = refl
+plain_kept Dropped QuoteOpen h = refl
+plain_kept Dropped QuoteClose h = refl
+plain_kept Dropped _ h = absurd (cc)
+
+plain_seen : (k : Class) → is_plain k ≡ true → is_trivia k ≡ false
+plain_seen (Ident w) h = refl
+plain_seen (Number d) h = refl
+plain_seen Dot h = refl
+plain_seen Lit h = refl
+plain_seen QuoteOpen h = refl
+plain_seen QuoteClose h = refl
+plain_seen _ h = absurd (cc)
+
+-- what the grammar sees from a token on
+abbrev pub SeenFrom : Lookahead → List Lookahead → List Lookahead → Type 0
+SeenFrom t l rest = l ≡ cond (is_trivia t.class) rest (t ∷ rest)
+
+plain_first : (t : Lookahead) (l rest : List Lookahead) → SeenFrom t l rest → is_plain t.class ≡ true → l ≡ t ∷ rest
+plain_first t l rest seen h = seen_there l rest t _ (plain_seen t.class h) seen
+
+plain_looks : (m : Newlines) (t : Lookahead) (l rest : List Lookahead) → SeenFrom t l rest → is_plain t.class ≡ true → Looks m l t rest
+plain_looks m t l rest seen h = looked m l rest t (plain_first t l rest seen h) (plain_kept m t.class h)
+
+-- ---- more steps
+
+module _ (d i : Lookahead) (l0 l1 l2 left : List Lookahead) (first : SeenFrom d l0 l1) (second : SeenFrom i l1 l2) (more : AreSteps l2 left) where
+  step_by : (k c : Class) → d.class ≡ k → i.class ≡ c → is_dot k ≡ true → is_identifier c ≡ true → AreSteps l0 left
+  step_by Dot (Ident w) e f g h =
+      let dot : is_plain d.class ≡ true = ap is_plain e in
+      let name : is_plain i.class ≡ true = ap is_plain f in
+      record {
+        after_ident = λ m count ends. reading {s = after_ident} (plain_looks m d l0 l1 first dot) (ap (after_ident_row m) e) (onward {a = tt {0}} (beside (after at m ∷ []) (reading {s = step} (plain_looks m i l1 l2 second name) (ap step_row f) done)) (more.after m count ends));
+        after = λ m count ends. reading {s = after} (plain_looks m d l0 l1 first dot) (ap (after_row m) e) (onward {a = tt {0}} (beside (after at m ∷ []) (reading {s = step} (plain_looks m i l1 l2 second name) (ap step_row f) done)) (more.after m count ends));
+        shorter = omega (arith, more.shorter, ap length (plain_first d l0 l1 first dot), ap length (plain_first i l1 l2 second name));
+      }
+  step_by _ _ e f g h = absurd (cc)
+
+  pub one_step : is_dot d.class ≡ true → is_identifier i.class ≡ true → AreSteps l0 left
+  one_step g h = step_by d.class i.class refl refl g h
+
+-- ---- operands
+
+module _ (t : Lookahead) (old left : List Lookahead) where
+  short_by : (rest : List Lookahead) → SeenFrom t old rest → AreSteps rest left → (k : Class) → t.class ≡ k → is_short_operand k ≡ true → IsOperand old left
+  short_by rest seen steps (Ident w) e h =
+      let plain : is_plain t.class ≡ true = ap is_plain e in
+      record {
+        reads = λ m count ends. reading {s = expr} (plain_looks m t old rest seen plain) (ap (expr_row m) e) (steps.after_ident m count ends);
+        shorter = omega (arith, steps.shorter, ap length (plain_first t old rest seen plain));
+      }
+  short_by rest seen steps (Number d) e h =
+      let plain : is_plain t.class ≡ true = ap is_plain e in
+      record {
+        reads = λ m count ends. reading {s = expr} (plain_looks m t old rest seen plain) (ap (expr_row m) e) (steps.after m count ends);
+        shorter = omega (arith, steps.shorter, ap length (plain_first t old rest seen plain));
+      }
+  short_by rest seen steps _ e h = absurd (cc)
+
+  pub short_operand : (rest : List Lookahead) → SeenFrom t old rest → AreSteps rest left → is_short_operand t.class ≡ true → IsOperand old left
+  short_operand rest seen steps h = short_by rest seen steps t.class refl h
+
+  quoted_from : (rest : List Lookahead) → SeenFrom t old rest → IsQuoted rest left → (k : Class) → t.class ≡ k → is_opening_quote k ≡ true → IsOperand old left
+  quoted_from rest seen quoted QuoteOpen e h =
+      let plain : is_plain t.class ≡ true = ap is_plain e in
+      record {
+        reads = λ m count ends. reading {s = expr} (plain_looks m t old rest seen plain) (ap (expr_row m) e) (quoted.parts m count ends);
+        shorter = omega (arith, quoted.shorter, ap length (plain_first t old rest seen plain));
+      }
+  quoted_from rest seen quoted _ e h = absurd (cc)
+
+  pub quoted_operand : (rest : List Lookahead) → SeenFrom t old rest → IsQuoted rest left → is_opening_quote t.class ≡ true → IsOperand old left
+  quoted_operand rest seen quoted h = quoted_from rest seen quoted t.class refl h
+
+module _ (t u : Lookahead) (old rest left : List Lookahead) (first : SeenFrom t old rest) (second : SeenFrom u rest left) where
+  quoted_by : (k c : Class) → t.class ≡ k → u.class ≡ c → is_quoted k c ≡ true → IsQuoted old left
+  quoted_by Lit QuoteClose e f h =
+      let lit : is_plain t.class ≡ true = ap is_plain e in
+      let close : is_plain u.class ≡ true = ap is_plain f in
+      record {
+        parts = λ m count ends.
+            let closes : Looks m rest u left = plain_looks m u rest left second close in
+            onward {a = tt {0}} (beside (the EndQuote at m ∷ after at m ∷ []) (reading {s = parts} (plain_looks m t old rest first lit) (ap (parts_row m t.number) e) (vanishing {s = parts} closes (ap (parts_row m u.number) f) (plain_first u rest left second close ∙ sym closes.is))))
+            (onward {a = tt {0}} (beside (after at m ∷ []) (reading {s = the EndQuote} closes (ap (terminal_row EndQuote) f) done)) ((no_steps left).after m count ends));
+        shorter = omega (arith, ap length (plain_first t old rest first lit), ap length (plain_first u rest left second close));
+      }
+  quoted_by _ _ e f h = absurd (cc)
+
+  pub quoted_rest : is_quoted t.class u.class ≡ true → IsQuoted old left
+  quoted_rest h = quoted_by t.class u.class refl refl h
+
+-- what holds of an answer, if there is one, by what is said of it
+pub if_some : (r : Option ℕ) (P Q : ℕ → Type 0) → ((n : ℕ) → P n → Q n) → IfSome r P → IfSome r Q
+if_some None P Q h p = tt
+if_some (Some n) P Q h p = h n p
+
+-- what ends an expression stands at a number
+pub expression_ends : (m : Newlines) (u : Lookahead) (left more : List Lookahead) → SeenFrom u left more → ends_expression m u.class ≡ true → ExpressionEnds m left
+expression_ends m u left more seen ends = record { token = u; more = more; is = seen_there left more u _ (ended m u.class ends).seen seen; ends = ends }

@@ -4,3 +4,4 @@ pub mod Cursors
 pub mod Parsing
 pub mod Pieces
 pub mod Bodies
+pub mod ShortOperands

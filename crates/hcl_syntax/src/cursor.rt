@@ -5,10 +5,11 @@ ghost use Rattle.std.specs.Bool.{OnTrue, OnFalse};
 ghost use Rattle.hcl_grammar.specs.Classes.{lookaheads, lookaheads_from};
 ghost use Rattle.hcl_grammar.specs.Grammar.{fits, ◌at◌, the, expr};
 ghost use Rattle.hcl_syntax.specs.Inner.Cursors.{shown, first, after_first, is_shown};
-ghost use Rattle.hcl_syntax.specs.Inner.Parsing.{Parses, said, TookTerminal, LacksTerminal, is_short_operand, ends_expression};
+ghost use Rattle.hcl_syntax.specs.Inner.Parsing.{Parses, said, TookTerminal, LacksTerminal};
 
 use crate::class::lookahead_at;
 use crate::expected::Refused;
+use crate::short::{ends_expression, operand_end};
 use hcl_grammar::{Class, Lookahead, Newlines, Refusal, Terminal, Word};
 use hcl_tokens::Tokens;
 use std::marker::Model;
@@ -71,34 +72,6 @@ fn fits(terminal: Terminal, class: Class) -> bool
         (Terminal::EndSequence, Class::SeqClose) => true,
         (Terminal::EndQuote, Class::QuoteClose) => true,
         (Terminal::EndHeredoc, Class::HeredocClose) => true,
-        _ => false,
-    }
-}
-
-/// Whether a token of the class is an operand by itself, but for what goes on after it.
-#[inline(always)]
-fn is_short_operand(class: Class) -> bool
-    ensures { result ≡ is_short_operand class }
-{
-    matches!(class, Class::Ident(_) | Class::Number(_))
-}
-
-/// Whether a token of the class goes on with no expression, and isn't passed over.
-#[inline(always)]
-fn ends_expression(newlines: Newlines, class: Class) -> bool
-    ensures { result ≡ ends_expression newlines class }
-{
-    match class {
-        Class::Newline => matches!(newlines, Newlines::Seen),
-        Class::Comma
-        | Class::ParenClose
-        | Class::BracketClose
-        | Class::BraceClose
-        | Class::SeqClose
-        | Class::Assign
-        | Class::Arrow
-        | Class::Colon
-        | Class::Ellipsis => true,
         _ => false,
     }
 }
@@ -189,14 +162,14 @@ impl<'t, 's> Cursor<'t, 's> {
         self.next = token.number as usize + 1;
     }
 
-    /// Reads an expression of one token, where a look at the next two tells that it is one, as in nearly every third place:
+    /// Reads an expression that is one short operand, where the token after it tells that it ends there, as in most places:
     ///
     /// ```text
-    /// count = 2
-    ///         ~ and after it a newline
+    /// count = var.replicas
+    ///         ~~~~~~~~~~~~ and after it a newline
     /// ```
     ///
-    /// False says only that these two don't tell it.
+    /// False says only that these tokens don't tell it. No token is looked at here for two expressions.
     #[inline(always)]
     pub fn takes_short(&mut self, newlines: Newlines) -> bool
         ensures yes { OnTrue result ((count : ℕ)
@@ -204,19 +177,17 @@ impl<'t, 's> Cursor<'t, 's> {
         ensures no { OnFalse result (self.new.left ≡ self.old.left) }
         ensures shorter { OnTrue result (length self.new.left < length self.old.left) }
     {
-        let next = self.next;
-        if self.count - next < 2 {
+        let Some(end) = operand_end(self.tokens, self.count, self.next) else {
+            return false;
+        };
+        if end >= self.count {
             return false;
         }
-        let operand = lookahead_at(self.tokens, next);
-        if !is_short_operand(operand.class) {
-            return false;
-        }
-        let after = lookahead_at(self.tokens, next + 1);
+        let after = lookahead_at(self.tokens, end);
         if !ends_expression(newlines, after.class) {
             return false;
         }
-        self.next = next + 1;
+        self.next = end;
         true
     }
 

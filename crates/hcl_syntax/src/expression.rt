@@ -178,7 +178,7 @@ impl<'t, 's> Cursor<'t, 's> {
         self.expect(Newlines::Dropped, Terminal::EndBracket)
     }
 
-    /// An expression, with so many directives open. It is inlined, so that for one of one token nothing is called.
+    /// An expression, with so many directives open. It is inlined, so that for a short operand nothing is called.
     #[cycle(parser)]
     #[inline(always)]
     pub fn expr(&mut self, newlines: Newlines, directives: usize) -> Result<(), Refused>

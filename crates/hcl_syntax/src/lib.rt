@@ -13,6 +13,7 @@ mod file;
 mod outlining;
 mod piece_end;
 mod pieces;
+mod short;
 mod template;
 mod words;
 

@@ -2,7 +2,7 @@
 use Rattle.std.specs.Prelude.{◌≡◌, ◌<◌, ℕ, zero, suc, ◌+◌, Bool, true, false, List, [], ◌∷◌, ◌++◌, Option, Some, Result, Ok, Err}
 use Rattle.hcl_grammar.specs.declared.class.Lookahead.{Lookahead}
 use Rattle.hcl_grammar.specs.declared.class.Class.{Class}
-use Rattle.hcl_grammar.specs.declared.class.Class.TheVariants.{Ident, Number, Newline, Comma, ParenClose, BracketClose, BraceClose, SeqClose, Assign, Arrow, Colon, Ellipsis, Not, Minus}
+use Rattle.hcl_grammar.specs.declared.class.Class.TheVariants.{Ident, Not, Minus}
 use Rattle.hcl_grammar.specs.declared.class.Word.TheVariants.{Else, Endif, Endfor}
 use Rattle.hcl_grammar.specs.declared.expected.Section.{Section}
 use Rattle.hcl_grammar.specs.declared.expected.Section.TheVariants.{InIf, InElse, InFor}
@@ -81,26 +81,6 @@ abbrev pub is_prefix : Class → Bool
 is_prefix Minus = true
 is_prefix Not = true
 is_prefix _ = false
-
--- an operand by itself, but for what goes on after it
-abbrev pub is_short_operand : Class → Bool
-is_short_operand (Ident w) = true
-is_short_operand (Number d) = true
-is_short_operand _ = false
-
--- no expression goes on with the token, and it isn't passed over
-abbrev pub ends_expression : Newlines → Class → Bool
-ends_expression Seen Newline = true
-ends_expression m Comma = true
-ends_expression m ParenClose = true
-ends_expression m BracketClose = true
-ends_expression m BraceClose = true
-ends_expression m SeqClose = true
-ends_expression m Assign = true
-ends_expression m Arrow = true
-ends_expression m Colon = true
-ends_expression m Ellipsis = true
-ends_expression m _ = false
 
 -- what follows a body's items
 abbrev pub body_symbols : Bool → List Marked
