@@ -1,13 +1,15 @@
 //! What a token means to the walk that finds patterns.
 
-/// What is done at a token. Where nothing is, it may still be what a pattern asks for ahead.
+/// What is done at a token, where what is ahead of it is known.
 #[derive(Clone, Copy)]
 pub enum Part {
-    PassedOver,
+    /// Nothing, but it may be what a pattern asks for ahead.
+    Quiet,
     LineComment,
-    Dot,
-    QuoteOpen,
+    /// A dot before a number.
+    Index,
+    /// The opening quote of an interpolation alone.
+    Alone,
     Opens,
     Closes,
-    Plain,
 }
