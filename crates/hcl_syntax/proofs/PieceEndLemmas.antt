@@ -1,6 +1,6 @@
 -- The newlines ahead, token by token from right to left, and where pieces can begin.
 use Rattle.std.proofs.Common.{◌≡◌, ◌∙◌, ap, sym, refl, ℕ, suc, zero, ◌+◌, ◌-◌, ◌<◌, ◌≤◌, Bool, true, false, cond, min, ap₂, subst, true≢false, List, [], ◌∷◌, ◌++◌, drop, length, get_or, set, replicate, reverse, arith, ◌⊎◌, inl, inr, ◌≢◌}
-use Rattle.std.specs.Prelude.{Some, slice_get, ◌&&◌}
+use Rattle.std.specs.Prelude.{Some, slice_get, ◌&&◌, ◌||◌}
 use Rattle.std.proofs.lemmas.List.{reverse-append, get_or-set_same, get_or-set_other, length-set, length-replicate, drop_all}
 use Rattle.std.proofs.lemmas.Bool.{cases_eq}
 use Rattle.hcl_tokens.specs.Lexemes.{Lexeme}
@@ -8,9 +8,10 @@ use Rattle.hcl_tokens.specs.declared.token.Kind.{Kind}
 use Rattle.hcl_tokens.specs.declared.token.Kind.TheVariants as kind
 use Rattle.hcl_tokens.specs.Kinds.{is}
 use Rattle.hcl_grammar.specs.Items.{deepen, is_closed}
-use Rattle.hcl_tokens.specs.Balanced.{nesting}
+use Rattle.hcl_tokens.specs.Balanced.{is_closes, is_opens, nesting}
+use Rattle.hcl_tokens.specs.declared.token.Nesting.{Nesting}
 use Rattle.hcl_tokens.specs.declared.token.Nesting.TheVariants.{Opens, Closes, Neither}
-use Rattle.hcl_syntax.specs.Inner.Pieces.{AreEnds, ArePassed, CanBegin, first_len, is_passed, leads, newline_from, AreNewlinesAhead}
+use Rattle.hcl_syntax.specs.Inner.Pieces.{AreEnds, CanBegin, first_len, is_passed, leads, newline_from, AreNewlinesAhead}
 use Rattle.hcl_grammar.proofs.NumberedLemmas.{drop_at}
 
 -- what a kind does to the depth
@@ -62,6 +63,19 @@ at_other _ e = record { newline_is = refl; moves = flat }
 -- what neither is a newline nor opens or closes anything is passed over
 pub passed_is : (k other : Kind) → k ≡ other → is kind.Newline k ≡ false → nesting k ≡ Neither → is_passed other ≡ true
 passed_is k other same plain neither = ap is_passed (sym same) ∙ rw (plain, neither) refl
+
+-- what the two tests say of a kind
+pub opens_is : (n : Nesting) → is_opens n ≡ true → n ≡ Opens
+opens_is Opens e = refl
+opens_is _ e = absurd (cc)
+
+pub closes_is : (n : Nesting) → (is_opens n || is_closes n) ≡ true → is_opens n ≡ false → n ≡ Closes
+closes_is Closes e other = refl
+closes_is _ e other = absurd (cc)
+
+pub neither_is : (n : Nesting) → (is_opens n || is_closes n) ≡ false → n ≡ Neither
+neither_is Neither e = refl
+neither_is _ e = absurd (cc)
 
 module _ (ts : List Lexeme) (n : ℕ) (t : Lexeme) (e : slice_get ts n ≡ Some t) where
   from_here : (d : ℕ) → newline_from ts d n ≡ n + cond (is kind.Newline t.kind && is_closed d) 0 (first_len (deepen d t.kind) (drop (n + 1) ts) + 1)
@@ -126,6 +140,16 @@ module _ (ts : List Lexeme) (n : ℕ) (t : Lexeme) (e : slice_get ts n ≡ Some 
   pub top_newline : is kind.Newline t.kind ≡ true → AreNewlinesAhead ts (rest ++ top ∷ []) (n + 1) → AreNewlinesAhead ts (rest ++ n ∷ []) n
   top_newline is = newline ts n t e (rest ++ top ∷ []) rest (rest ++ n ∷ []) is (λ d c. sym (last_after rest top d c)) refl
 
+  -- what neither opens nor closes anything
+  pub top_flat : (next : ℕ) → nesting t.kind ≡ Neither → next ≡ cond (is kind.Newline t.kind) n top → AreNewlinesAhead ts (rest ++ top ∷ []) (n + 1) → AreNewlinesAhead ts (rest ++ next ∷ []) n
+  top_flat next neither chosen h = by (is kind.Newline t.kind) refl
+    where
+      by : (b : Bool) → is kind.Newline t.kind ≡ b → AreNewlinesAhead ts (rest ++ next ∷ []) n
+      by true here = let same : next ≡ n = chosen ∙ ap (λ b. cond b n top) here in subst (λ k. AreNewlinesAhead ts (rest ++ k ∷ []) n) (sym same) (top_newline here h)
+      by false here =
+          let same : next ≡ top = chosen ∙ ap (λ b. cond b n top) here in
+          subst (λ k. AreNewlinesAhead ts (rest ++ k ∷ []) n) (sym same) (passes ts n t e (rest ++ top ∷ []) (passed_is t.kind t.kind refl here neither) h)
+
   pub top_opens : (left : List ℕ) (next count : ℕ) → count ≡ length ts → nesting t.kind ≡ Opens → next ≡ get_or (reverse rest) 0 count → ((i : ℕ) → get_or (reverse left) i count ≡ get_or (reverse rest) (suc i) count)
       → AreNewlinesAhead ts (rest ++ top ∷ []) (n + 1) → AreNewlinesAhead ts (left ++ next ∷ []) n
   top_opens left next count is_count is taken kept = opens ts n t e (rest ++ top ∷ []) (left ++ next ∷ []) is by
@@ -141,11 +165,6 @@ module _ (ts : List Lexeme) (n : ℕ) (t : Lexeme) (e : slice_get ts n ≡ Some 
   top_closes more is pushed = closes ts n t e (rest ++ top ∷ []) (more ++ top ∷ []) top is (sym (last_first rest top (length ts))) (ap (λ r. r ++ top ∷ []) pushed)
 
 -- ---- the table
-
-none_leads : (k : Kind) → is_passed k ≡ true → leads k ≡ true → ⊥
-none_leads kind.Newline e l = absurd (cc)
-none_leads kind.BraceOpen e l = absurd (cc)
-none_leads _ e l = absurd (cc)
 
 pub found : (ts : List Lexeme) (n : ℕ) → n < length ts → (t : Lexeme) × (slice_get ts n ≡ Some t)
 found [] n h = absurd (omega (arith, h))
@@ -171,41 +190,7 @@ starts_filled ts count ends is made = record {
     none zero = is
     none (suc d) = refl
 
--- a token that is passed over leads to no piece
-passed_over : (ts : List Lexeme) (ends ahead : List ℕ) (last n : ℕ) → last ≡ n + 1 → n < length ts → ((t : Lexeme) → slice_get ts n ≡ Some t → is_passed t.kind ≡ true)
-    → IsFilled ts ends ahead last → IsFilled ts ends ahead n
-passed_over ts ends ahead last n at less means h = by (found ts n less)
-  where
-    by : ((t : Lexeme) × (slice_get ts n ≡ Some t)) → IsFilled ts ends ahead n
-    by (t, here) = record {
-      len = h.len;
-      within = omega (arith, less);
-      newlines_ahead = passes ts n t here ahead (means t here) (subst (λ k. AreNewlinesAhead ts ahead k) at h.newlines_ahead);
-      each = λ i above below begins. from i below begins (cases_eq i (n + 1)) above;
-    }
-      where
-        from : (i : ℕ) → i ≤ length ts → CanBegin ts i → (i ≡ n + 1) ⊎ (i ≢ n + 1) → n < i → get_or ends i 0 ≡ newline_from ts 0 i
-        from i below begins (inl e) above = absurd (none_leads t.kind (means t here) (begins n t e here))
-        from i below begins (inr ne) above = h.each i (omega (arith, at, above, ne)) below begins
-
--- nor do many
-pub one_more_passed : (ts : List Lexeme) (n last before : ℕ) (k : Kind) → last ≡ n + 1 → ((t : Lexeme) → slice_get ts n ≡ Some t → k ≡ t.kind) → is_passed k ≡ true → ArePassed ts last before → ArePassed ts n before
-one_more_passed ts n last before k at is passed h = λ i t from below here. by i t from below here (cases_eq i n)
-  where
-    by : (i : ℕ) (t : Lexeme) → n ≤ i → i < before → slice_get ts i ≡ Some t → (i ≡ n) ⊎ (i ≢ n) → is_passed t.kind ≡ true
-    by i t from below here (inl e) = ap is_passed (sym (is t (ap (slice_get ts) (sym e) ∙ here))) ∙ passed
-    by i t from below here (inr ne) = h i t (omega (arith, at, from, ne)) below here
-
-all_passed : (ts : List Lexeme) (ends ahead : List ℕ) (n d last : ℕ) → last ≡ n + d → last ≤ length ts → ArePassed ts n last → IsFilled ts ends ahead last → IsFilled ts ends ahead n
-all_passed ts ends ahead n zero last at within passed h = let e : last ≡ n = omega (arith, at) in subst (λ k. IsFilled ts ends ahead k) e h
-all_passed ts ends ahead n (suc d) last at within passed h =
-    all_passed ts ends ahead n d (n + d) refl (omega (arith, at, within)) (λ k t from below here. passed k t from (omega (arith, at, below)) here)
-    (passed_over ts ends ahead last (n + d) (omega (arith, at)) (omega (arith, at, within)) (λ t here. passed (n + d) t (omega arith) (omega (arith, at)) here) h)
-
-pub passes_all : (ts : List Lexeme) (ends ahead : List ℕ) (n last : ℕ) → n ≤ last → last ≤ length ts → ArePassed ts n last → IsFilled ts ends ahead last → IsFilled ts ends ahead n
-passes_all ts ends ahead n last order within passed h = all_passed ts ends ahead n (last - n) last (omega (arith, order)) within passed h
-
--- after any other the number is put into the table
+-- after each the number is put into the table
 pub fills : (ts : List Lexeme) (old new before ahead : List ℕ) (last n x : ℕ) → last ≡ n + 1 → n < length ts → AreNewlinesAhead ts ahead n → x ≡ get_or (reverse before) 0 (length ts) → new ≡ set old (n + 1) x
     → IsFilled ts old before last → IsFilled ts new ahead n
 fills ts old new before ahead last n x at less next top is h = record {

@@ -6,15 +6,16 @@
 //! ends     10      2   8               8       10      11
 //! ```
 //!
-//! A piece begins with the first token, or after a newline or an opener. All other tokens are passed over by their kind
-//! alone, and their numbers are never asked for.
+//! A piece begins with the first token, or after a newline or an opening brace. The numbers of other tokens are never asked
+//! for.
 
-ghost use Rattle.std.specs.Prelude.{◌≡◌, true, ◌<◌, ◌≤◌, ◌+◌, ◌++◌, ◌∷◌, [], ℕ, suc, List, length, get_or, reverse, slice_get, Some, IfOk};
+ghost use Rattle.std.specs.Prelude.{◌≡◌, ◌≤◌, ◌+◌, ◌++◌, ◌∷◌, ◌||◌, [], ℕ, suc, List, length, get_or, reverse, slice_get, Some, IfOk, if◌then◌else◌};
 ghost use Rattle.hcl_source.specs.Load.{max_source};
+ghost use Rattle.hcl_tokens.specs.Balanced.{is_closer, is_opener};
 ghost use Rattle.hcl_tokens.specs.Lexemes.{Lexeme};
 ghost use Rattle.hcl_tokens.specs.Kinds.{is};
 ghost use Rattle.hcl_tokens.specs.declared.token.Kind.TheVariants.{Newline};
-ghost use Rattle.hcl_syntax.specs.Inner.Pieces.{AreEnds, ArePassed, AreNewlinesAhead, is_passed};
+ghost use Rattle.hcl_syntax.specs.Inner.Pieces.{AreEnds, AreNewlinesAhead};
 
 use hcl_tokens::{Kind, MAX_SOURCE, Nesting, Tokens};
 use std::alloc::{AllocError, Global};
@@ -26,29 +27,41 @@ fn is_newline(kind: Kind) -> bool
     matches!(kind, Kind::Newline)
 }
 
-/// Whether tokens of this kind mean nothing to the search for newlines.
+/// The number of a newline, or else another. Which tokens are newlines no processor foresees, so this takes no branch.
 #[inline(always)]
-fn is_passed(kind: Kind) -> bool
-    ensures { result ≡ is_passed kind }
+fn newline_or(kind: Kind, number: u32, other: u32) -> u32
+    ensures { result ≡ (if is Newline kind then number else other) }
 {
-    !is_newline(kind) && matches!(kind.nesting(), Nesting::Neither)
+    if is_newline(kind) {
+        return number;
+    }
+    other
 }
 
-/// One past the number of the last token before another that means something to the search for newlines, or 0.
+/// Whether a token of this kind opens something or closes it. Few do.
 #[inline(always)]
-fn past_others(tokens: &Tokens<'_>, before: usize) -> usize
-    requires { before ≤ length tokens.now.tokens }
-    ensures within { result ≤ before }
-    ensures passed { ArePassed tokens.now.tokens result before }
+fn is_group(kind: Kind) -> bool
+    ensures { result ≡ (is_opener kind || is_closer kind) }
 {
-    let mut number = before;
-    while number > 0 {
-        if !is_passed(tokens.kind(number - 1)) {
-            return number;
-        }
-        number -= 1;
-    }
-    number
+    matches!(
+        kind,
+        Kind::ParenOpen
+            | Kind::BracketOpen
+            | Kind::BraceOpen
+            | Kind::InterpOpen
+            | Kind::ControlOpen
+            | Kind::ParenClose
+            | Kind::BracketClose
+            | Kind::BraceClose
+            | Kind::SeqClose
+    )
+}
+
+#[inline(always)]
+fn is_opener(kind: Kind) -> bool
+    ensures { result ≡ is_opener kind }
+{
+    matches!(kind.nesting(), Nesting::Opens)
 }
 
 /// How many tokens there are. Four bytes hold it, since there are no more tokens than bytes of the source.
@@ -75,7 +88,7 @@ fn take_last(numbers: &mut Vec<u32>, other: u32) -> u32
 
 /// Goes over a token from right to left, where `top` is the first newline outside all openers, and `rest` has the first one
 /// where one opener is open last, before it the first one where two are, and so on; where it has no more, there is none.
-/// Gives the new `top`. Newlines are the most frequent, so they are asked for first.
+/// Gives the new `top`.
 #[inline(always)]
 fn pass(
     kind: Kind,
@@ -89,21 +102,18 @@ fn pass(
         → AreNewlinesAhead tokens (rest.old.items ++ top ∷ []) (number + 1)
         → IfOk result (λ next. AreNewlinesAhead tokens (rest.new.items ++ next ∷ []) number) }
 {
-    if is_newline(kind) {
-        return Ok(number);
+    if !is_group(kind) {
+        return Ok(newline_or(kind, number, top));
     }
-    match kind.nesting() {
-        Nesting::Opens => Ok(take_last(rest, count)),
-        Nesting::Closes => {
-            rest.push(top)?;
-            Ok(top)
-        }
-        Nesting::Neither => Ok(top),
+    if is_opener(kind) {
+        return Ok(take_last(rest, count));
     }
+    rest.push(top)?;
+    Ok(top)
 }
 
 /// For each place where a piece can begin the number of the first newline from there on outside all openers, or how many
-/// tokens there are.
+/// tokens there are. At other places there may be any number: to leave them out would take a branch at each token.
 pub fn newlines(alloc: Global, tokens: &Tokens<'_>) -> Result<Vec<u32>, AllocError>
     ensures { IfOk result (λ ends. AreEnds tokens.now.tokens ends.items) }
 {
@@ -111,12 +121,12 @@ pub fn newlines(alloc: Global, tokens: &Tokens<'_>) -> Result<Vec<u32>, AllocErr
     let mut ends = vec![in alloc; 0; count as usize + 1]?;
     let mut rest = Vec::new(alloc);
     let mut top = count;
-    let mut next = past_others(tokens, tokens.len());
+    let mut next = tokens.len();
     while next > 0 {
         let number = next - 1;
         ends[next] = top;
         top = pass(tokens.kind(number), count, number as u32, top, &mut rest)?;
-        next = past_others(tokens, number);
+        next = number;
     }
     ends[0] = top;
     Ok(ends)

@@ -29,10 +29,6 @@ pub record IsFirst (tokens : List Lexeme) (from to : ℕ) (word : NumberedKind) 
 abbrev pub is_passed : Kind → Bool
 is_passed k = not (is kind.Newline k || is_opener k || is_closer k)
 
--- the tokens from a number on to before another mean nothing to it
-abbrev pub ArePassed : List Lexeme → ℕ → ℕ → Type 0
-ArePassed tokens from to = (k : ℕ) (t : Lexeme) → from ≤ k → k < to → slice_get tokens k ≡ Some t → is_passed t.kind ≡ true
-
 -- how many tokens stand before the first newline outside all openers, where so many are open
 abbrev pub first_len : ℕ → List Lexeme → ℕ
 first_len depth [] = 0

@@ -1,6 +1,6 @@
-use Rattle.std.proofs.Common.{◌∙◌, ◌+◌, ◌-◌, ◌<◌, ◌≤◌, ◌≡◌, ◌∷◌, ◌++◌, [], List, ℕ, ap, length, refl, replicate, set, subst, sym, arith}
+use Rattle.std.proofs.Common.{◌∙◌, ◌+◌, ◌-◌, ◌<◌, ◌≡◌, ◌∷◌, ◌++◌, [], List, ℕ, ap, length, refl, replicate, set, subst, sym, arith}
 use Rattle.hcl_syntax.specs.Inner.Pieces.{AreNewlinesAhead}
-use Rattle.hcl_syntax.proofs.PieceEndLemmas.{IsFilled, filled, fills, found, last_first, passes_all, starts_filled}
+use Rattle.hcl_syntax.proofs.PieceEndLemmas.{IsFilled, filled, fills, found, last_first, starts_filled}
 use Rattle.hcl_syntax.proofs.piece_end.newlines.Goals as goal
 
 pub loop-next-init : goal.loop-next-init
@@ -8,12 +8,10 @@ loop-next-init c =
     let ts = c.args.tokens.now.tokens in
     let count = c.token_count-count.result in
     let made : c.in_ok-ends.ends.items ≡ replicate (count + 1) 0 = c.in_ok-ends.ensures.items_if_clones_equal (λ y same. same) in
-    let all : count ≡ c.len.result = c.token_count-count.ensures.is ∙ sym c.len.ensures.len in
-    let within : c.len.result ≤ length ts = omega (arith, c.len.ensures.len) in
+    let all : count ≡ c.len-next.result = c.token_count-count.ensures.is ∙ sym c.len-next.ensures.len in
     let none : count ∷ [] ≡ c.new-rest.result.items ++ count ∷ [] = ap (λ (r : List ℕ). r ++ count ∷ []) (sym c.new-rest.ensures.items) in
     let start = subst (λ k. IsFilled ts c.in_ok-ends.ends.items (count ∷ []) k) all (starts_filled ts count c.in_ok-ends.ends.items c.token_count-count.ensures.is made) in
-    let here = subst (λ (r : List ℕ). IsFilled ts c.in_ok-ends.ends.items r c.len.result) none start in
-    passes_all ts c.in_ok-ends.ends.items (c.new-rest.result.items ++ count ∷ []) c.past_others-next.result c.len.result c.past_others-next.ensures.within within c.past_others-next.ensures.passed here
+    subst (λ (r : List ℕ). IsFilled ts c.in_ok-ends.ends.items r c.len-next.result) none start
 
 pub loop-next-preserved : goal.loop-next-preserved
 loop-next-preserved c =
@@ -25,10 +23,9 @@ loop-next-preserved c =
     let old : List ℕ = c.loop-next.rest.items ++ c.loop-next.top ∷ [] in
     let new : List ℕ = c.pass.new.rest.items ++ c.in_ok-top.top ∷ [] in
     let ahead : AreNewlinesAhead ts old (n + 1) = subst (λ k. AreNewlinesAhead ts old k) at c.loop-next.invariant.newlines_ahead in
-    let noted = fills ts c.loop-next.ends.items (set c.loop-next.ends.items c.loop-next.next c.loop-next.top) old new c.loop-next.next n c.loop-next.top at less
+    fills ts c.loop-next.ends.items (set c.loop-next.ends.items c.loop-next.next c.loop-next.top) old new c.loop-next.next n c.loop-next.top at less
     (c.in_ok-top.ensures ts here.0 c.token_count-count.ensures.is here.1 (c.kind.ensures here.0 here.1) ahead) (sym (last_first c.loop-next.rest.items c.loop-next.top (length ts)))
-    (ap (λ k. set c.loop-next.ends.items k c.loop-next.top) at) c.loop-next.invariant in
-    passes_all ts (set c.loop-next.ends.items c.loop-next.next c.loop-next.top) new c.past_others-next-in-loop-next.result n c.past_others-next-in-loop-next.ensures.within (omega (arith, less)) c.past_others-next-in-loop-next.ensures.passed noted
+    (ap (λ k. set c.loop-next.ends.items k c.loop-next.top) at) c.loop-next.invariant
 
 pub returns : goal.returns
 returns c =

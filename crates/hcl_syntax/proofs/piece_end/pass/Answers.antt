@@ -1,21 +1,21 @@
-use Rattle.std.proofs.Common.{◌∙◌, ◌∷◌, ◌++◌, [], ap, sym}
+use Rattle.std.proofs.Common.{◌∙◌, ap, sym, cond}
 use Rattle.hcl_tokens.specs.Kinds.{is}
 use Rattle.hcl_tokens.specs.Balanced.{nesting}
 use Rattle.hcl_tokens.specs.declared.token.Kind.TheVariants as kind
-use Rattle.hcl_syntax.proofs.PieceEndLemmas.{passed_is, passes, top_closes, top_newline, top_opens}
+use Rattle.hcl_syntax.proofs.PieceEndLemmas.{closes_is, neither_is, opens_is, top_closes, top_flat, top_opens}
 use Rattle.hcl_syntax.proofs.piece_end.pass.Goals as goal
 
-pub returns-then-is_newline : goal.returns-then-is_newline
-returns-then-is_newline c = λ ts t count at means. top_newline ts c.args.number t at c.args.rest.now.items c.args.top (ap (is kind.Newline) (sym means) ∙ sym c.is_newline.ensures ∙ c.if-is_newline.true)
+pub returns-then-not-is_group : goal.returns-then-not-is_group
+returns-then-not-is_group c = λ ts t count at means.
+    top_flat ts c.args.number t at c.args.rest.now.items c.args.top c.newline_or.result (ap nesting (sym means) ∙ neither_is (nesting c.args.kind) (sym c.is_group.ensures ∙ c.if-not-is_group.true))
+    (c.newline_or.ensures ∙ ap (λ k. cond (is kind.Newline k) c.args.number c.args.top) means)
 
-pub returns-in-Opens : goal.returns-in-Opens
-returns-in-Opens c = λ ts t count at means.
-    top_opens ts c.args.number t at c.args.rest.now.items c.args.top c.take_last.new.numbers.items c.take_last.result c.args.count count (ap nesting (sym means) ∙ sym c.nesting.ensures ∙ c.in-Opens.is) c.take_last.ensures.taken c.take_last.ensures.left
+pub returns-then-is_opener : goal.returns-then-is_opener
+returns-then-is_opener c = λ ts t count at means.
+    top_opens ts c.args.number t at c.args.rest.now.items c.args.top c.take_last.new.numbers.items c.take_last.result c.args.count count (ap nesting (sym means) ∙ opens_is (nesting c.args.kind) (sym c.is_opener.ensures ∙ c.if-is_opener.true)) c.take_last.ensures.taken
+    c.take_last.ensures.left
 
-pub returns-in_ok-push-in-Closes : goal.returns-in_ok-push-in-Closes
-returns-in_ok-push-in-Closes c = λ ts t count at means.
-    top_closes ts c.args.number t at c.args.rest.now.items c.args.top c.push.new.self.items (ap nesting (sym means) ∙ sym c.nesting.ensures ∙ c.in-Closes.is) c.in_ok-push-in-Closes.ensures.items
-
-pub returns-in-Neither : goal.returns-in-Neither
-returns-in-Neither c = λ ts t count at means.
-    passes ts c.args.number t at (c.args.rest.now.items ++ c.args.top ∷ []) (passed_is _ _ means (sym c.is_newline.ensures ∙ c.if-is_newline.false) (sym c.nesting.ensures ∙ c.in-Neither.is))
+pub returns : goal.returns
+returns c = λ ts t count at means.
+    top_closes ts c.args.number t at c.args.rest.now.items c.args.top c.push.new.self.items
+    (ap nesting (sym means) ∙ closes_is (nesting c.args.kind) (sym c.is_group.ensures ∙ c.if-not-is_group.false) (sym c.is_opener.ensures ∙ c.if-is_opener.false)) c.in_ok-push.ensures.items
