@@ -74,10 +74,11 @@ pub(crate) fn continuing_run(seen: &[u8]) -> usize
     let v = u8x16::from_slice(seen);
     // the one bit by which upper case differs from lower case
     let lower = v | u8x16::splat(0x20);
-    let others = (lower - u8x16::splat(b'a')).simd_ge(u8x16::splat(26))
+    // what takes most steps comes last: the next token waits for it
+    let others = v.simd_ne(u8x16::splat(b'_'))
+        & v.simd_ne(u8x16::splat(b'-'))
         & (v - u8x16::splat(b'0')).simd_ge(u8x16::splat(10))
-        & v.simd_ne(u8x16::splat(b'_'))
-        & v.simd_ne(u8x16::splat(b'-'));
+        & (lower - u8x16::splat(b'a')).simd_ge(u8x16::splat(26));
     first_set(others.to_bitmask())
 }
 

@@ -294,6 +294,7 @@ impl<'s, 'k> Scanner<'s, 'k> {
     }
 
     /// Reads what opens something, heredocs aside.
+    #[inline(always)]
     fn read_opener(&mut self, entry: Entry, by: Opener) -> Result<(), Stopped>
         requires sound { IsSound self.old }
         requires next { IsNext self.old entry }
@@ -381,6 +382,10 @@ impl<'s, 'k> Scanner<'s, 'k> {
         if !opens_or_closes(entry.kind) {
             self.read_plain(entry);
             return Ok(());
+        }
+        // Most of what opens is a quote, and the rest is told apart by a table.
+        if matches!(entry.kind, Kind::QuoteOpen) {
+            return self.read_opener(entry, Opener::Quote);
         }
         if let Some(by) = opener(entry.kind) {
             return self.read_opener(entry, by);

@@ -152,6 +152,7 @@ fn template_in(reading: Reading) -> Option<bool>
 }
 
 /// How the text is read in a bracket: as the expression around it.
+#[inline(always)]
 fn reading_in_group(around: Reading) -> Reading
     ensures { result ≡ group_reading around }
 {
@@ -163,6 +164,7 @@ fn reading_in_group(around: Reading) -> Reading
 }
 
 /// How the text is read in what this opens.
+#[inline(always)]
 fn reading_on(by: Opener, around: Reading) -> Reading
     ensures { result ≡ reading_on by around }
 {
@@ -290,6 +292,7 @@ impl<'k> Stack<'k> {
     }
 
     /// Puts what opens here on top.
+    #[inline(always)]
     pub fn open(&mut self, by: Opener, at: u32)
         requires { length self.old < max_open }
         ensures { self.new ≡ opened_on by at self.old }

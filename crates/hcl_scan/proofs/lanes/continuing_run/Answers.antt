@@ -13,10 +13,9 @@ returns-clause-count c =
     let all : v ≡ seen = whole seen c.requires in
     let size : length v ≡ 16 = ap length all ∙ c.requires in
     run_is continues_ascii _ v _ (subst (λ l. (k : ℕ) → Fits w8 (get_or l k 0)) (sym all) c.type_inv.seen) size
-    (zip2_of_maps bit_and _ _ v (zip2_of_maps bit_and _ _ v (zip2_of_maps bit_and _ _ v
-    (zip2_of_maps (λ a b. cond (leb a b) 255 0) _ _ v (splat_is_map v 16 _ size) (zip2_of_maps _ _ _ v (zip2_splat {Y = ℕ} _ v 16 _ size) (splat_is_map v 16 _ size)))
+    (zip2_of_maps bit_and _ _ v (zip2_of_maps bit_and _ _ v (zip2_of_maps bit_and _ _ v (zip2_splat {Y = ℕ} _ v 16 _ size) (zip2_splat {Y = ℕ} _ v 16 _ size))
     (zip2_of_maps (λ a b. cond (leb a b) 255 0) _ _ v (splat_is_map v 16 _ size) (zip2_splat {Y = ℕ} _ v 16 _ size)))
-    (zip2_splat {Y = ℕ} _ v 16 _ size)) (zip2_splat {Y = ℕ} _ v 16 _ size)) refl
+    (zip2_of_maps (λ a b. cond (leb a b) 255 0) _ _ v (splat_is_map v 16 _ size) (zip2_of_maps _ _ _ v (zip2_splat {Y = ℕ} _ v 16 _ size) (splat_is_map v 16 _ size)))) refl
     c.first_set.result c.first_set.ensures ∙ ap (prefix_len continues_ascii) all
 
 pub returns-clause-within : goal.returns-clause-within
