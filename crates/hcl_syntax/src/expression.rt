@@ -34,6 +34,7 @@ impl<'t, 's> Cursor<'t, 's> {
 
     /// An expression up to where its first operand ends.
     #[cycle(parser)]
+    #[inline(always)]
     fn operand(&mut self, newlines: Newlines, directives: usize) -> Result<(), Refused>
         ensures leads { Advances directives (expr at newlines ∷ []) self.old.left
             (said result self.new.refusal) (after at newlines ∷ []) self.new.left }
