@@ -93,7 +93,7 @@ fn continuing_few(bytes: &[u8]) -> usize
     bytes.iter().take_while(|b| continues_ascii(**b)).count()
 }
 
-/// The same, many at a time. Most identifiers end in the first load, so where they end no branch depends on it.
+/// The same, many at a time. Most identifiers end in the first load, so no branch depends on where they end.
 #[inline(always)]
 fn continuing_ascii(bytes: &[u8]) -> usize
     ensures { result ≡ prefix_len continues_ascii bytes.now }

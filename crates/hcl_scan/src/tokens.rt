@@ -31,8 +31,8 @@ fn no_entries(alloc: Global, source: &Source) -> Result<Entries, ScanError>
     }
 }
 
-/// Puts literal text and a closing quote last, where they come next. After most opening quotes they do, so no look at what
-/// comes next has to tell each apart.
+/// Puts literal text and a closing quote last, where they come next, as they do after most opening quotes: so the general
+/// step isn't asked twice more.
 #[inline(always)]
 fn push_quoted(scanner: &mut Scanner<'_, '_>, entries: &mut Entries) -> Result<(), AllocError>
     requires { HasRead scanner.old.text.now entries.old scanner.old }

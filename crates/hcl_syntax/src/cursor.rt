@@ -169,7 +169,7 @@ impl<'t, 's> Cursor<'t, 's> {
     ///         ~~~~~~~~~~~~ and after it a newline
     /// ```
     ///
-    /// False says only that these tokens don't tell it. No token is looked at here for two expressions.
+    /// False says only that these tokens don't tell it. No token is looked at here for more than two expressions.
     #[inline(always)]
     pub fn takes_short(&mut self, newlines: Newlines) -> bool
         ensures yes { OnTrue result ((count : ℕ)

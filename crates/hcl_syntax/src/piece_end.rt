@@ -27,7 +27,7 @@ fn is_newline(kind: Kind) -> bool
     matches!(kind, Kind::Newline)
 }
 
-/// The number of a newline, or else another. Which tokens are newlines no processor foresees, so this takes no branch.
+/// The number of a newline, or else another. No processor can predict which tokens are newlines, so this compiles to no branch.
 #[inline(always)]
 fn newline_or(kind: Kind, number: u32, other: u32) -> u32
     ensures { result ≡ (if is Newline kind then number else other) }
@@ -40,7 +40,7 @@ fn newline_or(kind: Kind, number: u32, other: u32) -> u32
 
 /// Whether a token of this kind opens something or closes it. Few do.
 #[inline(always)]
-fn is_group(kind: Kind) -> bool
+fn changes_depth(kind: Kind) -> bool
     ensures { result ≡ (is_opener kind || is_closer kind) }
 {
     matches!(
@@ -102,7 +102,7 @@ fn pass(
         → AreNewlinesAhead tokens (rest.old.items ++ top ∷ []) (number + 1)
         → IfOk result (λ next. AreNewlinesAhead tokens (rest.new.items ++ next ∷ []) number) }
 {
-    if !is_group(kind) {
+    if !changes_depth(kind) {
         return Ok(newline_or(kind, number, top));
     }
     if is_opener(kind) {

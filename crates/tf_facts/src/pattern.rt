@@ -14,7 +14,7 @@ ghost use Rattle.hcl_grammar.specs.Numbered.{is_passed_over, numbered};
 ghost use Rattle.tf_facts.specs.Comments.{comments};
 ghost use Rattle.tf_facts.specs.Found.{comment};
 ghost use Rattle.tf_facts.specs.Patterns.{legacy_indexes, wrapped_interpolations};
-ghost use Rattle.tf_facts.specs.Inner.Closings.{is_quiet, is_telling, part_of};
+ghost use Rattle.tf_facts.specs.Inner.Closings.{is_quiet, needs_work, part_of};
 
 use crate::comment::put_comment;
 use crate::found::FoundComment;
@@ -50,8 +50,8 @@ fn is_interpolation(kind: Kind) -> bool
 /// Whether there is more to do at every token of this kind than to know it: at a line comment, and at what opens or closes
 /// a group.
 #[inline(always)]
-fn is_telling(kind: Kind) -> bool
-    ensures { result ≡ is_telling kind }
+fn needs_work(kind: Kind) -> bool
+    ensures { result ≡ needs_work kind }
 {
     matches!(
         kind,
@@ -68,18 +68,18 @@ fn is_telling(kind: Kind) -> bool
     )
 }
 
-/// Whether there is no more to do at a token than to know it as what is ahead of those before it. So it is with most, and
-/// no processor foresees with which: so this is found without a branch.
+/// Whether there is no more to do at a token than to know it as what is ahead of those before it. Most are so, and no
+/// processor can predict which, so this compiles to no branch.
 #[inline(always)]
 fn is_quiet(kind: Kind, next: Kind, is_closed: bool) -> bool
     ensures { result ≡ is_quiet kind next is_closed }
 {
     let is_index = is_dot(kind) & is_number(next);
     let is_alone = is_quote_open(kind) & is_interpolation(next) & is_closed;
-    !(is_telling(kind) | is_index | is_alone)
+    !(needs_work(kind) | is_index | is_alone)
 }
 
-/// What is done at a token. Only of a few kinds it is told by branches.
+/// What is done at a token. Only a few kinds are told apart by branches.
 #[inline(always)]
 fn part_of(kind: Kind, next: Kind, is_closed: bool) -> Part
     ensures { result ≡ part_of kind next is_closed }

@@ -23,13 +23,13 @@ abbrev pub AreAhead : List Lexeme → List Bool → ℕ → Type 0
 AreAhead tokens ahead n = (depth : ℕ) → get_or (reverse ahead) depth false ≡ closes_before_quote tokens depth n
 
 -- there is more to do at every token of the kind than to know it
-abbrev pub is_telling : Kind → Bool
-is_telling k = is kind.LineComment k || is_opener k || is_closer k
+abbrev pub needs_work : Kind → Bool
+needs_work k = is kind.LineComment k || is_opener k || is_closer k
 
 -- and there isn't at this token, with `next` ahead of it
 abbrev pub is_quiet : Kind → Kind → Bool → Bool
 is_quiet k next closed =
-    not (is_telling k || (is kind.Dot k && is kind.Number next) || (is kind.QuoteOpen k && is kind.InterpOpen next && closed))
+    not (needs_work k || (is kind.Dot k && is kind.Number next) || (is kind.QuoteOpen k && is kind.InterpOpen next && closed))
 
 -- what is done at a token, with `next` ahead of it
 abbrev pub part_of : Kind → Kind → Bool → Part
