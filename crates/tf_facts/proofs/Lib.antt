@@ -5,6 +5,7 @@ pub mod CutLemmas
 pub mod FrontLemmas
 pub mod OwnLemmas
 pub mod CollectLemmas
+pub mod NamedLemmas
 pub mod ClosingLemmas
 pub mod PatternLemmas
 pub mod BodyLemmas

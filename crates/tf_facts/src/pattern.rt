@@ -14,7 +14,7 @@ ghost use Rattle.hcl_grammar.specs.Numbered.{is_passed_over, numbered};
 ghost use Rattle.tf_facts.specs.Comments.{comments};
 ghost use Rattle.tf_facts.specs.Found.{comment};
 ghost use Rattle.tf_facts.specs.Patterns.{legacy_indexes, wrapped_interpolations};
-ghost use Rattle.tf_facts.specs.Inner.Closings.{is_quiet, needs_work, part_of};
+ghost use Rattle.tf_facts.specs.Inner.Closings.{is_plain, is_quiet, needs_work, part_of};
 
 use crate::comment::put_comment;
 use crate::found::FoundComment;
@@ -68,8 +68,16 @@ fn needs_work(kind: Kind) -> bool
     )
 }
 
-/// Whether there is no more to do at a token than to know it as what is ahead of those before it. Most are so, and no
-/// processor can predict which, so this compiles to no branch.
+/// Whether there is no more to do at a token of this kind than to know it, whatever is ahead of it. Most are so.
+#[inline(always)]
+fn is_plain(kind: Kind) -> bool
+    ensures { result ≡ is_plain kind }
+{
+    !(needs_work(kind) | is_dot(kind) | is_quote_open(kind))
+}
+
+/// Whether there is no more to do at a token than to know it as what is ahead of those before it. Most dots and opening
+/// quotes are so, and no processor can predict which, so this compiles to no branch.
 #[inline(always)]
 fn is_quiet(kind: Kind, next: Kind, is_closed: bool) -> bool
     ensures { result ≡ is_quiet kind next is_closed }
@@ -84,7 +92,7 @@ fn is_quiet(kind: Kind, next: Kind, is_closed: bool) -> bool
 fn part_of(kind: Kind, next: Kind, is_closed: bool) -> Part
     ensures { result ≡ part_of kind next is_closed }
 {
-    if is_quiet(kind, next, is_closed) {
+    if is_plain(kind) || is_quiet(kind, next, is_closed) {
         return Part::Quiet;
     }
     match kind {

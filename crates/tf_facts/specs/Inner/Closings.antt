@@ -26,6 +26,10 @@ AreAhead tokens ahead n = (depth : ℕ) → get_or (reverse ahead) depth false �
 abbrev pub needs_work : Kind → Bool
 needs_work k = is kind.LineComment k || is_opener k || is_closer k
 
+-- there isn't at any token of the kind
+abbrev pub is_plain : Kind → Bool
+is_plain k = not (needs_work k || is kind.Dot k || is kind.QuoteOpen k)
+
 -- and there isn't at this token, with `next` ahead of it
 abbrev pub is_quiet : Kind → Kind → Bool → Bool
 is_quiet k next closed =
