@@ -27,6 +27,11 @@ module _ {A B : Type 0} (f : A → List B) (xs : List A) where
   pub put_all : (i : ℕ) (base new : List B) → length xs ≤ i → new ≡ base ++ flat_map f (take i xs) → new ≡ base ++ flat_map f xs
   put_all i base new past so_far = so_far ∙ ap (λ ys. base ++ flat_map f ys) (take_all i xs past)
 
+-- ---- lists put one after another
+
+pub put_before : {X : Type 0} (old new xs rest : List X) → new ≡ old ++ xs → new ++ rest ≡ old ++ (xs ++ rest)
+put_before old new xs rest e = ap (λ l. l ++ rest) e ∙ append_assoc old xs rest
+
 -- ---- the list that was put
 
 pub put_map : {A B C D : Type 0} (g : B → List C) (k : A → B) (h : C → D) (xs : List A) → flat_map (λ x. map h (g (k x))) xs ≡ map h (flat_map g (map k xs))

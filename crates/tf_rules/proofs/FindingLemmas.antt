@@ -154,18 +154,3 @@ module _ {P : Type 0} (naming : Naming) (used others : List (List ℕ)) (same : 
   findings_same k NamingConvention = over_same NamingConvention k.declarations
   findings_same k TypedVariables = over_same TypedVariables k.declarations
   findings_same k UnusedDeclarations = over_same UnusedDeclarations k.declarations
-
--- ---- the rules that go by declarations
-
-pub findings_declared : {P : Type 0} (naming : Naming) (used : List (List ℕ)) (k : Facts P) (rule : Rule) → (rule ≡ CommentSyntax → ⊥) → (rule ≡ DeprecatedIndex → ⊥) → (rule ≡ DeprecatedInterpolation → ⊥)
-    → flat_map (finding naming used rule) k.declarations ≡ findings naming used k rule
-findings_declared naming used k CommentSyntax a b c = absurd (a refl)
-findings_declared naming used k DeprecatedIndex a b c = absurd (b refl)
-findings_declared naming used k DeprecatedInterpolation a b c = absurd (c refl)
-findings_declared naming used k DocumentedOutputs a b c = refl
-findings_declared naming used k DocumentedVariables a b c = refl
-findings_declared naming used k ModulePinnedSource a b c = refl
-findings_declared naming used k ModuleVersion a b c = refl
-findings_declared naming used k NamingConvention a b c = refl
-findings_declared naming used k TypedVariables a b c = refl
-findings_declared naming used k UnusedDeclarations a b c = refl

@@ -8,6 +8,7 @@ pub mod ColumnClusterLemmas
 pub mod WalkLemmas
 pub mod PlaceLemmas
 pub mod EntryLemmas
+pub mod ExchangeLemmas
 pub mod SaidLemmas
 pub mod SortLemmas
 pub mod SilencedLemmas

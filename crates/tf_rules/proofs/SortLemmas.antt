@@ -6,7 +6,7 @@ use Rattle.std.specs.Ordering.{is_lt, nat_cmp, ordering_then}
 use Rattle.std.specs.declared.cmp.Ordering.{Ordering}
 use Rattle.std.specs.declared.cmp.Ordering.TheVariants.{Less, Equal, Greater}
 use Rattle.std.proofs.lemmas.Bool.{and_parts, and_from, cases_order, eqb-true, eq-eqb, lt-ltb, le-ltb}
-use Rattle.std.proofs.lemmas.List.Sorted.{Contains-permutation, IsPermutation-map, IsPermutation-sym, sum_by-IsPermutation}
+use Rattle.std.proofs.lemmas.List.Sorted.{Contains-permutation, IsPermutation-map, IsPermutation-sym, IsPermutation-trans, sum_by-IsPermutation}
 use Rattle.std.proofs.lemmas.List.Sums.{sum_by-cons}
 use Rattle.tf_rules.specs.Ordered.{Member, SameMembers, BeforeAll, Ascends}
 use Rattle.tf_rules.specs.Issues.{Asked, File, Issue, Key, key_of, Precedes, Before, IsReport, issues}
@@ -211,13 +211,13 @@ module _ {X : Type 0} where
           by true r = (filter_before x xs h.0, r)
           by false r = r
 
--- THE LAW: sorted entries whose keys are apart, without the silenced, are the ordered list
-pub is_report : (asked : Asked) (files : List File) (p : Issue → Bool) (entries sorted : List Entry) → issues asked files ≡ filter p (issues_of entries) → Ascends Differ (issues_of entries)
-    → IsPermutation entries sorted → IsSorted entry_cmp sorted → IsReport asked files (filter p (issues_of sorted))
-is_report asked files p entries sorted is apart permutation order =
-    let moved : IsPermutation (issues_of entries) (issues_of sorted) = IsPermutation-map issue_of entries sorted permutation in
+-- THE LAW: sorted entries of issues whose keys are apart, without the silenced, are the ordered list
+pub is_report : (asked : Asked) (files : List File) (p : Issue → Bool) (found : List Issue) (entries sorted : List Entry) → issues asked files ≡ filter p found → Ascends Differ found
+    → IsPermutation found (issues_of entries) → IsPermutation entries sorted → IsSorted entry_cmp sorted → IsReport asked files (filter p (issues_of sorted))
+is_report asked files p found entries sorted is apart listed permutation order =
+    let moved : IsPermutation found (issues_of sorted) = IsPermutation-trans found (issues_of entries) (issues_of sorted) listed (IsPermutation-map issue_of entries sorted permutation) in
     let P : List Issue → Type 0 = λ is. SameMembers is (filter p (issues_of sorted)) in
     record {
-      members = subst P (sym is) (filter_members p (issues_of entries) (issues_of sorted) (permuted_members (issues_of entries) (issues_of sorted) moved));
-      ordered = filter_ascends p Before (issues_of sorted) (sorted_ascends sorted order (differ_permuted (issues_of entries) (issues_of sorted) moved apart));
+      members = subst P (sym is) (filter_members p found (issues_of sorted) (permuted_members found (issues_of sorted) moved));
+      ordered = filter_ascends p Before (issues_of sorted) (sorted_ascends sorted order (differ_permuted found (issues_of sorted) moved apart));
     }

@@ -1,7 +1,7 @@
 //! What is kept of the files of a module, and the issues that it gives.
 
-ghost use Rattle.std.specs.Prelude.{◌≡◌, ◌≤◌, ◌<◌, ◌+◌, ◌++◌, [], List, filter, map, IfOk, OnOk, OnErr, if◌then◌else◌};
-ghost use Rattle.std.specs.List.{flat_map};
+ghost use Rattle.std.specs.Prelude.{◌≡◌, ◌≤◌, ◌<◌, ◌+◌, ◌++◌, List, IsPermutation, map, IfOk, OnOk, OnErr};
+ghost use Rattle.std.specs.List.{flat_map, list_any};
 ghost use Rattle.std.specs.Vec.{vec_capacity, vec_len};
 ghost use Rattle.hcl_grammar.specs.Items.{outline};
 ghost use Rattle.hcl_grammar.specs.Numbered.{numbered};
@@ -10,8 +10,8 @@ ghost use Rattle.tf_rules.specs.Findings.{findings};
 ghost use Rattle.tf_rules.specs.Issues.{File, asked_of};
 ghost use Rattle.tf_rules.specs.Kept.{issue_at, kept_of, nothing, with_file};
 ghost use Rattle.tf_facts.specs.References.{references};
-ghost use Rattle.rule_set.specs.RuleSets.{holds};
-ghost use Rattle.tf_rules.specs.Inner.Entries.{issues_of};
+ghost use Rattle.rule_set.specs.RuleSets.{holds, rules_of};
+ghost use Rattle.tf_rules.specs.Inner.Entries.{declared_rules, issues_by, issues_declared, issues_of};
 ghost use Rattle.tf_rules.specs.Inner.KeptFacts.{kept_facts, with_found};
 
 use crate::entry::Entry;
@@ -20,13 +20,12 @@ use crate::issue::Issue;
 use crate::issue_list::IssueList;
 use crate::kept::{KeptComment, KeptDeclaration, TokenPlace};
 use crate::kept_file::{KeptFile, kept_file};
-use crate::naming::Naming;
 use crate::order::in_order;
 use crate::owned_issues::owned_issues;
 use crate::settings::Settings;
 use crate::silenced::{shown_entries, silenced_lines};
 use hcl_syntax::{Accepted, Outline, outline};
-use rule_set::{ALL_RULES, Rule};
+use rule_set::{Rule, RuleSet};
 use std::alloc::{AllocError, Global};
 use std::marker::Model;
 use std::mem::swap;
@@ -61,6 +60,9 @@ impl Model for Facts {
     } };
 }
 
+/// How many entries the list has room for at most at first: one a declaration. It grows where there are more.
+const MOST_ROOM: usize = 256;
+
 /// Makes room in a list for so many more. An empty list needs none, since the list of more takes its place.
 fn make_room<T>(list: &mut Vec<T>, more: usize) -> Result<(), AllocError>
     ensures same { list.new.items ≡ list.old.items }
@@ -85,6 +87,29 @@ fn move_to_end<T>(from: &mut Vec<T>, into: &mut Vec<T>)
     let Ok(()) = into.append(from) else {
         unreachable!();
     };
+}
+
+/// Whether a rule that goes by declarations is asked for.
+fn asks_of_declarations(rules: RuleSet) -> bool
+    ensures { result ≡ list_any (holds rules) declared_rules }
+{
+    rules.holds(Rule::DocumentedOutputs)
+        | rules.holds(Rule::DocumentedVariables)
+        | rules.holds(Rule::ModuleVersion)
+        | rules.holds(Rule::NamingConvention)
+        | rules.holds(Rule::TypedVariables)
+        | rules.holds(Rule::UnusedDeclarations)
+        | rules.holds(Rule::ModulePinnedSource)
+}
+
+/// How many entries there is room for at first, where there are so many declarations.
+fn first_room(settings: &Settings, declarations: usize) -> usize
+    ensures { result ≤ declarations }
+{
+    if !asks_of_declarations(settings.rules) {
+        return 0;
+    }
+    declarations.min(MOST_ROOM)
 }
 
 impl Facts {
@@ -161,75 +186,96 @@ impl Facts {
         self.add_outlined(number, accepted, &items)
     }
 
-    /// Puts what a rule reports, silenced or not, after these entries.
-    fn put_reported<'f>(
-        &'f self,
-        naming: Naming,
-        rule: Rule,
-        entries: &mut Vec<Entry<'f>>,
-    ) -> Result<(), AllocError>
-        ensures { OnOk result (issues_of entries.new.items
-            ≡ issues_of entries.old.items ++ map (issue_at rule)
-            (findings naming self.now.references self.now.facts rule)) }
-    {
-        match rule {
-            Rule::CommentSyntax => put_comments(&self.comments, entries),
-            Rule::DeprecatedIndex => put_places(
-                rule,
-                "list items should be accessed using square brackets",
-                &self.indexes,
-                entries,
-            ),
-            Rule::DeprecatedInterpolation => put_places(
-                rule,
-                "interpolation-only expressions are deprecated",
-                &self.interpolations,
-                entries,
-            ),
-            _ => put_declarations(
-                self.alloc,
-                naming,
-                &self.references,
-                rule,
-                &self.declarations,
-                entries,
-            ),
-        }
-    }
-
-    /// Puts what a rule reports after these entries, where it is asked for.
-    fn put_asked<'f>(
+    /// Puts what is said of comments after these entries, where it is asked for.
+    fn put_slashed<'f>(
         &'f self,
         settings: &Settings,
-        rule: Rule,
         entries: &mut Vec<Entry<'f>>,
     ) -> Result<(), AllocError>
-        ensures { OnOk result (issues_of entries.new.items
-            ≡ issues_of entries.old.items ++ (if holds settings.now.rules rule
-            then map (issue_at rule) (findings settings.now.naming self.now.references
-            self.now.facts rule) else [])) }
+        ensures { OnOk result (issues_of entries.new.items ≡ issues_of entries.old.items
+            ++ issues_by settings.now self.now Rule.CommentSyntax) }
     {
-        if !settings.rules.holds(rule) {
+        if !settings.rules.holds(Rule::CommentSyntax) {
             return Ok(());
         }
-        self.put_reported(settings.naming, rule, entries)
+        put_comments(&self.comments, entries)
     }
 
-    /// All that those of these rules report that are asked for, silenced or not, rule by rule.
-    fn reported<'f>(
+    /// Puts what is said of dots before numbers after these entries, where it is asked for.
+    fn put_indexes<'f>(
         &'f self,
         settings: &Settings,
-        rules: &[Rule],
-    ) -> Result<Vec<Entry<'f>>, AllocError>
-        ensures { IfOk result (λ entries. issues_of entries.items
-            ≡ flat_map (λ rule. map (issue_at rule)
-            (findings settings.now.naming self.now.references self.now.facts rule))
-            (filter (holds settings.now.rules) rules.now)) }
+        entries: &mut Vec<Entry<'f>>,
+    ) -> Result<(), AllocError>
+        ensures { OnOk result (issues_of entries.new.items ≡ issues_of entries.old.items
+            ++ issues_by settings.now self.now Rule.DeprecatedIndex) }
     {
-        let mut entries = Vec::new(self.alloc);
-        for rule in rules {
-            self.put_asked(settings, *rule, &mut entries)?;
+        if !settings.rules.holds(Rule::DeprecatedIndex) {
+            return Ok(());
         }
+        put_places(
+            Rule::DeprecatedIndex,
+            "list items should be accessed using square brackets",
+            &self.indexes,
+            entries,
+        )
+    }
+
+    /// Puts what is said of interpolations alone after these entries, where it is asked for.
+    fn put_interpolations<'f>(
+        &'f self,
+        settings: &Settings,
+        entries: &mut Vec<Entry<'f>>,
+    ) -> Result<(), AllocError>
+        ensures { OnOk result (issues_of entries.new.items ≡ issues_of entries.old.items
+            ++ issues_by settings.now self.now Rule.DeprecatedInterpolation) }
+    {
+        if !settings.rules.holds(Rule::DeprecatedInterpolation) {
+            return Ok(());
+        }
+        put_places(
+            Rule::DeprecatedInterpolation,
+            "interpolation-only expressions are deprecated",
+            &self.interpolations,
+            entries,
+        )
+    }
+
+    /// Puts what is said of declarations after these entries, as far as it is asked for.
+    fn put_declared<'f>(
+        &'f self,
+        settings: &Settings,
+        entries: &mut Vec<Entry<'f>>,
+    ) -> Result<(), AllocError>
+        ensures { OnOk result (issues_of entries.new.items
+            ≡ issues_of entries.old.items ++ flat_map
+            (issues_declared settings.now self.now.references) self.now.facts.declarations) }
+    {
+        if !asks_of_declarations(settings.rules) {
+            return Ok(());
+        }
+        put_declarations(
+            self.alloc,
+            settings,
+            &self.references,
+            &self.declarations,
+            entries,
+        )
+    }
+
+    /// All that those rules report that are asked for, silenced or not: first by rules, then by declarations. A sort
+    /// follows, so any order will do, and this one is nearly sorted.
+    fn reported<'f>(&'f self, settings: &Settings) -> Result<Vec<Entry<'f>>, AllocError>
+        ensures { IfOk result (λ entries. IsPermutation (flat_map (λ rule. map (issue_at rule)
+            (findings settings.now.naming self.now.references self.now.facts rule))
+            (rules_of settings.now.rules)) (issues_of entries.items)) }
+    {
+        let room = first_room(settings, self.declarations.len());
+        let mut entries: Vec<Entry<'f>> = Vec::with_capacity(self.alloc, room)?;
+        self.put_slashed(settings, &mut entries)?;
+        self.put_indexes(settings, &mut entries)?;
+        self.put_interpolations(settings, &mut entries)?;
+        self.put_declared(settings, &mut entries)?;
         Ok(entries)
     }
 
@@ -239,7 +285,7 @@ impl Facts {
         ensures { (files : List File) → self.now ≡ kept_of files → Rising files
             → IfOk result (λ issues. AreIssues (asked_of settings.now) files issues) }
     {
-        let entries = self.reported(settings, &ALL_RULES)?;
+        let entries = self.reported(settings)?;
         let lines = silenced_lines(self.alloc, &self.comments)?;
         let sorted = in_order(entries)?;
         let shown = shown_entries(self.alloc, sorted, &lines)?;

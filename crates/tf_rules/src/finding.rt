@@ -6,7 +6,7 @@ ghost use Rattle.std.specs.Str.{bytes_eq};
 ghost use Rattle.tf_facts.specs.References.{data_reference, last_of};
 ghost use Rattle.tf_rules.specs.Findings.{finding, is_kind, from_registry, is_unused, kind_text, says_if, unpinned_findings, unpinned_findings_by, uses_of};
 ghost use Rattle.tf_rules.specs.Kept.{issue_at};
-ghost use Rattle.tf_rules.specs.Inner.Entries.{issues_of, opened, text_of};
+ghost use Rattle.tf_rules.specs.Inner.Entries.{issues_of, issues_declared, issues_if_asked, opened, text_of};
 ghost use Rattle.tf_rules.specs.Inner.KeptViews.{kept_declaration, kept_names, kept_source, place_of};
 ghost use Rattle.tf_facts.specs.Found.{source};
 ghost use Rattle.std.specs.Option.{option_map};
@@ -15,6 +15,7 @@ use crate::entry::{Entry, Said};
 use crate::kept::{KeptDeclaration, KeptNames, KeptSource, TokenPlace};
 use crate::naming::{Naming, matches_naming};
 use crate::said::last;
+use crate::settings::Settings;
 use rule_set::Rule;
 use std::alloc::AllocError;
 use tf_facts::{DeclarationKind, ModuleSource, TextSet};
@@ -244,7 +245,7 @@ fn put_unused<'f>(
 /// Puts what a rule reports of a declaration last, where all files have these references. A reference to it is put together
 /// in the room of another text. Most rules report nothing of most declarations, so nothing is handed out here.
 #[inline(always)]
-pub fn put_finding<'f>(
+fn put_finding<'f>(
     naming: Naming,
     used: &TextSet,
     rule: Rule,
@@ -292,4 +293,67 @@ pub fn put_finding<'f>(
         Rule::DeprecatedIndex => Ok(()),
         Rule::DeprecatedInterpolation => Ok(()),
     }
+}
+
+/// What is asked for, and the references of all files.
+#[derive(Clone, Copy)]
+pub struct Inputs<'a> {
+    pub settings: &'a Settings,
+    pub used: &'a TextSet,
+}
+
+/// Puts what a rule reports of a declaration last, where it is asked for.
+#[inline(always)]
+fn put_asked<'f>(
+    inputs: &Inputs<'_>,
+    rule: Rule,
+    declaration: &'f KeptDeclaration,
+    text: &mut String,
+    entries: &mut Vec<Entry<'f>>,
+) -> Result<(), AllocError>
+    ensures { OnOk result (issues_of entries.new.items ≡ issues_of entries.old.items
+        ++ issues_if_asked inputs.now.settings.now inputs.now.used.now
+        (kept_declaration declaration.now) rule) }
+{
+    let settings = inputs.settings;
+    if !settings.rules.holds(rule) {
+        return Ok(());
+    }
+    put_finding(
+        settings.naming,
+        inputs.used,
+        rule,
+        declaration,
+        text,
+        entries,
+    )
+}
+
+/// Puts what the rules that are asked for report of a declaration last. No loop goes over the rules, so that each is known
+/// where its test is made. The source of a module stands after all else that is reported, so its rule comes last: the
+/// entries of declarations in order are then sorted.
+#[inline(always)]
+pub fn put_findings<'f>(
+    inputs: &Inputs<'_>,
+    declaration: &'f KeptDeclaration,
+    text: &mut String,
+    entries: &mut Vec<Entry<'f>>,
+) -> Result<(), AllocError>
+    ensures { OnOk result (issues_of entries.new.items ≡ issues_of entries.old.items
+        ++ issues_declared inputs.now.settings.now inputs.now.used.now
+        (kept_declaration declaration.now)) }
+{
+    put_asked(inputs, Rule::DocumentedOutputs, declaration, text, entries)?;
+    put_asked(
+        inputs,
+        Rule::DocumentedVariables,
+        declaration,
+        text,
+        entries,
+    )?;
+    put_asked(inputs, Rule::ModuleVersion, declaration, text, entries)?;
+    put_asked(inputs, Rule::NamingConvention, declaration, text, entries)?;
+    put_asked(inputs, Rule::TypedVariables, declaration, text, entries)?;
+    put_asked(inputs, Rule::UnusedDeclarations, declaration, text, entries)?;
+    put_asked(inputs, Rule::ModulePinnedSource, declaration, text, entries)
 }

@@ -2,15 +2,15 @@
 
 ghost use Rattle.std.specs.Prelude.{◌≡◌, ◌++◌, map, OnOk};
 ghost use Rattle.std.specs.List.{flat_map};
-ghost use Rattle.tf_rules.specs.Findings.{finding, says_of, slash_findings};
+ghost use Rattle.tf_rules.specs.Findings.{says_of, slash_findings};
 ghost use Rattle.tf_rules.specs.Kept.{issue_at};
-ghost use Rattle.tf_rules.specs.Inner.Entries.{issues_of, finding_listed};
+ghost use Rattle.tf_rules.specs.Inner.Entries.{issues_of, finding_listed, issues_declared};
 ghost use Rattle.tf_rules.specs.Inner.KeptViews.{kept_comment, kept_declaration, place_of};
 
 use crate::entry::{Entry, Finding, Said};
-use crate::finding::put_finding;
+use crate::finding::{Inputs, put_findings};
 use crate::kept::{KeptComment, KeptDeclaration, TokenPlace};
-use crate::naming::Naming;
+use crate::settings::Settings;
 use rule_set::Rule;
 use std::alloc::{AllocError, Global};
 use tf_facts::TextSet;
@@ -85,22 +85,23 @@ pub fn put_places(
     Ok(())
 }
 
-/// Puts what a rule reports of declarations last, where all files have these references.
+/// Puts what the rules that are asked for report of declarations last, declaration by declaration, where all files have
+/// these references. So each declaration is read once, and not once for each rule.
 pub fn put_declarations<'f>(
     alloc: Global,
-    naming: Naming,
+    settings: &Settings,
     used: &TextSet,
-    rule: Rule,
     declarations: &'f [KeptDeclaration],
     entries: &mut Vec<Entry<'f>>,
 ) -> Result<(), AllocError>
     ensures { OnOk result (issues_of entries.new.items
-        ≡ issues_of entries.old.items ++ map (issue_at rule)
-        (flat_map (finding naming used.now rule) (map kept_declaration declarations.now))) }
+        ≡ issues_of entries.old.items ++ flat_map (issues_declared settings.now used.now)
+        (map kept_declaration declarations.now)) }
 {
+    let inputs = Inputs { settings, used };
     let mut text = String::new(alloc);
     for declaration in declarations {
-        put_finding(naming, used, rule, declaration, &mut text, entries)?;
+        put_findings(&inputs, declaration, &mut text, entries)?;
     }
     Ok(())
 }

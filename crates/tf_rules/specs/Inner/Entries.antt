@@ -1,5 +1,6 @@
 -- What contracts see of issues before they are shown.
-use Rattle.std.specs.Prelude.{ℕ, ◌++◌, List, [], ◌∷◌, Option, Some, None, codes, map}
+use Rattle.std.specs.Prelude.{ℕ, ◌++◌, List, [], ◌∷◌, Option, Some, None, codes, map, if◌then◌else◌}
+use Rattle.std.specs.List.{flat_map}
 use Rattle.std.specs.Ordering.{nat_cmp, ordering_then}
 use Rattle.std.specs.declared.cmp.Ordering.{Ordering}
 use Rattle.tf_rules.specs.Findings as findings
@@ -7,6 +8,12 @@ use Rattle.tf_rules.specs.Answers.{shown_issue}
 use Rattle.tf_rules.specs.Issues.{Issue, Place}
 use Rattle.tf_rules.specs.declared.issue.Issue as shown
 use Rattle.rule_set.specs.Rules.{rank}
+use Rattle.rule_set.specs.RuleSets.{holds}
+use Rattle.rule_set.specs.declared.rule.Rule.{Rule}
+use Rattle.rule_set.specs.declared.rule.Rule.TheVariants.{DocumentedOutputs, DocumentedVariables, ModulePinnedSource, ModuleVersion, NamingConvention, TypedVariables, UnusedDeclarations}
+use Rattle.tf_facts.specs.Declarations.{Declaration}
+use Rattle.tf_rules.specs.Kept.{Kept, issue_at}
+use Rattle.tf_rules.specs.declared.settings.Settings.{Settings}
 use Rattle.tf_rules.specs.Naming.{naming_text}
 use Rattle.tf_rules.specs.Inner.KeptViews.{kept_declaration, kept_names, place_of}
 use Rattle.tf_rules.specs.declared.entry.Entry.{Entry}
@@ -45,3 +52,21 @@ finding_listed (Some f) = record { at = place_of f.at; message = text_of f.said 
 -- by file, then token, then the name of the rule
 abbrev pub entry_cmp : Entry → Entry → Ordering
 entry_cmp a b = ordering_then (ordering_then (nat_cmp a.at.file b.at.file) (nat_cmp a.at.token b.at.token)) (nat_cmp (rank a.rule) (rank b.rule))
+
+-- ---- what is reported, rule by rule and declaration by declaration
+
+-- what a rule reports, where it is asked for
+abbrev pub issues_by : Settings → Kept → Rule → List Issue
+issues_by s kept rule = if holds s.rules rule then map (issue_at rule) (findings.findings s.naming kept.references kept.facts rule) else []
+
+-- what a rule reports of one declaration, where it is asked for
+abbrev pub issues_if_asked : Settings → List (List ℕ) → Declaration Place → Rule → List Issue
+issues_if_asked s used d rule = if holds s.rules rule then map (issue_at rule) (findings.finding s.naming used rule d) else []
+
+-- the rules that go by declarations, that which goes by the source of a module last
+abbrev pub declared_rules : List Rule
+declared_rules = DocumentedOutputs ∷ DocumentedVariables ∷ ModuleVersion ∷ NamingConvention ∷ TypedVariables ∷ UnusedDeclarations ∷ ModulePinnedSource ∷ []
+
+-- what all of them report of one declaration
+abbrev pub issues_declared : Settings → List (List ℕ) → Declaration Place → List Issue
+issues_declared s used d = flat_map (issues_if_asked s used d) declared_rules

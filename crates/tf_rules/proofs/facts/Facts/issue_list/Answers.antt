@@ -1,4 +1,4 @@
-use Rattle.std.proofs.Common.{◌≡◌, ◌∙◌, ap, ap₂, sym, subst, List, Bool, not, map, filter}
+use Rattle.std.proofs.Common.{◌≡◌, ◌∙◌, ap, sym, subst, List, Bool, not, map, filter}
 use Rattle.tf_rules.specs.Answers.{shown_issue}
 use Rattle.tf_facts.specs.Comments.{Comment}
 use Rattle.tf_rules.specs.Issues.{Asked, Issue, Place, asked_of, is_silenced, issues, reported_issues}
@@ -18,17 +18,17 @@ returns c = λ files kept rising.
     let asked : Asked = asked_of c.args.settings.now in
     let comments : List (Comment Place) = map kept_comment c.deref.result.now in
     let p : Issue → Bool = λ i. not (is_silenced comments i) in
-    let found = issues_of c.in_ok-entries.entries.items in
+    let found : List Issue = reported_of_kept asked c.args.self.now in
     let told : c.args.self.now.facts.comments ≡ comments = ap (λ (k : Kept). k.facts.comments) (sym c.self.view_is) ∙ ap (map kept_comment) (sym c.deref.ensures.value) in
     let is : issues asked files ≡ filter p found =
     issues_of_kept_is asked files
     ∙ ap (issues_of_kept asked) (sym kept)
-    ∙ ap₂ (λ (cs : List (Comment Place)) (is : List Issue). filter (λ i. not (is_silenced cs i)) is) told (sym c.in_ok-entries.ensures) in
-    let all : reported_issues asked files ≡ found = reported_is asked files ∙ ap (reported_of_kept asked) (sym kept) ∙ sym c.in_ok-entries.ensures in
+    ∙ ap (λ (cs : List (Comment Place)). filter (λ i. not (is_silenced cs i)) found) told in
+    let all : reported_issues asked files ≡ found = reported_is asked files ∙ ap (reported_of_kept asked) (sym kept) in
     let apart : Ascends Differ found = subst (λ (is : List Issue). Ascends Differ is) all (reported_apart c.args.settings.now files rising) in
     let left : issues_of c.in_ok-shown.shown.items ≡ filter p (issues_of c.in_ok-sorted.sorted.items) = c.in_ok-shown.ensures comments c.in_ok-lines.ensures in
     record {
       report = filter p (issues_of c.in_ok-sorted.sorted.items);
-      is = is_report asked files p c.in_ok-entries.entries.items c.in_ok-sorted.sorted.items is apart c.in_ok-sorted.ensures.all c.in_ok-sorted.ensures.ordered;
+      is = is_report asked files p found c.in_ok-entries.entries.items c.in_ok-sorted.sorted.items is apart c.in_ok-entries.ensures c.in_ok-sorted.ensures.all c.in_ok-sorted.ensures.ordered;
       same = sym (c.new.ensures ∙ sym (map-map shown_issue issue_of c.in_ok-shown.shown.items) ∙ ap (map shown_issue) left);
     }

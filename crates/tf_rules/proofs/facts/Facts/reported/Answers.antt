@@ -1,17 +1,20 @@
-use Rattle.std.proofs.Common.{◌∙◌, ap, arith, map, cond, []}
-use Rattle.std.specs.List.{flat_map}
-use Rattle.std.proofs.lemmas.List.{take_all}
-use Rattle.tf_rules.specs.Findings.{findings}
-use Rattle.tf_rules.specs.Kept.{issue_at}
-use Rattle.rule_set.specs.RuleSets.{holds}
-use Rattle.tf_rules.proofs.EntryLemmas.{put_passing}
+use Rattle.std.proofs.Common.{◌∙◌, ap, ◌++◌, List}
+use Rattle.rule_set.specs.declared.rule.Rule.TheVariants.{CommentSyntax, DeprecatedIndex, DeprecatedInterpolation}
+use Rattle.tf_rules.specs.Issues.{Issue}
+use Rattle.tf_rules.specs.Inner.Entries.{issues_by, issues_of}
+use Rattle.tf_rules.proofs.ExchangeLemmas.{all_reported, declaration_by_declaration}
 use Rattle.tf_rules.proofs.facts.Facts.reported.Goals as goal
 
 pub returns : goal.returns
 returns c =
-    let f = c.args.self.now.facts in
-    let used = c.args.self.now.references in
-    let naming = c.args.settings.now.naming in
-    c.loop-rule.invariant
-    ∙ ap (flat_map (λ rule. cond (holds c.args.settings.now.rules rule) (map (issue_at rule) (findings naming used f rule)) [])) (take_all c.loop-rule.rule-index c.args.rules.now (omega (arith, c.loop-rule-test.false)))
-    ∙ put_passing (holds c.args.settings.now.rules) (λ rule. map (issue_at rule) (findings naming used f rule)) c.args.rules.now
+    let s = c.args.settings.now in
+    let kept = c.args.self.now in
+    all_reported s kept (issues_of c.put_declared.new.entries.items)
+    (c.in_ok-put_declared.ensures
+    ∙ ap (λ (is : List Issue). is ++ declaration_by_declaration s kept)
+    (c.in_ok-put_interpolations.ensures
+    ∙ ap (λ (is : List Issue). is ++ issues_by s kept DeprecatedInterpolation)
+    (c.in_ok-put_indexes.ensures
+    ∙ ap (λ (is : List Issue). is ++ issues_by s kept DeprecatedIndex)
+    (c.in_ok-put_slashed.ensures
+    ∙ ap (λ (is : List Issue). is ++ issues_by s kept CommentSyntax) (ap issues_of c.in_ok-entries.ensures.items)))))
