@@ -282,7 +282,7 @@ pub static SHORT: &[&str] = &[
     "n@=1\n",
     "n@=x\n",
     "m@=1#x\nlong_name_@=22#yy\n",
-    "\"k@\"=[]\n",
+    "k@=[\"\"]\n",
 ];
 
 /// Texts in other scripts, which aren't in the style.
