@@ -160,7 +160,7 @@ is_lane y b = cond (eqb b y) 255 0
 is_lanes : (v : List ℕ) (y : ℕ) → length v ≡ 16 → zip2 {C = ℕ} (λ a b. cond (eqb a b) 255 0) v (replicate 16 y) ≡ map (is_lane y) v
 is_lanes v y size = zip2_splat (λ a b. cond (eqb a b) 255 0) v 16 y size
 
-pub whole : (seen : List ℕ) → length seen ≡ 16 → chunk 0 16 seen ≡ seen
+whole : (seen : List ℕ) → length seen ≡ 16 → chunk 0 16 seen ≡ seen
 whole seen size = take_all 16 seen (omega (arith, size))
 
 -- a run is no longer than its load

@@ -1,13 +1,13 @@
 -- The scan as a whole: a run grows by the tokens read, and where it ends in a fault this is the fault of the text.
 use Rattle.std.proofs.Common.{◌≡◌, ℕ, List, [], ◌∷◌, ◌++◌, length, Result, Ok, Err, sym, ap, subst, ◌∙◌, arith}
 use Rattle.std.specs.Prelude.{All, IfOk, IfErr}
-use Rattle.std.proofs.lemmas.List.{length_push, map_push}
+use Rattle.std.proofs.lemmas.List.{map_push}
 use Rattle.std.proofs.lemmas.List.Elements.{All-push}
 use Rattle.hcl_tokens.specs.Lexemes.{Lexeme}
 use Rattle.hcl_tokens.specs.Scans.{Run, Next, Scans, begin}
 use Rattle.hcl_tokens.specs.Faults.{IsScanFault}
 use Rattle.hcl_tokens.specs.Entries.{lexeme_of, lexemes_of, IsEntry}
-use Rattle.hcl_scan.specs.Inner.Scanners.{state_of, HasRead, IsStopped, Moves}
+use Rattle.hcl_scan.specs.Inner.Scanners.{state_of, IsStopped, Moves}
 use Rattle.hcl_source.specs.declared.fault.FaultKind.{FaultKind}
 use Rattle.hcl_tokens.specs.declared.token.Entry.{Entry}
 use Rattle.hcl_scan.specs.declared.scanner.Scanner.{Scanner}
@@ -45,15 +45,6 @@ module _ (text : List ℕ) (es new : List Entry) (s next : Scanner) (e : Entry) 
 
   pub less_left : length next.text.now ≡ length s.text.now
   less_left = ap (λ t. length t.now) moved.same_text
-
-pub reads_on : (text : List ℕ) (es new : List Entry) (s next : Scanner) (e : Entry) → HasRead text es s → Moves s e next → new ≡ es ++ e ∷ [] → HasRead text new next
-reads_on text es new s next e old moved new_is = record {
-  same_text = same_still text es new s next e old.same_text moved new_is;
-  sound = moved.sound;
-  within = omega (arith, ap length new_is, length_push es e, old.within, moved.further);
-  parts = more_parts text es new s next e old.same_text moved new_is old.parts;
-  read = more_run text es new s next e old.same_text moved new_is old.read;
-}
 
 -- it is the fault of the text
 pub scan_fault : (text : List ℕ) (ts : List Lexeme) (s : Scanner) (fault : Stopped) → s.text.now ≡ text → Run (begin text) ts (state_of s) → IsStopped s fault → IsScanFault text fault.kind fault.at

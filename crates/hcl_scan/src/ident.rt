@@ -10,8 +10,7 @@ ghost use Rattle.hcl_tokens.specs.SideBySide.{may_begin_ident};
 ghost use Rattle.hcl_scan.specs.Inner.Found.{IsLongestFront, HasNoFront, AreContinuing, BeginsWith, BeginsWithout, FirstChar, IsMarker, continues_ascii, heredoc_mark_len};
 
 use crate::found::Found;
-use crate::lanes::{LANES, continuing_run};
-use crate::text::{byte_at, newline_len};
+use crate::text::{BLOCK, byte_at, newline_len};
 use hcl_tokens::Kind;
 
 fn continues_ident(c: char) -> bool
@@ -93,18 +92,18 @@ fn continuing_few(bytes: &[u8]) -> usize
     bytes.iter().take_while(|b| continues_ascii(**b)).count()
 }
 
-/// The same, many at a time. Most identifiers end in the first load, so no branch depends on where they end.
+/// The same, by blocks.
 #[inline(always)]
 fn continuing_ascii(bytes: &[u8]) -> usize
     ensures { result ≡ prefix_len continues_ascii bytes.now }
 {
     let mut len = 0;
-    while LANES <= bytes.len() - len {
-        let more = continuing_run(&bytes[len..len + LANES]);
-        if more < LANES {
+    while BLOCK <= bytes.len() - len {
+        let more = continuing_few(&bytes[len..len + BLOCK]);
+        if more < BLOCK {
             return len + more;
         }
-        len += LANES;
+        len += BLOCK;
     }
     let (_, rest) = bytes.split_at(len);
     len + continuing_few(rest)

@@ -13,7 +13,7 @@
 ghost use Rattle.std.specs.Prelude.{◌≡◌, ◌≢◌, ◌==◌, ℕ, ◌+◌, ◌<◌, ◌≤◌, length};
 ghost use Rattle.std.specs.Int.{bit_at};
 ghost use Rattle.std.specs.List.{position_or_len, prefix_len};
-ghost use Rattle.hcl_scan.specs.Inner.Found.{continues_ascii, is_ordinary};
+ghost use Rattle.hcl_scan.specs.Inner.Found.{is_ordinary};
 ghost use Rattle.hcl_scan.specs.Inner.Lanes.{first_set, MarksLikely};
 
 use std::simd::prelude::*;
@@ -62,24 +62,6 @@ pub(crate) fn ordinary_run(seen: &[u8]) -> usize
         | v.simd_eq(u8x16::splat(b'%'))
         | v.simd_eq(u8x16::splat(b'\\'));
     first_set(special.to_bitmask())
-}
-
-/// How many bytes at the front are ASCII characters that may continue an identifier, of as many as there are lanes.
-#[inline(always)]
-pub(crate) fn continuing_run(seen: &[u8]) -> usize
-    requires { length seen.now ≡ LANES }
-    ensures count { result ≡ prefix_len continues_ascii seen.now }
-    ensures within { result ≤ LANES }
-{
-    let v = u8x16::from_slice(seen);
-    // the one bit by which upper case differs from lower case
-    let lower = v | u8x16::splat(0x20);
-    // what takes most steps comes last: the next token waits for it
-    let others = v.simd_ne(u8x16::splat(b'_'))
-        & v.simd_ne(u8x16::splat(b'-'))
-        & (v - u8x16::splat(b'0')).simd_ge(u8x16::splat(10))
-        & (lower - u8x16::splat(b'a')).simd_ge(u8x16::splat(26));
-    first_set(others.to_bitmask())
 }
 
 /// The lowest bit that is set.

@@ -1,6 +1,6 @@
 //! Literal text of templates.
 
-ghost use Rattle.std.specs.Prelude.{◌≡◌, ◌+◌, ◌≤◌, ◌||◌, ◌&&◌, ◌<◌, ◌∷◌, codes, take, drop, length, None, true, IfSome, IsTrue};
+ghost use Rattle.std.specs.Prelude.{◌≡◌, ◌+◌, ◌≤◌, ◌||◌, ◌&&◌, ◌∷◌, codes, take, drop, length, None, IsTrue};
 ghost use Rattle.std.specs.List.{list_all, prefix_len};
 ghost use Rattle.std.specs.Char.{is_ascii_hexdigit};
 ghost use Rattle.hcl_tokens.specs.Spelling.{escape_len, element_len, are_elements, ends_quoted, hex_digits_after, is_dollar_or_percent, starts};
@@ -165,21 +165,6 @@ fn element_len(seen: &[u8], b: u8, after: &[u8], quoted: bool) -> Option<usize>
     } else {
         Some(1)
     }
-}
-
-/// How many bytes of literal text stand at the front, where each is an element by itself and a quote follows them.
-#[inline(always)]
-pub fn plain_quoted_len(seen: &[u8]) -> Option<usize>
-    ensures within { IfSome result (λ len. len < length seen.now) }
-    ensures elements { IfSome result
-        (λ len. are_elements true 0 (take len seen.now) (drop len seen.now) ≡ true) }
-    ensures ends { IfSome result (λ len. element_len true (drop len seen.now) ≡ None) }
-{
-    let len = ordinary_len(seen);
-    if len < seen.len() && seen[len] == b'"' {
-        return Some(len);
-    }
-    None
 }
 
 /// How many bytes of literal text stand at the front.

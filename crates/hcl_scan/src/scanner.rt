@@ -1,23 +1,22 @@
 //! One token after the other.
 
-ghost use Rattle.std.specs.Prelude.{◌≡◌, ◌<◌, ◌≤◌, ◌≢◌, ◌∷◌, [], List, true, false, None, Some, length, slice_range, IfSome, IfNone, IfOk, IfErr, IsTrue, OnOk};
+ghost use Rattle.std.specs.Prelude.{◌≡◌, ◌<◌, ◌≤◌, ◌≢◌, ◌∷◌, [], List, true, false, None, Some, length, slice_range, IfSome, IfNone, IfOk, IfErr, OnOk};
 ghost use Rattle.std.specs.Str.{IsCharBoundary};
 ghost use Rattle.hcl_source.specs.Load.{max_source};
 ghost use Rattle.hcl_tokens.specs.Lexemes.{in_heredoc};
 ghost use Rattle.hcl_tokens.specs.Spelling.{context, Template, Expression};
 ghost use Rattle.hcl_tokens.specs.Kinds.{is};
-ghost use Rattle.hcl_tokens.specs.declared.token.Kind.TheVariants.{Dot, HeredocOpen, Lit, QuoteClose};
+ghost use Rattle.hcl_tokens.specs.declared.token.Kind.TheVariants.{Dot, HeredocOpen};
 ghost use Rattle.hcl_tokens.specs.Scans.{ahead, begin, HasNone, IsComplete};
 ghost use Rattle.hcl_tokens.specs.Faults.{no_token_fault};
 ghost use Rattle.hcl_scan.specs.Inner.Found.{Finds};
-ghost use Rattle.hcl_scan.specs.Inner.Openings.{openers_of, opens_or_closes, opened_by, quoted_in};
+ghost use Rattle.hcl_scan.specs.Inner.Openings.{openers_of, opens_or_closes, opened_by};
 ghost use Rattle.hcl_scan.specs.declared.stack.Opened.{Opened};
 ghost use Rattle.hcl_scan.specs.Inner.Scanners.{state_of, IsSound, IsStart, IsNext, IsStopped, Moves};
 
 use crate::expression::{Surroundings, next_in_expression};
 use crate::found::Found;
 use crate::heredoc::{closer_len, marker_line, marker_of};
-use crate::literal::plain_quoted_len;
 use crate::stack::{Opener, Room, Stack};
 use crate::template::next_in_template;
 use crate::text::past_blanks;
@@ -266,19 +265,6 @@ impl<'s, 'k> Scanner<'s, 'k> {
         self.after_dot = AfterDot::after(entry.kind);
     }
 
-    /// Reads a closing quote.
-    #[inline(always)]
-    fn read_quote(&mut self, entry: Entry)
-        requires sound { IsSound self.old }
-        requires next { IsNext self.old entry }
-        requires kind { entry.kind ≡ QuoteClose }
-        ensures { Moves self.old entry self.new }
-    {
-        self.stack.close_quote();
-        self.at = entry.end as usize;
-        self.after_dot = AfterDot::no();
-    }
-
     /// Reads what closes something.
     fn read_closer(&mut self, entry: Entry)
         requires sound { IsSound self.old }
@@ -294,7 +280,6 @@ impl<'s, 'k> Scanner<'s, 'k> {
     }
 
     /// Reads what opens something, heredocs aside.
-    #[inline(always)]
     fn read_opener(&mut self, entry: Entry, by: Opener) -> Result<(), Stopped>
         requires sound { IsSound self.old }
         requires next { IsNext self.old entry }
@@ -383,10 +368,6 @@ impl<'s, 'k> Scanner<'s, 'k> {
             self.read_plain(entry);
             return Ok(());
         }
-        // Most of what opens is a quote, and the rest is told apart by a table.
-        if matches!(entry.kind, Kind::QuoteOpen) {
-            return self.read_opener(entry, Opener::Quote);
-        }
         if let Some(by) = opener(entry.kind) {
             return self.read_opener(entry, by);
         }
@@ -418,95 +399,6 @@ impl<'s, 'k> Scanner<'s, 'k> {
             Ok(()) => Ok(entry),
             Err(stopped) => Err(stopped),
         }
-    }
-
-    /// Whether what comes next is read as text in quotes.
-    fn is_in_quotes(&self) -> bool
-        ensures { IsTrue result → quoted_in (context (openers_of self.now.stack)) ≡ Some true }
-    {
-        match self.stack.template() {
-            Some(quoted) => quoted,
-            None => false,
-        }
-    }
-
-    /// The literal text that begins here, where it goes up to a quote without an escape or a sequence.
-    #[inline(always)]
-    fn plain_text_at(&self, start: usize) -> Option<Entry>
-        requires sound { IsSound self.now }
-        requires start { IsStart self.now start }
-        requires quotes { quoted_in (context (openers_of self.now.stack)) ≡ Some true }
-        ensures next { IfSome result (IsNext self.now) }
-        ensures kind { IfSome result (λ entry. entry.kind ≡ Lit) }
-    {
-        let Some(len) = plain_quoted_len(self.text[start..self.end].as_bytes()) else {
-            return None;
-        };
-        if len == 0 {
-            return None;
-        }
-        Some(Entry {
-            kind: Kind::Lit,
-            inside_heredoc: self.inside_heredoc(),
-            start: start as u32,
-            end: (start + len) as u32,
-        })
-    }
-
-    /// The closing quote that begins here.
-    #[inline(always)]
-    fn closing_quote_at(&self, start: usize) -> Option<Entry>
-        requires sound { IsSound self.now }
-        requires start { IsStart self.now start }
-        requires quotes { quoted_in (context (openers_of self.now.stack)) ≡ Some true }
-        ensures next { IfSome result (IsNext self.now) }
-        ensures kind { IfSome result (λ entry. entry.kind ≡ QuoteClose) }
-    {
-        if !self.text[start..self.end].as_bytes().starts_with(b"\"") {
-            return None;
-        }
-        Some(Entry {
-            kind: Kind::QuoteClose,
-            inside_heredoc: self.inside_heredoc(),
-            start: start as u32,
-            end: (start + 1) as u32,
-        })
-    }
-
-    /// Reads literal text, where some comes next in quotes that goes up to a quote.
-    #[inline(always)]
-    pub fn read_plain_text(&mut self) -> Option<Entry>
-        requires { IsSound self.old }
-        ensures read { IfSome result (λ entry. Moves self.old entry self.new) }
-        ensures none { IfNone result (self.new ≡ self.old) }
-    {
-        if !self.is_in_quotes() {
-            return None;
-        }
-        let start = self.start();
-        let Some(entry) = self.plain_text_at(start) else {
-            return None;
-        };
-        self.read_plain(entry);
-        Some(entry)
-    }
-
-    /// Reads the closing quote, where it comes next.
-    #[inline(always)]
-    pub fn read_closing_quote(&mut self) -> Option<Entry>
-        requires { IsSound self.old }
-        ensures read { IfSome result (λ entry. Moves self.old entry self.new) }
-        ensures none { IfNone result (self.new ≡ self.old) }
-    {
-        if !self.is_in_quotes() {
-            return None;
-        }
-        let start = self.start();
-        let Some(entry) = self.closing_quote_at(start) else {
-            return None;
-        };
-        self.read_quote(entry);
-        Some(entry)
     }
 
     /// Reads a token, or gives `None` where all was read and nothing is owed.

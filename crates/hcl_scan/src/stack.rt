@@ -1,7 +1,6 @@
 //! What is open while a text is scanned.
 
 ghost use Rattle.std.specs.Prelude.{◌≡◌, ◌==◌, ◌<◌, ◌≤◌, ◌∷◌, [], length, drop, slice_index_or, MatchOption};
-ghost use Rattle.hcl_tokens.specs.declared.token.Kind.TheVariants.{QuoteClose};
 ghost use Rattle.hcl_tokens.specs.Lexemes.{max_open, same_opener};
 ghost use Rattle.hcl_tokens.specs.Spelling.{context, context_in};
 ghost use Rattle.hcl_tokens.specs.Scans.{owes};
@@ -152,7 +151,6 @@ fn template_in(reading: Reading) -> Option<bool>
 }
 
 /// How the text is read in a bracket: as the expression around it.
-#[inline(always)]
 fn reading_in_group(around: Reading) -> Reading
     ensures { result ≡ group_reading around }
 {
@@ -164,7 +162,6 @@ fn reading_in_group(around: Reading) -> Reading
 }
 
 /// How the text is read in what this opens.
-#[inline(always)]
 fn reading_on(by: Opener, around: Reading) -> Reading
     ensures { result ≡ reading_on by around }
 {
@@ -292,7 +289,6 @@ impl<'k> Stack<'k> {
     }
 
     /// Puts what opens here on top.
-    #[inline(always)]
     pub fn open(&mut self, by: Opener, at: u32)
         requires { length self.old < max_open }
         ensures { self.new ≡ opened_on by at self.old }
@@ -313,7 +309,6 @@ impl<'k> Stack<'k> {
         Some(opened_of(self.room.frame(self.room.depth - 1)))
     }
 
-    #[inline(always)]
     pub fn pop(&mut self) -> Option<Opened>
         ensures popped { MatchOption result ((self.old ≡ []) × (self.new ≡ []))
             (λ o. self.old ≡ o ∷ self.new) }
@@ -357,14 +352,6 @@ impl<'k> Stack<'k> {
             Some(_) => Some(top),
             None => None,
         }
-    }
-
-    /// Drops what a closing quote closes.
-    #[inline(always)]
-    pub fn close_quote(&mut self)
-        ensures { self.new ≡ closed QuoteClose self.old }
-    {
-        let _ = self.pop();
     }
 
     /// Drops what a token of this kind closes.

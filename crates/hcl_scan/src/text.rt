@@ -8,6 +8,17 @@ ghost use Rattle.hcl_tokens.specs.Scans.{skip_blanks};
 
 use crate::lanes::{LANES, line_run};
 
+/// How many bytes of a long run are looked at in one step. Between them it isn't asked whether the text ends, which takes
+/// half of the instructions where it is asked of each:
+///
+/// ```text
+/// compute_instance.service_1 = 2
+/// |------||------||------|xx
+/// ```
+///
+/// Three blocks pass, the fourth stops after two bytes. What is left after the last whole block is looked at one by one.
+pub(crate) const BLOCK: usize = 8;
+
 /// The byte at the index, or 0 after the end.
 pub(crate) fn byte_at(text: &[u8], index: usize) -> u8
     ensures { result ≡ get_or text.now index 0 }

@@ -1,15 +1,14 @@
 //! The scan of a source.
 
-ghost use Rattle.std.specs.Prelude.{◌≡◌, ◌≤◌, [], IfOk, IfErr, OnOk};
+ghost use Rattle.std.specs.Prelude.{◌≡◌, [], IfOk, IfErr};
 ghost use Rattle.hcl_tokens.specs.Scans.{Scans};
 ghost use Rattle.hcl_tokens.specs.Scanned.{IsScanError};
-ghost use Rattle.hcl_scan.specs.Inner.Scanners.{HasRead};
 
 use crate::scanner::Scanner;
 use crate::stack::Room;
 use hcl_source::{Fault, Source};
-use hcl_tokens::{Entries, Kind, ScanError, Tokens};
-use std::alloc::{AllocError, Global};
+use hcl_tokens::{Entries, ScanError, Tokens};
+use std::alloc::Global;
 
 /// How many bytes of a source there are for each token that the list has room for at first. Most texts have four to six
 /// bytes a token, and where there are fewer the list grows.
@@ -31,29 +30,6 @@ fn no_entries(alloc: Global, source: &Source) -> Result<Entries, ScanError>
     }
 }
 
-/// Puts literal text and a closing quote last, where they come next, as they do after most opening quotes: so the general
-/// step isn't asked twice more.
-#[inline(always)]
-fn push_quoted(scanner: &mut Scanner<'_, '_>, entries: &mut Entries) -> Result<(), AllocError>
-    requires { HasRead scanner.old.text.now entries.old scanner.old }
-    ensures read { OnOk result (HasRead scanner.old.text.now entries.new scanner.new) }
-    ensures further { scanner.old.at ≤ scanner.new.at }
-{
-    let Some(text) = scanner.read_plain_text() else {
-        return Ok(());
-    };
-    if let Err(refused) = entries.push(text) {
-        return Err(refused);
-    }
-    let Some(quote) = scanner.read_closing_quote() else {
-        return Ok(());
-    };
-    if let Err(refused) = entries.push(quote) {
-        return Err(refused);
-    }
-    Ok(())
-}
-
 /// The tokens of a source, or the one fault that it is refused for. It is called, and what it calls seldom is marked as cold,
 /// so that its loop keeps its registers.
 #[inline(never)]
@@ -67,17 +43,10 @@ pub fn scan<'s>(alloc: Global, source: &'s Source) -> Result<Tokens<'s>, ScanErr
     let mut scanner = Scanner::new(source.text(), &mut room);
     while let Some(read) = scanner.next_token() {
         match read {
-            Ok(entry) => {
-                if let Err(_) = entries.push(entry) {
-                    return Err(ScanError::OutOfMemory);
-                }
-                if !matches!(entry.kind, Kind::QuoteOpen) {
-                    continue;
-                }
-                if let Err(_) = push_quoted(&mut scanner, &mut entries) {
-                    return Err(ScanError::OutOfMemory);
-                }
-            }
+            Ok(entry) => match entries.push(entry) {
+                Ok(()) => {}
+                Err(_) => return Err(ScanError::OutOfMemory),
+            },
             Err(stopped) => {
                 return Err(ScanError::Fault(Fault {
                     kind: stopped.kind,

@@ -3,7 +3,7 @@
 ghost use Rattle.std.specs.Prelude.{◌≡◌, ◌≤◌, ◌<◌, ◌==◌, ◌++◌, ◌∷◌, [], length, slice_get, Some, IfOk, OnErr, OnOk};
 ghost use Rattle.hcl_source.specs.Load.{max_source};
 ghost use Rattle.hcl_tokens.specs.declared.token.Entry.{Entry};
-ghost use Rattle.hcl_tokens.specs.Inner.KeptEntries.{entry_given, entry_of_parts};
+ghost use Rattle.hcl_tokens.specs.Inner.KeptEntries.{entry_given};
 
 use crate::token::{Entry, Kind};
 use std::alloc::{AllocError, Global};
@@ -138,7 +138,6 @@ impl Entries {
 
     /// Puts an entry at the end. Of a source there are no more entries than it has bytes. A refused growth leaves the list
     /// as it was.
-    #[inline(always)]
     pub fn push(&mut self, entry: Entry) -> Result<(), AllocError>
         requires order { entry.start ≤ entry.end }
         requires room { length self.old < max_source }
@@ -147,7 +146,7 @@ impl Entries {
     {
         let length = entry.end - entry.start;
         if length >= LONG as u32 {
-            return self.push_long(entry.start, entry.end, entry.kind, entry.inside_heredoc);
+            return self.push_long(entry);
         }
         let at = self.kept.len();
         self.kept.push(Kept {
@@ -165,33 +164,23 @@ impl Entries {
         Ok(())
     }
 
-    /// Puts the entry of a long token at the end. Its parts are passed one by one: a whole one would be put together in
-    /// memory at each push, of a short token too.
-    #[cold]
-    #[inline(never)]
-    fn push_long(
-        &mut self,
-        start: u32,
-        end: u32,
-        kind: Kind,
-        inside_heredoc: bool,
-    ) -> Result<(), AllocError>
-        requires order { start ≤ end }
+    /// Puts the entry of a long token at the end.
+    fn push_long(&mut self, entry: Entry) -> Result<(), AllocError>
+        requires order { entry.start ≤ entry.end }
         requires room { length self.old < max_source }
-        ensures pushed { OnOk result
-            (self.new ≡ self.old ++ entry_of_parts start end kind inside_heredoc ∷ []) }
+        ensures pushed { OnOk result (self.new ≡ self.old ++ entry ∷ []) }
         ensures unchanged { OnErr result (self.new ≡ self.old) }
     {
         let count = self.kept.len();
         self.kept.push(Kept {
             place: self.long.len() as u32,
             length: LONG,
-            kind,
-            inside_heredoc,
+            kind: entry.kind,
+            inside_heredoc: entry.inside_heredoc,
         })?;
         let span = Span {
-            start,
-            length: end - start,
+            start: entry.start,
+            length: entry.end - entry.start,
         };
         match self.long.push(span) {
             Ok(()) => Ok(()),

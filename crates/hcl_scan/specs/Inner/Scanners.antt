@@ -1,13 +1,13 @@
 -- Where the scanner stands, as a state of the reading, and what it comes to next: a token, or the fault.
 -- Our own choice of representation: offsets into one text in place of its parts.
-use Rattle.std.specs.Prelude.{All, ◌≡◌, ℕ, ◌+◌, ◌<◌, ◌≤◌, Bool, true, false, IsTrue, List, [], ◌∷◌, length, slice_range}
+use Rattle.std.specs.Prelude.{◌≡◌, ℕ, ◌+◌, ◌<◌, ◌≤◌, Bool, true, false, IsTrue, List, [], ◌∷◌, length, slice_range}
 use Rattle.std.specs.Str.{IsCharBoundary}
 use Rattle.hcl_source.specs.Load.{max_source}
 use Rattle.hcl_tokens.specs.Lexemes.{Opener, Sequence, in_heredoc, closes_sequence, max_open}
 use Rattle.hcl_tokens.specs.Spelling.{Context, Template, Expression, context}
-use Rattle.hcl_tokens.specs.Scans.{State, Next, Run, IsLongest, begin, gap_len}
+use Rattle.hcl_tokens.specs.Scans.{State, Next, IsLongest, gap_len}
 use Rattle.hcl_tokens.specs.Faults.{Lacks, fault_offset}
-use Rattle.hcl_tokens.specs.Entries.{IsEntry, lexeme_of, lexemes_of}
+use Rattle.hcl_tokens.specs.Entries.{IsEntry, lexeme_of}
 use Rattle.hcl_scan.specs.Inner.Openings.{opener_of, openers_of, offsets_in, hidden_of}
 use Rattle.hcl_tokens.specs.declared.token.Entry.{Entry}
 use Rattle.hcl_scan.specs.declared.stack.Opener as kept
@@ -74,11 +74,3 @@ pub record IsStopped (s : Scanner) (fault : Stopped) : Type 0 where
   pub lacks : Lacks (state_of s) fault.kind
   pub at : fault.at ≡ fault_offset (state_of s) fault.kind
   pub boundary : IsCharBoundary s.text.now fault.at
-
--- the entries are the tokens of the text up to where the scanner stands
-pub record HasRead (text : List ℕ) (entries : List Entry) (s : Scanner) : Type 0 where
-  pub same_text : s.text.now ≡ text
-  pub sound : IsSound s
-  pub within : length entries ≤ s.at
-  pub parts : All (IsEntry text) entries
-  pub read : Run (begin text) (lexemes_of text entries) (state_of s)

@@ -1,8 +1,7 @@
 -- What a `Tokens` keeps of its tokens.
 -- Our own choice of representation: 8 bytes a token, and where a long one stands is in a second list.
-use Rattle.std.specs.Prelude.{◌≡◌, ℕ, ◌+◌, ◌<◌, ◌==◌, Bool, List, length, map, get_or, if◌then◌else◌}
+use Rattle.std.specs.Prelude.{◌≡◌, ℕ, ◌+◌, ◌<◌, ◌==◌, List, length, map, get_or, if◌then◌else◌}
 use Rattle.hcl_tokens.specs.declared.token.Entry.{Entry}
-use Rattle.hcl_tokens.specs.declared.token.Kind.{Kind}
 use Rattle.hcl_tokens.specs.declared.entries.Kept.{Kept}
 use Rattle.hcl_tokens.specs.declared.entries.Span.{Span}
 use Rattle.hcl_tokens.specs.declared.entries.Given.{Given}
@@ -27,10 +26,6 @@ entries_of long ks = map (entry_of long) ks
 -- the entry that is given so
 abbrev pub entry_given : Given → Entry
 entry_given g = record { start = g.start; end = g.start + g.length; kind = g.kind; inside_heredoc = g.inside_heredoc }
-
--- the entry of these parts
-abbrev pub entry_of_parts : ℕ → ℕ → Kind → Bool → Entry
-entry_of_parts start end kind inside = record { start = start; end = end; kind = kind; inside_heredoc = inside }
 
 -- a long token stands among the long ones
 pub record IsKept (long : List Span) (k : Kept) : Type 0 where
