@@ -234,7 +234,7 @@ clusters_front text n count utf8 is alone counted =
     omega (arith, clusters_alone text all, ap length same, length-append front (chars rest), length-take-le n text within, counted)
 
 -- a part of a text that is simple
-pub simple_drop : (n : ℕ) (text : List ℕ) → is_simple text ≡ true → is_simple (drop n text) ≡ true
+simple_drop : (n : ℕ) (text : List ℕ) → is_simple text ≡ true → is_simple (drop n text) ≡ true
 simple_drop zero text e = e
 simple_drop (suc n) [] e = e
 simple_drop (suc n) (b ∷ text) e = simple_drop n text (simple_parts b text e).2

@@ -20,7 +20,3 @@ pub mod EmptyLemmas
 pub mod OutLemmas
 pub mod FormatLemmas
 pub mod NotedKindLemmas
-pub mod BlankLemmas
-pub mod InPlaceLemmas
-pub mod ToldLemmas
-pub mod PlacedLemmas

@@ -1,7 +1,6 @@
 -- Words for the code's own parts, which its inner contracts use. Nobody has to believe them.
 pub mod Bounds
 pub mod Depths
-pub mod InPlace
 pub mod Laid
 pub mod Left
 pub mod LineGaps

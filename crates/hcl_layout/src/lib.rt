@@ -6,8 +6,7 @@
 //! Nothing is stored of a line that was passed but the depth, the levels by depth and the two runs in which it
 //! stands. The column of a run is found at its first line: the lines ahead are measured, or, for a comparison, it is
 //! where the cell stands in the source, and the run tells at its end whether that was right. [`fits`] counts only
-//! what a bound doesn't tell to fit. Most lines of a formatted file are compared by a shorter walk ([`in_place`]), which
-//! gives the same.
+//! what a bound doesn't tell to fit.
 //!
 //! ```text
 //! line             level   before =   before #   gaps before its pieces   printed
@@ -25,7 +24,6 @@
 
 mod bound;
 mod buffer;
-mod in_place;
 pub mod laws;
 mod levels;
 mod line;

@@ -71,7 +71,7 @@ pub fn depth_after(depth: u32, step: u8) -> u32
 
 /// Whether a line ends with the token of this number. Its text isn't asked for.
 #[inline(always)]
-pub fn is_line_end(tokens: &Measured<'_, '_>, number: usize) -> bool
+fn is_line_end(tokens: &Measured<'_, '_>, number: usize) -> bool
     requires { number < length tokens.now.tokens }
     ensures { TellsEnd tokens.now.tokens number result }
 {
@@ -101,11 +101,9 @@ pub struct Seen {
 impl Seen {
     /// With a sign.
     #[inline(always)]
-    pub fn with_sign(self, number: usize, depth: u32) -> Seen
-        ensures notes { (t : Lexeme) → t.kind ≡ Assign → t.inside_heredoc ≡ false
+    fn with_sign(self, number: usize, depth: u32) -> Seen
+        ensures { (t : Lexeme) → t.kind ≡ Assign → t.inside_heredoc ≡ false
             → Notes self number depth t result }
-        ensures sign { self.sign ≡ None → self.comment ≡ None → result.sign ≡ Some number }
-        ensures comment { result.comment ≡ self.comment }
     {
         if self.sign.is_some() || self.comment.is_some() {
             return self;
@@ -190,7 +188,7 @@ impl Seen {
 
     /// The line that ends after it.
     #[inline(always)]
-    pub fn line(self, first: usize, end: usize, depth: u32) -> Line
+    fn line(self, first: usize, end: usize, depth: u32) -> Line
         ensures first { result.first ≡ first }
         ensures facts { facts_in result ≡ facts_of (survey_of self depth first end) }
     {
@@ -230,7 +228,7 @@ fn nothing_seen(multiline: bool) -> Seen
 
 /// After the first token of a line, which is no cell: what was seen, the depth, and whether the line ends with it.
 #[inline(always)]
-pub fn read_first(tokens: &Measured<'_, '_>, first: usize, before: u32) -> (Seen, u32, bool)
+fn read_first(tokens: &Measured<'_, '_>, first: usize, before: u32) -> (Seen, u32, bool)
     requires within { first < length tokens.now.tokens }
     requires balanced { BalancedFrom before (drop first tokens.now.tokens) }
     requires fits { before ≤ max_open }

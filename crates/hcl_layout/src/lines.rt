@@ -3,8 +3,8 @@ ghost use Rattle.std.specs.Prelude.{◌≡◌, ◌≢◌, ◌<◌, ◌≤◌, �
 ghost use Rattle.hcl_tokens.specs.Scanned.{lexeme};
 ghost use Rattle.hcl_tokens.specs.Balanced.{max_open};
 ghost use Rattle.hcl_layout.specs.Gaps.{indent as indent_of};
-ghost use Rattle.hcl_layout.specs.Inner.Depths.{Sound, level_at};
-ghost use Rattle.hcl_layout.specs.Inner.Laid.{FindsComment, FindsSign, GoesBack, HasGaps, HasOwnGap, HasSignGaps, IsAt, IsCommentColumn, IsDone, IsLaid, IsPlainOn, IsSignColumn, KeepsCells, KeepsRuns, KeepsSign, KnowsWidth, Laid, LeavesGaps, Moves, MovesSign, Reads, RunsGrow, SignsGrow, Spans, Stops, TellsWrong, bare_after, cell_in, comment_width_on, comments_ended, ends_all_wrong, ends_wrong, gap_on, greatest_of, left_after, no_lines, none_at, shape, sign_width_on, signs_ended, text_of, widest_comment, widest_sign, width_on, with_comment_in, with_sign_in};
+ghost use Rattle.hcl_layout.specs.Inner.Depths.{Sound};
+ghost use Rattle.hcl_layout.specs.Inner.Laid.{FindsComment, FindsSign, GoesBack, HasGaps, HasOwnGap, HasSignGaps, IsAt, IsCommentColumn, IsDone, IsLaid, IsPlainOn, IsSignColumn, KeepsRuns, Laid, LeavesGaps, Moves, MovesSign, Reads, RunsGrow, SignsGrow, Spans, Stops, TellsWrong, bare_after, cell_in, comment_width_on, comments_ended, ends_all_wrong, ends_wrong, gap_on, greatest_of, left_after, no_lines, none_at, shape, sign_width_on, signs_ended, text_of, widest_comment, widest_sign, width_on, with_comment_in, with_sign_in};
 ghost use Rattle.hcl_layout.specs.Inner.Left.{IsGapAt, IsGapBefore, token_before};
 ghost use Rattle.hcl_layout.specs.Inner.LineGaps.{IsSigned, plain_of};
 ghost use Rattle.hcl_layout.specs.Inner.Simple.{IsFrom};
@@ -147,7 +147,7 @@ fn asked_gap(tokens: &Measured<'_, '_>, first: usize, number: usize) -> u64
     u64::from(space_between(before, subject, token))
 }
 
-pub fn indent(level: u32, token: Token<'_>) -> u64
+fn indent(level: u32, token: Token<'_>) -> u64
     requires { level ≤ max_open }
     ensures { result ≡ indent_of level (lexeme token.entry) }
 {
@@ -159,7 +159,7 @@ pub fn indent(level: u32, token: Token<'_>) -> u64
 
 /// The blank before a token of a line that isn't its first.
 #[inline(always)]
-pub fn gap_after(tokens: &Measured<'_, '_>, first: usize, number: usize, token: Token<'_>) -> u64
+fn gap_after(tokens: &Measured<'_, '_>, first: usize, number: usize, token: Token<'_>) -> u64
     requires there { slice_get tokens.now.tokens number ≡ Some (lexeme token) }
     requires within { number < length tokens.now.tokens }
     requires after { first < number }
@@ -290,26 +290,6 @@ impl LaidLine {
         self.width(tokens, self.first, 0, number)
     }
 
-    /// The same, or what is known of it.
-    #[inline(always)]
-    fn known_width(self, tokens: &Measured<'_, '_>, number: usize, known: Option<u64>) -> u64
-        requires laid { Laid tokens.now.tokens self }
-        requires bare { shape self ≡ plain_of self.level }
-        requires order { self.first < number }
-        requires within { number ≤ self.end }
-        requires known { IfSome known
-            (λ width. width ≡ sign_width_on tokens.now.tokens self number) }
-        ensures value { result ≡ sign_width_on tokens.now.tokens self number }
-        ensures small { result ≤ 2 ^ 24 }
-    {
-        // so the texts are short
-        let _count = tokens.len();
-        match known {
-            Some(width) => width,
-            None => self.sign_width(tokens, number),
-        }
-    }
-
     /// The width before a comment, where the sign is set. It is a call, since [`Lines::next`] would grow too large to be
     /// inlined with it.
     #[inline(never)]
@@ -386,18 +366,6 @@ impl Lines {
         !(self.wrong || is_wrong(self.signs) || is_wrong(self.comments))
     }
 
-    /// The level of the next line, if it ends at a depth.
-    #[inline(always)]
-    pub fn level_up_to(&self, depth: u32) -> u32
-        requires low { self.now.depth ≤ max_open }
-        requires fits { depth ≤ max_open }
-        requires sound { Sound self.now.depth self.now.levels }
-        ensures level { result ≡ level_at self.now.depth depth self.now.levels }
-        ensures small { result ≤ max_open }
-    {
-        self.levels[self.depth.min(depth) as usize]
-    }
-
     /// Passes a line but for its cells.
     #[inline(always)]
     fn pass(&mut self, line: Line) -> LaidLine
@@ -463,11 +431,9 @@ impl Lines {
 
     /// Passes a line but for its comment.
     #[inline(always)]
-    fn pass_sign(&mut self, tokens: &Measured<'_, '_>, line: Line, known: Option<u64>) -> LaidLine
-        requires reads { Reads tokens.now.tokens self.old line }
-        requires known { KnowsWidth tokens.now.tokens self.old line known }
+    fn pass_sign(&mut self, tokens: &Measured<'_, '_>, line: Line) -> LaidLine
+        requires { Reads tokens.now.tokens self.old line }
         ensures spans { Spans result line }
-        ensures keeps { KeepsSign self.old line result }
         ensures laid { Laid tokens.now.tokens result }
         ensures signed { IsSigned (shape result) (text_of tokens.now.tokens result) }
         ensures gaps { HasSignGaps tokens.now.tokens self.old self.new result }
@@ -481,7 +447,7 @@ impl Lines {
             self.end_signs();
             return laid;
         };
-        let width = laid.known_width(tokens, number, known);
+        let width = laid.sign_width(tokens, number);
         let column = self.sign_column(tokens, number, width);
         self.signs = Some(widened(column, self.signs, width));
         laid.with_sign(number, width, column)
@@ -502,7 +468,7 @@ impl Lines {
             let Some(number) = line.running() else {
                 return greatest;
             };
-            let laid = ahead.pass_sign(tokens, line, None);
+            let laid = ahead.pass_sign(tokens, line);
             greatest = greatest.max(laid.comment_width(tokens, number));
         }
         greatest
@@ -552,16 +518,9 @@ impl Lines {
 
     /// Passes a line, and gives it with both cells in their columns.
     #[inline(always)]
-    pub fn pass_line(
-        &mut self,
-        tokens: &Measured<'_, '_>,
-        line: Line,
-        known: Option<u64>,
-    ) -> LaidLine
-        requires reads { Reads tokens.now.tokens self.old line }
-        requires known { KnowsWidth tokens.now.tokens self.old line known }
+    fn pass_line(&mut self, tokens: &Measured<'_, '_>, line: Line) -> LaidLine
+        requires { Reads tokens.now.tokens self.old line }
         ensures spans { Spans result line }
-        ensures keeps { KeepsCells self.old line result }
         ensures laid { Laid tokens.now.tokens result }
         ensures gaps { HasGaps tokens.now.tokens self.old self.new result }
         ensures moved { Moves self.old line self.new × IsAt tokens.now.tokens self.new }
@@ -569,7 +528,7 @@ impl Lines {
         ensures ahead_sign { FindsSign tokens.now.tokens self.old self.new }
         ensures ahead_comment { FindsComment tokens.now.tokens self.old self.new }
     {
-        let laid = self.pass_sign(tokens, line, known);
+        let laid = self.pass_sign(tokens, line);
         let Some(number) = line.comment else {
             self.end_comments();
             return laid;
@@ -599,6 +558,6 @@ impl Lines {
             return None;
         }
         let line = line_at(tokens, self.next, self.depth);
-        Some(self.pass_line(tokens, line, None))
+        Some(self.pass_line(tokens, line))
     }
 }

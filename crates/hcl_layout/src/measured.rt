@@ -5,7 +5,6 @@ ghost use Rattle.std.specs.Str.{chars};
 ghost use Rattle.unicode_segmentation.specs.Grapheme.{graphemes};
 ghost use Rattle.hcl_tokens.specs.Lexemes.{Lexeme};
 ghost use Rattle.hcl_tokens.specs.Scanned.{lexeme};
-ghost use Rattle.hcl_tokens.specs.Scans.{Scans};
 ghost use Rattle.hcl_tokens.specs.Balanced.{IsBalanced};
 ghost use Rattle.hcl_layout.specs.Inner.Bounds.{IsBounded};
 ghost use Rattle.hcl_layout.specs.Inner.Simple.{IsFrom, are_alone, is_alone as is_alone_of, is_simple as is_simple_of, is_simple_byte};
@@ -182,7 +181,6 @@ impl<'t, 's> Measured<'t, 's> {
     /// the print.
     pub fn source(&self) -> &'s [u8]
         ensures text { result.now ≡ self.now.text }
-        ensures scanned { Scans self.now.text self.now.tokens }
         ensures bounded { IsBounded self.now }
     {
         self.tokens.source().text().as_bytes()

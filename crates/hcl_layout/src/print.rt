@@ -1,14 +1,11 @@
 //! How long the print is, and whether the source is its own print.
-ghost use Rattle.std.specs.Prelude.{◌≡◌, ◌↔◌, ◌<◌, ◌≤◌, ◌+◌, ◌^◌, ◌==◌, IsTrue, IfSome, true, length, drop, nat_eq};
+ghost use Rattle.std.specs.Prelude.{◌≡◌, ◌↔◌, ◌<◌, ◌≤◌, ◌+◌, ◌^◌, ◌==◌, IsTrue, IfSome, length, drop, nat_eq};
 ghost use Rattle.std.specs.List.{list_all, starts_with};
 ghost use Rattle.hcl_tokens.specs.Balanced.{IsBalanced};
-ghost use Rattle.hcl_layout.specs.Inner.InPlace.{PassesText, end_before, has_no_tab};
-ghost use Rattle.hcl_layout.specs.Inner.Laid.{IsAt};
 ghost use Rattle.hcl_layout.specs.Inner.Left.{EndsAt, GoesOn, begins_blank};
-ghost use Rattle.hcl_layout.specs.Inner.Simple.{IsFrom, is_simple};
+ghost use Rattle.hcl_layout.specs.Inner.Simple.{IsFrom};
 ghost use Rattle.hcl_layout.specs.Print.{print};
 
-use crate::in_place::{pass_told, told_line};
 use crate::lines::{Columns, Lines, Piece};
 use crate::measured::Measured;
 use hcl_grammar::Accepted;
@@ -152,77 +149,6 @@ fn agrees(tokens: &Measured<'_, '_>) -> bool
     at == bytes.len()
 }
 
-/// Whether no byte is a tab. All of them are looked at, so that the loop can be vectorised.
-fn has_no_tab(bytes: &[u8]) -> bool
-    ensures { result ≡ has_no_tab bytes.now }
-{
-    let mut tabs = false;
-    for byte in bytes {
-        tabs = tabs | (*byte == b'\t');
-    }
-    !tabs
-}
-
-/// Whether the source is of ASCII without CR and tabs.
-fn is_simple_without_tabs(tokens: &Measured<'_, '_>) -> bool
-    ensures { IsTrue result → (is_simple tokens.now.text ≡ true)
-        × (has_no_tab tokens.now.text ≡ true) }
-{
-    tokens.is_simple() && has_no_tab(tokens.source())
-}
-
-/// Passes the next line, and gives where it ends, if each of its pieces stands where the source has it.
-#[inline(never)]
-fn pieces_end(tokens: &Measured<'_, '_>, lines: &mut Lines, from: usize) -> Option<usize>
-    requires at { IsAt tokens.now.tokens lines.old }
-    requires from { from ≡ end_before tokens.now.tokens lines.old.next }
-    requires inside { from ≤ length tokens.now.text }
-    ensures { IfSome result
-        (PassesText tokens.now.tokens tokens.now.text lines.old from lines.new) }
-{
-    let source = tokens.source();
-    let Some(line) = lines.next(tokens) else {
-        return None;
-    };
-    let mut at = from;
-    let mut stop = line.first;
-    for number in line.first..line.end {
-        let (piece, next) = line.piece(tokens, number, stop);
-        stop = next;
-        if !goes_on(source, at, piece) {
-            return None;
-        }
-        at = piece.token.start + piece.token.text.len();
-    }
-    Some(at)
-}
-
-/// Passes the next line, and gives where it ends, if it stands where the source has it. It is told by one walk, if
-/// it may be told simply.
-#[inline(always)]
-fn line_end(
-    tokens: &Measured<'_, '_>,
-    lines: &mut Lines,
-    from: usize,
-    simply: bool,
-) -> Option<usize>
-    requires at { IsAt tokens.now.tokens lines.old }
-    requires within { lines.old.next < length tokens.now.tokens }
-    requires from { from ≡ end_before tokens.now.tokens lines.old.next }
-    requires inside { from ≤ length tokens.now.text }
-    requires simply { IsTrue simply → (is_simple tokens.now.text ≡ true)
-        × (has_no_tab tokens.now.text ≡ true) }
-    ensures { IfSome result
-        (PassesText tokens.now.tokens tokens.now.text lines.old from lines.new) }
-{
-    if simply {
-        if let Some(told) = told_line(tokens, lines.next, lines.depth) {
-            return pass_told(tokens, lines, told, from);
-        }
-    }
-    pieces_end(tokens, lines, from)
-}
-
 /// Whether each piece stands where the source has it, with the columns of the runs taken from the source, and these
 /// are the columns of the runs. Nothing is read ahead. It is called, so that the scan keeps its registers.
 #[inline(never)]
@@ -231,17 +157,21 @@ fn stands_in_place(tokens: &Measured<'_, '_>) -> bool
     ensures { IsTrue result → print tokens.now.tokens ≡ tokens.now.text }
 {
     let source = tokens.source();
-    let simply = is_simple_without_tabs(tokens);
     let mut lines = Lines::new(Columns::Found);
     let mut at = 0;
-    while lines.next < tokens.len() {
-        let Some(end) = line_end(tokens, &mut lines, at, simply) else {
-            return false;
-        };
+    while let Some(line) = lines.next(tokens) {
         if lines.wrong {
             return false;
         }
-        at = end;
+        let mut stop = line.first;
+        for number in line.first..line.end {
+            let (piece, next) = line.piece(tokens, number, stop);
+            stop = next;
+            if !goes_on(source, at, piece) {
+                return false;
+            }
+            at = piece.token.start + piece.token.text.len();
+        }
     }
     at == source.len() && lines.are_right()
 }

@@ -1,10 +1,7 @@
 //! Files and what the program shows for them, from small ones up to the limits.
 
-use crate::compared::{Shown, holds};
+use crate::compared::Shown;
 use crate::tests::check;
-use hcl_layout::is_found_formatted;
-use hcl_scan::{Source, scan};
-use hcl_syntax::accepts;
 use std::alloc::Global;
 use std::process::Abort;
 
@@ -26,20 +23,10 @@ fn gives(rt: &impl Abort, alloc: Global, input: &[u8], print: &[u8]) {
     check(rt, alloc, &PRINT, input, (print, NOTHING, 0));
 }
 
-// That the file, which is its own print, is found to be one by a single walk. What is told may be no of any file, and the
-// program shows the same then, but takes longer.
-fn is_found(rt: &impl Abort, alloc: Global, file: &[u8]) {
-    let source = Source::from_bytes(alloc, file).expect(rt, "a source");
-    let tokens = scan(alloc, &source).expect(rt, "tokens");
-    let accepted = accepts(&tokens).expect(rt, "a file");
-    holds(rt, is_found_formatted(&accepted), file);
-}
-
 // That the file is its own print, and found to be.
 fn stays(rt: &impl Abort, alloc: Global, file: &[u8]) {
     gives(rt, alloc, file, file);
     check(rt, alloc, &CHECK, file, FORMATTED);
-    is_found(rt, alloc, file);
 }
 
 // That the input isn't its own print, which this is.

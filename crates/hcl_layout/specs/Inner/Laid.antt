@@ -170,27 +170,6 @@ with_sign_in l number own column = record { first = l.first; end = l.end; level 
 abbrev pub with_comment_in : LaidLine → ℕ → ℕ → ℕ → LaidLine
 with_comment_in l number own column = record { first = l.first; end = l.end; level = l.level; sign = l.sign; comment = cell_in number own column }
 
--- the width before the sign of the next line, if it is known
-abbrev pub KnowsWidth : List Lexeme → Lines → LineRead → Option ℕ → Type 0
-KnowsWidth ts s r known = IfSome known (λ own. (n : ℕ) → r.sign ≡ Some n → own ≡ sign_width_on ts (bare_after s r) n)
-
--- the number of a cell, or the end of a line that has none
-abbrev pub cell_number : ℕ → Option ℕ → ℕ
-cell_number end None = end
-cell_number end (Some n) = n
-
--- it has the level and the cells of the line that was read
-pub record KeepsCells (s : Lines) (r : LineRead) (l : LaidLine) : Type 0 where
-  pub level : l.level ≡ level_at s.depth r.depth s.levels
-  pub sign : l.sign.number ≡ cell_number r.end r.sign
-  pub comment : l.comment.number ≡ cell_number r.end r.comment
-
--- and those but for the comment
-pub record KeepsSign (s : Lines) (r : LineRead) (l : LaidLine) : Type 0 where
-  pub level : l.level ≡ level_at s.depth r.depth s.levels
-  pub sign : l.sign.number ≡ cell_number r.end r.sign
-  pub comment : l.comment.number ≡ r.end
-
 -- the runs stay as they are
 abbrev pub KeepsRuns : Lines → Lines → Type 0
 KeepsRuns old new = (new.signs ≡ old.signs) × (new.comments ≡ old.comments) × (new.wrong ≡ old.wrong)

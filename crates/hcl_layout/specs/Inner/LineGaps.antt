@@ -1,5 +1,5 @@
 -- The gaps of a line from its level and two cells, token by token.
-use Rattle.std.specs.Prelude.{◌≡◌, ◌<◌, ◌≤◌, ◌+◌, ◌^◌, ◌==◌, ℕ, List, [], ◌∷◌, Option, Some, None, IfSome, length, slice_set, if◌then◌else◌}
+use Rattle.std.specs.Prelude.{◌≡◌, ◌<◌, ◌≤◌, ◌+◌, ◌-◌, ◌^◌, ◌==◌, ℕ, List, [], ◌∷◌, Option, Some, None, IfSome, length, slice_set, if◌then◌else◌}
 use Rattle.hcl_tokens.specs.Lexemes.{Lexeme}
 use Rattle.hcl_tokens.specs.Balanced.{max_open}
 use Rattle.hcl_layout.specs.Lines.{Line}

@@ -15,7 +15,7 @@ comment_width-width-requires-clause-order c =
     let ts = c.args.tokens.now.tokens in
     let r = c.args.line in
     let d = c.args.self.now.depth in
-    let p = subst (λ k. IsLine ts k d (facts_in r)) (sym c.requires.reads.first) c.requires.reads.line in
+    let p = subst (λ k. IsLine ts k d (facts_in r)) (sym c.requires.first) c.requires.line in
     omega (arith, c.pass_sign-laid.ensures.spans.0, comment_follows ts d r p c.in-Some.number c.in-Some.is)
 
 pub comment_width-width-requires-clause-within : goal.comment_width-width-requires-clause-within
@@ -23,7 +23,7 @@ comment_width-width-requires-clause-within c =
     let ts = c.args.tokens.now.tokens in
     let r = c.args.line in
     let d = c.args.self.now.depth in
-    let p = subst (λ k. IsLine ts k d (facts_in r)) (sym c.requires.reads.first) c.requires.reads.line in
+    let p = subst (λ k. IsLine ts k d (facts_in r)) (sym c.requires.first) c.requires.line in
     omega (arith, c.pass_sign-laid.ensures.spans.1, comment_in ts d r p c.in-Some.number c.in-Some.is)
 
 pub returns-then-not-line-clause-laid : goal.returns-then-not-line-clause-laid
@@ -31,7 +31,7 @@ returns-then-not-line-clause-laid c =
     let ts = c.args.tokens.now.tokens in
     let r = c.args.line in
     let d = c.args.self.now.depth in
-    let p = subst (λ k. IsLine ts k d (facts_in r)) (sym c.requires.reads.first) c.requires.reads.line in
+    let p = subst (λ k. IsLine ts k d (facts_in r)) (sym c.requires.first) c.requires.line in
     let b = c.pass_sign-laid.result in
     let w = c.comment_width-width.result in
     subst (Laid ts) (sym c.with_comment.ensures) (commented_laid ts b c.in-Some.number w (w - w + 1) c.pass_sign-laid.ensures.laid (omega (arith, c.pass_sign-laid.ensures.spans.0, comment_follows ts d r p c.in-Some.number c.in-Some.is)) (omega arith))
@@ -41,7 +41,7 @@ returns-then-not-line-clause-gaps c =
     let ts = c.args.tokens.now.tokens in
     let s = c.args.self.now in
     let r = c.args.line in
-    let p = subst (λ k. IsLine ts k s.depth (facts_in r)) (sym c.requires.reads.first) c.requires.reads.line in
+    let p = subst (λ k. IsLine ts k s.depth (facts_in r)) (sym c.requires.first) c.requires.line in
     let b = c.pass_sign-laid.result in
     let n = c.in-Some.number in
     let w = c.comment_width-width.result in
@@ -58,7 +58,7 @@ comment_column-column-requires-clause-within c =
     let ts = c.args.tokens.now.tokens in
     let r = c.args.line in
     let d = c.args.self.now.depth in
-    let p = subst (λ k. IsLine ts k d (facts_in r)) (sym c.requires.reads.first) c.requires.reads.line in
+    let p = subst (λ k. IsLine ts k d (facts_in r)) (sym c.requires.first) c.requires.line in
     omega (arith, read_within ts d r p, comment_in ts d r p c.in-Some.number c.in-Some.is)
 
 pub comment_column-column-requires-clause-after : goal.comment_column-column-requires-clause-after
@@ -66,7 +66,7 @@ comment_column-column-requires-clause-after c =
     let ts = c.args.tokens.now.tokens in
     let r = c.args.line in
     let d = c.args.self.now.depth in
-    let p = subst (λ k. IsLine ts k d (facts_in r)) (sym c.requires.reads.first) c.requires.reads.line in
+    let p = subst (λ k. IsLine ts k d (facts_in r)) (sym c.requires.first) c.requires.line in
     omega (arith, comment_follows ts d r p c.in-Some.number c.in-Some.is)
 
 pub returns-clause-laid : goal.returns-clause-laid
@@ -74,7 +74,7 @@ returns-clause-laid c =
     let ts = c.args.tokens.now.tokens in
     let r = c.args.line in
     let d = c.args.self.now.depth in
-    let p = subst (λ k. IsLine ts k d (facts_in r)) (sym c.requires.reads.first) c.requires.reads.line in
+    let p = subst (λ k. IsLine ts k d (facts_in r)) (sym c.requires.first) c.requires.line in
     let b = c.pass_sign-laid.result in
     let w = c.comment_width-width.result in
     subst (Laid ts) (sym c.with_comment-2.ensures) (commented_laid ts b c.in-Some.number w (c.comment_column-column.result - w + 1) c.pass_sign-laid.ensures.laid (omega (arith, c.pass_sign-laid.ensures.spans.0, comment_follows ts d r p c.in-Some.number c.in-Some.is)) (omega (arith, c.comment_column-column.ensures.small)))
@@ -84,7 +84,7 @@ returns-clause-gaps c =
     let ts = c.args.tokens.now.tokens in
     let s = c.args.self.now in
     let r = c.args.line in
-    let p = subst (λ k. IsLine ts k s.depth (facts_in r)) (sym c.requires.reads.first) c.requires.reads.line in
+    let p = subst (λ k. IsLine ts k s.depth (facts_in r)) (sym c.requires.first) c.requires.line in
     let b = c.pass_sign-laid.result in
     let n = c.in-Some.number in
     let w = c.comment_width-width.result in

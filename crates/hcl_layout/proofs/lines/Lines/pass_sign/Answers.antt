@@ -17,27 +17,27 @@ returns-in_default-clause-gaps c =
     let ts = c.args.tokens.now.tokens in
     let s = c.args.self.now in
     let r = c.args.line in
-    let p = subst (λ k. IsLine ts k s.depth (facts_in r)) (sym c.requires.reads.first) c.requires.reads.line in
+    let p = subst (λ k. IsLine ts k s.depth (facts_in r)) (sym c.requires.first) c.requires.line in
     let level : ℕ = level_at s.depth r.depth s.levels in
     let laid = c.pass-laid.ensures.laid in
     let low : level ≤ max_open = subst (λ (x : LaidLine). x.level ≤ max_open) laid c.pass-laid.ensures.small in
     subst (λ (x : LaidLine). gaps_in (shape x) (text_of ts x) ≡ signed_gaps s c.end_signs.new.self (text_of ts x)) (sym laid)
     (bare_gaps ts s.depth r p s.levels level low refl (column_of c.end_signs.new.self.signs) c.in_default.is)
 
-pub known_width-width-requires-clause-order : goal.known_width-width-requires-clause-order
-known_width-width-requires-clause-order c =
+pub sign_width-width-requires-clause-order : goal.sign_width-width-requires-clause-order
+sign_width-width-requires-clause-order c =
     let ts = c.args.tokens.now.tokens in
     let r = c.args.line in
     let d = c.args.self.now.depth in
-    let p = subst (λ k. IsLine ts k d (facts_in r)) (sym c.requires.reads.first) c.requires.reads.line in
+    let p = subst (λ k. IsLine ts k d (facts_in r)) (sym c.requires.first) c.requires.line in
     omega (arith, ap (λ (x : LaidLine). x.first) c.pass-laid.ensures.laid, sign_after ts d r p c.in-Some.number c.in-Some.is)
 
-pub known_width-width-requires-clause-within : goal.known_width-width-requires-clause-within
-known_width-width-requires-clause-within c =
+pub sign_width-width-requires-clause-within : goal.sign_width-width-requires-clause-within
+sign_width-width-requires-clause-within c =
     let ts = c.args.tokens.now.tokens in
     let r = c.args.line in
     let d = c.args.self.now.depth in
-    let p = subst (λ k. IsLine ts k d (facts_in r)) (sym c.requires.reads.first) c.requires.reads.line in
+    let p = subst (λ k. IsLine ts k d (facts_in r)) (sym c.requires.first) c.requires.line in
     omega (arith, ap (λ (x : LaidLine). x.end) c.pass-laid.ensures.laid, sign_within ts d r p c.in-Some.number c.in-Some.is)
 
 pub sign_column-column-requires-clause-within : goal.sign_column-column-requires-clause-within
@@ -45,7 +45,7 @@ sign_column-column-requires-clause-within c =
     let ts = c.args.tokens.now.tokens in
     let r = c.args.line in
     let d = c.args.self.now.depth in
-    let p = subst (λ k. IsLine ts k d (facts_in r)) (sym c.requires.reads.first) c.requires.reads.line in
+    let p = subst (λ k. IsLine ts k d (facts_in r)) (sym c.requires.first) c.requires.line in
     omega (arith, read_within ts d r p, sign_within ts d r p c.in-Some.number c.in-Some.is)
 
 pub sign_column-column-requires-clause-after : goal.sign_column-column-requires-clause-after
@@ -53,7 +53,7 @@ sign_column-column-requires-clause-after c =
     let ts = c.args.tokens.now.tokens in
     let r = c.args.line in
     let d = c.args.self.now.depth in
-    let p = subst (λ k. IsLine ts k d (facts_in r)) (sym c.requires.reads.first) c.requires.reads.line in
+    let p = subst (λ k. IsLine ts k d (facts_in r)) (sym c.requires.first) c.requires.line in
     omega (arith, sign_after ts d r p c.in-Some.number c.in-Some.is)
 
 pub returns-clause-laid : goal.returns-clause-laid
@@ -61,30 +61,30 @@ returns-clause-laid c =
     let ts = c.args.tokens.now.tokens in
     let s = c.args.self.now in
     let r = c.args.line in
-    let p = subst (λ k. IsLine ts k s.depth (facts_in r)) (sym c.requires.reads.first) c.requires.reads.line in
+    let p = subst (λ k. IsLine ts k s.depth (facts_in r)) (sym c.requires.first) c.requires.line in
     let level : ℕ = level_at s.depth r.depth s.levels in
     let laid = c.pass-laid.ensures.laid in
     let low : level ≤ max_open = subst (λ (x : LaidLine). x.level ≤ max_open) laid c.pass-laid.ensures.small in
     let n = c.in-Some.number in
-    let w = c.known_width-width.result in
+    let w = c.sign_width-width.result in
     let gap : ℕ = c.sign_column-column.result - w + 1 in
-    let own = c.known_width-width.ensures.value ∙ ap (λ (b : LaidLine). width (n - b.first) (plain_gaps b.level (text_of ts b)) (text_of ts b)) laid in
+    let own = c.sign_width-width.ensures.value ∙ ap (λ (b : LaidLine). width (n - b.first) (plain_gaps b.level (text_of ts b)) (text_of ts b)) laid in
     subst (Laid ts) (sym (c.with_sign.ensures ∙ ap (λ (b : LaidLine). with_sign_at b n w gap) laid))
-    (set_laid ts s.depth r p s.levels level low refl n w gap c.in-Some.is own c.requires.reads.at.few (omega (arith, c.sign_column-column.ensures.small)))
+    (set_laid ts s.depth r p s.levels level low refl n w gap c.in-Some.is own c.requires.at.few (omega (arith, c.sign_column-column.ensures.small)))
 
 pub returns-clause-signed : goal.returns-clause-signed
 returns-clause-signed c =
     let ts = c.args.tokens.now.tokens in
     let s = c.args.self.now in
     let r = c.args.line in
-    let p = subst (λ k. IsLine ts k s.depth (facts_in r)) (sym c.requires.reads.first) c.requires.reads.line in
+    let p = subst (λ k. IsLine ts k s.depth (facts_in r)) (sym c.requires.first) c.requires.line in
     let level : ℕ = level_at s.depth r.depth s.levels in
     let laid = c.pass-laid.ensures.laid in
     let low : level ≤ max_open = subst (λ (x : LaidLine). x.level ≤ max_open) laid c.pass-laid.ensures.small in
     let n = c.in-Some.number in
-    let w = c.known_width-width.result in
+    let w = c.sign_width-width.result in
     let gap : ℕ = c.sign_column-column.result - w + 1 in
-    let own = c.known_width-width.ensures.value ∙ ap (λ (b : LaidLine). width (n - b.first) (plain_gaps b.level (text_of ts b)) (text_of ts b)) laid in
+    let own = c.sign_width-width.ensures.value ∙ ap (λ (b : LaidLine). width (n - b.first) (plain_gaps b.level (text_of ts b)) (text_of ts b)) laid in
     subst (λ (x : LaidLine). IsSigned (shape x) (text_of ts x)) (sym (c.with_sign.ensures ∙ ap (λ (b : LaidLine). with_sign_at b n w gap) laid))
     (set_signed ts s.depth r p s.levels level low refl n w gap c.in-Some.is own (omega (arith, c.sign_column-column.ensures.small)))
 
@@ -93,15 +93,15 @@ returns-clause-gaps c =
     let ts = c.args.tokens.now.tokens in
     let s = c.args.self.now in
     let r = c.args.line in
-    let p = subst (λ k. IsLine ts k s.depth (facts_in r)) (sym c.requires.reads.first) c.requires.reads.line in
+    let p = subst (λ k. IsLine ts k s.depth (facts_in r)) (sym c.requires.first) c.requires.line in
     let level : ℕ = level_at s.depth r.depth s.levels in
     let laid = c.pass-laid.ensures.laid in
     let low : level ≤ max_open = subst (λ (x : LaidLine). x.level ≤ max_open) laid c.pass-laid.ensures.small in
     let n = c.in-Some.number in
-    let w = c.known_width-width.result in
+    let w = c.sign_width-width.result in
     let column = c.sign_column-column.result in
     let gap : ℕ = column - w + 1 in
-    let own = c.known_width-width.ensures.value ∙ ap (λ (b : LaidLine). width (n - b.first) (plain_gaps b.level (text_of ts b)) (text_of ts b)) laid in
+    let own = c.sign_width-width.ensures.value ∙ ap (λ (b : LaidLine). width (n - b.first) (plain_gaps b.level (text_of ts b)) (text_of ts b)) laid in
     subst (λ (x : LaidLine). gaps_in (shape x) (text_of ts x) ≡ align assign_cell (plain s.depth s.levels (text_of ts x)) (text_of ts x) (Some c.widened.result.column)) (sym (c.with_sign.ensures ∙ ap (λ (b : LaidLine). with_sign_at b n w gap) laid))
     (set_gaps ts s.depth r p s.levels level low refl n w gap c.in-Some.is own column refl
     ∙ ap (λ (k : ℕ). align assign_cell (plain s.depth s.levels (text_in ts r)) (text_in ts r) (Some k)) (sym c.widened.ensures.column))
