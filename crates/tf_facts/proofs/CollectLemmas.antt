@@ -1,21 +1,22 @@
 -- A walk that puts references into a set, token by token.
-use Rattle.std.proofs.Common.{◌≡◌, ◌∙◌, ap, sym, refl, drop, ℕ, suc, zero, ◌+◌, ◌-◌, ◌≤◌, arith, Bool, true, false, cond, List, [], ◌∷◌, ◌++◌, length, append_assoc, subst}
+use Rattle.std.proofs.Common.{◌≡◌, ◌∙◌, ap, sym, refl, drop, ℕ, suc, zero, ◌+◌, ◌-◌, ◌≤◌, ◌<◌, ◌⊎◌, inl, inr, ◌≢◌, arith, Bool, true, false, cond, List, [], ◌∷◌, ◌++◌, length, append_assoc, subst}
 use Rattle.std.specs.Prelude.{◌&&◌, None, Option, Some, slice_get}
 use Rattle.std.specs.List.{list_any}
 use Rattle.std.specs.Str.{bytes_eq}
 use Rattle.std.proofs.lemmas.List.{append-nil}
 use Rattle.std.proofs.lemmas.List.Sums.{fold-append}
 use Rattle.indexmap.specs.IndexSet.{insert_all, insert_key}
+use Rattle.std.proofs.lemmas.Bool.{cases_eq}
 use Rattle.hcl_tokens.specs.Kinds.{is}
+use Rattle.hcl_tokens.specs.declared.token.Kind.{Kind}
 use Rattle.hcl_tokens.specs.declared.token.Kind.TheVariants as kind
 use Rattle.hcl_tokens.specs.Lexemes.{Lexeme}
 use Rattle.hcl_grammar.specs.Numbered.{Numbered, is_passed_over}
 use Rattle.tf_facts.specs.References.{Own, by_name, name_after, reference_at, references_from, unless_own}
-use Rattle.tf_facts.specs.Inner.Named.{AreUnnamed}
-use Rattle.tf_facts.specs.Inner.Seen.{after_dot, number_of, seen_from}
+use Rattle.tf_facts.specs.Inner.Seen.{AreNoIdents, after_dot, number_of, seen_from}
 use Rattle.tf_facts.specs.OwnBlocks.{ArePassed, Extends}
 use Rattle.tf_facts.proofs.PatternLemmas.{there_is}
-use Rattle.tf_facts.proofs.SeenLemmas.{after_past, after_seen, seen_here, seen_past, seen_none, word_seen}
+use Rattle.tf_facts.proofs.SeenLemmas.{after_past, after_seen, seen_here, seen_past, seen_none}
 
 -- ---- what follows a word
 
@@ -120,7 +121,7 @@ module _ (own : List Own) (ts : List Lexeme) (old : List (List ℕ)) where
       (sym (ap (λ b. insert_all bytes_eq new (unless_own own n (cond b (by_name t.text (name_after (seen_from ts (n + 1))) (drop 2 (seen_from ts (n + 1)))) None))) none)) h
 
   -- a word that no name after a dot follows begins no reference
-  no_name : (new : List (List ℕ)) (after dot : Bool) (n : ℕ) (t : Lexeme) → slice_get ts n ≡ Some t → is_passed_over t.kind ≡ false → name_after (seen_from ts (n + 1)) ≡ None → after ≡ false → dot ≡ is kind.Dot t.kind
+  pub no_name : (new : List (List ℕ)) (after dot : Bool) (n : ℕ) (t : Lexeme) → slice_get ts n ≡ Some t → is_passed_over t.kind ≡ false → name_after (seen_from ts (n + 1)) ≡ None → after ≡ false → dot ≡ is kind.Dot t.kind
       → IsCollected own ts old new after n → IsCollected own ts old new dot (n + 1)
   no_name new after dot n t e seen none free same h =
       collected new new new after dot n t e seen free same refl
@@ -128,7 +129,7 @@ module _ (own : List Own) (ts : List Lexeme) (old : List (List ℕ)) where
       ∙ ap (λ (r : Option (List ℕ)). insert_all bytes_eq new (unless_own own n r)) (cond-same (is kind.Ident t.kind) None))) h
 
   -- so does one that is passed over
-  no_ident : (new : List (List ℕ)) (n : ℕ) (t : Lexeme) → slice_get ts n ≡ Some t → is kind.Ident t.kind ≡ false → IsCollected own ts old new (after_dot ts n) n → IsCollected own ts old new (after_dot ts (n + 1)) (n + 1)
+  pub no_ident : (new : List (List ℕ)) (n : ℕ) (t : Lexeme) → slice_get ts n ≡ Some t → is kind.Ident t.kind ≡ false → IsCollected own ts old new (after_dot ts n) n → IsCollected own ts old new (after_dot ts (n + 1)) (n + 1)
   no_ident new n t e none h = by (is_passed_over t.kind) refl
     where
       by : (b : Bool) → is_passed_over t.kind ≡ b → IsCollected own ts old new (after_dot ts (n + 1)) (n + 1)
@@ -136,29 +137,27 @@ module _ (own : List Own) (ts : List Lexeme) (old : List (List ℕ)) where
       by false seen = no_word new (after_dot ts n) (after_dot ts (n + 1)) n t e seen none (after_seen ts n (n + 1) refl t e seen) h
 
   -- a word that no name after a dot follows begins no reference, whatever is before it
-  no_after : (new : List (List ℕ)) (after dot : Bool) (n : ℕ) (t : Lexeme) → slice_get ts n ≡ Some t → is_passed_over t.kind ≡ false → name_after (seen_from ts (n + 1)) ≡ None → dot ≡ is kind.Dot t.kind
+  pub no_after : (new : List (List ℕ)) (after dot : Bool) (n : ℕ) (t : Lexeme) → slice_get ts n ≡ Some t → is_passed_over t.kind ≡ false → name_after (seen_from ts (n + 1)) ≡ None → dot ≡ is kind.Dot t.kind
       → IsCollected own ts old new after n → IsCollected own ts old new dot (n + 1)
   no_after new true dot n t e seen none is_dot h = skipped new new true dot n t e seen refl is_dot refl h
   no_after new false dot n t e seen none is_dot h = no_name new false dot n t e seen none refl is_dot h
 
-  -- so does each of these
-  one_unnamed : (new : List (List ℕ)) (n : ℕ) (t : Lexeme) → slice_get ts n ≡ Some t → (is kind.Ident t.kind ≡ true → name_after (seen_from ts (n + 1)) ≡ None) → IsCollected own ts old new (after_dot ts n) n
-      → IsCollected own ts old new (after_dot ts (n + 1)) (n + 1)
-  one_unnamed new n t e none h = by (is kind.Ident t.kind) refl
-    where
-      by : (b : Bool) → is kind.Ident t.kind ≡ b → IsCollected own ts old new (after_dot ts (n + 1)) (n + 1)
-      by true word = let seen = word_seen t.kind word in no_after new (after_dot ts n) (after_dot ts (n + 1)) n t e seen (none word) (after_seen ts n (n + 1) refl t e seen) h
-      by false other = no_ident new n t e other h
-
   -- nor do many
-  many_unnamed : (new : List (List ℕ)) (n d m : ℕ) → m ≡ n + d → m ≤ length ts → AreUnnamed ts n m → IsCollected own ts old new (after_dot ts n) n → IsCollected own ts old new (after_dot ts m) m
-  many_unnamed new n zero m at within none h = let e : n ≡ m = omega (arith, at) in let P : ℕ → Type 0 = λ k. IsCollected own ts old new (after_dot ts k) k in subst P e h
-  many_unnamed new n (suc d) m at within none h =
-      many_unnamed new (n + 1) d m (omega (arith, at)) within (λ k u from below here. none k u (omega (arith, from)) below here)
-      (one_unnamed new n here.0 here.1 (none n here.0 (omega arith) (omega (arith, at)) here.1) h)
+  pub no_idents : (new : List (List ℕ)) (n d m : ℕ) → m ≡ n + d → m ≤ length ts → AreNoIdents ts n m → IsCollected own ts old new (after_dot ts n) n → IsCollected own ts old new (after_dot ts m) m
+  no_idents new n zero m at within none h = let e : n ≡ m = omega (arith, at) in let P : ℕ → Type 0 = λ k. IsCollected own ts old new (after_dot ts k) k in subst P e h
+  no_idents new n (suc d) m at within none h =
+      no_idents new (n + 1) d m (omega (arith, at)) within (λ k u from below here. none k u (omega (arith, from)) below here)
+      (no_ident new n here.0 here.1 (none n here.0 (omega arith) (omega (arith, at)) here.1) h)
     where
       here : (t : Lexeme) × (slice_get ts n ≡ Some t)
       here = there_is ts n (omega (arith, at, within))
 
-  pub over_unnamed : (new : List (List ℕ)) (n m : ℕ) → n ≤ m → m ≤ length ts → AreUnnamed ts n m → IsCollected own ts old new (after_dot ts n) n → IsCollected own ts old new (after_dot ts m) m
-  over_unnamed new n m order within none h = many_unnamed new n (m - n) m (omega (arith, order)) within none h
+  pub over_no_idents : (new : List (List ℕ)) (n m : ℕ) → n ≤ m → m ≤ length ts → AreNoIdents ts n m → IsCollected own ts old new (after_dot ts n) n → IsCollected own ts old new (after_dot ts m) m
+  over_no_idents new n m order within none h = no_idents new n (m - n) m (omega (arith, order)) within none h
+
+pub no_ident_more : (ts : List Lexeme) (from n : ℕ) (k : Kind) → ((t : Lexeme) → slice_get ts n ≡ Some t → k ≡ t.kind) → is kind.Ident k ≡ false → AreNoIdents ts from n → AreNoIdents ts from (n + 1)
+no_ident_more ts from n k is_k none h = λ i t after below here. by i t after below here (cases_eq i n)
+  where
+    by : (i : ℕ) (t : Lexeme) → from ≤ i → i < n + 1 → slice_get ts i ≡ Some t → (i ≡ n) ⊎ (i ≢ n) → is kind.Ident t.kind ≡ false
+    by i t after below here (inl e) = ap (is kind.Ident) (sym (is_k t (ap (slice_get ts) (sym e) ∙ here))) ∙ none
+    by i t after below here (inr ne) = h i t after (omega (arith, below, ne)) here

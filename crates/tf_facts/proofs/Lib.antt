@@ -5,7 +5,6 @@ pub mod CutLemmas
 pub mod FrontLemmas
 pub mod OwnLemmas
 pub mod CollectLemmas
-pub mod NamedLemmas
 pub mod ClosingLemmas
 pub mod PatternLemmas
 pub mod BodyLemmas

@@ -3,7 +3,6 @@ pub mod Closings
 pub mod Cuts
 pub mod FoundViews
 pub mod Labelled
-pub mod Named
 pub mod Seen
 pub mod Spelled
 pub mod Values

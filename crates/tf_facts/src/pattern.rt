@@ -77,7 +77,7 @@ fn is_plain(kind: Kind) -> bool
 }
 
 /// Whether there is no more to do at a token than to know it as what is ahead of those before it. Most dots and opening
-/// quotes are so, and no processor can predict which, so this compiles to no branch.
+/// quotes are so, and no processor can predict which, so this is written without a branch.
 #[inline(always)]
 fn is_quiet(kind: Kind, next: Kind, is_closed: bool) -> bool
     ensures { result ≡ is_quiet kind next is_closed }

@@ -6,8 +6,7 @@ ghost use Rattle.std.specs.Option.{option_map};
 ghost use Rattle.hcl_tokens.specs.Kinds.{is};
 ghost use Rattle.hcl_tokens.specs.declared.token.Kind.TheVariants.{Ident};
 ghost use Rattle.tf_facts.specs.References.{name_after, reference_at, reference_of};
-ghost use Rattle.tf_facts.specs.Inner.Seen.{seen_from, numbered_of, IsIdentAt};
-ghost use Rattle.tf_facts.specs.Inner.Named.{AreUnnamed, IsNoneNamed, IsNoWordBefore, IsWordBefore};
+ghost use Rattle.tf_facts.specs.Inner.Seen.{seen_from, numbered_of};
 ghost use Rattle.tf_facts.specs.Inner.Spelled.{IsAfter, spelled};
 
 use crate::seen::{Seen, is_dot, is_passed_over, next_seen};
@@ -22,69 +21,25 @@ pub enum Reference<'s> {
 }
 
 /// Whether the kind is an identifier.
-fn is_ident(kind: Kind) -> bool
+pub fn is_ident(kind: Kind) -> bool
     ensures { result ≡ is Ident kind }
 {
     matches!(kind, Kind::Ident)
 }
 
-/// The number of the identifier that is the last token seen before a token, from another number on.
+/// Whether a name after a dot can follow a token: whether a dot does, or a token that is passed over.
 #[inline(always)]
-fn word_before(tokens: &Tokens<'_>, from: usize, number: usize) -> Option<usize>
-    requires { number ≤ length tokens.now.tokens }
-    ensures { MatchOption result (IsNoWordBefore tokens.now.tokens from number)
-        (IsWordBefore tokens.now.tokens from number) }
+pub fn may_be_named(tokens: &Tokens<'_>, number: usize) -> bool
+    requires within { number < length tokens.now.tokens }
+    requires small { number + 1 < 2 ^ 64 }
+    ensures { result ≡ false → name_after (seen_from tokens.now.tokens (number + 1)) ≡ None }
 {
-    let mut before = number;
-    while before > from {
-        before -= 1;
-        let kind = tokens.kind(before);
-        if is_ident(kind) {
-            return Some(before);
-        }
-        if !is_passed_over(kind) {
-            return None;
-        }
+    let next = number + 1;
+    if next >= tokens.len() {
+        return false;
     }
-    None
-}
-
-/// The same, where the token is a dot.
-#[inline(always)]
-fn word_before_dot(tokens: &Tokens<'_>, from: usize, number: usize) -> Option<usize>
-    requires { number < length tokens.now.tokens }
-    ensures { MatchOption result (IsNoneNamed tokens.now.tokens from number)
-        (IsWordBefore tokens.now.tokens from number) }
-{
-    if !is_dot(tokens.kind(number)) {
-        return None;
-    }
-    word_before(tokens, from, number)
-}
-
-/// The number of the first identifier from a number on that a dot follows, or how many tokens there are. It is found by its
-/// dot, since dots are fewer than identifiers.
-#[inline(always)]
-pub fn next_named(tokens: &Tokens<'_>, from: usize) -> usize
-    requires { from ≤ length tokens.now.tokens }
-    ensures order { from ≤ result }
-    ensures within { result ≤ length tokens.now.tokens }
-    ensures none { AreUnnamed tokens.now.tokens from result }
-    ensures ident { IsIdentAt tokens.now.tokens result }
-{
-    let count = tokens.len();
-    if from >= count {
-        return count;
-    }
-    // No word can stand before the first of these tokens, which is mostly the last word's dot.
-    let mut number = from + 1;
-    while number < count {
-        if let Some(word) = word_before_dot(tokens, from, number) {
-            return word;
-        }
-        number += 1;
-    }
-    count
+    let kind = tokens.kind(next);
+    is_dot(kind) || is_passed_over(kind)
 }
 
 /// The identifier after a dot with which the tokens from a number on begin.

@@ -6,26 +6,22 @@ ghost use Rattle.std.specs.String.{string_bytes};
 ghost use Rattle.std.specs.Str.{bytes_eq};
 ghost use Rattle.indexmap.specs.IndexSet.{insert_all};
 ghost use Rattle.tf_facts.specs.References.{is_own, reference_at, references_from, unless_own};
-ghost use Rattle.tf_facts.specs.Inner.Seen.{seen_from, numbered_of};
+ghost use Rattle.tf_facts.specs.Inner.Seen.{AreNoIdents, IsIdentAt, seen_from, numbered_of};
 ghost use Rattle.tf_facts.specs.Inner.Spelled.{spelled};
 ghost use Rattle.tf_facts.specs.OwnBlocks.{own_of, Apart, ArePassed, Extends, IsAhead};
 
 use crate::own_block::OwnBlock;
-use crate::reference::{Reference, next_named, reference_at};
+use crate::reference::{Reference, is_ident, may_be_named, reference_at};
 use crate::seen::{Seen, is_after_dot};
 use crate::text_set::TextSet;
 use hcl_tokens::Tokens;
 use std::alloc::{AllocError, Global};
-
-/// How many bytes the text of a reference has room for at first, so that it doesn't grow word by word. Few are longer.
-const USUAL_ROOM: usize = 64;
 
 /// Puts the text that identifies a reference in place of another, whose room it takes.
 fn spell(reference: Reference<'_>, text: &mut String) -> Result<(), AllocError>
     ensures { OnOk result (string_bytes text.new ≡ spelled reference.entry) }
 {
     text.clear();
-    text.reserve(USUAL_ROOM)?;
     match reference {
         Reference::Variable(name) => {
             text.push_str("var.")?;
@@ -133,6 +129,26 @@ fn put(
     into.insert_copy(alloc, text.as_str())
 }
 
+/// The number of the first identifier from a number on, or how many tokens there are.
+#[inline(always)]
+fn next_ident(tokens: &Tokens<'_>, from: usize) -> usize
+    requires { from ≤ length tokens.now.tokens }
+    ensures order { from ≤ result }
+    ensures within { result ≤ length tokens.now.tokens }
+    ensures none { AreNoIdents tokens.now.tokens from result }
+    ensures ident { IsIdentAt tokens.now.tokens result }
+{
+    let count = tokens.len();
+    let mut number = from;
+    while number < count {
+        if is_ident(tokens.kind(number)) {
+            return number;
+        }
+        number += 1;
+    }
+    number
+}
+
 /// Puts the references of the tokens into the set, in order; `blocks` are those of variables, one after another. On
 /// refusal the set may have some of them after what it had.
 pub fn collect(
@@ -150,10 +166,14 @@ pub fn collect(
     let count = tokens.len();
     let mut passed_blocks = 0;
     let mut text = String::new(alloc);
-    let mut next = next_named(tokens, 0);
+    let mut next = next_ident(tokens, 0);
     while next < count {
         let number = next;
-        next = next_named(tokens, number + 1);
+        next = next_ident(tokens, number + 1);
+        // Few words can be named, and only of those it matters what is before them.
+        if !may_be_named(tokens, number) {
+            continue;
+        }
         if is_after_dot(tokens, number) {
             continue;
         }
@@ -182,7 +202,6 @@ pub fn add_references(
         (seen_from tokens.now.tokens 0))) }
     ensures err { OnErr result (into.new ≡ into.old) }
 {
-    into.make_first_room()?;
     let before = into.len();
     if let Err(error) = collect(alloc, tokens, blocks, into) {
         into.truncate(before);

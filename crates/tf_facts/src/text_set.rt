@@ -11,9 +11,6 @@ use indexmap::IndexSet;
 use std::alloc::{AllocError, Global};
 use std::marker::Model;
 
-/// How many texts there is room for at first.
-const FEW: usize = 36;
-
 /// Texts, each once.
 #[derive(Drop)]
 pub struct TextSet {
@@ -58,17 +55,6 @@ impl TextSet {
         ensures { result ≡ list_any (bytes_eq text.now) self.now }
     {
         self.texts.contains(text)
-    }
-
-    /// Makes room for a few texts, where there is none yet. Without it the table is made for 9 texts, and anew for 18 and
-    /// 36.
-    pub(crate) fn make_first_room(&mut self) -> Result<(), AllocError>
-        ensures { self.new ≡ self.old }
-    {
-        if self.texts.is_empty() {
-            return self.texts.reserve(FEW);
-        }
-        Ok(())
     }
 
     /// Puts a text last, where it is not there yet.

@@ -60,9 +60,6 @@ impl Model for Facts {
     } };
 }
 
-/// How many entries the list has room for at most at first: one a declaration. It grows where there are more.
-const MOST_ROOM: usize = 256;
-
 /// Makes room in a list for so many more. An empty list needs none, since the list of more takes its place.
 fn make_room<T>(list: &mut Vec<T>, more: usize) -> Result<(), AllocError>
     ensures same { list.new.items ≡ list.old.items }
@@ -100,16 +97,6 @@ fn asks_of_declarations(rules: RuleSet) -> bool
         | rules.holds(Rule::TypedVariables)
         | rules.holds(Rule::UnusedDeclarations)
         | rules.holds(Rule::ModulePinnedSource)
-}
-
-/// How many entries there is room for at first, where there are so many declarations.
-fn first_room(settings: &Settings, declarations: usize) -> usize
-    ensures { result ≤ declarations }
-{
-    if !asks_of_declarations(settings.rules) {
-        return 0;
-    }
-    declarations.min(MOST_ROOM)
 }
 
 impl Facts {
@@ -270,8 +257,7 @@ impl Facts {
             (findings settings.now.naming self.now.references self.now.facts rule))
             (rules_of settings.now.rules)) (issues_of entries.items)) }
     {
-        let room = first_room(settings, self.declarations.len());
-        let mut entries: Vec<Entry<'f>> = Vec::with_capacity(self.alloc, room)?;
+        let mut entries: Vec<Entry<'f>> = Vec::new(self.alloc);
         self.put_slashed(settings, &mut entries)?;
         self.put_indexes(settings, &mut entries)?;
         self.put_interpolations(settings, &mut entries)?;

@@ -27,6 +27,10 @@ pub record IsNextSeen (tokens : List Lexeme) (from : ℕ) (t : Seen) : Type 0 wh
 abbrev pub IsIdentAt : List Lexeme → ℕ → Type 0
 IsIdentAt tokens n = (t : Lexeme) → slice_get tokens n ≡ Some t → is Ident t.kind ≡ true
 
+-- none is from a number on to before another
+abbrev pub AreNoIdents : List Lexeme → ℕ → ℕ → Type 0
+AreNoIdents tokens from to = (k : ℕ) (t : Lexeme) → from ≤ k → k < to → slice_get tokens k ≡ Some t → is Ident t.kind ≡ false
+
 -- a token that is seen is a dot or not; over one that isn't the answer stays
 abbrev pub dot_or : Option Lexeme → Bool → Bool
 dot_or None before = before

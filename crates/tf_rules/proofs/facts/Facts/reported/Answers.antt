@@ -17,4 +17,4 @@ returns c =
     (c.in_ok-put_indexes.ensures
     ∙ ap (λ (is : List Issue). is ++ issues_by s kept DeprecatedIndex)
     (c.in_ok-put_slashed.ensures
-    ∙ ap (λ (is : List Issue). is ++ issues_by s kept CommentSyntax) (ap issues_of c.in_ok-entries.ensures.items)))))
+    ∙ ap (λ (is : List Issue). is ++ issues_by s kept CommentSyntax) (ap issues_of c.new-entries.ensures.items)))))
