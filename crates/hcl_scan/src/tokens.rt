@@ -17,13 +17,13 @@ const BYTES_A_TOKEN: usize = 4;
 /// How many tokens the list has room for at most at first: it is small files whose lists take long to grow.
 const MOST_ROOM: usize = 8_192;
 
-/// No entries, with room for most of those of a source: a list that grows from nothing is moved several times, which takes
-/// a seventh of the time of a small file.
+/// No entries, with room for most of those of a source: a list that grows from nothing is moved several times. The room is in
+/// fours, since a list's own first room is for four.
 fn no_entries(alloc: Global, source: &Source) -> Result<Entries, ScanError>
     ensures none { IfOk result (λ entries. entries ≡ []) }
     ensures err { IfErr result (IsScanError source.now) }
 {
-    let room = (source.text().len() / BYTES_A_TOKEN).min(MOST_ROOM);
+    let room = (source.text().len() / BYTES_A_TOKEN / 4 * 4).min(MOST_ROOM);
     match Entries::with_room(alloc, room) {
         Ok(entries) => Ok(entries),
         Err(_) => Err(ScanError::OutOfMemory),

@@ -12,7 +12,7 @@ use std::alloc::{AllocError, Global};
 /// tokens an item, and where there are fewer the list grows.
 const TOKENS_AN_ITEM: usize = 6;
 
-/// How many items the outline has room for at most at first.
+/// How many items the outline has room for at most at first. The room is in fours, since a list's own first room is for four.
 const MOST_ROOM: usize = 1_024;
 
 /// The outline of a file, in time linear in its tokens.
@@ -22,7 +22,8 @@ pub fn outline(alloc: Global, accepted: &Accepted<'_, '_>) -> Result<Outline, Al
     let tokens = accepted.tokens();
     let ends = newlines(alloc, tokens)?;
     let count = token_count(tokens);
-    let mut items = Outline::with_room(alloc, (tokens.len() / TOKENS_AN_ITEM).min(MOST_ROOM))?;
+    let room = (tokens.len() / TOKENS_AN_ITEM / 4 * 4).min(MOST_ROOM);
+    let mut items = Outline::with_room(alloc, room)?;
     put_items(tokens, &ends, 0, 0, count, &mut items)?;
     Ok(items)
 }

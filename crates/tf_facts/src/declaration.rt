@@ -266,7 +266,8 @@ fn put_item<'s>(
 /// to ten items a declaration, and where there are fewer the list grows.
 const ITEMS_A_DECLARATION: usize = 6;
 
-/// How many declarations the list has room for at most at first.
+/// How many declarations the list has room for at most at first. The room is in fours, since a list's own first room is for
+/// four.
 const MOST_ROOM: usize = 256;
 
 /// What a file declares, in order, by its outline.
@@ -279,7 +280,7 @@ pub fn declarations<'s>(
     ensures { IfOk result (λ found. map declaration found.items
         ≡ declarations (numbered accepted.now.tokens)) }
 {
-    let room = (items.len() / ITEMS_A_DECLARATION).min(MOST_ROOM);
+    let room = (items.len() / ITEMS_A_DECLARATION / 4 * 4).min(MOST_ROOM);
     let mut found = Vec::with_capacity(alloc, room)?;
     for number in 0..items.len() {
         put_item(accepted, items, number, &mut found)?;
