@@ -27,7 +27,8 @@ fn is_newline(kind: Kind) -> bool
     matches!(kind, Kind::Newline)
 }
 
-/// The number of a newline, or else another. No processor can predict which tokens are newlines, so this compiles to no branch.
+/// The number of a newline, or else another. No processor can predict which tokens are newlines, so this is written as a
+/// choice of two values, which needs no branch.
 #[inline(always)]
 fn newline_or(kind: Kind, number: u32, other: u32) -> u32
     ensures { result ≡ (if is Newline kind then number else other) }
