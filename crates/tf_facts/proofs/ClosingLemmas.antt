@@ -35,94 +35,62 @@ up d = omega arith
 down : (d : ℕ) → d + 0 - 1 ≡ d - 1
 down d = omega arith
 
--- what is found only where a test holds is no other part
-no_part : (b : Bool) (p q : Part) → (p ≡ q → ⊥) → (part.Quiet ≡ q → ⊥) → cond b p part.Quiet ≡ q → ⊥
-no_part true p q one other e = one e
-no_part false p q one other e = other e
+pub at_dot : (k : Kind) → part_of k ≡ part.Dot → Says k true false false false (λ d. d)
+at_dot kind.Dot e = record { seen = refl; dot_is = refl; quote_is = refl; closer_is = refl; moves = flat; opened = λ here known h. refl }
+at_dot _ e = absurd (cc)
 
--- and tells of the test
-found : (b : Bool) (p : Part) → (part.Quiet ≡ p → ⊥) → cond b p part.Quiet ≡ p → b ≡ true
-found true p other e = refl
-found false p other e = absurd (other e)
+pub at_quote : (k : Kind) → part_of k ≡ part.QuoteOpen → Says k false true false false (λ d. d)
+at_quote kind.QuoteOpen e = record { seen = refl; dot_is = refl; quote_is = refl; closer_is = refl; moves = flat; opened = λ here known h. refl }
+at_quote _ e = absurd (cc)
 
-not_found : (b : Bool) (p : Part) → (p ≡ part.Quiet → ⊥) → cond b p part.Quiet ≡ part.Quiet → b ≡ false
-not_found true p one e = absurd (one e)
-not_found false p one e = refl
+pub at_opener : (k : Kind) → part_of k ≡ part.Opens → Says k false false true false (λ d. d + 1)
+at_opener kind.ParenOpen e = record { seen = refl; dot_is = refl; quote_is = refl; closer_is = refl; moves = up; opened = λ here known h. refl }
+at_opener kind.BracketOpen e = record { seen = refl; dot_is = refl; quote_is = refl; closer_is = refl; moves = up; opened = λ here known h. refl }
+at_opener kind.BraceOpen e = record { seen = refl; dot_is = refl; quote_is = refl; closer_is = refl; moves = up; opened = λ here known h. refl }
+at_opener kind.InterpOpen e = record { seen = refl; dot_is = refl; quote_is = refl; closer_is = refl; moves = up; opened = λ here known h. h refl }
+at_opener kind.ControlOpen e = record { seen = refl; dot_is = refl; quote_is = refl; closer_is = refl; moves = up; opened = λ here known h. refl }
+at_opener _ e = absurd (cc)
 
-pub at_index : (k next : Kind) (closed : Bool) → part_of k next closed ≡ part.Index → Says k true false false false (λ d. d)
-at_index kind.Dot next closed e = record { seen = refl; dot_is = refl; quote_is = refl; closer_is = refl; moves = flat; opened = λ here known h. refl }
-at_index kind.QuoteOpen next closed e = absurd (no_part (is kind.InterpOpen next && closed) part.Alone part.Index (λ h. absurd (cc)) (λ h. absurd (cc)) e)
-at_index _ next closed e = absurd (cc)
+pub at_closer : (k : Kind) → part_of k ≡ part.Closes → Says k false false false true (λ d. d - 1)
+at_closer kind.ParenClose e = record { seen = refl; dot_is = refl; quote_is = refl; closer_is = refl; moves = down; opened = λ here known h. refl }
+at_closer kind.BracketClose e = record { seen = refl; dot_is = refl; quote_is = refl; closer_is = refl; moves = down; opened = λ here known h. refl }
+at_closer kind.BraceClose e = record { seen = refl; dot_is = refl; quote_is = refl; closer_is = refl; moves = down; opened = λ here known h. refl }
+at_closer kind.SeqClose e = record { seen = refl; dot_is = refl; quote_is = refl; closer_is = refl; moves = down; opened = λ here known h. refl }
+at_closer _ e = absurd (cc)
 
-pub number_ahead : (k next : Kind) (closed : Bool) → part_of k next closed ≡ part.Index → is kind.Number next ≡ true
-number_ahead kind.Dot next closed e = found (is kind.Number next) part.Index (λ h. absurd (cc)) e
-number_ahead kind.QuoteOpen next closed e = absurd (no_part (is kind.InterpOpen next && closed) part.Alone part.Index (λ h. absurd (cc)) (λ h. absurd (cc)) e)
-number_ahead _ next closed e = absurd (cc)
+pub at_plain : (k : Kind) → part_of k ≡ part.Plain → Says k false false false false (λ d. d)
+at_plain kind.LineComment e = absurd (cc)
+at_plain kind.InlineComment e = absurd (cc)
+at_plain kind.Blank e = absurd (cc)
+at_plain kind.Newline e = absurd (cc)
+at_plain kind.Dot e = absurd (cc)
+at_plain kind.QuoteOpen e = absurd (cc)
+at_plain kind.ParenOpen e = absurd (cc)
+at_plain kind.BracketOpen e = absurd (cc)
+at_plain kind.BraceOpen e = absurd (cc)
+at_plain kind.InterpOpen e = absurd (cc)
+at_plain kind.ControlOpen e = absurd (cc)
+at_plain kind.ParenClose e = absurd (cc)
+at_plain kind.BracketClose e = absurd (cc)
+at_plain kind.BraceClose e = absurd (cc)
+at_plain kind.SeqClose e = absurd (cc)
+at_plain _ e = record { seen = refl; dot_is = refl; quote_is = refl; closer_is = refl; moves = flat; opened = λ here known h. refl }
 
-pub at_alone : (k next : Kind) (closed : Bool) → part_of k next closed ≡ part.Alone → Says k false true false false (λ d. d)
-at_alone kind.Dot next closed e = absurd (no_part (is kind.Number next) part.Index part.Alone (λ h. absurd (cc)) (λ h. absurd (cc)) e)
-at_alone kind.QuoteOpen next closed e = record { seen = refl; dot_is = refl; quote_is = refl; closer_is = refl; moves = flat; opened = λ here known h. refl }
-at_alone _ next closed e = absurd (cc)
+pub past : (k : Kind) → part_of k ≡ part.PassedOver → is_passed_over k ≡ true
+past kind.LineComment e = refl
+past kind.InlineComment e = refl
+past kind.Blank e = refl
+past kind.Newline e = refl
+past _ e = absurd (cc)
 
-pub alone_ahead : (k next : Kind) (closed : Bool) → part_of k next closed ≡ part.Alone → (is kind.InterpOpen next && closed) ≡ true
-alone_ahead kind.Dot next closed e = absurd (no_part (is kind.Number next) part.Index part.Alone (λ h. absurd (cc)) (λ h. absurd (cc)) e)
-alone_ahead kind.QuoteOpen next closed e = found (is kind.InterpOpen next && closed) part.Alone (λ h. absurd (cc)) e
-alone_ahead _ next closed e = absurd (cc)
-
-pub at_opener : (k next : Kind) (closed : Bool) → part_of k next closed ≡ part.Opens → Says k false false true false (λ d. d + 1)
-at_opener kind.ParenOpen next closed e = record { seen = refl; dot_is = refl; quote_is = refl; closer_is = refl; moves = up; opened = λ here known h. refl }
-at_opener kind.BracketOpen next closed e = record { seen = refl; dot_is = refl; quote_is = refl; closer_is = refl; moves = up; opened = λ here known h. refl }
-at_opener kind.BraceOpen next closed e = record { seen = refl; dot_is = refl; quote_is = refl; closer_is = refl; moves = up; opened = λ here known h. refl }
-at_opener kind.InterpOpen next closed e = record { seen = refl; dot_is = refl; quote_is = refl; closer_is = refl; moves = up; opened = λ here known h. h refl }
-at_opener kind.ControlOpen next closed e = record { seen = refl; dot_is = refl; quote_is = refl; closer_is = refl; moves = up; opened = λ here known h. refl }
-at_opener kind.Dot next closed e = absurd (no_part (is kind.Number next) part.Index part.Opens (λ h. absurd (cc)) (λ h. absurd (cc)) e)
-at_opener kind.QuoteOpen next closed e = absurd (no_part (is kind.InterpOpen next && closed) part.Alone part.Opens (λ h. absurd (cc)) (λ h. absurd (cc)) e)
-at_opener _ next closed e = absurd (cc)
-
-pub at_closer : (k next : Kind) (closed : Bool) → part_of k next closed ≡ part.Closes → Says k false false false true (λ d. d - 1)
-at_closer kind.ParenClose next closed e = record { seen = refl; dot_is = refl; quote_is = refl; closer_is = refl; moves = down; opened = λ here known h. refl }
-at_closer kind.BracketClose next closed e = record { seen = refl; dot_is = refl; quote_is = refl; closer_is = refl; moves = down; opened = λ here known h. refl }
-at_closer kind.BraceClose next closed e = record { seen = refl; dot_is = refl; quote_is = refl; closer_is = refl; moves = down; opened = λ here known h. refl }
-at_closer kind.SeqClose next closed e = record { seen = refl; dot_is = refl; quote_is = refl; closer_is = refl; moves = down; opened = λ here known h. refl }
-at_closer kind.Dot next closed e = absurd (no_part (is kind.Number next) part.Index part.Closes (λ h. absurd (cc)) (λ h. absurd (cc)) e)
-at_closer kind.QuoteOpen next closed e = absurd (no_part (is kind.InterpOpen next && closed) part.Alone part.Closes (λ h. absurd (cc)) (λ h. absurd (cc)) e)
-at_closer _ next closed e = absurd (cc)
-
--- what a token is at which nothing is done
-pub data Quiet (k next : Kind) (closed : Bool) : Type 0 where
-  is_past : is_passed_over k ≡ true → Quiet k next closed
-  is_plain : Says k false false false false (λ d. d) → Quiet k next closed
-  is_dot : Says k true false false false (λ d. d) → is kind.Number next ≡ false → Quiet k next closed
-  is_quote : Says k false true false false (λ d. d) → (is kind.InterpOpen next && closed) ≡ false → Quiet k next closed
-
-pub at_quiet : (k next : Kind) (closed : Bool) → part_of k next closed ≡ part.Quiet → Quiet k next closed
-at_quiet kind.LineComment next closed e = absurd (cc)
-at_quiet kind.ParenOpen next closed e = absurd (cc)
-at_quiet kind.BracketOpen next closed e = absurd (cc)
-at_quiet kind.BraceOpen next closed e = absurd (cc)
-at_quiet kind.InterpOpen next closed e = absurd (cc)
-at_quiet kind.ControlOpen next closed e = absurd (cc)
-at_quiet kind.ParenClose next closed e = absurd (cc)
-at_quiet kind.BracketClose next closed e = absurd (cc)
-at_quiet kind.BraceClose next closed e = absurd (cc)
-at_quiet kind.SeqClose next closed e = absurd (cc)
-at_quiet kind.InlineComment next closed e = is_past refl
-at_quiet kind.Blank next closed e = is_past refl
-at_quiet kind.Newline next closed e = is_past refl
-at_quiet kind.Dot next closed e = is_dot (record { seen = refl; dot_is = refl; quote_is = refl; closer_is = refl; moves = flat; opened = λ here known h. refl }) (not_found (is kind.Number next) part.Index (λ h. absurd (cc)) e)
-at_quiet kind.QuoteOpen next closed e = is_quote (record { seen = refl; dot_is = refl; quote_is = refl; closer_is = refl; moves = flat; opened = λ here known h. refl }) (not_found (is kind.InterpOpen next && closed) part.Alone (λ h. absurd (cc)) e)
-at_quiet _ next closed e = is_plain (record { seen = refl; dot_is = refl; quote_is = refl; closer_is = refl; moves = flat; opened = λ here known h. refl })
-
-pub past_comment : (k next : Kind) (closed : Bool) → part_of k next closed ≡ part.LineComment → is_passed_over k ≡ true
-past_comment kind.LineComment next closed e = refl
-past_comment kind.Dot next closed e = absurd (no_part (is kind.Number next) part.Index part.LineComment (λ h. absurd (cc)) (λ h. absurd (cc)) e)
-past_comment kind.QuoteOpen next closed e = absurd (no_part (is kind.InterpOpen next && closed) part.Alone part.LineComment (λ h. absurd (cc)) (λ h. absurd (cc)) e)
-past_comment _ next closed e = absurd (cc)
+pub past_comment : (k : Kind) → part_of k ≡ part.LineComment → is_passed_over k ≡ true
+past_comment kind.LineComment e = refl
+past_comment _ e = absurd (cc)
 
 -- only of a line comment the walk says that it is one
-pub no_comment : (k next : Kind) (closed : Bool) (p : Part) → part_of k next closed ≡ p → (part.LineComment ≡ p → ⊥) → is kind.LineComment k ≡ false
-no_comment kind.LineComment next closed p e other = absurd (other e)
-no_comment _ next closed p e other = refl
+pub no_comment : (k : Kind) (p : Part) → part_of k ≡ p → (part.LineComment ≡ p → ⊥) → is kind.LineComment k ≡ false
+no_comment kind.LineComment p e other = absurd (other e)
+no_comment _ p e other = refl
 
 and_false : (b : Bool) → (b && false) ≡ false
 and_false true = refl

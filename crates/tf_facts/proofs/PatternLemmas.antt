@@ -12,7 +12,7 @@ use Rattle.tf_facts.specs.Inner.Closings.{AreAhead, part_of, quote_from}
 use Rattle.tf_facts.specs.Inner.Seen.{number_of, seen_from}
 use Rattle.tf_facts.specs.declared.part.Part.{Part}
 use Rattle.tf_facts.specs.declared.part.Part.TheVariants as part
-use Rattle.tf_facts.proofs.ClosingLemmas.{Quiet, Says, alone_ahead, at_alone, at_closer, at_index, at_opener, at_quiet, closes, is_dot, is_past, is_plain, is_quote, number_ahead, opens, passes, past_comment}
+use Rattle.tf_facts.proofs.ClosingLemmas.{Says, at_closer, at_dot, at_opener, at_plain, at_quote, closes, opens, passes}
 use Rattle.tf_facts.proofs.SeenLemmas.{seen_here, seen_none, seen_past}
 
 pub there_is : (ts : List Lexeme) (n : ℕ) → n < length ts → (t : Lexeme) × (slice_get ts n ≡ Some t)
@@ -86,9 +86,9 @@ walk_begins ts n indexes interpolations openers next closed at is_empty ips ops 
     end : seen_from ts n ≡ []
     end = seen_none ts n (omega (arith, at))
 
--- a step from `m` to `n`, at a token of the kind `k`, after which `ahead` is what is ahead
+-- a step from `m` to `n`, at a token of the kind `k`
 module _ (ts : List Lexeme) (n m : ℕ) (at : m ≡ n + 1) (indexes interpolations : List ℕ) (openers : List Bool) (next : Kind) (closed : Bool) (before : IsWalkedBack ts indexes interpolations openers next closed m) (k : Kind)
-    (kind_is : (t : Lexeme) → slice_get ts n ≡ Some t → k ≡ t.kind) (ahead : Kind) (ahead_is : ahead ≡ cond (is_passed_over k) next k) where
+    (kind_is : (t : Lexeme) → slice_get ts n ≡ Some t → k ≡ t.kind) where
   h : IsWalkedBack ts indexes interpolations openers next closed (n + 1)
   h = let P : ℕ → Type 0 = λ i. IsWalkedBack ts indexes interpolations openers next closed i in subst P at before
 
@@ -104,41 +104,35 @@ module _ (ts : List Lexeme) (n m : ℕ) (at : m ≡ n + 1) (indexes interpolatio
   is_k : k ≡ t.kind
   is_k = kind_is t e
 
-  part_is : (p : Part) → part_of k next closed ≡ p → part_of t.kind next closed ≡ p
-  part_is p is_p = ap (λ j. part_of j next closed) (sym is_k) ∙ is_p
-
-  over : (b : Bool) → is_passed_over t.kind ≡ b → ahead ≡ cond b next k
-  over b passed = ahead_is ∙ ap (λ c. cond c next k) (ap is_passed_over is_k ∙ passed)
+  part_is : (p : Part) → part_of k ≡ p → part_of t.kind ≡ p
+  part_is p is_p = ap part_of (sym is_k) ∙ is_p
 
   -- a token that is passed over
-  walk_past : is_passed_over t.kind ≡ true → IsWalkedBack ts indexes interpolations openers ahead closed n
+  pub walk_past : is_passed_over k ≡ true → IsWalkedBack ts indexes interpolations openers next closed n
   walk_past passed = record {
     within = omega (arith, h.within);
     closes = λ d. h.closes d ∙ ap (λ s. begins_with_close (after_closer d s)) same;
-    quote = ap (is kind.QuoteClose) kept ∙ h.quote ∙ ap begins_with_close same;
-    number = ap (is kind.Number) kept ∙ h.number ∙ ap number_first same;
-    wrapped = ap (λ j. is kind.InterpOpen j && closed) kept ∙ h.wrapped ∙ ap wrapped_first same;
+    quote = h.quote ∙ ap begins_with_close same;
+    number = h.number ∙ ap number_first same;
+    wrapped = h.wrapped ∙ ap wrapped_first same;
     dots = h.dots ∙ ap (numbers_where is_index) same;
     quotes = h.quotes ∙ ap (numbers_where is_wrapped) same;
   }
     where
       same : seen_from ts (n + 1) ≡ seen_from ts n
-      same = sym (seen_past ts n t e passed)
-
-      kept : ahead ≡ next
-      kept = over true passed
+      same = sym (seen_past ts n t e (ap is_passed_over (sym is_k) ∙ passed))
 
   -- a token that is seen
   walk_over : (dot quote opener closer : Bool) (move : ℕ → ℕ) (dots quotes : List ℕ) (rest : List Bool) (here : Bool) → Says t.kind dot quote opener closer move
       → dots ≡ indexes ++ cond (dot && is kind.Number next) (n ∷ []) [] → quotes ≡ interpolations ++ cond (quote && (is kind.InterpOpen next && closed)) (n ∷ []) []
       → (opener ≡ true → here ≡ get_or (reverse openers) 0 false) → AreAhead ts rest n
-      → IsWalkedBack ts dots quotes rest ahead here n
+      → IsWalkedBack ts dots quotes rest k here n
   walk_over dot quote opener closer move dots quotes rest here m dots_is quotes_is known after = record {
     within = omega (arith, h.within);
     closes = after;
-    quote = ap (is kind.QuoteClose) is_ahead ∙ sym (ap begins_with_close cut);
-    number = ap (is kind.Number) is_ahead ∙ sym (ap number_first cut);
-    wrapped = ap (λ j. is kind.InterpOpen j && here) is_ahead ∙ m.opened here (get_or (reverse openers) 0 false) known ∙ ap (λ b. is kind.InterpOpen t.kind && b) (h.closes 0) ∙ sym (ap wrapped_first cut);
+    quote = ap (is kind.QuoteClose) is_k ∙ sym (ap begins_with_close cut);
+    number = ap (is kind.Number) is_k ∙ sym (ap number_first cut);
+    wrapped = ap (λ j. is kind.InterpOpen j && here) is_k ∙ m.opened here (get_or (reverse openers) 0 false) known ∙ ap (λ b. is kind.InterpOpen t.kind && b) (h.closes 0) ∙ sym (ap wrapped_first cut);
     dots = found_more is_index (number_of n t) (seen_from ts (n + 1)) (dot && is kind.Number next) indexes dots
         (ap (λ b. dot && b) h.number ∙ ap (λ b. b && number_first (seen_from ts (n + 1))) (sym m.dot_is) ∙ sym (index_here (number_of n t) (seen_from ts (n + 1)))) dots_is h.dots
         ∙ sym (ap (numbers_where is_index) cut);
@@ -150,49 +144,32 @@ module _ (ts : List Lexeme) (n m : ℕ) (at : m ≡ n + 1) (indexes interpolatio
       cut : seen_from ts n ≡ number_of n t ∷ seen_from ts (n + 1)
       cut = seen_here ts n t e m.seen
 
-      is_ahead : ahead ≡ t.kind
-      is_ahead = over false m.seen ∙ is_k
+  pub walk_plain : part_of k ≡ part.Plain → IsWalkedBack ts indexes interpolations openers k closed n
+  walk_plain p =
+      let says = at_plain t.kind (part_is part.Plain p) in
+      walk_over false false false false (λ d. d) indexes interpolations openers closed says (sym (append-nil indexes)) (sym (append-nil interpolations)) (λ never. absurd (cc)) (passes ts n t e false false openers says h.closes)
 
-  pub walk_quiet : part_of k next closed ≡ part.Quiet → IsWalkedBack ts indexes interpolations openers ahead closed n
-  walk_quiet p = by (at_quiet t.kind next closed (part_is part.Quiet p))
-    where
-      by : Quiet t.kind next closed → IsWalkedBack ts indexes interpolations openers ahead closed n
-      by (is_past passed) = walk_past passed
-      by (is_plain says) =
-          walk_over false false false false (λ d. d) indexes interpolations openers closed says (sym (append-nil indexes)) (sym (append-nil interpolations)) (λ never. absurd (cc)) (passes ts n t e false false openers says h.closes)
-      by (is_dot says no_number) =
-          walk_over true false false false (λ d. d) indexes interpolations openers closed says (sym (ap (λ b. indexes ++ cond b (n ∷ []) []) no_number ∙ append-nil indexes)) (sym (append-nil interpolations)) (λ never. absurd (cc))
-          (passes ts n t e true false openers says h.closes)
-      by (is_quote says not_alone) =
-          walk_over false true false false (λ d. d) indexes interpolations openers closed says (sym (append-nil indexes)) (sym (ap (λ b. interpolations ++ cond b (n ∷ []) []) not_alone ∙ append-nil interpolations)) (λ never. absurd (cc))
-          (passes ts n t e false true openers says h.closes)
-
-  pub walk_comment : part_of k next closed ≡ part.LineComment → IsWalkedBack ts indexes interpolations openers ahead closed n
-  walk_comment p = walk_past (past_comment t.kind next closed (part_is part.LineComment p))
-
-  pub walk_index : (dots : List ℕ) → part_of k next closed ≡ part.Index → dots ≡ indexes ++ n ∷ [] → IsWalkedBack ts dots interpolations openers ahead closed n
-  walk_index dots p pushed =
-      let says = at_index t.kind next closed (part_is part.Index p) in
-      let number = number_ahead t.kind next closed (part_is part.Index p) in
-      walk_over true false false false (λ d. d) dots interpolations openers closed says (pushed ∙ sym (ap (λ b. indexes ++ cond b (n ∷ []) []) number)) (sym (append-nil interpolations)) (λ never. absurd (cc))
+  pub walk_dot : (dots : List ℕ) (found : Bool) → part_of k ≡ part.Dot → found ≡ is kind.Number next → dots ≡ indexes ++ cond found (n ∷ []) [] → IsWalkedBack ts dots interpolations openers k closed n
+  walk_dot dots found p is_found pushed =
+      let says = at_dot t.kind (part_is part.Dot p) in
+      walk_over true false false false (λ d. d) dots interpolations openers closed says (pushed ∙ ap (λ b. indexes ++ cond b (n ∷ []) []) is_found) (sym (append-nil interpolations)) (λ never. absurd (cc))
       (passes ts n t e true false openers says h.closes)
 
-  pub walk_alone : (quotes : List ℕ) → part_of k next closed ≡ part.Alone → quotes ≡ interpolations ++ n ∷ [] → IsWalkedBack ts indexes quotes openers ahead closed n
-  walk_alone quotes p pushed =
-      let says = at_alone t.kind next closed (part_is part.Alone p) in
-      let alone = alone_ahead t.kind next closed (part_is part.Alone p) in
-      walk_over false true false false (λ d. d) indexes quotes openers closed says (sym (append-nil indexes)) (pushed ∙ sym (ap (λ b. interpolations ++ cond b (n ∷ []) []) alone)) (λ never. absurd (cc))
+  pub walk_quote : (quotes : List ℕ) (opened : Bool) → part_of k ≡ part.QuoteOpen → opened ≡ is kind.InterpOpen next → quotes ≡ interpolations ++ cond (opened && closed) (n ∷ []) [] → IsWalkedBack ts indexes quotes openers k closed n
+  walk_quote quotes opened p is_opened pushed =
+      let says = at_quote t.kind (part_is part.QuoteOpen p) in
+      walk_over false true false false (λ d. d) indexes quotes openers closed says (sym (append-nil indexes)) (pushed ∙ ap (λ b. interpolations ++ cond (b && closed) (n ∷ []) []) is_opened) (λ never. absurd (cc))
       (passes ts n t e false true openers says h.closes)
 
-  pub walk_opener : (rest : List Bool) (here : Bool) → part_of k next closed ≡ part.Opens → here ≡ get_or (reverse openers) 0 false → ((d : ℕ) (c : Bool) → get_or (reverse rest) d c ≡ get_or (reverse openers) (suc d) c)
-      → IsWalkedBack ts indexes interpolations rest ahead here n
+  pub walk_opener : (rest : List Bool) (here : Bool) → part_of k ≡ part.Opens → here ≡ get_or (reverse openers) 0 false → ((d : ℕ) (c : Bool) → get_or (reverse rest) d c ≡ get_or (reverse openers) (suc d) c)
+      → IsWalkedBack ts indexes interpolations rest k here n
   walk_opener rest here p taken left =
-      let says = at_opener t.kind next closed (part_is part.Opens p) in
+      let says = at_opener t.kind (part_is part.Opens p) in
       walk_over false false true false (λ d. d + 1) indexes interpolations rest here says (sym (append-nil indexes)) (sym (append-nil interpolations)) (λ _. taken) (opens ts n t e openers rest says left h.closes)
 
-  pub walk_closer : (rest : List Bool) (flag : Bool) → part_of k next closed ≡ part.Closes → flag ≡ is kind.QuoteClose next → rest ≡ openers ++ flag ∷ [] → IsWalkedBack ts indexes interpolations rest ahead closed n
+  pub walk_closer : (rest : List Bool) (flag : Bool) → part_of k ≡ part.Closes → flag ≡ is kind.QuoteClose next → rest ≡ openers ++ flag ∷ [] → IsWalkedBack ts indexes interpolations rest k closed n
   walk_closer rest flag p is_flag pushed =
-      let says = at_closer t.kind next closed (part_is part.Closes p) in
+      let says = at_closer t.kind (part_is part.Closes p) in
       walk_over false false false true (λ d. d - 1) indexes interpolations rest closed says (sym (append-nil indexes)) (sym (append-nil interpolations)) (λ never. absurd (cc))
       (closes ts n t e openers rest flag says (is_flag ∙ h.quote) pushed h.closes)
 

@@ -1,15 +1,13 @@
 //! What a token means to the walk that finds patterns.
 
-/// What is done at a token, where what is ahead of it is known.
+/// What is done at a token. Where nothing is, it may still be what a pattern asks for ahead.
 #[derive(Clone, Copy)]
 pub enum Part {
-    /// Nothing, but it may be what a pattern asks for ahead.
-    Quiet,
+    PassedOver,
     LineComment,
-    /// A dot before a number.
-    Index,
-    /// The opening quote of an interpolation alone.
-    Alone,
+    Dot,
+    QuoteOpen,
     Opens,
     Closes,
+    Plain,
 }

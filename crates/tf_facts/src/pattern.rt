@@ -9,17 +9,16 @@
 
 ghost use Rattle.std.specs.Prelude.{◌≡◌, ◌++◌, ◌∷◌, [], ℕ, Bool, suc, false, get_or, map, reverse, IfOk, OnOk, if◌then◌else◌};
 ghost use Rattle.hcl_tokens.specs.Kinds.{is};
-ghost use Rattle.hcl_tokens.specs.declared.token.Kind.TheVariants.{InterpOpen, Number, QuoteClose, QuoteOpen};
-ghost use Rattle.hcl_grammar.specs.Numbered.{is_passed_over, numbered};
+ghost use Rattle.hcl_tokens.specs.declared.token.Kind.TheVariants.{InterpOpen, Number, QuoteClose};
+ghost use Rattle.hcl_grammar.specs.Numbered.{numbered};
 ghost use Rattle.tf_facts.specs.Comments.{comments};
 ghost use Rattle.tf_facts.specs.Found.{comment};
 ghost use Rattle.tf_facts.specs.Patterns.{legacy_indexes, wrapped_interpolations};
-ghost use Rattle.tf_facts.specs.Inner.Closings.{is_plain, is_quiet, needs_work, part_of};
+ghost use Rattle.tf_facts.specs.Inner.Closings.{part_of};
 
 use crate::comment::put_comment;
 use crate::found::FoundComment;
 use crate::part::Part;
-use crate::seen::{is_dot, is_passed_over};
 use hcl_tokens::{Kind, Nesting, Tokens};
 use std::alloc::{AllocError, Global};
 
@@ -35,87 +34,27 @@ fn is_quote_close(kind: Kind) -> bool
     matches!(kind, Kind::QuoteClose)
 }
 
-fn is_quote_open(kind: Kind) -> bool
-    ensures { result ≡ is QuoteOpen kind }
-{
-    matches!(kind, Kind::QuoteOpen)
-}
-
 fn is_interpolation(kind: Kind) -> bool
     ensures { result ≡ is InterpOpen kind }
 {
     matches!(kind, Kind::InterpOpen)
 }
 
-/// Whether there is more to do at every token of this kind than to know it: at a line comment, and at what opens or closes
-/// a group.
 #[inline(always)]
-fn needs_work(kind: Kind) -> bool
-    ensures { result ≡ needs_work kind }
+fn part_of(kind: Kind) -> Part
+    ensures { result ≡ part_of kind }
 {
-    matches!(
-        kind,
-        Kind::LineComment
-            | Kind::ParenOpen
-            | Kind::BracketOpen
-            | Kind::BraceOpen
-            | Kind::InterpOpen
-            | Kind::ControlOpen
-            | Kind::ParenClose
-            | Kind::BracketClose
-            | Kind::BraceClose
-            | Kind::SeqClose
-    )
-}
-
-/// Whether there is no more to do at a token of this kind than to know it, whatever is ahead of it. Most are so.
-#[inline(always)]
-fn is_plain(kind: Kind) -> bool
-    ensures { result ≡ is_plain kind }
-{
-    !(needs_work(kind) | is_dot(kind) | is_quote_open(kind))
-}
-
-/// Whether there is no more to do at a token than to know it as what is ahead of those before it. Most dots and opening
-/// quotes are so, and no processor can predict which, so this is written without a branch.
-#[inline(always)]
-fn is_quiet(kind: Kind, next: Kind, is_closed: bool) -> bool
-    ensures { result ≡ is_quiet kind next is_closed }
-{
-    let is_index = is_dot(kind) & is_number(next);
-    let is_alone = is_quote_open(kind) & is_interpolation(next) & is_closed;
-    !(needs_work(kind) | is_index | is_alone)
-}
-
-/// What is done at a token. Only a few kinds are told apart by branches.
-#[inline(always)]
-fn part_of(kind: Kind, next: Kind, is_closed: bool) -> Part
-    ensures { result ≡ part_of kind next is_closed }
-{
-    if is_plain(kind) || is_quiet(kind, next, is_closed) {
-        return Part::Quiet;
-    }
     match kind {
         Kind::LineComment => Part::LineComment,
-        Kind::Dot => Part::Index,
-        Kind::QuoteOpen => Part::Alone,
+        Kind::InlineComment | Kind::Blank | Kind::Newline => Part::PassedOver,
+        Kind::Dot => Part::Dot,
+        Kind::QuoteOpen => Part::QuoteOpen,
         _ => match kind.nesting() {
             Nesting::Opens => Part::Opens,
             Nesting::Closes => Part::Closes,
-            Nesting::Neither => Part::Quiet,
+            Nesting::Neither => Part::Plain,
         },
     }
-}
-
-/// What is ahead of the token before one of this kind.
-#[inline(always)]
-fn ahead(kind: Kind, next: Kind) -> Kind
-    ensures { result ≡ (if is_passed_over kind then next else kind) }
-{
-    if is_passed_over(kind) {
-        return next;
-    }
-    kind
 }
 
 /// Takes the last flag off the list; it is false where there is none.
@@ -130,6 +69,18 @@ fn take_last(flags: &mut Vec<bool>) -> bool
         Some(flag) => flag,
         None => false,
     }
+}
+
+/// Puts a number last, where the test holds.
+#[inline(always)]
+fn push_if(list: &mut Vec<usize>, test: bool, number: usize) -> Result<(), AllocError>
+    ensures { OnOk result (list.new.items ≡ list.old.items ++ (if test then number ∷ [] else [])) }
+{
+    if !test {
+        return Ok(());
+    }
+    list.push(number)?;
+    Ok(())
 }
 
 /// What the walk finds, by the numbers of tokens.
@@ -185,16 +136,22 @@ pub fn found_patterns(alloc: Global, tokens: &Tokens<'_>) -> Result<Patterns, Al
     while number > 0 {
         number -= 1;
         let kind = tokens.kind(number);
-        let here = ahead(kind, next);
-        match part_of(kind, next, is_closed) {
-            Part::Quiet => {}
-            Part::LineComment => put_comment(tokens, number, &mut comments)?,
-            Part::Index => indexes.push(number)?,
-            Part::Alone => interpolations.push(number)?,
+        match part_of(kind) {
+            Part::PassedOver => continue,
+            Part::LineComment => {
+                put_comment(tokens, number, &mut comments)?;
+                continue;
+            }
+            Part::Plain => {}
+            Part::Dot => push_if(&mut indexes, is_number(next), number)?,
+            Part::QuoteOpen => {
+                let is_alone = is_interpolation(next) & is_closed;
+                push_if(&mut interpolations, is_alone, number)?;
+            }
             Part::Opens => is_closed = take_last(&mut openers),
             Part::Closes => openers.push(is_quote_close(next))?,
         }
-        next = here;
+        next = kind;
     }
     Ok(in_order(comments, indexes, interpolations))
 }

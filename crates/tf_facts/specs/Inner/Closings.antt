@@ -1,9 +1,10 @@
 -- Whether what is open is closed directly before a closing quote, token by token, as the code finds it.
-use Rattle.std.specs.Prelude.{◌≡◌, ◌==◌, ◌&&◌, ◌||◌, ℕ, Bool, false, not, List, get_or, reverse, if◌then◌else◌}
-use Rattle.hcl_tokens.specs.Balanced.{closing, is_closer, is_opener, opening}
+use Rattle.std.specs.Prelude.{◌≡◌, ◌==◌, ℕ, Bool, false, List, get_or, reverse, if◌then◌else◌}
+use Rattle.hcl_tokens.specs.Balanced.{closing, opening}
 use Rattle.hcl_tokens.specs.Kinds.{is}
 use Rattle.hcl_tokens.specs.declared.token.Kind.{Kind}
 use Rattle.hcl_tokens.specs.declared.token.Kind.TheVariants as kind
+use Rattle.hcl_grammar.specs.Numbered.{is_passed_over}
 use Rattle.hcl_tokens.specs.Lexemes.{Lexeme}
 use Rattle.tf_facts.specs.Patterns.{begins_with_close, after_closer}
 use Rattle.tf_facts.specs.Inner.Seen.{seen_from}
@@ -22,25 +23,13 @@ closes_before_quote tokens depth n = begins_with_close (after_closer depth (seen
 abbrev pub AreAhead : List Lexeme → List Bool → ℕ → Type 0
 AreAhead tokens ahead n = (depth : ℕ) → get_or (reverse ahead) depth false ≡ closes_before_quote tokens depth n
 
--- there is more to do at every token of the kind than to know it
-abbrev pub needs_work : Kind → Bool
-needs_work k = is kind.LineComment k || is_opener k || is_closer k
-
--- there isn't at any token of the kind
-abbrev pub is_plain : Kind → Bool
-is_plain k = not (needs_work k || is kind.Dot k || is kind.QuoteOpen k)
-
--- and there isn't at this token, with `next` ahead of it
-abbrev pub is_quiet : Kind → Kind → Bool → Bool
-is_quiet k next closed =
-    not (needs_work k || (is kind.Dot k && is kind.Number next) || (is kind.QuoteOpen k && is kind.InterpOpen next && closed))
-
--- what is done at a token, with `next` ahead of it
-abbrev pub part_of : Kind → Kind → Bool → Part
-part_of k next closed =
+-- what a token means to the walk that finds patterns
+abbrev pub part_of : Kind → Part
+part_of k =
     if is kind.LineComment k then part.LineComment
-    else if is kind.Dot k && is kind.Number next then part.Index
-    else if is kind.QuoteOpen k && (is kind.InterpOpen next && closed) then part.Alone
+    else if is_passed_over k then part.PassedOver
+    else if is kind.Dot k then part.Dot
+    else if is kind.QuoteOpen k then part.QuoteOpen
     else if opening k == 1 then part.Opens
     else if closing k == 1 then part.Closes
-    else part.Quiet
+    else part.Plain
