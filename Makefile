@@ -15,7 +15,6 @@ COMMANDS = $(PROGRAMS) $(SCRIPTS)
 EXAMPLES := pre-commit-config.yaml pre-commit-wheel.yaml treefmt.toml $(sort $(patsubst contrib/%,%,$(shell \
   find contrib/ci contrib/editors contrib/emacs contrib/vim -type f)))
 BUILT := $(addprefix bin/,$(PROGRAMS))
-OBJECTS := $(foreach name,$(subst -,_,$(PROGRAMS)),crates/$(name)/out/$(name).o)
 SOURCES := $(shell find crates -name out -prune -o -type f -print) crates.txt
 BIN = $(DESTDIR)$(PREFIX)/bin
 MAN = $(DESTDIR)$(PREFIX)/share/man/man1
@@ -32,7 +31,7 @@ NEEDS_KIT = @command -v rt >/dev/null 2>&1 || { echo 'make: there is no rt on th
 
 all: bin/programs
 
-# All programs are built by one call, side by side; the file says that they were. Where one is missing, they are again.
+# All programs are built by one call; the file says that they were. Where one is missing, they are again.
 bin/programs: $(SOURCES) $(if $(filter-out $(wildcard $(BUILT)),$(BUILT)),FORCE)
 	$(NEEDS_PYTHON)
 	$(NEEDS_KIT)
@@ -58,12 +57,10 @@ check-around:
 	$(NEEDS_PYTHON)
 	@./tools/check-around
 
-# A release is linked from the objects, which `rt ci` doesn't always leave.
-dist: bin/programs $(OBJECTS)
+# A release is linked from the objects of the programs, which are made again where they aren't there as noted.
+dist: bin/programs
+	@python3 tools/build.py || ./tools/prove $(PROGRAMS)
 	@./tools/dist
-
-$(OBJECTS): | bin/programs
-	@./tools/prove $(PROGRAMS)
 
 install: bin/programs
 	@mkdir -p "$(BIN)" 2>/dev/null && [ -w "$(BIN)" ] || { echo \

@@ -9,18 +9,19 @@ import time
 from harness import TOP
 
 # Stands for `rt`: it proves nothing, waits for PAUSE seconds, fails in the crate NOT_PROVED, and has a program that is
-# built already.
+# built already, which it makes with an object where there is none.
 STAND_IN = '''echo "$PWD $*" >>"$CALLS"
 sleep "${PAUSE-0}"
 mkdir -p out || exit 1
 [ "${PWD##*/}" != "${NOT_PROVED-}" ] || { echo logic=not-proved; exit 1; }
-[ ! -e src/main.rt ] || cp "$PROGRAM" "out/${PWD##*/}"
+made=out/${PWD##*/}
+[ ! -e src/main.rt ] || [ -e "$made" ] || { echo "its object" >"$made.o"; cp "$PROGRAM" "$made"; }
 echo logic=proved
 '''
 
 
 def run(group):
-    if not group.has('make', checks=10):
+    if not group.has('make', checks=20):
         return
     copy = group.fresh() / 'copy'
     shutil.copytree(str(TOP), str(copy), ignore=shutil.ignore_patterns('.git', 'out', 'bin', 'cases', '__pycache__'))
@@ -72,6 +73,8 @@ def run(group):
     calls.chmod(0o666)
     interrupted(group, copy, calls, stand_in)
     not_proved(group, copy, calls, stand_in)
+    two_at_once(group, copy, calls, stand_in)
+    full_disk(group, copy, calls, stand_in)
     unwritable(group, copy, calls, make, '%s:%s' % (stand_in, group.setting['PATH']))
 
 
@@ -104,14 +107,19 @@ def interrupted(group, copy, calls, stand_in):
         (status, err),
         (1, b'tools/prove: interrupted; what is proved is kept, and `make` continues from there\n'),
     )
-    group.check('nothing half done', [it.name for it in (copy / 'bin').iterdir() if not it.name.endswith('.log')], [])
+    group.check('nothing half done', made_in(copy / 'bin'), [])
     done = group.call(copy / 'tools/prove', 'tffmt', cwd=copy, **dict(setting, PAUSE='0'))
     group.check('begun again', (done[0], done[2], os.access(str(copy / 'bin/tffmt'), os.X_OK)), (0, b'', True))
     group.check(
         'the last line',
-        'proved and built as bin/tffmt, and its stored run is right' in done[1].decode().splitlines()[-1],
+        'proved, in bin/tffmt, and its stored run is right' in done[1].decode().splitlines()[-1],
         True,
     )
+
+
+def made_in(folder):
+    """What is there, but for what the prover printed and what keeps another make waiting."""
+    return sorted(it.name for it in folder.iterdir() if not it.name.endswith('.log') and it.name != 'lock')
 
 
 def not_proved(group, copy, calls, stand_in):
@@ -122,7 +130,7 @@ def not_proved(group, copy, calls, stand_in):
         NOT_PROVED='hcl_layout',
         PROGRAM=group.program,
     )
-    status, out, err = group.call(copy / 'tools/prove', '--in-turn', 'tffmt', cwd=copy, **setting)
+    status, out, err = group.call(copy / 'tools/prove', 'tffmt', cwd=copy, **setting)
     not_tried = ' not tried, since a crate that it depends on is not proved'
     group.check(
         'a crate that is not proved',
@@ -131,10 +139,48 @@ def not_proved(group, copy, calls, stand_in):
     )
 
 
+def two_at_once(group, copy, calls, stand_in):
+    """Of two that build the same at once the second waits, and finds it done."""
+    setting = dict(
+        PATH='%s:%s' % (stand_in, group.setting['PATH']), CALLS=str(calls), PAUSE='0.1', PROGRAM=group.program
+    )
+    both = [group.start(copy / 'tools/prove', 'tffmt', cwd=copy, **setting) for _ in range(2)]
+    said = [(*it.communicate(timeout=60), it.returncode) for it in both]
+    waited = sorted(out.count(b'waiting for another make in this checkout\n') for out, _, _ in said)
+    group.check('two at once', (waited, [it[1:] for it in said]), ([0, 1], [(b'', 0)] * 2))
+    sums = group.call('sha256sum', '--quiet', '-c', 'bin/tffmt.sha256', cwd=copy)
+    group.check('what they made', (made_in(copy / 'bin'), sums), (['tffmt', 'tffmt.sha256'], (0, b'', b'')))
+    # Another object isn't noted as that of the program: both are made again.
+    made = copy / 'crates/tffmt/out/tffmt.o'
+    made.write_bytes(b'of another program\n')
+    done = group.call(copy / 'tools/prove', 'tffmt', cwd=copy, **setting)
+    sums = group.call('sha256sum', '--quiet', '-c', 'bin/tffmt.sha256', cwd=copy)
+    group.check('another object', (done[0], made.read_bytes(), sums), (0, b'its object\n', (0, b'', b'')))
+
+
+def full_disk(group, copy, calls, stand_in):
+    """On a full disk one line says so, and nothing is half done."""
+    script = 'mount -t tmpfs -o size=64k none bin && "$@"; status=$?; [ "$status" = 32 ] || ls bin; exit "$status"'
+    words = ['unshare', '-m', 'sh', '-c', script, 'sh', copy / 'tools/prove', 'tffmt']
+    setting = dict(PATH='%s:%s' % (stand_in, group.setting['PATH']), CALLS=str(calls), PROGRAM=group.program)
+    done = shutil.which('unshare') and group.call(*words, cwd=copy, NOT_PROVED='hcl_source', **setting)
+    if not done or b'hcl_source' not in done[1]:
+        group.skip('a full disk', 2, 'nothing can be mounted')
+        return
+    why = b'not proved; bin/hcl_source.log says why; the disk is nearly full'
+    group.check(
+        'a proof on a full disk', (done[0], done[1].splitlines()[1].partition(b's: ')[2], done[2]), (1, why, b'')
+    )
+    done = group.call(*words, cwd=copy, **setting)
+    why = b"proved, but bin/tffmt can't be written: No space left on device"
+    said = [it.partition(b's: ')[2] for it in done[1].splitlines() if it.startswith(b'tffmt ')]
+    group.check('a program that has no room', (done[0], said, done[2]), (1, [why], b''))
+
+
 def unwritable(group, copy, calls, make, path):
     """Where a folder can't be written, one line says which."""
     if os.geteuid():
-        group.skip('a folder of another user', 2, 'needs root')
+        group.skip('a folder of another user', 3, 'needs root')
         return
     shutil.rmtree(str(copy / 'bin'))
     for it in copy.glob('crates/*/out'):
@@ -144,6 +190,11 @@ def unwritable(group, copy, calls, make, path):
         "a folder that can't be written",
         (make('bin/tffmt', path=path, user=65534), calls.read_bytes()),
         ((2, '', ["tools/prove: bin can't be written: Permission denied"]), b''),
+    )
+    group.check(
+        "make test where it can't be written",
+        (make('test', path=path, user=65534), calls.read_bytes()),
+        ((2, '', ["tests/gate: bin can't be written: Permission denied"]), b''),
     )
     (copy / 'bin').mkdir()
     (copy / 'bin').chmod(0o777)

@@ -22,7 +22,8 @@ LOADER = 3
 
 def missing(group, needs, checks):
     lacking = [it for it in needs if not shutil.which(it)]
-    made = [TOP / 'bin' / it for it in PROGRAMS] + [object_of(TOP, it) for it in PROGRAMS]
+    made = [TOP / 'bin' / (it + end) for it in PROGRAMS for end in ('', '.sha256')]
+    made += [object_of(TOP, it) for it in PROGRAMS]
     if not lacking and not all(it.exists() for it in made):
         group.skip('make dist', checks, 'the programs or their objects are not built')
         return True
@@ -192,7 +193,7 @@ def not_packed(group, copy):
         (
             (
                 1,
-                b'tools/dist: bin/tffmt was not linked from crates/tffmt/out/tffmt.o; tools/prove makes both\n',
+                b'tools/dist: bin/tffmt and crates/tffmt/out/tffmt.o are not of one build; tools/prove makes both\n',
             ),
             False,
         ),
