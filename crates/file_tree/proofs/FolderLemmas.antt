@@ -15,6 +15,7 @@ use Rattle.file_tree.specs.declared.kind.Identity.{Identity}
 use Rattle.file_tree.specs.declared.kind.Kind.{Kind}
 use Rattle.file_tree.specs.declared.kind.Kind.TheVariants.{File, Folder, Link, Other}
 use Rattle.file_tree.specs.declared.walk.Found.{Found}
+use Rattle.file_tree.specs.declared.walk.FoundFile.{FoundFile}
 use Rattle.file_tree.proofs.OrderLemmas.{none_in}
 use Rattle.file_tree.proofs.TreeWalkLemmas.{file_looked}
 
@@ -26,8 +27,8 @@ module _ (files : Files) (folder : Name) where
   in_same : (old new : Reached) → new ≡ old → In old → In new
   in_same old new e h = subst (λ (r : Reached). In r) (sym e) h
 
-  in_adds : (name : Name) (fault : Option TreeFault) (identity : Option Identity) (old new : Reached) → Adds name fault identity old new → IsInBy files folder name fault → In old → In new
-  in_adds name fault identity old new h of' before = λ f d. here f (Contains-push_cases old.found h.f f (subst (λ l. Contains l f) h.found d))
+  in_adds : (name : Name) (fault : Option TreeFault) (file : Option FoundFile) (old new : Reached) → Adds name fault file old new → IsInBy files folder name fault → In old → In new
+  in_adds name fault file old new h of' before = λ f d. here f (Contains-push_cases old.found h.f f (subst (λ l. Contains l f) h.found d))
     where
       here : (f : Found) → Contains old.found f ⊎ (h.f ≡ f) → IsInBy files folder f.name.items f.fault
       here f (inl d) = before f d
@@ -38,21 +39,21 @@ module _ (files : Files) (folder : Name) where
   in_report : (name : Name) (fault : TreeFault) (old new : Reached) → IsEntry false files whole folder name → Adds (folder ++ name) (Some fault) None old new → In old → In new
   in_report name fault old new entry h before = in_adds (folder ++ name) (Some fault) None old new h (inr (name, entry, refl)) before
 
-  in_file : (name : Name) (identity : Option Identity) (old new : Reached) → true ≡ is_taken name → IsEntry false files whole folder name → IsFile false files (folder ++ name)
-      → Adds (folder ++ name) None identity old new → In old → In new
-  in_file name identity old new e entry kind h before = in_adds (folder ++ name) None identity old new h (name, (entry, kind, sym e), refl) before
+  in_file : (name : Name) (file : Option FoundFile) (old new : Reached) → true ≡ is_taken name → IsEntry false files whole folder name → IsFile false files (folder ++ name)
+      → Adds (folder ++ name) None file old new → In old → In new
+  in_file name file old new e entry kind h before = in_adds (folder ++ name) None file old new h (name, (entry, kind, sym e), refl) before
 
   in_if : (name : Name) (v : Bool) (identity : Identity) (old new : Reached) → v ≡ is_taken name → IsEntry false files whole folder name → Says false (files.entry (folder ++ name)) (File identity)
       → TakesIf v (folder ++ name) identity old new → In old → In new
-  in_if name true identity old new e entry tells h before = in_file name (Some identity) old new e entry (inl (identity, tells)) h before
+  in_if name true identity old new e entry tells h before = in_file name _ old new e entry (inl (identity, tells)) h before
   in_if name false identity old new e entry tells h before = in_same old new h before
 
   in_linked : (kind : Kind) (name : Name) (old new : Reached) → true ≡ is_taken name → IsEntry false files whole folder name → Says false (files.entry (folder ++ name)) Link
       → Says false (files.kind (folder ++ name)) kind → TakesLinked kind (folder ++ name) old new → In old → In new
   in_linked Folder name old new e entry link leads h before = in_same old new h before
-  in_linked (File identity) name old new e entry link leads h before = in_file name (Some identity) old new e entry (inr (link, (File identity, leads, λ q. cc))) h before
-  in_linked Link name old new e entry link leads h before = in_file name None old new e entry (inr (link, (Link, leads, λ q. cc))) h before
-  in_linked Other name old new e entry link leads h before = in_file name None old new e entry (inr (link, (Other, leads, λ q. cc))) h before
+  in_linked (File identity) name old new e entry link leads h before = in_file name _ old new e entry (inr (link, (identity, leads))) h before
+  in_linked Link name old new e entry link leads h before = in_same old new h before
+  in_linked Other name old new e entry link leads h before = in_same old new h before
 
   in_link : (name : Name) (v : Bool) (old new : Reached) → v ≡ is_taken name → IsEntry false files whole folder name → Says false (files.entry (folder ++ name)) Link
       → TakesLink v files (folder ++ name) old new → In old → In new

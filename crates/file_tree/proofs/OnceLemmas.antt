@@ -1,14 +1,18 @@
--- What was found in the order of the names, each file under the first of its names.
-use Rattle.std.proofs.Common.{◌≡◌, ◌∙◌, ◌<◌, ◌⊎◌, suc, Bool, true, false, List, [], ◌∷◌, ◌++◌, Option, Some, None, Less, Contains, ap, arith, inl, inr, length, nat_cmp, refl, subst, sym}
-use Rattle.std.specs.Prelude.{not, if◌then◌else◌}
+-- Links to files that were found under another name as well.
+use Rattle.std.proofs.Common.{◌≡◌, ◌∙◌, ◌<◌, ◌+◌, ◌⊎◌, ℕ, suc, Bool, true, false, Global, List, Vec, [], ◌∷◌, ◌++◌, Option, Some, None, Less, Equal, Contains, ap, arith, get_or, inl, inr, length, nat_cmp, refl, subst, sym, take, true≢false}
+use Rattle.std.specs.Prelude.{IfOk, Result, Ok, Err, not, if◌then◌else◌}
 use Rattle.std.specs.Cmp.Lexicographic.{slice_cmp}
 use Rattle.std.specs.List.{AllByRecursion}
 use Rattle.std.specs.List.Sorted.{IsStrictlySortedBy}
+use Rattle.std.proofs.lemmas.Cmp.{nat_list_cmp_total, tied_itself}
+use Rattle.std.proofs.lemmas.List.{take_more}
 use Rattle.std.proofs.lemmas.List.Elements.{Contains-append_left, Contains-push, Contains-push_cases}
-use Rattle.file_tree.specs.Finds.{IsEarlier, IsSame, Rises}
-use Rattle.file_tree.specs.Inner.Walking.{Firsts, KeepsFirsts, MeetsBy, NotesIdentity}
+use Rattle.file_tree.specs.Once.{IsAgain, IsLinkTo, IsPlain, KeepsOnce}
+use Rattle.file_tree.specs.Ordered.{Rises}
+use Rattle.file_tree.specs.Inner.Once.{AreKept, Keeps, MeetsBy, MeetsIf, MeetsLink, NotesIdentity, NotesPlain, NotesUnless, Owns}
 use Rattle.file_tree.specs.declared.kind.Identity.{Identity}
 use Rattle.file_tree.specs.declared.walk.Found.{Found}
+use Rattle.file_tree.specs.declared.walk.FoundFile.{FoundFile}
 use Rattle.file_tree.proofs.OrderLemmas.{cons_cases, none_in}
 
 -- ---- names that rise
@@ -50,120 +54,297 @@ unfolding IsStrictlySortedBy
 rises_push [] x h lower = (tt, tt)
 rises_push (k ∷ ks) x h lower = (all_push (Before k) ks x h.0 (lower k (0, omega arith, refl)), rises_push ks x h.1 (λ j c. lower j (later k j ks c)))
 
--- ---- one more
+-- ---- names that are links, and names that aren't
 
-other_way : (f g : Found) → IsSame f g → IsSame g f
-other_way f g h = (h.0, h.2, h.1)
+some_file : (a b : FoundFile) → Some a ≡ Some b → a ≡ b
+some_file a b e = cc
 
-module _ (f : Found) (met kept : List Found) (up : Rises (met ++ f ∷ [])) (k : KeepsFirsts met kept) where
-  keeps_pushed : ((g : Found) → Contains kept g → IsSame g f → ⊥) → KeepsFirsts (met ++ f ∷ []) (kept ++ f ∷ [])
-  keeps_pushed alone = record {
-    rises = rises_push kept f k.rises (λ g c. rises_last met f g up (k.only g c));
-    once = λ g h c d same. both g h (Contains-push_cases kept f g c) (Contains-push_cases kept f h d) same;
-    only = λ g c. within g (Contains-push_cases kept f g c);
-    stays = λ g c. here g (Contains-push_cases met f g c);
+no_file : (a : FoundFile) → None ≡ Some a → ⊥
+no_file a e = cc
+
+link_unnamed : (f : Found) (identity : Identity) → f.file ≡ None → IsLinkTo identity f → ⊥
+link_unnamed f identity none h = no_file h.0 (sym none ∙ h.1)
+
+plain_unnamed : (f : Found) (identity : Identity) → f.file ≡ None → IsPlain identity f → ⊥
+plain_unnamed f identity none h = no_file h.0 (sym none ∙ h.1)
+
+not_both : (f : Found) (i j : Identity) → IsLinkTo i f → IsPlain j f → ⊥
+not_both f i j link plain = true≢false (sym link.3 ∙ ap (λ (x : FoundFile). x.is_link) (some_file link.0 plain.0 (sym link.1 ∙ plain.1)) ∙ plain.3)
+
+same_link : (f : Found) (i j : Identity) → IsLinkTo i f → IsLinkTo j f → i ≡ j
+same_link f i j one other = sym one.2 ∙ ap (λ (x : FoundFile). x.identity) (some_file one.0 other.0 (sym one.1 ∙ other.1)) ∙ other.2
+
+same_plain : (f : Found) (i j : Identity) → IsPlain i f → IsPlain j f → i ≡ j
+same_plain f i j one other = sym one.2 ∙ ap (λ (x : FoundFile). x.identity) (some_file one.0 other.0 (sym one.1 ∙ other.1)) ∙ other.2
+
+fresh : (v : Bool) → true ≡ not v → v ≡ true → ⊥
+fresh true e t = cc
+fresh false e t = cc
+
+known_before : (v : Bool) → false ≡ not v → v ≡ true
+known_before true e = refl
+known_before false e = absurd (cc)
+
+not_true : (v : Bool) → (v ≡ true → ⊥) → v ≡ false
+not_true true h = absurd (h refl)
+not_true false h = refl
+
+-- ---- one more of a name that isn't dropped
+
+module _ (own : Identity → Bool) (f : Found) (met kept : List Found) (had has : Identity → Bool) (up : Rises (met ++ f ∷ [])) (k : Keeps own met kept had) where
+  here_kept : Contains (kept ++ f ∷ []) f
+  here_kept = Contains-push kept f
+
+  was_kept : (g : Found) → Contains kept g → Contains (kept ++ f ∷ []) g
+  was_kept g c = Contains-append_left kept (f ∷ []) g c
+
+  rises_kept : Rises (kept ++ f ∷ [])
+  rises_kept = rises_push kept f k.rises (λ g c. rises_last met f g up (k.only g c))
+
+  only_kept : (g : Found) → Contains (kept ++ f ∷ []) g → Contains (met ++ f ∷ []) g
+  only_kept g c = within (Contains-push_cases kept f g c)
+    where
+      within : Contains kept g ⊎ (f ≡ g) → Contains (met ++ f ∷ []) g
+      within (inl d) = Contains-append_left met (f ∷ []) g (k.only g d)
+      within (inr e) = subst (λ (x : Found). Contains (met ++ f ∷ []) x) e (Contains-push met f)
+
+  plain_kept : (g : Found) (identity : Identity) → Contains (met ++ f ∷ []) g → IsPlain identity g → Contains (kept ++ f ∷ []) g
+  plain_kept g identity c plain = within (Contains-push_cases met f g c)
+    where
+      within : Contains met g ⊎ (f ≡ g) → Contains (kept ++ f ∷ []) g
+      within (inl d) = was_kept g (k.plain g identity d plain)
+      within (inr e) = subst (λ (x : Found). Contains (kept ++ f ∷ []) x) e here_kept
+
+  abbrev Again : List Found → Found → Type 0
+  Again l g = (identity : Identity) × IsLinkTo identity g × ((own identity ≡ true) ⊎ ((h : Found) × Contains l h × IsAgain h g))
+
+  again_more : (g : Found) → Again kept g → Again (kept ++ f ∷ []) g
+  again_more g h = (h.0, h.1, by h.2)
+    where
+      by : (own h.0 ≡ true) ⊎ ((x : Found) × Contains kept x × IsAgain x g) → (own h.0 ≡ true) ⊎ ((x : Found) × Contains (kept ++ f ∷ []) x × IsAgain x g)
+      by (inl e) = inl e
+      by (inr d) = inr (d.0, was_kept d.0 d.1, d.2)
+
+  stays_kept : (g : Found) → Contains (met ++ f ∷ []) g → Contains (kept ++ f ∷ []) g ⊎ Again (kept ++ f ∷ []) g
+  stays_kept g c = here (Contains-push_cases met f g c)
+    where
+      old : Contains kept g ⊎ Again kept g → Contains (kept ++ f ∷ []) g ⊎ Again (kept ++ f ∷ []) g
+      old (inl d) = inl (was_kept g d)
+      old (inr d) = inr (again_more g d)
+
+      here : Contains met g ⊎ (f ≡ g) → Contains (kept ++ f ∷ []) g ⊎ Again (kept ++ f ∷ []) g
+      here (inl d) = old (k.stays g d)
+      here (inr e) = inl (subst (λ (x : Found). Contains (kept ++ f ∷ []) x) e here_kept)
+
+  -- one that is no link
+  pub keeps_other : ((identity : Identity) → IsLinkTo identity f → ⊥) → has ≡ had → Keeps own (met ++ f ∷ []) (kept ++ f ∷ []) has
+  keeps_other never same = subst (λ (p : Identity → Bool). Keeps own (met ++ f ∷ []) (kept ++ f ∷ []) p) (sym same) (record {
+    rises = rises_kept;
+    only = only_kept;
+    plain = plain_kept;
+    stays = stays_kept;
+    apart = λ g i c link. k.apart g i (old g i link (Contains-push_cases kept f g c)) link;
+    owned = k.owned;
+    noted = λ g i c link. k.noted g i (old g i link (Contains-push_cases kept f g c)) link;
+    known = λ i e. more i (k.known i e);
+    once = λ g h i c d one other. k.once g h i (old g i one (Contains-push_cases kept f g c)) (old h i other (Contains-push_cases kept f h d)) one other;
+  })
+    where
+      old : (g : Found) (i : Identity) → IsLinkTo i g → Contains kept g ⊎ (f ≡ g) → Contains kept g
+      old g i link (inl c) = c
+      old g i link (inr e) = absurd (never i (subst (λ (x : Found). IsLinkTo i x) (sym e) link))
+
+      more : (i : Identity) → (own i ≡ true) ⊎ ((g : Found) × Contains kept g × IsLinkTo i g) → (own i ≡ true) ⊎ ((g : Found) × Contains (kept ++ f ∷ []) g × IsLinkTo i g)
+      more i (inl e) = inl e
+      more i (inr d) = inr (d.0, was_kept d.0 d.1, d.2)
+
+  -- a link to a file that wasn't noted
+  pub keeps_link : (identity : Identity) → IsLinkTo identity f → NotesIdentity had has identity true → Keeps own (met ++ f ∷ []) (kept ++ f ∷ []) has
+  keeps_link identity link n = record {
+    rises = rises_kept;
+    only = only_kept;
+    plain = plain_kept;
+    stays = stays_kept;
+    apart = λ g i c other. apart g i other (Contains-push_cases kept f g c);
+    owned = λ i e. n.kept i (k.owned i e);
+    noted = λ g i c other. noted g i other (Contains-push_cases kept f g c);
+    known = λ i e. known i (n.more i e);
+    once = λ g h i c d one other. once g h i one other (Contains-push_cases kept f g c) (Contains-push_cases kept f h d);
   }
     where
-      both : (g h : Found) → Contains kept g ⊎ (f ≡ g) → Contains kept h ⊎ (f ≡ h) → IsSame g h → g.name.items ≡ h.name.items
-      both g h (inl c) (inl d) same = k.once g h c d same
-      both g h (inl c) (inr e) same = absurd (alone g c (subst (λ (x : Found). IsSame g x) (sym e) same))
-      both g h (inr e) (inl d) same = absurd (alone h d (subst (λ (x : Found). IsSame h x) (sym e) (other_way g h same)))
-      both g h (inr e) (inr d) same = ap (λ (x : Found). x.name.items) (sym e ∙ d)
+      unknown : had identity ≡ true → ⊥
+      unknown e = fresh (had identity) n.is e
 
-      within : (g : Found) → Contains kept g ⊎ (f ≡ g) → Contains (met ++ f ∷ []) g
-      within g (inl c) = Contains-append_left met (f ∷ []) g (k.only g c)
-      within g (inr e) = subst (λ (x : Found). Contains (met ++ f ∷ []) x) e (Contains-push met f)
+      its_own : (g : Found) (i : Identity) → IsLinkTo i g → f ≡ g → identity ≡ i
+      its_own g i other e = same_link f identity i link (subst (λ (x : Found). IsLinkTo i x) (sym e) other)
 
-      stay : (g : Found) → Contains kept g ⊎ ((h : Found) × Contains kept h × IsEarlier h g) → Contains (kept ++ f ∷ []) g ⊎ ((h : Found) × Contains (kept ++ f ∷ []) h × IsEarlier h g)
-      stay g (inl c) = inl (Contains-append_left kept (f ∷ []) g c)
-      stay g (inr e) = inr (e.0, Contains-append_left kept (f ∷ []) e.0 e.1, e.2)
+      apart : (g : Found) (i : Identity) → IsLinkTo i g → Contains kept g ⊎ (f ≡ g) → own i ≡ false
+      apart g i other (inl c) = k.apart g i c other
+      apart g i other (inr e) = subst (λ (x : Identity). own x ≡ false) (its_own g i other e) (not_true (own identity) (λ t. unknown (k.owned identity t)))
 
-      here : (g : Found) → Contains met g ⊎ (f ≡ g) → Contains (kept ++ f ∷ []) g ⊎ ((h : Found) × Contains (kept ++ f ∷ []) h × IsEarlier h g)
-      here g (inl c) = stay g (k.stays g c)
-      here g (inr e) = inl (subst (λ (x : Found). Contains (kept ++ f ∷ []) x) e (Contains-push kept f))
+      noted : (g : Found) (i : Identity) → IsLinkTo i g → Contains kept g ⊎ (f ≡ g) → has i ≡ true
+      noted g i other (inl c) = n.kept i (k.noted g i c other)
+      noted g i other (inr e) = subst (λ (x : Identity). has x ≡ true) (its_own g i other e) n.now
 
-  keeps_passed : (g : Found) → Contains kept g → IsSame g f → KeepsFirsts (met ++ f ∷ []) kept
-  keeps_passed g c same = record {
+      was : (i : Identity) → (own i ≡ true) ⊎ ((g : Found) × Contains kept g × IsLinkTo i g) → (own i ≡ true) ⊎ ((g : Found) × Contains (kept ++ f ∷ []) g × IsLinkTo i g)
+      was i (inl e) = inl e
+      was i (inr d) = inr (d.0, was_kept d.0 d.1, d.2)
+
+      known : (i : Identity) → (i ≡ identity) ⊎ (had i ≡ true) → (own i ≡ true) ⊎ ((g : Found) × Contains (kept ++ f ∷ []) g × IsLinkTo i g)
+      known i (inl e) = inr (f, here_kept, subst (λ (x : Identity). IsLinkTo x f) (sym e) link)
+      known i (inr e) = was i (k.known i e)
+
+      never : (g h : Found) (i : Identity) → IsLinkTo i g → IsLinkTo i h → Contains kept g → f ≡ h → ⊥
+      never g h i one other c e = unknown (subst (λ (x : Identity). had x ≡ true) (sym (its_own h i other e)) (k.noted g i c one))
+
+      once : (g h : Found) (i : Identity) → IsLinkTo i g → IsLinkTo i h → Contains kept g ⊎ (f ≡ g) → Contains kept h ⊎ (f ≡ h) → g.name.items ≡ h.name.items
+      once g h i one other (inl c) (inl d) = k.once g h i c d one other
+      once g h i one other (inl c) (inr e) = absurd (never g h i one other c e)
+      once g h i one other (inr e) (inl d) = absurd (never h g i other one d e)
+      once g h i one other (inr e) (inr d) = ap (λ (x : Found). x.name.items) (sym e ∙ d)
+
+  -- a link to one that was
+  pub passes_link : (identity : Identity) → IsLinkTo identity f → NotesIdentity had has identity false → Keeps own (met ++ f ∷ []) kept has
+  passes_link identity link n = record {
     rises = k.rises;
+    only = λ g c. Contains-append_left met (f ∷ []) g (k.only g c);
+    plain = λ g i c plain. old g i plain (Contains-push_cases met f g c);
+    stays = λ g c. stays g (Contains-push_cases met f g c);
+    apart = k.apart;
+    owned = λ i e. n.kept i (k.owned i e);
+    noted = λ g i c other. n.kept i (k.noted g i c other);
+    known = λ i e. known i (n.more i e);
     once = k.once;
-    only = λ h d. Contains-append_left met (f ∷ []) h (k.only h d);
-    stays = λ h d. here h (Contains-push_cases met f h d);
   }
     where
-      here : (h : Found) → Contains met h ⊎ (f ≡ h) → Contains kept h ⊎ ((e : Found) × Contains kept e × IsEarlier e h)
-      here h (inl d) = k.stays h d
-      here h (inr e) = inr (subst (λ (x : Found). (e : Found) × Contains kept e × IsEarlier e x) e (g, c, (same, rises_last met f g up (k.only g c))))
+      was : had identity ≡ true
+      was = known_before (had identity) n.is
 
--- ---- what is noted
+      old : (g : Found) (i : Identity) → IsPlain i g → Contains met g ⊎ (f ≡ g) → Contains kept g
+      old g i plain (inl c) = k.plain g i c plain
+      old g i plain (inr e) = absurd (not_both f identity i link (subst (λ (x : Found). IsPlain i x) (sym e) plain))
 
-some_same : (i j : Identity) → Some i ≡ Some j → i ≡ j
-some_same i j e = cc
+      again : (own identity ≡ true) ⊎ ((g : Found) × Contains kept g × IsLinkTo identity g) → (own identity ≡ true) ⊎ ((g : Found) × Contains kept g × IsAgain g f)
+      again (inl e) = inl e
+      again (inr d) = inr (d.0, d.1, (identity, link, inr (d.2, rises_last met f d.0 up (k.only d.0 d.1))))
 
-none_some : (i : Identity) → None ≡ Some i → ⊥
-none_some i e = cc
+      stays : (g : Found) → Contains met g ⊎ (f ≡ g) → Contains kept g ⊎ Again kept g
+      stays g (inl c) = k.stays g c
+      stays g (inr e) = inr (subst (λ (x : Found). Again kept x) e (identity, link, again (k.known identity was)))
 
-no_identity : (f : Found) (met kept : List Found) (had has : Identity → Bool) → Rises (met ++ f ∷ []) → Firsts met kept had → f.identity ≡ None → has ≡ had
-    → Firsts (met ++ f ∷ []) (kept ++ f ∷ []) has
-no_identity f met kept had has up h none same = subst (λ (p : Identity → Bool). Firsts (met ++ f ∷ []) (kept ++ f ∷ []) p) (sym same) (record {
-  keeps = keeps_pushed f met kept up h.keeps (λ g c s. none_some s.0 (sym none ∙ s.2));
-  noted = λ g i c e. by g i e (Contains-push_cases kept f g c);
-  known = λ i e. let w = h.known i e in (w.0, Contains-append_left kept (f ∷ []) w.0 w.1, w.2);
+      known : (i : Identity) → (i ≡ identity) ⊎ (had i ≡ true) → (own i ≡ true) ⊎ ((g : Found) × Contains kept g × IsLinkTo i g)
+      known i (inl e) = k.known i (subst (λ (x : Identity). had x ≡ true) (sym e) was)
+      known i (inr e) = k.known i e
+
+  -- whatever it is
+  by_link : (kept' : List Found) (identity : Identity) → IsLinkTo identity f → MeetsLink identity f had has kept kept' → Keeps own (met ++ f ∷ []) kept' has
+  by_link kept' identity link m = turn m.0 m.1 m.2
+    where
+      turn : (is_new : Bool) → NotesIdentity had has identity is_new → kept' ≡ (if is_new then kept ++ f ∷ [] else kept) → Keeps own (met ++ f ∷ []) kept' has
+      turn true n e = subst (λ l. Keeps own (met ++ f ∷ []) l has) (sym e) (keeps_link identity link n)
+      turn false n e = subst (λ l. Keeps own (met ++ f ∷ []) l has) (sym e) (passes_link identity link n)
+
+  by_kind : (kept' : List Found) (file : FoundFile) (v : Bool) → f.file ≡ Some file → file.is_link ≡ v → MeetsIf v file.identity f had has kept kept' → Keeps own (met ++ f ∷ []) kept' has
+  by_kind kept' file true is link m = by_link kept' file.identity (file, is, refl, link) m
+  by_kind kept' file false is link m =
+      subst (λ l. Keeps own (met ++ f ∷ []) l has) (sym m.1) (keeps_other (λ i other. not_both f i file.identity other (file, is, refl, link)) m.0)
+
+  pub by_file : (kept' : List Found) (o : Option FoundFile) → f.file ≡ o → MeetsBy o f had has kept kept' → Keeps own (met ++ f ∷ []) kept' has
+  by_file kept' None is m = subst (λ l. Keeps own (met ++ f ∷ []) l has) (sym m.1) (keeps_other (λ i other. link_unnamed f i is other) m.0)
+  by_file kept' (Some file) is m = by_kind kept' file file.is_link is refl m
+
+pub keeps_more : (own : Identity → Bool) (f : Found) (met kept kept' : List Found) (had has : Identity → Bool) → (Rises met → Keeps own met kept had) → MeetsBy f.file f had has kept kept'
+    → Rises (met ++ f ∷ []) → Keeps own (met ++ f ∷ []) kept' has
+keeps_more own f met kept kept' had has so m up = by_file own f met kept had has up (so (rises_front met f up)) kept' f.file refl m
+
+pub keeps_none : (own : Identity → Bool) (kept : List Found) → kept ≡ [] → Rises [] → Keeps own [] kept own
+keeps_none own kept none up = subst (λ l. Keeps own [] l own) (sym none) (record {
+  rises = up;
+  only = λ f c. c;
+  plain = λ f i c plain. c;
+  stays = λ g c. inl c;
+  apart = λ f i c link. absurd (none_in f c);
+  owned = λ i e. e;
+  noted = λ f i c link. absurd (none_in f c);
+  known = λ i e. inl e;
+  once = λ f g i c d one other. absurd (none_in f c);
+})
+
+-- ---- the end
+
+module _ (found kept : List Found) (own has : Identity → Bool) (owns : Owns found own) (k : Keeps own found kept has) where
+  keeps_once : KeepsOnce found kept
+  keeps_once = record {
+    rises = k.rises;
+    only = k.only;
+    stays = λ g c. stays g (k.stays g c);
+    once = λ f g c d again. once f g c d again.0 again.1 again.2;
+  }
+    where
+      by_own : (g : Found) (i : Identity) → IsLinkTo i g → (own i ≡ true) ⊎ ((f : Found) × Contains kept f × IsAgain f g) → (f : Found) × Contains kept f × IsAgain f g
+      by_own g i link (inl e) = let w = owns.only i e in (w.0, k.plain w.0 i w.1 w.2, (i, link, inl w.2))
+      by_own g i link (inr d) = d
+
+      stays : (g : Found) → Contains kept g ⊎ ((i : Identity) × IsLinkTo i g × ((own i ≡ true) ⊎ ((f : Found) × Contains kept f × IsAgain f g))) → Contains kept g ⊎ ((f : Found) × Contains kept f × IsAgain f g)
+      stays g (inl c) = inl c
+      stays g (inr h) = inr (by_own g h.0 h.1 h.2)
+
+      before_itself : (f g : Found) → f.name.items ≡ g.name.items → slice_cmp nat_cmp f.name.items g.name.items ≡ Less → ⊥
+      before_itself f g same less = no (sym (tied_itself nat_list_cmp_total g.name.items) ∙ subst (λ n. slice_cmp nat_cmp n g.name.items ≡ Less) same less)
+        where
+          no : Equal ≡ Less → ⊥
+          no e = cc
+
+      once : (f g : Found) → Contains kept f → Contains kept g → (i : Identity) → IsLinkTo i g → IsPlain i f ⊎ (IsLinkTo i f × (slice_cmp nat_cmp f.name.items g.name.items ≡ Less)) → ⊥
+      once f g c d i link (inl plain) = true≢false (sym (owns.all f i (k.only f c) plain) ∙ k.apart g i d link)
+      once f g c d i link (inr h) = before_itself f g (k.once f g i c d h.0 link) h.1
+
+-- when all were met
+pub kept_once : {E : Type 0} (r : Result (Vec Found Global) E) (found : List Found) (own : Identity → Bool) → Owns found own → IfOk r (λ kept. Rises found → AreKept own found kept.items)
+    → IfOk r (λ kept. Rises found → KeepsOnce found kept.items)
+kept_once (Ok kept) found own owns so = λ up. let k = so up in keeps_once found kept.items own k.0 owns k.1
+kept_once (Err e) found own owns so = tt
+
+-- ---- files of names that are no links
+
+owns_same : (f : Found) (found : List Found) (had has : Identity → Bool) → ((i : Identity) → IsPlain i f → ⊥) → has ≡ had → Owns found had → Owns (found ++ f ∷ []) has
+owns_same f found had has never same o = subst (λ (p : Identity → Bool). Owns (found ++ f ∷ []) p) (sym same) (record {
+  all = λ g i c plain. by g i plain (Contains-push_cases found f g c);
+  only = λ i e. let w = o.only i e in (w.0, Contains-append_left found (f ∷ []) w.0 w.1, w.2);
 })
   where
-    by : (g : Found) (i : Identity) → g.identity ≡ Some i → Contains kept g ⊎ (f ≡ g) → had i ≡ true
-    by g i e (inl c) = h.noted g i c e
-    by g i e (inr is) = absurd (none_some i (sym none ∙ ap (λ (x : Found). x.identity) is ∙ e))
+    by : (g : Found) (i : Identity) → IsPlain i g → Contains found g ⊎ (f ≡ g) → had i ≡ true
+    by g i plain (inl c) = o.all g i c plain
+    by g i plain (inr e) = absurd (never i (subst (λ (x : Found). IsPlain i x) (sym e) plain))
 
-new_identity : (f : Found) (met kept : List Found) (had has : Identity → Bool) (identity : Identity) → Rises (met ++ f ∷ []) → Firsts met kept had → f.identity ≡ Some identity
-    → NotesIdentity had has identity true → Firsts (met ++ f ∷ []) (kept ++ f ∷ []) has
-new_identity f met kept had has identity up h is n = record {
-  keeps = keeps_pushed f met kept up h.keeps alone;
-  noted = λ g i c e. by g i e (Contains-push_cases kept f g c);
-  known = λ i e. found i (n.more i e);
+owns_one : (f : Found) (found : List Found) (had has : Identity → Bool) (identity : Identity) (is_new : Bool) → IsPlain identity f → NotesIdentity had has identity is_new → Owns found had → Owns (found ++ f ∷ []) has
+owns_one f found had has identity is_new plain n o = record {
+  all = λ g i c other. by g i other (Contains-push_cases found f g c);
+  only = λ i e. from i (n.more i e);
 }
   where
-    fresh : (v : Bool) → true ≡ not v → v ≡ true → ⊥
-    fresh true e t = cc
-    fresh false e t = cc
+    by : (g : Found) (i : Identity) → IsPlain i g → Contains found g ⊎ (f ≡ g) → has i ≡ true
+    by g i other (inl c) = n.kept i (o.all g i c other)
+    by g i other (inr e) = subst (λ (x : Identity). has x ≡ true) (same_plain f identity i plain (subst (λ (x : Found). IsPlain i x) (sym e) other)) n.now
 
-    alone : (g : Found) → Contains kept g → IsSame g f → ⊥
-    alone g c s = fresh (had identity) n.is (h.noted g identity c (s.1 ∙ sym s.2 ∙ is))
+    from : (i : Identity) → (i ≡ identity) ⊎ (had i ≡ true) → (g : Found) × Contains (found ++ f ∷ []) g × IsPlain i g
+    from i (inl e) = (f, Contains-push found f, subst (λ (x : Identity). IsPlain x f) (sym e) plain)
+    from i (inr e) = let w = o.only i e in (w.0, Contains-append_left found (f ∷ []) w.0 w.1, w.2)
 
-    by : (g : Found) (i : Identity) → g.identity ≡ Some i → Contains kept g ⊎ (f ≡ g) → has i ≡ true
-    by g i e (inl c) = n.kept i (h.noted g i c e)
-    by g i e (inr same) = subst (λ (x : Identity). has x ≡ true) (some_same identity i (sym is ∙ ap (λ (x : Found). x.identity) same ∙ e)) n.now
+owns_if : (f : Found) (found : List Found) (had has : Identity → Bool) (file : FoundFile) (v : Bool) → f.file ≡ Some file → file.is_link ≡ v → NotesUnless v file.identity had has → Owns found had → Owns (found ++ f ∷ []) has
+owns_if f found had has file true is link n o = owns_same f found had has (λ i plain. not_both f file.identity i (file, is, refl, link) plain) n o
+owns_if f found had has file false is link n o = owns_one f found had has file.identity n.0 (file, is, refl, link) n.1 o
 
-    found : (i : Identity) → (i ≡ identity) ⊎ (had i ≡ true) → (g : Found) × Contains (kept ++ f ∷ []) g × (g.identity ≡ Some i)
-    found i (inl e) = (f, Contains-push kept f, is ∙ ap (λ (x : Identity). Some x) (sym e))
-    found i (inr e) = let w = h.known i e in (w.0, Contains-append_left kept (f ∷ []) w.0 w.1, w.2)
+pub owns_more : (f : Found) (found : List Found) (had has : Identity → Bool) (o : Option FoundFile) → f.file ≡ o → NotesPlain o had has → Owns found had → Owns (found ++ f ∷ []) has
+owns_more f found had has None is n owns = owns_same f found had has (λ i plain. plain_unnamed f i is plain) n owns
+owns_more f found had has (Some file) is n owns = owns_if f found had has file file.is_link is refl n owns
 
-old_identity : (f : Found) (met kept : List Found) (had has : Identity → Bool) (identity : Identity) → Rises (met ++ f ∷ []) → Firsts met kept had → f.identity ≡ Some identity
-    → NotesIdentity had has identity false → Firsts (met ++ f ∷ []) kept has
-old_identity f met kept had has identity up h is n =
-    let w = h.known identity (known_before (had identity) n.is) in
-    record {
-      keeps = keeps_passed f met kept up h.keeps w.0 w.1 (identity, w.2, is);
-      noted = λ g i c e. n.kept i (h.noted g i c e);
-      known = λ i e. found i (n.more i e);
-    }
-  where
-    known_before : (v : Bool) → false ≡ not v → v ≡ true
-    known_before true e = refl
-    known_before false e = absurd (cc)
+pub owns_none : (has : Identity → Bool) → ((i : Identity) → has i ≡ false) → Owns [] has
+owns_none has empty = record {
+  all = λ f i c plain. absurd (none_in f c);
+  only = λ i e. absurd (true≢false (sym e ∙ empty i));
+}
 
-    found : (i : Identity) → (i ≡ identity) ⊎ (had i ≡ true) → (g : Found) × Contains kept g × (g.identity ≡ Some i)
-    found i (inl e) = h.known i (subst (λ (x : Identity). had x ≡ true) (sym e) (known_before (had identity) n.is))
-    found i (inr e) = h.known i e
-
-by_identity : (o : Option Identity) (f : Found) (met kept kept' : List Found) (had has : Identity → Bool) → f.identity ≡ o → Rises (met ++ f ∷ []) → Firsts met kept had
-    → MeetsBy o f had has kept kept' → Firsts (met ++ f ∷ []) kept' has
-by_identity None f met kept kept' had has is up h m = subst (λ l. Firsts (met ++ f ∷ []) l has) (sym m.1) (no_identity f met kept had has up h is m.0)
-by_identity (Some identity) f met kept kept' had has is up h m = turn m.0 m.1 m.2
-  where
-    turn : (is_new : Bool) → NotesIdentity had has identity is_new → kept' ≡ (if is_new then kept ++ f ∷ [] else kept) → Firsts (met ++ f ∷ []) kept' has
-    turn true n e = subst (λ l. Firsts (met ++ f ∷ []) l has) (sym e) (new_identity f met kept had has identity up h is n)
-    turn false n e = subst (λ l. Firsts (met ++ f ∷ []) l has) (sym e) (old_identity f met kept had has identity up h is n)
-
-pub firsts_more : (f : Found) (met kept kept' : List Found) (had has : Identity → Bool) → (Rises met → Firsts met kept had) → MeetsBy f.identity f had has kept kept'
-    → Rises (met ++ f ∷ []) → Firsts (met ++ f ∷ []) kept' has
-firsts_more f met kept kept' had has so m up = by_identity f.identity f met kept kept' had has refl up (so (rises_front met f up)) m
+pub owns_step : (found : List Found) (i : ℕ) (f : Found) (had has : Identity → Bool) → i < length found → f ≡ get_or found i f → Owns (take i found) had → NotesPlain f.file had has → Owns (take (i + 1) found) has
+owns_step found i f had has within is before notes =
+    subst (λ l. Owns l has) (sym (take_more found i f within ∙ ap (λ x. take i found ++ x ∷ []) (sym is))) (owns_more f (take i found) had has f.file refl notes before)

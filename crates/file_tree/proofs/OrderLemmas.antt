@@ -12,8 +12,8 @@ use Rattle.std.proofs.lemmas.Slice.Eq.{bytes_eq-Decides}
 use Rattle.file_tree.specs.Files.{Name}
 use Rattle.file_tree.specs.Ordered.{IsFound, Orders}
 use Rattle.file_tree.specs.declared.fault.TreeFault.{TreeFault}
-use Rattle.file_tree.specs.declared.kind.Identity.{Identity}
 use Rattle.file_tree.specs.declared.walk.Found.{Found}
+use Rattle.file_tree.specs.declared.walk.FoundFile.{FoundFile}
 
 abbrev pub same_name : Found → Found → Bool
 same_name f g = bytes_eq f.name.items g.name.items
@@ -101,7 +101,7 @@ lt_first Greater p h = refl
 lt_second : (o p : Ordering) → o ≡ Equal → is_lt (ordering_then o p) ≡ false → is_lt p ≡ false
 lt_second o p e h = subst (λ x. is_lt (ordering_then x p) ≡ false) e h
 
-module _ (R : TreeFault → TreeFault → Ordering) (S : Identity → Identity → Ordering) where
+module _ (R : TreeFault → TreeFault → Ordering) (S : FoundFile → FoundFile → Ordering) where
   none_first : (f g : Option TreeFault) → is_lt (option_cmp R g f) ≡ false → g ≡ None → f ≡ None
   none_first None g h e = refl
   none_first (Some x) None h e = absurd (true≢false h)
@@ -110,15 +110,15 @@ module _ (R : TreeFault → TreeFault → Ordering) (S : Identity → Identity �
       no : Some y ≡ None → ⊥
       no q = cc
 
-  low_from : (f g : Found) → is_lt (ordering_then (by_name g f) (ordering_then (option_cmp R g.fault f.fault) (option_cmp S g.identity f.identity))) ≡ false → Low f g
+  low_from : (f g : Found) → is_lt (ordering_then (by_name g f) (ordering_then (option_cmp R g.fault f.fault) (option_cmp S g.file f.file))) ≡ false → Low f g
   low_from f g h same none =
       none_first f.fault g.fault
-      (lt_first (option_cmp R g.fault f.fault) (option_cmp S g.identity f.identity)
-      (lt_second (by_name g f) (ordering_then (option_cmp R g.fault f.fault) (option_cmp S g.identity f.identity))
+      (lt_first (option_cmp R g.fault f.fault) (option_cmp S g.file f.file)
+      (lt_second (by_name g f) (ordering_then (option_cmp R g.fault f.fault) (option_cmp S g.file f.file))
       (subst (λ n. slice_cmp nat_cmp n f.name.items ≡ Equal) same (tied_itself nat_list_cmp_total f.name.items)) h))
       none
 
-  pub orders : (found sorted ordered : List Found) → IsPermutation found sorted → IsSorted (λ f g. ordering_then (by_name f g) (ordering_then (option_cmp R f.fault g.fault) (option_cmp S f.identity g.identity))) sorted
+  pub orders : (found sorted ordered : List Found) → IsPermutation found sorted → IsSorted (λ f g. ordering_then (by_name f g) (ordering_then (option_cmp R f.fault g.fault) (option_cmp S f.file g.file))) sorted
       → ordered ≡ dedup same_name sorted → Orders found ordered
   orders found sorted ordered moved up is = subst (λ l. Orders found l) (sym is) (record {
     rises = IsStrictlySortedBy-dedup (on_texts (λ (f : Found). f.name.items)) (λ f g. texts_ties f.name.items g.name.items) sorted

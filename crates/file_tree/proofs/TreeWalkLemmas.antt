@@ -5,12 +5,12 @@ use Rattle.std.proofs.lemmas.List.{map-append, map_more}
 use Rattle.std.proofs.lemmas.List.Elements.{Contains-append_left, Contains-push, Contains-push_cases}
 use Rattle.file_tree.specs.Below.{HasFile, HasFolder, IsBelow, IsEntry, IsFile, IsGiven, IsNamed, IsOther, Leads, Says, is_met, listed}
 use Rattle.file_tree.specs.Choices.{Chosen, is_excluded, is_wanted}
-use Rattle.file_tree.specs.Files.{Files, Name, identity_of}
+use Rattle.file_tree.specs.Files.{Files, Name, identity_of, is_link}
 use Rattle.hcl_source.specs.Devices.{Tells}
-use Rattle.file_tree.specs.Finds.{Accounts, Finds, IsEarlier, IsEntryOf, IsFolderOf, IsOf, IsOfBy, IsShown, IsTold, Rises, Stands}
+use Rattle.file_tree.specs.Finds.{Accounts, Finds, IsEntryBy, IsFolderOf, IsOf, IsOfBy}
 use Rattle.file_tree.specs.Names.{is_taken}
 use Rattle.file_tree.specs.Paths.{inside, place, reported, tidied, top, within}
-use Rattle.file_tree.specs.Inner.Walking.{Adds, Covers, Enters, IsFault, KeepsFirsts, Reached, TakesAll, TakesAsked, TakesEntry, TakesFolder, TakesGiven, TakesIf, TakesKind, TakesKindGiven, TakesLink, TakesLinked, TakesNamed, Walked}
+use Rattle.file_tree.specs.Inner.Walking.{Adds, Covers, Enters, IsFault, Reached, TakesAll, TakesAsked, TakesEntry, TakesFolder, TakesGiven, TakesIf, TakesKind, TakesKindGiven, TakesLink, TakesLinked, TakesNamed, TakesNamedFile, TakesWanted, Walked, file_by}
 use Rattle.file_tree.specs.Ordered.{HasName, IsFound, Orders}
 use Rattle.file_tree.specs.declared.fault.TreeFault.{TreeFault}
 use Rattle.file_tree.specs.declared.fault.TreeFault.TheVariants.{OtherKind}
@@ -18,6 +18,7 @@ use Rattle.file_tree.specs.declared.kind.Identity.{Identity}
 use Rattle.file_tree.specs.declared.kind.Kind.{Kind}
 use Rattle.file_tree.specs.declared.kind.Kind.TheVariants.{File, Folder, Link, Other}
 use Rattle.file_tree.specs.declared.walk.Found.{Found}
+use Rattle.file_tree.specs.declared.walk.FoundFile.{FoundFile}
 use Rattle.file_tree.proofs.OrderLemmas.{cons_cases, none_in}
 
 -- ---- nothing is taken away
@@ -36,8 +37,8 @@ grows_then a b c p q = (
   q.3 ∙ ap (λ l. l ++ q.1) p.3 ∙ append_assoc a.folders p.1 q.1,
 )
 
-grows_adds : (name : Name) (fault : Option TreeFault) (identity : Option Identity) (old new : Reached) → Adds name fault identity old new → Grows old new
-grows_adds name fault identity old new h = (h.f ∷ [], [], h.found, h.folders ∙ sym (append-nil old.folders))
+grows_adds : (name : Name) (fault : Option TreeFault) (file : Option FoundFile) (old new : Reached) → Adds name fault file old new → Grows old new
+grows_adds name fault file old new h = (h.f ∷ [], [], h.found, h.folders ∙ sym (append-nil old.folders))
 
 grows_enters : (folder : Name) (old new : Reached) → Enters folder old new → Grows old new
 grows_enters folder old new h = ([], folder ∷ [], h.found ∙ sym (append-nil old.found), h.folders)
@@ -49,8 +50,8 @@ grows_if false path identity old new h = grows_same old new h
 grows_linked : (kind : Kind) (path : Name) (old new : Reached) → TakesLinked kind path old new → Grows old new
 grows_linked Folder path old new h = grows_same old new h
 grows_linked (File identity) path old new h = grows_adds path None _ old new h
-grows_linked Link path old new h = grows_adds path None _ old new h
-grows_linked Other path old new h = grows_adds path None _ old new h
+grows_linked Link path old new h = grows_same old new h
+grows_linked Other path old new h = grows_same old new h
 
 grows_link : (v : Bool) (files : Files) (path : Name) (old new : Reached) → TakesLink v files path old new → Grows old new
 grows_link true files path old new (inl h) = grows_adds path (Some h.0) _ old new h.1
@@ -76,20 +77,30 @@ grows_folder : (files : Files) (chosen : Chosen) (folder : Name) (old new : Reac
 grows_folder files chosen folder old new (inl h) = grows_adds (place folder) (Some h.0) _ old new h.1
 grows_folder files chosen folder old new (inr h) = grows_all files chosen folder (listed h.0) old new h.2
 
-grows_named : (v : Bool) (name : Name) (identity : Option Identity) (old new : Reached) → TakesNamed v name identity old new → Grows old new
-grows_named true name identity old new h = grows_adds name None identity old new h
-grows_named false name identity old new h = grows_adds name (Some OtherKind) None old new h
+grows_file : (files : Files) (identity : Identity) (path : Name) (old new : Reached) → TakesNamedFile files identity path old new → Grows old new
+grows_file files identity path old new (inl h) = grows_adds (reported path) (Some h.0) None old new h.1
+grows_file files identity path old new (inr h) = grows_adds (tidied path) None _ old new h.2
 
-grows_kind_given : (chosen : Chosen) (kind : Kind) (path : Name) (old new : Reached) → TakesKindGiven chosen kind path old new → Grows old new
-grows_kind_given chosen Folder path old new h = grows_enters (top path) old new h
-grows_kind_given chosen (File identity) path old new h = grows_named (is_wanted chosen (tidied path)) (tidied path) _ old new h
-grows_kind_given chosen Link path old new h = grows_named (is_wanted chosen (tidied path)) (tidied path) _ old new h
-grows_kind_given chosen Other path old new h = grows_named (is_wanted chosen (tidied path)) (tidied path) _ old new h
+grows_wanted : (kind : Kind) (files : Files) (path : Name) (old new : Reached) → TakesWanted kind files path old new → Grows old new
+grows_wanted Folder files path old new h = grows_adds (tidied path) None None old new h
+grows_wanted (File identity) files path old new h = grows_file files identity path old new h
+grows_wanted Link files path old new h = grows_adds (tidied path) None None old new h
+grows_wanted Other files path old new h = grows_adds (tidied path) None None old new h
+
+grows_named : (v : Bool) (kind : Kind) (files : Files) (path : Name) (old new : Reached) → TakesNamed v kind files path old new → Grows old new
+grows_named true kind files path old new h = grows_wanted kind files path old new h
+grows_named false kind files path old new h = grows_adds (tidied path) (Some OtherKind) None old new h
+
+grows_kind_given : (files : Files) (chosen : Chosen) (kind : Kind) (path : Name) (old new : Reached) → TakesKindGiven files chosen kind path old new → Grows old new
+grows_kind_given files chosen Folder path old new h = grows_enters (top path) old new h
+grows_kind_given files chosen (File identity) path old new h = grows_named (is_wanted chosen (tidied path)) (File identity) files path old new h
+grows_kind_given files chosen Link path old new h = grows_named (is_wanted chosen (tidied path)) Link files path old new h
+grows_kind_given files chosen Other path old new h = grows_named (is_wanted chosen (tidied path)) Other files path old new h
 
 grows_given : (files : Files) (chosen : Chosen) (path : Name) (old new : Reached) → TakesGiven files chosen path old new → Grows old new
 grows_given files chosen path old new (inl h) = grows_same old new h.1
 grows_given files chosen path old new (inr (_, inl h)) = grows_adds (reported path) (Some h.0) _ old new h.1
-grows_given files chosen path old new (inr (_, inr h)) = grows_kind_given chosen h.0 path old new h.2
+grows_given files chosen path old new (inr (_, inr h)) = grows_kind_given files chosen h.0 path old new h.2
 
 module _ (old new : Reached) (grows : Grows old new) where
   stays : (f : Found) → Contains old.found f → Contains new.found f
@@ -126,8 +137,8 @@ fault_added name fault old new h = (h.f, subst (λ l. Contains l h.f) (sym h.fou
     some_none : Some fault ≡ None → ⊥
     some_none e = cc
 
-found_added : (name : Name) (identity : Option Identity) (old new : Reached) → Adds name None identity old new → IsFound new.found name
-found_added name identity old new h = (h.f, subst (λ l. Contains l h.f) (sym h.found) (Contains-push old.found h.f), h.name_is, h.fault_is)
+found_added : (name : Name) (file : Option FoundFile) (old new : Reached) → Adds name None file old new → IsFound new.found name
+found_added name file old new h = (h.f, subst (λ l. Contains l h.f) (sym h.found) (Contains-push old.found h.f), h.name_is, h.fault_is)
 
 folder_added : (folder : Name) (old new : Reached) → Enters folder old new → Contains new.folders folder
 folder_added folder old new h = subst (λ l. Contains l folder) (sym h.folders) (Contains-push old.folders folder)
@@ -148,16 +159,11 @@ met_folder files chosen folder name old new (inr (_, inr h)) met is =
 taken_if : (v : Bool) (path : Name) (identity : Identity) (old new : Reached) → v ≡ true → TakesIf v path identity old new → IsFound new.found path
 taken_if v path identity old new e h = found_added path _ old new (subst (λ w. TakesIf w path identity old new) e h)
 
-linked_file : (kind : Kind) (path : Name) (old new : Reached) → kind ≢ Folder → TakesLinked kind path old new → IsFound new.found path
-linked_file Folder path old new other h = absurd (other refl)
-linked_file (File identity) path old new other h = found_added path _ old new h
-linked_file Link path old new other h = found_added path _ old new h
-linked_file Other path old new other h = found_added path _ old new h
-
-link_met : (files : Files) (v : Bool) (path : Name) (old new : Reached) → v ≡ true → IsGiven true files path → TakesLink v files path old new → IsFault new.found path ⊎ IsFound new.found path
-link_met files true path old new e is (inl h) = inl (fault_added path h.0 old new h.1)
-link_met files true path old new e is (inr h) = inr (linked_file is.0 path old new is.2 (subst (λ kind. TakesLinked kind path old new) (sym (told_some (files.kind path) is.0 h.0 is.1 h.1)) h.2))
-link_met files false path old new e is h = absurd (true≢false (sym e))
+link_met : (files : Files) (v : Bool) (path : Name) (identity : Identity) (old new : Reached) → v ≡ true → files.kind path ≡ Some (File identity) → TakesLink v files path old new → IsFault new.found path ⊎ IsFound new.found path
+link_met files true path identity old new e is (inl h) = inl (fault_added path h.0 old new h.1)
+link_met files true path identity old new e is (inr h) =
+    inr (found_added path _ old new (subst (λ kind. TakesLinked kind path old new) (sym (told_some (files.kind path) (File identity) h.0 is h.1)) h.2))
+link_met files false path identity old new e is h = absurd (true≢false (sym e))
 
 met_file : (files : Files) (chosen : Chosen) (folder name : Name) (old new : Reached) → TakesEntry files chosen folder name old new → is_met chosen folder name ≡ true → IsFile true files (folder ++ name) → is_taken name ≡ true
     → IsFault new.found (folder ++ name) ⊎ IsFound new.found (folder ++ name)
@@ -167,7 +173,7 @@ met_file files chosen folder name old new (inr (_, inr h)) met (inl (identity, i
     inr (taken_if (is_taken name) (folder ++ name) identity old new taken
     (subst (λ kind. TakesKind kind files (folder ++ name) name old new) (sym (told_some (files.entry (folder ++ name)) (File identity) h.0 is h.1)) h.2))
 met_file files chosen folder name old new (inr (_, inr h)) met (inr (is, leads)) taken =
-    link_met files (is_taken name) (folder ++ name) old new taken leads
+    link_met files (is_taken name) (folder ++ name) leads.0 old new taken leads.1
     (subst (λ kind. TakesKind kind files (folder ++ name) name old new) (sym (told_some (files.entry (folder ++ name)) Link h.0 is h.1)) h.2)
 
 -- ---- nor is one of several
@@ -264,9 +270,9 @@ Sound files chosen paths r = ((f : Found) → Contains r.found f → IsOf files 
 sound_same : (files : Files) (chosen : Chosen) (paths : List Name) (old new : Reached) → new ≡ old → Sound files chosen paths old → Sound files chosen paths new
 sound_same files chosen paths old new e h = subst (λ (r : Reached). Sound files chosen paths r) (sym e) h
 
-sound_adds : (files : Files) (chosen : Chosen) (paths : List Name) (path name : Name) (fault : Option TreeFault) (identity : Option Identity) (old new : Reached) → Adds name fault identity old new → Contains paths path → IsOfBy files chosen path name fault identity
+sound_adds : (files : Files) (chosen : Chosen) (paths : List Name) (path name : Name) (fault : Option TreeFault) (file : Option FoundFile) (old new : Reached) → Adds name fault file old new → Contains paths path → IsOfBy files chosen path name fault file
     → Sound files chosen paths old → Sound files chosen paths new
-sound_adds files chosen paths path name fault identity old new h c of' sound = (
+sound_adds files chosen paths path name fault file old new h c of' sound = (
   λ f d. here f (Contains-push_cases old.found h.f f (subst (λ l. Contains l f) h.found d)),
   λ folder d. sound.1 folder (subst (λ l. Contains l folder) h.folders d),
 )
@@ -274,7 +280,7 @@ sound_adds files chosen paths path name fault identity old new h c of' sound = (
     here : (f : Found) → Contains old.found f ⊎ (h.f ≡ f) → IsOf files chosen paths f
     here f (inl d) = sound.0 f d
     here f (inr e) = subst (λ (x : Found). IsOf files chosen paths x) e
-        (path, c, subst (λ n. IsOfBy files chosen path n h.f.fault h.f.identity) (sym h.name_is) (subst (λ o. IsOfBy files chosen path name o h.f.identity) (sym h.fault_is) (subst (λ i. IsOfBy files chosen path name fault i) (sym h.identity_is) of')))
+        (path, c, subst (λ n. IsOfBy files chosen path n h.f.fault h.f.file) (sym h.name_is) (subst (λ o. IsOfBy files chosen path name o h.f.file) (sym h.fault_is) (subst (λ o. IsOfBy files chosen path name fault o) (sym h.file_is) of')))
 
 sound_enters : (files : Files) (chosen : Chosen) (paths : List Name) (folder : Name) (old new : Reached) → Enters folder old new → Deep files chosen paths folder → Sound files chosen paths old → Sound files chosen paths new
 sound_enters files chosen paths folder old new h deep sound = (
@@ -297,16 +303,16 @@ leads_more sure files chosen folder (part ∷ parts) name leads has = (leads.0, 
 
 -- an entry of a folder that is given, or of one below
 module _ (files : Files) (chosen : Chosen) (paths : List Name) (path : Name) (c : Contains paths path) (allowed : is_excluded chosen (tidied path) ≡ false) (parts : List Name) (is : Says false (files.kind path) Folder) (leads : Leads false files chosen (top path) parts) where
-  sound_found : (name : Name) (identity : Option Identity) (old new : Reached) → true ≡ is_taken name → IsEntry false files chosen (within (top path) parts) name
-      → IsFile false files (within (top path) parts ++ name) → IsEntryOf files (within (top path) parts ++ name) identity
-      → Adds (within (top path) parts ++ name) None identity old new → Sound files chosen paths old → Sound files chosen paths new
-  sound_found name identity old new e entry kind known h sound =
-      sound_adds files chosen paths path (within (top path) parts ++ name) None identity old new h c (inr (parts, name, (is, leads, (entry, kind, sym e), allowed), refl, known)) sound
+  sound_found : (name : Name) (file : Option FoundFile) (old new : Reached) → true ≡ is_taken name → IsEntry false files chosen (within (top path) parts) name
+      → IsFile false files (within (top path) parts ++ name) → IsEntryBy files (within (top path) parts ++ name) file
+      → Adds (within (top path) parts ++ name) None file old new → Sound files chosen paths old → Sound files chosen paths new
+  sound_found name file old new e entry kind known h sound =
+      sound_adds files chosen paths path (within (top path) parts ++ name) None file old new h c (inr (parts, name, (is, leads, (entry, kind, sym e), allowed), refl, known)) sound
 
   sound_if : (name : Name) (v : Bool) (identity : Identity) (old new : Reached) → v ≡ is_taken name → IsEntry false files chosen (within (top path) parts) name
       → Says false (files.entry (within (top path) parts ++ name)) (File identity)
       → TakesIf v (within (top path) parts ++ name) identity old new → Sound files chosen paths old → Sound files chosen paths new
-  sound_if name true identity old new e entry tells h sound = sound_found name (Some identity) old new e entry (inl (identity, tells)) (inl tells) h sound
+  sound_if name true identity old new e entry tells h sound = sound_found name (Some (file_by false identity)) old new e entry (inl (identity, tells)) tells h sound
   sound_if name false identity old new e entry tells h sound = sound_same files chosen paths old new h sound
 
   -- a link is told of by its kind, and where it leads by that of what it leads to
@@ -314,9 +320,9 @@ module _ (files : Files) (chosen : Chosen) (paths : List Name) (path : Name) (c 
       → Says false (files.entry (within (top path) parts ++ name)) Link → Says false (files.kind (within (top path) parts ++ name)) kind
       → TakesLinked kind (within (top path) parts ++ name) old new → Sound files chosen paths old → Sound files chosen paths new
   sound_linked Folder name old new e entry link leads h sound = sound_same files chosen paths old new h sound
-  sound_linked (File identity) name old new e entry link leads h sound = sound_found name (Some identity) old new e entry (inr (link, (File identity, leads, λ q. cc))) (inr (File identity, leads, refl)) h sound
-  sound_linked Link name old new e entry link leads h sound = sound_found name None old new e entry (inr (link, (Link, leads, λ q. cc))) (Link, leads, refl) h sound
-  sound_linked Other name old new e entry link leads h sound = sound_found name None old new e entry (inr (link, (Other, leads, λ q. cc))) (Other, leads, refl) h sound
+  sound_linked (File identity) name old new e entry link leads h sound = sound_found name (Some (file_by true identity)) old new e entry (inr (link, (identity, leads))) (link, leads) h sound
+  sound_linked Link name old new e entry link leads h sound = sound_same files chosen paths old new h sound
+  sound_linked Other name old new e entry link leads h sound = sound_same files chosen paths old new h sound
 
   sound_report : (name : Name) (fault : TreeFault) (old new : Reached) → IsEntry false files chosen (within (top path) parts) name → Adds (within (top path) parts ++ name) (Some fault) None old new
       → Sound files chosen paths old → Sound files chosen paths new
@@ -400,19 +406,36 @@ deep_more files chosen paths path folder h = (h.0, Contains-append_left paths (p
 of_more : (files : Files) (chosen : Chosen) (paths : List Name) (path : Name) (f : Found) → IsOf files chosen paths f → IsOf files chosen (paths ++ path ∷ []) f
 of_more files chosen paths path f h = (h.0, Contains-append_left paths (path ∷ []) h.0 h.1, h.2)
 
-sound_named : (files : Files) (chosen : Chosen) (paths : List Name) (path : Name) (c : Contains paths path) (allowed : is_excluded chosen (tidied path) ≡ false) (kind : Kind) (v : Bool) (old new : Reached) → Says false (files.kind path) kind → kind ≢ Folder
-    → is_wanted chosen (tidied path) ≡ v → TakesNamed v (tidied path) (identity_of kind) old new → Sound files chosen paths old → Sound files chosen paths new
-sound_named files chosen paths path c allowed kind true old new tells ne is h sound =
-    sound_adds files chosen paths path (tidied path) None _ old new h c (inl (((kind, tells, ne), is, allowed), refl, (kind, tells, refl))) sound
-sound_named files chosen paths path c allowed kind false old new tells ne is h sound =
-    sound_adds files chosen paths path (tidied path) (Some OtherKind) None old new h c (inr (((kind, tells, ne), is, allowed), refl, refl), refl) sound
+-- a file that is named, and taken
+module _ (files : Files) (chosen : Chosen) (paths : List Name) (path : Name) (c : Contains paths path) (allowed : is_excluded chosen (tidied path) ≡ false) where
+  sound_file : (identity : Identity) (old new : Reached) → Says false (files.kind path) (File identity) → is_wanted chosen (tidied path) ≡ true → TakesNamedFile files identity path old new
+      → Sound files chosen paths old → Sound files chosen paths new
+  sound_file identity old new tells is (inl h) sound = sound_adds files chosen paths path (reported path) (Some h.0) None old new h.1 c (inl (inl (refl, allowed)), refl) sound
+  sound_file identity old new tells is (inr h) sound =
+      sound_adds files chosen paths path (tidied path) None (Some (file_by (is_link h.0) identity)) old new h.2 c
+      (inl (((File identity, tells, λ e. cc), is, allowed), refl, (tells, (h.0, h.1, refl)))) sound
 
-sound_kind_given : (files : Files) (chosen : Chosen) (paths : List Name) (path : Name) (c : Contains paths path) (allowed : is_excluded chosen (tidied path) ≡ false) (kind : Kind) (old new : Reached) → Tells (files.kind path) kind
-    → TakesKindGiven chosen kind path old new → Sound files chosen paths old → Sound files chosen paths new
-sound_kind_given files chosen paths path c allowed Folder old new tells h sound = sound_enters files chosen paths (top path) old new h (path, c, ([], tells, tt, refl, allowed)) sound
-sound_kind_given files chosen paths path c allowed (File identity) old new tells h sound = sound_named files chosen paths path c allowed (File identity) _ old new tells (λ e. cc) refl h sound
-sound_kind_given files chosen paths path c allowed Link old new tells h sound = sound_named files chosen paths path c allowed Link _ old new tells (λ e. cc) refl h sound
-sound_kind_given files chosen paths path c allowed Other old new tells h sound = sound_named files chosen paths path c allowed Other _ old new tells (λ e. cc) refl h sound
+  sound_no_file : (kind : Kind) (old new : Reached) → Says false (files.kind path) kind → kind ≢ Folder → identity_of kind ≡ None → is_wanted chosen (tidied path) ≡ true → Adds (tidied path) None None old new
+      → Sound files chosen paths old → Sound files chosen paths new
+  sound_no_file kind old new tells ne none is h sound = sound_adds files chosen paths path (tidied path) None None old new h c (inl (((kind, tells, ne), is, allowed), refl, (kind, tells, none))) sound
+
+  sound_wanted : (kind : Kind) (old new : Reached) → Says false (files.kind path) kind → kind ≢ Folder → is_wanted chosen (tidied path) ≡ true → TakesWanted kind files path old new
+      → Sound files chosen paths old → Sound files chosen paths new
+  sound_wanted Folder old new tells ne is h sound = absurd (ne refl)
+  sound_wanted (File identity) old new tells ne is h sound = sound_file identity old new tells is h sound
+  sound_wanted Link old new tells ne is h sound = sound_no_file Link old new tells ne refl is h sound
+  sound_wanted Other old new tells ne is h sound = sound_no_file Other old new tells ne refl is h sound
+
+  sound_named : (kind : Kind) (v : Bool) (old new : Reached) → Says false (files.kind path) kind → kind ≢ Folder → is_wanted chosen (tidied path) ≡ v → TakesNamed v kind files path old new
+      → Sound files chosen paths old → Sound files chosen paths new
+  sound_named kind true old new tells ne is h sound = sound_wanted kind old new tells ne is h sound
+  sound_named kind false old new tells ne is h sound = sound_adds files chosen paths path (tidied path) (Some OtherKind) None old new h c (inr (((kind, tells, ne), is, allowed), refl, refl), refl) sound
+
+  sound_kind_given : (kind : Kind) (old new : Reached) → Tells (files.kind path) kind → TakesKindGiven files chosen kind path old new → Sound files chosen paths old → Sound files chosen paths new
+  sound_kind_given Folder old new tells h sound = sound_enters files chosen paths (top path) old new h (path, c, ([], tells, tt, refl, allowed)) sound
+  sound_kind_given (File identity) old new tells h sound = sound_named (File identity) _ old new tells (λ e. cc) refl h sound
+  sound_kind_given Link old new tells h sound = sound_named Link _ old new tells (λ e. cc) refl h sound
+  sound_kind_given Other old new tells h sound = sound_named Other _ old new tells (λ e. cc) refl h sound
 
 sound_given : (files : Files) (chosen : Chosen) (paths : List Name) (path : Name) (c : Contains paths path) (old new : Reached) → TakesGiven files chosen path old new → Sound files chosen paths old → Sound files chosen paths new
 sound_given files chosen paths path c old new (inl h) sound = sound_same files chosen paths old new h.1 sound
@@ -424,36 +447,46 @@ asked_given : (files : Files) (chosen : Chosen) (path : Name) (old new : Reached
 asked_given files chosen path old new (inl h) allowed = absurd (true≢false (sym h.0 ∙ allowed))
 asked_given files chosen path old new (inr h) allowed = h.1
 
-named_found : (v : Bool) (name : Name) (identity : Option Identity) (old new : Reached) → v ≡ true → TakesNamed v name identity old new → IsFound new.found name
-named_found true name identity old new e h = (h.f, subst (λ l. Contains l h.f) (sym h.found) (Contains-push old.found h.f), h.name_is, h.fault_is)
-named_found false name identity old new e h = absurd (true≢false (sym e))
+file_told : (files : Files) (identity : Identity) (path : Name) (old new : Reached) → TakesNamedFile files identity path old new → IsFound new.found (tidied path) ⊎ IsFault new.found (reported path)
+file_told files identity path old new (inl h) = inr (fault_added (reported path) h.0 old new h.1)
+file_told files identity path old new (inr h) = inl (found_added (tidied path) _ old new h.2)
 
-named_told : (v : Bool) (name : Name) (identity : Option Identity) (old new : Reached) → v ≡ false → TakesNamed v name identity old new → IsFault new.found name
-named_told true name identity old new e h = absurd (true≢false e)
-named_told false name identity old new e h = fault_added name OtherKind old new h
+wanted_told : (kind : Kind) (files : Files) (path : Name) (old new : Reached) → TakesWanted kind files path old new → IsFound new.found (tidied path) ⊎ IsFault new.found (reported path)
+wanted_told Folder files path old new h = inl (found_added (tidied path) None old new h)
+wanted_told (File identity) files path old new h = file_told files identity path old new h
+wanted_told Link files path old new h = inl (found_added (tidied path) None old new h)
+wanted_told Other files path old new h = inl (found_added (tidied path) None old new h)
 
-named_kind : (chosen : Chosen) (kind : Kind) (path : Name) (old new : Reached) → kind ≢ Folder → TakesKindGiven chosen kind path old new → TakesNamed (is_wanted chosen (tidied path)) (tidied path) (identity_of kind) old new
-named_kind chosen Folder path old new ne h = absurd (ne refl)
-named_kind chosen (File identity) path old new ne h = h
-named_kind chosen Link path old new ne h = h
-named_kind chosen Other path old new ne h = h
+named_found : (v : Bool) (kind : Kind) (files : Files) (path : Name) (old new : Reached) → v ≡ true → TakesNamed v kind files path old new → IsFound new.found (tidied path) ⊎ IsFault new.found (reported path)
+named_found true kind files path old new e h = wanted_told kind files path old new h
+named_found false kind files path old new e h = absurd (true≢false (sym e))
+
+named_told : (v : Bool) (kind : Kind) (files : Files) (path : Name) (old new : Reached) → v ≡ false → TakesNamed v kind files path old new → IsFault new.found (tidied path)
+named_told true kind files path old new e h = absurd (true≢false e)
+named_told false kind files path old new e h = fault_added (tidied path) OtherKind old new h
+
+named_kind : (files : Files) (chosen : Chosen) (kind : Kind) (path : Name) (old new : Reached) → kind ≢ Folder → TakesKindGiven files chosen kind path old new → TakesNamed (is_wanted chosen (tidied path)) kind files path old new
+named_kind files chosen Folder path old new ne h = absurd (ne refl)
+named_kind files chosen (File identity) path old new ne h = h
+named_kind files chosen Link path old new ne h = h
+named_kind files chosen Other path old new ne h = h
 
 given_itself : (files : Files) (chosen : Chosen) (path : Name) (old new : Reached) → TakesAsked files chosen path old new → IsNamed true files chosen path → IsFound new.found (tidied path) ⊎ IsFault new.found (reported path)
 given_itself files chosen path old new (inl h) is = inr (fault_added (reported path) h.0 old new h.1)
 given_itself files chosen path old new (inr h) is =
-    inl (named_found _ (tidied path) _ old new is.1
-    (named_kind chosen h.0 path old new (subst (λ k. k ≢ Folder) (told_some (files.kind path) is.0.0 h.0 is.0.1 h.1) is.0.2) h.2))
+    named_found _ h.0 files path old new is.1
+    (named_kind files chosen h.0 path old new (subst (λ k. k ≢ Folder) (told_some (files.kind path) is.0.0 h.0 is.0.1 h.1) is.0.2) h.2)
 
 given_other : (files : Files) (chosen : Chosen) (path : Name) (old new : Reached) → TakesAsked files chosen path old new → IsOther true files chosen path → IsFault new.found (tidied path) ⊎ IsFault new.found (reported path)
 given_other files chosen path old new (inl h) is = inr (fault_added (reported path) h.0 old new h.1)
 given_other files chosen path old new (inr h) is =
-    inl (named_told _ (tidied path) _ old new is.1
-    (named_kind chosen h.0 path old new (subst (λ k. k ≢ Folder) (told_some (files.kind path) is.0.0 h.0 is.0.1 h.1) is.0.2) h.2))
+    inl (named_told _ h.0 files path old new is.1
+    (named_kind files chosen h.0 path old new (subst (λ k. k ≢ Folder) (told_some (files.kind path) is.0.0 h.0 is.0.1 h.1) is.0.2) h.2))
 
 given_folder : (files : Files) (chosen : Chosen) (path : Name) (old new : Reached) → TakesAsked files chosen path old new → files.kind path ≡ Some Folder → IsFault new.found (reported path) ⊎ Contains new.folders (top path)
 given_folder files chosen path old new (inl h) is = inl (fault_added (reported path) h.0 old new h.1)
 given_folder files chosen path old new (inr h) is =
-    inr (folder_added (top path) old new (subst (λ k. TakesKindGiven chosen k path old new) (sym (told_some (files.kind path) Folder h.0 is h.1)) h.2))
+    inr (folder_added (top path) old new (subst (λ k. TakesKindGiven files chosen k path old new) (sym (told_some (files.kind path) Folder h.0 is h.1)) h.2))
 
 pub walked_given : (files : Files) (chosen : Chosen) (paths : List Name) (path : Name) (old new : Reached) → Walked files chosen paths old → TakesGiven files chosen path old new → Walked files chosen (paths ++ path ∷ []) new
 walked_given files chosen paths path old new walked takes = record {
@@ -502,40 +535,25 @@ walked_none files chosen r none nor = record {
 
 -- ---- its end
 
-module _ (files : Files) (chosen : Chosen) (paths : List Name) (found ordered shown : List Found) (walked : Walked files chosen paths (record { found = found; folders = [] })) (o : Orders found ordered) (k : KeepsFirsts ordered shown) where
-  stands : (g : Found) → Contains ordered g → Stands files chosen paths shown g
-  stands g c = turn (k.stays g c)
-    where
-      turn : Contains shown g ⊎ ((f : Found) × Contains shown f × IsEarlier f g) → Stands files chosen paths shown g
-      turn (inl d) = inl d
-      turn (inr d) = inr (walked.real g (o.only g c), d)
+module _ (files : Files) (chosen : Chosen) (paths : List Name) (found ordered : List Found) (walked : Walked files chosen paths (record { found = found; folders = [] })) (o : Orders found ordered) where
+  told_fault : (name : Name) → IsFault found name → HasName ordered name
+  told_fault name h = o.named name (h.0, h.1, h.2)
 
-  told_found : (name : Name) → IsFound found name → IsShown files chosen paths shown name
-  told_found name h = let w = o.kept name h in (w.0, stands w.0 w.1, w.2, w.3)
-
-  told_named : (name : Name) → HasName found name → IsTold files chosen paths shown name
-  told_named name h = let w = o.named name h in (w.0, stands w.0 w.1, w.2)
-
-  told_fault : (name : Name) → IsFault found name → IsTold files chosen paths shown name
-  told_fault name h = told_named name (h.0, h.1, h.2)
-
-  accounts_from : (folder : Name) (parts : List Name) (last : Name) → Covers (record { found = found; folders = [] }) folder parts last
-      → Accounts (IsTold files chosen paths shown) folder parts last
+  accounts_from : (folder : Name) (parts : List Name) (last : Name) → Covers (record { found = found; folders = [] }) folder parts last → Accounts (HasName ordered) folder parts last
   accounts_from folder [] last (inl c) = absurd (none_in folder c)
   accounts_from folder [] last (inr (inl h)) = inl (told_fault (place folder) h)
   accounts_from folder [] last (inr (inr (inl h))) = inr (told_fault (folder ++ last) h)
-  accounts_from folder [] last (inr (inr (inr h))) = inr (told_named (folder ++ last) (h.0, h.1, h.2))
+  accounts_from folder [] last (inr (inr (inr h))) = inr (o.named (folder ++ last) (h.0, h.1, h.2))
   accounts_from folder (part ∷ parts) last (inl c) = absurd (none_in folder c)
   accounts_from folder (part ∷ parts) last (inr (inl h)) = inl (told_fault (place folder) h)
   accounts_from folder (part ∷ parts) last (inr (inr (inl h))) = inr (inl (told_fault (folder ++ part) h))
   accounts_from folder (part ∷ parts) last (inr (inr (inr h))) = inr (inr (accounts_from (inside folder part) parts last h))
 
-  pub finds_from : Finds files chosen paths shown
+  pub finds_from : Finds files chosen paths ordered
   finds_from = record {
-    rises = k.rises;
-    once = k.once;
-    real = λ f c. walked.real f (o.only f (k.only f c));
-    given = λ path c is. either (told_found (tidied path)) (told_fault (reported path)) (walked.given path c is);
+    rises = o.rises;
+    real = λ f c. walked.real f (o.only f c);
+    given = λ path c is. either (o.kept (tidied path)) (told_fault (reported path)) (walked.given path c is);
     other = λ path c is. either (told_fault (tidied path)) (told_fault (reported path)) (walked.other path c is);
     below = λ path parts last c is. either (told_fault (reported path)) (accounts_from (top path) parts last) (walked.below path parts last c is);
   }
@@ -546,19 +564,18 @@ pub on_ok_more : {A E : Type 0} (r : Result A E) (P Q : Type 0) → OnOk r P →
 on_ok_more (Ok a) P Q h f = f h
 on_ok_more (Err e) P Q h f = tt
 
-takes_named_as : (chosen : Chosen) (kind : Kind) (path name : Name) (v : Bool) (identity : Option Identity) (old new : Reached) → name ≡ tidied path → v ≡ is_wanted chosen name → identity ≡ identity_of kind
-    → TakesNamed v name identity old new → TakesNamed (is_wanted chosen (tidied path)) (tidied path) (identity_of kind) old new
-takes_named_as chosen kind path name v identity old new same is known h =
-    subst (λ n. TakesNamed (is_wanted chosen n) n (identity_of kind) old new) same
-    (subst (λ w. TakesNamed w name (identity_of kind) old new) is (subst (λ o. TakesNamed v name o old new) known h))
+-- what a path adds that is given and no folder, by whether it is to be looked at
+pub named_given : {X E : Type 0} (r : Result X E) (v : Bool) (files : Files) (chosen : Chosen) (kind : Kind) (path : Name) (old new : Reached) → (kind ≡ Folder → ⊥) → is_wanted chosen (tidied path) ≡ v
+    → OnOk r (TakesNamed v kind files path old new) → OnOk r (TakesKindGiven files chosen kind path old new)
+named_given (Err e) v files chosen kind path old new other is h = tt
+named_given (Ok x) v files chosen Folder path old new other is h = absurd (other refl)
+named_given (Ok x) v files chosen (File identity) path old new other is h = subst (λ w. TakesNamed w (File identity) files path old new) (sym is) h
+named_given (Ok x) v files chosen Link path old new other is h = subst (λ w. TakesNamed w Link files path old new) (sym is) h
+named_given (Ok x) v files chosen Other path old new other is h = subst (λ w. TakesNamed w Other files path old new) (sym is) h
 
-pub takes_kind_given : {X E : Type 0} (r : Result X E) (chosen : Chosen) (kind : Kind) (path name : Name) (v : Bool) (identity : Option Identity) (old new : Reached) → (kind ≡ Folder → ⊥) → name ≡ tidied path → v ≡ is_wanted chosen name
-    → identity ≡ identity_of kind → OnOk r (TakesNamed v name identity old new) → OnOk r (TakesKindGiven chosen kind path old new)
-takes_kind_given (Err e) chosen kind path name v identity old new other same is known h = tt
-takes_kind_given (Ok x) chosen Folder path name v identity old new other same is known h = absurd (other refl)
-takes_kind_given (Ok x) chosen (File i) path name v identity old new other same is known h = takes_named_as chosen (File i) path name v identity old new same is known h
-takes_kind_given (Ok x) chosen Link path name v identity old new other same is known h = takes_named_as chosen Link path name v identity old new same is known h
-takes_kind_given (Ok x) chosen Other path name v identity old new other same is known h = takes_named_as chosen Other path name v identity old new same is known h
+-- the same where the names are those of the code
+pub wanted_as : {X E : Type 0} (r : Result X E) (kind : Kind) (path name : Name) (old new : Reached) → OnOk r (Adds name None None old new) → name ≡ tidied path → OnOk r (Adds (tidied path) None None old new)
+wanted_as r kind path name old new h same = subst (λ n. OnOk r (Adds n None None old new)) same h
 
 pub if_ok_more : {A E : Type 0} (r : Result A E) (P Q : A → Type 0) → IfOk r P → ((a : A) → P a → Q a) → IfOk r Q
 if_ok_more (Ok a) P Q h f = f a h
@@ -588,16 +605,14 @@ walked_popped files later chosen paths found all rest folder name new same is na
     (ap (λ l. map (λ (f : Vec ℕ Global). f.items) l) is ∙ map-append (λ (f : Vec ℕ Global). f.items) rest (folder ∷ []) ∙ ap (λ n. map (λ (f : Vec ℕ Global). f.items) rest ++ n ∷ []) (sym named)) so)
     (subst (λ f. TakesFolder f chosen name (record { found = found; folders = map (λ f. f.items) rest }) new) same takes)
 
-pub finds_found : (files later : Files) (chosen : Chosen) (paths : List Name) (r : Reached) (found ordered shown : List Found) → later ≡ files → Walked files chosen paths r
-    → ((given : List Name) → Walked later chosen given r → Walked later chosen given (record { found = found; folders = [] })) → Orders found ordered → (Rises ordered → KeepsFirsts ordered shown)
-    → Finds files chosen paths shown
-finds_found files later chosen paths r found ordered shown same before all o k =
-    finds_from files chosen paths found ordered shown
-    (subst (λ f. Walked f chosen paths (record { found = found; folders = [] })) same (all paths (subst (λ f. Walked f chosen paths r) (sym same) before))) o (k o.rises)
+pub finds_found : (files later : Files) (chosen : Chosen) (paths : List Name) (r : Reached) (found ordered : List Found) → later ≡ files → Walked files chosen paths r
+    → ((given : List Name) → Walked later chosen given r → Walked later chosen given (record { found = found; folders = [] })) → Orders found ordered → Finds files chosen paths ordered
+finds_found files later chosen paths r found ordered same before all o =
+    finds_from files chosen paths found ordered
+    (subst (λ f. Walked f chosen paths (record { found = found; folders = [] })) same (all paths (subst (λ f. Walked f chosen paths r) (sym same) before))) o
 
 -- the same where what judges has this choice
-pub finds_chosen : (files later : Files) (told chosen : Chosen) (paths : List Name) (r : Reached) (found ordered shown : List Found) → later ≡ files → told ≡ chosen → Walked files told paths r
-    → ((given : List Name) → Walked later told given r → Walked later told given (record { found = found; folders = [] })) → Orders found ordered → (Rises ordered → KeepsFirsts ordered shown)
-    → Finds files chosen paths shown
-finds_chosen files later told chosen paths r found ordered shown same is before all o k =
-    subst (λ (c : Chosen). Finds files c paths shown) is (finds_found files later told paths r found ordered shown same before all o k)
+pub finds_chosen : (files later : Files) (told chosen : Chosen) (paths : List Name) (r : Reached) (found ordered : List Found) → later ≡ files → told ≡ chosen → Walked files told paths r
+    → ((given : List Name) → Walked later told given r → Walked later told given (record { found = found; folders = [] })) → Orders found ordered → Finds files chosen paths ordered
+finds_chosen files later told chosen paths r found ordered same is before all o =
+    subst (λ (c : Chosen). Finds files c paths ordered) is (finds_found files later told paths r found ordered same before all o)

@@ -43,9 +43,10 @@ IsNamed sure files chosen path = IsGiven sure files path × (is_wanted chosen (t
 abbrev pub IsOther : Bool → Files → Chosen → Name → Type 0
 IsOther sure files chosen path = IsGiven sure files path × (is_wanted chosen (tidied path) ≡ false) × (is_excluded chosen (tidied path) ≡ false)
 
--- an entry is a file, or a link that leads to no folder
+-- an entry is a file, or a link that leads to one
 abbrev pub IsFile : Bool → Files → Name → Type 0
-IsFile sure files name = ((identity : Identity) × Says sure (files.entry name) (File identity)) ⊎ (Says sure (files.entry name) Link × IsGiven sure files name)
+IsFile sure files name =
+    ((identity : Identity) × Says sure (files.entry name) (File identity)) ⊎ (Says sure (files.entry name) Link × ((identity : Identity) × Says sure (files.kind name) (File identity)))
 
 -- a folder has such a file of this name, and it is taken
 abbrev pub HasFile : Bool → Files → Chosen → Name → Name → Type 0

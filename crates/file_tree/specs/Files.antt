@@ -18,6 +18,12 @@ identity_of Folder = None
 identity_of Link = None
 identity_of Other = None
 
+abbrev pub is_link : Kind → Bool
+is_link (File identity) = false
+is_link Folder = false
+is_link Link = true
+is_link Other = false
+
 -- for each name, as far as the device tells it:
 pub record Files : Type 0 where
   pub kind : Name → Option Kind  -- what it stands for, links followed

@@ -3,9 +3,9 @@ use Rattle.std.specs.Prelude.{◌≡◌, ◌⊎◌, true, false, List, ◌++◌,
 use Rattle.std.specs.List.{Contains}
 use Rattle.file_tree.specs.Below.{HasFile, IsEntry}
 use Rattle.file_tree.specs.Choices.{whole}
-use Rattle.file_tree.specs.Files.{Faults, Files, Name, with_faults}
-use Rattle.file_tree.specs.Finds.{Rises}
-use Rattle.file_tree.specs.Ordered.{HasName}
+use Rattle.file_tree.specs.Files.{Faults, Files, Name}
+use Rattle.file_tree.specs.Finds.{Failure, with_failures}
+use Rattle.file_tree.specs.Ordered.{HasName, Rises}
 use Rattle.file_tree.specs.Paths.{place}
 use Rattle.file_tree.specs.declared.fault.TreeFault.{TreeFault}
 use Rattle.file_tree.specs.declared.walk.Found.{Found}
@@ -22,9 +22,9 @@ pub record FindsIn (files : Files) (folder : Name) (found : List Found) : Type 0
   pub real : (f : Found) → Contains found f → IsInBy files folder f.name.items f.fault
   pub all : (last : Name) → HasFile true files whole folder last → HasName found (place folder) ⊎ HasName found (folder ++ last)
 
--- EACH REPORT IS REAL: where the device tells the faults of its calls, each name that is reported has that of a call that
--- failed
+-- EACH REPORT IS REAL: where the device tells the faults of its calls, each name that is reported has that of a call of its
+-- own that failed
 pub record AreHeard (before after : Faults) (found : List Found) : Type 0 where
-  pub noted : List TreeFault  -- the faults of the calls
-  pub is : after ≡ with_faults before noted
-  pub real : (f : Found) (fault : TreeFault) → Contains found f → f.fault ≡ Some fault → Contains noted fault
+  pub noted : List Failure  -- the calls that failed
+  pub is : after ≡ with_failures before noted
+  pub real : (f : Found) (fault : TreeFault) → Contains found f → f.fault ≡ Some fault → Contains noted (record { name = f.name.items; fault = fault })

@@ -9,6 +9,7 @@ pub mod FolderFiles
 pub mod Inner
 pub mod Modes
 pub mod Names
+pub mod Once
 pub mod Ordered
 pub mod Paths
 pub mod Quotes

@@ -1,9 +1,15 @@
 -- What was found, in the order of its names.
 use Rattle.std.specs.Prelude.{◌≡◌, List, None}
+use Rattle.std.specs.Cmp.Lexicographic.{slice_cmp}
 use Rattle.std.specs.List.{Contains}
+use Rattle.std.specs.List.Sorted.{IsStrictlySortedBy}
+use Rattle.std.specs.Ordering.{nat_cmp}
 use Rattle.file_tree.specs.Files.{Name}
-use Rattle.file_tree.specs.Finds.{Rises}
 use Rattle.file_tree.specs.declared.walk.Found.{Found}
+
+-- each name is before all later ones, by bytes: so none is there twice
+abbrev pub Rises : List Found → Type 0
+Rises found = IsStrictlySortedBy (λ f g. slice_cmp nat_cmp f.name.items g.name.items) found
 
 -- a name was found, without a fault
 abbrev pub IsFound : List Found → Name → Type 0

@@ -1,7 +1,7 @@
 //! What a name stands for.
 
 ghost use Rattle.std.specs.Prelude.{◌≡◌};
-ghost use Rattle.file_tree.specs.Files.{identity_of};
+ghost use Rattle.file_tree.specs.Files.{is_link};
 
 /// What tells a file from every other one, whatever its names.
 #[derive(Clone, Copy, Debug, PartialEq, Eq, PartialOrd, Ord)]
@@ -21,13 +21,9 @@ pub enum Kind {
 }
 
 impl Kind {
-    /// What tells a file from every other one.
-    pub fn identity(self) -> Option<Identity>
-        ensures { result ≡ identity_of self }
+    pub fn is_link(self) -> bool
+        ensures { result ≡ is_link self }
     {
-        match self {
-            Kind::File(identity) => Some(identity),
-            _ => None,
-        }
+        matches!(self, Kind::Link)
     }
 }

@@ -6,7 +6,7 @@ pub mod fault;
 pub mod kind;
 pub mod mode;
 pub mod names;
-mod once;
+pub mod once;
 pub mod path;
 pub mod quote;
 pub mod tree;

@@ -1,12 +1,13 @@
-//! Files that are reached by several names.
+//! Files that links lead to.
 
-ghost use Rattle.std.specs.Prelude.{◌≡◌, [], ◌∷◌, ◌++◌, IfOk, OnOk};
+ghost use Rattle.std.specs.Prelude.{◌≡◌, [], ◌∷◌, ◌++◌, Some, IfOk, OnOk, true};
 ghost use Rattle.std.specs.BTreeSet.{contains};
-ghost use Rattle.file_tree.specs.Finds.{Rises};
-ghost use Rattle.file_tree.specs.Inner.Walking.{KeepsFirsts, MeetsBy, NotesIdentity};
+ghost use Rattle.file_tree.specs.Ordered.{Rises};
+ghost use Rattle.file_tree.specs.Inner.Once.{AreKept, MeetsBy, MeetsLink, NotesIdentity, NotesPlain, Owns};
+ghost use Rattle.file_tree.specs.Once.{KeepsOnce};
 
 use crate::kind::Identity;
-use crate::walk::Found;
+use crate::walk::{Found, FoundFile};
 use std::alloc::{AllocError, Global};
 use std::collections::BTreeSet;
 
@@ -21,6 +22,32 @@ fn note(met: &mut BTreeSet<Identity>, identity: Identity) -> Result<bool, AllocE
     }
 }
 
+/// Notes a file that was found under a name that is no link.
+fn note_plain(met: &mut BTreeSet<Identity>, file: Option<FoundFile>) -> Result<(), AllocError>
+    ensures { OnOk result (NotesPlain file (contains ⟦<Identity as Ord>⟧.cmp met.old)
+        (contains ⟦<Identity as Ord>⟧.cmp met.new)) }
+{
+    let Some(file) = file else {
+        return Ok(());
+    };
+    if file.is_link {
+        return Ok(());
+    }
+    note(met, file.identity)?;
+    Ok(())
+}
+
+/// The files that were found under names that are no links.
+fn plain_files(alloc: Global, found: &[Found]) -> Result<BTreeSet<Identity>, AllocError>
+    ensures { IfOk result (λ met. Owns found.now (contains ⟦<Identity as Ord>⟧.cmp met)) }
+{
+    let mut met = BTreeSet::new(alloc);
+    for each in found {
+        note_plain(&mut met, each.file)?;
+    }
+    Ok(met)
+}
+
 fn keep(kept: &mut Vec<Found>, found: Found) -> Result<(), AllocError>
     ensures { OnOk result (kept.new.items ≡ kept.old.items ++ found ∷ []) }
 {
@@ -30,32 +57,58 @@ fn keep(kept: &mut Vec<Found>, found: Found) -> Result<(), AllocError>
     }
 }
 
-/// Keeps what was found, unless it is a file that was met before.
-fn keep_first(
+/// Keeps a link, unless the file that it leads to was met.
+fn keep_link(
     met: &mut BTreeSet<Identity>,
     kept: &mut Vec<Found>,
+    identity: Identity,
     found: Found,
 ) -> Result<(), AllocError>
-    ensures { OnOk result (MeetsBy found.identity found (contains ⟦<Identity as Ord>⟧.cmp met.old)
+    ensures { OnOk result (MeetsLink identity found (contains ⟦<Identity as Ord>⟧.cmp met.old)
         (contains ⟦<Identity as Ord>⟧.cmp met.new) kept.old.items kept.new.items) }
 {
-    let Some(identity) = found.identity else {
-        return keep(kept, found);
-    };
     if !note(met, identity)? {
         return Ok(());
     }
     keep(kept, found)
 }
 
-/// What was found in the order of the names, each file under the first of its names alone.
-pub(crate) fn first_names(alloc: Global, found: Vec<Found>) -> Result<Vec<Found>, AllocError>
-    ensures { IfOk result (λ kept. Rises found.items → KeepsFirsts found.items kept.items) }
+/// Keeps what was found, unless it is a link to a file that was met.
+fn keep_once(
+    met: &mut BTreeSet<Identity>,
+    kept: &mut Vec<Found>,
+    found: Found,
+) -> Result<(), AllocError>
+    ensures { OnOk result (MeetsBy found.file found (contains ⟦<Identity as Ord>⟧.cmp met.old)
+        (contains ⟦<Identity as Ord>⟧.cmp met.new) kept.old.items kept.new.items) }
 {
-    let mut met = BTreeSet::new(alloc);
+    match found.file {
+        Some(file) if file.is_link => keep_link(met, kept, file.identity, found),
+        _ => keep(kept, found),
+    }
+}
+
+/// Keeps of names in their order those that aren't links to files which were met, or come under an earlier link.
+fn keep_all(
+    alloc: Global,
+    mut met: BTreeSet<Identity>,
+    found: Vec<Found>,
+) -> Result<Vec<Found>, AllocError>
+    ensures { IfOk result (λ kept. Rises found.items
+        → AreKept (contains ⟦<Identity as Ord>⟧.cmp met) found.items kept.items) }
+{
     let mut kept = Vec::new(alloc);
     for each in found {
-        keep_first(&mut met, &mut kept, each)?;
+        keep_once(&mut met, &mut kept, each)?;
     }
     Ok(kept)
+}
+
+/// What was found in the order of the names, without the links to files that were found under another name as well: under one
+/// that is no link, or under that of an earlier link.
+pub fn each_file_once(alloc: Global, found: Vec<Found>) -> Result<Vec<Found>, AllocError>
+    ensures { IfOk result (λ kept. Rises found.items → KeepsOnce found.items kept.items) }
+{
+    let met = plain_files(alloc, found.as_slice())?;
+    keep_all(alloc, met, found)
 }

@@ -2,11 +2,11 @@
 
 ghost use Rattle.std.specs.Prelude.{◌≡◌, ◌&&◌, not, ◌==◌, false, [], IfOk, List, OnOk, length, map};
 ghost use Rattle.file_tree.specs.Choices.{chosen, is_excluded};
-ghost use Rattle.file_tree.specs.Files.{Name};
+ghost use Rattle.file_tree.specs.Files.{Name, Tells};
 ghost use Rattle.file_tree.specs.Finds.{AreReal, Finds};
 ghost use Rattle.file_tree.specs.FolderFiles.{AreHeard, FindsIn};
 ghost use Rattle.file_tree.specs.Inner.Chosen.{told};
-ghost use Rattle.file_tree.specs.Inner.Walking.{Adds, Enters, Hears, HearsGiven, TakesAll, TakesAsked, TakesEntry, TakesFolder, TakesGiven, TakesIf, TakesKind, TakesKindGiven, TakesLink, TakesLinked, TakesMet, TakesNamed, Walked, reached};
+ghost use Rattle.file_tree.specs.Inner.Walking.{Adds, Enters, Hears, HearsGiven, TakesAll, TakesAsked, TakesEntry, TakesFolder, TakesGiven, TakesIf, TakesKind, TakesKindGiven, TakesLink, TakesLinked, TakesMet, TakesNamedFile, TakesWanted, Walked, reached};
 ghost use Rattle.file_tree.specs.Ordered.{Orders};
 ghost use Rattle.file_tree.specs.Names.{is_passed_over, is_taken};
 ghost use Rattle.file_tree.specs.Paths.{tidied};
@@ -15,18 +15,25 @@ use crate::choice::{Choice, Chooser};
 use crate::fault::TreeFault;
 use crate::kind::{Identity, Kind};
 use crate::names::{is_passed_over, is_taken};
-use crate::once::first_names;
 use crate::path::{joined, names_in, place, reported, tidy, top};
 use crate::tree::Tree;
 use std::alloc::{AllocError, Global};
+
+/// A file by one of its names.
+#[derive(Clone, Copy, Debug, PartialEq, Eq, PartialOrd, Ord)]
+pub struct FoundFile {
+    pub identity: Identity,
+    /// Whether the name is that of a link to it.
+    pub is_link: bool,
+}
 
 /// A name that is to be looked at, or of which it is known that it can't be.
 #[derive(PartialEq, Eq, PartialOrd, Ord, Drop)]
 pub struct Found {
     pub name: Vec<u8>,
     pub fault: Option<TreeFault>,
-    /// What tells the file from every other one, where it is one.
-    pub identity: Option<Identity>,
+    /// The file that the name leads to, if it is one.
+    pub file: Option<FoundFile>,
 }
 
 /// What was found, and the folders that are still to be looked into, each with a `/` at its end or without a name.
@@ -48,16 +55,11 @@ impl Walk {
         &mut self,
         name: Vec<u8>,
         fault: Option<TreeFault>,
-        identity: Option<Identity>,
+        file: Option<FoundFile>,
     ) -> Result<(), AllocError>
-        ensures { OnOk result (Adds name.items fault identity
-            (reached self.old) (reached self.new)) }
+        ensures { OnOk result (Adds name.items fault file (reached self.old) (reached self.new)) }
     {
-        let found = Found {
-            name,
-            fault,
-            identity,
-        };
+        let found = Found { name, fault, file };
         match self.found.push(found) {
             Ok(()) => Ok(()),
             Err(_) => Err(AllocError),
@@ -84,22 +86,32 @@ impl Walk {
             (reached self.old) (reached self.new)) }
     {
         if is_taken {
-            return self.add(path, None, Some(identity));
+            let file = FoundFile {
+                identity,
+                is_link: false,
+            };
+            return self.add(path, None, Some(file));
         }
         Ok(())
     }
 
-    /// Takes what a link leads to.
+    /// Takes a link that leads to this, if that is a file.
     fn take_linked(&mut self, kind: Kind, path: Vec<u8>) -> Result<(), AllocError>
         ensures { OnOk result (TakesLinked kind path.items (reached self.old) (reached self.new)) }
     {
         match kind {
-            Kind::Folder => Ok(()),
-            _ => self.add(path, None, kind.identity()),
+            Kind::File(identity) => {
+                let file = FoundFile {
+                    identity,
+                    is_link: true,
+                };
+                self.add(path, None, Some(file))
+            }
+            _ => Ok(()),
         }
     }
 
-    /// Takes a link, if files of this kind of name are taken. One that leads to a folder is passed over.
+    /// Takes a link, if files of this kind of name are taken. One that leads to no file is passed over.
     #[tactic(auto, using(crate::proofs::HearLemmas::hears_none, crate::proofs::HearLemmas::heard_linked, crate::proofs::HearLemmas::heard_fault))]
     fn take_link<T: Tree>(
         &mut self,
@@ -257,41 +269,91 @@ impl Walk {
         }
     }
 
-    /// Takes a file that was named, if files of such a name are taken.
-    fn take_named(
+    /// Takes a file that was named, by itself or by a link to it.
+    #[tactic(auto, using(crate::proofs::HearLemmas::heard_fault))]
+    fn take_named_file<T: Tree>(
         &mut self,
-        is_wanted: bool,
+        alloc: Global,
+        identity: Identity,
+        path: &[u8],
         name: Vec<u8>,
-        identity: Option<Identity>,
+        tree: &mut T,
     ) -> Result<(), AllocError>
-        ensures { OnOk result (TakesNamed is_wanted name.items identity
+        requires tidied { name.items ≡ tidied path.now }
+        // Nothing is changed.
+        ensures files { T.files tree.new ≡ T.files tree.old }
+        ensures asked { T.asked tree.new ≡ T.asked tree.old }
+        ensures takes { OnOk result (TakesNamedFile (T.files tree.old) identity path.now
             (reached self.old) (reached self.new)) }
+        ensures hears { OnOk result (Hears (reached self.old).found (reached self.new).found
+            (T.faults tree.old) (T.faults tree.new)) }
     {
-        if is_wanted {
-            return self.add(name, None, identity);
+        match tree.entry_kind(name.as_slice()) {
+            Ok(entry) => {
+                let is_link = entry.is_link();
+                self.add(name, None, Some(FoundFile { identity, is_link }))
+            }
+            Err(fault) => {
+                let name = reported(alloc, path)?;
+                self.add(name, Some(fault), None)
+            }
         }
-        self.add(name, Some(TreeFault::OtherKind), None)
+    }
+
+    /// Takes what was named, and is to be looked at.
+    fn take_wanted<T: Tree>(
+        &mut self,
+        alloc: Global,
+        kind: Kind,
+        path: &[u8],
+        name: Vec<u8>,
+        tree: &mut T,
+    ) -> Result<(), AllocError>
+        requires tidied { name.items ≡ tidied path.now }
+        // Nothing is changed.
+        ensures files { T.files tree.new ≡ T.files tree.old }
+        ensures asked { T.asked tree.new ≡ T.asked tree.old }
+        ensures takes { OnOk result (TakesWanted kind (T.files tree.old) path.now
+            (reached self.old) (reached self.new)) }
+        ensures hears { OnOk result (Hears (reached self.old).found (reached self.new).found
+            (T.faults tree.old) (T.faults tree.new)) }
+    {
+        match kind {
+            Kind::File(identity) => self.take_named_file(alloc, identity, path, name, tree),
+            _ => self.add(name, None, None),
+        }
     }
 
     /// Takes what stands under a name that was given.
-    fn take_kind_given(
+    fn take_kind_given<T: Tree>(
         &mut self,
         alloc: Global,
         chooser: &Chooser<'_>,
         kind: Kind,
         path: &[u8],
         name: Vec<u8>,
+        tree: &mut T,
     ) -> Result<(), AllocError>
         requires tidied { name.items ≡ tidied path.now }
-        ensures { OnOk result (TakesKindGiven (told chooser.now) kind path.now
-            (reached self.old) (reached self.new)) }
+        requires allowed { is_excluded (told chooser.now) (tidied path.now) ≡ false }
+        requires told { Tells ((T.files tree.old).kind path.now) kind }
+        // Nothing is changed.
+        ensures files { T.files tree.new ≡ T.files tree.old }
+        ensures asked { T.asked tree.new ≡ T.asked tree.old }
+        ensures takes { OnOk result (TakesKindGiven (T.files tree.old) (told chooser.now) kind
+            path.now (reached self.old) (reached self.new)) }
+        ensures hears { OnOk result (HearsGiven (T.files tree.old) (told chooser.now) path.now
+            (reached self.old).found (reached self.new).found
+            (T.faults tree.old) (T.faults tree.new)) }
     {
         if kind == Kind::Folder {
             let folder = top(alloc, path)?;
             return self.add_folder(folder);
         }
-        let is_wanted = chooser.is_wanted(name.as_slice());
-        self.take_named(is_wanted, name, kind.identity())
+        if !chooser.is_wanted(name.as_slice()) {
+            return self.add(name, Some(TreeFault::OtherKind), None);
+        }
+        self.take_wanted(alloc, kind, path, name, tree)
     }
 
     /// Takes a name that was given and isn't excluded.
@@ -316,7 +378,7 @@ impl Walk {
             (T.faults tree.old) (T.faults tree.new)) }
     {
         match tree.kind(path) {
-            Ok(kind) => self.take_kind_given(alloc, chooser, kind, path, name),
+            Ok(kind) => self.take_kind_given(alloc, chooser, kind, path, name, tree),
             Err(fault) => {
                 let name = reported(alloc, path)?;
                 self.add(name, Some(fault), None)
@@ -411,8 +473,8 @@ pub fn in_order(mut found: Vec<Found>) -> Vec<Found>
     found
 }
 
-/// The files that these names stand for, in the order of their names, each once: one that is reached by several names under
-/// the first of these. What is excluded is passed over, and what is named and isn't of a kind that is taken is told.
+/// The names of the files that these names stand for, in their order, each once. What is excluded is passed over, and what is
+/// named and isn't of a kind that is taken is told.
 pub fn find<T: Tree>(
     alloc: Global,
     choice: Choice<'_>,
@@ -433,7 +495,7 @@ pub fn find<T: Tree>(
     let chooser = Chooser::new(alloc, choice)?;
     let mut walk = Walk::over(alloc, &chooser, operands, tree)?;
     walk.look_into_all(alloc, &chooser, tree)?;
-    first_names(alloc, in_order(walk.found))
+    Ok(in_order(walk.found))
 }
 
 /// The files of a folder that are taken, without those in folders below it, and the names in it that can't be looked at: in the

@@ -6,6 +6,7 @@ ghost use Rattle.tree_lint.specs.Runs.{StayTold, files_of, told_in, worse_status
 ghost use Rattle.lint_command.specs.Asked.{asking_of, wanted_of};
 ghost use Rattle.lint_command.specs.Ends.{EndsAsked, IsEnd, IsEndOf, LintsOr, LintsNamed, ReadsAndLints, RunsThen, summary};
 ghost use Rattle.lint_command.specs.Faults.{fault_line, fault_status};
+ghost use Rattle.lint_command.specs.Line.{asking_of_texts, asking_of_words, reads_names};
 
 use crate::options::{LintOptions, options};
 use crate::report::{fault_status, tell_all};
@@ -225,6 +226,8 @@ fn run_asked<T: Tree + Drop, R: ByteSource, O: ByteSink, E: ByteSink>(
     ensures ends { EndsAsked (asking_of options.now) (R.failed input.new) (R.left input.old)
         (T.files files.old.tree)
         (end_of O.ByteSink out.old out.new E.ByteSink err.old err.new result) }
+    // Standard input is read only for names.
+    ensures unread { options.now.null ≡ false → input.new ≡ input.old }
     ensures told { StayTold (T.files files.old.tree) (T.files files.new.tree) }
     ensures back { ⟦<ModuleTree<T> as ModuleFiles>⟧.is_out files.new ≡ false }
 {
@@ -263,6 +266,9 @@ fn run_line<'w, T: Tree + Drop, R: ByteSource, O: ByteSink, E: ByteSink>(
     ensures ends { IsEndOf (map (λ word. word.now) words.now) (map (λ name. name.now) others.now)
         (R.failed input.new) (R.left input.old) (T.files files.old.tree)
         (end_of O.ByteSink out.old out.new E.ByteSink err.old err.new result) }
+    // Standard input is read only for names.
+    ensures unread { reads_names (asking_of_texts (map (λ word. word.now) words.now)
+        (map (λ name. name.now) others.now)) ≡ false → input.new ≡ input.old }
     ensures told { StayTold (T.files files.old.tree) (T.files files.new.tree) }
     ensures back { ⟦<ModuleTree<T> as ModuleFiles>⟧.is_out files.new ≡ false }
 {
@@ -289,6 +295,9 @@ pub fn program<T: Tree + Drop, R: ByteSource, O: ByteSink, E: ByteSink>(
     ensures ends { IsEnd (map (λ word. word.now) words.now) (R.failed input.new) (R.left input.old)
         (T.files files.old.tree)
         (end_of O.ByteSink out.old out.new E.ByteSink err.old err.new result) }
+    // Standard input is read only where the words ask for names from there.
+    ensures unread { reads_names (asking_of_words (map (λ word. word.now) words.now)) ≡ false
+        → input.new ≡ input.old }
     // All names lead to the same bytes as before.
     ensures told { StayTold (T.files files.old.tree) (T.files files.new.tree) }
     // No file is left open.

@@ -323,9 +323,9 @@ static ROWS: [Row; 27] = [
     },
 ];
 
-/// Runs the program by the words of a row, and compares what it shows.
-fn shows(rt: &impl Abort, alloc: Global, row: &Row) {
-    let tree = MemoryTree::new(alloc, ENTRIES, STEADY).expect(rt, "memory");
+/// Runs the program by the words of a row over a tree, and compares what it shows.
+fn shows(rt: &impl Abort, alloc: Global, entries: &[Entry<'_>], row: &Row) {
+    let tree = MemoryTree::new(alloc, entries, STEADY).expect(rt, "memory");
     let mut files = ModuleTree::new(tree, Hashing::shared());
     let mut input = MemorySource::new(row.input, 4096);
     let mut out = MemorySink::new(4096);
@@ -344,8 +344,57 @@ fn shown(rt: &impl Abort, found: &[u8], wanted: &[u8], row: &Row) {
 #[test]
 fn rows_are_shown(rt: HostRuntime) {
     for row in &ROWS {
-        shows(&rt, rt.alloc(), row);
+        shows(&rt, rt.alloc(), ENTRIES, row);
     }
+}
+
+/// Modules whose files have further names in others, or are linked from there, and one of links alone.
+static SHARED: &[Entry<'static>] = &[
+    Entry {
+        name: b"",
+        stands: Stands::Folder,
+    },
+    Entry {
+        name: b"a",
+        stands: Stands::Folder,
+    },
+    Entry {
+        name: b"a/main.tf",
+        stands: Stands::File(b"variable \"x\" {}\n"),
+    },
+    Entry {
+        name: b"b",
+        stands: Stands::Folder,
+    },
+    Entry {
+        name: b"b/main.tf",
+        stands: Stands::Same(b"variable \"x\" {}\n", b"a/main.tf"),
+    },
+    Entry {
+        name: b"c",
+        stands: Stands::Folder,
+    },
+    Entry {
+        name: b"c/main.tf",
+        stands: Stands::Link(b"a/main.tf"),
+    },
+];
+
+const EACH: &[u8] =
+    b"2 issue(s) found:\n\na/main.tf:1:1: Warning - variable \"x\" has no type (terraform_typed_variables)\na/main.tf:1:1: Warning - variable \"x\" is declared but not used (terraform_unused_declarations)\n\n2 issue(s) found:\n\nb/main.tf:1:1: Warning - variable \"x\" has no type (terraform_typed_variables)\nb/main.tf:1:1: Warning - variable \"x\" is declared but not used (terraform_unused_declarations)\n\n2 issue(s) found:\n\nc/main.tf:1:1: Warning - variable \"x\" has no type (terraform_typed_variables)\nc/main.tf:1:1: Warning - variable \"x\" is declared but not used (terraform_unused_declarations)\n";
+
+/// Each module is linted, whatever other names its files have.
+static EACH_MODULE: Row = Row {
+    words: &[b"tfrules-all"],
+    input: b"",
+    out: EACH,
+    err: b"6 issues in 3 of 3 modules\n",
+    status: 2,
+};
+
+#[test]
+fn modules_of_linked_files_are_linted(rt: HostRuntime) {
+    shows(&rt, rt.alloc(), SHARED, &EACH_MODULE);
 }
 
 /// What a run over `a` and `bad` shows of which this call of the tree fails, and whether one did.

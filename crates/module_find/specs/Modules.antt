@@ -3,7 +3,7 @@ use Rattle.std.specs.Prelude.{◌≡◌, ◌==◌, ◌||◌, ◌&&◌, ◌-◌, 
 use Rattle.std.specs.List.{AllZip, Contains, suffix_len}
 use Rattle.std.specs.Str.{is_utf8}
 use Rattle.file_tree.specs.Files.{Files, Name}
-use Rattle.file_tree.specs.Finds.{Rises}
+use Rattle.file_tree.specs.Ordered.{Rises}
 use Rattle.file_tree.specs.FolderFiles.{FindsIn}
 use Rattle.file_tree.specs.Names.{ends}
 use Rattle.file_tree.specs.declared.fault.TreeFault.{TreeFault}

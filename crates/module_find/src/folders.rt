@@ -42,7 +42,7 @@ fn add_folder(alloc: Global, found: &Found, folders: &mut Vec<Found>) -> Result<
     let folder = Found {
         name,
         fault: None,
-        identity: None,
+        file: None,
     };
     keep(folder, folders)
 }

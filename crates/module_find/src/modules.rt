@@ -33,7 +33,7 @@ impl Module {
         let told = Found {
             name: found.name,
             fault: Some(fault),
-            identity: found.identity,
+            file: found.file,
         };
         match self.faults.push(told) {
             Ok(()) => Ok(()),

@@ -5,6 +5,7 @@ use Rattle.clap.specs.Words.{Text}
 use Rattle.file_tree.specs.Files.{Faults, Files, Name}
 use Rattle.file_tree.specs.Files.{Tells}
 use Rattle.file_tree.specs.Finds.{AreReal, Finds}
+use Rattle.file_tree.specs.Once.{KeepsOnce}
 use Rattle.file_tree.specs.declared.walk.Found.{Found}
 use Rattle.tree_format.specs.Runs.{IsRun, Settled}
 use Rattle.tree_format.specs.States.{State}
@@ -31,11 +32,11 @@ words_at_end quiet mode out_failed tally = if out_failed then write_failed forma
 abbrev pub last_words : Bool → Mode → Bool → List Outcome → List ℕ
 last_words quiet mode out_failed answers = words_at_end quiet mode out_failed (tally_of answers)
 
--- what was found is what these paths stand for, as far as it is of the part; what can't be looked at is there since a call
--- failed
+-- what was found is what these paths stand for, but for links to files that are found under another name as well, and as far
+-- as it is of the part; what can't be looked at is there since a call failed
 abbrev pub IsPartOf : Files → Faults → Faults → Part → List Name → List Found → Type 0
 IsPartOf files was walked part paths found =
-    (all : List Found) × Finds files part.chosen paths all × AreReal files part.chosen paths was walked all × (found ≡ picked_of part.shard all)
+    (all : List Found) × Finds files part.chosen paths all × AreReal files part.chosen paths was walked all × ((once : List Found) × KeepsOnce all once × (found ≡ picked_of part.shard once))
 
 -- THE FILES WERE FOUND that these paths stand for, and then each was looked at
 pub record Formats (quiet : Bool) (mode : Mode) (part : Part) (paths : List Name) (before after : State) (end : End) : Type 0 where

@@ -184,5 +184,10 @@ others_in words = filter (λ word. not (is_utf8 word)) (drop 1 words)
 abbrev pub asking_of_words : List (List ℕ) → Result Asking Usage
 asking_of_words words = asking_of_texts (texts_in (codes "tffmt-all") words) (others_in words)
 
+-- whether names are read from standard input by who asks for this
+abbrev pub reads_names : Result Asking Usage → Bool
+reads_names (Ok asking) = asking.given.null
+reads_names (Err usage) = false
+
 abbrev pub mode_of_words : List (List ℕ) → Option Mode
 mode_of_words words = mode_of_texts (texts_in (codes "tffmt-all") words)

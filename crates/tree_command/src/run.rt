@@ -6,7 +6,7 @@ ghost use Rattle.file_tree.specs.Files.{Tells};
 ghost use Rattle.tree_command.specs.Ends.{EndsAsked, FormatsNamed, FormatsOr, IsEnd, IsEndOf, IsPartOf, ReadsAndFormats, ShowsUsage, words_at_end};
 ghost use Rattle.tree_command.specs.Asked.{asking_of, part_told};
 ghost use Rattle.tree_command.specs.Formatter.{formatter};
-ghost use Rattle.tree_command.specs.Line.{mode_of_texts, mode_of_words};
+ghost use Rattle.tree_command.specs.Line.{asking_of_texts, asking_of_words, mode_of_texts, mode_of_words, reads_names};
 ghost use Rattle.tree_command.specs.declared.usage.Usage.TheVariants.{BadLine};
 ghost use Rattle.tree_command.specs.Paths.{paths_of_input, paths_of_line, without_last_nul};
 ghost use Rattle.tree_format.specs.declared.mode.Mode.{Mode};
@@ -21,6 +21,7 @@ use crate::usage::{HELP, Usage, VERSION};
 use crate::words::words_of;
 use crate::wrong::bad_line_text;
 use command_line::Program;
+use file_tree::once::each_file_once;
 use file_tree::path::names_in;
 use file_tree::tree::{Tree, WritableTree};
 use file_tree::walk::{Found, find};
@@ -48,7 +49,7 @@ fn formatter() -> Program
     )
 }
 
-/// The files that these names stand for, as far as they are of the part.
+/// The files that these names stand for, each once as far as links lead to it, and as far as they are of the part.
 fn find_part<T: Tree>(
     alloc: Global,
     part: Part<'_>,
@@ -63,6 +64,7 @@ fn find_part<T: Tree>(
         (part_told part.entry) (map (λ operand. operand.now) operands.now) found.items) }
 {
     let found = find(alloc, part.choice, operands, tree)?;
+    let found = each_file_once(alloc, found)?;
     pick(alloc, found, part.shard)
 }
 
@@ -317,6 +319,8 @@ fn run_asked<T: WritableTree, P: Progress, R: ByteSource, O: ByteSink, E: ByteSi
     // However the run goes, each file is then as it was, or, where files are to be written, it has the format of its bytes.
     ensures kept { (name : List ℕ)
         → Kept options.now.mode ((T.files tree.old).told name) ((T.files tree.new).told name) }
+    // Standard input is read only for names.
+    ensures unread { options.now.given.null ≡ false → input.new ≡ input.old }
     ensures ends { EndsAsked (asking_of options.now) (R.failed input.new) (R.left input.old)
         (state_of T.Tree tree.old) (state_of T.Tree tree.new)
         (end_of O.ByteSink out.old out.new E.ByteSink err.old err.new result) }
@@ -354,6 +358,9 @@ fn run_line<'w, T: WritableTree, P: Progress, R: ByteSource, O: ByteSink, E: Byt
     ensures kept { (mode : Mode) → mode_of_texts (map (λ word. word.now) words.now) ≡ Some mode
         → (name : List ℕ) → Kept mode ((T.files tree.old).told name)
         ((T.files tree.new).told name) }
+    // Standard input is read only for names.
+    ensures unread { reads_names (asking_of_texts (map (λ word. word.now) words.now)
+        (map (λ name. name.now) others.now)) ≡ false → input.new ≡ input.old }
     // What was looked at and said, and with which status it ends.
     ensures ends { IsEndOf (map (λ word. word.now) words.now) (map (λ name. name.now) others.now)
         (R.failed input.new) (R.left input.old) (state_of T.Tree tree.old)
@@ -387,6 +394,9 @@ pub fn program<T: WritableTree, P: Progress, R: ByteSource, O: ByteSink, E: Byte
     ensures kept { (mode : Mode) → mode_of_words (map (λ word. word.now) words.now) ≡ Some mode
         → (name : List ℕ) → Kept mode ((T.files tree.old).told name)
         ((T.files tree.new).told name) }
+    // Standard input is read only where the words ask for names from there.
+    ensures unread { reads_names (asking_of_words (map (λ word. word.now) words.now)) ≡ false
+        → input.new ≡ input.old }
     // What was looked at and said, and with which status it ends.
     ensures ends { IsEnd (map (λ word. word.now) words.now) (R.failed input.new) (R.left input.old)
         (state_of T.Tree tree.old) (state_of T.Tree tree.new)

@@ -2,16 +2,14 @@
 use Rattle.std.proofs.Common.{◌≡◌, ◌∙◌, [], List, ap, Some, Result, Ok, Err}
 use Rattle.std.specs.Prelude.{IfOk}
 use Rattle.file_tree.specs.Choices.{Chosen}
-use Rattle.file_tree.specs.Files.{Faults, Files, Name, with_faults}
-use Rattle.file_tree.specs.Finds.{AreReal}
+use Rattle.file_tree.specs.Files.{Faults, Files, Name}
+use Rattle.file_tree.specs.Finds.{AreReal, with_failures}
 use Rattle.file_tree.specs.declared.walk.Found.{Found}
 use Rattle.tree_devices.specs.Uses.{AreOfCalls}
 
 pub of_calls : (files : Files) (chosen : Chosen) (paths : List Name) (before after : Faults) (found : List Found) → before ≡ Some [] → AreReal files chosen paths before after found → AreOfCalls files chosen paths after found
-of_calls files chosen paths before after found fresh real = λ f fault c e. (real.noted, all_noted, real.real f fault c e)
-  where
-    all_noted : after ≡ Some real.noted
-    all_noted = real.is ∙ ap (λ f. with_faults f real.noted) fresh
+of_calls files chosen paths before after found fresh real =
+    record { noted = real.noted; all = real.is ∙ ap (λ f. with_failures f real.noted) fresh; real = real.real }
 
 pub all_of_calls : {A E : Type 0} (r : Result A E) (found : A → List Found) (files : Files) (chosen : Chosen) (paths : List Name) (before after : Faults) → before ≡ Some []
     → IfOk r (λ a. AreReal files chosen paths before after (found a)) → IfOk r (λ a. AreOfCalls files chosen paths after (found a))

@@ -1,14 +1,16 @@
 -- What walks over trees in memory say.
-use Rattle.std.specs.Prelude.{◌≡◌, ◌⊎◌, List, Some}
+use Rattle.std.specs.Prelude.{◌≡◌, ◌⊎◌, List, Some, map}
 use Rattle.std.specs.List.{Contains}
 use Rattle.file_tree.specs.Choices.{Chosen}
 use Rattle.file_tree.specs.Files.{Faults, Files, Name}
-use Rattle.file_tree.specs.Finds.{IsOtherIn}
+use Rattle.file_tree.specs.Finds.{Failure, IsOtherIn}
 use Rattle.file_tree.specs.declared.fault.TreeFault.{TreeFault}
 use Rattle.file_tree.specs.declared.walk.Found.{Found}
 
--- each name that is reported has the fault of one of the tree's calls, all of which it told, or is of another kind
-abbrev pub AreOfCalls : Files → Chosen → List Name → Faults → List Found → Type 0
-AreOfCalls files chosen paths told found =
-    (f : Found) (fault : TreeFault) → Contains found f → f.fault ≡ Some fault
-    → (noted : List TreeFault) × (told ≡ Some noted) × (Contains noted fault ⊎ IsOtherIn files chosen paths f.name.items fault)
+-- the tree told all its calls that failed, under which names they are reported; each name that is reported is one of these,
+-- with its fault, or is of another kind
+pub record AreOfCalls (files : Files) (chosen : Chosen) (paths : List Name) (told : Faults) (found : List Found) : Type 0 where
+  pub noted : List Failure
+  pub all : told ≡ Some (map (λ failure. failure.fault) noted)
+  pub real : (f : Found) (fault : TreeFault) → Contains found f → f.fault ≡ Some fault
+      → Contains noted (record { name = f.name.items; fault = fault }) ⊎ IsOtherIn files chosen paths f.name.items fault

@@ -10,6 +10,9 @@ pub enum Stands<'a> {
     File(&'a [u8]),
     /// A file of these bytes, which another program changes after it was read.
     Busy(&'a [u8]),
+    /// A file of these bytes, which stands under this other name too. Where one of the two is replaced, the other keeps its
+    /// bytes.
+    Same(&'a [u8], &'a [u8]),
     /// A file that is gone before it is opened.
     Gone,
     /// A link to this name.
@@ -22,7 +25,9 @@ impl<'a> Stands<'a> {
     pub fn kind(self, identity: Identity) -> Kind {
         match self {
             Stands::Folder => Kind::Folder,
-            Stands::File(_) | Stands::Busy(_) | Stands::Gone => Kind::File(identity),
+            Stands::File(_) | Stands::Busy(_) | Stands::Same(_, _) | Stands::Gone => {
+                Kind::File(identity)
+            }
             Stands::Link(_) => Kind::Link,
             Stands::Pipe => Kind::Other,
         }

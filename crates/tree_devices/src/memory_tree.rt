@@ -117,7 +117,7 @@ impl<'a> MemoryTree<'a> {
         let mut links = Vec::new(alloc);
         for entry in entries {
             match entry.stands {
-                Stands::File(bytes) | Stands::Busy(bytes) => {
+                Stands::File(bytes) | Stands::Busy(bytes) | Stands::Same(bytes, _) => {
                     store(alloc, &mut files, entry.name, bytes)?;
                 }
                 Stands::Link(to) => store(alloc, &mut links, entry.name, to)?,
@@ -246,9 +246,12 @@ impl<'a> MemoryTree<'a> {
         None
     }
 
-    /// What tells the file of this name from others: how many entries stand before its own.
+    /// What tells the file of this name from others: how many entries stand before its own, or before that of its other name.
     fn identity_of(&self, name: &[u8]) -> Identity {
-        let name = plain(name);
+        let name = match self.stands(name) {
+            Some(Stands::Same(_, other)) => other,
+            _ => plain(name),
+        };
         let inode = self
             .entries
             .iter()

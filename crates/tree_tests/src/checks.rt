@@ -65,7 +65,7 @@ fn wanted(
 
 fn old_bytes(entry: &Entry<'static>) -> Option<&'static [u8]> {
     match entry.stands {
-        Stands::File(bytes) | Stands::Busy(bytes) => Some(bytes),
+        Stands::File(bytes) | Stands::Busy(bytes) | Stands::Same(bytes, _) => Some(bytes),
         _ => None,
     }
 }

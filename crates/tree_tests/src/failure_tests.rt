@@ -196,7 +196,7 @@ fn each_call_fails_where_no_file_can_be_made(rt: HostRuntime) {
 
 #[test]
 fn each_call_fails_where_names_are_given(rt: HostRuntime) {
-    fail_row(&rt, rt.alloc(), &NAMES_GIVEN, STEADY, (2_701, 340));
+    fail_row(&rt, rt.alloc(), &NAMES_GIVEN, STEADY, (2_763, 354));
 }
 
 #[test]
@@ -216,12 +216,12 @@ fn each_call_fails_where_files_are_checked(rt: HostRuntime) {
 
 #[test]
 fn each_call_fails_where_files_are_listed(rt: HostRuntime) {
-    fail_row(&rt, rt.alloc(), &LISTS, STEADY, (1_507, 192));
+    fail_row(&rt, rt.alloc(), &LISTS, STEADY, (1_573, 206));
 }
 
 #[test]
 fn each_call_fails_where_differences_are_shown(rt: HostRuntime) {
-    fail_row(&rt, rt.alloc(), &SHOWS, STEADY, (2_154, 120));
+    fail_row(&rt, rt.alloc(), &SHOWS, STEADY, (2_287, 148));
 }
 
 #[test]

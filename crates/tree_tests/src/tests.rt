@@ -87,7 +87,7 @@ fn help_looks_at_nothing(rt: HostRuntime) {
     }
 }
 
-// It is told under the first of its names.
+// It is told under the name that is no link.
 static TWICE: Row = Row {
     words: &["tffmt-all", "--any-name", "link.tf", "in/c"],
     input: b"",
@@ -304,4 +304,67 @@ fn no_files_are_told(rt: HostRuntime) {
     shows_bytes(&rt, rt.alloc(), &words, &empty, told);
     let words: [&[u8]; 2] = [b"tffmt-all", b"--quiet"];
     shows_bytes(&rt, rt.alloc(), &words, &empty, (b"", b"", 0));
+}
+
+// A file of two names, and links to it under either.
+static LINKED: [Entry<'static>; 7] = [
+    Entry {
+        name: b"",
+        stands: Stands::Folder,
+    },
+    Entry {
+        name: b"b.tf",
+        stands: Stands::File(b"a=1\n"),
+    },
+    Entry {
+        name: b"c.tf",
+        stands: Stands::Same(b"a=1\n", b"b.tf"),
+    },
+    Entry {
+        name: b"a.tf",
+        stands: Stands::Link(b"c.tf"),
+    },
+    Entry {
+        name: b"d.tf",
+        stands: Stands::Link(b"notes"),
+    },
+    Entry {
+        name: b"e.tf",
+        stands: Stands::Link(b"notes"),
+    },
+    Entry {
+        name: b"notes",
+        stands: Stands::File(b"n=1\n"),
+    },
+];
+
+// A link to a file that is found under another name is passed over: under one that is no link, or under an earlier link. Two
+// names of a file that are no links are each looked at.
+#[test]
+fn each_file_is_told_once_where_links_lead_to_it(rt: HostRuntime) {
+    let words: [&[u8]; 2] = [b"tffmt-all", b"--list"];
+    let told = (
+        b"b.tf\nc.tf\nd.tf\n".as_slice(),
+        b"3 files not formatted, 0 unchanged\n".as_slice(),
+        3,
+    );
+    shows_bytes(&rt, rt.alloc(), &words, &LINKED, told);
+    let words: [&[u8]; 1] = [b"tffmt-all"];
+    let written = (
+        b"b.tf\nc.tf\nd.tf\n".as_slice(),
+        b"3 files formatted, 0 unchanged\n".as_slice(),
+        0,
+    );
+    shows_bytes(&rt, rt.alloc(), &words, &LINKED, written);
+}
+
+// A link that is named is looked at, unless its file is named as well.
+#[test]
+fn links_may_be_named(rt: HostRuntime) {
+    let words: [&[u8]; 4] = [b"tffmt-all", b"--quiet", b"--list", b"a.tf"];
+    shows_bytes(&rt, rt.alloc(), &words, &LINKED, (b"a.tf\n", b"", 3));
+    let words: [&[u8]; 5] = [b"tffmt-all", b"--quiet", b"--list", b"a.tf", b"c.tf"];
+    shows_bytes(&rt, rt.alloc(), &words, &LINKED, (b"c.tf\n", b"", 3));
+    let words: [&[u8]; 5] = [b"tffmt-all", b"--quiet", b"--list", b"e.tf", b"./d.tf"];
+    shows_bytes(&rt, rt.alloc(), &words, &LINKED, (b"d.tf\n", b"", 3));
 }

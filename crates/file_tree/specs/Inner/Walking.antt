@@ -1,11 +1,11 @@
 -- A walk, step by step: what was found, and the folders that are still to be looked into.
-use Rattle.std.specs.Prelude.{◌≡◌, ◌≢◌, ◌⊎◌, ℕ, Bool, true, false, not, List, [], ◌∷◌, ◌++◌, Option, Some, None, map, if◌then◌else◌}
+use Rattle.std.specs.Prelude.{◌≡◌, ◌≢◌, ◌⊎◌, ℕ, Bool, true, false, not, List, [], ◌∷◌, ◌++◌, Option, Some, None, map}
 use Rattle.std.specs.List.{Contains}
 use Rattle.file_tree.specs.Below.{IsBelow, IsNamed, IsOther, is_met, listed}
 use Rattle.file_tree.specs.Choices.{Chosen, is_excluded, is_wanted}
-use Rattle.file_tree.specs.Files.{Faults, Files, Name, identity_of, with_faults}
+use Rattle.file_tree.specs.Files.{Faults, Files, Name, is_link}
 use Rattle.hcl_source.specs.Devices.{Tells}
-use Rattle.file_tree.specs.Finds.{AreReal, IsEarlier, IsFolderOf, IsOf, IsSame, Rises}
+use Rattle.file_tree.specs.Finds.{AreReal, Failure, IsFolderOf, IsOf, with_failures}
 use Rattle.file_tree.specs.Names.{is_taken}
 use Rattle.file_tree.specs.Ordered.{IsFound}
 use Rattle.file_tree.specs.Paths.{inside, place, reported, tidied, top}
@@ -15,6 +15,7 @@ use Rattle.file_tree.specs.declared.kind.Identity.{Identity}
 use Rattle.file_tree.specs.declared.kind.Kind.{Kind}
 use Rattle.file_tree.specs.declared.kind.Kind.TheVariants.{File, Folder, Link, Other}
 use Rattle.file_tree.specs.declared.walk.Found.{Found}
+use Rattle.file_tree.specs.declared.walk.FoundFile.{FoundFile}
 use Rattle.file_tree.specs.declared.walk.Walk.{Walk}
 
 -- what was found so far, and the folders that are still to be looked into
@@ -28,11 +29,11 @@ reached w = record { found = w.found.items; folders = map (λ folder. folder.ite
 -- ---- one step more
 
 -- a name was found, or reported
-pub record Adds (name : Name) (fault : Option TreeFault) (identity : Option Identity) (old new : Reached) : Type 0 where
+pub record Adds (name : Name) (fault : Option TreeFault) (file : Option FoundFile) (old new : Reached) : Type 0 where
   pub f : Found
   pub name_is : f.name.items ≡ name
   pub fault_is : f.fault ≡ fault
-  pub identity_is : f.identity ≡ identity
+  pub file_is : f.file ≡ file
   pub found : new.found ≡ old.found ++ f ∷ []
   pub folders : new.folders ≡ old.folders
 
@@ -45,15 +46,19 @@ pub record Enters (folder : Name) (old new : Reached) : Type 0 where
 abbrev pub Reports : Name → Reached → Reached → Type 0
 Reports name old new = (fault : TreeFault) × Adds name (Some fault) None old new
 
+-- a file by a name that is a link to it or isn't
+abbrev pub file_by : Bool → Identity → FoundFile
+file_by is_link identity = record { identity = identity; is_link = is_link }
+
 -- what stands under this name, whose last part this is, is a file that is taken, and it was found; or nothing was
 abbrev pub TakesIf : Bool → Name → Identity → Reached → Reached → Type 0
-TakesIf true path identity old new = Adds path None (Some identity) old new
+TakesIf true path identity old new = Adds path None (Some (file_by false identity)) old new
 TakesIf false path identity old new = new ≡ old
 
 -- what a link adds that leads to this, or that can't be followed
 abbrev pub TakesLinked : Kind → Name → Reached → Reached → Type 0
-TakesLinked Folder path old new = new ≡ old
-TakesLinked kind path old new = Adds path None (identity_of kind) old new
+TakesLinked (File identity) path old new = Adds path None (Some (file_by true identity)) old new
+TakesLinked kind path old new = new ≡ old
 
 -- what a link adds, of a name that is taken or isn't
 abbrev pub TakesLink : Bool → Files → Name → Reached → Reached → Type 0
@@ -85,18 +90,27 @@ abbrev pub TakesFolder : Files → Chosen → Name → Reached → Reached → T
 TakesFolder files chosen folder old new =
     Reports (place folder) old new ⊎ ((listing : List ℕ) × Tells (files.listing (place folder)) listing × TakesAll files chosen folder (listed listing) old new)
 
--- what a file adds that is named so, tidied
-abbrev pub TakesNamed : Bool → Name → Option Identity → Reached → Reached → Type 0
-TakesNamed true name identity old new = Adds name None identity old new
-TakesNamed false name identity old new = Adds name (Some OtherKind) None old new
+-- what a path adds that is given and leads to a file, by what its name has
+abbrev pub TakesNamedFile : Files → Identity → Name → Reached → Reached → Type 0
+TakesNamedFile files identity path old new =
+    Reports (reported path) old new ⊎ ((entry : Kind) × Tells (files.entry (tidied path)) entry × Adds (tidied path) None (Some (file_by (is_link entry) identity)) old new)
+
+-- what one adds that is to be looked at
+abbrev pub TakesWanted : Kind → Files → Name → Reached → Reached → Type 0
+TakesWanted (File identity) files path old new = TakesNamedFile files identity path old new
+TakesWanted kind files path old new = Adds (tidied path) None None old new
+
+abbrev pub TakesNamed : Bool → Kind → Files → Name → Reached → Reached → Type 0
+TakesNamed true kind files path old new = TakesWanted kind files path old new
+TakesNamed false kind files path old new = Adds (tidied path) (Some OtherKind) None old new
 
 -- what a path adds that is given
-abbrev pub TakesKindGiven : Chosen → Kind → Name → Reached → Reached → Type 0
-TakesKindGiven chosen Folder path old new = Enters (top path) old new
-TakesKindGiven chosen kind path old new = TakesNamed (is_wanted chosen (tidied path)) (tidied path) (identity_of kind) old new
+abbrev pub TakesKindGiven : Files → Chosen → Kind → Name → Reached → Reached → Type 0
+TakesKindGiven files chosen Folder path old new = Enters (top path) old new
+TakesKindGiven files chosen kind path old new = TakesNamed (is_wanted chosen (tidied path)) kind files path old new
 
 abbrev pub TakesAsked : Files → Chosen → Name → Reached → Reached → Type 0
-TakesAsked files chosen path old new = Reports (reported path) old new ⊎ ((kind : Kind) × Tells (files.kind path) kind × TakesKindGiven chosen kind path old new)
+TakesAsked files chosen path old new = Reports (reported path) old new ⊎ ((kind : Kind) × Tells (files.kind path) kind × TakesKindGiven files chosen kind path old new)
 
 abbrev pub TakesGiven : Files → Chosen → Name → Reached → Reached → Type 0
 TakesGiven files chosen path old new =
@@ -120,49 +134,22 @@ pub record Walked (files : Files) (chosen : Chosen) (paths : List Name) (r : Rea
   pub below : (path : Name) (parts : List Name) (last : Name) → Contains paths path → IsBelow true files chosen path parts last
       → IsFault r.found (reported path) ⊎ Covers r (top path) parts last
 
--- ---- its end
-
--- what was found, each file under the first of its names
-pub record KeepsFirsts (found kept : List Found) : Type 0 where
-  pub rises : Rises kept
-  pub once : (f g : Found) → Contains kept f → Contains kept g → IsSame f g → f.name.items ≡ g.name.items
-  pub only : (f : Found) → Contains kept f → Contains found f
-  pub stays : (g : Found) → Contains found g → Contains kept g ⊎ ((f : Found) × Contains kept f × IsEarlier f g)
-
--- of the files that were met these were kept, and their identities are noted
-pub record Firsts (met kept : List Found) (has : Identity → Bool) : Type 0 where
-  pub keeps : KeepsFirsts met kept
-  pub noted : (f : Found) (identity : Identity) → Contains kept f → f.identity ≡ Some identity → has identity ≡ true
-  pub known : (identity : Identity) → has identity ≡ true → (f : Found) × Contains kept f × (f.identity ≡ Some identity)
-
--- an identity was noted, and this says whether it wasn't before
-pub record NotesIdentity (had has : Identity → Bool) (identity : Identity) (is_new : Bool) : Type 0 where
-  pub is : is_new ≡ not (had identity)
-  pub now : has identity ≡ true
-  pub kept : (other : Identity) → had other ≡ true → has other ≡ true
-  pub more : (other : Identity) → has other ≡ true → (other ≡ identity) ⊎ (had other ≡ true)
-
--- one more was met: it is kept if it is no file, or one that wasn't noted
-abbrev pub MeetsBy : Option Identity → Found → (Identity → Bool) → (Identity → Bool) → List Found → List Found → Type 0
-MeetsBy None f had has old new = (has ≡ had) × (new ≡ old ++ f ∷ [])
-MeetsBy (Some identity) f had has old new = (is_new : Bool) × NotesIdentity had has identity is_new × (new ≡ (if is_new then old ++ f ∷ [] else old))
-
 -- ---- what the device's calls answered
 
-abbrev pub faults_of : Option TreeFault → List TreeFault
-faults_of None = []
-faults_of (Some fault) = fault ∷ []
+abbrev pub failures_of : Name → Option TreeFault → List Failure
+failures_of name None = []
+failures_of name (Some fault) = record { name = name; fault = fault } ∷ []
 
--- the faults of names that were reported, in the order in which they were met
-abbrev pub faults_in : List Found → List TreeFault
-faults_in [] = []
-faults_in (f ∷ found) = faults_of f.fault ++ faults_in found
+-- the names that were reported, in the order in which they were met
+abbrev pub failures_in : List Found → List Failure
+failures_in [] = []
+failures_in (f ∷ found) = failures_of f.name.items f.fault ++ failures_in found
 
--- the calls that failed since are those whose faults were reported
+-- the calls that failed since are those of the names that were reported
 pub record Hears (old new : List Found) (before after : Faults) : Type 0 where
   pub more : List Found
   pub found : new ≡ old ++ more
-  pub heard : after ≡ with_faults before (faults_in more)
+  pub heard : after ≡ with_failures before (failures_in more)
 
 -- what a path that is given adds to what was found is real
 pub record HearsGiven (files : Files) (chosen : Chosen) (path : Name) (old new : List Found) (before after : Faults) : Type 0 where

@@ -2,7 +2,7 @@ use Rattle.std.proofs.Common.{◌∙◌, List, ℕ, ap, codes, map, subst}
 use Rattle.command_line.specs.Rows.{end_of}
 use Rattle.std.specs.Borrow.{Bor}
 use Rattle.tree_command.specs.Ends.{IsEndOf}
-use Rattle.tree_command.specs.Line.{mode_of_texts, texts_in}
+use Rattle.tree_command.specs.Line.{asking_of_texts, mode_of_texts, others_in, reads_names, texts_in}
 use Rattle.tree_format.specs.States.{state_of}
 use Rattle.tree_command.proofs.run.program.Goals as goal
 
@@ -22,3 +22,11 @@ returns-clause-ends g c =
     (λ (texts : List (List ℕ)). IsEndOf texts others (g.R.ByteSource.failed c.run_line.new.input) (g.R.ByteSource.left c.args.input.now) (state_of g.T.Tree c.args.tree.now) (state_of g.T.Tree c.run_line.new.tree)
     (end_of g.O.ByteSink c.args.out.now c.run_line.new.out g.E.ByteSink c.args.err.now c.run_line.new.err c.run_line.result))
     (ap (map (λ (word : Bor (List ℕ)). word.now)) c.as_slice.ensures.value ∙ c.in-Ok.ensures.texts) c.run_line.ensures.ends)
+
+pub returns-clause-unread : goal.returns-clause-unread
+returns-clause-unread g c asked =
+    let words : List (List ℕ) = map (λ (word : Bor (List ℕ)). word.now) c.args.words.now in
+    let texts : List (List ℕ) = map (λ (word : Bor (List ℕ)). word.now) c.as_slice.result.now in
+    c.run_line.ensures.unread
+    (ap (λ names. reads_names (asking_of_texts texts names)) (ap (map (λ (word : Bor (List ℕ)). word.now)) c.as_slice-2.ensures.value ∙ c.in-Ok.ensures.others)
+    ∙ ap (λ l. reads_names (asking_of_texts l (others_in words))) (ap (map (λ (word : Bor (List ℕ)). word.now)) c.as_slice.ensures.value ∙ c.in-Ok.ensures.texts) ∙ asked)

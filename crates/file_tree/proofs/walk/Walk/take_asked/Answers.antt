@@ -1,14 +1,9 @@
 use Rattle.std.proofs.Common.{None, Some, inl, subst}
 use Rattle.file_tree.specs.Inner.Chosen.{told}
 use Rattle.file_tree.specs.Inner.Walking.{Adds, reached}
-use Rattle.file_tree.proofs.HearLemmas.{real_fault, real_kind_given}
+use Rattle.file_tree.proofs.HearLemmas.{real_fault}
 use Rattle.file_tree.proofs.TreeWalkLemmas.{on_ok_more}
 use Rattle.file_tree.proofs.walk.Walk.take_asked.Goals as goal
-
-pub returns-in-Ok-clause-hears : goal.returns-in-Ok-clause-hears
-returns-in-Ok-clause-hears g c =
-    real_kind_given c.take_kind_given.result (g.T.Tree.files c.args.tree.now) (told c.args.chooser.now) c.in-Ok.kind c.args.path.now (reached c.args.self.now) (reached c.take_kind_given.new.self) _ _
-    c.in-Ok.ensures.kind c.requires.allowed c.take_kind_given.ensures c.in-Ok.ensures.faults
 
 pub returns-in_ok-name-in-Err-clause-takes : goal.returns-in_ok-name-in-Err-clause-takes
 returns-in_ok-name-in-Err-clause-takes g c =
