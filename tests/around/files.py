@@ -76,6 +76,7 @@ def run(group):
         refusals,
         options,
         names_from_input,
+        input_left,
         other_names,
         shown_names,
         counted,
@@ -381,6 +382,33 @@ def names_from_input(group, program):
         (done.returncode, done.stdout, done.stderr, contents(top)),
         (4, b'', b'tffmt-all: error: read failed\n', before),
     )
+
+
+def input_left(group, program):
+    """Standard input is read for --null alone: a shell's loop over names keeps those that follow."""
+    top, given = group.fresh(), ended('b.tf')
+    put(top, {'a.tf': OTHER, 'b.tf': OTHER, 'in/c.tf': BAD})
+    for words in (
+        [],
+        ['a.tf'],
+        ['--', 'in', 'gone.tf'],
+        ['--check', 'a.tf'],
+        ['--check'],
+        ['--list', '.'],
+        ['--diff', 'b.tf'],
+        ['-'],
+        ['--help'],
+        ['--version'],
+        ['--bogus'],
+        ['--null', '--bogus'],
+        ['--null', 'a.tf'],
+    ):
+        group.check(
+            'standard input is left with %r' % words,
+            group.leaves(group.trees, *words, cwd=top, given=given),
+            (given,) * 2,
+        )
+    group.check('it is read with --null', group.leaves(group.trees, '-0', cwd=top, given=given), (b'', b''))
 
 
 def other_names(group, program):

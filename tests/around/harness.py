@@ -130,6 +130,26 @@ class Group:
         )
         return done.returncode, done.stdout, done.stderr
 
+    def leaves(self, *words, cwd, given):
+        """What a command leaves of these bytes, as a file and as a pipe that is its standard input."""
+        out, into = os.pipe()
+        os.write(into, given)
+        os.close(into)
+        with tempfile.TemporaryFile(buffering=0) as file, open(out, 'rb', buffering=0) as pipe:
+            file.write(given)
+            file.seek(0)
+            for stdin in (file, pipe):
+                subprocess.run(
+                    [os.fspath(w) for w in words],
+                    cwd=str(cwd),
+                    env=self.setting,
+                    stdin=stdin,
+                    stdout=subprocess.DEVNULL,
+                    stderr=subprocess.DEVNULL,
+                    timeout=LIMIT,
+                )
+            return file.read(), pipe.read()
+
     def format(self, *words, **more):
         """The same of tffmt-all, which counts no files at its end."""
         return self.call(self.trees, '--quiet', *words, **more)

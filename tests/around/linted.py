@@ -36,6 +36,7 @@ def run(group):
         deleted,
         limits,
         input_and_shards,
+        input_left,
         rights,
     ):
         part(group, lint)
@@ -288,6 +289,32 @@ def input_and_shards(group, lint):
     taken = [re.findall(r'^(\S+/)a\.tf:', part.decode(), re.M) for part in parts]
     wanted = [[name + '/' for name in sorted(every) if shard_of(name + '/', 3) == part] for part in range(3)]
     group.check('each module is in one part, by its folder', taken, wanted)
+
+
+def input_left(group, lint):
+    """Standard input is read for --null alone: a shell's loop over names keeps those that follow."""
+    top, given = tree(group, {'a/a.tf': DECLARED, 'b/b.tf': BAD}), b'b/b.tf\0'
+    for words in (
+        [],
+        ['a'],
+        ['--', 'a/a.tf', 'gone'],
+        ['--force', 'b'],
+        ['--rules=all', '.'],
+        ['-'],
+        ['--help'],
+        ['--version'],
+        ['--list-rules'],
+        ['--explain', 'terraform_typed_variables'],
+        ['--bogus'],
+        ['--null', '--bogus'],
+        ['--null', 'a'],
+    ):
+        group.check(
+            'standard input is left with %r' % words,
+            group.leaves(group.linted, *words, cwd=top, given=given),
+            (given,) * 2,
+        )
+    group.check('it is read with --null', group.leaves(group.linted, '-0', cwd=top, given=given), (b'', b''))
 
 
 def rights(group, lint):
