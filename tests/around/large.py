@@ -8,11 +8,12 @@ from harness import lines, put
 FILES, NAMES = 20000, 5000
 TEXTS = (b'a=1\n', b'a = 1\n', b'b "x" {\n  a=1\n    long = "${c}"\n}\n', b'# a\n', b'a=\n')
 MIDDLE = 'tree/%03d/file%03d.tf'
+ALL = 'tree/all/'
 
 
 def name_of(number):
     """One folder has NAMES files, and each other one a hundred."""
-    return 'tree/all/%05d.tf' % number if number < NAMES else MIDDLE % (number // 100, number % 100)
+    return ALL + 'a_name_of_26_bytes_%04d.tf' % number if number < NAMES else MIDDLE % (number // 100, number % 100)
 
 
 class Judged:
@@ -60,6 +61,8 @@ def many_files(group):
 
     group.check('--check', program('--check') == (2, b'', reports(judged, texts, not_formatted)), True)
     group.check('--list', program('--list') == (2, lines(*others), refused), True)
+    listed = sum(len(name) - len(ALL) for name in texts if name.startswith(ALL))
+    group.holds('a folder with over 100,000 bytes of names', listed > 100000, listed)
     named = b'\0'.join(name.encode() for name in texts)
     group.holds('names of over 100,000 bytes', len(named) > 300000, len(named))
     group.check(
