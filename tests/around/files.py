@@ -70,6 +70,7 @@ def run(group):
 
     for part in (
         walk,
+        exclusions,
         checks,
         writes,
         links,
@@ -158,6 +159,35 @@ def walk(group, program):
         (3, lines('-z.tf'), b''),
     )
     group.check('an empty folder', program('--check', cwd=group.fresh()), (0, b'', b''))
+
+
+def exclusions(group, program):
+    """They go by the names that are met, and not by what these lead to; one that meets nothing isn't told."""
+    top = group.fresh()
+    put(top, {'in/a.tf': OTHER, 'b.tf': OTHER})
+    for word in ('im', 'in/b.tf', str(top / 'in'), '../%s/in' % top.name, 'in/../in', 'in/*', ''):
+        group.check(
+            'an exclusion that meets nothing: %r' % word,
+            program('--list', '--exclude', word, cwd=top),
+            (3, lines('b.tf', 'in/a.tf'), b''),
+        )
+    for word, folder in ((str(top / 'in'), str(top)), ('../%s/in' % top.name, '../' + top.name)):
+        group.check(
+            'it meets the path that reports show: %r' % word,
+            program('--list', '--exclude', word, folder, cwd=top),
+            (3, lines(folder + '/b.tf'), b''),
+        )
+    put(top, {'kept/c.tf': OTHER, 'kept/d.tf': OTHER, 'd.tf': b'->kept/d.tf', 'other': b'->kept'})
+    group.check(
+        'a link into an excluded folder is followed',
+        (program('--exclude', 'kept', cwd=top), contents(top)['kept/c.tf'], contents(top)['kept/d.tf']),
+        ((0, lines('b.tf', 'd.tf', 'in/a.tf'), b''), OTHER, GOOD),
+    )
+    group.check(
+        'and so is one to it that is named',
+        (program('--exclude', 'kept', 'other', cwd=top), contents(top)['kept/c.tf']),
+        ((0, lines('other/c.tf'), b''), GOOD),
+    )
 
 
 def checks(group, program):
