@@ -1,5 +1,5 @@
 """The program tffmt-all over a tree of another user, who exchanges what is there while the program works: nothing of his
-comes into a folder that isn't his, whatever is exchanged and when."""
+comes into a folder that isn't his, whatever is exchanged and when. And which pipes the two programs of trees wait for."""
 
 import ctypes
 import errno
@@ -36,11 +36,11 @@ def library(group):
     return str(made)
 
 
-def attacked(group, words, top, counted='any', **setting):
+def attacked(group, words, top, counted='any', program=None, **setting):
     """(what a run shows, whether the call was reached before which something is done, whether the run had to be woken)."""
     back, told = os.pipe()
     started = subprocess.Popen(
-        [group.trees, '--quiet', *words],
+        [program or group.trees, '--quiet', *words],
         cwd=str(top),
         pass_fds=[told],
         env=dict(group.setting, LD_PRELOAD=library(group), REFUSED=counted, REFUSE_FD=str(told), **setting),
@@ -134,6 +134,22 @@ def held_up(group):
         group.check('%s: what is waited for' % what, waited, [b'open'] * 2 if what == 'a file for a pipe' else [])
 
 
+def linter_held_up(group):
+    """tfrules-all waits for no more than such a pipe, and goes on once that is opened for writing."""
+    waited, number = [], 0
+    for number in range(1, MOST):
+        top, _, pair = lay(group, 'a file for a pipe')
+        shown, reached, woken = attacked(
+            group, ['in'], top, program=group.linted, REFUSE=str(number), EXCHANGE=pair[0], FOR=pair[1]
+        )
+        waited += [(reached, shown)] * woken
+        if not reached:
+            break
+    told = lines('tfrules: error: in/x.tf: cannot be opened')
+    group.check('tfrules-all and a pipe, before each call', waited, [(b'open', (1, b'', told))])
+    group.holds('before over 10 calls', 10 < number < MOST - 1, number)
+
+
 class Attacker(threading.Thread):
     """Exchanges two names as often as it can, where it is told to."""
 
@@ -218,14 +234,14 @@ def linked_folders(group):
 
 
 def run(group):
-    if not os.access(group.trees, os.X_OK):
-        group.skip('attacks', 20, 'bin/tffmt-all is not built')
+    if not all(os.access(it, os.X_OK) for it in (group.trees, group.linted)):
+        group.skip('attacks', 31, 'bin/tffmt-all or bin/tfrules-all is not built')
         return
     linked_folders(group)
-    if not group.has('gcc', checks=15):
+    if not group.has('gcc', checks=26):
         return
     if os.getuid() != 0:
-        group.skip('attacks', 15, 'not run by root')
+        group.skip('attacks', 26, 'not run by root')
         return
-    for part in (held_up, at_full_speed, owners, without_proc):
+    for part in (held_up, linter_held_up, at_full_speed, owners, without_proc):
         part(group)
