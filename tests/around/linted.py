@@ -26,6 +26,7 @@ def run(group):
 
     for part in (
         modules.whole_modules,
+        modules.linked_modules,
         names,
         walk,
         statuses,
@@ -154,6 +155,12 @@ def summaries(group, lint):
         group.check(
             'what is said at the end: %r' % words, group.call(group.linted, *words, cwd=top)[2], told + lines(said)
         )
+    modules.link(top, 'e/e.tf', 'c/c.tf', False)
+    group.check(
+        'a file of two modules counts in both',
+        group.call(group.linted, 'c', 'e', cwd=top)[2],
+        lines('4 issues in 2 of 2 modules'),
+    )
     group.check('nothing under --quiet', group.call(group.linted, 'none', '--quiet', cwd=top), (0, b'', b''))
 
 

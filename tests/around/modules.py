@@ -28,11 +28,12 @@ def run_shell(group):
     shell = group.name.split()[-1]
     if is_sh(shell):
         return
-    if not group.has(shell, checks=129):
+    if not group.has(shell, checks=147):
         return
     script = Script(group, shell, 'tfrules-modules', besides=('git', 'strace'))
     for part in (
         whole_modules,
+        linked_modules,
         names,
         walk,
         statuses,
@@ -80,6 +81,47 @@ def _put(group, files):
     top = group.fresh()
     put(top, files)
     return top
+
+
+def link(top, name, other, is_hard):
+    """Gives a file another name."""
+    if is_hard:
+        (top / name).parent.mkdir(exist_ok=True)
+        os.link(str(top / other), str(top / name))
+    else:
+        put(top, {name: b'->' + os.fsencode(os.path.relpath(other, os.path.dirname(name)))})
+
+
+def linked_modules(group, script):
+    """A folder that has a file is a module, whatever other names the file has."""
+    for is_hard in (False, True):
+        kind = 'a hard link' if is_hard else 'a link'
+        top = _put(group, {'a/main.tf': b'variable "n" {}\n'})
+        link(top, 'b/main.tf', 'a/main.tf', is_hard)
+        each = [report(UNTYPED % name, UNUSED % name) for name in ('a/main.tf', 'b/main.tf')]
+        for words in ([], ['b', 'a'], ['b/main.tf', 'a/main.tf'], ['a', 'b/main.tf']):
+            group.check(
+                'two modules of one file by %s: %r' % (kind, words), script(*words, cwd=top), (2, b'\n'.join(each), b'')
+            )
+        group.check('%s by name' % kind, script('b/main.tf', cwd=top), (2, each[1], b''))
+        top = _put(group, {'shared/versions.tf': DECLARED, 'one/main.tf': USED, 'two/main.tf': b'locals {}\n'})
+        for name in ('one', 'two', 'three'):
+            link(top, name + '/versions.tf', 'shared/versions.tf', is_hard)
+        told = ['shared/versions.tf', 'three/versions.tf', 'two/versions.tf']
+        group.check('a file that three modules share by %s' % kind, script(cwd=top), (2, unused(*told), b''))
+        given = b'\0'.join(b'%s/versions.tf' % name for name in (b'three', b'one', b'two'))
+        group.check('its names, by %s' % kind, script('--null', cwd=top, stdin=given), (2, unused(*told[1:]), b''))
+        top = _put(group, {'a/a.tf': DECLARED, 'a/b.tf': USED})
+        for name, other in (('b/a.tf', 'a/a.tf'), ('c/a.tf', 'b/a.tf'), ('c/b.tf', 'a/b.tf'), ('d/b.tf', 'a/b.tf')):
+            link(top, name, other, is_hard)
+        group.check('modules whose files are all %ss' % kind[2:], script(cwd=top), (2, unused('b/a.tf'), b''))
+    top = _put(group, {'a/a.tf': DECLARED, 'other': b'->a'})
+    for word in ('other', 'a/../a'):
+        group.check(
+            'a folder under two names: %r' % word,
+            script('a', word, cwd=top),
+            (2, unused('a/a.tf', word + '/a.tf'), b''),
+        )
 
 
 def names(group, script):
