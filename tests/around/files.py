@@ -74,6 +74,10 @@ def run(group):
         checks,
         writes,
         links,
+        links_and_files,
+        hard_links,
+        linked_diffs,
+        paths_of_one_file,
         refusals,
         options,
         names_from_input,
@@ -278,6 +282,122 @@ def links(group, program):
         (program('far/one.tf', cwd=top), (top / 'far/one.tf').read_bytes(), (top / 'far/other.tf').read_bytes()),
         ((0, lines('far/one.tf'), b''), GOOD, OTHER),
     )
+
+
+def four_names(group):
+    """A file with two hard links and two links."""
+    top = group.fresh()
+    put(top, {'one.tf': OTHER, 'two.tf': b'->one.tf', 'in/three.tf': b'->../one.tf'})
+    os.link(str(top / 'one.tf'), str(top / 'hard.tf'))
+    return top
+
+
+def links_and_files(group, program):
+    """A link is passed over if its file is met under a name that is no link, or under an earlier link."""
+    top = four_names(group)
+    for words, told in (
+        ([], ['hard.tf', 'one.tf']),
+        (['two.tf'], ['two.tf']),
+        (['two.tf', 'one.tf'], ['one.tf']),
+        (['one.tf', 'in'], ['one.tf']),
+        (['two.tf', 'in'], ['in/three.tf']),
+    ):
+        group.check('of a file of four names %r' % words, program('--list', *words, cwd=top), (3, lines(*told), b''))
+        group.check(
+            'the same from standard input',
+            program('--null', '--list', cwd=top, stdin=ended(*words or ['.'])),
+            (3, ended(*told), b''),
+        )
+    shards = [program('--list', '--shard', '%d/3' % k, cwd=top)[1].splitlines() for k in (1, 2, 3)]
+    group.check('each is in one shard', sorted(sum(shards, [])), [b'hard.tf', b'one.tf'])
+    group.check(
+        'each is formatted and counted',
+        (group.call(group.trees, cwd=top), set(contents(top).values()), os.readlink(str(top / 'two.tf'))),
+        ((0, lines('hard.tf', 'one.tf'), lines('2 files formatted, 0 unchanged')), {GOOD}, 'one.tf'),
+    )
+    for files, told in (
+        ({'a.tf': b'->z.tf', 'z.tf': OTHER}, 'z.tf'),
+        ({'a.tf': OTHER, 'z.tf': b'->a.tf'}, 'a.tf'),
+        ({'a.tf': b'->far/x', 'b.tf': b'->far/x', 'far/x': OTHER}, 'a.tf'),
+        ({'a.tf': b'->c.tf', 'b.tf': b'->a.tf', 'c.tf': OTHER}, 'c.tf'),
+        ({'a.tf': b'->b.tf', 'b.tf': b'->far/x', 'far/x': OTHER}, 'a.tf'),
+        ({'b.tf': b'->other/z.tf', 'in/z.tf': OTHER, 'other': b'->in'}, 'in/z.tf'),
+    ):
+        top = group.fresh()
+        put(top, files)
+        group.check(
+            'links and a file: %r' % files, program('--check', cwd=top), (3, b'', lines(told + ': not formatted'))
+        )
+        group.check('and a run', (program(cwd=top), set(contents(top).values())), ((0, lines(told), b''), {GOOD}))
+
+
+def hard_links(group, program):
+    """Each is looked at, and is a file of its own once it is formatted."""
+    top = group.fresh()
+    put(top, {'a.tf': OTHER, 'c.tf': GOOD})
+    for name, other in (('b.tf', 'a.tf'), ('d.tf', 'c.tf'), ('rest', 'a.tf')):
+        os.link(str(top / other), str(top / name))
+    names = ['a.tf', 'b.tf']
+    group.check('--list of hard links', program('--list', cwd=top), (3, lines(*names), b''))
+    said = lines(*[name + ': not formatted' for name in names])
+    group.check('--check of hard links', program('--check', cwd=top), (3, b'', said))
+    heads = re.findall(rb'^--- (.*)', program('--diff', cwd=top)[1], re.M)
+    group.check('--diff of hard links', heads, [b'old/a.tf', b'old/b.tf'])
+    group.check('a run', group.call(group.trees, cwd=top), (0, lines(*names), lines('2 files formatted, 2 unchanged')))
+    group.check(
+        'what they have, and another name',
+        contents(top),
+        {'a.tf': GOOD, 'b.tf': GOOD, 'c.tf': GOOD, 'd.tf': GOOD, 'rest': OTHER},
+    )
+    group.check(
+        'how many names each has', [(top / name).stat().st_nlink for name in 'a.tf b.tf c.tf'.split()], [1, 1, 2]
+    )
+    if os.getuid() != 0:
+        group.skip('hard links written in place', 1, 'not run by root')
+        return
+    top = group.fresh()
+    put(top, {'a.tf': OTHER})
+    os.link(str(top / 'a.tf'), str(top / 'b.tf'))
+    os.chown(str(top / 'a.tf'), NOBODY, NOBODY)
+    top.chmod(0o555)
+    group.check(
+        'written in place they stay one file',
+        (group.call(group.trees, '--in-place', cwd=top, user=NOBODY), contents(top), (top / 'a.tf').stat().st_nlink),
+        ((0, lines('a.tf'), lines('1 file formatted, 1 unchanged')), {'a.tf': GOOD, 'b.tf': GOOD}, 2),
+    )
+
+
+def linked_diffs(group, program):
+    """patch takes the diff of a file and its links, and makes hard links files of their own; it refuses a link."""
+    for tool, words in (('patch', ['-s', '-p1']), ('git', ['apply'])):
+        if not group.has(tool, checks=2):
+            continue
+        top = four_names(group)
+        diff = program('--diff', cwd=top)[1]
+        group.check(
+            '%s takes the diff of a file of four names' % tool,
+            (group.call(tool, *words, cwd=top, stdin=diff), contents(top)),
+            ((0, b'', b''), dict.fromkeys(['hard.tf', 'one.tf', 'two.tf', 'in/three.tf'], GOOD)),
+        )
+        top = group.fresh()
+        put(top, {'a.tf': b'->x', 'x': OTHER})
+        diff = program('--diff', cwd=top)[1]
+        done = group.call(tool, *words, cwd=top, stdin=diff)
+        group.check('%s refuses a link' % tool, (done[0], (top / 'x').read_bytes()), (1, OTHER))
+
+
+def paths_of_one_file(group, program):
+    """A file is looked at under each path that the operands give it, through a linked folder or `..`."""
+    for word in ('other', 'a/../a'):
+        top = group.fresh()
+        put(top, {'a/x.tf': OTHER, 'other': b'->a'})
+        names = sorted(['a/x.tf', word + '/x.tf'])
+        group.check('--list of a folder as %r' % word, program('--list', 'a', word, cwd=top), (3, lines(*names), b''))
+        group.check(
+            'a run of it',
+            group.call(group.trees, 'a', word, cwd=top),
+            (0, lines(names[0]), lines('1 file formatted, 1 unchanged')),
+        )
 
 
 def refusals(group, program):
@@ -490,10 +610,6 @@ def shown_names(group, program):
     if group.has('patch', checks=1):
         group.call('patch', '-s', '-p1', cwd=blank, stdin=diff)
         group.check('names with blanks', contents(blank), {'a b/c  d.tf': GOOD, ' .tf': GOOD})
-    blank = group.fresh()
-    put(blank, {'one.tf': OTHER, 'two.tf': b'->one.tf', 'in/three.tf': b'->../one.tf'})
-    os.link(str(blank / 'one.tf'), str(blank / 'hard.tf'))
-    group.check('a file of four names is told once', program('--list', cwd=blank), (3, lines('hard.tf'), b''))
     blank = group.fresh()
     put(blank, {'in/a.tf': OTHER, 'x.tf': b'->in', 'y.tf': b'->nowhere'})
     group.check(
