@@ -12,7 +12,7 @@ import subprocess
 import time
 
 from editors import on_terminal
-from harness import BAD, GOOD, NOBODY, OTHER, REFUSED, lines, put, quoted, shard_of
+from harness import BAD, GOOD, NOBODY, OTHER, REFUSED, lines, put, quoted, shard_of, special_links
 
 # A tree, and the files of it that a walk takes.
 WALKED = [
@@ -79,6 +79,7 @@ def run(group):
         linked_diffs,
         paths_of_one_file,
         refusals,
+        special_files,
         options,
         names_from_input,
         input_left,
@@ -445,6 +446,26 @@ def refusals(group, program):
             GOOD,
         ),
     )
+
+
+def special_files(group, program):
+    """Pipes, sockets and devices are passed over in a walk, and so are links to them; one that is named is told."""
+    top = group.fresh()
+    put(top, {'a.tf': OTHER})
+    links = special_links(top)
+    group.check(
+        'links to pipes, sockets and devices in a walk',
+        group.call(group.trees, cwd=top),
+        (0, lines('a.tf'), lines('1 file formatted, 0 unchanged')),
+    )
+    group.check('nothing else', group.call(group.trees, 'in', cwd=top), (0, b'', lines('no files found')))
+    for mode in ('--check', '--list', '--diff'):
+        group.check('the same with ' + mode, program(mode, cwd=top), (0, b'', b''))
+    told = lines(*[name + ': not a file' for name in links])
+    group.check('they are told by name', program('--check', *links, cwd=top), (4, b'', told))
+    (top / 'in' / 'gone.tf').symlink_to('../nowhere')
+    gone = lines('in/gone.tf: the link leads nowhere')
+    group.check('a link that leads nowhere is told still', program(cwd=top), (4, b'', gone))
 
 
 def options(group, program):

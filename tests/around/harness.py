@@ -4,6 +4,7 @@ import os
 import pathlib
 import shutil
 import signal
+import stat
 import subprocess
 import tempfile
 
@@ -224,6 +225,22 @@ def put(folder, files):
         else:
             with open(made, 'wb') as file:
                 file.write(text)
+
+
+def special_links(top):
+    """Makes a pipe and a socket below a folder, and links to these and to a device. Gives the names of the links."""
+    (top / 'in').mkdir()
+    os.mkfifo(str(top / 'in' / 'pipe.tf'))
+    os.mknod(str(top / 'in' / 'socket.tf'), stat.S_IFSOCK | 0o600)
+    links = {
+        'in/device.tf': b'->/dev/null',
+        'in/full.tf': b'->/dev/full',
+        'in/linked.tf': b'->../pipe.tf',
+        'pipe.tf': b'->in/pipe.tf',
+        'socket.tf': b'->in/socket.tf',
+    }
+    put(top, links)
+    return list(links)
 
 
 def quoted(name):

@@ -5,7 +5,7 @@ import os
 import re
 
 import modules
-from harness import BAD, NOBODY, TOP, lines, put, shard_of
+from harness import BAD, NOBODY, TOP, lines, put, shard_of, special_links
 from modules import ALL, DECLARED, DEFAULT, UNTYPED, UNUSED, USED, report, unused
 
 
@@ -30,6 +30,7 @@ def run(group):
         names,
         walk,
         statuses,
+        special_files,
         summaries,
         options,
         rule_texts,
@@ -128,6 +129,15 @@ def statuses(group, lint):
         (1, b'', b'tfrules: error: write failed\n'),
     )
     group.check('a closed standard output', group.call('sh', '-c', 'exec "$0" a >&-', group.linted, cwd=top)[0], 1)
+
+
+def special_files(group, lint):
+    """Pipes, sockets and devices are no files of a module, and neither are links to them."""
+    top = tree(group, {'a.tf': DECLARED})
+    links = special_links(top)
+    group.check('links to pipes, sockets and devices', lint(cwd=top), (2, unused('a.tf'), b''))
+    group.check('they are no module', group.call(group.linted, 'in', cwd=top), (0, b'', lines('no modules found')))
+    group.check('nor if they are named', lint(*links, cwd=top), (2, unused('a.tf'), b''))
 
 
 def summaries(group, lint):
