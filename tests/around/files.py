@@ -62,7 +62,7 @@ def contents(top):
 
 def run(group):
     if not os.access(group.trees, os.X_OK):
-        group.skip('tffmt-all', 100, 'bin/tffmt-all is not built')
+        group.skip('tffmt-all', 226, 'bin/tffmt-all is not built')
         return
 
     def program(*words, cwd, **more):

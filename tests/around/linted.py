@@ -18,7 +18,7 @@ MISSING = 'no such file or folder'
 
 def run(group):
     if not os.path.exists(group.linted):
-        group.skip('tfrules-all', 86, 'bin/tfrules-all is not built')
+        group.skip('tfrules-all', 168, 'bin/tfrules-all is not built')
         return
 
     def lint(*words, cwd, **more):
