@@ -476,27 +476,31 @@ def options(group, program):
     group.check('-h', program('-h', cwd=top), (status, out, err))
     usage = program('--shard', cwd=top)[2]
     group.holds('the usage is what --help begins with', out.startswith(usage.rstrip(b'\n')[:30]), usage)
-    for words in (
-        ['-j', '0'],
-        ['--jobs', 'x'],
-        ['--jobs'],
-        ['-j', '01'],
-        ['-j', '10000'],
-        ['-0', 'a.tf'],
-        ['--shard', '0/2'],
-        ['--shard=3/2'],
-        ['--shard', '1'],
-        ['--shard', '1/2/3'],
-        ['--shard', '01/2'],
-        ['--shard', '1/100000'],
-        ['--shard'],
-        ['--shard', '1/1', '--shard', '1/1'],
-        ['--list', '--check'],
-        ['--list', '--diff'],
-        ['--check=1'],
-        ['--shard=3/2', '--', '--bogus'],
+    modes = '--list takes neither --check nor --diff beside it'
+    part = '--shard takes K/N, with K from 1 to N, at most 99999'
+    jobs = '--jobs takes a number from 1 to 9999'
+    for words, said in (
+        (['-j', '0'], jobs),
+        (['--jobs', 'x'], jobs),
+        (['--jobs'], None),
+        (['-j', '01'], jobs),
+        (['-j', '10000'], jobs),
+        (['-0', 'a.tf'], '--null takes no names on the command line'),
+        (['--shard', '0/2'], part),
+        (['--shard=3/2'], part),
+        (['--shard', '1'], part),
+        (['--shard', '1/2/3'], part),
+        (['--shard', '01/2'], part),
+        (['--shard', '1/100000'], part),
+        (['--shard'], None),
+        (['--shard', '1/1', '--shard', '1/1'], None),
+        (['--list', '--check'], modes),
+        (['--list', '--diff'], modes),
+        (['--check=1'], None),
+        (['--shard=3/2', '--', '--bogus'], part),
     ):
-        group.check('a wrong line %r' % words, program(*words, cwd=top), (2, b'', usage))
+        told = lines('tffmt-all: error: ' + said) if said else usage
+        group.check('a wrong line %r' % words, program(*words, cwd=top), (2, b'', told))
     for words, said in (
         (['--bogus'], b'--bogus'),
         (['-V'], b'-V'),

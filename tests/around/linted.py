@@ -183,8 +183,16 @@ def options(group, lint):
     group.check('--version', lint('--version', cwd=top), (0, lines('tfrules-all ' + version), b''))
     group.check('--help fits 80 columns', [line for line in out.decode().split('\n') if len(line) > 80], [])
     usage = out.split(b'\n\n')[0] + b'\n'
-    for words in (['--rules'], ['-0', 'a.tf'], ['--shard', '0/2'], ['--shard=3/2'], ['--shard', '1']):
-        group.check('a wrong line %r' % words, lint(*words, cwd=top), (1, b'', usage))
+    part = '--shard takes K/N, with K from 1 to N, at most 99999'
+    for words, said in (
+        (['--rules'], None),
+        (['-0', 'a.tf'], '--null takes no names on the command line'),
+        (['--shard', '0/2'], part),
+        (['--shard=3/2'], part),
+        (['--shard', '1'], part),
+    ):
+        told = lines('tfrules-all: error: ' + said) if said else usage
+        group.check('a wrong line %r' % words, lint(*words, cwd=top), (1, b'', told))
     for words, told in (
         (['--bogus'], '--bogus'),
         (['a.tf', '-x', '--bogus'], '-x'),

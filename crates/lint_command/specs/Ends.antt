@@ -25,7 +25,7 @@ use Rattle.lint_command.specs.Line.{Asking, Wanted, asking_of_texts}
 use Rattle.lint_command.specs.Linter.{tree_linter}
 use Rattle.lint_command.specs.LinterWords.{linter_words}
 use Rattle.lint_command.specs.declared.usage.Usage.{Usage}
-use Rattle.lint_command.specs.declared.usage.Usage.TheVariants.{Help, Version, ListRules, Explain, BadLine, UnknownRule, NoRuleLeft, BadNaming, BadSeverity, OutOfMemory}
+use Rattle.lint_command.specs.declared.usage.Usage.TheVariants.{Help, Version, ListRules, Explain, BadLine, UnknownRule, NoRuleLeft, BadNaming, BadSeverity, BadPart, NamesTwice, OutOfMemory}
 
 -- ---- what is linted
 
@@ -121,6 +121,8 @@ usage_row texts UnknownRule = fails_with tree_linter (codes "unknown rule")
 usage_row texts NoRuleLeft = fails_with tree_linter (codes "no rule is left")
 usage_row texts BadNaming = fails_with tree_linter (codes "unknown naming")
 usage_row texts BadSeverity = fails_with tree_linter (codes "unknown severity")
+usage_row texts BadPart = fails_with tree_linter (codes "--shard takes K/N, with K from 1 to N, at most 99999")
+usage_row texts NamesTwice = fails_with tree_linter (codes "--null takes no names on the command line")
 usage_row texts OutOfMemory = out_of_memory tree_linter
 
 -- it is shown, or that memory ran out

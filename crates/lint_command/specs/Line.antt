@@ -18,7 +18,7 @@ use Rattle.tfrules_command.specs.Line.{naming_asked, severity_asked, value_or}
 use Rattle.tree_command.specs.Line.{count_rule, file_rule, is_given, null_rule, others_in, shard_given, texts_in, texts_of}
 use Rattle.tree_command.specs.declared.shard.Shard.{Shard}
 use Rattle.lint_command.specs.declared.usage.Usage.{Usage}
-use Rattle.lint_command.specs.declared.usage.Usage.TheVariants.{Help, Version, ListRules, Explain, BadLine, UnknownRule, NoRuleLeft, BadNaming, BadSeverity, OutOfMemory}
+use Rattle.lint_command.specs.declared.usage.Usage.TheVariants.{Help, Version, ListRules, Explain, BadLine, UnknownRule, NoRuleLeft, BadNaming, BadSeverity, BadPart, NamesTwice, OutOfMemory}
 
 -- by what each module is linted: rules and naming, the severity from which on an issue fails the run, and whether none does
 pub record Wanted : Type 0 where
@@ -69,8 +69,8 @@ is_good null names = not null || names == 0
 
 abbrev pub asking_by : Result Wanted Usage → Bool → Option (Option Shard) → Bool → Bool → List Name → Result Asking Usage
 asking_by (Err usage) quiet shard is_good null names = Err usage
-asking_by (Ok wanted) quiet None is_good null names = Err BadLine
-asking_by (Ok wanted) quiet (Some shard) false null names = Err BadLine
+asking_by (Ok wanted) quiet None is_good null names = Err BadPart
+asking_by (Ok wanted) quiet (Some shard) false null names = Err NamesTwice
 asking_by (Ok wanted) quiet (Some shard) true null names = Ok (record { wanted = wanted; quiet = quiet; shard = shard; null = null; names = names })
 
 abbrev pub asking_with : List Row → List Name → Result Asking Usage

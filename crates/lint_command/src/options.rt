@@ -124,10 +124,10 @@ fn options_by<'a>(
         Err(usage) => return Err(usage),
     };
     let Some(shard) = shard else {
-        return Err(Usage::BadLine);
+        return Err(Usage::BadPart);
     };
     if !is_good {
-        return Err(Usage::BadLine);
+        return Err(Usage::NamesTwice);
     }
     Ok(LintOptions {
         policy,

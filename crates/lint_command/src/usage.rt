@@ -23,6 +23,10 @@ pub enum Usage {
     BadNaming,
     /// `--minimum-failure-severity` says no severity.
     BadSeverity,
+    /// `--shard` says no part.
+    BadPart,
+    /// `--null` stands beside names.
+    NamesTwice,
     /// Memory ran out.
     OutOfMemory,
 }

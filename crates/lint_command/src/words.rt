@@ -23,6 +23,11 @@ static BAD_NAMING: &str = "tfrules-all: error: unknown naming\n";
 
 static BAD_SEVERITY: &str = "tfrules-all: error: unknown severity\n";
 
+static BAD_PART: &str =
+    "tfrules-all: error: --shard takes K/N, with K from 1 to N, at most 99999\n";
+
+static NAMES_TWICE: &str = "tfrules-all: error: --null takes no names on the command line\n";
+
 /// This program as its messages have it.
 pub(crate) fn tree_linter() -> Program
     ensures { result ≡ tree_linter }
@@ -97,6 +102,8 @@ pub(crate) fn say<O: ByteSink, E: ByteSink>(
         Usage::NoRuleLeft => tree_linter().tell(out, err, NO_RULE_LEFT, 1),
         Usage::BadNaming => tree_linter().tell(out, err, BAD_NAMING, 1),
         Usage::BadSeverity => tree_linter().tell(out, err, BAD_SEVERITY, 1),
+        Usage::BadPart => tree_linter().tell(out, err, BAD_PART, 1),
+        Usage::NamesTwice => tree_linter().tell(out, err, NAMES_TWICE, 1),
         Usage::OutOfMemory => tree_linter().tell_out_of_memory(out, err),
     }
 }

@@ -109,7 +109,7 @@ const ONE: &[u8] = b"1 issue in 1 of 1 module\n";
 
 const TWO: &[u8] = b"2 issues in 1 of 1 module\n";
 
-static ROWS: [Row; 27] = [
+static ROWS: [Row; 28] = [
     // A folder stands for itself and all below, a file for its folder alone.
     Row {
         words: &[b"tfrules-all", b"a"],
@@ -297,7 +297,14 @@ static ROWS: [Row; 27] = [
         words: &[b"tfrules-all", b"--shard", b"3/2", b"a"],
         input: b"",
         out: b"",
-        err: b"usage: tfrules-all [--rules LIST] [--naming NAMING]\n                   [--minimum-failure-severity SEVERITY] [--force] [--quiet]\n                   [--shard K/N] [--null] [--] [FILE|FOLDER]...\n       tfrules-all --list-rules\n       tfrules-all --explain RULE\n",
+        err: b"tfrules-all: error: --shard takes K/N, with K from 1 to N, at most 99999\n",
+        status: 1,
+    },
+    Row {
+        words: &[b"tfrules-all", b"-0", b"a"],
+        input: b"a/main.tf",
+        out: b"",
+        err: b"tfrules-all: error: --null takes no names on the command line\n",
         status: 1,
     },
     Row {

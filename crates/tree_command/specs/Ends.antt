@@ -20,7 +20,7 @@ use Rattle.tree_command.specs.Paths.{paths_of_input, paths_of_line}
 use Rattle.tree_command.specs.Shards.{picked_of}
 use Rattle.tree_command.specs.WrongWords.{bad_line_words}
 use Rattle.tree_command.specs.declared.usage.Usage.{Usage}
-use Rattle.tree_command.specs.declared.usage.Usage.TheVariants.{Help, Version, BadLine, OutOfMemory}
+use Rattle.tree_command.specs.declared.usage.Usage.TheVariants.{Help, Version, BadLine, TwoModes, BadPart, BadJobs, NamesTwice, OutOfMemory}
 
 abbrev pub read_failed : Row
 read_failed = fails_with formatter (codes "read failed")
@@ -81,6 +81,10 @@ abbrev pub usage_row : List Text → Usage → Row
 usage_row texts Help = output_row help_text 0
 usage_row texts Version = output_row version_line 0
 usage_row texts BadLine = message_row (bad_line_words formatter_words texts) 2
+usage_row texts TwoModes = message_row (codes "tffmt-all: error: --list takes neither --check nor --diff beside it\n") 2
+usage_row texts BadPart = message_row (codes "tffmt-all: error: --shard takes K/N, with K from 1 to N, at most 99999\n") 2
+usage_row texts BadJobs = message_row (codes "tffmt-all: error: --jobs takes a number from 1 to 9999\n") 2
+usage_row texts NamesTwice = message_row (codes "tffmt-all: error: --null takes no names on the command line\n") 2
 usage_row texts OutOfMemory = out_of_memory formatter
 
 -- it is shown, or that memory ran out

@@ -18,7 +18,7 @@ use Rattle.tree_format.specs.declared.mode.Mode.{Mode}
 use Rattle.tree_format.specs.declared.mode.Mode.TheVariants.{Write, Check, List as Listed, Diff}
 use Rattle.tree_command.specs.declared.shard.Shard.{Shard}
 use Rattle.tree_command.specs.declared.usage.Usage.{Usage}
-use Rattle.tree_command.specs.declared.usage.Usage.TheVariants.{Help, Version, BadLine, OutOfMemory}
+use Rattle.tree_command.specs.declared.usage.Usage.TheVariants.{Help, Version, BadLine, TwoModes, BadPart, BadJobs, NamesTwice, OutOfMemory}
 
 -- what a line gives that is never wrong by itself: whether names are read from standard input, whether nothing is said of the
 -- run as a whole, whether a file that is named is taken whatever it is called, what is excluded, and the names of the line
@@ -134,15 +134,15 @@ shard_given (Some text) = option_map Some (shard_in text)
 
 -- ---- the line
 
-abbrev pub asking_by : Option Mode → Option (Option Shard) → Bool → Given → Result Asking Usage
-asking_by None shard is_good given = Err BadLine
-asking_by (Some mode) None is_good given = Err BadLine
-asking_by (Some mode) (Some shard) false given = Err BadLine
-asking_by (Some mode) (Some shard) true given = Ok (record { mode = mode; shard = shard; given = given })
-
 -- names come from the line or from standard input, and not from both
-abbrev pub is_good : Given → Bool → Bool
-is_good given are_jobs = are_jobs && (not given.null || length given.names == 0)
+abbrev pub has_names_twice : Given → Bool
+has_names_twice given = given.null && not (length given.names == 0)
+
+abbrev pub asking_by : Option Mode → Option (Option Shard) → Bool → Given → Result Asking Usage
+asking_by None shard are_jobs given = Err TwoModes
+asking_by (Some mode) None are_jobs given = Err BadPart
+asking_by (Some mode) (Some shard) false given = Err BadJobs
+asking_by (Some mode) (Some shard) true given = if has_names_twice given then Err NamesTwice else Ok (record { mode = mode; shard = shard; given = given })
 
 -- the names of a line are those that clap finds, and then the other ones
 abbrev pub given_by : List Name → List Row → Given
@@ -156,7 +156,7 @@ given_by others rows = record {
 
 abbrev pub asking_with : List Row → Given → Result Asking Usage
 asking_with rows given =
-    asking_by (mode_asked rows) (shard_given (first_of (codes "shard") rows)) (is_good given (list_all is_jobs (texts_of (codes "jobs") rows))) given
+    asking_by (mode_asked rows) (shard_given (first_of (codes "shard") rows)) (list_all is_jobs (texts_of (codes "jobs") rows)) given
 
 abbrev pub asking_of_rows : List Name → List Row → Result Asking Usage
 asking_of_rows others rows = if is_given (codes "version") rows then Err Version else asking_with rows (given_by others rows)

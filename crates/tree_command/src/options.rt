@@ -6,7 +6,7 @@ ghost use Rattle.std.specs.List.{list_all};
 ghost use Rattle.std.specs.Option.{option_map_or};
 ghost use Rattle.clap.specs.Words.{app_of, first_of, found_of, rows_of, rule_of};
 ghost use Rattle.tree_command.specs.Asked.{asked_by, given_of};
-ghost use Rattle.tree_command.specs.Line.{asking_by, asking_of_rows, asking_of_texts, asking_with, count_rule, ending_by, exclude_rule, file_rule, given_by, is_given, is_good, is_jobs, is_number, jobs_rule, mode_asked, mode_by, mode_of_texts, null_rule, number_in, shard_by, shard_given, shard_in, texts_of, tffmt_all};
+ghost use Rattle.tree_command.specs.Line.{asking_by, asking_of_rows, asking_of_texts, asking_with, count_rule, ending_by, exclude_rule, file_rule, given_by, has_names_twice, is_given, is_jobs, is_number, jobs_rule, mode_asked, mode_by, mode_of_texts, null_rule, number_in, shard_by, shard_given, shard_in, texts_of, tffmt_all};
 ghost use Rattle.tree_command.specs.declared.usage.Usage.TheVariants.{OutOfMemory};
 
 use crate::shard::Shard;
@@ -265,31 +265,34 @@ pub fn shard_of(matches: &ArgMatches<'_>) -> Option<Option<Shard>>
     shard_given(matches.get_str("shard"))
 }
 
-/// Whether names come from the line or from standard input, and not from both, and the numbers of jobs are numbers.
-fn is_good(given: &Given<'_>, are_jobs: bool) -> bool
-    ensures { result ≡ is_good (given_of given.now) are_jobs }
+/// Whether names are to come from standard input and stand on the line too.
+fn has_names_twice(given: &Given<'_>) -> bool
+    ensures { result ≡ has_names_twice (given_of given.now) }
 {
-    are_jobs && (!given.null || given.names.is_empty())
+    given.null && !given.names.is_empty()
 }
 
 /// The options of these parts of a line.
 fn options_by<'a>(
     mode: Option<Mode>,
     shard: Option<Option<Shard>>,
-    is_good: bool,
+    are_jobs: bool,
     given: Given<'a>,
 ) -> Result<TreeOptions<'a>, Usage>
-    ensures asked { asked_by result ≡ asking_by mode shard is_good (given_of given.entry) }
+    ensures asked { asked_by result ≡ asking_by mode shard are_jobs (given_of given.entry) }
     ensures mode { IfOk result (λ options. mode ≡ Some options.mode) }
 {
     let Some(mode) = mode else {
-        return Err(Usage::BadLine);
+        return Err(Usage::TwoModes);
     };
     let Some(shard) = shard else {
-        return Err(Usage::BadLine);
+        return Err(Usage::BadPart);
     };
-    if !is_good {
-        return Err(Usage::BadLine);
+    if !are_jobs {
+        return Err(Usage::BadJobs);
+    }
+    if has_names_twice(&given) {
+        return Err(Usage::NamesTwice);
     }
     Ok(TreeOptions { mode, shard, given })
 }
@@ -303,8 +306,7 @@ fn options_with<'a>(given: Given<'a>, matches: &ArgMatches<'a>) -> Result<TreeOp
 {
     let mode = mode_of(matches);
     let shard = shard_of(matches);
-    let is_good = is_good(&given, are_jobs_good(matches));
-    options_by(mode, shard, is_good, given)
+    options_by(mode, shard, are_jobs_good(matches), given)
 }
 
 /// The names of a line: those that clap found, and the others.

@@ -17,7 +17,7 @@ use crate::formatter_words::formatter_words;
 use crate::options::{TreeOptions, options};
 use crate::part::{Part, part_of};
 use crate::pick::pick;
-use crate::usage::{HELP, Usage, VERSION};
+use crate::usage::{BAD_JOBS, BAD_PART, HELP, NAMES_TWICE, TWO_MODES, Usage, VERSION};
 use crate::words::words_of;
 use crate::wrong::bad_line_text;
 use command_line::Program;
@@ -298,6 +298,10 @@ fn say<O: ByteSink, E: ByteSink>(
         Usage::Help => formatter().deliver(out, err, HELP, 0),
         Usage::Version => formatter().deliver(out, err, VERSION, 0),
         Usage::BadLine => bad_line(alloc, words, out, err),
+        Usage::TwoModes => formatter().tell(out, err, TWO_MODES, 2),
+        Usage::BadPart => formatter().tell(out, err, BAD_PART, 2),
+        Usage::BadJobs => formatter().tell(out, err, BAD_JOBS, 2),
+        Usage::NamesTwice => formatter().tell(out, err, NAMES_TWICE, 2),
         Usage::OutOfMemory => formatter().tell_out_of_memory(out, err),
     }
 }

@@ -9,6 +9,14 @@ pub enum Usage {
     Version,
     /// The words are no line of this program.
     BadLine,
+    /// `--list` stands beside `--check` or `--diff`.
+    TwoModes,
+    /// `--shard` says no part.
+    BadPart,
+    /// `--jobs` says no number of jobs.
+    BadJobs,
+    /// `--null` stands beside names.
+    NamesTwice,
     /// Memory ran out.
     OutOfMemory,
 }
@@ -19,6 +27,17 @@ usage: tffmt-all [--check | --diff | --list] [--in-place] [--sync] [--quiet]
                  [--shard K/N] [--exclude PATH]... [--any-name] [--null] [--]
                  [FILE|FOLDER]...
 ";
+
+pub(crate) static TWO_MODES: &str =
+    "tffmt-all: error: --list takes neither --check nor --diff beside it\n";
+
+pub(crate) static BAD_PART: &str =
+    "tffmt-all: error: --shard takes K/N, with K from 1 to N, at most 99999\n";
+
+pub(crate) static BAD_JOBS: &str = "tffmt-all: error: --jobs takes a number from 1 to 9999\n";
+
+pub(crate) static NAMES_TWICE: &str =
+    "tffmt-all: error: --null takes no names on the command line\n";
 
 /// What `--version` says.
 pub static VERSION: &str = "tffmt-all 0.3.0\n";

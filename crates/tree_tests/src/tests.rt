@@ -56,22 +56,34 @@ fn shows_text(rt: &impl Abort, alloc: Global, words: Words, text: Text) {
     shows(rt, alloc, &row);
 }
 
-static BAD_WORDS: [Words; 9] = [
-    &["tffmt-all", "--check", "--list"],
-    &["tffmt-all", "--diff", "--list", "a.tf"],
-    &["tffmt-all", "--shard"],
-    &["tffmt-all", "--shard", "0/2"],
-    &["tffmt-all", "--shard", "3/2"],
-    &["tffmt-all", "--shard", "1"],
-    &["tffmt-all", "-0", "a.tf"],
-    &["tffmt-all", "--jobs", "x"],
-    &["tffmt-all", "--list", "--check", "--diff"],
+const TWO_MODES: &str = "tffmt-all: error: --list takes neither --check nor --diff beside it\n";
+
+const BAD_PART: &str = "tffmt-all: error: --shard takes K/N, with K from 1 to N, at most 99999\n";
+
+const BAD_JOBS: &str = "tffmt-all: error: --jobs takes a number from 1 to 9999\n";
+
+const NAMES_TWICE: &str = "tffmt-all: error: --null takes no names on the command line\n";
+
+static BAD_WORDS: [(Words, &str); 13] = [
+    (&["tffmt-all", "--check", "--list"], TWO_MODES),
+    (&["tffmt-all", "--diff", "--list", "a.tf"], TWO_MODES),
+    (&["tffmt-all", "--list", "--check", "--diff"], TWO_MODES),
+    (&["tffmt-all", "--shard"], USAGE),
+    (&["tffmt-all", "--shard", "0/2"], BAD_PART),
+    (&["tffmt-all", "--shard", "3/2"], BAD_PART),
+    (&["tffmt-all", "--shard", "1"], BAD_PART),
+    (&["tffmt-all", "--shard=", "--jobs", "x"], BAD_PART),
+    (&["tffmt-all", "--jobs", "x"], BAD_JOBS),
+    (&["tffmt-all", "-j", "0"], BAD_JOBS),
+    (&["tffmt-all", "-j10000", "-j2"], BAD_JOBS),
+    (&["tffmt-all", "-0", "-jx", "a.tf"], BAD_JOBS),
+    (&["tffmt-all", "-0", "a.tf"], NAMES_TWICE),
 ];
 
 #[test]
 fn bad_words_look_at_nothing(rt: HostRuntime) {
-    for words in &BAD_WORDS {
-        shows_text(&rt, rt.alloc(), words, ("", USAGE, 2));
+    for (words, told) in &BAD_WORDS {
+        shows_text(&rt, rt.alloc(), words, ("", told, 2));
     }
 }
 
@@ -208,7 +220,7 @@ fn a_name_that_is_not_utf8_is_told(rt: HostRuntime) {
     );
     let words: [&[u8]; 2] = [b"\xff", b"-\xff"];
     shows_bytes(&rt, rt.alloc(), &words, SMALL, alone);
-    let listed = (b"".as_slice(), USAGE.as_bytes(), 2);
+    let listed = (b"".as_slice(), NAMES_TWICE.as_bytes(), 2);
     let words: [&[u8]; 3] = [b"tffmt-all", b"--null", b"\xff"];
     shows_bytes(&rt, rt.alloc(), &words, SMALL, listed);
 }

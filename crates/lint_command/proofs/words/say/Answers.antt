@@ -1,5 +1,5 @@
 use Rattle.std.proofs.Common.{map}
-use Rattle.lint_command.specs.declared.usage.Usage.TheVariants.{BadNaming, BadSeverity, Explain, Help, ListRules, NoRuleLeft, UnknownRule, Version}
+use Rattle.lint_command.specs.declared.usage.Usage.TheVariants.{BadNaming, BadPart, BadSeverity, Explain, Help, ListRules, NamesTwice, NoRuleLeft, UnknownRule, Version}
 use Rattle.lint_command.proofs.UsageLemmas.{memory_shown, shown_as, shows_usage}
 use Rattle.lint_command.proofs.words.say.Goals as goal
 
@@ -27,6 +27,12 @@ returns-in-BadNaming g c = shows_usage (map (λ word. word.now) c.args.words.now
 
 pub returns-in-BadSeverity : goal.returns-in-BadSeverity
 returns-in-BadSeverity g c = shows_usage (map (λ word. word.now) c.args.words.now) c.args.usage BadSeverity c.tree_linter-in-BadSeverity.result _ c.in-BadSeverity.is c.tree_linter-in-BadSeverity.ensures c.tell-in-BadSeverity.ensures
+
+pub returns-in-BadPart : goal.returns-in-BadPart
+returns-in-BadPart g c = shows_usage (map (λ word. word.now) c.args.words.now) c.args.usage BadPart c.tree_linter-in-BadPart.result _ c.in-BadPart.is c.tree_linter-in-BadPart.ensures c.tell-in-BadPart.ensures
+
+pub returns-in-NamesTwice : goal.returns-in-NamesTwice
+returns-in-NamesTwice g c = shows_usage (map (λ word. word.now) c.args.words.now) c.args.usage NamesTwice c.tree_linter-in-NamesTwice.result _ c.in-NamesTwice.is c.tree_linter-in-NamesTwice.ensures c.tell-in-NamesTwice.ensures
 
 pub returns-in-OutOfMemory : goal.returns-in-OutOfMemory
 returns-in-OutOfMemory g c = memory_shown (map (λ word. word.now) c.args.words.now) c.args.usage c.tree_linter-in-OutOfMemory.result _ c.tree_linter-in-OutOfMemory.ensures c.tell_out_of_memory.ensures
