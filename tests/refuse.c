@@ -48,6 +48,7 @@ static const char *const kind_names[] = {"memory", "open",  "read", "write", "st
                                          "chmod",  "owner", "sync", "seek",  "truncate", "follow", "any"};
 
 typedef int open_function(const char *, int, ...);
+typedef int openat_function(int, const char *, int, ...);
 typedef ssize_t read_function(int, void *, size_t);
 typedef ssize_t write_function(int, const void *, size_t);
 typedef int statx_function(int, const char *, int, unsigned int, struct statx *);
@@ -62,6 +63,7 @@ typedef int truncate_function(int, off_t);
 typedef ssize_t readlink_function(const char *, char *, size_t);
 
 static open_function *real_open;
+static openat_function *real_openat;
 static read_function *real_read;
 static write_function *real_write;
 static statx_function *real_statx;
@@ -229,6 +231,7 @@ static void find_real(void) {
         real_seek = (seek_function *)dlsym(RTLD_NEXT, "lseek");
         real_truncate = (truncate_function *)dlsym(RTLD_NEXT, "ftruncate");
         real_readlink = (readlink_function *)dlsym(RTLD_NEXT, "readlink");
+        real_openat = (openat_function *)dlsym(RTLD_NEXT, "openat");
         real_write = (write_function *)dlsym(RTLD_NEXT, "write");
     }
 }
@@ -254,6 +257,16 @@ int open(const char *path, int flags, ...) {
     char name[4200];
     tell_call("open %s %o %o\n", path_name(path, name), flags & (O_ACCMODE | O_CREAT | O_EXCL | O_TRUNC), mode);
     return is_refused(OPEN, EACCES) ? -1 : real_open(path, flags, mode);
+}
+
+/* So a folder is opened for its names. */
+int openat(int folder, const char *path, int flags, ...) {
+    va_list rest;
+    va_start(rest, flags);
+    mode_t mode = flags & O_CREAT ? va_arg(rest, mode_t) : 0;
+    va_end(rest);
+    find_real();
+    return is_refused(OPEN, EACCES) ? -1 : real_openat(folder, path, flags, mode);
 }
 
 ssize_t read(int from, void *into, size_t size) {

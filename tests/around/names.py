@@ -15,7 +15,7 @@ from harness import BAD, GOOD, NOBODY, OTHER, lines, put
 NAMES = 1000
 LONGEST = 4095
 # Calls that are made again where a signal interrupts them.
-AGAIN = 'open', 'read', 'write', 'list', 'rename', 'chmod', 'owner', 'sync', 'truncate'
+AGAIN = 'open', 'read', 'write', 'stat', 'list', 'rename', 'chmod', 'owner', 'sync', 'seek', 'follow'
 
 
 def other_folders(group):
@@ -112,15 +112,26 @@ def interrupted(group):
         wrong, number = [], 0
         for number in range(1, MOST):
             top = group.fresh()
-            put(top, {'in/a.tf': b'a  =  1\n', 'b.tf': BAD})
+            put(top, {'in/a.tf': b'a  =  1\n', 'b.tf': BAD, 'c.tf': b'->far/c', 'far/c': OTHER})
             if os.getuid() == 0:
                 os.chown(str(top / 'in' / 'a.tf'), 12345, 12346)
             shown, reached, _ = attacked(group, ['--sync'], top, kind, REFUSE=str(number), REASON=str(errno.EINTR))
             if not reached:
                 break
-            if shown[:2] != (2, lines('in/a.tf')) or contents(top)['in/a.tf'] != GOOD:
+            if shown[:2] != (2, lines('c.tf', 'in/a.tf')) or contents(top)['in/a.tf'] != GOOD:
                 wrong.append((number, shown))
         group.check('%s, interrupted' % kind, wrong, [])
+        group.holds('a call of %s is made' % kind, number > 1, number)
+    for kind, words in (('unlink', []), ('truncate', ['--in-place'])):
+        top = group.fresh()
+        put(top, {'a.tf': b'a  =  1\n'})
+        setting = dict(REFUSE='1', REASON=str(errno.EINTR), DENIED='rename')
+        shown, reached, _ = attacked(group, words, top, kind, **setting)
+        group.check(
+            '%s, interrupted' % kind,
+            (shown[0], reached, contents(top)),
+            ((0, b'trun', {'a.tf': GOOD}) if words else (4, b'unli', {'a.tf': b'a  =  1\n'})),
+        )
 
 
 def groups(group):
@@ -158,11 +169,11 @@ def too_large(group):
 
 def run(group):
     if not os.access(group.trees, os.X_OK):
-        group.skip('names', 25, 'bin/tffmt-all is not built')
+        group.skip('names', 40, 'bin/tffmt-all is not built')
         return
     for part in (other_folders, long_paths, taken_names, too_large):
         part(group)
-    if group.has('gcc', checks=len(AGAIN)):
+    if group.has('gcc', checks=2 * len(AGAIN) + 2):
         interrupted(group)
     if os.getuid() == 0:
         groups(group)

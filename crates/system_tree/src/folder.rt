@@ -1,9 +1,9 @@
 //! A folder that is held open, so that a file in it is opened, made, compared and renamed there whatever its path leads to
 //! by then.
 
+use crate::patient;
 use file_tree::fault::TreeFault;
 use file_tree::kind::Identity;
-use std::fs;
 use std::fs::{File, Metadata};
 use std::io::ErrorKind;
 use std::os::fd::AsRawFd;
@@ -48,13 +48,13 @@ fn whole(path: &str) -> &str {
 
 /// What a path leads to by now, if that is a folder. Its last part is a link only where the caller named the folder by it.
 fn found_at(rt: &HostRuntime, path: &str, linked: &[Identity]) -> Result<Metadata, TreeFault> {
-    let Ok(metadata) = fs::symlink_metadata(rt, bare(path)) else {
+    let Ok(metadata) = patient::symlink_metadata(rt, bare(path)) else {
         return Err(TreeFault::Changed);
     };
     if !metadata.is_symlink() {
         return Ok(metadata);
     }
-    let Ok(metadata) = fs::metadata(rt, whole(path)) else {
+    let Ok(metadata) = patient::metadata(rt, whole(path)) else {
         return Err(TreeFault::Changed);
     };
     if linked.contains(&identity_of(&metadata)) {
@@ -67,7 +67,7 @@ fn found_at(rt: &HostRuntime, path: &str, linked: &[Identity]) -> Result<Metadat
 /// What stands before names that go by a handle. The number of the process is found quicker than `self`.
 fn front_of(rt: &HostRuntime, handle: &File) -> Result<String, TreeFault> {
     let number = handle.as_raw_fd();
-    let front = match fs::read_link(rt, "/proc/self") {
+    let front = match patient::read_link(rt, "/proc/self") {
         Ok(own) => {
             let own = own.to_string_lossy();
             format!(in rt.alloc(); "/proc/{own}/fd/{number}/")
@@ -112,7 +112,7 @@ impl Folder {
         metadata: Metadata,
     ) -> Result<Folder, TreeFault> {
         let front = front_of(rt, &handle)?;
-        match fs::metadata(rt, front.as_str()) {
+        match patient::metadata(rt, front.as_str()) {
             Ok(there) if identity_of(&there) == identity_of(&metadata) => {}
             _ => return Folder::by_path(rt, path, Some(handle), metadata),
         }
@@ -132,7 +132,7 @@ impl Folder {
     pub fn open(rt: &HostRuntime, path: &str, linked: &[Identity]) -> Result<Folder, TreeFault> {
         let metadata = found_at(rt, path, linked)?;
         match File::open(rt, whole(path)) {
-            Ok(handle) => match handle.metadata() {
+            Ok(handle) => match patient::open_metadata(&handle) {
                 Ok(held) if identity_of(&held) == identity_of(&metadata) => {
                     Folder::by_handle(rt, path, handle, metadata)
                 }

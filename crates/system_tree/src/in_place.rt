@@ -1,8 +1,9 @@
 //! The bytes of a file that is open, compared and written over.
 
+use crate::patient;
 use file_tree::fault::TreeFault;
 use std::fs::File;
-use std::io::{ErrorKind, Read, Seek, Write};
+use std::io::{ErrorKind, Read, Write};
 
 /// Whether a file of this length has these bytes from where it is read on.
 fn has_rest(file: &mut File, bytes: &[u8], length: u64) -> bool {
@@ -30,12 +31,12 @@ fn has_rest(file: &mut File, bytes: &[u8], length: u64) -> bool {
 
 /// Whether a file of this length has these bytes.
 pub fn has_bytes(file: &mut File, bytes: &[u8], length: u64) -> bool {
-    file.rewind().is_ok() && has_rest(file, bytes, length)
+    patient::rewind(file).is_ok() && has_rest(file, bytes, length)
 }
 
 /// Writes new bytes over the old ones.
 pub fn write_over(file: &mut File, old: &[u8], new: &[u8], sync: bool) -> Result<(), TreeFault> {
-    if file.rewind().is_err() {
+    if patient::rewind(file).is_err() {
         return Err(TreeFault::NotWritable);
     }
     let is_whole = file.write_all(new).is_ok()

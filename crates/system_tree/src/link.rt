@@ -1,8 +1,8 @@
 //! What links lead to, by paths that go on from where the link stands: the path of the current folder isn't needed, which
 //! may have other bytes than UTF-8.
 
+use crate::patient;
 use file_tree::fault::TreeFault;
-use std::fs;
 
 /// How many links are followed at most, as by the system.
 const LINKS: u32 = 40;
@@ -17,7 +17,7 @@ pub fn parted(path: &str) -> (&str, &str) {
 
 /// A path to what a link has.
 fn target(rt: &HostRuntime, link: &str) -> Result<String, TreeFault> {
-    let Ok(target) = fs::read_link(rt, link) else {
+    let Ok(target) = patient::read_link(rt, link) else {
         return Err(TreeFault::EndlessLink);
     };
     let Some(target) = target.to_str() else {
@@ -37,7 +37,7 @@ pub fn followed(rt: &HostRuntime, path: &str) -> Result<String, TreeFault> {
         return Err(TreeFault::OutOfMemory);
     };
     for _ in 0..LINKS {
-        match fs::symlink_metadata(rt, path.as_str()) {
+        match patient::symlink_metadata(rt, path.as_str()) {
             Ok(metadata) if metadata.is_symlink() => path = target(rt, path.as_str())?,
             Ok(_) => return Ok(path),
             Err(_) => return Err(TreeFault::Unreadable),

@@ -3,21 +3,18 @@
 use crate::folder::{Folder, identity_of};
 use crate::in_place::{has_bytes, write_over};
 use crate::link::parted;
+use crate::patient;
 use file_tree::fault::TreeFault;
 use file_tree::kind::Identity;
 use file_tree::mode::new_mode;
 use file_tree::tree::{Replaced, Writing};
 use std::fs::{File, Metadata, OpenOptions, Permissions};
 use std::io::{ErrorKind, Write};
-use std::os::unix::fs::{MetadataExt, OpenOptionsExt, PermissionsExt, fchown};
+use std::os::unix::fs::{MetadataExt, OpenOptionsExt, PermissionsExt};
 use std::time::SystemTime;
-use std::{fs, io};
 
 /// How many names are tried for the new file.
 const TRIES: u32 = 1_000;
-
-/// How often a call is tried that a signal interrupts.
-const TURNS: u32 = 1_000;
 
 /// The bytes that a file is to have still, and those that it gets.
 #[derive(Clone, Copy)]
@@ -42,34 +39,6 @@ struct Beside {
     file: File,
 }
 
-fn is_interrupted(error: &io::Error) -> bool {
-    error.kind() == ErrorKind::Interrupted
-}
-
-/// Gives a file an owner, if any, and a group.
-fn give(made: &File, owner: Option<u32>, group: u32) -> bool {
-    for _ in 0..TURNS {
-        match fchown(made, owner, Some(group)) {
-            Ok(()) => return true,
-            Err(error) if is_interrupted(&error) => {}
-            Err(_) => return false,
-        }
-    }
-    false
-}
-
-/// Renames a file.
-fn rename(rt: &HostRuntime, from: &str, to: &str) -> bool {
-    for _ in 0..TURNS {
-        match fs::rename(rt, from, to) {
-            Ok(()) => return true,
-            Err(error) if is_interrupted(&error) => {}
-            Err(_) => return false,
-        }
-    }
-    false
-}
-
 /// What a new file has of the old one.
 #[derive(Clone, Copy, PartialEq, Eq)]
 struct Kept {
@@ -87,7 +56,7 @@ fn give_owner(made: &File, own: &Metadata, old: &Metadata, folder: &Folder) -> K
             group: true,
         };
     }
-    if folder.may_own(own.uid(), uid) && give(made, Some(uid), gid) {
+    if folder.may_own(own.uid(), uid) && patient::give(made, Some(uid), gid).is_ok() {
         return Kept {
             owner: true,
             group: true,
@@ -95,7 +64,7 @@ fn give_owner(made: &File, own: &Metadata, old: &Metadata, folder: &Folder) -> K
     }
     Kept {
         owner: own.uid() == uid,
-        group: own.gid() == gid || give(made, None, gid),
+        group: own.gid() == gid || patient::give(made, None, gid).is_ok(),
     }
 }
 
@@ -108,7 +77,7 @@ fn fill(
     new: &[u8],
     sync: bool,
 ) -> Result<bool, TreeFault> {
-    let Ok(own) = made.metadata() else {
+    let Ok(own) = patient::open_metadata(made) else {
         return Err(TreeFault::NotWritten);
     };
     if !folder.is_safe(own.uid()) {
@@ -146,7 +115,7 @@ fn is_unchanged(rt: &HostRuntime, file: &mut File, old: &Old<'_>) -> bool {
     if !has_bytes(file, old.bytes, old.metadata.len()) {
         return false;
     }
-    match fs::symlink_metadata(rt, old.path) {
+    match patient::symlink_metadata(rt, old.path) {
         Ok(now) => is_same(&now, &old.metadata),
         Err(_) => false,
     }
@@ -166,7 +135,7 @@ fn put(
     if !is_unchanged(rt, file, old) {
         return Err(TreeFault::Changed);
     }
-    if !rename(rt, beside.path.as_str(), old.path) {
+    if patient::rename(rt, beside.path.as_str(), old.path).is_err() {
         return Err(TreeFault::NotReplaced);
     }
     Ok(if has_group {
@@ -212,7 +181,7 @@ fn make_new(rt: &HostRuntime, folder: &Folder) -> Result<Option<Beside>, TreeFau
 
 /// Whether a file was left by a run of the caller that was cut off before this one began.
 fn is_left(rt: &HostRuntime, path: &str, caller: u32, began: SystemTime) -> bool {
-    let Ok(metadata) = fs::symlink_metadata(rt, path) else {
+    let Ok(metadata) = patient::symlink_metadata(rt, path) else {
         return false;
     };
     let Ok(changed) = metadata.modified() else {
@@ -223,7 +192,7 @@ fn is_left(rt: &HostRuntime, path: &str, caller: u32, began: SystemTime) -> bool
 
 /// The user of this process, where there is a `/proc`.
 fn caller(rt: &HostRuntime) -> Option<u32> {
-    match fs::metadata(rt, "/proc/self") {
+    match patient::metadata(rt, "/proc/self") {
         Ok(metadata) => Some(metadata.uid()),
         Err(_) => None,
     }
@@ -241,7 +210,7 @@ fn make_over(
     for number in 0..TRIES {
         let path = path_beside(rt, folder, number)?;
         if is_left(rt, path.as_str(), caller, began)
-            && fs::remove_file(rt, path.as_str()).is_ok()
+            && patient::remove_file(rt, path.as_str()).is_ok()
             && let Some(beside) = make_at(rt, path)?
         {
             return Ok(Some(beside));
@@ -276,7 +245,7 @@ fn replace_by_new(
         Ok(_) if sync && !folder.sync() => Err(TreeFault::NotSynced),
         Ok(replaced) => Ok(replaced),
         Err(fault) => {
-            let _ = fs::remove_file(rt, beside.path.as_str());
+            let _ = patient::remove_file(rt, beside.path.as_str());
             Err(fault)
         }
     }
@@ -303,7 +272,7 @@ pub fn replace(
     let Ok(mut file) = OpenOptions::new().read(true).write(true).open(rt, path) else {
         return Err(TreeFault::NotWritable);
     };
-    let Ok(metadata) = file.metadata() else {
+    let Ok(metadata) = patient::open_metadata(&file) else {
         return Err(TreeFault::Unreadable);
     };
     if identity_of(&metadata) != read {

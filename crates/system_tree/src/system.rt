@@ -7,16 +7,16 @@ ghost use Rattle.file_tree.specs.Files.{silent};
 use crate::folder::{Folder, identity_of};
 use crate::link::{parted, real_path};
 use crate::new_file::{Texts, replace};
+use crate::patient;
 use file_tree::fault::TreeFault;
 use file_tree::kind::{Identity, Kind};
 use file_tree::path::tidy;
 use file_tree::tree::{Replaced, Tree, WritableTree, Writing};
 use hcl_source::{ByteSource, Failed};
 use std::fs::{File, Metadata};
+use std::io;
 use std::io::{ErrorKind, Read};
-use std::rt::Files;
 use std::time::SystemTime;
-use std::{fs, io};
 
 /// How often a read is tried that a signal interrupts.
 const TURNS: u32 = 1_000;
@@ -164,7 +164,7 @@ impl SystemTree {
 
     /// Why a name has no metadata.
     fn metadata_fault(&self, name: &str, error: &io::Error) -> TreeFault {
-        match fs::symlink_metadata(&self.rt, name) {
+        match patient::symlink_metadata(&self.rt, name) {
             Ok(metadata) if metadata.is_symlink() => link_fault(error.kind()),
             Err(_) if name == "-" => TreeFault::NoInput,
             _ => match error.kind() {
@@ -175,7 +175,7 @@ impl SystemTree {
     }
 
     fn kind_of(&self, name: &str) -> Result<Kind, TreeFault> {
-        match fs::metadata(&self.rt, name) {
+        match patient::metadata(&self.rt, name) {
             Ok(metadata) => Ok(kind_in(&metadata)),
             Err(error) => Err(self.metadata_fault(name, &error)),
         }
@@ -183,12 +183,12 @@ impl SystemTree {
 
     /// Notes the folder of a path, if the last part of the path is a link.
     fn note_link(&mut self, path: &str) -> Result<(), TreeFault> {
-        match fs::symlink_metadata(&self.rt, path) {
+        match patient::symlink_metadata(&self.rt, path) {
             Ok(metadata) if metadata.is_symlink() => {}
             Ok(_) => return Ok(()),
             Err(error) => return Err(self.metadata_fault(path, &error)),
         }
-        match fs::metadata(&self.rt, path) {
+        match patient::metadata(&self.rt, path) {
             Ok(metadata) => match self.linked.push(identity_of(&metadata)) {
                 Ok(()) => Ok(()),
                 Err(_) => Err(TreeFault::OutOfMemory),
@@ -226,7 +226,7 @@ impl SystemTree {
 
     fn entry_kind_of(&self, name: &[u8]) -> Result<Kind, TreeFault> {
         let name = text_of(name)?;
-        match fs::symlink_metadata(&self.rt, name) {
+        match patient::symlink_metadata(&self.rt, name) {
             Ok(metadata) => Ok(kind_in(&metadata)),
             Err(error) => Err(self.metadata_fault(name, &error)),
         }
@@ -235,7 +235,7 @@ impl SystemTree {
     fn names_in(&mut self, folder: &[u8]) -> Result<Vec<u8>, TreeFault> {
         self.is_walking = true;
         let folder = text_of(folder)?;
-        let mut dir = match self.rt.open_dir(folder) {
+        let mut dir = match patient::open_dir(&self.rt, folder) {
             Ok(dir) => dir,
             Err(error) if error.kind() == ErrorKind::NotFound => return Err(TreeFault::Missing),
             Err(_) => return Err(TreeFault::UnreadableFolder),
@@ -259,7 +259,7 @@ impl SystemTree {
 
     /// Whether a name is a link to a file, if it leads to one.
     fn is_linked_file(&self, name: &str) -> Result<bool, TreeFault> {
-        let (kind, is_linked) = match fs::symlink_metadata(&self.rt, name) {
+        let (kind, is_linked) = match patient::symlink_metadata(&self.rt, name) {
             Ok(metadata) if !metadata.is_symlink() => (kind_in(&metadata), false),
             Ok(_) => (self.kind_of(name)?, true),
             Err(error) => return Err(self.metadata_fault(name, &error)),
@@ -278,7 +278,7 @@ impl SystemTree {
         let name = text_of(name)?;
         let is_linked = self.is_linked_file(name)?;
         match File::open(&self.rt, name) {
-            Ok(file) => match file.metadata() {
+            Ok(file) => match patient::open_metadata(&file) {
                 Ok(metadata) if metadata.is_file() => {
                     let identity = identity_of(&metadata);
                     self.opened = Some(Opened {
