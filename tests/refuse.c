@@ -11,6 +11,7 @@
    SAVE_BY=HOW   in place, where it isn't set, or by `rename`
    DENIED=KIND   all calls of this kind are refused besides, which aren't counted
    EXCHANGE=NAME no call is refused: before the Nth, this name and the name FOR are exchanged, by one call
+   WAIT_FD=FD    no call is refused: the Nth waits for a byte from there, and with FROM_THEN each from then on
    CALLS_FD=FD   each call on a file is written there, one a line: its kind, the names of files, and the numbers that it is
                  given; a file that is open by the name that it has then, and of a write also its mode
    TIMES_FD=FD   before the bytes of an old file are compared, a line is written there: when that is, as the monotonic
@@ -42,10 +43,10 @@ extern void *__libc_realloc(void *, size_t);
 extern void *__libc_memalign(size_t, size_t);
 extern void __libc_free(void *);
 
-enum kind { MEMORY, OPEN, READ, WRITE, STAT, LIST, RENAME, UNLINK, CHMOD, OWNER, SYNC, SEEK, TRUNCATE, FOLLOW, ANY };
+enum kind { MEMORY, OPEN, READ, WRITE, STAT, LIST, RENAME, UNLINK, CHMOD, OWNER, SYNC, SEEK, TRUNCATE, FOLLOW, LOCK, ANY };
 
 static const char *const kind_names[] = {"memory", "open",  "read", "write", "stat",     "list",   "rename", "unlink",
-                                         "chmod",  "owner", "sync", "seek",  "truncate", "follow", "any"};
+                                         "chmod",  "owner", "sync", "seek",  "truncate", "follow", "lock",   "any"};
 
 typedef int open_function(const char *, int, ...);
 typedef int openat_function(int, const char *, int, ...);
@@ -61,6 +62,7 @@ typedef int sync_function(int);
 typedef off_t seek_function(int, off_t, int);
 typedef int truncate_function(int, off_t);
 typedef ssize_t readlink_function(const char *, char *, size_t);
+typedef int lock_function(int, int);
 
 static open_function *real_open;
 static openat_function *real_openat;
@@ -76,6 +78,7 @@ static sync_function *real_sync;
 static seek_function *real_seek;
 static truncate_function *real_truncate;
 static readlink_function *real_readlink;
+static lock_function *real_lock;
 static enum kind counted = MEMORY;
 static enum kind denied = ANY;
 static const char *saved, *saved_to, *saved_by, *exchanged, *exchanged_for;
@@ -85,7 +88,7 @@ static long long last_seek;
 static useconds_t pause_time;
 static long refused, requests;
 static int given_reason;
-static int from_then, descriptor = -1;
+static int from_then, descriptor = -1, wait_descriptor = -1;
 static long held, most_held;
 static int held_descriptor = -1;
 
@@ -153,6 +156,12 @@ static void save(void) {
         abort();
 }
 
+static void wait_for_byte(void) {
+    char byte;
+    if (real_read(wait_descriptor, &byte, 1) != 1)
+        abort();
+}
+
 static int is_refused(enum kind kind, int reason) {
     if (kind == denied) {
         errno = reason;
@@ -163,6 +172,10 @@ static int is_refused(enum kind kind, int reason) {
         return 0;
     if (real_write(descriptor, kind_names[kind], 4) != 4)
         abort();
+    if (wait_descriptor >= 0) {
+        wait_for_byte();
+        return 0;
+    }
     if (exchanged) {
         if (renameat2(AT_FDCWD, exchanged, AT_FDCWD, exchanged_for, RENAME_EXCHANGE) != 0)
             abort();
@@ -232,6 +245,7 @@ static void find_real(void) {
         real_truncate = (truncate_function *)dlsym(RTLD_NEXT, "ftruncate");
         real_readlink = (readlink_function *)dlsym(RTLD_NEXT, "readlink");
         real_openat = (openat_function *)dlsym(RTLD_NEXT, "openat");
+        real_lock = (lock_function *)dlsym(RTLD_NEXT, "flock");
         real_write = (write_function *)dlsym(RTLD_NEXT, "write");
     }
 }
@@ -362,6 +376,13 @@ ssize_t readlink(const char *restrict path, char *restrict into, size_t size) {
     return is_refused(FOLLOW, EIO) ? -1 : real_readlink(path, into, size);
 }
 
+int flock(int file, int how) {
+    char name[4200];
+    find_real();
+    tell_call("lock %s %d\n", calls_descriptor < 0 ? "" : open_name(file, name), how);
+    return is_refused(LOCK, ENOTSUP) ? -1 : real_lock(file, how);
+}
+
 ssize_t __write(int to, const void *bytes, size_t size) { return write(to, bytes, size); }
 
 typedef int main_function(int, char **, char **);
@@ -389,6 +410,8 @@ static int begin(int argc, char **argv, char **environment) {
         pause_time = (useconds_t)atoi(pause);
     if (times_fd)
         times_descriptor = atoi(times_fd);
+    if (getenv("WAIT_FD"))
+        wait_descriptor = atoi(getenv("WAIT_FD"));
     from_then = getenv("FROM_THEN") != NULL;
     if (getenv("REASON"))
         given_reason = atoi(getenv("REASON"));

@@ -1,9 +1,11 @@
 """The program tffmt-all over a tree of another user, who exchanges what is there while the program works: nothing of his
 comes into a folder that isn't his, whatever is exchanged and when. And which pipes the two programs of trees wait for."""
 
+import contextlib
 import ctypes
 import errno
 import os
+import select
 import shutil
 import stat
 import subprocess
@@ -61,6 +63,49 @@ def attacked(group, words, top, counted='any', program=None, **setting):
     finally:
         started.kill()
         os.close(back)
+
+
+class Held:
+    """A run that waits before its Nth call of a kind, and with FROM_THEN before each later one too."""
+
+    def __init__(self, group, words, top, counted='any', **setting):
+        self.told, told = os.pipe()
+        waits, self.to = os.pipe()
+        self.started = subprocess.Popen(
+            [group.trees, '--quiet', *words],
+            cwd=str(top),
+            pass_fds=[told, waits],
+            env=dict(
+                group.setting,
+                LD_PRELOAD=library(group),
+                REFUSED=counted,
+                REFUSE_FD=str(told),
+                WAIT_FD=str(waits),
+                **setting,
+            ),
+            stdin=subprocess.DEVNULL,
+            stdout=subprocess.PIPE,
+            stderr=subprocess.PIPE,
+        )
+        os.close(told)
+        os.close(waits)
+
+    def reached(self):
+        """The kind of the call before which the run waits, or nothing once it has ended."""
+        if not select.select([self.told], [], [], SECONDS)[0]:
+            self.started.kill()
+        return os.read(self.told, 4)
+
+    def go_on(self):
+        with contextlib.suppress(BrokenPipeError):  # where the run has ended
+            os.write(self.to, b'.')
+
+    def ended(self):
+        """What the run shows, once it has ended."""
+        out, err = self.started.communicate(timeout=SECONDS)
+        os.close(self.told)
+        os.close(self.to)
+        return self.started.returncode, out, err
 
 
 def wake(top):

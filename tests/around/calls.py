@@ -1,5 +1,6 @@
 """Which calls of the system tffmt-all makes on a file that it writes, in which order, and with which operands."""
 
+import fcntl
 import os
 import subprocess
 import tempfile
@@ -13,6 +14,7 @@ LONG, SHORT = b'a  =  1\n' * 30000, b'a = 1\n' * 30000
 WIDE = b'a=1\n' * 30000
 OWNER, GROUP, MODE = 12345, 12346, 0o640
 CREATE = '%o' % (os.O_WRONLY | os.O_CREAT | os.O_EXCL)
+LOCK = fcntl.LOCK_EX | fcntl.LOCK_NB
 # What a write of a file can't do without: it isn't written over in place where one of these fails.
 NEEDED = 'read', 'write', 'stat', 'list', 'chmod', 'sync', 'seek', 'follow'
 
@@ -50,15 +52,15 @@ def lay(group, text=LONG):
 
 
 def in_order(group):
-    """A new file is made for nobody else, filled, given its owner and then its mode, and renamed; with --sync it is on the
-    disk before that, and its own folder after it."""
+    """A new file is made for nobody else, locked, filled, given its owner and then its mode, and renamed; with --sync it is
+    on the disk before that, and its own folder after it."""
     for word, folder, name in (('in', 'in', 'in/x.tf'), ('link.tf', 'far', 'far/real.hcl')):
         for synced in (False, True):
             made = folder + '/.tffmt.0'
             group.check(
                 'the calls for %s%s' % (word, ', flushed' * synced),
                 called(group, ['--sync'] * synced + [word], lay(group)),
-                ['open %s %s 600' % (made, CREATE), 'write %s 600' % made]
+                ['open %s %s 600' % (made, CREATE), 'lock %s %d' % (made, LOCK), 'write %s 600' % made]
                 + ['owner %s %d %d' % (made, OWNER, GROUP)] * (os.getuid() == 0)
                 + ['chmod %s 640' % made]
                 + ['sync ' + made] * synced

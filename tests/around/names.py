@@ -15,7 +15,7 @@ from harness import BAD, GOOD, NOBODY, OTHER, lines, put
 NAMES = 1000
 LONGEST = 4095
 # Calls that are made again where a signal interrupts them.
-AGAIN = 'open', 'read', 'write', 'stat', 'list', 'rename', 'chmod', 'owner', 'sync', 'seek', 'follow'
+AGAIN = 'open', 'read', 'write', 'stat', 'list', 'rename', 'chmod', 'owner', 'sync', 'seek', 'follow', 'lock'
 
 
 def other_folders(group):
@@ -169,7 +169,7 @@ def too_large(group):
 
 def run(group):
     if not os.access(group.trees, os.X_OK):
-        group.skip('names', 40, 'bin/tffmt-all is not built')
+        group.skip('names', 45, 'bin/tffmt-all is not built')
         return
     for part in (other_folders, long_paths, taken_names, too_large):
         part(group)

@@ -1,6 +1,7 @@
 //! The tree of the system: its folders and files, by std.
 #![tactic(auto)]
 
+mod beside;
 mod folder;
 mod in_place;
 mod link;
