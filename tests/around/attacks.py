@@ -195,6 +195,43 @@ def linter_held_up(group):
     group.holds('before over 10 calls', 10 < number < MOST - 1, number)
 
 
+def stepped(group, top, victim, moments):
+    """(what a run over the attacker's file shows, how many calls it makes, what root's folder has at one of them that it
+    shouldn't). Before some calls the attacker exchanges the folder above his for a link to the one above root's."""
+    run, number, exchange, wrong = Held(group, ['up/in/x.tf'], top, REFUSE='1', FROM_THEN='1'), 0, exchanger(), []
+    while run.reached():
+        number += 1
+        if number in moments:
+            exchange(str(top / 'up'), str(top / 'evil'))
+        found = {path.name: path.stat().st_uid for path in (victim / 'in').iterdir()}
+        if set(found.values()) != {0} or not set(found) <= {'x.tf', 'note', '.tffmt.0'}:
+            wrong.append((number, found))
+        run.go_on()
+    return run.ended(), number, wrong
+
+
+def above(group):
+    """The attacker exchanges a folder above before one call, and back before a later one."""
+    top, victim = group.fresh(), group.fresh()
+    exchange, number, most, first, second, wrong = exchanger(), MOST, 0, 1, 2, []
+    while first < number:
+        put(top, {'up/in/x.tf': OTHER})
+        put(victim, {'in/x.tf': OTHER, 'in/note': b'of root\n'})
+        if not os.path.lexists(str(top / 'evil')):
+            put(top, {'evil': b'->' + os.fsencode(str(victim))})
+        give_away(top)
+        shown, number, seen = stepped(group, top, victim, (first, second))
+        if (top / 'up').is_symlink():
+            exchange(str(top / 'up'), str(top / 'evil'))
+        left = os.listdir(str(top / 'up' / 'in'))
+        if seen or left != ['x.tf'] or not is_untouched(victim / 'in'):
+            wrong.append(((first, second), shown, seen, left))
+        most = max(most, number)
+        first, second = (first, second + 1) if second < number else (first + 1, first + 2)
+    group.check('a folder above for a link, before each two calls', wrong[:1], [])
+    group.holds('it makes over 20 calls', 20 < most < MOST, most)
+
+
 class Attacker(threading.Thread):
     """Exchanges two names as often as it can, where it is told to."""
 
@@ -238,32 +275,56 @@ def at_full_speed(group):
 
 
 def owners(group):
-    """Nobody is given a file in a folder in which others than he and root can put files."""
-    for mode, owner in ((0o755, NOBODY), (0o777, 0)):
-        top = group.fresh()
-        put(top, {'x.tf': OTHER})
-        os.chown(str(top / 'x.tf'), NOBODY, 0)
-        top.chmod(mode)
-        group.check("root's folder of mode %o" % mode, group.format(cwd=top)[0], 0)
-        group.check('the owner of a file in it', ((top / 'x.tf').stat().st_uid, contents(top)), (owner, {'x.tf': GOOD}))
-        give_away(top)
-        put(top, {'x.tf': OTHER})
-        group.check("the owner's folder of mode %o" % mode, group.format(cwd=top)[0], 0)
-        group.check('the owner of a file of his', (top / 'x.tf').stat().st_uid, NOBODY)
+    """A file keeps its owner, who may do with it what he might, whoever else can put files into its folder."""
+    for owner in (0, NOBODY, 12345):
+        for mode in (0o755, 0o775, 0o2775, 0o777, 0o1777):
+            for rights in (0o600, 0o640, 0o644):
+                top = group.fresh()
+                put(top, {'x.tf': OTHER})
+                os.chown(str(top / 'x.tf'), NOBODY, 12346)
+                (top / 'x.tf').chmod(rights)
+                os.chown(str(top), owner, 12347)
+                top.chmod(mode)
+                status = group.format(cwd=top)[0]
+                now = (top / 'x.tf').stat()
+                used = group.call('sh', '-c', 'cat x.tf && echo b = 1 >>x.tf', cwd=top, user=NOBODY)
+                group.check(
+                    'a file of mode %o in a folder of %d of mode %o' % (rights, owner, mode),
+                    (status, now.st_uid, now.st_gid, stat.S_IMODE(now.st_mode), used, (top / 'x.tf').read_bytes()),
+                    (0, NOBODY, 12346, rights, (0, GOOD, b''), GOOD + b'b = 1\n'),
+                )
+    top = group.fresh()
+    put(top, {'his/x.tf': OTHER, 'all/note': b''})
+    give_away(top / 'his')
+    (top / 'all').chmod(0o777)
+    os.link(str(top / 'his' / 'x.tf'), str(top / 'all' / 'x.tf'))
+    group.check('a file that has a name elsewhere', group.format('all', cwd=top)[0], 0)
+    group.check(
+        'the owner of each',
+        [((top / name / 'x.tf').stat().st_uid, (top / name / 'x.tf').read_bytes()) for name in ('all', 'his')],
+        [(NOBODY, GOOD), (NOBODY, OTHER)],
+    )
 
 
 def without_proc(group):
-    """Where there is no /proc a folder is gone by its path, if nobody else can write it."""
+    """Where there is no /proc a folder is gone by its path, if nobody else can write it, for files of the caller's."""
     script = 'mount -t tmpfs none /proc && cd "$1" || exit 99\n"$2" --quiet --sync 2>&1; echo $?'
     top = group.fresh()
-    put(top, {'mine/a.tf': OTHER, 'his/a.tf': OTHER})
+    put(top, {name: OTHER for name in ('mine/a.tf', 'mine/b.tf', 'his/a.tf', 'ours/a.tf')})
     give_away(top / 'his')
+    os.chown(str(top / 'mine' / 'b.tf'), NOBODY, NOBODY)
+    (top / 'ours').chmod(0o775)
     done = shutil.which('unshare') and group.call('unshare', '-m', 'sh', '-c', script, 'sh', top, group.trees, cwd='/')
     if not done or done[0] in (1, 99):
         group.skip('a system without /proc', 2, 'nothing can be mounted')
         return
-    group.check('without /proc', done[1], lines('his/a.tf: no file can be made beside it', 'mine/a.tf', '4'))
-    group.check('and what was written', contents(top), {'mine/a.tf': GOOD, 'his/a.tf': OTHER})
+    told = [name + ': no file can be made beside it' for name in ('his/a.tf', 'mine/b.tf', 'ours/a.tf')]
+    group.check('without /proc', sorted(done[1].splitlines()), sorted(lines('mine/a.tf', '4', *told).splitlines()))
+    group.check(
+        'and what was written',
+        contents(top),
+        {'mine/a.tf': GOOD, 'mine/b.tf': OTHER, 'his/a.tf': OTHER, 'ours/a.tf': OTHER},
+    )
 
 
 def linked_folders(group):
@@ -280,13 +341,13 @@ def linked_folders(group):
 
 def run(group):
     if not all(os.access(it, os.X_OK) for it in (group.trees, group.linted)):
-        group.skip('attacks', 31, 'bin/tffmt-all or bin/tfrules-all is not built')
+        group.skip('attacks', 72, 'bin/tffmt-all or bin/tfrules-all is not built')
         return
     linked_folders(group)
-    if not group.has('gcc', checks=26):
+    if not group.has('gcc', checks=67):
         return
     if os.getuid() != 0:
-        group.skip('attacks', 26, 'not run by root')
+        group.skip('attacks', 67, 'not run by root')
         return
-    for part in (held_up, linter_held_up, at_full_speed, owners, without_proc):
+    for part in (held_up, linter_held_up, above, at_full_speed, owners, without_proc):
         part(group)

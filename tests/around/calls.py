@@ -40,13 +40,13 @@ def called(group, words, top, **setting):
     return [row for number, row in enumerate(rows) if number >= first and row != rows[number - 1]]
 
 
-def lay(group, text=LONG):
+def lay(group, text=LONG, owner=OWNER):
     """A file, and one that a link leads to, of an owner and a mode that a new file hasn't."""
     top = group.fresh()
     put(top, {'in/x.tf': text, 'far/real.hcl': text, 'link.tf': b'->far/real.hcl'})
     for name in ('in/x.tf', 'far/real.hcl'):
         if os.getuid() == 0:
-            os.chown(str(top / name), OWNER, GROUP)
+            os.chown(str(top / name), owner, GROUP)
         (top / name).chmod(MODE)
     return top
 
@@ -85,11 +85,12 @@ def in_place(group):
 
 
 def not_in_place(group):
-    """Where anything else fails, it isn't written over."""
+    """Where anything else fails, it isn't written over. The file is the caller's, since that of another user isn't replaced
+    where its folder can't be held, as where a question of it fails, and then it may be written over."""
     for kind in NEEDED:
         over, number = [], 0
         for number in range(1, MOST):
-            top = lay(group)
+            top = lay(group, owner=os.getuid())
             before = (top / 'in' / 'x.tf').stat().st_ino
             shown, reached, _ = attacked(group, ['--in-place', '--sync', 'in'], top, kind, REFUSE=str(number))
             if not reached:

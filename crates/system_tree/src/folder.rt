@@ -166,17 +166,10 @@ impl Folder {
         (owner == caller || owner == 0) && self.metadata.mode() & 0o022 == 0
     }
 
-    /// Whether names lead into the folder even if somebody else exchanges what its path leads to.
-    pub fn is_safe(&self, caller: u32) -> bool {
-        self.is_held || self.is_own(caller)
-    }
-
-    /// Whether a new file may be given this owner: one who could have put it there himself, or whose file root put there.
-    pub fn may_own(&self, caller: u32, owner: u32) -> bool {
-        let of_folder = self.metadata.uid();
-        owner == caller
-            || of_folder == owner
-            || (of_folder == 0 && self.metadata.mode() & 0o022 == 0)
+    /// Whether a file of this owner can be replaced here: where the folder isn't held, another user may lead the steps into
+    /// different folders by exchanging one above, so nobody but the caller is given a file.
+    pub fn is_safe(&self, caller: u32, owner: u32) -> bool {
+        self.is_held || (owner == caller && self.is_own(caller))
     }
 
     /// Whether the names in the folder are on the disk.

@@ -6,7 +6,7 @@ use std::fs::File;
 use std::io::{ErrorKind, Read, Write};
 
 /// Whether a file of this length has these bytes from where it is read on.
-fn has_rest(file: &mut File, bytes: &[u8], length: u64) -> bool {
+pub fn has_rest(file: &mut File, bytes: &[u8], length: u64) -> bool {
     let mut buffer = [0; 16_384];
     let mut at = 0;
     for _ in 0..u64::MAX {

@@ -2,7 +2,7 @@
 
 use crate::beside::{Beside, make};
 use crate::folder::{Folder, identity_of};
-use crate::in_place::{has_bytes, write_over};
+use crate::in_place::{has_bytes, has_rest, write_over};
 use crate::link::parted;
 use crate::patient;
 use file_tree::fault::TreeFault;
@@ -38,13 +38,12 @@ struct Kept {
 }
 
 /// Gives a new file the owner and the group of the old one, or the group alone where only that is allowed.
-fn give_owner(beside: &Beside, old: &Metadata, folder: &Folder) -> Kept {
+fn give_owner(beside: &Beside, old: &Metadata) -> Kept {
     let own = beside.metadata();
     let uid = old.uid();
     let gid = old.gid();
     let is_kept = own.uid() == uid && own.gid() == gid;
-    let is_allowed = folder.may_own(own.uid(), uid);
-    if is_kept || is_allowed && patient::give(beside.file(), Some(uid), gid).is_ok() {
+    if is_kept || patient::give(beside.file(), Some(uid), gid).is_ok() {
         return Kept {
             owner: true,
             group: true,
@@ -65,7 +64,7 @@ fn fill(
     new: &[u8],
     sync: bool,
 ) -> Result<bool, TreeFault> {
-    if !folder.is_safe(beside.metadata().uid()) {
+    if !folder.is_safe(beside.metadata().uid(), old.metadata.uid()) {
         return Err(TreeFault::NoneBeside);
     }
     let made = beside.file();
@@ -74,7 +73,7 @@ fn fill(
         return Err(TreeFault::NotWritten);
     }
     let old_mode = old.metadata.permissions().mode() & 0o7777;
-    let kept = give_owner(beside, &old.metadata, folder);
+    let kept = give_owner(beside, &old.metadata);
     let mode = new_mode(old_mode, kept.owner, kept.group);
     if made.set_permissions(Permissions::from_mode(mode)).is_err() {
         return Err(TreeFault::NotWritten);
@@ -169,7 +168,8 @@ fn open_old(rt: &HostRuntime, path: &str, read: Identity) -> Result<(File, Metad
 }
 
 /// Replaces the file of a path in its folder, if it is the one that was read and has its old bytes still. `began` is when the
-/// run did.
+/// run did. That the folder has it is asked before anything is made there: so the owner of the old file is given the new one
+/// only where he has a file of the same bytes already.
 pub fn replace(
     rt: &HostRuntime,
     folder: &Folder,
@@ -190,6 +190,9 @@ pub fn replace(
         bytes: texts.old,
         metadata,
     };
+    if !has_rest(&mut file, old.bytes, old.metadata.len()) || !is_there(rt, &old) {
+        return Err(TreeFault::Changed);
+    }
     match replace_by_new(rt, folder, &mut file, &old, texts.new, writing.sync, began) {
         Err(TreeFault::NoneBeside | TreeFault::NotReplaced) if writing.in_place => {
             if !has_bytes(&mut file, old.bytes, old.metadata.len()) || !is_there(rt, &old) {
