@@ -105,7 +105,7 @@ class Group:
         self.skipped += checks
         self.missing.append('%s (%s)' % (what, why or 'not installed'))
 
-    def call(self, *words, cwd, stdin=b'', user=None, limit=None, **setting):
+    def call(self, *words, cwd, stdin=b'', user=None, groups=(), limit=None, **setting):
         """(status, standard output, standard error) of a command; a status below 0 is a signal."""
 
         def prepare():
@@ -115,7 +115,7 @@ class Group:
                 resource.setrlimit(resource.RLIMIT_FSIZE, (limit, limit))
                 signal.signal(signal.SIGXFSZ, signal.SIG_IGN)  # so that a write fails, as on a full device
             if user is not None:
-                os.setgroups([])
+                os.setgroups(groups)
                 os.setgid(user)
                 os.setuid(user)
 

@@ -135,7 +135,8 @@ def interrupted(group):
 
 
 def groups(group):
-    """Where the group can't be kept, it and all others may do what both might."""
+    """Where the group can't be kept, it and all others may do what both might. It is kept where it is one of the caller's,
+    also where the owner can't be."""
     for before, after in ((0o640, 0o600), (0o604, 0o600), (0o664, 0o644), (0o646, 0o644), (0o2775, 0o755)):
         top = group.fresh()
         put(top, {'x.tf': OTHER})
@@ -148,6 +149,19 @@ def groups(group):
             'the rights of a file of mode %o whose group is lost' % before,
             (status, now.st_gid, stat.S_IMODE(now.st_mode), (top / 'x.tf').read_bytes()),
             (0, NOBODY, after, GOOD),
+        )
+    for owner in (NOBODY, 12345):
+        top = group.fresh()
+        put(top, {'x.tf': OTHER})
+        for path, mode in ((top / 'x.tf', 0o664), (top, 0o775)):
+            os.chown(str(path), owner, 12346)
+            path.chmod(mode)
+        done = group.format('x.tf', cwd=top, user=NOBODY, groups=[12346])
+        now = (top / 'x.tf').stat()
+        group.check(
+            'the group of a file of %d, which the caller has' % owner,
+            (done, now.st_uid, now.st_gid, stat.S_IMODE(now.st_mode), (top / 'x.tf').read_bytes()),
+            ((0, lines('x.tf'), b''), NOBODY, 12346, 0o664, GOOD),
         )
 
 
@@ -169,7 +183,7 @@ def too_large(group):
 
 def run(group):
     if not os.access(group.trees, os.X_OK):
-        group.skip('names', 45, 'bin/tffmt-all is not built')
+        group.skip('names', 47, 'bin/tffmt-all is not built')
         return
     for part in (other_folders, long_paths, taken_names, too_large):
         part(group)
@@ -178,4 +192,4 @@ def run(group):
     if os.getuid() == 0:
         groups(group)
     else:
-        group.skip('groups', 5, 'not run by root')
+        group.skip('groups', 7, 'not run by root')
