@@ -7,5 +7,6 @@ mod in_place;
 mod link;
 mod new_file;
 pub mod patient;
+mod shared;
 pub mod system;
 pub mod words;

@@ -8,6 +8,7 @@ use crate::folder::{Folder, identity_of};
 use crate::link::{parted, real_path};
 use crate::new_file::{Texts, replace};
 use crate::patient;
+use crate::shared::SharedFiles;
 use file_tree::fault::TreeFault;
 use file_tree::kind::{Identity, Kind};
 use file_tree::path::tidy;
@@ -16,6 +17,7 @@ use hcl_source::{ByteSource, Failed};
 use std::fs::{File, Metadata};
 use std::io;
 use std::io::{ErrorKind, Read};
+use std::os::unix::fs::MetadataExt;
 use std::time::SystemTime;
 
 /// How often a read is tried that a signal interrupts.
@@ -114,6 +116,7 @@ pub struct SystemTree {
     held: Option<Folder>,
     /// The folders that the caller named by links to them, or in whose names he put such a link.
     linked: Vec<Identity>,
+    shared: SharedFiles,
     /// Whether a folder was read. What the caller names is asked of before that.
     is_walking: bool,
 }
@@ -129,6 +132,11 @@ fn kind_in(metadata: &Metadata) -> Kind {
         return Kind::Link;
     }
     Kind::Other
+}
+
+/// Whether it is a file of several names.
+fn is_shared(metadata: &Metadata) -> bool {
+    metadata.is_file() && metadata.nlink() > 1
 }
 
 /// A name as the system's calls take it.
@@ -152,12 +160,14 @@ impl SystemTree {
     pub fn new(rt: HostRuntime) -> SystemTree {
         let began = SystemTime::now(&rt).ok();
         let linked = Vec::new(rt.alloc());
+        let shared = SharedFiles::new(rt.alloc());
         SystemTree {
             rt,
             began,
             opened: None,
             held: None,
             linked,
+            shared,
             is_walking: false,
         }
     }
@@ -174,10 +184,31 @@ impl SystemTree {
         }
     }
 
-    fn kind_of(&self, name: &str) -> Result<Kind, TreeFault> {
+    fn metadata_of(&self, name: &str) -> Result<Metadata, TreeFault> {
         match patient::metadata(&self.rt, name) {
-            Ok(metadata) => Ok(kind_in(&metadata)),
+            Ok(metadata) => Ok(metadata),
             Err(error) => Err(self.metadata_fault(name, &error)),
+        }
+    }
+
+    /// What a path has of which this is the metadata, and whose last part is no link.
+    fn kind_at(&mut self, path: &str, metadata: &Metadata) -> Result<Kind, TreeFault> {
+        if is_shared(metadata) {
+            return Ok(Kind::File(self.shared.identity(&self.rt, path)?));
+        }
+        Ok(kind_in(metadata))
+    }
+
+    /// What a name leads to.
+    fn kind_of(&mut self, name: &str) -> Result<Kind, TreeFault> {
+        let metadata = self.metadata_of(name)?;
+        if !is_shared(&metadata) {
+            return Ok(kind_in(&metadata));
+        }
+        match real_path(&self.rt, name) {
+            Ok(path) => self.kind_at(path.as_str(), &metadata),
+            Err(TreeFault::OutOfMemory) => Err(TreeFault::OutOfMemory),
+            Err(_) => self.kind_at(name, &metadata),
         }
     }
 
@@ -224,10 +255,10 @@ impl SystemTree {
         Ok(kind)
     }
 
-    fn entry_kind_of(&self, name: &[u8]) -> Result<Kind, TreeFault> {
+    fn entry_kind_of(&mut self, name: &[u8]) -> Result<Kind, TreeFault> {
         let name = text_of(name)?;
         match patient::symlink_metadata(&self.rt, name) {
-            Ok(metadata) => Ok(kind_in(&metadata)),
+            Ok(metadata) => self.kind_at(name, &metadata),
             Err(error) => Err(self.metadata_fault(name, &error)),
         }
     }
@@ -261,7 +292,7 @@ impl SystemTree {
     fn is_linked_file(&self, name: &str) -> Result<bool, TreeFault> {
         let (kind, is_linked) = match patient::symlink_metadata(&self.rt, name) {
             Ok(metadata) if !metadata.is_symlink() => (kind_in(&metadata), false),
-            Ok(_) => (self.kind_of(name)?, true),
+            Ok(_) => (kind_in(&self.metadata_of(name)?), true),
             Err(error) => return Err(self.metadata_fault(name, &error)),
         };
         match kind {
