@@ -12,7 +12,7 @@ import subprocess
 import threading
 
 from files import contents
-from harness import GOOD, NOBODY, OTHER, TOP, lines, put
+from harness import GOOD, LIMIT, NOBODY, OTHER, TOP, lines, put
 
 EXCHANGE, HERE = 2, -100
 MOST = 200
@@ -92,7 +92,7 @@ class Held:
 
     def reached(self):
         """The kind of the call before which the run waits, or nothing once it has ended."""
-        if not select.select([self.told], [], [], SECONDS)[0]:
+        if not select.select([self.told], [], [], LIMIT)[0]:
             self.started.kill()
         return os.read(self.told, 4)
 
@@ -102,7 +102,7 @@ class Held:
 
     def ended(self):
         """What the run shows, once it has ended."""
-        out, err = self.started.communicate(timeout=SECONDS)
+        out, err = self.started.communicate(timeout=LIMIT)
         os.close(self.told)
         os.close(self.to)
         return self.started.returncode, out, err
