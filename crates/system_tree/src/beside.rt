@@ -55,13 +55,14 @@ impl Beside {
         patient::rename(rt, self.path.as_str(), path).is_ok()
     }
 
-    /// Removes it, unless its name leads to another file by now.
+    /// Removes it, unless its name is known to lead to another file by now, or to none.
     pub fn remove(&self, rt: &HostRuntime) {
-        match patient::symlink_metadata(rt, self.path.as_str()) {
-            Ok(found) if identity_of(&found) != identity_of(&self.metadata) => {}
-            _ => {
-                let _ = patient::remove_file(rt, self.path.as_str());
-            }
+        let is_gone = match patient::symlink_metadata(rt, self.path.as_str()) {
+            Ok(found) => identity_of(&found) != identity_of(&self.metadata),
+            Err(error) => error.kind() == ErrorKind::NotFound,
+        };
+        if !is_gone {
+            let _ = patient::remove_file(rt, self.path.as_str());
         }
     }
 }
