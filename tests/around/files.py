@@ -62,7 +62,7 @@ def contents(top):
 
 def run(group):
     if not os.access(group.trees, os.X_OK):
-        group.skip('tffmt-all', 226, 'bin/tffmt-all is not built')
+        group.skip('tffmt-all', 229, 'bin/tffmt-all is not built')
         return
 
     def program(*words, cwd, **more):
@@ -75,6 +75,7 @@ def run(group):
         writes,
         links,
         links_and_files,
+        links_and_hard_links,
         hard_links,
         linked_diffs,
         paths_of_one_file,
@@ -330,6 +331,26 @@ def links_and_files(group, program):
             'links and a file: %r' % files, program('--check', cwd=top), (3, b'', lines(told + ': not formatted'))
         )
         group.check('and a run', (program(cwd=top), set(contents(top).values())), ((0, lines(told), b''), {GOOD}))
+
+
+def links_and_hard_links(group, program):
+    """A link is looked at where a hard link of its file is, but its own name isn't: the names come apart."""
+    top = four_names(group)
+    told = lines('hard.tf', 'two.tf')
+    group.check('a link, and a hard link of its file', program('--list', 'two.tf', 'hard.tf', cwd=top), (3, told, b''))
+    group.check(
+        'both are written',
+        (program('two.tf', 'hard.tf', cwd=top), set(contents(top).values()), program('--check', cwd=top)),
+        ((0, told, b''), {GOOD}, (0, b'', b'')),
+    )
+    top = group.fresh()
+    put(top, {'far/a.txt': OTHER, 'x.tf': b'->far/a.txt', 'y.tf': b'->far/b.txt'})
+    put(top, {'z.tf': b'->other/a.txt', 'other': b'->far'})
+    os.link(str(top / 'far' / 'a.txt'), str(top / 'far' / 'b.txt'))
+    told = lines('x.tf', 'y.tf')
+    group.check(
+        'links to two names of a file', (program(cwd=top), set(contents(top).values())), ((0, told, b''), {GOOD})
+    )
 
 
 def hard_links(group, program):
