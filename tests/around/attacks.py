@@ -293,6 +293,18 @@ def owners(group):
                     (status, now.st_uid, now.st_gid, stat.S_IMODE(now.st_mode), used, (top / 'x.tf').read_bytes()),
                     (0, NOBODY, 12346, rights, (0, GOOD, b''), GOOD + b'b = 1\n'),
                 )
+    told = lines('x.tf: no file can be made beside it')
+    for words, wanted in (([], ((4, b'', told), OTHER)), (['--in-place'], ((0, lines('x.tf'), b''), GOOD))):
+        top = group.fresh()
+        put(top, {'x.tf': OTHER})
+        give_away(top)
+        setting = dict(REFUSE='1', FROM_THEN='1', REASON=str(errno.EDQUOT))
+        shown, reached, _ = attacked(group, [*words, 'x.tf'], top, 'owner', **setting)
+        group.check(
+            'a file that root cannot give to its owner %r' % words,
+            ((shown, (top / 'x.tf').read_bytes()), reached, (top / 'x.tf').stat().st_uid, os.listdir(str(top))),
+            (wanted, b'owne', NOBODY, ['x.tf']),
+        )
     top = group.fresh()
     put(top, {'his/x.tf': OTHER, 'all/note': b''})
     give_away(top / 'his')
@@ -341,13 +353,13 @@ def linked_folders(group):
 
 def run(group):
     if not all(os.access(it, os.X_OK) for it in (group.trees, group.linted)):
-        group.skip('attacks', 72, 'bin/tffmt-all or bin/tfrules-all is not built')
+        group.skip('attacks', 74, 'bin/tffmt-all or bin/tfrules-all is not built')
         return
     linked_folders(group)
-    if not group.has('gcc', checks=67):
+    if not group.has('gcc', checks=69):
         return
     if os.getuid() != 0:
-        group.skip('attacks', 67, 'not run by root')
+        group.skip('attacks', 69, 'not run by root')
         return
     for part in (held_up, linter_held_up, above, at_full_speed, owners, without_proc):
         part(group)

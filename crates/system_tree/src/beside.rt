@@ -1,9 +1,9 @@
 //! The new file beside the old one, until it is put in its place.
 //!
-//! A run locks the file that it makes at once, and holds the lock until the file is renamed or removed. What an earlier run
-//! left is removed only by who has its lock, and while its name still leads to it. So no other run touches the name of a
-//! locked file. One that is taken for a leftover before its own run has locked it is given up by that run: it doesn't get
-//! the lock, or finds, before the rename, that the name leads to another file or to none.
+//! A run locks the file that it makes at once, and holds the lock until the file is renamed or removed. What an earlier
+//! run left is removed only by who has its lock, and while its name still leads to it. So no other run touches the name
+//! of a locked file. One that is taken for a leftover before its own run has locked it is given up by that run: it
+//! doesn't get the lock, or finds, before the rename, that the name leads to another file or to none.
 
 use crate::folder::{Folder, identity_of};
 use crate::patient;
@@ -76,8 +76,8 @@ fn path_beside(rt: &HostRuntime, folder: &Folder, number: u32) -> Result<String,
     }
 }
 
-/// Makes a file of this path, which nobody but its owner can read, and locks it if the file system has locks. None where
-/// another file has the path, or another run takes this one for a leftover.
+/// Makes a file of this path, which nobody but its owner can read, and locks it if the file system has locks. None
+/// where another file has the path, or another run takes this one for a leftover.
 fn make_at(rt: &HostRuntime, path: String) -> Result<Option<Beside>, TreeFault> {
     let opened = OpenOptions::new()
         .write(true)
@@ -124,7 +124,8 @@ fn is_older(metadata: &Metadata, caller: u32, began: SystemTime) -> bool {
     }
 }
 
-/// Removes a file that was left by a run of the caller that was cut off before this one began, and answers whether it did.
+/// Removes a file that was left by a run of the caller that was cut off before this one began, and answers whether it
+/// did.
 fn remove_left(rt: &HostRuntime, path: &str, caller: u32, began: SystemTime) -> bool {
     let identity = match patient::symlink_metadata(rt, path) {
         Ok(metadata) if is_older(&metadata, caller, began) => identity_of(&metadata),

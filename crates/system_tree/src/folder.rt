@@ -166,8 +166,8 @@ impl Folder {
         (owner == caller || owner == 0) && self.metadata.mode() & 0o022 == 0
     }
 
-    /// Whether a file of this owner can be replaced here: where the folder isn't held, another user may lead the steps into
-    /// different folders by exchanging one above, so nobody but the caller is given a file.
+    /// Whether a file of this owner can be replaced here: where the folder isn't held, another user may lead the steps
+    /// into different folders by exchanging one above, so nobody but the caller is given a file.
     pub fn is_safe(&self, caller: u32, owner: u32) -> bool {
         self.is_held || (owner == caller && self.is_own(caller))
     }

@@ -56,7 +56,8 @@ fn give_owner(beside: &Beside, old: &Metadata) -> Kept {
 }
 
 /// Gives a new file its bytes, and the owner and the mode of the old one. Where the owner can't be given, the new file
-/// is the caller's, and runs by nobody else's rights. Answers whether the group was kept.
+/// is the caller's, and runs by nobody else's rights; root, who may give any, takes no file where that fails, as past a
+/// quota. Answers whether the group was kept.
 fn fill(
     beside: &Beside,
     folder: &Folder,
@@ -74,6 +75,9 @@ fn fill(
     }
     let old_mode = old.metadata.permissions().mode() & 0o7777;
     let kept = give_owner(beside, &old.metadata);
+    if !kept.owner && beside.metadata().uid() == 0 {
+        return Err(TreeFault::NoneBeside);
+    }
     let mode = new_mode(old_mode, kept.owner, kept.group);
     if made.set_permissions(Permissions::from_mode(mode)).is_err() {
         return Err(TreeFault::NotWritten);
@@ -154,8 +158,8 @@ fn replace_by_new(
     }
 }
 
-/// Opens the file that was read, by its path. A pipe in its place isn't waited for where it is opened for both reading and
-/// writing.
+/// Opens the file that was read, by its path. A pipe in its place isn't waited for where it is opened for both reading
+/// and writing.
 fn open_old(rt: &HostRuntime, path: &str, read: Identity) -> Result<(File, Metadata), TreeFault> {
     let Ok(file) = OpenOptions::new().read(true).write(true).open(rt, path) else {
         return Err(TreeFault::NotWritable);
@@ -167,9 +171,9 @@ fn open_old(rt: &HostRuntime, path: &str, read: Identity) -> Result<(File, Metad
     }
 }
 
-/// Replaces the file of a path in its folder, if it is the one that was read and has its old bytes still. `began` is when the
-/// run did. That the folder has it is asked before anything is made there: so the owner of the old file is given the new one
-/// only where he has a file of the same bytes already.
+/// Replaces the file of a path in its folder, if it is the one that was read and has its old bytes still. `began` is
+/// when the run did. That the folder has it is asked before anything is made there: so the owner of the old file is
+/// given the new one only where he has a file of the same bytes already.
 pub fn replace(
     rt: &HostRuntime,
     folder: &Folder,
