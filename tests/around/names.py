@@ -44,7 +44,7 @@ def other_folders(group):
     group.check(
         'a link by the whole path',
         group.format('c.tf', cwd=top),
-        (4, b'', lines('c.tf: the link cannot be followed')),
+        (4, b'', lines("c.tf: the link leads to a name that isn't UTF-8")),
     )
     group.check('it stays', (top / 'far/one.hcl').read_bytes(), OTHER)
 

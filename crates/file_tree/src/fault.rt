@@ -19,6 +19,8 @@ pub enum TreeFault {
     UnreadableFolder,
     /// A link leads to links without end.
     EndlessLink,
+    /// A link leads to a name that isn't UTF-8.
+    LinkNotUtf8,
     NotWritable,
     /// No file can be made beside it.
     NoneBeside,
@@ -50,6 +52,7 @@ impl TreeFault {
             TreeFault::Unreadable => "cannot be read",
             TreeFault::UnreadableFolder => "the folder cannot be read",
             TreeFault::EndlessLink => "the link cannot be followed",
+            TreeFault::LinkNotUtf8 => "the link leads to a name that isn't UTF-8",
             TreeFault::NotWritable => "cannot be written",
             TreeFault::NoneBeside => "no file can be made beside it",
             TreeFault::NotWritten => "could not be written; left as it is",

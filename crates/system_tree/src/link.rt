@@ -21,7 +21,7 @@ fn target(rt: &HostRuntime, link: &str) -> Result<String, TreeFault> {
         return Err(TreeFault::EndlessLink);
     };
     let Some(target) = target.to_str() else {
-        return Err(TreeFault::EndlessLink);
+        return Err(TreeFault::LinkNotUtf8);
     };
     let (folder, _) = parted(link);
     let folder = if target.starts_with('/') { "" } else { folder };
