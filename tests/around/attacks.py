@@ -293,7 +293,7 @@ def owners(group):
                     (status, now.st_uid, now.st_gid, stat.S_IMODE(now.st_mode), used, (top / 'x.tf').read_bytes()),
                     (0, NOBODY, 12346, rights, (0, GOOD, b''), GOOD + b'b = 1\n'),
                 )
-    told = lines('x.tf: no file can be made beside it')
+    told = lines('x.tf: its owner cannot be kept; left as it is')
     for words, wanted in (([], ((4, b'', told), OTHER)), (['--in-place'], ((0, lines('x.tf'), b''), GOOD))):
         top = group.fresh()
         put(top, {'x.tf': OTHER})

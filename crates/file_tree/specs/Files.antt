@@ -11,7 +11,7 @@ use Rattle.file_tree.specs.declared.fault.TreeFault.TheVariants.{ReadFailed}
 abbrev pub Name : Type 0
 Name = List ℕ
 
--- what tells a file from every other one
+-- what tells a file from others
 abbrev pub identity_of : Kind → Option Identity
 identity_of (File identity) = Some identity
 identity_of Folder = None

@@ -24,6 +24,8 @@ pub enum TreeFault {
     NotWritable,
     /// No file can be made beside it.
     NoneBeside,
+    /// A new file can't be given its owner.
+    OwnerNotKept,
     NotWritten,
     /// Another program changed the file after it was read.
     Changed,
@@ -55,6 +57,7 @@ impl TreeFault {
             TreeFault::LinkNotUtf8 => "the link leads to a name that isn't UTF-8",
             TreeFault::NotWritable => "cannot be written",
             TreeFault::NoneBeside => "no file can be made beside it",
+            TreeFault::OwnerNotKept => "its owner cannot be kept; left as it is",
             TreeFault::NotWritten => "could not be written; left as it is",
             TreeFault::Changed => "changed while it was read; left as it is",
             TreeFault::NotReplaced => "cannot be replaced",

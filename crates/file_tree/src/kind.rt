@@ -3,7 +3,7 @@
 ghost use Rattle.std.specs.Prelude.{◌≡◌};
 ghost use Rattle.file_tree.specs.Files.{is_link};
 
-/// What tells a file from every other one, whatever its names.
+/// What tells a file from others; of a file of several names, what tells this one from the others.
 #[derive(Clone, Copy, Debug, PartialEq, Eq, PartialOrd, Ord)]
 pub struct Identity {
     pub device: u64,

@@ -97,7 +97,7 @@ abbrev pub asking_of_texts : List Text → List Name → Result Asking Usage
 asking_of_texts texts others =
     unless_fault (usage_by OutOfMemory Help BadLine) (fault_of tfrules_all texts) (asking_of_rows others (matches_of tfrules_all texts))
 
--- whether names are read from standard input by who asks for this
+-- whether what is asked for needs names from standard input
 abbrev pub reads_names : Result Asking Usage → Bool
 reads_names (Ok asking) = asking.null
 reads_names (Err usage) = false

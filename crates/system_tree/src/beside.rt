@@ -1,8 +1,8 @@
 //! The new file beside the old one, until it is put in its place.
 //!
 //! A run locks the file that it makes at once, and holds the lock until the file is renamed or removed. What an earlier
-//! run left is removed only by who has its lock, and while its name still leads to it. So no other run touches the name
-//! of a locked file. One that is taken for a leftover before its own run has locked it is given up by that run: it
+//! run left is removed only by whoever has its lock, and while its name still leads to it. So no other run touches the
+//! name of a locked file. One that is taken for a leftover before its own run has locked it is given up by that run: it
 //! doesn't get the lock, or finds, before the rename, that the name leads to another file or to none.
 
 use crate::folder::{Folder, identity_of};

@@ -76,7 +76,7 @@ fn fill(
     let old_mode = old.metadata.permissions().mode() & 0o7777;
     let kept = give_owner(beside, &old.metadata);
     if !kept.owner && beside.metadata().uid() == 0 {
-        return Err(TreeFault::NoneBeside);
+        return Err(TreeFault::OwnerNotKept);
     }
     let mode = new_mode(old_mode, kept.owner, kept.group);
     if made.set_permissions(Permissions::from_mode(mode)).is_err() {
@@ -198,7 +198,9 @@ pub fn replace(
         return Err(TreeFault::Changed);
     }
     match replace_by_new(rt, folder, &mut file, &old, texts.new, writing.sync, began) {
-        Err(TreeFault::NoneBeside | TreeFault::NotReplaced) if writing.in_place => {
+        Err(TreeFault::NoneBeside | TreeFault::OwnerNotKept | TreeFault::NotReplaced)
+            if writing.in_place =>
+        {
             if !has_bytes(&mut file, old.bytes, old.metadata.len()) || !is_there(rt, &old) {
                 return Err(TreeFault::Changed);
             }

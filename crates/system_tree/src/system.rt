@@ -199,7 +199,8 @@ impl SystemTree {
         Ok(kind_in(metadata))
     }
 
-    /// What a name leads to.
+    /// What a name leads to. A link by way of names that aren't UTF-8 can't be followed here: then it is told by where it stands
+    /// itself, and goes with no other name.
     fn kind_of(&mut self, name: &str) -> Result<Kind, TreeFault> {
         let metadata = self.metadata_of(name)?;
         if !is_shared(&metadata) {

@@ -134,7 +134,7 @@ shard_given (Some text) = option_map Some (shard_in text)
 
 -- ---- the line
 
--- names come from the line or from standard input, and not from both
+-- names are to be read from standard input, and stand on the line too
 abbrev pub has_names_twice : Given → Bool
 has_names_twice given = given.null && not (length given.names == 0)
 
@@ -184,7 +184,7 @@ others_in words = filter (λ word. not (is_utf8 word)) (drop 1 words)
 abbrev pub asking_of_words : List (List ℕ) → Result Asking Usage
 asking_of_words words = asking_of_texts (texts_in (codes "tffmt-all") words) (others_in words)
 
--- whether names are read from standard input by who asks for this
+-- whether what is asked for needs names from standard input
 abbrev pub reads_names : Result Asking Usage → Bool
 reads_names (Ok asking) = asking.given.null
 reads_names (Err usage) = false
