@@ -199,8 +199,7 @@ pub fn replace(
     }
     match replace_by_new(rt, folder, &mut file, &old, texts.new, writing.sync, began) {
         Err(TreeFault::NoneBeside | TreeFault::OwnerNotKept | TreeFault::NotReplaced)
-            if writing.in_place =>
-        {
+            if writing.in_place => {
             if !has_bytes(&mut file, old.bytes, old.metadata.len()) || !is_there(rt, &old) {
                 return Err(TreeFault::Changed);
             }
