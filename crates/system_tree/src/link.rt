@@ -3,6 +3,7 @@
 
 use crate::patient;
 use file_tree::fault::TreeFault;
+use std::io::ErrorKind;
 
 /// How many links are followed at most, as by the system.
 const LINKS: u32 = 40;
@@ -17,8 +18,12 @@ pub fn parted(path: &str) -> (&str, &str) {
 
 /// A path to what a link has.
 fn target(rt: &HostRuntime, link: &str) -> Result<String, TreeFault> {
-    let Ok(target) = patient::read_link(rt, link) else {
-        return Err(TreeFault::EndlessLink);
+    let target = match patient::read_link(rt, link) {
+        Ok(target) => target,
+        Err(error) if error.kind() == ErrorKind::InvalidFilename => {
+            return Err(TreeFault::LinkNotUtf8);
+        }
+        Err(_) => return Err(TreeFault::EndlessLink),
     };
     let Some(target) = target.to_str() else {
         return Err(TreeFault::LinkNotUtf8);
