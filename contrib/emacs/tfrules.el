@@ -24,7 +24,7 @@
   "The run for this buffer that isn't over, or nil.")
 
 (defconst tfrules--line
-  "^\\(?:tfrules: error: \\)?\\(.+?\\):\\([0-9]+\\):\\([0-9]+\\): \\(?:\\(Error\\|Warning\\|Notice\\) - \\)?\\(.+\\)$"
+  "^\\(?:tfrules\\(?:-all\\)?: error: \\)?\\(.+?\\):\\([0-9]+\\):\\([0-9]+\\): \\(?:\\(Error\\|Warning\\|Notice\\) - \\)?\\(.+\\)$"
   "A line of a report, or of a refusal.")
 
 (defun tfrules--read (source file)

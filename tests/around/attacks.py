@@ -190,7 +190,7 @@ def linter_held_up(group):
         waited += [(reached, shown)] * woken
         if not reached:
             break
-    told = lines('tfrules: error: in/x.tf: cannot be opened')
+    told = lines('tfrules-all: error: in/x.tf: not a file')
     group.check('tfrules-all and a pipe, before each call', waited, [(b'open', (1, b'', told))])
     group.holds('before over 10 calls', 10 < number < MOST - 1, number)
 

@@ -5,7 +5,7 @@ import os
 import re
 
 import modules
-from harness import BAD, NOBODY, TOP, lines, put, shard_of, special_links
+from harness import BAD, NOBODY, TOP, lines, put, quoted, shard_of, special_links
 from modules import ALL, DECLARED, DEFAULT, UNTYPED, UNUSED, USED, report, unused
 
 
@@ -28,6 +28,7 @@ def run(group):
         modules.whole_modules,
         modules.linked_modules,
         names,
+        forged_lines,
         walk,
         statuses,
         special_files,
@@ -37,6 +38,7 @@ def run(group):
         lists_of_rules,
         deleted,
         limits,
+        many_modules,
         input_and_shards,
         input_left,
         rights,
@@ -63,15 +65,31 @@ def names(group, lint):
     ]
     top = tree(group, {name: DECLARED for name in every})
     put(top, {'x/a.tf': b'', '[x]/*.tf': b''})
-    group.check('any name', lint('--', *every, cwd=top), (2, unused(*every), b''))
+    shown = unused(*(quoted(name) for name in every))
+    group.check('any name', lint('--', *every, cwd=top), (2, shown, b''))
     group.check('a file with a dash in front', lint('--', '-z.tf', cwd=top / '-d'), (2, unused('-z.tf'), b''))
-    group.check('any name in a walk', lint(cwd=top), (2, unused(*every), b''))
-    top = tree(group, {b'caf\xe9.tf': DECLARED, 'good.tf': DECLARED})
-    told = b'tfrules-all: error: caf\xe9.tf: the name isn\'t UTF-8\n'
+    group.check('any name in a walk', lint(cwd=top), (2, shown, b''))
+    top = tree(group, {b'm/caf\xe9.tf': DECLARED, 'm/bad.tf': DECLARED, 'n/good.tf': DECLARED})
+    told = b'tfrules-all: error: m/caf\xe9.tf: the name isn\'t UTF-8\n'
     group.check(
-        'a name that is not UTF-8 is told, and the others are linted', lint(cwd=top), (1, unused('good.tf'), told)
+        'a name that is not UTF-8 is told, and other modules are linted', lint(cwd=top), (1, unused('n/good.tf'), told)
     )
-    group.check('the same of a word', lint(b'caf\xe9.tf', 'good.tf', cwd=top), (1, unused('good.tf'), told))
+    group.check('the same of a word', lint(b'm/caf\xe9.tf', 'n/good.tf', cwd=top), (1, unused('n/good.tf'), told))
+
+
+def forged_lines(group, lint):
+    """A name with newlines and escapes forges no line of a report or a refusal, which matchers read."""
+    forged = 'a\nmain.tf:7:1: Error - all is lost (terraform_module_version)\nb.tf'
+    coloured = '\x1b[31mred\x1b[0m.tf'
+    top = tree(group, {forged: DECLARED, 'm/' + coloured: BAD, 'main.tf': b''})
+    status, out, err = lint(cwd=top)
+    wanted = (
+        unused(quoted(forged)),
+        b'tfrules-all: error: %s:1:3: unexpected token\n' % quoted('m/' + coloured).encode(),
+    )
+    group.check('a name with newlines and one with escapes', (status, out, err), (1, *wanted))
+    group.check('no control byte but a newline', [byte for byte in out + err if byte < 32 and byte != 10], [])
+    group.check('two lines, and an empty one', [out.count(b'\n'), err.count(b'\n')], [3, 1])
 
 
 def walk(group, lint):
@@ -89,7 +107,7 @@ def walk(group, lint):
     group.check('a linked file is taken, a folder of such a name isn\'t', lint('a.tf', cwd=top), (0, b'', b''))
     put(top, {'gone.tf': b'->nowhere'})
     group.check(
-        'a link that leads nowhere is told once, and the others are linted',
+        'a module with a link that leads nowhere is refused',
         lint('a.tf', '.', cwd=top),
         (1, b'', lines(fault('gone.tf', 'the link leads nowhere'))),
     )
@@ -100,7 +118,7 @@ def statuses(group, lint):
     top = tree(
         group, {'a/a.tf': DECLARED, 'b/b.tf': BAD, 'c/c.tf': DECLARED, 'd/d.tf': b'', 'e/e.tf': b'variable "n" {}\n'}
     )
-    refused = lines('tfrules: error: b/b.tf:1:3: unexpected token')
+    refused = lines('tfrules-all: error: b/b.tf:1:3: unexpected token')
     group.check('an accepted module', lint('d', cwd=top), (0, b'', b''))
     group.check('a refused one', lint('b', cwd=top), (1, b'', refused))
     group.check('a refused one and issues', lint('a', 'b', 'c', cwd=top), (1, unused('a/a.tf', 'c/c.tf'), refused))
@@ -126,7 +144,7 @@ def statuses(group, lint):
     group.check(
         'a full device',
         group.call('sh', '-c', 'exec "$0" a >/dev/full', group.linted, cwd=top),
-        (1, b'', b'tfrules: error: write failed\n'),
+        (1, b'', b'tfrules-all: error: write failed\n'),
     )
     group.check('a closed standard output', group.call('sh', '-c', 'exec "$0" a >&-', group.linted, cwd=top)[0], 1)
 
@@ -152,7 +170,7 @@ def summaries(group, lint):
             'none/x.txt': b'',
         },
     )
-    refused = lines('tfrules: error: b/b.tf:1:3: unexpected token')
+    refused = lines('tfrules-all: error: b/b.tf:1:3: unexpected token')
     for words, told, said in (
         (['d'], b'', 'no issues in 1 module'),
         (['a'], b'', '1 issue in 1 of 1 module'),
@@ -296,10 +314,54 @@ def limits(group, lint):
     group.check(
         'too many files, and the others are linted',
         lint(cwd=top),
-        (1, unused('n/a.tf'), lines('tfrules: error: more than 256 files')),
+        (1, unused('n/a.tf'), lines(fault('m/', 'more than 256 files'))),
     )
     (top / 'm' / '0.tf').unlink()
     group.check('as many as there may be', lint('m', cwd=top), (0, b'', b''))
+
+
+MODULES, FILES = 4000, 5
+
+# texts of files, by the number of the module and of the file; `b.tf` of each hundredth module is refused
+TEXTS = (
+    b'variable "n" {}\noutput "o" {\n  value = "${var.n}"\n}\n',
+    b'locals {\n  a = 1\n  b = local.a\n}\n',
+    b'module "m" {\n  source = "hashicorp/consul/aws"\n}\n',
+    b'# tflint-ignore: terraform_unused_declarations\ndata "a" "b" {}\n',
+    b'resource "a" "b" {\n  c = var.n\n}\n',
+    b'variable "n" {\n  type = string\n}\n',
+    b'',
+)
+
+
+def many_modules(group, lint):
+    """Each of very many modules is linted: what is said of each is what tfrules says of its files."""
+    names = ['a.tf', 'b.tf', 'c.tofu', 'main.tf', 'z.tofu']
+    files = {}
+    for number in range(MODULES):
+        folder = 'tree/%02d/module%04d/' % (number % 40, number)
+        for place, name in enumerate(names):
+            text = BAD if number % 100 == 57 and name == 'b.tf' else TEXTS[(number * 3 + place * place) % len(TEXTS)]
+            files[folder + name] = text
+    top = tree(group, files)
+    folders = sorted({os.path.dirname(name) + '/' for name in files})
+    out, err, worst = [], [], 0
+    for folder in folders:
+        given = [folder + name for name in names]
+        status, told, said = group.call(group.linter, '--rules', 'all', *given, cwd=top)
+        out.append(told)
+        err.append(said.replace(b'tfrules: error: ', b'tfrules-all: error: '))
+        worst = 1 if 1 in (status, worst) else max(status, worst)
+    wanted = worst, b'\n'.join(told for told in out if told), b''.join(err)
+    group.check(
+        'some are refused, and some are not', (worst, len(files), sum(map(bool, err))), (1, MODULES * FILES, 40)
+    )
+    group.check('very many modules', lint('--rules', 'all', cwd=top), wanted)
+    group.check('by their folders', lint('--rules', 'all', *folders, cwd=top), wanted)
+    group.check('by their files', lint('--rules', 'all', '--null', cwd=top, stdin='\0'.join(files).encode()), wanted)
+    parts = [lint('--rules', 'all', '--shard', '%d/7' % part, cwd=top) for part in range(1, 8)]
+    told = [line for part in parts for line in part[1].split(b'\n') if b' - ' in line]
+    group.check('in parts', sorted(told), sorted(line for line in wanted[1].split(b'\n') if b' - ' in line))
 
 
 def input_and_shards(group, lint):
@@ -355,7 +417,7 @@ def rights(group, lint):
         (
             1,
             unused('n/a.tf'),
-            lines('tfrules: error: m/b.tf: cannot be opened', fault('shut/', 'the folder cannot be read')),
+            lines(fault('m/b.tf', 'cannot be read'), fault('shut/', 'the folder cannot be read')),
         ),
     )
     (top / 'shut').chmod(0o755)

@@ -354,14 +354,24 @@ def lint_matchers(group):
     tasks = json.loads((contrib / 'editors' / 'vscode' / 'tasks.json').read_text())
     here = group.fresh()
     put(here, {'a b:1/m.tf': b'variable "n" {}\n', 'bad/m.tf': BAD, 'gone/m.tf': b'->nowhere'})
+    for program, words, gone in (
+        ('tfrules-modules', [], 'cannot be opened'),
+        (group.linted, ['--quiet'], 'the link leads nowhere'),
+    ):
+        if os.path.exists(group.linted) or program != group.linted:
+            _read_by_matchers(group, here, matcher, tasks, [program, *words], gone)
+
+
+def _read_by_matchers(group, here, matcher, tasks, words, gone):
     done = group.call(
-        'tfrules-modules',
+        *words,
         '--rules',
         'terraform_typed_variables,terraform_documented_variables',
         cwd=here,
         PATH=group.before_path(group.contrib),
     )
-    group.check('what is found, the status', done[0], 1)
+    program = os.path.basename(words[0])
+    group.check('what is found, the status of ' + program, done[0], 1)
     for name, problems in (
         ('GitHub', [p['pattern'][0] for p in matcher['problemMatcher']]),
         ('VS Code', [p['pattern'] for p in tasks['tasks'][1]['problemMatcher']]),
@@ -374,7 +384,7 @@ def lint_matchers(group):
         ]
         place = {'file': 'a b:1/m.tf', 'line': '1', 'column': '1'}
         group.check(
-            'the matchers of %s read the reports of tfrules' % name,
+            'the matchers of %s read the reports of %s' % (name, program),
             found,
             [
                 dict(
@@ -385,7 +395,7 @@ def lint_matchers(group):
                 ),
                 dict(place, severity='Warning', message='variable "n" has no type', code='terraform_typed_variables'),
                 {'file': 'bad/m.tf', 'line': '1', 'column': '3', 'message': 'unexpected token'},
-                {'file': 'gone/m.tf', 'message': 'cannot be opened'},
+                {'file': 'gone/m.tf', 'message': gone},
             ],
         )
 

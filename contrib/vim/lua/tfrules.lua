@@ -19,9 +19,9 @@ local function read_line(line)
     line:match("^(.+):(%d+):(%d+): (%a+) %- (.+) %(([a-z_]+)%)$")
   if not severities[word] then
     word, rule = "Error", nil
-    file, row, column, message = line:match("^tfrules: error: (.+):(%d+):(%d+): (.+)$")
+    file, row, column, message = line:match("^tfrules[%-al]*: error: (.+):(%d+):(%d+): (.+)$")
     if not file then
-      file, message = line:match("^tfrules: error: (.+): (.+)$")
+      file, message = line:match("^tfrules[%-al]*: error: (.+): (.+)$")
       row, column = 1, 1
     end
   end

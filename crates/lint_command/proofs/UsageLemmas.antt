@@ -4,7 +4,7 @@ use Rattle.clap.specs.Words.{Text}
 use Rattle.command_line.specs.Rows.{End, Program, Shows, out_of_memory}
 use Rattle.command_line.proofs.EndLemmas.{shows_as}
 use Rattle.lint_command.specs.Ends.{ShowsUsage, usage_row}
-use Rattle.lint_command.specs.Linter.{tree_linter}
+use Rattle.tree_lint.specs.Refusals.{tree_linter}
 use Rattle.lint_command.specs.declared.usage.Usage.{Usage}
 
 pub shows_usage : (texts : List Text) (usage is : Usage) (p : Program) (end : End) → usage ≡ is → p ≡ tree_linter → Shows p (usage_row texts is) end

@@ -1,10 +1,10 @@
 -- How a run of `tfrules-all` ends. Its texts and statuses are our own choice.
-use Rattle.std.specs.Prelude.{◌≡◌, ◌⊎◌, ◌||◌, ℕ, Bool, true, false, List, [], ◌∷◌, ◌++◌, Option, Result, Ok, Err, codes, flat_map, map, string_bytes, if◌then◌else◌}
+use Rattle.std.specs.Prelude.{◌≡◌, ◌⊎◌, ◌||◌, ℕ, Bool, true, false, List, [], ◌∷◌, ◌++◌, Option, Result, Ok, Err, codes, flat_map, if◌then◌else◌}
 use Rattle.clap.specs.Words.{Text}
-use Rattle.command_line.specs.Rows.{End, Row, Shows, TookBy, Writer, fails_with, message_row, out_of_memory, output_row}
+use Rattle.command_line.specs.Rows.{End, Row, Shows, TookBy, Writer, fails_with, message_row, out_of_memory, output_row, write_failed}
 use Rattle.file_tree.specs.Choices.{Chosen, chosen_by}
-use Rattle.file_tree.specs.Files.{Files, Name, Tells}
-use Rattle.file_tree.specs.Finds.{Finds}
+use Rattle.file_tree.specs.Files.{Faults, Files, Name, Tells}
+use Rattle.file_tree.specs.Finds.{AreReal, Finds}
 use Rattle.file_tree.specs.Ordered.{Orders}
 use Rattle.file_tree.specs.declared.walk.Found.{Found}
 use Rattle.module_find.specs.Modules.{AreFolders, AreModules, fault_left}
@@ -14,42 +14,37 @@ use Rattle.tree_command.specs.Shards.{picked_of}
 use Rattle.tree_command.specs.Line.{others_in, texts_in}
 use Rattle.tree_command.specs.WrongWords.{bad_line_words}
 use Rattle.tree_command.specs.declared.shard.Shard.{Shard}
+use Rattle.tree_lint.specs.Faults.{fault_lines}
 use Rattle.tree_lint.specs.Numbers.{summary_line}
-use Rattle.tree_lint.specs.Runs.{IsLintRun, told_in, worse_status}
+use Rattle.tree_lint.specs.Refusals.{tree_linter}
+use Rattle.tree_lint.specs.Runs.{IsLintRun, worse_status}
 use Rattle.tree_lint.specs.declared.counts.Counts.{Counts}
 use Rattle.tree_lint.specs.declared.policy.Policy.{Policy}
 use Rattle.lint_command.specs.Asked.{wanted_of}
 use Rattle.lint_command.specs.Explained.{explained, rule_list}
-use Rattle.lint_command.specs.Faults.{fault_line, fault_status}
-use Rattle.lint_command.specs.Line.{Asking, Wanted, asking_of_texts}
-use Rattle.lint_command.specs.Linter.{tree_linter}
+use Rattle.lint_command.specs.Line.{Asking, Job, asking_of_texts}
 use Rattle.lint_command.specs.LinterWords.{linter_words}
 use Rattle.lint_command.specs.declared.usage.Usage.{Usage}
 use Rattle.lint_command.specs.declared.usage.Usage.TheVariants.{Help, Version, ListRules, Explain, BadLine, UnknownRule, NoRuleLeft, BadNaming, BadSeverity, BadPart, NamesTwice, OutOfMemory}
 
 -- ---- what is linted
 
-abbrev pub names_in : Module → List Name
-names_in m = map string_bytes m.files.items
-
 -- a file stands for its folder, whatever it is called
 abbrev pub any_file : Chosen
 any_file = chosen_by true []
 
--- the modules of what these paths stand for, as far as they are of the part, and what can't be looked at beside them
-pub record Collects (files : Files) (shard : Option Shard) (paths : List Name) (modules : List Module) (faults : List Found) : Type 0 where
+-- the modules of what these paths stand for, as far as they are of the part, and what can't be looked at beside them: each is told
+-- since a call of the device failed
+pub record Collects (files : Files) (shard : Option Shard) (paths : List Name) (was is : Faults) (modules : List Module) (faults : List Found) : Type 0 where
   pub found : List Found
+  pub walked : Faults  -- those of calls up to the end of the walk
   pub finds : Finds files any_file paths found
+  pub real : AreReal files any_file paths was walked found
   pub folders : List Found
   pub stand : AreFolders found folders
-  pub are : AreModules files (picked_of shard folders) modules
-  pub left : faults ≡ picked_of shard (flat_map fault_left found)
-
--- the files of each module, and all that can't be linted, in the order of the names, each once
-abbrev pub AreTaken : Files → Option Shard → List Name → List (List Name) → List Found → Type 0
-AreTaken files shard paths named faults =
-    (modules : List Module) × (left : List Found) × Collects files shard paths modules left × (named ≡ map names_in modules)
-    × Orders (left ++ flat_map (λ m. m.faults.items) modules) faults
+  pub beside : List Found  -- what can't be looked at in their folders
+  pub are : AreModules files (picked_of shard folders) modules beside walked is
+  pub left : Orders (picked_of shard (flat_map fault_left found) ++ beside) faults
 
 -- ---- what is said
 
@@ -62,45 +57,55 @@ Then false between last text = (last.before ≡ between.before) × TookBy last.f
 abbrev pub summary : Bool → Counts → List ℕ
 summary quiet counts = if quiet then [] else summary_line counts
 
--- EACH MODULE IS LINTED, and then it is said what can't be linted, which is a status of 1, and what was found in all
-pub record RunsThen (told : Name → Option (List ℕ)) (policy : Policy) (quiet : Bool) (named : List (List Name)) (faults : List Found) (end : End) : Type 0 where
+-- what is said last: what can't be looked at beside the modules, and what was found in all; or that a write failed
+abbrev pub last_words : Bool → Bool → List Found → Counts → List ℕ
+last_words quiet out_failed faults counts = if out_failed then write_failed tree_linter else flat_map fault_lines faults ++ summary quiet counts
+
+-- the status of a run in which these can't be looked at
+abbrev pub fault_status : List Found → ℕ
+fault_status [] = 0
+fault_status (f ∷ faults) = 1
+
+-- EACH MODULE IS LINTED, and then the last words are said. What can't be looked at beside them is a status of 1
+pub record RunsThen (files : Files) (policy : Policy) (quiet : Bool) (modules : List Module) (faults : List Found) (was is : Faults) (end : End) : Type 0 where
   pub between : End  -- when the modules were linted
   pub counts : Counts
-  pub ran : IsLintRun told policy named between counts
+  pub ran : IsLintRun files policy modules was is between counts
   pub output : end.out ≡ between.out
-  pub message : Then (between.out.failed || between.err.failed) between.err end.err (flat_map fault_line faults ++ summary quiet counts)
+  pub message : Then between.err.failed between.err end.err (last_words quiet between.out.failed faults counts)
   pub exit : end.status ≡ (if end.out.failed || end.err.failed then 1 else worse_status between.status (fault_status faults))
 
--- THE MODULES ARE LINTED of what these paths stand for
-pub record Lints (wanted : Wanted) (quiet : Bool) (shard : Option Shard) (paths : List Name) (files : Files) (end : End) : Type 0 where
-  pub named : List (List Name)
+-- THE MODULES ARE LINTED of what these paths stand for, by a device that has had these faults before and after
+pub record Lints (job : Job) (paths : List Name) (files : Files) (was is : Faults) (end : End) : Type 0 where
+  pub modules : List Module
   pub faults : List Found
-  pub taken : AreTaken files shard paths named faults
+  pub walked : Faults  -- those of calls before the first module is linted
+  pub collects : Collects files job.shard paths was walked modules faults
   pub policy : Policy
-  pub asked : wanted_of policy ≡ wanted
-  pub runs : RunsThen (told_in files) policy quiet named faults end
+  pub asked : wanted_of policy ≡ job.wanted
+  pub runs : RunsThen files policy job.quiet modules faults walked is end
 
 -- there is nothing but this row
 abbrev pub SaysOnly : Row → End → Type 0
 SaysOnly row end = Shows tree_linter row end
 
 -- memory ran out before a file was read, or the modules were linted
-abbrev pub LintsOr : Wanted → Bool → Option Shard → List Name → Files → End → Type 0
-LintsOr wanted quiet shard paths files end = SaysOnly (out_of_memory tree_linter) end ⊎ Lints wanted quiet shard paths files end
+abbrev pub LintsOr : Job → List Name → Files → Faults → Faults → End → Type 0
+LintsOr job paths files was is end = SaysOnly (out_of_memory tree_linter) end ⊎ Lints job paths files was is end
 
 -- the same where the paths are those of the line
-abbrev pub LintsNamed : Wanted → Bool → Option Shard → List Name → Files → End → Type 0
-LintsNamed wanted quiet shard names files end = LintsOr wanted quiet shard (paths_of_line names) files end
+abbrev pub LintsNamed : Job → List Name → Files → Faults → Faults → End → Type 0
+LintsNamed job names files was is end = LintsOr job (paths_of_line names) files was is end
 
 abbrev pub read_failed : Row
 read_failed = fails_with tree_linter (codes "read failed")
 
 -- the same where they are read from standard input, which has these bytes where it tells them, unless its read failed
-abbrev pub ReadsAndLints : Wanted → Bool → Option Shard → Bool → Option (List ℕ) → Files → End → Type 0
-ReadsAndLints wanted quiet shard failed input files end =
+abbrev pub ReadsAndLints : Job → Bool → Option (List ℕ) → Files → Faults → Faults → End → Type 0
+ReadsAndLints job failed input files was is end =
     SaysOnly (out_of_memory tree_linter) end
-    ⊎ (((failed ≡ true) × SaysOnly read_failed end)
-    ⊎ ((failed ≡ false) × (bytes : List ℕ) × Tells input bytes × Lints wanted quiet shard (paths_of_input bytes) files end))
+    ⊎ (((failed ≡ true) × (is ≡ was) × SaysOnly read_failed end)
+    ⊎ ((failed ≡ false) × (bytes : List ℕ) × Tells input bytes × Lints job (paths_of_input bytes) files was is end))
 
 -- ---- runs that look at no file
 
@@ -132,23 +137,24 @@ ShowsUsage texts usage end = SaysOnly (out_of_memory tree_linter) end ⊎ SaysOn
 -- ---- all runs
 
 -- how a run ends that was asked for this
-abbrev pub EndsBy : Bool → Wanted → Bool → Option Shard → List Name → Bool → Option (List ℕ) → Files → End → Type 0
-EndsBy true wanted quiet shard names failed input files end = ReadsAndLints wanted quiet shard failed input files end
-EndsBy false wanted quiet shard names failed input files end = LintsNamed wanted quiet shard names files end
+abbrev pub EndsBy : Bool → Job → List Name → Bool → Option (List ℕ) → Files → Faults → Faults → End → Type 0
+EndsBy true job names failed input files was is end = ReadsAndLints job failed input files was is end
+EndsBy false job names failed input files was is end = LintsNamed job names files was is end
 
-abbrev pub EndsAsked : Asking → Bool → Option (List ℕ) → Files → End → Type 0
-EndsAsked asking failed input files end = EndsBy asking.null asking.wanted asking.quiet asking.shard asking.names failed input files end
+abbrev pub EndsAsked : Asking → Bool → Option (List ℕ) → Files → Faults → Faults → End → Type 0
+EndsAsked asking failed input files was is end = EndsBy asking.null asking.job asking.names failed input files was is end
 
-abbrev pub EndsFor : List Text → Result Asking Usage → Bool → Option (List ℕ) → Files → End → Type 0
-EndsFor texts (Ok asking) failed input files end = EndsAsked asking failed input files end
-EndsFor texts (Err usage) failed input files end = ShowsUsage texts usage end
+-- without options the device isn't called
+abbrev pub EndsFor : List Text → Result Asking Usage → Bool → Option (List ℕ) → Files → Faults → Faults → End → Type 0
+EndsFor texts (Ok asking) failed input files was is end = EndsAsked asking failed input files was is end
+EndsFor texts (Err usage) failed input files was is end = (is ≡ was) × ShowsUsage texts usage end
 
 -- the end of a run with these texts, and these names beside them
-abbrev pub IsEndOf : List Text → List Name → Bool → Option (List ℕ) → Files → End → Type 0
-IsEndOf texts others failed input files end =
-    SaysOnly (out_of_memory tree_linter) end ⊎ EndsFor texts (asking_of_texts texts others) failed input files end
+abbrev pub IsEndOf : List Text → List Name → Bool → Option (List ℕ) → Files → Faults → Faults → End → Type 0
+IsEndOf texts others failed input files was is end =
+    ((is ≡ was) × SaysOnly (out_of_memory tree_linter) end) ⊎ EndsFor texts (asking_of_texts texts others) failed input files was is end
 
--- THE END of a run with these words, over these files, where standard input has these bytes: what the words ask for; or
--- memory ran out before a file was read
-abbrev pub IsEnd : List (List ℕ) → Bool → Option (List ℕ) → Files → End → Type 0
-IsEnd words failed input files end = IsEndOf (texts_in (codes "tfrules-all") words) (others_in words) failed input files end
+-- THE END of a run with these words, over these files, where standard input has these bytes and the device has had these faults
+-- before and after: what the words ask for; or memory ran out before a file was looked at
+abbrev pub IsEnd : List (List ℕ) → Bool → Option (List ℕ) → Files → Faults → Faults → End → Type 0
+IsEnd words failed input files was is end = IsEndOf (texts_in (codes "tfrules-all") words) (others_in words) failed input files was is end

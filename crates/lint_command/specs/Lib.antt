@@ -1,8 +1,6 @@
 pub mod Asked
 pub mod Ends
 pub mod Explained
-pub mod Faults
-pub mod Inner
 pub mod Line
 pub mod Linter
 pub mod LinterWords

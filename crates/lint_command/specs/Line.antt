@@ -26,12 +26,15 @@ pub record Wanted : Type 0 where
   pub minimum : Severity
   pub force : Bool
 
--- what a line asks for: that, whether nothing is said of the run as a whole, the part of the folders, whether names are read
--- from standard input, and the names of the line
-pub record Asking : Type 0 where
+-- what is to be done: that, whether nothing is said of the run as a whole, and the part of the folders
+pub record Job : Type 0 where
   pub wanted : Wanted
   pub quiet : Bool
   pub shard : Option Shard
+
+-- what a line asks for: that, whether names are read from standard input, and the names of the line
+pub record Asking : Type 0 where
+  pub job : Job
   pub null : Bool
   pub names : List Name
 
@@ -71,7 +74,7 @@ abbrev pub asking_by : Result Wanted Usage → Bool → Option (Option Shard) �
 asking_by (Err usage) quiet shard is_good null names = Err usage
 asking_by (Ok wanted) quiet None is_good null names = Err BadPart
 asking_by (Ok wanted) quiet (Some shard) false null names = Err NamesTwice
-asking_by (Ok wanted) quiet (Some shard) true null names = Ok (record { wanted = wanted; quiet = quiet; shard = shard; null = null; names = names })
+asking_by (Ok wanted) quiet (Some shard) true null names = Ok (record { job = record { wanted = wanted; quiet = quiet; shard = shard }; null = null; names = names })
 
 abbrev pub asking_with : List Row → List Name → Result Asking Usage
 asking_with rows names =

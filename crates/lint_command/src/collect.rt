@@ -1,19 +1,20 @@
 //! The modules of what a call names.
 
-ghost use Rattle.std.specs.Prelude.{◌≡◌, IfOk, map};
+ghost use Rattle.std.specs.Prelude.{◌≡◌, ◌++◌, IfOk, map};
+ghost use Rattle.file_tree.specs.Ordered.{Orders};
 ghost use Rattle.file_tree.specs.Choices.{chosen};
 ghost use Rattle.lint_command.specs.Ends.{Collects, any_file};
 
 use file_tree::choice::Choice;
 use file_tree::tree::Tree;
-use file_tree::walk::{Found, find};
+use file_tree::walk::{Found, find, in_order};
 use module_find::modules::modules_of;
 use module_find::{Module, faults_of, folders_of};
 use std::alloc::{AllocError, Global};
 use tree_command::pick::pick;
 use tree_command::shard::Shard;
 
-/// Modules, and what can't be looked at beside them.
+/// Modules, and what can't be looked at beside them, in the order of the names.
 #[derive(Drop)]
 pub(crate) struct Collected {
     pub modules: Vec<Module>,
@@ -30,6 +31,16 @@ fn any_file<'a>() -> Choice<'a>
     }
 }
 
+/// These and those, in the order of their names, each once.
+fn together(mut these: Vec<Found>, mut those: Vec<Found>) -> Result<Vec<Found>, AllocError>
+    ensures { IfOk result (λ all. Orders (these.items ++ those.items) all.items) }
+{
+    let Ok(()) = these.append(&mut those) else {
+        return Err(AllocError);
+    };
+    Ok(in_order(these))
+}
+
 /// The modules that these names stand for, as far as they are of the part.
 pub(crate) fn collect<T: Tree>(
     alloc: Global,
@@ -37,15 +48,20 @@ pub(crate) fn collect<T: Tree>(
     operands: &[&[u8]],
     tree: &mut T,
 ) -> Result<Collected, AllocError>
-    // Nothing is changed.
+    // Nothing is changed, nor asked to be.
     ensures files { T.files tree.new ≡ T.files tree.old }
+    ensures asked { T.asked tree.new ≡ T.asked tree.old }
     ensures collects { IfOk result (λ c. Collects (T.files tree.old) shard
-        (map (λ operand. operand.now) operands.now) c.modules.items c.faults.items) }
+        (map (λ operand. operand.now) operands.now) (T.faults tree.old) (T.faults tree.new)
+        c.modules.items c.faults.items) }
 {
     let found = find(alloc, any_file(), operands, tree)?;
     let folders = folders_of(alloc, found.as_slice())?;
     let folders = pick(alloc, folders, shard)?;
     let faults = pick(alloc, faults_of(alloc, found)?, shard)?;
-    let modules = modules_of(alloc, folders, tree)?;
-    Ok(Collected { modules, faults })
+    let all = modules_of(alloc, folders, tree)?;
+    Ok(Collected {
+        modules: all.modules,
+        faults: together(faults, all.beside)?,
+    })
 }

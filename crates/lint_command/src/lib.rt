@@ -6,8 +6,6 @@ mod collect;
 mod explain;
 mod linter_words;
 mod options;
-mod report;
 pub mod run;
-mod taken;
 mod usage;
 mod words;

@@ -20,15 +20,21 @@ use tree_command::options::{counted_flag, file, is_given, names_in, null, shard_
 use tree_command::shard::Shard;
 use tree_lint::policy::Policy;
 
-/// What the words ask for.
-#[derive(Debug, Drop)]
-pub struct LintOptions<'a> {
+/// What is to be done.
+#[derive(Clone, Copy, Debug, PartialEq, Eq)]
+pub struct Job {
     /// By what each module is linted.
     pub policy: Policy,
     /// Nothing is said of the run as a whole.
     pub quiet: bool,
     /// The part of the folders that is taken, where it isn't all.
     pub shard: Option<Shard>,
+}
+
+/// What the words ask for.
+#[derive(Debug, Drop)]
+pub struct LintOptions<'a> {
+    pub job: Job,
     /// The names are read from standard input.
     pub null: bool,
     /// The names of the line.
@@ -130,9 +136,11 @@ fn options_by<'a>(
         return Err(Usage::NamesTwice);
     }
     Ok(LintOptions {
-        policy,
-        quiet,
-        shard,
+        job: Job {
+            policy,
+            quiet,
+            shard,
+        },
         null,
         names,
     })

@@ -2,37 +2,28 @@
 
 ghost use Rattle.std.specs.Prelude.{◌≡◌, ◌||◌, ◌++◌, List, ℕ, false, flat_map, is_err, map, if◌then◌else◌};
 ghost use Rattle.command_line.specs.Rows.{Took, end_of, writer};
-ghost use Rattle.tree_lint.specs.Runs.{StayTold, files_of, told_in, worse_status};
-ghost use Rattle.lint_command.specs.Asked.{asking_of, wanted_of};
-ghost use Rattle.lint_command.specs.Ends.{EndsAsked, IsEnd, IsEndOf, LintsOr, LintsNamed, ReadsAndLints, RunsThen, summary};
-ghost use Rattle.lint_command.specs.Faults.{fault_line, fault_status};
+ghost use Rattle.tree_lint.specs.Faults.{fault_lines};
+ghost use Rattle.tree_lint.specs.Readers.{has_reader_out};
+ghost use Rattle.tree_lint.specs.Runs.{worse_status};
+ghost use Rattle.lint_command.specs.Asked.{asking_of, job_of};
+ghost use Rattle.lint_command.specs.Ends.{EndsAsked, IsEnd, IsEndOf, LintsOr, LintsNamed, ReadsAndLints, RunsThen, fault_status, last_words, summary};
 ghost use Rattle.lint_command.specs.Line.{asking_of_texts, asking_of_words, reads_names};
 
-use crate::options::{LintOptions, options};
-use crate::report::{fault_status, tell_all};
-use crate::taken::{Taken, take_all};
+use crate::collect::{Collected, collect};
+use crate::options::{Job, LintOptions, options};
 use crate::words::{say, tree_linter};
 use file_tree::tree::Tree;
 use file_tree::walk::Found;
 use hcl_scan::{ByteSink, ByteSource, Failed};
 use std::alloc::Global;
-use tfrules_command::module_files::ModuleFiles;
 use tree_command::run::{operands_in, operands_of, read_names};
-use tree_command::shard::Shard;
 use tree_command::words::words_of;
 use tree_lint::counts::{Counts, tell_summary};
 use tree_lint::module_tree::ModuleTree;
-use tree_lint::policy::Policy;
+use tree_lint::refusal::tell_faults;
 use tree_lint::run::{RunEnd, run_over, worse_status};
 
 static READ_FAILED: &str = "tfrules-all: error: read failed\n";
-
-/// Whether one of two devices has failed.
-fn has_failed<O: ByteSink, E: ByteSink>(out: &O, err: &E) -> bool
-    ensures { result ≡ (O.failed out.now || E.failed err.now) }
-{
-    out.has_failed() || err.has_failed()
-}
 
 /// Says what was found in all, unless the run is to be quiet.
 fn summarise<E: ByteSink>(quiet: bool, counts: &Counts, err: &mut E) -> Result<(), Failed>
@@ -46,7 +37,7 @@ fn summarise<E: ByteSink>(quiet: bool, counts: &Counts, err: &mut E) -> Result<(
     tell_summary(err, counts)
 }
 
-/// Says what can't be linted, and what was found in all.
+/// Says what can't be looked at, and what was found in all.
 fn tell_end<E: ByteSink>(
     quiet: bool,
     counts: &Counts,
@@ -55,20 +46,27 @@ fn tell_end<E: ByteSink>(
 ) -> Result<(), Failed>
     requires err { E.failed err.old ≡ false }
     ensures took { Took (writer E.ByteSink err.old err.new)
-        (flat_map fault_line faults.now ++ summary quiet counts.now) }
+        (flat_map fault_lines faults.now ++ summary quiet counts.now) }
     ensures failed { E.failed err.new ≡ is_err result }
 {
-    if tell_all(err, faults).is_err() {
+    if tell_faults(err, faults).is_err() {
         return Err(Failed);
     }
     summarise(quiet, counts, err)
 }
 
-/// Says what there is to say after the modules were linted, and gives the status of the run.
-fn finish<E: ByteSink>(quiet: bool, ran: &RunEnd, faults: &[Found], err: &mut E) -> u8
+/// The status of a run in which these can't be looked at.
+fn fault_status(faults: &[Found]) -> u8
+    ensures { result ≡ fault_status faults.now }
+{
+    if faults.is_empty() { 0 } else { 1 }
+}
+
+/// Says the last words of a run whose writes went well, and gives its status.
+fn end_well<E: ByteSink>(quiet: bool, ran: &RunEnd, faults: &[Found], err: &mut E) -> u8
     requires err { E.failed err.old ≡ false }
     ensures took { Took (writer E.ByteSink err.old err.new)
-        (flat_map fault_line faults.now ++ summary quiet ran.now.counts) }
+        (flat_map fault_lines faults.now ++ summary quiet ran.now.counts) }
     ensures exit { result ≡ (if E.failed err.new then 1
         else worse_status ran.now.status (fault_status faults.now)) }
 {
@@ -78,55 +76,75 @@ fn finish<E: ByteSink>(quiet: bool, ran: &RunEnd, faults: &[Found], err: &mut E)
     }
 }
 
-/// Lints modules, and says what can't be linted.
-fn lint_taken<T: Tree + Drop, O: ByteSink, E: ByteSink>(
-    alloc: Global,
-    policy: Policy,
+/// Says the last words of a run, and gives its status.
+fn finish<O: ByteSink, E: ByteSink>(
     quiet: bool,
-    taken: &Taken,
+    ran: &RunEnd,
+    faults: &[Found],
+    out: &O,
+    err: &mut E,
+) -> u8
+    requires err { E.failed err.old ≡ false }
+    ensures took { Took (writer E.ByteSink err.old err.new)
+        (last_words quiet (O.failed out.now) faults.now ran.now.counts) }
+    ensures exit { result ≡ (if O.failed out.now || E.failed err.new then 1
+        else worse_status ran.now.status (fault_status faults.now)) }
+{
+    if out.has_failed() {
+        return tree_linter().finish(out, err, 1);
+    }
+    end_well(quiet, ran, faults, err)
+}
+
+/// Lints modules, and says what can't be looked at beside them.
+fn lint_collected<T: Tree + Drop, O: ByteSink, E: ByteSink>(
+    alloc: Global,
+    job: Job,
+    collected: &Collected,
     files: &mut ModuleTree<T>,
     out: &mut O,
     err: &mut E,
 ) -> u8
-    requires back { ⟦<ModuleTree<T> as ModuleFiles>⟧.is_out files.old ≡ false }
+    requires back { has_reader_out files.old ≡ false }
     requires out { O.failed out.old ≡ false }
     requires err { E.failed err.old ≡ false }
-    ensures ran { RunsThen (told_in (T.files files.old.tree)) policy quiet
-        (map files_of taken.now.modules.items) taken.now.faults.items
+    ensures ran { RunsThen (T.files files.old.tree) job.policy job.quiet
+        collected.now.modules.items collected.now.faults.items
+        (T.faults files.old.tree) (T.faults files.new.tree)
         (end_of O.ByteSink out.old out.new E.ByteSink err.old err.new result) }
-    ensures told { StayTold (T.files files.old.tree) (T.files files.new.tree) }
-    ensures back { ⟦<ModuleTree<T> as ModuleFiles>⟧.is_out files.new ≡ false }
+    ensures files { T.files files.new.tree ≡ T.files files.old.tree }
+    ensures asked { T.asked files.new.tree ≡ T.asked files.old.tree }
+    ensures back { has_reader_out files.new ≡ false }
 {
-    let ran = run_over(alloc, policy, taken.modules.as_slice(), files, out, err);
-    if has_failed(out, err) {
-        return ran.status;
+    let modules = collected.modules.as_slice();
+    let ran = run_over(alloc, job.policy, modules, files, out, err);
+    if err.has_failed() {
+        return 1;
     }
-    finish(quiet, &ran, taken.faults.as_slice(), err)
+    finish(job.quiet, &ran, collected.faults.as_slice(), out, err)
 }
 
 /// Finds the modules and lints them.
 fn lint<T: Tree + Drop, O: ByteSink, E: ByteSink>(
     alloc: Global,
-    policy: Policy,
-    quiet: bool,
-    shard: Option<Shard>,
+    job: Job,
     operands: &[&[u8]],
     files: &mut ModuleTree<T>,
     out: &mut O,
     err: &mut E,
 ) -> u8
-    requires back { ⟦<ModuleTree<T> as ModuleFiles>⟧.is_out files.old ≡ false }
+    requires back { has_reader_out files.old ≡ false }
     requires out { O.failed out.old ≡ false }
     requires err { E.failed err.old ≡ false }
-    ensures ends { LintsOr (wanted_of policy) quiet shard
-        (map (λ operand. operand.now) operands.now)
-        (T.files files.old.tree)
+    ensures ends { LintsOr (job_of job) (map (λ operand. operand.now) operands.now)
+        (T.files files.old.tree) (T.faults files.old.tree) (T.faults files.new.tree)
         (end_of O.ByteSink out.old out.new E.ByteSink err.old err.new result) }
-    ensures told { StayTold (T.files files.old.tree) (T.files files.new.tree) }
-    ensures back { ⟦<ModuleTree<T> as ModuleFiles>⟧.is_out files.new ≡ false }
+    ensures files { T.files files.new.tree ≡ T.files files.old.tree }
+    ensures asked { T.asked files.new.tree ≡ T.asked files.old.tree }
+    ensures back { has_reader_out files.new ≡ false }
 {
-    match take_all(alloc, shard, operands, &mut files.tree) {
-        Ok(taken) => lint_taken(alloc, policy, quiet, &taken, files, out, err),
+    match collect(alloc, job.shard, operands, &mut files.tree) {
+        Ok(collected) => lint_collected(alloc, job, &collected, files, out, err),
         Err(_) => tree_linter().tell_out_of_memory(out, err),
     }
 }
@@ -134,24 +152,22 @@ fn lint<T: Tree + Drop, O: ByteSink, E: ByteSink>(
 /// Takes the names from a device.
 fn lint_null<T: Tree + Drop, R: ByteSource, O: ByteSink, E: ByteSink>(
     alloc: Global,
-    policy: Policy,
-    quiet: bool,
-    shard: Option<Shard>,
+    job: Job,
     input: &mut R,
     files: &mut ModuleTree<T>,
     out: &mut O,
     err: &mut E,
 ) -> u8
-    requires back { ⟦<ModuleTree<T> as ModuleFiles>⟧.is_out files.old ≡ false }
+    requires back { has_reader_out files.old ≡ false }
     requires input { R.failed input.old ≡ false }
     requires out { O.failed out.old ≡ false }
     requires err { E.failed err.old ≡ false }
-    ensures ends { ReadsAndLints (wanted_of policy) quiet shard (R.failed input.new)
-        (R.left input.old)
-        (T.files files.old.tree)
+    ensures ends { ReadsAndLints (job_of job) (R.failed input.new) (R.left input.old)
+        (T.files files.old.tree) (T.faults files.old.tree) (T.faults files.new.tree)
         (end_of O.ByteSink out.old out.new E.ByteSink err.old err.new result) }
-    ensures told { StayTold (T.files files.old.tree) (T.files files.new.tree) }
-    ensures back { ⟦<ModuleTree<T> as ModuleFiles>⟧.is_out files.new ≡ false }
+    ensures files { T.files files.new.tree ≡ T.files files.old.tree }
+    ensures asked { T.asked files.new.tree ≡ T.asked files.old.tree }
+    ensures back { has_reader_out files.new ≡ false }
 {
     let read = read_names(alloc, input);
     if input.has_failed() {
@@ -161,16 +177,7 @@ fn lint_null<T: Tree + Drop, R: ByteSource, O: ByteSink, E: ByteSink>(
         return tree_linter().tell_out_of_memory(out, err);
     };
     match operands_in(alloc, names.as_slice()) {
-        Ok(operands) => lint(
-            alloc,
-            policy,
-            quiet,
-            shard,
-            operands.as_slice(),
-            files,
-            out,
-            err,
-        ),
+        Ok(operands) => lint(alloc, job, operands.as_slice(), files, out, err),
         Err(_) => tree_linter().tell_out_of_memory(out, err),
     }
 }
@@ -178,34 +185,24 @@ fn lint_null<T: Tree + Drop, R: ByteSource, O: ByteSink, E: ByteSink>(
 /// Takes the names from the line.
 fn lint_named<T: Tree + Drop, O: ByteSink, E: ByteSink>(
     alloc: Global,
-    policy: Policy,
-    quiet: bool,
-    shard: Option<Shard>,
+    job: Job,
     names: &[&[u8]],
     files: &mut ModuleTree<T>,
     out: &mut O,
     err: &mut E,
 ) -> u8
-    requires back { ⟦<ModuleTree<T> as ModuleFiles>⟧.is_out files.old ≡ false }
+    requires back { has_reader_out files.old ≡ false }
     requires out { O.failed out.old ≡ false }
     requires err { E.failed err.old ≡ false }
-    ensures ends { LintsNamed (wanted_of policy) quiet shard (map (λ name. name.now) names.now)
-        (T.files files.old.tree)
+    ensures ends { LintsNamed (job_of job) (map (λ name. name.now) names.now)
+        (T.files files.old.tree) (T.faults files.old.tree) (T.faults files.new.tree)
         (end_of O.ByteSink out.old out.new E.ByteSink err.old err.new result) }
-    ensures told { StayTold (T.files files.old.tree) (T.files files.new.tree) }
-    ensures back { ⟦<ModuleTree<T> as ModuleFiles>⟧.is_out files.new ≡ false }
+    ensures files { T.files files.new.tree ≡ T.files files.old.tree }
+    ensures asked { T.asked files.new.tree ≡ T.asked files.old.tree }
+    ensures back { has_reader_out files.new ≡ false }
 {
     match operands_of(alloc, names) {
-        Ok(operands) => lint(
-            alloc,
-            policy,
-            quiet,
-            shard,
-            operands.as_slice(),
-            files,
-            out,
-            err,
-        ),
+        Ok(operands) => lint(alloc, job, operands.as_slice(), files, out, err),
         Err(_) => tree_linter().tell_out_of_memory(out, err),
     }
 }
@@ -219,34 +216,24 @@ fn run_asked<T: Tree + Drop, R: ByteSource, O: ByteSink, E: ByteSink>(
     out: &mut O,
     err: &mut E,
 ) -> u8
-    requires back { ⟦<ModuleTree<T> as ModuleFiles>⟧.is_out files.old ≡ false }
+    requires back { has_reader_out files.old ≡ false }
     requires input { R.failed input.old ≡ false }
     requires out { O.failed out.old ≡ false }
     requires err { E.failed err.old ≡ false }
     ensures ends { EndsAsked (asking_of options.now) (R.failed input.new) (R.left input.old)
-        (T.files files.old.tree)
+        (T.files files.old.tree) (T.faults files.old.tree) (T.faults files.new.tree)
         (end_of O.ByteSink out.old out.new E.ByteSink err.old err.new result) }
     // Standard input is read only for names.
     ensures unread { options.now.null ≡ false → input.new ≡ input.old }
-    ensures told { StayTold (T.files files.old.tree) (T.files files.new.tree) }
-    ensures back { ⟦<ModuleTree<T> as ModuleFiles>⟧.is_out files.new ≡ false }
+    ensures files { T.files files.new.tree ≡ T.files files.old.tree }
+    ensures asked { T.asked files.new.tree ≡ T.asked files.old.tree }
+    ensures back { has_reader_out files.new ≡ false }
 {
-    let policy = options.policy;
-    let quiet = options.quiet;
-    let shard = options.shard;
+    let job = options.job;
     if options.null {
-        return lint_null(alloc, policy, quiet, shard, input, files, out, err);
+        return lint_null(alloc, job, input, files, out, err);
     }
-    lint_named(
-        alloc,
-        policy,
-        quiet,
-        shard,
-        options.names.as_slice(),
-        files,
-        out,
-        err,
-    )
+    lint_named(alloc, job, options.names.as_slice(), files, out, err)
 }
 
 /// The program of words that are texts, and names beside them.
@@ -259,18 +246,20 @@ fn run_line<'w, T: Tree + Drop, R: ByteSource, O: ByteSink, E: ByteSink>(
     out: &mut O,
     err: &mut E,
 ) -> u8
-    requires back { ⟦<ModuleTree<T> as ModuleFiles>⟧.is_out files.old ≡ false }
+    requires back { has_reader_out files.old ≡ false }
     requires input { R.failed input.old ≡ false }
     requires out { O.failed out.old ≡ false }
     requires err { E.failed err.old ≡ false }
     ensures ends { IsEndOf (map (λ word. word.now) words.now) (map (λ name. name.now) others.now)
         (R.failed input.new) (R.left input.old) (T.files files.old.tree)
+        (T.faults files.old.tree) (T.faults files.new.tree)
         (end_of O.ByteSink out.old out.new E.ByteSink err.old err.new result) }
     // Standard input is read only for names.
     ensures unread { reads_names (asking_of_texts (map (λ word. word.now) words.now)
         (map (λ name. name.now) others.now)) ≡ false → input.new ≡ input.old }
-    ensures told { StayTold (T.files files.old.tree) (T.files files.new.tree) }
-    ensures back { ⟦<ModuleTree<T> as ModuleFiles>⟧.is_out files.new ≡ false }
+    ensures files { T.files files.new.tree ≡ T.files files.old.tree }
+    ensures asked { T.asked files.new.tree ≡ T.asked files.old.tree }
+    ensures back { has_reader_out files.new ≡ false }
 {
     match options(alloc, words, others) {
         Ok(options) => run_asked(alloc, &options, files, input, out, err),
@@ -287,21 +276,23 @@ pub fn program<T: Tree + Drop, R: ByteSource, O: ByteSink, E: ByteSink>(
     out: &mut O,
     err: &mut E,
 ) -> u8
-    requires back { ⟦<ModuleTree<T> as ModuleFiles>⟧.is_out files.old ≡ false }
+    requires back { has_reader_out files.old ≡ false }
     requires input { R.failed input.old ≡ false }
     requires out { O.failed out.old ≡ false }
     requires err { E.failed err.old ≡ false }
     // What was linted and said, and with which status it ends.
     ensures ends { IsEnd (map (λ word. word.now) words.now) (R.failed input.new) (R.left input.old)
         (T.files files.old.tree)
+        (T.faults files.old.tree) (T.faults files.new.tree)
         (end_of O.ByteSink out.old out.new E.ByteSink err.old err.new result) }
     // Standard input is read only where the words ask for names from there.
     ensures unread { reads_names (asking_of_words (map (λ word. word.now) words.now)) ≡ false
         → input.new ≡ input.old }
-    // All names lead to the same bytes as before.
-    ensures told { StayTold (T.files files.old.tree) (T.files files.new.tree) }
+    // Nothing is changed, nor asked to be.
+    ensures files { T.files files.new.tree ≡ T.files files.old.tree }
+    ensures asked { T.asked files.new.tree ≡ T.asked files.old.tree }
     // No file is left open.
-    ensures back { ⟦<ModuleTree<T> as ModuleFiles>⟧.is_out files.new ≡ false }
+    ensures back { has_reader_out files.new ≡ false }
 {
     let Ok(words) = words_of(alloc, "tfrules-all", words) else {
         return tree_linter().tell_out_of_memory(out, err);

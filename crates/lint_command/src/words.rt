@@ -3,7 +3,7 @@
 ghost use Rattle.std.specs.Prelude.{◌≡◌, ℕ, List, false, map};
 ghost use Rattle.command_line.specs.Rows.{end_of};
 ghost use Rattle.lint_command.specs.Ends.{ShowsUsage};
-ghost use Rattle.lint_command.specs.Linter.{tree_linter};
+ghost use Rattle.tree_lint.specs.Refusals.{tree_linter};
 ghost use Rattle.lint_command.specs.declared.usage.Usage.TheVariants.{BadLine, Explain, ListRules};
 
 use crate::explain::{explained, rule_list};

@@ -4,6 +4,7 @@ ghost use Rattle.std.specs.Prelude.{◌≡◌, false};
 
 use crate::checks::{Modules, same_bytes, same_counts, same_number};
 use hcl_scan::MemorySink;
+use module_find::Module;
 use std::alloc::{AllocError, Global};
 use std::process::Abort;
 use tf_rules::{Naming, RuleSet, Settings, Severity};
@@ -13,7 +14,6 @@ use tree_devices::entry::{Entry, Stands};
 use tree_devices::memory_tree::MemoryTree;
 use tree_lint::counts::Counts;
 use tree_lint::module_tree::ModuleTree;
-use tree_lint::modules::Module;
 use tree_lint::policy::Policy;
 use tree_lint::run::{RunEnd, run_over};
 
@@ -71,7 +71,7 @@ static D_ALONE: Modules = &[&["d/a.tf", "d/b.tofu"]];
 static A_REPORT: &str =
     "1 issue(s) found:\n\na/main.tf:1:1: Warning - variable \"x\" has no type (terraform_typed_variables)\n";
 
-static B_REFUSAL: &str = "tfrules: error: b/main.tf:1:5: unexpected token\n";
+static B_REFUSAL: &str = "tfrules-all: error: b/main.tf:1:5: unexpected token\n";
 
 static D_REPORT: &str =
     "3 issue(s) found:\n\nd/a.tf:1:1: Warning - variable \"z\" is declared but not used (terraform_unused_declarations)\nd/b.tofu:1:1: Warning - variable \"w\" has no type (terraform_typed_variables)\nd/b.tofu:1:1: Warning - variable \"w\" is declared but not used (terraform_unused_declarations)\n";
@@ -120,12 +120,17 @@ fn policy(given: &Given) -> Policy {
     }
 }
 
+/// A module of these files. Its folder is shown as `f/`.
 fn module_of(alloc: Global, names: &[&str]) -> Result<Module, AllocError> {
     let mut files = Vec::new(alloc);
     for name in names {
         files.push(String::from_str(alloc, *name)?)?;
     }
-    Ok(Module { files })
+    Ok(Module {
+        folder: Vec::from_slice(alloc, b"f/")?,
+        files,
+        faults: Vec::new(alloc),
+    })
 }
 
 fn modules_of(alloc: Global, given: &Given) -> Result<Vec<Module>, AllocError> {
@@ -218,7 +223,7 @@ fn what_fails_at_one_module_stops_no_other(rt: HostRuntime) {
         rt.alloc(),
         unopened,
         D_REPORT,
-        "tfrules: error: a/main.tf: cannot be opened\n",
+        "tfrules-all: error: a/main.tf: cannot be read\n",
         1,
     );
     let unread = Given {
@@ -233,7 +238,7 @@ fn what_fails_at_one_module_stops_no_other(rt: HostRuntime) {
         rt.alloc(),
         unread,
         D_REPORT,
-        "tfrules: error: a/main.tf: read failed\n",
+        "tfrules-all: error: a/main.tf: read failed\n",
         1,
     );
 }
@@ -244,14 +249,7 @@ fn a_failed_write_ends_the_run(rt: HostRuntime) {
         write: Some(0),
         ..steady(C_A_B)
     };
-    shows(
-        &rt,
-        rt.alloc(),
-        unwritten,
-        "",
-        "tfrules: error: write failed\n",
-        1,
-    );
+    shows(&rt, rt.alloc(), unwritten, "", "", 1);
 }
 
 /// So many modules without issues, and one with an issue after them.
@@ -266,12 +264,12 @@ fn many(alloc: Global, count: usize) -> Result<Vec<Module>, AllocError> {
 
 /// One module of so many files.
 fn large(alloc: Global, count: usize) -> Result<Vec<Module>, AllocError> {
-    let mut files = Vec::new(alloc);
-    for _ in 0..count {
-        files.push(String::from_str(alloc, "c/main.tf")?)?;
+    let mut one = module_of(alloc, &["c/main.tf"])?;
+    for _ in 1..count {
+        one.files.push(String::from_str(alloc, "c/main.tf")?)?;
     }
     let mut modules = Vec::new(alloc);
-    modules.push(Module { files })?;
+    modules.push(one)?;
     modules.push(module_of(alloc, &["a/main.tf"])?)?;
     Ok(modules)
 }
@@ -292,7 +290,7 @@ fn too_many_files_are_told(rt: HostRuntime) {
     same_bytes(
         &rt,
         shown.err.bytes(),
-        b"tfrules: error: more than 256 files\n",
+        b"tfrules-all: error: f/: more than 256 files\n",
         A_ALONE,
     );
     same_number(&rt, u64::from(shown.end.status), 1, A_ALONE);

@@ -1,19 +1,20 @@
 -- Folders and modules, one after another.
-use Rattle.std.proofs.Common.{flat_map, ◌≡◌, ◌∙◌, ◌<◌, ◌+◌, ◌⊎◌, ◌++◌, ◌∷◌, [], ℕ, Bool, true, false, Global, List, None, String, Contains, ap, append-nil, get_or, inl, inr, length, map, refl, subst, string_bytes, sym, take, true≢false}
+use Rattle.std.proofs.Common.{flat_map, ◌≡◌, ◌∙◌, ◌<◌, ◌+◌, ◌⊎◌, ◌++◌, ◌∷◌, [], ℕ, Bool, true, false, Global, List, None, String, Contains, ap, append-nil, append_assoc, get_or, inl, inr, length, map, refl, subst, string_bytes, sym, take, true≢false}
 use Rattle.std.specs.Prelude.{Result, Ok, Err, IfOk, OnOk}
-use Rattle.std.specs.List.{AllZip}
 use Rattle.std.specs.Str.{IsUtf8, is_utf8}
 use Rattle.std.proofs.lemmas.Grind.{flat_map-append}
 use Rattle.std.proofs.lemmas.List.{map-append, take_more}
 use Rattle.std.proofs.lemmas.List.Elements.{Contains-append_left, Contains-push, Contains-push_cases}
 use Rattle.std.proofs.lemmas.Str.{IsUtf8-from_is_utf8}
-use Rattle.file_tree.specs.Files.{Files, Name}
+use Rattle.file_tree.specs.Files.{Faults, Files, Name}
 use Rattle.file_tree.specs.Ordered.{Orders}
 use Rattle.file_tree.specs.declared.walk.Found.{Found}
 use Rattle.file_tree.proofs.OrderLemmas.{none_in}
 use Rattle.module_find.specs.Inner.Adding.{AddsFolder, AddsModule, TakesFound}
-use Rattle.module_find.specs.Modules.{AreFolders, AreFoldersOf, AreModules, IsModule, IsModuleOf, fault_in, file_in, folder_of, stands}
+use Rattle.module_find.specs.Modules.{AreFolders, AreFoldersOf, AreModules, IsModule, IsModuleOf, beside_in, fault_in, file_in, folder_of, stands}
 use Rattle.module_find.specs.declared.module.Module.{Module}
+use Rattle.module_find.specs.declared.modules.Modules.{Modules}
+use Rattle.module_find.specs.declared.modules.Sorted.{Sorted}
 
 pub not_utf8 : (word : List ℕ) → (IsUtf8 word → ⊥) → is_utf8 word ≡ false
 not_utf8 word isnt = by (is_utf8 word) refl
@@ -86,26 +87,47 @@ folder_added false f d old new e named good h = absurd (true≢false (sym e))
 
 -- ---- one module
 
-pub module_more : (name : Name) (found : List Found) (f : Found) (old new : Module) → IsModuleOf name found old → TakesFound f old new → IsModuleOf name (found ++ f ∷ []) new
+more_of : {A B : Type 0} (f : A → List B) (xs : List A) (x : A) (old new : List B) → old ≡ flat_map f xs → new ≡ old ++ f x → new ≡ flat_map f (xs ++ x ∷ [])
+more_of f xs x old new e h = h ∙ ap (λ l. l ++ f x) e ∙ sym (flat_map-append f xs (x ∷ []) ∙ ap (λ l. flat_map f xs ++ l) (append-nil (f x)))
+
+pub module_more : (name : Name) (found : List Found) (f : Found) (old new : Sorted) → IsModuleOf name found old.module old.beside.items → TakesFound f old new → IsModuleOf name (found ++ f ∷ []) new.module new.beside.items
 module_more name found f old new before h = record {
   folder = ap (λ v. v.items) h.folder ∙ before.folder;
-  files = h.files ∙ ap (λ l. l ++ file_in f) before.files ∙ sym (flat_map-append file_in found (f ∷ []) ∙ ap (λ l. flat_map file_in found ++ l) (append-nil (file_in f)));
-  faults = h.faults ∙ ap (λ l. l ++ fault_in f) before.faults ∙ sym (flat_map-append fault_in found (f ∷ []) ∙ ap (λ l. flat_map fault_in found ++ l) (append-nil (fault_in f)));
+  files = more_of file_in found f _ _ before.files h.files;
+  faults = more_of fault_in found f _ _ before.faults h.faults;
+  left = more_of beside_in found f _ _ before.left h.beside;
 }
 
 -- ---- all modules
 
-zip_more : {A B : Type 0} (R : A → B → Type 0) (xs : List A) (ys : List B) (x : A) (y : B) → AllZip R xs ys → R x y → AllZip R (xs ++ x ∷ []) (ys ++ y ∷ [])
-zip_more R [] [] x y h r = (r, tt)
-zip_more R [] (b ∷ ys) x y h r = absurd h
-zip_more R (a ∷ xs) [] x y h r = absurd h
-zip_more R (a ∷ xs) (b ∷ ys) x y h r = (h.0, zip_more R xs ys x y h.1 r)
+modules_then : (files : Files) (folders : List Found) (d : Found) (modules : List Module) (m : Module) (beside here : List Found) (was between is : Faults) → AreModules files folders modules beside was between → IsModule files d.name.items m here between is
+    → AreModules files (folders ++ d ∷ []) (modules ++ m ∷ []) (beside ++ here) was is
+modules_then files [] d [] m beside here was between is a h = (
+  here,
+  [],
+  is,
+  ap (λ l. l ++ here) a.0 ∙ sym (append-nil here),
+  subst (λ (w : Faults). IsModule files d.name.items m here w is) a.1 h,
+  (refl, refl),
+)
+modules_then files [] d (x ∷ modules) m beside here was between is a h = absurd a
+modules_then files (x ∷ folders) d [] m beside here was between is a h = absurd a
+modules_then files (x ∷ folders) d (y ∷ modules) m beside here was between is a h =
+    let first = a.0 in let rest = a.1 in (
+      first,
+      rest ++ here,
+      a.2,
+      ap (λ l. l ++ here) a.3 ∙ append_assoc first rest here,
+      a.4,
+      modules_then files folders d modules m rest here a.2 between is a.5 h,
+    )
 
-pub modules_more : (files later : Files) (folders : List Found) (d : Found) (old new : List Module) → later ≡ files → AreModules files folders old → AddsModule later d.name.items old new
-    → AreModules files (folders ++ d ∷ []) new
-modules_more files later folders d old new same before h =
-    subst (λ l. AreModules files (folders ++ d ∷ []) l) (sym h.2)
-    (zip_more (λ (d : Found) (m : Module). IsModule files d.name.items m) folders old d h.0 before (subst (λ f. IsModule f d.name.items h.0) same h.1))
+pub modules_more : (files later : Files) (folders : List Found) (d : Found) (old new : Modules) (was between is : Faults) → later ≡ files → AreModules files folders old.modules.items old.beside.items was between → AddsModule later d.name.items old new between is
+    → AreModules files (folders ++ d ∷ []) new.modules.items new.beside.items was is
+modules_more files later folders d old new was between is same before h =
+    subst (λ l. AreModules files (folders ++ d ∷ []) l new.beside.items was is) (sym h.3)
+    (subst (λ l. AreModules files (folders ++ d ∷ []) (old.modules.items ++ h.0 ∷ []) l was is) (sym h.4)
+    (modules_then files folders d old.modules.items h.0 old.beside.items h.1 was between is before (subst (λ f. IsModule f d.name.items h.0 h.1 between is) same h.2)))
 
 -- ---- in the code's terms
 

@@ -1,13 +1,13 @@
 -- Which folders are modules, and which files are those of a module. Our own choice.
-use Rattle.std.specs.Prelude.{◌≡◌, ◌==◌, ◌||◌, ◌&&◌, ◌-◌, not, Bool, true, false, List, [], ◌∷◌, Option, Some, None, codes, flat_map, length, map, string_bytes, take, if◌then◌else◌}
-use Rattle.std.specs.List.{AllZip, Contains, suffix_len}
+use Rattle.std.specs.Prelude.{◌≡◌, ◌==◌, ◌||◌, ◌&&◌, ◌-◌, not, Bool, true, false, List, [], ◌∷◌, ◌++◌, Option, Some, None, codes, flat_map, length, map, string_bytes, take, if◌then◌else◌}
+use Rattle.std.specs.List.{Contains, suffix_len}
 use Rattle.std.specs.Str.{is_utf8}
-use Rattle.file_tree.specs.Files.{Files, Name}
+use Rattle.file_tree.specs.Files.{Faults, Files, Name}
 use Rattle.file_tree.specs.Ordered.{Rises}
-use Rattle.file_tree.specs.FolderFiles.{FindsIn}
+use Rattle.file_tree.specs.FolderFiles.{AreHeard, FindsIn}
 use Rattle.file_tree.specs.Names.{ends}
 use Rattle.file_tree.specs.declared.fault.TreeFault.{TreeFault}
-use Rattle.file_tree.specs.declared.fault.TreeFault.TheVariants.{Missing, NotUtf8}
+use Rattle.file_tree.specs.declared.fault.TreeFault.TheVariants.{NotUtf8}
 use Rattle.file_tree.specs.declared.walk.Found.{Found}
 use Rattle.module_find.specs.declared.module.Module.{Module}
 
@@ -21,12 +21,15 @@ folder_of path = take (length path - suffix_len (λ b. not (b == 47)) path) path
 
 -- ---- which folders are modules
 
--- a name stands for its folder: one that was found, and that of a module's file that is gone, without which the
--- module is another one
+-- a name that says something of a module: that of one of its files, or of a folder
+abbrev pub is_of_module : Name → Bool
+is_of_module name = is_module_file name || ends (codes "/") name
+
+-- a name stands for its folder: one that was found; and one that can't be looked at, where the module may lack what
+-- stands there
 abbrev pub stands_by : Option TreeFault → Name → Bool
 stands_by None name = true
-stands_by (Some Missing) name = is_module_file name
-stands_by (Some _) name = false
+stands_by (Some fault) name = is_of_module name
 
 abbrev pub stands : Found → Bool
 stands f = stands_by f.fault f.name.items
@@ -49,11 +52,11 @@ fault_left f = if stands f then [] else f ∷ []
 
 -- ---- one module
 
--- why what was found of a folder can't be linted: it can't be looked at, or it is a file of the module whose name
--- isn't UTF-8
+-- why what was found of a folder can't be linted: the folder or a file of the module can't be looked at, or its name isn't
+-- UTF-8
 abbrev pub fault_by : Option TreeFault → Name → Option TreeFault
 fault_by None name = if is_module_file name && not (is_utf8 name) then Some NotUtf8 else None
-fault_by (Some fault) name = Some fault
+fault_by (Some fault) name = if is_of_module name then Some fault else None
 
 abbrev pub fault_with : Option TreeFault → Found → List Found
 fault_with None f = []
@@ -70,16 +73,30 @@ is_file_by (Some fault) name = false
 abbrev pub file_in : Found → List Name
 file_in f = if is_file_by f.fault f.name.items then f.name.items ∷ [] else []
 
--- the module of a folder in which this was found: the files that are its own, and what can't be linted
-pub record IsModuleOf (name : Name) (found : List Found) (m : Module) : Type 0 where
+-- what can't be looked at and is nothing of the module
+abbrev pub is_beside_by : Option TreeFault → Name → Bool
+is_beside_by None name = false
+is_beside_by (Some fault) name = not (is_of_module name)
+
+abbrev pub beside_in : Found → List Found
+beside_in f = if is_beside_by f.fault f.name.items then f ∷ [] else []
+
+-- the module of a folder in which this was found: the files that are its own, and what keeps it from being linted; and what
+-- can't be looked at beside it
+pub record IsModuleOf (name : Name) (found : List Found) (m : Module) (beside : List Found) : Type 0 where
   pub folder : m.folder.items ≡ name
   pub files : map string_bytes m.files.items ≡ flat_map file_in found
   pub faults : m.faults.items ≡ flat_map fault_in found
+  pub left : beside ≡ flat_map beside_in found
 
--- A MODULE has what stands in its folder
-abbrev pub IsModule : Files → Name → Module → Type 0
-IsModule files folder m = (found : List Found) × FindsIn files folder found × IsModuleOf folder found m
+-- A MODULE has what stands in its folder, where the device has had these faults before and after it was looked into
+abbrev pub IsModule : Files → Name → Module → List Found → Faults → Faults → Type 0
+IsModule files folder m beside was is = (found : List Found) × FindsIn files folder found × AreHeard was is found × IsModuleOf folder found m beside
 
--- THE MODULES of folders
-abbrev pub AreModules : Files → List Found → List Module → Type 0
-AreModules files folders modules = AllZip (λ d m. IsModule files d.name.items m) folders modules
+-- THE MODULES of folders, and all that can't be looked at beside them
+abbrev pub AreModules : Files → List Found → List Module → List Found → Faults → Faults → Type 0
+AreModules files [] [] beside was is = (beside ≡ []) × (is ≡ was)
+AreModules files [] (m ∷ ms) beside was is = ⊥
+AreModules files (d ∷ ds) [] beside was is = ⊥
+AreModules files (d ∷ ds) (m ∷ ms) beside was is =
+    (here rest : List Found) × (between : Faults) × (beside ≡ here ++ rest) × IsModule files d.name.items m here was between × AreModules files ds ms rest between is

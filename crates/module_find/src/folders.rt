@@ -4,20 +4,18 @@ ghost use Rattle.std.specs.Prelude.{◌≡◌, ◌++◌, ◌∷◌, [], IfOk, On
 ghost use Rattle.module_find.specs.Inner.Adding.{AddsFolder};
 ghost use Rattle.module_find.specs.Modules.{AreFolders, AreFoldersOf, fault_left, stands};
 
-use crate::names::{folder_of, is_module_file};
-use file_tree::fault::TreeFault;
+use crate::names::{folder_of, is_of_module};
 use file_tree::path::joined;
 use file_tree::walk::{Found, in_order};
 use std::alloc::{AllocError, Global};
 
-/// Whether a name stands for its folder: one that was found, and that of a module's file that is gone.
+/// Whether a name stands for its folder: one that was found, and one that says something of a module and can't be looked at.
 fn stands(found: &Found) -> bool
     ensures { result ≡ stands found.now }
 {
     match found.fault {
         None => true,
-        Some(TreeFault::Missing) => is_module_file(found.name.as_slice()),
-        Some(_) => false,
+        Some(_) => is_of_module(found.name.as_slice()),
     }
 }
 

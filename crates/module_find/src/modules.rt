@@ -6,7 +6,7 @@ ghost use Rattle.module_find.specs.Inner.Adding.{AddsModule, TakesFound};
 ghost use Rattle.module_find.specs.Modules.{AreModules, IsModule, IsModuleOf};
 
 use crate::module::Module;
-use crate::names::is_module_file;
+use crate::names::{is_module_file, is_of_module};
 use file_tree::fault::TreeFault;
 use file_tree::tree::Tree;
 use file_tree::walk::{Found, find_in};
@@ -22,20 +22,40 @@ fn is_text(name: &[u8]) -> bool
     }
 }
 
-impl Module {
-    /// Adds what can't be looked at, for this reason.
+/// What of a folder is a module, and what can't be looked at beside it.
+#[derive(Drop)]
+struct Sorted {
+    module: Module,
+    beside: Vec<Found>,
+}
+
+impl Sorted {
+    /// Adds a name that keeps the module from being linted, for this reason.
     fn add_fault(&mut self, found: Found, fault: TreeFault) -> Result<(), AllocError>
-        ensures faults { OnOk result (self.new.faults.items
-            ≡ self.old.faults.items ++ (record found { fault = Some fault }) ∷ []) }
-        ensures files { self.new.files ≡ self.old.files }
-        ensures folder { self.new.folder ≡ self.old.folder }
+        ensures faults { OnOk result (self.new.module.faults.items
+            ≡ self.old.module.faults.items ++ (record found { fault = Some fault }) ∷ []) }
+        ensures files { self.new.module.files ≡ self.old.module.files }
+        ensures folder { self.new.module.folder ≡ self.old.module.folder }
+        ensures beside { self.new.beside ≡ self.old.beside }
     {
         let told = Found {
             name: found.name,
             fault: Some(fault),
             file: found.file,
         };
-        match self.faults.push(told) {
+        match self.module.faults.push(told) {
+            Ok(()) => Ok(()),
+            Err(_) => Err(AllocError),
+        }
+    }
+
+    /// Adds what can't be looked at beside the module.
+    fn add_beside(&mut self, found: Found) -> Result<(), AllocError>
+        ensures beside { OnOk result (self.new.beside.items
+            ≡ self.old.beside.items ++ found ∷ []) }
+        ensures module { self.new.module ≡ self.old.module }
+    {
+        match self.beside.push(found) {
             Ok(()) => Ok(()),
             Err(_) => Err(AllocError),
         }
@@ -44,13 +64,14 @@ impl Module {
     /// Adds a file of this name, which is UTF-8.
     fn add_file(&mut self, alloc: Global, name: &[u8]) -> Result<(), AllocError>
         requires text { is_utf8 name.now ≡ true }
-        ensures files { OnOk result (map string_bytes self.new.files.items
-            ≡ map string_bytes self.old.files.items ++ name.now ∷ []) }
-        ensures faults { self.new.faults ≡ self.old.faults }
-        ensures folder { self.new.folder ≡ self.old.folder }
+        ensures files { OnOk result (map string_bytes self.new.module.files.items
+            ≡ map string_bytes self.old.module.files.items ++ name.now ∷ []) }
+        ensures faults { self.new.module.faults ≡ self.old.module.faults }
+        ensures folder { self.new.module.folder ≡ self.old.module.folder }
+        ensures beside { self.new.beside ≡ self.old.beside }
     {
         let text = String::from_utf8_lossy(alloc, name)?;
-        let Ok(()) = self.files.push(text) else {
+        let Ok(()) = self.module.files.push(text) else {
             return Err(AllocError);
         };
         Ok(())
@@ -59,7 +80,7 @@ impl Module {
     /// Takes what was found of a folder and can be looked at.
     fn take_name(&mut self, alloc: Global, found: Found) -> Result<(), AllocError>
         requires good { found.fault ≡ None }
-        ensures { OnOk result (TakesFound (found) self.old self.new) }
+        ensures { OnOk result (TakesFound found self.old self.new) }
     {
         if !is_module_file(found.name.as_slice()) {
             return Ok(());
@@ -70,25 +91,39 @@ impl Module {
         self.add_fault(found, TreeFault::NotUtf8)
     }
 
+    /// Takes what was found of a folder and can't be looked at, for this reason.
+    fn take_fault(&mut self, found: Found, fault: TreeFault) -> Result<(), AllocError>
+        requires bad { found.fault ≡ Some fault }
+        ensures { OnOk result (TakesFound found self.old self.new) }
+    {
+        if is_of_module(found.name.as_slice()) {
+            return self.add_fault(found, fault);
+        }
+        self.add_beside(found)
+    }
+
     /// Takes what was found of a folder.
     fn take(&mut self, alloc: Global, found: Found) -> Result<(), AllocError>
         ensures { OnOk result (TakesFound found self.old self.new) }
     {
-        if let Some(fault) = found.fault {
-            return self.add_fault(found, fault);
+        match found.fault {
+            Some(fault) => self.take_fault(found, fault),
+            None => self.take_name(alloc, found),
         }
-        self.take_name(alloc, found)
     }
 }
 
 /// The module of a folder in which this was found.
-fn module_of(alloc: Global, folder: Vec<u8>, found: Vec<Found>) -> Result<Module, AllocError>
-    ensures { IfOk result (λ m. IsModuleOf folder.items found.items m) }
+fn module_of(alloc: Global, folder: Vec<u8>, found: Vec<Found>) -> Result<Sorted, AllocError>
+    ensures { IfOk result (λ s. IsModuleOf folder.items found.items s.module s.beside.items) }
 {
-    let mut taken = Module {
-        folder,
-        files: Vec::new(alloc),
-        faults: Vec::new(alloc),
+    let mut taken = Sorted {
+        module: Module {
+            folder,
+            files: Vec::new(alloc),
+            faults: Vec::new(alloc),
+        },
+        beside: Vec::new(alloc),
     };
     for each in found {
         taken.take(alloc, each)?;
@@ -97,49 +132,61 @@ fn module_of(alloc: Global, folder: Vec<u8>, found: Vec<Found>) -> Result<Module
 }
 
 /// The module of a folder.
-fn module_in<T: Tree>(alloc: Global, folder: Vec<u8>, tree: &mut T) -> Result<Module, AllocError>
+fn module_in<T: Tree>(alloc: Global, folder: Vec<u8>, tree: &mut T) -> Result<Sorted, AllocError>
     ensures files { T.files tree.new ≡ T.files tree.old }
     ensures asked { T.asked tree.new ≡ T.asked tree.old }
-    ensures is { IfOk result (λ m. IsModule (T.files tree.old) folder.items m) }
+    ensures is { IfOk result (λ s. IsModule (T.files tree.old) folder.items s.module
+        s.beside.items (T.faults tree.old) (T.faults tree.new)) }
 {
     let found = find_in(alloc, folder.as_slice(), tree)?;
     module_of(alloc, folder, found)
 }
 
-/// Adds the module of a folder.
-fn add_module<T: Tree>(
-    alloc: Global,
-    folder: Found,
-    tree: &mut T,
-    modules: &mut Vec<Module>,
-) -> Result<(), AllocError>
-    ensures files { T.files tree.new ≡ T.files tree.old }
-    ensures asked { T.asked tree.new ≡ T.asked tree.old }
-    ensures adds { OnOk result (AddsModule (T.files tree.old) folder.name.items
-        modules.old.items modules.new.items) }
-{
-    let one = module_in(alloc, folder.name, tree)?;
-    let Ok(()) = modules.push(one) else {
-        return Err(AllocError);
-    };
-    Ok(())
+/// Modules, and what can't be looked at beside them in their folders.
+#[derive(Drop)]
+pub struct Modules {
+    pub modules: Vec<Module>,
+    pub beside: Vec<Found>,
 }
 
-/// The modules of folders, in their order.
+impl Modules {
+    /// Adds the module of a folder.
+    fn add<T: Tree>(&mut self, alloc: Global, folder: Found, tree: &mut T) -> Result<(), AllocError>
+        ensures files { T.files tree.new ≡ T.files tree.old }
+        ensures asked { T.asked tree.new ≡ T.asked tree.old }
+        ensures adds { OnOk result (AddsModule (T.files tree.old) folder.name.items
+            self.old self.new (T.faults tree.old) (T.faults tree.new)) }
+    {
+        let Sorted { module, mut beside } = module_in(alloc, folder.name, tree)?;
+        let Ok(()) = self.modules.push(module) else {
+            return Err(AllocError);
+        };
+        let Ok(()) = self.beside.append(&mut beside) else {
+            return Err(AllocError);
+        };
+        Ok(())
+    }
+}
+
+/// The modules of folders, in their order, and what can't be looked at beside them.
 pub fn modules_of<T: Tree>(
     alloc: Global,
     folders: Vec<Found>,
     tree: &mut T,
-) -> Result<Vec<Module>, AllocError>
+) -> Result<Modules, AllocError>
     // Nothing is changed, nor asked to be.
     ensures files { T.files tree.new ≡ T.files tree.old }
     ensures asked { T.asked tree.new ≡ T.asked tree.old }
-    ensures are { IfOk result
-        (λ modules. AreModules (T.files tree.old) folders.items modules.items) }
+    // Where the device tells the faults of its calls, each that is told is one of these.
+    ensures are { IfOk result (λ all. AreModules (T.files tree.old) folders.items
+        all.modules.items all.beside.items (T.faults tree.old) (T.faults tree.new)) }
 {
-    let mut modules = Vec::new(alloc);
+    let mut all = Modules {
+        modules: Vec::new(alloc),
+        beside: Vec::new(alloc),
+    };
     for folder in folders {
-        add_module(alloc, folder, tree, &mut modules)?;
+        all.add(alloc, folder, tree)?;
     }
-    Ok(modules)
+    Ok(all)
 }

@@ -2,13 +2,20 @@
 
 ghost use Rattle.std.specs.Prelude.{◌≡◌, ◌-◌, ◌==◌, ◌≤◌, length, not};
 ghost use Rattle.std.specs.List.{suffix_len};
-ghost use Rattle.module_find.specs.Modules.{folder_of, is_module_file};
+ghost use Rattle.module_find.specs.Modules.{folder_of, is_module_file, is_of_module};
 
 /// Whether a file of this name is one of a module.
 pub fn is_module_file(name: &[u8]) -> bool
     ensures { result ≡ is_module_file name.now }
 {
     name.ends_with(b".tf") || name.ends_with(b".tofu")
+}
+
+/// Whether a name says something of a module: that of one of its files, or of a folder.
+pub fn is_of_module(name: &[u8]) -> bool
+    ensures { result ≡ is_of_module name.now }
+{
+    is_module_file(name) || name.ends_with(b"/")
 }
 
 /// How many bytes of a path stand up to its last slash, with it.

@@ -16,7 +16,8 @@ use Rattle.tfrules_command.specs.Line.{Asking}
 use Rattle.tfrules_command.specs.Report.{report_row}
 use Rattle.tfrules_command.specs.Rows.{AreFiles, IsRowBy}
 use Rattle.hcl_source.specs.Devices.{Tells}
-use Rattle.tfrules_command.specs.Inner.Steps.{AreFine, Reached, StopsAt, stop_row, usage_row}
+use Rattle.tfrules_command.specs.Inner.Steps.{AreFine, StopsAt, stop_row, usage_row}
+use Rattle.tfrules_command.specs.Keeping.{Reached}
 use Rattle.tfrules_command.specs.declared.stop.Stop.{Stop}
 use Rattle.tfrules_command.specs.declared.stop.Stop.TheVariants as stop
 use Rattle.tfrules_command.specs.declared.usage.Usage.{Usage}

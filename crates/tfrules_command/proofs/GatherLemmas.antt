@@ -19,20 +19,21 @@ use Rattle.tf_rules.specs.Kept.{Kept, kept_of, with_file}
 use Rattle.tf_rules.proofs.KeptLemmas.{kept_of_more}
 use Rattle.tfrules_command.specs.Files.{NamedFile, IsAcceptedAs, max_module, numbered_files, size_of}
 use Rattle.hcl_source.specs.Devices.{Tells}
-use Rattle.tfrules_command.specs.Inner.Steps.{AreFine, Added, Adds, Keeps, Reached, ReadsFile, StopsAt, StopsBy, stop_by, stop_of_scan}
+use Rattle.tfrules_command.specs.Inner.Steps.{AreFine, Adds, ReadsFile, StopsAt, StopsBy, stop_by, stop_of_scan}
+use Rattle.tfrules_command.specs.Keeping.{Added, Keeps, Reached}
 use Rattle.tfrules_command.specs.declared.stop.Stop.{Stop}
 use Rattle.tfrules_command.specs.declared.stop.Stop.TheVariants as stop
 use Rattle.command_line.proofs.ListCutLemmas.{from_here}
 
 -- ---- a file that was read
 
-tells_all : (left left' : Option (List ℕ)) (bytes : List ℕ) → Consumes left left' bytes → IsAtEnd left' → Tells left bytes
+pub tells_all : (left left' : Option (List ℕ)) (bytes : List ℕ) → Consumes left left' bytes → IsAtEnd left' → Tells left bytes
 tells_all None left' bytes taken done = tt
 tells_all (Some xs) None bytes taken done = absurd taken
 tells_all (Some xs) (Some ys) bytes taken done = taken ∙ ap (λ l. bytes ++ l) done ∙ append-nil bytes
 
 -- a fault of what was taken is that of the whole
-fault_of_whole : (left left' : Option (List ℕ)) (bytes : List ℕ) (fault : Fault) → Consumes left left' bytes → (length bytes ≤ max_source → IsAtEnd left') → IsLoadFault bytes fault
+pub fault_of_whole : (left left' : Option (List ℕ)) (bytes : List ℕ) (fault : Fault) → Consumes left left' bytes → (length bytes ≤ max_source → IsAtEnd left') → IsLoadFault bytes fault
     → (whole : List ℕ) × Tells left whole × IsLoadFault whole fault
 fault_of_whole None left' bytes fault taken done x = (bytes, tt, x)
 fault_of_whole (Some xs) None bytes fault taken done x = absurd taken

@@ -1,5 +1,4 @@
 pub mod ListLemmas
-pub mod ModuleRowLemmas
 pub mod NameLemmas
 pub mod PageLemmas
 pub mod ReportPieceLemmas

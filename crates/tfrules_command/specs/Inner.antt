@@ -4,4 +4,3 @@ pub mod Outcomes
 pub mod Pages
 pub mod Pieces
 pub mod Steps
-pub mod Written

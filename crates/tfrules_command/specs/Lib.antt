@@ -1,9 +1,9 @@
 pub mod Line
-pub mod Parted
 pub mod Asked
 pub mod Files
 pub mod Report
 pub mod Answer
 pub mod AnswerLaws
 pub mod Rows
+pub mod Keeping
 pub mod Inner

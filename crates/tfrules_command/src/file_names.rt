@@ -5,6 +5,7 @@ ghost use Rattle.std.specs.List.{list_any};
 ghost use Rattle.std.specs.Str.{bytes_eq};
 ghost use Rattle.tfrules_command.specs.Line.{NoneTwice, each_once, max_files, with_name};
 
+use crate::shown_names::ShownNames;
 use std::alloc::{AllocError, Global};
 use std::marker::Model;
 
@@ -86,15 +87,16 @@ impl<'a> FileNames<'a> {
     {
         self.names[i]
     }
+}
 
-    /// The name of this number, or nothing where there is none.
-    pub(crate) fn name_of(&self, number: u32) -> &'a str
-        ensures { result.now ≡ get_or self.now number [] }
-    {
+impl<'a> ShownNames for FileNames<'a> {
+    ghost names = { λ names. names };
+
+    fn name_of(&self, number: u32) -> &[u8] {
         let number = number as usize;
         if number < self.len() {
-            return self.get(number);
+            return self.get(number).as_bytes();
         }
-        ""
+        b""
     }
 }

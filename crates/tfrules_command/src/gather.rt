@@ -1,7 +1,8 @@
 //! The files of a module, read one after the other.
 
 ghost use Rattle.std.specs.Prelude.{◌≡◌, ◌≤◌, ◌<◌, false, ℕ, List};
-ghost use Rattle.tfrules_command.specs.Inner.Steps.{Adds, Gathers, Keeps, KeepsTokens, ReadsFile, stop_by, stop_of_scan};
+ghost use Rattle.tfrules_command.specs.Inner.Steps.{Adds, Gathers, KeepsTokens, ReadsFile, stop_by, stop_of_scan};
+ghost use Rattle.tfrules_command.specs.Keeping.{Keeps};
 ghost use Rattle.tf_rules.specs.Kept.{nothing};
 ghost use Rattle.tfrules_command.specs.Files.{max_module};
 
@@ -77,7 +78,7 @@ fn keep_tokens(
 
 /// Keeps the facts of a file after others of so many bytes, and answers how many it is then. Their size is looked at before
 /// its tokens.
-fn keep_file(
+pub fn keep_file(
     alloc: Global,
     number: u32,
     size: usize,
@@ -122,7 +123,7 @@ fn add_file<M: ModuleFiles>(
 }
 
 /// Reads the files of these names in their order, up to the first that isn't kept, and keeps their facts.
-pub fn gather<'a, M: ModuleFiles>(
+pub(crate) fn gather<'a, M: ModuleFiles>(
     alloc: Global,
     names: &FileNames<'a>,
     files: &mut M,

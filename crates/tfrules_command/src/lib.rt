@@ -3,14 +3,14 @@
 #![tactic(auto)]
 
 pub mod file_names;
-mod gather;
+pub mod gather;
 pub mod laws;
 pub mod module_files;
-pub mod module_run;
 pub mod options;
-mod report;
+pub mod report;
 pub mod run;
-mod stop;
+pub mod shown_names;
+pub mod stop;
 pub mod usage;
 
 pub use tf_rules::Hashing;

@@ -10,7 +10,7 @@ ghost use Rattle.tfrules_command.specs.Report.{issue_line, report, weighs, weigh
 ghost use Rattle.tfrules_command.specs.Inner.Pages.{GoesOut, Holds};
 ghost use Rattle.tfrules_command.specs.Inner.Pieces.{closing_words, count_lines, framed, lines_of_report, opening_words, place_words};
 
-use crate::file_names::FileNames;
+use crate::shown_names::ShownNames;
 use arrayvec::ArrayVec;
 use hcl_scan::{ByteSink, Position, WriteFault, write_fully};
 use itoa::{Buffer, write_digits};
@@ -30,7 +30,7 @@ const PLACE: usize = 22;
 /// and after the message.
 #[derive(Clone, Copy)]
 struct Frame<'p> {
-    name: &'p str,
+    name: &'p [u8],
     place: &'p [u8],
     opening: &'p str,
     closing: &'p str,
@@ -204,7 +204,7 @@ fn write_line<'p, O: ByteSink>(
             out,
             page,
             &[
-                name.as_bytes(),
+                name,
                 place,
                 opening.as_bytes(),
                 text.as_bytes(),
@@ -215,7 +215,7 @@ fn write_line<'p, O: ByteSink>(
             out,
             page,
             &[
-                name.as_bytes(),
+                name,
                 place,
                 opening.as_bytes(),
                 front.as_bytes(),
@@ -228,7 +228,7 @@ fn write_line<'p, O: ByteSink>(
             out,
             page,
             &[
-                name.as_bytes(),
+                name,
                 place,
                 opening.as_bytes(),
                 front.as_bytes(),
@@ -243,16 +243,16 @@ fn write_line<'p, O: ByteSink>(
 }
 
 /// Writes the line of an issue.
-fn write_issue<O: ByteSink>(
+fn write_issue<O: ByteSink, N: ShownNames>(
     out: &mut O,
     page: &mut Page,
-    names: &FileNames<'_>,
+    names: &N,
     issue: ListedIssue<'_>,
 ) -> Result<(), WriteFault>
     requires { O.failed out.old ≡ false }
     ensures goes { GoesOut (O.failed out.new) (O.taken out.old)
         (O.taken out.new) page.old.items page.new.items
-        (issue_line names.now (listed_issue issue.entry)) }
+        (issue_line (N.names names.now) (listed_issue issue.entry)) }
     ensures failed { O.failed out.new ≡ is_err result }
     ensures flushes { O.flushes out.new ≡ O.flushes out.old }
 {
@@ -288,16 +288,16 @@ fn write_count<O: ByteSink>(out: &mut O, page: &mut Page, count: usize) -> Resul
 }
 
 /// Writes the lines of issues.
-fn write_issues<O: ByteSink>(
+fn write_issues<O: ByteSink, N: ShownNames>(
     out: &mut O,
     page: &mut Page,
-    names: &FileNames<'_>,
+    names: &N,
     issues: &IssueList<'_>,
 ) -> Result<(), WriteFault>
     requires { O.failed out.old ≡ false }
     ensures goes { GoesOut (O.failed out.new) (O.taken out.old)
         (O.taken out.new) page.old.items page.new.items
-        (flat_map (issue_line names.now) issues.now) }
+        (flat_map (issue_line (N.names names.now)) issues.now) }
     ensures failed { O.failed out.new ≡ is_err result }
     ensures flushes { O.flushes out.new ≡ O.flushes out.old }
 {
@@ -310,13 +310,14 @@ fn write_issues<O: ByteSink>(
 }
 
 /// Writes the report of issues, of which there is one or more.
-fn write_report<O: ByteSink>(
+fn write_report<O: ByteSink, N: ShownNames>(
     out: &mut O,
-    names: &FileNames<'_>,
+    names: &N,
     issues: &IssueList<'_>,
 ) -> Result<(), WriteFault>
     requires { O.failed out.old ≡ false }
-    ensures took { Took (writer O.ByteSink out.old out.new) (lines_of_report names.now issues.now) }
+    ensures took { Took (writer O.ByteSink out.old out.new)
+        (lines_of_report (N.names names.now) issues.now) }
     ensures failed { O.failed out.new ≡ is_err result }
     ensures flushes { O.flushes out.new ≡ O.flushes out.old }
 {
@@ -331,15 +332,18 @@ fn write_report<O: ByteSink>(
 }
 
 /// Writes the report and flushes it, or leaves standard output alone where there is no issue.
-pub fn show_issues<O: ByteSink>(out: &mut O, names: &FileNames<'_>, issues: &IssueList<'_>)
+pub fn show_issues<O: ByteSink, N: ShownNames>(out: &mut O, names: &N, issues: &IssueList<'_>)
     requires { O.failed out.old ≡ false }
-    ensures took { Took (writer O.ByteSink out.old out.new) (report names.now issues.now) }
-    ensures flushed { O.failed out.new ≡ false → 0 < length (report names.now issues.now)
-        → O.flushed out.new ≡ true }
-    ensures once { O.failed out.new ≡ false → 0 < length (report names.now issues.now)
+    ensures took { Took (writer O.ByteSink out.old out.new)
+        (report (N.names names.now) issues.now) }
+    ensures flushed { O.failed out.new ≡ false
+        → 0 < length (report (N.names names.now) issues.now) → O.flushed out.new ≡ true }
+    ensures once { O.failed out.new ≡ false
+        → 0 < length (report (N.names names.now) issues.now)
         → O.flushes out.new ≡ one_more (O.flushes out.old) }
-    ensures untouched { length (report names.now issues.now) ≡ 0 → O.failed out.new ≡ false }
-    ensures no_flush { length (report names.now issues.now) ≡ 0
+    ensures untouched { length (report (N.names names.now) issues.now) ≡ 0
+        → O.failed out.new ≡ false }
+    ensures no_flush { length (report (N.names names.now) issues.now) ≡ 0
         → O.flushes out.new ≡ O.flushes out.old }
 {
     if issues.is_empty() {

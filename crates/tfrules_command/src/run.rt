@@ -26,7 +26,7 @@ static USAGE: &str =
     "usage: tfrules [--rules LIST] [--naming snake_case|mixed_snake_case] [--minimum-failure-severity error|warning|notice] [--force] [--help] FILE...\n";
 
 /// This program as its messages have it.
-pub fn linter() -> Program
+fn linter() -> Program
     ensures { result ≡ linter }
 {
     Program::new(
@@ -68,7 +68,7 @@ fn stop_line(alloc: Global, name: &str, why: Stop) -> Result<String, AllocError>
 }
 
 /// Says why a run stopped at a file.
-pub(crate) fn refuse<O: ByteSink, E: ByteSink>(
+fn refuse<O: ByteSink, E: ByteSink>(
     alloc: Global,
     out: &mut O,
     err: &mut E,
@@ -84,7 +84,7 @@ pub(crate) fn refuse<O: ByteSink, E: ByteSink>(
 }
 
 /// The status of a run that found these issues.
-pub(crate) fn status_of(options: &LintOptions<'_>, issues: &IssueList<'_>) -> u8
+fn status_of(options: &LintOptions<'_>, issues: &IssueList<'_>) -> u8
     ensures { result ≡ status (asking_of options.now) issues.now }
 {
     if !options.force && has_severe(options.minimum, issues) {

@@ -1,4 +1,4 @@
-mod MemoryLemmas
-mod NamedLemmas
-mod RowLemmas
+mod FileLemmas
+mod PartedLemmas
+mod ShownLemmas
 mod TreeRunLemmas

@@ -1,22 +1,52 @@
 -- A run over modules, one after the other.
-use Rattle.std.proofs.Common.{◌≡◌, ◌∙◌, ◌⊎◌, ◌++◌, ◌∷◌, ◌+◌, ◌*◌, ◌<◌, ◌≤◌, [], ℕ, Bool, true, false, List, Option, ap, append_assoc, append-nil, arith, cond, length, length-append, map, refl, subst, suc, sym}
-use Rattle.std.specs.Prelude.{◌||◌, ◌==◌, if◌then◌else◌, nat_lt, sum_by}
-use Rattle.std.specs.List.{AllZip, count_by, list_any}
+use Rattle.std.proofs.Common.{◌≡◌, ◌∙◌, ◌++◌, ◌∷◌, ◌+◌, ◌*◌, ◌<◌, ◌≤◌, [], ℕ, Bool, true, false, List, Option, ap, append_assoc, append-nil, arith, cond, flat_map, length, length-append, map, refl, subst, suc, sym}
+use Rattle.std.specs.Prelude.{◌||◌, ◌==◌, ◌&&◌, Ok, Err, fold, if◌then◌else◌, nat_lt, not, sum_by}
+use Rattle.std.specs.List.{count_by, list_any}
+use Rattle.std.proofs.lemmas.Grind.{flat_map-append}
 use Rattle.std.proofs.lemmas.List.Sums.{count_by-le-length, sum_by-append}
 use Rattle.std.specs.Io.KnownBytes.{Appends}
 use Rattle.hcl_source.specs.declared.device.Flushes.{Flushes}
-use Rattle.command_line.specs.Rows.{End, Row, Shows, TookBy, Writer, error_output, write_failed}
-use Rattle.command_line.proofs.WriterLemmas.{all_taken, appends_nothing, appends_then, goes_on}
-use Rattle.file_tree.specs.Files.{Name}
-use Rattle.tfrules_command.specs.Answer.{linter}
-use Rattle.tfrules_command.specs.Parted.{ShowsAfter, has_report, parted, parted_row}
-use Rattle.tree_lint.specs.Numbers.{HasIssues, counts_of, has_file, is_unlinted}
+use Rattle.command_line.specs.Rows.{End, TookBy, Writer}
+use Rattle.command_line.proofs.WriterLemmas.{all_taken, appends_nothing, took_after}
+use Rattle.file_tree.specs.Files.{Faults, Files}
+use Rattle.module_find.specs.declared.module.Module.{Module}
+use Rattle.tf_rules.specs.declared.issue.Issue.{Issue}
+use Rattle.tfrules_command.specs.Report.{weighs}
 use Rattle.tree_lint.specs.Inner.Growth.{HasRoom, counts_with, one_if}
+use Rattle.tree_lint.specs.Inner.Showing.{Shows}
+use Rattle.tree_lint.specs.Numbers.{counts_of, has_issues, is_module, is_refused, issue_count}
+use Rattle.tree_lint.specs.Runs.{AreJudged, IsLintRun, reports_after, verdict_message, verdict_output, verdict_status, worse_status, worst_status}
+use Rattle.tree_lint.specs.Verdicts.{IsVerdict, Verdict}
 use Rattle.tree_lint.specs.declared.counts.Counts.{Counts}
-use Rattle.tfrules_command.proofs.ModuleRowLemmas.{has_some}
-use Rattle.tree_lint.specs.Runs.{IsModuleRow, IsLintRun, errors_of, messages, reports_after, worse_status, worst_status}
+use Rattle.tree_lint.specs.declared.counts.Ended.{Ended}
 use Rattle.tree_lint.specs.declared.policy.Policy.{Policy}
-use Rattle.tree_lint.proofs.RowLemmas.{any_more, errors_more, messages_cut, reports_more, worst_more, zip_more}
+
+or_false : (a : Bool) → (a || false) ≡ a
+or_false true = refl
+or_false false = refl
+
+or_assoc : (a b c : Bool) → ((a || b) || c) ≡ (a || (b || c))
+or_assoc true b c = refl
+or_assoc false b c = refl
+
+pub first_good : (v f g : Bool) → v ≡ (f || g) → v ≡ false → f ≡ false
+first_good v true g e h = absurd (cc)
+first_good v false g e h = refl
+
+pub second_good : (v f g : Bool) → v ≡ (f || g) → v ≡ false → g ≡ false
+second_good v true g e h = absurd (cc)
+second_good v false g e h = sym e ∙ h
+
+any_more : (vs : List Verdict) (v : Verdict) → list_any has_issues (vs ++ v ∷ []) ≡ (list_any has_issues vs || has_issues v)
+any_more [] v = or_false (has_issues v)
+any_more (x ∷ vs) v = ap (λ b. has_issues x || b) (any_more vs v) ∙ sym (or_assoc (has_issues x) (list_any has_issues vs) (has_issues v))
+
+messages_more : (vs : List Verdict) (v : Verdict) → flat_map verdict_message (vs ++ v ∷ []) ≡ flat_map verdict_message vs ++ verdict_message v
+messages_more vs v = flat_map-append verdict_message vs (v ∷ []) ∙ ap (λ t. flat_map verdict_message vs ++ t) (append-nil (verdict_message v))
+
+worst_from : (f : Verdict → ℕ) (n : ℕ) (vs : List Verdict) (v : Verdict) → fold worse_status n (map f (vs ++ v ∷ [])) ≡ worse_status (fold worse_status n (map f vs)) (f v)
+worst_from f n [] v = refl
+worst_from f n (x ∷ vs) v = worst_from f (worse_status n (f x)) vs v
 
 -- ---- the numbers
 
@@ -27,165 +57,158 @@ count_more p xs x = sum_by-append (λ y. cond (p y) 1 0) xs (x ∷ []) ∙ last 
     last n true = refl
     last n false = refl
 
-sum_more : (xs : List ℕ) (n : ℕ) → sum_by (λ x. x) (xs ++ n ∷ []) ≡ sum_by (λ x. x) xs + n
-sum_more xs n = sum_by-append (λ x. x) xs (n ∷ []) ∙ omega arith
+issues_more : (vs : List Verdict) (v : Verdict) → sum_by issue_count (vs ++ v ∷ []) ≡ sum_by issue_count vs + issue_count v
+issues_more vs v = sum_by-append issue_count vs (v ∷ []) ∙ omega arith
 
-counts_more : (seen : List (List Name)) (files : List Name) (rows : List Row) (row : Row) (issues : List ℕ) (n : ℕ) (counts : Counts) → counts ≡ counts_of seen rows issues → has_report row ≡ nat_lt 0 n
-    → counts_with counts (has_file files) row.status n ≡ counts_of (seen ++ files ∷ []) (rows ++ row ∷ []) (issues ++ n ∷ [])
-counts_more seen files rows row issues n counts e h =
-    ap (λ c. counts_with c (has_file files) row.status n) e
+refused_so : (policy : Policy) (v : Verdict) → (verdict_status policy v == 1) ≡ is_refused v
+refused_so policy (Err refusals) = refl
+refused_so policy (Ok issues) = by (not policy.force && list_any (weighs policy.minimum) issues)
+  where
+    by : (b : Bool) → ((if b then 2 else 0) == 1) ≡ false
+    by true = refl
+    by false = refl
+
+counts_more : (policy : Policy) (seen : List Module) (m : Module) (vs : List Verdict) (v : Verdict) (counts : Counts) (status n : ℕ) → counts ≡ counts_of seen vs → status ≡ verdict_status policy v → n ≡ issue_count v
+    → counts_with counts (is_module m) status n ≡ counts_of (seen ++ m ∷ []) (vs ++ v ∷ [])
+counts_more policy seen m vs v counts status n e es en =
+    (λ i. counts_with (e i) (is_module m) (es i) (en i))
     ∙ (λ i. record {
-      modules = sym (count_more has_file seen files) i;
-      refused = sym (count_more is_unlinted rows row) i;
-      reported = sym (count_more has_report rows row ∙ ap (λ v. count_by has_report rows + one_if v) h) i;
-      issues = sym (sum_more issues n) i;
+      modules = sym (count_more is_module seen m) i;
+      refused = (ap (λ b. count_by is_refused vs + one_if b) (refused_so policy v) ∙ sym (count_more is_refused vs v)) i;
+      reported = sym (count_more has_issues vs v) i;
+      issues = sym (issues_more vs v) i;
     })
 
 more_small : (n m seen more : ℕ) → n ≤ m + 18446744073709551615 → m ≤ 18446744073709551615 * seen → more ≡ seen + 1 → n ≤ 18446744073709551615 * more
 more_small n m seen more h k e = omega (arith, h, k, e)
 
-zip_length : {A B : Type 0} (R : A → B → Type 0) (xs : List A) (ys : List B) → AllZip R xs ys → length ys ≡ length xs
-zip_length R [] [] h = refl
-zip_length R [] (y ∷ ys) h = absurd h
-zip_length R (x ∷ xs) [] h = absurd h
-zip_length R (x ∷ xs) (y ∷ ys) h = ap suc (zip_length R xs ys h.1)
+both : (v : Bool) → v ≡ true → v ≡ false → ⊥
+both v h k = cc
 
-module _ (told : Name → Option (List ℕ)) (policy : Policy) where
+module _ (files : Files) (policy : Policy) where
+  judged_length : (ms : List Module) (vs : List Verdict) (was is : Faults) → AreJudged files policy ms vs was is → length vs ≡ length ms
+  judged_length [] [] was is j = refl
+  judged_length [] (v ∷ vs) was is j = absurd j
+  judged_length (m ∷ ms) [] was is j = absurd j
+  judged_length (m ∷ ms) (v ∷ vs) was is j = ap suc (judged_length ms vs j.0 is j.2)
+
+  judged_more : (ms : List Module) (vs : List Verdict) (m : Module) (v : Verdict) (was between is : Faults) → AreJudged files policy ms vs was between → IsVerdict files policy m between is v → AreJudged files policy (ms ++ m ∷ []) (vs ++ v ∷ []) was is
+  judged_more [] [] m v was between is j h = (is, subst (λ (w : Faults). IsVerdict files policy m w is v) j h, refl)
+  judged_more [] (w ∷ vs) m v was between is j h = absurd j
+  judged_more (x ∷ ms) [] m v was between is j h = absurd j
+  judged_more (x ∷ ms) (w ∷ vs) m v was between is j h = (j.0, j.1, judged_more ms vs m v j.0 between is j.2 h)
+
+  reports_more : (a : Bool) (ms : List Module) (vs : List Verdict) (m : Module) (v : Verdict) (was is : Faults) → AreJudged files policy ms vs was is
+      → reports_after a (ms ++ m ∷ []) (vs ++ v ∷ []) ≡ reports_after a ms vs ++ verdict_output (a || list_any has_issues vs) m v
+  reports_more a [] [] m v was is j = append-nil (verdict_output a m v) ∙ ap (λ b. verdict_output b m v) (sym (or_false a))
+  reports_more a [] (w ∷ vs) m v was is j = absurd j
+  reports_more a (x ∷ ms) [] m v was is j = absurd j
+  reports_more a (x ∷ ms) (w ∷ vs) m v was is j =
+      ap (λ t. verdict_output a x w ++ t) (reports_more (a || has_issues w) ms vs m v j.0 is j.2 ∙ ap (λ b. reports_after (a || has_issues w) ms vs ++ verdict_output b m v) (or_assoc a (has_issues w) (list_any has_issues vs)))
+      ∙ sym (append_assoc (verdict_output a x w) (reports_after (a || has_issues w) ms vs) (verdict_output (a || (has_issues w || list_any has_issues vs)) m v))
+
   -- ---- the run so far: no writer failed
 
-  pub record SoFar (seen : List (List Name)) (out out' err err' : Option (List ℕ)) (is_after : Bool) (status : ℕ) (counts : Counts) : Type 0 where
-    pub rows : List Row
-    pub are : AllZip (IsModuleRow told policy) seen rows
-    pub output : Appends out out' (reports_after false rows)
-    pub message : Appends err err' (errors_of rows)
-    pub after : is_after ≡ list_any has_report rows
-    pub exit : status ≡ worst_status (map (λ row. row.status) rows)
-    pub issues : List ℕ
-    pub reported : AllZip HasIssues rows issues
-    pub counted : counts ≡ counts_of seen rows issues
+  pub record SoFar (seen : List Module) (was is : Faults) (out out' err err' : Option (List ℕ)) (is_after : Bool) (status : ℕ) (counts : Counts) : Type 0 where
+    pub verdicts : List Verdict
+    pub judged : AreJudged files policy seen verdicts was is
+    pub output : Appends out out' (reports_after false seen verdicts)
+    pub message : Appends err err' (flat_map verdict_message verdicts)
+    pub after : is_after ≡ list_any has_issues verdicts
+    pub exit : status ≡ worst_status (map (verdict_status policy) verdicts)
+    pub counted : counts ≡ counts_of seen verdicts
     pub small : counts.issues ≤ 18446744073709551615 * length seen
 
-  pub so_far_none : (out err : Option (List ℕ)) (counts : Counts) → counts ≡ counts_of [] [] [] → SoFar [] out out err err false 0 counts
-  so_far_none out err counts none = record {
-    rows = [];
-    are = tt;
+  pub so_far_none : (was : Faults) (out err : Option (List ℕ)) (counts : Counts) → counts ≡ counts_of [] [] → SoFar [] was was out out err err false 0 counts
+  so_far_none was out err counts none = record {
+    verdicts = [];
+    judged = refl;
     output = appends_nothing out;
     message = appends_nothing err;
     after = refl;
     exit = refl;
-    issues = [];
-    reported = tt;
     counted = none;
     small = omega (arith, ap (λ (c : Counts). c.issues) none);
   }
 
   -- its numbers have room for one module more
-  pub has_room : (seen : List (List Name)) (out out' err err' : Option (List ℕ)) (is_after : Bool) (status : ℕ) (counts : Counts) → SoFar seen out out' err err' is_after status counts → length seen < 18446744073709551615 → HasRoom counts
-  has_room seen out out' err err' is_after status counts before lt = subst HasRoom (sym before.counted) (record {
-    modules = omega (arith, count_by-le-length has_file seen, lt);
-    refused = below is_unlinted;
-    reported = below has_report;
+  pub has_room : (seen : List Module) (was is : Faults) (out out' err err' : Option (List ℕ)) (is_after : Bool) (status : ℕ) (counts : Counts) → SoFar seen was is out out' err err' is_after status counts → length seen < 18446744073709551615
+      → HasRoom counts
+  has_room seen was is out out' err err' is_after status counts before lt = subst HasRoom (sym before.counted) (record {
+    modules = omega (arith, count_by-le-length is_module seen, lt);
+    refused = below is_refused;
+    reported = below has_issues;
     issues = omega (arith, small', lt);
   })
     where
-      small' : sum_by (λ n. n) before.issues ≤ 18446744073709551615 * length seen
+      small' : sum_by issue_count before.verdicts ≤ 18446744073709551615 * length seen
       small' = subst (λ (c : Counts). c.issues ≤ 18446744073709551615 * length seen) before.counted before.small
 
-      below : (p : Row → Bool) → count_by p before.rows + 1 < 18446744073709551616
-      below p = omega (arith, count_by-le-length p before.rows, zip_length (IsModuleRow told policy) seen before.rows before.are, lt)
+      below : (p : Verdict → Bool) → count_by p before.verdicts + 1 < 18446744073709551616
+      below p = omega (arith, count_by-le-length p before.verdicts, judged_length seen before.verdicts was is before.judged, lt)
 
   -- ---- one module more
 
-  module _ (seen : List (List Name)) (files : List Name) (o e : Option (List ℕ)) (is_after : Bool) (n s : ℕ) (counts : Counts) (m : End)
-      (before : SoFar seen o m.out.before e m.err.before is_after s counts) (shows : ShowsAfter is_after n (IsModuleRow told policy files) m) where
-    abbrev row : Row
-    row = shows.1.0
+  module _ (seen : List Module) (m : Module) (was between is : Faults) (o e : Option (List ℕ)) (is_after : Bool) (s : ℕ) (counts : Counts) (out err : Writer) (ended : Ended)
+      (before : SoFar seen was between o out.before e err.before is_after s counts) (shown : Shows (record { policy = policy; is_after = is_after }) m (IsVerdict files policy m between is) out err ended) where
+    abbrev verdicts' : List Verdict
+    verdicts' = before.verdicts ++ shown.verdict ∷ []
 
-    abbrev rows' : List Row
-    rows' = before.rows ++ row ∷ []
+    judged' : AreJudged files policy (seen ++ m ∷ []) verdicts' was is
+    judged' = judged_more seen before.verdicts m shown.verdict was between is before.judged shown.holds
 
-    shown : Shows linter (parted_row is_after row) m
-    shown = subst (λ (r : Row). Shows linter r m) shows.1.2 shows.2
+    reports' : reports_after false (seen ++ m ∷ []) verdicts' ≡ reports_after false seen before.verdicts ++ verdict_output is_after m shown.verdict
+    reports' = reports_more false seen before.verdicts m shown.verdict was between before.judged ∙ ap (λ v. reports_after false seen before.verdicts ++ verdict_output v m shown.verdict) (sym before.after)
 
-    are' : AllZip (IsModuleRow told policy) (seen ++ files ∷ []) rows'
-    are' = zip_more (IsModuleRow told policy) seen before.rows files row before.are shows.1.1
+    output' : TookBy out.failed o out.after (reports_after false (seen ++ m ∷ []) verdicts')
+    output' = subst (TookBy out.failed o out.after) (sym reports') (took_after o out.before out.after out.failed (reports_after false seen before.verdicts) (verdict_output is_after m shown.verdict) before.output shown.output)
 
-    reports' : reports_after false rows' ≡ reports_after false before.rows ++ parted is_after row.out
-    reports' = reports_more false before.rows row ∙ ap (λ v. reports_after false before.rows ++ parted v row.out) (sym before.after)
+    message' : TookBy err.failed e err.after (flat_map verdict_message verdicts')
+    message' = subst (TookBy err.failed e err.after) (sym (messages_more before.verdicts shown.verdict)) (took_after e err.before err.after err.failed (flat_map verdict_message before.verdicts) (verdict_message shown.verdict) before.message shown.message)
 
-    output' : TookBy m.out.failed o m.out.after (reports_after false rows')
-    output' = subst (TookBy m.out.failed o m.out.after) (sym reports') (goes_on o o m.out.before (reports_after false before.rows) (parted is_after row.out) (reports_after false before.rows ++ parted is_after row.out) (reports_after false before.rows ++ parted is_after row.out) refl before.output (λ _ _ taken. taken) m.out.after m.out.failed shown.output)
-
-    messages' : (f : Bool) → messages f rows' ≡ errors_of before.rows ++ error_output linter f (parted_row is_after row)
-    messages' true = messages_cut before.rows row
-    messages' false = errors_more before.rows row
-
-    message' : TookBy m.err.failed e m.err.after (messages m.out.failed rows')
-    message' =
-        subst (TookBy m.err.failed e m.err.after) (sym (messages' m.out.failed))
-        (goes_on e e m.err.before (errors_of before.rows) (error_output linter m.out.failed (parted_row is_after row)) (errors_of before.rows ++ error_output linter m.out.failed (parted_row is_after row)) (errors_of before.rows ++ error_output linter m.out.failed (parted_row is_after row)) refl before.message (λ _ _ taken. taken) m.err.after m.err.failed shown.message)
-
-    status_is : m.out.failed ≡ false → m.err.failed ≡ false → m.status ≡ row.status
-    status_is out_good err_good = shown.exit ∙ ap (λ (v : Bool). if v then 1 else row.status) (ap (λ v. v || m.err.failed) out_good ∙ err_good)
-
-    has_issues : has_report row ≡ nat_lt 0 n
-    has_issues = has_some n row.out shows.1.3
-
-    pub so_far_more : (more : List (List Name)) (after : Bool) (status : ℕ) (counts' : Counts) → more ≡ seen ++ files ∷ [] → m.out.failed ≡ false → m.err.failed ≡ false → after ≡ (is_after || nat_lt 0 n)
-        → status ≡ worse_status s m.status → counts' ≡ counts_with counts (has_file files) m.status n → counts'.issues ≤ counts.issues + 18446744073709551615 → SoFar more o m.out.after e m.err.after after status counts'
+    pub so_far_more : (more : List Module) (after : Bool) (status : ℕ) (counts' : Counts) → more ≡ seen ++ m ∷ [] → out.failed ≡ false → err.failed ≡ false → after ≡ (is_after || nat_lt 0 ended.issues) → status ≡ worse_status s ended.status
+        → counts' ≡ counts_with counts (is_module m) ended.status ended.issues → counts'.issues ≤ counts.issues + 18446744073709551615 → SoFar more was is o out.after e err.after after status counts'
     so_far_more more after status counts' all out_good err_good a w c small = record {
-      rows = rows';
-      are = subst (λ l. AllZip (IsModuleRow told policy) l rows') (sym all) are';
-      output = all_taken o m.out.after m.out.failed (reports_after false rows') out_good output';
-      message = subst (λ v. Appends e m.err.after (messages v rows')) out_good (all_taken e m.err.after m.err.failed (messages m.out.failed rows') err_good message');
-      after = a ∙ ap (λ v. v || nat_lt 0 n) before.after ∙ ap (λ v. list_any has_report before.rows || v) (sym has_issues) ∙ sym (any_more before.rows row);
-      exit = w ∙ ap (λ t. worse_status t m.status) before.exit
-          ∙ ap (λ t. worse_status (worst_status (map (λ r. r.status) before.rows)) t) (status_is out_good err_good)
-          ∙ sym (worst_more before.rows row);
-      issues = before.issues ++ n ∷ [];
-      reported = zip_more HasIssues before.rows before.issues row n before.reported shows.1.3;
-      counted = c ∙ ap (λ t. counts_with counts (has_file files) t n) (status_is out_good err_good)
-          ∙ counts_more seen files before.rows row before.issues n counts before.counted has_issues
-          ∙ ap (λ l. counts_of l rows' (before.issues ++ n ∷ [])) (sym all);
-      small = subst (λ l. counts'.issues ≤ 18446744073709551615 * length l) (sym all) (more_small counts'.issues counts.issues (length seen) (length (seen ++ files ∷ [])) small before.small (length-append seen (files ∷ [])));
+      verdicts = verdicts';
+      judged = subst (λ l. AreJudged files policy l verdicts' was is) (sym all) judged';
+      output = subst (λ l. Appends o out.after (reports_after false l verdicts')) (sym all) (all_taken o out.after out.failed (reports_after false (seen ++ m ∷ []) verdicts') out_good output');
+      message = all_taken e err.after err.failed (flat_map verdict_message verdicts') err_good message';
+      after = a ∙ ap (λ v. v || nat_lt 0 ended.issues) before.after ∙ ap (λ n. list_any has_issues before.verdicts || nat_lt 0 n) shown.issues ∙ sym (any_more before.verdicts shown.verdict);
+      exit = w ∙ ap (λ t. worse_status t ended.status) before.exit ∙ ap (λ t. worse_status (worst_status (map (verdict_status policy) before.verdicts)) t) shown.exit
+          ∙ sym (worst_from (verdict_status policy) 0 before.verdicts shown.verdict);
+      counted = c ∙ counts_more policy seen m before.verdicts shown.verdict counts ended.status ended.issues before.counted shown.exit shown.issues ∙ ap (λ l. counts_of l verdicts') (sym all);
+      small = subst (λ l. counts'.issues ≤ 18446744073709551615 * length l) (sym all) (more_small counts'.issues counts.issues (length seen) (length (seen ++ m ∷ [])) small before.small (length-append seen (m ∷ [])));
     }
 
     -- what it says could not be written
-    pub run_cut : (modules rest : List (List Name)) (fo fe : Flushes) (last : Counts) → modules ≡ seen ++ files ∷ rest → (m.out.failed || m.err.failed) ≡ true
-        → IsLintRun told policy modules (record { out = record m.out { before = o; flushes_before = fo }; err = record m.err { before = e; flushes_before = fe }; status = 1 }) last
+    pub run_cut : (modules rest : List Module) (fo fe : Flushes) (last : Counts) → modules ≡ seen ++ m ∷ rest → (out.failed || err.failed) ≡ true
+        → IsLintRun files policy modules was is (record { out = record out { before = o; flushes_before = fo }; err = record err { before = e; flushes_before = fe }; status = 1 }) last
     run_cut modules rest fo fe last all bad = record {
-      seen = seen ++ files ∷ [];
+      seen = seen ++ m ∷ [];
       rest = rest;
-      all = all ∙ sym (append_assoc seen (files ∷ []) rest);
-      whole = λ good. absurd (both (m.out.failed || m.err.failed) bad good);
-      rows = rows';
-      are = are';
+      all = all ∙ sym (append_assoc seen (m ∷ []) rest);
+      whole = λ good. absurd (both (out.failed || err.failed) bad good);
+      verdicts = verdicts';
+      judged = judged';
       output = output';
       message = message';
-      exit = sym (ap (λ (v : Bool). if v then 1 else worst_status (map (λ r. r.status) rows')) bad);
-      issues = before.issues ++ n ∷ [];
-      reported = zip_more HasIssues before.rows before.issues row n before.reported shows.1.3;
-      counted = λ good. absurd (both (m.out.failed || m.err.failed) bad good);
+      exit = sym (ap (λ (v : Bool). if v then 1 else worst_status (map (verdict_status policy) verdicts')) bad);
+      counted = λ good. absurd (both (out.failed || err.failed) bad good);
     }
-      where
-        both : (v : Bool) → v ≡ true → v ≡ false → ⊥
-        both v h k = cc
 
   -- ---- its end
 
-  pub run_whole : (modules seen : List (List Name)) (out err : Writer) (is_after : Bool) (s : ℕ) (counts : Counts) → seen ≡ modules → SoFar seen out.before out.after err.before err.after is_after s counts → out.failed ≡ false → err.failed ≡ false
-      → IsLintRun told policy modules (record { out = out; err = err; status = s }) counts
-  run_whole modules seen out err is_after s counts same before out_good err_good = record {
+  pub run_whole : (modules seen : List Module) (was is : Faults) (out err : Writer) (is_after : Bool) (s : ℕ) (counts : Counts) → seen ≡ modules → SoFar seen was is out.before out.after err.before err.after is_after s counts → out.failed ≡ false
+      → err.failed ≡ false → IsLintRun files policy modules was is (record { out = out; err = err; status = s }) counts
+  run_whole modules seen was is out err is_after s counts same before out_good err_good = record {
     seen = seen;
     rest = [];
     all = sym same ∙ sym (append-nil seen);
     whole = λ _. refl;
-    rows = before.rows;
-    are = before.are;
-    output = subst (λ v. TookBy v out.before out.after (reports_after false before.rows)) (sym out_good) before.output;
-    message = subst (λ v. TookBy v err.before err.after (messages out.failed before.rows)) (sym err_good) (subst (λ v. Appends err.before err.after (messages v before.rows)) (sym out_good) before.message);
-    exit = before.exit ∙ sym (ap (λ (v : Bool). if v then 1 else worst_status (map (λ r. r.status) before.rows)) (ap (λ v. v || err.failed) out_good ∙ err_good));
-    issues = before.issues;
-    reported = before.reported;
+    verdicts = before.verdicts;
+    judged = before.judged;
+    output = subst (λ v. TookBy v out.before out.after (reports_after false seen before.verdicts)) (sym out_good) before.output;
+    message = subst (λ v. TookBy v err.before err.after (flat_map verdict_message before.verdicts)) (sym err_good) before.message;
+    exit = before.exit ∙ sym (ap (λ (v : Bool). if v then 1 else worst_status (map (verdict_status policy) before.verdicts)) (ap (λ v. v || err.failed) out_good ∙ err_good));
     counted = λ _. before.counted;
   }

@@ -1,31 +1,32 @@
 -- What is said at the end of a run over modules: how many issues it found, and in how many of them. Our own choice.
-use Rattle.std.specs.Prelude.{ℕ, ◌==◌, Bool, true, false, List, [], ◌∷◌, ◌++◌, codes, decimal, if◌then◌else◌}
+use Rattle.std.specs.Prelude.{ℕ, ◌==◌, ◌&&◌, not, Bool, true, false, List, ◌++◌, Ok, Err, codes, decimal, length, nat_lt, if◌then◌else◌}
 use Rattle.std.specs.List.{count_by, sum_by}
-use Rattle.command_line.specs.Rows.{Row}
-use Rattle.file_tree.specs.Files.{Name}
-use Rattle.tfrules_command.specs.Parted.{ReportsIssues, has_report}
+use Rattle.module_find.specs.declared.module.Module.{Module}
+use Rattle.tree_lint.specs.Verdicts.{Verdict}
 use Rattle.tree_lint.specs.declared.counts.Counts.{Counts}
 
--- the report of a row has so many issues
-abbrev pub HasIssues : Row → ℕ → Type 0
-HasIssues row n = ReportsIssues n row.out
+-- a module has a file, or a name that can't be looked at
+abbrev pub is_module : Module → Bool
+is_module m = not (length m.files.items == 0 && length m.faults.items == 0)
 
--- a module has a file
-abbrev pub has_file : List Name → Bool
-has_file [] = false
-has_file (name ∷ names) = true
+abbrev pub is_refused : Verdict → Bool
+is_refused (Ok issues) = false
+is_refused (Err refusals) = true
 
--- it could not be linted
-abbrev pub is_unlinted : Row → Bool
-is_unlinted row = row.status == 1
+abbrev pub issue_count : Verdict → ℕ
+issue_count (Ok issues) = length issues
+issue_count (Err refusals) = 0
 
--- THE NUMBERS of a run over these modules, of which these are the rows, and how many issues each has
-abbrev pub counts_of : List (List Name) → List Row → List ℕ → Counts
-counts_of modules rows issues = record {
-  modules = count_by has_file modules;
-  refused = count_by is_unlinted rows;
-  reported = count_by has_report rows;
-  issues = sum_by (λ n. n) issues;
+abbrev pub has_issues : Verdict → Bool
+has_issues v = nat_lt 0 (issue_count v)
+
+-- THE NUMBERS of a run over these modules, of which this became
+abbrev pub counts_of : List Module → List Verdict → Counts
+counts_of modules verdicts = record {
+  modules = count_by is_module modules;
+  refused = count_by is_refused verdicts;
+  reported = count_by has_issues verdicts;
+  issues = sum_by issue_count verdicts;
 }
 
 -- ---- what is said of them

@@ -1,67 +1,59 @@
--- What a run over modules says, and its status: each module is linted for itself, as `tfrules` lints its files, and what is
--- said of them stands one after another. Our own choice.
-use Rattle.std.specs.Prelude.{◌≡◌, ◌⊎◌, ◌||◌, ◌==◌, ◌<◌, ℕ, Bool, true, false, List, [], ◌∷◌, ◌++◌, Option, Ok, codes, fold, length, map, max, string_bytes, if◌then◌else◌}
-use Rattle.std.specs.List.{AllZip, concat}
-use Rattle.command_line.specs.Rows.{End, Row, Took, fails_with, message_row, write_failed}
-use Rattle.file_tree.specs.Files.{Files, Name}
+-- What a run over modules says, and its status: each module is linted for itself, and what is said of them stands one after
+-- another. Our own choice.
+use Rattle.std.specs.Prelude.{◌≡◌, ◌||◌, ◌==◌, ℕ, Bool, true, false, List, [], ◌∷◌, ◌++◌, Ok, Err, flat_map, fold, map, max, if◌then◌else◌}
+use Rattle.command_line.specs.Rows.{End, Took}
+use Rattle.file_tree.specs.Files.{Faults, Files}
+use Rattle.file_tree.specs.Quotes.{quoted}
+use Rattle.module_find.specs.declared.module.Module.{Module}
 use Rattle.tf_rules.specs.Issues.{asked_of}
-use Rattle.tfrules_command.specs.Answer.{linter}
-use Rattle.tfrules_command.specs.Line.{Asking, each_once, max_files}
-use Rattle.tfrules_command.specs.Parted.{ShowsAfter, has_report, parted}
-use Rattle.tfrules_command.specs.Rows.{IsRow}
-use Rattle.tree_lint.specs.Numbers.{HasIssues, counts_of}
+use Rattle.tf_rules.specs.declared.issue.Issue.{Issue}
+use Rattle.tfrules_command.specs.Line.{Asking}
+use Rattle.tfrules_command.specs.Report.{report, status}
+use Rattle.tree_lint.specs.Numbers.{counts_of, has_issues}
+use Rattle.tree_lint.specs.Parted.{parted}
+use Rattle.tree_lint.specs.Refusals.{refusal_line}
+use Rattle.tree_lint.specs.Verdicts.{IsVerdict, Verdict, names_in}
 use Rattle.tree_lint.specs.declared.counts.Counts.{Counts}
-use Rattle.tree_lint.specs.declared.modules.Module.{Module}
 use Rattle.tree_lint.specs.declared.policy.Policy.{Policy}
-
--- the bytes of the file to which a name leads
-abbrev pub told_in : Files → Name → Option (List ℕ)
-told_in files name = files.told (files.real name)
-
--- all names lead to the same bytes as before
-abbrev pub StayTold : Files → Files → Type 0
-StayTold before after = (name : Name) → told_in after name ≡ told_in before name
-
-abbrev pub files_of : Module → List Name
-files_of one = map string_bytes one.files.items
 
 -- ---- one module
 
--- what `tfrules` is asked for
-abbrev pub asking_under : Policy → List Name → Asking
-asking_under policy files = record { asked = asked_of policy.settings; minimum = policy.minimum; force = policy.force; files = each_once files }
+-- its report: that of `tfrules`, but that names stand in it as they are shown
+abbrev pub module_report : Module → List Issue → List ℕ
+module_report m issues = report (map quoted (names_in m)) issues
 
--- THE ROW OF A MODULE with these files: that of `tfrules` on them, whether or not an opening or a read fails; none where there
--- is no file; and where there are too many, that is said
-abbrev pub IsModuleRow : (Name → Option (List ℕ)) → Policy → List Name → Row → Type 0
-IsModuleRow told policy files row =
-    ((files ≡ []) × (row ≡ message_row [] 0))
-    ⊎ (((max_files < length files) × (row ≡ fails_with linter (codes "more than 256 files")))
-    ⊎ ((open_failed : Bool) × (read_failed : Bool) × IsRow told (Ok (asking_under policy files)) open_failed read_failed row))
+-- what goes to standard output, after other reports or as the first
+abbrev pub verdict_output : Bool → Module → Verdict → List ℕ
+verdict_output is_after m (Ok issues) = parted is_after (module_report m issues)
+verdict_output is_after m (Err refusals) = []
 
--- such a row is shown, after other reports or as the first, and it is told how many issues its report has
-abbrev pub ShowsModule : Bool → ℕ → Files → Policy → List Name → End → Type 0
-ShowsModule is_after issues files policy names end = ShowsAfter is_after issues (IsModuleRow (told_in files) policy names) end
+-- what goes to standard error
+abbrev pub verdict_message : Verdict → List ℕ
+verdict_message (Ok issues) = []
+verdict_message (Err refusals) = flat_map refusal_line refusals
+
+-- by what an issue fails the run
+abbrev pub failing_under : Policy → Asking
+failing_under policy = record { asked = asked_of policy.settings; minimum = policy.minimum; force = policy.force; files = [] }
+
+-- that of `tfrules`
+abbrev pub verdict_status : Policy → Verdict → ℕ
+verdict_status policy (Ok issues) = status (failing_under policy) issues
+verdict_status policy (Err refusals) = 1
 
 -- ---- all modules
 
--- the reports of rows, an empty line between two
-abbrev pub reports_after : Bool → List Row → List ℕ
-reports_after is_after [] = []
-reports_after is_after (row ∷ rows) = parted is_after row.out ++ reports_after (is_after || has_report row) rows
+-- each is judged for itself, whatever becomes of the others; the faults of the device are those of these modules
+abbrev pub AreJudged : Files → Policy → List Module → List Verdict → Faults → Faults → Type 0
+AreJudged files policy [] [] was is = is ≡ was
+AreJudged files policy [] (v ∷ vs) was is = ⊥
+AreJudged files policy (m ∷ ms) [] was is = ⊥
+AreJudged files policy (m ∷ ms) (v ∷ vs) was is = (between : Faults) × IsVerdict files policy m was between v × AreJudged files policy ms vs between is
 
-abbrev pub but_last : List Row → List Row
-but_last [] = []
-but_last (row ∷ []) = []
-but_last (row ∷ other ∷ rows) = row ∷ but_last (other ∷ rows)
-
-abbrev pub errors_of : List Row → List ℕ
-errors_of rows = concat (map (λ row. row.err) rows)
-
--- what goes to standard error: where standard output failed, that in place of what the last row says
-abbrev pub messages : Bool → List Row → List ℕ
-messages false rows = errors_of rows
-messages true rows = errors_of (but_last rows) ++ write_failed linter
+-- the reports of modules, an empty line between two
+abbrev pub reports_after : Bool → List Module → List Verdict → List ℕ
+reports_after is_after (m ∷ ms) (v ∷ vs) = verdict_output is_after m v ++ reports_after (is_after || has_issues v) ms vs
+reports_after is_after _ _ = []
 
 -- 1 is worse than 2, and 2 than 0
 abbrev pub worse_status : ℕ → ℕ → ℕ
@@ -70,19 +62,16 @@ worse_status one other = if one == 1 || other == 1 then 1 else max one other
 abbrev pub worst_status : List ℕ → ℕ
 worst_status statuses = fold worse_status 0 statuses
 
--- THE RUN over modules with these files: each has its row, whatever becomes of the others, up to one of which nothing more can
--- be written. Each writer took what the rows say, or a part from the front where it failed, and the status is the worst one.
--- If none failed, these are its numbers.
-pub record IsLintRun (told : Name → Option (List ℕ)) (policy : Policy) (modules : List (List Name)) (end : End) (counts : Counts) : Type 0 where
-  pub seen : List (List Name)
-  pub rest : List (List Name)
+-- THE RUN over modules: each is judged, up to one of which nothing more can be written. Each writer took what is said of them, or
+-- a part from the front where it failed, and the status is the worst one. If none failed, these are its numbers.
+pub record IsLintRun (files : Files) (policy : Policy) (modules : List Module) (was is : Faults) (end : End) (counts : Counts) : Type 0 where
+  pub seen : List Module
+  pub rest : List Module
   pub all : modules ≡ seen ++ rest
   pub whole : (end.out.failed || end.err.failed) ≡ false → rest ≡ []
-  pub rows : List Row
-  pub are : AllZip (IsModuleRow told policy) seen rows
-  pub output : Took end.out (reports_after false rows)
-  pub message : Took end.err (messages end.out.failed rows)
-  pub exit : end.status ≡ (if end.out.failed || end.err.failed then 1 else worst_status (map (λ row. row.status) rows))
-  pub issues : List ℕ  -- how many the report of each row has
-  pub reported : AllZip HasIssues rows issues
-  pub counted : (end.out.failed || end.err.failed) ≡ false → counts ≡ counts_of seen rows issues
+  pub verdicts : List Verdict
+  pub judged : AreJudged files policy seen verdicts was is
+  pub output : Took end.out (reports_after false seen verdicts)
+  pub message : Took end.err (flat_map verdict_message verdicts)
+  pub exit : end.status ≡ (if end.out.failed || end.err.failed then 1 else worst_status (map (verdict_status policy) verdicts))
+  pub counted : (end.out.failed || end.err.failed) ≡ false → counts ≡ counts_of seen verdicts

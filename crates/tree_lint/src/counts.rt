@@ -8,14 +8,22 @@ ghost use Rattle.tree_lint.specs.Inner.Growth.{HasRoom, counts_with, one_if};
 use command_line::write_pieces;
 use hcl_scan::{ByteSink, Failed};
 use itoa::Buffer;
-use tfrules_command::module_run::Ended;
+
+/// How the run over a module ended.
+#[derive(Clone, Copy, Debug, PartialEq, Eq)]
+pub(crate) struct Ended {
+    /// 0 or 2, as of `tfrules` over the module alone, or 1 where it is refused.
+    pub status: u8,
+    /// How many issues its report has: none if there is no report.
+    pub issues: usize,
+}
 
 /// What a run over modules found, in numbers.
 #[derive(Clone, Copy, Debug, PartialEq, Eq)]
 pub struct Counts {
-    /// The modules that have a file.
+    /// The modules that have a file, or a name that can't be looked at.
     pub modules: u64,
-    /// Those that could not be linted.
+    /// Those that are refused.
     pub refused: u64,
     /// Those with issues.
     pub reported: u64,
@@ -33,7 +41,7 @@ fn one_if(is_so: bool) -> u64
 impl Counts {
     /// No module.
     pub(crate) fn new() -> Counts
-        ensures { result ≡ counts_of [] [] [] }
+        ensures { result ≡ counts_of [] [] }
     {
         Counts {
             modules: 0,
@@ -43,14 +51,14 @@ impl Counts {
         }
     }
 
-    /// One module more, which has a file or none, and of which this came.
-    pub(crate) fn add(self, has_file: bool, ended: Ended) -> Counts
+    /// One module more, if it is one, and what came of it.
+    pub(crate) fn add(self, is_module: bool, ended: Ended) -> Counts
         requires { HasRoom self }
-        ensures sum { result ≡ counts_with self has_file ended.status ended.issues }
+        ensures sum { result ≡ counts_with self is_module ended.status ended.issues }
         ensures small { result.issues ≤ self.issues + 18446744073709551615 }
     {
         Counts {
-            modules: self.modules + one_if(has_file),
+            modules: self.modules + one_if(is_module),
             refused: self.refused + one_if(ended.status == 1),
             reported: self.reported + one_if(ended.issues > 0),
             issues: self.issues + ended.issues as u128,

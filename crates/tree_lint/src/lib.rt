@@ -1,8 +1,12 @@
-//! Lints the modules of a tree one after another, each by the run of `tfrules` over its files.
+//! Lints the modules of a tree one after another, each by itself.
 #![tactic(auto)]
 
 pub mod counts;
+mod gather;
 pub mod module_tree;
-pub mod modules;
 pub mod policy;
+pub mod refusal;
+mod report;
 pub mod run;
+mod shown;
+mod stop;

@@ -1,85 +1,101 @@
 //! The files of a tree, as those of modules.
 
-ghost use Rattle.std.specs.Prelude.{◌≡◌, false};
+ghost use Rattle.std.specs.Prelude.{◌≡◌, IfOk, false, is_err, not, true};
+ghost use Rattle.file_tree.specs.Files.{fault_of, fault_of_reader, with_fault};
+ghost use Rattle.tree_lint.specs.Readers.{has_reader_out};
+ghost use Rattle.tree_lint.specs.Verdicts.{told_in};
+ghost use Rattle.tree_lint.specs.Inner.Gathering.{ReadsFile, stop_by};
 
+use crate::stop::Stop;
+use file_tree::fault::TreeFault;
 use file_tree::tree::Tree;
-use hcl_scan::ByteSource;
+use hcl_scan::{ByteSource, LoadError, Source};
+use std::alloc::Global;
 use tfrules_command::Hashing;
-use tfrules_command::module_files::{ModuleFiles, OpenFault};
 
-/// A tree, from which the files of one module after another are read.
+/// A tree, from which the files of one module after another are read, one at a time.
 #[derive(Drop)]
 pub struct ModuleTree<T: Drop> {
     pub tree: T,
     hashing: Hashing,
-    has_unopened: bool,
-    has_unread: bool,
     is_out: bool,
+}
+
+/// What a loaded text is for a run.
+fn stop_of(loaded: Result<Source, LoadError>) -> Result<Source, Stop>
+    ensures { result ≡ stop_by loaded }
+{
+    match loaded {
+        Ok(source) => Ok(source),
+        Err(LoadError::Fault(fault)) => Err(Stop::Refused(fault)),
+        Err(LoadError::ReadFailed) => Err(Stop::Failed(TreeFault::ReadFailed)),
+        Err(LoadError::OutOfMemory) => Err(Stop::Failed(TreeFault::OutOfMemory)),
+    }
 }
 
 impl<T: Tree + Drop> ModuleTree<T> {
     /// The files of a tree, of which none is open. The names in them are hashed as `hashing` says.
     pub fn new(tree: T, hashing: Hashing) -> ModuleTree<T>
         ensures tree { result.tree ≡ tree }
-        ensures back { ⟦<ModuleTree<T> as ModuleFiles>⟧.is_out result ≡ false }
+        ensures back { has_reader_out result ≡ false }
     {
         ModuleTree {
             tree,
             hashing,
-            has_unopened: false,
-            has_unread: false,
             is_out: false,
         }
     }
 
-    /// Begins a module: of its files none has failed yet.
-    pub fn begin(&mut self)
-        ensures tree { self.new.tree ≡ self.old.tree }
-        ensures opened { ⟦<ModuleTree<T> as ModuleFiles>⟧.open_failed self.new ≡ false }
-        ensures read { ⟦<ModuleTree<T> as ModuleFiles>⟧.read_failed self.new ≡ false }
-        ensures out { ⟦<ModuleTree<T> as ModuleFiles>⟧.is_out self.new
-            ≡ ⟦<ModuleTree<T> as ModuleFiles>⟧.is_out self.old }
+    /// How names in the files are hashed.
+    pub(crate) fn hashing(&self) -> Hashing {
+        self.hashing
+    }
+
+    /// Opens a file.
+    fn open(&mut self, name: &str) -> Result<T::Reader, TreeFault>
+        requires back { has_reader_out self.old ≡ false }
+        ensures fresh { IfOk result (λ r. T.Reader.failed r ≡ false) }
+        ensures bytes { IfOk result
+            (λ r. T.Reader.left r ≡ told_in (T.files self.old.tree) name.now) }
+        ensures files { T.files self.new.tree ≡ T.files self.old.tree }
+        ensures asked { T.asked self.new.tree ≡ T.asked self.old.tree }
+        ensures faults { T.faults self.new.tree
+            ≡ with_fault (T.faults self.old.tree) (fault_of result) }
+        ensures out { has_reader_out self.new ≡ not (is_err result) }
     {
-        self.has_unopened = false;
-        self.has_unread = false;
-    }
-}
-
-impl<T: Tree + Drop> ModuleFiles for ModuleTree<T> {
-    type Reader = T::Reader;
-
-    ghost told = { λ s name. (T.files s.tree).told ((T.files s.tree).real name) };
-
-    ghost open_failed = { λ s. s.has_unopened };
-
-    ghost read_failed = { λ s. s.has_unread };
-
-    ghost is_out = { λ s. s.is_out };
-
-    fn reader(&mut self, name: &str) -> Result<T::Reader, OpenFault> {
-        match self.tree.reader(name.as_bytes()) {
-            Ok(reader) => {
-                self.is_out = true;
-                Ok(reader)
-            }
-            Err(_) => {
-                self.has_unopened = true;
-                Err(OpenFault)
-            }
-        }
+        let opened = self.tree.reader(name.as_bytes());
+        self.is_out = opened.is_ok();
+        opened
     }
 
-    fn give_back(&mut self, reader: T::Reader) {
+    /// Closes the file that is open.
+    fn close(&mut self, reader: T::Reader)
+        requires out { has_reader_out self.old ≡ true }
+        ensures files { T.files self.new.tree ≡ T.files self.old.tree }
+        ensures asked { T.asked self.new.tree ≡ T.asked self.old.tree }
+        ensures faults { T.faults self.new.tree
+            ≡ with_fault (T.faults self.old.tree) (fault_of_reader (T.Reader.failed reader)) }
+        ensures back { has_reader_out self.new ≡ false }
+    {
         self.is_out = false;
-        self.has_unread |= reader.has_failed();
         self.tree.give_back(reader);
     }
 
-    fn has_failed(&self) -> bool {
-        self.has_unopened || self.has_unread
-    }
-
-    fn hashing(&self) -> Hashing {
-        self.hashing
+    /// Reads a file.
+    pub(crate) fn read(&mut self, alloc: Global, name: &str) -> Result<Source, Stop>
+        requires back { has_reader_out self.old ≡ false }
+        ensures reads { ReadsFile (told_in (T.files self.old.tree) name.now)
+            (T.faults self.old.tree) (T.faults self.new.tree) result }
+        ensures files { T.files self.new.tree ≡ T.files self.old.tree }
+        ensures asked { T.asked self.new.tree ≡ T.asked self.old.tree }
+        ensures back { has_reader_out self.new ≡ false }
+    {
+        let mut reader = match self.open(name) {
+            Ok(reader) => reader,
+            Err(fault) => return Err(Stop::Failed(fault)),
+        };
+        let loaded = Source::read_from(alloc, &mut reader);
+        self.close(reader);
+        stop_of(loaded)
     }
 }

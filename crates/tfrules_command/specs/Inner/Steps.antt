@@ -11,7 +11,7 @@ use Rattle.hcl_grammar.specs.Verdict.{verdict}
 use Rattle.tf_rules.specs.Kept.{Kept, kept_of, with_file}
 use Rattle.tfrules_command.specs.Answer.{file_error, linter, names_of, refusal_row, too_large, usage_line}
 use Rattle.tfrules_command.specs.Files.{NamedFile, AreAccepted, IsFault, IsOutcome, IsTooMuch, max_module, numbered_files, size_of}
-use Rattle.tfrules_command.specs.Rows.{AreFiles}
+use Rattle.tfrules_command.specs.Keeping.{Added, Reached}
 use Rattle.hcl_source.specs.Devices.{Tells}
 use Rattle.tfrules_command.specs.declared.stop.Stop.{Stop}
 use Rattle.tfrules_command.specs.declared.stop.Stop.TheVariants as stop
@@ -54,16 +54,6 @@ KeepsTokens scanned number all old new (Err stop.NotOpened) = ⊥
 KeepsTokens scanned number all old new (Err stop.NotRead) = ⊥
 KeepsTokens scanned number all old new (Err stop.OutOfMemory) = Unit {0}
 
--- what keeping a text after others of so many bytes answers
-abbrev pub Keeps : List ℕ → ℕ → ℕ → Kept → Kept → Result ℕ Stop → Type 0
-Keeps text size number old new (Ok more) =
-    (source : Scanned) × IsOutcome text (Ok source) × (more ≡ size + length text) × (more ≤ max_module) × (new ≡ with_file old (record { number = number; source = source }))
-Keeps text size number old new (Err (stop.Refused fault)) = (size + length text ≤ max_module) × IsOutcome text (Err fault)
-Keeps text size number old new (Err stop.TooLarge) = max_module < size + length text
-Keeps text size number old new (Err stop.NotOpened) = ⊥
-Keeps text size number old new (Err stop.NotRead) = ⊥
-Keeps text size number old new (Err stop.OutOfMemory) = Unit {0}
-
 -- why a run stops at a file
 abbrev pub StopsBy : Option (List ℕ) → ℕ → Bool → Bool → Stop → Type 0
 StopsBy told size o r (stop.Refused fault) = AreFine o r × ((bytes : List ℕ) × Tells told bytes × IsFault size bytes fault)
@@ -72,30 +62,9 @@ StopsBy told size o r stop.NotOpened = o ≡ true
 StopsBy told size o r stop.NotRead = (o ≡ false) × (r ≡ true)
 StopsBy told size o r stop.OutOfMemory = AreFine o r
 
--- a file was read and kept
-pub record Added (told : Option (List ℕ)) (size number : ℕ) (old new : Kept) (more : ℕ) : Type 0 where
-  pub bytes : List ℕ
-  pub is : Tells told bytes
-  pub text : IsText bytes
-  pub source : Scanned
-  pub outcome : IsOutcome bytes (Ok source)
-  pub size_is : more ≡ size + length bytes
-  pub fits : more ≤ max_module
-  pub kept : new ≡ with_file old (record { number = number; source = source })
-
 abbrev pub Adds : Option (List ℕ) → ℕ → ℕ → Bool → Bool → Kept → Kept → Result ℕ Stop → Type 0
 Adds told size number o r old new (Ok more) = AreFine o r × Added told size number old new more
 Adds told size number o r old new (Err why) = StopsBy told size o r why
-
--- the files of these names were accepted and kept
-pub record Reached (told : List ℕ → Option (List ℕ)) (names : List (List ℕ)) (size : ℕ) (kept : Kept) : Type 0 where
-  pub files : List NamedFile
-  pub named : names_of files ≡ names
-  pub are : AreFiles told files
-  pub sources : List Scanned
-  pub accepted : AreAccepted files sources
-  pub size_is : size ≡ size_of files
-  pub kept_is : kept ≡ kept_of (numbered_files 0 sources)
 
 -- the run came to the file of this name, and stopped
 pub record StopsAt (told : List ℕ → Option (List ℕ)) (names : List (List ℕ)) (o r : Bool) (name : List ℕ) (why : Stop) : Type 0 where

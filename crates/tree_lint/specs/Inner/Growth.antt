@@ -5,10 +5,10 @@ use Rattle.tree_lint.specs.declared.counts.Counts.{Counts}
 abbrev pub one_if : Bool → ℕ
 one_if is_so = if is_so then 1 else 0
 
--- one module more, which has a file or none, with this status and so many issues
+-- one module more, if it is one, with this status and so many issues
 abbrev pub counts_with : Counts → Bool → ℕ → ℕ → Counts
-counts_with c has status n = record {
-  modules = c.modules + one_if has;
+counts_with c is_one status n = record {
+  modules = c.modules + one_if is_one;
   refused = c.refused + one_if (status == 1);
   reported = c.reported + one_if (nat_lt 0 n);
   issues = c.issues + n;

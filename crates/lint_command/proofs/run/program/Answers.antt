@@ -1,4 +1,4 @@
-use Rattle.std.proofs.Common.{◌≡◌, ◌∙◌, List, ℕ, ap, codes, inl, map, subst}
+use Rattle.std.proofs.Common.{◌≡◌, ◌∙◌, List, ℕ, ap, codes, inl, map, refl, subst}
 use Rattle.command_line.specs.Rows.{end_of}
 use Rattle.std.specs.Borrow.{Bor}
 use Rattle.tree_command.specs.Line.{others_in, texts_in}
@@ -13,15 +13,17 @@ returns-clause-ends g c =
     let others : List (List ℕ) = map (λ (word : Bor (List ℕ)). word.now) c.as_slice-2.result.now in
     subst
     (λ (names : List (List ℕ)). IsEndOf (texts_in (codes "tfrules-all") words) names (g.R.ByteSource.failed c.run_line.new.input) (g.R.ByteSource.left c.args.input.now) (g.T.Tree.files c.args.files.now.tree)
+    (g.T.Tree.faults c.args.files.now.tree) (g.T.Tree.faults c.run_line.new.files.tree)
     (end_of g.O.ByteSink c.args.out.now c.run_line.new.out g.E.ByteSink c.args.err.now c.run_line.new.err c.run_line.result))
     (ap (map (λ (word : Bor (List ℕ)). word.now)) c.as_slice-2.ensures.value ∙ c.in-Ok.ensures.others)
     (subst
     (λ (texts : List (List ℕ)). IsEndOf texts others (g.R.ByteSource.failed c.run_line.new.input) (g.R.ByteSource.left c.args.input.now) (g.T.Tree.files c.args.files.now.tree)
+    (g.T.Tree.faults c.args.files.now.tree) (g.T.Tree.faults c.run_line.new.files.tree)
     (end_of g.O.ByteSink c.args.out.now c.run_line.new.out g.E.ByteSink c.args.err.now c.run_line.new.err c.run_line.result))
     (ap (map (λ (word : Bor (List ℕ)). word.now)) c.as_slice.ensures.value ∙ c.in-Ok.ensures.texts) c.run_line.ensures.ends)
 
 pub returns-in_default-clause-ends : goal.returns-in_default-clause-ends
-returns-in_default-clause-ends g c = inl (memory_said c.tree_linter.result _ c.tree_linter.ensures c.tell_out_of_memory.ensures)
+returns-in_default-clause-ends g c = inl (refl, memory_said c.tree_linter.result _ c.tree_linter.ensures c.tell_out_of_memory.ensures)
 
 pub returns-clause-unread : goal.returns-clause-unread
 returns-clause-unread g c asked =

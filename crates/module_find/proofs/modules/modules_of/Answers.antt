@@ -4,7 +4,7 @@ use Rattle.module_find.proofs.modules.modules_of.Goals as goal
 
 pub loop-folder-preserved : goal.loop-folder-preserved
 loop-folder-preserved g c = (
-  c.add_module.ensures.files ∙ c.loop-folder.invariant.0,
-  c.add_module.ensures.asked ∙ c.loop-folder.invariant.1,
-  modules_more _ _ c.loop-folder.yielded c.in-Some.folder _ _ c.loop-folder.invariant.0 c.loop-folder.invariant.2 c.in_ok-add_module.ensures.adds,
+  c.add.ensures.files ∙ c.loop-folder.invariant.0,
+  c.add.ensures.asked ∙ c.loop-folder.invariant.1,
+  modules_more _ _ c.loop-folder.yielded c.in-Some.folder c.loop-folder.all c.add.new.self _ _ _ c.loop-folder.invariant.0 c.loop-folder.invariant.2 c.in_ok-add.ensures.adds,
 )

@@ -1,6 +1,6 @@
 use Rattle.std.proofs.Common.{◌∙◌, ◌≤◌, ◌<◌, arith, length, lit≤, refl, subst}
 use Rattle.std.proofs.lemmas.List.{take_all}
-use Rattle.tfrules_command.specs.Inner.Steps.{Reached}
+use Rattle.tfrules_command.specs.Keeping.{Reached}
 use Rattle.tfrules_command.proofs.GatherLemmas.{reached_more, reached_none, stops_at}
 use Rattle.tfrules_command.proofs.gather.gather.Goals as goal
 

@@ -1,7 +1,8 @@
 use Rattle.std.specs.Prelude.{false}
 use Rattle.std.proofs.Common.{◌≡◌, ◌≤◌, ℕ, List, take}
 use Rattle.tfrules_command.specs.Files.{max_module}
-use Rattle.tfrules_command.specs.Inner.Steps.{AreFine, Reached}
+use Rattle.tfrules_command.specs.Inner.Steps.{AreFine}
+use Rattle.tfrules_command.specs.Keeping.{Reached}
 use Rattle.tfrules_command.proofs.gather.gather.Given as goal
 
 abbrev pub invariant-loop-number : goal.invariant-loop-number

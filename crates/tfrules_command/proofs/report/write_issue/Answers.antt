@@ -8,6 +8,6 @@ use Rattle.tfrules_command.proofs.report.write_issue.Goals as goal
 pub returns-clause-goes : goal.returns-clause-goes
 returns-clause-goes g c =
     goes_as _ _ _ _ _ _ _
-    (line_is c.args.names.now (listed_issue c.args.issue) c.name_of-name.result.now c.split_at.result.1.now c.opening-opening.result.now _ c.closing-closing.result.now c.name_of-name.ensures
+    (line_is (g.N.ShownNames.names c.args.names.now) (listed_issue c.args.issue) c.name_of-name.result.now c.split_at.result.1.now c.opening-opening.result.now _ c.closing-closing.result.now c.name_of-name.ensures
     (c.split_at.ensures.back ∙ c.write_place-begin.ensures.written) (c.opening-opening.ensures ∙ ap opening_words c.severity.ensures) refl c.closing-closing.ensures)
     c.write_line.ensures.goes

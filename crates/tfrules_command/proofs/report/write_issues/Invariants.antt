@@ -8,5 +8,5 @@ use Rattle.tfrules_command.proofs.report.write_issues.Given as goal
 abbrev pub invariant-loop-number : goal.invariant-loop-number
 invariant-loop-number g l =
     (g.O.ByteSink.failed l.out ≡ false)
-    × GoesOn (g.O.ByteSink.taken l.initial.out) (g.O.ByteSink.taken l.out) l.initial.page.items l.page.items (flat_map (issue_line l.names) (drop l.number l.issues)) (flat_map (issue_line l.names) l.issues)
+    × GoesOn (g.O.ByteSink.taken l.initial.out) (g.O.ByteSink.taken l.out) l.initial.page.items l.page.items (flat_map (issue_line (g.N.ShownNames.names l.names)) (drop l.number l.issues)) (flat_map (issue_line (g.N.ShownNames.names l.names)) l.issues)
     × (g.O.ByteSink.flushes l.out ≡ g.O.ByteSink.flushes l.initial.out)

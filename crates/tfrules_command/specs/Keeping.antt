@@ -1,0 +1,42 @@
+-- Files whose facts are kept, one after another.
+use Rattle.std.specs.Prelude.{◌≡◌, ◌≤◌, ◌<◌, ◌+◌, ℕ, List, Option, Result, Ok, Err, length}
+use Rattle.hcl_source.specs.Devices.{Tells}
+use Rattle.hcl_source.specs.Load.{IsText}
+use Rattle.hcl_tokens.specs.Scanned.{Scanned}
+use Rattle.tf_rules.specs.Kept.{Kept, kept_of, with_file}
+use Rattle.tfrules_command.specs.Answer.{names_of}
+use Rattle.tfrules_command.specs.Files.{NamedFile, AreAccepted, IsOutcome, max_module, numbered_files, size_of}
+use Rattle.tfrules_command.specs.Rows.{AreFiles}
+use Rattle.tfrules_command.specs.declared.stop.Stop.{Stop}
+use Rattle.tfrules_command.specs.declared.stop.Stop.TheVariants as stop
+
+-- what keeping a text after others of so many bytes answers
+abbrev pub Keeps : List ℕ → ℕ → ℕ → Kept → Kept → Result ℕ Stop → Type 0
+Keeps text size number old new (Ok more) =
+    (source : Scanned) × IsOutcome text (Ok source) × (more ≡ size + length text) × (more ≤ max_module) × (new ≡ with_file old (record { number = number; source = source }))
+Keeps text size number old new (Err (stop.Refused fault)) = (size + length text ≤ max_module) × IsOutcome text (Err fault)
+Keeps text size number old new (Err stop.TooLarge) = max_module < size + length text
+Keeps text size number old new (Err stop.NotOpened) = ⊥
+Keeps text size number old new (Err stop.NotRead) = ⊥
+Keeps text size number old new (Err stop.OutOfMemory) = Unit {0}
+
+-- a file was read and kept
+pub record Added (told : Option (List ℕ)) (size number : ℕ) (old new : Kept) (more : ℕ) : Type 0 where
+  pub bytes : List ℕ
+  pub is : Tells told bytes
+  pub text : IsText bytes
+  pub source : Scanned
+  pub outcome : IsOutcome bytes (Ok source)
+  pub size_is : more ≡ size + length bytes
+  pub fits : more ≤ max_module
+  pub kept : new ≡ with_file old (record { number = number; source = source })
+
+-- the files of these names were accepted and kept
+pub record Reached (told : List ℕ → Option (List ℕ)) (names : List (List ℕ)) (size : ℕ) (kept : Kept) : Type 0 where
+  pub files : List NamedFile
+  pub named : names_of files ≡ names
+  pub are : AreFiles told files
+  pub sources : List Scanned
+  pub accepted : AreAccepted files sources
+  pub size_is : size ≡ size_of files
+  pub kept_is : kept ≡ kept_of (numbered_files 0 sources)

@@ -1,0 +1,11 @@
+use Rattle.std.proofs.Common.{◌≡◌, false, drop}
+use Rattle.std.specs.Prelude.{flat_map}
+use Rattle.command_line.proofs.WriterLemmas.{Goes}
+use Rattle.tree_lint.specs.Faults.{fault_lines}
+use Rattle.tree_lint.proofs.refusal.tell_faults.Given as goal
+
+-- what is taken of the rest from now on is taken of all from the start on
+abbrev pub invariant-loop-found : goal.invariant-loop-found
+invariant-loop-found g l =
+    (g.S.ByteSink.failed l.sink ≡ false)
+    × Goes (g.S.ByteSink.taken l.initial.sink) (g.S.ByteSink.taken l.sink) (flat_map fault_lines (drop l.found-index l.faults)) (flat_map fault_lines l.faults)

@@ -1,0 +1,41 @@
+-- What is said of a module that isn't linted, line by line. Our own choice.
+use Rattle.std.specs.Prelude.{ℕ, List, ◌++◌, Option, Some, None, codes, decimal}
+use Rattle.command_line.specs.Rows.{Program, error, line}
+use Rattle.file_tree.specs.Files.{Name}
+use Rattle.file_tree.specs.Quotes.{quoted}
+use Rattle.file_tree.specs.declared.fault.TreeFault.{TreeFault}
+use Rattle.file_tree.specs.declared.fault.TreeFault.TheVariants.{Missing, NoInput}
+use Rattle.hcl_source.specs.declared.fault.Position.{Position}
+use Rattle.tree_lint.specs.declared.refusal.Refusal as code
+
+-- the program as its messages have it
+abbrev pub tree_linter : Program
+tree_linter = record { name = codes "tfrules-all"; failure = 1 }
+
+-- why a module isn't linted: the name of a file or a folder, the place in the file where it has one, and what is said of it
+pub record Refusal : Type 0 where
+  pub name : Name
+  pub at : Option Position
+  pub text : List ℕ
+
+-- one without a place
+abbrev pub refusal_of : Name → List ℕ → Refusal
+refusal_of name text = record { name = name; at = None; text = text }
+
+-- the same in the code's terms
+abbrev pub refusal_told : code.Refusal → Refusal
+refusal_told r = record { name = r.name.now; at = r.at; text = r.text.now }
+
+-- what follows the name
+abbrev pub refusal_words : Option Position → List ℕ → List ℕ
+refusal_words None text = codes ": " ++ line text
+refusal_words (Some at) text = codes ":" ++ (decimal at.line ++ (codes ":" ++ (decimal at.column ++ (codes ": " ++ line text))))
+
+-- `tfrules-all: error: NAME: TEXT`, or `tfrules-all: error: NAME:LINE:COLUMN: TEXT`
+abbrev pub refusal_line : Refusal → List ℕ
+refusal_line r = error tree_linter (quoted r.name ++ refusal_words r.at r.text)
+
+-- `-` is a name that isn't there, as any other
+abbrev pub told_fault : TreeFault → TreeFault
+told_fault NoInput = Missing
+told_fault fault = fault

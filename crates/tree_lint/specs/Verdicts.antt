@@ -1,0 +1,98 @@
+-- What becomes of a module: it has issues, as `tfrules` finds them in its files, or it is refused, and why. Our own choice is
+-- which reason is told.
+use Rattle.std.specs.Prelude.{◌≡◌, ◌⊎◌, ◌≤◌, ◌<◌, ℕ, Bool, true, false, List, [], ◌∷◌, ◌++◌, Option, Some, None, Result, Ok, Err, codes, flat_map, length, map, string_bytes}
+use Rattle.file_tree.specs.FaultTexts.{tree_fault_text}
+use Rattle.file_tree.specs.Files.{Faults, Files, Name, Tells, with_fault}
+use Rattle.file_tree.specs.Paths.{place}
+use Rattle.file_tree.specs.declared.fault.TreeFault.{TreeFault}
+use Rattle.file_tree.specs.declared.fault.TreeFault.TheVariants.{OutOfMemory}
+use Rattle.hcl_source.specs.FaultTexts.{fault_text}
+use Rattle.hcl_source.specs.declared.fault.Fault.{Fault}
+use Rattle.hcl_tokens.specs.Scanned.{Scanned}
+use Rattle.module_find.specs.declared.module.Module.{Module}
+use Rattle.tf_rules.specs.Answers.{AreIssues}
+use Rattle.tf_rules.specs.Issues.{Asked, asked_of}
+use Rattle.tf_rules.specs.declared.issue.Issue.{Issue}
+use Rattle.tfrules_command.specs.Answer.{names_of}
+use Rattle.tfrules_command.specs.Files.{AreAccepted, IsFault, IsTooMuch, NamedFile, numbered_files, size_of}
+use Rattle.tfrules_command.specs.Line.{max_files}
+use Rattle.tfrules_command.specs.Rows.{AreFiles}
+use Rattle.tree_lint.specs.Faults.{refusal_in}
+use Rattle.tree_lint.specs.Refusals.{Refusal, refusal_of}
+use Rattle.tree_lint.specs.declared.policy.Policy.{Policy}
+use Rattle.tree_lint.specs.declared.stop.Stop.{Stop}
+use Rattle.tree_lint.specs.declared.stop.Stop.TheVariants as stop
+
+-- the bytes of the file to which a name leads
+abbrev pub told_in : Files → Name → Option (List ℕ)
+told_in files name = files.told (files.real name)
+
+abbrev pub names_in : Module → List Name
+names_in m = map string_bytes m.files.items
+
+-- ---- its files
+
+-- all files of these names are accepted, and these are their issues
+pub record HaveIssues (told : Name → Option (List ℕ)) (asked : Asked) (names : List Name) (issues : List Issue) : Type 0 where
+  pub files : List NamedFile
+  pub named : names_of files ≡ names
+  pub are : AreFiles told files
+  pub sources : List Scanned
+  pub accepted : AreAccepted files sources
+  pub found : AreIssues asked (numbered_files 0 sources) issues
+
+-- why a file isn't kept after others of so many bytes, where the device has had these faults before and after: it has a fault
+-- or is too much, or the one call that failed says why, or memory ran out
+abbrev pub StopsBy : Option (List ℕ) → ℕ → Faults → Faults → Stop → Type 0
+StopsBy told size was is (stop.Refused fault) = (is ≡ was) × ((bytes : List ℕ) × Tells told bytes × IsFault size bytes fault)
+StopsBy told size was is stop.TooLarge = (is ≡ was) × ((bytes : List ℕ) × Tells told bytes × IsTooMuch size bytes)
+StopsBy told size was is (stop.Failed fault) = (is ≡ with_fault was (Some fault)) ⊎ ((fault ≡ OutOfMemory) × (is ≡ was))
+
+-- all files before this one are accepted, and it isn't kept
+pub record StopsAt (told : Name → Option (List ℕ)) (names : List Name) (was is : Faults) (name : Name) (why : Stop) : Type 0 where
+  pub before : List NamedFile
+  pub after : List Name
+  pub split : names ≡ names_of before ++ name ∷ after
+  pub are : AreFiles told before
+  pub sources : List Scanned
+  pub accepted : AreAccepted before sources
+  pub by : StopsBy (told name) (size_of before) was is why
+
+-- what is said of it
+abbrev pub stop_refusal : Name → Stop → Refusal
+stop_refusal name (stop.Refused fault) = record { name = name; at = Some fault.at; text = fault_text fault.kind }
+stop_refusal name stop.TooLarge = refusal_of name (codes "module too large")
+stop_refusal name (stop.Failed fault) = refusal_of name (tree_fault_text fault)
+
+-- ---- the module
+
+-- what is said of its folder
+abbrev pub of_folder : Module → List ℕ → Refusal
+of_folder m text = refusal_of (place m.folder.items) text
+
+abbrev pub no_memory : Module → Refusal
+no_memory m = of_folder m (codes "out of memory")
+
+abbrev pub too_many : Module → Refusal
+too_many m = of_folder m (codes "more than 256 files")
+
+-- all of its files can be looked at and named, and they aren't too many
+abbrev pub CanBeRead : Module → Type 0
+CanBeRead m = (m.faults.items ≡ []) × (length m.files.items ≤ max_files)
+
+-- why it is refused, and what is said then: names that can't be looked at, of each its own; or that there are too many files; or
+-- at which file it stops; or that memory ran out
+abbrev pub IsRefused : Files → Module → Faults → Faults → List Refusal → Type 0
+IsRefused files m was is refusals =
+    ((0 < length m.faults.items) × (is ≡ was) × (refusals ≡ flat_map refusal_in m.faults.items))
+    ⊎ (((m.faults.items ≡ []) × (max_files < length m.files.items) × (is ≡ was) × (refusals ≡ too_many m ∷ []))
+    ⊎ ((CanBeRead m × ((name : Name) × (why : Stop) × StopsAt (told_in files) (names_in m) was is name why × (refusals ≡ stop_refusal name why ∷ [])))
+    ⊎ (CanBeRead m × (is ≡ was) × (refusals ≡ no_memory m ∷ []))))
+
+abbrev pub Verdict : Type 0
+Verdict = Result (List Issue) (List Refusal)
+
+-- WHAT BECOMES OF A MODULE, by these rules, where the device has had these faults before and after. No call failed that isn't told
+abbrev pub IsVerdict : Files → Policy → Module → Faults → Faults → Verdict → Type 0
+IsVerdict files policy m was is (Ok issues) = CanBeRead m × (is ≡ was) × HaveIssues (told_in files) (asked_of policy.settings) (names_in m) issues
+IsVerdict files policy m was is (Err refusals) = IsRefused files m was is refusals

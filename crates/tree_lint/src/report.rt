@@ -1,0 +1,164 @@
+//! What is shown of one module.
+
+ghost use Rattle.std.specs.Prelude.{◌≡◌, flat_map, true, false};
+ghost use Rattle.command_line.specs.Rows.{Took, writer};
+ghost use Rattle.tfrules_command.specs.Report.{report, status};
+ghost use Rattle.tree_lint.specs.Parted.{parted};
+ghost use Rattle.tree_lint.specs.Refusals.{refusal_line, refusal_told};
+ghost use Rattle.tree_lint.specs.Runs.{failing_under};
+ghost use Rattle.tree_lint.specs.Verdicts.{no_memory, too_many};
+ghost use Rattle.tree_lint.specs.Faults.{fault_lines};
+ghost use Rattle.tree_lint.specs.Inner.Showing.{HasOrNoMemory, Shows, refused};
+
+use crate::counts::Ended;
+use crate::policy::Policy;
+use crate::refusal::{Refusal, tell_faults, tell_refusal};
+use crate::run::Task;
+use crate::shown::Shown;
+use file_tree::path::place;
+use file_tree::walk::Found;
+use hcl_scan::{ByteSink, write_fully};
+use module_find::Module;
+use std::alloc::Global;
+use tf_rules::IssueList;
+use tfrules_command::report::{has_severe, show_issues};
+use tfrules_command::shown_names::ShownNames;
+
+/// Writes an empty line and the report of issues, or leaves standard output alone where there is no issue.
+fn show_parted<O: ByteSink, N: ShownNames>(out: &mut O, names: &N, issues: &IssueList<'_>)
+    requires { O.failed out.old ≡ false }
+    ensures { Took (writer O.ByteSink out.old out.new)
+        (parted true (report (N.names names.now) issues.now)) }
+{
+    if issues.is_empty() {
+        return;
+    }
+    if let Err(_fault) = write_fully(out, b"\n") {
+        return;
+    }
+    show_issues(out, names, issues);
+}
+
+/// Writes the report of issues, after an empty line where other reports stand before it, or leaves standard output alone
+/// where there is no issue.
+fn show_after<O: ByteSink, N: ShownNames>(
+    is_after: bool,
+    out: &mut O,
+    names: &N,
+    issues: &IssueList<'_>,
+)
+    requires { O.failed out.old ≡ false }
+    ensures { Took (writer O.ByteSink out.old out.new)
+        (parted is_after (report (N.names names.now) issues.now)) }
+{
+    if is_after {
+        return show_parted(out, names, issues);
+    }
+    show_issues(out, names, issues);
+}
+
+/// The status of a module with these issues.
+fn status_of(policy: Policy, issues: &IssueList<'_>) -> u8
+    ensures { result ≡ status (failing_under policy) issues.now }
+{
+    if !policy.force && has_severe(policy.minimum, issues) {
+        return 2;
+    }
+    0
+}
+
+/// What is said of a module at which memory ran out.
+pub(crate) fn no_memory(one: &Module) -> Refusal<'_>
+    ensures { refusal_told result ≡ no_memory one.now }
+{
+    Refusal {
+        name: place(one.folder.as_slice()),
+        at: None,
+        text: "out of memory",
+    }
+}
+
+/// What is said of a module with too many files.
+pub(crate) fn too_many(one: &Module) -> Refusal<'_>
+    ensures { refusal_told result ≡ too_many one.now }
+{
+    Refusal {
+        name: place(one.folder.as_slice()),
+        at: None,
+        text: "more than 256 files",
+    }
+}
+
+/// Says why a module is refused.
+pub(crate) fn refuse<E: ByteSink>(refusal: Refusal<'_>, err: &mut E) -> Ended
+    requires { E.failed err.old ≡ false }
+    ensures took { Took (writer E.ByteSink err.old err.new)
+        (refusal_line (refusal_told refusal.entry)) }
+    ensures ended { result ≡ refused }
+{
+    let _ = tell_refusal(err, refusal);
+    Ended {
+        status: 1,
+        issues: 0,
+    }
+}
+
+/// Says why a module is refused, where names can't be looked at.
+pub(crate) fn refuse_for<E: ByteSink>(faults: &[Found], err: &mut E) -> Ended
+    requires { E.failed err.old ≡ false }
+    ensures took { Took (writer E.ByteSink err.old err.new) (flat_map fault_lines faults.now) }
+    ensures ended { result ≡ refused }
+{
+    let _ = tell_faults(err, faults);
+    Ended {
+        status: 1,
+        issues: 0,
+    }
+}
+
+/// Shows issues of a module, of which there is one at least.
+fn show_some<O: ByteSink, E: ByteSink>(
+    alloc: Global,
+    task: Task,
+    one: &Module,
+    issues: &IssueList<'_>,
+    out: &mut O,
+    err: &mut E,
+) -> Ended
+    requires out { O.failed out.old ≡ false }
+    requires err { E.failed err.old ≡ false }
+    ensures { Shows task one.now (HasOrNoMemory one.now issues.now)
+        (writer O.ByteSink out.old out.new) (writer E.ByteSink err.old err.new) result }
+{
+    let Ok(names) = Shown::new(alloc, one.files.as_slice()) else {
+        return refuse(no_memory(one), err);
+    };
+    show_after(task.is_after, out, &names, issues);
+    Ended {
+        status: status_of(task.policy, issues),
+        issues: issues.len(),
+    }
+}
+
+/// Shows the issues of a module.
+pub(crate) fn show<O: ByteSink, E: ByteSink>(
+    alloc: Global,
+    task: Task,
+    one: &Module,
+    issues: &IssueList<'_>,
+    out: &mut O,
+    err: &mut E,
+) -> Ended
+    requires out { O.failed out.old ≡ false }
+    requires err { E.failed err.old ≡ false }
+    ensures { Shows task one.now (HasOrNoMemory one.now issues.now)
+        (writer O.ByteSink out.old out.new) (writer E.ByteSink err.old err.new) result }
+{
+    if issues.is_empty() {
+        return Ended {
+            status: 0,
+            issues: 0,
+        };
+    }
+    show_some(alloc, task, one, issues, out, err)
+}
