@@ -9,8 +9,8 @@ use Rattle.file_tree.specs.Ordered.{Orders}
 use Rattle.file_tree.specs.declared.walk.Found.{Found}
 use Rattle.module_find.specs.Modules.{AreFolders, AreModules, fault_left}
 use Rattle.module_find.specs.declared.module.Module.{Module}
-use Rattle.tree_command.specs.Shards.{picked_of}
-use Rattle.tree_command.specs.declared.shard.Shard.{Shard}
+use Rattle.tree_words.specs.Shards.{picked_of}
+use Rattle.tree_words.specs.declared.shard.Shard.{Shard}
 use Rattle.tree_lint.specs.Faults.{fault_lines}
 use Rattle.tree_lint.specs.Refusals.{tree_linter}
 use Rattle.tree_lint.specs.Runs.{IsLintRun, worse_status}

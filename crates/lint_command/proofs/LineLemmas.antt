@@ -5,7 +5,7 @@ use Rattle.rule_lists.specs.declared.fault.ListFault.{ListFault}
 use Rattle.rule_set.specs.declared.rule.Rule.{Rule}
 use Rattle.rule_set.specs.declared.rule.Severity.{Severity}
 use Rattle.tf_rules.specs.declared.naming.Naming.{Naming}
-use Rattle.tree_command.specs.declared.shard.Shard.{Shard}
+use Rattle.tree_words.specs.declared.shard.Shard.{Shard}
 use Rattle.lint_command.specs.Line.{Wanted, asking_by, is_good, wanted_by}
 use Rattle.lint_command.specs.declared.usage.Usage.{Usage}
 

@@ -9,11 +9,11 @@ use Rattle.file_tree.specs.Ordered.{Orders}
 use Rattle.file_tree.specs.declared.walk.Found.{Found}
 use Rattle.module_find.specs.Modules.{AreFolders, AreModules, fault_left}
 use Rattle.module_find.specs.declared.module.Module.{Module}
-use Rattle.tree_command.specs.Paths.{paths_of_input, paths_of_line}
-use Rattle.tree_command.specs.Shards.{picked_of}
-use Rattle.tree_command.specs.Line.{others_in, texts_in}
-use Rattle.tree_command.specs.WrongWords.{bad_line_words}
-use Rattle.tree_command.specs.declared.shard.Shard.{Shard}
+use Rattle.tree_words.specs.Paths.{paths_of_input, paths_of_line}
+use Rattle.tree_words.specs.Shards.{picked_of}
+use Rattle.tree_words.specs.Line.{others_in, texts_in}
+use Rattle.tree_words.specs.WrongWords.{bad_line_words}
+use Rattle.tree_words.specs.declared.shard.Shard.{Shard}
 use Rattle.tree_lint.specs.Faults.{fault_lines}
 use Rattle.tree_lint.specs.Numbers.{summary_line}
 use Rattle.tree_lint.specs.Refusals.{tree_linter}

@@ -15,8 +15,8 @@ use Rattle.rule_set.specs.declared.rule.Severity.{Severity}
 use Rattle.tf_rules.specs.Issues.{Asked}
 use Rattle.tf_rules.specs.declared.naming.Naming.{Naming}
 use Rattle.tfrules_command.specs.Line.{naming_asked, severity_asked, value_or}
-use Rattle.tree_command.specs.Line.{count_rule, file_rule, is_given, null_rule, others_in, shard_given, texts_in, texts_of}
-use Rattle.tree_command.specs.declared.shard.Shard.{Shard}
+use Rattle.tree_words.specs.Line.{count_rule, file_rule, is_given, null_rule, others_in, shard_given, texts_in, texts_of}
+use Rattle.tree_words.specs.declared.shard.Shard.{Shard}
 use Rattle.lint_command.specs.declared.usage.Usage.{Usage}
 use Rattle.lint_command.specs.declared.usage.Usage.TheVariants.{Help, Version, ListRules, Explain, BadLine, UnknownRule, NoRuleLeft, BadNaming, BadSeverity, BadPart, NamesTwice, OutOfMemory}
 

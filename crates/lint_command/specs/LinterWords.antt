@@ -2,7 +2,7 @@
 use Rattle.std.specs.Prelude.{[], ◌∷◌, codes}
 use Rattle.lint_command.specs.Line.{tfrules_all}
 use Rattle.lint_command.specs.Linter.{usage_line}
-use Rattle.tree_command.specs.WrongWords.{Vocabulary, letters_of, names_of}
+use Rattle.tree_words.specs.WrongWords.{Vocabulary, letters_of, names_of}
 
 -- beside its own options, some of TFLint and of `terraform`
 abbrev pub linter_words : Vocabulary

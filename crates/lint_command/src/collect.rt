@@ -11,8 +11,8 @@ use file_tree::walk::{Found, find, in_order};
 use module_find::modules::modules_of;
 use module_find::{Module, faults_of, folders_of};
 use std::alloc::{AllocError, Global};
-use tree_command::pick::pick;
-use tree_command::shard::Shard;
+use tree_words::pick::pick;
+use tree_words::shard::Shard;
 
 /// Modules, and what can't be looked at beside them, in the order of the names.
 #[derive(Drop)]

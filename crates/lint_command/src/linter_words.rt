@@ -2,10 +2,10 @@
 
 ghost use Rattle.std.specs.Prelude.{◌≡◌};
 ghost use Rattle.lint_command.specs.LinterWords.{linter_words};
-ghost use Rattle.tree_command.specs.Vocabularies.{vocabulary_of};
+ghost use Rattle.tree_words.specs.Vocabularies.{vocabulary_of};
 
 use crate::usage::USAGE;
-use tree_command::vocabulary::{Foreign, Vocabulary};
+use tree_words::vocabulary::{Foreign, Vocabulary};
 
 static NAMES: &[&str] = &[
     "rules",

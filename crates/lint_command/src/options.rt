@@ -16,9 +16,9 @@ use rule_set::{ALL_RULES, rule_named};
 use std::alloc::{AllocError, Global};
 use tf_rules::{Naming, RuleSet, Settings, Severity};
 use tfrules_command::options::{naming_asked, severity_asked};
-use tree_command::options::{counted_flag, file, is_given, names_in, null, shard_of};
-use tree_command::shard::Shard;
 use tree_lint::policy::Policy;
+use tree_words::options::{counted_flag, file, is_given, names_in, null};
+use tree_words::shard::{Shard, shard_of};
 
 /// What is to be done.
 #[derive(Clone, Copy, Debug, PartialEq, Eq)]

@@ -16,12 +16,12 @@ use file_tree::tree::Tree;
 use file_tree::walk::Found;
 use hcl_scan::{ByteSink, ByteSource, Failed};
 use std::alloc::Global;
-use tree_command::run::{operands_in, operands_of, read_names};
-use tree_command::words::words_of;
 use tree_lint::counts::{Counts, tell_summary};
 use tree_lint::module_tree::ModuleTree;
 use tree_lint::refusal::tell_faults;
 use tree_lint::run::{RunEnd, run_over, worse_status};
+use tree_words::operands::{operands_in, operands_of, read_names};
+use tree_words::words::words_of;
 
 static READ_FAILED: &str = "tfrules-all: error: read failed\n";
 

@@ -13,7 +13,7 @@ use command_line::Program;
 use hcl_scan::ByteSink;
 use rule_set::Rule;
 use std::alloc::Global;
-use tree_command::wrong::bad_line_text;
+use tree_words::wrong::bad_line_text;
 
 static UNKNOWN_RULE: &str = "tfrules-all: error: unknown rule\n";
 

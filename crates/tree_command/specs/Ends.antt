@@ -15,10 +15,11 @@ use Rattle.tree_format.specs.declared.outcome.Outcome.{Outcome}
 use Rattle.tree_format.specs.declared.tally.Tally.{Tally}
 use Rattle.tree_command.specs.Formatter.{formatter}
 use Rattle.tree_command.specs.FormatterWords.{formatter_words}
-use Rattle.tree_command.specs.Line.{Asking, Part, asking_of_texts, others_in, part_of, texts_in}
-use Rattle.tree_command.specs.Paths.{paths_of_input, paths_of_line}
-use Rattle.tree_command.specs.Shards.{picked_of}
-use Rattle.tree_command.specs.WrongWords.{bad_line_words}
+use Rattle.tree_command.specs.Line.{Asking, Part, asking_of_texts, part_of}
+use Rattle.tree_words.specs.Line.{others_in, texts_in}
+use Rattle.tree_words.specs.Paths.{paths_of_input, paths_of_line}
+use Rattle.tree_words.specs.Shards.{picked_of}
+use Rattle.tree_words.specs.WrongWords.{bad_line_words}
 use Rattle.tree_command.specs.declared.usage.Usage.{Usage}
 use Rattle.tree_command.specs.declared.usage.Usage.TheVariants.{Help, Version, BadLine, TwoModes, BadPart, BadJobs, NamesTwice, OutOfMemory}
 

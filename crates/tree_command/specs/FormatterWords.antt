@@ -2,7 +2,7 @@
 use Rattle.std.specs.Prelude.{[], ◌∷◌, codes}
 use Rattle.tree_command.specs.Formatter.{usage_line}
 use Rattle.tree_command.specs.Line.{tffmt_all}
-use Rattle.tree_command.specs.WrongWords.{Vocabulary, letters_of, names_of}
+use Rattle.tree_words.specs.WrongWords.{Vocabulary, letters_of, names_of}
 
 -- beside its own options, two of `terraform fmt`, with one dash or with two
 abbrev pub formatter_words : Vocabulary

@@ -1,13 +1,10 @@
 -- What the words of a `tffmt-all` line ask for. clap reads those that are UTF-8 as a simple command: its own definitions of the
 -- matches and the faults of a line decide. What its options may say, and that the other words are names, is our own choice.
-use Rattle.std.specs.Prelude.{ℕ, ◌==◌, ◌&&◌, ◌||◌, not, Bool, true, false, List, [], ◌∷◌, ◌++◌, Option, Some, None, Result, Ok, Err, codes, drop, filter, fold, length, nat_le, nat_lt, option_map, slice_get, unwrap_or, if◌then◌else◌}
-use Rattle.std.specs.List.{after_first, before_first, list_all}
-use Rattle.std.specs.Char.{is_ascii_digit}
+use Rattle.std.specs.Prelude.{ℕ, ◌==◌, ◌&&◌, not, Bool, true, false, List, [], ◌∷◌, ◌++◌, Option, Some, None, Result, Ok, Err, codes, fold, length, nat_le, if◌then◌else◌}
+use Rattle.std.specs.List.{list_all}
 use Rattle.std.specs.Option.{option_map_or}
-use Rattle.std.specs.Str.{is_utf8}
-use Rattle.std.specs.Str.Parse.{digits_value}
-use Rattle.clap.specs.Words.{App, Row, Rule, Text, all_of, count_of, fault_of, first_of, matches_of, new_app, new_rule, with_rule}
-use Rattle.clap.specs.declared.builder.ArgAction.TheVariants.{Append, Count}
+use Rattle.clap.specs.Words.{App, Row, Rule, Text, fault_of, first_of, matches_of, new_app, new_rule, with_rule}
+use Rattle.clap.specs.declared.builder.ArgAction.TheVariants.{Append}
 use Rattle.command_line.specs.Arguments.{option_rule, unless_fault, usage_by}
 use Rattle.file_tree.specs.Choices.{Chosen, chosen_by}
 use Rattle.file_tree.specs.Files.{Name}
@@ -16,7 +13,8 @@ use Rattle.tree_format.specs.declared.mode.Ending.{Ending}
 use Rattle.tree_format.specs.declared.mode.Ending.TheVariants.{Line, Null}
 use Rattle.tree_format.specs.declared.mode.Mode.{Mode}
 use Rattle.tree_format.specs.declared.mode.Mode.TheVariants.{Write, Check, List as Listed, Diff}
-use Rattle.tree_command.specs.declared.shard.Shard.{Shard}
+use Rattle.tree_words.specs.Line.{count_rule, file_rule, is_given, null_rule, number_in, others_in, shard_given, texts_in, texts_of}
+use Rattle.tree_words.specs.declared.shard.Shard.{Shard}
 use Rattle.tree_command.specs.declared.usage.Usage.{Usage}
 use Rattle.tree_command.specs.declared.usage.Usage.TheVariants.{Help, Version, BadLine, TwoModes, BadPart, BadJobs, NamesTwice, OutOfMemory}
 
@@ -45,14 +43,6 @@ part_of asking = record { shard = asking.shard; chosen = chosen_by asking.given.
 
 -- ---- the command
 
--- `--NAME`, which may be given more than once
-abbrev pub count_rule : Text → Rule
-count_rule name = record (new_rule name) { long = Some name; action = Some Count }
-
--- `-0` and `--null`
-abbrev pub null_rule : Rule
-null_rule = record (new_rule (codes "null")) { long = Some (codes "null"); short = Some 48; action = Some Count }
-
 -- `-j NUMBER` and `--jobs NUMBER`, which may be given more than once
 abbrev pub jobs_rule : Rule
 jobs_rule = record (new_rule (codes "jobs")) { long = Some (codes "jobs"); short = Some 106; action = Some Append }
@@ -60,9 +50,6 @@ jobs_rule = record (new_rule (codes "jobs")) { long = Some (codes "jobs"); short
 -- `--exclude TEXT`, which may be given more than once
 abbrev pub exclude_rule : Rule
 exclude_rule = record (new_rule (codes "exclude")) { long = Some (codes "exclude"); action = Some Append }
-
-abbrev pub file_rule : Rule
-file_rule = record (new_rule (codes "file")) { action = Some Append }
 
 -- `tffmt-all [--check | --diff | --list] [--in-place] [--sync] [--quiet] [--shard K/N] [--exclude PATH]... [--any-name] [--jobs NUMBER]
 -- [--null] [--version] [--] [FILE|FOLDER]...`
@@ -72,12 +59,6 @@ tffmt_all =
     (count_rule (codes "check") ∷ count_rule (codes "diff") ∷ count_rule (codes "list") ∷ count_rule (codes "in-place") ∷ count_rule (codes "sync")
     ∷ count_rule (codes "quiet") ∷ count_rule (codes "any-name") ∷ count_rule (codes "version") ∷ null_rule ∷ option_rule (codes "shard") ∷ exclude_rule
     ∷ jobs_rule ∷ file_rule ∷ [])
-
-abbrev pub is_given : Text → List Row → Bool
-is_given name rows = nat_lt 0 (count_of name rows)
-
-abbrev pub texts_of : Text → List Row → List Text
-texts_of id rows = unwrap_or (all_of id rows) []
 
 -- ---- what is to be done
 
@@ -99,38 +80,13 @@ mode_asked rows =
     mode_by (is_given (codes "check") rows) (is_given (codes "diff") rows) (is_given (codes "list") rows) (ending_by (is_given (codes "null") rows))
     (record { in_place = is_given (codes "in-place") rows; sync = is_given (codes "sync") rows })
 
--- ---- numbers
-
-abbrev pub most_digits : ℕ
-most_digits = 5
+-- ---- jobs
 
 abbrev pub max_jobs : ℕ
 max_jobs = 9999
 
--- decimal digits, of which the first isn't 0
-abbrev pub is_number : Text → Bool
-is_number text =
-    nat_lt 0 (length text) && (nat_le (length text) most_digits && (not (option_map_or (λ b. b == 48) (slice_get text 0) false) && list_all is_ascii_digit text))
-
-abbrev pub number_in : Text → Option ℕ
-number_in text = if is_number text then Some (digits_value 10 text) else None
-
 abbrev pub is_jobs : Text → Bool
 is_jobs text = option_map_or (λ n. nat_le n max_jobs) (number_in text) false
-
-abbrev pub shard_by : Option ℕ → Option ℕ → Option Shard
-shard_by None count = None
-shard_by (Some number) None = None
-shard_by (Some number) (Some count) = if nat_le 1 number && nat_le number count then Some (record { number = number; count = count }) else None
-
--- `K/N`
-abbrev pub shard_in : Text → Option Shard
-shard_in text = shard_by (number_in (before_first (λ b. b == 47) text)) (number_in (after_first (λ b. b == 47) text))
-
--- no part where there is no text, and nothing where it names none
-abbrev pub shard_given : Option Text → Option (Option Shard)
-shard_given None = Some None
-shard_given (Some text) = option_map Some (shard_in text)
 
 -- ---- the line
 
@@ -170,15 +126,7 @@ asking_of_texts texts others =
 abbrev pub mode_of_texts : List Text → Option Mode
 mode_of_texts texts = mode_asked (matches_of tffmt_all texts)
 
--- ---- words that aren't UTF-8
-
--- the name of the program, whatever the first word is, and the words after it that are UTF-8
-abbrev pub texts_in : Text → List (List ℕ) → List Text
-texts_in program words = program ∷ filter is_utf8 (drop 1 words)
-
--- the words that aren't: names, wherever they stand
-abbrev pub others_in : List (List ℕ) → List Name
-others_in words = filter (λ word. not (is_utf8 word)) (drop 1 words)
+-- ---- all words
 
 -- WHAT THE WORDS ASK FOR, the program's name first, unless memory runs out
 abbrev pub asking_of_words : List (List ℕ) → Result Asking Usage

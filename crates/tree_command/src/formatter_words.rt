@@ -2,10 +2,10 @@
 
 ghost use Rattle.std.specs.Prelude.{◌≡◌};
 ghost use Rattle.tree_command.specs.FormatterWords.{formatter_words};
-ghost use Rattle.tree_command.specs.Vocabularies.{vocabulary_of};
+ghost use Rattle.tree_words.specs.Vocabularies.{vocabulary_of};
 
 use crate::usage::USAGE;
-use crate::vocabulary::{Foreign, Vocabulary};
+use tree_words::vocabulary::{Foreign, Vocabulary};
 
 static NAMES: &[&str] = &[
     "check", "diff", "list", "in-place", "sync", "quiet", "any-name", "version", "null", "shard",

@@ -5,10 +5,5 @@
 mod formatter_words;
 pub mod options;
 pub mod part;
-pub mod pick;
 pub mod run;
-pub mod shard;
 pub mod usage;
-pub mod vocabulary;
-pub mod words;
-pub mod wrong;

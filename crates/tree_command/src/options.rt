@@ -1,24 +1,22 @@
 //! The words of the command line.
 
-ghost use Rattle.std.specs.Prelude.{◌≡◌, ◌==◌, ◌⊎◌, ◌++◌, false, codes, Err, IfOk, Some, length, map, option_map, slice_get};
-ghost use Rattle.std.specs.Char.{is_ascii_digit};
+ghost use Rattle.std.specs.Prelude.{◌≡◌, ◌⊎◌, false, codes, Err, IfOk, Some, map};
 ghost use Rattle.std.specs.List.{list_all};
-ghost use Rattle.std.specs.Option.{option_map_or};
-ghost use Rattle.clap.specs.Words.{app_of, first_of, found_of, rows_of, rule_of};
+ghost use Rattle.clap.specs.Words.{app_of, found_of, rows_of, rule_of};
 ghost use Rattle.tree_command.specs.Asked.{asked_by, given_of};
-ghost use Rattle.tree_command.specs.Line.{asking_by, asking_of_rows, asking_of_texts, asking_with, count_rule, ending_by, exclude_rule, file_rule, given_by, has_names_twice, is_given, is_jobs, is_number, jobs_rule, mode_asked, mode_by, mode_of_texts, null_rule, number_in, shard_by, shard_given, shard_in, texts_of, tffmt_all};
+ghost use Rattle.tree_command.specs.Line.{asking_by, asking_of_rows, asking_of_texts, asking_with, ending_by, exclude_rule, given_by, has_names_twice, is_jobs, jobs_rule, mode_asked, mode_by, mode_of_texts, tffmt_all};
 ghost use Rattle.tree_command.specs.declared.usage.Usage.TheVariants.{OutOfMemory};
+ghost use Rattle.tree_words.specs.Line.{texts_of};
 
-use crate::shard::Shard;
 use crate::usage::Usage;
 use clap::{Arg, ArgAction, ArgMatches, Command};
 use command_line::{option_named, usage_for};
 use file_tree::tree::Writing;
 use std::alloc::{AllocError, Global};
 use tree_format::mode::{Ending, Mode};
-
-/// The most digits of a number.
-const MOST_DIGITS: usize = 5;
+use tree_words::number::number_in;
+use tree_words::options::{counted_flag, file, is_given, names_in, names_of, null};
+use tree_words::shard::{Shard, shard_of};
 
 const MAX_JOBS: u32 = 9_999;
 
@@ -48,25 +46,6 @@ pub struct TreeOptions<'a> {
     pub given: Given<'a>,
 }
 
-/// The flag `--NAME`, which may be given more than once.
-pub fn counted_flag<'a>(alloc: Global, name: &'a str) -> Arg<'a>
-    ensures rule { rule_of result ≡ count_rule name.entry.now }
-    ensures local { result.global ≡ false }
-{
-    Arg::new(alloc, name).long(name).action(ArgAction::Count)
-}
-
-/// `-0` and `--null`.
-pub fn null<'a>(alloc: Global) -> Arg<'a>
-    ensures rule { rule_of result ≡ null_rule }
-    ensures local { result.global ≡ false }
-{
-    Arg::new(alloc, "null")
-        .long("null")
-        .short('0')
-        .action(ArgAction::Count)
-}
-
 /// `-j NUMBER` and `--jobs NUMBER`.
 fn jobs<'a>(alloc: Global) -> Arg<'a>
     ensures rule { rule_of result ≡ jobs_rule }
@@ -88,14 +67,6 @@ fn exclude<'a>(alloc: Global) -> Arg<'a>
         .action(ArgAction::Append)
 }
 
-/// Files and folders.
-pub fn file<'a>(alloc: Global) -> Arg<'a>
-    ensures rule { rule_of result ≡ file_rule }
-    ensures local { result.global ≡ false }
-{
-    Arg::new(alloc, "file").action(ArgAction::Append)
-}
-
 /// The command with its options.
 fn command<'a>(alloc: Global) -> Result<Command<'a>, AllocError>
     ensures { IfOk result (λ c. app_of c ≡ tffmt_all) }
@@ -114,13 +85,6 @@ fn command<'a>(alloc: Global) -> Result<Command<'a>, AllocError>
         .arg(exclude(alloc))?
         .arg(jobs(alloc))?
         .arg(file(alloc))
-}
-
-/// Whether a flag is given.
-pub fn is_given(matches: &ArgMatches<'_>, name: &str) -> bool
-    ensures { result ≡ is_given name.now (rows_of (found_of matches.now)) }
-{
-    matches.get_count(name) > 0
 }
 
 /// The mode that these flags ask for, where they go together.
@@ -158,41 +122,6 @@ fn mode_of(matches: &ArgMatches<'_>) -> Option<Mode>
     mode_by(check, diff, list, ending, writing)
 }
 
-fn begins_with_zero(digits: &[u8]) -> bool
-    ensures { result ≡ option_map_or (λ b. b == 48) (slice_get digits.now 0) false }
-{
-    match digits.first() {
-        Some(digit) => *digit == b'0',
-        None => false,
-    }
-}
-
-fn are_digits(digits: &[u8]) -> bool
-    ensures { result ≡ list_all is_ascii_digit digits.now }
-{
-    digits.iter().all(|b| b.is_ascii_digit())
-}
-
-/// Whether a text is a number without zeros before it.
-fn is_number(text: &str) -> bool
-    ensures { result ≡ is_number text.now }
-{
-    let digits = text.as_bytes();
-    !digits.is_empty()
-        && digits.len() <= MOST_DIGITS
-        && !begins_with_zero(digits)
-        && are_digits(digits)
-}
-
-fn number_in(text: &str) -> Option<u32>
-    ensures { result ≡ number_in text.now }
-{
-    if !is_number(text) {
-        return None;
-    }
-    text.parse().ok()
-}
-
 /// Whether a text is a number of jobs.
 fn is_jobs(text: &str) -> bool
     ensures { result ≡ is_jobs text.now }
@@ -217,52 +146,6 @@ fn are_jobs_good(matches: &ArgMatches<'_>) -> bool
         Some(texts) => are_jobs(texts),
         None => true,
     }
-}
-
-/// The part of these numbers.
-fn shard_by(number: Option<u32>, count: Option<u32>) -> Option<Shard>
-    ensures { result ≡ shard_by number count }
-{
-    let Some(number) = number else {
-        return None;
-    };
-    let Some(count) = count else {
-        return None;
-    };
-    if number < 1 || count < number {
-        return None;
-    }
-    Some(Shard { number, count })
-}
-
-/// The part that `K/N` names.
-fn shard_in(text: &str) -> Option<Shard>
-    ensures { result ≡ shard_in text.now }
-{
-    match text.split_once('/') {
-        Some((number, count)) => shard_by(number_in(number), number_in(count)),
-        None => None,
-    }
-}
-
-/// The part that a text names, where there is one, or nothing where it names none.
-fn shard_given(text: Option<&str>) -> Option<Option<Shard>>
-    ensures { result ≡ shard_given (option_map (λ text. text.now) text.entry) }
-{
-    match text {
-        Some(text) => match shard_in(text) {
-            Some(shard) => Some(Some(shard)),
-            None => None,
-        },
-        None => Some(None),
-    }
-}
-
-/// The part that the matches of a line give.
-pub fn shard_of(matches: &ArgMatches<'_>) -> Option<Option<Shard>>
-    ensures { result ≡ shard_given (first_of (codes "shard") (rows_of (found_of matches.now))) }
-{
-    shard_given(matches.get_str("shard"))
 }
 
 /// Whether names are to come from standard input and stand on the line too.
@@ -307,43 +190,6 @@ fn options_with<'a>(given: Given<'a>, matches: &ArgMatches<'a>) -> Result<TreeOp
     let mode = mode_of(matches);
     let shard = shard_of(matches);
     options_by(mode, shard, are_jobs_good(matches), given)
-}
-
-/// The names of a line: those that clap found, and the others.
-fn names_of<'a>(
-    alloc: Global,
-    given: &[&'a str],
-    others: &[&'a [u8]],
-) -> Result<Vec<&'a [u8]>, AllocError>
-    ensures { IfOk result
-        (λ names. map (λ name. name.now) names.items ≡ map (λ name. name.now) given.now
-        ++ map (λ name. name.now) others.now) }
-{
-    let mut names = Vec::new(alloc);
-    for name in given {
-        if names.push(name.as_bytes()).is_err() {
-            return Err(AllocError);
-        }
-    }
-    names.extend_from_slice(others)?;
-    Ok(names)
-}
-
-/// All names of a line of which the matches are these.
-pub fn names_in<'a>(
-    alloc: Global,
-    others: &[&'a [u8]],
-    matches: &ArgMatches<'a>,
-) -> Result<Vec<&'a [u8]>, AllocError>
-    ensures { IfOk result
-        (λ names. map (λ name. name.now) names.items
-        ≡ texts_of (codes "file") (rows_of (found_of matches.now))
-        ++ map (λ name. name.now) others.now) }
-{
-    match matches.get_strs("file") {
-        Some(given) => names_of(alloc, given, others),
-        None => names_of(alloc, &[], others),
-    }
 }
 
 /// What is excluded by a line of which the matches are these.

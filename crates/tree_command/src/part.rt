@@ -5,8 +5,8 @@ ghost use Rattle.tree_command.specs.Asked.{asking_of, part_told};
 ghost use Rattle.tree_command.specs.Line.{part_of};
 
 use crate::options::TreeOptions;
-use crate::shard::Shard;
 use file_tree::choice::Choice;
+use tree_words::shard::Shard;
 
 /// Which files are taken, of those that names stand for.
 #[derive(Clone, Copy, Debug)]

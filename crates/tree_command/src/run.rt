@@ -1,14 +1,12 @@
 //! A run over any tree and any devices.
 
-ghost use Rattle.std.specs.Prelude.{◌≡◌, ◌||◌, ℕ, List, [], false, IfOk, Some, if◌then◌else◌, map};
+ghost use Rattle.std.specs.Prelude.{◌≡◌, ◌||◌, ℕ, List, false, IfOk, Some, if◌then◌else◌, map};
 ghost use Rattle.command_line.specs.Rows.{Shows, Took, end_of, writer};
-ghost use Rattle.file_tree.specs.Files.{Tells};
 ghost use Rattle.tree_command.specs.Ends.{EndsAsked, FormatsNamed, FormatsOr, IsEnd, IsEndOf, IsPartOf, ReadsAndFormats, ShowsUsage, words_at_end};
 ghost use Rattle.tree_command.specs.Asked.{asking_of, part_told};
 ghost use Rattle.tree_command.specs.Formatter.{formatter};
 ghost use Rattle.tree_command.specs.Line.{asking_of_texts, asking_of_words, mode_of_texts, mode_of_words, reads_names};
 ghost use Rattle.tree_command.specs.declared.usage.Usage.TheVariants.{BadLine};
-ghost use Rattle.tree_command.specs.Paths.{paths_of_input, paths_of_line, without_last_nul};
 ghost use Rattle.tree_format.specs.declared.mode.Mode.{Mode};
 ghost use Rattle.tree_format.specs.Runs.{IsSafe, Kept};
 ghost use Rattle.tree_format.specs.States.{state_of};
@@ -16,21 +14,21 @@ ghost use Rattle.tree_format.specs.States.{state_of};
 use crate::formatter_words::formatter_words;
 use crate::options::{TreeOptions, options};
 use crate::part::{Part, part_of};
-use crate::pick::pick;
 use crate::usage::{BAD_JOBS, BAD_PART, HELP, NAMES_TWICE, TWO_MODES, Usage, VERSION};
-use crate::words::words_of;
-use crate::wrong::bad_line_text;
 use command_line::Program;
 use file_tree::once::each_file_once;
-use file_tree::path::names_in;
 use file_tree::tree::{Tree, WritableTree};
 use file_tree::walk::{Found, find};
-use hcl_scan::{ByteSink, ByteSource, Failed};
+use hcl_scan::{ByteSink, ByteSource};
 use std::alloc::{AllocError, Global};
 use tree_format::mode::Mode;
 use tree_format::progress::Progress;
 use tree_format::run::{Ran, run_over};
 use tree_format::tally::tell_tally;
+use tree_words::operands::{operands_in, operands_of, read_names};
+use tree_words::pick::pick;
+use tree_words::words::words_of;
+use tree_words::wrong::bad_line_text;
 
 /// The status of a run in which something failed.
 const FAILURE: u8 = 4;
@@ -118,70 +116,6 @@ fn run<T: WritableTree, P: Progress, O: ByteSink, E: ByteSink>(
         }
         Err(_) => formatter().tell_out_of_memory(out, err),
     }
-}
-
-/// All that a device has left, unless a read fails or memory runs out.
-pub fn read_names<R: ByteSource>(alloc: Global, input: &mut R) -> Result<Vec<u8>, AllocError>
-    requires { R.failed input.old ≡ false }
-    ensures { IfOk result (λ names. Tells (R.left input.old) names.items) }
-{
-    let mut bytes = Vec::new(alloc);
-    let mut buffer = [0; 16_384];
-    for _ in 0..u64::MAX {
-        match input.read(&mut buffer) {
-            Ok(0) => return Ok(bytes),
-            Ok(n) => bytes.extend_from_slice(&buffer[..n])?,
-            Err(Failed) => return Err(AllocError),
-        }
-    }
-    Err(AllocError)
-}
-
-/// Names without the NUL at their end.
-fn without_last_nul(names: &[u8]) -> &[u8]
-    ensures { result.now ≡ without_last_nul names.now }
-{
-    if names.ends_with(b"\0") {
-        &names[..names.len() - 1]
-    } else {
-        names
-    }
-}
-
-/// The names, each ended by NUL, but for the last, which needs none.
-pub fn operands_in<'a>(alloc: Global, names: &'a [u8]) -> Result<Vec<&'a [u8]>, AllocError>
-    ensures { IfOk result
-        (λ operands. map (λ operand. operand.now) operands.items ≡ paths_of_input names.entry.now) }
-{
-    let names = without_last_nul(names);
-    if names.is_empty() {
-        return Ok(Vec::new(alloc));
-    }
-    names_in(alloc, names)
-}
-
-/// The current folder.
-fn here<'a>(alloc: Global) -> Result<Vec<&'a [u8]>, AllocError>
-    ensures { IfOk result
-        (λ operands. map (λ operand. operand.now) operands.items ≡ paths_of_line []) }
-{
-    let mut operands = Vec::new(alloc);
-    match operands.push(b".".as_slice()) {
-        Ok(()) => Ok(operands),
-        Err(_) => Err(AllocError),
-    }
-}
-
-/// The names of a line, or the current folder where there is none.
-pub fn operands_of<'a>(alloc: Global, names: &[&'a [u8]]) -> Result<Vec<&'a [u8]>, AllocError>
-    ensures { IfOk result
-        (λ operands. map (λ operand. operand.now) operands.items
-        ≡ paths_of_line (map (λ name. name.now) names.now)) }
-{
-    if names.is_empty() {
-        return here(alloc);
-    }
-    Vec::from_slice(alloc, names)
 }
 
 /// Takes the names from a device.

@@ -1,7 +1,7 @@
 use Rattle.std.proofs.Common.{◌≡◌, ◌∙◌, List, ℕ, ap, codes, inl, map, refl, subst}
 use Rattle.command_line.specs.Rows.{end_of}
 use Rattle.std.specs.Borrow.{Bor}
-use Rattle.tree_command.specs.Line.{others_in, texts_in}
+use Rattle.tree_words.specs.Line.{others_in, texts_in}
 use Rattle.lint_command.specs.Line.{asking_of_texts, reads_names}
 use Rattle.lint_command.specs.Ends.{IsEndOf}
 use Rattle.lint_command.proofs.UsageLemmas.{memory_said}

@@ -1,7 +1,7 @@
 use Rattle.std.proofs.Common.{◌≡◌, map}
 use Rattle.tree_command.specs.Asked.{part_told}
 use Rattle.tree_command.specs.Ends.{IsPartOf}
-use Rattle.tree_command.specs.Shards.{picked_of}
+use Rattle.tree_words.specs.Shards.{picked_of}
 use Rattle.tree_command.proofs.PathLemmas.{if_ok_more}
 use Rattle.tree_command.proofs.run.find_part.Goals as goal
 

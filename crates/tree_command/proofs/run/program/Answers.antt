@@ -2,7 +2,8 @@ use Rattle.std.proofs.Common.{◌∙◌, List, ℕ, ap, codes, map, subst}
 use Rattle.command_line.specs.Rows.{end_of}
 use Rattle.std.specs.Borrow.{Bor}
 use Rattle.tree_command.specs.Ends.{IsEndOf}
-use Rattle.tree_command.specs.Line.{asking_of_texts, mode_of_texts, others_in, reads_names, texts_in}
+use Rattle.tree_command.specs.Line.{asking_of_texts, mode_of_texts, reads_names}
+use Rattle.tree_words.specs.Line.{others_in, texts_in}
 use Rattle.tree_format.specs.States.{state_of}
 use Rattle.tree_command.proofs.run.program.Goals as goal
 

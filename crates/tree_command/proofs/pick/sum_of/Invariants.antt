@@ -1,6 +1,0 @@
-use Rattle.std.proofs.Common.{◌≡◌, ◌<◌, take}
-use Rattle.tree_command.specs.Shards.{sum_of}
-use Rattle.tree_command.proofs.pick.sum_of.Given as goal
-
-abbrev pub invariant-loop-byte : goal.invariant-loop-byte
-invariant-loop-byte l = (l.sum ≡ sum_of (take l.byte-index l.name)) × (l.sum < 4294967291)

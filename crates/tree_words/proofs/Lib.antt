@@ -1,0 +1,3 @@
+mod AskedPartLemmas
+mod WordLemmas
+mod WrongWordLemmas

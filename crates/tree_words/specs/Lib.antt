@@ -1,0 +1,5 @@
+pub mod Line
+pub mod Paths
+pub mod Shards
+pub mod Vocabularies
+pub mod WrongWords

@@ -1,0 +1,70 @@
+-- What the words of a line ask for that the programs of trees read alike. clap reads those that are UTF-8: its own definition
+-- of the matches of a line decides. What `--shard` may say, and that the other words are names, is our own choice.
+use Rattle.std.specs.Prelude.{ℕ, ◌==◌, ◌&&◌, not, Bool, false, List, [], ◌∷◌, Option, Some, None, codes, drop, filter, length, nat_le, nat_lt, option_map, slice_get, unwrap_or, if◌then◌else◌}
+use Rattle.std.specs.List.{after_first, before_first, list_all}
+use Rattle.std.specs.Char.{is_ascii_digit}
+use Rattle.std.specs.Option.{option_map_or}
+use Rattle.std.specs.Str.{is_utf8}
+use Rattle.std.specs.Str.Parse.{digits_value}
+use Rattle.clap.specs.Words.{Row, Rule, Text, all_of, count_of, new_rule}
+use Rattle.clap.specs.declared.builder.ArgAction.TheVariants.{Append, Count}
+use Rattle.file_tree.specs.Files.{Name}
+use Rattle.tree_words.specs.declared.shard.Shard.{Shard}
+
+-- ---- options
+
+-- `--NAME`, which may be given more than once
+abbrev pub count_rule : Text → Rule
+count_rule name = record (new_rule name) { long = Some name; action = Some Count }
+
+-- `-0` and `--null`
+abbrev pub null_rule : Rule
+null_rule = record (new_rule (codes "null")) { long = Some (codes "null"); short = Some 48; action = Some Count }
+
+abbrev pub file_rule : Rule
+file_rule = record (new_rule (codes "file")) { action = Some Append }
+
+abbrev pub is_given : Text → List Row → Bool
+is_given name rows = nat_lt 0 (count_of name rows)
+
+abbrev pub texts_of : Text → List Row → List Text
+texts_of id rows = unwrap_or (all_of id rows) []
+
+-- ---- numbers
+
+abbrev pub most_digits : ℕ
+most_digits = 5
+
+-- decimal digits, of which the first isn't 0
+abbrev pub is_number : Text → Bool
+is_number text =
+    nat_lt 0 (length text) && (nat_le (length text) most_digits && (not (option_map_or (λ b. b == 48) (slice_get text 0) false) && list_all is_ascii_digit text))
+
+abbrev pub number_in : Text → Option ℕ
+number_in text = if is_number text then Some (digits_value 10 text) else None
+
+-- ---- a part of the files
+
+abbrev pub shard_by : Option ℕ → Option ℕ → Option Shard
+shard_by None count = None
+shard_by (Some number) None = None
+shard_by (Some number) (Some count) = if nat_le 1 number && nat_le number count then Some (record { number = number; count = count }) else None
+
+-- `K/N`
+abbrev pub shard_in : Text → Option Shard
+shard_in text = shard_by (number_in (before_first (λ b. b == 47) text)) (number_in (after_first (λ b. b == 47) text))
+
+-- no part where there is no text, and nothing where it names none
+abbrev pub shard_given : Option Text → Option (Option Shard)
+shard_given None = Some None
+shard_given (Some text) = option_map Some (shard_in text)
+
+-- ---- words that aren't UTF-8
+
+-- the name of the program, whatever the first word is, and the words after it that are UTF-8
+abbrev pub texts_in : Text → List (List ℕ) → List Text
+texts_in program words = program ∷ filter is_utf8 (drop 1 words)
+
+-- the words that aren't: names, wherever they stand
+abbrev pub others_in : List (List ℕ) → List Name
+others_in words = filter (λ word. not (is_utf8 word)) (drop 1 words)
