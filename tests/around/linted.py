@@ -129,7 +129,9 @@ def statuses(group, lint):
     )
     group.check('two issues', lint('e', cwd=top), (2, report(UNTYPED % 'e/e.tf', UNUSED % 'e/e.tf'), b''))
     os.mkfifo(str(top / 'd' / 'pipe.tf'))
-    group.check('a pipe is passed over', lint('d', cwd=top), (0, b'', b''))
+    group.check(
+        'a module with a pipe is refused', lint('d', cwd=top), (1, b'', lines(fault('d/pipe.tf', 'not a file')))
+    )
     for name, told in (
         ('nowhere', 'nowhere'),
         ('nowhere/a.tf', 'nowhere/'),
@@ -150,12 +152,17 @@ def statuses(group, lint):
 
 
 def special_files(group, lint):
-    """Pipes, sockets and devices are no files of a module, and neither are links to them."""
-    top = tree(group, {'a.tf': DECLARED})
+    """A module with a pipe, a socket or a device under the name of a file, or a link to one, is refused."""
+    top = tree(group, {'a.tf': DECLARED, 'm/a.tf': DECLARED})
     links = special_links(top)
-    group.check('links to pipes, sockets and devices', lint(cwd=top), (2, unused('a.tf'), b''))
-    group.check('they are no module', group.call(group.linted, 'in', cwd=top), (0, b'', lines('no modules found')))
-    group.check('nor if they are named', lint(*links, cwd=top), (2, unused('a.tf'), b''))
+    within = ['in/pipe.tf', 'in/socket.tf']
+    told = [fault(name, 'not a file') for name in sorted(links + within)]
+    group.check('links to pipes, sockets and devices', lint(cwd=top), (1, unused('m/a.tf'), lines(*told)))
+    group.check('they make a module', lint('in', cwd=top), (1, b'', lines(*told[:5])))
+    group.check('also if they are named', lint(*links, 'm', cwd=top), (1, unused('m/a.tf'), lines(*told)))
+    put(top, {'n/a.tf': DECLARED, 'n/gone.tfvars': b'->nowhere'})
+    os.mkfifo(str(top / 'n' / 'pipe.tfvars'))
+    group.check('under other names they are no matter', lint('n', cwd=top), (2, unused('n/a.tf'), b''))
 
 
 def summaries(group, lint):

@@ -1,14 +1,15 @@
 -- What stands in one folder.
 use Rattle.std.proofs.Common.{◌≡◌, ◌⊎◌, ◌++◌, ◌∷◌, [], ℕ, suc, Bool, true, false, List, Option, Some, None, Contains, arith, inl, inr, refl, subst, sym}
 use Rattle.std.proofs.lemmas.List.Elements.{Contains-push_cases}
-use Rattle.file_tree.specs.Below.{IsEntry, IsFile, Says, listed}
+use Rattle.file_tree.specs.Below.{IsEntry, IsFileFor, IsSpecial, Says, listed}
 use Rattle.file_tree.specs.Choices.{Chosen, whole}
 use Rattle.file_tree.specs.Files.{Files, Name}
+use Rattle.file_tree.specs.Finds.{IsEntryBy}
 use Rattle.file_tree.specs.FolderFiles.{FindsIn, IsInBy}
 use Rattle.hcl_source.specs.Devices.{Tells}
 use Rattle.file_tree.specs.Names.{is_taken}
 use Rattle.file_tree.specs.Paths.{place}
-use Rattle.file_tree.specs.Inner.Walking.{Adds, IsFault, Reached, TakesAll, TakesEntry, TakesFolder, TakesIf, TakesKind, TakesLink, TakesLinked}
+use Rattle.file_tree.specs.Inner.Walking.{Adds, IsFault, Reached, TakesAll, TakesEntry, TakesFolder, TakesIf, TakesKind, TakesLink, TakesLinked, TakesSpecial, file_by}
 use Rattle.file_tree.specs.Ordered.{HasName, IsFound, Orders}
 use Rattle.file_tree.specs.declared.fault.TreeFault.{TreeFault}
 use Rattle.file_tree.specs.declared.kind.Identity.{Identity}
@@ -22,51 +23,56 @@ use Rattle.file_tree.proofs.TreeWalkLemmas.{file_looked}
 module _ (files : Files) (folder : Name) where
   -- nothing else was found
   abbrev In : Reached → Type 0
-  In r = (f : Found) → Contains r.found f → IsInBy files folder f.name.items f.fault
+  In r = (f : Found) → Contains r.found f → IsInBy files folder f.name.items f.fault f.file
 
   in_same : (old new : Reached) → new ≡ old → In old → In new
   in_same old new e h = subst (λ (r : Reached). In r) (sym e) h
 
-  in_adds : (name : Name) (fault : Option TreeFault) (file : Option FoundFile) (old new : Reached) → Adds name fault file old new → IsInBy files folder name fault → In old → In new
+  in_adds : (name : Name) (fault : Option TreeFault) (file : Option FoundFile) (old new : Reached) → Adds name fault file old new → IsInBy files folder name fault file → In old → In new
   in_adds name fault file old new h of' before = λ f d. here f (Contains-push_cases old.found h.f f (subst (λ l. Contains l f) h.found d))
     where
-      here : (f : Found) → Contains old.found f ⊎ (h.f ≡ f) → IsInBy files folder f.name.items f.fault
+      here : (f : Found) → Contains old.found f ⊎ (h.f ≡ f) → IsInBy files folder f.name.items f.fault f.file
       here f (inl d) = before f d
       here f (inr e) =
-          subst (λ (x : Found). IsInBy files folder x.name.items x.fault) e
-          (subst (λ n. IsInBy files folder n h.f.fault) (sym h.name_is) (subst (λ o. IsInBy files folder name o) (sym h.fault_is) of'))
+          subst (λ (x : Found). IsInBy files folder x.name.items x.fault x.file) e
+          (subst (λ n. IsInBy files folder n h.f.fault h.f.file) (sym h.name_is) (subst (λ o. IsInBy files folder name o h.f.file) (sym h.fault_is) (subst (λ o. IsInBy files folder name fault o) (sym h.file_is) of')))
 
   in_report : (name : Name) (fault : TreeFault) (old new : Reached) → IsEntry false files whole folder name → Adds (folder ++ name) (Some fault) None old new → In old → In new
   in_report name fault old new entry h before = in_adds (folder ++ name) (Some fault) None old new h (inr (name, entry, refl)) before
 
-  in_file : (name : Name) (file : Option FoundFile) (old new : Reached) → true ≡ is_taken name → IsEntry false files whole folder name → IsFile false files (folder ++ name)
-      → Adds (folder ++ name) None file old new → In old → In new
-  in_file name file old new e entry kind h before = in_adds (folder ++ name) None file old new h (name, (entry, kind, sym e), refl) before
+  in_file : (name : Name) (file : Option FoundFile) (old new : Reached) → true ≡ is_taken name → IsEntry false files whole folder name → IsFileFor false files whole (folder ++ name)
+      → IsEntryBy files whole (folder ++ name) file → Adds (folder ++ name) None file old new → In old → In new
+  in_file name file old new e entry kind known h before = in_adds (folder ++ name) None file old new h (name, (entry, kind, sym e), refl, known) before
 
   in_if : (name : Name) (v : Bool) (identity : Identity) (old new : Reached) → v ≡ is_taken name → IsEntry false files whole folder name → Says false (files.entry (folder ++ name)) (File identity)
       → TakesIf v (folder ++ name) identity old new → In old → In new
-  in_if name true identity old new e entry tells h before = in_file name _ old new e entry (inl (identity, tells)) h before
+  in_if name true identity old new e entry tells h before = in_file name (Some (file_by false identity)) old new e entry (inl (inl (identity, tells))) tells h before
   in_if name false identity old new e entry tells h before = in_same old new h before
 
+  in_special : (name : Name) (v : Bool) (old new : Reached) → (v ≡ true → true ≡ is_taken name) → IsEntry false files whole folder name → IsSpecial false files (folder ++ name)
+      → TakesSpecial v (folder ++ name) old new → In old → In new
+  in_special name true old new e entry is h before = in_file name None old new (e refl) entry (inr (refl, is)) (refl, is) h before
+  in_special name false old new e entry is h before = in_same old new h before
+
   in_linked : (kind : Kind) (name : Name) (old new : Reached) → true ≡ is_taken name → IsEntry false files whole folder name → Says false (files.entry (folder ++ name)) Link
-      → Says false (files.kind (folder ++ name)) kind → TakesLinked kind (folder ++ name) old new → In old → In new
+      → Says false (files.kind (folder ++ name)) kind → TakesLinked true kind (folder ++ name) old new → In old → In new
   in_linked Folder name old new e entry link leads h before = in_same old new h before
-  in_linked (File identity) name old new e entry link leads h before = in_file name _ old new e entry (inr (link, (identity, leads))) h before
+  in_linked (File identity) name old new e entry link leads h before = in_file name (Some (file_by true identity)) old new e entry (inl (inr (link, (identity, leads)))) (link, leads) h before
   in_linked Link name old new e entry link leads h before = in_same old new h before
-  in_linked Other name old new e entry link leads h before = in_same old new h before
+  in_linked Other name old new e entry link leads h before = in_special name true old new (λ _. e) entry (inr (link, leads)) h before
 
   in_link : (name : Name) (v : Bool) (old new : Reached) → v ≡ is_taken name → IsEntry false files whole folder name → Says false (files.entry (folder ++ name)) Link
-      → TakesLink v files (folder ++ name) old new → In old → In new
+      → TakesLink v true files (folder ++ name) old new → In old → In new
   in_link name true old new e entry tells (inl h) before = in_report name h.0 old new entry h.1 before
   in_link name true old new e entry tells (inr h) before = in_linked h.0 name old new e entry tells h.1 h.2 before
   in_link name false old new e entry tells h before = in_same old new h before
 
   in_kind : (kind : Kind) (name : Name) (old new : Reached) → IsEntry false files whole folder name → Tells (files.entry (folder ++ name)) kind
-      → TakesKind kind files (folder ++ name) name old new → In old → In new
+      → TakesKind true kind files (folder ++ name) name old new → In old → In new
   in_kind Folder name old new entry tells h before = λ f d. before f (subst (λ l. Contains l f) h.found d)
   in_kind (File identity) name old new entry tells h before = in_if name (is_taken name) identity old new refl entry tells h before
   in_kind Link name old new entry tells h before = in_link name (is_taken name) old new refl entry tells h before
-  in_kind Other name old new entry tells h before = in_same old new h before
+  in_kind Other name old new entry tells h before = in_special name (is_taken name) old new sym entry (inl tells) h before
 
   in_entry : (listing : List ℕ) (name : Name) (old new : Reached) → Tells (files.listing (place folder)) listing → Contains (listed listing) name → TakesEntry files whole folder name old new → In old → In new
   in_entry listing name old new tells d (inl h) before = in_same old new h.1 before

@@ -3,10 +3,10 @@ use Rattle.std.proofs.Common.{◌≡◌, ◌≢◌, ◌∙◌, ◌<◌, ◌+◌,
 use Rattle.std.proofs.lemmas.List.{map-append, map_more}
 use Rattle.file_tree.specs.Below.{IsOther}
 use Rattle.file_tree.specs.Choices.{Chosen, is_excluded, is_wanted}
-use Rattle.file_tree.specs.Files.{Faults, Files, Name, Tells, with_fault, with_faults}
+use Rattle.file_tree.specs.Files.{Faults, Files, Name, Tells, with_fault}
 use Rattle.file_tree.specs.Finds.{AreReal, Failure, IsOtherIn, with_failures}
 use Rattle.file_tree.specs.FolderFiles.{AreHeard}
-use Rattle.file_tree.specs.Inner.Walking.{Adds, Enters, Hears, HearsGiven, Reached, TakesIf, TakesLinked, failures_in, failures_of}
+use Rattle.file_tree.specs.Inner.Walking.{Adds, Enters, Hears, HearsGiven, Reached, TakesIf, TakesLinked, TakesSpecial, failures_in, failures_of}
 use Rattle.file_tree.specs.Ordered.{Orders}
 use Rattle.file_tree.specs.Paths.{tidied}
 use Rattle.file_tree.specs.declared.fault.TreeFault.{TreeFault}
@@ -82,11 +82,15 @@ hears_if : (taken : Bool) (path : Name) (identity : Identity) (old new : Reached
 hears_if true path identity old new before after adds still = hears_adds path None _ old new before after adds still
 hears_if false path identity old new before after same still = hears_none old.found new.found before after (ap (λ (r : Reached). r.found) same) still
 
-hears_linked : (kind : Kind) (path : Name) (old new : Reached) (before after : Faults) → TakesLinked kind path old new → after ≡ before → Hears old.found new.found before after
-hears_linked Folder path old new before after same still = hears_none old.found new.found before after (ap (λ (r : Reached). r.found) same) still
-hears_linked (File identity) path old new before after adds still = hears_adds path None _ old new before after adds still
-hears_linked Link path old new before after same still = hears_none old.found new.found before after (ap (λ (r : Reached). r.found) same) still
-hears_linked Other path old new before after same still = hears_none old.found new.found before after (ap (λ (r : Reached). r.found) same) still
+hears_special : (specials : Bool) (path : Name) (old new : Reached) (before after : Faults) → TakesSpecial specials path old new → after ≡ before → Hears old.found new.found before after
+hears_special true path old new before after adds still = hears_adds path None None old new before after adds still
+hears_special false path old new before after same still = hears_none old.found new.found before after (ap (λ (r : Reached). r.found) same) still
+
+hears_linked : (specials : Bool) (kind : Kind) (path : Name) (old new : Reached) (before after : Faults) → TakesLinked specials kind path old new → after ≡ before → Hears old.found new.found before after
+hears_linked specials Folder path old new before after same still = hears_none old.found new.found before after (ap (λ (r : Reached). r.found) same) still
+hears_linked specials (File identity) path old new before after adds still = hears_adds path None _ old new before after adds still
+hears_linked specials Link path old new before after same still = hears_none old.found new.found before after (ap (λ (r : Reached). r.found) same) still
+hears_linked specials Other path old new before after takes still = hears_special specials path old new before after takes still
 
 -- ---- names that are given
 
@@ -120,10 +124,15 @@ hears_other files chosen path old new before after other adds still = record {
 
 -- ---- in the code's terms
 
-pub heard_linked : {X E : Type 0} (r : Result X E) (kind : Kind) (path : Name) (old new : Reached) (before after : Faults) → OnOk r (TakesLinked kind path old new) → after ≡ before
+pub heard_special : {X E : Type 0} (r : Result X E) (specials : Bool) (path : Name) (old new : Reached) (before after : Faults) → OnOk r (TakesSpecial specials path old new) → after ≡ before
     → OnOk r (Hears old.found new.found before after)
-heard_linked (Ok x) kind path old new before after takes still = hears_linked kind path old new before after takes still
-heard_linked (Err e) kind path old new before after takes still = tt
+heard_special (Ok x) specials path old new before after takes still = hears_special specials path old new before after takes still
+heard_special (Err e) specials path old new before after takes still = tt
+
+pub heard_linked : {X E : Type 0} (r : Result X E) (specials : Bool) (kind : Kind) (path : Name) (old new : Reached) (before after : Faults) → OnOk r (TakesLinked specials kind path old new) → after ≡ before
+    → OnOk r (Hears old.found new.found before after)
+heard_linked (Ok x) specials kind path old new before after takes still = hears_linked specials kind path old new before after takes still
+heard_linked (Err e) specials kind path old new before after takes still = tt
 
 pub heard_if : {X E : Type 0} (r : Result X E) (taken : Bool) (path : Name) (identity : Identity) (old new : Reached) (before after : Faults) → OnOk r (TakesIf taken path identity old new) → after ≡ before
     → OnOk r (Hears old.found new.found before after)

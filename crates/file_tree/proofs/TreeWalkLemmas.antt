@@ -1,16 +1,16 @@
 -- A walk, step by step.
 use Rattle.std.proofs.Common.{◌≡◌, ◌≢◌, ◌∙◌, ◌<◌, ◌+◌, ◌⊎◌, ◌++◌, ◌∷◌, [], ℕ, suc, Bool, true, false, Bor, Global, List, Vec, Option, Some, None, Result, Ok, Err, OnOk, Contains, ap, append_assoc, append-nil, arith, get_or, inl, inr, length, map, refl, subst, sym, take, true≢false}
-use Rattle.std.specs.Prelude.{IfOk}
+use Rattle.std.specs.Prelude.{◌&&◌, IfOk}
 use Rattle.std.proofs.lemmas.List.{map-append, map_more}
 use Rattle.std.proofs.lemmas.List.Elements.{Contains-append_left, Contains-push, Contains-push_cases}
-use Rattle.file_tree.specs.Below.{HasFile, HasFolder, IsBelow, IsEntry, IsFile, IsGiven, IsNamed, IsOther, Leads, Says, is_met, listed}
+use Rattle.file_tree.specs.Below.{HasFile, HasFolder, IsBelow, IsEntry, IsFileFor, IsNamed, IsOther, IsSpecial, Leads, Says, is_met, listed}
 use Rattle.file_tree.specs.Choices.{Chosen, is_excluded, is_wanted}
 use Rattle.file_tree.specs.Files.{Files, Name, identity_of, is_link}
 use Rattle.hcl_source.specs.Devices.{Tells}
 use Rattle.file_tree.specs.Finds.{Accounts, Finds, IsEntryBy, IsFolderOf, IsOf, IsOfBy}
 use Rattle.file_tree.specs.Names.{is_taken}
 use Rattle.file_tree.specs.Paths.{inside, place, reported, tidied, top, within}
-use Rattle.file_tree.specs.Inner.Walking.{Adds, Covers, Enters, IsFault, Reached, TakesAll, TakesAsked, TakesEntry, TakesFolder, TakesGiven, TakesIf, TakesKind, TakesKindGiven, TakesLink, TakesLinked, TakesNamed, TakesNamedFile, TakesWanted, Walked, file_by}
+use Rattle.file_tree.specs.Inner.Walking.{Adds, Covers, Enters, IsFault, Reached, TakesAll, TakesAsked, TakesEntry, TakesFolder, TakesGiven, TakesIf, TakesKind, TakesKindGiven, TakesLink, TakesLinked, TakesNamed, TakesNamedFile, TakesSpecial, TakesWanted, Walked, file_by}
 use Rattle.file_tree.specs.Ordered.{HasName, IsFound, Orders}
 use Rattle.file_tree.specs.declared.fault.TreeFault.{TreeFault}
 use Rattle.file_tree.specs.declared.fault.TreeFault.TheVariants.{OtherKind}
@@ -47,27 +47,31 @@ grows_if : (v : Bool) (path : Name) (identity : Identity) (old new : Reached) �
 grows_if true path identity old new h = grows_adds path None _ old new h
 grows_if false path identity old new h = grows_same old new h
 
-grows_linked : (kind : Kind) (path : Name) (old new : Reached) → TakesLinked kind path old new → Grows old new
-grows_linked Folder path old new h = grows_same old new h
-grows_linked (File identity) path old new h = grows_adds path None _ old new h
-grows_linked Link path old new h = grows_same old new h
-grows_linked Other path old new h = grows_same old new h
+grows_special : (v : Bool) (path : Name) (old new : Reached) → TakesSpecial v path old new → Grows old new
+grows_special true path old new h = grows_adds path None None old new h
+grows_special false path old new h = grows_same old new h
 
-grows_link : (v : Bool) (files : Files) (path : Name) (old new : Reached) → TakesLink v files path old new → Grows old new
-grows_link true files path old new (inl h) = grows_adds path (Some h.0) _ old new h.1
-grows_link true files path old new (inr h) = grows_linked h.0 path old new h.2
-grows_link false files path old new h = grows_same old new h
+grows_linked : (specials : Bool) (kind : Kind) (path : Name) (old new : Reached) → TakesLinked specials kind path old new → Grows old new
+grows_linked specials Folder path old new h = grows_same old new h
+grows_linked specials (File identity) path old new h = grows_adds path None _ old new h
+grows_linked specials Link path old new h = grows_same old new h
+grows_linked specials Other path old new h = grows_special specials path old new h
 
-grows_kind : (kind : Kind) (files : Files) (path name : Name) (old new : Reached) → TakesKind kind files path name old new → Grows old new
-grows_kind Folder files path name old new h = grows_enters _ old new h
-grows_kind (File identity) files path name old new h = grows_if (is_taken name) path identity old new h
-grows_kind Link files path name old new h = grows_link (is_taken name) files path old new h
-grows_kind Other files path name old new h = grows_same old new h
+grows_link : (v specials : Bool) (files : Files) (path : Name) (old new : Reached) → TakesLink v specials files path old new → Grows old new
+grows_link true specials files path old new (inl h) = grows_adds path (Some h.0) _ old new h.1
+grows_link true specials files path old new (inr h) = grows_linked specials h.0 path old new h.2
+grows_link false specials files path old new h = grows_same old new h
+
+grows_kind : (specials : Bool) (kind : Kind) (files : Files) (path name : Name) (old new : Reached) → TakesKind specials kind files path name old new → Grows old new
+grows_kind specials Folder files path name old new h = grows_enters _ old new h
+grows_kind specials (File identity) files path name old new h = grows_if (is_taken name) path identity old new h
+grows_kind specials Link files path name old new h = grows_link (is_taken name) specials files path old new h
+grows_kind specials Other files path name old new h = grows_special (specials && is_taken name) path old new h
 
 grows_entry : (files : Files) (chosen : Chosen) (folder name : Name) (old new : Reached) → TakesEntry files chosen folder name old new → Grows old new
 grows_entry files chosen folder name old new (inl h) = grows_same old new h.1
 grows_entry files chosen folder name old new (inr (met, inl h)) = grows_adds (folder ++ name) (Some h.0) _ old new h.1
-grows_entry files chosen folder name old new (inr (met, inr h)) = grows_kind h.0 files (folder ++ name) name old new h.2
+grows_entry files chosen folder name old new (inr (met, inr h)) = grows_kind chosen.specials h.0 files (folder ++ name) name old new h.2
 
 grows_all : (files : Files) (chosen : Chosen) (folder : Name) (names : List Name) (old new : Reached) → TakesAll files chosen folder names old new → Grows old new
 grows_all files chosen folder [] old new h = grows_same old new h
@@ -154,27 +158,47 @@ met_folder : (files : Files) (chosen : Chosen) (folder name : Name) (old new : R
 met_folder files chosen folder name old new (inl h) met is = absurd (true≢false (sym met ∙ h.0))
 met_folder files chosen folder name old new (inr (_, inl h)) met is = inr (fault_added (folder ++ name) h.0 old new h.1)
 met_folder files chosen folder name old new (inr (_, inr h)) met is =
-    inl (folder_added (inside folder name) old new (subst (λ kind. TakesKind kind files (folder ++ name) name old new) (sym (told_some (files.entry (folder ++ name)) Folder h.0 is h.1)) h.2))
+    inl (folder_added (inside folder name) old new (subst (λ kind. TakesKind chosen.specials kind files (folder ++ name) name old new) (sym (told_some (files.entry (folder ++ name)) Folder h.0 is h.1)) h.2))
 
 taken_if : (v : Bool) (path : Name) (identity : Identity) (old new : Reached) → v ≡ true → TakesIf v path identity old new → IsFound new.found path
 taken_if v path identity old new e h = found_added path _ old new (subst (λ w. TakesIf w path identity old new) e h)
 
-link_met : (files : Files) (v : Bool) (path : Name) (identity : Identity) (old new : Reached) → v ≡ true → files.kind path ≡ Some (File identity) → TakesLink v files path old new → IsFault new.found path ⊎ IsFound new.found path
-link_met files true path identity old new e is (inl h) = inl (fault_added path h.0 old new h.1)
-link_met files true path identity old new e is (inr h) =
-    inr (found_added path _ old new (subst (λ kind. TakesLinked kind path old new) (sym (told_some (files.kind path) (File identity) h.0 is h.1)) h.2))
-link_met files false path identity old new e is h = absurd (true≢false (sym e))
+link_met : (files : Files) (v specials : Bool) (path : Name) (identity : Identity) (old new : Reached) → v ≡ true → files.kind path ≡ Some (File identity) → TakesLink v specials files path old new → IsFault new.found path ⊎ IsFound new.found path
+link_met files true specials path identity old new e is (inl h) = inl (fault_added path h.0 old new h.1)
+link_met files true specials path identity old new e is (inr h) =
+    inr (found_added path _ old new (subst (λ kind. TakesLinked specials kind path old new) (sym (told_some (files.kind path) (File identity) h.0 is h.1)) h.2))
+link_met files false specials path identity old new e is h = absurd (true≢false (sym e))
 
-met_file : (files : Files) (chosen : Chosen) (folder name : Name) (old new : Reached) → TakesEntry files chosen folder name old new → is_met chosen folder name ≡ true → IsFile true files (folder ++ name) → is_taken name ≡ true
+special_met : (v : Bool) (path : Name) (old new : Reached) → v ≡ true → TakesSpecial v path old new → IsFound new.found path
+special_met true path old new e h = found_added path None old new h
+special_met false path old new e h = absurd (true≢false (sym e))
+
+linked_met : (files : Files) (v specials : Bool) (path : Name) (old new : Reached) → v ≡ true → specials ≡ true → files.kind path ≡ Some Other → TakesLink v specials files path old new → IsFault new.found path ⊎ IsFound new.found path
+linked_met files true specials path old new e all is (inl h) = inl (fault_added path h.0 old new h.1)
+linked_met files true specials path old new e all is (inr h) =
+    inr (special_met specials path old new all (subst (λ kind. TakesLinked specials kind path old new) (sym (told_some (files.kind path) Other h.0 is h.1)) h.2))
+linked_met files false specials path old new e all is h = absurd (true≢false (sym e))
+
+both : (a b : Bool) → a ≡ true → b ≡ true → (a && b) ≡ true
+both true b e f = f
+both false b e f = e
+
+met_file : (files : Files) (chosen : Chosen) (folder name : Name) (old new : Reached) → TakesEntry files chosen folder name old new → is_met chosen folder name ≡ true → IsFileFor true files chosen (folder ++ name) → is_taken name ≡ true
     → IsFault new.found (folder ++ name) ⊎ IsFound new.found (folder ++ name)
 met_file files chosen folder name old new (inl h) met is taken = absurd (true≢false (sym met ∙ h.0))
 met_file files chosen folder name old new (inr (_, inl h)) met is taken = inl (fault_added (folder ++ name) h.0 old new h.1)
-met_file files chosen folder name old new (inr (_, inr h)) met (inl (identity, is)) taken =
+met_file files chosen folder name old new (inr (_, inr h)) met (inl (inl (identity, is))) taken =
     inr (taken_if (is_taken name) (folder ++ name) identity old new taken
-    (subst (λ kind. TakesKind kind files (folder ++ name) name old new) (sym (told_some (files.entry (folder ++ name)) (File identity) h.0 is h.1)) h.2))
-met_file files chosen folder name old new (inr (_, inr h)) met (inr (is, leads)) taken =
-    link_met files (is_taken name) (folder ++ name) leads.0 old new taken leads.1
-    (subst (λ kind. TakesKind kind files (folder ++ name) name old new) (sym (told_some (files.entry (folder ++ name)) Link h.0 is h.1)) h.2)
+    (subst (λ kind. TakesKind chosen.specials kind files (folder ++ name) name old new) (sym (told_some (files.entry (folder ++ name)) (File identity) h.0 is h.1)) h.2))
+met_file files chosen folder name old new (inr (_, inr h)) met (inr (all, inl is)) taken =
+    inr (special_met (chosen.specials && is_taken name) (folder ++ name) old new (both chosen.specials (is_taken name) all taken)
+    (subst (λ kind. TakesKind chosen.specials kind files (folder ++ name) name old new) (sym (told_some (files.entry (folder ++ name)) Other h.0 is h.1)) h.2))
+met_file files chosen folder name old new (inr (_, inr h)) met (inr (all, inr (is, leads))) taken =
+    linked_met files (is_taken name) chosen.specials (folder ++ name) old new taken all leads
+    (subst (λ kind. TakesKind chosen.specials kind files (folder ++ name) name old new) (sym (told_some (files.entry (folder ++ name)) Link h.0 is h.1)) h.2)
+met_file files chosen folder name old new (inr (_, inr h)) met (inl (inr (is, leads))) taken =
+    link_met files (is_taken name) chosen.specials (folder ++ name) leads.0 old new taken leads.1
+    (subst (λ kind. TakesKind chosen.specials kind files (folder ++ name) name old new) (sym (told_some (files.entry (folder ++ name)) Link h.0 is h.1)) h.2)
 
 -- ---- nor is one of several
 
@@ -197,7 +221,7 @@ all_folder files chosen folder (first ∷ names) name old new h c met is =
     here (inr d) later = later d
 
 all_file : (files : Files) (chosen : Chosen) (folder : Name) (names : List Name) (name : Name) (old new : Reached) → TakesAll files chosen folder names old new → Contains names name → is_met chosen folder name ≡ true
-    → IsFile true files (folder ++ name) → is_taken name ≡ true
+    → IsFileFor true files chosen (folder ++ name) → is_taken name ≡ true
     → IsFault new.found (folder ++ name) ⊎ IsFound new.found (folder ++ name)
 all_file files chosen folder [] name old new h c met is taken = absurd (none_in name c)
 all_file files chosen folder (first ∷ names) name old new h c met is taken =
@@ -301,10 +325,14 @@ leads_more : (sure : Bool) (files : Files) (chosen : Chosen) (folder : Name) (pa
 leads_more sure files chosen folder [] name leads has = (has, tt)
 leads_more sure files chosen folder (part ∷ parts) name leads has = (leads.0, leads_more sure files chosen (inside folder part) parts name leads.1 has)
 
+taken_both : (a b : Bool) → true ≡ b → a ≡ (a && b)
+taken_both true b e = e
+taken_both false b e = refl
+
 -- an entry of a folder that is given, or of one below
 module _ (files : Files) (chosen : Chosen) (paths : List Name) (path : Name) (c : Contains paths path) (allowed : is_excluded chosen (tidied path) ≡ false) (parts : List Name) (is : Says false (files.kind path) Folder) (leads : Leads false files chosen (top path) parts) where
   sound_found : (name : Name) (file : Option FoundFile) (old new : Reached) → true ≡ is_taken name → IsEntry false files chosen (within (top path) parts) name
-      → IsFile false files (within (top path) parts ++ name) → IsEntryBy files (within (top path) parts ++ name) file
+      → IsFileFor false files chosen (within (top path) parts ++ name) → IsEntryBy files chosen (within (top path) parts ++ name) file
       → Adds (within (top path) parts ++ name) None file old new → Sound files chosen paths old → Sound files chosen paths new
   sound_found name file old new e entry kind known h sound =
       sound_adds files chosen paths path (within (top path) parts ++ name) None file old new h c (inr (parts, name, (is, leads, (entry, kind, sym e), allowed), refl, known)) sound
@@ -312,17 +340,23 @@ module _ (files : Files) (chosen : Chosen) (paths : List Name) (path : Name) (c 
   sound_if : (name : Name) (v : Bool) (identity : Identity) (old new : Reached) → v ≡ is_taken name → IsEntry false files chosen (within (top path) parts) name
       → Says false (files.entry (within (top path) parts ++ name)) (File identity)
       → TakesIf v (within (top path) parts ++ name) identity old new → Sound files chosen paths old → Sound files chosen paths new
-  sound_if name true identity old new e entry tells h sound = sound_found name (Some (file_by false identity)) old new e entry (inl (identity, tells)) tells h sound
+  sound_if name true identity old new e entry tells h sound = sound_found name (Some (file_by false identity)) old new e entry (inl (inl (identity, tells))) tells h sound
   sound_if name false identity old new e entry tells h sound = sound_same files chosen paths old new h sound
+
+  sound_special : (name : Name) (v specials : Bool) (old new : Reached) → specials ≡ chosen.specials → v ≡ (specials && is_taken name) → IsEntry false files chosen (within (top path) parts) name
+      → IsSpecial false files (within (top path) parts ++ name) → TakesSpecial v (within (top path) parts ++ name) old new → Sound files chosen paths old → Sound files chosen paths new
+  sound_special name true true old new all e entry is h sound = sound_found name None old new e entry (inr (sym all, is)) (sym all, is) h sound
+  sound_special name true false old new all e entry is h sound = absurd (true≢false e)
+  sound_special name false specials old new all e entry is h sound = sound_same files chosen paths old new h sound
 
   -- a link is told of by its kind, and where it leads by that of what it leads to
   sound_linked : (kind : Kind) (name : Name) (old new : Reached) → true ≡ is_taken name → IsEntry false files chosen (within (top path) parts) name
       → Says false (files.entry (within (top path) parts ++ name)) Link → Says false (files.kind (within (top path) parts ++ name)) kind
-      → TakesLinked kind (within (top path) parts ++ name) old new → Sound files chosen paths old → Sound files chosen paths new
+      → TakesLinked chosen.specials kind (within (top path) parts ++ name) old new → Sound files chosen paths old → Sound files chosen paths new
   sound_linked Folder name old new e entry link leads h sound = sound_same files chosen paths old new h sound
-  sound_linked (File identity) name old new e entry link leads h sound = sound_found name (Some (file_by true identity)) old new e entry (inr (link, (identity, leads))) (link, leads) h sound
+  sound_linked (File identity) name old new e entry link leads h sound = sound_found name (Some (file_by true identity)) old new e entry (inl (inr (link, (identity, leads)))) (link, leads) h sound
   sound_linked Link name old new e entry link leads h sound = sound_same files chosen paths old new h sound
-  sound_linked Other name old new e entry link leads h sound = sound_same files chosen paths old new h sound
+  sound_linked Other name old new e entry link leads h sound = sound_special name chosen.specials chosen.specials old new refl (taken_both chosen.specials (is_taken name) e) entry (inr (link, leads)) h sound
 
   sound_report : (name : Name) (fault : TreeFault) (old new : Reached) → IsEntry false files chosen (within (top path) parts) name → Adds (within (top path) parts ++ name) (Some fault) None old new
       → Sound files chosen paths old → Sound files chosen paths new
@@ -331,19 +365,19 @@ module _ (files : Files) (chosen : Chosen) (paths : List Name) (path : Name) (c 
 
   sound_link : (name : Name) (v : Bool) (old new : Reached) → v ≡ is_taken name → IsEntry false files chosen (within (top path) parts) name
       → Says false (files.entry (within (top path) parts ++ name)) Link
-      → TakesLink v files (within (top path) parts ++ name) old new → Sound files chosen paths old → Sound files chosen paths new
+      → TakesLink v chosen.specials files (within (top path) parts ++ name) old new → Sound files chosen paths old → Sound files chosen paths new
   sound_link name true old new e entry tells (inl h) sound = sound_report name h.0 old new entry h.1 sound
   sound_link name true old new e entry tells (inr h) sound = sound_linked h.0 name old new e entry tells h.1 h.2 sound
   sound_link name false old new e entry tells h sound = sound_same files chosen paths old new h sound
 
   sound_kind : (kind : Kind) (name : Name) (old new : Reached) → IsEntry false files chosen (within (top path) parts) name → Tells (files.entry (within (top path) parts ++ name)) kind
-      → TakesKind kind files (within (top path) parts ++ name) name old new → Sound files chosen paths old → Sound files chosen paths new
+      → TakesKind chosen.specials kind files (within (top path) parts ++ name) name old new → Sound files chosen paths old → Sound files chosen paths new
   sound_kind Folder name old new entry tells h sound =
       sound_enters files chosen paths (inside (within (top path) parts) name) old new h
       (path, c, (parts ++ name ∷ [], is, leads_more false files chosen (top path) parts name leads (entry, tells), sym (within_more (top path) parts name), allowed)) sound
   sound_kind (File identity) name old new entry tells h sound = sound_if name (is_taken name) identity old new refl entry tells h sound
   sound_kind Link name old new entry tells h sound = sound_link name (is_taken name) old new refl entry tells h sound
-  sound_kind Other name old new entry tells h sound = sound_same files chosen paths old new h sound
+  sound_kind Other name old new entry tells h sound = sound_special name (chosen.specials && is_taken name) chosen.specials old new refl refl entry (inl tells) h sound
 
   sound_entry : (listing : List ℕ) (name : Name) (old new : Reached) → Tells (files.listing (place (within (top path) parts))) listing → Contains (listed listing) name
       → TakesEntry files chosen (within (top path) parts) name old new → Sound files chosen paths old → Sound files chosen paths new

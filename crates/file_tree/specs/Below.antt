@@ -8,7 +8,7 @@ use Rattle.file_tree.specs.Names.{is_passed_over, is_taken}
 use Rattle.file_tree.specs.Paths.{inside, place, tidied, top, within}
 use Rattle.file_tree.specs.declared.kind.Identity.{Identity}
 use Rattle.file_tree.specs.declared.kind.Kind.{Kind}
-use Rattle.file_tree.specs.declared.kind.Kind.TheVariants.{File, Folder, Link}
+use Rattle.file_tree.specs.declared.kind.Kind.TheVariants.{File, Folder, Link, Other}
 
 -- the device says that it is this; where it needn't be sure, it may also say nothing
 abbrev pub Says : {X : Type 0} → Bool → Option X → X → Type 0
@@ -48,9 +48,17 @@ abbrev pub IsFile : Bool → Files → Name → Type 0
 IsFile sure files name =
     ((identity : Identity) × Says sure (files.entry name) (File identity)) ⊎ (Says sure (files.entry name) Link × ((identity : Identity) × Says sure (files.kind name) (File identity)))
 
--- a folder has such a file of this name, and it is taken
+-- an entry is a pipe, a socket or a device, or a link that leads to one
+abbrev pub IsSpecial : Bool → Files → Name → Type 0
+IsSpecial sure files name = Says sure (files.entry name) Other ⊎ (Says sure (files.entry name) Link × Says sure (files.kind name) Other)
+
+-- an entry is a file; or one of these, where they are taken
+abbrev pub IsFileFor : Bool → Files → Chosen → Name → Type 0
+IsFileFor sure files chosen name = IsFile sure files name ⊎ ((chosen.specials ≡ true) × IsSpecial sure files name)
+
+-- a folder has such an entry of this name, and the name is taken
 abbrev pub HasFile : Bool → Files → Chosen → Name → Name → Type 0
-HasFile sure files chosen folder name = IsEntry sure files chosen folder name × IsFile sure files (folder ++ name) × (is_taken name ≡ true)
+HasFile sure files chosen folder name = IsEntry sure files chosen folder name × IsFileFor sure files chosen (folder ++ name) × (is_taken name ≡ true)
 
 -- these parts of a name lead from a folder down, each a folder in the one before
 abbrev pub Leads : Bool → Files → Chosen → Name → List Name → Type 0

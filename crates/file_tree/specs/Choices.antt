@@ -1,5 +1,5 @@
--- Which files that are named are taken, and what is passed over since it is excluded. A path is compared as it is shown. Our own choice.
-use Rattle.std.specs.Prelude.{◌-◌, ◌==◌, ◌&&◌, ◌||◌, Bool, false, List, [], codes, length, map, nat_lt, take, if◌then◌else◌}
+-- Which files are taken, and what is passed over since it is excluded. A path is compared as it is shown. Our own choice.
+use Rattle.std.specs.Prelude.{◌-◌, ◌==◌, ◌&&◌, ◌||◌, Bool, true, false, List, [], codes, length, map, nat_lt, take, if◌then◌else◌}
 use Rattle.std.specs.List.{list_any, slice_split}
 use Rattle.std.specs.Str.{bytes_eq}
 use Rattle.file_tree.specs.Files.{Name}
@@ -7,22 +7,28 @@ use Rattle.file_tree.specs.Names.{begins, ends, is_taken}
 use Rattle.file_tree.specs.Paths.{is_step, top}
 use Rattle.file_tree.specs.declared.choice.Choice.{Choice}
 
--- whether a file that is named is taken whatever it is called; and what is excluded, by names and by paths of folders
+-- whether a file that is named is taken whatever it is called, and whether pipes, sockets and devices are taken that are met; and what
+-- is excluded, by names and by paths of folders
 pub record Chosen : Type 0 where
   pub any_name : Bool
+  pub specials : Bool
   pub names : List Name
   pub folders : List Name
 
 -- WHAT IS CHOSEN by exclusions, each of which is a name or a path
 abbrev pub chosen_by : Bool → List Name → Chosen
-chosen_by any_name excluded = record { any_name = any_name; names = excluded; folders = map top excluded }
+chosen_by any_name excluded = record { any_name = any_name; specials = false; names = excluded; folders = map top excluded }
+
+-- with what is no file
+abbrev pub with_specials : Bool → Chosen → Chosen
+with_specials specials chosen = record chosen { specials = specials }
 
 -- nothing is excluded
 abbrev pub whole : Chosen
-whole = chosen_by false []
+whole = with_specials true (chosen_by false [])
 
 abbrev pub chosen : Choice → Chosen
-chosen choice = chosen_by choice.any_name (map (λ name. name.now) choice.excluded.now)
+chosen choice = with_specials choice.specials (chosen_by choice.any_name (map (λ name. name.now) choice.excluded.now))
 
 -- ---- what is excluded
 

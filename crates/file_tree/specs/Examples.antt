@@ -1,15 +1,15 @@
 -- Names at work, by computation: paths tidied, and what a small tree has.
 use Rattle.std.specs.Prelude.{◌≡◌, ℕ, refl, true, false, List, [], ◌∷◌, ◌++◌, Option, Some, None, codes, if◌then◌else◌}
 use Rattle.std.specs.Str.{bytes_eq}
-use Rattle.std.proofs.Common.{inl, lit<}
+use Rattle.std.proofs.Common.{inl, inr, lit<}
 use Rattle.file_tree.specs.Below.{HasFile, HasFolder, IsBelow, is_met, listed}
-use Rattle.file_tree.specs.Choices.{Chosen, chosen_by, is_excluded, is_wanted}
+use Rattle.file_tree.specs.Choices.{Chosen, chosen_by, is_excluded, is_wanted, whole}
 use Rattle.file_tree.specs.Files.{Files, Name}
 use Rattle.file_tree.specs.Names.{is_taken}
 use Rattle.file_tree.specs.Paths.{place, reported, tidied, top, within}
 use Rattle.file_tree.specs.declared.kind.Identity.{Identity}
 use Rattle.file_tree.specs.declared.kind.Kind.{Kind}
-use Rattle.file_tree.specs.declared.kind.Kind.TheVariants.{File, Folder}
+use Rattle.file_tree.specs.declared.kind.Kind.TheVariants.{File, Folder, Other}
 
 -- ---- paths
 
@@ -73,7 +73,7 @@ backup = refl
 none : is_met all [] [] ≡ false
 none = refl
 
--- ---- a tree: `modules/net/main.tf`, `modules/net/notes.txt` and the folder `modules/.git`
+-- ---- a tree: `modules/net/main.tf`, `modules/net/notes.txt`, the pipe `modules/net/pipe.tf` and the folder `modules/.git`
 
 abbrev numbered : ℕ → Identity
 numbered inode = record { device = 1; inode = inode }
@@ -84,12 +84,13 @@ kind_of name =
     else (if bytes_eq name (codes "modules/net") then Some Folder
     else (if bytes_eq name (codes "modules/.git") then Some Folder
     else (if bytes_eq name (codes "modules/net/main.tf") then Some (File (numbered 7))
-    else (if bytes_eq name (codes "modules/net/notes.txt") then Some (File (numbered 8)) else None))))
+    else (if bytes_eq name (codes "modules/net/notes.txt") then Some (File (numbered 8))
+    else (if bytes_eq name (codes "modules/net/pipe.tf") then Some Other else None)))))
 
 abbrev listing_of : Name → Option (List ℕ)
 listing_of name =
     if bytes_eq name (codes "modules/") then Some (codes ".git" ++ (0 ∷ codes "net" ++ 0 ∷ []))
-    else (if bytes_eq name (codes "modules/net/") then Some (codes "notes.txt" ++ (0 ∷ codes "main.tf" ++ 0 ∷ [])) else None)
+    else (if bytes_eq name (codes "modules/net/") then Some (codes "notes.txt" ++ (0 ∷ codes "main.tf" ++ (0 ∷ codes "pipe.tf" ++ 0 ∷ []))) else None)
 
 abbrev small : Files
 small = record { kind = kind_of; entry = kind_of; listing = listing_of; real = λ name. name; told = λ name. None }
@@ -99,10 +100,14 @@ net : HasFolder true small all (codes "modules/") (codes "net")
 net = ((codes ".git" ++ (0 ∷ codes "net" ++ 0 ∷ []), refl, (1, lit< tt, refl), refl), refl)
 
 main : HasFile true small all (codes "modules/net/") (codes "main.tf")
-main = ((codes "notes.txt" ++ (0 ∷ codes "main.tf" ++ 0 ∷ []), refl, (1, lit< tt, refl), refl), inl (numbered 7, refl), refl)
+main = ((codes "notes.txt" ++ (0 ∷ codes "main.tf" ++ (0 ∷ codes "pipe.tf" ++ 0 ∷ [])), refl, (1, lit< tt, refl), refl), inl (inl (numbered 7, refl)), refl)
 
 below : IsBelow true small all (codes "modules") (codes "net" ∷ []) (codes "main.tf")
 below = (refl, (net, tt), main, refl)
+
+-- and so is the pipe, where such are taken
+pipe : HasFile true small whole (codes "modules/net/") (codes "pipe.tf")
+pipe = ((codes "notes.txt" ++ (0 ∷ codes "main.tf" ++ (0 ∷ codes "pipe.tf" ++ 0 ∷ [])), refl, (2, lit< tt, refl), refl), inr (refl, inl refl), refl)
 
 -- the other isn't, since files of its name aren't taken; nor is anything in the hidden folder
 notes : is_taken (codes "notes.txt") ≡ false

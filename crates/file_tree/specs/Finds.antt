@@ -1,7 +1,7 @@
 -- The answer of a walk: the names that are to be looked at, and those of which it is reported that they can't be.
 use Rattle.std.specs.Prelude.{◌≡◌, ◌⊎◌, Bool, true, false, List, [], ◌∷◌, ◌++◌, Option, Some, None, map}
 use Rattle.std.specs.List.{Contains}
-use Rattle.file_tree.specs.Below.{IsBelow, IsEntry, IsNamed, IsOther, Leads, Says}
+use Rattle.file_tree.specs.Below.{IsBelow, IsEntry, IsNamed, IsOther, IsSpecial, Leads, Says}
 use Rattle.file_tree.specs.Choices.{Chosen, is_excluded}
 use Rattle.file_tree.specs.Files.{Faults, Files, Name, identity_of, is_link, with_faults}
 use Rattle.file_tree.specs.Ordered.{HasName, IsFound, Rises}
@@ -32,15 +32,16 @@ abbrev pub IsEntryIf : Bool → Files → Name → Identity → Type 0
 IsEntryIf true files name identity = Says false (files.entry name) Link × Says false (files.kind name) (File identity)
 IsEntryIf false files name identity = Says false (files.entry name) (File identity)
 
-abbrev pub IsEntryBy : Files → Name → Option FoundFile → Type 0
-IsEntryBy files name (Some file) = IsEntryIf file.is_link files name file.identity
-IsEntryBy files name None = ⊥
+-- what an entry is that is taken: one that is no file has none
+abbrev pub IsEntryBy : Files → Chosen → Name → Option FoundFile → Type 0
+IsEntryBy files chosen name (Some file) = IsEntryIf file.is_link files name file.identity
+IsEntryBy files chosen name None = (chosen.specials ≡ true) × IsSpecial false files name
 
 -- what a path stands for: itself, or a file below
 abbrev pub IsFileOf : Files → Chosen → Name → Name → Option FoundFile → Type 0
 IsFileOf files chosen path name file =
     (IsNamed false files chosen path × (name ≡ tidied path) × IsNamedBy files path file)
-    ⊎ ((parts : List Name) × (last : Name) × IsBelow false files chosen path parts last × (name ≡ within (top path) parts ++ last) × IsEntryBy files name file)
+    ⊎ ((parts : List Name) × (last : Name) × IsBelow false files chosen path parts last × (name ≡ within (top path) parts ++ last) × IsEntryBy files chosen name file)
 
 -- a name that is reported: that of the path, of its folder or of one below, or of an entry there
 abbrev pub IsReportOf : Files → Chosen → Name → Name → Type 0

@@ -4,22 +4,24 @@ use Rattle.std.specs.List.{Contains}
 use Rattle.file_tree.specs.Below.{HasFile, IsEntry}
 use Rattle.file_tree.specs.Choices.{whole}
 use Rattle.file_tree.specs.Files.{Faults, Files, Name}
-use Rattle.file_tree.specs.Finds.{Failure, with_failures}
+use Rattle.file_tree.specs.Finds.{Failure, IsEntryBy, with_failures}
 use Rattle.file_tree.specs.Ordered.{HasName, Rises}
 use Rattle.file_tree.specs.Paths.{place}
 use Rattle.file_tree.specs.declared.fault.TreeFault.{TreeFault}
 use Rattle.file_tree.specs.declared.walk.Found.{Found}
+use Rattle.file_tree.specs.declared.walk.FoundFile.{FoundFile}
 
--- a file of the folder; or a name that is reported: that of the folder, or of an entry in it
-abbrev pub IsInBy : Files → Name → Name → Option TreeFault → Type 0
-IsInBy files folder name None = (last : Name) × HasFile false files whole folder last × (name ≡ folder ++ last)
-IsInBy files folder name (Some fault) = (name ≡ place folder) ⊎ ((last : Name) × IsEntry false files whole folder last × (name ≡ folder ++ last))
+-- a file of the folder, or what stands there under the name of one; or a name that is reported: that of the folder, or of an entry
+-- in it
+abbrev pub IsInBy : Files → Name → Name → Option TreeFault → Option FoundFile → Type 0
+IsInBy files folder name None file = (last : Name) × HasFile false files whole folder last × (name ≡ folder ++ last) × IsEntryBy files whole name file
+IsInBy files folder name (Some fault) file = (name ≡ place folder) ⊎ ((last : Name) × IsEntry false files whole folder last × (name ≡ folder ++ last))
 
 -- THE FILES OF A FOLDER, by what the device tells: in the order of their names, each once, nothing else, and none passed over
 -- of which nothing is reported
 pub record FindsIn (files : Files) (folder : Name) (found : List Found) : Type 0 where
   pub rises : Rises found
-  pub real : (f : Found) → Contains found f → IsInBy files folder f.name.items f.fault
+  pub real : (f : Found) → Contains found f → IsInBy files folder f.name.items f.fault f.file
   pub all : (last : Name) → HasFile true files whole folder last → HasName found (place folder) ⊎ HasName found (folder ++ last)
 
 -- EACH REPORT IS REAL: where the device tells the faults of its calls, each name that is reported has that of a call of its

@@ -11,22 +11,25 @@ use crate::names::is_taken;
 use crate::path::{is_step, top};
 use std::alloc::{AllocError, Global};
 
-/// Which files that are named are taken, and what is passed over.
+/// Which files are taken, and what is passed over.
 #[derive(Clone, Copy, Debug)]
 pub struct Choice<'a> {
     /// A file that is named is taken whatever it is called.
     pub any_name: bool,
+    /// Pipes, sockets and devices are taken that are met in a folder under the name of a file that is taken, and links to them.
+    pub specials: bool,
     /// Names of files and folders, and their paths, that are passed over with all that is below them.
     pub excluded: &'a [&'a [u8]],
 }
 
 impl<'a> Choice<'a> {
-    /// Nothing is excluded.
+    /// Nothing is excluded, and pipes, sockets and devices are taken.
     pub fn whole() -> Choice<'a>
         ensures { chosen result ≡ whole }
     {
         Choice {
             any_name: false,
+            specials: true,
             excluded: &[],
         }
     }
@@ -36,6 +39,7 @@ impl<'a> Choice<'a> {
 #[derive(Drop)]
 pub(crate) struct Chooser<'a> {
     any_name: bool,
+    specials: bool,
     names: &'a [&'a [u8]],
     folders: Vec<Vec<u8>>,
 }
@@ -128,6 +132,7 @@ impl<'a> Chooser<'a> {
         let folders = folders_of(alloc, choice.excluded)?;
         Ok(Chooser {
             any_name: choice.any_name,
+            specials: choice.specials,
             names: choice.excluded,
             folders,
         })
@@ -141,6 +146,13 @@ impl<'a> Chooser<'a> {
             any_part(self.names, path),
             any_at(self.folders.as_slice(), path),
         )
+    }
+
+    /// Whether what is no file is taken.
+    pub(crate) fn takes_specials(&self) -> bool
+        ensures { result ≡ (told self.now).specials }
+    {
+        self.specials
     }
 
     /// Whether a file is taken that is named so.

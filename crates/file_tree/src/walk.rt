@@ -6,7 +6,7 @@ ghost use Rattle.file_tree.specs.Files.{Name, Tells};
 ghost use Rattle.file_tree.specs.Finds.{AreReal, Finds};
 ghost use Rattle.file_tree.specs.FolderFiles.{AreHeard, FindsIn};
 ghost use Rattle.file_tree.specs.Inner.Chosen.{told};
-ghost use Rattle.file_tree.specs.Inner.Walking.{Adds, Enters, Hears, HearsGiven, TakesAll, TakesAsked, TakesEntry, TakesFolder, TakesGiven, TakesIf, TakesKind, TakesKindGiven, TakesLink, TakesLinked, TakesMet, TakesNamedFile, TakesWanted, Walked, reached};
+ghost use Rattle.file_tree.specs.Inner.Walking.{Adds, Enters, Hears, HearsGiven, TakesAll, TakesAsked, TakesEntry, TakesFolder, TakesGiven, TakesIf, TakesKind, TakesKindGiven, TakesLink, TakesLinked, TakesMet, TakesNamedFile, TakesSpecial, TakesWanted, Walked, reached};
 ghost use Rattle.file_tree.specs.Ordered.{Orders};
 ghost use Rattle.file_tree.specs.Names.{is_passed_over, is_taken};
 ghost use Rattle.file_tree.specs.Paths.{tidied};
@@ -32,7 +32,7 @@ pub struct FoundFile {
 pub struct Found {
     pub name: Vec<u8>,
     pub fault: Option<TreeFault>,
-    /// The file that the name leads to, if it is one.
+    /// The file that the name leads to, if it is one: none for a pipe, a socket or a device.
     pub file: Option<FoundFile>,
 }
 
@@ -95,9 +95,21 @@ impl Walk {
         Ok(())
     }
 
-    /// Takes a link that leads to this, if that is a file.
-    fn take_linked(&mut self, kind: Kind, path: Vec<u8>) -> Result<(), AllocError>
-        ensures { OnOk result (TakesLinked kind path.items (reached self.old) (reached self.new)) }
+    /// Takes what is no file, if that is taken.
+    fn take_special(&mut self, is_taken: bool, path: Vec<u8>) -> Result<(), AllocError>
+        ensures { OnOk result (TakesSpecial is_taken path.items
+            (reached self.old) (reached self.new)) }
+    {
+        if is_taken {
+            return self.add(path, None, None);
+        }
+        Ok(())
+    }
+
+    /// Takes a link that leads to this, if that is a file, or no file and taken.
+    fn take_linked(&mut self, specials: bool, kind: Kind, path: Vec<u8>) -> Result<(), AllocError>
+        ensures { OnOk result (TakesLinked specials kind path.items
+            (reached self.old) (reached self.new)) }
     {
         match kind {
             Kind::File(identity) => {
@@ -107,14 +119,16 @@ impl Walk {
                 };
                 self.add(path, None, Some(file))
             }
-            _ => Ok(()),
+            Kind::Other => self.take_special(specials, path),
+            Kind::Folder | Kind::Link => Ok(()),
         }
     }
 
-    /// Takes a link, if files of this kind of name are taken. One that leads to no file is passed over.
+    /// Takes a link, if files of this kind of name are taken. One that leads to a folder is passed over.
     #[tactic(auto, using(crate::proofs::HearLemmas::hears_none, crate::proofs::HearLemmas::heard_linked, crate::proofs::HearLemmas::heard_fault))]
     fn take_link<T: Tree>(
         &mut self,
+        specials: bool,
         is_taken: bool,
         path: Vec<u8>,
         tree: &mut T,
@@ -122,7 +136,7 @@ impl Walk {
         // Nothing is changed.
         ensures files { T.files tree.new ≡ T.files tree.old }
         ensures asked { T.asked tree.new ≡ T.asked tree.old }
-        ensures takes { OnOk result (TakesLink is_taken (T.files tree.old) path.items
+        ensures takes { OnOk result (TakesLink is_taken specials (T.files tree.old) path.items
             (reached self.old) (reached self.new)) }
         ensures hears { OnOk result (Hears (reached self.old).found (reached self.new).found
             (T.faults tree.old) (T.faults tree.new)) }
@@ -131,16 +145,17 @@ impl Walk {
             return Ok(());
         }
         match tree.kind(path.as_slice()) {
-            Ok(kind) => self.take_linked(kind, path),
+            Ok(kind) => self.take_linked(specials, kind, path),
             Err(fault) => self.add(path, Some(fault), None),
         }
     }
 
     /// Takes what stands in a folder under a name.
-    #[tactic(auto, using(crate::proofs::HearLemmas::hears_none, crate::proofs::HearLemmas::heard_if, crate::proofs::HearLemmas::heard_enters))]
+    #[tactic(auto, using(crate::proofs::HearLemmas::hears_none, crate::proofs::HearLemmas::heard_if, crate::proofs::HearLemmas::heard_special, crate::proofs::HearLemmas::heard_enters))]
     fn take_kind<T: Tree>(
         &mut self,
         alloc: Global,
+        specials: bool,
         kind: Kind,
         name: &[u8],
         path: Vec<u8>,
@@ -149,7 +164,7 @@ impl Walk {
         // Nothing is changed.
         ensures files { T.files tree.new ≡ T.files tree.old }
         ensures asked { T.asked tree.new ≡ T.asked tree.old }
-        ensures takes { OnOk result (TakesKind kind (T.files tree.old) path.items name.now
+        ensures takes { OnOk result (TakesKind specials kind (T.files tree.old) path.items name.now
             (reached self.old) (reached self.new)) }
         ensures hears { OnOk result (Hears (reached self.old).found (reached self.new).found
             (T.faults tree.old) (T.faults tree.new)) }
@@ -160,8 +175,8 @@ impl Walk {
                 self.add_folder(folder)
             }
             Kind::File(identity) => self.take_file(is_taken(name), path, identity),
-            Kind::Link => self.take_link(is_taken(name), path, tree),
-            Kind::Other => Ok(()),
+            Kind::Link => self.take_link(specials, is_taken(name), path, tree),
+            Kind::Other => self.take_special(specials && is_taken(name), path),
         }
     }
 
@@ -170,6 +185,7 @@ impl Walk {
     fn take_met<T: Tree>(
         &mut self,
         alloc: Global,
+        specials: bool,
         name: &[u8],
         path: Vec<u8>,
         tree: &mut T,
@@ -177,13 +193,13 @@ impl Walk {
         // Nothing is changed.
         ensures files { T.files tree.new ≡ T.files tree.old }
         ensures asked { T.asked tree.new ≡ T.asked tree.old }
-        ensures takes { OnOk result (TakesMet (T.files tree.old) path.items name.now
+        ensures takes { OnOk result (TakesMet specials (T.files tree.old) path.items name.now
             (reached self.old) (reached self.new)) }
         ensures hears { OnOk result (Hears (reached self.old).found (reached self.new).found
             (T.faults tree.old) (T.faults tree.new)) }
     {
         match tree.entry_kind(path.as_slice()) {
-            Ok(kind) => self.take_kind(alloc, kind, name, path, tree),
+            Ok(kind) => self.take_kind(alloc, specials, kind, name, path, tree),
             Err(fault) => self.add(path, Some(fault), None),
         }
     }
@@ -213,7 +229,7 @@ impl Walk {
         if chooser.is_excluded(path.as_slice()) {
             return Ok(());
         }
-        self.take_met(alloc, name, path, tree)
+        self.take_met(alloc, chooser.takes_specials(), name, path, tree)
     }
 
     /// Looks at what stands in a folder under these names.
@@ -498,8 +514,9 @@ pub fn find<T: Tree>(
     Ok(in_order(walk.found))
 }
 
-/// The files of a folder that are taken, without those in folders below it, and the names in it that can't be looked at: in the
-/// order of their names, each once. The folder's name has a `/` at its end, or is empty for the current one.
+/// The files of a folder that are taken, without those in folders below it, what stands there under the name of one and is no
+/// file, and the names in it that can't be looked at: in the order of their names, each once. The folder's name has a `/` at its
+/// end, or is empty for the current one.
 pub fn find_in<T: Tree>(
     alloc: Global,
     folder: &[u8],

@@ -7,7 +7,7 @@ use Rattle.file_tree.specs.Files.{Faults, Files, Name}
 use Rattle.file_tree.specs.Finds.{AreReal, Finds}
 use Rattle.file_tree.specs.Ordered.{Orders}
 use Rattle.file_tree.specs.declared.walk.Found.{Found}
-use Rattle.module_find.specs.Modules.{AreFolders, AreModules, fault_left}
+use Rattle.module_find.specs.Modules.{AreFolders, AreModules, lost_of}
 use Rattle.module_find.specs.declared.module.Module.{Module}
 use Rattle.tree_words.specs.Shards.{picked_of}
 use Rattle.tree_words.specs.declared.shard.Shard.{Shard}
@@ -20,19 +20,19 @@ use Rattle.lint_command.specs.Asked.{job_of}
 use Rattle.lint_command.specs.Ends.{Collects, LintsOr, RunsThen, Then, any_file, fault_status, last_words, summary}
 use Rattle.lint_command.specs.declared.options.Job.{Job}
 
-pub collects : (files later : Files) (choice : Chosen) (shard : Option Shard) (paths : List Name) (was walked is : Faults) (found folders picked left kept beside all : List Found) (modules : List Module) → later ≡ files → choice ≡ any_file → Finds files choice paths found
-    → AreReal files choice paths was walked found → AreFolders found folders → picked ≡ picked_of shard folders → AreModules later picked modules beside walked is → left ≡ flat_map fault_left found → kept ≡ picked_of shard left → Orders (kept ++ beside) all
+pub collects : (files later : Files) (choice : Chosen) (shard : Option Shard) (paths : List Name) (was walked is : Faults) (found folders picked left kept told all : List Found) (modules : List Module) → later ≡ files → choice ≡ any_file → Finds files choice paths found
+    → AreReal files choice paths was walked found → AreFolders found folders → picked ≡ picked_of shard folders → AreModules later picked modules told walked is → left ≡ flat_map lost_of found → kept ≡ picked_of shard left → Orders (kept ++ told) all
     → Collects files shard paths was is modules all
-collects files later choice shard paths was walked is found folders picked left kept beside all modules same any finds real stand pick are of' keep together = record {
+collects files later choice shard paths was walked is found folders picked left kept told all modules same any finds real stand pick are of' keep together = record {
   found = found;
   walked = walked;
   finds = subst (λ c. Finds files c paths found) any finds;
   real = subst (λ c. AreReal files c paths was walked found) any real;
   folders = folders;
   stand = stand;
-  beside = beside;
-  are = subst (λ l. AreModules files l modules beside walked is) pick (subst (λ f. AreModules f picked modules beside walked is) same are);
-  left = subst (λ l. Orders (l ++ beside) all) (keep ∙ ap (picked_of shard) of') together;
+  told = told;
+  are = subst (λ l. AreModules files l modules told walked is) pick (subst (λ f. AreModules f picked modules told walked is) same are);
+  all = subst (λ l. Orders (l ++ told) all) (keep ∙ ap (picked_of shard) of') together;
 }
 
 -- ---- the end of a run

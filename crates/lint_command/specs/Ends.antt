@@ -2,12 +2,12 @@
 use Rattle.std.specs.Prelude.{◌≡◌, ◌⊎◌, ◌||◌, ℕ, Bool, true, false, List, [], ◌∷◌, ◌++◌, Option, Result, Ok, Err, codes, flat_map, if◌then◌else◌}
 use Rattle.clap.specs.Words.{Text}
 use Rattle.command_line.specs.Rows.{End, Row, Shows, TookBy, Writer, fails_with, message_row, out_of_memory, output_row, write_failed}
-use Rattle.file_tree.specs.Choices.{Chosen, chosen_by}
+use Rattle.file_tree.specs.Choices.{Chosen, chosen_by, with_specials}
 use Rattle.file_tree.specs.Files.{Faults, Files, Name, Tells}
 use Rattle.file_tree.specs.Finds.{AreReal, Finds}
 use Rattle.file_tree.specs.Ordered.{Orders}
 use Rattle.file_tree.specs.declared.walk.Found.{Found}
-use Rattle.module_find.specs.Modules.{AreFolders, AreModules, fault_left}
+use Rattle.module_find.specs.Modules.{AreFolders, AreModules, lost_of}
 use Rattle.module_find.specs.declared.module.Module.{Module}
 use Rattle.tree_words.specs.Paths.{paths_of_input, paths_of_line}
 use Rattle.tree_words.specs.Shards.{picked_of}
@@ -29,12 +29,12 @@ use Rattle.lint_command.specs.declared.usage.Usage.TheVariants.{Help, Version, L
 
 -- ---- what is linted
 
--- a file stands for its folder, whatever it is called
+-- a file stands for its folder, whatever it is called, and so does what is no file under the name of one
 abbrev pub any_file : Chosen
-any_file = chosen_by true []
+any_file = with_specials true (chosen_by true [])
 
--- the modules of what these paths stand for, as far as they are of the part, and what can't be looked at beside them: each is told
--- since a call of the device failed
+-- the modules of what these paths stand for, as far as they are of the part, and what can't be looked at: each is told since a call
+-- of the device failed, or for its name
 pub record Collects (files : Files) (shard : Option Shard) (paths : List Name) (was is : Faults) (modules : List Module) (faults : List Found) : Type 0 where
   pub found : List Found
   pub walked : Faults  -- those of calls up to the end of the walk
@@ -42,9 +42,9 @@ pub record Collects (files : Files) (shard : Option Shard) (paths : List Name) (
   pub real : AreReal files any_file paths was walked found
   pub folders : List Found
   pub stand : AreFolders found folders
-  pub beside : List Found  -- what can't be looked at in their folders
-  pub are : AreModules files (picked_of shard folders) modules beside walked is
-  pub left : Orders (picked_of shard (flat_map fault_left found) ++ beside) faults
+  pub told : List Found  -- what is told of their folders
+  pub are : AreModules files (picked_of shard folders) modules told walked is
+  pub all : Orders (picked_of shard (flat_map lost_of found) ++ told) faults
 
 -- ---- what is said
 
@@ -57,7 +57,7 @@ Then false between last text = (last.before ≡ between.before) × TookBy last.f
 abbrev pub summary : Bool → Counts → List ℕ
 summary quiet counts = if quiet then [] else summary_line counts
 
--- what is said last: what can't be looked at beside the modules, and what was found in all; or that a write failed
+-- what is said last: what can't be looked at, and what was found in all; or that a write failed
 abbrev pub last_words : Bool → Bool → List Found → Counts → List ℕ
 last_words quiet out_failed faults counts = if out_failed then write_failed tree_linter else flat_map fault_lines faults ++ summary quiet counts
 
@@ -66,7 +66,7 @@ abbrev pub fault_status : List Found → ℕ
 fault_status [] = 0
 fault_status (f ∷ faults) = 1
 
--- EACH MODULE IS LINTED, and then the last words are said. What can't be looked at beside them is a status of 1
+-- EACH MODULE IS LINTED, and then the last words are said. What can't be looked at is a status of 1
 pub record RunsThen (files : Files) (policy : Policy) (quiet : Bool) (modules : List Module) (faults : List Found) (was is : Faults) (end : End) : Type 0 where
   pub between : End  -- when the modules were linted
   pub counts : Counts

@@ -14,7 +14,7 @@ use std::alloc::{AllocError, Global};
 use tree_words::pick::pick;
 use tree_words::shard::Shard;
 
-/// Modules, and what can't be looked at beside them, in the order of the names.
+/// Modules, and what can't be looked at, in the order of the names.
 #[derive(Drop)]
 pub(crate) struct Collected {
     pub modules: Vec<Module>,
@@ -27,6 +27,7 @@ fn any_file<'a>() -> Choice<'a>
 {
     Choice {
         any_name: true,
+        specials: true,
         excluded: &[],
     }
 }
@@ -62,6 +63,6 @@ pub(crate) fn collect<T: Tree>(
     let all = modules_of(alloc, folders, tree)?;
     Ok(Collected {
         modules: all.modules,
-        faults: together(faults, all.beside)?,
+        faults: together(faults, all.faults)?,
     })
 }

@@ -96,7 +96,7 @@ fn finish<O: ByteSink, E: ByteSink>(
     end_well(quiet, ran, faults, err)
 }
 
-/// Lints modules, and says what can't be looked at beside them.
+/// Lints modules, and says what can't be looked at.
 fn lint_collected<T: Tree + Drop, O: ByteSink, E: ByteSink>(
     alloc: Global,
     job: Job,

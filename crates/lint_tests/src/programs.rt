@@ -67,6 +67,14 @@ static ENTRIES: &[Entry<'static>] = &[
         stands: Stands::File(b"a = 1\n"),
     },
     Entry {
+        name: b"other/dead.tfvars",
+        stands: Stands::Link(b"nowhere"),
+    },
+    Entry {
+        name: b"other/pipe.tfvars",
+        stands: Stands::Pipe,
+    },
+    Entry {
         name: b"other/.hidden.tf",
         stands: Stands::File(b"variable \"h\" {}\n"),
     },
@@ -141,17 +149,18 @@ static ROWS: [Row; 28] = [
         words: &[b"tfrules-all", b"a/main.tf", b"gone", b"gone/main.tf"],
         input: b"",
         out: A,
-        err: b"tfrules-all: error: gone/: no such file or folder\ntfrules-all: error: gone: no such file or folder\n1 issue in 1 of 2 modules, 1 refused\n",
+        err: b"tfrules-all: error: gone: no such file or folder\ntfrules-all: error: gone/: no such file or folder\n1 issue in 1 of 2 modules, 1 refused\n",
         status: 1,
     },
-    // A module of which a file can't be read is refused, and so is one with a file that can't be named; a pipe is passed over.
+    // A module of which a file can't be read is refused, and so is one with a file that can't be named, or with a pipe in its place.
     Row {
         words: &[b"tfrules-all", b"bad", b"a/main.tf"],
         input: b"",
         out: A,
-        err: b"tfrules-all: error: bad/lost.tf: the link leads nowhere\n1 issue in 1 of 2 modules, 1 refused\n",
+        err: b"tfrules-all: error: bad/lost.tf: the link leads nowhere\ntfrules-all: error: bad/pipe.tf: not a file\n1 issue in 1 of 2 modules, 1 refused\n",
         status: 1,
     },
+    // What is no file of a module is no matter, whatever it is.
     Row {
         words: &[b"tfrules-all", b"other"],
         input: b"",
@@ -225,7 +234,7 @@ static ROWS: [Row; 28] = [
         words: &[b"tfrules-all", b"--quiet", b"a", b"bad"],
         input: b"",
         out: A_AND_SUB,
-        err: b"tfrules-all: error: bad/lost.tf: the link leads nowhere\n",
+        err: b"tfrules-all: error: bad/lost.tf: the link leads nowhere\ntfrules-all: error: bad/pipe.tf: not a file\n",
         status: 1,
     },
     Row {

@@ -129,7 +129,7 @@ fn module_of(alloc: Global, names: &[&str]) -> Result<Module, AllocError> {
     Ok(Module {
         folder: Vec::from_slice(alloc, b"f/")?,
         files,
-        faults: Vec::new(alloc),
+        is_whole: true,
     })
 }
 

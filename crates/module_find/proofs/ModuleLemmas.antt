@@ -1,9 +1,11 @@
 -- Folders and modules, one after another.
 use Rattle.std.proofs.Common.{flat_map, ◌≡◌, ◌∙◌, ◌<◌, ◌+◌, ◌⊎◌, ◌++◌, ◌∷◌, [], ℕ, Bool, true, false, Global, List, None, String, Contains, ap, append-nil, append_assoc, get_or, inl, inr, length, map, refl, subst, string_bytes, sym, take, true≢false}
-use Rattle.std.specs.Prelude.{Result, Ok, Err, IfOk, OnOk}
+use Rattle.std.specs.Prelude.{◌&&◌, Result, Ok, Err, IfOk, OnOk}
 use Rattle.std.specs.Str.{IsUtf8, is_utf8}
 use Rattle.std.proofs.lemmas.Grind.{flat_map-append}
 use Rattle.std.proofs.lemmas.List.{map-append, take_more}
+use Rattle.std.specs.List.{list_all}
+use Rattle.std.proofs.lemmas.List.Folds.{list_all-append}
 use Rattle.std.proofs.lemmas.List.Elements.{Contains-append_left, Contains-push, Contains-push_cases}
 use Rattle.std.proofs.lemmas.Str.{IsUtf8-from_is_utf8}
 use Rattle.file_tree.specs.Files.{Faults, Files, Name}
@@ -11,7 +13,7 @@ use Rattle.file_tree.specs.Ordered.{Orders}
 use Rattle.file_tree.specs.declared.walk.Found.{Found}
 use Rattle.file_tree.proofs.OrderLemmas.{none_in}
 use Rattle.module_find.specs.Inner.Adding.{AddsFolder, AddsModule, TakesFound}
-use Rattle.module_find.specs.Modules.{AreFolders, AreFoldersOf, AreModules, IsModule, IsModuleOf, beside_in, fault_in, file_in, folder_of, stands}
+use Rattle.module_find.specs.Modules.{AreFolders, AreFoldersOf, AreModules, IsModule, IsModuleOf, file_in, folder_of, is_sound, stands, told_in}
 use Rattle.module_find.specs.declared.module.Module.{Module}
 use Rattle.module_find.specs.declared.modules.Modules.{Modules}
 use Rattle.module_find.specs.declared.modules.Sorted.{Sorted}
@@ -90,12 +92,16 @@ folder_added false f d old new e named good h = absurd (true≢false (sym e))
 more_of : {A B : Type 0} (f : A → List B) (xs : List A) (x : A) (old new : List B) → old ≡ flat_map f xs → new ≡ old ++ f x → new ≡ flat_map f (xs ++ x ∷ [])
 more_of f xs x old new e h = h ∙ ap (λ l. l ++ f x) e ∙ sym (flat_map-append f xs (x ∷ []) ∙ ap (λ l. flat_map f xs ++ l) (append-nil (f x)))
 
-pub module_more : (name : Name) (found : List Found) (f : Found) (old new : Sorted) → IsModuleOf name found old.module old.beside.items → TakesFound f old new → IsModuleOf name (found ++ f ∷ []) new.module new.beside.items
+and_true : (b : Bool) → (b && true) ≡ b
+and_true true = refl
+and_true false = refl
+
+pub module_more : (name : Name) (found : List Found) (f : Found) (old new : Sorted) → IsModuleOf name found old.module old.faults.items → TakesFound f old new → IsModuleOf name (found ++ f ∷ []) new.module new.faults.items
 module_more name found f old new before h = record {
   folder = ap (λ v. v.items) h.folder ∙ before.folder;
   files = more_of file_in found f _ _ before.files h.files;
-  faults = more_of fault_in found f _ _ before.faults h.faults;
-  left = more_of beside_in found f _ _ before.left h.beside;
+  whole = h.whole ∙ ap (λ w. w && is_sound f) before.whole ∙ sym (list_all-append is_sound found (f ∷ []) ∙ ap (λ v. list_all is_sound found && v) (and_true (is_sound f)));
+  lost = more_of told_in found f _ _ before.lost h.faults;
 }
 
 -- ---- all modules
@@ -122,12 +128,12 @@ modules_then files (x ∷ folders) d (y ∷ modules) m beside here was between i
       modules_then files folders d modules m rest here a.2 between is a.5 h,
     )
 
-pub modules_more : (files later : Files) (folders : List Found) (d : Found) (old new : Modules) (was between is : Faults) → later ≡ files → AreModules files folders old.modules.items old.beside.items was between → AddsModule later d.name.items old new between is
-    → AreModules files (folders ++ d ∷ []) new.modules.items new.beside.items was is
+pub modules_more : (files later : Files) (folders : List Found) (d : Found) (old new : Modules) (was between is : Faults) → later ≡ files → AreModules files folders old.modules.items old.faults.items was between → AddsModule later d.name.items old new between is
+    → AreModules files (folders ++ d ∷ []) new.modules.items new.faults.items was is
 modules_more files later folders d old new was between is same before h =
-    subst (λ l. AreModules files (folders ++ d ∷ []) l new.beside.items was is) (sym h.3)
+    subst (λ l. AreModules files (folders ++ d ∷ []) l new.faults.items was is) (sym h.3)
     (subst (λ l. AreModules files (folders ++ d ∷ []) (old.modules.items ++ h.0 ∷ []) l was is) (sym h.4)
-    (modules_then files folders d old.modules.items h.0 old.beside.items h.1 was between is before (subst (λ f. IsModule f d.name.items h.0 h.1 between is) same h.2)))
+    (modules_then files folders d old.modules.items h.0 old.faults.items h.1 was between is before (subst (λ f. IsModule f d.name.items h.0 h.1 between is) same h.2)))
 
 -- ---- in the code's terms
 

@@ -1,7 +1,7 @@
 -- Names of modules at work, by computation.
 use Rattle.std.specs.Prelude.{◌≡◌, refl, true, false, [], codes, Some, None}
-use Rattle.file_tree.specs.declared.fault.TreeFault.TheVariants.{Missing, Unreadable, UnreadableFolder}
-use Rattle.module_find.specs.Modules.{fault_by, folder_of, is_module_file, stands_by}
+use Rattle.file_tree.specs.declared.fault.TreeFault.TheVariants.{DeadLink, Missing, NotAFile, Unreadable, UnreadableFolder}
+use Rattle.module_find.specs.Modules.{breaks_by, folder_of, is_gone_by, is_lost_by, is_module_file, name_fault, stands_by}
 
 deep : folder_of (codes "a/b/main.tf") ≡ codes "a/b/"
 deep = refl
@@ -28,9 +28,29 @@ unreadable = refl
 closed : stands_by (Some UnreadableFolder) (codes "a/") ≡ true
 closed = refl
 
--- a name that isn't there stands for none, and nothing that is no file of a module refuses one
+-- a name that isn't there stands for none, and nothing that is no file of a module breaks one
 mistyped : stands_by (Some Missing) (codes "modulse") ≡ false
 mistyped = refl
 
-beside : fault_by (Some Unreadable) (codes "a/notes.txt") ≡ None
+beside : breaks_by (Some Unreadable) (codes "a/notes.txt") ≡ false
 beside = refl
+
+-- a pipe under the name of a file of a module can't be linted
+pipe : name_fault None (codes "a/p.tf") ≡ Some NotAFile
+pipe = refl
+
+other_pipe : name_fault None (codes "a/p") ≡ None
+other_pipe = refl
+
+-- a deleted file isn't told where it was named, and a dead link where no module has such a file
+not_told : is_gone_by (Some Missing) (codes "a/main.tf") ≡ true
+not_told = refl
+
+dead_values : is_lost_by (Some DeadLink) (codes "a/x.tfvars") ≡ false
+dead_values = refl
+
+dead_file : is_lost_by (Some DeadLink) (codes "a/x.tf") ≡ true
+dead_file = refl
+
+dead_operand : is_lost_by (Some DeadLink) (codes "modules") ≡ true
+dead_operand = refl

@@ -1,14 +1,15 @@
 -- Which folders are modules, and which files are those of a module. Our own choice.
 use Rattle.std.specs.Prelude.{◌≡◌, ◌==◌, ◌||◌, ◌&&◌, ◌-◌, not, Bool, true, false, List, [], ◌∷◌, ◌++◌, Option, Some, None, codes, flat_map, length, map, string_bytes, take, if◌then◌else◌}
-use Rattle.std.specs.List.{Contains, suffix_len}
+use Rattle.std.specs.List.{Contains, list_all, suffix_len}
 use Rattle.std.specs.Str.{is_utf8}
 use Rattle.file_tree.specs.Files.{Faults, Files, Name}
 use Rattle.file_tree.specs.Ordered.{Rises}
 use Rattle.file_tree.specs.FolderFiles.{AreHeard, FindsIn}
-use Rattle.file_tree.specs.Names.{ends}
+use Rattle.file_tree.specs.Names.{ends, is_taken}
 use Rattle.file_tree.specs.declared.fault.TreeFault.{TreeFault}
-use Rattle.file_tree.specs.declared.fault.TreeFault.TheVariants.{NotUtf8}
+use Rattle.file_tree.specs.declared.fault.TreeFault.TheVariants.{DeadLink, Missing, NotAFile, NotUtf8}
 use Rattle.file_tree.specs.declared.walk.Found.{Found}
+use Rattle.file_tree.specs.declared.walk.FoundFile.{FoundFile}
 use Rattle.module_find.specs.declared.module.Module.{Module}
 
 -- a file of this name is one of a module
@@ -46,57 +47,96 @@ pub record AreFoldersOf (found folders : List Found) : Type 0 where
 abbrev pub AreFolders : List Found → List Found → Type 0
 AreFolders found folders = Rises folders × AreFoldersOf found folders
 
--- what can't be looked at, and stands for no folder
-abbrev pub fault_left : Found → List Found
-fault_left f = if stands f then [] else f ∷ []
+-- ---- what is told
+
+abbrev pub is_missing : TreeFault → Bool
+is_missing Missing = true
+is_missing fault = false
+
+abbrev pub is_dead_link : TreeFault → Bool
+is_dead_link DeadLink = true
+is_dead_link fault = false
+
+-- a name of files that are formatted and that no module has
+abbrev pub is_other_file : Name → Bool
+is_other_file name = is_taken name && not (is_module_file name)
+
+-- a link of such a name that leads nowhere
+abbrev pub is_no_matter : TreeFault → Name → Bool
+is_no_matter fault name = is_dead_link fault && is_other_file name
+
+-- what can't be looked at is told, but for these
+abbrev pub is_lost_by : Option TreeFault → Name → Bool
+is_lost_by None name = false
+is_lost_by (Some fault) name = not (is_no_matter fault name)
+
+abbrev pub is_lost : Found → Bool
+is_lost f = is_lost_by f.fault f.name.items
+
+abbrev pub lost_in : Found → List Found
+lost_in f = if is_lost f then f ∷ [] else []
+
+-- a file of a module that isn't there, for which its folder stands
+abbrev pub is_gone_by : Option TreeFault → Name → Bool
+is_gone_by None name = false
+is_gone_by (Some fault) name = is_missing fault && is_module_file name
+
+-- WHAT IS TOLD of the names that were found: that of a file that was deleted isn't, since its folder tells
+abbrev pub lost_of : Found → List Found
+lost_of f = if is_lost f && not (is_gone_by f.fault f.name.items) then f ∷ [] else []
 
 -- ---- one module
 
--- why what was found of a folder can't be linted: the folder or a file of the module can't be looked at, or its name isn't
--- UTF-8
-abbrev pub fault_by : Option TreeFault → Name → Option TreeFault
-fault_by None name = if is_module_file name && not (is_utf8 name) then Some NotUtf8 else None
-fault_by (Some fault) name = if is_of_module name then Some fault else None
+-- why what stands under this name is no file of a module that can be linted, if it can't be
+abbrev pub name_fault : Option FoundFile → Name → Option TreeFault
+name_fault None name = if is_module_file name then Some NotAFile else None
+name_fault (Some file) name = if is_module_file name && not (is_utf8 name) then Some NotUtf8 else None
 
-abbrev pub fault_with : Option TreeFault → Found → List Found
-fault_with None f = []
-fault_with (Some fault) f = record f { fault = Some fault } ∷ []
+abbrev pub fault_by : Option TreeFault → Option FoundFile → Name → Option TreeFault
+fault_by None file name = name_fault file name
+fault_by (Some fault) file name = Some fault
 
-abbrev pub fault_in : Found → List Found
-fault_in f = fault_with (fault_by f.fault f.name.items) f
+-- what was found, with the reason why it can't be linted
+abbrev pub judged : Found → Found
+judged f = record f { fault = fault_by f.fault f.file f.name.items }
 
 -- it is a file of the module
 abbrev pub is_file_by : Option TreeFault → Name → Bool
-is_file_by None name = is_module_file name && is_utf8 name
+is_file_by None name = is_module_file name
 is_file_by (Some fault) name = false
 
+abbrev pub file_of : Found → List Name
+file_of f = if is_file_by f.fault f.name.items then f.name.items ∷ [] else []
+
 abbrev pub file_in : Found → List Name
-file_in f = if is_file_by f.fault f.name.items then f.name.items ∷ [] else []
+file_in f = file_of (judged f)
 
--- what can't be looked at and is nothing of the module
-abbrev pub is_beside_by : Option TreeFault → Name → Bool
-is_beside_by None name = false
-is_beside_by (Some fault) name = not (is_of_module name)
+-- the module isn't whole without it: it can't be linted, and is a file of the module, or a folder
+abbrev pub breaks_by : Option TreeFault → Name → Bool
+breaks_by None name = false
+breaks_by (Some fault) name = is_of_module name
 
-abbrev pub beside_in : Found → List Found
-beside_in f = if is_beside_by f.fault f.name.items then f ∷ [] else []
+abbrev pub is_sound : Found → Bool
+is_sound f = not (breaks_by (judged f).fault f.name.items)
 
--- the module of a folder in which this was found: the files that are its own, and what keeps it from being linted; and what
--- can't be looked at beside it
-pub record IsModuleOf (name : Name) (found : List Found) (m : Module) (beside : List Found) : Type 0 where
+abbrev pub told_in : Found → List Found
+told_in f = lost_in (judged f)
+
+-- the module of a folder in which this was found: its files, and whether it is whole; and what is told of the folder
+pub record IsModuleOf (name : Name) (found : List Found) (m : Module) (told : List Found) : Type 0 where
   pub folder : m.folder.items ≡ name
   pub files : map string_bytes m.files.items ≡ flat_map file_in found
-  pub faults : m.faults.items ≡ flat_map fault_in found
-  pub left : beside ≡ flat_map beside_in found
+  pub whole : m.is_whole ≡ list_all is_sound found
+  pub lost : told ≡ flat_map told_in found
 
 -- A MODULE has what stands in its folder, where the device has had these faults before and after it was looked into
 abbrev pub IsModule : Files → Name → Module → List Found → Faults → Faults → Type 0
-IsModule files folder m beside was is = (found : List Found) × FindsIn files folder found × AreHeard was is found × IsModuleOf folder found m beside
+IsModule files folder m told was is = (found : List Found) × FindsIn files folder found × AreHeard was is found × IsModuleOf folder found m told
 
--- THE MODULES of folders, and all that can't be looked at beside them
+-- THE MODULES of folders, and all that is told of these
 abbrev pub AreModules : Files → List Found → List Module → List Found → Faults → Faults → Type 0
-AreModules files [] [] beside was is = (beside ≡ []) × (is ≡ was)
-AreModules files [] (m ∷ ms) beside was is = ⊥
-AreModules files (d ∷ ds) [] beside was is = ⊥
-AreModules files (d ∷ ds) (m ∷ ms) beside was is =
-    (here rest : List Found) × (between : Faults) × (beside ≡ here ++ rest) × IsModule files d.name.items m here was between × AreModules files ds ms rest between is
+AreModules files [] [] told was is = (told ≡ []) × (is ≡ was)
+AreModules files [] (m ∷ ms) told was is = ⊥
+AreModules files (d ∷ ds) [] told was is = ⊥
+AreModules files (d ∷ ds) (m ∷ ms) told was is =
+    (here rest : List Found) × (between : Faults) × (told ≡ here ++ rest) × IsModule files d.name.items m here was between × AreModules files ds ms rest between is

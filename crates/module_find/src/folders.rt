@@ -2,9 +2,10 @@
 
 ghost use Rattle.std.specs.Prelude.{◌≡◌, ◌++◌, ◌∷◌, [], IfOk, OnOk, flat_map};
 ghost use Rattle.module_find.specs.Inner.Adding.{AddsFolder};
-ghost use Rattle.module_find.specs.Modules.{AreFolders, AreFoldersOf, fault_left, stands};
+ghost use Rattle.module_find.specs.Modules.{AreFolders, AreFoldersOf, is_gone_by, lost_of, stands};
 
-use crate::names::{folder_of, is_of_module};
+use crate::lost::{is_lost, is_missing};
+use crate::names::{folder_of, is_module_file, is_of_module};
 use file_tree::path::joined;
 use file_tree::walk::{Found, in_order};
 use std::alloc::{AllocError, Global};
@@ -64,19 +65,29 @@ pub fn folders_of(alloc: Global, found: &[Found]) -> Result<Vec<Found>, AllocErr
     Ok(in_order(folders))
 }
 
-/// Keeps what can't be looked at and stands for no folder.
-fn keep_fault(found: Found, kept: &mut Vec<Found>) -> Result<(), AllocError>
-    ensures { OnOk result (kept.new.items ≡ kept.old.items ++ fault_left found) }
+/// Whether it is the name of a file of a module that was deleted.
+fn is_gone(found: &Found) -> bool
+    ensures { result ≡ is_gone_by found.now.fault found.now.name.items }
 {
-    if stands(&found) {
-        return Ok(());
+    match found.fault {
+        None => false,
+        Some(fault) => is_missing(fault) && is_module_file(found.name.as_slice()),
     }
-    keep(found, kept)
 }
 
-/// What of the names that were found can't be looked at, and stands for no folder.
+/// Keeps what is told.
+fn keep_fault(found: Found, kept: &mut Vec<Found>) -> Result<(), AllocError>
+    ensures { OnOk result (kept.new.items ≡ kept.old.items ++ lost_of found) }
+{
+    if is_lost(&found) && !is_gone(&found) {
+        return keep(found, kept);
+    }
+    Ok(())
+}
+
+/// What of the names that were found can't be looked at and is told: of a file that was deleted its folder tells.
 pub fn faults_of(alloc: Global, found: Vec<Found>) -> Result<Vec<Found>, AllocError>
-    ensures { IfOk result (λ faults. faults.items ≡ flat_map fault_left found.items) }
+    ensures { IfOk result (λ faults. faults.items ≡ flat_map lost_of found.items) }
 {
     let mut faults = Vec::new(alloc);
     for each in found {

@@ -2,6 +2,7 @@
 #![tactic(auto)]
 
 mod folders;
+mod lost;
 mod module;
 pub mod modules;
 pub mod names;

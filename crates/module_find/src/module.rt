@@ -1,7 +1,5 @@
 //! A module.
 
-use file_tree::walk::Found;
-
 /// The files of one folder that are linted together.
 #[derive(Drop)]
 pub struct Module {
@@ -9,6 +7,6 @@ pub struct Module {
     pub folder: Vec<u8>,
     /// The names of the files, in order.
     pub files: Vec<String>,
-    /// What of the folder can't be looked at, in the order of the names.
-    pub faults: Vec<Found>,
+    /// Whether the folder and each of its files can be looked at.
+    pub is_whole: bool,
 }

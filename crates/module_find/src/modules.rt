@@ -3,8 +3,9 @@
 ghost use Rattle.std.specs.Prelude.{◌≡◌, ◌++◌, ◌∷◌, [], None, Some, IfOk, OnOk, map, string_bytes, true};
 ghost use Rattle.std.specs.Str.{is_utf8};
 ghost use Rattle.module_find.specs.Inner.Adding.{AddsModule, TakesFound};
-ghost use Rattle.module_find.specs.Modules.{AreModules, IsModule, IsModuleOf};
+ghost use Rattle.module_find.specs.Modules.{AreModules, IsModule, IsModuleOf, fault_by, is_module_file, lost_in};
 
+use crate::lost::is_lost;
 use crate::module::Module;
 use crate::names::{is_module_file, is_of_module};
 use file_tree::fault::TreeFault;
@@ -22,40 +23,24 @@ fn is_text(name: &[u8]) -> bool
     }
 }
 
-/// What of a folder is a module, and what can't be looked at beside it.
+/// The module of a folder, and what is told of the folder.
 #[derive(Drop)]
 struct Sorted {
     module: Module,
-    beside: Vec<Found>,
+    faults: Vec<Found>,
 }
 
 impl Sorted {
-    /// Adds a name that keeps the module from being linted, for this reason.
-    fn add_fault(&mut self, found: Found, fault: TreeFault) -> Result<(), AllocError>
-        ensures faults { OnOk result (self.new.module.faults.items
-            ≡ self.old.module.faults.items ++ (record found { fault = Some fault }) ∷ []) }
-        ensures files { self.new.module.files ≡ self.old.module.files }
-        ensures folder { self.new.module.folder ≡ self.old.module.folder }
-        ensures beside { self.new.beside ≡ self.old.beside }
-    {
-        let told = Found {
-            name: found.name,
-            fault: Some(fault),
-            file: found.file,
-        };
-        match self.module.faults.push(told) {
-            Ok(()) => Ok(()),
-            Err(_) => Err(AllocError),
-        }
-    }
-
-    /// Adds what can't be looked at beside the module.
-    fn add_beside(&mut self, found: Found) -> Result<(), AllocError>
-        ensures beside { OnOk result (self.new.beside.items
-            ≡ self.old.beside.items ++ found ∷ []) }
+    /// Adds what can't be linted, if that is told.
+    fn tell(&mut self, found: Found) -> Result<(), AllocError>
+        ensures faults { OnOk result (self.new.faults.items
+            ≡ self.old.faults.items ++ lost_in found) }
         ensures module { self.new.module ≡ self.old.module }
     {
-        match self.beside.push(found) {
+        if !is_lost(&found) {
+            return Ok(());
+        }
+        match self.faults.push(found) {
             Ok(()) => Ok(()),
             Err(_) => Err(AllocError),
         }
@@ -66,9 +51,9 @@ impl Sorted {
         requires text { is_utf8 name.now ≡ true }
         ensures files { OnOk result (map string_bytes self.new.module.files.items
             ≡ map string_bytes self.old.module.files.items ++ name.now ∷ []) }
-        ensures faults { self.new.module.faults ≡ self.old.module.faults }
+        ensures whole { self.new.module.is_whole ≡ self.old.module.is_whole }
         ensures folder { self.new.module.folder ≡ self.old.module.folder }
-        ensures beside { self.new.beside ≡ self.old.beside }
+        ensures told { self.new.faults ≡ self.old.faults }
     {
         let text = String::from_utf8_lossy(alloc, name)?;
         let Ok(()) = self.module.files.push(text) else {
@@ -77,53 +62,60 @@ impl Sorted {
         Ok(())
     }
 
-    /// Takes what was found of a folder and can be looked at.
-    fn take_name(&mut self, alloc: Global, found: Found) -> Result<(), AllocError>
-        requires good { found.fault ≡ None }
+    /// Takes what was found of a folder and can't be linted, for this reason.
+    fn take_fault(&mut self, found: Found, fault: TreeFault) -> Result<(), AllocError>
+        requires why { fault_by found.fault found.file found.name.items ≡ Some fault }
         ensures { OnOk result (TakesFound found self.old self.new) }
     {
-        if !is_module_file(found.name.as_slice()) {
-            return Ok(());
+        let is_sound = !is_of_module(found.name.as_slice());
+        self.module.is_whole = self.module.is_whole && is_sound;
+        self.tell(Found {
+            name: found.name,
+            fault: Some(fault),
+            file: found.file,
+        })
+    }
+
+    /// Takes what was found of a folder and has the name of a file of a module.
+    fn take_file(&mut self, alloc: Global, found: Found) -> Result<(), AllocError>
+        requires good { found.fault ≡ None }
+        requires named { is_module_file found.name.items ≡ true }
+        ensures { OnOk result (TakesFound found self.old self.new) }
+    {
+        if found.file.is_none() {
+            return self.take_fault(found, TreeFault::NotAFile);
         }
         if is_text(found.name.as_slice()) {
             return self.add_file(alloc, found.name.as_slice());
         }
-        self.add_fault(found, TreeFault::NotUtf8)
-    }
-
-    /// Takes what was found of a folder and can't be looked at, for this reason.
-    fn take_fault(&mut self, found: Found, fault: TreeFault) -> Result<(), AllocError>
-        requires bad { found.fault ≡ Some fault }
-        ensures { OnOk result (TakesFound found self.old self.new) }
-    {
-        if is_of_module(found.name.as_slice()) {
-            return self.add_fault(found, fault);
-        }
-        self.add_beside(found)
+        self.take_fault(found, TreeFault::NotUtf8)
     }
 
     /// Takes what was found of a folder.
     fn take(&mut self, alloc: Global, found: Found) -> Result<(), AllocError>
         ensures { OnOk result (TakesFound found self.old self.new) }
     {
-        match found.fault {
-            Some(fault) => self.take_fault(found, fault),
-            None => self.take_name(alloc, found),
+        if let Some(fault) = found.fault {
+            return self.take_fault(found, fault);
         }
+        if is_module_file(found.name.as_slice()) {
+            return self.take_file(alloc, found);
+        }
+        Ok(())
     }
 }
 
 /// The module of a folder in which this was found.
 fn module_of(alloc: Global, folder: Vec<u8>, found: Vec<Found>) -> Result<Sorted, AllocError>
-    ensures { IfOk result (λ s. IsModuleOf folder.items found.items s.module s.beside.items) }
+    ensures { IfOk result (λ s. IsModuleOf folder.items found.items s.module s.faults.items) }
 {
     let mut taken = Sorted {
         module: Module {
             folder,
             files: Vec::new(alloc),
-            faults: Vec::new(alloc),
+            is_whole: true,
         },
-        beside: Vec::new(alloc),
+        faults: Vec::new(alloc),
     };
     for each in found {
         taken.take(alloc, each)?;
@@ -136,17 +128,17 @@ fn module_in<T: Tree>(alloc: Global, folder: Vec<u8>, tree: &mut T) -> Result<So
     ensures files { T.files tree.new ≡ T.files tree.old }
     ensures asked { T.asked tree.new ≡ T.asked tree.old }
     ensures is { IfOk result (λ s. IsModule (T.files tree.old) folder.items s.module
-        s.beside.items (T.faults tree.old) (T.faults tree.new)) }
+        s.faults.items (T.faults tree.old) (T.faults tree.new)) }
 {
     let found = find_in(alloc, folder.as_slice(), tree)?;
     module_of(alloc, folder, found)
 }
 
-/// Modules, and what can't be looked at beside them in their folders.
+/// Modules, and what is told of their folders.
 #[derive(Drop)]
 pub struct Modules {
     pub modules: Vec<Module>,
-    pub beside: Vec<Found>,
+    pub faults: Vec<Found>,
 }
 
 impl Modules {
@@ -157,18 +149,18 @@ impl Modules {
         ensures adds { OnOk result (AddsModule (T.files tree.old) folder.name.items
             self.old self.new (T.faults tree.old) (T.faults tree.new)) }
     {
-        let Sorted { module, mut beside } = module_in(alloc, folder.name, tree)?;
+        let Sorted { module, mut faults } = module_in(alloc, folder.name, tree)?;
         let Ok(()) = self.modules.push(module) else {
             return Err(AllocError);
         };
-        let Ok(()) = self.beside.append(&mut beside) else {
+        let Ok(()) = self.faults.append(&mut faults) else {
             return Err(AllocError);
         };
         Ok(())
     }
 }
 
-/// The modules of folders, in their order, and what can't be looked at beside them.
+/// The modules of folders, in their order, and what is told of these: each name that can't be looked at or linted, and why.
 pub fn modules_of<T: Tree>(
     alloc: Global,
     folders: Vec<Found>,
@@ -177,13 +169,13 @@ pub fn modules_of<T: Tree>(
     // Nothing is changed, nor asked to be.
     ensures files { T.files tree.new ≡ T.files tree.old }
     ensures asked { T.asked tree.new ≡ T.asked tree.old }
-    // Where the device tells the faults of its calls, each that is told is one of these.
+    // Where the device tells the faults of its calls, each that is told is one of these, or that of a name.
     ensures are { IfOk result (λ all. AreModules (T.files tree.old) folders.items
-        all.modules.items all.beside.items (T.faults tree.old) (T.faults tree.new)) }
+        all.modules.items all.faults.items (T.faults tree.old) (T.faults tree.new)) }
 {
     let mut all = Modules {
         modules: Vec::new(alloc),
-        beside: Vec::new(alloc),
+        faults: Vec::new(alloc),
     };
     for folder in folders {
         all.add(alloc, folder, tree)?;

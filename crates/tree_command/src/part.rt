@@ -23,6 +23,7 @@ pub fn part_of<'a>(options: &'a TreeOptions<'_>) -> Part<'a>
 {
     let choice = Choice {
         any_name: options.given.any_name,
+        specials: false,
         excluded: options.given.excluded.as_slice(),
     };
     Part {

@@ -1,7 +1,6 @@
 -- What is shown of one module.
-use Rattle.std.proofs.Common.{◌≡◌, ◌∙◌, ◌⊎◌, ◌≤◌, ◌<◌, ◌+◌, ◌++◌, ◌∷◌, [], ℕ, Bool, true, false, Global, List, Option, ap, append-nil, arith, drop, eqb-true, flat_map, get_or, inl, inr, length, map, refl, subst, sym}
+use Rattle.std.proofs.Common.{◌≡◌, ◌∙◌, ◌<◌, ◌+◌, ◌++◌, ◌∷◌, [], ℕ, Bool, true, false, Global, List, Option, ap, append-nil, arith, drop, eqb-true, flat_map, get_or, inl, inr, length, map, refl, subst, sym}
 use Rattle.std.specs.Prelude.{◌==◌, ◌&&◌, Ok, Err, String, if◌then◌else◌, not, string_bytes}
-use Rattle.std.proofs.lemmas.Grind.{flat_map-append}
 use Rattle.command_line.specs.Rows.{TookBy, Writer}
 use Rattle.command_line.proofs.WriterLemmas.{appends_nothing}
 use Rattle.command_line.proofs.ListCutLemmas.{from_here}
@@ -15,12 +14,12 @@ use Rattle.tf_rules.specs.Issues.{asked_of}
 use Rattle.tf_rules.specs.declared.issue.Issue.{Issue}
 use Rattle.tfrules_command.specs.Report.{report}
 use Rattle.tfrules_command.specs.Line.{max_files}
-use Rattle.tree_lint.specs.Faults.{fault_lines, refusal_by, refusal_in}
+use Rattle.tree_lint.specs.Faults.{fault_lines, refusal_by}
 use Rattle.tree_lint.specs.Inner.Showing.{HasOrNoMemory, Shows, refused}
 use Rattle.tree_lint.specs.Parted.{parted}
 use Rattle.tree_lint.specs.Refusals.{Refusal, refusal_line, refusal_of, told_fault}
-use Rattle.tree_lint.specs.Runs.{verdict_message, verdict_output, verdict_status}
-use Rattle.tree_lint.specs.Verdicts.{CanBeRead, HaveIssues, IsRefused, IsVerdict, StopsAt, Verdict, names_in, no_memory, stop_refusal, told_in, too_many}
+use Rattle.tree_lint.specs.Runs.{verdict_output, verdict_status}
+use Rattle.tree_lint.specs.Verdicts.{CanBeRead, HaveIssues, IsVerdict, StopsAt, Verdict, names_in, no_memory, stop_refusal, told_in, too_many}
 use Rattle.tree_lint.specs.declared.counts.Ended.{Ended}
 use Rattle.tree_lint.specs.declared.policy.Policy.{Policy}
 use Rattle.tree_lint.specs.declared.run.Task.{Task}
@@ -33,10 +32,6 @@ shows_as task m P Q out err ended h s = record { verdict = s.verdict; holds = h 
 pub untouched : (f : Bool) (a : Option (List ℕ)) → f ≡ false → TookBy f a a []
 untouched false a e = appends_nothing a
 untouched true a e = absurd (cc)
-
-pub lines_of_faults : (faults : List Found) → flat_map refusal_line (flat_map refusal_in faults) ≡ flat_map fault_lines faults
-lines_of_faults [] = refl
-lines_of_faults (f ∷ faults) = flat_map-append refusal_line (refusal_in f) (flat_map refusal_in faults) ∙ ap (λ l. fault_lines f ++ l) (lines_of_faults faults)
 
 module _ (task : Task) (m : Module) (out err : Writer) (ended : Ended) where
   refused_all : (refusals : List Refusal) (text : List ℕ) → out.failed ≡ false → out.after ≡ out.before → TookBy err.failed err.before err.after text → text ≡ flat_map refusal_line refusals → ended ≡ refused → Shows task m (λ v. v ≡ Err refusals) out err ended
@@ -52,8 +47,8 @@ module _ (task : Task) (m : Module) (out err : Writer) (ended : Ended) where
   pub refused_one : (r wanted : Refusal) → r ≡ wanted → out.failed ≡ false → out.after ≡ out.before → TookBy err.failed err.before err.after (refusal_line r) → ended ≡ refused → Shows task m (λ v. v ≡ Err (wanted ∷ [])) out err ended
   refused_one r wanted e good same took is = refused_all (wanted ∷ []) (refusal_line r) good same took (ap refusal_line e ∙ sym (append-nil (refusal_line wanted))) is
 
-  pub refused_each : (faults : List Found) → out.failed ≡ false → out.after ≡ out.before → TookBy err.failed err.before err.after (flat_map fault_lines faults) → ended ≡ refused → Shows task m (λ v. v ≡ Err (flat_map refusal_in faults)) out err ended
-  refused_each faults good same took is = refused_all (flat_map refusal_in faults) (flat_map fault_lines faults) good same took (sym (lines_of_faults faults)) is
+  pub refused_untold : out.failed ≡ false → out.after ≡ out.before → err.failed ≡ false → err.after ≡ err.before → ended ≡ refused → Shows task m (λ v. v ≡ Err []) out err ended
+  refused_untold good same fine still is = refused_all [] [] good same (subst (λ a. TookBy err.failed err.before a []) (sym still) (untouched err.failed err.before fine)) refl is
 
   pub shown : (issues : List Issue) (text : List ℕ) → TookBy out.failed out.before out.after text → text ≡ verdict_output task.is_after m (Ok issues) → err.failed ≡ false → err.after ≡ err.before
       → ended.status ≡ verdict_status task.policy (Ok issues) → ended.issues ≡ length issues → Shows task m (HasOrNoMemory m issues) out err ended
@@ -94,11 +89,11 @@ count_none (i ∷ is) e same f = absurd (omega (arith, eqb-true (length (i ∷ i
 -- ---- the verdict
 
 module _ (files : Files) (policy : Policy) (m : Module) (was is : Faults) where
-  pub for_faults : 0 < length m.faults.items → (faults : List Found) → faults ≡ m.faults.items → is ≡ was → (v : Verdict) → v ≡ Err (flat_map refusal_in faults) → IsVerdict files policy m was is v
-  for_faults some faults same w v h = subst (IsVerdict files policy m was is) (sym (h ∙ ap (λ l. Err (flat_map refusal_in l)) same)) (inl (some, w, refl))
+  pub for_broken : m.is_whole ≡ false → is ≡ was → (v : Verdict) → v ≡ Err [] → IsVerdict files policy m was is v
+  for_broken broken w v h = subst (IsVerdict files policy m was is) (sym h) (inl (broken, w, refl))
 
-  pub for_number : m.faults.items ≡ [] → max_files < length m.files.items → is ≡ was → (v : Verdict) → v ≡ Err (too_many m ∷ []) → IsVerdict files policy m was is v
-  for_number none many w v h = subst (IsVerdict files policy m was is) (sym h) (inr (inl (none, many, w, refl)))
+  pub for_number : m.is_whole ≡ true → max_files < length m.files.items → is ≡ was → (v : Verdict) → v ≡ Err (too_many m ∷ []) → IsVerdict files policy m was is v
+  for_number whole many w v h = subst (IsVerdict files policy m was is) (sym h) (inr (inl (whole, many, w, refl)))
 
   pub for_memory : CanBeRead m → is ≡ was → (v : Verdict) → v ≡ Err (no_memory m ∷ []) → IsVerdict files policy m was is v
   for_memory can w v h = subst (IsVerdict files policy m was is) (sym h) (inr (inr (inr (can, w, refl))))
@@ -109,14 +104,6 @@ module _ (files : Files) (policy : Policy) (m : Module) (was is : Faults) where
   pub for_issues : CanBeRead m → is ≡ was → (names : List Name) → names ≡ names_in m → (issues : List Issue) → HaveIssues (told_in files) (asked_of policy.settings) names issues → (v : Verdict) → HasOrNoMemory m issues v → IsVerdict files policy m was is v
   for_issues can w names same issues have v (inl e) = subst (IsVerdict files policy m was is) (sym e) (can, w, subst (λ l. HaveIssues (told_in files) (asked_of policy.settings) l issues) same have)
   for_issues can w names same issues have v (inr e) = for_memory can w v e
-
-pub none_of : {X : Type 0} (xs ys : List X) (e : Bool) → e ≡ (length xs == 0) → e ≡ true → xs ≡ ys → ys ≡ []
-none_of [] ys e c f s = sym s
-none_of (x ∷ xs) ys e c f s = absurd (omega (arith, eqb-true (length (x ∷ xs)) 0 (sym c ∙ f)))
-
-pub some_of : {X : Type 0} (xs ys : List X) (e : Bool) → e ≡ (length xs == 0) → e ≡ false → xs ≡ ys → 0 < length ys
-some_of [] ys e c f s = absurd (cc)
-some_of (x ∷ xs) ys e c f s = subst (λ l. 0 < length l) s (omega arith)
 
 -- ---- names that can't be linted
 

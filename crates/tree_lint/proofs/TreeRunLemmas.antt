@@ -6,11 +6,10 @@ use Rattle.std.proofs.lemmas.Grind.{flat_map-append}
 use Rattle.std.proofs.lemmas.List.Sums.{count_by-le-length, sum_by-append}
 use Rattle.std.specs.Io.KnownBytes.{Appends}
 use Rattle.hcl_source.specs.declared.device.Flushes.{Flushes}
-use Rattle.command_line.specs.Rows.{End, TookBy, Writer}
+use Rattle.command_line.specs.Rows.{TookBy, Writer}
 use Rattle.command_line.proofs.WriterLemmas.{all_taken, appends_nothing, took_after}
 use Rattle.file_tree.specs.Files.{Faults, Files}
 use Rattle.module_find.specs.declared.module.Module.{Module}
-use Rattle.tf_rules.specs.declared.issue.Issue.{Issue}
 use Rattle.tfrules_command.specs.Report.{weighs}
 use Rattle.tree_lint.specs.Inner.Growth.{HasRoom, counts_with, one_if}
 use Rattle.tree_lint.specs.Inner.Showing.{Shows}

@@ -5,9 +5,9 @@ use Rattle.module_find.specs.declared.module.Module.{Module}
 use Rattle.tree_lint.specs.Verdicts.{Verdict}
 use Rattle.tree_lint.specs.declared.counts.Counts.{Counts}
 
--- a module has a file, or a name that can't be looked at
+-- a module has a file, or isn't whole
 abbrev pub is_module : Module → Bool
-is_module m = not (length m.files.items == 0 && length m.faults.items == 0)
+is_module m = not (length m.files.items == 0 && m.is_whole)
 
 abbrev pub is_refused : Verdict → Bool
 is_refused (Ok issues) = false

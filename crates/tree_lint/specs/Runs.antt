@@ -1,6 +1,6 @@
 -- What a run over modules says, and its status: each module is linted for itself, and what is said of them stands one after
 -- another. Our own choice.
-use Rattle.std.specs.Prelude.{◌≡◌, ◌||◌, ◌==◌, ℕ, Bool, true, false, List, [], ◌∷◌, ◌++◌, Ok, Err, flat_map, fold, map, max, if◌then◌else◌}
+use Rattle.std.specs.Prelude.{◌≡◌, ◌||◌, ◌==◌, ℕ, Bool, false, List, [], ◌∷◌, ◌++◌, Ok, Err, flat_map, fold, map, max, if◌then◌else◌}
 use Rattle.command_line.specs.Rows.{End, Took}
 use Rattle.file_tree.specs.Files.{Faults, Files}
 use Rattle.file_tree.specs.Quotes.{quoted}

@@ -1,13 +1,11 @@
 -- What becomes of a module: it has issues, as `tfrules` finds them in its files, or it is refused, and why. Our own choice is
 -- which reason is told.
-use Rattle.std.specs.Prelude.{◌≡◌, ◌⊎◌, ◌≤◌, ◌<◌, ℕ, Bool, true, false, List, [], ◌∷◌, ◌++◌, Option, Some, None, Result, Ok, Err, codes, flat_map, length, map, string_bytes}
+use Rattle.std.specs.Prelude.{◌≡◌, ◌⊎◌, ◌≤◌, ◌<◌, ℕ, true, false, List, [], ◌∷◌, ◌++◌, Option, Some, Result, Ok, Err, codes, length, map, string_bytes}
 use Rattle.file_tree.specs.FaultTexts.{tree_fault_text}
 use Rattle.file_tree.specs.Files.{Faults, Files, Name, Tells, with_fault}
 use Rattle.file_tree.specs.Paths.{place}
-use Rattle.file_tree.specs.declared.fault.TreeFault.{TreeFault}
 use Rattle.file_tree.specs.declared.fault.TreeFault.TheVariants.{OutOfMemory}
 use Rattle.hcl_source.specs.FaultTexts.{fault_text}
-use Rattle.hcl_source.specs.declared.fault.Fault.{Fault}
 use Rattle.hcl_tokens.specs.Scanned.{Scanned}
 use Rattle.module_find.specs.declared.module.Module.{Module}
 use Rattle.tf_rules.specs.Answers.{AreIssues}
@@ -17,7 +15,6 @@ use Rattle.tfrules_command.specs.Answer.{names_of}
 use Rattle.tfrules_command.specs.Files.{AreAccepted, IsFault, IsTooMuch, NamedFile, numbered_files, size_of}
 use Rattle.tfrules_command.specs.Line.{max_files}
 use Rattle.tfrules_command.specs.Rows.{AreFiles}
-use Rattle.tree_lint.specs.Faults.{refusal_in}
 use Rattle.tree_lint.specs.Refusals.{Refusal, refusal_of}
 use Rattle.tree_lint.specs.declared.policy.Policy.{Policy}
 use Rattle.tree_lint.specs.declared.stop.Stop.{Stop}
@@ -78,14 +75,14 @@ too_many m = of_folder m (codes "more than 256 files")
 
 -- all of its files can be looked at and named, and they aren't too many
 abbrev pub CanBeRead : Module → Type 0
-CanBeRead m = (m.faults.items ≡ []) × (length m.files.items ≤ max_files)
+CanBeRead m = (m.is_whole ≡ true) × (length m.files.items ≤ max_files)
 
--- why it is refused, and what is said then: names that can't be looked at, of each its own; or that there are too many files; or
--- at which file it stops; or that memory ran out
+-- why it is refused, and what is said then: it isn't whole, of which the names are told that can't be looked at, when all modules are
+-- linted; or that there are too many files; or at which file it stops; or that memory ran out
 abbrev pub IsRefused : Files → Module → Faults → Faults → List Refusal → Type 0
 IsRefused files m was is refusals =
-    ((0 < length m.faults.items) × (is ≡ was) × (refusals ≡ flat_map refusal_in m.faults.items))
-    ⊎ (((m.faults.items ≡ []) × (max_files < length m.files.items) × (is ≡ was) × (refusals ≡ too_many m ∷ []))
+    ((m.is_whole ≡ false) × (is ≡ was) × (refusals ≡ []))
+    ⊎ (((m.is_whole ≡ true) × (max_files < length m.files.items) × (is ≡ was) × (refusals ≡ too_many m ∷ []))
     ⊎ ((CanBeRead m × ((name : Name) × (why : Stop) × StopsAt (told_in files) (names_in m) was is name why × (refusals ≡ stop_refusal name why ∷ [])))
     ⊎ (CanBeRead m × (is ≡ was) × (refusals ≡ no_memory m ∷ []))))
 

@@ -21,7 +21,7 @@ pub(crate) struct Ended {
 /// What a run over modules found, in numbers.
 #[derive(Clone, Copy, Debug, PartialEq, Eq)]
 pub struct Counts {
-    /// The modules that have a file, or a name that can't be looked at.
+    /// The modules that have a file, or aren't whole.
     pub modules: u64,
     /// Those that are refused.
     pub refused: u64,

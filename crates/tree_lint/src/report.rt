@@ -1,22 +1,20 @@
 //! What is shown of one module.
 
-ghost use Rattle.std.specs.Prelude.{◌≡◌, flat_map, true, false};
+ghost use Rattle.std.specs.Prelude.{◌≡◌, true, false};
 ghost use Rattle.command_line.specs.Rows.{Took, writer};
 ghost use Rattle.tfrules_command.specs.Report.{report, status};
 ghost use Rattle.tree_lint.specs.Parted.{parted};
 ghost use Rattle.tree_lint.specs.Refusals.{refusal_line, refusal_told};
 ghost use Rattle.tree_lint.specs.Runs.{failing_under};
 ghost use Rattle.tree_lint.specs.Verdicts.{no_memory, too_many};
-ghost use Rattle.tree_lint.specs.Faults.{fault_lines};
 ghost use Rattle.tree_lint.specs.Inner.Showing.{HasOrNoMemory, Shows, refused};
 
 use crate::counts::Ended;
 use crate::policy::Policy;
-use crate::refusal::{Refusal, tell_faults, tell_refusal};
+use crate::refusal::{Refusal, tell_refusal};
 use crate::run::Task;
 use crate::shown::Shown;
 use file_tree::path::place;
-use file_tree::walk::Found;
 use hcl_scan::{ByteSink, write_fully};
 use module_find::Module;
 use std::alloc::Global;
@@ -89,6 +87,12 @@ pub(crate) fn too_many(one: &Module) -> Refusal<'_>
     }
 }
 
+/// How a module ends that is refused.
+pub(crate) const REFUSED: Ended = Ended {
+    status: 1,
+    issues: 0,
+};
+
 /// Says why a module is refused.
 pub(crate) fn refuse<E: ByteSink>(refusal: Refusal<'_>, err: &mut E) -> Ended
     requires { E.failed err.old ≡ false }
@@ -97,23 +101,7 @@ pub(crate) fn refuse<E: ByteSink>(refusal: Refusal<'_>, err: &mut E) -> Ended
     ensures ended { result ≡ refused }
 {
     let _ = tell_refusal(err, refusal);
-    Ended {
-        status: 1,
-        issues: 0,
-    }
-}
-
-/// Says why a module is refused, where names can't be looked at.
-pub(crate) fn refuse_for<E: ByteSink>(faults: &[Found], err: &mut E) -> Ended
-    requires { E.failed err.old ≡ false }
-    ensures took { Took (writer E.ByteSink err.old err.new) (flat_map fault_lines faults.now) }
-    ensures ended { result ≡ refused }
-{
-    let _ = tell_faults(err, faults);
-    Ended {
-        status: 1,
-        issues: 0,
-    }
+    REFUSED
 }
 
 /// Shows issues of a module, of which there is one at least.

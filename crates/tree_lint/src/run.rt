@@ -13,7 +13,7 @@ use crate::counts::{Counts, Ended};
 use crate::gather::gather;
 use crate::module_tree::ModuleTree;
 use crate::policy::Policy;
-use crate::report::{no_memory, refuse, refuse_for, show, too_many};
+use crate::report::{REFUSED, no_memory, refuse, show, too_many};
 use file_tree::tree::Tree;
 use hcl_scan::ByteSink;
 use module_find::Module;
@@ -81,8 +81,8 @@ fn lint_one<T: Tree + Drop, O: ByteSink, E: ByteSink>(
     ensures asked { T.asked files.new.tree ≡ T.asked files.old.tree }
     ensures back { has_reader_out files.new ≡ false }
 {
-    if !one.faults.as_slice().is_empty() {
-        return refuse_for(one.faults.as_slice(), err);
+    if !one.is_whole {
+        return REFUSED;
     }
     if one.files.len() > MAX_FILES {
         return refuse(too_many(one), err);
@@ -117,7 +117,7 @@ fn either(one: bool, other: bool) -> bool
 fn is_module(one: &Module) -> bool
     ensures { result ≡ is_module one.now }
 {
-    !(one.files.is_empty() && one.faults.is_empty())
+    !(one.files.is_empty() && one.is_whole)
 }
 
 /// How a run over modules ended.
@@ -130,7 +130,8 @@ pub struct RunEnd {
 }
 
 /// Lints modules one after another, whatever becomes of each: a refused module stops no other. Standard output gets the
-/// reports of those with issues, an empty line between two, and standard error why others are refused. Answers the worst
+/// reports of those with issues, an empty line between two, and standard error why others are refused, but for those that
+/// aren't whole. Answers the worst
 /// status of a module, where 1 is worse than 2. Nothing more is linted once a write failed, which gives status 1.
 pub fn run_over<T: Tree + Drop, O: ByteSink, E: ByteSink>(
     alloc: Global,

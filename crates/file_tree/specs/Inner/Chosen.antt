@@ -4,4 +4,4 @@ use Rattle.file_tree.specs.Choices.{Chosen}
 use Rattle.file_tree.specs.declared.choice.Chooser.{Chooser}
 
 abbrev pub told : Chooser → Chosen
-told chooser = record { any_name = chooser.any_name; names = map (λ name. name.now) chooser.names.now; folders = map (λ folder. folder.items) chooser.folders.items }
+told chooser = record { any_name = chooser.any_name; specials = chooser.specials; names = map (λ name. name.now) chooser.names.now; folders = map (λ folder. folder.items) chooser.folders.items }

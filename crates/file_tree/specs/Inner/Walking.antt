@@ -1,5 +1,5 @@
 -- A walk, step by step: what was found, and the folders that are still to be looked into.
-use Rattle.std.specs.Prelude.{◌≡◌, ◌≢◌, ◌⊎◌, ℕ, Bool, true, false, not, List, [], ◌∷◌, ◌++◌, Option, Some, None, map}
+use Rattle.std.specs.Prelude.{◌≡◌, ◌≢◌, ◌⊎◌, ◌&&◌, ℕ, Bool, true, false, List, [], ◌∷◌, ◌++◌, Option, Some, None, map}
 use Rattle.std.specs.List.{Contains}
 use Rattle.file_tree.specs.Below.{IsBelow, IsNamed, IsOther, is_met, listed}
 use Rattle.file_tree.specs.Choices.{Chosen, is_excluded, is_wanted}
@@ -55,30 +55,36 @@ abbrev pub TakesIf : Bool → Name → Identity → Reached → Reached → Type
 TakesIf true path identity old new = Adds path None (Some (file_by false identity)) old new
 TakesIf false path identity old new = new ≡ old
 
+-- what an entry adds that is no file, where it is taken
+abbrev pub TakesSpecial : Bool → Name → Reached → Reached → Type 0
+TakesSpecial true path old new = Adds path None None old new
+TakesSpecial false path old new = new ≡ old
+
 -- what a link adds that leads to this, or that can't be followed
-abbrev pub TakesLinked : Kind → Name → Reached → Reached → Type 0
-TakesLinked (File identity) path old new = Adds path None (Some (file_by true identity)) old new
-TakesLinked kind path old new = new ≡ old
+abbrev pub TakesLinked : Bool → Kind → Name → Reached → Reached → Type 0
+TakesLinked specials (File identity) path old new = Adds path None (Some (file_by true identity)) old new
+TakesLinked specials Other path old new = TakesSpecial specials path old new
+TakesLinked specials kind path old new = new ≡ old
 
 -- what a link adds, of a name that is taken or isn't
-abbrev pub TakesLink : Bool → Files → Name → Reached → Reached → Type 0
-TakesLink true files path old new = Reports path old new ⊎ ((kind : Kind) × Tells (files.kind path) kind × TakesLinked kind path old new)
-TakesLink false files path old new = new ≡ old
+abbrev pub TakesLink : Bool → Bool → Files → Name → Reached → Reached → Type 0
+TakesLink true specials files path old new = Reports path old new ⊎ ((kind : Kind) × Tells (files.kind path) kind × TakesLinked specials kind path old new)
+TakesLink false specials files path old new = new ≡ old
 
 -- what an entry of this kind adds
-abbrev pub TakesKind : Kind → Files → Name → Name → Reached → Reached → Type 0
-TakesKind Folder files path name old new = Enters (path ++ (47 ∷ [])) old new
-TakesKind (File identity) files path name old new = TakesIf (is_taken name) path identity old new
-TakesKind Link files path name old new = TakesLink (is_taken name) files path old new
-TakesKind Other files path name old new = new ≡ old
+abbrev pub TakesKind : Bool → Kind → Files → Name → Name → Reached → Reached → Type 0
+TakesKind specials Folder files path name old new = Enters (path ++ (47 ∷ [])) old new
+TakesKind specials (File identity) files path name old new = TakesIf (is_taken name) path identity old new
+TakesKind specials Link files path name old new = TakesLink (is_taken name) specials files path old new
+TakesKind specials Other files path name old new = TakesSpecial (specials && is_taken name) path old new
 
 -- what an entry adds that is met
-abbrev pub TakesMet : Files → Name → Name → Reached → Reached → Type 0
-TakesMet files path name old new = Reports path old new ⊎ ((kind : Kind) × Tells (files.entry path) kind × TakesKind kind files path name old new)
+abbrev pub TakesMet : Bool → Files → Name → Name → Reached → Reached → Type 0
+TakesMet specials files path name old new = Reports path old new ⊎ ((kind : Kind) × Tells (files.entry path) kind × TakesKind specials kind files path name old new)
 
 -- what an entry adds
 abbrev pub TakesEntry : Files → Chosen → Name → Name → Reached → Reached → Type 0
-TakesEntry files chosen folder name old new = ((is_met chosen folder name ≡ false) × (new ≡ old)) ⊎ ((is_met chosen folder name ≡ true) × TakesMet files (folder ++ name) name old new)
+TakesEntry files chosen folder name old new = ((is_met chosen folder name ≡ false) × (new ≡ old)) ⊎ ((is_met chosen folder name ≡ true) × TakesMet chosen.specials files (folder ++ name) name old new)
 
 -- what some entries add, one after the other
 abbrev pub TakesAll : Files → Chosen → Name → List Name → Reached → Reached → Type 0

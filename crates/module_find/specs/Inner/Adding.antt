@@ -1,8 +1,8 @@
 -- One more is looked at.
-use Rattle.std.specs.Prelude.{◌≡◌, Bool, true, false, List, [], ◌∷◌, ◌++◌, None, map, string_bytes}
+use Rattle.std.specs.Prelude.{◌≡◌, ◌&&◌, Bool, true, false, List, [], ◌∷◌, ◌++◌, None, map, string_bytes}
 use Rattle.file_tree.specs.Files.{Faults, Files, Name}
 use Rattle.file_tree.specs.declared.walk.Found.{Found}
-use Rattle.module_find.specs.Modules.{IsModule, beside_in, fault_in, file_in, folder_of}
+use Rattle.module_find.specs.Modules.{IsModule, file_in, folder_of, is_sound, told_in}
 use Rattle.module_find.specs.declared.module.Module.{Module}
 use Rattle.module_find.specs.declared.modules.Modules.{Modules}
 use Rattle.module_find.specs.declared.modules.Sorted.{Sorted}
@@ -16,9 +16,9 @@ AddsFolder false f old new = new ≡ old
 pub record TakesFound (f : Found) (old new : Sorted) : Type 0 where
   pub folder : new.module.folder ≡ old.module.folder
   pub files : map string_bytes new.module.files.items ≡ map string_bytes old.module.files.items ++ file_in f
-  pub faults : new.module.faults.items ≡ old.module.faults.items ++ fault_in f
-  pub beside : new.beside.items ≡ old.beside.items ++ beside_in f
+  pub whole : new.module.is_whole ≡ (old.module.is_whole && is_sound f)
+  pub faults : new.faults.items ≡ old.faults.items ++ told_in f
 
 abbrev pub AddsModule : Files → Name → Modules → Modules → Faults → Faults → Type 0
 AddsModule files folder old new was is =
-    (m : Module) × (here : List Found) × IsModule files folder m here was is × (new.modules.items ≡ old.modules.items ++ m ∷ []) × (new.beside.items ≡ old.beside.items ++ here)
+    (m : Module) × (here : List Found) × IsModule files folder m here was is × (new.modules.items ≡ old.modules.items ++ m ∷ []) × (new.faults.items ≡ old.faults.items ++ here)

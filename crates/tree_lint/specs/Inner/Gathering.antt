@@ -1,6 +1,6 @@
 -- How far a run has come with the files of a module.
-use Rattle.std.specs.Prelude.{◌≡◌, ◌≤◌, ◌<◌, ◌+◌, ℕ, List, Option, Some, Result, Ok, Err, length}
-use Rattle.file_tree.specs.Files.{Faults, Name, Tells, with_fault}
+use Rattle.std.specs.Prelude.{◌≡◌, ◌≤◌, ◌<◌, ◌+◌, ℕ, List, Option, Result, Ok, Err, length}
+use Rattle.file_tree.specs.Files.{Faults, Name, Tells}
 use Rattle.file_tree.specs.declared.fault.TreeFault.TheVariants.{OutOfMemory, ReadFailed}
 use Rattle.hcl_source.specs.Load.{IsLoadFault, IsText}
 use Rattle.hcl_source.specs.declared.fault.LoadError.{LoadError}
