@@ -1,5 +1,5 @@
 -- How a run over found names goes on to the program's end.
-use Rattle.std.proofs.Common.{◌≡◌, ◌∙◌, ◌++◌, [], ℕ, Bool, true, false, List, Option, All, ap, append-nil, map, refl, subst, sym}
+use Rattle.std.proofs.Common.{◌≡◌, ◌∙◌, ◌++◌, [], ℕ, Bool, true, false, List, All, ap, append-nil, map, refl, subst, sym}
 use Rattle.std.specs.Prelude.{◌≢◌, ◌||◌, if◌then◌else◌}
 use Rattle.command_line.specs.Rows.{End, TookBy, Writer}
 use Rattle.file_tree.specs.Asked.{Asked}

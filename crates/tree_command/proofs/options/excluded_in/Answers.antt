@@ -1,4 +1,4 @@
-use Rattle.std.proofs.Common.{◌∙◌, ◌++◌, [], List, ℕ, ap, append-nil, codes, map}
+use Rattle.std.proofs.Common.{◌∙◌, [], List, ℕ, ap, append-nil, codes, map}
 use Rattle.std.proofs.lemmas.Result.{IfOk-weaker}
 use Rattle.std.specs.Borrow.{Bor}
 use Rattle.std.specs.Prelude.{unwrap_or}

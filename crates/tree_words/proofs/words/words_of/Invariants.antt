@@ -1,4 +1,4 @@
-use Rattle.std.proofs.Common.{◌≡◌, ◌∷◌, codes, map, take}
+use Rattle.std.proofs.Common.{◌≡◌, ◌∷◌, map, take}
 use Rattle.std.specs.Prelude.{filter, not}
 use Rattle.std.specs.Str.{is_utf8}
 use Rattle.tree_words.proofs.words.words_of.Given as goal
