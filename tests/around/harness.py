@@ -105,7 +105,7 @@ class Group:
         self.skipped += checks
         self.missing.append('%s (%s)' % (what, why or 'not installed'))
 
-    def call(self, *words, cwd, stdin=b'', user=None, groups=(), limit=None, **setting):
+    def call(self, *words, cwd, stdin=b'', user=None, groups=(), limit=None, within=LIMIT, **setting):
         """(status, standard output, standard error) of a command; a status below 0 is a signal."""
 
         def prepare():
@@ -126,7 +126,7 @@ class Group:
             input=stdin,
             stdout=subprocess.PIPE,
             stderr=subprocess.PIPE,
-            timeout=LIMIT,
+            timeout=within,
             preexec_fn=prepare,
         )
         return done.returncode, done.stdout, done.stderr
