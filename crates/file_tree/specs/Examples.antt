@@ -93,7 +93,7 @@ listing_of name =
     else (if bytes_eq name (codes "modules/net/") then Some (codes "notes.txt" ++ (0 ∷ codes "main.tf" ++ (0 ∷ codes "pipe.tf" ++ 0 ∷ []))) else None)
 
 abbrev small : Files
-small = record { kind = kind_of; entry = kind_of; listing = listing_of; real = λ name. name; told = λ name. None }
+small = record { kind = kind_of; entry = kind_of; listing = listing_of; real = λ name. name; told = λ name. None; path = λ name. None }
 
 -- its file is below what was given
 net : HasFolder true small all (codes "modules/") (codes "net")

@@ -1,7 +1,7 @@
 -- The words that are said of each fault, after the name and a colon: our own choice.
 use Rattle.std.specs.Prelude.{ℕ, List, codes}
 use Rattle.file_tree.specs.declared.fault.TreeFault.{TreeFault}
-use Rattle.file_tree.specs.declared.fault.TreeFault.TheVariants.{NotUtf8, OtherKind, Missing, NoInput, DeadLink, NotAFile, Unreadable, UnreadableFolder, EndlessLink, LinkNotUtf8, NotWritable, NoneBeside, OwnerNotKept, NotWritten, Changed, NotReplaced, WrittenInPart, NotSynced, ReadFailed, OutOfMemory}
+use Rattle.file_tree.specs.declared.fault.TreeFault.TheVariants.{NotUtf8, OtherKind, Missing, NoInput, DeadLink, NotAFile, Unreadable, UnreadableFolder, EndlessLink, LinkNotUtf8, NoFullPath, NotWritable, NoneBeside, OwnerNotKept, NotWritten, Changed, NotReplaced, WrittenInPart, NotSynced, ReadFailed, OutOfMemory}
 
 abbrev pub tree_fault_text : TreeFault → List ℕ
 tree_fault_text NotUtf8 = codes "the name isn't UTF-8"
@@ -14,6 +14,7 @@ tree_fault_text Unreadable = codes "cannot be read"
 tree_fault_text UnreadableFolder = codes "the folder cannot be read"
 tree_fault_text EndlessLink = codes "the link cannot be followed"
 tree_fault_text LinkNotUtf8 = codes "the link leads to a name that isn't UTF-8"
+tree_fault_text NoFullPath = codes "its full path isn't known"
 tree_fault_text NotWritable = codes "cannot be written"
 tree_fault_text NoneBeside = codes "no file can be made beside it"
 tree_fault_text OwnerNotKept = codes "its owner cannot be kept; left as it is"

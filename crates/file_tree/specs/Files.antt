@@ -31,10 +31,11 @@ pub record Files : Type 0 where
   pub listing : Name → Option (List ℕ)  -- the names in a folder, each ended by NUL
   pub real : Name → Name  -- the name of the file that it leads to, links followed
   pub told : Name → Option (List ℕ)  -- the bytes of the file of a real name
+  pub path : Name → Option Name  -- the full path of a folder, links followed, with a `/` at its end
 
 -- what a device tells that tells nothing, as the system does
 abbrev pub silent : Files
-silent = record { kind = λ name. None; entry = λ name. None; listing = λ name. None; real = λ name. name; told = λ name. None }
+silent = record { kind = λ name. None; entry = λ name. None; listing = λ name. None; real = λ name. name; told = λ name. None; path = λ name. None }
 
 -- the same files, but that the one of this real name has these bytes, where the device tells its bytes
 abbrev pub put : Files → Name → List ℕ → Files

@@ -21,6 +21,8 @@ pub enum TreeFault {
     EndlessLink,
     /// A link leads to a name that isn't UTF-8.
     LinkNotUtf8,
+    /// The full path of a folder can't be found.
+    NoFullPath,
     NotWritable,
     /// No file can be made beside it.
     NoneBeside,
@@ -55,6 +57,7 @@ impl TreeFault {
             TreeFault::UnreadableFolder => "the folder cannot be read",
             TreeFault::EndlessLink => "the link cannot be followed",
             TreeFault::LinkNotUtf8 => "the link leads to a name that isn't UTF-8",
+            TreeFault::NoFullPath => "its full path isn't known",
             TreeFault::NotWritable => "cannot be written",
             TreeFault::NoneBeside => "no file can be made beside it",
             TreeFault::OwnerNotKept => "its owner cannot be kept; left as it is",

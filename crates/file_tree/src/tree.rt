@@ -1,8 +1,9 @@
 //! What files are found in, read from and written to.
 
-ghost use Rattle.std.specs.Prelude.{◌≡◌, false, OnOk, OnErr, IfOk};
+ghost use Rattle.std.specs.Prelude.{◌≡◌, Err, None, false, OnOk, OnErr, IfOk};
 ghost use Rattle.file_tree.specs.Asked.{Asked, with_asked};
 ghost use Rattle.file_tree.specs.Files.{Faults, Files, fault_of, fault_of_reader, with_fault, put};
+ghost use Rattle.file_tree.specs.declared.fault.TreeFault.TheVariants.{Missing};
 ghost use Rattle.hcl_source.specs.Devices.{Tells};
 
 use crate::fault::TreeFault;
@@ -50,6 +51,8 @@ pub trait Tree {
     /// What a name stands for, a link being one.
     fn entry_kind(&mut self, name: &[u8]) -> Result<Kind, TreeFault>
         ensures kind { IfOk result (Tells ((files self.old).entry name.now)) }
+        // It says that nothing stands there only where it doesn't tell that something does.
+        ensures missing { result ≡ Err Missing → (files self.old).entry name.now ≡ None }
         ensures files { files self.new ≡ files self.old }
         ensures faults { faults self.new ≡ with_fault (faults self.old) (fault_of result) }
         ensures asked { asked self.new ≡ asked self.old };
@@ -58,6 +61,14 @@ pub trait Tree {
     fn listing(&mut self, folder: &[u8]) -> Result<Vec<u8>, TreeFault>
         ensures names { IfOk result
             (λ names. Tells ((files self.old).listing folder.now) names.items) }
+        ensures files { files self.new ≡ files self.old }
+        ensures faults { faults self.new ≡ with_fault (faults self.old) (fault_of result) }
+        ensures asked { asked self.new ≡ asked self.old };
+
+    /// The full path of a folder, links followed, with a `/` at its end.
+    fn full_path(&mut self, folder: &[u8]) -> Result<Vec<u8>, TreeFault>
+        ensures path { IfOk result
+            (λ path. Tells ((files self.old).path folder.now) path.items) }
         ensures files { files self.new ≡ files self.old }
         ensures faults { faults self.new ≡ with_fault (faults self.old) (fault_of result) }
         ensures asked { asked self.new ≡ asked self.old };

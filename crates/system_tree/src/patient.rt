@@ -43,6 +43,11 @@ pub fn read_link(rt: &HostRuntime, path: &str) -> io::Result<PathBuf> {
     patiently!(fs::read_link(rt, path))
 }
 
+/// The full path of what a path leads to, links followed.
+pub fn canonicalize(rt: &HostRuntime, path: &str) -> io::Result<PathBuf> {
+    patiently!(fs::canonicalize(rt, path))
+}
+
 /// Opens a folder for its names.
 pub fn open_dir(rt: &HostRuntime, path: &str) -> io::Result<<HostRuntime as Files>::Dir> {
     patiently!(rt.open_dir(path))

@@ -11,9 +11,10 @@ use crate::patient;
 use crate::shared::SharedFiles;
 use file_tree::fault::TreeFault;
 use file_tree::kind::{Identity, Kind};
-use file_tree::path::tidy;
+use file_tree::path::{joined, tidy};
 use file_tree::tree::{Replaced, Tree, WritableTree, Writing};
 use hcl_source::{ByteSource, Failed};
+use std::alloc::Global;
 use std::fs::{File, Metadata};
 use std::io;
 use std::io::{ErrorKind, Read};
@@ -144,6 +145,15 @@ fn text_of(name: &[u8]) -> Result<&str, TreeFault> {
     match std::str::from_utf8(name) {
         Ok(text) => Ok(text),
         Err(_) => Err(TreeFault::NotUtf8),
+    }
+}
+
+/// A full path as that of a folder, with a `/` at its end.
+fn folder_at(alloc: Global, path: &str) -> Result<Vec<u8>, TreeFault> {
+    let end = if path.ends_with('/') { "" } else { "/" };
+    match joined(alloc, path.as_bytes(), end.as_bytes()) {
+        Ok(folder) => Ok(folder),
+        Err(_) => Err(TreeFault::OutOfMemory),
     }
 }
 
@@ -289,6 +299,21 @@ impl SystemTree {
         Err(TreeFault::UnreadableFolder)
     }
 
+    /// The full path of a folder. One that isn't UTF-8 isn't known here.
+    fn full_path_of(&self, folder: &[u8]) -> Result<Vec<u8>, TreeFault> {
+        let path = match patient::canonicalize(&self.rt, text_of(folder)?) {
+            Ok(path) => path,
+            Err(error) if error.kind() == ErrorKind::OutOfMemory => {
+                return Err(TreeFault::OutOfMemory);
+            }
+            Err(_) => return Err(TreeFault::NoFullPath),
+        };
+        match path.to_str() {
+            Some(text) => folder_at(self.rt.alloc(), text),
+            None => Err(TreeFault::NoFullPath),
+        }
+    }
+
     /// Whether a name is a link to a file, if it leads to one.
     fn is_linked_file(&self, name: &str) -> Result<bool, TreeFault> {
         let (kind, is_linked) = match patient::symlink_metadata(&self.rt, name) {
@@ -419,6 +444,11 @@ impl Tree for SystemTree {
     #[tactic(auto, using(file_tree::proofs::FileLemmas::silent_noted))]
     fn listing(&mut self, folder: &[u8]) -> Result<Vec<u8>, TreeFault> {
         self.names_in(folder)
+    }
+
+    #[tactic(auto, using(file_tree::proofs::FileLemmas::silent_noted))]
+    fn full_path(&mut self, folder: &[u8]) -> Result<Vec<u8>, TreeFault> {
+        self.full_path_of(folder)
     }
 
     #[tactic(auto, using(file_tree::proofs::FileLemmas::silent_noted))]

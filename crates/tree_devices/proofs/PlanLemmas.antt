@@ -1,6 +1,6 @@
 -- A plan, call by call.
 use Rattle.std.proofs.Common.{◌≡◌, ◌∙◌, ◌<◌, ◌+◌, ◌++◌, ◌∷◌, [], ℕ, Bool, true, false, List, Option, Some, None, ap, get_or, length, refl, take}
-use Rattle.std.specs.Prelude.{Result, Ok, Err, OnOk, option_map, if◌then◌else◌}
+use Rattle.std.specs.Prelude.{option_map, if◌then◌else◌}
 use Rattle.std.specs.Str.{bytes_eq}
 use Rattle.std.proofs.lemmas.List.{take_more}
 use Rattle.file_tree.specs.Files.{Name, put, with_fault}
@@ -37,6 +37,5 @@ untold_at bytes true = refl
 untold_at bytes false = refl
 
 -- a file is replaced whose bytes aren't told
-pub untold_replace : {X E : Type 0} (r : Result X E) (rows : List PlannedName) (name : Name) (bytes : List ℕ) → OnOk r (planned_files rows ≡ put (planned_files rows) name bytes)
-untold_replace (Ok x) rows name bytes = λ i. record (planned_files rows) { told = λ other. untold_at bytes (bytes_eq other name) i }
-untold_replace (Err e) rows name bytes = tt
+pub untold_put : (rows : List PlannedName) (name : Name) (bytes : List ℕ) → planned_files rows ≡ put (planned_files rows) name bytes
+untold_put rows name bytes = λ i. record (planned_files rows) { told = λ other. untold_at bytes (bytes_eq other name) i }

@@ -34,4 +34,5 @@ files_in known files links = record {
   listing = λ name. listing_told (known_in known name);
   real = real_in links;
   told = text_in files;
+  path = λ name. None;
 }

@@ -12,10 +12,11 @@ planned_in rows name = find (λ row. bytes_eq name row.name.now) rows
 abbrev pub planned_files : List PlannedName → Files
 planned_files rows = record {
   kind = λ name. option_map (λ row. row.kind) (planned_in rows name);
-  entry = λ name. option_map (λ row. row.entry) (planned_in rows name);
+  entry = λ name. None;  -- a call may say by its plan that nothing stands there
   listing = λ name. Some [];
   real = λ name. name;
   told = λ name. None;
+  path = λ name. None;
 }
 
 -- the faults of the calls that took these places

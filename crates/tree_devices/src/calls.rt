@@ -10,6 +10,7 @@ pub enum Step {
     Kind,
     EntryKind,
     Listing,
+    FullPath,
     Opening,
     Reading,
     // The steps of a replacement.
@@ -29,6 +30,7 @@ impl Step {
         match self {
             Step::Kind | Step::EntryKind | Step::Opening => TreeFault::Unreadable,
             Step::Listing => TreeFault::UnreadableFolder,
+            Step::FullPath => TreeFault::NoFullPath,
             Step::Reading => TreeFault::ReadFailed,
             Step::Following => TreeFault::EndlessLink,
             Step::OpeningOld => TreeFault::NotWritable,

@@ -1,8 +1,9 @@
 //! A tree in memory, of which calls fail.
 
-ghost use Rattle.std.specs.Prelude.{◌≡◌, false, IfOk, None, OnErr, OnOk, Some, find, option_map};
+ghost use Rattle.std.specs.Prelude.{◌≡◌, Err, false, IfOk, None, OnErr, OnOk, Some, find, option_map};
 ghost use Rattle.std.specs.Str.{bytes_eq};
 ghost use Rattle.file_tree.specs.Files.{Tells, put};
+ghost use Rattle.file_tree.specs.declared.fault.TreeFault.TheVariants.{Missing};
 ghost use Rattle.tree_devices.specs.MemoryFiles.{files_in, kind_told, known_in, listing_told, real_in, text_in};
 
 use crate::calls::{Calls, Failures, Step};
@@ -23,6 +24,8 @@ use std::alloc::{AllocError, Global};
 #[derive(Drop)]
 pub struct MemoryTree<'a> {
     alloc: Global,
+    /// The full path of the current folder, without a `/` at its end.
+    current: &'a [u8],
     entries: &'a [Entry<'a>],
     known: Vec<Known>,
     files: Vec<Stored>,
@@ -80,8 +83,8 @@ fn store(
     }
 }
 
-/// A name as entries have it.
-fn plain(name: &[u8]) -> &[u8] {
+/// A name as entries have it that isn't below the current folder by its full path.
+fn tidied(name: &[u8]) -> &[u8] {
     let name = match name.strip_prefix(b"./".as_slice()) {
         Some(rest) => rest,
         None => name,
@@ -91,6 +94,23 @@ fn plain(name: &[u8]) -> &[u8] {
         None => name,
     };
     if name == b".".as_slice() { b"" } else { name }
+}
+
+/// What of a full path stands below this folder, where it is below.
+fn below<'n>(current: &[u8], path: &'n [u8]) -> Option<&'n [u8]> {
+    if path == current {
+        return Some(b"");
+    }
+    path.strip_prefix(current)?.strip_prefix(b"/".as_slice())
+}
+
+/// A name as entries have it.
+fn plain<'n>(current: &[u8], name: &'n [u8]) -> &'n [u8] {
+    let name = tidied(name);
+    if !name.starts_with(b"/") {
+        return name;
+    }
+    below(current, name).unwrap_or(name)
 }
 
 /// The name that an entry has in a folder, where it is in it.
@@ -107,35 +127,85 @@ fn name_in<'n>(folder: &[u8], name: &'n [u8]) -> Option<&'n [u8]> {
 }
 
 impl<'a> MemoryTree<'a> {
-    /// A tree that has these entries.
+    /// A tree that has these entries, whose current folder is the top of all.
     pub fn new(
         alloc: Global,
         entries: &'a [Entry<'a>],
         failures: Failures,
     ) -> Result<MemoryTree<'a>, AllocError> {
-        let mut files = Vec::new(alloc);
-        let mut links = Vec::new(alloc);
-        for entry in entries {
-            match entry.stands {
-                Stands::File(bytes) | Stands::Busy(bytes) | Stands::Same(bytes, _) => {
-                    store(alloc, &mut files, entry.name, bytes)?;
-                }
-                Stands::Link(to) => store(alloc, &mut links, entry.name, to)?,
-                Stands::Folder | Stands::Gone | Stands::Pipe => {}
-            }
-        }
         let mut tree = MemoryTree {
             alloc,
+            current: b"",
             entries,
             known: Vec::new(alloc),
-            files,
-            links,
+            files: Vec::new(alloc),
+            links: Vec::new(alloc),
             calls: Calls::new(alloc, failures),
         };
+        for entry in entries {
+            tree.keep(entry.name, entry.stands)?;
+        }
         for entry in entries {
             tree.learn(entry)?;
         }
         Ok(tree)
+    }
+
+    /// The same, but that the current folder has this full path, without a `/` at its end. An entry that isn't below it is
+    /// named by its full path, and the others have that name too.
+    pub fn new_in(
+        alloc: Global,
+        current: &'a [u8],
+        entries: &'a [Entry<'a>],
+        failures: Failures,
+    ) -> Result<MemoryTree<'a>, AllocError> {
+        let mut tree = MemoryTree::new(alloc, entries, failures)?;
+        tree.current = current;
+        for entry in entries {
+            let name = tree.full_name(entry.name)?;
+            tree.keep(name.as_slice(), entry.stands)?;
+            tree.keep_answers(name.as_slice())?;
+        }
+        Ok(tree)
+    }
+
+    /// Stores what an entry has under a name.
+    fn keep(&mut self, name: &[u8], stands: Stands<'_>) -> Result<(), AllocError> {
+        match stands {
+            Stands::File(bytes) | Stands::Busy(bytes) | Stands::Same(bytes, _) => {
+                store(self.alloc, &mut self.files, name, bytes)
+            }
+            Stands::Link(to) => store(self.alloc, &mut self.links, name, to),
+            Stands::Folder | Stands::Gone | Stands::Pipe => Ok(()),
+        }
+    }
+
+    /// The full path of a name as entries have it.
+    fn full_name(&self, name: &[u8]) -> Result<Vec<u8>, AllocError> {
+        if name.starts_with(b"/") {
+            return Vec::from_slice(self.alloc, name);
+        }
+        let mut path = joined(self.alloc, self.current, b"/")?;
+        path.extend_from_slice(name)?;
+        Ok(path)
+    }
+
+    /// The full path of a folder, with a `/` at its end.
+    fn full_path_of(&self, folder: &[u8]) -> Result<Vec<u8>, TreeFault> {
+        if self.kind_of(folder) != Ok(Kind::Folder) {
+            return Err(TreeFault::NoFullPath);
+        }
+        let name = match self.stands(folder) {
+            Some(Stands::Link(to)) => to,
+            _ => plain(self.current, folder),
+        };
+        let Ok(mut path) = self.full_name(name) else {
+            return Err(TreeFault::OutOfMemory);
+        };
+        if !path.as_slice().ends_with(b"/") && path.push(b'/').is_err() {
+            return Err(TreeFault::OutOfMemory);
+        }
+        Ok(path)
     }
 
     /// Keeps the answers of an entry: of its name, and where it is a folder, of that with a slash.
@@ -192,8 +262,10 @@ impl<'a> MemoryTree<'a> {
 
     /// What is told of a name, a link being one.
     fn told_entry(&self, name: &[u8]) -> Result<Kind, TreeFault>
-        ensures { IfOk result
+        ensures kind { IfOk result
             (Tells (option_map (λ k. k.entry) (known_in self.now.known.items name.now))) }
+        ensures missing { result ≡ Err Missing
+            → option_map (λ k. k.entry) (known_in self.now.known.items name.now) ≡ None }
     {
         match known_as(self.known.as_slice(), name) {
             Some(known) => Ok(known.entry),
@@ -237,7 +309,7 @@ impl<'a> MemoryTree<'a> {
     }
 
     fn stands(&self, name: &[u8]) -> Option<Stands<'a>> {
-        let name = plain(name);
+        let name = plain(self.current, name);
         for entry in self.entries {
             if entry.name == name {
                 return Some(entry.stands);
@@ -250,7 +322,7 @@ impl<'a> MemoryTree<'a> {
     fn identity_of(&self, name: &[u8]) -> Identity {
         let name = match self.stands(name) {
             Some(Stands::Same(_, other)) => other,
-            _ => plain(name),
+            _ => plain(self.current, name),
         };
         let inode = self
             .entries
@@ -300,7 +372,7 @@ impl<'a> MemoryTree<'a> {
             Err(TreeFault::Missing) => return Err(TreeFault::Missing),
             _ => return Err(TreeFault::UnreadableFolder),
         }
-        let folder = plain(folder);
+        let folder = plain(self.current, folder);
         let mut names = Vec::new(self.alloc);
         for entry in self.entries {
             if let Some(name) = name_in(folder, entry.name) {
@@ -401,6 +473,8 @@ impl<'a> Tree for MemoryTree<'a> {
     fn entry_kind(&mut self, name: &[u8]) -> Result<Kind, TreeFault> {
         match self.calls.make(Step::EntryKind, name) {
             Ok(()) => self.told_entry(name),
+            // That a call fails doesn't say that nothing stands there.
+            Err(TreeFault::Missing) => Err(TreeFault::Unreadable),
             Err(fault) => Err(fault),
         }
     }
@@ -409,6 +483,14 @@ impl<'a> Tree for MemoryTree<'a> {
     fn listing(&mut self, folder: &[u8]) -> Result<Vec<u8>, TreeFault> {
         match self.calls.make(Step::Listing, folder) {
             Ok(()) => self.told_names(folder),
+            Err(fault) => Err(fault),
+        }
+    }
+
+    #[tactic(auto, using(file_tree::proofs::FileLemmas::silent_noted))]
+    fn full_path(&mut self, folder: &[u8]) -> Result<Vec<u8>, TreeFault> {
+        match self.calls.make(Step::FullPath, folder) {
+            Ok(()) => self.full_path_of(folder),
             Err(fault) => Err(fault),
         }
     }

@@ -38,7 +38,7 @@ impl ByteSource for EmptyReader {
     }
 }
 
-/// A tree that tells what its names stand for, and the faults of its calls: each call takes the next place of the plan, and
+/// A tree that tells what its names stand for, links followed, and the faults of its calls: each call takes the next place of the plan, and
 /// after the last one no call fails. Its folders are empty, and it tells no bytes: to give away names or bytes takes memory,
 /// which may be refused at any time, so a tree that tells them can't tell all its faults too.
 #[derive(Drop)]
@@ -129,6 +129,13 @@ impl<'a> Tree for PlannedTree<'a> {
         }
     }
 
+    fn full_path(&mut self, _folder: &[u8]) -> Result<Vec<u8>, TreeFault> {
+        match self.call() {
+            Ok(()) => Ok(Vec::new(self.alloc)),
+            Err(fault) => Err(fault),
+        }
+    }
+
     fn reader(&mut self, _name: &[u8]) -> Result<EmptyReader, TreeFault> {
         match self.call() {
             Ok(()) => Ok(EmptyReader),
@@ -140,7 +147,6 @@ impl<'a> Tree for PlannedTree<'a> {
 }
 
 impl<'a> WritableTree for PlannedTree<'a> {
-    #[tactic(auto, using(crate::proofs::PlanLemmas::untold_replace))]
     fn replace(
         &mut self,
         _name: &[u8],

@@ -9,6 +9,7 @@ use crate::pieces::{DECLARED, MESSY, TIDY};
 use crate::texts::{Maker, Shape};
 use file_tree::fault::TreeFault;
 use file_tree::kind::{Identity, Kind};
+use file_tree::path::joined;
 use file_tree::tree::{Replaced, Tree, WritableTree, Writing};
 use std::alloc::{AllocError, Global};
 use tfrules_command::Hashing;
@@ -185,6 +186,9 @@ impl Tree for MadeTree {
 
     #[tactic(auto, using(file_tree::proofs::FileLemmas::silent_noted))]
     fn entry_kind(&mut self, name: &[u8]) -> Result<Kind, TreeFault> {
+        if name.ends_with(b"/.git") || name.ends_with(b"/.tfrules") {
+            return Err(TreeFault::Missing);
+        }
         Ok(self.kind_of(name))
     }
 
@@ -192,6 +196,14 @@ impl Tree for MadeTree {
     fn listing(&mut self, folder: &[u8]) -> Result<Vec<u8>, TreeFault> {
         match self.names(folder) {
             Ok(names) => Ok(names),
+            Err(_) => Err(TreeFault::OutOfMemory),
+        }
+    }
+
+    #[tactic(auto, using(file_tree::proofs::FileLemmas::silent_noted))]
+    fn full_path(&mut self, folder: &[u8]) -> Result<Vec<u8>, TreeFault> {
+        match joined(self.alloc, b"/made/", folder) {
+            Ok(path) => Ok(path),
             Err(_) => Err(TreeFault::OutOfMemory),
         }
     }
