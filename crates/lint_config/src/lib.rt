@@ -8,5 +8,5 @@ mod said;
 mod text;
 
 pub use fault::ConfigFault;
-pub use said::Said;
+pub use said::{NOTHING, Said};
 pub use text::{BadLine, Config, config_in};

@@ -16,7 +16,7 @@ pub struct Said {
 }
 
 /// None.
-pub(crate) const NOTHING: Said = Said {
+pub const NOTHING: Said = Said {
     rules: None,
     naming: None,
     minimum: None,

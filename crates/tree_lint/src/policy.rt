@@ -1,5 +1,6 @@
 //! By what modules are linted.
 
+use module_find::Module;
 use tf_rules::{Settings, Severity};
 
 /// By what a module is linted.
@@ -11,4 +12,11 @@ pub struct Policy {
     pub minimum: Severity,
     /// No issue fails the run.
     pub force: bool,
+}
+
+/// A module, and by what it is linted.
+#[derive(Drop)]
+pub struct Governed {
+    pub module: Module,
+    pub policy: Policy,
 }

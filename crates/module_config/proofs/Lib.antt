@@ -1,0 +1,4 @@
+mod LookLemmas
+mod ReadLemmas
+mod SettledLemmas
+mod WordLemmas

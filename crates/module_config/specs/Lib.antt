@@ -1,0 +1,7 @@
+pub mod Configs
+pub mod Examples
+pub mod Governors
+pub mod Governs
+pub mod Inner
+pub mod Settled
+pub mod Words

@@ -1,0 +1,11 @@
+//! Which `.tfrules` governs a module, and by what it is linted then.
+#![tactic(auto)]
+
+pub mod config_file;
+pub mod configure;
+mod first;
+pub mod governor;
+mod policy;
+pub mod start;
+mod ups;
+pub mod words;

@@ -1,0 +1,143 @@
+//! By what modules are linted.
+
+ghost use Rattle.std.specs.Prelude.{◌≡◌, ◌++◌, IfOk, OnOk, find, flat_map, map, option_map, unwrap_or};
+ghost use Rattle.std.specs.Str.{bytes_eq};
+ghost use Rattle.rule_set.specs.RuleSets.{rules_of};
+ghost use Rattle.lint_config.specs.Lines.{nothing};
+ghost use Rattle.lint_config.specs.Options.{options_of};
+ghost use Rattle.module_config.specs.Settled.{default_rules, first_said, good_text, governed_in, paired, said_in, settled, wanted_by, wanted_of};
+
+use crate::config_file::{ConfigFile, ConfigText};
+use crate::governor::{Governor, Placed};
+use lint_config::{NOTHING, Said};
+use rule_set::{RuleSet, Severity};
+use std::alloc::{AllocError, Global};
+use tf_rules::{Naming, Settings};
+use tree_lint::policy::{Governed, Policy};
+
+/// The rules of the file, or those by default.
+fn own_rules(own: Option<RuleSet>) -> RuleSet
+    ensures { rules_of result ≡ unwrap_or (option_map rules_of own) default_rules }
+{
+    match own {
+        Some(rules) => rules,
+        None => RuleSet::recommended(),
+    }
+}
+
+/// The rules: those of the line, else those of the file, else those by default.
+fn rules_by(line: Option<RuleSet>, own: Option<RuleSet>) -> RuleSet
+    ensures { rules_of result
+        ≡ first_said (option_map rules_of line) (option_map rules_of own) default_rules }
+{
+    match line {
+        Some(rules) => rules,
+        None => own_rules(own),
+    }
+}
+
+/// One of these: that of the line, else that of the file, else the default.
+fn first_said<A: Copy>(line: Option<A>, own: Option<A>, default: A) -> A
+    ensures { result ≡ first_said line own default }
+{
+    match line {
+        Some(said) => said,
+        None => own.unwrap_or(default),
+    }
+}
+
+/// By what a module is linted where both say something.
+pub fn settled(line: Said, own: Said) -> Policy
+    ensures { wanted_of result ≡ settled (options_of line) (options_of own) }
+{
+    let rules = rules_by(line.rules, own.rules);
+    let naming = first_said(line.naming, own.naming, Naming::SnakeCase);
+    let minimum = first_said(line.minimum, own.minimum, Severity::Notice);
+    Policy {
+        settings: Settings { rules, naming },
+        minimum,
+        force: line.force || own.force,
+    }
+}
+
+/// What a file says, if all of its lines are good.
+fn good_text(text: &ConfigText) -> Option<Said>
+    ensures { option_map options_of result ≡ good_text text.now }
+{
+    match text {
+        ConfigText::Says(config) if config.faults.is_empty() => Some(config.said),
+        _ => None,
+    }
+}
+
+/// The file of this name.
+fn file_named<'f>(files: &'f [ConfigFile], name: &[u8]) -> Option<&'f ConfigFile>
+    ensures { option_map (λ file. file.now) result
+        ≡ find (λ file. bytes_eq name.now file.name.items) files.now }
+{
+    files.iter().find(|file| *name == *file.name.as_slice())
+}
+
+/// What the file of this name says, if all of its lines are good.
+fn said_in(files: &[ConfigFile], name: &[u8]) -> Option<Said>
+    ensures { option_map options_of result ≡ said_in files.now name.now }
+{
+    match file_named(files, name) {
+        Some(file) => good_text(&file.text),
+        None => None,
+    }
+}
+
+/// By what a module is linted, if that is known.
+fn policy_by(line: Said, files: &[ConfigFile], governor: &Governor) -> Option<Policy>
+    ensures { option_map wanted_of result ≡ wanted_by (options_of line) files.now governor.now }
+{
+    match governor {
+        Governor::Free => Some(settled(line, NOTHING)),
+        Governor::File(name) => match said_in(files, name.as_slice()) {
+            Some(said) => Some(settled(line, said)),
+            None => None,
+        },
+        Governor::Unknown(_) => None,
+    }
+}
+
+/// Adds a module with its policy, if that is known.
+fn add_governed(
+    line: Said,
+    files: &[ConfigFile],
+    placed: Placed,
+    governed: &mut Vec<Governed>,
+) -> Result<(), AllocError>
+    ensures { OnOk result (map paired governed.new.items
+        ≡ map paired governed.old.items ++ governed_in (options_of line) files.now placed) }
+{
+    let Some(policy) = policy_by(line, files, &placed.governor) else {
+        return Ok(());
+    };
+    let one = Governed {
+        module: placed.module,
+        policy,
+    };
+    match governed.push(one) {
+        Ok(()) => Ok(()),
+        Err(_) => Err(AllocError),
+    }
+}
+
+/// The modules whose policies are known.
+pub(crate) fn governed_of(
+    alloc: Global,
+    line: Said,
+    files: &[ConfigFile],
+    placed: Vec<Placed>,
+) -> Result<Vec<Governed>, AllocError>
+    ensures { IfOk result (λ governed. map paired governed.items
+        ≡ flat_map (governed_in (options_of line) files.now) placed.items) }
+{
+    let mut governed = Vec::new(alloc);
+    for each in placed {
+        add_governed(line, files, each, &mut governed)?;
+    }
+    Ok(governed)
+}

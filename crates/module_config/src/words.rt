@@ -1,0 +1,171 @@
+//! What is said of files that are bad, and of modules that aren't linted for them.
+
+ghost use Rattle.std.specs.Prelude.{◌≡◌, ◌++◌, Some, false, flat_map, is_err};
+ghost use Rattle.command_line.specs.Rows.{Took, writer};
+ghost use Rattle.file_tree.specs.Quotes.{quoted};
+ghost use Rattle.module_config.specs.Words.{bad_line, config_lines, configured_words, failure_lines, line_words, unlinted_line};
+
+use crate::config_file::{ConfigFile, ConfigText};
+use crate::configure::Configured;
+use crate::start::Start;
+use command_line::write_pieces;
+use file_tree::quote::write_quoted;
+use file_tree::walk::Found;
+use hcl_source::{ByteSink, Failed};
+use itoa::Buffer;
+use lint_config::BadLine;
+use tree_lint::refusal::{Refusal, tell_refusal};
+
+/// Writes what follows the name of a file with a bad line.
+fn tell_line_words<S: ByteSink>(sink: &mut S, bad: &BadLine) -> Result<(), Failed>
+    requires { S.failed sink.old ≡ false }
+    ensures took { Took (writer S.ByteSink sink.old sink.new) (line_words bad.now) }
+    ensures failed { S.failed sink.new ≡ is_err result }
+{
+    let mut line = Buffer::new();
+    let line = line.format(bad.line).as_bytes();
+    let text = bad.fault.text().as_bytes();
+    write_pieces(sink, &[b":", line, b": ", text, b"\n"])
+}
+
+/// Writes a name as it is shown, and what is wrong with a line of this file.
+fn tell_named_line<S: ByteSink>(sink: &mut S, name: &[u8], bad: &BadLine) -> Result<(), Failed>
+    requires { S.failed sink.old ≡ false }
+    ensures took { Took (writer S.ByteSink sink.old sink.new) (quoted name.now ++ line_words bad.now) }
+    ensures failed { S.failed sink.new ≡ is_err result }
+{
+    if write_quoted(sink, name).is_err() {
+        return Err(Failed);
+    }
+    tell_line_words(sink, bad)
+}
+
+/// Says what is wrong with a line of the file of this name.
+fn tell_line<S: ByteSink>(sink: &mut S, name: &[u8], bad: &BadLine) -> Result<(), Failed>
+    requires { S.failed sink.old ≡ false }
+    ensures took { Took (writer S.ByteSink sink.old sink.new) (bad_line name.now bad.now) }
+    ensures failed { S.failed sink.new ≡ is_err result }
+{
+    if write_pieces(sink, &[b"tfrules-all: error: "]).is_err() {
+        return Err(Failed);
+    }
+    tell_named_line(sink, name, bad)
+}
+
+/// Says which lines of the file of this name are wrong.
+fn tell_lines<S: ByteSink>(sink: &mut S, name: &[u8], all: &[BadLine]) -> Result<(), Failed>
+    requires { S.failed sink.old ≡ false }
+    ensures took { Took (writer S.ByteSink sink.old sink.new) (flat_map (bad_line name.now) all.now) }
+    ensures failed { S.failed sink.new ≡ is_err result }
+{
+    for bad in all {
+        tell_line(sink, name, bad)?;
+    }
+    Ok(())
+}
+
+/// Says what is wrong with a file.
+fn tell_file<S: ByteSink>(sink: &mut S, start: &Start, file: &ConfigFile) -> Result<(), Failed>
+    requires { S.failed sink.old ≡ false }
+    ensures took { Took (writer S.ByteSink sink.old sink.new) (config_lines start.now file.now) }
+    ensures failed { S.failed sink.new ≡ is_err result }
+{
+    let name = start.shown(file.name.as_slice());
+    match &file.text {
+        ConfigText::Says(config) => tell_lines(sink, name, config.faults.as_slice()),
+        ConfigText::Refused(fault) => tell_refusal(
+            sink,
+            Refusal {
+                name,
+                at: Some(fault.at),
+                text: fault.kind.text(),
+            },
+        ),
+        ConfigText::Unread(fault) => tell_refusal(
+            sink,
+            Refusal {
+                name,
+                at: None,
+                text: fault.text(),
+            },
+        ),
+    }
+}
+
+/// Says what is wrong with each of these files.
+fn tell_files<S: ByteSink>(sink: &mut S, start: &Start, files: &[ConfigFile]) -> Result<(), Failed>
+    requires { S.failed sink.old ≡ false }
+    ensures took { Took (writer S.ByteSink sink.old sink.new)
+        (flat_map (config_lines start.now) files.now) }
+    ensures failed { S.failed sink.new ≡ is_err result }
+{
+    for file in files {
+        tell_file(sink, start, file)?;
+    }
+    Ok(())
+}
+
+/// Says which call failed.
+fn tell_failure<S: ByteSink>(sink: &mut S, start: &Start, found: &Found) -> Result<(), Failed>
+    requires { S.failed sink.old ≡ false }
+    ensures took { Took (writer S.ByteSink sink.old sink.new) (failure_lines start.now found.now) }
+    ensures failed { S.failed sink.new ≡ is_err result }
+{
+    match found.fault {
+        Some(fault) => tell_refusal(
+            sink,
+            Refusal {
+                name: start.shown(found.name.as_slice()),
+                at: None,
+                text: fault.text(),
+            },
+        ),
+        None => Ok(()),
+    }
+}
+
+/// Says which calls failed.
+fn tell_failures<S: ByteSink>(sink: &mut S, start: &Start, all: &[Found]) -> Result<(), Failed>
+    requires { S.failed sink.old ≡ false }
+    ensures took { Took (writer S.ByteSink sink.old sink.new)
+        (flat_map (failure_lines start.now) all.now) }
+    ensures failed { S.failed sink.new ≡ is_err result }
+{
+    for found in all {
+        tell_failure(sink, start, found)?;
+    }
+    Ok(())
+}
+
+/// Says which files are bad, and what couldn't be looked at to find them.
+pub fn tell_configured<S: ByteSink>(sink: &mut S, configured: &Configured) -> Result<(), Failed>
+    requires { S.failed sink.old ≡ false }
+    ensures took { Took (writer S.ByteSink sink.old sink.new) (configured_words configured.now) }
+    ensures failed { S.failed sink.new ≡ is_err result }
+{
+    let start = &configured.start;
+    if tell_failures(sink, start, configured.failures.as_slice()).is_err() {
+        return Err(Failed);
+    }
+    tell_files(sink, start, configured.files.as_slice())
+}
+
+/// Says how many modules aren't linted since their options aren't known, if there are such.
+pub fn tell_unlinted<S: ByteSink>(sink: &mut S, count: usize) -> Result<(), Failed>
+    requires { S.failed sink.old ≡ false }
+    ensures took { Took (writer S.ByteSink sink.old sink.new) (unlinted_line count) }
+    ensures failed { S.failed sink.new ≡ is_err result }
+{
+    if count == 0 {
+        return Ok(());
+    }
+    if count == 1 {
+        return write_pieces(sink, &[b"1 module not linted: its options aren't known\n"]);
+    }
+    let mut number = Buffer::new();
+    let number = number.format(count).as_bytes();
+    write_pieces(
+        sink,
+        &[number, b" modules not linted: their options aren't known\n"],
+    )
+}
