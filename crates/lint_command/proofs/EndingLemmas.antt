@@ -1,5 +1,5 @@
 -- What is linted, and how a run ends.
-use Rattle.std.proofs.Common.{◌≡◌, ◌∙◌, ◌⊎◌, ◌++◌, ℕ, Bool, true, false, List, Option, ap, flat_map, inr, refl, subst, sym}
+use Rattle.std.proofs.Common.{◌≡◌, ◌∙◌, ◌⊎◌, ◌++◌, ℕ, Bool, true, false, List, Option, ap, flat_map, inl, inr, refl, subst, sym}
 use Rattle.std.specs.Prelude.{◌||◌, if◌then◌else◌}
 use Rattle.command_line.specs.Rows.{End, TookBy, Writer, write_failed}
 use Rattle.file_tree.specs.Choices.{Chosen}
@@ -15,9 +15,14 @@ use Rattle.tree_lint.specs.Faults.{fault_lines}
 use Rattle.tree_lint.specs.Refusals.{tree_linter}
 use Rattle.tree_lint.specs.Runs.{IsLintRun, worse_status}
 use Rattle.tree_lint.specs.declared.counts.Counts.{Counts}
-use Rattle.tree_lint.specs.declared.policy.Policy.{Policy}
+use Rattle.tree_lint.specs.declared.policy.Governed.{Governed}
+use Rattle.lint_config.specs.Options.{options_of}
+use Rattle.module_config.specs.Configs.{Configures}
+use Rattle.module_config.specs.Words.{configured_words}
+use Rattle.module_config.specs.declared.configure.Configured.{Configured}
+use Rattle.lint_command.specs.Line as Line
 use Rattle.lint_command.specs.Asked.{job_of}
-use Rattle.lint_command.specs.Ends.{Collects, LintsOr, RunsThen, Then, any_file, fault_status, last_words, summary}
+use Rattle.lint_command.specs.Ends.{Collects, LintsCollected, LintsModules, LintsOr, RunsThen, Then, any_file, fault_status, last_words, summary}
 use Rattle.lint_command.specs.declared.options.Job.{Job}
 
 pub collects : (files later : Files) (choice : Chosen) (shard : Option Shard) (paths : List Name) (was walked is : Faults) (found folders picked left kept told all : List Found) (modules : List Module) → later ≡ files → choice ≡ any_file → Finds files choice paths found
@@ -49,45 +54,52 @@ or_true : (a b : Bool) → b ≡ true → (a || b) ≡ true
 or_true true b e = refl
 or_true false b e = e
 
-module _ (files : Files) (policy : Policy) (quiet : Bool) (modules items : List Module) (faults : List Found) (was is : Faults) (counts : Counts) (between : End) (same : modules ≡ items) (ran : IsLintRun files policy modules was is between counts) where
-  ran' : IsLintRun files policy items was is between counts
-  ran' = subst (λ l. IsLintRun files policy l was is between counts) same ran
+module _ (files : Files) (quiet : Bool) (c : Configured) (modules : List Governed) (faults : List Found) (was is : Faults) (counts : Counts) (between : End) (same : modules ≡ c.governed.items) (ran : IsLintRun files modules was is between counts) where
+  ran' : IsLintRun files c.governed.items was is between counts
+  ran' = subst (λ l. IsLintRun files l was is between counts) same ran
 
   -- standard error failed: nothing more is said
-  pub cut_here : (end : End) → between.err.failed ≡ true → end.out ≡ between.out → end.err ≡ between.err → end.status ≡ 1 → RunsThen files policy quiet items faults was is end
+  pub cut_here : (end : End) → between.err.failed ≡ true → end.out ≡ between.out → end.err ≡ between.err → end.status ≡ 1 → RunsThen files quiet c faults was is end
   cut_here end bad out err exit = record {
     between = between;
     counts = counts;
     ran = ran';
     output = out;
-    message = subst (λ w. Then between.err.failed between.err w (last_words quiet between.out.failed faults counts)) (sym err) (then_failed between.err.failed between.err (last_words quiet between.out.failed faults counts) bad);
-    exit = exit ∙ sym (ap (λ (v : Bool). if v then 1 else worse_status between.status (fault_status faults)) (or_true end.out.failed end.err.failed (ap (λ (w : Writer). w.failed) err ∙ bad)));
+    message = subst (λ w. Then between.err.failed between.err w (last_words quiet between.out.failed faults c counts)) (sym err) (then_failed between.err.failed between.err (last_words quiet between.out.failed faults c counts) bad);
+    exit = exit ∙ sym (ap (λ (v : Bool). if v then 1 else worse_status between.status (fault_status faults c.unlinted)) (or_true end.out.failed end.err.failed (ap (λ (w : Writer). w.failed) err ∙ bad)));
   }
 
   -- it didn't, and then the last words were said
-  pub then_here : (slice : List Found) (end : End) → slice ≡ faults → between.err.failed ≡ false → end.out ≡ between.out → end.err.before ≡ between.err.before → TookBy end.err.failed between.err.after end.err.after (last_words quiet between.out.failed slice counts)
-      → end.status ≡ (if between.out.failed || end.err.failed then 1 else worse_status between.status (fault_status slice)) → RunsThen files policy quiet items faults was is end
+  pub then_here : (slice : List Found) (end : End) → slice ≡ faults → between.err.failed ≡ false → end.out ≡ between.out → end.err.before ≡ between.err.before → TookBy end.err.failed between.err.after end.err.after (last_words quiet between.out.failed slice c counts)
+      → end.status ≡ (if between.out.failed || end.err.failed then 1 else worse_status between.status (fault_status slice c.unlinted)) → RunsThen files quiet c faults was is end
   then_here slice end these good out err took exit = record {
     between = between;
     counts = counts;
     ran = ran';
     output = out;
-    message = then_took between.err.failed between.err end.err (last_words quiet between.out.failed faults counts) good err (subst (λ l. TookBy end.err.failed between.err.after end.err.after (last_words quiet between.out.failed l counts)) these took);
-    exit = exit ∙ ap (λ l. if between.out.failed || end.err.failed then 1 else worse_status between.status (fault_status l)) these
-        ∙ sym (ap (λ (w : Writer). if w.failed || end.err.failed then 1 else worse_status between.status (fault_status faults)) out);
+    message = then_took between.err.failed between.err end.err (last_words quiet between.out.failed faults c counts) good err (subst (λ l. TookBy end.err.failed between.err.after end.err.after (last_words quiet between.out.failed l c counts)) these took);
+    exit = exit ∙ ap (λ l. if between.out.failed || end.err.failed then 1 else worse_status between.status (fault_status l c.unlinted)) these
+        ∙ sym (ap (λ (w : Writer). if w.failed || end.err.failed then 1 else worse_status between.status (fault_status faults c.unlinted)) out);
   }
 
-pub lints_collected : (files later : Files) (job : Job) (paths : List Name) (modules : List Module) (faults : List Found) (was walked is : Faults) (end : End) → later ≡ files → Collects files job.shard paths was walked modules faults
-    → RunsThen later job.policy job.quiet modules faults walked is end → LintsOr (job_of job) paths files was is end
-lints_collected files later job paths modules faults was walked is end same c runs =
-    inr (record { modules = modules; faults = faults; walked = walked; collects = c; policy = job.policy; asked = refl; runs = subst (λ f. RunsThen f job.policy job.quiet modules faults walked is end) same runs })
+pub lints_modules : (files later : Files) (job : Job) (modules : List Module) (faults slice : List Found) (was looked is : Faults) (c : Configured) (end : End) → later ≡ files → slice ≡ faults
+    → Configures files (options_of job.given.said) job.given.reads modules was looked c → RunsThen later job.quiet c slice looked is end → LintsCollected (job_of job) modules faults files was is end
+lints_modules files later job modules faults slice was looked is c end same these h runs =
+    inr (record { config = c; looked = looked; configures = h; runs = subst (λ l. RunsThen files job.quiet c l looked is end) these (subst (λ f. RunsThen f job.quiet c slice looked is end) same runs) })
+
+pub lints_collected : (files later : Files) (job : Line.Job) (paths : List Name) (modules : List Module) (faults : List Found) (was walked is : Faults) (end : End) → later ≡ files → Collects files job.shard paths was walked modules faults
+    → LintsCollected job modules faults later walked is end → LintsOr job paths files was is end
+lints_collected files later job paths modules faults was walked is end same c (inl memory) = inl memory
+lints_collected files later job paths modules faults was walked is end same c (inr lints) =
+    inr (record { modules = modules; faults = faults; walked = walked; collects = c; lints = subst (λ f. LintsModules job modules faults f walked is end) same lints })
 
 -- ---- last words
 
-pub words_said : (quiet out_failed : Bool) (faults : List Found) (counts : Counts) → out_failed ≡ false → flat_map fault_lines faults ++ summary quiet counts ≡ last_words quiet out_failed faults counts
-words_said quiet true faults counts e = absurd (cc)
-words_said quiet false faults counts e = refl
+pub words_said : (quiet out_failed : Bool) (faults : List Found) (c : Configured) (counts : Counts) → out_failed ≡ false
+    → flat_map fault_lines faults ++ (configured_words c ++ summary quiet c.unlinted counts) ≡ last_words quiet out_failed faults c counts
+words_said quiet true faults c counts e = absurd (cc)
+words_said quiet false faults c counts e = refl
 
-pub failure_said : (quiet out_failed : Bool) (faults : List Found) (counts : Counts) → out_failed ≡ true → write_failed tree_linter ≡ last_words quiet out_failed faults counts
-failure_said quiet true faults counts e = refl
-failure_said quiet false faults counts e = absurd (cc)
+pub failure_said : (quiet out_failed : Bool) (faults : List Found) (c : Configured) (counts : Counts) → out_failed ≡ true → write_failed tree_linter ≡ last_words quiet out_failed faults c counts
+failure_said quiet true faults c counts e = refl
+failure_said quiet false faults c counts e = absurd (cc)

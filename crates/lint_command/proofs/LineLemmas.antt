@@ -1,18 +1,17 @@
 -- What the parts of a line ask for.
 use Rattle.std.proofs.Common.{◌≡◌, ◌∙◌, ℕ, Bool, List, Option}
 use Rattle.std.specs.Prelude.{Result}
-use Rattle.rule_lists.specs.declared.fault.ListFault.{ListFault}
 use Rattle.rule_set.specs.declared.rule.Rule.{Rule}
 use Rattle.rule_set.specs.declared.rule.Severity.{Severity}
 use Rattle.tf_rules.specs.declared.naming.Naming.{Naming}
 use Rattle.tree_words.specs.declared.shard.Shard.{Shard}
-use Rattle.lint_command.specs.Line.{Wanted, asking_by, is_good, wanted_by}
+use Rattle.lint_command.specs.Line.{Given, asking_by, given_by, is_good}
 use Rattle.lint_command.specs.declared.usage.Usage.{Usage}
 
-pub wanted_parts : (r r' : Result (List Rule) ListFault) (n n' : Option Naming) (m m' : Option Severity) (f f' : Bool) → r ≡ r' → n ≡ n' → m ≡ m' → f ≡ f' → wanted_by r n m f ≡ wanted_by r' n' m' f'
-wanted_parts r r' n n' m m' f f' er en em ef = λ i. wanted_by (er i) (en i) (em i) (ef i)
+pub given_parts : (r r' : Result (Option (List Rule)) Usage) (n n' : Result (Option Naming) Usage) (m m' : Result (Option Severity) Usage) (f f' v v' : Bool) → r ≡ r' → n ≡ n' → m ≡ m' → f ≡ f' → v ≡ v' → given_by r n m f v ≡ given_by r' n' m' f' v'
+given_parts r r' n n' m m' f f' v v' er en em ef ev = λ i. given_by (er i) (en i) (em i) (ef i) (ev i)
 
-pub asking_parts : (w w' : Result Wanted Usage) (q q' : Bool) (s s' : Option (Option Shard)) (g null null' : Bool) (k k' : ℕ) (names : List (List ℕ)) → w ≡ w' → q ≡ q' → s ≡ s' → g ≡ is_good null k → null ≡ null' → k ≡ k'
+pub asking_parts : (w w' : Result Given Usage) (q q' : Bool) (s s' : Option (Option Shard)) (g null null' : Bool) (k k' : ℕ) (names : List (List ℕ)) → w ≡ w' → q ≡ q' → s ≡ s' → g ≡ is_good null k → null ≡ null' → k ≡ k'
     → asking_by w q s g null names ≡ asking_by w' q' s' (is_good null' k') null' names
 asking_parts w w' q q' s s' g null null' k k' names ew eq es eg enull ek =
     (λ i. asking_by (ew i) (eq i) (es i) (eg i) null names) ∙ (λ i. asking_by w' q' s' (is_good (enull i) (ek i)) (enull i) names)

@@ -1,21 +1,28 @@
 -- What the options of a call ask for, in the words of a line.
-use Rattle.std.specs.Prelude.{Result, Ok, Err, map}
-use Rattle.tf_rules.specs.Issues.{asked_of}
-use Rattle.tree_lint.specs.declared.policy.Policy.{Policy}
-use Rattle.lint_command.specs.Line.{Asking, Job, Wanted}
+use Rattle.std.specs.Prelude.{List, Option, Result, Ok, Err, map, option_map}
+use Rattle.lint_config.specs.Options.{options_of}
+use Rattle.rule_set.specs.RuleSets.{rules_of}
+use Rattle.rule_set.specs.declared.rule.Rule.{Rule}
+use Rattle.rule_set.specs.declared.rule_set.RuleSet.{RuleSet}
+use Rattle.lint_command.specs.Line.{Asking, Given, Job}
+use Rattle.lint_command.specs.declared.options.Given as code_given
 use Rattle.lint_command.specs.declared.options.Job as code
 use Rattle.lint_command.specs.declared.options.LintOptions.{LintOptions}
 use Rattle.lint_command.specs.declared.usage.Usage.{Usage}
 
-abbrev pub wanted_of : Policy → Wanted
-wanted_of policy = record { asked = asked_of policy.settings; minimum = policy.minimum; force = policy.force }
+abbrev pub rules_told : Result (Option RuleSet) Usage → Result (Option (List Rule)) Usage
+rules_told (Ok rules) = Ok (option_map rules_of rules)
+rules_told (Err usage) = Err usage
 
-abbrev pub wanted_in : Result Policy Usage → Result Wanted Usage
-wanted_in (Ok policy) = Ok (wanted_of policy)
-wanted_in (Err usage) = Err usage
+abbrev pub given_of : code_given.Given → Given
+given_of given = record { said = options_of given.said; reads = given.reads }
+
+abbrev pub given_in : Result code_given.Given Usage → Result Given Usage
+given_in (Ok given) = Ok (given_of given)
+given_in (Err usage) = Err usage
 
 abbrev pub job_of : code.Job → Job
-job_of job = record { wanted = wanted_of job.policy; quiet = job.quiet; shard = job.shard }
+job_of job = record { given = given_of job.given; quiet = job.quiet; shard = job.shard }
 
 abbrev pub asking_of : LintOptions → Asking
 asking_of o = record { job = job_of o.job; null = o.null; names = map (λ name. name.now) o.names.items }

@@ -1,5 +1,5 @@
 -- How a run of `tfrules-all` ends. Its texts and statuses are our own choice.
-use Rattle.std.specs.Prelude.{◌≡◌, ◌⊎◌, ◌||◌, ℕ, Bool, true, false, List, [], ◌∷◌, ◌++◌, Option, Result, Ok, Err, codes, flat_map, if◌then◌else◌}
+use Rattle.std.specs.Prelude.{◌≡◌, ◌⊎◌, ◌==◌, ◌&&◌, ◌||◌, ℕ, Bool, true, false, List, [], ◌∷◌, ◌++◌, Option, Result, Ok, Err, codes, flat_map, nat_lt, if◌then◌else◌}
 use Rattle.clap.specs.Words.{Text}
 use Rattle.command_line.specs.Rows.{End, Row, Shows, TookBy, Writer, fails_with, message_row, out_of_memory, output_row, write_failed}
 use Rattle.file_tree.specs.Choices.{Chosen, chosen_by, with_specials}
@@ -8,6 +8,9 @@ use Rattle.file_tree.specs.Finds.{AreReal, Finds}
 use Rattle.file_tree.specs.Ordered.{Orders}
 use Rattle.file_tree.specs.declared.walk.Found.{Found}
 use Rattle.module_find.specs.Modules.{AreFolders, AreModules, lost_of}
+use Rattle.module_config.specs.Configs.{Configures}
+use Rattle.module_config.specs.Words.{configured_words, unlinted_line}
+use Rattle.module_config.specs.declared.configure.Configured.{Configured}
 use Rattle.module_find.specs.declared.module.Module.{Module}
 use Rattle.tree_words.specs.Paths.{paths_of_input, paths_of_line}
 use Rattle.tree_words.specs.Shards.{picked_of}
@@ -19,8 +22,6 @@ use Rattle.tree_lint.specs.Numbers.{summary_line}
 use Rattle.tree_lint.specs.Refusals.{tree_linter}
 use Rattle.tree_lint.specs.Runs.{IsLintRun, worse_status}
 use Rattle.tree_lint.specs.declared.counts.Counts.{Counts}
-use Rattle.tree_lint.specs.declared.policy.Policy.{Policy}
-use Rattle.lint_command.specs.Asked.{wanted_of}
 use Rattle.lint_command.specs.Explained.{explained, rule_list}
 use Rattle.lint_command.specs.Line.{Asking, Job, asking_of_texts}
 use Rattle.lint_command.specs.LinterWords.{linter_words}
@@ -53,43 +54,59 @@ abbrev pub Then : Bool → Writer → Writer → List ℕ → Type 0
 Then true between last text = last ≡ between
 Then false between last text = (last.before ≡ between.before) × TookBy last.failed between.after last.after text
 
--- how many issues there are, and in how many modules, unless the run is to be quiet
-abbrev pub summary : Bool → Counts → List ℕ
-summary quiet counts = if quiet then [] else summary_line counts
+-- how many issues there are, and in how many modules, and how many modules aren't linted. That there is no module isn't said then
+abbrev pub count_lines : ℕ → Counts → List ℕ
+count_lines unlinted counts = (if counts.modules == 0 && nat_lt 0 unlinted then [] else summary_line counts) ++ unlinted_line unlinted
 
--- what is said last: what can't be looked at, and what was found in all; or that a write failed
-abbrev pub last_words : Bool → Bool → List Found → Counts → List ℕ
-last_words quiet out_failed faults counts = if out_failed then write_failed tree_linter else flat_map fault_lines faults ++ summary quiet counts
+-- the same, unless the run is to be quiet
+abbrev pub summary : Bool → ℕ → Counts → List ℕ
+summary quiet unlinted counts = if quiet then [] else count_lines unlinted counts
 
--- the status of a run in which these can't be looked at
-abbrev pub fault_status : List Found → ℕ
-fault_status [] = 0
-fault_status (f ∷ faults) = 1
+-- what is said last: what can't be looked at, which files `.tfrules` are bad, and what was found in all; or
+-- that a write failed
+abbrev pub last_words : Bool → Bool → List Found → Configured → Counts → List ℕ
+last_words quiet out_failed faults config counts =
+    if out_failed then write_failed tree_linter else flat_map fault_lines faults ++ (configured_words config ++ summary quiet config.unlinted counts)
 
--- EACH MODULE IS LINTED, and then the last words are said. What can't be looked at is a status of 1
-pub record RunsThen (files : Files) (policy : Policy) (quiet : Bool) (modules : List Module) (faults : List Found) (was is : Faults) (end : End) : Type 0 where
+-- the status of a run in which these can't be looked at, and so many modules aren't linted
+abbrev pub fault_status : List Found → ℕ → ℕ
+fault_status [] unlinted = if unlinted == 0 then 0 else 1
+fault_status (f ∷ faults) unlinted = 1
+
+-- EACH MODULE IS LINTED whose options are known, by its own, and then the last words are said. What can't be looked at, and
+-- what isn't linted, is a status of 1
+pub record RunsThen (files : Files) (quiet : Bool) (config : Configured) (faults : List Found) (was is : Faults) (end : End) : Type 0 where
   pub between : End  -- when the modules were linted
   pub counts : Counts
-  pub ran : IsLintRun files policy modules was is between counts
+  pub ran : IsLintRun files config.governed.items was is between counts
   pub output : end.out ≡ between.out
-  pub message : Then between.err.failed between.err end.err (last_words quiet between.out.failed faults counts)
-  pub exit : end.status ≡ (if end.out.failed || end.err.failed then 1 else worse_status between.status (fault_status faults))
+  pub message : Then between.err.failed between.err end.err (last_words quiet between.out.failed faults config counts)
+  pub exit : end.status ≡ (if end.out.failed || end.err.failed then 1 else worse_status between.status (fault_status faults config.unlinted))
+
+-- these modules are linted, and these names can't be looked at
+pub record LintsModules (job : Job) (modules : List Module) (faults : List Found) (files : Files) (was is : Faults) (end : End) : Type 0 where
+  pub config : Configured
+  pub looked : Faults  -- those of calls before the first module is linted
+  pub configures : Configures files job.given.said job.given.reads modules was looked config
+  pub runs : RunsThen files job.quiet config faults looked is end
 
 -- THE MODULES ARE LINTED of what these paths stand for, by a device that has had these faults before and after
 pub record Lints (job : Job) (paths : List Name) (files : Files) (was is : Faults) (end : End) : Type 0 where
   pub modules : List Module
   pub faults : List Found
-  pub walked : Faults  -- those of calls before the first module is linted
+  pub walked : Faults  -- those of calls before it is looked for files `.tfrules`
   pub collects : Collects files job.shard paths was walked modules faults
-  pub policy : Policy
-  pub asked : wanted_of policy ≡ job.wanted
-  pub runs : RunsThen files policy job.quiet modules faults walked is end
+  pub lints : LintsModules job modules faults files walked is end
 
 -- there is nothing but this row
 abbrev pub SaysOnly : Row → End → Type 0
 SaysOnly row end = Shows tree_linter row end
 
--- memory ran out before a file was read, or the modules were linted
+-- memory ran out before a module was linted, or these were linted
+abbrev pub LintsCollected : Job → List Module → List Found → Files → Faults → Faults → End → Type 0
+LintsCollected job modules faults files was is end = SaysOnly (out_of_memory tree_linter) end ⊎ LintsModules job modules faults files was is end
+
+-- the same of the modules of paths
 abbrev pub LintsOr : Job → List Name → Files → Faults → Faults → End → Type 0
 LintsOr job paths files was is end = SaysOnly (out_of_memory tree_linter) end ⊎ Lints job paths files was is end
 
@@ -113,7 +130,7 @@ abbrev pub version_line : List ℕ
 version_line = codes "tfrules-all 0.3.0\n"
 
 abbrev pub help_text : List ℕ
-help_text = codes "usage: tfrules-all [--rules LIST] [--naming NAMING]\n                   [--minimum-failure-severity SEVERITY] [--force] [--quiet]\n                   [--shard K/N] [--null] [--] [FILE|FOLDER]...\n       tfrules-all --list-rules\n       tfrules-all --explain RULE\n\nLints the modules of folders, each by itself, as tfrules lints its files.\n\nA module is the .tf and .tofu files of one folder. A file stands for its\nfolder, also one that was deleted while the folder is there; a folder for\nitself and all below. Files and folders whose names begin with a dot or end\nwith ~, and those named #...#, are passed over. Without an operand it is the\ncurrent folder.\n\n  --rules LIST     default, all or names of rules, with commas between them; a\n                   dash before one takes its rules away: all,-terraform_...\n  --naming NAMING  snake_case or mixed_snake_case\n  --minimum-failure-severity SEVERITY\n                   error, warning or notice: from which severity on an issue\n                   fails the run\n  --force          no issue fails the run\n  --quiet          say nothing of the run as a whole: no count of the issues\n                   at its end\n  --shard K/N      take the K-th of N parts of the folders\n  -0, --null       read names, each ended by NUL, from standard input\n  --list-rules     print each rule with its severity, whether it is a default\n                   one, and what it reports\n  --explain RULE   print that of a rule, why it does, and how to silence it\n  -h, --help       print this\n  --version        print the version\n\nStatus: 0  no module has an issue that fails the run\n        1  something couldn't be linted, or the command line is wrong\n        2  an issue fails the run, and nothing is worse\n"
+help_text = codes "usage: tfrules-all [--rules LIST] [--naming NAMING]\n                   [--minimum-failure-severity SEVERITY] [--force]\n                   [--no-config] [--quiet] [--shard K/N] [--null] [--]\n                   [FILE|FOLDER]...\n       tfrules-all --list-rules\n       tfrules-all --explain RULE\n\nLints the modules of folders, each by itself, as tfrules lints its files.\n\nA module is the .tf and .tofu files of one folder. A file stands for its\nfolder, also one that was deleted while the folder is there; a folder for\nitself and all below. Files and folders whose names begin with a dot or end\nwith ~, and those named #...#, are passed over. Without an operand it is the\ncurrent folder.\n\nOptions that the line doesn't have come from the nearest .tfrules, in the folder\nof a module or above it up to the top of the repository: one a line, of the\nfirst four below.\n\n  --rules LIST     default, all or names of rules, with commas between them; a\n                   dash before one takes its rules away: all,-terraform_...\n  --naming NAMING  snake_case or mixed_snake_case\n  --minimum-failure-severity SEVERITY\n                   error, warning or notice: from which severity on an issue\n                   fails the run\n  --force          no issue fails the run\n  --no-config      read no file .tfrules\n  --quiet          say nothing of the run as a whole: no count of the issues\n                   at its end\n  --shard K/N      take the K-th of N parts of the folders\n  -0, --null       read names, each ended by NUL, from standard input\n  --list-rules     print each rule with its severity, whether it is a default\n                   one, and what it reports\n  --explain RULE   print that of a rule, why it does, and how to silence it\n  -h, --help       print this\n  --version        print the version\n\nStatus: 0  no module has an issue that fails the run\n        1  something couldn't be linted, or the command line is wrong\n        2  an issue fails the run, and nothing is worse\n"
 
 -- THE ROW of these texts where they ask for a text, or are no line of this program's
 abbrev pub usage_row : List Text → Usage → Row

@@ -6,29 +6,28 @@ use Rattle.std.specs.Str.{bytes_eq}
 use Rattle.clap.specs.Words.{App, Row, Text, fault_of, first_of, matches_of, new_app, with_rule}
 use Rattle.command_line.specs.Arguments.{option_rule, unless_fault, usage_by}
 use Rattle.file_tree.specs.Files.{Name}
+use Rattle.lint_config.specs.Lines.{Options}
 use Rattle.rule_lists.specs.Lists.{rules_in}
 use Rattle.rule_lists.specs.declared.fault.ListFault.{ListFault}
 use Rattle.rule_lists.specs.declared.fault.ListFault.TheVariants as list
 use Rattle.rule_set.specs.Rules.{all_rules, rule_name}
 use Rattle.rule_set.specs.declared.rule.Rule.{Rule}
 use Rattle.rule_set.specs.declared.rule.Severity.{Severity}
-use Rattle.tf_rules.specs.Issues.{Asked}
 use Rattle.tf_rules.specs.declared.naming.Naming.{Naming}
-use Rattle.tfrules_command.specs.Line.{naming_asked, severity_asked, value_or}
+use Rattle.tfrules_command.specs.Line.{naming_asked, severity_asked}
 use Rattle.tree_words.specs.Line.{count_rule, file_rule, is_given, null_rule, others_in, shard_given, texts_in, texts_of}
 use Rattle.tree_words.specs.declared.shard.Shard.{Shard}
 use Rattle.lint_command.specs.declared.usage.Usage.{Usage}
 use Rattle.lint_command.specs.declared.usage.Usage.TheVariants.{Help, Version, ListRules, Explain, BadLine, UnknownRule, NoRuleLeft, BadNaming, BadSeverity, BadPart, NamesTwice, OutOfMemory}
 
--- by what each module is linted: rules and naming, the severity from which on an issue fails the run, and whether none does
-pub record Wanted : Type 0 where
-  pub asked : Asked
-  pub minimum : Severity
-  pub force : Bool
+-- by what modules are linted: the options of the line, and whether files `.tfrules` are read for the others
+pub record Given : Type 0 where
+  pub said : Options
+  pub reads : Bool
 
 -- what is to be done: that, whether nothing is said of the run as a whole, and the part of the folders
 pub record Job : Type 0 where
-  pub wanted : Wanted
+  pub given : Given
   pub quiet : Bool
   pub shard : Option Shard
 
@@ -40,29 +39,40 @@ pub record Asking : Type 0 where
 
 -- ---- the command
 
--- `tfrules-all [--rules LIST] [--naming NAMING] [--minimum-failure-severity SEVERITY] [--force] [--quiet] [--version] [--null]
--- [--shard K/N] [--list-rules] [--explain RULE] [--] [FILE|FOLDER]...`
+-- `tfrules-all [--rules LIST] [--naming NAMING] [--minimum-failure-severity SEVERITY] [--force] [--no-config] [--quiet] [--version]
+-- [--null] [--shard K/N] [--list-rules] [--explain RULE] [--] [FILE|FOLDER]...`
 abbrev pub tfrules_all : App
 tfrules_all =
     fold with_rule (new_app (codes "tfrules-all"))
     (option_rule (codes "rules") ∷ option_rule (codes "naming") ∷ option_rule (codes "minimum-failure-severity") ∷ count_rule (codes "force")
-    ∷ count_rule (codes "quiet") ∷ count_rule (codes "version") ∷ null_rule ∷ option_rule (codes "shard") ∷ count_rule (codes "list-rules")
+    ∷ count_rule (codes "no-config") ∷ count_rule (codes "quiet") ∷ count_rule (codes "version") ∷ null_rule ∷ option_rule (codes "shard") ∷ count_rule (codes "list-rules")
     ∷ option_rule (codes "explain") ∷ file_rule ∷ [])
 
--- ---- by what each module is linted
+-- ---- by what modules are linted
 
-abbrev pub wanted_by : Result (List Rule) ListFault → Option Naming → Option Severity → Bool → Result Wanted Usage
-wanted_by (Err list.UnknownRule) naming minimum force = Err UnknownRule
-wanted_by (Err list.NoneLeft) naming minimum force = Err NoRuleLeft
-wanted_by (Ok rules) None minimum force = Err BadNaming
-wanted_by (Ok rules) (Some naming) None force = Err BadSeverity
-wanted_by (Ok rules) (Some naming) (Some minimum) force =
-    Ok (record { asked = record { rules = rules; naming = naming }; minimum = minimum; force = force })
+abbrev pub rules_taken : Option (Result (List Rule) ListFault) → Result (Option (List Rule)) Usage
+rules_taken None = Ok None
+rules_taken (Some (Ok rules)) = Ok (Some rules)
+rules_taken (Some (Err list.UnknownRule)) = Err UnknownRule
+rules_taken (Some (Err list.NoneLeft)) = Err NoRuleLeft
 
-abbrev pub wanted_asked : List Row → Result Wanted Usage
-wanted_asked rows =
-    wanted_by (rules_in (value_or (codes "default") (codes "rules") rows)) (naming_asked (value_or (codes "snake_case") (codes "naming") rows))
-    (severity_asked (value_or (codes "notice") (codes "minimum-failure-severity") rows)) (is_given (codes "force") rows)
+-- what an option's text stands for, where the line has it, or that it stands for nothing
+abbrev pub taken : {A : Type 0} → Usage → Option (Option A) → Result (Option A) Usage
+taken usage None = Ok None
+taken usage (Some None) = Err usage
+taken usage (Some (Some a)) = Ok (Some a)
+
+abbrev pub given_by : Result (Option (List Rule)) Usage → Result (Option Naming) Usage → Result (Option Severity) Usage → Bool → Bool → Result Given Usage
+given_by (Err usage) naming minimum force reads = Err usage
+given_by (Ok rules) (Err usage) minimum force reads = Err usage
+given_by (Ok rules) (Ok naming) (Err usage) force reads = Err usage
+given_by (Ok rules) (Ok naming) (Ok minimum) force reads =
+    Ok (record { said = record { rules = rules; naming = naming; minimum = minimum; force = force }; reads = reads })
+
+abbrev pub given_asked : List Row → Result Given Usage
+given_asked rows =
+    given_by (rules_taken (option_map rules_in (first_of (codes "rules") rows))) (taken BadNaming (option_map naming_asked (first_of (codes "naming") rows)))
+    (taken BadSeverity (option_map severity_asked (first_of (codes "minimum-failure-severity") rows))) (is_given (codes "force") rows) (not (is_given (codes "no-config") rows))
 
 -- ---- the line
 
@@ -70,15 +80,15 @@ wanted_asked rows =
 abbrev pub is_good : Bool → ℕ → Bool
 is_good null names = not null || names == 0
 
-abbrev pub asking_by : Result Wanted Usage → Bool → Option (Option Shard) → Bool → Bool → List Name → Result Asking Usage
+abbrev pub asking_by : Result Given Usage → Bool → Option (Option Shard) → Bool → Bool → List Name → Result Asking Usage
 asking_by (Err usage) quiet shard is_good null names = Err usage
-asking_by (Ok wanted) quiet None is_good null names = Err BadPart
-asking_by (Ok wanted) quiet (Some shard) false null names = Err NamesTwice
-asking_by (Ok wanted) quiet (Some shard) true null names = Ok (record { job = record { wanted = wanted; quiet = quiet; shard = shard }; null = null; names = names })
+asking_by (Ok given) quiet None is_good null names = Err BadPart
+asking_by (Ok given) quiet (Some shard) false null names = Err NamesTwice
+asking_by (Ok given) quiet (Some shard) true null names = Ok (record { job = record { given = given; quiet = quiet; shard = shard }; null = null; names = names })
 
 abbrev pub asking_with : List Row → List Name → Result Asking Usage
 asking_with rows names =
-    asking_by (wanted_asked rows) (is_given (codes "quiet") rows) (shard_given (first_of (codes "shard") rows)) (is_good (is_given (codes "null") rows) (length names))
+    asking_by (given_asked rows) (is_given (codes "quiet") rows) (shard_given (first_of (codes "shard") rows)) (is_good (is_given (codes "null") rows) (length names))
     (is_given (codes "null") rows) names
 
 -- what is said of the rule that `--explain` names

@@ -12,6 +12,7 @@ static NAMES: &[&str] = &[
     "naming",
     "minimum-failure-severity",
     "force",
+    "no-config",
     "quiet",
     "version",
     "null",

@@ -2,29 +2,38 @@
 
 ghost use Rattle.std.specs.Prelude.{◌≡◌, ◌⊎◌, Err, IfOk, codes, length, map, option_map};
 ghost use Rattle.clap.specs.Words.{app_of, first_of, found_of, rows_of};
-ghost use Rattle.rule_lists.specs.Lists.{rules_found};
-ghost use Rattle.tfrules_command.specs.Line.{value_or};
-ghost use Rattle.lint_command.specs.Asked.{asked_by, wanted_in};
-ghost use Rattle.lint_command.specs.Line.{asking_by, asking_of_rows, asking_of_texts, asking_with, explain_asked, is_good, text_asked, tfrules_all, wanted_asked, wanted_by};
-ghost use Rattle.lint_command.specs.declared.usage.Usage.TheVariants.{OutOfMemory};
+ghost use Rattle.rule_lists.specs.Lists.{rules_in};
+ghost use Rattle.tfrules_command.specs.Line.{naming_asked, severity_asked};
+ghost use Rattle.lint_command.specs.Asked.{asked_by, given_in, rules_told};
+ghost use Rattle.lint_command.specs.Line.{asking_by, asking_of_rows, asking_of_texts, asking_with, explain_asked, given_asked, given_by, is_good, rules_taken, taken, text_asked, tfrules_all};
+ghost use Rattle.lint_command.specs.declared.usage.Usage.TheVariants.{BadNaming, BadSeverity, OutOfMemory};
 
 use crate::usage::Usage;
 use clap::{ArgMatches, Command};
 use command_line::{option_named, usage_for};
+use lint_config::Said;
 use rule_lists::{ListFault, rules_in};
 use rule_set::{ALL_RULES, rule_named};
 use std::alloc::{AllocError, Global};
-use tf_rules::{Naming, RuleSet, Settings, Severity};
+use tf_rules::{Naming, RuleSet, Severity};
 use tfrules_command::options::{naming_asked, severity_asked};
-use tree_lint::policy::Policy;
 use tree_words::options::{counted_flag, file, is_given, names_in, null};
 use tree_words::shard::{Shard, shard_of};
+
+/// By what modules are linted.
+#[derive(Clone, Copy, Debug, PartialEq, Eq)]
+pub struct Given {
+    /// The options of the line.
+    pub said: Said,
+    /// Files `.tfrules` are read for the others.
+    pub reads: bool,
+}
 
 /// What is to be done.
 #[derive(Clone, Copy, Debug, PartialEq, Eq)]
 pub struct Job {
-    /// By what each module is linted.
-    pub policy: Policy,
+    /// By what modules are linted.
+    pub given: Given,
     /// Nothing is said of the run as a whole.
     pub quiet: bool,
     /// The part of the folders that is taken, where it isn't all.
@@ -50,6 +59,7 @@ fn command<'a>(alloc: Global) -> Result<Command<'a>, AllocError>
         .arg(option_named(alloc, "naming"))?
         .arg(option_named(alloc, "minimum-failure-severity"))?
         .arg(counted_flag(alloc, "force"))?
+        .arg(counted_flag(alloc, "no-config"))?
         .arg(counted_flag(alloc, "quiet"))?
         .arg(counted_flag(alloc, "version"))?
         .arg(null(alloc))?
@@ -59,51 +69,95 @@ fn command<'a>(alloc: Global) -> Result<Command<'a>, AllocError>
         .arg(file(alloc))
 }
 
-/// What an option says, or what stands where it isn't given.
-fn value_or<'a>(default: &'static str, id: &str, matches: &ArgMatches<'a>) -> &'a str
-    ensures { result.now ≡ value_or default.now id.now (rows_of (found_of matches.now)) }
+/// The rules that a text of the line stands for, where it has one.
+fn rules_taken(text: Option<&str>) -> Result<Option<RuleSet>, Usage>
+    ensures { rules_told result
+        ≡ rules_taken (option_map rules_in (option_map (λ text. text.now) text.entry)) }
 {
-    match matches.get_str(id) {
-        Some(text) => text,
-        None => default,
+    let Some(text) = text else {
+        return Ok(None);
+    };
+    match rules_in(text) {
+        Ok(rules) => Ok(Some(rules)),
+        Err(ListFault::UnknownRule) => Err(Usage::UnknownRule),
+        Err(ListFault::NoneLeft) => Err(Usage::NoRuleLeft),
     }
 }
 
-/// By what each module is linted, where no text of the line is refused.
-fn policy_by(
-    rules: Result<RuleSet, ListFault>,
-    naming: Option<Naming>,
-    minimum: Option<Severity>,
+/// The naming that a text of the line stands for, where it has one.
+fn naming_taken(text: Option<&str>) -> Result<Option<Naming>, Usage>
+    ensures { result
+        ≡ taken BadNaming (option_map naming_asked (option_map (λ text. text.now) text.entry)) }
+{
+    let Some(text) = text else {
+        return Ok(None);
+    };
+    match naming_asked(text) {
+        Some(naming) => Ok(Some(naming)),
+        None => Err(Usage::BadNaming),
+    }
+}
+
+/// The severity that a text of the line stands for, where it has one.
+fn severity_taken(text: Option<&str>) -> Result<Option<Severity>, Usage>
+    ensures { result
+        ≡ taken BadSeverity (option_map severity_asked (option_map (λ text. text.now) text.entry)) }
+{
+    let Some(text) = text else {
+        return Ok(None);
+    };
+    match severity_asked(text) {
+        Some(severity) => Ok(Some(severity)),
+        None => Err(Usage::BadSeverity),
+    }
+}
+
+/// By what modules are linted, where no text of the line is refused.
+fn given_by(
+    rules: Result<Option<RuleSet>, Usage>,
+    naming: Result<Option<Naming>, Usage>,
+    minimum: Result<Option<Severity>, Usage>,
     force: bool,
-) -> Result<Policy, Usage>
-    ensures { wanted_in result ≡ wanted_by (rules_found rules) naming minimum force }
+    reads: bool,
+) -> Result<Given, Usage>
+    ensures { given_in result ≡ given_by (rules_told rules) naming minimum force reads }
 {
     let rules = match rules {
         Ok(rules) => rules,
-        Err(ListFault::UnknownRule) => return Err(Usage::UnknownRule),
-        Err(ListFault::NoneLeft) => return Err(Usage::NoRuleLeft),
+        Err(usage) => return Err(usage),
     };
-    let Some(naming) = naming else {
-        return Err(Usage::BadNaming);
+    let naming = match naming {
+        Ok(naming) => naming,
+        Err(usage) => return Err(usage),
     };
-    let Some(minimum) = minimum else {
-        return Err(Usage::BadSeverity);
+    let minimum = match minimum {
+        Ok(minimum) => minimum,
+        Err(usage) => return Err(usage),
     };
-    Ok(Policy {
-        settings: Settings { rules, naming },
+    let said = Said {
+        rules,
+        naming,
         minimum,
         force,
-    })
+    };
+    Ok(Given { said, reads })
 }
 
-/// By what each module is linted, as the matches of a line have it.
-fn policy_of(matches: &ArgMatches<'_>) -> Result<Policy, Usage>
-    ensures { wanted_in result ≡ wanted_asked (rows_of (found_of matches.now)) }
+/// By what modules are linted, as the matches of a line have it.
+fn given_of(matches: &ArgMatches<'_>) -> Result<Given, Usage>
+    ensures { given_in result ≡ given_asked (rows_of (found_of matches.now)) }
 {
-    let rules = rules_in(value_or("default", "rules", matches));
-    let naming = naming_asked(value_or("snake_case", "naming", matches));
-    let minimum = severity_asked(value_or("notice", "minimum-failure-severity", matches));
-    policy_by(rules, naming, minimum, is_given(matches, "force"))
+    let rules = rules_taken(matches.get_str("rules"));
+    let naming = naming_taken(matches.get_str("naming"));
+    let minimum = severity_taken(matches.get_str("minimum-failure-severity"));
+    let force = is_given(matches, "force");
+    given_by(
+        rules,
+        naming,
+        minimum,
+        force,
+        !is_given(matches, "no-config"),
+    )
 }
 
 /// Whether names come from the line or from standard input, and not from both.
@@ -115,18 +169,18 @@ fn is_good(null: bool, names: &[&[u8]]) -> bool
 
 /// The options of these parts of a line.
 fn options_by<'a>(
-    policy: Result<Policy, Usage>,
+    given: Result<Given, Usage>,
     quiet: bool,
     shard: Option<Option<Shard>>,
     is_good: bool,
     null: bool,
     names: Vec<&'a [u8]>,
 ) -> Result<LintOptions<'a>, Usage>
-    ensures { asked_by result ≡ asking_by (wanted_in policy) quiet shard is_good null
+    ensures { asked_by result ≡ asking_by (given_in given) quiet shard is_good null
         (map (λ name. name.now) names.entry.items) }
 {
-    let policy = match policy {
-        Ok(policy) => policy,
+    let given = match given {
+        Ok(given) => given,
         Err(usage) => return Err(usage),
     };
     let Some(shard) = shard else {
@@ -137,7 +191,7 @@ fn options_by<'a>(
     }
     Ok(LintOptions {
         job: Job {
-            policy,
+            given,
             quiet,
             shard,
         },
@@ -154,12 +208,12 @@ fn options_with<'a>(
     ensures { asked_by result ≡ asking_with (rows_of (found_of matches.now))
         (map (λ name. name.now) names.entry.items) }
 {
-    let policy = policy_of(matches);
+    let given = given_of(matches);
     let quiet = is_given(matches, "quiet");
     let shard = shard_of(matches);
     let null = is_given(matches, "null");
     let is_good = is_good(null, names.as_slice());
-    options_by(policy, quiet, shard, is_good, null, names)
+    options_by(given, quiet, shard, is_good, null, names)
 }
 
 /// What the words ask for that name a rule to explain.

@@ -1,12 +1,14 @@
 //! A run over any tree and any devices.
 
-ghost use Rattle.std.specs.Prelude.{◌≡◌, ◌||◌, ◌++◌, List, ℕ, false, flat_map, is_err, map, if◌then◌else◌};
+ghost use Rattle.std.specs.Prelude.{◌≡◌, ◌==◌, ◌&&◌, ◌||◌, ◌++◌, [], List, ℕ, false, flat_map, is_err, map, nat_lt, if◌then◌else◌};
 ghost use Rattle.command_line.specs.Rows.{Took, end_of, writer};
+ghost use Rattle.module_config.specs.Words.{configured_words};
 ghost use Rattle.tree_lint.specs.Faults.{fault_lines};
+ghost use Rattle.tree_lint.specs.Numbers.{summary_line};
 ghost use Rattle.tree_lint.specs.Readers.{has_reader_out};
 ghost use Rattle.tree_lint.specs.Runs.{worse_status};
 ghost use Rattle.lint_command.specs.Asked.{asking_of, job_of};
-ghost use Rattle.lint_command.specs.Ends.{EndsAsked, IsEnd, IsEndOf, LintsOr, LintsNamed, ReadsAndLints, RunsThen, fault_status, last_words, summary};
+ghost use Rattle.lint_command.specs.Ends.{EndsAsked, IsEnd, IsEndOf, LintsCollected, LintsOr, LintsNamed, ReadsAndLints, RunsThen, count_lines, fault_status, last_words, summary};
 ghost use Rattle.lint_command.specs.Line.{asking_of_texts, asking_of_words, reads_names};
 
 use crate::collect::{Collected, collect};
@@ -15,6 +17,8 @@ use crate::words::{say, tree_linter};
 use file_tree::tree::Tree;
 use file_tree::walk::Found;
 use hcl_scan::{ByteSink, ByteSource, Failed};
+use module_config::configure::{Configured, configure};
+use module_config::words::{tell_configured, tell_unlinted};
 use std::alloc::Global;
 use tree_lint::counts::{Counts, tell_summary};
 use tree_lint::module_tree::ModuleTree;
@@ -25,53 +29,115 @@ use tree_words::words::words_of;
 
 static READ_FAILED: &str = "tfrules-all: error: read failed\n";
 
-/// Says what was found in all, unless the run is to be quiet.
-fn summarise<E: ByteSink>(quiet: bool, counts: &Counts, err: &mut E) -> Result<(), Failed>
+/// Says what was found in the modules that were linted, unless none was for want of options.
+fn tell_linted<E: ByteSink>(unlinted: usize, counts: &Counts, err: &mut E) -> Result<(), Failed>
     requires err { E.failed err.old ≡ false }
-    ensures took { Took (writer E.ByteSink err.old err.new) (summary quiet counts.now) }
+    ensures took { Took (writer E.ByteSink err.old err.new)
+        (if counts.now.modules == 0 && nat_lt 0 unlinted then [] else summary_line counts.now) }
     ensures failed { E.failed err.new ≡ is_err result }
 {
-    if quiet {
+    if counts.modules == 0 && unlinted > 0 {
         return Ok(());
     }
     tell_summary(err, counts)
 }
 
-/// Says what can't be looked at, and what was found in all.
-fn tell_end<E: ByteSink>(
+/// Says what was found, and how many modules weren't linted.
+fn tell_counts<E: ByteSink>(unlinted: usize, counts: &Counts, err: &mut E) -> Result<(), Failed>
+    requires err { E.failed err.old ≡ false }
+    ensures took { Took (writer E.ByteSink err.old err.new) (count_lines unlinted counts.now) }
+    ensures failed { E.failed err.new ≡ is_err result }
+{
+    if tell_linted(unlinted, counts, err).is_err() {
+        return Err(Failed);
+    }
+    tell_unlinted(err, unlinted)
+}
+
+/// Says what was found in all, unless the run is to be quiet.
+fn summarise<E: ByteSink>(
+    quiet: bool,
+    unlinted: usize,
+    counts: &Counts,
+    err: &mut E,
+) -> Result<(), Failed>
+    requires err { E.failed err.old ≡ false }
+    ensures took { Took (writer E.ByteSink err.old err.new) (summary quiet unlinted counts.now) }
+    ensures failed { E.failed err.new ≡ is_err result }
+{
+    if quiet {
+        return Ok(());
+    }
+    tell_counts(unlinted, counts, err)
+}
+
+/// Says which files are bad, and what was found in all.
+fn tell_rest<E: ByteSink>(
     quiet: bool,
     counts: &Counts,
-    faults: &[Found],
+    configured: &Configured,
     err: &mut E,
 ) -> Result<(), Failed>
     requires err { E.failed err.old ≡ false }
     ensures took { Took (writer E.ByteSink err.old err.new)
-        (flat_map fault_lines faults.now ++ summary quiet counts.now) }
+        (configured_words configured.now ++ summary quiet configured.now.unlinted counts.now) }
+    ensures failed { E.failed err.new ≡ is_err result }
+{
+    if tell_configured(err, configured).is_err() {
+        return Err(Failed);
+    }
+    summarise(quiet, configured.unlinted, counts, err)
+}
+
+/// Says what can't be looked at, which files are bad, and what was found in all.
+fn tell_end<E: ByteSink>(
+    quiet: bool,
+    counts: &Counts,
+    faults: &[Found],
+    configured: &Configured,
+    err: &mut E,
+) -> Result<(), Failed>
+    requires err { E.failed err.old ≡ false }
+    ensures took { Took (writer E.ByteSink err.old err.new)
+        (flat_map fault_lines faults.now
+        ++ (configured_words configured.now
+        ++ summary quiet configured.now.unlinted counts.now)) }
     ensures failed { E.failed err.new ≡ is_err result }
 {
     if tell_faults(err, faults).is_err() {
         return Err(Failed);
     }
-    summarise(quiet, counts, err)
+    tell_rest(quiet, counts, configured, err)
 }
 
-/// The status of a run in which these can't be looked at.
-fn fault_status(faults: &[Found]) -> u8
-    ensures { result ≡ fault_status faults.now }
+/// The status of a run in which these can't be looked at, and so many modules aren't linted.
+fn fault_status(faults: &[Found], unlinted: usize) -> u8
+    ensures { result ≡ fault_status faults.now unlinted }
 {
-    if faults.is_empty() { 0 } else { 1 }
+    if !faults.is_empty() {
+        return 1;
+    }
+    if unlinted == 0 { 0 } else { 1 }
 }
 
 /// Says the last words of a run whose writes went well, and gives its status.
-fn end_well<E: ByteSink>(quiet: bool, ran: &RunEnd, faults: &[Found], err: &mut E) -> u8
+fn end_well<E: ByteSink>(
+    quiet: bool,
+    ran: &RunEnd,
+    faults: &[Found],
+    configured: &Configured,
+    err: &mut E,
+) -> u8
     requires err { E.failed err.old ≡ false }
     ensures took { Took (writer E.ByteSink err.old err.new)
-        (flat_map fault_lines faults.now ++ summary quiet ran.now.counts) }
+        (flat_map fault_lines faults.now
+        ++ (configured_words configured.now
+        ++ summary quiet configured.now.unlinted ran.now.counts)) }
     ensures exit { result ≡ (if E.failed err.new then 1
-        else worse_status ran.now.status (fault_status faults.now)) }
+        else worse_status ran.now.status (fault_status faults.now configured.now.unlinted)) }
 {
-    match tell_end(quiet, &ran.counts, faults, err) {
-        Ok(()) => worse_status(ran.status, fault_status(faults)),
+    match tell_end(quiet, &ran.counts, faults, configured, err) {
+        Ok(()) => worse_status(ran.status, fault_status(faults, configured.unlinted)),
         Err(_) => 1,
     }
 }
@@ -81,26 +147,28 @@ fn finish<O: ByteSink, E: ByteSink>(
     quiet: bool,
     ran: &RunEnd,
     faults: &[Found],
+    configured: &Configured,
     out: &O,
     err: &mut E,
 ) -> u8
     requires err { E.failed err.old ≡ false }
     ensures took { Took (writer E.ByteSink err.old err.new)
-        (last_words quiet (O.failed out.now) faults.now ran.now.counts) }
+        (last_words quiet (O.failed out.now) faults.now configured.now ran.now.counts) }
     ensures exit { result ≡ (if O.failed out.now || E.failed err.new then 1
-        else worse_status ran.now.status (fault_status faults.now)) }
+        else worse_status ran.now.status (fault_status faults.now configured.now.unlinted)) }
 {
     if out.has_failed() {
         return tree_linter().finish(out, err, 1);
     }
-    end_well(quiet, ran, faults, err)
+    end_well(quiet, ran, faults, configured, err)
 }
 
-/// Lints modules, and says what can't be looked at.
-fn lint_collected<T: Tree + Drop, O: ByteSink, E: ByteSink>(
+/// Lints the modules whose options are known, and says what else there is.
+fn lint_configured<T: Tree + Drop, O: ByteSink, E: ByteSink>(
     alloc: Global,
-    job: Job,
-    collected: &Collected,
+    quiet: bool,
+    configured: &Configured,
+    faults: &[Found],
     files: &mut ModuleTree<T>,
     out: &mut O,
     err: &mut E,
@@ -108,20 +176,49 @@ fn lint_collected<T: Tree + Drop, O: ByteSink, E: ByteSink>(
     requires back { has_reader_out files.old ≡ false }
     requires out { O.failed out.old ≡ false }
     requires err { E.failed err.old ≡ false }
-    ensures ran { RunsThen (T.files files.old.tree) job.policy job.quiet
-        collected.now.modules.items collected.now.faults.items
+    ensures ran { RunsThen (T.files files.old.tree) quiet configured.now faults.now
         (T.faults files.old.tree) (T.faults files.new.tree)
         (end_of O.ByteSink out.old out.new E.ByteSink err.old err.new result) }
     ensures files { T.files files.new.tree ≡ T.files files.old.tree }
     ensures asked { T.asked files.new.tree ≡ T.asked files.old.tree }
     ensures back { has_reader_out files.new ≡ false }
 {
-    let modules = collected.modules.as_slice();
-    let ran = run_over(alloc, job.policy, modules, files, out, err);
+    let governed = configured.governed.as_slice();
+    let ran = run_over(alloc, governed, files, out, err);
     if err.has_failed() {
         return 1;
     }
-    finish(job.quiet, &ran, collected.faults.as_slice(), out, err)
+    finish(quiet, &ran, faults, configured, out, err)
+}
+
+/// Finds the options of modules and lints them, and says what can't be looked at.
+fn lint_collected<T: Tree + Drop, O: ByteSink, E: ByteSink>(
+    alloc: Global,
+    job: Job,
+    collected: Collected,
+    files: &mut ModuleTree<T>,
+    out: &mut O,
+    err: &mut E,
+) -> u8
+    requires back { has_reader_out files.old ≡ false }
+    requires out { O.failed out.old ≡ false }
+    requires err { E.failed err.old ≡ false }
+    ensures ends { LintsCollected (job_of job) collected.modules.items collected.faults.items
+        (T.files files.old.tree) (T.faults files.old.tree) (T.faults files.new.tree)
+        (end_of O.ByteSink out.old out.new E.ByteSink err.old err.new result) }
+    ensures files { T.files files.new.tree ≡ T.files files.old.tree }
+    ensures asked { T.asked files.new.tree ≡ T.asked files.old.tree }
+    ensures back { has_reader_out files.new ≡ false }
+{
+    let Collected { modules, faults } = collected;
+    let given = job.given;
+    match configure(alloc, given.said, given.reads, modules, &mut files.tree) {
+        Ok(configured) => {
+            let faults = faults.as_slice();
+            lint_configured(alloc, job.quiet, &configured, faults, files, out, err)
+        }
+        Err(_) => tree_linter().tell_out_of_memory(out, err),
+    }
 }
 
 /// Finds the modules and lints them.
@@ -144,7 +241,7 @@ fn lint<T: Tree + Drop, O: ByteSink, E: ByteSink>(
     ensures back { has_reader_out files.new ≡ false }
 {
     match collect(alloc, job.shard, operands, &mut files.tree) {
-        Ok(collected) => lint_collected(alloc, job, &collected, files, out, err),
+        Ok(collected) => lint_collected(alloc, job, collected, files, out, err),
         Err(_) => tree_linter().tell_out_of_memory(out, err),
     }
 }

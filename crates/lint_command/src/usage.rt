@@ -34,8 +34,9 @@ pub enum Usage {
 /// What lines this program has.
 pub static USAGE: &str = "\
 usage: tfrules-all [--rules LIST] [--naming NAMING]
-                   [--minimum-failure-severity SEVERITY] [--force] [--quiet]
-                   [--shard K/N] [--null] [--] [FILE|FOLDER]...
+                   [--minimum-failure-severity SEVERITY] [--force]
+                   [--no-config] [--quiet] [--shard K/N] [--null] [--]
+                   [FILE|FOLDER]...
        tfrules-all --list-rules
        tfrules-all --explain RULE
 ";
@@ -46,8 +47,9 @@ pub static VERSION: &str = "tfrules-all 0.3.0\n";
 /// What `--help` says.
 pub static HELP: &str = "\
 usage: tfrules-all [--rules LIST] [--naming NAMING]
-                   [--minimum-failure-severity SEVERITY] [--force] [--quiet]
-                   [--shard K/N] [--null] [--] [FILE|FOLDER]...
+                   [--minimum-failure-severity SEVERITY] [--force]
+                   [--no-config] [--quiet] [--shard K/N] [--null] [--]
+                   [FILE|FOLDER]...
        tfrules-all --list-rules
        tfrules-all --explain RULE
 
@@ -59,6 +61,10 @@ itself and all below. Files and folders whose names begin with a dot or end
 with ~, and those named #...#, are passed over. Without an operand it is the
 current folder.
 
+Options that the line doesn't have come from the nearest .tfrules, in the folder
+of a module or above it up to the top of the repository: one a line, of the
+first four below.
+
   --rules LIST     default, all or names of rules, with commas between them; a
                    dash before one takes its rules away: all,-terraform_...
   --naming NAMING  snake_case or mixed_snake_case
@@ -66,6 +72,7 @@ current folder.
                    error, warning or notice: from which severity on an issue
                    fails the run
   --force          no issue fails the run
+  --no-config      read no file .tfrules
   --quiet          say nothing of the run as a whole: no count of the issues
                    at its end
   --shard K/N      take the K-th of N parts of the folders

@@ -5,6 +5,8 @@
 #[cfg(test)]
 mod checks;
 #[cfg(test)]
+mod configs;
+#[cfg(test)]
 mod documents;
 #[cfg(test)]
 mod form_rows;

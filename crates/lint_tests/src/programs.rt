@@ -11,7 +11,7 @@ use tree_devices::memory_tree::MemoryTree;
 use tree_lint::module_tree::ModuleTree;
 
 /// How many calls a run over `a` and `bad` makes of a tree.
-const FAILING_CALLS: u64 = 27;
+const FAILING_CALLS: u64 = 40;
 
 /// Words of a line.
 type Words = &'static [&'static [u8]];
@@ -282,21 +282,21 @@ static ROWS: [Row; 28] = [
         words: &[b"tfrules-all", b"a", b"--bogus"],
         input: b"",
         out: b"",
-        err: b"tfrules-all: error: unknown option --bogus\nusage: tfrules-all [--rules LIST] [--naming NAMING]\n                   [--minimum-failure-severity SEVERITY] [--force] [--quiet]\n                   [--shard K/N] [--null] [--] [FILE|FOLDER]...\n       tfrules-all --list-rules\n       tfrules-all --explain RULE\n",
+        err: b"tfrules-all: error: unknown option --bogus\nusage: tfrules-all [--rules LIST] [--naming NAMING]\n                   [--minimum-failure-severity SEVERITY] [--force]\n                   [--no-config] [--quiet] [--shard K/N] [--null] [--]\n                   [FILE|FOLDER]...\n       tfrules-all --list-rules\n       tfrules-all --explain RULE\n",
         status: 1,
     },
     Row {
         words: &[b"tfrules-all", b"--chdir=a"],
         input: b"",
         out: b"",
-        err: b"tfrules-all: error: unknown option --chdir=a; name the folder instead\nusage: tfrules-all [--rules LIST] [--naming NAMING]\n                   [--minimum-failure-severity SEVERITY] [--force] [--quiet]\n                   [--shard K/N] [--null] [--] [FILE|FOLDER]...\n       tfrules-all --list-rules\n       tfrules-all --explain RULE\n",
+        err: b"tfrules-all: error: unknown option --chdir=a; name the folder instead\nusage: tfrules-all [--rules LIST] [--naming NAMING]\n                   [--minimum-failure-severity SEVERITY] [--force]\n                   [--no-config] [--quiet] [--shard K/N] [--null] [--]\n                   [FILE|FOLDER]...\n       tfrules-all --list-rules\n       tfrules-all --explain RULE\n",
         status: 1,
     },
     Row {
         words: &[b"tfrules-all", b"-force", b"a"],
         input: b"",
         out: b"",
-        err: b"tfrules-all: error: unknown option -force; write --force\nusage: tfrules-all [--rules LIST] [--naming NAMING]\n                   [--minimum-failure-severity SEVERITY] [--force] [--quiet]\n                   [--shard K/N] [--null] [--] [FILE|FOLDER]...\n       tfrules-all --list-rules\n       tfrules-all --explain RULE\n",
+        err: b"tfrules-all: error: unknown option -force; write --force\nusage: tfrules-all [--rules LIST] [--naming NAMING]\n                   [--minimum-failure-severity SEVERITY] [--force]\n                   [--no-config] [--quiet] [--shard K/N] [--null] [--]\n                   [FILE|FOLDER]...\n       tfrules-all --list-rules\n       tfrules-all --explain RULE\n",
         status: 1,
     },
     Row {

@@ -14,7 +14,7 @@ use tree_devices::entry::{Entry, Stands};
 use tree_devices::memory_tree::MemoryTree;
 use tree_lint::counts::Counts;
 use tree_lint::module_tree::ModuleTree;
-use tree_lint::policy::Policy;
+use tree_lint::policy::{Governed, Policy};
 use tree_lint::run::{RunEnd, run_over};
 
 /// Two modules with issues, one that is refused and one without issues, which stands between them.
@@ -133,10 +133,18 @@ fn module_of(alloc: Global, names: &[&str]) -> Result<Module, AllocError> {
     })
 }
 
-fn modules_of(alloc: Global, given: &Given) -> Result<Vec<Module>, AllocError> {
+/// A module of these files, linted as a run is to be.
+fn governed_of(alloc: Global, given: &Given, names: &[&str]) -> Result<Governed, AllocError> {
+    Ok(Governed {
+        module: module_of(alloc, names)?,
+        policy: policy(given),
+    })
+}
+
+fn modules_of(alloc: Global, given: &Given) -> Result<Vec<Governed>, AllocError> {
     let mut modules = Vec::new(alloc);
     for names in given.modules {
-        modules.push(module_of(alloc, *names)?)?;
+        modules.push(governed_of(alloc, given, *names)?)?;
     }
     Ok(modules)
 }
@@ -151,19 +159,12 @@ fn sink(write: Option<usize>) -> MemorySink
 }
 
 /// Runs over modules of the tree.
-fn run(alloc: Global, given: &Given, modules: &[Module]) -> Result<Shown, AllocError> {
+fn run(alloc: Global, given: &Given, modules: &[Governed]) -> Result<Shown, AllocError> {
     let tree = MemoryTree::new(alloc, ENTRIES, given.failures)?;
     let mut files = ModuleTree::new(tree, Hashing::shared());
     let mut out = sink(given.write);
     let mut err = sink(None);
-    let end = run_over(
-        alloc,
-        policy(given),
-        modules,
-        &mut files,
-        &mut out,
-        &mut err,
-    );
+    let end = run_over(alloc, modules, &mut files, &mut out, &mut err);
     Ok(Shown { out, err, end })
 }
 
@@ -253,24 +254,28 @@ fn a_failed_write_ends_the_run(rt: HostRuntime) {
 }
 
 /// So many modules without issues, and one with an issue after them.
-fn many(alloc: Global, count: usize) -> Result<Vec<Module>, AllocError> {
+fn many(alloc: Global, count: usize) -> Result<Vec<Governed>, AllocError> {
+    let given = steady(NONE);
     let mut modules = Vec::new(alloc);
     for _ in 0..count {
-        modules.push(module_of(alloc, &["c/main.tf"])?)?;
+        modules.push(governed_of(alloc, &given, &["c/main.tf"])?)?;
     }
-    modules.push(module_of(alloc, &["a/main.tf"])?)?;
+    modules.push(governed_of(alloc, &given, &["a/main.tf"])?)?;
     Ok(modules)
 }
 
 /// One module of so many files.
-fn large(alloc: Global, count: usize) -> Result<Vec<Module>, AllocError> {
-    let mut one = module_of(alloc, &["c/main.tf"])?;
+fn large(alloc: Global, count: usize) -> Result<Vec<Governed>, AllocError> {
+    let given = steady(NONE);
+    let mut one = governed_of(alloc, &given, &["c/main.tf"])?;
     for _ in 1..count {
-        one.files.push(String::from_str(alloc, "c/main.tf")?)?;
+        one.module
+            .files
+            .push(String::from_str(alloc, "c/main.tf")?)?;
     }
     let mut modules = Vec::new(alloc);
     modules.push(one)?;
-    modules.push(module_of(alloc, &["a/main.tf"])?)?;
+    modules.push(governed_of(alloc, &given, &["a/main.tf"])?)?;
     Ok(modules)
 }
 
@@ -326,4 +331,16 @@ fn issues_and_modules_are_counted(rt: HostRuntime) {
         issues: 0,
     };
     counts(&rt, rt.alloc(), steady(NONE), none);
+}
+
+#[test]
+fn each_module_is_linted_by_its_own_policy(rt: HostRuntime) {
+    let given = steady(A_THEN_D);
+    let mut modules = modules_of(rt.alloc(), &given).expect(&rt, "memory");
+    for one in modules.iter_mut().skip(1) {
+        one.policy.settings.rules = RuleSet::none();
+    }
+    let shown = run(rt.alloc(), &given, modules.as_slice()).expect(&rt, "memory");
+    same_bytes(&rt, shown.out.bytes(), A_REPORT.as_bytes(), A_THEN_D);
+    same_number(&rt, u64::from(shown.end.status), 2, A_THEN_D);
 }

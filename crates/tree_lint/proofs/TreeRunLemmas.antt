@@ -9,15 +9,15 @@ use Rattle.hcl_source.specs.declared.device.Flushes.{Flushes}
 use Rattle.command_line.specs.Rows.{TookBy, Writer}
 use Rattle.command_line.proofs.WriterLemmas.{all_taken, appends_nothing, took_after}
 use Rattle.file_tree.specs.Files.{Faults, Files}
-use Rattle.module_find.specs.declared.module.Module.{Module}
 use Rattle.tfrules_command.specs.Report.{weighs}
 use Rattle.tree_lint.specs.Inner.Growth.{HasRoom, counts_with, one_if}
 use Rattle.tree_lint.specs.Inner.Showing.{Shows}
 use Rattle.tree_lint.specs.Numbers.{counts_of, has_issues, is_module, is_refused, issue_count}
-use Rattle.tree_lint.specs.Runs.{AreJudged, IsLintRun, reports_after, verdict_message, verdict_output, verdict_status, worse_status, worst_status}
+use Rattle.tree_lint.specs.Runs.{AreJudged, IsLintRun, reports_after, verdict_message, statuses, verdict_output, verdict_status, worse_status, worst_status}
 use Rattle.tree_lint.specs.Verdicts.{IsVerdict, Verdict}
 use Rattle.tree_lint.specs.declared.counts.Counts.{Counts}
 use Rattle.tree_lint.specs.declared.counts.Ended.{Ended}
+use Rattle.tree_lint.specs.declared.policy.Governed.{Governed}
 use Rattle.tree_lint.specs.declared.policy.Policy.{Policy}
 
 or_false : (a : Bool) → (a || false) ≡ a
@@ -43,9 +43,9 @@ any_more (x ∷ vs) v = ap (λ b. has_issues x || b) (any_more vs v) ∙ sym (or
 messages_more : (vs : List Verdict) (v : Verdict) → flat_map verdict_message (vs ++ v ∷ []) ≡ flat_map verdict_message vs ++ verdict_message v
 messages_more vs v = flat_map-append verdict_message vs (v ∷ []) ∙ ap (λ t. flat_map verdict_message vs ++ t) (append-nil (verdict_message v))
 
-worst_from : (f : Verdict → ℕ) (n : ℕ) (vs : List Verdict) (v : Verdict) → fold worse_status n (map f (vs ++ v ∷ [])) ≡ worse_status (fold worse_status n (map f vs)) (f v)
-worst_from f n [] v = refl
-worst_from f n (x ∷ vs) v = worst_from f (worse_status n (f x)) vs v
+worst_from : (n : ℕ) (xs : List ℕ) (x : ℕ) → fold worse_status n (xs ++ x ∷ []) ≡ worse_status (fold worse_status n xs) x
+worst_from n [] x = refl
+worst_from n (y ∷ xs) x = worst_from (worse_status n y) xs x
 
 -- ---- the numbers
 
@@ -67,13 +67,13 @@ refused_so policy (Ok issues) = by (not policy.force && list_any (weighs policy.
     by true = refl
     by false = refl
 
-counts_more : (policy : Policy) (seen : List Module) (m : Module) (vs : List Verdict) (v : Verdict) (counts : Counts) (status n : ℕ) → counts ≡ counts_of seen vs → status ≡ verdict_status policy v → n ≡ issue_count v
-    → counts_with counts (is_module m) status n ≡ counts_of (seen ++ m ∷ []) (vs ++ v ∷ [])
-counts_more policy seen m vs v counts status n e es en =
-    (λ i. counts_with (e i) (is_module m) (es i) (en i))
+counts_more : (seen : List Governed) (m : Governed) (vs : List Verdict) (v : Verdict) (counts : Counts) (status n : ℕ) → counts ≡ counts_of seen vs → status ≡ verdict_status m.policy v → n ≡ issue_count v
+    → counts_with counts (is_module m.module) status n ≡ counts_of (seen ++ m ∷ []) (vs ++ v ∷ [])
+counts_more seen m vs v counts status n e es en =
+    (λ i. counts_with (e i) (is_module m.module) (es i) (en i))
     ∙ (λ i. record {
-      modules = sym (count_more is_module seen m) i;
-      refused = (ap (λ b. count_by is_refused vs + one_if b) (refused_so policy v) ∙ sym (count_more is_refused vs v)) i;
+      modules = sym (count_more (λ (g : Governed). is_module g.module) seen m) i;
+      refused = (ap (λ b. count_by is_refused vs + one_if b) (refused_so m.policy v) ∙ sym (count_more is_refused vs v)) i;
       reported = sym (count_more has_issues vs v) i;
       issues = sym (issues_more vs v) i;
     })
@@ -84,37 +84,43 @@ more_small n m seen more h k e = omega (arith, h, k, e)
 both : (v : Bool) → v ≡ true → v ≡ false → ⊥
 both v h k = cc
 
-module _ (files : Files) (policy : Policy) where
-  judged_length : (ms : List Module) (vs : List Verdict) (was is : Faults) → AreJudged files policy ms vs was is → length vs ≡ length ms
+module _ (files : Files) where
+  judged_length : (ms : List Governed) (vs : List Verdict) (was is : Faults) → AreJudged files ms vs was is → length vs ≡ length ms
   judged_length [] [] was is j = refl
   judged_length [] (v ∷ vs) was is j = absurd j
   judged_length (m ∷ ms) [] was is j = absurd j
   judged_length (m ∷ ms) (v ∷ vs) was is j = ap suc (judged_length ms vs j.0 is j.2)
 
-  judged_more : (ms : List Module) (vs : List Verdict) (m : Module) (v : Verdict) (was between is : Faults) → AreJudged files policy ms vs was between → IsVerdict files policy m between is v → AreJudged files policy (ms ++ m ∷ []) (vs ++ v ∷ []) was is
-  judged_more [] [] m v was between is j h = (is, subst (λ (w : Faults). IsVerdict files policy m w is v) j h, refl)
+  judged_more : (ms : List Governed) (vs : List Verdict) (m : Governed) (v : Verdict) (was between is : Faults) → AreJudged files ms vs was between → IsVerdict files m.policy m.module between is v → AreJudged files (ms ++ m ∷ []) (vs ++ v ∷ []) was is
+  judged_more [] [] m v was between is j h = (is, subst (λ (w : Faults). IsVerdict files m.policy m.module w is v) j h, refl)
   judged_more [] (w ∷ vs) m v was between is j h = absurd j
   judged_more (x ∷ ms) [] m v was between is j h = absurd j
   judged_more (x ∷ ms) (w ∷ vs) m v was between is j h = (j.0, j.1, judged_more ms vs m v j.0 between is j.2 h)
 
-  reports_more : (a : Bool) (ms : List Module) (vs : List Verdict) (m : Module) (v : Verdict) (was is : Faults) → AreJudged files policy ms vs was is
-      → reports_after a (ms ++ m ∷ []) (vs ++ v ∷ []) ≡ reports_after a ms vs ++ verdict_output (a || list_any has_issues vs) m v
-  reports_more a [] [] m v was is j = append-nil (verdict_output a m v) ∙ ap (λ b. verdict_output b m v) (sym (or_false a))
+  reports_more : (a : Bool) (ms : List Governed) (vs : List Verdict) (m : Governed) (v : Verdict) (was is : Faults) → AreJudged files ms vs was is
+      → reports_after a (ms ++ m ∷ []) (vs ++ v ∷ []) ≡ reports_after a ms vs ++ verdict_output (a || list_any has_issues vs) m.module v
+  reports_more a [] [] m v was is j = append-nil (verdict_output a m.module v) ∙ ap (λ b. verdict_output b m.module v) (sym (or_false a))
   reports_more a [] (w ∷ vs) m v was is j = absurd j
   reports_more a (x ∷ ms) [] m v was is j = absurd j
   reports_more a (x ∷ ms) (w ∷ vs) m v was is j =
-      ap (λ t. verdict_output a x w ++ t) (reports_more (a || has_issues w) ms vs m v j.0 is j.2 ∙ ap (λ b. reports_after (a || has_issues w) ms vs ++ verdict_output b m v) (or_assoc a (has_issues w) (list_any has_issues vs)))
-      ∙ sym (append_assoc (verdict_output a x w) (reports_after (a || has_issues w) ms vs) (verdict_output (a || (has_issues w || list_any has_issues vs)) m v))
+      ap (λ t. verdict_output a x.module w ++ t) (reports_more (a || has_issues w) ms vs m v j.0 is j.2 ∙ ap (λ b. reports_after (a || has_issues w) ms vs ++ verdict_output b m.module v) (or_assoc a (has_issues w) (list_any has_issues vs)))
+      ∙ sym (append_assoc (verdict_output a x.module w) (reports_after (a || has_issues w) ms vs) (verdict_output (a || (has_issues w || list_any has_issues vs)) m.module v))
+
+  statuses_more : (ms : List Governed) (vs : List Verdict) (m : Governed) (v : Verdict) (was is : Faults) → AreJudged files ms vs was is → statuses (ms ++ m ∷ []) (vs ++ v ∷ []) ≡ statuses ms vs ++ verdict_status m.policy v ∷ []
+  statuses_more [] [] m v was is j = refl
+  statuses_more [] (w ∷ vs) m v was is j = absurd j
+  statuses_more (x ∷ ms) [] m v was is j = absurd j
+  statuses_more (x ∷ ms) (w ∷ vs) m v was is j = ap (λ l. verdict_status x.policy w ∷ l) (statuses_more ms vs m v j.0 is j.2)
 
   -- ---- the run so far: no writer failed
 
-  pub record SoFar (seen : List Module) (was is : Faults) (out out' err err' : Option (List ℕ)) (is_after : Bool) (status : ℕ) (counts : Counts) : Type 0 where
+  pub record SoFar (seen : List Governed) (was is : Faults) (out out' err err' : Option (List ℕ)) (is_after : Bool) (status : ℕ) (counts : Counts) : Type 0 where
     pub verdicts : List Verdict
-    pub judged : AreJudged files policy seen verdicts was is
+    pub judged : AreJudged files seen verdicts was is
     pub output : Appends out out' (reports_after false seen verdicts)
     pub message : Appends err err' (flat_map verdict_message verdicts)
     pub after : is_after ≡ list_any has_issues verdicts
-    pub exit : status ≡ worst_status (map (verdict_status policy) verdicts)
+    pub exit : status ≡ worst_status (statuses seen verdicts)
     pub counted : counts ≡ counts_of seen verdicts
     pub small : counts.issues ≤ 18446744073709551615 * length seen
 
@@ -131,10 +137,10 @@ module _ (files : Files) (policy : Policy) where
   }
 
   -- its numbers have room for one module more
-  pub has_room : (seen : List Module) (was is : Faults) (out out' err err' : Option (List ℕ)) (is_after : Bool) (status : ℕ) (counts : Counts) → SoFar seen was is out out' err err' is_after status counts → length seen < 18446744073709551615
+  pub has_room : (seen : List Governed) (was is : Faults) (out out' err err' : Option (List ℕ)) (is_after : Bool) (status : ℕ) (counts : Counts) → SoFar seen was is out out' err err' is_after status counts → length seen < 18446744073709551615
       → HasRoom counts
   has_room seen was is out out' err err' is_after status counts before lt = subst HasRoom (sym before.counted) (record {
-    modules = omega (arith, count_by-le-length is_module seen, lt);
+    modules = omega (arith, count_by-le-length (λ (g : Governed). is_module g.module) seen, lt);
     refused = below is_refused;
     reported = below has_issues;
     issues = omega (arith, small', lt);
@@ -148,40 +154,40 @@ module _ (files : Files) (policy : Policy) where
 
   -- ---- one module more
 
-  module _ (seen : List Module) (m : Module) (was between is : Faults) (o e : Option (List ℕ)) (is_after : Bool) (s : ℕ) (counts : Counts) (out err : Writer) (ended : Ended)
-      (before : SoFar seen was between o out.before e err.before is_after s counts) (shown : Shows (record { policy = policy; is_after = is_after }) m (IsVerdict files policy m between is) out err ended) where
+  module _ (seen : List Governed) (m : Governed) (was between is : Faults) (o e : Option (List ℕ)) (is_after : Bool) (s : ℕ) (counts : Counts) (out err : Writer) (ended : Ended)
+      (before : SoFar seen was between o out.before e err.before is_after s counts) (shown : Shows (record { policy = m.policy; is_after = is_after }) m.module (IsVerdict files m.policy m.module between is) out err ended) where
     abbrev verdicts' : List Verdict
     verdicts' = before.verdicts ++ shown.verdict ∷ []
 
-    judged' : AreJudged files policy (seen ++ m ∷ []) verdicts' was is
+    judged' : AreJudged files (seen ++ m ∷ []) verdicts' was is
     judged' = judged_more seen before.verdicts m shown.verdict was between is before.judged shown.holds
 
-    reports' : reports_after false (seen ++ m ∷ []) verdicts' ≡ reports_after false seen before.verdicts ++ verdict_output is_after m shown.verdict
-    reports' = reports_more false seen before.verdicts m shown.verdict was between before.judged ∙ ap (λ v. reports_after false seen before.verdicts ++ verdict_output v m shown.verdict) (sym before.after)
+    reports' : reports_after false (seen ++ m ∷ []) verdicts' ≡ reports_after false seen before.verdicts ++ verdict_output is_after m.module shown.verdict
+    reports' = reports_more false seen before.verdicts m shown.verdict was between before.judged ∙ ap (λ v. reports_after false seen before.verdicts ++ verdict_output v m.module shown.verdict) (sym before.after)
 
     output' : TookBy out.failed o out.after (reports_after false (seen ++ m ∷ []) verdicts')
-    output' = subst (TookBy out.failed o out.after) (sym reports') (took_after o out.before out.after out.failed (reports_after false seen before.verdicts) (verdict_output is_after m shown.verdict) before.output shown.output)
+    output' = subst (TookBy out.failed o out.after) (sym reports') (took_after o out.before out.after out.failed (reports_after false seen before.verdicts) (verdict_output is_after m.module shown.verdict) before.output shown.output)
 
     message' : TookBy err.failed e err.after (flat_map verdict_message verdicts')
     message' = subst (TookBy err.failed e err.after) (sym (messages_more before.verdicts shown.verdict)) (took_after e err.before err.after err.failed (flat_map verdict_message before.verdicts) (verdict_message shown.verdict) before.message shown.message)
 
-    pub so_far_more : (more : List Module) (after : Bool) (status : ℕ) (counts' : Counts) → more ≡ seen ++ m ∷ [] → out.failed ≡ false → err.failed ≡ false → after ≡ (is_after || nat_lt 0 ended.issues) → status ≡ worse_status s ended.status
-        → counts' ≡ counts_with counts (is_module m) ended.status ended.issues → counts'.issues ≤ counts.issues + 18446744073709551615 → SoFar more was is o out.after e err.after after status counts'
+    pub so_far_more : (more : List Governed) (after : Bool) (status : ℕ) (counts' : Counts) → more ≡ seen ++ m ∷ [] → out.failed ≡ false → err.failed ≡ false → after ≡ (is_after || nat_lt 0 ended.issues) → status ≡ worse_status s ended.status
+        → counts' ≡ counts_with counts (is_module m.module) ended.status ended.issues → counts'.issues ≤ counts.issues + 18446744073709551615 → SoFar more was is o out.after e err.after after status counts'
     so_far_more more after status counts' all out_good err_good a w c small = record {
       verdicts = verdicts';
-      judged = subst (λ l. AreJudged files policy l verdicts' was is) (sym all) judged';
+      judged = subst (λ l. AreJudged files l verdicts' was is) (sym all) judged';
       output = subst (λ l. Appends o out.after (reports_after false l verdicts')) (sym all) (all_taken o out.after out.failed (reports_after false (seen ++ m ∷ []) verdicts') out_good output');
       message = all_taken e err.after err.failed (flat_map verdict_message verdicts') err_good message';
       after = a ∙ ap (λ v. v || nat_lt 0 ended.issues) before.after ∙ ap (λ n. list_any has_issues before.verdicts || nat_lt 0 n) shown.issues ∙ sym (any_more before.verdicts shown.verdict);
-      exit = w ∙ ap (λ t. worse_status t ended.status) before.exit ∙ ap (λ t. worse_status (worst_status (map (verdict_status policy) before.verdicts)) t) shown.exit
-          ∙ sym (worst_from (verdict_status policy) 0 before.verdicts shown.verdict);
-      counted = c ∙ counts_more policy seen m before.verdicts shown.verdict counts ended.status ended.issues before.counted shown.exit shown.issues ∙ ap (λ l. counts_of l verdicts') (sym all);
+      exit = w ∙ ap (λ t. worse_status t ended.status) before.exit ∙ ap (λ t. worse_status (worst_status (statuses seen before.verdicts)) t) shown.exit
+          ∙ sym (worst_from 0 (statuses seen before.verdicts) (verdict_status m.policy shown.verdict)) ∙ ap (fold worse_status 0) (sym (statuses_more seen before.verdicts m shown.verdict was between before.judged)) ∙ ap (λ l. worst_status (statuses l verdicts')) (sym all);
+      counted = c ∙ counts_more seen m before.verdicts shown.verdict counts ended.status ended.issues before.counted shown.exit shown.issues ∙ ap (λ l. counts_of l verdicts') (sym all);
       small = subst (λ l. counts'.issues ≤ 18446744073709551615 * length l) (sym all) (more_small counts'.issues counts.issues (length seen) (length (seen ++ m ∷ [])) small before.small (length-append seen (m ∷ [])));
     }
 
     -- what it says could not be written
-    pub run_cut : (modules rest : List Module) (fo fe : Flushes) (last : Counts) → modules ≡ seen ++ m ∷ rest → (out.failed || err.failed) ≡ true
-        → IsLintRun files policy modules was is (record { out = record out { before = o; flushes_before = fo }; err = record err { before = e; flushes_before = fe }; status = 1 }) last
+    pub run_cut : (modules rest : List Governed) (fo fe : Flushes) (last : Counts) → modules ≡ seen ++ m ∷ rest → (out.failed || err.failed) ≡ true
+        → IsLintRun files modules was is (record { out = record out { before = o; flushes_before = fo }; err = record err { before = e; flushes_before = fe }; status = 1 }) last
     run_cut modules rest fo fe last all bad = record {
       seen = seen ++ m ∷ [];
       rest = rest;
@@ -191,14 +197,14 @@ module _ (files : Files) (policy : Policy) where
       judged = judged';
       output = output';
       message = message';
-      exit = sym (ap (λ (v : Bool). if v then 1 else worst_status (map (verdict_status policy) verdicts')) bad);
+      exit = sym (ap (λ (v : Bool). if v then 1 else worst_status (statuses (seen ++ m ∷ []) verdicts')) bad);
       counted = λ good. absurd (both (out.failed || err.failed) bad good);
     }
 
   -- ---- its end
 
-  pub run_whole : (modules seen : List Module) (was is : Faults) (out err : Writer) (is_after : Bool) (s : ℕ) (counts : Counts) → seen ≡ modules → SoFar seen was is out.before out.after err.before err.after is_after s counts → out.failed ≡ false
-      → err.failed ≡ false → IsLintRun files policy modules was is (record { out = out; err = err; status = s }) counts
+  pub run_whole : (modules seen : List Governed) (was is : Faults) (out err : Writer) (is_after : Bool) (s : ℕ) (counts : Counts) → seen ≡ modules → SoFar seen was is out.before out.after err.before err.after is_after s counts → out.failed ≡ false
+      → err.failed ≡ false → IsLintRun files modules was is (record { out = out; err = err; status = s }) counts
   run_whole modules seen was is out err is_after s counts same before out_good err_good = record {
     seen = seen;
     rest = [];
@@ -208,6 +214,6 @@ module _ (files : Files) (policy : Policy) where
     judged = before.judged;
     output = subst (λ v. TookBy v out.before out.after (reports_after false seen before.verdicts)) (sym out_good) before.output;
     message = subst (λ v. TookBy v err.before err.after (flat_map verdict_message before.verdicts)) (sym err_good) before.message;
-    exit = before.exit ∙ sym (ap (λ (v : Bool). if v then 1 else worst_status (map (verdict_status policy) before.verdicts)) (ap (λ v. v || err.failed) out_good ∙ err_good));
+    exit = before.exit ∙ sym (ap (λ (v : Bool). if v then 1 else worst_status (statuses seen before.verdicts)) (ap (λ v. v || err.failed) out_good ∙ err_good));
     counted = λ _. before.counted;
   }

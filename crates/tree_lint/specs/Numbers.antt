@@ -4,6 +4,7 @@ use Rattle.std.specs.List.{count_by, sum_by}
 use Rattle.module_find.specs.declared.module.Module.{Module}
 use Rattle.tree_lint.specs.Verdicts.{Verdict}
 use Rattle.tree_lint.specs.declared.counts.Counts.{Counts}
+use Rattle.tree_lint.specs.declared.policy.Governed.{Governed}
 
 -- a module has a file, or isn't whole
 abbrev pub is_module : Module → Bool
@@ -21,9 +22,9 @@ abbrev pub has_issues : Verdict → Bool
 has_issues v = nat_lt 0 (issue_count v)
 
 -- THE NUMBERS of a run over these modules, of which this became
-abbrev pub counts_of : List Module → List Verdict → Counts
+abbrev pub counts_of : List Governed → List Verdict → Counts
 counts_of modules verdicts = record {
-  modules = count_by is_module modules;
+  modules = count_by (λ m. is_module m.module) modules;
   refused = count_by is_refused verdicts;
   reported = count_by has_issues verdicts;
   issues = sum_by issue_count verdicts;

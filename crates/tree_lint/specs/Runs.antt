@@ -14,6 +14,7 @@ use Rattle.tree_lint.specs.Parted.{parted}
 use Rattle.tree_lint.specs.Refusals.{refusal_line}
 use Rattle.tree_lint.specs.Verdicts.{IsVerdict, Verdict, names_in}
 use Rattle.tree_lint.specs.declared.counts.Counts.{Counts}
+use Rattle.tree_lint.specs.declared.policy.Governed.{Governed}
 use Rattle.tree_lint.specs.declared.policy.Policy.{Policy}
 
 -- ---- one module
@@ -43,35 +44,39 @@ verdict_status policy (Err refusals) = 1
 
 -- ---- all modules
 
--- each is judged for itself, whatever becomes of the others; the faults of the device are those of these modules
-abbrev pub AreJudged : Files → Policy → List Module → List Verdict → Faults → Faults → Type 0
-AreJudged files policy [] [] was is = is ≡ was
-AreJudged files policy [] (v ∷ vs) was is = ⊥
-AreJudged files policy (m ∷ ms) [] was is = ⊥
-AreJudged files policy (m ∷ ms) (v ∷ vs) was is = (between : Faults) × IsVerdict files policy m was between v × AreJudged files policy ms vs between is
+-- each is judged for itself, by its own policy, whatever becomes of the others; the faults of the device are those of these modules
+abbrev pub AreJudged : Files → List Governed → List Verdict → Faults → Faults → Type 0
+AreJudged files [] [] was is = is ≡ was
+AreJudged files [] (v ∷ vs) was is = ⊥
+AreJudged files (m ∷ ms) [] was is = ⊥
+AreJudged files (m ∷ ms) (v ∷ vs) was is = (between : Faults) × IsVerdict files m.policy m.module was between v × AreJudged files ms vs between is
 
 -- the reports of modules, an empty line between two
-abbrev pub reports_after : Bool → List Module → List Verdict → List ℕ
-reports_after is_after (m ∷ ms) (v ∷ vs) = verdict_output is_after m v ++ reports_after (is_after || has_issues v) ms vs
+abbrev pub reports_after : Bool → List Governed → List Verdict → List ℕ
+reports_after is_after (m ∷ ms) (v ∷ vs) = verdict_output is_after m.module v ++ reports_after (is_after || has_issues v) ms vs
 reports_after is_after _ _ = []
 
 -- 1 is worse than 2, and 2 than 0
 abbrev pub worse_status : ℕ → ℕ → ℕ
 worse_status one other = if one == 1 || other == 1 then 1 else max one other
 
+abbrev pub statuses : List Governed → List Verdict → List ℕ
+statuses (m ∷ ms) (v ∷ vs) = verdict_status m.policy v ∷ statuses ms vs
+statuses _ _ = []
+
 abbrev pub worst_status : List ℕ → ℕ
 worst_status statuses = fold worse_status 0 statuses
 
 -- THE RUN over modules: each is judged, up to one of which nothing more can be written. Each writer took what is said of them, or
 -- a part from the front where it failed, and the status is the worst one. If none failed, these are its numbers.
-pub record IsLintRun (files : Files) (policy : Policy) (modules : List Module) (was is : Faults) (end : End) (counts : Counts) : Type 0 where
-  pub seen : List Module
-  pub rest : List Module
+pub record IsLintRun (files : Files) (modules : List Governed) (was is : Faults) (end : End) (counts : Counts) : Type 0 where
+  pub seen : List Governed
+  pub rest : List Governed
   pub all : modules ≡ seen ++ rest
   pub whole : (end.out.failed || end.err.failed) ≡ false → rest ≡ []
   pub verdicts : List Verdict
-  pub judged : AreJudged files policy seen verdicts was is
+  pub judged : AreJudged files seen verdicts was is
   pub output : Took end.out (reports_after false seen verdicts)
   pub message : Took end.err (flat_map verdict_message verdicts)
-  pub exit : end.status ≡ (if end.out.failed || end.err.failed then 1 else worst_status (map (verdict_status policy) verdicts))
+  pub exit : end.status ≡ (if end.out.failed || end.err.failed then 1 else worst_status (statuses seen verdicts))
   pub counted : (end.out.failed || end.err.failed) ≡ false → counts ≡ counts_of seen verdicts

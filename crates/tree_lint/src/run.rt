@@ -12,7 +12,7 @@ ghost use Rattle.tree_lint.specs.Inner.Showing.{Shows};
 use crate::counts::{Counts, Ended};
 use crate::gather::gather;
 use crate::module_tree::ModuleTree;
-use crate::policy::Policy;
+use crate::policy::{Governed, Policy};
 use crate::report::{REFUSED, no_memory, refuse, show, too_many};
 use file_tree::tree::Tree;
 use hcl_scan::ByteSink;
@@ -90,6 +90,33 @@ fn lint_one<T: Tree + Drop, O: ByteSink, E: ByteSink>(
     lint_files(alloc, task, one, files, out, err)
 }
 
+/// Lints one module by its own policy.
+fn lint_next<T: Tree + Drop, O: ByteSink, E: ByteSink>(
+    alloc: Global,
+    is_after: bool,
+    one: &Governed,
+    files: &mut ModuleTree<T>,
+    out: &mut O,
+    err: &mut E,
+) -> Ended
+    requires back { has_reader_out files.old ≡ false }
+    requires out { O.failed out.old ≡ false }
+    requires err { E.failed err.old ≡ false }
+    ensures shows { Shows (record { policy = one.now.policy; is_after = is_after }) one.now.module
+        (IsVerdict (T.files files.old.tree) one.now.policy one.now.module
+        (T.faults files.old.tree) (T.faults files.new.tree))
+        (writer O.ByteSink out.old out.new) (writer E.ByteSink err.old err.new) result }
+    ensures files { T.files files.new.tree ≡ T.files files.old.tree }
+    ensures asked { T.asked files.new.tree ≡ T.asked files.old.tree }
+    ensures back { has_reader_out files.new ≡ false }
+{
+    let task = Task {
+        policy: one.policy,
+        is_after,
+    };
+    lint_one(alloc, task, &one.module, files, out, err)
+}
+
 /// The worse of two statuses: 1 is worse than 2.
 pub fn worse_status(one: u8, other: u8) -> u8
     ensures { result ≡ worse_status one other }
@@ -129,14 +156,13 @@ pub struct RunEnd {
     pub counts: Counts,
 }
 
-/// Lints modules one after another, whatever becomes of each: a refused module stops no other. Standard output gets the
-/// reports of those with issues, an empty line between two, and standard error why others are refused, but for those that
-/// aren't whole. Answers the worst
+/// Lints modules one after another, each by its own policy, whatever becomes of the others: a refused module stops none.
+/// Standard output gets the reports of those with issues, an empty line between two, and standard error why others are refused,
+/// but for those that aren't whole. Answers the worst
 /// status of a module, where 1 is worse than 2. Nothing more is linted once a write failed, which gives status 1.
 pub fn run_over<T: Tree + Drop, O: ByteSink, E: ByteSink>(
     alloc: Global,
-    policy: Policy,
-    modules: &[Module],
+    modules: &[Governed],
     files: &mut ModuleTree<T>,
     out: &mut O,
     err: &mut E,
@@ -145,7 +171,7 @@ pub fn run_over<T: Tree + Drop, O: ByteSink, E: ByteSink>(
     requires out { O.failed out.old ≡ false }
     requires err { E.failed err.old ≡ false }
     // What becomes of each module, what is said of it, the status, and what was found in numbers.
-    ensures ran { IsLintRun (T.files files.old.tree) policy modules.now
+    ensures ran { IsLintRun (T.files files.old.tree) modules.now
         (T.faults files.old.tree) (T.faults files.new.tree)
         (end_of O.ByteSink out.old out.new E.ByteSink err.old err.new result.status)
         result.counts }
@@ -159,13 +185,13 @@ pub fn run_over<T: Tree + Drop, O: ByteSink, E: ByteSink>(
     let mut is_after = false;
     let mut counts = Counts::new();
     for one in modules {
-        let ended = lint_one(alloc, Task { policy, is_after }, one, files, out, err);
+        let ended = lint_next(alloc, is_after, one, files, out, err);
         if has_failed(out, err) {
             return RunEnd { status: 1, counts };
         }
         is_after = either(is_after, ended.issues > 0);
         status = worse_status(status, ended.status);
-        counts = counts.add(is_module(one), ended);
+        counts = counts.add(is_module(&one.module), ended);
     }
     RunEnd { status, counts }
 }

@@ -1,13 +1,11 @@
-use Rattle.std.proofs.Common.{◌∙◌, refl, sym}
-use Rattle.lint_command.proofs.EndingLemmas.{cut_here, then_here}
+use Rattle.std.proofs.Common.{◌∙◌, inl, refl}
+use Rattle.lint_command.proofs.EndingLemmas.{lints_modules}
+use Rattle.lint_command.proofs.UsageLemmas.{memory_said}
 use Rattle.lint_command.proofs.run.lint_collected.Goals as goal
 
-pub returns-then-has_failed-clause-ran : goal.returns-then-has_failed-clause-ran
-returns-then-has_failed-clause-ran g c =
-    cut_here (g.T.Tree.files c.args.files.now.tree) c.args.job.policy c.args.job.quiet _ c.args.collected.now.modules.items c.args.collected.now.faults.items _ _ c.run_over-ran.result.counts _ c.as_slice-modules.ensures.value c.run_over-ran.ensures.ran
-    _ (sym c.has_failed.ensures ∙ c.if-has_failed.true) refl refl refl
+pub returns-in-Ok-clause-ends : goal.returns-in-Ok-clause-ends
+returns-in-Ok-clause-ends g c =
+    lints_modules (g.T.Tree.files c.args.files.now.tree) _ c.args.job c.args.collected.modules.items c.args.collected.faults.items _ _ _ _ c.in-Ok.configured _ c.configure.ensures.files c.as_slice-faults.ensures.value c.in-Ok.ensures.configures c.lint_configured.ensures.ran
 
-pub returns-clause-ran : goal.returns-clause-ran
-returns-clause-ran g c =
-    then_here (g.T.Tree.files c.args.files.now.tree) c.args.job.policy c.args.job.quiet _ c.args.collected.now.modules.items c.args.collected.now.faults.items _ _ c.run_over-ran.result.counts _ c.as_slice-modules.ensures.value c.run_over-ran.ensures.ran
-    _ _ c.as_slice.ensures.value (sym c.has_failed.ensures ∙ c.if-has_failed.false) refl refl c.finish.ensures.took c.finish.ensures.exit
+pub returns-clause-ends : goal.returns-clause-ends
+returns-clause-ends g c = inl (memory_said c.tree_linter.result _ c.tree_linter.ensures c.tell_out_of_memory.ensures)

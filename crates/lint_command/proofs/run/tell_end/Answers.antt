@@ -7,4 +7,4 @@ returns-then-is_err-clause-took g c = took_front _ _ _ _ _ (c.tell_faults.ensure
 
 pub returns-clause-took : goal.returns-clause-took
 returns-clause-took g c =
-    took_after _ _ _ _ _ _ (all_taken _ _ _ _ (c.tell_faults.ensures.failed ∙ sym c.is_err.ensures.value ∙ c.if-is_err.false) c.tell_faults.ensures.took) c.summarise.ensures.took
+    took_after _ _ _ _ _ _ (all_taken _ _ _ _ (c.tell_faults.ensures.failed ∙ sym c.is_err.ensures.value ∙ c.if-is_err.false) c.tell_faults.ensures.took) c.tell_rest.ensures.took

@@ -1,0 +1,973 @@
+//! Whole runs over modules that files `.tfrules` govern.
+
+use hcl_scan::{MemorySink, MemorySource};
+use lint_command::run::program;
+use std::alloc::Global;
+use std::process::Abort;
+use tfrules_command::Hashing;
+use tree_devices::calls::{Calls, Failures, STEADY, Step};
+use tree_devices::entry::{Entry, Stands};
+use tree_devices::memory_tree::MemoryTree;
+use tree_lint::module_tree::ModuleTree;
+
+/// The full path of the current folder.
+const HERE: &[u8] = b"/r/w";
+
+/// Words of a line.
+type Words = &'static [&'static [u8]];
+
+/// A module with an untyped variable that nothing refers to, so with two issues.
+const FILE: &[u8] = b"variable \"x\" {}\n";
+
+const FOLDER: Stands<'static> = Stands::Folder;
+
+/// What a run over a tree is given, and what it shows.
+struct Row {
+    entries: &'static [Entry<'static>],
+    words: Words,
+    /// How many issues are found in the modules that are linted, and what else is said.
+    err: &'static [u8],
+    status: u8,
+}
+
+/// Two modules, one in the folder of the other, and what else stands there.
+static ROWS: [Row; 25] = [
+    // No file governs.
+    Row {
+        entries: &[
+            Entry {
+                name: b"",
+                stands: FOLDER,
+            },
+            Entry {
+                name: b"a",
+                stands: FOLDER,
+            },
+            Entry {
+                name: b"a/main.tf",
+                stands: Stands::File(FILE),
+            },
+            Entry {
+                name: b"a/b",
+                stands: FOLDER,
+            },
+            Entry {
+                name: b"a/b/main.tf",
+                stands: Stands::File(FILE),
+            },
+        ],
+        words: &[b"tfrules-all", b"a"],
+        err: b"4 issues in 2 of 2 modules\n",
+        status: 2,
+    },
+    // The nearest file governs, in the folder of a module or above it.
+    Row {
+        entries: &[
+            Entry {
+                name: b"",
+                stands: FOLDER,
+            },
+            Entry {
+                name: b"a",
+                stands: FOLDER,
+            },
+            Entry {
+                name: b"a/main.tf",
+                stands: Stands::File(FILE),
+            },
+            Entry {
+                name: b"a/b",
+                stands: FOLDER,
+            },
+            Entry {
+                name: b"a/b/main.tf",
+                stands: Stands::File(FILE),
+            },
+            Entry {
+                name: b"a/.tfrules",
+                stands: Stands::File(b"--rules terraform_typed_variables\n"),
+            },
+        ],
+        words: &[b"tfrules-all", b"a"],
+        err: b"2 issues in 2 of 2 modules\n",
+        status: 2,
+    },
+    Row {
+        entries: &[
+            Entry {
+                name: b"",
+                stands: FOLDER,
+            },
+            Entry {
+                name: b"a",
+                stands: FOLDER,
+            },
+            Entry {
+                name: b"a/main.tf",
+                stands: Stands::File(FILE),
+            },
+            Entry {
+                name: b"a/b",
+                stands: FOLDER,
+            },
+            Entry {
+                name: b"a/b/main.tf",
+                stands: Stands::File(FILE),
+            },
+            Entry {
+                name: b"a/.tfrules",
+                stands: Stands::File(b"--rules terraform_typed_variables\n"),
+            },
+            Entry {
+                name: b"a/b/.tfrules",
+                stands: Stands::File(b"--force\n"),
+            },
+        ],
+        words: &[b"tfrules-all", b"a"],
+        err: b"3 issues in 2 of 2 modules\n",
+        status: 2,
+    },
+    Row {
+        entries: &[
+            Entry {
+                name: b"",
+                stands: FOLDER,
+            },
+            Entry {
+                name: b"a",
+                stands: FOLDER,
+            },
+            Entry {
+                name: b"a/main.tf",
+                stands: Stands::File(FILE),
+            },
+            Entry {
+                name: b"a/b",
+                stands: FOLDER,
+            },
+            Entry {
+                name: b"a/b/main.tf",
+                stands: Stands::File(FILE),
+            },
+            Entry {
+                name: b".tfrules",
+                stands: Stands::File(b"--force\n"),
+            },
+        ],
+        words: &[b"tfrules-all", b"a"],
+        err: b"4 issues in 2 of 2 modules\n",
+        status: 0,
+    },
+    // Up to the top of the repository, and no further.
+    Row {
+        entries: &[
+            Entry {
+                name: b"",
+                stands: FOLDER,
+            },
+            Entry {
+                name: b"a",
+                stands: FOLDER,
+            },
+            Entry {
+                name: b"a/main.tf",
+                stands: Stands::File(FILE),
+            },
+            Entry {
+                name: b"a/b",
+                stands: FOLDER,
+            },
+            Entry {
+                name: b"a/b/main.tf",
+                stands: Stands::File(FILE),
+            },
+            Entry {
+                name: b"a/.tfrules",
+                stands: Stands::File(b"--rules terraform_typed_variables\n"),
+            },
+            Entry {
+                name: b"a/b/.git",
+                stands: FOLDER,
+            },
+        ],
+        words: &[b"tfrules-all", b"a"],
+        err: b"3 issues in 2 of 2 modules\n",
+        status: 2,
+    },
+    Row {
+        entries: &[
+            Entry {
+                name: b"",
+                stands: FOLDER,
+            },
+            Entry {
+                name: b"a",
+                stands: FOLDER,
+            },
+            Entry {
+                name: b"a/main.tf",
+                stands: Stands::File(FILE),
+            },
+            Entry {
+                name: b"a/b",
+                stands: FOLDER,
+            },
+            Entry {
+                name: b"a/b/main.tf",
+                stands: Stands::File(FILE),
+            },
+            Entry {
+                name: b"a/b/.tfrules",
+                stands: Stands::File(b"--rules terraform_typed_variables\n"),
+            },
+            Entry {
+                name: b"a/b/.git",
+                stands: Stands::Link(b"nowhere"),
+            },
+        ],
+        words: &[b"tfrules-all", b"a/b"],
+        err: b"1 issue in 1 of 1 module\n",
+        status: 2,
+    },
+    // The top may be above the current folder.
+    Row {
+        entries: &[
+            Entry {
+                name: b"",
+                stands: FOLDER,
+            },
+            Entry {
+                name: b"a",
+                stands: FOLDER,
+            },
+            Entry {
+                name: b"a/main.tf",
+                stands: Stands::File(FILE),
+            },
+            Entry {
+                name: b"a/b",
+                stands: FOLDER,
+            },
+            Entry {
+                name: b"a/b/main.tf",
+                stands: Stands::File(FILE),
+            },
+            Entry {
+                name: b"/r/.tfrules",
+                stands: Stands::File(b"--force\n"),
+            },
+            Entry {
+                name: b"/r/.git",
+                stands: FOLDER,
+            },
+        ],
+        words: &[b"tfrules-all", b"a"],
+        err: b"4 issues in 2 of 2 modules\n",
+        status: 0,
+    },
+    // Outside of a repository no file above the current folder governs.
+    Row {
+        entries: &[
+            Entry {
+                name: b"",
+                stands: FOLDER,
+            },
+            Entry {
+                name: b"a",
+                stands: FOLDER,
+            },
+            Entry {
+                name: b"a/main.tf",
+                stands: Stands::File(FILE),
+            },
+            Entry {
+                name: b"a/b",
+                stands: FOLDER,
+            },
+            Entry {
+                name: b"a/b/main.tf",
+                stands: Stands::File(FILE),
+            },
+            Entry {
+                name: b"/r/.tfrules",
+                stands: Stands::File(b"--force\n"),
+            },
+        ],
+        words: &[b"tfrules-all", b"a"],
+        err: b"4 issues in 2 of 2 modules\n",
+        status: 2,
+    },
+    Row {
+        entries: &[
+            Entry {
+                name: b"",
+                stands: FOLDER,
+            },
+            Entry {
+                name: b"a",
+                stands: FOLDER,
+            },
+            Entry {
+                name: b"a/main.tf",
+                stands: Stands::File(FILE),
+            },
+            Entry {
+                name: b"a/b",
+                stands: FOLDER,
+            },
+            Entry {
+                name: b"a/b/main.tf",
+                stands: Stands::File(FILE),
+            },
+            Entry {
+                name: b"/r/.tfrules",
+                stands: Stands::File(b"--bogus\n"),
+            },
+            Entry {
+                name: b".tfrules",
+                stands: Stands::File(b"--rules terraform_typed_variables\n"),
+            },
+        ],
+        words: &[b"tfrules-all", b"a"],
+        err: b"2 issues in 2 of 2 modules\n",
+        status: 2,
+    },
+    // A module elsewhere has the file of its own folder.
+    Row {
+        entries: &[
+            Entry {
+                name: b"",
+                stands: FOLDER,
+            },
+            Entry {
+                name: b"a",
+                stands: FOLDER,
+            },
+            Entry {
+                name: b"a/main.tf",
+                stands: Stands::File(FILE),
+            },
+            Entry {
+                name: b"a/b",
+                stands: FOLDER,
+            },
+            Entry {
+                name: b"a/b/main.tf",
+                stands: Stands::File(FILE),
+            },
+            Entry {
+                name: b"/e",
+                stands: FOLDER,
+            },
+            Entry {
+                name: b"/e/.tfrules",
+                stands: Stands::File(b"--bogus\n"),
+            },
+            Entry {
+                name: b"/e/m",
+                stands: FOLDER,
+            },
+            Entry {
+                name: b"/e/m/main.tf",
+                stands: Stands::File(FILE),
+            },
+        ],
+        words: &[b"tfrules-all", b"/e/m"],
+        err: b"2 issues in 1 of 1 module\n",
+        status: 2,
+    },
+    Row {
+        entries: &[
+            Entry {
+                name: b"",
+                stands: FOLDER,
+            },
+            Entry {
+                name: b"a",
+                stands: FOLDER,
+            },
+            Entry {
+                name: b"a/main.tf",
+                stands: Stands::File(FILE),
+            },
+            Entry {
+                name: b"a/b",
+                stands: FOLDER,
+            },
+            Entry {
+                name: b"a/b/main.tf",
+                stands: Stands::File(FILE),
+            },
+            Entry {
+                name: b"/e",
+                stands: FOLDER,
+            },
+            Entry {
+                name: b"/e/.tfrules",
+                stands: Stands::File(b"--force\n"),
+            },
+            Entry {
+                name: b"/e/main.tf",
+                stands: Stands::File(FILE),
+            },
+        ],
+        words: &[b"tfrules-all", b"/e"],
+        err: b"2 issues in 1 of 1 module\n",
+        status: 0,
+    },
+    // No file is read where that is asked for.
+    Row {
+        entries: &[
+            Entry {
+                name: b"",
+                stands: FOLDER,
+            },
+            Entry {
+                name: b"a",
+                stands: FOLDER,
+            },
+            Entry {
+                name: b"a/main.tf",
+                stands: Stands::File(FILE),
+            },
+            Entry {
+                name: b"a/b",
+                stands: FOLDER,
+            },
+            Entry {
+                name: b"a/b/main.tf",
+                stands: Stands::File(FILE),
+            },
+            Entry {
+                name: b"a/.tfrules",
+                stands: Stands::File(b"--bogus\n"),
+            },
+        ],
+        words: &[b"tfrules-all", b"--no-config", b"a"],
+        err: b"4 issues in 2 of 2 modules\n",
+        status: 2,
+    },
+    // The line goes before the file, option by option.
+    Row {
+        entries: &[
+            Entry {
+                name: b"",
+                stands: FOLDER,
+            },
+            Entry {
+                name: b"a",
+                stands: FOLDER,
+            },
+            Entry {
+                name: b"a/main.tf",
+                stands: Stands::File(FILE),
+            },
+            Entry {
+                name: b"a/b",
+                stands: FOLDER,
+            },
+            Entry {
+                name: b"a/b/main.tf",
+                stands: Stands::File(FILE),
+            },
+            Entry {
+                name: b"a/.tfrules",
+                stands: Stands::File(b"--rules terraform_typed_variables\n--force\n"),
+            },
+        ],
+        words: &[
+            b"tfrules-all",
+            b"--rules",
+            b"terraform_unused_declarations",
+            b"a",
+        ],
+        err: b"2 issues in 2 of 2 modules\n",
+        status: 0,
+    },
+    // A bad line is told once, and the modules of its file are not linted.
+    Row {
+        entries: &[
+            Entry {
+                name: b"",
+                stands: FOLDER,
+            },
+            Entry {
+                name: b"a",
+                stands: FOLDER,
+            },
+            Entry {
+                name: b"a/main.tf",
+                stands: Stands::File(FILE),
+            },
+            Entry {
+                name: b"a/b",
+                stands: FOLDER,
+            },
+            Entry {
+                name: b"a/b/main.tf",
+                stands: Stands::File(FILE),
+            },
+            Entry {
+                name: b"a/.tfrules",
+                stands: Stands::File(b"--force\n--bogus\n"),
+            },
+        ],
+        words: &[b"tfrules-all", b"a"],
+        err: b"tfrules-all: error: a/.tfrules:2: no option of a project\n2 modules not linted: their options aren't known\n",
+        status: 1,
+    },
+    Row {
+        entries: &[
+            Entry {
+                name: b"",
+                stands: FOLDER,
+            },
+            Entry {
+                name: b"a",
+                stands: FOLDER,
+            },
+            Entry {
+                name: b"a/main.tf",
+                stands: Stands::File(FILE),
+            },
+            Entry {
+                name: b"a/b",
+                stands: FOLDER,
+            },
+            Entry {
+                name: b"a/b/main.tf",
+                stands: Stands::File(FILE),
+            },
+            Entry {
+                name: b"a/b/.tfrules",
+                stands: Stands::File(b"--force\n--force\n--naming x"),
+            },
+        ],
+        words: &[b"tfrules-all", b"a"],
+        err: b"tfrules-all: error: a/b/.tfrules:2: the option is given twice\ntfrules-all: error: a/b/.tfrules:3: unknown naming\n2 issues in 1 of 1 module\n1 module not linted: its options aren't known\n",
+        status: 1,
+    },
+    Row {
+        entries: &[
+            Entry {
+                name: b"",
+                stands: FOLDER,
+            },
+            Entry {
+                name: b"a",
+                stands: FOLDER,
+            },
+            Entry {
+                name: b"a/main.tf",
+                stands: Stands::File(FILE),
+            },
+            Entry {
+                name: b"a/b",
+                stands: FOLDER,
+            },
+            Entry {
+                name: b"a/b/main.tf",
+                stands: Stands::File(FILE),
+            },
+            Entry {
+                name: b"a/b/.tfrules",
+                stands: Stands::File(b"--bogus"),
+            },
+        ],
+        words: &[b"tfrules-all", b"--quiet", b"a"],
+        err: b"tfrules-all: error: a/b/.tfrules:1: no option of a project\n",
+        status: 1,
+    },
+    Row {
+        entries: &[
+            Entry {
+                name: b"",
+                stands: FOLDER,
+            },
+            Entry {
+                name: b"a",
+                stands: FOLDER,
+            },
+            Entry {
+                name: b"a/main.tf",
+                stands: Stands::File(FILE),
+            },
+            Entry {
+                name: b"a/b",
+                stands: FOLDER,
+            },
+            Entry {
+                name: b"a/b/main.tf",
+                stands: Stands::File(FILE),
+            },
+            Entry {
+                name: b"/r/.tfrules",
+                stands: Stands::File(b"--bogus"),
+            },
+            Entry {
+                name: b"/r/.git",
+                stands: FOLDER,
+            },
+        ],
+        words: &[b"tfrules-all", b"a"],
+        err: b"tfrules-all: error: /r/.tfrules:1: no option of a project\n2 modules not linted: their options aren't known\n",
+        status: 1,
+    },
+    // A folder without modules needs no options.
+    Row {
+        entries: &[
+            Entry {
+                name: b"",
+                stands: FOLDER,
+            },
+            Entry {
+                name: b"a",
+                stands: FOLDER,
+            },
+            Entry {
+                name: b"a/main.tf",
+                stands: Stands::File(FILE),
+            },
+            Entry {
+                name: b"a/b",
+                stands: FOLDER,
+            },
+            Entry {
+                name: b"a/b/main.tf",
+                stands: Stands::File(FILE),
+            },
+            Entry {
+                name: b"n",
+                stands: FOLDER,
+            },
+            Entry {
+                name: b"n/.tfrules",
+                stands: Stands::File(b"--bogus\n"),
+            },
+        ],
+        words: &[b"tfrules-all", b"n"],
+        err: b"no modules found\n",
+        status: 0,
+    },
+    // What is no file governs too, and is told.
+    Row {
+        entries: &[
+            Entry {
+                name: b"",
+                stands: FOLDER,
+            },
+            Entry {
+                name: b"a",
+                stands: FOLDER,
+            },
+            Entry {
+                name: b"a/main.tf",
+                stands: Stands::File(FILE),
+            },
+            Entry {
+                name: b"a/b",
+                stands: FOLDER,
+            },
+            Entry {
+                name: b"a/b/main.tf",
+                stands: Stands::File(FILE),
+            },
+            Entry {
+                name: b"a/b/.tfrules",
+                stands: FOLDER,
+            },
+        ],
+        words: &[b"tfrules-all", b"a/b"],
+        err: b"tfrules-all: error: a/b/.tfrules: not a file\n1 module not linted: its options aren't known\n",
+        status: 1,
+    },
+    Row {
+        entries: &[
+            Entry {
+                name: b"",
+                stands: FOLDER,
+            },
+            Entry {
+                name: b"a",
+                stands: FOLDER,
+            },
+            Entry {
+                name: b"a/main.tf",
+                stands: Stands::File(FILE),
+            },
+            Entry {
+                name: b"a/b",
+                stands: FOLDER,
+            },
+            Entry {
+                name: b"a/b/main.tf",
+                stands: Stands::File(FILE),
+            },
+            Entry {
+                name: b"a/b/.tfrules",
+                stands: Stands::Link(b"nowhere"),
+            },
+        ],
+        words: &[b"tfrules-all", b"a/b"],
+        err: b"tfrules-all: error: a/b/.tfrules: the link leads nowhere\n1 module not linted: its options aren't known\n",
+        status: 1,
+    },
+    Row {
+        entries: &[
+            Entry {
+                name: b"",
+                stands: FOLDER,
+            },
+            Entry {
+                name: b"a",
+                stands: FOLDER,
+            },
+            Entry {
+                name: b"a/main.tf",
+                stands: Stands::File(FILE),
+            },
+            Entry {
+                name: b"a/b",
+                stands: FOLDER,
+            },
+            Entry {
+                name: b"a/b/main.tf",
+                stands: Stands::File(FILE),
+            },
+            Entry {
+                name: b"a/b/.tfrules",
+                stands: Stands::Pipe,
+            },
+        ],
+        words: &[b"tfrules-all", b"a/b"],
+        err: b"tfrules-all: error: a/b/.tfrules: not a file\n1 module not linted: its options aren't known\n",
+        status: 1,
+    },
+    // A link to a file is one.
+    Row {
+        entries: &[
+            Entry {
+                name: b"",
+                stands: FOLDER,
+            },
+            Entry {
+                name: b"a",
+                stands: FOLDER,
+            },
+            Entry {
+                name: b"a/main.tf",
+                stands: Stands::File(FILE),
+            },
+            Entry {
+                name: b"a/b",
+                stands: FOLDER,
+            },
+            Entry {
+                name: b"a/b/main.tf",
+                stands: Stands::File(FILE),
+            },
+            Entry {
+                name: b"o",
+                stands: Stands::File(b"--force"),
+            },
+            Entry {
+                name: b"a/b/.tfrules",
+                stands: Stands::Link(b"o"),
+            },
+        ],
+        words: &[b"tfrules-all", b"a/b"],
+        err: b"2 issues in 1 of 1 module\n",
+        status: 0,
+    },
+    // What is no text is told with its place.
+    Row {
+        entries: &[
+            Entry {
+                name: b"",
+                stands: FOLDER,
+            },
+            Entry {
+                name: b"a",
+                stands: FOLDER,
+            },
+            Entry {
+                name: b"a/main.tf",
+                stands: Stands::File(FILE),
+            },
+            Entry {
+                name: b"a/b",
+                stands: FOLDER,
+            },
+            Entry {
+                name: b"a/b/main.tf",
+                stands: Stands::File(FILE),
+            },
+            Entry {
+                name: b"a/b/.tfrules",
+                stands: Stands::File(b"--force\n\xff"),
+            },
+        ],
+        words: &[b"tfrules-all", b"a/b"],
+        err: b"tfrules-all: error: a/b/.tfrules:2:1: invalid UTF-8\n1 module not linted: its options aren't known\n",
+        status: 1,
+    },
+    Row {
+        entries: &[
+            Entry {
+                name: b"",
+                stands: FOLDER,
+            },
+            Entry {
+                name: b"a",
+                stands: FOLDER,
+            },
+            Entry {
+                name: b"a/main.tf",
+                stands: Stands::File(FILE),
+            },
+            Entry {
+                name: b"a/b",
+                stands: FOLDER,
+            },
+            Entry {
+                name: b"a/b/main.tf",
+                stands: Stands::File(FILE),
+            },
+            Entry {
+                name: b"a/b/.tfrules",
+                stands: Stands::File(b"\xef\xbb\xbf--force"),
+            },
+        ],
+        words: &[b"tfrules-all", b"a/b"],
+        err: b"tfrules-all: error: a/b/.tfrules:1:1: byte order mark\n1 module not linted: its options aren't known\n",
+        status: 1,
+    },
+    Row {
+        entries: &[
+            Entry {
+                name: b"",
+                stands: FOLDER,
+            },
+            Entry {
+                name: b"a",
+                stands: FOLDER,
+            },
+            Entry {
+                name: b"a/main.tf",
+                stands: Stands::File(FILE),
+            },
+            Entry {
+                name: b"a/b",
+                stands: FOLDER,
+            },
+            Entry {
+                name: b"a/b/main.tf",
+                stands: Stands::File(FILE),
+            },
+            Entry {
+                name: b"a/b/.tfrules",
+                stands: Stands::File(b"--force\0"),
+            },
+        ],
+        words: &[b"tfrules-all", b"a/b"],
+        err: b"tfrules-all: error: a/b/.tfrules:1: no option of a project\n1 module not linted: its options aren't known\n",
+        status: 1,
+    },
+];
+
+/// Whether a call failed that looks for a `.tfrules` or reads it: these go by full paths, or ask for them.
+fn fails_a_search(calls: &Calls) -> bool {
+    match calls.failed() {
+        Some(Step::FullPath) => true,
+        Some(_) => calls.failed_name().starts_with(b"/"),
+        None => false,
+    }
+}
+
+/// What a run by these words over a tree shows, and whether such a call failed.
+fn run(
+    rt: &impl Abort,
+    alloc: Global,
+    entries: &[Entry<'_>],
+    words: &[&[u8]],
+    failures: Failures,
+) -> (MemorySink, u8, bool) {
+    let tree = MemoryTree::new_in(alloc, HERE, entries, failures).expect(rt, "memory");
+    let mut files = ModuleTree::new(tree, Hashing::shared());
+    let mut input = MemorySource::new(b"", 4096);
+    let mut out = MemorySink::new(4096);
+    let mut err = MemorySink::new(4096);
+    let status = program(alloc, words, &mut files, &mut input, &mut out, &mut err);
+    (err, status, fails_a_search(files.tree.calls()))
+}
+
+/// Runs the program by the words of a row over its tree, and compares what it says.
+fn shows(rt: &impl Abort, alloc: Global, row: &Row) {
+    let (err, status, _) = run(rt, alloc, row.entries, row.words, STEADY);
+    assert_eq!(rt; err.bytes(), row.err, "of {:?}", row.words);
+    assert_eq!(rt; status, row.status, "of {:?}", row.words);
+}
+
+#[test]
+fn rows_are_shown(rt: HostRuntime) {
+    for row in &ROWS {
+        shows(&rt, rt.alloc(), row);
+    }
+}
+
+/// A file of this many bytes is none.
+const MUCH: usize = 5_000_000;
+
+#[test]
+fn a_large_file_is_told(rt: HostRuntime) {
+    let alloc = rt.alloc();
+    let mut text = Vec::new(alloc);
+    for _ in 0..MUCH {
+        text.push(b'\n').expect(&rt, "memory");
+    }
+    let entries = [
+        Entry {
+            name: b"",
+            stands: FOLDER,
+        },
+        Entry {
+            name: b"a",
+            stands: FOLDER,
+        },
+        Entry {
+            name: b"a/main.tf",
+            stands: Stands::File(FILE),
+        },
+        Entry {
+            name: b"a/.tfrules",
+            stands: Stands::File(text.as_slice()),
+        },
+    ];
+    let (err, status, _) = run(&rt, alloc, &entries, &[b"tfrules-all", b"a"], STEADY);
+    let wanted: &[u8] =
+        b"tfrules-all: error: a/.tfrules:1:1: source too large\n1 module not linted: its options aren't known\n";
+    assert_eq!(&rt; err.bytes(), wanted, "of a large file");
+    assert_eq!(&rt; status, 1, "of a large file");
+}
+
+/// How many calls a run over `a` makes to look for the files of two modules and to read the one that there is.
+const CALLS: u64 = 16;
+
+#[test]
+fn each_failed_call_is_told(rt: HostRuntime) {
+    let mut count: u64 = 0;
+    for call in 0..60 {
+        let failures = Failures {
+            call: Some(call),
+            ..STEADY
+        };
+        let words: [&[u8]; 4] = [b"tfrules-all", b"--quiet", b"--force", b"a"];
+        let (err, status, fails) = run(&rt, rt.alloc(), ROWS[1].entries, &words, failures);
+        let is_told = status == 1 && !err.bytes().is_empty();
+        assert!(&rt; is_told || !fails, "where call {call} fails");
+        if fails {
+            count = count.saturating_add(1);
+        }
+    }
+    assert_eq!(&rt; count, CALLS, "calls of a run");
+}
