@@ -31,7 +31,8 @@ fn tell_line_words<S: ByteSink>(sink: &mut S, bad: &BadLine) -> Result<(), Faile
 /// Writes a name as it is shown, and what is wrong with a line of this file.
 fn tell_named_line<S: ByteSink>(sink: &mut S, name: &[u8], bad: &BadLine) -> Result<(), Failed>
     requires { S.failed sink.old ≡ false }
-    ensures took { Took (writer S.ByteSink sink.old sink.new) (quoted name.now ++ line_words bad.now) }
+    ensures took { Took (writer S.ByteSink sink.old sink.new)
+        (quoted name.now ++ line_words bad.now) }
     ensures failed { S.failed sink.new ≡ is_err result }
 {
     if write_quoted(sink, name).is_err() {
@@ -55,7 +56,8 @@ fn tell_line<S: ByteSink>(sink: &mut S, name: &[u8], bad: &BadLine) -> Result<()
 /// Says which lines of the file of this name are wrong.
 fn tell_lines<S: ByteSink>(sink: &mut S, name: &[u8], all: &[BadLine]) -> Result<(), Failed>
     requires { S.failed sink.old ≡ false }
-    ensures took { Took (writer S.ByteSink sink.old sink.new) (flat_map (bad_line name.now) all.now) }
+    ensures took { Took (writer S.ByteSink sink.old sink.new)
+        (flat_map (bad_line name.now) all.now) }
     ensures failed { S.failed sink.new ≡ is_err result }
 {
     for bad in all {
