@@ -18,7 +18,7 @@ MISSING = 'no such file or folder'
 
 def run(group):
     if not os.path.exists(group.linted):
-        group.skip('tfrules-all', 168, 'bin/tfrules-all is not built')
+        group.skip('tfrules-all', 193, 'bin/tfrules-all is not built')
         return
 
     def lint(*words, cwd, **more):
@@ -34,6 +34,8 @@ def run(group):
         special_files,
         summaries,
         options,
+        modules.where_config_stands,
+        configs,
         rule_texts,
         lists_of_rules,
         deleted,
@@ -252,6 +254,52 @@ def options(group, lint):
         ['a.tf', '--rules=terraform_documented_variables', '--naming', 'snake_case'],
     ):
         group.check('the options of tfrules %r' % words, lint(*words, cwd=top), (2, undescribed, b''))
+
+
+def configs(group, lint):
+    """What stands in .tfrules, and what is said where it is bad."""
+    top = tree(group, {'m/a.tf': DECLARED, 'm/in/b.tf': DECLARED, 'n/a.tf': DECLARED})
+    put(top, {'m/.tfrules': b'# ours\r\n  --rules=terraform_typed_variables # one\n--force'})
+    group.check('the options of a project', lint('m', cwd=top), (0, b'', b''))
+    group.check(
+        'those of the line go before them',
+        lint('--rules', 'default', 'm', cwd=top),
+        (0, unused('m/a.tf', 'm/in/b.tf'), b''),
+    )
+    for text, told in (
+        (b'--force\n--bogus\n', '2: no option of a project'),
+        (b'\n--rules terraform_typed,all\n', '2: unknown rule'),
+        (b'--rules default,-all\n', '1: no rule is left'),
+        (b'--rules=all\n--rules=default\n', '2: the option is given twice'),
+        (b'--naming camel', '1: unknown naming'),
+        (b'--minimum-failure-severity *\n', '1: unknown severity'),
+        (b'--force\n\xff', '2:1: invalid UTF-8'),
+    ):
+        put(top, {'m/.tfrules': text})
+        group.check(
+            'what is bad is told once: %r' % text,
+            lint('m', 'n', cwd=top),
+            (1, unused('n/a.tf'), lines('tfrules-all: error: m/.tfrules:' + told)),
+        )
+    group.check(
+        'modules that are not linted are counted',
+        group.call(group.linted, 'm', cwd=top),
+        (1, b'', lines(fault('m/.tfrules:2:1', 'invalid UTF-8'), "2 modules not linted: their options aren't known")),
+    )
+    group.check('not with --no-config', lint('--no-config', 'm/in', cwd=top), (2, unused('m/in/b.tf'), b''))
+    (top / 'm' / '.tfrules').unlink()
+    put(top, {'m/.tfrules': b'->nowhere'})
+    group.check('a dead link', lint('m', cwd=top), (1, b'', lines(fault('m/.tfrules', 'the link leads nowhere'))))
+    (top / 'm' / '.tfrules').unlink()
+    (top / 'm' / '.tfrules').mkdir()
+    group.check('a folder', lint('m', cwd=top), (1, b'', lines(fault('m/.tfrules', 'not a file'))))
+    (top / 'm' / '.tfrules').rmdir()
+    os.mkfifo(str(top / 'm' / '.tfrules'))
+    group.check('a pipe', lint('m', cwd=top), (1, b'', lines(fault('m/.tfrules', 'not a file'))))
+    (top / 'm' / '.tfrules').unlink()
+    put(top, {'.git/HEAD': b'', '.tfrules': b'--x'})
+    told = os.path.realpath(str(top)) + '/.tfrules:1'
+    group.check('by its full path', lint('a.tf', cwd=top / 'm'), (1, b'', lines(fault(told, 'no option of a project'))))
 
 
 def rule_texts(group, lint):
