@@ -72,8 +72,8 @@ class Work:
         self.group, self.top, self.installed = group, group.fresh(), group.fresh()
         self.root = group.fresh()
         recipe = group.contrib / 'ci' / 'bazel'
-        for name in ('BUILD.bazel', 'tfrules.bzl'):
-            shutil.copy(str(recipe / name), str(self.top / name))
+        shutil.copy(str(recipe / 'tfrules.BUILD'), str(self.top / 'BUILD.bazel'))
+        shutil.copy(str(recipe / 'tfrules.bzl'), str(self.top))
         text = (recipe / 'WORKSPACE').read_text()
         (self.top / 'WORKSPACE').write_text(text.replace('"/usr/local/bin"', '"%s"' % self.installed))
         shutil.copy(group.linted, str(self.installed / 'tfrules-all'))

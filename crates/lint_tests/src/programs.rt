@@ -10,7 +10,7 @@ use tree_devices::entry::{Entry, Stands};
 use tree_devices::memory_tree::MemoryTree;
 use tree_lint::module_tree::ModuleTree;
 
-/// How many calls a run over `a` and `bad` makes of a tree.
+/// How many calls a run over `a` and `other` makes of a tree.
 const FAILING_CALLS: u64 = 40;
 
 /// Words of a line.
@@ -410,7 +410,7 @@ fn modules_of_linked_files_are_linted(rt: HostRuntime) {
     shows(&rt, rt.alloc(), SHARED, &EACH_MODULE);
 }
 
-/// What a run over `a` and `bad` shows of which this call of the tree fails, and whether one did.
+/// What a run over `a` and `other` shows of which this call of the tree fails, and whether one did.
 fn failing(rt: &impl Abort, alloc: Global, call: usize) -> (u8, bool, bool) {
     let failures = Failures {
         call: Some(call),
@@ -421,7 +421,7 @@ fn failing(rt: &impl Abort, alloc: Global, call: usize) -> (u8, bool, bool) {
     let mut input = MemorySource::new(b"", 4096);
     let mut out = MemorySink::new(4096);
     let mut err = MemorySink::new(4096);
-    let words: [&[u8]; 4] = [b"tfrules-all", b"--quiet", b"a", b"bad"];
+    let words: [&[u8]; 4] = [b"tfrules-all", b"--quiet", b"a", b"other"];
     let status = program(alloc, &words, &mut files, &mut input, &mut out, &mut err);
     let has_failed = files.tree.calls().failed().is_some();
     (status, has_failed, !err.bytes().is_empty())
@@ -432,7 +432,8 @@ fn each_failed_call_is_told(rt: HostRuntime) {
     let mut count: u64 = 0;
     for call in 0..100 {
         let (status, has_failed, is_told) = failing(&rt, rt.alloc(), call);
-        assert!(&rt; status == 1 && is_told, "where call {call} fails");
+        let wanted = if has_failed { 1 } else { 2 };
+        assert!(&rt; status == wanted && is_told == has_failed, "where call {call} fails");
         if has_failed {
             count = count.saturating_add(1);
         }
