@@ -1,5 +1,5 @@
 -- What is linted, and how a run ends.
-use Rattle.std.proofs.Common.{◌≡◌, ◌∙◌, ◌⊎◌, ◌++◌, ℕ, Bool, true, false, List, Option, ap, flat_map, inl, inr, refl, subst, sym}
+use Rattle.std.proofs.Common.{◌≡◌, ◌∙◌, ◌++◌, ℕ, Bool, true, false, List, Option, ap, flat_map, inl, inr, refl, subst, sym}
 use Rattle.std.specs.Prelude.{◌||◌, if◌then◌else◌}
 use Rattle.command_line.specs.Rows.{End, TookBy, Writer, write_failed}
 use Rattle.file_tree.specs.Choices.{Chosen}

@@ -433,7 +433,10 @@ fn each_failed_call_is_told(rt: HostRuntime) {
     for call in 0..100 {
         let (status, has_failed, is_told) = failing(&rt, rt.alloc(), call);
         let wanted = if has_failed { 1 } else { 2 };
-        assert!(&rt; status == wanted && is_told == has_failed, "where call {call} fails");
+        assert!(&rt;
+            status == wanted && is_told == has_failed,
+            "where call {call} fails"
+        );
         if has_failed {
             count = count.saturating_add(1);
         }

@@ -1,4 +1,4 @@
-use Rattle.std.proofs.Common.{◌∙◌, inl, refl}
+use Rattle.std.proofs.Common.{inl}
 use Rattle.lint_command.proofs.EndingLemmas.{lints_modules}
 use Rattle.lint_command.proofs.UsageLemmas.{memory_said}
 use Rattle.lint_command.proofs.run.lint_collected.Goals as goal

@@ -1,4 +1,4 @@
-use Rattle.std.proofs.Common.{◌≡◌, ◌∙◌, List, ℕ, ap, codes, inl, map, refl, subst}
+use Rattle.std.proofs.Common.{◌∙◌, List, ℕ, ap, codes, inl, map, refl, subst}
 use Rattle.command_line.specs.Rows.{end_of}
 use Rattle.std.specs.Borrow.{Bor}
 use Rattle.tree_words.specs.Line.{others_in, texts_in}
