@@ -2,7 +2,7 @@
 
 use hcl_scan::{MemorySink, MemorySource};
 use lint_command::run::program;
-use std::alloc::Global;
+use std::alloc::{AllocError, Global};
 use std::process::Abort;
 use tfrules_command::Hashing;
 use tree_devices::calls::{Calls, Failures, STEADY, Step};
@@ -23,6 +23,7 @@ const FOLDER: Stands<'static> = Stands::Folder;
 
 /// What a run over a tree is given, and what it shows.
 struct Row {
+    /// What stands beside two modules.
     entries: &'static [Entry<'static>],
     words: Words,
     /// How many issues are found in the modules that are linted, and what else is said.
@@ -30,90 +31,50 @@ struct Row {
     status: u8,
 }
 
-/// Two modules, one in the folder of the other, and what else stands there.
+/// Two modules, one in the folder of the other.
+static MODULES: [Entry<'static>; 5] = [
+    Entry {
+        name: b"",
+        stands: FOLDER,
+    },
+    Entry {
+        name: b"a",
+        stands: FOLDER,
+    },
+    Entry {
+        name: b"a/main.tf",
+        stands: Stands::File(FILE),
+    },
+    Entry {
+        name: b"a/b",
+        stands: FOLDER,
+    },
+    Entry {
+        name: b"a/b/main.tf",
+        stands: Stands::File(FILE),
+    },
+];
+
 static ROWS: [Row; 25] = [
     // No file governs.
     Row {
-        entries: &[
-            Entry {
-                name: b"",
-                stands: FOLDER,
-            },
-            Entry {
-                name: b"a",
-                stands: FOLDER,
-            },
-            Entry {
-                name: b"a/main.tf",
-                stands: Stands::File(FILE),
-            },
-            Entry {
-                name: b"a/b",
-                stands: FOLDER,
-            },
-            Entry {
-                name: b"a/b/main.tf",
-                stands: Stands::File(FILE),
-            },
-        ],
+        entries: &[],
         words: &[b"tfrules-all", b"a"],
         err: b"4 issues in 2 of 2 modules\n",
         status: 2,
     },
     // The nearest file governs, in the folder of a module or above it.
     Row {
-        entries: &[
-            Entry {
-                name: b"",
-                stands: FOLDER,
-            },
-            Entry {
-                name: b"a",
-                stands: FOLDER,
-            },
-            Entry {
-                name: b"a/main.tf",
-                stands: Stands::File(FILE),
-            },
-            Entry {
-                name: b"a/b",
-                stands: FOLDER,
-            },
-            Entry {
-                name: b"a/b/main.tf",
-                stands: Stands::File(FILE),
-            },
-            Entry {
-                name: b"a/.tfrules",
-                stands: Stands::File(b"--rules terraform_typed_variables\n"),
-            },
-        ],
+        entries: &[Entry {
+            name: b"a/.tfrules",
+            stands: Stands::File(b"--rules terraform_typed_variables\n"),
+        }],
         words: &[b"tfrules-all", b"a"],
         err: b"2 issues in 2 of 2 modules\n",
         status: 2,
     },
     Row {
         entries: &[
-            Entry {
-                name: b"",
-                stands: FOLDER,
-            },
-            Entry {
-                name: b"a",
-                stands: FOLDER,
-            },
-            Entry {
-                name: b"a/main.tf",
-                stands: Stands::File(FILE),
-            },
-            Entry {
-                name: b"a/b",
-                stands: FOLDER,
-            },
-            Entry {
-                name: b"a/b/main.tf",
-                stands: Stands::File(FILE),
-            },
             Entry {
                 name: b"a/.tfrules",
                 stands: Stands::File(b"--rules terraform_typed_variables\n"),
@@ -128,32 +89,10 @@ static ROWS: [Row; 25] = [
         status: 2,
     },
     Row {
-        entries: &[
-            Entry {
-                name: b"",
-                stands: FOLDER,
-            },
-            Entry {
-                name: b"a",
-                stands: FOLDER,
-            },
-            Entry {
-                name: b"a/main.tf",
-                stands: Stands::File(FILE),
-            },
-            Entry {
-                name: b"a/b",
-                stands: FOLDER,
-            },
-            Entry {
-                name: b"a/b/main.tf",
-                stands: Stands::File(FILE),
-            },
-            Entry {
-                name: b".tfrules",
-                stands: Stands::File(b"--force\n"),
-            },
-        ],
+        entries: &[Entry {
+            name: b".tfrules",
+            stands: Stands::File(b"--force\n"),
+        }],
         words: &[b"tfrules-all", b"a"],
         err: b"4 issues in 2 of 2 modules\n",
         status: 0,
@@ -161,26 +100,6 @@ static ROWS: [Row; 25] = [
     // Up to the top of the repository, and no further.
     Row {
         entries: &[
-            Entry {
-                name: b"",
-                stands: FOLDER,
-            },
-            Entry {
-                name: b"a",
-                stands: FOLDER,
-            },
-            Entry {
-                name: b"a/main.tf",
-                stands: Stands::File(FILE),
-            },
-            Entry {
-                name: b"a/b",
-                stands: FOLDER,
-            },
-            Entry {
-                name: b"a/b/main.tf",
-                stands: Stands::File(FILE),
-            },
             Entry {
                 name: b"a/.tfrules",
                 stands: Stands::File(b"--rules terraform_typed_variables\n"),
@@ -196,26 +115,6 @@ static ROWS: [Row; 25] = [
     },
     Row {
         entries: &[
-            Entry {
-                name: b"",
-                stands: FOLDER,
-            },
-            Entry {
-                name: b"a",
-                stands: FOLDER,
-            },
-            Entry {
-                name: b"a/main.tf",
-                stands: Stands::File(FILE),
-            },
-            Entry {
-                name: b"a/b",
-                stands: FOLDER,
-            },
-            Entry {
-                name: b"a/b/main.tf",
-                stands: Stands::File(FILE),
-            },
             Entry {
                 name: b"a/b/.tfrules",
                 stands: Stands::File(b"--rules terraform_typed_variables\n"),
@@ -233,26 +132,6 @@ static ROWS: [Row; 25] = [
     Row {
         entries: &[
             Entry {
-                name: b"",
-                stands: FOLDER,
-            },
-            Entry {
-                name: b"a",
-                stands: FOLDER,
-            },
-            Entry {
-                name: b"a/main.tf",
-                stands: Stands::File(FILE),
-            },
-            Entry {
-                name: b"a/b",
-                stands: FOLDER,
-            },
-            Entry {
-                name: b"a/b/main.tf",
-                stands: Stands::File(FILE),
-            },
-            Entry {
                 name: b"/r/.tfrules",
                 stands: Stands::File(b"--force\n"),
             },
@@ -267,58 +146,16 @@ static ROWS: [Row; 25] = [
     },
     // Outside of a repository no file above the current folder governs.
     Row {
-        entries: &[
-            Entry {
-                name: b"",
-                stands: FOLDER,
-            },
-            Entry {
-                name: b"a",
-                stands: FOLDER,
-            },
-            Entry {
-                name: b"a/main.tf",
-                stands: Stands::File(FILE),
-            },
-            Entry {
-                name: b"a/b",
-                stands: FOLDER,
-            },
-            Entry {
-                name: b"a/b/main.tf",
-                stands: Stands::File(FILE),
-            },
-            Entry {
-                name: b"/r/.tfrules",
-                stands: Stands::File(b"--force\n"),
-            },
-        ],
+        entries: &[Entry {
+            name: b"/r/.tfrules",
+            stands: Stands::File(b"--force\n"),
+        }],
         words: &[b"tfrules-all", b"a"],
         err: b"4 issues in 2 of 2 modules\n",
         status: 2,
     },
     Row {
         entries: &[
-            Entry {
-                name: b"",
-                stands: FOLDER,
-            },
-            Entry {
-                name: b"a",
-                stands: FOLDER,
-            },
-            Entry {
-                name: b"a/main.tf",
-                stands: Stands::File(FILE),
-            },
-            Entry {
-                name: b"a/b",
-                stands: FOLDER,
-            },
-            Entry {
-                name: b"a/b/main.tf",
-                stands: Stands::File(FILE),
-            },
             Entry {
                 name: b"/r/.tfrules",
                 stands: Stands::File(b"--bogus\n"),
@@ -335,26 +172,6 @@ static ROWS: [Row; 25] = [
     // A module elsewhere has the file of its own folder.
     Row {
         entries: &[
-            Entry {
-                name: b"",
-                stands: FOLDER,
-            },
-            Entry {
-                name: b"a",
-                stands: FOLDER,
-            },
-            Entry {
-                name: b"a/main.tf",
-                stands: Stands::File(FILE),
-            },
-            Entry {
-                name: b"a/b",
-                stands: FOLDER,
-            },
-            Entry {
-                name: b"a/b/main.tf",
-                stands: Stands::File(FILE),
-            },
             Entry {
                 name: b"/e",
                 stands: FOLDER,
@@ -379,26 +196,6 @@ static ROWS: [Row; 25] = [
     Row {
         entries: &[
             Entry {
-                name: b"",
-                stands: FOLDER,
-            },
-            Entry {
-                name: b"a",
-                stands: FOLDER,
-            },
-            Entry {
-                name: b"a/main.tf",
-                stands: Stands::File(FILE),
-            },
-            Entry {
-                name: b"a/b",
-                stands: FOLDER,
-            },
-            Entry {
-                name: b"a/b/main.tf",
-                stands: Stands::File(FILE),
-            },
-            Entry {
                 name: b"/e",
                 stands: FOLDER,
             },
@@ -417,64 +214,20 @@ static ROWS: [Row; 25] = [
     },
     // No file is read where that is asked for.
     Row {
-        entries: &[
-            Entry {
-                name: b"",
-                stands: FOLDER,
-            },
-            Entry {
-                name: b"a",
-                stands: FOLDER,
-            },
-            Entry {
-                name: b"a/main.tf",
-                stands: Stands::File(FILE),
-            },
-            Entry {
-                name: b"a/b",
-                stands: FOLDER,
-            },
-            Entry {
-                name: b"a/b/main.tf",
-                stands: Stands::File(FILE),
-            },
-            Entry {
-                name: b"a/.tfrules",
-                stands: Stands::File(b"--bogus\n"),
-            },
-        ],
+        entries: &[Entry {
+            name: b"a/.tfrules",
+            stands: Stands::File(b"--bogus\n"),
+        }],
         words: &[b"tfrules-all", b"--no-config", b"a"],
         err: b"4 issues in 2 of 2 modules\n",
         status: 2,
     },
     // The line goes before the file, option by option.
     Row {
-        entries: &[
-            Entry {
-                name: b"",
-                stands: FOLDER,
-            },
-            Entry {
-                name: b"a",
-                stands: FOLDER,
-            },
-            Entry {
-                name: b"a/main.tf",
-                stands: Stands::File(FILE),
-            },
-            Entry {
-                name: b"a/b",
-                stands: FOLDER,
-            },
-            Entry {
-                name: b"a/b/main.tf",
-                stands: Stands::File(FILE),
-            },
-            Entry {
-                name: b"a/.tfrules",
-                stands: Stands::File(b"--rules terraform_typed_variables\n--force\n"),
-            },
-        ],
+        entries: &[Entry {
+            name: b"a/.tfrules",
+            stands: Stands::File(b"--rules terraform_typed_variables\n--force\n"),
+        }],
         words: &[
             b"tfrules-all",
             b"--rules",
@@ -486,120 +239,34 @@ static ROWS: [Row; 25] = [
     },
     // A bad line is told once, and the modules of its file are not linted.
     Row {
-        entries: &[
-            Entry {
-                name: b"",
-                stands: FOLDER,
-            },
-            Entry {
-                name: b"a",
-                stands: FOLDER,
-            },
-            Entry {
-                name: b"a/main.tf",
-                stands: Stands::File(FILE),
-            },
-            Entry {
-                name: b"a/b",
-                stands: FOLDER,
-            },
-            Entry {
-                name: b"a/b/main.tf",
-                stands: Stands::File(FILE),
-            },
-            Entry {
-                name: b"a/.tfrules",
-                stands: Stands::File(b"--force\n--bogus\n"),
-            },
-        ],
+        entries: &[Entry {
+            name: b"a/.tfrules",
+            stands: Stands::File(b"--force\n--bogus\n"),
+        }],
         words: &[b"tfrules-all", b"a"],
         err: b"tfrules-all: error: a/.tfrules:2: no option of a project\n2 modules not linted: their options aren't known\n",
         status: 1,
     },
     Row {
-        entries: &[
-            Entry {
-                name: b"",
-                stands: FOLDER,
-            },
-            Entry {
-                name: b"a",
-                stands: FOLDER,
-            },
-            Entry {
-                name: b"a/main.tf",
-                stands: Stands::File(FILE),
-            },
-            Entry {
-                name: b"a/b",
-                stands: FOLDER,
-            },
-            Entry {
-                name: b"a/b/main.tf",
-                stands: Stands::File(FILE),
-            },
-            Entry {
-                name: b"a/b/.tfrules",
-                stands: Stands::File(b"--force\n--force\n--naming x"),
-            },
-        ],
+        entries: &[Entry {
+            name: b"a/b/.tfrules",
+            stands: Stands::File(b"--force\n--force\n--naming x"),
+        }],
         words: &[b"tfrules-all", b"a"],
         err: b"tfrules-all: error: a/b/.tfrules:2: the option is given twice\ntfrules-all: error: a/b/.tfrules:3: unknown naming\n2 issues in 1 of 1 module\n1 module not linted: its options aren't known\n",
         status: 1,
     },
     Row {
-        entries: &[
-            Entry {
-                name: b"",
-                stands: FOLDER,
-            },
-            Entry {
-                name: b"a",
-                stands: FOLDER,
-            },
-            Entry {
-                name: b"a/main.tf",
-                stands: Stands::File(FILE),
-            },
-            Entry {
-                name: b"a/b",
-                stands: FOLDER,
-            },
-            Entry {
-                name: b"a/b/main.tf",
-                stands: Stands::File(FILE),
-            },
-            Entry {
-                name: b"a/b/.tfrules",
-                stands: Stands::File(b"--bogus"),
-            },
-        ],
+        entries: &[Entry {
+            name: b"a/b/.tfrules",
+            stands: Stands::File(b"--bogus"),
+        }],
         words: &[b"tfrules-all", b"--quiet", b"a"],
         err: b"tfrules-all: error: a/b/.tfrules:1: no option of a project\n",
         status: 1,
     },
     Row {
         entries: &[
-            Entry {
-                name: b"",
-                stands: FOLDER,
-            },
-            Entry {
-                name: b"a",
-                stands: FOLDER,
-            },
-            Entry {
-                name: b"a/main.tf",
-                stands: Stands::File(FILE),
-            },
-            Entry {
-                name: b"a/b",
-                stands: FOLDER,
-            },
-            Entry {
-                name: b"a/b/main.tf",
-                stands: Stands::File(FILE),
-            },
             Entry {
                 name: b"/r/.tfrules",
                 stands: Stands::File(b"--bogus"),
@@ -617,26 +284,6 @@ static ROWS: [Row; 25] = [
     Row {
         entries: &[
             Entry {
-                name: b"",
-                stands: FOLDER,
-            },
-            Entry {
-                name: b"a",
-                stands: FOLDER,
-            },
-            Entry {
-                name: b"a/main.tf",
-                stands: Stands::File(FILE),
-            },
-            Entry {
-                name: b"a/b",
-                stands: FOLDER,
-            },
-            Entry {
-                name: b"a/b/main.tf",
-                stands: Stands::File(FILE),
-            },
-            Entry {
                 name: b"n",
                 stands: FOLDER,
             },
@@ -651,94 +298,28 @@ static ROWS: [Row; 25] = [
     },
     // What is no file governs too, and is told.
     Row {
-        entries: &[
-            Entry {
-                name: b"",
-                stands: FOLDER,
-            },
-            Entry {
-                name: b"a",
-                stands: FOLDER,
-            },
-            Entry {
-                name: b"a/main.tf",
-                stands: Stands::File(FILE),
-            },
-            Entry {
-                name: b"a/b",
-                stands: FOLDER,
-            },
-            Entry {
-                name: b"a/b/main.tf",
-                stands: Stands::File(FILE),
-            },
-            Entry {
-                name: b"a/b/.tfrules",
-                stands: FOLDER,
-            },
-        ],
+        entries: &[Entry {
+            name: b"a/b/.tfrules",
+            stands: FOLDER,
+        }],
         words: &[b"tfrules-all", b"a/b"],
         err: b"tfrules-all: error: a/b/.tfrules: not a file\n1 module not linted: its options aren't known\n",
         status: 1,
     },
     Row {
-        entries: &[
-            Entry {
-                name: b"",
-                stands: FOLDER,
-            },
-            Entry {
-                name: b"a",
-                stands: FOLDER,
-            },
-            Entry {
-                name: b"a/main.tf",
-                stands: Stands::File(FILE),
-            },
-            Entry {
-                name: b"a/b",
-                stands: FOLDER,
-            },
-            Entry {
-                name: b"a/b/main.tf",
-                stands: Stands::File(FILE),
-            },
-            Entry {
-                name: b"a/b/.tfrules",
-                stands: Stands::Link(b"nowhere"),
-            },
-        ],
+        entries: &[Entry {
+            name: b"a/b/.tfrules",
+            stands: Stands::Link(b"nowhere"),
+        }],
         words: &[b"tfrules-all", b"a/b"],
         err: b"tfrules-all: error: a/b/.tfrules: the link leads nowhere\n1 module not linted: its options aren't known\n",
         status: 1,
     },
     Row {
-        entries: &[
-            Entry {
-                name: b"",
-                stands: FOLDER,
-            },
-            Entry {
-                name: b"a",
-                stands: FOLDER,
-            },
-            Entry {
-                name: b"a/main.tf",
-                stands: Stands::File(FILE),
-            },
-            Entry {
-                name: b"a/b",
-                stands: FOLDER,
-            },
-            Entry {
-                name: b"a/b/main.tf",
-                stands: Stands::File(FILE),
-            },
-            Entry {
-                name: b"a/b/.tfrules",
-                stands: Stands::Pipe,
-            },
-        ],
+        entries: &[Entry {
+            name: b"a/b/.tfrules",
+            stands: Stands::Pipe,
+        }],
         words: &[b"tfrules-all", b"a/b"],
         err: b"tfrules-all: error: a/b/.tfrules: not a file\n1 module not linted: its options aren't known\n",
         status: 1,
@@ -746,26 +327,6 @@ static ROWS: [Row; 25] = [
     // A link to a file is one.
     Row {
         entries: &[
-            Entry {
-                name: b"",
-                stands: FOLDER,
-            },
-            Entry {
-                name: b"a",
-                stands: FOLDER,
-            },
-            Entry {
-                name: b"a/main.tf",
-                stands: Stands::File(FILE),
-            },
-            Entry {
-                name: b"a/b",
-                stands: FOLDER,
-            },
-            Entry {
-                name: b"a/b/main.tf",
-                stands: Stands::File(FILE),
-            },
             Entry {
                 name: b"o",
                 stands: Stands::File(b"--force"),
@@ -781,94 +342,28 @@ static ROWS: [Row; 25] = [
     },
     // What is no text is told with its place.
     Row {
-        entries: &[
-            Entry {
-                name: b"",
-                stands: FOLDER,
-            },
-            Entry {
-                name: b"a",
-                stands: FOLDER,
-            },
-            Entry {
-                name: b"a/main.tf",
-                stands: Stands::File(FILE),
-            },
-            Entry {
-                name: b"a/b",
-                stands: FOLDER,
-            },
-            Entry {
-                name: b"a/b/main.tf",
-                stands: Stands::File(FILE),
-            },
-            Entry {
-                name: b"a/b/.tfrules",
-                stands: Stands::File(b"--force\n\xff"),
-            },
-        ],
+        entries: &[Entry {
+            name: b"a/b/.tfrules",
+            stands: Stands::File(b"--force\n\xff"),
+        }],
         words: &[b"tfrules-all", b"a/b"],
         err: b"tfrules-all: error: a/b/.tfrules:2:1: invalid UTF-8\n1 module not linted: its options aren't known\n",
         status: 1,
     },
     Row {
-        entries: &[
-            Entry {
-                name: b"",
-                stands: FOLDER,
-            },
-            Entry {
-                name: b"a",
-                stands: FOLDER,
-            },
-            Entry {
-                name: b"a/main.tf",
-                stands: Stands::File(FILE),
-            },
-            Entry {
-                name: b"a/b",
-                stands: FOLDER,
-            },
-            Entry {
-                name: b"a/b/main.tf",
-                stands: Stands::File(FILE),
-            },
-            Entry {
-                name: b"a/b/.tfrules",
-                stands: Stands::File(b"\xef\xbb\xbf--force"),
-            },
-        ],
+        entries: &[Entry {
+            name: b"a/b/.tfrules",
+            stands: Stands::File(b"\xef\xbb\xbf--force"),
+        }],
         words: &[b"tfrules-all", b"a/b"],
         err: b"tfrules-all: error: a/b/.tfrules:1:1: byte order mark\n1 module not linted: its options aren't known\n",
         status: 1,
     },
     Row {
-        entries: &[
-            Entry {
-                name: b"",
-                stands: FOLDER,
-            },
-            Entry {
-                name: b"a",
-                stands: FOLDER,
-            },
-            Entry {
-                name: b"a/main.tf",
-                stands: Stands::File(FILE),
-            },
-            Entry {
-                name: b"a/b",
-                stands: FOLDER,
-            },
-            Entry {
-                name: b"a/b/main.tf",
-                stands: Stands::File(FILE),
-            },
-            Entry {
-                name: b"a/b/.tfrules",
-                stands: Stands::File(b"--force\0"),
-            },
-        ],
+        entries: &[Entry {
+            name: b"a/b/.tfrules",
+            stands: Stands::File(b"--force\0"),
+        }],
         words: &[b"tfrules-all", b"a/b"],
         err: b"tfrules-all: error: a/b/.tfrules:1: no option of a project\n1 module not linted: its options aren't known\n",
         status: 1,
@@ -884,7 +379,15 @@ fn fails_a_search(calls: &Calls) -> bool {
     }
 }
 
-/// What a run by these words over a tree shows, and whether such a call failed.
+/// Both modules, and what stands beside them.
+fn all_of<'a>(alloc: Global, entries: &[Entry<'a>]) -> Result<Vec<Entry<'a>>, AllocError> {
+    let mut all = Vec::new(alloc);
+    all.extend_from_slice(&MODULES)?;
+    all.extend_from_slice(entries)?;
+    Ok(all)
+}
+
+/// What a run by these words over both modules shows, and whether such a call failed.
 fn run(
     rt: &impl Abort,
     alloc: Global,
@@ -892,7 +395,8 @@ fn run(
     words: &[&[u8]],
     failures: Failures,
 ) -> (MemorySink, u8, bool) {
-    let tree = MemoryTree::new_in(alloc, HERE, entries, failures).expect(rt, "memory");
+    let entries = all_of(alloc, entries).expect(rt, "memory");
+    let tree = MemoryTree::new_in(alloc, HERE, entries.as_slice(), failures).expect(rt, "memory");
     let mut files = ModuleTree::new(tree, Hashing::shared());
     let mut input = MemorySource::new(b"", 4096);
     let mut out = MemorySink::new(4096);
@@ -925,27 +429,13 @@ fn a_large_file_is_told(rt: HostRuntime) {
     for _ in 0..MUCH {
         text.push(b'\n').expect(&rt, "memory");
     }
-    let entries = [
-        Entry {
-            name: b"",
-            stands: FOLDER,
-        },
-        Entry {
-            name: b"a",
-            stands: FOLDER,
-        },
-        Entry {
-            name: b"a/main.tf",
-            stands: Stands::File(FILE),
-        },
-        Entry {
-            name: b"a/.tfrules",
-            stands: Stands::File(text.as_slice()),
-        },
-    ];
+    let entries = [Entry {
+        name: b"a/.tfrules",
+        stands: Stands::File(text.as_slice()),
+    }];
     let (err, status, _) = run(&rt, alloc, &entries, &[b"tfrules-all", b"a"], STEADY);
     let wanted: &[u8] =
-        b"tfrules-all: error: a/.tfrules:1:1: source too large\n1 module not linted: its options aren't known\n";
+        b"tfrules-all: error: a/.tfrules:1:1: source too large\n2 modules not linted: their options aren't known\n";
     assert_eq!(&rt; err.bytes(), wanted, "of a large file");
     assert_eq!(&rt; status, 1, "of a large file");
 }
