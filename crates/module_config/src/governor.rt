@@ -231,35 +231,30 @@ fn governor_over<T: Tree>(
 }
 
 /// Whether a module is linted by options.
-pub(crate) fn wants(module: &Module) -> bool
-    ensures { result ≡ wants module.now }
+pub(crate) fn wants(one: &Module) -> bool
+    ensures { result ≡ wants one.now }
 {
-    !module.files.is_empty() && module.is_whole
+    !one.files.is_empty() && one.is_whole
 }
 
 /// What governs a module.
 pub(crate) fn governor_of<T: Tree>(
     alloc: Global,
     start: &Start,
-    module: &Module,
+    one: &Module,
     tree: &mut T,
 ) -> Result<Governor, AllocError>
     ensures files { T.files tree.new ≡ T.files tree.old }
     ensures asked { T.asked tree.new ≡ T.asked tree.old }
-    ensures is { IfOk result (IsPlaced (wants module.now) (T.files tree.old) start.now
-        module.now.folder.items (T.faults tree.old) (T.faults tree.new)) }
+    ensures is { IfOk result (IsPlaced (wants one.now) (T.files tree.old) start.now
+        one.now.folder.items (T.faults tree.old) (T.faults tree.new)) }
 {
-    if !wants(module) {
+    if !wants(one) {
         return Ok(Governor::Free);
     }
     match start {
         Start::Unneeded => Ok(Governor::Free),
         Start::Unknown(fault) => Ok(Governor::Unknown(noted(alloc, b"./", Some(*fault))?)),
-        Start::At(current) => governor_over(
-            alloc,
-            current.as_slice(),
-            module.folder.as_slice(),
-            tree,
-        ),
+        Start::At(current) => governor_over(alloc, current.as_slice(), one.folder.as_slice(), tree),
     }
 }
