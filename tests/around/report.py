@@ -41,13 +41,14 @@ MEMBERS = {
     'sarifLog': {'$schema': str, 'version': '2.1.0', 'runs': ['run']},
     'run': {'tool': 'tool', 'results': ['result'], 'columnKind': 'unicodeCodePoints', 'invocations': ['invocation']},
     'tool': {'driver': 'toolComponent'},
-    'toolComponent': {'name': str, 'rules': ['reportingDescriptor']},
+    'toolComponent': {'name': str, 'version': str, 'rules': ['reportingDescriptor']},
     'reportingDescriptor': {
         'id': str,
         'name': str,
         'shortDescription': 'multiformatMessageString',
         'fullDescription': 'multiformatMessageString',
         'help': 'multiformatMessageString',
+        'helpUri': str,
         'defaultConfiguration': 'reportingConfiguration',
     },
     'multiformatMessageString': {'text': str, 'markdown': str},
@@ -94,7 +95,7 @@ def misses(kind, value):
 
 
 def run(group):
-    if not group.has('python3', checks=92):
+    if not group.has('python3', checks=94):
         return
     for part in (
         formats,
@@ -381,6 +382,7 @@ def not_reports(group):
         '0 issue(s) found:\n\n',
         '1 issue(s) found:\n\n' + one.replace('typed', 'other'),
         '1 issue(s) found:\n\n' + one + '\n',
+        '1 issue(s) found:\n\n' + one + 'x1 issue(s) found:\n\n' + one,
         'm.tf:1:3: unexpected token\n',
     ):
         status, out, err = report(group, 'json', cwd=here, stdin=given.encode())

@@ -1,28 +1,38 @@
 -- What is linted, and how a run ends.
-use Rattle.std.proofs.Common.{◌≡◌, ◌∙◌, ◌++◌, ℕ, Bool, true, false, List, Option, ap, flat_map, inl, inr, refl, subst, sym}
-use Rattle.std.specs.Prelude.{◌||◌, if◌then◌else◌}
-use Rattle.command_line.specs.Rows.{End, TookBy, Writer, write_failed}
+use Rattle.std.proofs.Common.{◌≡◌, ◌∙◌, ◌++◌, ℕ, [], Bool, true, false, List, Option, ap, append-nil, flat_map, inl, inr, map, refl, subst, sym}
+use Rattle.std.specs.Prelude.{◌⊎◌, ◌||◌, IfOk, Result, Ok, Err, Some, if◌then◌else◌}
+use Rattle.command_line.specs.Rows.{End, Program, Took, TookBy, Writer, write_failed}
 use Rattle.file_tree.specs.Choices.{Chosen}
 use Rattle.file_tree.specs.Files.{Faults, Files, Name}
 use Rattle.file_tree.specs.Finds.{AreReal, Finds}
 use Rattle.file_tree.specs.Ordered.{Orders}
 use Rattle.file_tree.specs.declared.walk.Found.{Found}
+use Rattle.lint_forms.specs.Forms.{form_foot}
+use Rattle.lint_forms.specs.Remarks.{said_by}
+use Rattle.lint_forms.specs.declared.kind.Form.{Form}
+use Rattle.lint_forms.specs.declared.remark.Remark as code
 use Rattle.module_find.specs.Modules.{AreFolders, AreModules, lost_of}
 use Rattle.module_find.specs.declared.module.Module.{Module}
 use Rattle.tree_words.specs.Shards.{picked_of}
 use Rattle.tree_words.specs.declared.shard.Shard.{Shard}
-use Rattle.tree_lint.specs.Faults.{fault_lines}
+use Rattle.tree_lint.specs.Faults.{fault_lines, refusal_in}
+use Rattle.tree_lint.specs.Kept.{KeepsAll, kept_remark}
+use Rattle.tree_lint.specs.declared.kept.Kept.{Kept}
+use Rattle.tree_lint.proofs.KeptLemmas.{keeps_more}
 use Rattle.tree_lint.specs.Refusals.{tree_linter}
 use Rattle.tree_lint.specs.Runs.{IsLintRun, worse_status}
 use Rattle.tree_lint.specs.declared.counts.Counts.{Counts}
 use Rattle.tree_lint.specs.declared.policy.Governed.{Governed}
+use Rattle.tree_lint.specs.declared.run.RunEnd.{RunEnd}
 use Rattle.lint_config.specs.Options.{options_of}
 use Rattle.module_config.specs.Configs.{Configures}
+use Rattle.module_config.specs.Refusals.{configured_refusals}
 use Rattle.module_config.specs.Words.{configured_words}
 use Rattle.module_config.specs.declared.configure.Configured.{Configured}
 use Rattle.lint_command.specs.Line as Line
 use Rattle.lint_command.specs.Asked.{job_of}
-use Rattle.lint_command.specs.Ends.{Collects, LintsCollected, LintsModules, LintsOr, RunsThen, Then, any_file, fault_status, last_words, summary}
+use Rattle.lint_command.specs.Ends.{Collects, EndsLost, EndsWhole, IsFoot, LintsCollected, LintsModules, LintsOr, RunsThen, Then, any_file, fault_status, head_of, is_cut, last_words, refused_remarks, summary}
+use Rattle.lint_command.specs.Inner.Closing.{Closes, last_status}
 use Rattle.lint_command.specs.declared.options.Job.{Job}
 
 pub collects : (files later : Files) (choice : Chosen) (shard : Option Shard) (paths : List Name) (was walked is : Faults) (found folders picked left kept told all : List Found) (modules : List Module) → later ≡ files → choice ≡ any_file → Finds files choice paths found
@@ -54,38 +64,84 @@ or_true : (a b : Bool) → b ≡ true → (a || b) ≡ true
 or_true true b e = refl
 or_true false b e = e
 
-module _ (files : Files) (quiet : Bool) (c : Configured) (modules : List Governed) (faults : List Found) (was is : Faults) (counts : Counts) (between : End) (same : modules ≡ c.governed.items) (ran : IsLintRun files modules was is between counts) where
-  ran' : IsLintRun files c.governed.items was is between counts
-  ran' = subst (λ l. IsLintRun files l was is between counts) same ran
+module _ (files : Files) (form : Option Form) (quiet : Bool) (c : Configured) (modules : List Governed) (faults : List Found) (was is : Faults) (ran : RunEnd) (between : End) (head : List ℕ) (same : modules ≡ c.governed.items) (first : head ≡ head_of form)
+    (linted : IsLintRun files form head modules was is between ran) where
+  linted' : IsLintRun files form (head_of form) c.governed.items was is between ran
+  linted' = subst (λ l. IsLintRun files form (head_of form) l was is between ran) same (subst (λ h. IsLintRun files form h modules was is between ran) first linted)
+
+  cut_here : (end : End) → is_cut between ≡ true → end.out ≡ between.out → Then between.err.failed between.err end.err (write_failed tree_linter) → end.status ≡ 1 → RunsThen files form quiet c faults was is end
+  cut_here end bad out message exit = record { between = between; ran = ran; linted = linted'; ends = inl (record { cut = bad; output = out; message = message; exit = exit }) }
 
   -- standard error failed: nothing more is said
-  pub cut_here : (end : End) → between.err.failed ≡ true → end.out ≡ between.out → end.err ≡ between.err → end.status ≡ 1 → RunsThen files quiet c faults was is end
-  cut_here end bad out err exit = record {
-    between = between;
-    counts = counts;
-    ran = ran';
-    output = out;
-    message = subst (λ w. Then between.err.failed between.err w (last_words quiet between.out.failed faults c counts)) (sym err) (then_failed between.err.failed between.err (last_words quiet between.out.failed faults c counts) bad);
-    exit = exit ∙ sym (ap (λ (v : Bool). if v then 1 else worse_status between.status (fault_status faults c.unlinted)) (or_true end.out.failed end.err.failed (ap (λ (w : Writer). w.failed) err ∙ bad)));
-  }
+  pub error_cut : (end : End) → between.err.failed ≡ true → end.out ≡ between.out → end.err ≡ between.err → end.status ≡ 1 → RunsThen files form quiet c faults was is end
+  error_cut end bad out err exit =
+      cut_here end (or_true between.out.failed between.err.failed bad) out (subst (λ w. Then between.err.failed between.err w (write_failed tree_linter)) (sym err) (then_failed between.err.failed between.err (write_failed tree_linter) bad)) exit
 
-  -- it didn't, and then the last words were said
-  pub then_here : (slice : List Found) (end : End) → slice ≡ faults → between.err.failed ≡ false → end.out ≡ between.out → end.err.before ≡ between.err.before → TookBy end.err.failed between.err.after end.err.after (last_words quiet between.out.failed slice c counts)
-      → end.status ≡ (if between.out.failed || end.err.failed then 1 else worse_status between.status (fault_status slice c.unlinted)) → RunsThen files quiet c faults was is end
-  then_here slice end these good out err took exit = record {
-    between = between;
-    counts = counts;
-    ran = ran';
-    output = out;
-    message = then_took between.err.failed between.err end.err (last_words quiet between.out.failed faults c counts) good err (subst (λ l. TookBy end.err.failed between.err.after end.err.after (last_words quiet between.out.failed l c counts)) these took);
-    exit = exit ∙ ap (λ l. if between.out.failed || end.err.failed then 1 else worse_status between.status (fault_status l c.unlinted)) these
-        ∙ sym (ap (λ (w : Writer). if w.failed || end.err.failed then 1 else worse_status between.status (fault_status faults c.unlinted)) out);
-  }
+  -- standard output failed: that is said
+  pub output_cut : (p : Program) (v : Bool) (end : End) → p ≡ tree_linter → between.err.failed ≡ false → between.out.failed ≡ true → end.out ≡ between.out → end.err.before ≡ between.err.before
+      → TookBy end.err.failed between.err.after end.err.after (if between.out.failed then write_failed p else []) → end.status ≡ (if v then p.failure else 1) → RunsThen files form quiet c faults was is end
+  output_cut p v end ep good bad out err took exit =
+      cut_here end (ap (λ v. v || between.err.failed) bad) out
+      (then_took between.err.failed between.err end.err (write_failed tree_linter) good err
+      (subst (TookBy end.err.failed between.err.after end.err.after) ((λ i. if bad i then write_failed (ep i) else [])) took))
+      (exit ∙ ap (λ (q : Program). if v then q.failure else 1) ep ∙ always v)
+    where
+      always : (v : Bool) → ◌≡◌ {A = ℕ} (if v then 1 else 1) 1
+      always true = refl
+      always false = refl
+
+  -- none failed
+  pub closed_here : (out err : Writer) (end : End) → between.err.failed ≡ false → between.out.failed ≡ false → between.status ≡ ran.status → end.out ≡ record out { before = between.out.before; flushes_before = between.out.flushes_before } → end.err ≡ record err { before = between.err.before; flushes_before = between.err.flushes_before }
+      → out.before ≡ between.out.after → err.before ≡ between.err.after → (Untouched : Type 0) → (Untouched → end.out ≡ between.out) → Closes form quiet c faults ran out err Untouched end.status → RunsThen files form quiet c faults was is end
+  closed_here out err end err_good out_good status eo ee bo be Untouched still closes = record { between = between; ran = ran; linted = linted'; ends = inr (by closes) }
+    where
+      whole : is_cut between ≡ false
+      whole = ap (λ v. v || between.err.failed) out_good ∙ err_good
+
+      said : (text : List ℕ) → Took err text → Then false between.err end.err text
+      said text took = subst (λ (w : Writer). Then false between.err w text) (sym ee) (refl, subst (λ b. TookBy err.failed b err.after text) be took)
+
+      by : Closes form quiet c faults ran out err Untouched end.status → EndsLost form between end ⊎ EndsWhole form quiet c faults ran between end
+      by (inl (forms, same, took, exit)) = inl (record { forms = forms; whole = whole; output = still same; message = said _ took; exit = exit })
+      by (inr (foot, is', wrote, took, exit)) = inr (record {
+        whole = whole;
+        foot = foot;
+        is = subst (λ s. IsFoot form (worse_status s (fault_status faults c.unlinted)) ran faults c foot) (sym status) is';
+        output = subst (λ (w : Writer). Then false between.out w foot) (sym eo) (refl, subst (λ b. TookBy out.failed b out.after foot) bo wrote);
+        message = said (last_words quiet end.out.failed faults c ran.counts) (subst (λ (w : Writer). Took err (last_words quiet w.failed faults c ran.counts)) (sym eo) took);
+        exit = exit ∙ ap (λ (s : ℕ). if out.failed || err.failed then 1 else worse_status s (fault_status faults c.unlinted)) (sym status)
+            ∙ sym (λ i. if (eo i).failed || (ee i).failed then 1 else worse_status between.status (fault_status faults c.unlinted));
+      })
+
+-- what stands after the issues was written, and the last words were said
+pub closes_well : (form : Option Form) (quiet : Bool) (c : Configured) (faults : List Found) (ran ran' : RunEnd) (out err : Writer) (Untouched : Type 0) (status s : ℕ) (text slice : List ℕ) → s ≡ last_status ran faults c → IsFoot form s ran faults c text
+    → ran'.counts ≡ ran.counts → ran'.status ≡ ran.status → slice ≡ text → Took out (slice ++ []) → Took err (last_words quiet out.failed faults c ran'.counts) → status ≡ (if out.failed || err.failed then 1 else worse_status ran'.status (fault_status faults c.unlinted))
+    → Closes form quiet c faults ran out err Untouched status
+closes_well form quiet c faults ran ran' out err Untouched status s text slice e is ec es same wrote took exit = inr (
+  text,
+  subst (λ k. IsFoot form k ran faults c text) e is,
+  subst (Took out) (append-nil slice ∙ same) wrote,
+  subst (λ k. Took err (last_words quiet out.failed faults c k)) ec took,
+  exit ∙ ap (λ (k : ℕ). if out.failed || err.failed then 1 else worse_status k (fault_status faults c.unlinted)) es,
+)
+
+-- the refusals are those that were kept, those of names and those of files
+pub all_refused : (kept named whole : Kept) (faults : List Found) (c : Configured) → KeepsAll kept named (flat_map refusal_in faults) → KeepsAll named whole (configured_refusals c) → whole.is_whole ≡ true
+    → (kept.is_whole ≡ true) × (map kept_remark whole.refusals.items ≡ refused_remarks kept faults c)
+all_refused kept named whole faults c first then' is = keeps_more kept named whole (flat_map refusal_in faults) (configured_refusals c) first then' is
+
+pub form_ends : {V E : Type 0} (items : V → List ℕ) (form : Form) (status : ℕ) (ran : RunEnd) (named whole : Kept) (faults : List Found) (c : Configured) (remarks slice : List code.Remark) (r : Result V E)
+    → KeepsAll ran.kept named (flat_map refusal_in faults) → KeepsAll named whole (configured_refusals c) → whole.is_whole ≡ true → map said_by remarks ≡ map kept_remark whole.refusals.items → slice ≡ remarks
+    → IfOk r (λ v. items v ≡ form_foot form status ran.has_issues (map said_by slice)) → IfOk r (λ v. IsFoot (Some form) status ran faults c (items v))
+form_ends items form status ran named whole faults c remarks slice (Ok v) first then' is said same e =
+    let all = all_refused ran.kept named whole faults c first then' is in
+    (all.0, e ∙ ap (form_foot form status ran.has_issues) (ap (map said_by) same ∙ said ∙ all.1))
+form_ends items form status ran named whole faults c remarks slice (Err f) first then' is said same e = tt
 
 pub lints_modules : (files later : Files) (job : Job) (modules : List Module) (faults slice : List Found) (was looked is : Faults) (c : Configured) (end : End) → later ≡ files → slice ≡ faults
-    → Configures files (options_of job.given.said) job.given.reads modules was looked c → RunsThen later job.quiet c slice looked is end → LintsCollected (job_of job) modules faults files was is end
+    → Configures files (options_of job.given.said) job.given.reads modules was looked c → RunsThen later job.form job.quiet c slice looked is end → LintsCollected (job_of job) modules faults files was is end
 lints_modules files later job modules faults slice was looked is c end same these h runs =
-    inr (record { config = c; looked = looked; configures = h; runs = subst (λ l. RunsThen files job.quiet c l looked is end) these (subst (λ f. RunsThen f job.quiet c slice looked is end) same runs) })
+    inr (record { config = c; looked = looked; configures = h; runs = subst (λ l. RunsThen files job.form job.quiet c l looked is end) these (subst (λ f. RunsThen f job.form job.quiet c slice looked is end) same runs) })
 
 pub lints_collected : (files later : Files) (job : Line.Job) (paths : List Name) (modules : List Module) (faults : List Found) (was walked is : Faults) (end : End) → later ≡ files → Collects files job.shard paths was walked modules faults
     → LintsCollected job modules faults later walked is end → LintsOr job paths files was is end

@@ -22,7 +22,7 @@ given_in (Ok given) = Ok (given_of given)
 given_in (Err usage) = Err usage
 
 abbrev pub job_of : code.Job → Job
-job_of job = record { given = given_of job.given; quiet = job.quiet; shard = job.shard }
+job_of job = record { given = given_of job.given; quiet = job.quiet; shard = job.shard; form = job.form }
 
 abbrev pub asking_of : LintOptions → Asking
 asking_of o = record { job = job_of o.job; null = o.null; names = map (λ name. name.now) o.names.items }

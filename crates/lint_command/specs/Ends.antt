@@ -1,14 +1,18 @@
 -- How a run of `tfrules-all` ends. Its texts and statuses are our own choice.
-use Rattle.std.specs.Prelude.{◌≡◌, ◌⊎◌, ◌==◌, ◌&&◌, ◌||◌, ℕ, Bool, true, false, List, [], ◌∷◌, ◌++◌, Option, Result, Ok, Err, codes, flat_map, nat_lt, if◌then◌else◌}
+use Rattle.std.specs.Prelude.{◌≡◌, ◌⊎◌, ◌==◌, ◌&&◌, ◌||◌, ℕ, Bool, true, false, List, [], ◌∷◌, ◌++◌, Option, Some, None, Result, Ok, Err, codes, flat_map, is_some, map, nat_lt, if◌then◌else◌}
 use Rattle.clap.specs.Words.{Text}
-use Rattle.command_line.specs.Rows.{End, Row, Shows, TookBy, Writer, fails_with, message_row, out_of_memory, output_row, write_failed}
+use Rattle.command_line.specs.Rows.{End, Row, Shows, TookBy, Writer, error_line, fails_with, message_row, out_of_memory, output_row, write_failed}
 use Rattle.file_tree.specs.Choices.{Chosen, chosen_by, with_specials}
 use Rattle.file_tree.specs.Files.{Faults, Files, Name, Tells}
 use Rattle.file_tree.specs.Finds.{AreReal, Finds}
 use Rattle.file_tree.specs.Ordered.{Orders}
 use Rattle.file_tree.specs.declared.walk.Found.{Found}
+use Rattle.lint_forms.specs.Forms.{form_foot, form_head}
+use Rattle.lint_forms.specs.Remarks.{Remark}
+use Rattle.lint_forms.specs.declared.kind.Form.{Form}
 use Rattle.module_find.specs.Modules.{AreFolders, AreModules, lost_of}
 use Rattle.module_config.specs.Configs.{Configures}
+use Rattle.module_config.specs.Refusals.{configured_refusals}
 use Rattle.module_config.specs.Words.{configured_words, unlinted_line}
 use Rattle.module_config.specs.declared.configure.Configured.{Configured}
 use Rattle.module_find.specs.declared.module.Module.{Module}
@@ -17,16 +21,19 @@ use Rattle.tree_words.specs.Shards.{picked_of}
 use Rattle.tree_words.specs.Line.{others_in, texts_in}
 use Rattle.tree_words.specs.WrongWords.{bad_line_words}
 use Rattle.tree_words.specs.declared.shard.Shard.{Shard}
-use Rattle.tree_lint.specs.Faults.{fault_lines}
+use Rattle.tree_lint.specs.Faults.{fault_lines, refusal_in}
+use Rattle.tree_lint.specs.Kept.{kept_remark, refusal_remark}
 use Rattle.tree_lint.specs.Numbers.{summary_line}
 use Rattle.tree_lint.specs.Refusals.{tree_linter}
 use Rattle.tree_lint.specs.Runs.{IsLintRun, worse_status}
 use Rattle.tree_lint.specs.declared.counts.Counts.{Counts}
+use Rattle.tree_lint.specs.declared.kept.Kept.{Kept}
+use Rattle.tree_lint.specs.declared.run.RunEnd.{RunEnd}
 use Rattle.lint_command.specs.Explained.{explained, rule_list}
 use Rattle.lint_command.specs.Line.{Asking, Job, asking_of_texts}
 use Rattle.lint_command.specs.LinterWords.{linter_words}
 use Rattle.lint_command.specs.declared.usage.Usage.{Usage}
-use Rattle.lint_command.specs.declared.usage.Usage.TheVariants.{Help, Version, ListRules, Explain, BadLine, UnknownRule, NoRuleLeft, BadNaming, BadSeverity, BadPart, NamesTwice, OutOfMemory}
+use Rattle.lint_command.specs.declared.usage.Usage.TheVariants.{Help, Version, ListRules, Explain, BadLine, UnknownRule, NoRuleLeft, BadNaming, BadSeverity, BadPart, BadForm, NamesTwice, OutOfMemory}
 
 -- ---- what is linted
 
@@ -49,7 +56,7 @@ pub record Collects (files : Files) (shard : Option Shard) (paths : List Name) (
 
 -- ---- what is said
 
--- a text is written after what a writer took, unless a write failed before it
+-- a text is written after what a writer took, unless it failed before
 abbrev pub Then : Bool → Writer → Writer → List ℕ → Type 0
 Then true between last text = last ≡ between
 Then false between last text = (last.before ≡ between.before) × TookBy last.failed between.after last.after text
@@ -73,22 +80,68 @@ abbrev pub fault_status : List Found → ℕ → ℕ
 fault_status [] unlinted = if unlinted == 0 then 0 else 1
 fault_status (f ∷ faults) unlinted = 1
 
--- EACH MODULE IS LINTED whose options are known, by its own, and then the last words are said. What can't be looked at, and
--- what isn't linted, is a status of 1
-pub record RunsThen (files : Files) (quiet : Bool) (config : Configured) (faults : List Found) (was is : Faults) (end : End) : Type 0 where
-  pub between : End  -- when the modules were linted
-  pub counts : Counts
-  pub ran : IsLintRun files config.governed.items was is between counts
+-- ---- forms
+
+abbrev pub version : List ℕ
+version = codes "0.3.0"
+
+-- what stands before the issues of all modules
+abbrev pub head_of : Option Form → List ℕ
+head_of None = []
+head_of (Some form) = form_head form version
+
+-- why modules aren't linted, as remarks: those that were refused, what can't be looked at, and the files `.tfrules` that are bad
+abbrev pub refused_remarks : Kept → List Found → Configured → List Remark
+refused_remarks kept faults config = map kept_remark kept.refusals.items ++ map refusal_remark (flat_map refusal_in faults ++ configured_refusals config)
+
+-- what stands after the issues, in a run of a status
+abbrev pub IsFoot : Option Form → ℕ → RunEnd → List Found → Configured → List ℕ → Type 0
+IsFoot None status ran faults config text = text ≡ []
+IsFoot (Some form) status ran faults config text = (ran.kept.is_whole ≡ true) × (text ≡ form_foot form status ran.has_issues (refused_remarks ran.kept faults config))
+
+-- ---- how a run ends whose modules were linted
+
+-- no write failed before
+abbrev pub is_cut : End → Bool
+is_cut between = between.out.failed || between.err.failed
+
+-- one did: nothing more is said but that
+pub record EndsCut (between end : End) : Type 0 where
+  pub cut : is_cut between ≡ true
   pub output : end.out ≡ between.out
-  pub message : Then between.err.failed between.err end.err (last_words quiet between.out.failed faults config counts)
+  pub message : Then between.err.failed between.err end.err (write_failed tree_linter)
+  pub exit : end.status ≡ 1
+
+-- memory ran out for what stands after the issues in a form
+pub record EndsLost (form : Option Form) (between end : End) : Type 0 where
+  pub forms : is_some form ≡ true
+  pub whole : is_cut between ≡ false
+  pub output : end.out ≡ between.out
+  pub message : Then false between.err end.err (error_line tree_linter (codes "out of memory"))
+  pub exit : end.status ≡ 1
+
+-- that is written, and the last words are said. What can't be looked at, and what isn't linted, is a status of 1
+pub record EndsWhole (form : Option Form) (quiet : Bool) (config : Configured) (faults : List Found) (ran : RunEnd) (between end : End) : Type 0 where
+  pub whole : is_cut between ≡ false
+  pub foot : List ℕ
+  pub is : IsFoot form (worse_status between.status (fault_status faults config.unlinted)) ran faults config foot
+  pub output : Then false between.out end.out foot
+  pub message : Then false between.err end.err (last_words quiet end.out.failed faults config ran.counts)
   pub exit : end.status ≡ (if end.out.failed || end.err.failed then 1 else worse_status between.status (fault_status faults config.unlinted))
+
+-- EACH MODULE IS LINTED whose options are known, by its own, and the run ends
+pub record RunsThen (files : Files) (form : Option Form) (quiet : Bool) (config : Configured) (faults : List Found) (was is : Faults) (end : End) : Type 0 where
+  pub between : End  -- when the modules were linted
+  pub ran : RunEnd
+  pub linted : IsLintRun files form (head_of form) config.governed.items was is between ran
+  pub ends : EndsCut between end ⊎ (EndsLost form between end ⊎ EndsWhole form quiet config faults ran between end)
 
 -- these modules are linted, and these names can't be looked at
 pub record LintsModules (job : Job) (modules : List Module) (faults : List Found) (files : Files) (was is : Faults) (end : End) : Type 0 where
   pub config : Configured
   pub looked : Faults  -- those of calls before the first module is linted
   pub configures : Configures files job.given.said job.given.reads modules was looked config
-  pub runs : RunsThen files job.quiet config faults looked is end
+  pub runs : RunsThen files job.form job.quiet config faults looked is end
 
 -- THE MODULES ARE LINTED of what these paths stand for, by a device that has had these faults before and after
 pub record Lints (job : Job) (paths : List Name) (files : Files) (was is : Faults) (end : End) : Type 0 where
@@ -130,7 +183,7 @@ abbrev pub version_line : List ℕ
 version_line = codes "tfrules-all 0.3.0\n"
 
 abbrev pub help_text : List ℕ
-help_text = codes "usage: tfrules-all [--rules LIST] [--naming NAMING]\n                   [--minimum-failure-severity SEVERITY] [--force]\n                   [--no-config] [--quiet] [--shard K/N] [--null] [--]\n                   [FILE|FOLDER]...\n       tfrules-all --list-rules\n       tfrules-all --explain RULE\n\nLints the modules of folders, each by itself, as tfrules lints its files.\n\nA module is the .tf and .tofu files of one folder. A file stands for its\nfolder, also one that was deleted while the folder is there; a folder for\nitself and all below. Files and folders whose names begin with a dot or end\nwith ~, and those named #...#, are passed over. Without an operand it is the\ncurrent folder.\n\nOptions that the line doesn't have come from the nearest .tfrules, in the folder\nof a module or above it up to the top of the repository: one a line, of the\nfirst four below.\n\n  --rules LIST     default, all or names of rules, with commas between them; a\n                   dash before one takes its rules away: all,-terraform_...\n  --naming NAMING  snake_case or mixed_snake_case\n  --minimum-failure-severity SEVERITY\n                   error, warning or notice: from which severity on an issue\n                   fails the run\n  --force          no issue fails the run\n  --no-config      read no file .tfrules\n  --quiet          say nothing of the run as a whole: no count of the issues\n                   at its end\n  --shard K/N      take the K-th of N parts of the folders\n  -0, --null       read names, each ended by NUL, from standard input\n  --list-rules     print each rule with its severity, whether it is a default\n                   one, and what it reports\n  --explain RULE   print that of a rule, why it does, and how to silence it\n  -h, --help       print this\n  --version        print the version\n\nStatus: 0  no module has an issue that fails the run\n        1  something couldn't be linted, or the command line is wrong\n        2  an issue fails the run, and nothing is worse\n"
+help_text = codes "usage: tfrules-all [--rules LIST] [--naming NAMING]\n                   [--minimum-failure-severity SEVERITY] [--force]\n                   [--no-config] [--format FORM] [--quiet] [--shard K/N]\n                   [--null] [--] [FILE|FOLDER]...\n       tfrules-all --list-rules\n       tfrules-all --explain RULE\n\nLints the modules of folders, each by itself, as tfrules lints its files.\n\nA module is the .tf and .tofu files of one folder. A file stands for its\nfolder, also one that was deleted while the folder is there; a folder for\nitself and all below. Files and folders whose names begin with a dot or end\nwith ~, and those named #...#, are passed over. Without an operand it is the\ncurrent folder.\n\nOptions that the line doesn't have come from the nearest .tfrules, in the folder\nof a module or above it up to the top of the repository: one a line, of the\nfirst four below.\n\n  --rules LIST     default, all or names of rules, with commas between them; a\n                   dash before one takes its rules away: all,-terraform_...\n  --naming NAMING  snake_case or mixed_snake_case\n  --minimum-failure-severity SEVERITY\n                   error, warning or notice: from which severity on an issue\n                   fails the run\n  --force          no issue fails the run\n  --no-config      read no file .tfrules\n  --format FORM    text; or json (TFLint's), sarif, checkstyle, junit, gitlab or\n                   github: what forges and editors read, of all modules, with\n                   what couldn't be linted\n  --quiet          say nothing of the run as a whole: no count of the issues\n                   at its end\n  --shard K/N      take the K-th of N parts of the folders\n  -0, --null       read names, each ended by NUL, from standard input\n  --list-rules     print each rule with its severity, whether it is a default\n                   one, and what it reports\n  --explain RULE   print that of a rule, why it does, and how to silence it\n  -h, --help       print this\n  --version        print the version\n\nStatus: 0  no module has an issue that fails the run\n        1  something couldn't be linted, or the command line is wrong\n        2  an issue fails the run, and nothing is worse\n"
 
 -- THE ROW of these texts where they ask for a text, or are no line of this program's
 abbrev pub usage_row : List Text → Usage → Row
@@ -144,6 +197,7 @@ usage_row texts NoRuleLeft = fails_with tree_linter (codes "no rule is left")
 usage_row texts BadNaming = fails_with tree_linter (codes "unknown naming")
 usage_row texts BadSeverity = fails_with tree_linter (codes "unknown severity")
 usage_row texts BadPart = fails_with tree_linter (codes "--shard takes K/N, with K from 1 to N, at most 99999")
+usage_row texts BadForm = fails_with tree_linter (codes "--format takes text, json, sarif, checkstyle, junit, gitlab or github")
 usage_row texts NamesTwice = fails_with tree_linter (codes "--null takes no names on the command line")
 usage_row texts OutOfMemory = out_of_memory tree_linter
 

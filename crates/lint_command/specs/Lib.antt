@@ -1,6 +1,7 @@
 pub mod Asked
 pub mod Ends
 pub mod Explained
+pub mod Inner
 pub mod Line
 pub mod Linter
 pub mod LinterWords

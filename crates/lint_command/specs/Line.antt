@@ -7,6 +7,8 @@ use Rattle.clap.specs.Words.{App, Row, Text, fault_of, first_of, matches_of, new
 use Rattle.command_line.specs.Arguments.{option_rule, unless_fault, usage_by}
 use Rattle.file_tree.specs.Files.{Name}
 use Rattle.lint_config.specs.Lines.{Options}
+use Rattle.lint_forms.specs.declared.kind.Form.{Form}
+use Rattle.lint_forms.specs.declared.kind.Form.TheVariants.{Json, Sarif, Checkstyle, Junit, Gitlab, Github}
 use Rattle.rule_lists.specs.Lists.{rules_in}
 use Rattle.rule_lists.specs.declared.fault.ListFault.{ListFault}
 use Rattle.rule_lists.specs.declared.fault.ListFault.TheVariants as list
@@ -18,18 +20,19 @@ use Rattle.tfrules_command.specs.Line.{naming_asked, severity_asked}
 use Rattle.tree_words.specs.Line.{count_rule, file_rule, is_given, null_rule, others_in, shard_given, texts_in, texts_of}
 use Rattle.tree_words.specs.declared.shard.Shard.{Shard}
 use Rattle.lint_command.specs.declared.usage.Usage.{Usage}
-use Rattle.lint_command.specs.declared.usage.Usage.TheVariants.{Help, Version, ListRules, Explain, BadLine, UnknownRule, NoRuleLeft, BadNaming, BadSeverity, BadPart, NamesTwice, OutOfMemory}
+use Rattle.lint_command.specs.declared.usage.Usage.TheVariants.{Help, Version, ListRules, Explain, BadLine, UnknownRule, NoRuleLeft, BadNaming, BadSeverity, BadPart, BadForm, NamesTwice, OutOfMemory}
 
 -- by what modules are linted: the options of the line, and whether files `.tfrules` are read for the others
 pub record Given : Type 0 where
   pub said : Options
   pub reads : Bool
 
--- what is to be done: that, whether nothing is said of the run as a whole, and the part of the folders
+-- what is to be done: that, whether nothing is said of the run as a whole, the part of the folders, and the form, where it isn't text
 pub record Job : Type 0 where
   pub given : Given
   pub quiet : Bool
   pub shard : Option Shard
+  pub form : Option Form
 
 -- what a line asks for: that, whether names are read from standard input, and the names of the line
 pub record Asking : Type 0 where
@@ -39,13 +42,13 @@ pub record Asking : Type 0 where
 
 -- ---- the command
 
--- `tfrules-all [--rules LIST] [--naming NAMING] [--minimum-failure-severity SEVERITY] [--force] [--no-config] [--quiet] [--version]
--- [--null] [--shard K/N] [--list-rules] [--explain RULE] [--] [FILE|FOLDER]...`
+-- `tfrules-all [--rules LIST] [--naming NAMING] [--minimum-failure-severity SEVERITY] [--force] [--no-config] [--format FORM] [--quiet]
+-- [--version] [--null] [--shard K/N] [--list-rules] [--explain RULE] [--] [FILE|FOLDER]...`
 abbrev pub tfrules_all : App
 tfrules_all =
     fold with_rule (new_app (codes "tfrules-all"))
     (option_rule (codes "rules") ∷ option_rule (codes "naming") ∷ option_rule (codes "minimum-failure-severity") ∷ count_rule (codes "force")
-    ∷ count_rule (codes "no-config") ∷ count_rule (codes "quiet") ∷ count_rule (codes "version") ∷ null_rule ∷ option_rule (codes "shard") ∷ count_rule (codes "list-rules")
+    ∷ count_rule (codes "no-config") ∷ option_rule (codes "format") ∷ count_rule (codes "quiet") ∷ count_rule (codes "version") ∷ null_rule ∷ option_rule (codes "shard") ∷ count_rule (codes "list-rules")
     ∷ option_rule (codes "explain") ∷ file_rule ∷ [])
 
 -- ---- by what modules are linted
@@ -74,21 +77,41 @@ given_asked rows =
     given_by (rules_taken (option_map rules_in (first_of (codes "rules") rows))) (taken BadNaming (option_map naming_asked (first_of (codes "naming") rows)))
     (taken BadSeverity (option_map severity_asked (first_of (codes "minimum-failure-severity") rows))) (is_given (codes "force") rows) (not (is_given (codes "no-config") rows))
 
+-- ---- the form
+
+-- `text` is none
+abbrev pub form_asked : Text → Option (Option Form)
+form_asked text =
+    if bytes_eq text (codes "text") then Some None
+    else if bytes_eq text (codes "json") then Some (Some Json)
+    else if bytes_eq text (codes "sarif") then Some (Some Sarif)
+    else if bytes_eq text (codes "checkstyle") then Some (Some Checkstyle)
+    else if bytes_eq text (codes "junit") then Some (Some Junit)
+    else if bytes_eq text (codes "gitlab") then Some (Some Gitlab)
+    else if bytes_eq text (codes "github") then Some (Some Github)
+    else None
+
+abbrev pub form_given : Option Text → Option (Option Form)
+form_given None = Some None
+form_given (Some text) = form_asked text
+
 -- ---- the line
 
 -- names come from the line or from standard input, and not from both
 abbrev pub is_good : Bool → ℕ → Bool
 is_good null names = not null || names == 0
 
-abbrev pub asking_by : Result Given Usage → Bool → Option (Option Shard) → Bool → Bool → List Name → Result Asking Usage
-asking_by (Err usage) quiet shard is_good null names = Err usage
-asking_by (Ok given) quiet None is_good null names = Err BadPart
-asking_by (Ok given) quiet (Some shard) false null names = Err NamesTwice
-asking_by (Ok given) quiet (Some shard) true null names = Ok (record { job = record { given = given; quiet = quiet; shard = shard }; null = null; names = names })
+abbrev pub asking_by : Result Given Usage → Bool → Option (Option Shard) → Option (Option Form) → Bool → Bool → List Name → Result Asking Usage
+asking_by (Err usage) quiet shard form is_good null names = Err usage
+asking_by (Ok given) quiet None form is_good null names = Err BadPart
+asking_by (Ok given) quiet (Some shard) None is_good null names = Err BadForm
+asking_by (Ok given) quiet (Some shard) (Some form) false null names = Err NamesTwice
+asking_by (Ok given) quiet (Some shard) (Some form) true null names =
+    Ok (record { job = record { given = given; quiet = quiet; shard = shard; form = form }; null = null; names = names })
 
 abbrev pub asking_with : List Row → List Name → Result Asking Usage
 asking_with rows names =
-    asking_by (given_asked rows) (is_given (codes "quiet") rows) (shard_given (first_of (codes "shard") rows)) (is_good (is_given (codes "null") rows) (length names))
+    asking_by (given_asked rows) (is_given (codes "quiet") rows) (shard_given (first_of (codes "shard") rows)) (form_given (first_of (codes "format") rows)) (is_good (is_given (codes "null") rows) (length names))
     (is_given (codes "null") rows) names
 
 -- what is said of the rule that `--explain` names

@@ -13,6 +13,7 @@ static NAMES: &[&str] = &[
     "minimum-failure-severity",
     "force",
     "no-config",
+    "format",
     "quiet",
     "version",
     "null",

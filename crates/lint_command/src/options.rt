@@ -5,13 +5,14 @@ ghost use Rattle.clap.specs.Words.{app_of, first_of, found_of, rows_of};
 ghost use Rattle.rule_lists.specs.Lists.{rules_in};
 ghost use Rattle.tfrules_command.specs.Line.{naming_asked, severity_asked};
 ghost use Rattle.lint_command.specs.Asked.{asked_by, given_in, rules_told};
-ghost use Rattle.lint_command.specs.Line.{asking_by, asking_of_rows, asking_of_texts, asking_with, explain_asked, given_asked, given_by, is_good, rules_taken, taken, text_asked, tfrules_all};
+ghost use Rattle.lint_command.specs.Line.{asking_by, asking_of_rows, asking_of_texts, asking_with, explain_asked, form_asked, form_given, given_asked, given_by, is_good, rules_taken, taken, text_asked, tfrules_all};
 ghost use Rattle.lint_command.specs.declared.usage.Usage.TheVariants.{BadNaming, BadSeverity, OutOfMemory};
 
 use crate::usage::Usage;
 use clap::{ArgMatches, Command};
 use command_line::{option_named, usage_for};
 use lint_config::Said;
+use lint_forms::Form;
 use rule_lists::{ListFault, rules_in};
 use rule_set::{ALL_RULES, rule_named};
 use std::alloc::{AllocError, Global};
@@ -38,6 +39,8 @@ pub struct Job {
     pub quiet: bool,
     /// The part of the folders that is taken, where it isn't all.
     pub shard: Option<Shard>,
+    /// The form in which is written what is found, where it isn't text.
+    pub form: Option<Form>,
 }
 
 /// What the words ask for.
@@ -60,6 +63,7 @@ fn command<'a>(alloc: Global) -> Result<Command<'a>, AllocError>
         .arg(option_named(alloc, "minimum-failure-severity"))?
         .arg(counted_flag(alloc, "force"))?
         .arg(counted_flag(alloc, "no-config"))?
+        .arg(option_named(alloc, "format"))?
         .arg(counted_flag(alloc, "quiet"))?
         .arg(counted_flag(alloc, "version"))?
         .arg(null(alloc))?
@@ -160,6 +164,51 @@ fn given_of(matches: &ArgMatches<'_>) -> Result<Given, Usage>
     )
 }
 
+/// The form that a text stands for.
+fn form_asked(text: &str) -> Option<Option<Form>>
+    ensures { result ≡ form_asked text.now }
+{
+    if text == "text" {
+        return Some(None);
+    }
+    if text == "json" {
+        return Some(Some(Form::Json));
+    }
+    if text == "sarif" {
+        return Some(Some(Form::Sarif));
+    }
+    if text == "checkstyle" {
+        return Some(Some(Form::Checkstyle));
+    }
+    if text == "junit" {
+        return Some(Some(Form::Junit));
+    }
+    if text == "gitlab" {
+        return Some(Some(Form::Gitlab));
+    }
+    if text == "github" {
+        return Some(Some(Form::Github));
+    }
+    None
+}
+
+/// The form that a text of the line stands for, where it has one.
+fn form_taken(text: Option<&str>) -> Option<Option<Form>>
+    ensures { result ≡ form_given (option_map (λ text. text.now) text.entry) }
+{
+    match text {
+        Some(text) => form_asked(text),
+        None => Some(None),
+    }
+}
+
+/// The form that the matches of a line ask for.
+fn form_of(matches: &ArgMatches<'_>) -> Option<Option<Form>>
+    ensures { result ≡ form_given (first_of (codes "format") (rows_of (found_of matches.now))) }
+{
+    form_taken(matches.get_str("format"))
+}
+
 /// Whether names come from the line or from standard input, and not from both.
 fn is_good(null: bool, names: &[&[u8]]) -> bool
     ensures { result ≡ is_good null (length names.now) }
@@ -172,11 +221,12 @@ fn options_by<'a>(
     given: Result<Given, Usage>,
     quiet: bool,
     shard: Option<Option<Shard>>,
+    form: Option<Option<Form>>,
     is_good: bool,
     null: bool,
     names: Vec<&'a [u8]>,
 ) -> Result<LintOptions<'a>, Usage>
-    ensures { asked_by result ≡ asking_by (given_in given) quiet shard is_good null
+    ensures { asked_by result ≡ asking_by (given_in given) quiet shard form is_good null
         (map (λ name. name.now) names.entry.items) }
 {
     let given = match given {
@@ -186,6 +236,9 @@ fn options_by<'a>(
     let Some(shard) = shard else {
         return Err(Usage::BadPart);
     };
+    let Some(form) = form else {
+        return Err(Usage::BadForm);
+    };
     if !is_good {
         return Err(Usage::NamesTwice);
     }
@@ -194,6 +247,7 @@ fn options_by<'a>(
             given,
             quiet,
             shard,
+            form,
         },
         null,
         names,
@@ -211,9 +265,10 @@ fn options_with<'a>(
     let given = given_of(matches);
     let quiet = is_given(matches, "quiet");
     let shard = shard_of(matches);
+    let form = form_of(matches);
     let null = is_given(matches, "null");
     let is_good = is_good(null, names.as_slice());
-    options_by(given, quiet, shard, is_good, null, names)
+    options_by(given, quiet, shard, form, is_good, null, names)
 }
 
 /// What the words ask for that name a rule to explain.

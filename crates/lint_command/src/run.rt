@@ -1,29 +1,37 @@
 //! A run over any tree and any devices.
 
-ghost use Rattle.std.specs.Prelude.{◌≡◌, ◌==◌, ◌&&◌, ◌||◌, ◌++◌, [], List, ℕ, false, flat_map, is_err, map, nat_lt, if◌then◌else◌};
-ghost use Rattle.command_line.specs.Rows.{Took, end_of, writer};
+ghost use Rattle.std.specs.Prelude.{◌≡◌, ◌==◌, ◌&&◌, ◌||◌, ◌++◌, [], IfErr, IfOk, List, Some, ℕ, codes, false, flat_map, is_err, is_some, map, nat_lt, true, if◌then◌else◌};
+ghost use Rattle.command_line.specs.Rows.{Took, end_of, error_line, writer};
 ghost use Rattle.module_config.specs.Words.{configured_words};
 ghost use Rattle.tree_lint.specs.Faults.{fault_lines};
 ghost use Rattle.tree_lint.specs.Numbers.{summary_line};
 ghost use Rattle.tree_lint.specs.Readers.{has_reader_out};
+ghost use Rattle.tree_lint.specs.Refusals.{tree_linter};
 ghost use Rattle.tree_lint.specs.Runs.{worse_status};
 ghost use Rattle.lint_command.specs.Asked.{asking_of, job_of};
-ghost use Rattle.lint_command.specs.Ends.{EndsAsked, IsEnd, IsEndOf, LintsCollected, LintsOr, LintsNamed, ReadsAndLints, RunsThen, count_lines, fault_status, last_words, summary};
+ghost use Rattle.lint_command.specs.Ends.{EndsAsked, IsEnd, IsEndOf, IsFoot, LintsCollected, LintsOr, LintsNamed, ReadsAndLints, RunsThen, count_lines, fault_status, head_of, last_words, summary};
+ghost use Rattle.lint_command.specs.Inner.Closing.{Closes};
 ghost use Rattle.lint_command.specs.Line.{asking_of_texts, asking_of_words, reads_names};
 
 use crate::collect::{Collected, collect};
 use crate::options::{Job, LintOptions, options};
+use crate::usage::NUMBER;
 use crate::words::{say, tree_linter};
+use command_line::write_pieces;
 use file_tree::tree::Tree;
 use file_tree::walk::Found;
 use hcl_scan::{ByteSink, ByteSource, Failed};
+use lint_forms::Form;
+use lint_forms::form::{foot, head};
 use module_config::configure::{Configured, configure};
+use module_config::keep::keep_configured;
 use module_config::words::{tell_configured, tell_unlinted};
-use std::alloc::Global;
+use std::alloc::{AllocError, Global};
 use tree_lint::counts::{Counts, tell_summary};
 use tree_lint::module_tree::ModuleTree;
 use tree_lint::refusal::tell_faults;
 use tree_lint::run::{RunEnd, run_over, worse_status};
+use tree_lint::written::Written;
 use tree_words::operands::{operands_in, operands_of, read_names};
 use tree_words::words::words_of;
 
@@ -163,12 +171,110 @@ fn finish<O: ByteSink, E: ByteSink>(
     end_well(quiet, ran, faults, configured, err)
 }
 
+/// What is to be said of a run, beside what it finds in modules.
+#[derive(Clone, Copy)]
+struct Rest<'r> {
+    /// Nothing is said of the run as a whole.
+    quiet: bool,
+    form: Option<Form>,
+    /// What can't be looked at.
+    faults: &'r [Found],
+    configured: &'r Configured,
+}
+
+/// What stands before the issues of all modules.
+fn head_of(alloc: Global, form: Option<Form>) -> Result<Vec<u8>, AllocError>
+    ensures { IfOk result (λ text. text.items ≡ head_of form) }
+{
+    match form {
+        Some(form) => head(alloc, form, NUMBER),
+        None => Ok(Vec::new(alloc)),
+    }
+}
+
+/// What stands after them in a form, in a run of this status.
+fn form_end(
+    alloc: Global,
+    form: Form,
+    status: u8,
+    ran: &mut RunEnd,
+    rest: Rest<'_>,
+) -> Result<Vec<u8>, AllocError>
+    ensures foot { IfOk result (λ text. IsFoot (Some form) status ran.old
+        rest.entry.faults.now rest.entry.configured.now text.items) }
+    ensures counts { ran.new.counts ≡ ran.old.counts }
+    ensures status { ran.new.status ≡ ran.old.status }
+{
+    ran.kept.add_faults(alloc, rest.faults);
+    keep_configured(alloc, rest.configured, &mut ran.kept);
+    if !ran.kept.is_whole {
+        return Err(AllocError);
+    }
+    let refusals = ran.kept.remarks(alloc)?;
+    foot(alloc, form, status, ran.has_issues, refusals.as_slice())
+}
+
+/// What stands after the issues, in a run of this status.
+fn foot_of(
+    alloc: Global,
+    status: u8,
+    ran: &mut RunEnd,
+    rest: Rest<'_>,
+) -> Result<Vec<u8>, AllocError>
+    ensures foot { IfOk result (λ text. IsFoot rest.entry.form status ran.old
+        rest.entry.faults.now rest.entry.configured.now text.items) }
+    // Without a form nothing is to be kept in memory.
+    ensures lost { IfErr result (λ _. is_some rest.entry.form ≡ true) }
+    ensures counts { ran.new.counts ≡ ran.old.counts }
+    ensures status { ran.new.status ≡ ran.old.status }
+{
+    match rest.form {
+        Some(form) => form_end(alloc, form, status, ran, rest),
+        None => Ok(Vec::new(alloc)),
+    }
+}
+
+/// Says that memory ran out for what stands after the issues.
+fn tell_lost<E: ByteSink>(err: &mut E) -> u8
+    requires err { E.failed err.old ≡ false }
+    ensures took { Took (writer E.ByteSink err.old err.new)
+        (error_line tree_linter (codes "out of memory")) }
+    ensures exit { result ≡ 1 }
+{
+    let _ = write_pieces(err, &[b"tfrules-all: error: out of memory\n"]);
+    1
+}
+
+/// Writes what stands after the issues, and says the last words of a run in which no write failed.
+fn close<O: ByteSink, E: ByteSink>(
+    alloc: Global,
+    ran: &mut RunEnd,
+    rest: Rest<'_>,
+    out: &mut O,
+    err: &mut E,
+) -> u8
+    requires out { O.failed out.old ≡ false }
+    requires err { E.failed err.old ≡ false }
+    ensures { Closes rest.entry.form rest.entry.quiet rest.entry.configured.now
+        rest.entry.faults.now ran.old (writer O.ByteSink out.old out.new)
+        (writer E.ByteSink err.old err.new) (out.new ≡ out.old) result }
+{
+    let status = worse_status(
+        ran.status,
+        fault_status(rest.faults, rest.configured.unlinted),
+    );
+    let Ok(text) = foot_of(alloc, status, ran, rest) else {
+        return tell_lost(err);
+    };
+    let _ = write_pieces(out, &[text.as_slice()]);
+    finish(rest.quiet, ran, rest.faults, rest.configured, out, err)
+}
+
 /// Lints the modules whose options are known, and says what else there is.
 fn lint_configured<T: Tree + Drop, O: ByteSink, E: ByteSink>(
     alloc: Global,
-    quiet: bool,
-    configured: &Configured,
-    faults: &[Found],
+    rest: Rest<'_>,
+    head: &[u8],
     files: &mut ModuleTree<T>,
     out: &mut O,
     err: &mut E,
@@ -176,19 +282,28 @@ fn lint_configured<T: Tree + Drop, O: ByteSink, E: ByteSink>(
     requires back { has_reader_out files.old ≡ false }
     requires out { O.failed out.old ≡ false }
     requires err { E.failed err.old ≡ false }
-    ensures ran { RunsThen (T.files files.old.tree) quiet configured.now faults.now
+    requires head { head.now ≡ head_of rest.form }
+    ensures ran { RunsThen (T.files files.old.tree) rest.entry.form rest.entry.quiet
+        rest.entry.configured.now rest.entry.faults.now
         (T.faults files.old.tree) (T.faults files.new.tree)
         (end_of O.ByteSink out.old out.new E.ByteSink err.old err.new result) }
     ensures files { T.files files.new.tree ≡ T.files files.old.tree }
     ensures asked { T.asked files.new.tree ≡ T.asked files.old.tree }
     ensures back { has_reader_out files.new ≡ false }
 {
-    let governed = configured.governed.as_slice();
-    let ran = run_over(alloc, governed, files, out, err);
+    let written = Written {
+        form: rest.form,
+        head,
+    };
+    let governed = rest.configured.governed.as_slice();
+    let mut ran = run_over(alloc, written, governed, files, out, err);
     if err.has_failed() {
         return 1;
     }
-    finish(quiet, &ran, faults, configured, out, err)
+    if out.has_failed() {
+        return tree_linter().finish(out, err, 1);
+    }
+    close(alloc, &mut ran, rest, out, err)
 }
 
 /// Finds the options of modules and lints them, and says what can't be looked at.
@@ -212,13 +327,19 @@ fn lint_collected<T: Tree + Drop, O: ByteSink, E: ByteSink>(
 {
     let Collected { modules, faults } = collected;
     let given = job.given;
-    match configure(alloc, given.said, given.reads, modules, &mut files.tree) {
-        Ok(configured) => {
-            let faults = faults.as_slice();
-            lint_configured(alloc, job.quiet, &configured, faults, files, out, err)
-        }
-        Err(_) => tree_linter().tell_out_of_memory(out, err),
-    }
+    let Ok(configured) = configure(alloc, given.said, given.reads, modules, &mut files.tree) else {
+        return tree_linter().tell_out_of_memory(out, err);
+    };
+    let Ok(head) = head_of(alloc, job.form) else {
+        return tree_linter().tell_out_of_memory(out, err);
+    };
+    let rest = Rest {
+        quiet: job.quiet,
+        form: job.form,
+        faults: faults.as_slice(),
+        configured: &configured,
+    };
+    lint_configured(alloc, rest, head.as_slice(), files, out, err)
 }
 
 /// Finds the modules and lints them.

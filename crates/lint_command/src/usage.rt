@@ -25,6 +25,8 @@ pub enum Usage {
     BadSeverity,
     /// `--shard` says no part.
     BadPart,
+    /// `--format` says no form.
+    BadForm,
     /// `--null` stands beside names.
     NamesTwice,
     /// Memory ran out.
@@ -35,11 +37,14 @@ pub enum Usage {
 pub static USAGE: &str = "\
 usage: tfrules-all [--rules LIST] [--naming NAMING]
                    [--minimum-failure-severity SEVERITY] [--force]
-                   [--no-config] [--quiet] [--shard K/N] [--null] [--]
-                   [FILE|FOLDER]...
+                   [--no-config] [--format FORM] [--quiet] [--shard K/N]
+                   [--null] [--] [FILE|FOLDER]...
        tfrules-all --list-rules
        tfrules-all --explain RULE
 ";
+
+/// Which version this is.
+pub static NUMBER: &str = "0.3.0";
 
 /// What `--version` says.
 pub static VERSION: &str = "tfrules-all 0.3.0\n";
@@ -48,8 +53,8 @@ pub static VERSION: &str = "tfrules-all 0.3.0\n";
 pub static HELP: &str = "\
 usage: tfrules-all [--rules LIST] [--naming NAMING]
                    [--minimum-failure-severity SEVERITY] [--force]
-                   [--no-config] [--quiet] [--shard K/N] [--null] [--]
-                   [FILE|FOLDER]...
+                   [--no-config] [--format FORM] [--quiet] [--shard K/N]
+                   [--null] [--] [FILE|FOLDER]...
        tfrules-all --list-rules
        tfrules-all --explain RULE
 
@@ -73,6 +78,9 @@ first four below.
                    fails the run
   --force          no issue fails the run
   --no-config      read no file .tfrules
+  --format FORM    text; or json (TFLint's), sarif, checkstyle, junit, gitlab or
+                   github: what forges and editors read, of all modules, with
+                   what couldn't be linted
   --quiet          say nothing of the run as a whole: no count of the issues
                    at its end
   --shard K/N      take the K-th of N parts of the folders

@@ -26,6 +26,9 @@ static BAD_SEVERITY: &str = "tfrules-all: error: unknown severity\n";
 static BAD_PART: &str =
     "tfrules-all: error: --shard takes K/N, with K from 1 to N, at most 99999\n";
 
+static BAD_FORM: &str =
+    "tfrules-all: error: --format takes text, json, sarif, checkstyle, junit, gitlab or github\n";
+
 static NAMES_TWICE: &str = "tfrules-all: error: --null takes no names on the command line\n";
 
 /// This program as its messages have it.
@@ -103,6 +106,7 @@ pub(crate) fn say<O: ByteSink, E: ByteSink>(
         Usage::BadNaming => tree_linter().tell(out, err, BAD_NAMING, 1),
         Usage::BadSeverity => tree_linter().tell(out, err, BAD_SEVERITY, 1),
         Usage::BadPart => tree_linter().tell(out, err, BAD_PART, 1),
+        Usage::BadForm => tree_linter().tell(out, err, BAD_FORM, 1),
         Usage::NamesTwice => tree_linter().tell(out, err, NAMES_TWICE, 1),
         Usage::OutOfMemory => tree_linter().tell_out_of_memory(out, err),
     }

@@ -1,21 +1,22 @@
 -- The numbers of the documents are numbers, and nothing in them nests deeply.
-use Rattle.std.proofs.Common.{◌≡◌, ◌≤◌, ◌<◌, ◌^◌, ◌++◌, ◌∷◌, [], ℕ, All, List, Option, Some, None, arith, filter, lit<, map, not}
-use Rattle.std.proofs.lemmas.List.Elements.{All-filter, All-head, All-tail}
+use Rattle.std.proofs.Common.{◌≤◌, ◌<◌, ◌^◌, ◌++◌, ◌∷◌, [], ℕ, All, List, Option, Some, None, arith, flat_map, lit<, map}
+use Rattle.std.proofs.lemmas.List.Elements.{All-append, All-cons, All-head, All-nil, All-tail}
 use Rattle.std.specs.Prelude.{decimal}
 use Rattle.json.specs.Json.{Json}
 use Rattle.json.specs.Json as json
 use Rattle.json.specs.Tree.{HasNumbers, ItemsHaveNumbers, depth, items_depth}
 use Rattle.json.proofs.Printed.Decimals.{IsNumber-decimal}
-use Rattle.rule_set.specs.Rules.{all_rules, rank}
+use Rattle.rule_set.specs.Rules.{all_rules}
 use Rattle.rule_set.specs.declared.rule.Rule.{Rule}
 use Rattle.rule_set.specs.declared.rule.Rule.TheVariants.{CommentSyntax, DeprecatedIndex, DeprecatedInterpolation, DocumentedOutputs, DocumentedVariables, ModulePinnedSource, ModuleVersion, NamingConvention, TypedVariables, UnusedDeclarations}
 use Rattle.lint_forms.specs.Gitlab.{gitlab_json, quality_json}
 use Rattle.lint_forms.specs.Laws.{HasSmallNumbers}
+use Rattle.lint_forms.specs.Marks.{Entry, entries, entries_after, entry_after}
+use Rattle.lint_forms.specs.Places.{uri}
+use Rattle.lint_forms.specs.Remarks.{Remark}
 use Rattle.lint_forms.specs.Sarif.{location_json, refusal_json, region_json, result_json, rule_index, rule_json, sarif_json}
 use Rattle.lint_forms.specs.Tflint.{error_json, issue_json, place_json, range_json, tflint_json}
 use Rattle.lint_forms.specs.Values.{json_items}
-use Rattle.lint_forms.specs.Words.{is_issue}
-use Rattle.lint_forms.specs.declared.remark.Remark.{Remark}
 
 -- ---- lists of values
 
@@ -44,8 +45,11 @@ issue_numbers r h = ((tt, (tt, (tt, tt))), (tt, (range_numbers r h, (tt, tt))))
 error_numbers : (r : Remark) → HasSmallNumbers r → HasNumbers (error_json r)
 error_numbers r h = (tt, (tt, (range_numbers r h, tt)))
 
-quality_numbers : (r : Remark) → HasSmallNumbers r → HasNumbers (quality_json r)
-quality_numbers r h = (tt, (tt, (tt, (tt, ((tt, ((number_of r.line h.line, tt), tt)), tt)))))
+abbrev pub IsSmall : Entry → Type 0
+IsSmall e = HasSmallNumbers e.said
+
+quality_numbers : (e : Entry) → IsSmall e → HasNumbers (quality_json e)
+quality_numbers e h = (tt, (tt, (tt, (tt, ((tt, ((number_of e.said.line h.line, tt), tt)), tt)))))
 
 index_small : (rule : Option Rule) → rule_index rule < 2 ^ 64
 index_small None = lit< tt
@@ -61,23 +65,40 @@ index_small (Some TypedVariables) = lit< tt
 index_small (Some UnusedDeclarations) = lit< tt
 
 region_numbers : (r : Remark) → HasSmallNumbers r → HasNumbers (region_json r)
-region_numbers r h = (number_of r.line h.line, (number_of r.units h.units, tt))
+region_numbers r h = (number_of r.line h.line, tt)
 
-location_numbers : (r : Remark) → HasSmallNumbers r → HasNumbers (location_json r)
-location_numbers r h = (((tt, tt), (region_numbers r h, tt)), tt)
+location_numbers : (uri : List ℕ) (r : Remark) → HasSmallNumbers r → HasNumbers (location_json uri r)
+location_numbers uri r h = (((tt, tt), (region_numbers r h, tt)), tt)
 
-result_numbers : (r : Remark) → HasSmallNumbers r → HasNumbers (result_json r)
-result_numbers r h =
-    (tt, (number_of (rule_index r.rule) (index_small r.rule), (tt, ((tt, tt), ((location_numbers r h, tt), ((tt, (tt, tt)), tt))))))
+result_numbers : (e : Entry) → IsSmall e → HasNumbers (result_json e)
+result_numbers e h =
+    (tt, (number_of (rule_index e.said.rule) (index_small e.said.rule), (tt, ((tt, tt), ((location_numbers (uri e.said.file) e.said h, tt), ((tt, (tt, tt)), tt))))))
+
+-- ---- entries
+
+entries_small : (before rs : List Remark) → All HasSmallNumbers rs → All IsSmall (entries_after before rs)
+entries_small before [] h = All-nil IsSmall
+entries_small before (r ∷ rs) h =
+    All-cons IsSmall (entry_after before r) (entries_after (before ++ r ∷ []) rs) (All-head HasSmallNumbers r rs h)
+    (entries_small (before ++ r ∷ []) rs (All-tail HasSmallNumbers r rs h))
+
+pub of_all_small : {A : Type 0} (P : A → Type 0) (f : List Remark → List A) → ((rs : List Remark) → All HasSmallNumbers rs → All P (f rs))
+    → (ms : List (List Remark)) → All (All HasSmallNumbers) ms → All P (flat_map f ms)
+of_all_small P f each [] h = All-nil P
+of_all_small P f each (rs ∷ ms) h =
+    All-append P (f rs) (flat_map f ms) (each rs (All-head (All HasSmallNumbers) rs ms h)) (of_all_small P f each ms (All-tail (All HasSmallNumbers) rs ms h))
+
+pub all_small : (ms : List (List Remark)) (rs : List Remark) → All (All HasSmallNumbers) ms → All HasSmallNumbers rs → All IsSmall (flat_map entries ms ++ entries rs)
+all_small ms rs h k = All-append IsSmall (flat_map entries ms) (entries rs) (of_all_small IsSmall entries (entries_small []) ms h) (entries_small [] rs k)
 
 -- ---- the documents
 
-pub tflint_numbers : (rs : List Remark) → All HasSmallNumbers rs → HasNumbers (tflint_json rs)
-tflint_numbers rs h =
-    (items_numbers HasSmallNumbers issue_json issue_numbers (filter (λ r. is_issue r.rule) rs) (All-filter (λ r. is_issue r.rule) HasSmallNumbers rs h), (items_numbers HasSmallNumbers error_json error_numbers (filter (λ r. not (is_issue r.rule)) rs) (All-filter (λ r. not (is_issue r.rule)) HasSmallNumbers rs h), tt))
+pub tflint_numbers : (issues refusals : List Remark) → All HasSmallNumbers issues → All HasSmallNumbers refusals → HasNumbers (tflint_json issues refusals)
+tflint_numbers issues refusals h k =
+    (items_numbers HasSmallNumbers issue_json issue_numbers issues h, (items_numbers HasSmallNumbers error_json error_numbers refusals k, tt))
 
-pub gitlab_numbers : (rs : List Remark) → All HasSmallNumbers rs → HasNumbers (gitlab_json rs)
-gitlab_numbers rs h = items_numbers HasSmallNumbers quality_json quality_numbers rs h
+pub gitlab_numbers : (es : List Entry) → All IsSmall es → HasNumbers (gitlab_json es)
+gitlab_numbers es h = items_numbers IsSmall quality_json quality_numbers es h
 
 rule_numbers : (rule : Rule) → HasNumbers (rule_json rule)
 rule_numbers rule = (tt, ((tt, tt), ((tt, tt), ((tt, (tt, tt)), (tt, ((tt, tt), tt))))))
@@ -86,8 +107,8 @@ described_numbers : (rules : List Rule) → ItemsHaveNumbers (json_items (map ru
 described_numbers [] = ((tt, ((tt, tt), ((tt, tt), tt))), tt)
 described_numbers (rule ∷ rules) = (rule_numbers rule, described_numbers rules)
 
-pub sarif_numbers : (version : List ℕ) (status : ℕ) (rs : List Remark) → status < 2 ^ 64 → All HasSmallNumbers rs → HasNumbers (sarif_json version status rs)
-sarif_numbers version status rs small h = (
+pub sarif_numbers : (version : List ℕ) (status : ℕ) (es : List Entry) → status < 2 ^ 64 → All IsSmall es → HasNumbers (sarif_json version status es)
+sarif_numbers version status es small h = (
   tt,
   (
     tt,
@@ -95,13 +116,7 @@ sarif_numbers version status rs small h = (
       (
         (
           ((tt, (tt, (described_numbers all_rules, tt))), tt),
-          (
-            tt,
-            (
-              items_numbers HasSmallNumbers result_json result_numbers rs h,
-              (((tt, (number_of status small, tt)), tt), tt),
-            ),
-          ),
+          (items_numbers IsSmall result_json result_numbers es h, (((tt, (number_of status small, tt)), tt), tt)),
         ),
         tt,
       ),
@@ -116,11 +131,11 @@ described_shallow : (rules : List Rule) → items_depth (json_items (map rule_js
 described_shallow [] = omega arith
 described_shallow (rule ∷ rules) = omega (arith, described_shallow rules)
 
-pub tflint_shallow : (rs : List Remark) → depth (tflint_json rs) ≤ 128
-tflint_shallow rs = omega (arith, items_shallow issue_json 3 (λ r. omega arith) (filter (λ r. is_issue r.rule) rs), items_shallow error_json 3 (λ r. omega arith) (filter (λ r. not (is_issue r.rule)) rs))
+pub tflint_shallow : (issues refusals : List Remark) → depth (tflint_json issues refusals) ≤ 128
+tflint_shallow issues refusals = omega (arith, items_shallow issue_json 3 (λ r. omega arith) issues, items_shallow error_json 3 (λ r. omega arith) refusals)
 
-pub gitlab_shallow : (rs : List Remark) → depth (gitlab_json rs) ≤ 128
-gitlab_shallow rs = omega (arith, items_shallow quality_json 3 (λ r. omega arith) rs)
+pub gitlab_shallow : (es : List Entry) → depth (gitlab_json es) ≤ 128
+gitlab_shallow es = omega (arith, items_shallow quality_json 3 (λ e. omega arith) es)
 
-pub sarif_shallow : (version : List ℕ) (status : ℕ) (rs : List Remark) → depth (sarif_json version status rs) ≤ 128
-sarif_shallow version status rs = omega (arith, described_shallow all_rules, items_shallow result_json 5 (λ r. omega arith) rs)
+pub sarif_shallow : (version : List ℕ) (status : ℕ) (es : List Entry) → depth (sarif_json version status es) ≤ 128
+sarif_shallow version status es = omega (arith, described_shallow all_rules, items_shallow result_json 5 (λ e. omega arith) es)

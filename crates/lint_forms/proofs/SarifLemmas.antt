@@ -1,6 +1,5 @@
 -- The tokens before the results of SARIF, part by part.
 use Rattle.std.proofs.Common.{◌≡◌, ◌∙◌, ◌++◌, ◌∷◌, [], ℕ, List, ap, append_assoc, codes, map, refl, sym}
-use Rattle.json.specs.Json.{Json}
 use Rattle.json.specs.Token.{Token, begin_array, begin_object, end_array, end_object, key, string}
 use Rattle.json.specs.Tree.{items_tokens, json_tokens}
 use Rattle.std.specs.Prelude.{Some}
@@ -22,23 +21,23 @@ abbrev start_then : List ℕ → List Token → List Token
 start_then version ts =
     begin_object ∷ key (codes "$schema") ∷ string (codes "https://json.schemastore.org/sarif-2.1.0.json") ∷ key (codes "version") ∷ string (codes "2.1.0")
     ∷ key (codes "runs") ∷ begin_array ∷ begin_object ∷ key (codes "tool") ∷ begin_object ∷ key (codes "driver") ∷ begin_object
-    ∷ key (codes "name") ∷ string (codes "tfrules-all") ∷ key (codes "version") ∷ string version ∷ key (codes "rules") ∷ begin_array ∷ ts
+    ∷ key (codes "name") ∷ string (codes "tfrules") ∷ key (codes "version") ∷ string version ∷ key (codes "rules") ∷ begin_array ∷ ts
 
-abbrev last_four : List Token
-last_four = key (codes "columnKind") ∷ string (codes "utf16CodeUnits") ∷ key (codes "results") ∷ begin_array ∷ []
+abbrev last_two : List Token
+last_two = key (codes "results") ∷ begin_array ∷ []
 
 -- all parts together
 joined : (version : List ℕ) (rules : List Rule)
-    → start_then version ((rules_tokens rules ++ json_tokens refusal_json) ++ (end_array ∷ end_object ∷ end_object ∷ last_four))
-    ≡ start_then version (((items_tokens (json_items (map rule_json rules ++ refusal_json ∷ [])) ++ end_object ∷ []) ++ end_object ∷ []) ++ last_four)
+    → start_then version ((rules_tokens rules ++ json_tokens refusal_json) ++ (end_array ∷ end_object ∷ end_object ∷ last_two))
+    ≡ start_then version (((items_tokens (json_items (map rule_json rules ++ refusal_json ∷ [])) ++ end_object ∷ []) ++ end_object ∷ []) ++ last_two)
 joined version rules =
     let items = items_tokens (json_items (map rule_json rules ++ refusal_json ∷ [])) in
     ap (start_then version)
-    (append_assoc (rules_tokens rules) (json_tokens refusal_json) (end_array ∷ end_object ∷ end_object ∷ last_four)
-    ∙ sym (append_assoc (rules_tokens rules) (json_tokens refusal_json ++ end_array ∷ []) (end_object ∷ end_object ∷ last_four))
-    ∙ ap (λ l. l ++ (end_object ∷ end_object ∷ last_four)) (described_tokens rules)
-    ∙ sym (append_assoc items (end_object ∷ []) (end_object ∷ last_four))
-    ∙ sym (append_assoc (items ++ end_object ∷ []) (end_object ∷ []) last_four))
+    (append_assoc (rules_tokens rules) (json_tokens refusal_json) (end_array ∷ end_object ∷ end_object ∷ last_two)
+    ∙ sym (append_assoc (rules_tokens rules) (json_tokens refusal_json ++ end_array ∷ []) (end_object ∷ end_object ∷ last_two))
+    ∙ ap (λ l. l ++ (end_object ∷ end_object ∷ last_two)) (described_tokens rules)
+    ∙ sym (append_assoc items (end_object ∷ []) (end_object ∷ last_two))
+    ∙ sym (append_assoc (items ++ end_object ∷ []) (end_object ∷ []) last_two))
 
 pub head_tokens : (version : List ℕ) → ((sarif_start version ++ rules_tokens all_rules) ++ json_tokens refusal_json) ++ results_head ≡ sarif_head version
 head_tokens version = joined version all_rules

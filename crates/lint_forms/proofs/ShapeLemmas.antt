@@ -1,18 +1,20 @@
 -- What stands in an array of JSON of some remarks, shape by shape.
-use Rattle.std.proofs.Common.{◌≡◌, ◌∙◌, ◌++◌, ◌∷◌, [], ℕ, Bool, true, false, List, ap, append_assoc, cond, filter, flat_map, map, refl}
-use Rattle.std.specs.Prelude.{IfOk, Result, Ok, Err, not, if◌then◌else◌}
-use Rattle.json.specs.Json.{Json}
+use Rattle.std.proofs.Common.{◌≡◌, ◌∙◌, ◌++◌, ◌∷◌, [], ℕ, List, ap, append_assoc, flat_map, map, refl}
+use Rattle.std.proofs.lemmas.List.Concat.{flat_map_single}
+use Rattle.std.specs.Prelude.{IfOk, Result, Ok, Err}
 use Rattle.json.specs.Tree.{json_tokens}
-use Rattle.json.specs.Token.{Token}
 use Rattle.lint_forms.specs.Gitlab.{quality_by, quality_json}
-use Rattle.lint_forms.specs.Inner.Shapes.{shape_json, shape_values, shows}
+use Rattle.lint_forms.specs.Inner.Shapes.{entry_by, shape_json, shape_values}
+use Rattle.lint_forms.specs.Marks.{entries}
+use Rattle.lint_forms.specs.Places.{uri}
+use Rattle.lint_forms.specs.Remarks.{Remark}
 use Rattle.lint_forms.specs.Sarif.{result_by, result_json, rule_index}
 use Rattle.lint_forms.specs.Tflint.{error_json, issue_json}
-use Rattle.lint_forms.specs.Words.{is_issue, level_word, quality_word, rule_id}
-use Rattle.lint_forms.specs.declared.remark.Remark.{Remark}
+use Rattle.lint_forms.specs.Words.{level_word, quality_word, rule_id}
+use Rattle.lint_forms.specs.declared.entry.Entry as code
 use Rattle.lint_forms.specs.declared.shape.Shape.{Shape}
 use Rattle.lint_forms.specs.declared.shape.Shape.TheVariants as shape
-use Rattle.lint_forms.proofs.ValuesLemmas.{has_values}
+use Rattle.lint_forms.proofs.NumberingLemmas.{said_again}
 
 -- ---- a result as it is, or in other words
 
@@ -25,43 +27,31 @@ pub in_steps : (n s l p v w e : List ℕ) → n ≡ [] → s ≡ n ++ p → l �
 in_steps n s l p v w e none started longer same =
     ap (λ x. x ++ e) (longer ∙ ap (λ x. x ++ v) (started ∙ ap (λ x. x ++ p) none)) ∙ append_assoc p v e ∙ ap (λ x. p ++ (x ++ e)) same
 
--- ---- one remark
+-- ---- one entry
 
-pub entry_tokens : (r : Remark) (n s : List ℕ) → n ≡ rule_id r.rule → s ≡ quality_word r.rule → json_tokens (quality_by n s r) ≡ json_tokens (quality_json r)
-entry_tokens r n s e f = λ i. json_tokens (quality_by (e i) (f i) r)
+pub entry_tokens : (r : Remark) (m n s k : List ℕ) → n ≡ rule_id r.rule → s ≡ quality_word r.rule → k ≡ m
+    → json_tokens (quality_by n s (record { said = r; mark = k })) ≡ json_tokens (quality_json (record { said = r; mark = m }))
+entry_tokens r m n s k e f g = λ i. json_tokens (quality_by (e i) (f i) (record { said = r; mark = g i }))
 
-pub result_tokens : (r : Remark) (n : List ℕ) (k : ℕ) (l : List ℕ) → n ≡ rule_id r.rule → k ≡ rule_index r.rule → l ≡ level_word r.rule
-    → json_tokens (result_by n k l r) ≡ json_tokens (result_json r)
-result_tokens r n k l e f g = λ i. json_tokens (result_by (e i) (f i) (g i) r)
+pub result_words : (r : Remark) (m u n : List ℕ) (k : ℕ) (l : List ℕ) → n ≡ rule_id r.rule → k ≡ rule_index r.rule → l ≡ level_word r.rule
+    → json_tokens (result_by n k l u (record { said = r; mark = m })) ≡ json_tokens (result_by (rule_id r.rule) (rule_index r.rule) (level_word r.rule) u (record { said = r; mark = m }))
+result_words r m u n k l e f g = λ i. json_tokens (result_by (e i) (f i) (g i) u (record { said = r; mark = m }))
+
+pub result_tokens : (r : Remark) (m u k : List ℕ) → u ≡ uri r.file → k ≡ m
+    → json_tokens (result_by (rule_id r.rule) (rule_index r.rule) (level_word r.rule) u (record { said = r; mark = k })) ≡ json_tokens (result_json (record { said = r; mark = m }))
+result_tokens r m u k e f = λ i. json_tokens (result_by (rule_id r.rule) (rule_index r.rule) (level_word r.rule) (e i) (record { said = r; mark = f i }))
 
 -- ---- all of them
 
-one_shown : (b : Bool) (f : Remark → Json) (r : Remark) (rs : List Remark) (js : List Json) → js ≡ map f rs
-    → (if b then f r ∷ [] else []) ++ js ≡ map f (cond b (r ∷ rs) rs)
-one_shown true f r rs js e = ap (λ l. f r ∷ l) e
-one_shown false f r rs js e = e
+pub all_shown : (s : Shape) (es : List code.Entry) (rs : List Remark) → map entry_by es ≡ entries rs → flat_map (shape_values s) es ≡ map (shape_json s) (entries rs)
+all_shown s es rs is = flat_map_single (λ e. shape_json s (entry_by e)) es ∙ fused es ∙ ap (map (shape_json s)) is
+  where
+    fused : (es : List code.Entry) → map (λ e. shape_json s (entry_by e)) es ≡ map (shape_json s) (map entry_by es)
+    fused [] = refl
+    fused (e ∷ es) = ap (λ l. shape_json s (entry_by e) ∷ l) (fused es)
 
-all_shown : (s : Shape) (rs : List Remark) → flat_map (shape_values s) rs ≡ map (λ r. shape_json s r) (filter (λ r. shows s r.rule) rs)
-all_shown s [] = refl
-all_shown s (r ∷ rs) = one_shown (shows s r.rule) (λ q. shape_json s q) r (filter (λ q. shows s q.rule) rs) (flat_map (shape_values s) rs) (all_shown s rs)
+pub shown_issues : (rs : List Remark) → map (shape_json shape.TflintIssue) (entries rs) ≡ map issue_json rs
+shown_issues rs = said_again issue_json rs
 
-pub shown_issues : (rs : List Remark) → flat_map (shape_values shape.TflintIssue) rs ≡ map issue_json (filter (λ r. is_issue r.rule) rs)
-shown_issues = all_shown shape.TflintIssue
-
-pub shown_errors : (rs : List Remark) → flat_map (shape_values shape.TflintError) rs ≡ map error_json (filter (λ r. not (is_issue r.rule)) rs)
-shown_errors = all_shown shape.TflintError
-
-pub shown_results : (rs : List Remark) → flat_map (shape_values shape.SarifResult) rs ≡ map result_json rs
-shown_results [] = refl
-shown_results (r ∷ rs) = ap (λ l. result_json r ∷ l) (shown_results rs)
-
-pub shown_entries : (rs : List Remark) → flat_map (shape_values shape.GitlabEntry) rs ≡ map quality_json rs
-shown_entries [] = refl
-shown_entries (r ∷ rs) = ap (λ l. quality_json r ∷ l) (shown_entries rs)
-
-some_if : (b : Bool) (j : Json) → b ≡ has_values (if b then j ∷ [] else [])
-some_if true j = refl
-some_if false j = refl
-
-pub some_shown : (s : Shape) (r : Remark) → shows s r.rule ≡ has_values (shape_values s r)
-some_shown s r = some_if (shows s r.rule) (shape_json s r)
+pub shown_errors : (rs : List Remark) → map (shape_json shape.TflintError) (entries rs) ≡ map error_json rs
+shown_errors rs = said_again error_json rs

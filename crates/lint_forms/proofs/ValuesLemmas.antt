@@ -22,7 +22,7 @@ values-append true [] ks = refl
 values-append false (j ∷ js) ks = ap (λ l. print (json_tokens j) ++ l) (values-append true js ks) ∙ sym (append_assoc (print (json_tokens j)) (array_text true js) (array_text true ks))
 values-append true (j ∷ js) ks = ap (λ l. 44 ∷ (print (json_tokens j) ++ l)) (values-append true js ks) ∙ ap (λ l. 44 ∷ l) (sym (append_assoc (print (json_tokens j)) (array_text true js) (array_text true ks)))
 
-has_values-append : (js ks : List Json) → has_values (js ++ ks) ≡ (has_values js || has_values ks)
+pub has_values-append : (js ks : List Json) → has_values (js ++ ks) ≡ (has_values js || has_values ks)
 has_values-append [] ks = refl
 has_values-append (j ∷ js) ks = refl
 
@@ -38,15 +38,20 @@ grown f b c t u v xs x before goes more =
     ∙ ap (λ l. t ++ l) (sym (values-append b (flat_map f xs) (f x)))
     ∙ ap (λ l. t ++ array_text b l) (sym (one_mapped f xs x))
 
-pub grown_at : {A : Type 0} (f : A → List Json) (b c : Bool) (t u v : List ℕ) (xs : List A) (n : ℕ) (x : A) → n < length xs
-    → u ≡ t ++ array_text b (flat_map f (take n xs)) → c ≡ (b || has_values (flat_map f (take n xs))) → v ≡ u ++ array_text c (f (get_or xs n x))
+pub grown_at : {A : Type 0} (f : A → List Json) (b c : Bool) (t u v : List ℕ) (xs : List A) (n : ℕ) (x : A) → n < length xs → x ≡ get_or xs n x
+    → u ≡ t ++ array_text b (flat_map f (take n xs)) → c ≡ (b || has_values (flat_map f (take n xs))) → v ≡ u ++ array_text c (f x)
     → v ≡ t ++ array_text b (flat_map f (take (n + 1) xs))
-grown_at f b c t u v xs n x within before goes more =
-    grown f b c t u v (take n xs) (get_or xs n x) before goes more ∙ ap (λ l. t ++ array_text b (flat_map f l)) (sym (take_more xs n x within))
+grown_at f b c t u v xs n x within is before goes more =
+    grown f b c t u v (take n xs) x before goes more
+    ∙ ap (λ l. t ++ array_text b (flat_map f l)) (sym (take_more xs n x within ∙ ap (λ y. take n xs ++ y ∷ []) (sym is)))
 
 pub or_nothing : (b : Bool) → b ≡ (b || false)
 or_nothing false = refl
 or_nothing true = refl
+
+pub or_true : (b : Bool) → true ≡ (b || true)
+or_true false = refl
+or_true true = refl
 
 or_assoc : (a b c : Bool) → ((a || b) || c) ≡ (a || (b || c))
 or_assoc false b c = refl

@@ -1,30 +1,32 @@
 -- What is proved of the forms of JSON: what a run over modules writes is read back. The numbers are those of the code.
-use Rattle.std.specs.Prelude.{◌≡◌, ℕ, ◌<◌, ◌^◌, All, List, Some}
+use Rattle.std.specs.Prelude.{◌≡◌, ◌++◌, ℕ, ◌<◌, ◌^◌, All, List, Some}
+use Rattle.std.specs.List.{flat_map}
 use Rattle.json.specs.Json.{Json as JsonValue, document}
-use Rattle.lint_forms.specs.Forms.{Said, remarks_of, whole}
+use Rattle.lint_forms.specs.Forms.{whole}
 use Rattle.lint_forms.specs.Gitlab.{gitlab_json}
+use Rattle.lint_forms.specs.Marks.{entries}
+use Rattle.lint_forms.specs.Remarks.{Remark}
 use Rattle.lint_forms.specs.Sarif.{sarif_json}
 use Rattle.lint_forms.specs.Tflint.{tflint_json}
 use Rattle.lint_forms.specs.declared.kind.Form.{Form}
 use Rattle.lint_forms.specs.declared.kind.Form.TheVariants.{Gitlab, Json, Sarif}
-use Rattle.lint_forms.specs.declared.remark.Remark.{Remark}
 
 pub record HasSmallNumbers (r : Remark) : Type 0 where
   pub line : r.line < 2 ^ 64
   pub column : r.column < 2 ^ 64
-  pub units : r.units < 2 ^ 64
 
--- WHAT IS WRITTEN in a form, in a run of a status, reads back by the rules of JSON as the document of all that was said
-abbrev pub ReadsBack : Form → (List ℕ → ℕ → List Remark → JsonValue) → Type 0
+-- WHAT IS WRITTEN in a form, in a run of a status, of the issues of modules and the refusals, reads back by the rules of JSON as
+-- the document of all of them
+abbrev pub ReadsBack : Form → (List ℕ → ℕ → List (List Remark) → List Remark → JsonValue) → Type 0
 ReadsBack form meant =
-    (version : List ℕ) (status : ℕ) (ms : List Said) → status < 2 ^ 64 → All HasSmallNumbers (remarks_of ms)
-    → document (whole form version status ms) ≡ Some (meant version status (remarks_of ms))
+    (version : List ℕ) (status : ℕ) (ms : List (List Remark)) (rs : List Remark) → status < 2 ^ 64 → All (All HasSmallNumbers) ms → All HasSmallNumbers rs
+    → document (whole form version status ms rs) ≡ Some (meant version status ms rs)
 
 abbrev pub TflintReadsBack : Type 0
-TflintReadsBack = ReadsBack Json (λ version status rs. tflint_json rs)
+TflintReadsBack = ReadsBack Json (λ version status ms rs. tflint_json (flat_map (λ issues. issues) ms) rs)
 
 abbrev pub SarifReadsBack : Type 0
-SarifReadsBack = ReadsBack Sarif sarif_json
+SarifReadsBack = ReadsBack Sarif (λ version status ms rs. sarif_json version status (flat_map entries ms ++ entries rs))
 
 abbrev pub GitlabReadsBack : Type 0
-GitlabReadsBack = ReadsBack Gitlab (λ version status rs. gitlab_json rs)
+GitlabReadsBack = ReadsBack Gitlab (λ version status ms rs. gitlab_json (flat_map entries ms ++ entries rs))

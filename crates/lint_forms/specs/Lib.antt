@@ -1,13 +1,14 @@
+pub mod Remarks
 pub mod Words
 pub mod Values
 pub mod RuleTexts
+pub mod Marks
+pub mod Places
 pub mod Tflint
 pub mod Sarif
 pub mod Gitlab
 pub mod Lines
 pub mod Xml
-pub mod Marks
-pub mod Places
 pub mod Forms
 pub mod Laws
 pub mod Inner

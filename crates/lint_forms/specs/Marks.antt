@@ -1,14 +1,35 @@
 -- What issues and refusals are recognised by when lines move: the rule, the file and what is said, and a number among those
 -- that have all of these alike. Our own choice.
-use Rattle.std.specs.Prelude.{ℕ, ◌++◌, List, [], ◌∷◌, Option, codes, decimal}
+use Rattle.std.specs.Prelude.{ℕ, ◌+◌, ◌++◌, List, [], ◌∷◌, codes, count_by, decimal}
+use Rattle.std.specs.Str.{bytes_eq}
 use Rattle.hex.specs.Hex.{encode_lower}
-use Rattle.rule_set.specs.declared.rule.Rule.{Rule}
 use Rattle.sha2.specs.Sha256.{sha256}
+use Rattle.lint_forms.specs.Remarks.{Remark}
 use Rattle.lint_forms.specs.Words.{rule_id}
 
-abbrev pub mark_key : Option Rule → List ℕ → List ℕ → List ℕ
-mark_key rule place text = rule_id rule ++ (0 ∷ []) ++ place ++ (0 ∷ []) ++ text
+abbrev pub mark_key : Remark → List ℕ
+mark_key r = rule_id r.rule ++ (0 ∷ []) ++ r.file ++ (0 ∷ []) ++ r.text
 
--- THE MARK
-abbrev pub mark : Option Rule → List ℕ → List ℕ → ℕ → List ℕ
-mark rule place text number = encode_lower (sha256 (mark_key rule place text)) ++ (codes ":" ++ decimal number)
+abbrev pub digits : Remark → List ℕ
+digits r = encode_lower (sha256 (mark_key r))
+
+-- THE MARK of one of these digits and this number
+abbrev pub mark : List ℕ → ℕ → List ℕ
+mark digits number = digits ++ (codes ":" ++ decimal number)
+
+-- a remark, and what it is recognised by
+pub record Entry : Type 0 where
+  pub said : Remark
+  pub mark : List ℕ
+
+-- one that stands after others
+abbrev pub entry_after : List Remark → Remark → Entry
+entry_after before r = record { said = r; mark = mark (digits r) (count_by (λ q. bytes_eq (digits r) (digits q)) before + 1) }
+
+abbrev pub entries_after : List Remark → List Remark → List Entry
+entries_after before [] = []
+entries_after before (r ∷ rs) = entry_after before r ∷ entries_after (before ++ r ∷ []) rs
+
+-- THE REMARKS of a module, each with its mark
+abbrev pub entries : List Remark → List Entry
+entries rs = entries_after [] rs

@@ -20,4 +20,4 @@ scheme (b ∷ bs) = if b == 47 then codes "file://" else []
 
 -- THE URI of a name: a path from the root is one of a file, and any other is a relative reference
 abbrev pub uri : List ℕ → List ℕ
-uri place = scheme place ++ flat_map uri_byte place
+uri name = scheme name ++ flat_map uri_byte name

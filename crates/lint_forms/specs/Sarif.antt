@@ -1,15 +1,17 @@
--- SARIF 2.1.0. A file that is refused is a result with a rule of its own, after those of the linter. Columns are counted in
--- UTF-16 code units.
+-- SARIF 2.1.0. A file that is refused is a result with a rule of its own, after those of the linter. No column is told: SARIF
+-- counts UTF-16 code units, and the linter what a reader takes for characters.
 use Rattle.std.specs.Prelude.{ℕ, ◌==◌, ◌++◌, ◌∷◌, [], not, List, Option, Some, None, codes, decimal, map}
 use Rattle.json.specs.Json.{Json, array, boolean, item, member, no_items, no_members, number, object, string}
 use Rattle.json.specs.Token.{Token, begin_array, begin_object, end_array, end_object, key}
 use Rattle.json.specs.Tree.{json_tokens}
 use Rattle.rule_set.specs.Rules.{all_rules, rank, rule_name}
 use Rattle.rule_set.specs.declared.rule.Rule.{Rule}
+use Rattle.lint_forms.specs.Marks.{Entry}
+use Rattle.lint_forms.specs.Places.{uri}
+use Rattle.lint_forms.specs.Remarks.{Remark}
 use Rattle.lint_forms.specs.RuleTexts.{reason, reports}
 use Rattle.lint_forms.specs.Values.{json_items}
 use Rattle.lint_forms.specs.Words.{level_word, rule_id}
-use Rattle.lint_forms.specs.declared.remark.Remark.{Remark}
 
 abbrev pub text_json : List ℕ → Json
 text_json text = object (member (codes "text") (string text) no_members)
@@ -51,32 +53,32 @@ rule_index None = 10
 rule_index (Some rule) = rank rule
 
 abbrev pub region_json : Remark → Json
-region_json r = object (member (codes "startLine") (number (decimal r.line)) (member (codes "startColumn") (number (decimal r.units)) no_members))
+region_json r = object (member (codes "startLine") (number (decimal r.line)) no_members)
 
-abbrev pub location_json : Remark → Json
-location_json r =
-    object (member (codes "physicalLocation") (object (member (codes "artifactLocation") (object (member (codes "uri") (string r.uri.now) no_members))
+abbrev pub location_json : List ℕ → Remark → Json
+location_json uri r =
+    object (member (codes "physicalLocation") (object (member (codes "artifactLocation") (object (member (codes "uri") (string uri) no_members))
     (member (codes "region") (region_json r) no_members))) no_members)
 
-abbrev pub marks_json : Remark → Json
-marks_json r = object (member (codes "primaryLocationLineHash") (string r.mark.now) (member (codes "tfrulesIssue/v1") (string r.mark.now) no_members))
+abbrev pub marks_json : List ℕ → Json
+marks_json mark = object (member (codes "primaryLocationLineHash") (string mark) (member (codes "tfrulesIssue/v1") (string mark) no_members))
 
--- a result by a rule of this name, number and level
-abbrev pub result_by : List ℕ → ℕ → List ℕ → Remark → Json
-result_by name index level r =
+-- a result by a rule of this name, number and level, in the file of this URI
+abbrev pub result_by : List ℕ → ℕ → List ℕ → List ℕ → Entry → Json
+result_by name index level uri e =
     object (member (codes "ruleId") (string name) (member (codes "ruleIndex") (number (decimal index)) (member (codes "level") (string level)
-    (member (codes "message") (text_json r.text.now) (member (codes "locations") (array (item (location_json r) no_items))
-    (member (codes "partialFingerprints") (marks_json r) no_members))))))
+    (member (codes "message") (text_json e.said.text) (member (codes "locations") (array (item (location_json uri e.said) no_items))
+    (member (codes "partialFingerprints") (marks_json e.mark) no_members))))))
 
 -- A RESULT
-abbrev pub result_json : Remark → Json
-result_json r = result_by (rule_id r.rule) (rule_index r.rule) (level_word r.rule) r
+abbrev pub result_json : Entry → Json
+result_json e = result_by (rule_id e.said.rule) (rule_index e.said.rule) (level_word e.said.rule) (uri e.said.file) e
 
 -- ---- the document
 
 abbrev pub tool_json : List ℕ → Json
 tool_json version =
-    object (member (codes "driver") (object (member (codes "name") (string (codes "tfrules-all")) (member (codes "version") (string version)
+    object (member (codes "driver") (object (member (codes "name") (string (codes "tfrules")) (member (codes "version") (string version)
     (member (codes "rules") (array (json_items (map rule_json all_rules ++ refusal_json ∷ []))) no_members)))) no_members)
 
 -- how the run ended: where something failed, its status is 1
@@ -84,16 +86,16 @@ abbrev pub invocation_json : ℕ → Json
 invocation_json status =
     object (member (codes "executionSuccessful") (boolean (not (status == 1))) (member (codes "exitCode") (number (decimal status)) no_members))
 
-abbrev pub run_json : List ℕ → ℕ → List Remark → Json
-run_json version status rs =
-    object (member (codes "tool") (tool_json version) (member (codes "columnKind") (string (codes "utf16CodeUnits"))
-    (member (codes "results") (array (json_items (map result_json rs))) (member (codes "invocations") (array (item (invocation_json status) no_items)) no_members))))
+abbrev pub run_json : List ℕ → ℕ → List Entry → Json
+run_json version status es =
+    object (member (codes "tool") (tool_json version) (member (codes "results") (array (json_items (map result_json es)))
+    (member (codes "invocations") (array (item (invocation_json status) no_items)) no_members)))
 
 -- THE DOCUMENT of what is said of all modules, by the program of a version in a run of a status
-abbrev pub sarif_json : List ℕ → ℕ → List Remark → Json
-sarif_json version status rs =
+abbrev pub sarif_json : List ℕ → ℕ → List Entry → Json
+sarif_json version status es =
     object (member (codes "$schema") (string (codes "https://json.schemastore.org/sarif-2.1.0.json")) (member (codes "version") (string (codes "2.1.0"))
-    (member (codes "runs") (array (item (run_json version status rs) no_items)) no_members)))
+    (member (codes "runs") (array (item (run_json version status es) no_items)) no_members)))
 
 -- ---- its parts
 
@@ -102,7 +104,7 @@ abbrev pub sarif_head : List ℕ → List Token
 sarif_head version =
     begin_object ∷ key (codes "$schema") ∷ Token.string (codes "https://json.schemastore.org/sarif-2.1.0.json") ∷ key (codes "version") ∷ Token.string (codes "2.1.0")
     ∷ key (codes "runs") ∷ begin_array ∷ begin_object ∷ key (codes "tool") ∷ (json_tokens (tool_json version)
-    ++ key (codes "columnKind") ∷ Token.string (codes "utf16CodeUnits") ∷ key (codes "results") ∷ begin_array ∷ [])
+    ++ key (codes "results") ∷ begin_array ∷ [])
 
 -- and those after them
 abbrev pub sarif_foot : ℕ → List Token

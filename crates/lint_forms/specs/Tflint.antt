@@ -1,16 +1,16 @@
 -- The form of TFLint's own JSON: its issues, and as its errors why files are refused. What is said ends where it begins.
-use Rattle.std.specs.Prelude.{ℕ, not, List, codes, decimal, filter, map}
-use Rattle.json.specs.Json.{Json, array, item, member, no_items, no_members, number, object, string}
+use Rattle.std.specs.Prelude.{ℕ, List, codes, decimal, map}
+use Rattle.json.specs.Json.{Json, array, member, no_items, no_members, number, object, string}
+use Rattle.lint_forms.specs.Remarks.{Remark}
 use Rattle.lint_forms.specs.Values.{json_items}
-use Rattle.lint_forms.specs.Words.{is_issue, rule_id, severity_word}
-use Rattle.lint_forms.specs.declared.remark.Remark.{Remark}
+use Rattle.lint_forms.specs.Words.{rule_id, severity_word}
 
 abbrev pub place_json : ℕ → ℕ → Json
 place_json line column = object (member (codes "line") (number (decimal line)) (member (codes "column") (number (decimal column)) no_members))
 
 abbrev pub range_json : Remark → Json
 range_json r =
-    object (member (codes "filename") (string r.file.now) (member (codes "start") (place_json r.line r.column) (member (codes "end") (place_json r.line r.column) no_members)))
+    object (member (codes "filename") (string r.file) (member (codes "start") (place_json r.line r.column) (member (codes "end") (place_json r.line r.column) no_members)))
 
 -- a rule of this name and severity
 abbrev pub rule_json : List ℕ → List ℕ → Json
@@ -19,7 +19,7 @@ rule_json name severity = object (member (codes "name") (string name) (member (c
 -- an issue by a rule of this name and severity
 abbrev pub issue_by : List ℕ → List ℕ → Remark → Json
 issue_by name severity r =
-    object (member (codes "rule") (rule_json name severity) (member (codes "message") (string r.text.now)
+    object (member (codes "rule") (rule_json name severity) (member (codes "message") (string r.text)
     (member (codes "range") (range_json r) (member (codes "callers") (array no_items) no_members))))
 
 -- AN ISSUE
@@ -28,10 +28,9 @@ issue_json r = issue_by (rule_id r.rule) (severity_word r.rule) r
 
 -- WHY A FILE IS REFUSED
 abbrev pub error_json : Remark → Json
-error_json r = object (member (codes "message") (string r.text.now) (member (codes "severity") (string (codes "error")) (member (codes "range") (range_json r) no_members)))
+error_json r = object (member (codes "message") (string r.text) (member (codes "severity") (string (codes "error")) (member (codes "range") (range_json r) no_members)))
 
--- THE DOCUMENT of what is said of all modules
-abbrev pub tflint_json : List Remark → Json
-tflint_json rs =
-    object (member (codes "issues") (array (json_items (map issue_json (filter (λ r. is_issue r.rule) rs))))
-    (member (codes "errors") (array (json_items (map error_json (filter (λ r. not (is_issue r.rule)) rs)))) no_members))
+-- THE DOCUMENT of these issues and refusals
+abbrev pub tflint_json : List Remark → List Remark → Json
+tflint_json issues refusals =
+    object (member (codes "issues") (array (json_items (map issue_json issues))) (member (codes "errors") (array (json_items (map error_json refusals))) no_members))

@@ -1,9 +1,9 @@
 -- XML in the forms of Checkstyle and of JUnit.
-use Rattle.std.specs.Prelude.{ℕ, ◌++◌, ◌==◌, ◌||◌, not, List, [], ◌∷◌, Option, Some, None, chars, codes, decimal, encode_utf8, filter, flat_map, length, nat_lt, if◌then◌else◌}
-use Rattle.rule_set.specs.Rules.{severity, severity_text}
+use Rattle.std.specs.Prelude.{ℕ, Bool, true, false, ◌++◌, ◌==◌, ◌||◌, not, List, [], ◌∷◌, Option, Some, None, chars, codes, decimal, encode_utf8, filter, flat_map, length, nat_lt, if◌then◌else◌}
+use Rattle.rule_set.specs.Rules.{severity_text}
 use Rattle.rule_set.specs.declared.rule.Rule.{Rule}
+use Rattle.lint_forms.specs.Remarks.{Remark}
 use Rattle.lint_forms.specs.Words.{is_issue, rule_id, severity_of, severity_word}
-use Rattle.lint_forms.specs.declared.remark.Remark.{Remark}
 
 -- ---- texts
 
@@ -24,13 +24,13 @@ attribute_text text = flat_map attribute_char (chars text)
 
 abbrev pub file_head : Remark → List ℕ
 file_head r =
-    codes "<file name=\"" ++ (attribute_text r.file.now ++ (codes "\"><error line=\"" ++ (decimal r.line ++ (codes "\" column=\"" ++ decimal r.column))))
+    codes "<file name=\"" ++ (attribute_text r.file ++ (codes "\"><error line=\"" ++ (decimal r.line ++ (codes "\" column=\"" ++ decimal r.column))))
 
 abbrev pub file_middle : Remark → List ℕ
 file_middle r = codes "\" severity=\"" ++ (severity_word r.rule ++ codes "\" message=\"")
 
 abbrev pub file_tail : Remark → List ℕ
-file_tail r = attribute_text r.text.now ++ codes "\" source=\"" ++ rule_id r.rule ++ codes "\"/></file>\n"
+file_tail r = attribute_text r.text ++ codes "\" source=\"" ++ rule_id r.rule ++ codes "\"/></file>\n"
 
 -- THE ERROR, with its file
 abbrev pub checkstyle_file : Remark → List ℕ
@@ -45,34 +45,39 @@ outcome_word (Some rule) = codes "failure"
 
 -- `FILE:LINE:COLUMN`
 abbrev pub spot : Remark → List ℕ
-spot r = attribute_text r.file.now ++ (codes ":" ++ (decimal r.line ++ (codes ":" ++ decimal r.column)))
+spot r = attribute_text r.file ++ (codes ":" ++ (decimal r.line ++ (codes ":" ++ decimal r.column)))
 
 abbrev pub case_head : Remark → List ℕ
 case_head r = codes "<testcase classname=\"" ++ (rule_id r.rule ++ (codes "\" name=\"" ++ (spot r ++ (codes "\"><" ++ outcome_word r.rule))))
 
 abbrev pub case_tail : Remark → List ℕ
 case_tail r =
-    codes " type=\"" ++ (severity_text (severity_of r.rule) ++ (codes "\" message=\"" ++ (spot r ++ (codes ": " ++ (attribute_text r.text.now ++ codes "\"/></testcase>\n")))))
+    codes " type=\"" ++ (severity_text (severity_of r.rule) ++ (codes "\" message=\"" ++ (spot r ++ (codes ": " ++ (attribute_text r.text ++ codes "\"/></testcase>\n")))))
 
 -- THE TEST that failed
 abbrev pub junit_case : Remark → List ℕ
 junit_case r = case_head r ++ case_tail r
 
--- all of a module, and one that passed where none failed, since some forges reject a suite without tests
-abbrev pub junit_cases : List Remark → List ℕ
-junit_cases [] = codes "<testcase classname=\"tfrules\" name=\"no issue\"/>\n"
-junit_cases (r ∷ rs) = flat_map junit_case (r ∷ rs)
+abbrev pub suite_end : List ℕ
+suite_end = codes "</testsuite>\n"
 
-abbrev pub tests_of : List Remark → ℕ
-tests_of [] = 1
-tests_of (r ∷ rs) = length (r ∷ rs)
-
-abbrev pub suite_head : List ℕ → List Remark → List ℕ
-suite_head folder rs =
-    codes "<testsuite name=\"" ++ (attribute_text folder ++ (codes "\" tests=\"" ++ (decimal (tests_of rs)
+abbrev pub suite_head : List Remark → List ℕ
+suite_head rs =
+    codes "<testsuite name=\"tfrules\" tests=\"" ++ (decimal (length rs)
     ++ (codes "\" failures=\"" ++ (decimal (length (filter (λ r. is_issue r.rule) rs))
-    ++ (codes "\" errors=\"" ++ (decimal (length (filter (λ r. not (is_issue r.rule)) rs)) ++ codes "\">\n")))))))
+    ++ (codes "\" errors=\"" ++ (decimal (length (filter (λ r. not (is_issue r.rule)) rs)) ++ codes "\">\n")))))
 
--- THE SUITE of a module
-abbrev pub junit_suite : List ℕ → List Remark → List ℕ
-junit_suite folder rs = suite_head folder rs ++ (junit_cases rs ++ codes "</testsuite>\n")
+-- THE SUITE of remarks, where there is one
+abbrev pub junit_suite : List Remark → List ℕ
+junit_suite [] = []
+junit_suite (r ∷ rs) = suite_head (r ∷ rs) ++ (flat_map junit_case (r ∷ rs) ++ suite_end)
+
+-- one with a test that passed, where nothing is said of any file: some forges reject a report without tests
+abbrev pub passed_suite : List ℕ
+passed_suite = codes "<testsuite name=\"tfrules\" tests=\"1\" failures=\"0\" errors=\"0\">\n<testcase classname=\"tfrules\" name=\"no issue\"/>\n" ++ suite_end
+
+-- the last one, after others or as the first
+abbrev pub last_suite : Bool → List Remark → List ℕ
+last_suite true rs = junit_suite rs
+last_suite false [] = passed_suite
+last_suite false (r ∷ rs) = junit_suite (r ∷ rs)

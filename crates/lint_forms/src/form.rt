@@ -1,15 +1,18 @@
 //! The forms, and their parts.
 
-ghost use Rattle.std.specs.Prelude.{◌≡◌, IfOk};
+ghost use Rattle.std.specs.Prelude.{◌≡◌, ◌++◌, IfOk, map};
 ghost use Rattle.lint_forms.specs.Forms.{form_foot, form_head, module_text};
-ghost use Rattle.lint_forms.specs.Inner.Shapes.{shapes_text};
+ghost use Rattle.lint_forms.specs.Inner.Shapes.{shape_json};
+ghost use Rattle.lint_forms.specs.Marks.{entries};
+ghost use Rattle.lint_forms.specs.Remarks.{said_by};
+ghost use Rattle.lint_forms.specs.Values.{array_text};
 
 use crate::kind::Form;
 use crate::lines::module_lines;
 use crate::remark::Remark;
 use crate::shape::Shape;
-use crate::values::with_values;
-use crate::xml::{module_files, module_suite};
+use crate::values::with_remarks;
+use crate::xml::{last_suite, module_files, suite};
 use crate::{gitlab, sarif, tflint_frame};
 use std::alloc::{AllocError, Global};
 
@@ -48,46 +51,64 @@ fn values_of(
     is_after: bool,
     remarks: &[Remark<'_>],
 ) -> Result<Vec<u8>, AllocError>
-    ensures { IfOk result (λ l. l.items ≡ shapes_text shape is_after remarks.now) }
+    ensures { IfOk result (λ l. l.items
+        ≡ array_text is_after (map (shape_json shape) (entries (map said_by remarks.now)))) }
 {
-    with_values(shape, is_after, Vec::new(alloc), remarks)
+    with_remarks(alloc, shape, is_after, Vec::new(alloc), remarks)
 }
 
-/// What is said of a module, where something stands before it of other modules or nothing does.
+/// The issues of a module, where those of others stand before them or none do.
 pub fn module_text(
     alloc: Global,
     form: Form,
     is_after: bool,
-    folder: &str,
     remarks: &[Remark<'_>],
 ) -> Result<Vec<u8>, AllocError>
-    ensures { IfOk result (λ l. l.items ≡ module_text form is_after folder.now remarks.now) }
+    ensures { IfOk result (λ l. l.items
+        ≡ module_text form is_after (map said_by remarks.now)) }
 {
     match form {
         Form::Json => values_of(alloc, Shape::TflintIssue, is_after, remarks),
         Form::Sarif => values_of(alloc, Shape::SarifResult, is_after, remarks),
         Form::Checkstyle => module_files(alloc, remarks),
-        Form::Junit => module_suite(alloc, folder, remarks),
+        Form::Junit => suite(alloc, remarks),
         Form::Gitlab => values_of(alloc, Shape::GitlabEntry, is_after, remarks),
         Form::Github => module_lines(alloc, remarks),
     }
 }
 
-/// What stands after all modules, in a run of this status, where this was said of them.
+/// A text, and these bytes after it.
+fn closed(text: Vec<u8>, end: &str) -> Result<Vec<u8>, AllocError>
+    ensures { IfOk result (λ l. l.items ≡ text.items ++ end.now) }
+{
+    let mut longer = text;
+    longer.extend_from_slice(end.as_bytes())?;
+    Ok(longer)
+}
+
+/// What stands after all modules, in a run of this status: these refusals, where issues stand before them or none do, and the
+/// end.
 pub fn foot(
     alloc: Global,
     form: Form,
     status: u8,
-    remarks: &[Remark<'_>],
+    is_after: bool,
+    refusals: &[Remark<'_>],
 ) -> Result<Vec<u8>, AllocError>
-    ensures { IfOk result (λ text. text.items ≡ form_foot form status remarks.now) }
+    ensures { IfOk result (λ text. text.items
+        ≡ form_foot form status is_after (map said_by refusals.now)) }
 {
     match form {
-        Form::Json => tflint_frame::foot(alloc, remarks),
-        Form::Sarif => sarif::foot(alloc, status),
-        Form::Checkstyle => bytes_of(alloc, "</checkstyle>\n"),
-        Form::Junit => bytes_of(alloc, "</testsuites>\n"),
-        Form::Gitlab => gitlab::foot(alloc),
-        Form::Github => Ok(Vec::new(alloc)),
+        Form::Json => tflint_frame::foot(alloc, refusals),
+        Form::Sarif => sarif::with_foot(
+            values_of(alloc, Shape::SarifResult, is_after, refusals)?,
+            status,
+        ),
+        Form::Checkstyle => closed(module_files(alloc, refusals)?, "</checkstyle>\n"),
+        Form::Junit => closed(last_suite(alloc, is_after, refusals)?, "</testsuites>\n"),
+        Form::Gitlab => {
+            gitlab::with_foot(values_of(alloc, Shape::GitlabEntry, is_after, refusals)?)
+        }
+        Form::Github => module_lines(alloc, refusals),
     }
 }

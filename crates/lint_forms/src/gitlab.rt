@@ -4,40 +4,43 @@ ghost use Rattle.std.specs.Prelude.{◌≡◌, ◌++◌, ◌∷◌, [], IfOk};
 ghost use Rattle.json.specs.Print.{print};
 ghost use Rattle.json.specs.Token.{begin_array, end_array};
 ghost use Rattle.lint_forms.specs.Gitlab.{quality_json};
+ghost use Rattle.lint_forms.specs.Inner.Shapes.{entry_by};
 ghost use Rattle.lint_forms.specs.Values.{json_text};
 
+use crate::entry::Entry;
 use crate::part::JsonPart;
 use crate::parts::with_parts;
-use crate::remark::Remark;
 use crate::words::{quality_word, rule_id};
 use std::alloc::{AllocError, Global};
 
 /// A text, and an entry after it.
-pub(crate) fn with_entry(text: Vec<u8>, remark: Remark<'_>) -> Result<Vec<u8>, AllocError>
-    ensures { IfOk result (λ l. l.items ≡ text.items ++ json_text (quality_json remark.entry)) }
+pub(crate) fn with_entry(text: Vec<u8>, entry: &Entry<'_>) -> Result<Vec<u8>, AllocError>
+    ensures { IfOk result (λ l. l.items
+        ≡ text.items ++ json_text (quality_json (entry_by entry.now))) }
 {
-    let name = rule_id(remark.rule);
-    let severity = quality_word(remark.rule);
+    let name = rule_id(entry.said.rule);
+    let severity = quality_word(entry.said.rule);
+    let mark = entry.mark.as_str();
     with_parts(
         text,
         &[
             JsonPart::Object,
             JsonPart::Key("description"),
-            JsonPart::Text(remark.text),
+            JsonPart::Text(entry.said.text),
             JsonPart::Key("check_name"),
             JsonPart::Text(name),
             JsonPart::Key("fingerprint"),
-            JsonPart::Text(remark.mark),
+            JsonPart::Text(mark),
             JsonPart::Key("severity"),
             JsonPart::Text(severity),
             JsonPart::Key("location"),
             JsonPart::Object,
             JsonPart::Key("path"),
-            JsonPart::Text(remark.place),
+            JsonPart::Text(entry.said.file),
             JsonPart::Key("lines"),
             JsonPart::Object,
             JsonPart::Key("begin"),
-            JsonPart::Number(remark.line),
+            JsonPart::Number(entry.said.line),
             JsonPart::EndObject,
             JsonPart::EndObject,
             JsonPart::EndObject,
@@ -52,9 +55,9 @@ pub(crate) fn head(alloc: Global) -> Result<Vec<u8>, AllocError>
     with_parts(Vec::new(alloc), &[JsonPart::Array])
 }
 
-/// What stands after them.
-pub(crate) fn foot(alloc: Global) -> Result<Vec<u8>, AllocError>
-    ensures { IfOk result (λ text. text.items ≡ print (end_array ∷ [])) }
+/// A text, and after it what stands after them.
+pub(crate) fn with_foot(text: Vec<u8>) -> Result<Vec<u8>, AllocError>
+    ensures { IfOk result (λ l. l.items ≡ text.items ++ print (end_array ∷ [])) }
 {
-    with_parts(Vec::new(alloc), &[JsonPart::EndArray])
+    with_parts(text, &[JsonPart::EndArray])
 }

@@ -3,15 +3,15 @@
 //! The module [`laws`] holds what is proved of the definitions alone.
 #![tactic(auto)]
 
+mod entry;
 pub mod form;
 mod gitlab;
 mod kind;
 pub mod laws;
 mod lines;
-pub mod marks;
 mod part;
 mod parts;
-pub mod places;
+mod places;
 mod remark;
 pub mod rule_texts;
 mod sarif;

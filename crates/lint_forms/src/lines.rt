@@ -1,6 +1,7 @@
 //! Commands for the log of a GitHub workflow.
 
-ghost use Rattle.std.specs.Prelude.{◌≡◌, ◌++◌, IfOk, OnOk, chars, flat_map, string_bytes};
+ghost use Rattle.std.specs.Prelude.{◌≡◌, ◌++◌, IfOk, OnOk, chars, flat_map, map, string_bytes};
+ghost use Rattle.lint_forms.specs.Remarks.{said_by};
 ghost use Rattle.lint_forms.specs.Lines.{command_word, github_line, line_head, line_tail, message_char, property_char};
 
 use crate::remark::Remark;
@@ -70,16 +71,16 @@ fn property(alloc: Global, text: &str) -> Result<String, AllocError>
 
 /// The line for a remark up to the column.
 fn line_head(alloc: Global, remark: Remark<'_>) -> Result<String, AllocError>
-    ensures { IfOk result (λ s. string_bytes s ≡ line_head remark.entry) }
+    ensures { IfOk result (λ s. string_bytes s ≡ line_head (said_by remark.entry)) }
 {
     let word = command_word(remark.rule);
-    let file = property(alloc, remark.place)?;
+    let file = property(alloc, remark.file)?;
     format!(in alloc; "::{} file={},line={}", word, file.as_str(), remark.line)
 }
 
 /// The rest of it.
 fn line_tail(alloc: Global, remark: Remark<'_>) -> Result<String, AllocError>
-    ensures { IfOk result (λ s. string_bytes s ≡ line_tail remark.entry) }
+    ensures { IfOk result (λ s. string_bytes s ≡ line_tail (said_by remark.entry)) }
 {
     let name = rule_id(remark.rule);
     let text = message(alloc, remark.text)?;
@@ -93,7 +94,7 @@ fn line_tail(alloc: Global, remark: Remark<'_>) -> Result<String, AllocError>
 
 /// The line for a remark.
 fn github_line(alloc: Global, remark: Remark<'_>) -> Result<String, AllocError>
-    ensures { IfOk result (λ s. string_bytes s ≡ github_line remark.entry) }
+    ensures { IfOk result (λ s. string_bytes s ≡ github_line (said_by remark.entry)) }
 {
     let mut line = line_head(alloc, remark)?;
     let tail = line_tail(alloc, remark)?;
@@ -102,7 +103,7 @@ fn github_line(alloc: Global, remark: Remark<'_>) -> Result<String, AllocError>
 }
 
 fn push_line(alloc: Global, remark: Remark<'_>, text: &mut Vec<u8>) -> Result<(), AllocError>
-    ensures { OnOk result (text.new.items ≡ text.old.items ++ github_line remark.entry) }
+    ensures { OnOk result (text.new.items ≡ text.old.items ++ github_line (said_by remark.entry)) }
 {
     let line = github_line(alloc, remark)?;
     text.extend_from_slice(line.as_bytes())
@@ -110,7 +111,7 @@ fn push_line(alloc: Global, remark: Remark<'_>, text: &mut Vec<u8>) -> Result<()
 
 /// The lines for these remarks.
 pub(crate) fn module_lines(alloc: Global, remarks: &[Remark<'_>]) -> Result<Vec<u8>, AllocError>
-    ensures { IfOk result (λ text. text.items ≡ flat_map github_line remarks.now) }
+    ensures { IfOk result (λ text. text.items ≡ flat_map github_line (map said_by remarks.now)) }
 {
     let mut text = Vec::new(alloc);
     for remark in remarks {

@@ -1,4 +1,4 @@
-//! The names of files as forges want them.
+//! The names of files as URIs.
 
 ghost use Rattle.std.specs.Prelude.{◌≡◌, ◌++◌, ◌<◌, IfOk, OnOk, flat_map, string_bytes};
 ghost use Rattle.lint_forms.specs.Places.{escape_byte, hex, is_kept, scheme, uri, uri_byte};
@@ -56,20 +56,20 @@ fn push_uri_bytes(bytes: &[u8], text: &mut String) -> Result<(), AllocError>
 }
 
 /// What stands before a path from the root.
-fn scheme(place: &str) -> &'static str
-    ensures { result.now ≡ scheme place.now }
+fn scheme(name: &str) -> &'static str
+    ensures { result.now ≡ scheme name.now }
 {
-    if place.as_bytes().first() == Some(&b'/') {
+    if name.as_bytes().first() == Some(&b'/') {
         return "file://";
     }
     ""
 }
 
 /// A name as a URI: a path from the root is one of a file, and any other is a relative reference.
-pub fn uri_of(alloc: Global, place: &str) -> Result<String, AllocError>
-    ensures { IfOk result (λ s. string_bytes s ≡ uri place.now) }
+pub(crate) fn uri_of(alloc: Global, name: &str) -> Result<String, AllocError>
+    ensures { IfOk result (λ s. string_bytes s ≡ uri name.now) }
 {
-    let mut escaped = String::from_str(alloc, scheme(place))?;
-    push_uri_bytes(place.as_bytes(), &mut escaped)?;
+    let mut escaped = String::from_str(alloc, scheme(name))?;
+    push_uri_bytes(name.as_bytes(), &mut escaped)?;
     Ok(escaped)
 }

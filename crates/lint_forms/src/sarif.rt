@@ -5,12 +5,17 @@ ghost use Rattle.std.specs.String.{string_bytes};
 ghost use Rattle.json.specs.Print.{print};
 ghost use Rattle.json.specs.Tree.{json_tokens};
 ghost use Rattle.lint_forms.specs.Inner.AddsTokens.{AddsTokens};
+ghost use Rattle.lint_forms.specs.Inner.Shapes.{entry_by};
 ghost use Rattle.lint_forms.specs.Inner.SarifParts.{results_head, rules_tokens, sarif_start};
-ghost use Rattle.lint_forms.specs.Sarif.{described, full_text, page_of, refusal_json, result_json, rule_index, rule_json, sarif_foot, sarif_head};
+ghost use Rattle.lint_forms.specs.Remarks.{said_by};
+ghost use Rattle.lint_forms.specs.Sarif.{described, full_text, page_of, refusal_json, result_by, result_json, rule_index, rule_json, sarif_foot, sarif_head};
 ghost use Rattle.lint_forms.specs.Values.{json_text};
+ghost use Rattle.lint_forms.specs.Words.{level_word, rule_id};
 
+use crate::entry::Entry;
 use crate::part::JsonPart;
 use crate::parts::{with_parts, write_parts};
+use crate::places::uri_of;
 use crate::remark::Remark;
 use crate::rule_texts::{reason, reports};
 use crate::words::{level_word, rule_id};
@@ -28,13 +33,21 @@ fn rule_index(rule: Option<Rule>) -> u32
     }
 }
 
-/// A text, and a result after it.
-pub(crate) fn with_result(text: Vec<u8>, remark: Remark<'_>) -> Result<Vec<u8>, AllocError>
-    ensures { IfOk result (λ l. l.items ≡ text.items ++ json_text (result_json remark.entry)) }
+/// A text, and after it a result with this mark, in the file of this URI.
+fn with_marked<'a>(
+    text: Vec<u8>,
+    said: Remark<'a>,
+    mark: &'a str,
+    uri: &'a str,
+) -> Result<Vec<u8>, AllocError>
+    ensures { IfOk result (λ l. l.items ≡ text.items ++ json_text
+        (result_by (rule_id said.entry.rule) (rule_index said.entry.rule)
+        (level_word said.entry.rule) uri.now
+        (record { said = said_by said.entry; mark = mark.now }))) }
 {
-    let name = rule_id(remark.rule);
-    let index = rule_index(remark.rule);
-    let level = level_word(remark.rule);
+    let name = rule_id(said.rule);
+    let index = rule_index(said.rule);
+    let level = level_word(said.rule);
     with_parts(
         text,
         &[
@@ -48,7 +61,7 @@ pub(crate) fn with_result(text: Vec<u8>, remark: Remark<'_>) -> Result<Vec<u8>, 
             JsonPart::Key("message"),
             JsonPart::Object,
             JsonPart::Key("text"),
-            JsonPart::Text(remark.text),
+            JsonPart::Text(said.text),
             JsonPart::EndObject,
             JsonPart::Key("locations"),
             JsonPart::Array,
@@ -58,14 +71,12 @@ pub(crate) fn with_result(text: Vec<u8>, remark: Remark<'_>) -> Result<Vec<u8>, 
             JsonPart::Key("artifactLocation"),
             JsonPart::Object,
             JsonPart::Key("uri"),
-            JsonPart::Text(remark.uri),
+            JsonPart::Text(uri),
             JsonPart::EndObject,
             JsonPart::Key("region"),
             JsonPart::Object,
             JsonPart::Key("startLine"),
-            JsonPart::Number(remark.line),
-            JsonPart::Key("startColumn"),
-            JsonPart::Number(remark.units),
+            JsonPart::Number(said.line),
             JsonPart::EndObject,
             JsonPart::EndObject,
             JsonPart::EndObject,
@@ -73,13 +84,26 @@ pub(crate) fn with_result(text: Vec<u8>, remark: Remark<'_>) -> Result<Vec<u8>, 
             JsonPart::Key("partialFingerprints"),
             JsonPart::Object,
             JsonPart::Key("primaryLocationLineHash"),
-            JsonPart::Text(remark.mark),
+            JsonPart::Text(mark),
             JsonPart::Key("tfrulesIssue/v1"),
-            JsonPart::Text(remark.mark),
+            JsonPart::Text(mark),
             JsonPart::EndObject,
             JsonPart::EndObject,
         ],
     )
+}
+
+/// A text, and a result after it.
+pub(crate) fn with_result(
+    alloc: Global,
+    text: Vec<u8>,
+    entry: &Entry<'_>,
+) -> Result<Vec<u8>, AllocError>
+    ensures { IfOk result (λ l. l.items
+        ≡ text.items ++ json_text (result_json (entry_by entry.now))) }
+{
+    let uri = uri_of(alloc, entry.said.file)?;
+    with_marked(text, entry.said, entry.mark.as_str(), uri.as_str())
 }
 
 /// What a rule reports, and why, in two sentences.
@@ -222,7 +246,7 @@ fn write_start(writer: &mut Writer, version: &str) -> Result<(), AllocError>
             JsonPart::Key("driver"),
             JsonPart::Object,
             JsonPart::Key("name"),
-            JsonPart::Text("tfrules-all"),
+            JsonPart::Text("tfrules"),
             JsonPart::Key("version"),
             JsonPart::Text(version),
             JsonPart::Key("rules"),
@@ -240,8 +264,6 @@ fn write_results_head(writer: &mut Writer) -> Result<(), AllocError>
             JsonPart::EndArray,
             JsonPart::EndObject,
             JsonPart::EndObject,
-            JsonPart::Key("columnKind"),
-            JsonPart::Text("utf16CodeUnits"),
             JsonPart::Key("results"),
             JsonPart::Array,
         ],
@@ -266,12 +288,12 @@ pub(crate) fn head(alloc: Global, version: &str) -> Result<Vec<u8>, AllocError>
     Ok(writer.into_inner())
 }
 
-/// What stands after them, in a run of this status.
-pub(crate) fn foot(alloc: Global, status: u8) -> Result<Vec<u8>, AllocError>
-    ensures { IfOk result (λ text. text.items ≡ print (sarif_foot status)) }
+/// A text, and after it what stands after the results, in a run of this status.
+pub(crate) fn with_foot(text: Vec<u8>, status: u8) -> Result<Vec<u8>, AllocError>
+    ensures { IfOk result (λ l. l.items ≡ text.items ++ print (sarif_foot status)) }
 {
     with_parts(
-        Vec::new(alloc),
+        text,
         &[
             JsonPart::EndArray,
             JsonPart::Key("invocations"),

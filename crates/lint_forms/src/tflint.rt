@@ -1,6 +1,7 @@
 //! The form of TFLint's own JSON.
 
 ghost use Rattle.std.specs.Prelude.{◌≡◌, ◌++◌, IfOk};
+ghost use Rattle.lint_forms.specs.Remarks.{said_by};
 ghost use Rattle.lint_forms.specs.Tflint.{error_json, issue_json};
 ghost use Rattle.lint_forms.specs.Values.{json_text};
 
@@ -12,7 +13,8 @@ use std::alloc::AllocError;
 
 /// A text, and an issue after it.
 pub(crate) fn with_issue(text: Vec<u8>, remark: Remark<'_>) -> Result<Vec<u8>, AllocError>
-    ensures { IfOk result (λ l. l.items ≡ text.items ++ json_text (issue_json remark.entry)) }
+    ensures { IfOk result (λ l. l.items
+        ≡ text.items ++ json_text (issue_json (said_by remark.entry))) }
 {
     let name = rule_id(remark.rule);
     let severity = severity_word(remark.rule);
@@ -60,7 +62,8 @@ pub(crate) fn with_issue(text: Vec<u8>, remark: Remark<'_>) -> Result<Vec<u8>, A
 
 /// A text, and after it why a file is refused.
 pub(crate) fn with_error(text: Vec<u8>, remark: Remark<'_>) -> Result<Vec<u8>, AllocError>
-    ensures { IfOk result (λ l. l.items ≡ text.items ++ json_text (error_json remark.entry)) }
+    ensures { IfOk result (λ l. l.items
+        ≡ text.items ++ json_text (error_json (said_by remark.entry))) }
 {
     with_parts(
         text,

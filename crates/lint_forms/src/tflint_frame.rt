@@ -1,13 +1,14 @@
 //! What stands around the issues in the form of TFLint's own JSON.
 
-ghost use Rattle.std.specs.Prelude.{◌≡◌, IfOk};
+ghost use Rattle.std.specs.Prelude.{◌≡◌, IfOk, map};
+ghost use Rattle.lint_forms.specs.Remarks.{said_by};
 ghost use Rattle.lint_forms.specs.Forms.{tflint_foot, tflint_head};
 
 use crate::part::JsonPart;
 use crate::parts::with_parts;
 use crate::remark::Remark;
 use crate::shape::Shape;
-use crate::values::with_values;
+use crate::values::with_remarks;
 use std::alloc::{AllocError, Global};
 
 /// What stands before the issues.
@@ -20,14 +21,14 @@ pub(crate) fn head(alloc: Global) -> Result<Vec<u8>, AllocError>
     )
 }
 
-/// What stands after them: the refusals among these remarks.
+/// What stands after them: these refusals.
 pub(crate) fn foot(alloc: Global, remarks: &[Remark<'_>]) -> Result<Vec<u8>, AllocError>
-    ensures { IfOk result (λ text. text.items ≡ tflint_foot remarks.now) }
+    ensures { IfOk result (λ text. text.items ≡ tflint_foot (map said_by remarks.now)) }
 {
     let start = with_parts(
         Vec::new(alloc),
         &[JsonPart::EndArray, JsonPart::Key("errors"), JsonPart::Array],
     )?;
-    let longer = with_values(Shape::TflintError, false, start, remarks)?;
+    let longer = with_remarks(alloc, Shape::TflintError, false, start, remarks)?;
     with_parts(longer, &[JsonPart::EndArray, JsonPart::EndObject])
 }

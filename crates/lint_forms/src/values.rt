@@ -1,38 +1,33 @@
-//! Remarks in an array of JSON, one after another.
+//! Entries in an array of JSON, one after another.
 
-ghost use Rattle.std.specs.Prelude.{◌≡◌, ◌++◌, ◌||◌, IfOk};
-ghost use Rattle.lint_forms.specs.Inner.Shapes.{remark_text, shape_text, shapes_text, shows};
-ghost use Rattle.lint_forms.specs.Values.{comma};
+ghost use Rattle.std.specs.Prelude.{◌≡◌, ◌++◌, IfOk, map};
+ghost use Rattle.lint_forms.specs.Inner.Shapes.{entry_text, shape_json, shape_text, shapes_text};
+ghost use Rattle.lint_forms.specs.Marks.{entries};
+ghost use Rattle.lint_forms.specs.Remarks.{said_by};
+ghost use Rattle.lint_forms.specs.Values.{array_text, comma};
 
+use crate::entry::{Entry, entries_of};
 use crate::gitlab::with_entry;
 use crate::remark::Remark;
 use crate::sarif::with_result;
 use crate::shape::Shape;
 use crate::tflint::{with_error, with_issue};
-use crate::words::is_issue;
-use rule_set::Rule;
-use std::alloc::AllocError;
+use std::alloc::{AllocError, Global};
 
-/// Whether a remark stands there in this shape.
-fn shows(shape: Shape, rule: Option<Rule>) -> bool
-    ensures { result ≡ shows shape rule }
+/// A text, and an entry after it.
+fn with_value(
+    alloc: Global,
+    shape: Shape,
+    text: Vec<u8>,
+    entry: &Entry<'_>,
+) -> Result<Vec<u8>, AllocError>
+    ensures { IfOk result (λ l. l.items ≡ text.items ++ entry_text shape entry.now) }
 {
     match shape {
-        Shape::TflintIssue => is_issue(rule),
-        Shape::TflintError => !is_issue(rule),
-        Shape::SarifResult | Shape::GitlabEntry => true,
-    }
-}
-
-/// A text, and a remark after it.
-fn with_value(shape: Shape, text: Vec<u8>, remark: Remark<'_>) -> Result<Vec<u8>, AllocError>
-    ensures { IfOk result (λ l. l.items ≡ text.items ++ remark_text shape remark.entry) }
-{
-    match shape {
-        Shape::TflintIssue => with_issue(text, remark),
-        Shape::TflintError => with_error(text, remark),
-        Shape::SarifResult => with_result(text, remark),
-        Shape::GitlabEntry => with_entry(text, remark),
+        Shape::TflintIssue => with_issue(text, entry.said),
+        Shape::TflintError => with_error(text, entry.said),
+        Shape::SarifResult => with_result(alloc, text, entry),
+        Shape::GitlabEntry => with_entry(text, entry),
     }
 }
 
@@ -46,42 +41,50 @@ fn with_comma(is_after: bool, mut text: Vec<u8>) -> Result<Vec<u8>, AllocError>
     Ok(text)
 }
 
-/// A text, and a remark after it if it stands there.
-fn with_shown(
+/// A text, and an entry after it, with a comma where it comes after another value.
+fn with_next(
+    alloc: Global,
     shape: Shape,
     is_after: bool,
     text: Vec<u8>,
-    remark: Remark<'_>,
+    entry: &Entry<'_>,
 ) -> Result<Vec<u8>, AllocError>
-    ensures { IfOk result (λ l. l.items ≡ text.items ++ shape_text shape is_after remark.entry) }
+    ensures { IfOk result (λ l. l.items ≡ text.items ++ shape_text shape is_after entry.now) }
 {
-    if !shows(shape, remark.rule) {
-        return Ok(text);
-    }
     let longer = with_comma(is_after, text)?;
-    with_value(shape, longer, remark)
+    with_value(alloc, shape, longer, entry)
 }
 
-fn either(one: bool, other: bool) -> bool
-    ensures { result ≡ (one || other) }
+/// A text, and these entries after it, with a comma before the first where it comes after another value.
+fn with_values(
+    alloc: Global,
+    shape: Shape,
+    is_after: bool,
+    text: Vec<u8>,
+    entries: &[Entry<'_>],
+) -> Result<Vec<u8>, AllocError>
+    ensures { IfOk result (λ l. l.items ≡ text.items ++ shapes_text shape is_after entries.now) }
 {
-    one || other
+    let mut longer = text;
+    let mut goes_on = is_after;
+    for entry in entries {
+        longer = with_next(alloc, shape, goes_on, longer, entry)?;
+        goes_on = true;
+    }
+    Ok(longer)
 }
 
-/// A text, and these remarks after it, with a comma before the first where it comes after another value.
-pub(crate) fn with_values(
+/// A text, and these remarks after it in this shape, with a comma before the first where it comes after another value.
+pub(crate) fn with_remarks(
+    alloc: Global,
     shape: Shape,
     is_after: bool,
     text: Vec<u8>,
     remarks: &[Remark<'_>],
 ) -> Result<Vec<u8>, AllocError>
-    ensures { IfOk result (λ l. l.items ≡ text.items ++ shapes_text shape is_after remarks.now) }
+    ensures { IfOk result (λ l. l.items ≡ text.items
+        ++ array_text is_after (map (shape_json shape) (entries (map said_by remarks.now)))) }
 {
-    let mut longer = text;
-    let mut goes_on = is_after;
-    for remark in remarks {
-        longer = with_shown(shape, goes_on, longer, *remark)?;
-        goes_on = either(goes_on, shows(shape, remark.rule));
-    }
-    Ok(longer)
+    let all = entries_of(alloc, remarks)?;
+    with_values(alloc, shape, is_after, text, all.as_slice())
 }

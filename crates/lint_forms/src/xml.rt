@@ -1,15 +1,19 @@
 //! XML in the forms of Checkstyle and of JUnit.
 
-ghost use Rattle.std.specs.Prelude.{◌≡◌, ◌++◌, not, IfOk, OnOk, chars, filter, flat_map, length, string_bytes};
+ghost use Rattle.std.specs.Prelude.{◌≡◌, ◌++◌, not, IfOk, OnOk, chars, filter, flat_map, length, map, string_bytes};
+ghost use Rattle.lint_forms.specs.Inner.XmlParts.{suite_start};
+ghost use Rattle.lint_forms.specs.Remarks.{said_by};
 ghost use Rattle.lint_forms.specs.Words.{is_issue};
-ghost use Rattle.lint_forms.specs.Xml.{attribute_char, attribute_text, case_head, case_tail, checkstyle_file, file_head, file_middle, file_tail, junit_case, junit_cases, junit_suite, kept_or_replaced, outcome_word, spot, suite_head, tests_of};
+ghost use Rattle.lint_forms.specs.Xml.{attribute_char, attribute_text, case_head, case_tail, checkstyle_file, file_head, file_middle, file_tail, junit_case, junit_suite, kept_or_replaced, last_suite, outcome_word, spot, suite_end, suite_head};
 
 use crate::remark::Remark;
 use crate::words::{is_issue, rule_id, severity_of, severity_word};
 use rule_set::Rule;
 use std::alloc::{AllocError, Global};
 
-static NO_ISSUE: &str = "<testcase classname=\"tfrules\" name=\"no issue\"/>\n";
+/// Some forges reject a report without tests.
+static PASSED_SUITE: &str =
+    "<testsuite name=\"tfrules\" tests=\"1\" failures=\"0\" errors=\"0\">\n<testcase classname=\"tfrules\" name=\"no issue\"/>\n</testsuite>\n";
 
 fn push_kept_or_replaced(c: char, text: &mut String) -> Result<(), AllocError>
     ensures { OnOk result (string_bytes text.new ≡ string_bytes text.old ++ kept_or_replaced c) }
@@ -60,7 +64,7 @@ fn attribute_text(alloc: Global, text: &str) -> Result<String, AllocError>
 
 /// An error in the form of Checkstyle, with its file, up to its place.
 fn file_head(alloc: Global, remark: Remark<'_>) -> Result<String, AllocError>
-    ensures { IfOk result (λ s. string_bytes s ≡ file_head remark.entry) }
+    ensures { IfOk result (λ s. string_bytes s ≡ file_head (said_by remark.entry)) }
 {
     let file = attribute_text(alloc, remark.file)?;
     format!(in alloc;
@@ -73,7 +77,7 @@ fn file_head(alloc: Global, remark: Remark<'_>) -> Result<String, AllocError>
 
 /// What comes before its message.
 fn file_middle(alloc: Global, remark: Remark<'_>) -> Result<String, AllocError>
-    ensures { IfOk result (λ s. string_bytes s ≡ file_middle remark.entry) }
+    ensures { IfOk result (λ s. string_bytes s ≡ file_middle (said_by remark.entry)) }
 {
     let severity = severity_word(remark.rule);
     format!(in alloc; "\" severity=\"{}\" message=\"", severity)
@@ -81,7 +85,7 @@ fn file_middle(alloc: Global, remark: Remark<'_>) -> Result<String, AllocError>
 
 /// Its message, and the rest of it.
 fn file_tail(alloc: Global, remark: Remark<'_>) -> Result<String, AllocError>
-    ensures { IfOk result (λ s. string_bytes s ≡ file_tail remark.entry) }
+    ensures { IfOk result (λ s. string_bytes s ≡ file_tail (said_by remark.entry)) }
 {
     let mut text = attribute_text(alloc, remark.text)?;
     text.push_str("\" source=\"")?;
@@ -92,7 +96,7 @@ fn file_tail(alloc: Global, remark: Remark<'_>) -> Result<String, AllocError>
 
 /// An error in the form of Checkstyle, with its file.
 fn checkstyle_file(alloc: Global, remark: Remark<'_>) -> Result<String, AllocError>
-    ensures { IfOk result (λ s. string_bytes s ≡ checkstyle_file remark.entry) }
+    ensures { IfOk result (λ s. string_bytes s ≡ checkstyle_file (said_by remark.entry)) }
 {
     let mut text = file_head(alloc, remark)?;
     let middle = file_middle(alloc, remark)?;
@@ -103,7 +107,8 @@ fn checkstyle_file(alloc: Global, remark: Remark<'_>) -> Result<String, AllocErr
 }
 
 fn push_file(alloc: Global, remark: Remark<'_>, text: &mut Vec<u8>) -> Result<(), AllocError>
-    ensures { OnOk result (text.new.items ≡ text.old.items ++ checkstyle_file remark.entry) }
+    ensures { OnOk result (text.new.items
+        ≡ text.old.items ++ checkstyle_file (said_by remark.entry)) }
 {
     let file = checkstyle_file(alloc, remark)?;
     text.extend_from_slice(file.as_bytes())
@@ -111,7 +116,8 @@ fn push_file(alloc: Global, remark: Remark<'_>, text: &mut Vec<u8>) -> Result<()
 
 /// The errors of a module in the form of Checkstyle.
 pub(crate) fn module_files(alloc: Global, remarks: &[Remark<'_>]) -> Result<Vec<u8>, AllocError>
-    ensures { IfOk result (λ text. text.items ≡ flat_map checkstyle_file remarks.now) }
+    ensures { IfOk result (λ text. text.items
+        ≡ flat_map checkstyle_file (map said_by remarks.now)) }
 {
     let mut text = Vec::new(alloc);
     for remark in remarks {
@@ -132,7 +138,7 @@ fn outcome_word(rule: Option<Rule>) -> &'static str
 
 /// Where a remark stands.
 fn spot(alloc: Global, remark: Remark<'_>) -> Result<String, AllocError>
-    ensures { IfOk result (λ text. string_bytes text ≡ spot remark.entry) }
+    ensures { IfOk result (λ text. string_bytes text ≡ spot (said_by remark.entry)) }
 {
     let file = attribute_text(alloc, remark.file)?;
     format!(in alloc; "{}:{}:{}", file.as_str(), remark.line, remark.column)
@@ -140,7 +146,7 @@ fn spot(alloc: Global, remark: Remark<'_>) -> Result<String, AllocError>
 
 /// The test of a remark up to what became of it.
 fn case_head(alloc: Global, remark: Remark<'_>) -> Result<String, AllocError>
-    ensures { IfOk result (λ s. string_bytes s ≡ case_head remark.entry) }
+    ensures { IfOk result (λ s. string_bytes s ≡ case_head (said_by remark.entry)) }
 {
     let name = rule_id(remark.rule);
     let spot = spot(alloc, remark)?;
@@ -155,7 +161,7 @@ fn case_head(alloc: Global, remark: Remark<'_>) -> Result<String, AllocError>
 
 /// The rest of it.
 fn case_tail(alloc: Global, remark: Remark<'_>) -> Result<String, AllocError>
-    ensures { IfOk result (λ s. string_bytes s ≡ case_tail remark.entry) }
+    ensures { IfOk result (λ s. string_bytes s ≡ case_tail (said_by remark.entry)) }
 {
     let severity = severity_of(remark.rule).text();
     let spot = spot(alloc, remark)?;
@@ -170,7 +176,7 @@ fn case_tail(alloc: Global, remark: Remark<'_>) -> Result<String, AllocError>
 
 /// The test of a remark.
 fn junit_case(alloc: Global, remark: Remark<'_>) -> Result<String, AllocError>
-    ensures { IfOk result (λ s. string_bytes s ≡ junit_case remark.entry) }
+    ensures { IfOk result (λ s. string_bytes s ≡ junit_case (said_by remark.entry)) }
 {
     let mut text = case_head(alloc, remark)?;
     let tail = case_tail(alloc, remark)?;
@@ -179,7 +185,7 @@ fn junit_case(alloc: Global, remark: Remark<'_>) -> Result<String, AllocError>
 }
 
 fn push_case(alloc: Global, remark: Remark<'_>, text: &mut Vec<u8>) -> Result<(), AllocError>
-    ensures { OnOk result (text.new.items ≡ text.old.items ++ junit_case remark.entry) }
+    ensures { OnOk result (text.new.items ≡ text.old.items ++ junit_case (said_by remark.entry)) }
 {
     let case = junit_case(alloc, remark)?;
     text.extend_from_slice(case.as_bytes())
@@ -187,35 +193,14 @@ fn push_case(alloc: Global, remark: Remark<'_>, text: &mut Vec<u8>) -> Result<()
 
 /// The tests of some remarks.
 fn some_cases(alloc: Global, remarks: &[Remark<'_>]) -> Result<Vec<u8>, AllocError>
-    ensures { IfOk result (λ text. text.items ≡ flat_map junit_case remarks.now) }
+    ensures { IfOk result (λ text. text.items
+        ≡ flat_map (λ r. junit_case (said_by r)) remarks.now) }
 {
     let mut text = Vec::new(alloc);
     for remark in remarks {
         push_case(alloc, *remark, &mut text)?;
     }
     Ok(text)
-}
-
-/// The tests of a module.
-fn junit_cases(alloc: Global, remarks: &[Remark<'_>]) -> Result<Vec<u8>, AllocError>
-    ensures { IfOk result (λ text. text.items ≡ junit_cases remarks.now) }
-{
-    if remarks.is_empty() {
-        let mut text = Vec::new(alloc);
-        text.extend_from_slice(NO_ISSUE.as_bytes())?;
-        return Ok(text);
-    }
-    some_cases(alloc, remarks)
-}
-
-/// How many tests a module has.
-fn tests_of(remarks: &[Remark<'_>]) -> usize
-    ensures { result ≡ tests_of remarks.now }
-{
-    if remarks.is_empty() {
-        return 1;
-    }
-    remarks.len()
 }
 
 fn issues_of(remarks: &[Remark<'_>]) -> usize
@@ -236,36 +221,65 @@ fn refusals_of(remarks: &[Remark<'_>]) -> usize
         .count()
 }
 
-/// What stands before the tests of a module.
-fn suite_head(alloc: Global, folder: &str, remarks: &[Remark<'_>]) -> Result<String, AllocError>
-    ensures { IfOk result (λ text. string_bytes text ≡ suite_head folder.now remarks.now) }
+/// What stands before so many tests.
+fn suite_start(
+    alloc: Global,
+    tests: usize,
+    failures: usize,
+    errors: usize,
+) -> Result<String, AllocError>
+    ensures { IfOk result (λ text. string_bytes text ≡ suite_start tests failures errors) }
 {
-    let name = attribute_text(alloc, folder)?;
-    let tests = tests_of(remarks);
-    let failures = issues_of(remarks);
-    let errors = refusals_of(remarks);
     format!(in alloc;
-        "<testsuite name=\"{}\" tests=\"{}\" failures=\"{}\" errors=\"{}\">\n",
-        name.as_str(),
-        tests,
-        failures,
-        errors
+        "<testsuite name=\"tfrules\" tests=\"{}\" failures=\"{}\" errors=\"{}\">\n",
+        tests, failures, errors
     )
 }
 
-/// The suite of a module in the form of JUnit.
-pub(crate) fn module_suite(
-    alloc: Global,
-    folder: &str,
-    remarks: &[Remark<'_>],
-) -> Result<Vec<u8>, AllocError>
-    ensures { IfOk result (λ text. text.items ≡ junit_suite folder.now remarks.now) }
+/// What stands before the tests.
+fn suite_head(alloc: Global, remarks: &[Remark<'_>]) -> Result<String, AllocError>
+    ensures { IfOk result (λ text. string_bytes text ≡ suite_head (map said_by remarks.now)) }
 {
-    let head = suite_head(alloc, folder, remarks)?;
-    let cases = junit_cases(alloc, remarks)?;
+    let tests = remarks.len();
+    let failures = issues_of(remarks);
+    let errors = refusals_of(remarks);
+    suite_start(alloc, tests, failures, errors)
+}
+
+/// The suite of some remarks.
+fn some_suite(alloc: Global, remarks: &[Remark<'_>]) -> Result<Vec<u8>, AllocError>
+    ensures { IfOk result (λ text. text.items ≡ suite_head (map said_by remarks.now)
+        ++ (flat_map (λ r. junit_case (said_by r)) remarks.now ++ suite_end)) }
+{
+    let head = suite_head(alloc, remarks)?;
+    let cases = some_cases(alloc, remarks)?;
     let mut text = Vec::new(alloc);
     text.extend_from_slice(head.as_bytes())?;
     text.extend_from_slice(cases.as_slice())?;
     text.extend_from_slice(b"</testsuite>\n")?;
     Ok(text)
+}
+
+/// The suite of remarks in the form of JUnit, if there is one.
+pub(crate) fn suite(alloc: Global, remarks: &[Remark<'_>]) -> Result<Vec<u8>, AllocError>
+    ensures { IfOk result (λ text. text.items ≡ junit_suite (map said_by remarks.now)) }
+{
+    if remarks.is_empty() {
+        return Ok(Vec::new(alloc));
+    }
+    some_suite(alloc, remarks)
+}
+
+/// The last suite, after others or as the first.
+pub(crate) fn last_suite(
+    alloc: Global,
+    is_after: bool,
+    remarks: &[Remark<'_>],
+) -> Result<Vec<u8>, AllocError>
+    ensures { IfOk result (λ text. text.items ≡ last_suite is_after (map said_by remarks.now)) }
+{
+    if !is_after && remarks.is_empty() {
+        return Vec::from_slice(alloc, PASSED_SUITE.as_bytes());
+    }
+    suite(alloc, remarks)
 }

@@ -1,15 +1,16 @@
 //! Each form on the same modules, with ample memory, and on none.
 
 use crate::checks::holds;
-use crate::documents::{check, document};
+use crate::documents::{document, same_text};
 use crate::form_rows::{
-    CHECKSTYLE, GITHUB, GITLAB, JUNIT, MODULES, SARIF, SARIF_OF_NOTHING, TFLINT,
+    ALIKE, CHECKSTYLE, ENTRIES_OF_ALIKE, GITHUB, GITLAB, GITLAB_OF_REFUSALS, JUNIT,
+    JUNIT_OF_NOTHING, JUNIT_OF_REFUSALS, MODULES, NAMES, REFUSALS, RESULTS_OF_NAMES, SARIF,
+    SARIF_OF_NOTHING, TFLINT,
 };
 use lint_forms::Form;
-use lint_forms::marks::mark_of;
-use lint_forms::places::uri_of;
+use lint_forms::form::module_text;
 use lint_forms::rule_texts::{reason, reports};
-use rule_set::{ALL_RULES, Rule};
+use rule_set::ALL_RULES;
 
 #[test]
 fn all_is_in_each_form(rt: HostRuntime) {
@@ -22,7 +23,7 @@ fn all_is_in_each_form(rt: HostRuntime) {
         (Form::Gitlab, GITLAB),
         (Form::Github, GITHUB),
     ] {
-        check(&rt, alloc, form, 1, &MODULES, wanted);
+        same_text(&rt, document(alloc, form, 1, &MODULES, &REFUSALS), wanted);
     }
 }
 
@@ -36,14 +37,27 @@ fn forms_of_nothing(rt: HostRuntime) {
             Form::Checkstyle,
             "<?xml version=\"1.0\" encoding=\"UTF-8\"?>\n<checkstyle version=\"4.3\">\n</checkstyle>\n",
         ),
-        (
-            Form::Junit,
-            "<?xml version=\"1.0\" encoding=\"UTF-8\"?>\n<testsuites>\n</testsuites>\n",
-        ),
+        (Form::Junit, JUNIT_OF_NOTHING),
         (Form::Gitlab, "[]"),
         (Form::Github, ""),
     ] {
-        check(&rt, alloc, form, 0, &[], wanted);
+        same_text(&rt, document(alloc, form, 0, &[], &[]), wanted);
+        same_text(&rt, document(alloc, form, 0, &[&[], &[]], &[]), wanted);
+    }
+}
+
+#[test]
+fn refusals_alone(rt: HostRuntime) {
+    let alloc = rt.alloc();
+    for (form, wanted) in [
+        (Form::Gitlab, GITLAB_OF_REFUSALS),
+        (Form::Junit, JUNIT_OF_REFUSALS),
+    ] {
+        same_text(
+            &rt,
+            document(alloc, form, 1, &[&[], &[]], &REFUSALS),
+            wanted,
+        );
     }
 }
 
@@ -59,15 +73,12 @@ fn many_modules(rt: HostRuntime) {
             "",
         );
     }
-    for (form, one) in [
-        (Form::Github, GITHUB.len()),
-        (Form::Gitlab, GITLAB.len() - 1),
-    ] {
-        let length = match document(alloc, form, 1, many.as_slice()) {
+    for (form, wanted) in [(Form::Github, 247_154), (Form::Gitlab, 528_943)] {
+        let length = match document(alloc, form, 1, many.as_slice(), &REFUSALS) {
             Ok(text) => text.len(),
             Err(_) => 0,
         };
-        holds(&rt, length / one == 500, "each module is there", "");
+        holds(&rt, length == wanted, "each module is there", "");
     }
 }
 
@@ -81,42 +92,18 @@ fn each_rule_has_texts(rt: HostRuntime) {
 
 #[test]
 fn names_as_uris(rt: HostRuntime) {
-    for (place, wanted) in [
-        ("in/m.tf", "in/m.tf"),
-        ("/a b/\u{e9}#?~-_.tf", "file:///a%20b/%C3%A9%23%3F~-_.tf"),
-        ("a:1:1\n%.tf", "a%3A1%3A1%0A%25.tf"),
-        ("", ""),
-    ] {
-        let is_same = match uri_of(rt.alloc(), place) {
-            Ok(uri) => uri.as_str() == wanted,
-            Err(_) => false,
-        };
-        holds(&rt, is_same, "the URI", wanted);
-    }
+    same_text(
+        &rt,
+        module_text(rt.alloc(), Form::Sarif, false, &NAMES),
+        RESULTS_OF_NAMES,
+    );
 }
 
 #[test]
 fn marks(rt: HostRuntime) {
-    for (rule, place, text, number, wanted) in [
-        (
-            Some(Rule::TypedVariables),
-            "a/m.tf",
-            "variable \"n\" has no type",
-            1,
-            "967791a54801ac7294e3b144991ed36e2910d5a45a5fae51a68182c9abe587af:1",
-        ),
-        (
-            None,
-            "bad/b.tf",
-            "unexpected token",
-            12,
-            "1aeb35f3d6c8ee7479db2af964497d27200e267840a908afbdc926d45964a242:12",
-        ),
-    ] {
-        let is_same = match mark_of(rt.alloc(), rule, place, text, number) {
-            Ok(mark) => mark.as_str() == wanted,
-            Err(_) => false,
-        };
-        holds(&rt, is_same, "the mark", wanted);
-    }
+    same_text(
+        &rt,
+        module_text(rt.alloc(), Form::Gitlab, false, &ALIKE),
+        ENTRIES_OF_ALIKE,
+    );
 }

@@ -11,6 +11,8 @@ mod documents;
 #[cfg(test)]
 mod form_rows;
 #[cfg(test)]
+mod form_runs;
+#[cfg(test)]
 mod forms;
 #[cfg(test)]
 mod lists;

@@ -14,10 +14,10 @@ use tree_lint::module_tree::ModuleTree;
 const FAILING_CALLS: u64 = 40;
 
 /// Words of a line.
-type Words = &'static [&'static [u8]];
+pub(crate) type Words = &'static [&'static [u8]];
 
 /// Three modules, one of them refused, in folders with much that is no file of a module.
-static ENTRIES: &[Entry<'static>] = &[
+pub(crate) static ENTRIES: &[Entry<'static>] = &[
     Entry {
         name: b"",
         stands: Stands::Folder,
@@ -93,12 +93,12 @@ static ENTRIES: &[Entry<'static>] = &[
 ];
 
 /// What a run is given, and what it shows.
-struct Row {
-    words: Words,
-    input: &'static [u8],
-    out: &'static [u8],
-    err: &'static [u8],
-    status: u8,
+pub(crate) struct Row {
+    pub words: Words,
+    pub input: &'static [u8],
+    pub out: &'static [u8],
+    pub err: &'static [u8],
+    pub status: u8,
 }
 
 const A: &[u8] =
@@ -114,7 +114,7 @@ const ONE: &[u8] = b"1 issue in 1 of 1 module\n";
 
 const TWO: &[u8] = b"2 issues in 1 of 1 module\n";
 
-static ROWS: [Row; 28] = [
+static ROWS: [Row; 30] = [
     // A folder stands for itself and all below, a file for its folder alone.
     Row {
         words: &[b"tfrules-all", b"a"],
@@ -282,21 +282,21 @@ static ROWS: [Row; 28] = [
         words: &[b"tfrules-all", b"a", b"--bogus"],
         input: b"",
         out: b"",
-        err: b"tfrules-all: error: unknown option --bogus\nusage: tfrules-all [--rules LIST] [--naming NAMING]\n                   [--minimum-failure-severity SEVERITY] [--force]\n                   [--no-config] [--quiet] [--shard K/N] [--null] [--]\n                   [FILE|FOLDER]...\n       tfrules-all --list-rules\n       tfrules-all --explain RULE\n",
+        err: b"tfrules-all: error: unknown option --bogus\nusage: tfrules-all [--rules LIST] [--naming NAMING]\n                   [--minimum-failure-severity SEVERITY] [--force]\n                   [--no-config] [--format FORM] [--quiet] [--shard K/N]\n                   [--null] [--] [FILE|FOLDER]...\n       tfrules-all --list-rules\n       tfrules-all --explain RULE\n",
         status: 1,
     },
     Row {
         words: &[b"tfrules-all", b"--chdir=a"],
         input: b"",
         out: b"",
-        err: b"tfrules-all: error: unknown option --chdir=a; name the folder instead\nusage: tfrules-all [--rules LIST] [--naming NAMING]\n                   [--minimum-failure-severity SEVERITY] [--force]\n                   [--no-config] [--quiet] [--shard K/N] [--null] [--]\n                   [FILE|FOLDER]...\n       tfrules-all --list-rules\n       tfrules-all --explain RULE\n",
+        err: b"tfrules-all: error: unknown option --chdir=a; name the folder instead\nusage: tfrules-all [--rules LIST] [--naming NAMING]\n                   [--minimum-failure-severity SEVERITY] [--force]\n                   [--no-config] [--format FORM] [--quiet] [--shard K/N]\n                   [--null] [--] [FILE|FOLDER]...\n       tfrules-all --list-rules\n       tfrules-all --explain RULE\n",
         status: 1,
     },
     Row {
         words: &[b"tfrules-all", b"-force", b"a"],
         input: b"",
         out: b"",
-        err: b"tfrules-all: error: unknown option -force; write --force\nusage: tfrules-all [--rules LIST] [--naming NAMING]\n                   [--minimum-failure-severity SEVERITY] [--force]\n                   [--no-config] [--quiet] [--shard K/N] [--null] [--]\n                   [FILE|FOLDER]...\n       tfrules-all --list-rules\n       tfrules-all --explain RULE\n",
+        err: b"tfrules-all: error: unknown option -force; write --force\nusage: tfrules-all [--rules LIST] [--naming NAMING]\n                   [--minimum-failure-severity SEVERITY] [--force]\n                   [--no-config] [--format FORM] [--quiet] [--shard K/N]\n                   [--null] [--] [FILE|FOLDER]...\n       tfrules-all --list-rules\n       tfrules-all --explain RULE\n",
         status: 1,
     },
     Row {
@@ -305,6 +305,20 @@ static ROWS: [Row; 28] = [
         out: b"",
         err: b"tfrules-all: error: --shard takes K/N, with K from 1 to N, at most 99999\n",
         status: 1,
+    },
+    Row {
+        words: &[b"tfrules-all", b"--format", b"xml", b"a"],
+        input: b"",
+        out: b"",
+        err: b"tfrules-all: error: --format takes text, json, sarif, checkstyle, junit, gitlab or github\n",
+        status: 1,
+    },
+    Row {
+        words: &[b"tfrules-all", b"--format", b"text", b"a/main.tf"],
+        input: b"",
+        out: A,
+        err: ONE,
+        status: 2,
     },
     Row {
         words: &[b"tfrules-all", b"-0", b"a"],
@@ -337,8 +351,8 @@ static ROWS: [Row; 28] = [
 ];
 
 /// Runs the program by the words of a row over a tree, and compares what it shows.
-fn shows(rt: &impl Abort, alloc: Global, entries: &[Entry<'_>], row: &Row) {
-    let tree = MemoryTree::new(alloc, entries, STEADY).expect(rt, "memory");
+pub(crate) fn shows(rt: &impl Abort, alloc: Global, entries: &[Entry<'_>], row: &Row) {
+    let tree = MemoryTree::new_in(alloc, b"/r/w", entries, STEADY).expect(rt, "memory");
     let mut files = ModuleTree::new(tree, Hashing::shared());
     let mut input = MemorySource::new(row.input, 4096);
     let mut out = MemorySink::new(4096);

@@ -16,6 +16,7 @@ use tree_lint::counts::Counts;
 use tree_lint::module_tree::ModuleTree;
 use tree_lint::policy::{Governed, Policy};
 use tree_lint::run::{RunEnd, run_over};
+use tree_lint::written::Written;
 
 /// Two modules with issues, one that is refused and one without issues, which stands between them.
 static ENTRIES: &[Entry<'static>] = &[
@@ -78,6 +79,12 @@ static D_REPORT: &str =
 
 static BOTH_REPORTS: &str =
     "1 issue(s) found:\n\na/main.tf:1:1: Warning - variable \"x\" has no type (terraform_typed_variables)\n\n3 issue(s) found:\n\nd/a.tf:1:1: Warning - variable \"z\" is declared but not used (terraform_unused_declarations)\nd/b.tofu:1:1: Warning - variable \"w\" has no type (terraform_typed_variables)\nd/b.tofu:1:1: Warning - variable \"w\" is declared but not used (terraform_unused_declarations)\n";
+
+/// Reports as `tfrules` has them.
+const TEXT: Written<'static> = Written {
+    form: None,
+    head: b"",
+};
 
 /// What a run is given: the files of its modules, from which severity on an issue fails it, what fails, and after how many
 /// writes of standard output the next one fails.
@@ -164,7 +171,7 @@ fn run(alloc: Global, given: &Given, modules: &[Governed]) -> Result<Shown, Allo
     let mut files = ModuleTree::new(tree, Hashing::shared());
     let mut out = sink(given.write);
     let mut err = sink(None);
-    let end = run_over(alloc, modules, &mut files, &mut out, &mut err);
+    let end = run_over(alloc, TEXT, modules, &mut files, &mut out, &mut err);
     Ok(Shown { out, err, end })
 }
 

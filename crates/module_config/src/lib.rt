@@ -5,6 +5,7 @@ pub mod config_file;
 pub mod configure;
 mod first;
 pub mod governor;
+pub mod keep;
 mod policy;
 pub mod start;
 mod ups;

@@ -21,7 +21,7 @@ use crate::issue_list::IssueList;
 use crate::kept::{KeptComment, KeptDeclaration, TokenPlace};
 use crate::kept_file::{KeptFile, kept_file};
 use crate::order::in_order;
-use crate::owned_issues::owned_issues;
+use crate::owned::owned_issues;
 use crate::settings::Settings;
 use crate::silenced::{shown_entries, silenced_lines};
 use hcl_syntax::{Accepted, Outline, outline};

@@ -1,4 +1,5 @@
 mod FileLemmas
+pub mod KeptLemmas
 mod PartedLemmas
 mod ShownLemmas
 mod TreeRunLemmas

@@ -1,6 +1,6 @@
 -- What is shown of one module.
 use Rattle.std.proofs.Common.{◌≡◌, ◌∙◌, ◌<◌, ◌+◌, ◌++◌, ◌∷◌, [], ℕ, Bool, true, false, Global, List, Option, ap, append-nil, arith, drop, eqb-true, flat_map, get_or, inl, inr, length, map, refl, subst, sym}
-use Rattle.std.specs.Prelude.{◌==◌, ◌&&◌, Ok, Err, String, if◌then◌else◌, not, string_bytes}
+use Rattle.std.specs.Prelude.{◌==◌, ◌&&◌, None, Ok, Err, String, if◌then◌else◌, not, string_bytes}
 use Rattle.command_line.specs.Rows.{TookBy, Writer}
 use Rattle.command_line.proofs.WriterLemmas.{appends_nothing}
 use Rattle.command_line.proofs.ListCutLemmas.{from_here}
@@ -9,6 +9,9 @@ use Rattle.file_tree.specs.Files.{Faults, Files, Name}
 use Rattle.file_tree.specs.declared.fault.TreeFault.{TreeFault}
 use Rattle.file_tree.specs.Quotes.{quoted}
 use Rattle.file_tree.specs.declared.walk.Found.{Found}
+use Rattle.lint_forms.specs.Forms.{module_text}
+use Rattle.lint_forms.specs.declared.kind.Form.{Form}
+use Rattle.lint_forms.specs.declared.kind.Form.TheVariants.{Json, Sarif, Checkstyle, Junit, Gitlab, Github}
 use Rattle.module_find.specs.declared.module.Module.{Module}
 use Rattle.tf_rules.specs.Issues.{asked_of}
 use Rattle.tf_rules.specs.declared.issue.Issue.{Issue}
@@ -16,47 +19,55 @@ use Rattle.tfrules_command.specs.Report.{report}
 use Rattle.tfrules_command.specs.Line.{max_files}
 use Rattle.tree_lint.specs.Faults.{fault_lines, refusal_by}
 use Rattle.tree_lint.specs.Inner.Showing.{HasOrNoMemory, Shows, refused}
+use Rattle.tree_lint.specs.Kept.{KeepsAll}
 use Rattle.tree_lint.specs.Parted.{parted}
 use Rattle.tree_lint.specs.Refusals.{Refusal, refusal_line, refusal_of, told_fault}
-use Rattle.tree_lint.specs.Runs.{verdict_output, verdict_status}
+use Rattle.tree_lint.specs.Runs.{issues_output, verdict_output, verdict_status}
 use Rattle.tree_lint.specs.Verdicts.{CanBeRead, HaveIssues, IsVerdict, StopsAt, Verdict, names_in, no_memory, stop_refusal, told_in, too_many}
 use Rattle.tree_lint.specs.declared.counts.Ended.{Ended}
+use Rattle.tree_lint.specs.declared.kept.Kept.{Kept}
 use Rattle.tree_lint.specs.declared.policy.Policy.{Policy}
 use Rattle.tree_lint.specs.declared.run.Task.{Task}
 use Rattle.tree_lint.specs.declared.stop.Stop.{Stop}
+use Rattle.tree_lint.proofs.PartedLemmas.{none_reported}
 
-pub shows_as : (task : Task) (m : Module) (P Q : Verdict → Type 0) (out err : Writer) (ended : Ended) → ((v : Verdict) → P v → Q v) → Shows task m P out err ended → Shows task m Q out err ended
-shows_as task m P Q out err ended h s = record { verdict = s.verdict; holds = h s.verdict s.holds; output = s.output; message = s.message; exit = s.exit; issues = s.issues }
+pub shows_as : (task : Task) (m : Module) (P Q : Verdict → Type 0) (out err : Writer) (before after : Kept) (ended : Ended) → ((v : Verdict) → P v → Q v) → Shows task m P out err before after ended → Shows task m Q out err before after ended
+shows_as task m P Q out err before after ended h s = record { verdict = s.verdict; holds = h s.verdict s.holds; output = s.output; message = s.message; kept = s.kept; exit = s.exit; issues = s.issues }
 
 -- a writer that isn't called
 pub untouched : (f : Bool) (a : Option (List ℕ)) → f ≡ false → TookBy f a a []
 untouched false a e = appends_nothing a
 untouched true a e = absurd (cc)
 
-module _ (task : Task) (m : Module) (out err : Writer) (ended : Ended) where
-  refused_all : (refusals : List Refusal) (text : List ℕ) → out.failed ≡ false → out.after ≡ out.before → TookBy err.failed err.before err.after text → text ≡ flat_map refusal_line refusals → ended ≡ refused → Shows task m (λ v. v ≡ Err refusals) out err ended
-  refused_all refusals text good same took is e = record {
+module _ (task : Task) (m : Module) (out err : Writer) (before after : Kept) (ended : Ended) where
+  refused_all : (refusals : List Refusal) (text : List ℕ) → out.failed ≡ false → out.after ≡ out.before → TookBy err.failed err.before err.after text → text ≡ flat_map refusal_line refusals → KeepsAll before after refusals → ended ≡ refused
+      → Shows task m (λ v. v ≡ Err refusals) out err before after ended
+  refused_all refusals text good same took is keeps e = record {
     verdict = Err refusals;
     holds = refl;
     output = subst (λ a. TookBy out.failed out.before a []) (sym same) (untouched out.failed out.before good);
     message = subst (TookBy err.failed err.before err.after) is took;
+    kept = keeps;
     exit = ap (λ (x : Ended). x.status) e;
     issues = ap (λ (x : Ended). x.issues) e;
   }
 
-  pub refused_one : (r wanted : Refusal) → r ≡ wanted → out.failed ≡ false → out.after ≡ out.before → TookBy err.failed err.before err.after (refusal_line r) → ended ≡ refused → Shows task m (λ v. v ≡ Err (wanted ∷ [])) out err ended
-  refused_one r wanted e good same took is = refused_all (wanted ∷ []) (refusal_line r) good same took (ap refusal_line e ∙ sym (append-nil (refusal_line wanted))) is
+  pub refused_one : (r wanted : Refusal) → r ≡ wanted → out.failed ≡ false → out.after ≡ out.before → TookBy err.failed err.before err.after (refusal_line r) → KeepsAll before after (r ∷ []) → ended ≡ refused
+      → Shows task m (λ v. v ≡ Err (wanted ∷ [])) out err before after ended
+  refused_one r wanted e good same took keeps is =
+      refused_all (wanted ∷ []) (refusal_line r) good same took (ap refusal_line e ∙ sym (append-nil (refusal_line wanted))) (subst (λ q. KeepsAll before after (q ∷ [])) e keeps) is
 
-  pub refused_untold : out.failed ≡ false → out.after ≡ out.before → err.failed ≡ false → err.after ≡ err.before → ended ≡ refused → Shows task m (λ v. v ≡ Err []) out err ended
-  refused_untold good same fine still is = refused_all [] [] good same (subst (λ a. TookBy err.failed err.before a []) (sym still) (untouched err.failed err.before fine)) refl is
+  pub refused_untold : out.failed ≡ false → out.after ≡ out.before → err.failed ≡ false → err.after ≡ err.before → KeepsAll before after [] → ended ≡ refused → Shows task m (λ v. v ≡ Err []) out err before after ended
+  refused_untold good same fine still keeps is = refused_all [] [] good same (subst (λ a. TookBy err.failed err.before a []) (sym still) (untouched err.failed err.before fine)) refl keeps is
 
-  pub shown : (issues : List Issue) (text : List ℕ) → TookBy out.failed out.before out.after text → text ≡ verdict_output task.is_after m (Ok issues) → err.failed ≡ false → err.after ≡ err.before
-      → ended.status ≡ verdict_status task.policy (Ok issues) → ended.issues ≡ length issues → Shows task m (HasOrNoMemory m issues) out err ended
-  shown issues text took is good same exit count = record {
+  pub shown : (issues : List Issue) (text : List ℕ) → TookBy out.failed out.before out.after text → text ≡ verdict_output task.form task.is_after m (Ok issues) → err.failed ≡ false → err.after ≡ err.before → KeepsAll before after []
+      → ended.status ≡ verdict_status task.policy (Ok issues) → ended.issues ≡ length issues → Shows task m (HasOrNoMemory m issues) out err before after ended
+  shown issues text took is good same keeps exit count = record {
     verdict = Ok issues;
     holds = inl refl;
     output = subst (TookBy out.failed out.before out.after) is took;
     message = subst (λ a. TookBy err.failed err.before a []) (sym same) (untouched err.failed err.before good);
+    kept = keeps;
     exit = exit;
     issues = count;
   }
@@ -71,8 +82,22 @@ map_twice f h [] = refl
 map_twice f h (x ∷ xs) = ap (λ l. f (h x) ∷ l) (map_twice f h xs)
 
 pub names_as : (m : Module) (is_after : Bool) (issues : List Issue) (names : List (List ℕ)) (files : List (String Global)) → names ≡ map (λ name. quoted (string_bytes name)) files → files ≡ m.files.items
-    → parted is_after (report names issues) ≡ verdict_output is_after m (Ok issues)
+    → parted is_after (report names issues) ≡ issues_output None is_after m issues
 names_as m is_after issues names files e same = ap (λ l. parted is_after (report l issues)) (e ∙ map_twice quoted string_bytes files ∙ ap (λ l. map quoted (map string_bytes l)) same)
+
+-- in a form, nothing is written of no issue
+nothing_in_form : (form : Form) (is_after : Bool) → module_text form is_after [] ≡ []
+nothing_in_form Json is_after = refl
+nothing_in_form Sarif is_after = refl
+nothing_in_form Checkstyle is_after = refl
+nothing_in_form Junit is_after = refl
+nothing_in_form Gitlab is_after = refl
+nothing_in_form Github is_after = refl
+
+pub none_issued : (form : Option Form) (m : Module) (is_after : Bool) (issues : List Issue) (e : Bool) → e ≡ (length issues == 0) → e ≡ true → [] ≡ issues_output form is_after m issues
+none_issued Option.None m is_after issues e is f = sym (none_reported is_after (map quoted (names_in m)) issues e is f)
+none_issued (Option.Some form) m is_after [] e is f = sym (nothing_in_form form is_after)
+none_issued (Option.Some form) m is_after (i ∷ is) e same f = absurd (omega (arith, eqb-true (length (i ∷ is)) 0 (sym same ∙ f)))
 
 pub status_none : (policy : Policy) (issues : List Issue) (e : Bool) → e ≡ (length issues == 0) → e ≡ true → 0 ≡ verdict_status policy (Ok issues)
 status_none policy [] e is f = by policy.force

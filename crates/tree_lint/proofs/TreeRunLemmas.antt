@@ -3,6 +3,7 @@ use Rattle.std.proofs.Common.{◌≡◌, ◌∙◌, ◌++◌, ◌∷◌, ◌+◌
 use Rattle.std.specs.Prelude.{◌||◌, ◌==◌, ◌&&◌, Ok, Err, fold, if◌then◌else◌, nat_lt, not, sum_by}
 use Rattle.std.specs.List.{count_by, list_any}
 use Rattle.std.proofs.lemmas.Grind.{flat_map-append}
+use Rattle.std.proofs.lemmas.List.{map-append}
 use Rattle.std.proofs.lemmas.List.Sums.{count_by-le-length, sum_by-append}
 use Rattle.std.specs.Io.KnownBytes.{Appends}
 use Rattle.hcl_source.specs.declared.device.Flushes.{Flushes}
@@ -12,13 +13,19 @@ use Rattle.file_tree.specs.Files.{Faults, Files}
 use Rattle.tfrules_command.specs.Report.{weighs}
 use Rattle.tree_lint.specs.Inner.Growth.{HasRoom, counts_with, one_if}
 use Rattle.tree_lint.specs.Inner.Showing.{Shows}
+use Rattle.tree_lint.specs.Kept.{HoldsAll, KeepsAll, refusal_remark}
 use Rattle.tree_lint.specs.Numbers.{counts_of, has_issues, is_module, is_refused, issue_count}
-use Rattle.tree_lint.specs.Runs.{AreJudged, IsLintRun, reports_after, verdict_message, statuses, verdict_output, verdict_status, worse_status, worst_status}
+use Rattle.tree_lint.specs.Runs.{AreJudged, IsLintRun, refusals_of, reports_after, verdict_message, statuses, verdict_output, verdict_status, worse_status, worst_status}
+use Rattle.tree_lint.specs.Refusals.{Refusal}
 use Rattle.tree_lint.specs.Verdicts.{IsVerdict, Verdict}
+use Rattle.lint_forms.specs.declared.kind.Form.{Form}
 use Rattle.tree_lint.specs.declared.counts.Counts.{Counts}
 use Rattle.tree_lint.specs.declared.counts.Ended.{Ended}
 use Rattle.tree_lint.specs.declared.policy.Governed.{Governed}
+use Rattle.tree_lint.specs.declared.kept.Kept.{Kept}
 use Rattle.tree_lint.specs.declared.policy.Policy.{Policy}
+use Rattle.tree_lint.specs.declared.run.RunEnd.{RunEnd}
+use Rattle.tree_lint.proofs.ShownLemmas.{untouched}
 
 or_false : (a : Bool) → (a || false) ≡ a
 or_false true = refl
@@ -42,6 +49,13 @@ any_more (x ∷ vs) v = ap (λ b. has_issues x || b) (any_more vs v) ∙ sym (or
 
 messages_more : (vs : List Verdict) (v : Verdict) → flat_map verdict_message (vs ++ v ∷ []) ≡ flat_map verdict_message vs ++ verdict_message v
 messages_more vs v = flat_map-append verdict_message vs (v ∷ []) ∙ ap (λ t. flat_map verdict_message vs ++ t) (append-nil (verdict_message v))
+
+refusals_more : (vs : List Verdict) (v : Verdict) → flat_map refusals_of (vs ++ v ∷ []) ≡ flat_map refusals_of vs ++ refusals_of v
+refusals_more vs v = flat_map-append refusals_of vs (v ∷ []) ∙ ap (λ t. flat_map refusals_of vs ++ t) (append-nil (refusals_of v))
+
+pub held_more : (old new : Kept) (rs qs : List Refusal) → HoldsAll old rs → KeepsAll old new qs → HoldsAll new (rs ++ qs)
+held_more old new rs qs holds keeps whole =
+    (keeps whole).1 ∙ ap (λ l. l ++ map refusal_remark qs) (holds (keeps whole).0) ∙ sym (map-append refusal_remark rs qs)
 
 worst_from : (n : ℕ) (xs : List ℕ) (x : ℕ) → fold worse_status n (xs ++ x ∷ []) ≡ worse_status (fold worse_status n xs) x
 worst_from n [] x = refl
@@ -97,14 +111,14 @@ module _ (files : Files) where
   judged_more (x ∷ ms) [] m v was between is j h = absurd j
   judged_more (x ∷ ms) (w ∷ vs) m v was between is j h = (j.0, j.1, judged_more ms vs m v j.0 between is j.2 h)
 
-  reports_more : (a : Bool) (ms : List Governed) (vs : List Verdict) (m : Governed) (v : Verdict) (was is : Faults) → AreJudged files ms vs was is
-      → reports_after a (ms ++ m ∷ []) (vs ++ v ∷ []) ≡ reports_after a ms vs ++ verdict_output (a || list_any has_issues vs) m.module v
-  reports_more a [] [] m v was is j = append-nil (verdict_output a m.module v) ∙ ap (λ b. verdict_output b m.module v) (sym (or_false a))
-  reports_more a [] (w ∷ vs) m v was is j = absurd j
-  reports_more a (x ∷ ms) [] m v was is j = absurd j
-  reports_more a (x ∷ ms) (w ∷ vs) m v was is j =
-      ap (λ t. verdict_output a x.module w ++ t) (reports_more (a || has_issues w) ms vs m v j.0 is j.2 ∙ ap (λ b. reports_after (a || has_issues w) ms vs ++ verdict_output b m.module v) (or_assoc a (has_issues w) (list_any has_issues vs)))
-      ∙ sym (append_assoc (verdict_output a x.module w) (reports_after (a || has_issues w) ms vs) (verdict_output (a || (has_issues w || list_any has_issues vs)) m.module v))
+  reports_more : (f : Option Form) (a : Bool) (ms : List Governed) (vs : List Verdict) (m : Governed) (v : Verdict) (was is : Faults) → AreJudged files ms vs was is
+      → reports_after f a (ms ++ m ∷ []) (vs ++ v ∷ []) ≡ reports_after f a ms vs ++ verdict_output f (a || list_any has_issues vs) m.module v
+  reports_more f a [] [] m v was is j = append-nil (verdict_output f a m.module v) ∙ ap (λ b. verdict_output f b m.module v) (sym (or_false a))
+  reports_more f a [] (w ∷ vs) m v was is j = absurd j
+  reports_more f a (x ∷ ms) [] m v was is j = absurd j
+  reports_more f a (x ∷ ms) (w ∷ vs) m v was is j =
+      ap (λ t. verdict_output f a x.module w ++ t) (reports_more f (a || has_issues w) ms vs m v j.0 is j.2 ∙ ap (λ b. reports_after f (a || has_issues w) ms vs ++ verdict_output f b m.module v) (or_assoc a (has_issues w) (list_any has_issues vs)))
+      ∙ sym (append_assoc (verdict_output f a x.module w) (reports_after f (a || has_issues w) ms vs) (verdict_output f (a || (has_issues w || list_any has_issues vs)) m.module v))
 
   statuses_more : (ms : List Governed) (vs : List Verdict) (m : Governed) (v : Verdict) (was is : Faults) → AreJudged files ms vs was is → statuses (ms ++ m ∷ []) (vs ++ v ∷ []) ≡ statuses ms vs ++ verdict_status m.policy v ∷ []
   statuses_more [] [] m v was is j = refl
@@ -114,32 +128,35 @@ module _ (files : Files) where
 
   -- ---- the run so far: no writer failed
 
-  pub record SoFar (seen : List Governed) (was is : Faults) (out out' err err' : Option (List ℕ)) (is_after : Bool) (status : ℕ) (counts : Counts) : Type 0 where
+  pub record SoFar (form : Option Form) (head : List ℕ) (seen : List Governed) (was is : Faults) (out out' err err' : Option (List ℕ)) (is_after : Bool) (status : ℕ) (counts : Counts) (kept : Kept) : Type 0 where
     pub verdicts : List Verdict
     pub judged : AreJudged files seen verdicts was is
-    pub output : Appends out out' (reports_after false seen verdicts)
+    pub output : Appends out out' (head ++ reports_after form false seen verdicts)
     pub message : Appends err err' (flat_map verdict_message verdicts)
     pub after : is_after ≡ list_any has_issues verdicts
     pub exit : status ≡ worst_status (statuses seen verdicts)
     pub counted : counts ≡ counts_of seen verdicts
+    pub refusals : HoldsAll kept (flat_map refusals_of verdicts)
     pub small : counts.issues ≤ 18446744073709551615 * length seen
 
-  pub so_far_none : (was : Faults) (out err : Option (List ℕ)) (counts : Counts) → counts ≡ counts_of [] [] → SoFar [] was was out out err err false 0 counts
-  so_far_none was out err counts none = record {
+  pub so_far_none : (form : Option Form) (head : List ℕ) (was : Faults) (out out' err : Option (List ℕ)) (counts : Counts) (kept : Kept) → Appends out out' head → counts ≡ counts_of [] [] → HoldsAll kept []
+      → SoFar form head [] was was out out' err err false 0 counts kept
+  so_far_none form head was out out' err counts kept wrote none holds = record {
     verdicts = [];
     judged = refl;
-    output = appends_nothing out;
+    output = subst (Appends out out') (sym (append-nil head)) wrote;
     message = appends_nothing err;
     after = refl;
     exit = refl;
     counted = none;
+    refusals = holds;
     small = omega (arith, ap (λ (c : Counts). c.issues) none);
   }
 
   -- its numbers have room for one module more
-  pub has_room : (seen : List Governed) (was is : Faults) (out out' err err' : Option (List ℕ)) (is_after : Bool) (status : ℕ) (counts : Counts) → SoFar seen was is out out' err err' is_after status counts → length seen < 18446744073709551615
-      → HasRoom counts
-  has_room seen was is out out' err err' is_after status counts before lt = subst HasRoom (sym before.counted) (record {
+  pub has_room : (form : Option Form) (head : List ℕ) (seen : List Governed) (was is : Faults) (out out' err err' : Option (List ℕ)) (is_after : Bool) (status : ℕ) (counts : Counts) (kept : Kept) → SoFar form head seen was is out out' err err' is_after status counts kept
+      → length seen < 18446744073709551615 → HasRoom counts
+  has_room form head seen was is out out' err err' is_after status counts kept before lt = subst HasRoom (sym before.counted) (record {
     modules = omega (arith, count_by-le-length (λ (g : Governed). is_module g.module) seen, lt);
     refused = below is_refused;
     reported = below has_issues;
@@ -154,41 +171,46 @@ module _ (files : Files) where
 
   -- ---- one module more
 
-  module _ (seen : List Governed) (m : Governed) (was between is : Faults) (o e : Option (List ℕ)) (is_after : Bool) (s : ℕ) (counts : Counts) (out err : Writer) (ended : Ended)
-      (before : SoFar seen was between o out.before e err.before is_after s counts) (shown : Shows (record { policy = m.policy; is_after = is_after }) m.module (IsVerdict files m.policy m.module between is) out err ended) where
+  module _ (form : Option Form) (head : List ℕ) (seen : List Governed) (m : Governed) (was between is : Faults) (o e : Option (List ℕ)) (is_after : Bool) (s : ℕ) (counts : Counts) (kept kept' : Kept) (out err : Writer) (ended : Ended)
+      (before : SoFar form head seen was between o out.before e err.before is_after s counts kept) (shown : Shows (record { policy = m.policy; form = form; is_after = is_after }) m.module (IsVerdict files m.policy m.module between is) out err kept kept' ended) where
     abbrev verdicts' : List Verdict
     verdicts' = before.verdicts ++ shown.verdict ∷ []
 
     judged' : AreJudged files (seen ++ m ∷ []) verdicts' was is
     judged' = judged_more seen before.verdicts m shown.verdict was between is before.judged shown.holds
 
-    reports' : reports_after false (seen ++ m ∷ []) verdicts' ≡ reports_after false seen before.verdicts ++ verdict_output is_after m.module shown.verdict
-    reports' = reports_more false seen before.verdicts m shown.verdict was between before.judged ∙ ap (λ v. reports_after false seen before.verdicts ++ verdict_output v m.module shown.verdict) (sym before.after)
+    reports' : head ++ reports_after form false (seen ++ m ∷ []) verdicts' ≡ (head ++ reports_after form false seen before.verdicts) ++ verdict_output form is_after m.module shown.verdict
+    reports' =
+        ap (λ t. head ++ t) (reports_more form false seen before.verdicts m shown.verdict was between before.judged ∙ ap (λ v. reports_after form false seen before.verdicts ++ verdict_output form v m.module shown.verdict) (sym before.after))
+        ∙ sym (append_assoc head (reports_after form false seen before.verdicts) (verdict_output form is_after m.module shown.verdict))
 
-    output' : TookBy out.failed o out.after (reports_after false (seen ++ m ∷ []) verdicts')
-    output' = subst (TookBy out.failed o out.after) (sym reports') (took_after o out.before out.after out.failed (reports_after false seen before.verdicts) (verdict_output is_after m.module shown.verdict) before.output shown.output)
+    output' : TookBy out.failed o out.after (head ++ reports_after form false (seen ++ m ∷ []) verdicts')
+    output' =
+        subst (TookBy out.failed o out.after) (sym reports')
+        (took_after o out.before out.after out.failed (head ++ reports_after form false seen before.verdicts) (verdict_output form is_after m.module shown.verdict) before.output shown.output)
 
     message' : TookBy err.failed e err.after (flat_map verdict_message verdicts')
     message' = subst (TookBy err.failed e err.after) (sym (messages_more before.verdicts shown.verdict)) (took_after e err.before err.after err.failed (flat_map verdict_message before.verdicts) (verdict_message shown.verdict) before.message shown.message)
 
     pub so_far_more : (more : List Governed) (after : Bool) (status : ℕ) (counts' : Counts) → more ≡ seen ++ m ∷ [] → out.failed ≡ false → err.failed ≡ false → after ≡ (is_after || nat_lt 0 ended.issues) → status ≡ worse_status s ended.status
-        → counts' ≡ counts_with counts (is_module m.module) ended.status ended.issues → counts'.issues ≤ counts.issues + 18446744073709551615 → SoFar more was is o out.after e err.after after status counts'
+        → counts' ≡ counts_with counts (is_module m.module) ended.status ended.issues → counts'.issues ≤ counts.issues + 18446744073709551615 → SoFar form head more was is o out.after e err.after after status counts' kept'
     so_far_more more after status counts' all out_good err_good a w c small = record {
       verdicts = verdicts';
       judged = subst (λ l. AreJudged files l verdicts' was is) (sym all) judged';
-      output = subst (λ l. Appends o out.after (reports_after false l verdicts')) (sym all) (all_taken o out.after out.failed (reports_after false (seen ++ m ∷ []) verdicts') out_good output');
+      output = subst (λ l. Appends o out.after (head ++ reports_after form false l verdicts')) (sym all) (all_taken o out.after out.failed (head ++ reports_after form false (seen ++ m ∷ []) verdicts') out_good output');
       message = all_taken e err.after err.failed (flat_map verdict_message verdicts') err_good message';
       after = a ∙ ap (λ v. v || nat_lt 0 ended.issues) before.after ∙ ap (λ n. list_any has_issues before.verdicts || nat_lt 0 n) shown.issues ∙ sym (any_more before.verdicts shown.verdict);
       exit = w ∙ ap (λ t. worse_status t ended.status) before.exit ∙ ap (λ t. worse_status (worst_status (statuses seen before.verdicts)) t) shown.exit
           ∙ sym (worst_from 0 (statuses seen before.verdicts) (verdict_status m.policy shown.verdict)) ∙ ap (fold worse_status 0) (sym (statuses_more seen before.verdicts m shown.verdict was between before.judged)) ∙ ap (λ l. worst_status (statuses l verdicts')) (sym all);
       counted = c ∙ counts_more seen m before.verdicts shown.verdict counts ended.status ended.issues before.counted shown.exit shown.issues ∙ ap (λ l. counts_of l verdicts') (sym all);
+      refusals = subst (HoldsAll kept') (sym (refusals_more before.verdicts shown.verdict)) (held_more kept kept' (flat_map refusals_of before.verdicts) (refusals_of shown.verdict) before.refusals shown.kept);
       small = subst (λ l. counts'.issues ≤ 18446744073709551615 * length l) (sym all) (more_small counts'.issues counts.issues (length seen) (length (seen ++ m ∷ [])) small before.small (length-append seen (m ∷ [])));
     }
 
     -- what it says could not be written
-    pub run_cut : (modules rest : List Governed) (fo fe : Flushes) (last : Counts) → modules ≡ seen ++ m ∷ rest → (out.failed || err.failed) ≡ true
-        → IsLintRun files modules was is (record { out = record out { before = o; flushes_before = fo }; err = record err { before = e; flushes_before = fe }; status = 1 }) last
-    run_cut modules rest fo fe last all bad = record {
+    pub run_cut : (modules rest : List Governed) (fo fe : Flushes) (end : ℕ) (last : RunEnd) → modules ≡ seen ++ m ∷ rest → (out.failed || err.failed) ≡ true → end ≡ 1
+        → IsLintRun files form head modules was is (record { out = record out { before = o; flushes_before = fo }; err = record err { before = e; flushes_before = fe }; status = end }) last
+    run_cut modules rest fo fe end last all bad one = record {
       seen = seen ++ m ∷ [];
       rest = rest;
       all = all ∙ sym (append_assoc seen (m ∷ []) rest);
@@ -197,23 +219,57 @@ module _ (files : Files) where
       judged = judged';
       output = output';
       message = message';
-      exit = sym (ap (λ (v : Bool). if v then 1 else worst_status (statuses (seen ++ m ∷ []) verdicts')) bad);
-      counted = λ good. absurd (both (out.failed || err.failed) bad good);
+      exit = one ∙ sym (ap (λ (v : Bool). if v then 1 else worst_status (statuses (seen ++ m ∷ []) verdicts')) bad);
+      found = λ good. absurd (both (out.failed || err.failed) bad good);
     }
 
   -- ---- its end
 
-  pub run_whole : (modules seen : List Governed) (was is : Faults) (out err : Writer) (is_after : Bool) (s : ℕ) (counts : Counts) → seen ≡ modules → SoFar seen was is out.before out.after err.before err.after is_after s counts → out.failed ≡ false
-      → err.failed ≡ false → IsLintRun files modules was is (record { out = out; err = err; status = s }) counts
-  run_whole modules seen was is out err is_after s counts same before out_good err_good = record {
+  -- what stands before all could not be written
+  pub none_run : (form : Option Form) (head : List ℕ) (modules : List Governed) (was : Faults) (out err : Writer) (end : ℕ) (last : RunEnd) → TookBy out.failed out.before out.after head → out.failed ≡ true → err.failed ≡ false → err.after ≡ err.before → end ≡ 1
+      → IsLintRun files form head modules was was (record { out = out; err = err; status = end }) last
+  none_run form head modules was out err end last took bad good same one =
+      let failed : (out.failed || err.failed) ≡ true = ap (λ v. v || err.failed) bad in record {
+        seen = [];
+        rest = modules;
+        all = refl;
+        whole = λ fine. absurd (both (out.failed || err.failed) failed fine);
+        verdicts = [];
+        judged = refl;
+        output = subst (TookBy out.failed out.before out.after) (sym (append-nil head)) took;
+        message = subst (λ a. TookBy err.failed err.before a []) (sym same) (untouched err.failed err.before good);
+        exit = one ∙ sym (ap (λ (v : Bool). if v then 1 else 0) failed);
+        found = λ fine. absurd (both (out.failed || err.failed) failed fine);
+      }
+
+  -- what stands before all was written
+  pub headed : (form : Option Form) (head : List ℕ) (modules : List Governed) (was is : Faults) (first : Option (List ℕ)) (fo : Flushes) (out err : Writer) (status : ℕ) (ran : RunEnd) → Appends first out.before head
+      → IsLintRun files form [] modules was is (record { out = out; err = err; status = status }) ran → IsLintRun files form head modules was is (record { out = record out { before = first; flushes_before = fo }; err = err; status = status }) ran
+  headed form head modules was is first fo out err status ran wrote h = record {
+    seen = h.seen;
+    rest = h.rest;
+    all = h.all;
+    whole = h.whole;
+    verdicts = h.verdicts;
+    judged = h.judged;
+    output = took_after first out.before out.after out.failed head (reports_after form false h.seen h.verdicts) wrote h.output;
+    message = h.message;
+    exit = h.exit;
+    found = h.found;
+  }
+
+  pub run_whole : (form : Option Form) (head : List ℕ) (modules seen : List Governed) (was is : Faults) (out err : Writer) (is_after : Bool) (s : ℕ) (counts : Counts) (kept : Kept) (ran : RunEnd) → seen ≡ modules
+      → SoFar form head seen was is out.before out.after err.before err.after is_after s counts kept → out.failed ≡ false → err.failed ≡ false → ran.counts ≡ counts → ran.has_issues ≡ is_after → ran.kept ≡ kept
+      → IsLintRun files form head modules was is (record { out = out; err = err; status = s }) ran
+  run_whole form head modules seen was is out err is_after s counts kept ran same before out_good err_good ec ei ek = record {
     seen = seen;
     rest = [];
     all = sym same ∙ sym (append-nil seen);
     whole = λ _. refl;
     verdicts = before.verdicts;
     judged = before.judged;
-    output = subst (λ v. TookBy v out.before out.after (reports_after false seen before.verdicts)) (sym out_good) before.output;
+    output = subst (λ v. TookBy v out.before out.after (head ++ reports_after form false seen before.verdicts)) (sym out_good) before.output;
     message = subst (λ v. TookBy v err.before err.after (flat_map verdict_message before.verdicts)) (sym err_good) before.message;
     exit = before.exit ∙ sym (ap (λ (v : Bool). if v then 1 else worst_status (statuses seen before.verdicts)) (ap (λ v. v || err.failed) out_good ∙ err_good));
-    counted = λ _. before.counted;
+    found = λ _. record { counts = ec ∙ before.counted; issues = ei ∙ before.after; refusals = subst (λ k. HoldsAll k (flat_map refusals_of before.verdicts)) (sym ek) before.refusals };
   }

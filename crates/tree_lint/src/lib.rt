@@ -3,6 +3,8 @@
 
 pub mod counts;
 mod gather;
+mod issue_remarks;
+pub mod kept;
 pub mod module_tree;
 pub mod policy;
 pub mod refusal;
@@ -10,3 +12,4 @@ mod report;
 pub mod run;
 mod shown;
 mod stop;
+pub mod written;

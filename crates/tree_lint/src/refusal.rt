@@ -22,7 +22,7 @@ pub struct Refusal<'a> {
     /// The place in the file, where it has one.
     pub at: Option<Position>,
     /// What is said of it.
-    pub text: &'a str,
+    pub text: &'static str,
 }
 
 /// Writes `:LINE:COLUMN: TEXT`.
@@ -80,7 +80,7 @@ pub fn tell_refusal<S: ByteSink>(sink: &mut S, refusal: Refusal<'_>) -> Result<(
 }
 
 /// The fault that is told: `-` is a name that isn't there, as any other.
-fn told_fault(fault: TreeFault) -> TreeFault
+pub(crate) fn told_fault(fault: TreeFault) -> TreeFault
     ensures { result ≡ told_fault fault }
 {
     match fault {

@@ -1,23 +1,28 @@
 //! What is shown of one module.
 
-ghost use Rattle.std.specs.Prelude.{◌≡◌, true, false};
+ghost use Rattle.std.specs.Prelude.{◌≡◌, ◌∷◌, [], None, OnErr, OnOk, Some, true, false};
 ghost use Rattle.command_line.specs.Rows.{Took, writer};
 ghost use Rattle.tfrules_command.specs.Report.{report, status};
 ghost use Rattle.tree_lint.specs.Parted.{parted};
 ghost use Rattle.tree_lint.specs.Refusals.{refusal_line, refusal_told};
-ghost use Rattle.tree_lint.specs.Runs.{failing_under};
+ghost use Rattle.tree_lint.specs.Kept.{KeepsAll};
+ghost use Rattle.tree_lint.specs.Runs.{failing_under, issues_output};
 ghost use Rattle.tree_lint.specs.Verdicts.{no_memory, too_many};
 ghost use Rattle.tree_lint.specs.Inner.Showing.{HasOrNoMemory, Shows, refused};
 
 use crate::counts::Ended;
+use crate::issue_remarks::issues_text;
+use crate::kept::Kept;
 use crate::policy::Policy;
 use crate::refusal::{Refusal, tell_refusal};
 use crate::run::Task;
 use crate::shown::Shown;
+use command_line::write_pieces;
 use file_tree::path::place;
 use hcl_scan::{ByteSink, write_fully};
+use lint_forms::Form;
 use module_find::Module;
-use std::alloc::Global;
+use std::alloc::{AllocError, Global};
 use tf_rules::IssueList;
 use tfrules_command::report::{has_severe, show_issues};
 use tfrules_command::shown_names::ShownNames;
@@ -93,15 +98,78 @@ pub(crate) const REFUSED: Ended = Ended {
     issues: 0,
 };
 
-/// Says why a module is refused.
-pub(crate) fn refuse<E: ByteSink>(refusal: Refusal<'_>, err: &mut E) -> Ended
+/// Says why a module is refused, and keeps it.
+pub(crate) fn refuse<E: ByteSink>(
+    alloc: Global,
+    refusal: Refusal<'_>,
+    err: &mut E,
+    kept: &mut Kept,
+) -> Ended
     requires { E.failed err.old ≡ false }
     ensures took { Took (writer E.ByteSink err.old err.new)
         (refusal_line (refusal_told refusal.entry)) }
+    ensures kept { KeepsAll kept.old kept.new (refusal_told refusal.entry ∷ []) }
     ensures ended { result ≡ refused }
 {
     let _ = tell_refusal(err, refusal);
+    kept.add(alloc, refusal);
     REFUSED
+}
+
+/// Writes the report of issues, with the names of the files as they are shown.
+fn show_report<O: ByteSink>(
+    alloc: Global,
+    is_after: bool,
+    one: &Module,
+    issues: &IssueList<'_>,
+    out: &mut O,
+) -> Result<(), AllocError>
+    requires out { O.failed out.old ≡ false }
+    ensures ok { OnOk result (Took (writer O.ByteSink out.old out.new)
+        (issues_output None is_after one.now issues.now)) }
+    ensures err { OnErr result (out.new ≡ out.old) }
+{
+    let names = Shown::new(alloc, one.files.as_slice())?;
+    show_after(is_after, out, &names, issues);
+    Ok(())
+}
+
+/// Writes issues in a form.
+fn show_form<O: ByteSink>(
+    alloc: Global,
+    form: Form,
+    is_after: bool,
+    one: &Module,
+    issues: &IssueList<'_>,
+    out: &mut O,
+) -> Result<(), AllocError>
+    requires out { O.failed out.old ≡ false }
+    ensures ok { OnOk result (Took (writer O.ByteSink out.old out.new)
+        (issues_output (Some form) is_after one.now issues.now)) }
+    ensures err { OnErr result (out.new ≡ out.old) }
+{
+    let text = issues_text(alloc, form, is_after, one.files.as_slice(), issues)?;
+    let _ = write_pieces(out, &[text.as_slice()]);
+    Ok(())
+}
+
+/// Writes issues as they are to be written.
+fn show_issued<O: ByteSink>(
+    alloc: Global,
+    task: Task,
+    one: &Module,
+    issues: &IssueList<'_>,
+    out: &mut O,
+) -> Result<(), AllocError>
+    requires out { O.failed out.old ≡ false }
+    ensures ok { OnOk result (Took (writer O.ByteSink out.old out.new)
+        (issues_output task.form task.is_after one.now issues.now)) }
+    ensures err { OnErr result (out.new ≡ out.old) }
+{
+    match task.form {
+        Some(form) => show_form(alloc, form, task.is_after, one, issues, out),
+        None => show_report(alloc, task.is_after, one, issues, out),
+    }
 }
 
 /// Shows issues of a module, of which there is one at least.
@@ -112,16 +180,17 @@ fn show_some<O: ByteSink, E: ByteSink>(
     issues: &IssueList<'_>,
     out: &mut O,
     err: &mut E,
+    kept: &mut Kept,
 ) -> Ended
     requires out { O.failed out.old ≡ false }
     requires err { E.failed err.old ≡ false }
     ensures { Shows task one.now (HasOrNoMemory one.now issues.now)
-        (writer O.ByteSink out.old out.new) (writer E.ByteSink err.old err.new) result }
+        (writer O.ByteSink out.old out.new) (writer E.ByteSink err.old err.new)
+        kept.old kept.new result }
 {
-    let Ok(names) = Shown::new(alloc, one.files.as_slice()) else {
-        return refuse(no_memory(one), err);
+    let Ok(()) = show_issued(alloc, task, one, issues, out) else {
+        return refuse(alloc, no_memory(one), err, kept);
     };
-    show_after(task.is_after, out, &names, issues);
     Ended {
         status: status_of(task.policy, issues),
         issues: issues.len(),
@@ -136,11 +205,13 @@ pub(crate) fn show<O: ByteSink, E: ByteSink>(
     issues: &IssueList<'_>,
     out: &mut O,
     err: &mut E,
+    kept: &mut Kept,
 ) -> Ended
     requires out { O.failed out.old ≡ false }
     requires err { E.failed err.old ≡ false }
     ensures { Shows task one.now (HasOrNoMemory one.now issues.now)
-        (writer O.ByteSink out.old out.new) (writer E.ByteSink err.old err.new) result }
+        (writer O.ByteSink out.old out.new) (writer E.ByteSink err.old err.new)
+        kept.old kept.new result }
 {
     if issues.is_empty() {
         return Ended {
@@ -148,5 +219,5 @@ pub(crate) fn show<O: ByteSink, E: ByteSink>(
             issues: 0,
         };
     }
-    show_some(alloc, task, one, issues, out, err)
+    show_some(alloc, task, one, issues, out, err, kept)
 }

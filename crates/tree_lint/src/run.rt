@@ -11,11 +11,14 @@ ghost use Rattle.tree_lint.specs.Inner.Showing.{Shows};
 
 use crate::counts::{Counts, Ended};
 use crate::gather::gather;
+use crate::kept::Kept;
 use crate::module_tree::ModuleTree;
 use crate::policy::{Governed, Policy};
 use crate::report::{REFUSED, no_memory, refuse, show, too_many};
+use crate::written::Written;
 use file_tree::tree::Tree;
-use hcl_scan::ByteSink;
+use hcl_scan::{ByteSink, write_fully};
+use lint_forms::Form;
 use module_find::Module;
 use std::alloc::Global;
 use tf_rules::Facts;
@@ -26,6 +29,8 @@ use tfrules_command::file_names::MAX_FILES;
 pub(crate) struct Task {
     /// By what it is linted.
     pub policy: Policy,
+    /// In which form; none for the report of `tfrules`.
+    pub form: Option<Form>,
     /// Other reports stand before its own.
     pub is_after: bool,
 }
@@ -38,6 +43,7 @@ fn lint_files<T: Tree + Drop, O: ByteSink, E: ByteSink>(
     files: &mut ModuleTree<T>,
     out: &mut O,
     err: &mut E,
+    kept: &mut Kept,
 ) -> Ended
     requires readable { CanBeRead one.now }
     requires back { has_reader_out files.old ≡ false }
@@ -45,20 +51,21 @@ fn lint_files<T: Tree + Drop, O: ByteSink, E: ByteSink>(
     requires err { E.failed err.old ≡ false }
     ensures shows { Shows task one.now (IsVerdict (T.files files.old.tree) task.policy one.now
         (T.faults files.old.tree) (T.faults files.new.tree))
-        (writer O.ByteSink out.old out.new) (writer E.ByteSink err.old err.new) result }
+        (writer O.ByteSink out.old out.new) (writer E.ByteSink err.old err.new)
+        kept.old kept.new result }
     ensures files { T.files files.new.tree ≡ T.files files.old.tree }
     ensures asked { T.asked files.new.tree ≡ T.asked files.old.tree }
     ensures back { has_reader_out files.new ≡ false }
 {
     let Ok(mut facts) = Facts::with_hashing(alloc, files.hashing()) else {
-        return refuse(no_memory(one), err);
+        return refuse(alloc, no_memory(one), err, kept);
     };
     if let Err(stopped) = gather(alloc, one.files.as_slice(), files, &mut facts) {
-        return refuse(stopped.refusal(), err);
+        return refuse(alloc, stopped.refusal(), err, kept);
     }
     match facts.issue_list(&task.policy.settings) {
-        Ok(issues) => show(alloc, task, one, &issues, out, err),
-        Err(_) => refuse(no_memory(one), err),
+        Ok(issues) => show(alloc, task, one, &issues, out, err, kept),
+        Err(_) => refuse(alloc, no_memory(one), err, kept),
     }
 }
 
@@ -70,13 +77,15 @@ fn lint_one<T: Tree + Drop, O: ByteSink, E: ByteSink>(
     files: &mut ModuleTree<T>,
     out: &mut O,
     err: &mut E,
+    kept: &mut Kept,
 ) -> Ended
     requires back { has_reader_out files.old ≡ false }
     requires out { O.failed out.old ≡ false }
     requires err { E.failed err.old ≡ false }
     ensures shows { Shows task one.now (IsVerdict (T.files files.old.tree) task.policy one.now
         (T.faults files.old.tree) (T.faults files.new.tree))
-        (writer O.ByteSink out.old out.new) (writer E.ByteSink err.old err.new) result }
+        (writer O.ByteSink out.old out.new) (writer E.ByteSink err.old err.new)
+        kept.old kept.new result }
     ensures files { T.files files.new.tree ≡ T.files files.old.tree }
     ensures asked { T.asked files.new.tree ≡ T.asked files.old.tree }
     ensures back { has_reader_out files.new ≡ false }
@@ -85,36 +94,41 @@ fn lint_one<T: Tree + Drop, O: ByteSink, E: ByteSink>(
         return REFUSED;
     }
     if one.files.len() > MAX_FILES {
-        return refuse(too_many(one), err);
+        return refuse(alloc, too_many(one), err, kept);
     }
-    lint_files(alloc, task, one, files, out, err)
+    lint_files(alloc, task, one, files, out, err, kept)
 }
 
 /// Lints one module by its own policy.
 fn lint_next<T: Tree + Drop, O: ByteSink, E: ByteSink>(
     alloc: Global,
+    form: Option<Form>,
     is_after: bool,
     one: &Governed,
     files: &mut ModuleTree<T>,
     out: &mut O,
     err: &mut E,
+    kept: &mut Kept,
 ) -> Ended
     requires back { has_reader_out files.old ≡ false }
     requires out { O.failed out.old ≡ false }
     requires err { E.failed err.old ≡ false }
-    ensures shows { Shows (record { policy = one.now.policy; is_after = is_after }) one.now.module
+    ensures shows { Shows (record { policy = one.now.policy; form = form; is_after = is_after })
+        one.now.module
         (IsVerdict (T.files files.old.tree) one.now.policy one.now.module
         (T.faults files.old.tree) (T.faults files.new.tree))
-        (writer O.ByteSink out.old out.new) (writer E.ByteSink err.old err.new) result }
+        (writer O.ByteSink out.old out.new) (writer E.ByteSink err.old err.new)
+        kept.old kept.new result }
     ensures files { T.files files.new.tree ≡ T.files files.old.tree }
     ensures asked { T.asked files.new.tree ≡ T.asked files.old.tree }
     ensures back { has_reader_out files.new ≡ false }
 {
     let task = Task {
         policy: one.policy,
+        form,
         is_after,
     };
-    lint_one(alloc, task, &one.module, files, out, err)
+    lint_one(alloc, task, &one.module, files, out, err, kept)
 }
 
 /// The worse of two statuses: 1 is worse than 2.
@@ -148,20 +162,36 @@ fn is_module(one: &Module) -> bool
 }
 
 /// How a run over modules ended.
-#[derive(Clone, Copy, Debug, PartialEq, Eq)]
+#[derive(Drop)]
 pub struct RunEnd {
     /// The worst status of a module, or that of a failed write.
     pub status: u8,
     /// What it found, in numbers, unless a write failed.
     pub counts: Counts,
+    /// Whether a module has issues, unless a write failed.
+    pub has_issues: bool,
+    /// Why modules are refused, for the end of a form, unless a write failed.
+    pub kept: Kept,
+}
+
+impl RunEnd {
+    /// How a run ends in which a write failed.
+    fn cut(counts: Counts, kept: Kept) -> RunEnd
+        ensures { result.status ≡ 1 }
+    {
+        RunEnd {
+            status: 1,
+            counts,
+            has_issues: false,
+            kept,
+        }
+    }
 }
 
 /// Lints modules one after another, each by its own policy, whatever becomes of the others: a refused module stops none.
-/// Standard output gets the reports of those with issues, an empty line between two, and standard error why others are refused,
-/// but for those that aren't whole. Answers the worst
-/// status of a module, where 1 is worse than 2. Nothing more is linted once a write failed, which gives status 1.
-pub fn run_over<T: Tree + Drop, O: ByteSink, E: ByteSink>(
+fn run_all<T: Tree + Drop, O: ByteSink, E: ByteSink>(
     alloc: Global,
+    form: Option<Form>,
     modules: &[Governed],
     files: &mut ModuleTree<T>,
     out: &mut O,
@@ -170,28 +200,61 @@ pub fn run_over<T: Tree + Drop, O: ByteSink, E: ByteSink>(
     requires back { has_reader_out files.old ≡ false }
     requires out { O.failed out.old ≡ false }
     requires err { E.failed err.old ≡ false }
-    // What becomes of each module, what is said of it, the status, and what was found in numbers.
-    ensures ran { IsLintRun (T.files files.old.tree) modules.now
+    ensures ran { IsLintRun (T.files files.old.tree) form [] modules.now
         (T.faults files.old.tree) (T.faults files.new.tree)
-        (end_of O.ByteSink out.old out.new E.ByteSink err.old err.new result.status)
-        result.counts }
+        (end_of O.ByteSink out.old out.new E.ByteSink err.old err.new result.status) result }
+    ensures files { T.files files.new.tree ≡ T.files files.old.tree }
+    ensures asked { T.asked files.new.tree ≡ T.asked files.old.tree }
+    ensures back { has_reader_out files.new ≡ false }
+{
+    let mut status = 0;
+    let mut has_issues = false;
+    let mut counts = Counts::new();
+    let mut kept = Kept::new(alloc, form.is_some());
+    for one in modules {
+        let ended = lint_next(alloc, form, has_issues, one, files, out, err, &mut kept);
+        if has_failed(out, err) {
+            return RunEnd::cut(counts, kept);
+        }
+        has_issues = either(has_issues, ended.issues > 0);
+        status = worse_status(status, ended.status);
+        counts = counts.add(is_module(&one.module), ended);
+    }
+    RunEnd {
+        status,
+        counts,
+        has_issues,
+        kept,
+    }
+}
+
+/// Lints modules one after another, each by its own policy, whatever becomes of the others: a refused module stops none.
+/// Standard output gets what is to stand before all and the issues of each module, in a form or as the report of `tfrules`, with
+/// an empty line between two. Standard error gets why others are refused, but for those that aren't whole. Answers the worst
+/// status of a module, where 1 is worse than 2. Nothing more is linted once a write failed, which gives status 1.
+pub fn run_over<T: Tree + Drop, O: ByteSink, E: ByteSink>(
+    alloc: Global,
+    written: Written<'_>,
+    modules: &[Governed],
+    files: &mut ModuleTree<T>,
+    out: &mut O,
+    err: &mut E,
+) -> RunEnd
+    requires back { has_reader_out files.old ≡ false }
+    requires out { O.failed out.old ≡ false }
+    requires err { E.failed err.old ≡ false }
+    // What becomes of each module, what is said of it, the status, and what was found in all.
+    ensures ran { IsLintRun (T.files files.old.tree) written.entry.form written.entry.head.now
+        modules.now (T.faults files.old.tree) (T.faults files.new.tree)
+        (end_of O.ByteSink out.old out.new E.ByteSink err.old err.new result.status) result }
     // Nothing is changed, nor asked to be.
     ensures files { T.files files.new.tree ≡ T.files files.old.tree }
     ensures asked { T.asked files.new.tree ≡ T.asked files.old.tree }
     // No file is left open.
     ensures back { has_reader_out files.new ≡ false }
 {
-    let mut status = 0;
-    let mut is_after = false;
-    let mut counts = Counts::new();
-    for one in modules {
-        let ended = lint_next(alloc, is_after, one, files, out, err);
-        if has_failed(out, err) {
-            return RunEnd { status: 1, counts };
-        }
-        is_after = either(is_after, ended.issues > 0);
-        status = worse_status(status, ended.status);
-        counts = counts.add(is_module(&one.module), ended);
+    if let Err(_fault) = write_fully(out, written.head) {
+        return RunEnd::cut(Counts::new(), Kept::new(alloc, false));
     }
-    RunEnd { status, counts }
+    run_all(alloc, written.form, modules, files, out, err)
 }

@@ -9,10 +9,10 @@ abbrev pub sarif_start : List ℕ → List Token
 sarif_start version =
     begin_object ∷ key (codes "$schema") ∷ string (codes "https://json.schemastore.org/sarif-2.1.0.json") ∷ key (codes "version") ∷ string (codes "2.1.0")
     ∷ key (codes "runs") ∷ begin_array ∷ begin_object ∷ key (codes "tool") ∷ begin_object ∷ key (codes "driver") ∷ begin_object
-    ∷ key (codes "name") ∷ string (codes "tfrules-all") ∷ key (codes "version") ∷ string version ∷ key (codes "rules") ∷ begin_array ∷ []
+    ∷ key (codes "name") ∷ string (codes "tfrules") ∷ key (codes "version") ∷ string version ∷ key (codes "rules") ∷ begin_array ∷ []
 
 abbrev pub results_head : List Token
-results_head = end_array ∷ end_object ∷ end_object ∷ key (codes "columnKind") ∷ string (codes "utf16CodeUnits") ∷ key (codes "results") ∷ begin_array ∷ []
+results_head = end_array ∷ end_object ∷ end_object ∷ key (codes "results") ∷ begin_array ∷ []
 
 abbrev pub rules_tokens : List Rule → List Token
 rules_tokens rules = flat_map (λ rule. json_tokens (rule_json rule)) rules

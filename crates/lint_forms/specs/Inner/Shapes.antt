@@ -1,38 +1,36 @@
--- What of a remark stands in an array of JSON.
-use Rattle.std.specs.Prelude.{not, ℕ, Bool, true, List, [], ◌∷◌, Option, flat_map, if◌then◌else◌}
+-- What of an entry stands in an array of JSON.
+use Rattle.std.specs.Prelude.{ℕ, Bool, List, [], ◌∷◌, flat_map, string_bytes}
 use Rattle.json.specs.Json.{Json}
-use Rattle.rule_set.specs.declared.rule.Rule.{Rule}
 use Rattle.lint_forms.specs.Gitlab.{quality_json}
+use Rattle.lint_forms.specs.Marks.{Entry}
+use Rattle.lint_forms.specs.Remarks.{said_by}
 use Rattle.lint_forms.specs.Sarif.{result_json}
 use Rattle.lint_forms.specs.Tflint.{error_json, issue_json}
 use Rattle.lint_forms.specs.Values.{array_text, json_text}
-use Rattle.lint_forms.specs.Words.{is_issue}
-use Rattle.lint_forms.specs.declared.remark.Remark.{Remark}
+use Rattle.lint_forms.specs.declared.entry.Entry as code
 use Rattle.lint_forms.specs.declared.shape.Shape.{Shape}
 use Rattle.lint_forms.specs.declared.shape.Shape.TheVariants as shape
 
-abbrev pub shows : Shape → Option Rule → Bool
-shows shape.TflintIssue rule = is_issue rule
-shows shape.TflintError rule = not (is_issue rule)
-shows shape.SarifResult rule = true
-shows shape.GitlabEntry rule = true
+-- an entry in the code's terms
+abbrev pub entry_by : code.Entry → Entry
+entry_by e = record { said = said_by e.said; mark = string_bytes e.mark }
 
-abbrev pub shape_json : Shape → Remark → Json
-shape_json shape.TflintIssue r = issue_json r
-shape_json shape.TflintError r = error_json r
-shape_json shape.SarifResult r = result_json r
-shape_json shape.GitlabEntry r = quality_json r
+abbrev pub shape_json : Shape → Entry → Json
+shape_json shape.TflintIssue e = issue_json e.said
+shape_json shape.TflintError e = error_json e.said
+shape_json shape.SarifResult e = result_json e
+shape_json shape.GitlabEntry e = quality_json e
 
-abbrev pub shape_values : Shape → Remark → List Json
-shape_values s r = if shows s r.rule then shape_json s r ∷ [] else []
+abbrev pub shape_values : Shape → code.Entry → List Json
+shape_values s e = shape_json s (entry_by e) ∷ []
 
 -- ---- their texts
 
-abbrev pub remark_text : Shape → Remark → List ℕ
-remark_text s r = json_text (shape_json s r)
+abbrev pub entry_text : Shape → code.Entry → List ℕ
+entry_text s e = json_text (shape_json s (entry_by e))
 
-abbrev pub shape_text : Shape → Bool → Remark → List ℕ
-shape_text s is_after r = array_text is_after (shape_values s r)
+abbrev pub shape_text : Shape → Bool → code.Entry → List ℕ
+shape_text s is_after e = array_text is_after (shape_values s e)
 
-abbrev pub shapes_text : Shape → Bool → List Remark → List ℕ
-shapes_text s is_after rs = array_text is_after (flat_map (shape_values s) rs)
+abbrev pub shapes_text : Shape → Bool → List code.Entry → List ℕ
+shapes_text s is_after es = array_text is_after (flat_map (shape_values s) es)

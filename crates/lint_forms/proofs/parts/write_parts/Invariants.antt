@@ -1,4 +1,4 @@
-use Rattle.std.proofs.Common.{◌≡◌, ◌++◌, map, take}
+use Rattle.std.proofs.Common.{map, take}
 use Rattle.lint_forms.specs.Inner.Parts.{part_token}
 use Rattle.lint_forms.proofs.AddsLemmas.{Added}
 use Rattle.lint_forms.proofs.parts.write_parts.Given as goal

@@ -1,4 +1,4 @@
-use Rattle.std.proofs.Common.{◌≡◌, ◌++◌, take}
+use Rattle.std.proofs.Common.{take}
 use Rattle.lint_forms.specs.Inner.SarifParts.{rules_tokens}
 use Rattle.lint_forms.proofs.AddsLemmas.{Added}
 use Rattle.lint_forms.proofs.sarif.write_rules.Given as goal

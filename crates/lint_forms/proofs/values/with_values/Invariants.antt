@@ -5,7 +5,7 @@ use Rattle.lint_forms.specs.Values.{array_text}
 use Rattle.lint_forms.proofs.ValuesLemmas.{has_values}
 use Rattle.lint_forms.proofs.values.with_values.Given as goal
 
-abbrev pub invariant-loop-remark : goal.invariant-loop-remark
-invariant-loop-remark l =
-    (l.longer.items ≡ l.initial.longer.items ++ array_text l.initial.goes_on (flat_map (shape_values l.shape) (take l.remark-index l.remarks)))
-    × (l.goes_on ≡ (l.initial.goes_on || has_values (flat_map (shape_values l.shape) (take l.remark-index l.remarks))))
+abbrev pub invariant-loop-entry : goal.invariant-loop-entry
+invariant-loop-entry l =
+    (l.longer.items ≡ l.initial.longer.items ++ array_text l.initial.goes_on (flat_map (shape_values l.shape) (take l.entry-index l.entries)))
+    × (l.goes_on ≡ (l.initial.goes_on || has_values (flat_map (shape_values l.shape) (take l.entry-index l.entries))))

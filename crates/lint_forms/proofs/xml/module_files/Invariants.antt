@@ -1,6 +1,7 @@
 use Rattle.std.proofs.Common.{◌≡◌, flat_map, take}
 use Rattle.lint_forms.specs.Xml.{checkstyle_file}
+use Rattle.lint_forms.specs.Remarks.{said_by}
 use Rattle.lint_forms.proofs.xml.module_files.Given as goal
 
 abbrev pub invariant-loop-remark : goal.invariant-loop-remark
-invariant-loop-remark l = l.text.items ≡ flat_map checkstyle_file (take l.remark-index l.remarks)
+invariant-loop-remark l = l.text.items ≡ flat_map (λ r. checkstyle_file (said_by r)) (take l.remark-index l.remarks)

@@ -1,6 +1,6 @@
 use Rattle.std.proofs.Common.{arith}
 use Rattle.tf_rules.proofs.EntryLemmas.{all_taken, one_taken}
-use Rattle.tf_rules.proofs.owned_issues.owned_issues.Goals as goal
+use Rattle.tf_rules.proofs.owned.owned_issues.Goals as goal
 
 pub loop-number-preserved : goal.loop-number-preserved
 loop-number-preserved c =

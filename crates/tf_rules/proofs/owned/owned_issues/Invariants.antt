@@ -1,5 +1,5 @@
 use Rattle.std.proofs.Common.{◌≡◌, ◌++◌, drop}
-use Rattle.tf_rules.proofs.owned_issues.owned_issues.Given as goal
+use Rattle.tf_rules.proofs.owned.owned_issues.Given as goal
 
 abbrev pub invariant-loop-number : goal.invariant-loop-number
 invariant-loop-number l = l.issues.items ++ drop l.number l.list ≡ l.list

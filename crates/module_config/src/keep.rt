@@ -1,0 +1,121 @@
+//! Files that are bad, and calls that failed, kept for the end of a form.
+
+ghost use Rattle.std.specs.Prelude.{◌≡◌, ◌∷◌, [], flat_map, map};
+ghost use Rattle.module_config.specs.Refusals.{config_refusals, configured_refusals, failure_refusals, line_number, line_refusal};
+ghost use Rattle.tree_lint.specs.Kept.{KeepsAll};
+
+use crate::config_file::{ConfigFile, ConfigText};
+use crate::configure::Configured;
+use crate::start::Start;
+use file_tree::walk::Found;
+use hcl_source::Position;
+use lint_config::BadLine;
+use std::alloc::Global;
+use tree_lint::kept::Kept;
+use tree_lint::refusal::Refusal;
+
+/// The number of a line, where there are so many.
+fn line_number(line: usize) -> u32
+    ensures { result ≡ line_number line }
+{
+    if line < 4_294_967_295 {
+        return line as u32;
+    }
+    4_294_967_295
+}
+
+/// Keeps what is wrong with a line of the file of this name.
+fn keep_line(alloc: Global, name: &[u8], bad: &BadLine, kept: &mut Kept)
+    ensures { KeepsAll kept.old kept.new (line_refusal name.now bad.now ∷ []) }
+{
+    let at = Position {
+        line: line_number(bad.line),
+        column: 1,
+    };
+    kept.add(
+        alloc,
+        Refusal {
+            name,
+            at: Some(at),
+            text: bad.fault.text(),
+        },
+    );
+}
+
+/// Keeps which lines of the file of this name are wrong.
+fn keep_lines(alloc: Global, name: &[u8], all: &[BadLine], kept: &mut Kept)
+    ensures { KeepsAll kept.old kept.new (map (line_refusal name.now) all.now) }
+{
+    for bad in all {
+        keep_line(alloc, name, bad, kept);
+    }
+}
+
+/// Keeps what is wrong with a file.
+fn keep_file(alloc: Global, start: &Start, file: &ConfigFile, kept: &mut Kept)
+    ensures { KeepsAll kept.old kept.new (config_refusals start.now file.now) }
+{
+    let name = start.shown(file.name.as_slice());
+    match &file.text {
+        ConfigText::Says(config) => keep_lines(alloc, name, config.faults.as_slice(), kept),
+        ConfigText::Refused(fault) => kept.add(
+            alloc,
+            Refusal {
+                name,
+                at: Some(fault.at),
+                text: fault.kind.text(),
+            },
+        ),
+        ConfigText::Unread(fault) => kept.add(
+            alloc,
+            Refusal {
+                name,
+                at: None,
+                text: fault.text(),
+            },
+        ),
+    }
+}
+
+/// Keeps what is wrong with each of these files.
+fn keep_files(alloc: Global, start: &Start, files: &[ConfigFile], kept: &mut Kept)
+    ensures { KeepsAll kept.old kept.new (flat_map (config_refusals start.now) files.now) }
+{
+    for file in files {
+        keep_file(alloc, start, file, kept);
+    }
+}
+
+/// Keeps which call failed.
+fn keep_failure(alloc: Global, start: &Start, found: &Found, kept: &mut Kept)
+    ensures { KeepsAll kept.old kept.new (failure_refusals start.now found.now) }
+{
+    if let Some(fault) = found.fault {
+        kept.add(
+            alloc,
+            Refusal {
+                name: start.shown(found.name.as_slice()),
+                at: None,
+                text: fault.text(),
+            },
+        );
+    }
+}
+
+/// Keeps which calls failed.
+fn keep_failures(alloc: Global, start: &Start, all: &[Found], kept: &mut Kept)
+    ensures { KeepsAll kept.old kept.new (flat_map (failure_refusals start.now) all.now) }
+{
+    for found in all {
+        keep_failure(alloc, start, found, kept);
+    }
+}
+
+/// Keeps which files are bad, and what couldn't be looked at to find them.
+pub fn keep_configured(alloc: Global, configured: &Configured, kept: &mut Kept)
+    ensures { KeepsAll kept.old kept.new (configured_refusals configured.now) }
+{
+    let start = &configured.start;
+    keep_failures(alloc, start, configured.failures.as_slice(), kept);
+    keep_files(alloc, start, configured.files.as_slice(), kept);
+}

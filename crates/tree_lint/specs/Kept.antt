@@ -1,0 +1,33 @@
+-- Refusals that are kept for the end of a form, each as a remark.
+use Rattle.std.specs.Prelude.{◌≡◌, ℕ, true, List, ◌++◌, Option, Some, None, map, string_bytes}
+use Rattle.std.specs.Str.Lossy.{utf8_lossy}
+use Rattle.hcl_source.specs.declared.fault.Position.{Position}
+use Rattle.lint_forms.specs.Remarks.{Remark}
+use Rattle.tree_lint.specs.Refusals.{Refusal}
+use Rattle.tree_lint.specs.declared.kept.Kept.{Kept}
+use Rattle.tree_lint.specs.declared.kept.KeptRefusal.{KeptRefusal}
+
+-- what has no place in its file stands at 1:1
+abbrev pub line_told : Option Position → ℕ
+line_told None = 1
+line_told (Some at) = at.line
+
+abbrev pub column_told : Option Position → ℕ
+column_told None = 1
+column_told (Some at) = at.column
+
+-- A REFUSAL AS A REMARK: forms are UTF-8, and so is the name there
+abbrev pub refusal_remark : Refusal → Remark
+refusal_remark r = record { file = utf8_lossy r.name; line = line_told r.at; column = column_told r.at; rule = None; text = r.text }
+
+-- the same of one that is kept
+abbrev pub kept_remark : KeptRefusal → Remark
+kept_remark k = record { file = string_bytes k.name; line = k.line; column = k.column; rule = None; text = k.text.now }
+
+-- these are kept, and no others, unless one is missing
+abbrev pub HoldsAll : Kept → List Refusal → Type 0
+HoldsAll kept rs = kept.is_whole ≡ true → map kept_remark kept.refusals.items ≡ map refusal_remark rs
+
+-- these are kept beside others, unless one is missing
+abbrev pub KeepsAll : Kept → Kept → List Refusal → Type 0
+KeepsAll old new rs = new.is_whole ≡ true → (old.is_whole ≡ true) × (map kept_remark new.refusals.items ≡ map kept_remark old.refusals.items ++ map refusal_remark rs)

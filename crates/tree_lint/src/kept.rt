@@ -1,0 +1,154 @@
+//! Refusals that are kept for the end of a form.
+
+ghost use Rattle.std.specs.Prelude.{◌≡◌, ◌++◌, ◌∷◌, [], IfOk, flat_map, map, true};
+ghost use Rattle.lint_forms.specs.Remarks.{said_by};
+ghost use Rattle.tree_lint.specs.Kept.{HoldsAll, KeepsAll, column_told, kept_remark, line_told, refusal_remark};
+ghost use Rattle.tree_lint.specs.Refusals.{refusal_told};
+ghost use Rattle.tree_lint.specs.Faults.{refusal_in};
+
+use crate::refusal::{Refusal, told_fault};
+use file_tree::walk::Found;
+use hcl_scan::Position;
+use lint_forms::Remark;
+use std::alloc::{AllocError, Global};
+
+/// A refusal that stands by itself.
+#[derive(Drop)]
+pub struct KeptRefusal {
+    /// The name of a file or a folder. What isn't UTF-8 in it is replaced.
+    pub name: String,
+    /// The line, from 1 on.
+    pub line: u32,
+    /// The column, from 1 on.
+    pub column: u32,
+    /// What is said of it.
+    pub text: &'static str,
+}
+
+/// Refusals that are kept.
+#[derive(Drop)]
+pub struct Kept {
+    pub refusals: Vec<KeptRefusal>,
+    /// Each refusal is there. It isn't so where none is to be kept, or memory ran out for one.
+    pub is_whole: bool,
+}
+
+/// The line of a place, or the first one.
+fn line_told(at: Option<Position>) -> u32
+    ensures { result ≡ line_told at }
+{
+    match at {
+        Some(at) => at.line,
+        None => 1,
+    }
+}
+
+/// The column of a place, or the first one.
+fn column_told(at: Option<Position>) -> u32
+    ensures { result ≡ column_told at }
+{
+    match at {
+        Some(at) => at.column,
+        None => 1,
+    }
+}
+
+/// A refusal that stands by itself.
+fn kept_of(alloc: Global, refusal: Refusal<'_>) -> Result<KeptRefusal, AllocError>
+    ensures { IfOk result
+        (λ kept. kept_remark kept ≡ refusal_remark (refusal_told refusal.entry)) }
+{
+    let name = String::from_utf8_lossy(alloc, refusal.name)?;
+    Ok(KeptRefusal {
+        name,
+        line: line_told(refusal.at),
+        column: column_told(refusal.at),
+        text: refusal.text,
+    })
+}
+
+/// A kept refusal as a remark.
+fn remark_of(kept: &KeptRefusal) -> Remark<'_>
+    ensures { said_by result ≡ kept_remark kept.now }
+{
+    Remark {
+        file: kept.name.as_str(),
+        line: kept.line,
+        column: kept.column,
+        rule: None,
+        text: kept.text,
+    }
+}
+
+impl Kept {
+    /// None, where they are to be kept or not.
+    pub(crate) fn new(alloc: Global, keeps: bool) -> Kept
+        ensures { HoldsAll result [] }
+    {
+        Kept {
+            refusals: Vec::new(alloc),
+            is_whole: keeps,
+        }
+    }
+
+    /// Adds a refusal.
+    fn push(&mut self, refusal: KeptRefusal)
+        ensures { self.new.is_whole ≡ true → (self.old.is_whole ≡ true)
+            × (map kept_remark self.new.refusals.items
+            ≡ map kept_remark self.old.refusals.items ++ kept_remark refusal ∷ []) }
+    {
+        if self.refusals.push(refusal).is_err() {
+            self.is_whole = false;
+        }
+    }
+
+    /// Keeps a refusal, unless one is missing already.
+    pub fn add(&mut self, alloc: Global, refusal: Refusal<'_>)
+        ensures { KeepsAll self.old self.new (refusal_told refusal.entry ∷ []) }
+    {
+        if !self.is_whole {
+            return;
+        }
+        match kept_of(alloc, refusal) {
+            Ok(refusal) => self.push(refusal),
+            Err(_) => self.is_whole = false,
+        }
+    }
+
+    /// Keeps why a name that was found can't be linted, if it can't.
+    fn add_fault(&mut self, alloc: Global, found: &Found)
+        ensures { KeepsAll self.old self.new (refusal_in found.now) }
+    {
+        if let Some(fault) = found.fault {
+            self.add(
+                alloc,
+                Refusal {
+                    name: found.name.as_slice(),
+                    at: None,
+                    text: told_fault(fault).text(),
+                },
+            );
+        }
+    }
+
+    /// Keeps of each name why it can't be linted.
+    pub fn add_faults(&mut self, alloc: Global, faults: &[Found])
+        ensures { KeepsAll self.old self.new (flat_map refusal_in faults.now) }
+    {
+        for found in faults {
+            self.add_fault(alloc, found);
+        }
+    }
+
+    /// These refusals as remarks.
+    pub fn remarks(&self, alloc: Global) -> Result<Vec<Remark<'_>>, AllocError>
+        ensures { IfOk result
+            (λ all. map said_by all.items ≡ map kept_remark self.now.refusals.items) }
+    {
+        let mut all = Vec::with_capacity(alloc, self.refusals.len())?;
+        for refusal in self.refusals.iter() {
+            all.push(remark_of(refusal))?;
+        }
+        Ok(all)
+    }
+}

@@ -1,0 +1,296 @@
+"""The forms of `tfrules-all --format`, each read back as strictly as it can be, by Python's own readers of JSON and XML.
+A reader gives what the document says, in its order, as (file, line, column, severity, text, rule): of an issue, and of
+what couldn't be linted under the rule REFUSED. A column that a form lacks is None. What isn't as it must be is a
+ValueError."""
+
+import json
+import re
+import urllib.parse
+import xml.etree.ElementTree
+
+from report import misses
+
+FORMS = ('json', 'sarif', 'checkstyle', 'junit', 'gitlab', 'github')
+REFUSED = 'refused_file'
+DECLARATION = b'<?xml version="1.0" encoding="UTF-8"?>\n'
+COMMAND = re.compile(
+    r'::(notice|warning|error) file=([^:,\r\n]*),line=([1-9][0-9]*),col=([1-9][0-9]*),title=([a-z_]+)::([^\r\n]*)'
+)
+ISSUE = re.compile(r'(.*):([1-9][0-9]*):([1-9][0-9]*): (Error|Warning|Notice) - (.*) \((terraform_[a-z_]+)\)')
+# `FILE:LINE:COLUMN`, `FILE:LINE` of a line of a .tfrules, or a name alone.
+REFUSAL = re.compile(r'tfrules-all: error: (.*?)(?::([1-9][0-9]*)(?::([1-9][0-9]*))?)?: (.*)')
+
+
+def wrong(text, *given):
+    raise ValueError(text % given)
+
+
+def whole(number):
+    """A line or a column."""
+    if type(number) is not int or number < 1:
+        wrong('%r is no number of a line or a column', number)
+    return number
+
+
+def in_words(told, words):
+    return words[told] if told in words else wrong('%r is none of %r', told, sorted(words))
+
+
+# --- JSON ------------------------------------------------------------------------------------------------------
+
+
+def once(pairs):
+    if len(dict(pairs)) != len(pairs):
+        wrong('a member stands twice: %r', [name for name, _ in pairs])
+    return dict(pairs)
+
+
+def parsed(out):
+    """One line of UTF-8 without its end: one value, without a member that stands twice, NaN or Infinity."""
+    text = out.decode()
+    if '\n' in text or text != text.strip():
+        wrong('the document is not one line without its end: %r', text[-20:])
+    return json.loads(text, object_pairs_hook=once, parse_constant=lambda name: wrong('%s is no number of JSON', name))
+
+
+def members(value, *names):
+    """The values of an object with these members, in this order, and no others."""
+    if not isinstance(value, dict) or tuple(value) != names:
+        wrong('%.200r has not just the members %r', value, names)
+    return value.values()
+
+
+def from_json(out):
+    """TFLint's own."""
+    issues, errors = members(parsed(out), 'issues', 'errors')
+    return [issue_in(it) for it in issues] + [error_in(it) for it in errors]
+
+
+def issue_in(issue):
+    rule, text, span, callers = members(issue, 'rule', 'message', 'range', 'callers')
+    name, severity, link = members(rule, 'name', 'severity', 'link')
+    if (link, callers) != ('', []):
+        wrong('the link %r and the callers %r', link, callers)
+    return (*place_in(span), in_words(severity, dict(info='info', warning='warning')), text, name)
+
+
+def error_in(error):
+    text, severity, span = members(error, 'message', 'severity', 'range')
+    return (*place_in(span), in_words(severity, dict(error='error')), text, REFUSED)
+
+
+def place_in(span):
+    file, start, end = members(span, 'filename', 'start', 'end')
+    if start != end:
+        wrong('the issue ends at %r and begins at %r', end, start)
+    line, column = members(start, 'line', 'column')
+    return file, whole(line), whole(column)
+
+
+def from_gitlab(out):
+    return [entry_in(it) for it in parsed(out)]
+
+
+def entry_in(entry):
+    text, rule, mark, severity, location = members(
+        entry, 'description', 'check_name', 'fingerprint', 'severity', 'location'
+    )
+    path, spot = members(location, 'path', 'lines')
+    (line,) = members(spot, 'begin')
+    if not re.fullmatch('[0-9a-f]{64}:[1-9][0-9]*', mark):
+        wrong('the fingerprint %r', mark)
+    return path, whole(line), None, in_words(severity, dict(info='info', minor='warning', major='error')), text, rule
+
+
+def from_sarif(out):
+    log = parsed(out)
+    missed = misses('sarifLog', log)
+    if missed:
+        wrong('what the schema has not: %r', missed[:3])
+    (run,) = log['runs']
+    members(run, 'tool', 'results', 'invocations')  # and no `columnKind`, since no column is told
+    rules = run['tool']['driver']['rules']
+    return [result_in(it, rules) for it in run['results']]
+
+
+def result_in(result, rules):
+    name, number, level, message, locations, marks = members(
+        result, 'ruleId', 'ruleIndex', 'level', 'message', 'locations', 'partialFingerprints'
+    )
+    rule = dict(enumerate(rules)).get(number) or wrong('no rule has the number %r', number)
+    if (rule['id'], rule['defaultConfiguration']['level']) != (name, level):
+        wrong('the rule %d is %r, and not %s of level %s', number, rule, name, level)
+    first, second = members(marks, 'primaryLocationLineHash', 'tfrulesIssue/v1')
+    if first != second or not re.fullmatch('[0-9a-f]{64}:[1-9][0-9]*', first):
+        wrong('the fingerprints %r and %r', first, second)
+    ((place,),) = (members(it, 'physicalLocation') for it in locations)
+    artifact, region = members(place, 'artifactLocation', 'region')
+    (uri,), (line,) = members(artifact, 'uri'), members(region, 'startLine')
+    severity = in_words(level, dict(note='info', warning='warning', error='error'))
+    return name_of(uri), whole(line), None, severity, message['text'], name
+
+
+def name_of(uri):
+    """The name of a file by its URI: one of the scheme `file`, or a relative reference."""
+    if not re.fullmatch('[A-Za-z0-9._~/%-]*', uri[len('file://') :] if uri.startswith('file:///') else uri):
+        wrong('%r has what is to be escaped', uri)
+    parts = urllib.parse.urlsplit(uri)
+    if parts.scheme not in ('', 'file') or parts.netloc or parts.query or parts.fragment:
+        wrong('%r is read as %r', uri, parts)
+    return urllib.parse.unquote(parts.path, errors='strict')
+
+
+# --- XML -------------------------------------------------------------------------------------------------------
+
+
+def tree_of(out):
+    if not out.startswith(DECLARATION):
+        wrong('the document begins with %r', out[: len(DECLARATION)])
+    out.decode()
+    return xml.etree.ElementTree.fromstring(out)
+
+
+def element(given, tag, *names):
+    """The attributes of an element with this tag and just these attributes, in this order, and with no text."""
+    text = [given.text, *(it.tail for it in given)]
+    if given.tag != tag or tuple(given.attrib) != names or ''.join(it or '' for it in text).strip():
+        wrong('%s %r with the texts %r, where %s with %r is wanted', given.tag, given.attrib, text, tag, names)
+    return given.attrib.values()
+
+
+def from_checkstyle(out):
+    root = tree_of(out)
+    (version,) = element(root, 'checkstyle', 'version')
+    if version != '4.3':
+        wrong('the version %s', version)
+    return [said for file in root for said in errors_in(file)]
+
+
+def errors_in(file):
+    (name,) = element(file, 'file', 'name')
+    for error in file:
+        line, column, severity, text, rule = element(error, 'error', 'line', 'column', 'severity', 'message', 'source')
+        severity = in_words(severity, dict(info='info', warning='warning', error='error'))
+        yield name, whole(int(line)), whole(int(column)), severity, text, rule
+
+
+def suites_in(out):
+    """The suites, each as what its cases say. A case that passed says nothing."""
+    root = tree_of(out)
+    element(root, 'testsuites')
+    found = [suite_in(it) for it in root]
+    if not found or [] in found and len(found) > 1:
+        wrong('of %d suites %d have nothing', len(found), found.count([]))
+    return found
+
+
+def suite_in(suite):
+    name, *counts = element(suite, 'testsuite', 'name', 'tests', 'failures', 'errors')
+    said = [it for it in map(case_in, suite) if it]
+    failures, errors = (sum(it[0] == tag for it in said) for tag in ('failure', 'error'))
+    if (name, counts) != ('tfrules', [str(len(suite)), str(failures), str(errors)]) or len(suite) != (len(said) or 1):
+        wrong('the suite %r of %d cases has %d failures and %d errors', suite.attrib, len(suite), failures, errors)
+    return [it[1] for it in said]
+
+
+def case_in(case):
+    """What a case says, and by which element, or nothing of one that passed."""
+    rule, place = element(case, 'testcase', 'classname', 'name')
+    if not len(case):
+        return wrong('%s, %s passed', rule, place) if (rule, place) != ('tfrules', 'no issue') else None
+    (outcome,) = case
+    kind, text = element(outcome, 'error' if rule == REFUSED else 'failure', 'type', 'message')
+    severity = in_words(kind, dict(Error='error') if rule == REFUSED else dict(Warning='warning', Notice='info'))
+    if not text.startswith(place + ': '):
+        wrong('the message %r of the case %r', text, place)
+    file, line, column = place.rsplit(':', 2)
+    return outcome.tag, (file, whole(int(line)), whole(int(column)), severity, text[len(place) + 2 :], rule)
+
+
+def from_junit(out):
+    return [said for suite in suites_in(out) for said in suite]
+
+
+# --- lines -----------------------------------------------------------------------------------------------------
+
+
+def from_github(out):
+    *commands, end = out.decode().split('\n')
+    if end:
+        wrong('the last line has no end: %r', end[-40:])
+    return [command_in(it) for it in commands]
+
+
+def command_in(line):
+    found = COMMAND.fullmatch(line) or wrong('no command: %r', line)
+    word, file, row, column, rule, text = found.groups()
+    severity = in_words(word, dict(notice='info', warning='warning', error='error'))
+    return unescaped(file, {'3A', '2C'}), int(row), int(column), severity, unescaped(text, set()), rule
+
+
+def unescaped(text, more):
+    """A value as a workflow reads it, which knows no other escapes."""
+    first, *rest = text.split('%')
+    for it in rest:
+        if it[:2] not in {'25', '0D', '0A'} | more:
+            wrong('an escape that nothing reads: %r', text)
+    return first + ''.join(chr(int(it[:2], 16)) + it[2:] for it in rest)
+
+
+# --- any of them -----------------------------------------------------------------------------------------------
+
+READERS = {
+    'json': from_json,
+    'sarif': from_sarif,
+    'checkstyle': from_checkstyle,
+    'junit': from_junit,
+    'gitlab': from_gitlab,
+    'github': from_github,
+}
+
+
+def read(form, out):
+    """What a document says; where it can't be read, why, and how it ends."""
+    try:
+        return READERS[form](out)
+    except (ValueError, LookupError, TypeError, xml.etree.ElementTree.ParseError) as why:
+        return ['unreadable: %s: %r .. %r' % (why, out[:80], out[-80:])]
+
+
+def shown(form, said):
+    """What a form says of an issue or a refusal, since not each can say all."""
+    file, line, column, *rest = said
+    if form in ('checkstyle', 'junit'):
+        file = re.sub('[^\t\n\r\x20-\ud7ff\ue000-\ufffd\U00010000-\U0010ffff]', '\ufffd', file)
+    return (file, line, None if form in ('sarif', 'gitlab') else column, *rest)
+
+
+def apart(given, wanted):
+    """Where what is said first differs from what is wanted, or nothing."""
+    for at, (one, other) in enumerate(zip([*given, None], [*wanted, None])):
+        if one != other:
+            return 'number %d is %r and not %r; there are %d, and %d are wanted' % (
+                at + 1,
+                one,
+                other,
+                len(given),
+                len(wanted),
+            )
+    return ''
+
+
+def of_text(out, err, names=()):
+    """The same of the reports and the messages of a run without a form. `names` has names by how they are shown."""
+    *reports, end = out.decode().split('\n')
+    heads = [re.fullmatch(r'([1-9][0-9]*) issue\(s\) found:', it) for it in reports]
+    issues = [ISSUE.fullmatch(it) or wrong('no issue: %r', it) for it, head in zip(reports, heads) if it and not head]
+    if end or sum(int(head.group(1)) for head in heads if head) != len(issues):
+        wrong('the reports have %d issues: %r', len(issues), out[-80:])
+    refused = [REFUSAL.fullmatch(it) or wrong('no refusal: %r', it) for it in err.decode(errors='replace').splitlines()]
+    names, severities = dict(names), dict(Notice='info', Warning='warning', Error='error')
+    found = [it.groups() for it in issues]
+    found = [(names.get(file, file), int(r), int(c), severities[s], text, rule) for file, r, c, s, text, rule in found]
+    return found + [
+        (names.get(file, file), int(row or 1), int(column or 1), 'error', text, REFUSED)
+        for file, row, column, text in (it.groups() for it in refused)
+    ]
