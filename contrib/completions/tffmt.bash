@@ -20,7 +20,7 @@ _tffmt() {
     tfrules) options='--rules --naming --minimum-failure-severity --force --help' files=linted ;;
     tffmt-all) options='--check --diff --list --in-place --sync --quiet --exclude --any-name --jobs --shard --null --help --version' files=formatted ;;
     tfrules-all)
-      options='--rules --naming --minimum-failure-severity --force --no-config --quiet --shard --null --list-rules --explain --help --version'
+      options='--rules --naming --minimum-failure-severity --force --no-config --format --quiet --shard --null --list-rules --explain --help --version'
       files=linted ;;
     tffmt-hook) options='--install --uninstall --help --version' ;;
     tfrules-modules)
@@ -33,6 +33,7 @@ _tffmt() {
   done
   case ${1##*/}:$before in
     tfrules-report:--format) values='sarif checkstyle junit gitlab json github' ;;
+    tfrules-all:--format) values='text json sarif checkstyle junit gitlab github' ;;
     tfrules*:--rules)
       values="default all $rules"
       [[ $word != *,* ]] || first=$first${word%,*}, word=${word##*,} ;;

@@ -29,6 +29,7 @@ end
 complete -c tfrules -f -s h -l help -d 'Print the usage line'
 
 complete -c tfrules-all -l no-config -d 'Read no .tfrules'
+complete -c tfrules-all -x -l format -a 'text json sarif checkstyle junit gitlab github' -d 'How to write what is found'
 complete -c tfrules-all -l quiet -d 'Say nothing of the run as a whole'
 complete -c tfrules-all -x -l shard -d 'Take a part of the modules, K/N'
 complete -c tfrules-all -f -l list-rules -d 'Print what the rules report'

@@ -48,7 +48,8 @@ class Group:
         under_test = [self.program, self.linter, self.trees, self.linted, str(self.contrib)]
         if all(map(os.path.exists, under_test)) and not all(map(is_open, under_test)):
             self.take_in()
-        (self.folder('trees') / 'tffmt-all').symlink_to(self.trees)
+        for name, program in (('tffmt-all', self.trees), ('tfrules-all', self.linted)):
+            (self.folder('trees') / name).symlink_to(program)
         self.setting.update(
             TFFMT=self.program,
             TFRULES=self.linter,
@@ -189,7 +190,7 @@ class Group:
         return made
 
     def before_path(self, *folders):
-        """The path with these folders first, and then one that has tffmt-all alone."""
+        """The path with these folders first, and then one that has the programs of trees alone."""
         return ':'.join([str(f) for f in folders] + [str(self.top / 'trees'), self.setting['PATH']])
 
 

@@ -9,6 +9,7 @@ import shutil
 import subprocess
 
 from editors import on_terminal
+from form_readers import REFUSED, read
 from harness import BAD, GOOD, OTHER, TOP, lines, put
 
 PAGES = ['tffmt', 'tfrules', 'tffmt-all', 'tfrules-all', 'tffmt-hook', 'tfrules-modules', 'tfrules-report']
@@ -17,6 +18,7 @@ SCRIPTS = PAGES[4:6]
 
 # --- completions -----------------------------------------------------------------------------------------------
 
+FORMS = [b'checkstyle', b'github', b'gitlab', b'json', b'junit', b'sarif', b'text']
 DEPRECATED = [b'deprecated_index', b'deprecated_interpolation', b'documented_outputs', b'documented_variables']
 
 
@@ -25,7 +27,7 @@ def completions(group):
     here = group.fresh()
     put(here, {'good.tf': GOOD, 'text.txt': GOOD, 'in/x.tf': GOOD, 't.tftest.hcl': GOOD, 'v.tfvars': GOOD})
     path = group.before_path(group.script('tffmt', 'exit 0\n').parent, group.contrib)
-    if group.has('bash', checks=22):
+    if group.has('bash', checks=24):
 
         def bash(line):
             words = line.split(' ')
@@ -88,6 +90,8 @@ def completions(group):
                 [b'default,terraform_naming_convention'],
             )
         group.check('bash: formats', bash('tfrules-report --format s'), [b'sarif'])
+        group.check('bash: forms', bash('tfrules-all --format '), FORMS)
+        group.check('bash: a form after =', bash('tfrules-all --format=ju'), [b'--format=junit'])
         said = on_terminal(
             group,
             ['bash', '--norc', '-i'],
@@ -114,7 +118,7 @@ def completions(group):
             ],
         )
         group.holds('bash: on a terminal', b'tffmt-hook --install' in said, said)
-    if group.has('zsh', checks=13):
+    if group.has('zsh', checks=15):
         setup = b'fpath=("%s" $fpath); autoload -U compinit; compinit -u -D; print rea""dy\n' % os.fsencode(str(folder))
         for typed, wanted in (
             (b'tffmt-all --ch\t', b'tffmt-all --check'),
@@ -130,6 +134,8 @@ def completions(group):
             (b'tfrules --naming=\t', b'snake_case'),
             (b'tfrules t\t', b'tfrules t'),
             (b'tfrules-report --format sa\t', b'tfrules-report --format sarif'),
+            (b'tfrules-all --format te\t', b'tfrules-all --format text'),
+            (b'tfrules-all --format=ju\t', b'tfrules-all --format=junit'),
         ):
             said = on_terminal(
                 group,
@@ -145,7 +151,7 @@ def completions(group):
                 wanted in shown and (typed != b'tfrules t\t' or b'tftest' not in shown),
                 said,
             )
-    if group.has('fish', checks=13):
+    if group.has('fish', checks=15):
 
         def fish(line):
             done = group.call(
@@ -195,6 +201,8 @@ def completions(group):
             'fish: several rules', fish('tfrules --rules default,terraform_n'), [b'default,terraform_naming_convention']
         )
         group.check('fish: formats', fish('tfrules-report --format s'), [b'sarif'])
+        group.check('fish: forms', fish('tfrules-all --format '), FORMS)
+        group.check('fish: a form after =', fish('tfrules-all --format=ju'), [b'--format=junit'])
         group.check(
             'fish: the linter', (fish('tfrules-modules --nu'), fish('tfrules --rules a')), ([b'--null'], [b'all'])
         )
@@ -244,6 +252,7 @@ def recipes(group):
     suffixes = {'tf', 'tfvars', 'tofu', 'tftest.hcl', 'tfmock.hcl', 'tfquery.hcl', 'tofutest.hcl'}
     sharded(group, path, suffixes)
     scanning(group, here, path)
+    quality(group, here, path)
     jobs = (contrib / 'ci' / 'gitlab.yml').read_text().split('\ntfrules:\n')
     jobs[1:] = jobs[1].split('\ncode-quality:\n')
     gitlab = [set(re.findall(r'\*\*/\*\.([a-z.]+)', job)) for job in jobs]
@@ -307,7 +316,7 @@ def sharded(group, path, suffixes):
             [set(re.findall(r"'\*\.([a-z.]+)'", step)) for step in steps],
             [suffixes, {'tf', 'tofu'}],
         )
-        for step, words in zip(steps, (['tffmt-all', '--check'], ['tfrules-modules'])):
+        for step, words in zip(steps, (['tffmt-all', '--check'], ['tfrules-all'])):
             parts = [
                 group.call(
                     'sh',
@@ -324,7 +333,8 @@ def sharded(group, path, suffixes):
 
             def issues(each):
                 said = (each[1] + each[2]).splitlines()
-                return [line for line in said if line and not re.search(rb'issue\(s\)|, [0-9]+ unchanged', line)]
+                counts = rb'issue\(s\)|, [0-9]+ unchanged|issues? in [0-9]+'
+                return [line for line in said if line and not re.search(counts, line)]
 
             group.check(
                 'the shards of %s and %s' % (words[0], name),
@@ -334,17 +344,35 @@ def sharded(group, path, suffixes):
 
 
 def scanning(group, here, path):
-    """The steps of the job for code scanning. A module that has issues doesn't fail it, and a refused one does."""
-    step = re.search(
-        r'run: (tfrules-report .*)', (group.contrib / 'ci' / 'github-code-scanning.yml').read_text()
-    ).group(1)
+    """The steps of the job for code scanning. A module that has issues doesn't fail it, and a refused one does; what was
+    written is uploaded then too."""
+    text = (group.contrib / 'ci' / 'github-code-scanning.yml').read_text()
+    step, into = re.search(r'run: (tfrules-all .* >(\S+))', text).groups()
     issues = group.fresh()
     put(issues, {'m/a.tf': b'variable "n" {}\n'})
-    for folder, wanted, count in ((here, 1, 0), (issues, 0, 2)):
+    for folder, wanted, rules in (
+        (here, 1, [REFUSED]),
+        (issues, 0, ['terraform_typed_variables', 'terraform_unused_declarations']),
+    ):
         status = group.call('sh', '-e', '-c', step, cwd=folder, PATH=path)[0]
-        run = json.loads((folder / 'tfrules.sarif').read_text())['runs'][0]
-        group.check('code scanning', (status, len(run['results'])), (wanted, count))
-        (folder / 'tfrules.sarif').unlink()
+        told = [it[-1] for it in read('sarif', (folder / into).read_bytes())]
+        group.check('code scanning', (status, told), (wanted, rules))
+        (folder / into).unlink()
+    upload = re.search(r'- if: (.*)\n +uses: .*/upload-sarif@.*\n +with:\n +sarif_file: (\S+)', text)
+    condition = "${{ !cancelled() && hashFiles('%s') != '' }}" % into
+    group.check('what is uploaded, and when', upload and upload.groups(), (condition, into))
+
+
+def quality(group, here, path):
+    """The job for GitLab's code quality. Its report has what can't be linted, and is kept where the job fails."""
+    job = (group.contrib / 'ci' / 'gitlab.yml').read_text().split('\ncode-quality:\n')[1]
+    step, into = re.search(r'- (tfrules-all .* >(\S+))', job).groups()
+    put(here, {'m/a.tf': b'variable "n" { type = string }\n'})
+    status = group.call('sh', '-e', '-c', step, cwd=here, PATH=path)[0]
+    told = [it[-1] for it in read('gitlab', (here / into).read_bytes())]
+    group.check('code quality', (status, told), (1, ['terraform_unused_declarations', REFUSED]))
+    kept = re.search(r'artifacts:\n +when: (\S+)\n +reports:\n +codequality: (\S+)', job)
+    group.check('the report that is kept', kept and kept.groups(), ('always', into))
 
 
 def lint_matchers(group):
