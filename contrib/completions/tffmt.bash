@@ -20,7 +20,7 @@ _tffmt() {
     tfrules) options='--rules --naming --minimum-failure-severity --force --help' files=linted ;;
     tffmt-all) options='--check --diff --list --in-place --sync --quiet --exclude --any-name --jobs --shard --null --help --version' files=formatted ;;
     tfrules-all)
-      options='--rules --naming --minimum-failure-severity --force --no-config --format --quiet --shard --null --list-rules --explain --help --version'
+      options='--rules --naming --minimum-failure-severity --force --no-config --format --quiet --shard --jobs --null --list-rules --explain --help --version'
       files=linted ;;
     tffmt-hook) options='--install --uninstall --help --version' ;;
     tfrules-modules)

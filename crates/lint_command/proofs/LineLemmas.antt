@@ -12,7 +12,7 @@ use Rattle.lint_command.specs.declared.usage.Usage.{Usage}
 pub given_parts : (r r' : Result (Option (List Rule)) Usage) (n n' : Result (Option Naming) Usage) (m m' : Result (Option Severity) Usage) (f f' v v' : Bool) → r ≡ r' → n ≡ n' → m ≡ m' → f ≡ f' → v ≡ v' → given_by r n m f v ≡ given_by r' n' m' f' v'
 given_parts r r' n n' m m' f f' v v' er en em ef ev = λ i. given_by (er i) (en i) (em i) (ef i) (ev i)
 
-pub asking_parts : (w w' : Result Given Usage) (q q' : Bool) (s s' : Option (Option Shard)) (o o' : Option (Option Form)) (g null null' : Bool) (k k' : ℕ) (names : List (List ℕ)) → w ≡ w' → q ≡ q' → s ≡ s' → o ≡ o' → g ≡ is_good null k → null ≡ null' → k ≡ k'
-    → asking_by w q s o g null names ≡ asking_by w' q' s' o' (is_good null' k') null' names
-asking_parts w w' q q' s s' o o' g null null' k k' names ew eq es eo eg enull ek =
-    (λ i. asking_by (ew i) (eq i) (es i) (eo i) (eg i) null names) ∙ (λ i. asking_by w' q' s' o' (is_good (enull i) (ek i)) (enull i) names)
+pub asking_parts : (w w' : Result Given Usage) (q q' : Bool) (s s' : Option (Option Shard)) (o o' : Option (Option Form)) (j j' g null null' : Bool) (k k' : ℕ) (names : List (List ℕ)) → w ≡ w' → q ≡ q' → s ≡ s' → o ≡ o' → j ≡ j' → g ≡ is_good null k → null ≡ null' → k ≡ k'
+    → asking_by w q s o j g null names ≡ asking_by w' q' s' o' j' (is_good null' k') null' names
+asking_parts w w' q q' s s' o o' j j' g null null' k k' names ew eq es eo ej eg enull ek =
+    (λ i. asking_by (ew i) (eq i) (es i) (eo i) (ej i) (eg i) null names) ∙ (λ i. asking_by w' q' s' o' j' (is_good (enull i) (ek i)) (enull i) names)

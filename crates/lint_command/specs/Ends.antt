@@ -33,7 +33,7 @@ use Rattle.lint_command.specs.Explained.{explained, rule_list}
 use Rattle.lint_command.specs.Line.{Asking, Job, asking_of_texts}
 use Rattle.lint_command.specs.LinterWords.{linter_words}
 use Rattle.lint_command.specs.declared.usage.Usage.{Usage}
-use Rattle.lint_command.specs.declared.usage.Usage.TheVariants.{Help, Version, ListRules, Explain, BadLine, UnknownRule, NoRuleLeft, BadNaming, BadSeverity, BadPart, BadForm, NamesTwice, OutOfMemory}
+use Rattle.lint_command.specs.declared.usage.Usage.TheVariants.{Help, Version, ListRules, Explain, BadLine, UnknownRule, NoRuleLeft, BadNaming, BadSeverity, BadPart, BadForm, BadJobs, NamesTwice, OutOfMemory}
 
 -- ---- what is linted
 
@@ -183,7 +183,7 @@ abbrev pub version_line : List ℕ
 version_line = codes "tfrules-all 0.3.0\n"
 
 abbrev pub help_text : List ℕ
-help_text = codes "usage: tfrules-all [--rules LIST] [--naming NAMING]\n                   [--minimum-failure-severity SEVERITY] [--force]\n                   [--no-config] [--format FORM] [--quiet] [--shard K/N]\n                   [--null] [--] [FILE|FOLDER]...\n       tfrules-all --list-rules\n       tfrules-all --explain RULE\n\nLints the modules of folders, each by itself, as tfrules lints its files.\n\nA module is the .tf and .tofu files of one folder. A file stands for its\nfolder, also one that was deleted while the folder is there; a folder for\nitself and all below. Files and folders whose names begin with a dot or end\nwith ~, and those named #...#, are passed over. Without an operand it is the\ncurrent folder.\n\nOptions that the line doesn't have come from the nearest .tfrules, in the folder\nof a module or above it up to the top of the repository: one a line, of the\nfirst four below.\n\n  --rules LIST     default, all or names of rules, with commas between them; a\n                   dash before one takes its rules away: all,-terraform_...\n  --naming NAMING  snake_case or mixed_snake_case\n  --minimum-failure-severity SEVERITY\n                   error, warning or notice: from which severity on an issue\n                   fails the run\n  --force          no issue fails the run\n  --no-config      read no file .tfrules\n  --format FORM    text; or json (TFLint's), sarif, checkstyle, junit, gitlab or\n                   github: what forges and editors read, of all modules, with\n                   what couldn't be linted\n  --quiet          say nothing of the run as a whole: no count of the issues\n                   at its end\n  --shard K/N      take the K-th of N parts of the folders\n  -0, --null       read names, each ended by NUL, from standard input\n  --list-rules     print each rule with its severity, whether it is a default\n                   one, and what it reports\n  --explain RULE   print that of a rule, why it does, and how to silence it\n  -h, --help       print this\n  --version        print the version\n\nStatus: 0  no module has an issue that fails the run\n        1  something couldn't be linted, or the command line is wrong\n        2  an issue fails the run, and nothing is worse\n"
+help_text = codes "usage: tfrules-all [--rules LIST] [--naming NAMING]\n                   [--minimum-failure-severity SEVERITY] [--force]\n                   [--no-config] [--format FORM] [--quiet] [--shard K/N]\n                   [--null] [--] [FILE|FOLDER]...\n       tfrules-all --list-rules\n       tfrules-all --explain RULE\n\nLints the modules of folders, each by itself, as tfrules lints its files.\n\nA module is the .tf and .tofu files of one folder. A file stands for its\nfolder, also one that was deleted while the folder is there; a folder for\nitself and all below. Files and folders whose names begin with a dot or end\nwith ~, and those named #...#, are passed over. Without an operand it is the\ncurrent folder.\n\nOptions that the line doesn't have come from the nearest .tfrules, in the folder\nof a module or above it up to the top of the repository: one a line, of the\nfirst four below.\n\n  --rules LIST     default, all or names of rules, with commas between them; a\n                   dash before one takes its rules away: all,-terraform_...\n  --naming NAMING  snake_case or mixed_snake_case\n  --minimum-failure-severity SEVERITY\n                   error, warning or notice: from which severity on an issue\n                   fails the run\n  --force          no issue fails the run\n  --no-config      read no file .tfrules\n  --format FORM    text; or json (TFLint's), sarif, checkstyle, junit, gitlab or\n                   github: what forges and editors read, of all modules, with\n                   what couldn't be linted\n  --quiet          say nothing of the run as a whole: no count of the issues\n                   at its end\n  --shard K/N      take the K-th of N parts of the folders\n  -0, --null       read names, each ended by NUL, from standard input\n  -j, --jobs N     taken, and of no use: modules are linted one after the\n                   other\n  --list-rules     print each rule with its severity, whether it is a default\n                   one, and what it reports\n  --explain RULE   print that of a rule, why it does, and how to silence it\n  -h, --help       print this\n  --version        print the version\n\nStatus: 0  no module has an issue that fails the run\n        1  something couldn't be linted, or the command line is wrong\n        2  an issue fails the run, and nothing is worse\n"
 
 -- THE ROW of these texts where they ask for a text, or are no line of this program's
 abbrev pub usage_row : List Text → Usage → Row
@@ -198,6 +198,7 @@ usage_row texts BadNaming = fails_with tree_linter (codes "unknown naming")
 usage_row texts BadSeverity = fails_with tree_linter (codes "unknown severity")
 usage_row texts BadPart = fails_with tree_linter (codes "--shard takes K/N, with K from 1 to N, at most 99999")
 usage_row texts BadForm = fails_with tree_linter (codes "--format takes text, json, sarif, checkstyle, junit, gitlab or github")
+usage_row texts BadJobs = fails_with tree_linter (codes "--jobs takes a number from 1 to 9999")
 usage_row texts NamesTwice = fails_with tree_linter (codes "--null takes no names on the command line")
 usage_row texts OutOfMemory = out_of_memory tree_linter
 

@@ -17,10 +17,10 @@ use Rattle.rule_set.specs.declared.rule.Rule.{Rule}
 use Rattle.rule_set.specs.declared.rule.Severity.{Severity}
 use Rattle.tf_rules.specs.declared.naming.Naming.{Naming}
 use Rattle.tfrules_command.specs.Line.{naming_asked, severity_asked}
-use Rattle.tree_words.specs.Line.{count_rule, file_rule, is_given, null_rule, others_in, shard_given, texts_in, texts_of}
+use Rattle.tree_words.specs.Line.{are_jobs_good, count_rule, file_rule, is_given, jobs_rule, null_rule, others_in, shard_given, texts_in, texts_of}
 use Rattle.tree_words.specs.declared.shard.Shard.{Shard}
 use Rattle.lint_command.specs.declared.usage.Usage.{Usage}
-use Rattle.lint_command.specs.declared.usage.Usage.TheVariants.{Help, Version, ListRules, Explain, BadLine, UnknownRule, NoRuleLeft, BadNaming, BadSeverity, BadPart, BadForm, NamesTwice, OutOfMemory}
+use Rattle.lint_command.specs.declared.usage.Usage.TheVariants.{Help, Version, ListRules, Explain, BadLine, UnknownRule, NoRuleLeft, BadNaming, BadSeverity, BadPart, BadForm, BadJobs, NamesTwice, OutOfMemory}
 
 -- by what modules are linted: the options of the line, and whether files `.tfrules` are read for the others
 pub record Given : Type 0 where
@@ -43,12 +43,12 @@ pub record Asking : Type 0 where
 -- ---- the command
 
 -- `tfrules-all [--rules LIST] [--naming NAMING] [--minimum-failure-severity SEVERITY] [--force] [--no-config] [--format FORM] [--quiet]
--- [--version] [--null] [--shard K/N] [--list-rules] [--explain RULE] [--] [FILE|FOLDER]...`
+-- [--version] [--null] [--shard K/N] [--jobs NUMBER] [--list-rules] [--explain RULE] [--] [FILE|FOLDER]...`
 abbrev pub tfrules_all : App
 tfrules_all =
     fold with_rule (new_app (codes "tfrules-all"))
     (option_rule (codes "rules") ∷ option_rule (codes "naming") ∷ option_rule (codes "minimum-failure-severity") ∷ count_rule (codes "force")
-    ∷ count_rule (codes "no-config") ∷ option_rule (codes "format") ∷ count_rule (codes "quiet") ∷ count_rule (codes "version") ∷ null_rule ∷ option_rule (codes "shard") ∷ count_rule (codes "list-rules")
+    ∷ count_rule (codes "no-config") ∷ option_rule (codes "format") ∷ count_rule (codes "quiet") ∷ count_rule (codes "version") ∷ null_rule ∷ option_rule (codes "shard") ∷ jobs_rule ∷ count_rule (codes "list-rules")
     ∷ option_rule (codes "explain") ∷ file_rule ∷ [])
 
 -- ---- by what modules are linted
@@ -101,17 +101,18 @@ form_given (Some text) = form_asked text
 abbrev pub is_good : Bool → ℕ → Bool
 is_good null names = not null || names == 0
 
-abbrev pub asking_by : Result Given Usage → Bool → Option (Option Shard) → Option (Option Form) → Bool → Bool → List Name → Result Asking Usage
-asking_by (Err usage) quiet shard form is_good null names = Err usage
-asking_by (Ok given) quiet None form is_good null names = Err BadPart
-asking_by (Ok given) quiet (Some shard) None is_good null names = Err BadForm
-asking_by (Ok given) quiet (Some shard) (Some form) false null names = Err NamesTwice
-asking_by (Ok given) quiet (Some shard) (Some form) true null names =
+abbrev pub asking_by : Result Given Usage → Bool → Option (Option Shard) → Option (Option Form) → Bool → Bool → Bool → List Name → Result Asking Usage
+asking_by (Err usage) quiet shard form are_jobs is_good null names = Err usage
+asking_by (Ok given) quiet None form are_jobs is_good null names = Err BadPart
+asking_by (Ok given) quiet (Some shard) None are_jobs is_good null names = Err BadForm
+asking_by (Ok given) quiet (Some shard) (Some form) false is_good null names = Err BadJobs
+asking_by (Ok given) quiet (Some shard) (Some form) true false null names = Err NamesTwice
+asking_by (Ok given) quiet (Some shard) (Some form) true true null names =
     Ok (record { job = record { given = given; quiet = quiet; shard = shard; form = form }; null = null; names = names })
 
 abbrev pub asking_with : List Row → List Name → Result Asking Usage
 asking_with rows names =
-    asking_by (given_asked rows) (is_given (codes "quiet") rows) (shard_given (first_of (codes "shard") rows)) (form_given (first_of (codes "format") rows)) (is_good (is_given (codes "null") rows) (length names))
+    asking_by (given_asked rows) (is_given (codes "quiet") rows) (shard_given (first_of (codes "shard") rows)) (form_given (first_of (codes "format") rows)) (are_jobs_good rows) (is_good (is_given (codes "null") rows) (length names))
     (is_given (codes "null") rows) names
 
 -- what is said of the rule that `--explain` names

@@ -18,12 +18,13 @@ static NAMES: &[&str] = &[
     "version",
     "null",
     "shard",
+    "jobs",
     "list-rules",
     "explain",
     "help",
 ];
 
-static LETTERS: &[u8] = b"0h";
+static LETTERS: &[u8] = b"0jh";
 
 /// Options of TFLint and of `terraform`.
 static FOREIGN: &[Foreign] = &[

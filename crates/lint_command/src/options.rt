@@ -18,6 +18,7 @@ use rule_set::{ALL_RULES, rule_named};
 use std::alloc::{AllocError, Global};
 use tf_rules::{Naming, RuleSet, Severity};
 use tfrules_command::options::{naming_asked, severity_asked};
+use tree_words::jobs::{are_jobs_good, jobs};
 use tree_words::options::{counted_flag, file, is_given, names_in, null};
 use tree_words::shard::{Shard, shard_of};
 
@@ -68,6 +69,7 @@ fn command<'a>(alloc: Global) -> Result<Command<'a>, AllocError>
         .arg(counted_flag(alloc, "version"))?
         .arg(null(alloc))?
         .arg(option_named(alloc, "shard"))?
+        .arg(jobs(alloc))?
         .arg(counted_flag(alloc, "list-rules"))?
         .arg(option_named(alloc, "explain"))?
         .arg(file(alloc))
@@ -222,11 +224,12 @@ fn options_by<'a>(
     quiet: bool,
     shard: Option<Option<Shard>>,
     form: Option<Option<Form>>,
+    are_jobs: bool,
     is_good: bool,
     null: bool,
     names: Vec<&'a [u8]>,
 ) -> Result<LintOptions<'a>, Usage>
-    ensures { asked_by result ≡ asking_by (given_in given) quiet shard form is_good null
+    ensures { asked_by result ≡ asking_by (given_in given) quiet shard form are_jobs is_good null
         (map (λ name. name.now) names.entry.items) }
 {
     let given = match given {
@@ -239,6 +242,9 @@ fn options_by<'a>(
     let Some(form) = form else {
         return Err(Usage::BadForm);
     };
+    if !are_jobs {
+        return Err(Usage::BadJobs);
+    }
     if !is_good {
         return Err(Usage::NamesTwice);
     }
@@ -266,9 +272,10 @@ fn options_with<'a>(
     let quiet = is_given(matches, "quiet");
     let shard = shard_of(matches);
     let form = form_of(matches);
+    let are_jobs = are_jobs_good(matches);
     let null = is_given(matches, "null");
     let is_good = is_good(null, names.as_slice());
-    options_by(given, quiet, shard, form, is_good, null, names)
+    options_by(given, quiet, shard, form, are_jobs, is_good, null, names)
 }
 
 /// What the words ask for that name a rule to explain.

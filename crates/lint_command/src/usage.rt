@@ -27,6 +27,8 @@ pub enum Usage {
     BadPart,
     /// `--format` says no form.
     BadForm,
+    /// `--jobs` says no number of jobs.
+    BadJobs,
     /// `--null` stands beside names.
     NamesTwice,
     /// Memory ran out.
@@ -85,6 +87,8 @@ first four below.
                    at its end
   --shard K/N      take the K-th of N parts of the folders
   -0, --null       read names, each ended by NUL, from standard input
+  -j, --jobs N     taken, and of no use: modules are linted one after the
+                   other
   --list-rules     print each rule with its severity, whether it is a default
                    one, and what it reports
   --explain RULE   print that of a rule, why it does, and how to silence it

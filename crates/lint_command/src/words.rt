@@ -29,6 +29,8 @@ static BAD_PART: &str =
 static BAD_FORM: &str =
     "tfrules-all: error: --format takes text, json, sarif, checkstyle, junit, gitlab or github\n";
 
+static BAD_JOBS: &str = "tfrules-all: error: --jobs takes a number from 1 to 9999\n";
+
 static NAMES_TWICE: &str = "tfrules-all: error: --null takes no names on the command line\n";
 
 /// This program as its messages have it.
@@ -107,6 +109,7 @@ pub(crate) fn say<O: ByteSink, E: ByteSink>(
         Usage::BadSeverity => tree_linter().tell(out, err, BAD_SEVERITY, 1),
         Usage::BadPart => tree_linter().tell(out, err, BAD_PART, 1),
         Usage::BadForm => tree_linter().tell(out, err, BAD_FORM, 1),
+        Usage::BadJobs => tree_linter().tell(out, err, BAD_JOBS, 1),
         Usage::NamesTwice => tree_linter().tell(out, err, NAMES_TWICE, 1),
         Usage::OutOfMemory => tree_linter().tell_out_of_memory(out, err),
     }

@@ -114,7 +114,7 @@ const ONE: &[u8] = b"1 issue in 1 of 1 module\n";
 
 const TWO: &[u8] = b"2 issues in 1 of 1 module\n";
 
-static ROWS: [Row; 30] = [
+static ROWS: [Row; 32] = [
     // A folder stands for itself and all below, a file for its folder alone.
     Row {
         words: &[b"tfrules-all", b"a"],
@@ -312,6 +312,20 @@ static ROWS: [Row; 30] = [
         out: b"",
         err: b"tfrules-all: error: --format takes text, json, sarif, checkstyle, junit, gitlab or github\n",
         status: 1,
+    },
+    Row {
+        words: &[b"tfrules-all", b"-j", b"0", b"a"],
+        input: b"",
+        out: b"",
+        err: b"tfrules-all: error: --jobs takes a number from 1 to 9999\n",
+        status: 1,
+    },
+    Row {
+        words: &[b"tfrules-all", b"-j4", b"--jobs=8", b"a/main.tf"],
+        input: b"",
+        out: A,
+        err: ONE,
+        status: 2,
     },
     Row {
         words: &[b"tfrules-all", b"--format", b"text", b"a/main.tf"],

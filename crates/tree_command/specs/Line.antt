@@ -1,7 +1,6 @@
 -- What the words of a `tffmt-all` line ask for. clap reads those that are UTF-8 as a simple command: its own definitions of the
 -- matches and the faults of a line decide. What its options may say, and that the other words are names, is our own choice.
-use Rattle.std.specs.Prelude.{ℕ, ◌==◌, ◌&&◌, not, Bool, true, false, List, [], ◌∷◌, ◌++◌, Option, Some, None, Result, Ok, Err, codes, fold, length, nat_le, if◌then◌else◌}
-use Rattle.std.specs.List.{list_all}
+use Rattle.std.specs.Prelude.{ℕ, ◌==◌, ◌&&◌, not, Bool, true, false, List, [], ◌∷◌, ◌++◌, Option, Some, None, Result, Ok, Err, codes, fold, length, if◌then◌else◌}
 use Rattle.std.specs.Option.{option_map_or}
 use Rattle.clap.specs.Words.{App, Row, Rule, Text, fault_of, first_of, matches_of, new_app, new_rule, with_rule}
 use Rattle.clap.specs.declared.builder.ArgAction.TheVariants.{Append}
@@ -13,7 +12,7 @@ use Rattle.tree_format.specs.declared.mode.Ending.{Ending}
 use Rattle.tree_format.specs.declared.mode.Ending.TheVariants.{Line, Null}
 use Rattle.tree_format.specs.declared.mode.Mode.{Mode}
 use Rattle.tree_format.specs.declared.mode.Mode.TheVariants.{Write, Check, List as Listed, Diff}
-use Rattle.tree_words.specs.Line.{count_rule, file_rule, is_given, null_rule, number_in, others_in, shard_given, texts_in, texts_of}
+use Rattle.tree_words.specs.Line.{are_jobs_good, count_rule, file_rule, is_given, jobs_rule, null_rule, others_in, shard_given, texts_in, texts_of}
 use Rattle.tree_words.specs.declared.shard.Shard.{Shard}
 use Rattle.tree_command.specs.declared.usage.Usage.{Usage}
 use Rattle.tree_command.specs.declared.usage.Usage.TheVariants.{Help, Version, BadLine, TwoModes, BadPart, BadJobs, NamesTwice, OutOfMemory}
@@ -42,10 +41,6 @@ abbrev pub part_of : Asking → Part
 part_of asking = record { shard = asking.shard; chosen = chosen_by asking.given.any_name asking.given.excluded }
 
 -- ---- the command
-
--- `-j NUMBER` and `--jobs NUMBER`, which may be given more than once
-abbrev pub jobs_rule : Rule
-jobs_rule = record (new_rule (codes "jobs")) { long = Some (codes "jobs"); short = Some 106; action = Some Append }
 
 -- `--exclude TEXT`, which may be given more than once
 abbrev pub exclude_rule : Rule
@@ -80,14 +75,6 @@ mode_asked rows =
     mode_by (is_given (codes "check") rows) (is_given (codes "diff") rows) (is_given (codes "list") rows) (ending_by (is_given (codes "null") rows))
     (record { in_place = is_given (codes "in-place") rows; sync = is_given (codes "sync") rows })
 
--- ---- jobs
-
-abbrev pub max_jobs : ℕ
-max_jobs = 9999
-
-abbrev pub is_jobs : Text → Bool
-is_jobs text = option_map_or (λ n. nat_le n max_jobs) (number_in text) false
-
 -- ---- the line
 
 -- names are to be read from standard input, and stand on the line too
@@ -112,7 +99,7 @@ given_by others rows = record {
 
 abbrev pub asking_with : List Row → Given → Result Asking Usage
 asking_with rows given =
-    asking_by (mode_asked rows) (shard_given (first_of (codes "shard") rows)) (list_all is_jobs (texts_of (codes "jobs") rows)) given
+    asking_by (mode_asked rows) (shard_given (first_of (codes "shard") rows)) (are_jobs_good rows) given
 
 abbrev pub asking_of_rows : List Name → List Row → Result Asking Usage
 asking_of_rows others rows = if is_given (codes "version") rows then Err Version else asking_with rows (given_by others rows)

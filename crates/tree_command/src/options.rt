@@ -1,10 +1,9 @@
 //! The words of the command line.
 
 ghost use Rattle.std.specs.Prelude.{◌≡◌, ◌⊎◌, false, codes, Err, IfOk, Some, map};
-ghost use Rattle.std.specs.List.{list_all};
 ghost use Rattle.clap.specs.Words.{app_of, found_of, rows_of, rule_of};
 ghost use Rattle.tree_command.specs.Asked.{asked_by, given_of};
-ghost use Rattle.tree_command.specs.Line.{asking_by, asking_of_rows, asking_of_texts, asking_with, ending_by, exclude_rule, given_by, has_names_twice, is_jobs, jobs_rule, mode_asked, mode_by, mode_of_texts, tffmt_all};
+ghost use Rattle.tree_command.specs.Line.{asking_by, asking_of_rows, asking_of_texts, asking_with, ending_by, exclude_rule, given_by, has_names_twice, mode_asked, mode_by, mode_of_texts, tffmt_all};
 ghost use Rattle.tree_command.specs.declared.usage.Usage.TheVariants.{OutOfMemory};
 ghost use Rattle.tree_words.specs.Line.{texts_of};
 
@@ -14,11 +13,9 @@ use command_line::{option_named, usage_for};
 use file_tree::tree::Writing;
 use std::alloc::{AllocError, Global};
 use tree_format::mode::{Ending, Mode};
-use tree_words::number::number_in;
+use tree_words::jobs::{are_jobs_good, jobs};
 use tree_words::options::{counted_flag, file, is_given, names_in, names_of, null};
 use tree_words::shard::{Shard, shard_of};
-
-const MAX_JOBS: u32 = 9_999;
 
 /// What the words give that is never wrong by itself.
 #[derive(Debug, Drop)]
@@ -44,17 +41,6 @@ pub struct TreeOptions<'a> {
     pub shard: Option<Shard>,
     /// What else the words give.
     pub given: Given<'a>,
-}
-
-/// `-j NUMBER` and `--jobs NUMBER`.
-fn jobs<'a>(alloc: Global) -> Arg<'a>
-    ensures rule { rule_of result ≡ jobs_rule }
-    ensures local { result.global ≡ false }
-{
-    Arg::new(alloc, "jobs")
-        .long("jobs")
-        .short('j')
-        .action(ArgAction::Append)
 }
 
 /// `--exclude PATH`.
@@ -120,32 +106,6 @@ fn mode_of(matches: &ArgMatches<'_>) -> Option<Mode>
     let list = is_given(matches, "list");
     let ending = ending_by(is_given(matches, "null"));
     mode_by(check, diff, list, ending, writing)
-}
-
-/// Whether a text is a number of jobs.
-fn is_jobs(text: &str) -> bool
-    ensures { result ≡ is_jobs text.now }
-{
-    match number_in(text) {
-        Some(number) => number <= MAX_JOBS,
-        None => false,
-    }
-}
-
-fn are_jobs(texts: &[&str]) -> bool
-    ensures { result ≡ list_all (λ text. is_jobs text.now) texts.now }
-{
-    texts.iter().all(|text| is_jobs(text))
-}
-
-/// Whether all numbers of jobs are numbers.
-fn are_jobs_good(matches: &ArgMatches<'_>) -> bool
-    ensures { result ≡ list_all is_jobs (texts_of (codes "jobs") (rows_of (found_of matches.now))) }
-{
-    match matches.get_strs("jobs") {
-        Some(texts) => are_jobs(texts),
-        None => true,
-    }
 }
 
 /// Whether names are to come from standard input and stand on the line too.

@@ -59,6 +59,22 @@ abbrev pub shard_given : Option Text → Option (Option Shard)
 shard_given None = Some None
 shard_given (Some text) = option_map Some (shard_in text)
 
+-- ---- jobs
+
+-- `-j NUMBER` and `--jobs NUMBER`, which may be given more than once
+abbrev pub jobs_rule : Rule
+jobs_rule = record (new_rule (codes "jobs")) { long = Some (codes "jobs"); short = Some 106; action = Some Append }
+
+abbrev pub max_jobs : ℕ
+max_jobs = 9999
+
+abbrev pub is_jobs : Text → Bool
+is_jobs text = option_map_or (λ n. nat_le n max_jobs) (number_in text) false
+
+-- all numbers of jobs are numbers
+abbrev pub are_jobs_good : List Row → Bool
+are_jobs_good rows = list_all is_jobs (texts_of (codes "jobs") rows)
+
 -- ---- words that aren't UTF-8
 
 -- the name of the program, whatever the first word is, and the words after it that are UTF-8

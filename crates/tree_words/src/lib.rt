@@ -2,6 +2,7 @@
 //! of what was found is taken, and what is said of a line that is none.
 #![tactic(auto)]
 
+pub mod jobs;
 pub mod number;
 pub mod operands;
 pub mod options;

@@ -15,6 +15,7 @@ returns c =
     let shape8 = c.in_ok-arg-8.ensures.shape c.counted_flag-4.ensures.local ∙ ap₂ with_rule shape7 c.counted_flag-4.ensures.rule in
     let shape9 = c.in_ok-arg-9.ensures.shape c.null.ensures.local ∙ ap₂ with_rule shape8 c.null.ensures.rule in
     let shape10 = c.in_ok-arg-10.ensures.shape c.option_named-5.ensures.local ∙ ap₂ with_rule shape9 c.option_named-5.ensures.rule in
-    let shape11 = c.in_ok-arg-11.ensures.shape c.counted_flag-5.ensures.local ∙ ap₂ with_rule shape10 c.counted_flag-5.ensures.rule in
-    let shape12 = c.in_ok-arg-12.ensures.shape c.option_named-6.ensures.local ∙ ap₂ with_rule shape11 c.option_named-6.ensures.rule in
-    IfOk-weaker c.arg-13.result _ _ (λ r h. h.shape c.file.ensures.local ∙ ap₂ with_rule shape12 c.file.ensures.rule) c.arg-13.ensures
+    let shape11 = c.in_ok-arg-11.ensures.shape c.jobs.ensures.local ∙ ap₂ with_rule shape10 c.jobs.ensures.rule in
+    let shape12 = c.in_ok-arg-12.ensures.shape c.counted_flag-5.ensures.local ∙ ap₂ with_rule shape11 c.counted_flag-5.ensures.rule in
+    let shape13 = c.in_ok-arg-13.ensures.shape c.option_named-6.ensures.local ∙ ap₂ with_rule shape12 c.option_named-6.ensures.rule in
+    IfOk-weaker c.arg-14.result _ _ (λ r h. h.shape c.file.ensures.local ∙ ap₂ with_rule shape13 c.file.ensures.rule) c.arg-14.ensures

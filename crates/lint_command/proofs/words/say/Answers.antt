@@ -1,5 +1,5 @@
 use Rattle.std.proofs.Common.{map}
-use Rattle.lint_command.specs.declared.usage.Usage.TheVariants.{BadForm, BadNaming, BadPart, BadSeverity, Explain, Help, ListRules, NamesTwice, NoRuleLeft, UnknownRule, Version}
+use Rattle.lint_command.specs.declared.usage.Usage.TheVariants.{BadForm, BadJobs, BadNaming, BadPart, BadSeverity, Explain, Help, ListRules, NamesTwice, NoRuleLeft, UnknownRule, Version}
 use Rattle.lint_command.proofs.UsageLemmas.{memory_shown, shown_as, shows_usage}
 use Rattle.lint_command.proofs.words.say.Goals as goal
 
@@ -33,6 +33,9 @@ returns-in-BadPart g c = shows_usage (map (λ word. word.now) c.args.words.now) 
 
 pub returns-in-BadForm : goal.returns-in-BadForm
 returns-in-BadForm g c = shows_usage (map (λ word. word.now) c.args.words.now) c.args.usage BadForm c.tree_linter-in-BadForm.result _ c.in-BadForm.is c.tree_linter-in-BadForm.ensures c.tell-in-BadForm.ensures
+
+pub returns-in-BadJobs : goal.returns-in-BadJobs
+returns-in-BadJobs g c = shows_usage (map (λ word. word.now) c.args.words.now) c.args.usage BadJobs c.tree_linter-in-BadJobs.result _ c.in-BadJobs.is c.tree_linter-in-BadJobs.ensures c.tell-in-BadJobs.ensures
 
 pub returns-in-NamesTwice : goal.returns-in-NamesTwice
 returns-in-NamesTwice g c = shows_usage (map (λ word. word.now) c.args.words.now) c.args.usage NamesTwice c.tree_linter-in-NamesTwice.result _ c.in-NamesTwice.is c.tree_linter-in-NamesTwice.ensures c.tell-in-NamesTwice.ensures

@@ -5,8 +5,8 @@ use Rattle.std.specs.Borrow.{Bor}
 use Rattle.std.specs.List.{list_all}
 use Rattle.clap.proofs.WalkLemmas.{raw_values-rows}
 use Rattle.clap.specs.Words.{found_of}
-use Rattle.tree_command.specs.Line.{is_jobs}
-use Rattle.tree_command.proofs.options.are_jobs_good.Goals as goal
+use Rattle.tree_words.specs.Line.{is_jobs}
+use Rattle.tree_words.proofs.jobs.are_jobs_good.Goals as goal
 
 pub returns-in-Some : goal.returns-in-Some
 returns-in-Some c =
