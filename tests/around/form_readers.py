@@ -1,7 +1,7 @@
 """The forms of `tfrules-all --format`, each read back as strictly as it can be, by Python's own readers of JSON and XML.
-A reader gives what the document says, in its order, as (file, line, column, severity, text, rule): of an issue, and of
-what couldn't be linted under the rule REFUSED. A column that a form lacks is None. What isn't as it must be is a
-ValueError."""
+A reader gives what the document says, in its order, as (file, line, column, severity, text, rule): of an issue, of a
+comment that is meant to silence a rule and doesn't under the rule COMMENT, and of what couldn't be linted under REFUSED. A
+column that a form lacks is None. What isn't as it must be is a ValueError."""
 
 import json
 import re
@@ -11,7 +11,7 @@ import xml.etree.ElementTree
 from report import misses
 
 FORMS = ('json', 'sarif', 'checkstyle', 'junit', 'gitlab', 'github')
-REFUSED = 'refused_file'
+COMMENT, REFUSED = 'silencing_comment', 'refused_file'
 DECLARATION = b'<?xml version="1.0" encoding="UTF-8"?>\n'
 COMMAND = re.compile(
     r'::(notice|warning|error) file=([^:,\r\n]*),line=([1-9][0-9]*),col=([1-9][0-9]*),title=([a-z_]+)::([^\r\n]*)'
@@ -71,7 +71,8 @@ def issue_in(issue):
     name, severity, link = members(rule, 'name', 'severity', 'link')
     if (link, callers) != ('', []):
         wrong('the link %r and the callers %r', link, callers)
-    return (*place_in(span), in_words(severity, dict(info='info', warning='warning')), text, name)
+    words = dict(error='error') if name == COMMENT else dict(info='info', warning='warning')
+    return (*place_in(span), in_words(severity, words), text, name)
 
 
 def error_in(error):
@@ -200,7 +201,8 @@ def case_in(case):
         return wrong('%s, %s passed', rule, place) if (rule, place) != ('tfrules', 'no issue') else None
     (outcome,) = case
     kind, text = element(outcome, 'error' if rule == REFUSED else 'failure', 'type', 'message')
-    severity = in_words(kind, dict(Error='error') if rule == REFUSED else dict(Warning='warning', Notice='info'))
+    words = dict(Error='error') if rule in (COMMENT, REFUSED) else dict(Warning='warning', Notice='info')
+    severity = in_words(kind, words)
     if not text.startswith(place + ': '):
         wrong('the message %r of the case %r', text, place)
     file, line, column = place.rsplit(':', 2)

@@ -9,13 +9,13 @@ import re
 import urllib.parse
 
 import sarif_readers
-from form_readers import FORMS, REFUSED, apart, of_text, read, shown, suites_in
+from form_readers import COMMENT, FORMS, REFUSED, apart, of_text, read, shown, suites_in
 from harness import BAD, NOBODY, TOP, lines, put, quoted, shard_of
 from linted import EACH
 from modules import ALL, DECLARED, USED, link
 from report import FOUND, NAMES, UNTYPED
 
-CHECKS = 620
+CHECKS = 621
 MODULES = 2000
 PAGES = 'https://github.com/terraform-linters/tflint-ruleset-terraform/blob/main/docs/rules/'
 TYPED, UNUSED = 'terraform_typed_variables', 'terraform_unused_declarations'
@@ -363,15 +363,17 @@ def rules(group):
     driver = json.loads(lint(group, '--format', 'sarif', cwd=here)[1].decode())['runs'][0]['tool']['driver']
     version = (TOP / 'VERSION').read_text().strip()
     group.check('the tool', (driver['name'], driver['version']), ('tfrules', version))
-    *described, last = driver['rules']
+    *described, refusals, comments = driver['rules']
     levels = {'Warning': 'warning', 'Notice': 'note'}
     group.check(
         'the rules',
         [(it['id'], it['defaultConfiguration']['level'], it['shortDescription']['text']) for it in described],
         [(name, levels[how], what) for name, how, what in rows],
     )
-    told = {'id': REFUSED, 'shortDescription': {'text': 'files that can\'t be linted'}}
-    group.check('what can\'t be linted', last, dict(told, defaultConfiguration={'level': 'error'}))
+    named = {REFUSED: 'files that can\'t be linted', COMMENT: 'comments that are meant to silence a rule and don\'t'}
+    for last, (name, what) in zip((refusals, comments), named.items()):
+        told = {'id': name, 'shortDescription': {'text': what}, 'defaultConfiguration': {'level': 'error'}}
+        group.check('after the rules, ' + name, last, told)
     for it in described:
         name, why = it['id'], it['help']['markdown']
         section = re.search(r'^## %s\n(.*?)(?=^## |\Z)' % name, page, re.M | re.S).group(1)

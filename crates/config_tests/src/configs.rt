@@ -12,6 +12,7 @@ struct Row {
     naming: Option<Naming>,
     minimum: Option<Severity>,
     force: bool,
+    checks: bool,
     has_rules: bool,
     faults: &'static [BadLine],
 }
@@ -22,6 +23,7 @@ static ROWS: [Row; 8] = [
         naming: None,
         minimum: None,
         force: false,
+        checks: false,
         has_rules: false,
         faults: &[],
     },
@@ -30,14 +32,16 @@ static ROWS: [Row; 8] = [
         naming: None,
         minimum: None,
         force: false,
+        checks: false,
         has_rules: false,
         faults: &[],
     },
     Row {
-        text: "--force # so\r\n--naming\tmixed_snake_case\r\n--minimum-failure-severity=warning",
+        text: "--force # so\r\n--naming\tmixed_snake_case\r\n--minimum-failure-severity=warning\n --check-comments ",
         naming: Some(Naming::MixedSnakeCase),
         minimum: Some(Severity::Warning),
         force: true,
+        checks: true,
         has_rules: false,
         faults: &[],
     },
@@ -47,11 +51,13 @@ static ROWS: [Row; 8] = [
         naming: None,
         minimum: None,
         force: false,
+        checks: false,
         faults: &[],
     },
     Row {
         text: "--force\n--bogus\nforce\n--null\n",
         force: true,
+        checks: false,
         faults: &[
             BadLine {
                 line: 2,
@@ -89,6 +95,7 @@ static ROWS: [Row; 8] = [
         naming: None,
         minimum: None,
         force: false,
+        checks: false,
         has_rules: false,
     },
     Row {
@@ -101,6 +108,7 @@ static ROWS: [Row; 8] = [
         naming: None,
         minimum: None,
         force: false,
+        checks: false,
     },
     Row {
         text: "--naming camel\n--minimum-failure-severity *\n--force yes",
@@ -121,6 +129,7 @@ static ROWS: [Row; 8] = [
         naming: None,
         minimum: None,
         force: false,
+        checks: false,
         has_rules: false,
     },
 ];
@@ -140,6 +149,7 @@ fn is_said(said: Said, row: &Row) -> bool {
     said.naming == row.naming
         && said.minimum == row.minimum
         && said.force == row.force
+        && said.checks == row.checks
         && are_rules(said.rules, row.has_rules)
 }
 

@@ -25,9 +25,13 @@ escape b =
 abbrev pub shown_byte : ℕ → List ℕ
 shown_byte b = if is_odd b then escape b else b ∷ []
 
+-- a text between double quotes
+abbrev pub in_quotes : List ℕ → List ℕ
+in_quotes text = 34 ∷ (flat_map shown_byte text ++ 34 ∷ [])
+
 -- A NAME AS IT IS SHOWN: itself, or between double quotes where it has an odd byte
 abbrev pub quoted : Name → List ℕ
-quoted name = if list_any is_odd name then 34 ∷ (flat_map shown_byte name ++ 34 ∷ []) else name
+quoted name = if list_any is_odd name then in_quotes name else name
 
 -- a name that is shown as itself has a blank
 abbrev pub has_plain_blank : Name → Bool

@@ -3,7 +3,7 @@
 ghost use Rattle.std.specs.Prelude.{◌≡◌, ◌++◌, ◌≤◌, ◌==◌, ℕ, List, IfOk, OnOk, false, flat_map, is_err, take};
 ghost use Rattle.std.specs.List.{list_any};
 ghost use Rattle.command_line.specs.Rows.{Took, writer};
-ghost use Rattle.file_tree.specs.Quotes.{has_plain_blank, is_control, is_odd, quoted, shown_byte, shown_head};
+ghost use Rattle.file_tree.specs.Quotes.{has_plain_blank, in_quotes, is_control, is_odd, quoted, shown_byte, shown_head};
 
 use hcl_source::{ByteSink, Failed, write_fully};
 use std::alloc::{AllocError, Global};
@@ -66,6 +66,15 @@ fn push_all_shown(to: &mut Vec<u8>, name: &[u8]) -> Result<(), AllocError>
     Ok(())
 }
 
+/// Adds a text between double quotes.
+pub fn push_in_quotes(to: &mut Vec<u8>, text: &[u8]) -> Result<(), AllocError>
+    ensures { OnOk result (to.new.items ≡ to.old.items ++ in_quotes text.now) }
+{
+    to.extend_from_slice(b"\"")?;
+    push_all_shown(to, text)?;
+    to.extend_from_slice(b"\"")
+}
+
 /// A name as it is shown: itself, or between double quotes where it has a byte below blank, DEL, `"` or `\`.
 pub fn quoted(alloc: Global, name: &[u8]) -> Result<Vec<u8>, AllocError>
     ensures { IfOk result (λ text. text.items ≡ quoted name.now) }
@@ -74,9 +83,7 @@ pub fn quoted(alloc: Global, name: &[u8]) -> Result<Vec<u8>, AllocError>
         return Vec::from_slice(alloc, name);
     }
     let mut to = Vec::new(alloc);
-    to.extend_from_slice(b"\"")?;
-    push_all_shown(&mut to, name)?;
-    to.extend_from_slice(b"\"")?;
+    push_in_quotes(&mut to, name)?;
     Ok(to)
 }
 

@@ -132,10 +132,10 @@ all_refused kept named whole faults c first then' is = keeps_more kept named who
 
 pub form_ends : {V E : Type 0} (items : V → List ℕ) (form : Form) (status : ℕ) (ran : RunEnd) (named whole : Kept) (faults : List Found) (c : Configured) (remarks slice : List code.Remark) (r : Result V E)
     → KeepsAll ran.kept named (flat_map refusal_in faults) → KeepsAll named whole (configured_refusals c) → whole.is_whole ≡ true → map said_by remarks ≡ map kept_remark whole.refusals.items → slice ≡ remarks
-    → IfOk r (λ v. items v ≡ form_foot form status ran.has_issues (map said_by slice)) → IfOk r (λ v. IsFoot (Some form) status ran faults c (items v))
+    → IfOk r (λ v. items v ≡ form_foot form status ran.has_output (map said_by slice)) → IfOk r (λ v. IsFoot (Some form) status ran faults c (items v))
 form_ends items form status ran named whole faults c remarks slice (Ok v) first then' is said same e =
     let all = all_refused ran.kept named whole faults c first then' is in
-    (all.0, e ∙ ap (form_foot form status ran.has_issues) (ap (map said_by) same ∙ said ∙ all.1))
+    (all.0, e ∙ ap (form_foot form status ran.has_output) (ap (map said_by) same ∙ said ∙ all.1))
 form_ends items form status ran named whole faults c remarks slice (Err f) first then' is said same e = tt
 
 pub lints_modules : (files later : Files) (job : Job) (modules : List Module) (faults slice : List Found) (was looked is : Faults) (c : Configured) (end : End) → later ≡ files → slice ≡ faults

@@ -9,8 +9,8 @@ use Rattle.tree_words.specs.declared.shard.Shard.{Shard}
 use Rattle.lint_command.specs.Line.{Given, asking_by, given_by, is_good}
 use Rattle.lint_command.specs.declared.usage.Usage.{Usage}
 
-pub given_parts : (r r' : Result (Option (List Rule)) Usage) (n n' : Result (Option Naming) Usage) (m m' : Result (Option Severity) Usage) (f f' v v' : Bool) → r ≡ r' → n ≡ n' → m ≡ m' → f ≡ f' → v ≡ v' → given_by r n m f v ≡ given_by r' n' m' f' v'
-given_parts r r' n n' m m' f f' v v' er en em ef ev = λ i. given_by (er i) (en i) (em i) (ef i) (ev i)
+pub given_parts : (r r' : Result (Option (List Rule)) Usage) (n n' : Result (Option Naming) Usage) (m m' : Result (Option Severity) Usage) (f f' c c' v v' : Bool) → r ≡ r' → n ≡ n' → m ≡ m' → f ≡ f' → c ≡ c' → v ≡ v' → given_by r n m f c v ≡ given_by r' n' m' f' c' v'
+given_parts r r' n n' m m' f f' c c' v v' er en em ef ec ev = λ i. given_by (er i) (en i) (em i) (ef i) (ec i) (ev i)
 
 pub asking_parts : (w w' : Result Given Usage) (q q' : Bool) (s s' : Option (Option Shard)) (o o' : Option (Option Form)) (j j' g null null' : Bool) (k k' : ℕ) (names : List (List ℕ)) → w ≡ w' → q ≡ q' → s ≡ s' → o ≡ o' → j ≡ j' → g ≡ is_good null k → null ≡ null' → k ≡ k'
     → asking_by w q s o j g null names ≡ asking_by w' q' s' o' j' (is_good null' k') null' names

@@ -97,7 +97,7 @@ refused_remarks kept faults config = map kept_remark kept.refusals.items ++ map 
 -- what stands after the issues, in a run of a status
 abbrev pub IsFoot : Option Form → ℕ → RunEnd → List Found → Configured → List ℕ → Type 0
 IsFoot None status ran faults config text = text ≡ []
-IsFoot (Some form) status ran faults config text = (ran.kept.is_whole ≡ true) × (text ≡ form_foot form status ran.has_issues (refused_remarks ran.kept faults config))
+IsFoot (Some form) status ran faults config text = (ran.kept.is_whole ≡ true) × (text ≡ form_foot form status ran.has_output (refused_remarks ran.kept faults config))
 
 -- ---- how a run ends whose modules were linted
 
@@ -183,7 +183,7 @@ abbrev pub version_line : List ℕ
 version_line = codes "tfrules-all 0.3.0\n"
 
 abbrev pub help_text : List ℕ
-help_text = codes "usage: tfrules-all [--rules LIST] [--naming NAMING]\n                   [--minimum-failure-severity SEVERITY] [--force]\n                   [--no-config] [--format FORM] [--quiet] [--shard K/N]\n                   [--null] [--] [FILE|FOLDER]...\n       tfrules-all --list-rules\n       tfrules-all --explain RULE\n\nLints the modules of folders, each by itself, as tfrules lints its files.\n\nA module is the .tf and .tofu files of one folder. A file stands for its\nfolder, also one that was deleted while the folder is there; a folder for\nitself and all below. Files and folders whose names begin with a dot or end\nwith ~, and those named #...#, are passed over. Without an operand it is the\ncurrent folder.\n\nOptions that the line doesn't have come from the nearest .tfrules, in the folder\nof a module or above it up to the top of the repository: one a line, of the\nfirst four below.\n\n  --rules LIST     default, all or names of rules, with commas between them; a\n                   dash before one takes its rules away: all,-terraform_...\n  --naming NAMING  snake_case or mixed_snake_case\n  --minimum-failure-severity SEVERITY\n                   error, warning or notice: from which severity on an issue\n                   fails the run\n  --force          no issue fails the run\n  --no-config      read no file .tfrules\n  --format FORM    text; or json (TFLint's), sarif, checkstyle, junit, gitlab or\n                   github: what forges and editors read, of all modules, with\n                   what couldn't be linted\n  --quiet          say nothing of the run as a whole: no count of the issues\n                   at its end\n  --shard K/N      take the K-th of N parts of the folders\n  -0, --null       read names, each ended by NUL, from standard input\n  -j, --jobs N     taken, and of no use: modules are linted one after the\n                   other\n  --list-rules     print each rule with its severity, whether it is a default\n                   one, and what it reports\n  --explain RULE   print that of a rule, why it does, and how to silence it\n  -h, --help       print this\n  --version        print the version\n\nStatus: 0  no module has an issue that fails the run\n        1  something couldn't be linted, or the command line is wrong\n        2  an issue fails the run, and nothing is worse\n"
+help_text = codes "usage: tfrules-all [--rules LIST] [--naming NAMING]\n                   [--minimum-failure-severity SEVERITY] [--force]\n                   [--check-comments] [--no-config] [--format FORM] [--quiet]\n                   [--shard K/N] [--null] [--] [FILE|FOLDER]...\n       tfrules-all --list-rules\n       tfrules-all --explain RULE\n\nLints the modules of folders, each by itself, as tfrules lints its files.\n\nA module is the .tf and .tofu files of one folder. A file stands for its\nfolder, also one that was deleted while the folder is there; a folder for\nitself and all below. Files and folders whose names begin with a dot or end\nwith ~, and those named #...#, are passed over. Without an operand it is the\ncurrent folder.\n\nOptions that the line doesn't have come from the nearest .tfrules, in the folder\nof a module or above it up to the top of the repository: one a line, of the\nfirst five below.\n\n  --rules LIST     default, all or names of rules, with commas between them; a\n                   dash before one takes its rules away: all,-terraform_...\n  --naming NAMING  snake_case or mixed_snake_case\n  --minimum-failure-severity SEVERITY\n                   error, warning or notice: from which severity on an issue\n                   fails the run\n  --force          nothing that is found fails the run\n  --check-comments report comments that are meant to silence a rule and don't:\n                   those that name no rule, and tflint-ignore-file\n  --no-config      read no file .tfrules\n  --format FORM    text; or json (TFLint's), sarif, checkstyle, junit, gitlab or\n                   github: what forges and editors read, of all modules, with\n                   what couldn't be linted\n  --quiet          say nothing of the run as a whole: no count of the issues\n                   at its end\n  --shard K/N      take the K-th of N parts of the folders\n  -0, --null       read names, each ended by NUL, from standard input\n  -j, --jobs N     taken, and of no use: modules are linted one after the\n                   other\n  --list-rules     print each rule with its severity, whether it is a default\n                   one, and what it reports\n  --explain RULE   print that of a rule, why it does, and how to silence it\n  -h, --help       print this\n  --version        print the version\n\nStatus: 0  nothing that is found fails the run\n        1  something couldn't be linted, or the command line is wrong\n        2  an issue fails the run, or a comment that --check-comments\n           reports, and nothing is worse\n"
 
 -- THE ROW of these texts where they ask for a text, or are no line of this program's
 abbrev pub usage_row : List Text → Usage → Row

@@ -42,13 +42,13 @@ pub record Asking : Type 0 where
 
 -- ---- the command
 
--- `tfrules-all [--rules LIST] [--naming NAMING] [--minimum-failure-severity SEVERITY] [--force] [--no-config] [--format FORM] [--quiet]
--- [--version] [--null] [--shard K/N] [--jobs NUMBER] [--list-rules] [--explain RULE] [--] [FILE|FOLDER]...`
+-- `tfrules-all [--rules LIST] [--naming NAMING] [--minimum-failure-severity SEVERITY] [--force] [--check-comments] [--no-config]
+-- [--format FORM] [--quiet] [--version] [--null] [--shard K/N] [--jobs NUMBER] [--list-rules] [--explain RULE] [--] [FILE|FOLDER]...`
 abbrev pub tfrules_all : App
 tfrules_all =
     fold with_rule (new_app (codes "tfrules-all"))
     (option_rule (codes "rules") ∷ option_rule (codes "naming") ∷ option_rule (codes "minimum-failure-severity") ∷ count_rule (codes "force")
-    ∷ count_rule (codes "no-config") ∷ option_rule (codes "format") ∷ count_rule (codes "quiet") ∷ count_rule (codes "version") ∷ null_rule ∷ option_rule (codes "shard") ∷ jobs_rule ∷ count_rule (codes "list-rules")
+    ∷ count_rule (codes "check-comments") ∷ count_rule (codes "no-config") ∷ option_rule (codes "format") ∷ count_rule (codes "quiet") ∷ count_rule (codes "version") ∷ null_rule ∷ option_rule (codes "shard") ∷ jobs_rule ∷ count_rule (codes "list-rules")
     ∷ option_rule (codes "explain") ∷ file_rule ∷ [])
 
 -- ---- by what modules are linted
@@ -65,17 +65,17 @@ taken usage None = Ok None
 taken usage (Some None) = Err usage
 taken usage (Some (Some a)) = Ok (Some a)
 
-abbrev pub given_by : Result (Option (List Rule)) Usage → Result (Option Naming) Usage → Result (Option Severity) Usage → Bool → Bool → Result Given Usage
-given_by (Err usage) naming minimum force reads = Err usage
-given_by (Ok rules) (Err usage) minimum force reads = Err usage
-given_by (Ok rules) (Ok naming) (Err usage) force reads = Err usage
-given_by (Ok rules) (Ok naming) (Ok minimum) force reads =
-    Ok (record { said = record { rules = rules; naming = naming; minimum = minimum; force = force }; reads = reads })
+abbrev pub given_by : Result (Option (List Rule)) Usage → Result (Option Naming) Usage → Result (Option Severity) Usage → Bool → Bool → Bool → Result Given Usage
+given_by (Err usage) naming minimum force checks reads = Err usage
+given_by (Ok rules) (Err usage) minimum force checks reads = Err usage
+given_by (Ok rules) (Ok naming) (Err usage) force checks reads = Err usage
+given_by (Ok rules) (Ok naming) (Ok minimum) force checks reads =
+    Ok (record { said = record { rules = rules; naming = naming; minimum = minimum; force = force; checks = checks }; reads = reads })
 
 abbrev pub given_asked : List Row → Result Given Usage
 given_asked rows =
     given_by (rules_taken (option_map rules_in (first_of (codes "rules") rows))) (taken BadNaming (option_map naming_asked (first_of (codes "naming") rows)))
-    (taken BadSeverity (option_map severity_asked (first_of (codes "minimum-failure-severity") rows))) (is_given (codes "force") rows) (not (is_given (codes "no-config") rows))
+    (taken BadSeverity (option_map severity_asked (first_of (codes "minimum-failure-severity") rows))) (is_given (codes "force") rows) (is_given (codes "check-comments") rows) (not (is_given (codes "no-config") rows))
 
 -- ---- the form
 

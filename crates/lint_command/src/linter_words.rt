@@ -12,6 +12,7 @@ static NAMES: &[&str] = &[
     "naming",
     "minimum-failure-severity",
     "force",
+    "check-comments",
     "no-config",
     "format",
     "quiet",

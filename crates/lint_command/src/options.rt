@@ -63,6 +63,7 @@ fn command<'a>(alloc: Global) -> Result<Command<'a>, AllocError>
         .arg(option_named(alloc, "naming"))?
         .arg(option_named(alloc, "minimum-failure-severity"))?
         .arg(counted_flag(alloc, "force"))?
+        .arg(counted_flag(alloc, "check-comments"))?
         .arg(counted_flag(alloc, "no-config"))?
         .arg(option_named(alloc, "format"))?
         .arg(counted_flag(alloc, "quiet"))?
@@ -124,9 +125,10 @@ fn given_by(
     naming: Result<Option<Naming>, Usage>,
     minimum: Result<Option<Severity>, Usage>,
     force: bool,
+    checks: bool,
     reads: bool,
 ) -> Result<Given, Usage>
-    ensures { given_in result ≡ given_by (rules_told rules) naming minimum force reads }
+    ensures { given_in result ≡ given_by (rules_told rules) naming minimum force checks reads }
 {
     let rules = match rules {
         Ok(rules) => rules,
@@ -145,6 +147,7 @@ fn given_by(
         naming,
         minimum,
         force,
+        checks,
     };
     Ok(Given { said, reads })
 }
@@ -157,11 +160,13 @@ fn given_of(matches: &ArgMatches<'_>) -> Result<Given, Usage>
     let naming = naming_taken(matches.get_str("naming"));
     let minimum = severity_taken(matches.get_str("minimum-failure-severity"));
     let force = is_given(matches, "force");
+    let checks = is_given(matches, "check-comments");
     given_by(
         rules,
         naming,
         minimum,
         force,
+        checks,
         !is_given(matches, "no-config"),
     )
 }

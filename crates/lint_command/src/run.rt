@@ -211,7 +211,7 @@ fn form_end(
         return Err(AllocError);
     }
     let refusals = ran.kept.remarks(alloc)?;
-    foot(alloc, form, status, ran.has_issues, refusals.as_slice())
+    foot(alloc, form, status, ran.has_output, refusals.as_slice())
 }
 
 /// What stands after the issues, in a run of this status.

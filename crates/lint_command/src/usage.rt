@@ -39,8 +39,8 @@ pub enum Usage {
 pub static USAGE: &str = "\
 usage: tfrules-all [--rules LIST] [--naming NAMING]
                    [--minimum-failure-severity SEVERITY] [--force]
-                   [--no-config] [--format FORM] [--quiet] [--shard K/N]
-                   [--null] [--] [FILE|FOLDER]...
+                   [--check-comments] [--no-config] [--format FORM] [--quiet]
+                   [--shard K/N] [--null] [--] [FILE|FOLDER]...
        tfrules-all --list-rules
        tfrules-all --explain RULE
 ";
@@ -55,8 +55,8 @@ pub static VERSION: &str = "tfrules-all 0.3.0\n";
 pub static HELP: &str = "\
 usage: tfrules-all [--rules LIST] [--naming NAMING]
                    [--minimum-failure-severity SEVERITY] [--force]
-                   [--no-config] [--format FORM] [--quiet] [--shard K/N]
-                   [--null] [--] [FILE|FOLDER]...
+                   [--check-comments] [--no-config] [--format FORM] [--quiet]
+                   [--shard K/N] [--null] [--] [FILE|FOLDER]...
        tfrules-all --list-rules
        tfrules-all --explain RULE
 
@@ -70,7 +70,7 @@ current folder.
 
 Options that the line doesn't have come from the nearest .tfrules, in the folder
 of a module or above it up to the top of the repository: one a line, of the
-first four below.
+first five below.
 
   --rules LIST     default, all or names of rules, with commas between them; a
                    dash before one takes its rules away: all,-terraform_...
@@ -78,7 +78,9 @@ first four below.
   --minimum-failure-severity SEVERITY
                    error, warning or notice: from which severity on an issue
                    fails the run
-  --force          no issue fails the run
+  --force          nothing that is found fails the run
+  --check-comments report comments that are meant to silence a rule and don't:
+                   those that name no rule, and tflint-ignore-file
   --no-config      read no file .tfrules
   --format FORM    text; or json (TFLint's), sarif, checkstyle, junit, gitlab or
                    github: what forges and editors read, of all modules, with
@@ -95,7 +97,8 @@ first four below.
   -h, --help       print this
   --version        print the version
 
-Status: 0  no module has an issue that fails the run
+Status: 0  nothing that is found fails the run
         1  something couldn't be linted, or the command line is wrong
-        2  an issue fails the run, and nothing is worse
+        2  an issue fails the run, or a comment that --check-comments
+           reports, and nothing is worse
 ";

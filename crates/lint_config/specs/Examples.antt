@@ -53,6 +53,14 @@ not_severe : with_line nothing (codes "--minimum-failure-severity *") ≡ Err Un
 unfolding chars trim_start trim_end lib.Utf8.encode
 not_severe = refl
 
+checked : with_line nothing (codes "--check-comments # so") ≡ Ok (record nothing { checks = true })
+unfolding chars trim_start trim_end lib.Utf8.encode
+checked = refl
+
+checked_twice : with_line (record nothing { checks = true }) (codes "--check-comments") ≡ Err GivenTwice
+unfolding chars trim_start trim_end lib.Utf8.encode
+checked_twice = refl
+
 forced_so : with_line nothing (codes "--force=yes") ≡ Err UnknownOption
 unfolding chars trim_start trim_end lib.Utf8.encode
 forced_so = refl

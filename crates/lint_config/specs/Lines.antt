@@ -18,9 +18,10 @@ pub record Options : Type 0 where
   pub naming : Option Naming
   pub minimum : Option Severity
   pub force : Bool
+  pub checks : Bool
 
 abbrev pub nothing : Options
-nothing = record { rules = None; naming = None; minimum = None; force = false }
+nothing = record { rules = None; naming = None; minimum = None; force = false; checks = false }
 
 -- ---- the parts of a line
 
@@ -58,7 +59,8 @@ with_option said name value =
     else (if bytes_eq name (codes "--minimum-failure-severity")
     then with_value said.minimum (ok_or (severity_asked value) UnknownSeverity) (λ minimum. record said { minimum = Some minimum })
     else (if bytes_eq name (codes "--force") && length value == 0 then (if said.force then Err GivenTwice else Ok (record said { force = true }))
-    else Err UnknownOption)))
+    else (if bytes_eq name (codes "--check-comments") && length value == 0 then (if said.checks then Err GivenTwice else Ok (record said { checks = true }))
+    else Err UnknownOption))))
 
 -- THE OPTIONS after a line more: an empty one says nothing
 abbrev pub with_line : Options → List ℕ → Result Options ConfigFault

@@ -6,7 +6,7 @@ ghost use Rattle.lint_config.specs.Texts.{config_fault_text};
 /// What is wrong with a line.
 #[derive(Clone, Copy, Debug, PartialEq, Eq)]
 pub enum ConfigFault {
-    /// It begins with no option of a project, or gives `--force` a value.
+    /// It begins with no option of a project, or gives one a value that takes none.
     UnknownOption,
     /// A line before has the same option.
     GivenTwice,

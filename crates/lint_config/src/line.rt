@@ -2,7 +2,7 @@
 
 ghost use Rattle.std.specs.Prelude.{◌≡◌};
 ghost use Rattle.lint_config.specs.Lines.{with_line, with_option};
-ghost use Rattle.lint_config.specs.Inner.Given.{with_force, with_minimum, with_naming, with_rules};
+ghost use Rattle.lint_config.specs.Inner.Given.{with_checks, with_force, with_minimum, with_naming, with_rules};
 ghost use Rattle.lint_config.specs.Options.{options_of, said_by};
 
 use crate::fault::ConfigFault;
@@ -24,6 +24,7 @@ fn with_rules(said: Said, list: &str) -> Result<Said, ConfigFault>
             naming: said.naming,
             minimum: said.minimum,
             force: said.force,
+            checks: said.checks,
         }),
         Err(ListFault::UnknownRule) => Err(ConfigFault::UnknownRule),
         Err(ListFault::NoneLeft) => Err(ConfigFault::NoRuleLeft),
@@ -43,6 +44,7 @@ fn with_naming(said: Said, text: &str) -> Result<Said, ConfigFault>
             naming: Some(naming),
             minimum: said.minimum,
             force: said.force,
+            checks: said.checks,
         }),
         None => Err(ConfigFault::UnknownNaming),
     }
@@ -61,6 +63,7 @@ fn with_minimum(said: Said, text: &str) -> Result<Said, ConfigFault>
             naming: said.naming,
             minimum: Some(minimum),
             force: said.force,
+            checks: said.checks,
         }),
         None => Err(ConfigFault::UnknownSeverity),
     }
@@ -78,6 +81,23 @@ fn with_force(said: Said) -> Result<Said, ConfigFault>
         naming: said.naming,
         minimum: said.minimum,
         force: true,
+        checks: said.checks,
+    })
+}
+
+/// These options and `--check-comments`.
+fn with_checks(said: Said) -> Result<Said, ConfigFault>
+    ensures { said_by result ≡ with_checks (options_of said) }
+{
+    if said.checks {
+        return Err(ConfigFault::GivenTwice);
+    }
+    Ok(Said {
+        rules: said.rules,
+        naming: said.naming,
+        minimum: said.minimum,
+        force: said.force,
+        checks: true,
     })
 }
 
@@ -96,6 +116,9 @@ fn with_option(said: Said, name: &str, value: &str) -> Result<Said, ConfigFault>
     }
     if name == "--force" && value.is_empty() {
         return with_force(said);
+    }
+    if name == "--check-comments" && value.is_empty() {
+        return with_checks(said);
     }
     Err(ConfigFault::UnknownOption)
 }

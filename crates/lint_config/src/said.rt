@@ -11,8 +11,10 @@ pub struct Said {
     pub naming: Option<Naming>,
     /// From which severity on an issue fails the run.
     pub minimum: Option<Severity>,
-    /// No issue fails the run.
+    /// Nothing that is found fails the run.
     pub force: bool,
+    /// Comments are looked for that are meant to silence a rule and don't.
+    pub checks: bool,
 }
 
 /// None.
@@ -21,4 +23,5 @@ pub const NOTHING: Said = Said {
     naming: None,
     minimum: None,
     force: false,
+    checks: false,
 };

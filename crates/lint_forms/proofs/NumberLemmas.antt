@@ -1,5 +1,5 @@
 -- The numbers of the documents are numbers, and nothing in them nests deeply.
-use Rattle.std.proofs.Common.{◌≤◌, ◌<◌, ◌^◌, ◌++◌, ◌∷◌, [], ℕ, All, List, Option, Some, None, arith, flat_map, lit<, map}
+use Rattle.std.proofs.Common.{◌≤◌, ◌<◌, ◌^◌, ◌++◌, ◌∷◌, [], ℕ, All, List, arith, flat_map, lit<, map}
 use Rattle.std.proofs.lemmas.List.Elements.{All-append, All-cons, All-head, All-nil, All-tail}
 use Rattle.std.specs.Prelude.{decimal}
 use Rattle.json.specs.Json.{Json}
@@ -14,9 +14,11 @@ use Rattle.lint_forms.specs.Laws.{HasSmallNumbers}
 use Rattle.lint_forms.specs.Marks.{Entry, entries, entries_after, entry_after}
 use Rattle.lint_forms.specs.Places.{uri}
 use Rattle.lint_forms.specs.Remarks.{Remark}
-use Rattle.lint_forms.specs.Sarif.{location_json, refusal_json, region_json, result_json, rule_index, rule_json, sarif_json}
+use Rattle.lint_forms.specs.Sarif.{comment_json, location_json, refusal_json, region_json, result_json, rule_index, rule_json, sarif_json}
 use Rattle.lint_forms.specs.Tflint.{error_json, issue_json, place_json, range_json, tflint_json}
 use Rattle.lint_forms.specs.Values.{json_items}
+use Rattle.lint_forms.specs.declared.subject.Subject.{Subject}
+use Rattle.lint_forms.specs.declared.subject.Subject.TheVariants as subject
 
 -- ---- lists of values
 
@@ -51,18 +53,19 @@ IsSmall e = HasSmallNumbers e.said
 quality_numbers : (e : Entry) → IsSmall e → HasNumbers (quality_json e)
 quality_numbers e h = (tt, (tt, (tt, (tt, ((tt, ((number_of e.said.line h.line, tt), tt)), tt)))))
 
-index_small : (rule : Option Rule) → rule_index rule < 2 ^ 64
-index_small None = lit< tt
-index_small (Some CommentSyntax) = lit< tt
-index_small (Some DeprecatedIndex) = lit< tt
-index_small (Some DeprecatedInterpolation) = lit< tt
-index_small (Some DocumentedOutputs) = lit< tt
-index_small (Some DocumentedVariables) = lit< tt
-index_small (Some ModulePinnedSource) = lit< tt
-index_small (Some ModuleVersion) = lit< tt
-index_small (Some NamingConvention) = lit< tt
-index_small (Some TypedVariables) = lit< tt
-index_small (Some UnusedDeclarations) = lit< tt
+index_small : (s : Subject) → rule_index s < 2 ^ 64
+index_small subject.Refusal = lit< tt
+index_small subject.Comment = lit< tt
+index_small (subject.Rule CommentSyntax) = lit< tt
+index_small (subject.Rule DeprecatedIndex) = lit< tt
+index_small (subject.Rule DeprecatedInterpolation) = lit< tt
+index_small (subject.Rule DocumentedOutputs) = lit< tt
+index_small (subject.Rule DocumentedVariables) = lit< tt
+index_small (subject.Rule ModulePinnedSource) = lit< tt
+index_small (subject.Rule ModuleVersion) = lit< tt
+index_small (subject.Rule NamingConvention) = lit< tt
+index_small (subject.Rule TypedVariables) = lit< tt
+index_small (subject.Rule UnusedDeclarations) = lit< tt
 
 region_numbers : (r : Remark) → HasSmallNumbers r → HasNumbers (region_json r)
 region_numbers r h = (number_of r.line h.line, tt)
@@ -72,7 +75,7 @@ location_numbers uri r h = (((tt, tt), (region_numbers r h, tt)), tt)
 
 result_numbers : (e : Entry) → IsSmall e → HasNumbers (result_json e)
 result_numbers e h =
-    (tt, (number_of (rule_index e.said.rule) (index_small e.said.rule), (tt, ((tt, tt), ((location_numbers (uri e.said.file) e.said h, tt), ((tt, (tt, tt)), tt))))))
+    (tt, (number_of (rule_index e.said.subject) (index_small e.said.subject), (tt, ((tt, tt), ((location_numbers (uri e.said.file) e.said h, tt), ((tt, (tt, tt)), tt))))))
 
 -- ---- entries
 
@@ -103,8 +106,8 @@ gitlab_numbers es h = items_numbers IsSmall quality_json quality_numbers es h
 rule_numbers : (rule : Rule) → HasNumbers (rule_json rule)
 rule_numbers rule = (tt, ((tt, tt), ((tt, tt), ((tt, (tt, tt)), (tt, ((tt, tt), tt))))))
 
-described_numbers : (rules : List Rule) → ItemsHaveNumbers (json_items (map rule_json rules ++ refusal_json ∷ []))
-described_numbers [] = ((tt, ((tt, tt), ((tt, tt), tt))), tt)
+described_numbers : (rules : List Rule) → ItemsHaveNumbers (json_items (map rule_json rules ++ refusal_json ∷ comment_json ∷ []))
+described_numbers [] = ((tt, ((tt, tt), ((tt, tt), tt))), ((tt, ((tt, tt), ((tt, tt), tt))), tt))
 described_numbers (rule ∷ rules) = (rule_numbers rule, described_numbers rules)
 
 pub sarif_numbers : (version : List ℕ) (status : ℕ) (es : List Entry) → status < 2 ^ 64 → All IsSmall es → HasNumbers (sarif_json version status es)
@@ -127,7 +130,7 @@ sarif_numbers version status es small h = (
 
 -- ---- depths
 
-described_shallow : (rules : List Rule) → items_depth (json_items (map rule_json rules ++ refusal_json ∷ [])) ≤ 2
+described_shallow : (rules : List Rule) → items_depth (json_items (map rule_json rules ++ refusal_json ∷ comment_json ∷ [])) ≤ 2
 described_shallow [] = omega arith
 described_shallow (rule ∷ rules) = omega (arith, described_shallow rules)
 

@@ -29,17 +29,17 @@ in_steps n s l p v w e none started longer same =
 
 -- ---- one entry
 
-pub entry_tokens : (r : Remark) (m n s k : List ℕ) → n ≡ rule_id r.rule → s ≡ quality_word r.rule → k ≡ m
+pub entry_tokens : (r : Remark) (m n s k : List ℕ) → n ≡ rule_id r.subject → s ≡ quality_word r.subject → k ≡ m
     → json_tokens (quality_by n s (record { said = r; mark = k })) ≡ json_tokens (quality_json (record { said = r; mark = m }))
 entry_tokens r m n s k e f g = λ i. json_tokens (quality_by (e i) (f i) (record { said = r; mark = g i }))
 
-pub result_words : (r : Remark) (m u n : List ℕ) (k : ℕ) (l : List ℕ) → n ≡ rule_id r.rule → k ≡ rule_index r.rule → l ≡ level_word r.rule
-    → json_tokens (result_by n k l u (record { said = r; mark = m })) ≡ json_tokens (result_by (rule_id r.rule) (rule_index r.rule) (level_word r.rule) u (record { said = r; mark = m }))
+pub result_words : (r : Remark) (m u n : List ℕ) (k : ℕ) (l : List ℕ) → n ≡ rule_id r.subject → k ≡ rule_index r.subject → l ≡ level_word r.subject
+    → json_tokens (result_by n k l u (record { said = r; mark = m })) ≡ json_tokens (result_by (rule_id r.subject) (rule_index r.subject) (level_word r.subject) u (record { said = r; mark = m }))
 result_words r m u n k l e f g = λ i. json_tokens (result_by (e i) (f i) (g i) u (record { said = r; mark = m }))
 
 pub result_tokens : (r : Remark) (m u k : List ℕ) → u ≡ uri r.file → k ≡ m
-    → json_tokens (result_by (rule_id r.rule) (rule_index r.rule) (level_word r.rule) u (record { said = r; mark = k })) ≡ json_tokens (result_json (record { said = r; mark = m }))
-result_tokens r m u k e f = λ i. json_tokens (result_by (rule_id r.rule) (rule_index r.rule) (level_word r.rule) (e i) (record { said = r; mark = f i }))
+    → json_tokens (result_by (rule_id r.subject) (rule_index r.subject) (level_word r.subject) u (record { said = r; mark = k })) ≡ json_tokens (result_json (record { said = r; mark = m }))
+result_tokens r m u k e f = λ i. json_tokens (result_by (rule_id r.subject) (rule_index r.subject) (level_word r.subject) (e i) (record { said = r; mark = f i }))
 
 -- ---- all of them
 

@@ -18,7 +18,7 @@ quality_by name severity e =
 
 -- AN ENTRY
 abbrev pub quality_json : Entry → Json
-quality_json e = quality_by (rule_id e.said.rule) (quality_word e.said.rule) e
+quality_json e = quality_by (rule_id e.said.subject) (quality_word e.said.subject) e
 
 -- THE DOCUMENT of what is said of all modules
 abbrev pub gitlab_json : List Entry → Json

@@ -1,5 +1,5 @@
--- What issues and refusals are recognised by when lines move: the rule, the file and what is said, and a number among those
--- that have all of these alike. Our own choice.
+-- What issues, comments and refusals are recognised by when lines move: the rule, or what stands for one, the file and what is
+-- said, and a number among those that have all of these alike. Our own choice.
 use Rattle.std.specs.Prelude.{ℕ, ◌+◌, ◌++◌, List, [], ◌∷◌, codes, count_by, decimal}
 use Rattle.std.specs.Str.{bytes_eq}
 use Rattle.hex.specs.Hex.{encode_lower}
@@ -8,7 +8,7 @@ use Rattle.lint_forms.specs.Remarks.{Remark}
 use Rattle.lint_forms.specs.Words.{rule_id}
 
 abbrev pub mark_key : Remark → List ℕ
-mark_key r = rule_id r.rule ++ (0 ∷ []) ++ r.file ++ (0 ∷ []) ++ r.text
+mark_key r = rule_id r.subject ++ (0 ∷ []) ++ r.file ++ (0 ∷ []) ++ r.text
 
 abbrev pub digits : Remark → List ℕ
 digits r = encode_lower (sha256 (mark_key r))

@@ -1,6 +1,7 @@
--- SARIF 2.1.0. A file that is refused is a result with a rule of its own, after those of the linter. No column is told: SARIF
--- counts UTF-16 code units, and the linter what a reader takes for characters.
-use Rattle.std.specs.Prelude.{ℕ, ◌==◌, ◌++◌, ◌∷◌, [], not, List, Option, Some, None, codes, decimal, map}
+-- SARIF 2.1.0. A file that is refused, and a comment that is meant to silence a rule and doesn't, are results with rules of their
+-- own, after those of the linter. No column is told: SARIF counts UTF-16 code units, and the linter what a reader takes for
+-- characters.
+use Rattle.std.specs.Prelude.{ℕ, ◌==◌, ◌++◌, ◌∷◌, [], not, List, codes, decimal, map}
 use Rattle.json.specs.Json.{Json, array, boolean, item, member, no_items, no_members, number, object, string}
 use Rattle.json.specs.Token.{Token, begin_array, begin_object, end_array, end_object, key}
 use Rattle.json.specs.Tree.{json_tokens}
@@ -12,6 +13,8 @@ use Rattle.lint_forms.specs.Remarks.{Remark}
 use Rattle.lint_forms.specs.RuleTexts.{reason, reports}
 use Rattle.lint_forms.specs.Values.{json_items}
 use Rattle.lint_forms.specs.Words.{level_word, rule_id}
+use Rattle.lint_forms.specs.declared.subject.Subject.{Subject}
+use Rattle.lint_forms.specs.declared.subject.Subject.TheVariants as subject
 
 abbrev pub text_json : List ℕ → Json
 text_json text = object (member (codes "text") (string text) no_members)
@@ -38,19 +41,26 @@ abbrev pub page_of : List ℕ → List ℕ
 page_of name = codes "https://github.com/terraform-linters/tflint-ruleset-terraform/blob/main/docs/rules/" ++ (name ++ codes ".md")
 
 abbrev pub rule_json : Rule → Json
-rule_json rule = described (rule_name rule) (reports rule) (full_text (reports rule) (reason rule)) (reason rule) (page_of (rule_name rule)) (level_word (Some rule))
+rule_json rule = described (rule_name rule) (reports rule) (full_text (reports rule) (reason rule)) (reason rule) (page_of (rule_name rule)) (level_word (subject.Rule rule))
 
--- that of files that are refused
-abbrev pub refusal_json : Json
-refusal_json =
-    object (member (codes "id") (string (rule_id None)) (member (codes "shortDescription") (text_json (codes "files that can't be linted"))
+-- what stands for a rule, of which less is said: its name and its text
+abbrev pub briefly : List ℕ → List ℕ → Json
+briefly name short =
+    object (member (codes "id") (string name) (member (codes "shortDescription") (text_json short)
     (member (codes "defaultConfiguration") (configuration_json (codes "error")) no_members)))
+
+abbrev pub refusal_json : Json
+refusal_json = briefly (rule_id subject.Refusal) (codes "files that can't be linted")
+
+abbrev pub comment_json : Json
+comment_json = briefly (rule_id subject.Comment) (codes "comments that are meant to silence a rule and don't")
 
 -- ---- results
 
-abbrev pub rule_index : Option Rule → ℕ
-rule_index None = 10
-rule_index (Some rule) = rank rule
+abbrev pub rule_index : Subject → ℕ
+rule_index (subject.Rule rule) = rank rule
+rule_index subject.Refusal = 10
+rule_index subject.Comment = 11
 
 abbrev pub region_json : Remark → Json
 region_json r = object (member (codes "startLine") (number (decimal r.line)) no_members)
@@ -72,14 +82,14 @@ result_by name index level uri e =
 
 -- A RESULT
 abbrev pub result_json : Entry → Json
-result_json e = result_by (rule_id e.said.rule) (rule_index e.said.rule) (level_word e.said.rule) (uri e.said.file) e
+result_json e = result_by (rule_id e.said.subject) (rule_index e.said.subject) (level_word e.said.subject) (uri e.said.file) e
 
 -- ---- the document
 
 abbrev pub tool_json : List ℕ → Json
 tool_json version =
     object (member (codes "driver") (object (member (codes "name") (string (codes "tfrules")) (member (codes "version") (string version)
-    (member (codes "rules") (array (json_items (map rule_json all_rules ++ refusal_json ∷ []))) no_members)))) no_members)
+    (member (codes "rules") (array (json_items (map rule_json all_rules ++ refusal_json ∷ comment_json ∷ []))) no_members)))) no_members)
 
 -- how the run ended: where something failed, its status is 1
 abbrev pub invocation_json : ℕ → Json

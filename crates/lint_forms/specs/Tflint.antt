@@ -1,4 +1,5 @@
--- The form of TFLint's own JSON: its issues, and as its errors why files are refused. What is said ends where it begins.
+-- The form of TFLint's own JSON: its issues, among them comments that are meant to silence a rule and don't, and as its errors
+-- why files are refused. What is said ends where it begins.
 use Rattle.std.specs.Prelude.{ℕ, List, codes, decimal, map}
 use Rattle.json.specs.Json.{Json, array, member, no_items, no_members, number, object, string}
 use Rattle.lint_forms.specs.Remarks.{Remark}
@@ -24,7 +25,7 @@ issue_by name severity r =
 
 -- AN ISSUE
 abbrev pub issue_json : Remark → Json
-issue_json r = issue_by (rule_id r.rule) (severity_word r.rule) r
+issue_json r = issue_by (rule_id r.subject) (severity_word r.subject) r
 
 -- WHY A FILE IS REFUSED
 abbrev pub error_json : Remark → Json

@@ -1,22 +1,27 @@
--- The words that the forms have for rules and severities: those of the programs that read them. A file that is refused has
--- a name of its own in place of a rule's, and is an error.
-use Rattle.std.specs.Prelude.{Bool, true, false, List, ℕ, Option, Some, None, codes}
+-- The words that the forms have for rules and severities: those of the programs that read them. A file that is refused, and a
+-- comment that is meant to silence a rule and doesn't, have names of their own in place of a rule's, and are errors.
+use Rattle.std.specs.Prelude.{Bool, true, false, List, ℕ, codes}
 use Rattle.rule_set.specs.Rules.{rule_name, severity}
-use Rattle.rule_set.specs.declared.rule.Rule.{Rule}
 use Rattle.rule_set.specs.declared.rule.Severity.{Severity}
 use Rattle.rule_set.specs.declared.rule.Severity.TheVariants.{Notice, Warning, Error}
+use Rattle.lint_forms.specs.declared.subject.Subject.{Subject}
+use Rattle.lint_forms.specs.declared.subject.Subject.TheVariants.{Rule, Comment, Refusal}
 
-abbrev pub is_issue : Option Rule → Bool
-is_issue None = false
-is_issue (Some rule) = true
+-- whether a remark on it stands among the issues, and not among the refusals
+abbrev pub is_issue : Subject → Bool
+is_issue (Rule rule) = true
+is_issue Comment = true
+is_issue Refusal = false
 
-abbrev pub rule_id : Option Rule → List ℕ
-rule_id None = codes "refused_file"
-rule_id (Some rule) = rule_name rule
+abbrev pub rule_id : Subject → List ℕ
+rule_id (Rule rule) = rule_name rule
+rule_id Comment = codes "silencing_comment"
+rule_id Refusal = codes "refused_file"
 
-abbrev pub severity_of : Option Rule → Severity
-severity_of None = Error
-severity_of (Some rule) = severity rule
+abbrev pub severity_of : Subject → Severity
+severity_of (Rule rule) = severity rule
+severity_of Comment = Error
+severity_of Refusal = Error
 
 -- one of three words for it
 abbrev pub by_severity : List ℕ → List ℕ → List ℕ → Severity → List ℕ
@@ -25,13 +30,13 @@ by_severity notice warning error Warning = warning
 by_severity notice warning error Error = error
 
 -- TFLint's and Checkstyle's
-abbrev pub severity_word : Option Rule → List ℕ
-severity_word rule = by_severity (codes "info") (codes "warning") (codes "error") (severity_of rule)
+abbrev pub severity_word : Subject → List ℕ
+severity_word subject = by_severity (codes "info") (codes "warning") (codes "error") (severity_of subject)
 
 -- SARIF's
-abbrev pub level_word : Option Rule → List ℕ
-level_word rule = by_severity (codes "note") (codes "warning") (codes "error") (severity_of rule)
+abbrev pub level_word : Subject → List ℕ
+level_word subject = by_severity (codes "note") (codes "warning") (codes "error") (severity_of subject)
 
 -- GitLab's
-abbrev pub quality_word : Option Rule → List ℕ
-quality_word rule = by_severity (codes "info") (codes "minor") (codes "major") (severity_of rule)
+abbrev pub quality_word : Subject → List ℕ
+quality_word subject = by_severity (codes "info") (codes "minor") (codes "major") (severity_of subject)

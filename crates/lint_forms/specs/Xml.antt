@@ -1,9 +1,9 @@
 -- XML in the forms of Checkstyle and of JUnit.
-use Rattle.std.specs.Prelude.{ℕ, Bool, true, false, ◌++◌, ◌==◌, ◌||◌, not, List, [], ◌∷◌, Option, Some, None, chars, codes, decimal, encode_utf8, filter, flat_map, length, nat_lt, if◌then◌else◌}
+use Rattle.std.specs.Prelude.{ℕ, Bool, true, false, ◌++◌, ◌==◌, ◌||◌, not, List, [], ◌∷◌, chars, codes, decimal, encode_utf8, filter, flat_map, length, nat_lt, if◌then◌else◌}
 use Rattle.rule_set.specs.Rules.{severity_text}
-use Rattle.rule_set.specs.declared.rule.Rule.{Rule}
 use Rattle.lint_forms.specs.Remarks.{Remark}
 use Rattle.lint_forms.specs.Words.{is_issue, rule_id, severity_of, severity_word}
+use Rattle.lint_forms.specs.declared.subject.Subject.{Subject}
 
 -- ---- texts
 
@@ -27,10 +27,10 @@ file_head r =
     codes "<file name=\"" ++ (attribute_text r.file ++ (codes "\"><error line=\"" ++ (decimal r.line ++ (codes "\" column=\"" ++ decimal r.column))))
 
 abbrev pub file_middle : Remark → List ℕ
-file_middle r = codes "\" severity=\"" ++ (severity_word r.rule ++ codes "\" message=\"")
+file_middle r = codes "\" severity=\"" ++ (severity_word r.subject ++ codes "\" message=\"")
 
 abbrev pub file_tail : Remark → List ℕ
-file_tail r = attribute_text r.text ++ codes "\" source=\"" ++ rule_id r.rule ++ codes "\"/></file>\n"
+file_tail r = attribute_text r.text ++ codes "\" source=\"" ++ rule_id r.subject ++ codes "\"/></file>\n"
 
 -- THE ERROR, with its file
 abbrev pub checkstyle_file : Remark → List ℕ
@@ -39,20 +39,19 @@ checkstyle_file r = file_head r ++ file_middle r ++ file_tail r
 -- ---- JUnit
 
 -- the element of a test that an issue fails, or that a refusal keeps from being run
-abbrev pub outcome_word : Option Rule → List ℕ
-outcome_word None = codes "error"
-outcome_word (Some rule) = codes "failure"
+abbrev pub outcome_word : Subject → List ℕ
+outcome_word subject = if is_issue subject then codes "failure" else codes "error"
 
 -- `FILE:LINE:COLUMN`
 abbrev pub spot : Remark → List ℕ
 spot r = attribute_text r.file ++ (codes ":" ++ (decimal r.line ++ (codes ":" ++ decimal r.column)))
 
 abbrev pub case_head : Remark → List ℕ
-case_head r = codes "<testcase classname=\"" ++ (rule_id r.rule ++ (codes "\" name=\"" ++ (spot r ++ (codes "\"><" ++ outcome_word r.rule))))
+case_head r = codes "<testcase classname=\"" ++ (rule_id r.subject ++ (codes "\" name=\"" ++ (spot r ++ (codes "\"><" ++ outcome_word r.subject))))
 
 abbrev pub case_tail : Remark → List ℕ
 case_tail r =
-    codes " type=\"" ++ (severity_text (severity_of r.rule) ++ (codes "\" message=\"" ++ (spot r ++ (codes ": " ++ (attribute_text r.text ++ codes "\"/></testcase>\n")))))
+    codes " type=\"" ++ (severity_text (severity_of r.subject) ++ (codes "\" message=\"" ++ (spot r ++ (codes ": " ++ (attribute_text r.text ++ codes "\"/></testcase>\n")))))
 
 -- THE TEST that failed
 abbrev pub junit_case : Remark → List ℕ
@@ -64,8 +63,8 @@ suite_end = codes "</testsuite>\n"
 abbrev pub suite_head : List Remark → List ℕ
 suite_head rs =
     codes "<testsuite name=\"tfrules\" tests=\"" ++ (decimal (length rs)
-    ++ (codes "\" failures=\"" ++ (decimal (length (filter (λ r. is_issue r.rule) rs))
-    ++ (codes "\" errors=\"" ++ (decimal (length (filter (λ r. not (is_issue r.rule)) rs)) ++ codes "\">\n")))))
+    ++ (codes "\" failures=\"" ++ (decimal (length (filter (λ r. is_issue r.subject) rs))
+    ++ (codes "\" errors=\"" ++ (decimal (length (filter (λ r. not (is_issue r.subject)) rs)) ++ codes "\">\n")))))
 
 -- THE SUITE of remarks, where there is one
 abbrev pub junit_suite : List Remark → List ℕ

@@ -27,7 +27,7 @@ fn digest_of(remark: Remark<'_>) -> [u8; 32]
     ensures { result ≡ sha256 (mark_key (said_by remark.entry)) }
 {
     let mut hasher = Sha256::new();
-    hasher.update(rule_id(remark.rule).as_bytes());
+    hasher.update(rule_id(remark.subject).as_bytes());
     hasher.update(b"\0".as_slice());
     hasher.update(remark.file.as_bytes());
     hasher.update(b"\0".as_slice());

@@ -18,8 +18,8 @@ pub(crate) fn with_entry(text: Vec<u8>, entry: &Entry<'_>) -> Result<Vec<u8>, Al
     ensures { IfOk result (λ l. l.items
         ≡ text.items ++ json_text (quality_json (entry_by entry.now))) }
 {
-    let name = rule_id(entry.said.rule);
-    let severity = quality_word(entry.said.rule);
+    let name = rule_id(entry.said.subject);
+    let severity = quality_word(entry.said.subject);
     let mark = entry.mark.as_str();
     with_parts(
         text,

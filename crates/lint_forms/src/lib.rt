@@ -1,4 +1,5 @@
-//! The forms in which forges and editors read what is said of modules: their issues, and why files are refused.
+//! The forms in which forges and editors read what is said of modules: their issues, comments that are meant to silence
+//! a rule and don't, and why files are refused.
 //!
 //! The module [`laws`] holds what is proved of the definitions alone.
 #![tactic(auto)]
@@ -16,6 +17,7 @@ mod remark;
 pub mod rule_texts;
 mod sarif;
 mod shape;
+mod subject;
 mod tflint;
 mod tflint_frame;
 mod values;
@@ -24,3 +26,4 @@ mod xml;
 
 pub use kind::Form;
 pub use remark::Remark;
+pub use subject::Subject;

@@ -5,15 +5,16 @@ ghost use Rattle.lint_forms.specs.Remarks.{said_by};
 ghost use Rattle.lint_forms.specs.Lines.{command_word, github_line, line_head, line_tail, message_char, property_char};
 
 use crate::remark::Remark;
+use crate::subject::Subject;
 use crate::words::{rule_id, severity_of};
-use rule_set::{Rule, Severity};
+use rule_set::Severity;
 use std::alloc::{AllocError, Global};
 
-/// The command for an issue, or for a refusal.
-fn command_word(rule: Option<Rule>) -> &'static str
-    ensures { result.now ≡ command_word rule }
+/// The command for what is said.
+fn command_word(subject: Subject) -> &'static str
+    ensures { result.now ≡ command_word subject }
 {
-    match severity_of(rule) {
+    match severity_of(subject) {
         Severity::Notice => "notice",
         Severity::Warning => "warning",
         Severity::Error => "error",
@@ -73,7 +74,7 @@ fn property(alloc: Global, text: &str) -> Result<String, AllocError>
 fn line_head(alloc: Global, remark: Remark<'_>) -> Result<String, AllocError>
     ensures { IfOk result (λ s. string_bytes s ≡ line_head (said_by remark.entry)) }
 {
-    let word = command_word(remark.rule);
+    let word = command_word(remark.subject);
     let file = property(alloc, remark.file)?;
     format!(in alloc; "::{} file={},line={}", word, file.as_str(), remark.line)
 }
@@ -82,7 +83,7 @@ fn line_head(alloc: Global, remark: Remark<'_>) -> Result<String, AllocError>
 fn line_tail(alloc: Global, remark: Remark<'_>) -> Result<String, AllocError>
     ensures { IfOk result (λ s. string_bytes s ≡ line_tail (said_by remark.entry)) }
 {
-    let name = rule_id(remark.rule);
+    let name = rule_id(remark.subject);
     let text = message(alloc, remark.text)?;
     format!(in alloc;
         ",col={},title={}::{}\n",

@@ -1,8 +1,9 @@
 //! What is said of a file.
 
-use rule_set::Rule;
+use crate::subject::Subject;
 
-/// An issue, or why a file or a folder is refused.
+/// An issue; a comment that is meant to silence a rule and doesn't, which stands among the issues; or why a file or a
+/// folder is refused.
 #[derive(Clone, Copy)]
 pub struct Remark<'a> {
     /// The name of the file or the folder.
@@ -11,8 +12,8 @@ pub struct Remark<'a> {
     pub line: u32,
     /// The column as messages have it, from 1 on.
     pub column: u32,
-    /// The rule that reports the issue; none where the file is refused.
-    pub rule: Option<Rule>,
+    /// What it is about.
+    pub subject: Subject,
     /// What is said.
     pub text: &'a str,
 }

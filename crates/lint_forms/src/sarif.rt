@@ -8,7 +8,7 @@ ghost use Rattle.lint_forms.specs.Inner.AddsTokens.{AddsTokens};
 ghost use Rattle.lint_forms.specs.Inner.Shapes.{entry_by};
 ghost use Rattle.lint_forms.specs.Inner.SarifParts.{results_head, rules_tokens, sarif_start};
 ghost use Rattle.lint_forms.specs.Remarks.{said_by};
-ghost use Rattle.lint_forms.specs.Sarif.{described, full_text, page_of, refusal_json, result_by, result_json, rule_index, rule_json, sarif_foot, sarif_head};
+ghost use Rattle.lint_forms.specs.Sarif.{briefly, described, full_text, page_of, result_by, result_json, rule_index, rule_json, sarif_foot, sarif_head};
 ghost use Rattle.lint_forms.specs.Values.{json_text};
 ghost use Rattle.lint_forms.specs.Words.{level_word, rule_id};
 
@@ -18,18 +18,20 @@ use crate::parts::{with_parts, write_parts};
 use crate::places::uri_of;
 use crate::remark::Remark;
 use crate::rule_texts::{reason, reports};
+use crate::subject::Subject;
 use crate::words::{level_word, rule_id};
 use json::Writer;
 use rule_set::{ALL_RULES, Rule, rank};
 use std::alloc::{AllocError, Global};
 
-/// The number of a rule among those that the document describes.
-fn rule_index(rule: Option<Rule>) -> u32
-    ensures { result ≡ rule_index rule }
+/// The number of the rule, or of what stands for one, among those that the document describes.
+fn rule_index(subject: Subject) -> u32
+    ensures { result ≡ rule_index subject }
 {
-    match rule {
-        Some(rule) => rank(rule) as u32,
-        None => 10,
+    match subject {
+        Subject::Rule(rule) => rank(rule) as u32,
+        Subject::Refusal => 10,
+        Subject::Comment => 11,
     }
 }
 
@@ -41,13 +43,13 @@ fn with_marked<'a>(
     uri: &'a str,
 ) -> Result<Vec<u8>, AllocError>
     ensures { IfOk result (λ l. l.items ≡ text.items ++ json_text
-        (result_by (rule_id said.entry.rule) (rule_index said.entry.rule)
-        (level_word said.entry.rule) uri.now
+        (result_by (rule_id said.entry.subject) (rule_index said.entry.subject)
+        (level_word said.entry.subject) uri.now
         (record { said = said_by said.entry; mark = mark.now }))) }
 {
-    let name = rule_id(said.rule);
-    let index = rule_index(said.rule);
-    let level = level_word(said.rule);
+    let name = rule_id(said.subject);
+    let index = rule_index(said.subject);
+    let level = level_word(said.subject);
     with_parts(
         text,
         &[
@@ -180,7 +182,7 @@ fn write_rule(alloc: Global, writer: &mut Writer, rule: Rule) -> Result<(), Allo
     let why = reason(rule);
     let full = full_text(alloc, short, why)?;
     let page = page_of(alloc, name)?;
-    let level = level_word(Some(rule));
+    let level = level_word(Subject::Rule(rule));
     write_described(
         writer,
         name,
@@ -192,20 +194,20 @@ fn write_rule(alloc: Global, writer: &mut Writer, rule: Rule) -> Result<(), Allo
     )
 }
 
-/// What it says of the rule for files that are refused.
-fn write_refusal_rule(writer: &mut Writer) -> Result<(), AllocError>
-    ensures { AddsTokens result writer.old writer.new (json_tokens refusal_json) }
+/// What it says of what stands for a rule, by this name and text.
+fn write_briefly<'a>(writer: &mut Writer, name: &'a str, short: &'a str) -> Result<(), AllocError>
+    ensures { AddsTokens result writer.old writer.new (json_tokens (briefly name.now short.now)) }
 {
     write_parts(
         writer,
         &[
             JsonPart::Object,
             JsonPart::Key("id"),
-            JsonPart::Text("refused_file"),
+            JsonPart::Text(name),
             JsonPart::Key("shortDescription"),
             JsonPart::Object,
             JsonPart::Key("text"),
-            JsonPart::Text("files that can't be linted"),
+            JsonPart::Text(short),
             JsonPart::EndObject,
             JsonPart::Key("defaultConfiguration"),
             JsonPart::Object,
@@ -275,7 +277,12 @@ fn write_head(alloc: Global, writer: &mut Writer, version: &str) -> Result<(), A
 {
     write_start(writer, version)?;
     write_rules(alloc, writer, &ALL_RULES)?;
-    write_refusal_rule(writer)?;
+    write_briefly(writer, "refused_file", "files that can't be linted")?;
+    write_briefly(
+        writer,
+        "silencing_comment",
+        "comments that are meant to silence a rule and don't",
+    )?;
     write_results_head(writer)
 }
 

@@ -16,8 +16,8 @@ pub(crate) fn with_issue(text: Vec<u8>, remark: Remark<'_>) -> Result<Vec<u8>, A
     ensures { IfOk result (λ l. l.items
         ≡ text.items ++ json_text (issue_json (said_by remark.entry))) }
 {
-    let name = rule_id(remark.rule);
-    let severity = severity_word(remark.rule);
+    let name = rule_id(remark.subject);
+    let severity = severity_word(remark.subject);
     with_parts(
         text,
         &[

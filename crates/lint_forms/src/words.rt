@@ -1,42 +1,47 @@
-//! The words that the forms have for a rule and its severity.
+//! The words that the forms have for what a remark is about, and for its severity.
 
 ghost use Rattle.std.specs.Prelude.{◌≡◌};
 ghost use Rattle.lint_forms.specs.Words.{is_issue, level_word, quality_word, rule_id, severity_of, severity_word};
 
-use rule_set::{Rule, Severity};
+use crate::subject::Subject;
+use rule_set::Severity;
 
-/// Whether an issue is meant, and no refusal.
-pub(crate) fn is_issue(rule: Option<Rule>) -> bool
-    ensures { result ≡ is_issue rule }
+/// Whether a remark on it stands among the issues, and not among the refusals.
+pub(crate) fn is_issue(subject: Subject) -> bool
+    ensures { result ≡ is_issue subject }
 {
-    rule.is_some()
-}
-
-/// The name of the rule, or what stands for one where a file is refused.
-pub(crate) fn rule_id(rule: Option<Rule>) -> &'static str
-    ensures { result.now ≡ rule_id rule }
-{
-    match rule {
-        Some(rule) => rule.name(),
-        None => "refused_file",
+    match subject {
+        Subject::Rule(_) | Subject::Comment => true,
+        Subject::Refusal => false,
     }
 }
 
-/// How severe an issue or a refusal is.
-pub(crate) fn severity_of(rule: Option<Rule>) -> Severity
-    ensures { result ≡ severity_of rule }
+/// The name of the rule, or what stands for one.
+pub(crate) fn rule_id(subject: Subject) -> &'static str
+    ensures { result.now ≡ rule_id subject }
 {
-    match rule {
-        Some(rule) => rule.severity(),
-        None => Severity::Error,
+    match subject {
+        Subject::Rule(rule) => rule.name(),
+        Subject::Comment => "silencing_comment",
+        Subject::Refusal => "refused_file",
+    }
+}
+
+/// How severe a remark on it is.
+pub(crate) fn severity_of(subject: Subject) -> Severity
+    ensures { result ≡ severity_of subject }
+{
+    match subject {
+        Subject::Rule(rule) => rule.severity(),
+        Subject::Comment | Subject::Refusal => Severity::Error,
     }
 }
 
 /// The word of TFLint and of Checkstyle for how severe it is.
-pub(crate) fn severity_word(rule: Option<Rule>) -> &'static str
-    ensures { result.now ≡ severity_word rule }
+pub(crate) fn severity_word(subject: Subject) -> &'static str
+    ensures { result.now ≡ severity_word subject }
 {
-    match severity_of(rule) {
+    match severity_of(subject) {
         Severity::Notice => "info",
         Severity::Warning => "warning",
         Severity::Error => "error",
@@ -44,10 +49,10 @@ pub(crate) fn severity_word(rule: Option<Rule>) -> &'static str
 }
 
 /// That of SARIF.
-pub(crate) fn level_word(rule: Option<Rule>) -> &'static str
-    ensures { result.now ≡ level_word rule }
+pub(crate) fn level_word(subject: Subject) -> &'static str
+    ensures { result.now ≡ level_word subject }
 {
-    match severity_of(rule) {
+    match severity_of(subject) {
         Severity::Notice => "note",
         Severity::Warning => "warning",
         Severity::Error => "error",
@@ -55,10 +60,10 @@ pub(crate) fn level_word(rule: Option<Rule>) -> &'static str
 }
 
 /// That of GitLab's code quality.
-pub(crate) fn quality_word(rule: Option<Rule>) -> &'static str
-    ensures { result.now ≡ quality_word rule }
+pub(crate) fn quality_word(subject: Subject) -> &'static str
+    ensures { result.now ≡ quality_word subject }
 {
-    match severity_of(rule) {
+    match severity_of(subject) {
         Severity::Notice => "info",
         Severity::Warning => "minor",
         Severity::Error => "major",

@@ -7,8 +7,8 @@ ghost use Rattle.lint_forms.specs.Words.{is_issue};
 ghost use Rattle.lint_forms.specs.Xml.{attribute_char, attribute_text, case_head, case_tail, checkstyle_file, file_head, file_middle, file_tail, junit_case, junit_suite, kept_or_replaced, last_suite, outcome_word, spot, suite_end, suite_head};
 
 use crate::remark::Remark;
+use crate::subject::Subject;
 use crate::words::{is_issue, rule_id, severity_of, severity_word};
-use rule_set::Rule;
 use std::alloc::{AllocError, Global};
 
 /// Some forges reject a report without tests.
@@ -79,7 +79,7 @@ fn file_head(alloc: Global, remark: Remark<'_>) -> Result<String, AllocError>
 fn file_middle(alloc: Global, remark: Remark<'_>) -> Result<String, AllocError>
     ensures { IfOk result (λ s. string_bytes s ≡ file_middle (said_by remark.entry)) }
 {
-    let severity = severity_word(remark.rule);
+    let severity = severity_word(remark.subject);
     format!(in alloc; "\" severity=\"{}\" message=\"", severity)
 }
 
@@ -89,7 +89,7 @@ fn file_tail(alloc: Global, remark: Remark<'_>) -> Result<String, AllocError>
 {
     let mut text = attribute_text(alloc, remark.text)?;
     text.push_str("\" source=\"")?;
-    text.push_str(rule_id(remark.rule))?;
+    text.push_str(rule_id(remark.subject))?;
     text.push_str("\"/></file>\n")?;
     Ok(text)
 }
@@ -127,12 +127,12 @@ pub(crate) fn module_files(alloc: Global, remarks: &[Remark<'_>]) -> Result<Vec<
 }
 
 /// The element for what became of a test.
-fn outcome_word(rule: Option<Rule>) -> &'static str
-    ensures { result.now ≡ outcome_word rule }
+fn outcome_word(subject: Subject) -> &'static str
+    ensures { result.now ≡ outcome_word subject }
 {
-    match rule {
-        Some(_) => "failure",
-        None => "error",
+    match subject {
+        Subject::Rule(_) | Subject::Comment => "failure",
+        Subject::Refusal => "error",
     }
 }
 
@@ -148,9 +148,9 @@ fn spot(alloc: Global, remark: Remark<'_>) -> Result<String, AllocError>
 fn case_head(alloc: Global, remark: Remark<'_>) -> Result<String, AllocError>
     ensures { IfOk result (λ s. string_bytes s ≡ case_head (said_by remark.entry)) }
 {
-    let name = rule_id(remark.rule);
+    let name = rule_id(remark.subject);
     let spot = spot(alloc, remark)?;
-    let outcome = outcome_word(remark.rule);
+    let outcome = outcome_word(remark.subject);
     format!(in alloc;
         "<testcase classname=\"{}\" name=\"{}\"><{}",
         name,
@@ -163,7 +163,7 @@ fn case_head(alloc: Global, remark: Remark<'_>) -> Result<String, AllocError>
 fn case_tail(alloc: Global, remark: Remark<'_>) -> Result<String, AllocError>
     ensures { IfOk result (λ s. string_bytes s ≡ case_tail (said_by remark.entry)) }
 {
-    let severity = severity_of(remark.rule).text();
+    let severity = severity_of(remark.subject).text();
     let spot = spot(alloc, remark)?;
     let message = attribute_text(alloc, remark.text)?;
     format!(in alloc;
@@ -204,20 +204,20 @@ fn some_cases(alloc: Global, remarks: &[Remark<'_>]) -> Result<Vec<u8>, AllocErr
 }
 
 fn issues_of(remarks: &[Remark<'_>]) -> usize
-    ensures { result ≡ length (filter (λ r. is_issue r.rule) remarks.now) }
+    ensures { result ≡ length (filter (λ r. is_issue r.subject) remarks.now) }
 {
     remarks
         .iter()
-        .filter(|remark| is_issue(remark.rule))
+        .filter(|remark| is_issue(remark.subject))
         .count()
 }
 
 fn refusals_of(remarks: &[Remark<'_>]) -> usize
-    ensures { result ≡ length (filter (λ r. not (is_issue r.rule)) remarks.now) }
+    ensures { result ≡ length (filter (λ r. not (is_issue r.subject)) remarks.now) }
 {
     remarks
         .iter()
-        .filter(|remark| !is_issue(remark.rule))
+        .filter(|remark| !is_issue(remark.subject))
         .count()
 }
 

@@ -73,7 +73,7 @@ fn many_modules(rt: HostRuntime) {
             "",
         );
     }
-    for (form, wanted) in [(Form::Github, 247_154), (Form::Gitlab, 528_943)] {
+    for (form, wanted) in [(Form::Github, 294_154), (Form::Gitlab, 648_943)] {
         let length = match document(alloc, form, 1, many.as_slice(), &REFUSALS) {
             Ok(text) => text.len(),
             Err(_) => 0,

@@ -5,6 +5,8 @@
 #[cfg(test)]
 mod checks;
 #[cfg(test)]
+mod comments;
+#[cfg(test)]
 mod configs;
 #[cfg(test)]
 mod documents;

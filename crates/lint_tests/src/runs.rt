@@ -124,6 +124,7 @@ fn policy(given: &Given) -> Policy {
         },
         minimum: given.minimum,
         force: given.force,
+        checks: false,
     }
 }
 

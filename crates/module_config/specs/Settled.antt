@@ -20,14 +20,16 @@ use Rattle.module_config.specs.declared.governor.Governor.{Governor}
 use Rattle.module_config.specs.declared.governor.Governor.TheVariants as governor
 use Rattle.module_config.specs.declared.governor.Placed.{Placed}
 
--- by what each module is linted: rules and naming, the severity from which on an issue fails the run, and whether none does
+-- by what each module is linted: rules and naming, the severity from which on an issue fails the run, whether nothing does, and
+-- whether comments are looked at
 pub record Wanted : Type 0 where
   pub asked : Asked
   pub minimum : Severity
   pub force : Bool
+  pub checks : Bool
 
 abbrev pub wanted_of : Policy → Wanted
-wanted_of policy = record { asked = asked_of policy.settings; minimum = policy.minimum; force = policy.force }
+wanted_of policy = record { asked = asked_of policy.settings; minimum = policy.minimum; force = policy.force; checks = policy.checks }
 
 abbrev pub first_said : {A : Type 0} → Option A → Option A → A → A
 first_said (Some line) own default = line
@@ -41,6 +43,7 @@ settled line own = record {
   asked = record { rules = first_said line.rules own.rules default_rules; naming = first_said line.naming own.naming SnakeCase };
   minimum = first_said line.minimum own.minimum Notice;
   force = line.force || own.force;
+  checks = line.checks || own.checks;
 }
 
 -- what a file says, unless a line of it is bad or it has no text

@@ -57,6 +57,7 @@ pub fn settled(line: Said, own: Said) -> Policy
         settings: Settings { rules, naming },
         minimum,
         force: line.force || own.force,
+        checks: line.checks || own.checks,
     }
 }
 

@@ -26,6 +26,10 @@ trimmed part = without_end is_margin (without_front is_margin part)
 abbrev pub keyword : List ℕ
 keyword = codes "tflint-ignore:"
 
+-- what a comment says after its mark and blanks
+abbrev pub comment_words : List ℕ → List ℕ
+comment_words text = without_front is_blank (unmarked text)
+
 -- the parts between commas of what follows the keyword, up to a `#`
 abbrev pub parts : List ℕ → List (List ℕ)
 parts rest = if begins keyword rest then slice_split (λ b. b == 44) (before_first (λ b. b == 35) (drop (length keyword) rest)) else []
@@ -35,7 +39,7 @@ names rule part = bytes_eq part (codes "all") || bytes_eq part (rule_name rule)
 
 -- THE RULES that the comment of this text silences
 abbrev pub silences : List ℕ → Rule → Bool
-silences text rule = list_any (λ part. names rule (trimmed part)) (parts (without_front is_blank (unmarked text)))
+silences text rule = list_any (λ part. names rule (trimmed part)) (parts (comment_words text))
 
 abbrev pub silenced_rules : List ℕ → List Rule
 silenced_rules text = filter (silences text) all_rules

@@ -1,10 +1,10 @@
 //! Line comments that silence issues.
 
-ghost use Rattle.std.specs.Prelude.{◌≡◌, ◌==◌, ◌||◌};
+ghost use Rattle.std.specs.Prelude.{◌≡◌, ◌==◌, ◌||◌, [], MatchOption};
 ghost use Rattle.std.specs.List.{list_any, slice_split};
 ghost use Rattle.rule_set.specs.RuleSets.{holds};
 ghost use Rattle.hcl_tokens.specs.Spelling.{is_blank};
-ghost use Rattle.tf_facts.specs.Silencing.{has_slashes, is_margin, names, silences, trimmed, unmarked};
+ghost use Rattle.tf_facts.specs.Silencing.{has_slashes, is_margin, names, parts, comment_words, silences, trimmed, unmarked};
 ghost use Rattle.tf_facts.specs.Texts.{without_end, without_front};
 
 use crate::texts::{after, begins, cut, equals};
@@ -80,8 +80,8 @@ fn without_end(text: &[u8]) -> &[u8]
     &text[..0]
 }
 
-/// A text without the margins at both ends.
-fn trimmed(part: &[u8]) -> &[u8]
+/// A text without the white space at both ends.
+pub fn trimmed(part: &[u8]) -> &[u8]
     ensures { result.now ≡ trimmed part.now }
 {
     without_end(without_front(part))
@@ -112,13 +112,31 @@ fn all_named(list: &[u8]) -> RuleSet
     set
 }
 
+/// What the comment of this text says, after its mark and blanks.
+pub fn comment_words(text: &[u8]) -> &[u8]
+    ensures { result.now ≡ comment_words text.now }
+{
+    without_blanks(unmarked(text))
+}
+
+/// The names that the comment of this text lists, with commas between them: none where it isn't meant to silence a rule.
+pub fn silencing_list(text: &[u8]) -> Option<&[u8]>
+    ensures { MatchOption result (parts (comment_words text.now) ≡ [])
+        (λ list. parts (comment_words text.now) ≡ slice_split (λ b. b == 44) list.now) }
+{
+    let rest = comment_words(text);
+    if !begins(KEYWORD, rest) {
+        return None;
+    }
+    Some(cut(after(rest, KEYWORD.len()), b'#').part)
+}
+
 /// The rules that the comment of this text silences.
 pub fn silenced_rules(text: &[u8]) -> RuleSet
     ensures { (rule : Rule) → holds result rule ≡ silences text.now rule }
 {
-    let rest = without_blanks(unmarked(text));
-    if !begins(KEYWORD, rest) {
-        return RuleSet::none();
+    match silencing_list(text) {
+        Some(list) => all_named(list),
+        None => RuleSet::none(),
     }
-    all_named(cut(after(rest, KEYWORD.len()), b'#').part)
 }

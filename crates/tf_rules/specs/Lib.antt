@@ -1,6 +1,7 @@
 pub mod Naming
 pub mod Findings
 pub mod Ordered
+pub mod Walked
 pub mod Issues
 pub mod Kept
 pub mod KeptIssues

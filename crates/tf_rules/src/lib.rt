@@ -37,3 +37,4 @@ pub use pieces::Pieces;
 pub use rule_set::{Rule, RuleSet, Severity};
 pub use settings::Settings;
 pub use tf_facts::Hashing;
+pub use walker::Walker;

@@ -6,8 +6,10 @@ use Rattle.std.specs.Io.KnownBytes.{Consumes, IsAtEnd}
 use Rattle.std.proofs.lemmas.List.{get_or_default, length-map, length-take-le, map-append, take_more, take-append-drop}
 use Rattle.std.proofs.lemmas.List.Elements.{All-append, All-cons, All-nil}
 use Rattle.std.proofs.lemmas.List.Sums.{sum_by-append}
+use Rattle.hcl_grammar.specs.Verdict.{verdict}
 use Rattle.hcl_source.specs.Load.{IsLoadFault, IsText, Loads, is_failed_load, max_source}
 use Rattle.hcl_tokens.specs.Scanned.{IsScanError, Scanned}
+use Rattle.hcl_tokens.specs.Scans.{Scans}
 use Rattle.hcl_tokens.specs.declared.token.ScanError.{ScanError}
 use Rattle.hcl_tokens.specs.declared.token.ScanError.TheVariants as scan_error
 use Rattle.hcl_source.specs.declared.fault.Fault.{Fault}
@@ -17,10 +19,11 @@ use Rattle.hcl_source.specs.declared.fault.LoadError.TheVariants as error
 use Rattle.hcl_source.proofs.LoadLemmas.{too_large_too}
 use Rattle.tf_rules.specs.Kept.{Kept, kept_of, with_file}
 use Rattle.tf_rules.proofs.KeptLemmas.{kept_of_more}
-use Rattle.tfrules_command.specs.Files.{NamedFile, IsAcceptedAs, max_module, numbered_files, size_of}
+use Rattle.tfrules_command.specs.Files.{NamedFile, IsAcceptedAs, IsOutcome, max_module, numbered_files, size_of}
 use Rattle.hcl_source.specs.Devices.{Tells}
 use Rattle.tfrules_command.specs.Inner.Steps.{AreFine, Adds, ReadsFile, StopsAt, StopsBy, stop_by, stop_of_scan}
-use Rattle.tfrules_command.specs.Keeping.{Added, Keeps, Reached}
+use Rattle.tfrules_command.specs.Keeping.{Added, Keeps, KeepsTokens, Reached, ScansFile}
+use Rattle.tfrules_command.specs.declared.gather.ScannedFile.{ScannedFile}
 use Rattle.tfrules_command.specs.declared.stop.Stop.{Stop}
 use Rattle.tfrules_command.specs.declared.stop.Stop.TheVariants as stop
 use Rattle.command_line.proofs.ListCutLemmas.{from_here}
@@ -62,11 +65,34 @@ reads_told told left left' bytes o o' r r' f loaded answer is same fine fine' un
 
 -- ---- a file that was kept, or wasn't scanned
 
-pub stops_unscanned : (text : List ℕ) (size number : ℕ) (kept : Kept) (error : ScanError) (why : Stop) → why ≡ stop_of_scan error → size + length text ≤ max_module → IsScanError text error
-    → Keeps text size number kept kept (Err why)
-stops_unscanned text size number kept (scan_error.Fault fault) why is fits e =
-    subst (λ w. Keeps text size number kept kept (Err w)) (sym is) (fits, inl (fault.kind, e.0, e.1, ap (λ (p : Position). Err (record { kind = fault.kind; at = p })) e.2))
-stops_unscanned text size number kept scan_error.OutOfMemory why is fits e = subst (λ w. Keeps text size number kept kept (Err w)) (sym is) tt
+pub stops_unscanned : (text : List ℕ) (size : ℕ) (error : ScanError) (why : Stop) → why ≡ stop_of_scan error → size + length text ≤ max_module → IsScanError text error → ScansFile text size (Err why)
+stops_unscanned text size (scan_error.Fault fault) why is fits e =
+    subst (λ w. ScansFile text size (Err w)) (sym is) (fits, inl (fault.kind, e.0, e.1, ap (λ (p : Position). Err (record { kind = fault.kind; at = p })) e.2))
+stops_unscanned text size scan_error.OutOfMemory why is fits e = subst (λ w. ScansFile text size (Err w)) (sym is) tt
+
+pub keeps_none : (text : List ℕ) (size number : ℕ) (kept : Kept) (why : Stop) → ScansFile text size (Err why) → Keeps text size number kept kept (Err why)
+keeps_none text size number kept (stop.Refused fault) s = s
+keeps_none text size number kept stop.TooLarge s = s
+keeps_none text size number kept stop.NotOpened s = absurd s
+keeps_none text size number kept stop.NotRead s = absurd s
+keeps_none text size number kept stop.OutOfMemory s = tt
+
+pub outcome_of : (text : List ℕ) (scanned : Scanned) (o : Result Scanned Fault) → scanned.text ≡ text → Scans text scanned.tokens → o ≡ verdict scanned → IsOutcome text o
+outcome_of text scanned o same scans e = inr (scanned.tokens, scans, e ∙ ap (λ t. verdict (record { text = t; tokens = scanned.tokens })) same)
+
+pub keeps_scanned : (text : List ℕ) (size number : ℕ) (old new : Kept) (file : ScannedFile) (answer : Result ℕ Stop) → ScansFile text size (Ok file) → KeepsTokens file.tokens number file.all old new answer → Keeps text size number old new answer
+keeps_scanned text size number old new file answer s = by answer
+  where
+    outcome : (o : Result Scanned Fault) → o ≡ verdict file.tokens → IsOutcome text o
+    outcome o e = outcome_of text file.tokens o s.0 s.1 e
+
+    by : (a : Result ℕ Stop) → KeepsTokens file.tokens number file.all old new a → Keeps text size number old new a
+    by (Ok more) k = (k.0, outcome (Ok k.0) k.1, k.2 ∙ s.2, subst (λ n. n ≤ max_module) (sym k.2) s.3, k.3)
+    by (Err (stop.Refused fault)) k = (subst (λ n. n ≤ max_module) s.2 s.3, outcome (Err fault) k)
+    by (Err stop.TooLarge) k = absurd k
+    by (Err stop.NotOpened) k = absurd k
+    by (Err stop.NotRead) k = absurd k
+    by (Err stop.OutOfMemory) k = tt
 
 pub adds_kept : (told : Option (List ℕ)) (o r : Bool) (text : List ℕ) (size number : ℕ) (old new : Kept) (answer : Result ℕ Stop)
     → AreFine o r → Tells told text → IsText text → Keeps text size number old new answer → Adds told size number o r old new answer
@@ -93,19 +119,19 @@ all_zip_push [] (b ∷ ys) f s h r = absurd h
 all_zip_push (a ∷ xs) [] f s h r = absurd h
 all_zip_push (a ∷ xs) (b ∷ ys) f s h r = (h.0, all_zip_push xs ys f s h.1 r)
 
-zip_length : (files : List NamedFile) (sources : List Scanned) → AllZip IsAcceptedAs files sources → length files ≡ length sources
+pub zip_length : (files : List NamedFile) (sources : List Scanned) → AllZip IsAcceptedAs files sources → length files ≡ length sources
 zip_length [] [] h = refl
 zip_length [] (y ∷ ys) h = absurd h
 zip_length (x ∷ xs) [] h = absurd h
 zip_length (x ∷ xs) (y ∷ ys) h = ap suc (zip_length xs ys h.1)
 
-numbered_more : (n : ℕ) (sources : List Scanned) (s : Scanned) → numbered_files n (sources ++ s ∷ []) ≡ numbered_files n sources ++ record { number = n + length sources; source = s } ∷ []
+pub numbered_more : (n : ℕ) (sources : List Scanned) (s : Scanned) → numbered_files n (sources ++ s ∷ []) ≡ numbered_files n sources ++ record { number = n + length sources; source = s } ∷ []
 numbered_more n [] s = let same : n ≡ n + 0 = omega arith in ap (λ (k : ℕ). record { number = k; source = s } ∷ []) same
 numbered_more n (x ∷ xs) s =
     let same : n + 1 + length xs ≡ n + length (x ∷ xs) = omega arith in
     ap (λ l. record { number = n; source = x } ∷ l) (numbered_more (n + 1) xs s ∙ ap (λ (k : ℕ). numbered_files (n + 1) xs ++ record { number = k; source = s } ∷ []) same)
 
-pub reached_none : (told : List ℕ → Option (List ℕ)) (kept : Kept) → kept ≡ kept_of [] → Reached told [] 0 kept
+unfoldable pub reached_none : (told : List ℕ → Option (List ℕ)) (kept : Kept) → kept ≡ kept_of [] → Reached told [] 0 kept
 reached_none told kept e = record {
   files = [];
   named = refl;
@@ -116,7 +142,7 @@ reached_none told kept e = record {
   kept_is = e;
 }
 
-pub reached_more : (told : List ℕ → Option (List ℕ)) (names : List (List ℕ)) (i size more : ℕ) (name : List ℕ) (here : Option (List ℕ)) (old new : Kept) → i < length names → name ≡ get_or names i [] → here ≡ told name
+unfoldable pub reached_more : (told : List ℕ → Option (List ℕ)) (names : List (List ℕ)) (i size more : ℕ) (name : List ℕ) (here : Option (List ℕ)) (old new : Kept) → i < length names → name ≡ get_or names i [] → here ≡ told name
     → Reached told (take i names) size old → Added here size i old new more → Reached told (take (i + 1) names) more new
 reached_more told names i size more name here old new lt named same p a =
     let file : NamedFile = record { name = name; bytes = a.bytes } in
@@ -136,6 +162,12 @@ reached_more told names i size more name here old new lt named same p a =
   where
     zero_more : (n : ℕ) → n ≡ 0 + n
     zero_more n = omega arith
+
+-- the number of the next file
+pub next_number : (told : List ℕ → Option (List ℕ)) (names : List (List ℕ)) (i size : ℕ) (kept : Kept) → i < length names → (p : Reached told (take i names) size kept) → 0 + length p.sources ≡ i
+next_number told names i size kept lt p =
+    let count : length p.files ≡ i = sym (length-map p.files (λ (f : NamedFile). f.name)) ∙ ap length p.named ∙ length-take-le i names (omega arith) in
+    omega (arith, zip_length p.files p.sources p.accepted.each, count)
 
 -- ---- where a run stopped
 

@@ -2,13 +2,35 @@
 use Rattle.std.specs.Prelude.{◌≡◌, ◌≤◌, ◌<◌, ◌+◌, ℕ, List, Option, Result, Ok, Err, length}
 use Rattle.hcl_source.specs.Devices.{Tells}
 use Rattle.hcl_source.specs.Load.{IsText}
+use Rattle.hcl_grammar.specs.Verdict.{verdict}
 use Rattle.hcl_tokens.specs.Scanned.{Scanned}
+use Rattle.hcl_tokens.specs.Scans.{Scans}
 use Rattle.tf_rules.specs.Kept.{Kept, kept_of, with_file}
 use Rattle.tfrules_command.specs.Answer.{names_of}
 use Rattle.tfrules_command.specs.Files.{NamedFile, AreAccepted, IsOutcome, max_module, numbered_files, size_of}
 use Rattle.tfrules_command.specs.Rows.{AreFiles}
+use Rattle.tfrules_command.specs.declared.gather.ScannedFile.{ScannedFile}
 use Rattle.tfrules_command.specs.declared.stop.Stop.{Stop}
 use Rattle.tfrules_command.specs.declared.stop.Stop.TheVariants as stop
+
+-- what scanning a text after others of so many bytes answers
+abbrev pub ScansFile : List ℕ → ℕ → Result ScannedFile Stop → Type 0
+ScansFile text size (Ok file) = (file.tokens.text ≡ text) × Scans text file.tokens.tokens × (file.all ≡ size + length text) × (file.all ≤ max_module)
+ScansFile text size (Err (stop.Refused fault)) = (size + length text ≤ max_module) × IsOutcome text (Err fault)
+ScansFile text size (Err stop.TooLarge) = max_module < size + length text
+ScansFile text size (Err stop.NotOpened) = ⊥
+ScansFile text size (Err stop.NotRead) = ⊥
+ScansFile text size (Err stop.OutOfMemory) = Unit {0}
+
+-- what keeping scanned tokens answers, with which the files have so many bytes
+abbrev pub KeepsTokens : Scanned → ℕ → ℕ → Kept → Kept → Result ℕ Stop → Type 0
+KeepsTokens scanned number all old new (Ok more) =
+    (source : Scanned) × (Ok source ≡ verdict scanned) × (more ≡ all) × (new ≡ with_file old (record { number = number; source = source }))
+KeepsTokens scanned number all old new (Err (stop.Refused fault)) = Err fault ≡ verdict scanned
+KeepsTokens scanned number all old new (Err stop.TooLarge) = ⊥
+KeepsTokens scanned number all old new (Err stop.NotOpened) = ⊥
+KeepsTokens scanned number all old new (Err stop.NotRead) = ⊥
+KeepsTokens scanned number all old new (Err stop.OutOfMemory) = Unit {0}
 
 -- what keeping a text after others of so many bytes answers
 abbrev pub Keeps : List ℕ → ℕ → ℕ → Kept → Kept → Result ℕ Stop → Type 0

@@ -1,8 +1,8 @@
 //! The files of a module, read one after the other.
 
 ghost use Rattle.std.specs.Prelude.{◌≡◌, ◌≤◌, ◌<◌, false, ℕ, List};
-ghost use Rattle.tfrules_command.specs.Inner.Steps.{Adds, Gathers, KeepsTokens, ReadsFile, stop_by, stop_of_scan};
-ghost use Rattle.tfrules_command.specs.Keeping.{Keeps};
+ghost use Rattle.tfrules_command.specs.Inner.Steps.{Adds, Gathers, ReadsFile, stop_by, stop_of_scan};
+ghost use Rattle.tfrules_command.specs.Keeping.{Keeps, KeepsTokens, ScansFile};
 ghost use Rattle.tf_rules.specs.Kept.{nothing};
 ghost use Rattle.tfrules_command.specs.Files.{max_module};
 
@@ -57,8 +57,34 @@ fn stop_of_scan(error: ScanError) -> Stop
     }
 }
 
+/// The tokens of a file, and how many bytes the files have with it.
+#[derive(Drop)]
+pub struct ScannedFile<'s> {
+    pub tokens: Tokens<'s>,
+    pub all: usize,
+}
+
+/// The tokens of a file after others of so many bytes. Their size is looked at before its tokens.
+pub fn scan_file<'s>(
+    alloc: Global,
+    size: usize,
+    source: &'s Source,
+) -> Result<ScannedFile<'s>, Stop>
+    requires { size ≤ max_module }
+    ensures { ScansFile source.now size result }
+{
+    let all = size + source.text().len();
+    if all > MAX_MODULE {
+        return Err(Stop::TooLarge);
+    }
+    match scan(alloc, source) {
+        Ok(tokens) => Ok(ScannedFile { tokens, all }),
+        Err(error) => Err(stop_of_scan(error)),
+    }
+}
+
 /// Keeps the facts of a file by its tokens, and answers how many bytes the files have with it.
-fn keep_tokens(
+pub fn keep_tokens(
     number: u32,
     all: usize,
     tokens: &Tokens<'_>,
@@ -76,9 +102,8 @@ fn keep_tokens(
     }
 }
 
-/// Keeps the facts of a file after others of so many bytes, and answers how many it is then. Their size is looked at before
-/// its tokens.
-pub fn keep_file(
+/// Keeps the facts of a file after others of so many bytes, and answers how many it is then.
+fn keep_file(
     alloc: Global,
     number: u32,
     size: usize,
@@ -88,13 +113,9 @@ pub fn keep_file(
     requires { size ≤ max_module }
     ensures { Keeps source.now size number facts.old facts.new result }
 {
-    let all = size + source.text().len();
-    if all > MAX_MODULE {
-        return Err(Stop::TooLarge);
-    }
-    match scan(alloc, source) {
-        Ok(tokens) => keep_tokens(number, all, &tokens, facts),
-        Err(error) => Err(stop_of_scan(error)),
+    match scan_file(alloc, size, source) {
+        Ok(file) => keep_tokens(number, file.all, &file.tokens, facts),
+        Err(stop) => Err(stop),
     }
 }
 

@@ -41,7 +41,3 @@ module _ (names : List (List ℕ)) (issues : List Issue) (e : Bool) (is : e ≡ 
 pub nothing_parted : (v : Bool) → parted v [] ≡ []
 nothing_parted true = refl
 nothing_parted false = refl
-
-pub none_reported : (v : Bool) (names : List (List ℕ)) (issues : List Issue) (e : Bool) → e ≡ (length issues == 0) → e ≡ true → parted v (report names issues) ≡ []
-none_reported v names [] e is f = nothing_parted v
-none_reported v names (i ∷ is) e same f = absurd (omega (arith, eqb-true (length (i ∷ is)) 0 (sym same ∙ f)))

@@ -1,6 +1,8 @@
 -- What is shown of one module.
 use Rattle.std.proofs.Common.{◌≡◌, ◌∙◌, ◌<◌, ◌+◌, ◌++◌, ◌∷◌, [], ℕ, Bool, true, false, Global, List, Option, ap, append-nil, arith, drop, eqb-true, flat_map, get_or, inl, inr, length, map, refl, subst, sym}
 use Rattle.std.specs.Prelude.{◌==◌, ◌&&◌, None, Ok, Err, String, if◌then◌else◌, not, string_bytes}
+use Rattle.comment_faults.specs.CommentFaults.{fault_told}
+use Rattle.comment_faults.specs.declared.fault.CommentFault as code
 use Rattle.command_line.specs.Rows.{TookBy, Writer}
 use Rattle.command_line.proofs.WriterLemmas.{appends_nothing}
 use Rattle.command_line.proofs.ListCutLemmas.{from_here}
@@ -13,26 +15,26 @@ use Rattle.lint_forms.specs.Forms.{module_text}
 use Rattle.lint_forms.specs.declared.kind.Form.{Form}
 use Rattle.lint_forms.specs.declared.kind.Form.TheVariants.{Json, Sarif, Checkstyle, Junit, Gitlab, Github}
 use Rattle.module_find.specs.declared.module.Module.{Module}
-use Rattle.tf_rules.specs.Issues.{asked_of}
 use Rattle.tf_rules.specs.declared.issue.Issue.{Issue}
 use Rattle.tfrules_command.specs.Report.{report}
 use Rattle.tfrules_command.specs.Line.{max_files}
 use Rattle.tree_lint.specs.Faults.{fault_lines, refusal_by}
-use Rattle.tree_lint.specs.Inner.Showing.{HasOrNoMemory, Shows, refused}
+use Rattle.tree_lint.specs.Inner.Showing.{HasOrNoMemory, Shows, is_nothing, refused}
 use Rattle.tree_lint.specs.Kept.{KeepsAll}
 use Rattle.tree_lint.specs.Parted.{parted}
 use Rattle.tree_lint.specs.Refusals.{Refusal, refusal_line, refusal_of, told_fault}
-use Rattle.tree_lint.specs.Runs.{issues_output, verdict_output, verdict_status}
-use Rattle.tree_lint.specs.Verdicts.{CanBeRead, HaveIssues, IsVerdict, StopsAt, Verdict, names_in, no_memory, stop_refusal, told_in, too_many}
+use Rattle.tree_lint.specs.Runs.{comment_line, comment_remark, has_output, issue_remark, linted_output, remarks_by, verdict_message, verdict_output, verdict_status}
+use Rattle.tree_lint.specs.Verdicts.{CanBeRead, HaveFound, IsVerdict, Linted, StopsAt, Verdict, names_in, no_memory, stop_refusal, told_in, too_many}
 use Rattle.tree_lint.specs.declared.counts.Ended.{Ended}
 use Rattle.tree_lint.specs.declared.kept.Kept.{Kept}
 use Rattle.tree_lint.specs.declared.policy.Policy.{Policy}
 use Rattle.tree_lint.specs.declared.run.Task.{Task}
 use Rattle.tree_lint.specs.declared.stop.Stop.{Stop}
-use Rattle.tree_lint.proofs.PartedLemmas.{none_reported}
+use Rattle.tree_lint.proofs.KeptLemmas.{keeps_none}
+use Rattle.tree_lint.proofs.PartedLemmas.{nothing_parted}
 
 pub shows_as : (task : Task) (m : Module) (P Q : Verdict → Type 0) (out err : Writer) (before after : Kept) (ended : Ended) → ((v : Verdict) → P v → Q v) → Shows task m P out err before after ended → Shows task m Q out err before after ended
-shows_as task m P Q out err before after ended h s = record { verdict = s.verdict; holds = h s.verdict s.holds; output = s.output; message = s.message; kept = s.kept; exit = s.exit; issues = s.issues }
+shows_as task m P Q out err before after ended h s = record { verdict = s.verdict; holds = h s.verdict s.holds; output = s.output; message = s.message; kept = s.kept; exit = s.exit; issues = s.issues; shown = s.shown }
 
 -- a writer that isn't called
 pub untouched : (f : Bool) (a : Option (List ℕ)) → f ≡ false → TookBy f a a []
@@ -50,6 +52,7 @@ module _ (task : Task) (m : Module) (out err : Writer) (before after : Kept) (en
     kept = keeps;
     exit = ap (λ (x : Ended). x.status) e;
     issues = ap (λ (x : Ended). x.issues) e;
+    shown = ap (λ (x : Ended). x.is_shown) e;
   }
 
   pub refused_one : (r wanted : Refusal) → r ≡ wanted → out.failed ≡ false → out.after ≡ out.before → TookBy err.failed err.before err.after (refusal_line r) → KeepsAll before after (r ∷ []) → ended ≡ refused
@@ -60,20 +63,61 @@ module _ (task : Task) (m : Module) (out err : Writer) (before after : Kept) (en
   pub refused_untold : out.failed ≡ false → out.after ≡ out.before → err.failed ≡ false → err.after ≡ err.before → KeepsAll before after [] → ended ≡ refused → Shows task m (λ v. v ≡ Err []) out err before after ended
   refused_untold good same fine still keeps is = refused_all [] [] good same (subst (λ a. TookBy err.failed err.before a []) (sym still) (untouched err.failed err.before fine)) refl keeps is
 
-  pub shown : (issues : List Issue) (text : List ℕ) → TookBy out.failed out.before out.after text → text ≡ verdict_output task.form task.is_after m (Ok issues) → err.failed ≡ false → err.after ≡ err.before → KeepsAll before after []
-      → ended.status ≡ verdict_status task.policy (Ok issues) → ended.issues ≡ length issues → Shows task m (HasOrNoMemory m issues) out err before after ended
-  shown issues text took is good same keeps exit count = record {
-    verdict = Ok issues;
+  pub shown : (linted : Linted) (text said : List ℕ) → TookBy out.failed out.before out.after text → text ≡ verdict_output task.form task.is_after m (Ok linted) → TookBy err.failed err.before err.after said → said ≡ verdict_message m (Ok linted)
+      → KeepsAll before after [] → ended.status ≡ verdict_status task.policy (Ok linted) → ended.issues ≡ length linted.issues → ended.is_shown ≡ has_output task.form linted → Shows task m (HasOrNoMemory m linted) out err before after ended
+  shown linted text said took is told says keeps exit count shows = record {
+    verdict = Ok linted;
     holds = inl refl;
     output = subst (TookBy out.failed out.before out.after) is took;
-    message = subst (λ a. TookBy err.failed err.before a []) (sym same) (untouched err.failed err.before good);
+    message = subst (TookBy err.failed err.before err.after) says told;
     kept = keeps;
     exit = exit;
     issues = count;
+    shown = shows;
   }
 
-pub or_memory : (m : Module) (issues : List Issue) (v : Verdict) → v ≡ Err (no_memory m ∷ []) → HasOrNoMemory m issues v
-or_memory m issues v e = inr e
+pub or_memory : (m : Module) (linted : Linted) (v : Verdict) → v ≡ Err (no_memory m ∷ []) → HasOrNoMemory m linted v
+or_memory m linted v e = inr e
+
+-- ---- comments
+
+lines_told : (names : List Name) (faults : List code.CommentFault) → flat_map (λ f. comment_line names (fault_told f)) faults ≡ flat_map (comment_line names) (map fault_told faults)
+lines_told names [] = refl
+lines_told names (f ∷ faults) = ap (λ t. comment_line names (fault_told f) ++ t) (lines_told names faults)
+
+pub comments_told : (m : Module) (issues : List Issue) (linted : Linted) (names : List Name) (faults : List code.CommentFault) → names ≡ names_in m → linted.comments ≡ map fault_told faults
+    → flat_map (λ f. comment_line names (fault_told f)) faults ≡ verdict_message m (Ok linted)
+comments_told m issues linted names faults same e = lines_told names faults ∙ (λ i. flat_map (comment_line (same i)) (sym e i))
+
+-- one, and those after it
+pub comment_here : (names : List Name) (faults : List code.CommentFault) (i : ℕ) (f : code.CommentFault) → i < length faults → f ≡ get_or faults i f
+    → flat_map (λ f. comment_line names (fault_told f)) (drop i faults) ≡ comment_line names (fault_told f) ++ flat_map (λ f. comment_line names (fault_told f)) (drop (i + 1) faults)
+comment_here names faults i f lt is = ap (flat_map (λ f. comment_line names (fault_told f))) (from_here faults i f lt is)
+
+pub remarks_told : (names : List Name) (issues : List Issue) (faults : List code.CommentFault)
+    → map (issue_remark names) issues ++ map (λ f. comment_remark names (fault_told f)) faults ≡ remarks_by names (record { issues = issues; comments = map fault_told faults })
+remarks_told names issues faults = ap (λ l. map (issue_remark names) issues ++ l) (by faults)
+  where
+    by : (fs : List code.CommentFault) → map (λ f. comment_remark names (fault_told f)) fs ≡ map (comment_remark names) (map fault_told fs)
+    by [] = refl
+    by (f ∷ fs) = ap (λ l. comment_remark names (fault_told f) ∷ l) (by fs)
+
+-- ---- nothing is found
+
+and_true : (a b : Bool) → (a && b) ≡ true → (a ≡ true) × (b ≡ true)
+and_true true true e = (refl, refl)
+and_true true false e = absurd (cc)
+and_true false b e = absurd (cc)
+
+no_more : {A : Type 0} (xs : List A) → (length xs == 0) ≡ true → xs ≡ []
+no_more [] e = refl
+no_more (x ∷ xs) e = absurd (omega (arith, eqb-true (length (x ∷ xs)) 0 e))
+
+abbrev none : Linted
+none = record { issues = []; comments = [] }
+
+pub is_none : (linted : Linted) (e : Bool) → e ≡ is_nothing linted → e ≡ true → linted ≡ none
+is_none linted e is f = let both = and_true (length linted.issues == 0) (length linted.comments == 0) (sym is ∙ f) in λ i. record { issues = no_more linted.issues both.0 i; comments = no_more linted.comments both.1 i }
 
 -- ---- the names of a report
 
@@ -81,9 +125,10 @@ map_twice : {A B C : Type 0} (f : B → C) (h : A → B) (xs : List A) → map (
 map_twice f h [] = refl
 map_twice f h (x ∷ xs) = ap (λ l. f (h x) ∷ l) (map_twice f h xs)
 
-pub names_as : (m : Module) (is_after : Bool) (issues : List Issue) (names : List (List ℕ)) (files : List (String Global)) → names ≡ map (λ name. quoted (string_bytes name)) files → files ≡ m.files.items
-    → parted is_after (report names issues) ≡ issues_output None is_after m issues
-names_as m is_after issues names files e same = ap (λ l. parted is_after (report l issues)) (e ∙ map_twice quoted string_bytes files ∙ ap (λ l. map quoted (map string_bytes l)) same)
+pub names_as : (m : Module) (is_after : Bool) (linted : Linted) (issues : List Issue) (names : List (List ℕ)) (files : List (String Global)) → issues ≡ linted.issues → names ≡ map (λ name. quoted (string_bytes name)) files → files ≡ m.files.items
+    → parted is_after (report names issues) ≡ linted_output None is_after m linted
+names_as m is_after linted issues names files ei e same =
+    ap (λ l. parted is_after (report l issues)) (e ∙ map_twice quoted string_bytes files ∙ ap (λ l. map quoted (map string_bytes l)) same) ∙ ap (λ l. parted is_after (report (map quoted (names_in m)) l)) ei
 
 -- in a form, nothing is written of no issue
 nothing_in_form : (form : Form) (is_after : Bool) → module_text form is_after [] ≡ []
@@ -94,22 +139,26 @@ nothing_in_form Junit is_after = refl
 nothing_in_form Gitlab is_after = refl
 nothing_in_form Github is_after = refl
 
-pub none_issued : (form : Option Form) (m : Module) (is_after : Bool) (issues : List Issue) (e : Bool) → e ≡ (length issues == 0) → e ≡ true → [] ≡ issues_output form is_after m issues
-none_issued Option.None m is_after issues e is f = sym (none_reported is_after (map quoted (names_in m)) issues e is f)
-none_issued (Option.Some form) m is_after [] e is f = sym (nothing_in_form form is_after)
-none_issued (Option.Some form) m is_after (i ∷ is) e same f = absurd (omega (arith, eqb-true (length (i ∷ is)) 0 (sym same ∙ f)))
+none_output : (form : Option Form) (m : Module) (is_after : Bool) → [] ≡ linted_output form is_after m none
+none_output Option.None m is_after = sym (nothing_parted is_after)
+none_output (Option.Some form) m is_after = sym (nothing_in_form form is_after)
 
-pub status_none : (policy : Policy) (issues : List Issue) (e : Bool) → e ≡ (length issues == 0) → e ≡ true → 0 ≡ verdict_status policy (Ok issues)
-status_none policy [] e is f = by policy.force
+none_status : (policy : Policy) → 0 ≡ verdict_status policy (Ok none)
+none_status policy = by policy.force
   where
-    by : (force : Bool) → ◌≡◌ {A = ℕ} 0 (if not force && false then 2 else 0)
+    by : (force : Bool) → ◌≡◌ {A = ℕ} 0 (if not force && false then 2 else (if not force && false then 2 else 0))
     by true = refl
     by false = refl
-status_none policy (i ∷ is) e same f = absurd (omega (arith, eqb-true (length (i ∷ is)) 0 (sym same ∙ f)))
 
-pub count_none : (issues : List Issue) (e : Bool) → e ≡ (length issues == 0) → e ≡ true → 0 ≡ length issues
-count_none [] e is f = refl
-count_none (i ∷ is) e same f = absurd (omega (arith, eqb-true (length (i ∷ is)) 0 (sym same ∙ f)))
+none_shown : (form : Option Form) → false ≡ has_output form none
+none_shown Option.None = refl
+none_shown (Option.Some form) = refl
+
+pub shows_nothing : (task : Task) (m : Module) (out err : Writer) (before : Kept) (linted : Linted) → linted ≡ none → out.failed ≡ false → out.after ≡ out.before → err.failed ≡ false → err.after ≡ err.before
+    → Shows task m (HasOrNoMemory m linted) out err before before (record { status = 0; issues = 0; is_shown = false })
+shows_nothing task m out err before linted e good same fine still = subst (λ l. Shows task m (HasOrNoMemory m l) out err before before (record { status = 0; issues = 0; is_shown = false })) (sym e)
+    (shown task m out err before before (record { status = 0; issues = 0; is_shown = false }) none [] [] (subst (λ a. TookBy out.failed out.before a []) (sym same) (untouched out.failed out.before good)) (none_output task.form m task.is_after)
+    (subst (λ a. TookBy err.failed err.before a []) (sym still) (untouched err.failed err.before fine)) refl (keeps_none before) (none_status task.policy) refl (none_shown task.form))
 
 -- ---- the verdict
 
@@ -126,9 +175,9 @@ module _ (files : Files) (policy : Policy) (m : Module) (was is : Faults) where
   pub for_file : CanBeRead m → (names : List Name) → names ≡ names_in m → (name : Name) (why : Stop) → StopsAt (told_in files) names was is name why → (v : Verdict) → v ≡ Err (stop_refusal name why ∷ []) → IsVerdict files policy m was is v
   for_file can names same name why at v h = subst (IsVerdict files policy m was is) (sym h) (inr (inr (inl (can, (name, why, subst (λ l. StopsAt (told_in files) l was is name why) same at, refl)))))
 
-  pub for_issues : CanBeRead m → is ≡ was → (names : List Name) → names ≡ names_in m → (issues : List Issue) → HaveIssues (told_in files) (asked_of policy.settings) names issues → (v : Verdict) → HasOrNoMemory m issues v → IsVerdict files policy m was is v
-  for_issues can w names same issues have v (inl e) = subst (IsVerdict files policy m was is) (sym e) (can, w, subst (λ l. HaveIssues (told_in files) (asked_of policy.settings) l issues) same have)
-  for_issues can w names same issues have v (inr e) = for_memory can w v e
+  pub for_found : CanBeRead m → is ≡ was → (names : List Name) → names ≡ names_in m → (linted : Linted) → HaveFound (told_in files) policy names linted → (v : Verdict) → HasOrNoMemory m linted v → IsVerdict files policy m was is v
+  for_found can w names same linted have v (inl e) = subst (IsVerdict files policy m was is) (sym e) (can, w, subst (λ l. HaveFound (told_in files) policy l linted) same have)
+  for_found can w names same linted have v (inr e) = for_memory can w v e
 
 -- ---- names that can't be linted
 

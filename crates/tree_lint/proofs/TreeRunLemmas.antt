@@ -1,6 +1,6 @@
 -- A run over modules, one after the other.
 use Rattle.std.proofs.Common.{◌≡◌, ◌∙◌, ◌++◌, ◌∷◌, ◌+◌, ◌*◌, ◌<◌, ◌≤◌, [], ℕ, Bool, true, false, List, Option, ap, append_assoc, append-nil, arith, cond, flat_map, length, length-append, map, refl, subst, suc, sym}
-use Rattle.std.specs.Prelude.{◌||◌, ◌==◌, ◌&&◌, Ok, Err, fold, if◌then◌else◌, nat_lt, not, sum_by}
+use Rattle.std.specs.Prelude.{◌||◌, ◌==◌, ◌&&◌, Ok, Err, fold, if◌then◌else◌, not, sum_by}
 use Rattle.std.specs.List.{count_by, list_any}
 use Rattle.std.proofs.lemmas.Grind.{flat_map-append}
 use Rattle.std.proofs.lemmas.List.{map-append}
@@ -15,7 +15,7 @@ use Rattle.tree_lint.specs.Inner.Growth.{HasRoom, counts_with, one_if}
 use Rattle.tree_lint.specs.Inner.Showing.{Shows}
 use Rattle.tree_lint.specs.Kept.{HoldsAll, KeepsAll, refusal_remark}
 use Rattle.tree_lint.specs.Numbers.{counts_of, has_issues, is_module, is_refused, issue_count}
-use Rattle.tree_lint.specs.Runs.{AreJudged, IsLintRun, refusals_of, reports_after, verdict_message, statuses, verdict_output, verdict_status, worse_status, worst_status}
+use Rattle.tree_lint.specs.Runs.{AreJudged, IsLintRun, is_shown, is_some, messages, refusals_of, reports_after, verdict_message, statuses, verdict_output, verdict_status, worse_status, worst_status}
 use Rattle.tree_lint.specs.Refusals.{Refusal}
 use Rattle.tree_lint.specs.Verdicts.{IsVerdict, Verdict}
 use Rattle.lint_forms.specs.declared.kind.Form.{Form}
@@ -43,12 +43,9 @@ pub second_good : (v f g : Bool) → v ≡ (f || g) → v ≡ false → g ≡ fa
 second_good v true g e h = absurd (cc)
 second_good v false g e h = sym e ∙ h
 
-any_more : (vs : List Verdict) (v : Verdict) → list_any has_issues (vs ++ v ∷ []) ≡ (list_any has_issues vs || has_issues v)
-any_more [] v = or_false (has_issues v)
-any_more (x ∷ vs) v = ap (λ b. has_issues x || b) (any_more vs v) ∙ sym (or_assoc (has_issues x) (list_any has_issues vs) (has_issues v))
-
-messages_more : (vs : List Verdict) (v : Verdict) → flat_map verdict_message (vs ++ v ∷ []) ≡ flat_map verdict_message vs ++ verdict_message v
-messages_more vs v = flat_map-append verdict_message vs (v ∷ []) ∙ ap (λ t. flat_map verdict_message vs ++ t) (append-nil (verdict_message v))
+any_more : (f : Option Form) (vs : List Verdict) (v : Verdict) → list_any (is_shown f) (vs ++ v ∷ []) ≡ (list_any (is_shown f) vs || is_shown f v)
+any_more f [] v = or_false (is_shown f v)
+any_more f (x ∷ vs) v = ap (λ b. is_shown f x || b) (any_more f vs v) ∙ sym (or_assoc (is_shown f x) (list_any (is_shown f) vs) (is_shown f v))
 
 refusals_more : (vs : List Verdict) (v : Verdict) → flat_map refusals_of (vs ++ v ∷ []) ≡ flat_map refusals_of vs ++ refusals_of v
 refusals_more vs v = flat_map-append refusals_of vs (v ∷ []) ∙ ap (λ t. flat_map refusals_of vs ++ t) (append-nil (refusals_of v))
@@ -75,11 +72,12 @@ issues_more vs v = sum_by-append issue_count vs (v ∷ []) ∙ omega arith
 
 refused_so : (policy : Policy) (v : Verdict) → (verdict_status policy v == 1) ≡ is_refused v
 refused_so policy (Err refusals) = refl
-refused_so policy (Ok issues) = by (not policy.force && list_any (weighs policy.minimum) issues)
+refused_so policy (Ok linted) = by (not policy.force && is_some linted.comments) (not policy.force && list_any (weighs policy.minimum) linted.issues)
   where
-    by : (b : Bool) → ((if b then 2 else 0) == 1) ≡ false
-    by true = refl
-    by false = refl
+    by : (a b : Bool) → ((if a then 2 else (if b then 2 else 0)) == 1) ≡ false
+    by true b = refl
+    by false true = refl
+    by false false = refl
 
 counts_more : (seen : List Governed) (m : Governed) (vs : List Verdict) (v : Verdict) (counts : Counts) (status n : ℕ) → counts ≡ counts_of seen vs → status ≡ verdict_status m.policy v → n ≡ issue_count v
     → counts_with counts (is_module m.module) status n ≡ counts_of (seen ++ m ∷ []) (vs ++ v ∷ [])
@@ -112,13 +110,19 @@ module _ (files : Files) where
   judged_more (x ∷ ms) (w ∷ vs) m v was between is j h = (j.0, j.1, judged_more ms vs m v j.0 between is j.2 h)
 
   reports_more : (f : Option Form) (a : Bool) (ms : List Governed) (vs : List Verdict) (m : Governed) (v : Verdict) (was is : Faults) → AreJudged files ms vs was is
-      → reports_after f a (ms ++ m ∷ []) (vs ++ v ∷ []) ≡ reports_after f a ms vs ++ verdict_output f (a || list_any has_issues vs) m.module v
+      → reports_after f a (ms ++ m ∷ []) (vs ++ v ∷ []) ≡ reports_after f a ms vs ++ verdict_output f (a || list_any (is_shown f) vs) m.module v
   reports_more f a [] [] m v was is j = append-nil (verdict_output f a m.module v) ∙ ap (λ b. verdict_output f b m.module v) (sym (or_false a))
   reports_more f a [] (w ∷ vs) m v was is j = absurd j
   reports_more f a (x ∷ ms) [] m v was is j = absurd j
   reports_more f a (x ∷ ms) (w ∷ vs) m v was is j =
-      ap (λ t. verdict_output f a x.module w ++ t) (reports_more f (a || has_issues w) ms vs m v j.0 is j.2 ∙ ap (λ b. reports_after f (a || has_issues w) ms vs ++ verdict_output f b m.module v) (or_assoc a (has_issues w) (list_any has_issues vs)))
-      ∙ sym (append_assoc (verdict_output f a x.module w) (reports_after f (a || has_issues w) ms vs) (verdict_output f (a || (has_issues w || list_any has_issues vs)) m.module v))
+      ap (λ t. verdict_output f a x.module w ++ t) (reports_more f (a || is_shown f w) ms vs m v j.0 is j.2 ∙ ap (λ b. reports_after f (a || is_shown f w) ms vs ++ verdict_output f b m.module v) (or_assoc a (is_shown f w) (list_any (is_shown f) vs)))
+      ∙ sym (append_assoc (verdict_output f a x.module w) (reports_after f (a || is_shown f w) ms vs) (verdict_output f (a || (is_shown f w || list_any (is_shown f) vs)) m.module v))
+
+  messages_more : (ms : List Governed) (vs : List Verdict) (m : Governed) (v : Verdict) (was is : Faults) → AreJudged files ms vs was is → messages (ms ++ m ∷ []) (vs ++ v ∷ []) ≡ messages ms vs ++ verdict_message m.module v
+  messages_more [] [] m v was is j = append-nil (verdict_message m.module v)
+  messages_more [] (w ∷ vs) m v was is j = absurd j
+  messages_more (x ∷ ms) [] m v was is j = absurd j
+  messages_more (x ∷ ms) (w ∷ vs) m v was is j = ap (λ t. verdict_message x.module w ++ t) (messages_more ms vs m v j.0 is j.2) ∙ sym (append_assoc (verdict_message x.module w) (messages ms vs) (verdict_message m.module v))
 
   statuses_more : (ms : List Governed) (vs : List Verdict) (m : Governed) (v : Verdict) (was is : Faults) → AreJudged files ms vs was is → statuses (ms ++ m ∷ []) (vs ++ v ∷ []) ≡ statuses ms vs ++ verdict_status m.policy v ∷ []
   statuses_more [] [] m v was is j = refl
@@ -132,8 +136,8 @@ module _ (files : Files) where
     pub verdicts : List Verdict
     pub judged : AreJudged files seen verdicts was is
     pub output : Appends out out' (head ++ reports_after form false seen verdicts)
-    pub message : Appends err err' (flat_map verdict_message verdicts)
-    pub after : is_after ≡ list_any has_issues verdicts
+    pub message : Appends err err' (messages seen verdicts)
+    pub after : is_after ≡ list_any (is_shown form) verdicts
     pub exit : status ≡ worst_status (statuses seen verdicts)
     pub counted : counts ≡ counts_of seen verdicts
     pub refusals : HoldsAll kept (flat_map refusals_of verdicts)
@@ -189,17 +193,19 @@ module _ (files : Files) where
         subst (TookBy out.failed o out.after) (sym reports')
         (took_after o out.before out.after out.failed (head ++ reports_after form false seen before.verdicts) (verdict_output form is_after m.module shown.verdict) before.output shown.output)
 
-    message' : TookBy err.failed e err.after (flat_map verdict_message verdicts')
-    message' = subst (TookBy err.failed e err.after) (sym (messages_more before.verdicts shown.verdict)) (took_after e err.before err.after err.failed (flat_map verdict_message before.verdicts) (verdict_message shown.verdict) before.message shown.message)
+    message' : TookBy err.failed e err.after (messages (seen ++ m ∷ []) verdicts')
+    message' =
+        subst (TookBy err.failed e err.after) (sym (messages_more seen before.verdicts m shown.verdict was between before.judged))
+        (took_after e err.before err.after err.failed (messages seen before.verdicts) (verdict_message m.module shown.verdict) before.message shown.message)
 
-    pub so_far_more : (more : List Governed) (after : Bool) (status : ℕ) (counts' : Counts) → more ≡ seen ++ m ∷ [] → out.failed ≡ false → err.failed ≡ false → after ≡ (is_after || nat_lt 0 ended.issues) → status ≡ worse_status s ended.status
+    pub so_far_more : (more : List Governed) (after : Bool) (status : ℕ) (counts' : Counts) → more ≡ seen ++ m ∷ [] → out.failed ≡ false → err.failed ≡ false → after ≡ (is_after || ended.is_shown) → status ≡ worse_status s ended.status
         → counts' ≡ counts_with counts (is_module m.module) ended.status ended.issues → counts'.issues ≤ counts.issues + 18446744073709551615 → SoFar form head more was is o out.after e err.after after status counts' kept'
     so_far_more more after status counts' all out_good err_good a w c small = record {
       verdicts = verdicts';
       judged = subst (λ l. AreJudged files l verdicts' was is) (sym all) judged';
       output = subst (λ l. Appends o out.after (head ++ reports_after form false l verdicts')) (sym all) (all_taken o out.after out.failed (head ++ reports_after form false (seen ++ m ∷ []) verdicts') out_good output');
-      message = all_taken e err.after err.failed (flat_map verdict_message verdicts') err_good message';
-      after = a ∙ ap (λ v. v || nat_lt 0 ended.issues) before.after ∙ ap (λ n. list_any has_issues before.verdicts || nat_lt 0 n) shown.issues ∙ sym (any_more before.verdicts shown.verdict);
+      message = subst (λ l. Appends e err.after (messages l verdicts')) (sym all) (all_taken e err.after err.failed (messages (seen ++ m ∷ []) verdicts') err_good message');
+      after = a ∙ ap (λ v. v || ended.is_shown) before.after ∙ ap (λ v. list_any (is_shown form) before.verdicts || v) shown.shown ∙ sym (any_more form before.verdicts shown.verdict);
       exit = w ∙ ap (λ t. worse_status t ended.status) before.exit ∙ ap (λ t. worse_status (worst_status (statuses seen before.verdicts)) t) shown.exit
           ∙ sym (worst_from 0 (statuses seen before.verdicts) (verdict_status m.policy shown.verdict)) ∙ ap (fold worse_status 0) (sym (statuses_more seen before.verdicts m shown.verdict was between before.judged)) ∙ ap (λ l. worst_status (statuses l verdicts')) (sym all);
       counted = c ∙ counts_more seen m before.verdicts shown.verdict counts ended.status ended.issues before.counted shown.exit shown.issues ∙ ap (λ l. counts_of l verdicts') (sym all);
@@ -259,7 +265,7 @@ module _ (files : Files) where
   }
 
   pub run_whole : (form : Option Form) (head : List ℕ) (modules seen : List Governed) (was is : Faults) (out err : Writer) (is_after : Bool) (s : ℕ) (counts : Counts) (kept : Kept) (ran : RunEnd) → seen ≡ modules
-      → SoFar form head seen was is out.before out.after err.before err.after is_after s counts kept → out.failed ≡ false → err.failed ≡ false → ran.counts ≡ counts → ran.has_issues ≡ is_after → ran.kept ≡ kept
+      → SoFar form head seen was is out.before out.after err.before err.after is_after s counts kept → out.failed ≡ false → err.failed ≡ false → ran.counts ≡ counts → ran.has_output ≡ is_after → ran.kept ≡ kept
       → IsLintRun files form head modules was is (record { out = out; err = err; status = s }) ran
   run_whole form head modules seen was is out err is_after s counts kept ran same before out_good err_good ec ei ek = record {
     seen = seen;
@@ -269,7 +275,7 @@ module _ (files : Files) where
     verdicts = before.verdicts;
     judged = before.judged;
     output = subst (λ v. TookBy v out.before out.after (head ++ reports_after form false seen before.verdicts)) (sym out_good) before.output;
-    message = subst (λ v. TookBy v err.before err.after (flat_map verdict_message before.verdicts)) (sym err_good) before.message;
+    message = subst (λ v. TookBy v err.before err.after (messages seen before.verdicts)) (sym err_good) before.message;
     exit = before.exit ∙ sym (ap (λ (v : Bool). if v then 1 else worst_status (statuses seen before.verdicts)) (ap (λ v. v || err.failed) out_good ∙ err_good));
-    found = λ _. record { counts = ec ∙ before.counted; issues = ei ∙ before.after; refusals = subst (λ k. HoldsAll k (flat_map refusals_of before.verdicts)) (sym ek) before.refusals };
+    found = λ _. record { counts = ec ∙ before.counted; output = ei ∙ before.after; refusals = subst (λ k. HoldsAll k (flat_map refusals_of before.verdicts)) (sym ek) before.refusals };
   }

@@ -3,6 +3,7 @@ use Rattle.std.specs.Prelude.{◌≡◌, ℕ, true, List, ◌++◌, Option, Some
 use Rattle.std.specs.Str.Lossy.{utf8_lossy}
 use Rattle.hcl_source.specs.declared.fault.Position.{Position}
 use Rattle.lint_forms.specs.Remarks.{Remark}
+use Rattle.lint_forms.specs.declared.subject.Subject.TheVariants as subject
 use Rattle.tree_lint.specs.Refusals.{Refusal}
 use Rattle.tree_lint.specs.declared.kept.Kept.{Kept}
 use Rattle.tree_lint.specs.declared.kept.KeptRefusal.{KeptRefusal}
@@ -18,11 +19,11 @@ column_told (Some at) = at.column
 
 -- A REFUSAL AS A REMARK: forms are UTF-8, and so is the name there
 abbrev pub refusal_remark : Refusal → Remark
-refusal_remark r = record { file = utf8_lossy r.name; line = line_told r.at; column = column_told r.at; rule = None; text = r.text }
+refusal_remark r = record { file = utf8_lossy r.name; line = line_told r.at; column = column_told r.at; subject = subject.Refusal; text = r.text }
 
 -- the same of one that is kept
 abbrev pub kept_remark : KeptRefusal → Remark
-kept_remark k = record { file = string_bytes k.name; line = k.line; column = k.column; rule = None; text = k.text.now }
+kept_remark k = record { file = string_bytes k.name; line = k.line; column = k.column; subject = subject.Refusal; text = k.text.now }
 
 -- these are kept, and no others, unless one is missing
 abbrev pub HoldsAll : Kept → List Refusal → Type 0

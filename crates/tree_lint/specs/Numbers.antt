@@ -11,11 +11,11 @@ abbrev pub is_module : Module → Bool
 is_module m = not (length m.files.items == 0 && m.is_whole)
 
 abbrev pub is_refused : Verdict → Bool
-is_refused (Ok issues) = false
+is_refused (Ok linted) = false
 is_refused (Err refusals) = true
 
 abbrev pub issue_count : Verdict → ℕ
-issue_count (Ok issues) = length issues
+issue_count (Ok linted) = length linted.issues
 issue_count (Err refusals) = 0
 
 abbrev pub has_issues : Verdict → Bool

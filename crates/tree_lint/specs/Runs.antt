@@ -1,28 +1,33 @@
 -- What a run over modules says, and its status: each module is linted for itself, and what is said of them stands one after
 -- another. Our own choice.
-use Rattle.std.specs.Prelude.{◌≡◌, ◌||◌, ◌==◌, ℕ, Bool, false, List, [], ◌∷◌, ◌++◌, Option, Some, None, Ok, Err, flat_map, fold, get_or, map, max, if◌then◌else◌}
+use Rattle.std.specs.Prelude.{◌≡◌, ◌||◌, ◌&&◌, ◌==◌, ℕ, Bool, false, not, List, [], ◌∷◌, ◌++◌, Option, Some, None, Ok, Err, flat_map, fold, get_or, length, map, max, if◌then◌else◌}
 use Rattle.std.specs.List.{list_any}
+use Rattle.comment_faults.specs.CommentFaults.{CommentFault}
 use Rattle.command_line.specs.Rows.{End, Took}
 use Rattle.file_tree.specs.Files.{Faults, Files, Name}
 use Rattle.file_tree.specs.Quotes.{quoted}
 use Rattle.lint_forms.specs.Forms.{module_text}
 use Rattle.lint_forms.specs.Remarks.{Remark}
 use Rattle.lint_forms.specs.declared.kind.Form.{Form}
+use Rattle.lint_forms.specs.declared.subject.Subject.TheVariants as subject
 use Rattle.module_find.specs.declared.module.Module.{Module}
 use Rattle.tf_rules.specs.Issues.{asked_of}
 use Rattle.tf_rules.specs.declared.issue.Issue.{Issue}
 use Rattle.tfrules_command.specs.Line.{Asking}
 use Rattle.tfrules_command.specs.Report.{report, status}
 use Rattle.tree_lint.specs.Kept.{HoldsAll}
-use Rattle.tree_lint.specs.Numbers.{counts_of, has_issues}
+use Rattle.tree_lint.specs.Numbers.{counts_of}
 use Rattle.tree_lint.specs.Parted.{parted}
 use Rattle.tree_lint.specs.Refusals.{Refusal, refusal_line}
-use Rattle.tree_lint.specs.Verdicts.{IsVerdict, Verdict, names_in}
+use Rattle.tree_lint.specs.Verdicts.{IsVerdict, Linted, Verdict, names_in}
 use Rattle.tree_lint.specs.declared.policy.Governed.{Governed}
 use Rattle.tree_lint.specs.declared.policy.Policy.{Policy}
 use Rattle.tree_lint.specs.declared.run.RunEnd.{RunEnd}
 
 -- ---- one module
+
+abbrev pub is_some : {A : Type 0} → List A → Bool
+is_some xs = not (length xs == 0)
 
 -- its report: that of `tfrules`, but that names stand in it as they are shown
 abbrev pub module_report : Module → List Issue → List ℕ
@@ -30,38 +35,55 @@ module_report m issues = report (map quoted (names_in m)) issues
 
 -- an issue in the file of its number, as a remark
 abbrev pub issue_remark : List Name → Issue → Remark
-issue_remark names i = record { file = get_or names i.file []; line = i.at.line; column = i.at.column; rule = Some i.rule; text = i.message }
+issue_remark names i = record { file = get_or names i.file []; line = i.at.line; column = i.at.column; subject = subject.Rule i.rule; text = i.message }
 
-abbrev pub remarks_in : Module → List Issue → List Remark
-remarks_in m issues = map (issue_remark (names_in m)) issues
+abbrev pub comment_remark : List Name → CommentFault → Remark
+comment_remark names f = record { file = get_or names f.file []; line = f.at.line; column = f.at.column; subject = subject.Comment; text = f.text }
 
--- how they are written, after those of others or as the first: as a report, or in a form
-abbrev pub issues_output : Option Form → Bool → Module → List Issue → List ℕ
-issues_output None is_after m issues = parted is_after (module_report m issues)
-issues_output (Some form) is_after m issues = module_text form is_after (remarks_in m issues)
+abbrev pub remarks_by : List Name → Linted → List Remark
+remarks_by names linted = map (issue_remark names) linted.issues ++ map (comment_remark names) linted.comments
+
+-- how what is found is written, after that of others or as the first: as a report of its issues, or in a form
+abbrev pub linted_output : Option Form → Bool → Module → Linted → List ℕ
+linted_output None is_after m linted = parted is_after (module_report m linted.issues)
+linted_output (Some form) is_after m linted = module_text form is_after (remarks_by (names_in m) linted)
+
+-- whether that isn't empty
+abbrev pub has_output : Option Form → Linted → Bool
+has_output None linted = is_some linted.issues
+has_output (Some form) linted = is_some linted.issues || is_some linted.comments
+
+-- a comment that silences nothing is told as a refusal is, by its file and its place
+abbrev pub comment_line : List Name → CommentFault → List ℕ
+comment_line names f = refusal_line (record { name = get_or names f.file []; at = Some f.at; text = f.text })
 
 -- what goes to standard output
 abbrev pub verdict_output : Option Form → Bool → Module → Verdict → List ℕ
-verdict_output form is_after m (Ok issues) = issues_output form is_after m issues
+verdict_output form is_after m (Ok linted) = linted_output form is_after m linted
 verdict_output form is_after m (Err refusals) = []
 
+-- whether any of it does
+abbrev pub is_shown : Option Form → Verdict → Bool
+is_shown form (Ok linted) = has_output form linted
+is_shown form (Err refusals) = false
+
 -- what goes to standard error
-abbrev pub verdict_message : Verdict → List ℕ
-verdict_message (Ok issues) = []
-verdict_message (Err refusals) = flat_map refusal_line refusals
+abbrev pub verdict_message : Module → Verdict → List ℕ
+verdict_message m (Ok linted) = flat_map (comment_line (names_in m)) linted.comments
+verdict_message m (Err refusals) = flat_map refusal_line refusals
 
 -- why the module is refused, if it is
 abbrev pub refusals_of : Verdict → List Refusal
-refusals_of (Ok issues) = []
+refusals_of (Ok linted) = []
 refusals_of (Err refusals) = refusals
 
 -- by what an issue fails the run
 abbrev pub failing_under : Policy → Asking
 failing_under policy = record { asked = asked_of policy.settings; minimum = policy.minimum; force = policy.force; files = [] }
 
--- that of `tfrules`
+-- that of `tfrules`; a comment that silences nothing fails the run, whatever the severity from which on an issue does
 abbrev pub verdict_status : Policy → Verdict → ℕ
-verdict_status policy (Ok issues) = status (failing_under policy) issues
+verdict_status policy (Ok linted) = if not policy.force && is_some linted.comments then 2 else status (failing_under policy) linted.issues
 verdict_status policy (Err refusals) = 1
 
 -- ---- all modules
@@ -75,8 +97,13 @@ AreJudged files (m ∷ ms) (v ∷ vs) was is = (between : Faults) × IsVerdict f
 
 -- the issues of modules, one module after another: an empty line stands between two reports
 abbrev pub reports_after : Option Form → Bool → List Governed → List Verdict → List ℕ
-reports_after form is_after (m ∷ ms) (v ∷ vs) = verdict_output form is_after m.module v ++ reports_after form (is_after || has_issues v) ms vs
+reports_after form is_after (m ∷ ms) (v ∷ vs) = verdict_output form is_after m.module v ++ reports_after form (is_after || is_shown form v) ms vs
 reports_after form is_after _ _ = []
+
+-- what is said of modules
+abbrev pub messages : List Governed → List Verdict → List ℕ
+messages (m ∷ ms) (v ∷ vs) = verdict_message m.module v ++ messages ms vs
+messages _ _ = []
 
 -- 1 is worse than 2, and 2 than 0
 abbrev pub worse_status : ℕ → ℕ → ℕ
@@ -89,10 +116,10 @@ statuses _ _ = []
 abbrev pub worst_status : List ℕ → ℕ
 worst_status statuses = fold worse_status 0 statuses
 
--- what was found in all: its numbers, whether there are issues, and the refusals
-pub record IsFound (modules : List Governed) (verdicts : List Verdict) (ran : RunEnd) : Type 0 where
+-- what was found in all: its numbers, whether any of it went to standard output, and the refusals
+pub record IsFound (form : Option Form) (modules : List Governed) (verdicts : List Verdict) (ran : RunEnd) : Type 0 where
   pub counts : ran.counts ≡ counts_of modules verdicts
-  pub issues : ran.has_issues ≡ list_any has_issues verdicts
+  pub output : ran.has_output ≡ list_any (is_shown form) verdicts
   pub refusals : HoldsAll ran.kept (flat_map refusals_of verdicts)
 
 -- THE RUN over modules: each is judged, up to one of which nothing more can be written. Each writer took what is said of them, or
@@ -105,6 +132,6 @@ pub record IsLintRun (files : Files) (form : Option Form) (head : List ℕ) (mod
   pub verdicts : List Verdict
   pub judged : AreJudged files seen verdicts was is
   pub output : Took end.out (head ++ reports_after form false seen verdicts)
-  pub message : Took end.err (flat_map verdict_message verdicts)
+  pub message : Took end.err (messages seen verdicts)
   pub exit : end.status ≡ (if end.out.failed || end.err.failed then 1 else worst_status (statuses seen verdicts))
-  pub found : (end.out.failed || end.err.failed) ≡ false → IsFound seen verdicts ran
+  pub found : (end.out.failed || end.err.failed) ≡ false → IsFound form seen verdicts ran

@@ -1,6 +1,8 @@
--- What becomes of a module: it has issues, as `tfrules` finds them in its files, or it is refused, and why. Our own choice is
+-- What becomes of a module: it has issues, as `tfrules` finds them in its files, and comments that silence nothing, where they
+-- are looked for; or it is refused, and why. Our own choice is
 -- which reason is told.
-use Rattle.std.specs.Prelude.{◌≡◌, ◌⊎◌, ◌≤◌, ◌<◌, ℕ, true, false, List, [], ◌∷◌, ◌++◌, Option, Some, Result, Ok, Err, codes, length, map, string_bytes}
+use Rattle.std.specs.Prelude.{◌≡◌, ◌⊎◌, ◌≤◌, ◌<◌, ℕ, Bool, true, false, List, [], ◌∷◌, ◌++◌, Option, Some, Result, Ok, Err, codes, if◌then◌else◌, length, map, string_bytes}
+use Rattle.comment_faults.specs.CommentFaults.{CommentFault, comment_faults}
 use Rattle.file_tree.specs.FaultTexts.{tree_fault_text}
 use Rattle.file_tree.specs.Files.{Faults, Files, Name, Tells, with_fault}
 use Rattle.file_tree.specs.Paths.{place}
@@ -9,7 +11,7 @@ use Rattle.hcl_source.specs.FaultTexts.{fault_text}
 use Rattle.hcl_tokens.specs.Scanned.{Scanned}
 use Rattle.module_find.specs.declared.module.Module.{Module}
 use Rattle.tf_rules.specs.Answers.{AreIssues}
-use Rattle.tf_rules.specs.Issues.{Asked, asked_of}
+use Rattle.tf_rules.specs.Issues.{File, asked_of}
 use Rattle.tf_rules.specs.declared.issue.Issue.{Issue}
 use Rattle.tfrules_command.specs.Answer.{names_of}
 use Rattle.tfrules_command.specs.Files.{AreAccepted, IsFault, IsTooMuch, NamedFile, numbered_files, size_of}
@@ -29,14 +31,24 @@ names_in m = map string_bytes m.files.items
 
 -- ---- its files
 
--- all files of these names are accepted, and these are their issues
-pub record HaveIssues (told : Name → Option (List ℕ)) (asked : Asked) (names : List Name) (issues : List Issue) : Type 0 where
+-- what is found in a module: its issues, and its comments that are meant to silence a rule and don't
+pub record Linted : Type 0 where
+  pub issues : List Issue
+  pub comments : List CommentFault
+
+-- these comments, where they are looked for
+abbrev pub comments_looked_for : Bool → List File → List CommentFault
+comments_looked_for checks files = if checks then comment_faults files else []
+
+-- all files of these names are accepted, and this is found in them
+pub record HaveFound (told : Name → Option (List ℕ)) (policy : Policy) (names : List Name) (linted : Linted) : Type 0 where
   pub files : List NamedFile
   pub named : names_of files ≡ names
   pub are : AreFiles told files
   pub sources : List Scanned
   pub accepted : AreAccepted files sources
-  pub found : AreIssues asked (numbered_files 0 sources) issues
+  pub issues : AreIssues (asked_of policy.settings) (numbered_files 0 sources) linted.issues
+  pub comments : linted.comments ≡ comments_looked_for policy.checks (numbered_files 0 sources)
 
 -- why a file isn't kept after others of so many bytes, where the device has had these faults before and after: it has a fault
 -- or is too much, or the one call that failed says why, or memory ran out
@@ -87,9 +99,9 @@ IsRefused files m was is refusals =
     ⊎ (CanBeRead m × (is ≡ was) × (refusals ≡ no_memory m ∷ []))))
 
 abbrev pub Verdict : Type 0
-Verdict = Result (List Issue) (List Refusal)
+Verdict = Result Linted (List Refusal)
 
 -- WHAT BECOMES OF A MODULE, by these rules, where the device has had these faults before and after. No call failed that isn't told
 abbrev pub IsVerdict : Files → Policy → Module → Faults → Faults → Verdict → Type 0
-IsVerdict files policy m was is (Ok issues) = CanBeRead m × (is ≡ was) × HaveIssues (told_in files) (asked_of policy.settings) (names_in m) issues
+IsVerdict files policy m was is (Ok linted) = CanBeRead m × (is ≡ was) × HaveFound (told_in files) policy (names_in m) linted
 IsVerdict files policy m was is (Err refusals) = IsRefused files m was is refusals

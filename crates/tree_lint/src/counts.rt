@@ -16,6 +16,8 @@ pub(crate) struct Ended {
     pub status: u8,
     /// How many issues its report has: none if there is no report.
     pub issues: usize,
+    /// Whether any of what is found went to standard output.
+    pub is_shown: bool,
 }
 
 /// What a run over modules found, in numbers.

@@ -1,21 +1,24 @@
 //! The files of a module, read one after the other.
 
-ghost use Rattle.std.specs.Prelude.{◌≡◌, ◌≤◌, false, length, map, string_bytes};
-ghost use Rattle.tf_rules.specs.Kept.{nothing};
+ghost use Rattle.std.specs.Prelude.{◌≡◌, ◌≤◌, [], OnOk, false, length, map, string_bytes};
+ghost use Rattle.comment_faults.specs.CommentFaults.{fault_told};
 ghost use Rattle.tfrules_command.specs.Files.{max_module};
 ghost use Rattle.tfrules_command.specs.Line.{max_files};
 ghost use Rattle.tree_lint.specs.Readers.{has_reader_out};
 ghost use Rattle.tree_lint.specs.Verdicts.{told_in};
-ghost use Rattle.tree_lint.specs.Inner.Gathering.{AddsFile, Gathers, KeepsFile, stop_kept};
+ghost use Rattle.tree_lint.specs.Inner.Gathering.{AddsComments, AddsFile, Gathers, IsEmpty, KeepsFile, KeepsScanned, stop_kept};
+ghost use Rattle.tree_lint.specs.Inner.Showing.{linted_told};
 
+use crate::linted::Linted;
 use crate::module_tree::ModuleTree;
 use crate::stop::{Stop, Stopped};
+use comment_faults::{CommentFault, add_comment_faults};
 use file_tree::fault::TreeFault;
 use file_tree::tree::Tree;
-use hcl_scan::Source;
-use std::alloc::Global;
-use tf_rules::Facts;
-use tfrules_command::gather::keep_file;
+use hcl_scan::{Source, Tokens};
+use std::alloc::{AllocError, Global};
+use tf_rules::{Facts, IssueList};
+use tfrules_command::gather::{ScannedFile, keep_tokens, scan_file};
 use tfrules_command::stop::Stop as FileStop;
 
 /// Why a file that was read isn't kept.
@@ -30,59 +33,133 @@ fn stop_of(stop: FileStop) -> Stop
     }
 }
 
-/// Keeps the facts of a file after others of so many bytes, and answers how many it is then.
+/// What is kept of the files of a module.
+#[derive(Drop)]
+pub(crate) struct Gathered {
+    pub facts: Facts,
+    /// Comments are looked for that are meant to silence a rule and don't.
+    checks: bool,
+    /// Those that were found.
+    comments: Vec<CommentFault>,
+}
+
+impl Gathered {
+    /// No comment, beside these facts.
+    pub(crate) fn new(alloc: Global, facts: Facts, checks: bool) -> Gathered
+        ensures facts { result.facts ≡ facts }
+        ensures checks { result.checks ≡ checks }
+        ensures comments { result.comments.items ≡ [] }
+    {
+        Gathered {
+            facts,
+            checks,
+            comments: Vec::new(alloc),
+        }
+    }
+
+    /// The comments, beside these issues.
+    pub(crate) fn linted<'a, 'f>(&'a self, issues: &'a IssueList<'f>) -> Linted<'a, 'f>
+        ensures { linted_told result ≡ record
+            { issues = issues.entry.now; comments = map fault_told self.entry.now.comments.items } }
+    {
+        Linted {
+            issues,
+            comments: self.comments.as_slice(),
+        }
+    }
+}
+
+/// Keeps the comments of a file, where they are looked for.
+fn keep_comments(
+    alloc: Global,
+    number: u32,
+    tokens: &Tokens<'_>,
+    into: &mut Gathered,
+) -> Result<(), AllocError>
+    ensures facts { into.new.facts ≡ into.old.facts }
+    ensures ok { OnOk result (AddsComments (record { number = number; source = tokens.now })
+        into.old into.new) }
+{
+    if !into.checks {
+        return Ok(());
+    }
+    add_comment_faults(alloc, number, tokens, &mut into.comments)?;
+    Ok(())
+}
+
+/// Keeps the facts and the comments of a file by its tokens, and answers how many bytes the files have with it.
+fn keep_scanned(
+    alloc: Global,
+    number: u32,
+    file: &ScannedFile<'_>,
+    into: &mut Gathered,
+) -> Result<usize, Stop>
+    ensures { KeepsScanned file.now number into.old into.new result }
+{
+    let all = match keep_tokens(number, file.all, &file.tokens, &mut into.facts) {
+        Ok(all) => all,
+        Err(stop) => return Err(stop_of(stop)),
+    };
+    match keep_comments(alloc, number, &file.tokens, into) {
+        Ok(()) => Ok(all),
+        Err(_) => Err(Stop::Failed(TreeFault::OutOfMemory)),
+    }
+}
+
+/// Keeps the facts and the comments of a file after others of so many bytes, and answers how many it is then.
 fn keep(
     alloc: Global,
     number: u32,
     size: usize,
     source: &Source,
-    facts: &mut Facts,
+    into: &mut Gathered,
 ) -> Result<usize, Stop>
     requires { size ≤ max_module }
-    ensures { KeepsFile source.now size number facts.old facts.new result }
+    ensures { KeepsFile source.now size number into.old into.new result }
 {
-    match keep_file(alloc, number, size, source, facts) {
-        Ok(all) => Ok(all),
+    match scan_file(alloc, size, source) {
+        Ok(file) => keep_scanned(alloc, number, &file, into),
         Err(stop) => Err(stop_of(stop)),
     }
 }
 
-/// Reads a file and keeps its facts. Its text and its tokens are gone when it returns.
+/// Reads a file and keeps its facts and its comments. Its text and its tokens are gone when it returns.
 fn add_file<T: Tree + Drop>(
     alloc: Global,
     number: u32,
     size: usize,
     name: &str,
     files: &mut ModuleTree<T>,
-    facts: &mut Facts,
+    into: &mut Gathered,
 ) -> Result<usize, Stop>
     requires back { has_reader_out files.old ≡ false }
     requires small { size ≤ max_module }
     ensures adds { AddsFile (told_in (T.files files.old.tree) name.now) size number
-        (T.faults files.old.tree) (T.faults files.new.tree) facts.old facts.new result }
+        (T.faults files.old.tree) (T.faults files.new.tree) into.old into.new result }
     ensures files { T.files files.new.tree ≡ T.files files.old.tree }
     ensures asked { T.asked files.new.tree ≡ T.asked files.old.tree }
     ensures back { has_reader_out files.new ≡ false }
 {
     match files.read(alloc, name) {
-        Ok(source) => keep(alloc, number, size, &source, facts),
+        Ok(source) => keep(alloc, number, size, &source, into),
         Err(stop) => Err(stop),
     }
 }
 
-/// Reads the files of these names in their order, up to the first that isn't kept, and keeps their facts.
+/// Reads the files of these names in their order, up to the first that isn't kept, and keeps their facts and
+/// their comments.
 pub(crate) fn gather<'n, T: Tree + Drop>(
     alloc: Global,
     names: &'n [String],
     files: &mut ModuleTree<T>,
-    facts: &mut Facts,
+    into: &mut Gathered,
 ) -> Result<(), Stopped<'n>>
     requires few { length names.now ≤ max_files }
-    requires none { facts.old ≡ nothing }
+    requires none { IsEmpty into.old }
     requires back { has_reader_out files.old ≡ false }
     ensures gathers { Gathers (told_in (T.files files.old.tree))
-        (map string_bytes names.entry.now) (T.faults files.old.tree) (T.faults files.new.tree)
-        facts.new result }
+        (map string_bytes names.entry.now) into.old.checks (T.faults files.old.tree)
+        (T.faults files.new.tree) into.new result }
     ensures files { T.files files.new.tree ≡ T.files files.old.tree }
     ensures asked { T.asked files.new.tree ≡ T.asked files.old.tree }
     ensures back { has_reader_out files.new ≡ false }
@@ -90,7 +167,7 @@ pub(crate) fn gather<'n, T: Tree + Drop>(
     let mut size = 0;
     for number in 0..names.len() {
         let name = names[number].as_str();
-        match add_file(alloc, number as u32, size, name, files, facts) {
+        match add_file(alloc, number as u32, size, name, files, into) {
             Ok(all) => size = all,
             Err(why) => return Err(Stopped { name, why }),
         }

@@ -1,17 +1,21 @@
-//! The issues of a module as remarks.
+//! What is found in a module, as remarks.
 
-ghost use Rattle.std.specs.Prelude.{◌≡◌, [], IfOk, get_or, map, string_bytes};
-ghost use Rattle.lint_forms.specs.Forms.{module_text};
+ghost use Rattle.std.specs.Prelude.{◌≡◌, ◌++◌, [], IfOk, OnOk, Some, get_or, map, string_bytes};
+ghost use Rattle.comment_faults.specs.CommentFaults.{fault_told};
 ghost use Rattle.lint_forms.specs.Remarks.{said_by};
-ghost use Rattle.tree_lint.specs.Runs.{issue_remark};
+ghost use Rattle.tree_lint.specs.Inner.Showing.{linted_told};
+ghost use Rattle.tree_lint.specs.Runs.{comment_remark, issue_remark, remarks_by};
+ghost use Rattle.lint_forms.specs.Forms.{module_text};
 
+use crate::linted::Linted;
+use comment_faults::CommentFault;
 use lint_forms::form::module_text;
-use lint_forms::{Form, Remark};
+use lint_forms::{Form, Remark, Subject};
 use std::alloc::{AllocError, Global};
-use tf_rules::{Issue, IssueList, owned_issues};
+use tf_rules::{Issue, owned_issues};
 
 /// The name of this number.
-fn name_of(names: &[String], number: u32) -> &str
+pub(crate) fn name_of(names: &[String], number: u32) -> &str
     ensures { result.now ≡ get_or (map string_bytes names.now) number [] }
 {
     match names.get(number as usize) {
@@ -27,7 +31,7 @@ fn remark_of<'a>(names: &'a [String], issue: &'a Issue) -> Remark<'a>
         file: name_of(names, issue.file),
         line: issue.at.line,
         column: issue.at.column,
-        rule: Some(issue.rule),
+        subject: Subject::Rule(issue.rule),
         text: issue.message.as_str(),
     }
 }
@@ -47,18 +51,48 @@ fn remarks_of<'a>(
     Ok(all)
 }
 
-/// The issues of the files of these names, in a form, after others or as the first.
-pub(crate) fn issues_text(
+fn comment_remark<'a>(names: &'a [String], fault: &'a CommentFault) -> Remark<'a>
+    ensures { said_by result
+        ≡ comment_remark (map string_bytes names.entry.now) (fault_told fault.entry.now) }
+{
+    Remark {
+        file: name_of(names, fault.file),
+        line: fault.at.line,
+        column: fault.at.column,
+        subject: Subject::Comment,
+        text: fault.text.as_str(),
+    }
+}
+
+/// Adds what is wrong with comments.
+fn add_comments<'a>(
+    names: &'a [String],
+    comments: &'a [CommentFault],
+    all: &mut Vec<Remark<'a>>,
+) -> Result<(), AllocError>
+    ensures { OnOk result (map said_by all.new.items ≡ map said_by all.old.items
+        ++ map (λ f. comment_remark (map string_bytes names.entry.now) (fault_told f))
+        comments.entry.now) }
+{
+    for fault in comments {
+        all.push(comment_remark(names, fault))?;
+    }
+    Ok(())
+}
+
+/// What is found in the files of these names, in a form, after that of others or as the first.
+pub(crate) fn linted_text(
     alloc: Global,
     form: Form,
     is_after: bool,
     names: &[String],
-    issues: &IssueList<'_>,
+    linted: Linted<'_, '_>,
 ) -> Result<Vec<u8>, AllocError>
     ensures { IfOk result (λ text. text.items ≡ module_text form is_after
-        (map (issue_remark (map string_bytes names.now)) issues.now)) }
+        (remarks_by (map string_bytes names.now) (linted_told linted.entry))) }
 {
-    let owned = owned_issues(alloc, issues)?;
-    let remarks = remarks_of(alloc, names, owned.as_slice())?;
+    let owned = owned_issues(alloc, linted.issues)?;
+    let mut remarks = remarks_of(alloc, names, owned.as_slice())?;
+    add_comments(names, linted.comments, &mut remarks)?;
     module_text(alloc, form, is_after, remarks.as_slice())
 }

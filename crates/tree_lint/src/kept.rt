@@ -9,7 +9,7 @@ ghost use Rattle.tree_lint.specs.Faults.{refusal_in};
 use crate::refusal::{Refusal, told_fault};
 use file_tree::walk::Found;
 use hcl_scan::Position;
-use lint_forms::Remark;
+use lint_forms::{Remark, Subject};
 use std::alloc::{AllocError, Global};
 
 /// A refusal that stands by itself.
@@ -75,7 +75,7 @@ fn remark_of(kept: &KeptRefusal) -> Remark<'_>
         file: kept.name.as_str(),
         line: kept.line,
         column: kept.column,
-        rule: None,
+        subject: Subject::Refusal,
         text: kept.text,
     }
 }

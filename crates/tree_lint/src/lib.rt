@@ -5,6 +5,7 @@ pub mod counts;
 mod gather;
 mod issue_remarks;
 pub mod kept;
+mod linted;
 pub mod module_tree;
 pub mod policy;
 pub mod refusal;

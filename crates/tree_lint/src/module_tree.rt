@@ -37,6 +37,7 @@ impl<T: Tree + Drop> ModuleTree<T> {
     /// The files of a tree, of which none is open. The names in them are hashed as `hashing` says.
     pub fn new(tree: T, hashing: Hashing) -> ModuleTree<T>
         ensures tree { result.tree ≡ tree }
+        ensures hashing { result.hashing ≡ hashing }
         ensures back { has_reader_out result ≡ false }
     {
         ModuleTree {
@@ -47,7 +48,9 @@ impl<T: Tree + Drop> ModuleTree<T> {
     }
 
     /// How names in the files are hashed.
-    pub(crate) fn hashing(&self) -> Hashing {
+    pub(crate) fn hashing(&self) -> Hashing
+        ensures { result ≡ self.now.hashing }
+    {
         self.hashing
     }
 

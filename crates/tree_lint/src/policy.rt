@@ -10,8 +10,10 @@ pub struct Policy {
     pub settings: Settings,
     /// From which severity on an issue fails the run.
     pub minimum: Severity,
-    /// No issue fails the run.
+    /// Nothing that is found fails the run.
     pub force: bool,
+    /// Comments are looked for that are meant to silence a rule and don't.
+    pub checks: bool,
 }
 
 /// A module, and by what it is linted.

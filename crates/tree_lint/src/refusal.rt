@@ -1,6 +1,6 @@
 //! What is said of a module that isn't linted.
 
-ghost use Rattle.std.specs.Prelude.{◌≡◌, ◌++◌, Some, false, flat_map, is_err, map};
+ghost use Rattle.std.specs.Prelude.{◌≡◌, ◌++◌, Some, false, flat_map, is_err, map, string_bytes};
 ghost use Rattle.std.specs.List.{concat};
 ghost use Rattle.command_line.specs.Rows.{Took, writer};
 ghost use Rattle.file_tree.specs.Quotes.{quoted};
@@ -8,6 +8,7 @@ ghost use Rattle.tree_lint.specs.Refusals.{refusal_line, refusal_told, refusal_w
 ghost use Rattle.tree_lint.specs.Faults.{fault_lines, refusal_by};
 
 use command_line::write_pieces;
+use comment_faults::CommentFault;
 use file_tree::fault::TreeFault;
 use file_tree::quote::write_quoted;
 use file_tree::walk::Found;
@@ -54,16 +55,39 @@ fn tell_words<S: ByteSink>(sink: &mut S, at: Option<Position>, text: &str) -> Re
 }
 
 /// Writes a name as it is shown, and what follows it.
-fn tell_named<S: ByteSink>(sink: &mut S, refusal: Refusal<'_>) -> Result<(), Failed>
+fn tell_named<S: ByteSink>(
+    sink: &mut S,
+    name: &[u8],
+    at: Option<Position>,
+    text: &str,
+) -> Result<(), Failed>
     requires { S.failed sink.old ≡ false }
     ensures took { Took (writer S.ByteSink sink.old sink.new)
-        (quoted refusal.entry.name.now ++ refusal_words refusal.entry.at refusal.entry.text.now) }
+        (quoted name.now ++ refusal_words at text.now) }
     ensures failed { S.failed sink.new ≡ is_err result }
 {
-    if write_quoted(sink, refusal.name).is_err() {
+    if write_quoted(sink, name).is_err() {
         return Err(Failed);
     }
-    tell_words(sink, refusal.at, refusal.text)
+    tell_words(sink, at, text)
+}
+
+/// Writes a line about a file or a folder, with the name of this program before it.
+fn tell_line<S: ByteSink>(
+    sink: &mut S,
+    name: &[u8],
+    at: Option<Position>,
+    text: &str,
+) -> Result<(), Failed>
+    requires { S.failed sink.old ≡ false }
+    ensures took { Took (writer S.ByteSink sink.old sink.new)
+        (refusal_line (record { name = name.now; at = at; text = text.now })) }
+    ensures failed { S.failed sink.new ≡ is_err result }
+{
+    if write_pieces(sink, &[b"tfrules-all: error: "]).is_err() {
+        return Err(Failed);
+    }
+    tell_named(sink, name, at, text)
 }
 
 /// Writes the line of a refusal, with the name of this program before it.
@@ -73,10 +97,21 @@ pub fn tell_refusal<S: ByteSink>(sink: &mut S, refusal: Refusal<'_>) -> Result<(
         (refusal_line (refusal_told refusal.entry)) }
     ensures failed { S.failed sink.new ≡ is_err result }
 {
-    if write_pieces(sink, &[b"tfrules-all: error: "]).is_err() {
-        return Err(Failed);
-    }
-    tell_named(sink, refusal)
+    tell_line(sink, refusal.name, refusal.at, refusal.text)
+}
+
+/// Writes the line of a comment in the file of this name.
+pub(crate) fn tell_comment<S: ByteSink>(
+    sink: &mut S,
+    name: &str,
+    fault: &CommentFault,
+) -> Result<(), Failed>
+    requires { S.failed sink.old ≡ false }
+    ensures took { Took (writer S.ByteSink sink.old sink.new) (refusal_line (record
+        { name = name.now; at = Some fault.now.at; text = string_bytes fault.now.text })) }
+    ensures failed { S.failed sink.new ≡ is_err result }
+{
+    tell_line(sink, name.as_bytes(), Some(fault.at), fault.text.as_str())
 }
 
 /// The fault that is told: `-` is a name that isn't there, as any other.

@@ -1,30 +1,32 @@
 //! What is shown of one module.
 
-ghost use Rattle.std.specs.Prelude.{◌≡◌, ◌∷◌, [], None, OnErr, OnOk, Some, true, false};
+ghost use Rattle.std.specs.Prelude.{◌≡◌, ◌∷◌, [], None, OnErr, OnOk, Some, true, false, flat_map, is_err, map, string_bytes};
+ghost use Rattle.comment_faults.specs.CommentFaults.{fault_told};
 ghost use Rattle.command_line.specs.Rows.{Took, writer};
-ghost use Rattle.tfrules_command.specs.Report.{report, status};
+ghost use Rattle.tfrules_command.specs.Report.{report};
 ghost use Rattle.tree_lint.specs.Parted.{parted};
 ghost use Rattle.tree_lint.specs.Refusals.{refusal_line, refusal_told};
 ghost use Rattle.tree_lint.specs.Kept.{KeepsAll};
-ghost use Rattle.tree_lint.specs.Runs.{failing_under, issues_output};
+ghost use Rattle.tree_lint.specs.Runs.{comment_line, linted_output};
 ghost use Rattle.tree_lint.specs.Verdicts.{no_memory, too_many};
-ghost use Rattle.tree_lint.specs.Inner.Showing.{HasOrNoMemory, Shows, refused};
+ghost use Rattle.tree_lint.specs.Inner.Showing.{HasOrNoMemory, Shows, linted_told, refused};
 
 use crate::counts::Ended;
-use crate::issue_remarks::issues_text;
+use crate::issue_remarks::{linted_text, name_of};
 use crate::kept::Kept;
-use crate::policy::Policy;
-use crate::refusal::{Refusal, tell_refusal};
+use crate::linted::Linted;
+use crate::refusal::{Refusal, tell_comment, tell_refusal};
 use crate::run::Task;
 use crate::shown::Shown;
 use command_line::write_pieces;
+use comment_faults::CommentFault;
 use file_tree::path::place;
-use hcl_scan::{ByteSink, write_fully};
+use hcl_scan::{ByteSink, Failed, write_fully};
 use lint_forms::Form;
 use module_find::Module;
 use std::alloc::{AllocError, Global};
 use tf_rules::IssueList;
-use tfrules_command::report::{has_severe, show_issues};
+use tfrules_command::report::show_issues;
 use tfrules_command::shown_names::ShownNames;
 
 /// Writes an empty line and the report of issues, or leaves standard output alone where there is no issue.
@@ -60,16 +62,6 @@ fn show_after<O: ByteSink, N: ShownNames>(
     show_issues(out, names, issues);
 }
 
-/// The status of a module with these issues.
-fn status_of(policy: Policy, issues: &IssueList<'_>) -> u8
-    ensures { result ≡ status (failing_under policy) issues.now }
-{
-    if !policy.force && has_severe(policy.minimum, issues) {
-        return 2;
-    }
-    0
-}
-
 /// What is said of a module at which memory ran out.
 pub(crate) fn no_memory(one: &Module) -> Refusal<'_>
     ensures { refusal_told result ≡ no_memory one.now }
@@ -96,6 +88,7 @@ pub(crate) fn too_many(one: &Module) -> Refusal<'_>
 pub(crate) const REFUSED: Ended = Ended {
     status: 1,
     issues: 0,
+    is_shown: false,
 };
 
 /// Says why a module is refused, and keeps it.
@@ -121,103 +114,123 @@ fn show_report<O: ByteSink>(
     alloc: Global,
     is_after: bool,
     one: &Module,
-    issues: &IssueList<'_>,
+    linted: Linted<'_, '_>,
     out: &mut O,
 ) -> Result<(), AllocError>
     requires out { O.failed out.old ≡ false }
     ensures ok { OnOk result (Took (writer O.ByteSink out.old out.new)
-        (issues_output None is_after one.now issues.now)) }
+        (linted_output None is_after one.now (linted_told linted.entry))) }
     ensures err { OnErr result (out.new ≡ out.old) }
 {
     let names = Shown::new(alloc, one.files.as_slice())?;
-    show_after(is_after, out, &names, issues);
+    show_after(is_after, out, &names, linted.issues);
     Ok(())
 }
 
-/// Writes issues in a form.
+/// Writes what is found in a form.
 fn show_form<O: ByteSink>(
     alloc: Global,
     form: Form,
     is_after: bool,
     one: &Module,
-    issues: &IssueList<'_>,
+    linted: Linted<'_, '_>,
     out: &mut O,
 ) -> Result<(), AllocError>
     requires out { O.failed out.old ≡ false }
     ensures ok { OnOk result (Took (writer O.ByteSink out.old out.new)
-        (issues_output (Some form) is_after one.now issues.now)) }
+        (linted_output (Some form) is_after one.now (linted_told linted.entry))) }
     ensures err { OnErr result (out.new ≡ out.old) }
 {
-    let text = issues_text(alloc, form, is_after, one.files.as_slice(), issues)?;
+    let text = linted_text(alloc, form, is_after, one.files.as_slice(), linted)?;
     let _ = write_pieces(out, &[text.as_slice()]);
     Ok(())
 }
 
-/// Writes issues as they are to be written.
-fn show_issued<O: ByteSink>(
+/// Writes what is found as it is to be written.
+fn show_linted<O: ByteSink>(
     alloc: Global,
     task: Task,
     one: &Module,
-    issues: &IssueList<'_>,
+    linted: Linted<'_, '_>,
     out: &mut O,
 ) -> Result<(), AllocError>
     requires out { O.failed out.old ≡ false }
     ensures ok { OnOk result (Took (writer O.ByteSink out.old out.new)
-        (issues_output task.form task.is_after one.now issues.now)) }
+        (linted_output task.form task.is_after one.now (linted_told linted.entry))) }
     ensures err { OnErr result (out.new ≡ out.old) }
 {
     match task.form {
-        Some(form) => show_form(alloc, form, task.is_after, one, issues, out),
-        None => show_report(alloc, task.is_after, one, issues, out),
+        Some(form) => show_form(alloc, form, task.is_after, one, linted, out),
+        None => show_report(alloc, task.is_after, one, linted, out),
     }
 }
 
-/// Shows issues of a module, of which there is one at least.
+/// Says what is wrong with comments of the files of these names, up to a write that fails.
+fn tell_comments<E: ByteSink>(
+    names: &[String],
+    comments: &[CommentFault],
+    err: &mut E,
+) -> Result<(), Failed>
+    requires { E.failed err.old ≡ false }
+    ensures took { Took (writer E.ByteSink err.old err.new)
+        (flat_map (λ f. comment_line (map string_bytes names.now) (fault_told f)) comments.now) }
+    ensures failed { E.failed err.new ≡ is_err result }
+{
+    for fault in comments {
+        tell_comment(err, name_of(names, fault.file), fault)?;
+    }
+    Ok(())
+}
+
+/// Shows what is found in a module, which is something.
 fn show_some<O: ByteSink, E: ByteSink>(
     alloc: Global,
     task: Task,
     one: &Module,
-    issues: &IssueList<'_>,
+    linted: Linted<'_, '_>,
     out: &mut O,
     err: &mut E,
     kept: &mut Kept,
 ) -> Ended
     requires out { O.failed out.old ≡ false }
     requires err { E.failed err.old ≡ false }
-    ensures { Shows task one.now (HasOrNoMemory one.now issues.now)
+    ensures { Shows task one.now (HasOrNoMemory one.now (linted_told linted.entry))
         (writer O.ByteSink out.old out.new) (writer E.ByteSink err.old err.new)
         kept.old kept.new result }
 {
-    let Ok(()) = show_issued(alloc, task, one, issues, out) else {
+    let Ok(()) = show_linted(alloc, task, one, linted, out) else {
         return refuse(alloc, no_memory(one), err, kept);
     };
+    let _ = tell_comments(one.files.as_slice(), linted.comments, err);
     Ended {
-        status: status_of(task.policy, issues),
-        issues: issues.len(),
+        status: linted.status(task.policy),
+        issues: linted.issues.len(),
+        is_shown: linted.has_output(task.form),
     }
 }
 
-/// Shows the issues of a module.
+/// Shows what is found in a module.
 pub(crate) fn show<O: ByteSink, E: ByteSink>(
     alloc: Global,
     task: Task,
     one: &Module,
-    issues: &IssueList<'_>,
+    linted: Linted<'_, '_>,
     out: &mut O,
     err: &mut E,
     kept: &mut Kept,
 ) -> Ended
     requires out { O.failed out.old ≡ false }
     requires err { E.failed err.old ≡ false }
-    ensures { Shows task one.now (HasOrNoMemory one.now issues.now)
+    ensures { Shows task one.now (HasOrNoMemory one.now (linted_told linted.entry))
         (writer O.ByteSink out.old out.new) (writer E.ByteSink err.old err.new)
         kept.old kept.new result }
 {
-    if issues.is_empty() {
+    if linted.is_nothing() {
         return Ended {
             status: 0,
             issues: 0,
+            is_shown: false,
         };
     }
-    show_some(alloc, task, one, issues, out, err, kept)
+    show_some(alloc, task, one, linted, out, err, kept)
 }

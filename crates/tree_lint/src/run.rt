@@ -10,7 +10,7 @@ ghost use Rattle.tree_lint.specs.Verdicts.{CanBeRead, IsVerdict};
 ghost use Rattle.tree_lint.specs.Inner.Showing.{Shows};
 
 use crate::counts::{Counts, Ended};
-use crate::gather::gather;
+use crate::gather::{Gathered, gather};
 use crate::kept::Kept;
 use crate::module_tree::ModuleTree;
 use crate::policy::{Governed, Policy};
@@ -57,14 +57,18 @@ fn lint_files<T: Tree + Drop, O: ByteSink, E: ByteSink>(
     ensures asked { T.asked files.new.tree ≡ T.asked files.old.tree }
     ensures back { has_reader_out files.new ≡ false }
 {
-    let Ok(mut facts) = Facts::with_hashing(alloc, files.hashing()) else {
+    let Ok(facts) = Facts::with_hashing(alloc, files.hashing()) else {
         return refuse(alloc, no_memory(one), err, kept);
     };
-    if let Err(stopped) = gather(alloc, one.files.as_slice(), files, &mut facts) {
+    let mut all = Gathered::new(alloc, facts, task.policy.checks);
+    if let Err(stopped) = gather(alloc, one.files.as_slice(), files, &mut all) {
         return refuse(alloc, stopped.refusal(), err, kept);
     }
-    match facts.issue_list(&task.policy.settings) {
-        Ok(issues) => show(alloc, task, one, &issues, out, err, kept),
+    match all.facts.issue_list(&task.policy.settings) {
+        Ok(issues) => {
+            let linted = all.linted(&issues);
+            show(alloc, task, one, linted, out, err, kept)
+        }
         Err(_) => refuse(alloc, no_memory(one), err, kept),
     }
 }
@@ -168,8 +172,8 @@ pub struct RunEnd {
     pub status: u8,
     /// What it found, in numbers, unless a write failed.
     pub counts: Counts,
-    /// Whether a module has issues, unless a write failed.
-    pub has_issues: bool,
+    /// Whether any of what was found went to standard output, unless a write failed.
+    pub has_output: bool,
     /// Why modules are refused, for the end of a form, unless a write failed.
     pub kept: Kept,
 }
@@ -182,7 +186,7 @@ impl RunEnd {
         RunEnd {
             status: 1,
             counts,
-            has_issues: false,
+            has_output: false,
             kept,
         }
     }
@@ -208,22 +212,22 @@ fn run_all<T: Tree + Drop, O: ByteSink, E: ByteSink>(
     ensures back { has_reader_out files.new ≡ false }
 {
     let mut status = 0;
-    let mut has_issues = false;
+    let mut has_output = false;
     let mut counts = Counts::new();
     let mut kept = Kept::new(alloc, form.is_some());
     for one in modules {
-        let ended = lint_next(alloc, form, has_issues, one, files, out, err, &mut kept);
+        let ended = lint_next(alloc, form, has_output, one, files, out, err, &mut kept);
         if has_failed(out, err) {
             return RunEnd::cut(counts, kept);
         }
-        has_issues = either(has_issues, ended.issues > 0);
+        has_output = either(has_output, ended.is_shown);
         status = worse_status(status, ended.status);
         counts = counts.add(is_module(&one.module), ended);
     }
     RunEnd {
         status,
         counts,
-        has_issues,
+        has_output,
         kept,
     }
 }

@@ -17,3 +17,6 @@ with_minimum said value = with_value said.minimum (ok_or (severity_asked value) 
 
 abbrev pub with_force : Options → Result Options ConfigFault
 with_force said = if said.force then Err GivenTwice else Ok (record said { force = true })
+
+abbrev pub with_checks : Options → Result Options ConfigFault
+with_checks said = if said.checks then Err GivenTwice else Ok (record said { checks = true })

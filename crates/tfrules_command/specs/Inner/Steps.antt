@@ -2,13 +2,11 @@
 use Rattle.std.specs.Prelude.{◌≡◌, ◌≤◌, ◌<◌, ◌+◌, ◌++◌, ◌∷◌, ℕ, Bool, true, false, List, [], Option, Result, Ok, Err, codes, length}
 use Rattle.command_line.specs.Rows.{Row, error_line, out_of_memory}
 use Rattle.hcl_source.specs.Load.{IsLoadFault, IsText}
-use Rattle.hcl_tokens.specs.Scanned.{Scanned}
 use Rattle.hcl_tokens.specs.declared.token.ScanError.{ScanError}
 use Rattle.hcl_tokens.specs.declared.token.ScanError.TheVariants as scan_error
 use Rattle.hcl_source.specs.declared.fault.LoadError.{LoadError}
 use Rattle.hcl_source.specs.declared.fault.LoadError.TheVariants as error
-use Rattle.hcl_grammar.specs.Verdict.{verdict}
-use Rattle.tf_rules.specs.Kept.{Kept, kept_of, with_file}
+use Rattle.tf_rules.specs.Kept.{Kept}
 use Rattle.tfrules_command.specs.Answer.{file_error, linter, names_of, refusal_row, too_large, usage_line}
 use Rattle.tfrules_command.specs.Files.{NamedFile, AreAccepted, IsFault, IsOutcome, IsTooMuch, max_module, numbered_files, size_of}
 use Rattle.tfrules_command.specs.Keeping.{Added, Reached}
@@ -43,16 +41,6 @@ ReadsFile told o r (Err stop.OutOfMemory) = AreFine o r
 abbrev pub stop_of_scan : ScanError → Stop
 stop_of_scan (scan_error.Fault fault) = stop.Refused fault
 stop_of_scan scan_error.OutOfMemory = stop.OutOfMemory
-
--- what keeping scanned tokens answers, with which the files have so many bytes
-abbrev pub KeepsTokens : Scanned → ℕ → ℕ → Kept → Kept → Result ℕ Stop → Type 0
-KeepsTokens scanned number all old new (Ok more) =
-    (source : Scanned) × (Ok source ≡ verdict scanned) × (more ≡ all) × (new ≡ with_file old (record { number = number; source = source }))
-KeepsTokens scanned number all old new (Err (stop.Refused fault)) = Err fault ≡ verdict scanned
-KeepsTokens scanned number all old new (Err stop.TooLarge) = ⊥
-KeepsTokens scanned number all old new (Err stop.NotOpened) = ⊥
-KeepsTokens scanned number all old new (Err stop.NotRead) = ⊥
-KeepsTokens scanned number all old new (Err stop.OutOfMemory) = Unit {0}
 
 -- why a run stops at a file
 abbrev pub StopsBy : Option (List ℕ) → ℕ → Bool → Bool → Stop → Type 0

@@ -10,12 +10,13 @@ returns c =
     let shape3 = c.in_ok-arg-3.ensures.shape c.option_named-3.ensures.local ∙ ap₂ with_rule shape2 c.option_named-3.ensures.rule in
     let shape4 = c.in_ok-arg-4.ensures.shape c.counted_flag.ensures.local ∙ ap₂ with_rule shape3 c.counted_flag.ensures.rule in
     let shape5 = c.in_ok-arg-5.ensures.shape c.counted_flag-2.ensures.local ∙ ap₂ with_rule shape4 c.counted_flag-2.ensures.rule in
-    let shape6 = c.in_ok-arg-6.ensures.shape c.option_named-4.ensures.local ∙ ap₂ with_rule shape5 c.option_named-4.ensures.rule in
-    let shape7 = c.in_ok-arg-7.ensures.shape c.counted_flag-3.ensures.local ∙ ap₂ with_rule shape6 c.counted_flag-3.ensures.rule in
+    let shape6 = c.in_ok-arg-6.ensures.shape c.counted_flag-3.ensures.local ∙ ap₂ with_rule shape5 c.counted_flag-3.ensures.rule in
+    let shape7 = c.in_ok-arg-7.ensures.shape c.option_named-4.ensures.local ∙ ap₂ with_rule shape6 c.option_named-4.ensures.rule in
     let shape8 = c.in_ok-arg-8.ensures.shape c.counted_flag-4.ensures.local ∙ ap₂ with_rule shape7 c.counted_flag-4.ensures.rule in
-    let shape9 = c.in_ok-arg-9.ensures.shape c.null.ensures.local ∙ ap₂ with_rule shape8 c.null.ensures.rule in
-    let shape10 = c.in_ok-arg-10.ensures.shape c.option_named-5.ensures.local ∙ ap₂ with_rule shape9 c.option_named-5.ensures.rule in
-    let shape11 = c.in_ok-arg-11.ensures.shape c.jobs.ensures.local ∙ ap₂ with_rule shape10 c.jobs.ensures.rule in
-    let shape12 = c.in_ok-arg-12.ensures.shape c.counted_flag-5.ensures.local ∙ ap₂ with_rule shape11 c.counted_flag-5.ensures.rule in
-    let shape13 = c.in_ok-arg-13.ensures.shape c.option_named-6.ensures.local ∙ ap₂ with_rule shape12 c.option_named-6.ensures.rule in
-    IfOk-weaker c.arg-14.result _ _ (λ r h. h.shape c.file.ensures.local ∙ ap₂ with_rule shape13 c.file.ensures.rule) c.arg-14.ensures
+    let shape9 = c.in_ok-arg-9.ensures.shape c.counted_flag-5.ensures.local ∙ ap₂ with_rule shape8 c.counted_flag-5.ensures.rule in
+    let shape10 = c.in_ok-arg-10.ensures.shape c.null.ensures.local ∙ ap₂ with_rule shape9 c.null.ensures.rule in
+    let shape11 = c.in_ok-arg-11.ensures.shape c.option_named-5.ensures.local ∙ ap₂ with_rule shape10 c.option_named-5.ensures.rule in
+    let shape12 = c.in_ok-arg-12.ensures.shape c.jobs.ensures.local ∙ ap₂ with_rule shape11 c.jobs.ensures.rule in
+    let shape13 = c.in_ok-arg-13.ensures.shape c.counted_flag-6.ensures.local ∙ ap₂ with_rule shape12 c.counted_flag-6.ensures.rule in
+    let shape14 = c.in_ok-arg-14.ensures.shape c.option_named-6.ensures.local ∙ ap₂ with_rule shape13 c.option_named-6.ensures.rule in
+    IfOk-weaker c.arg-15.result _ _ (λ r h. h.shape c.file.ensures.local ∙ ap₂ with_rule shape14 c.file.ensures.rule) c.arg-15.ensures

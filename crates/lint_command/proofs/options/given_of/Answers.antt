@@ -13,7 +13,7 @@ pub returns : goal.returns
 returns c =
     let found = found_of c.args.matches.now in
     c.given_by.ensures
-    ∙ given_parts _ _ _ _ _ _ _ _ _ _ (c.rules_taken-rules.ensures ∙ ap (λ o. rules_taken (option_map rules_in o)) (c.get_str.ensures ∙ first_value-rows found (codes "rules")))
+    ∙ given_parts _ _ _ _ _ _ _ _ _ _ _ _ (c.rules_taken-rules.ensures ∙ ap (λ o. rules_taken (option_map rules_in o)) (c.get_str.ensures ∙ first_value-rows found (codes "rules")))
     (c.naming_taken-naming.ensures ∙ ap (λ o. taken BadNaming (option_map naming_asked o)) (c.get_str-2.ensures ∙ first_value-rows found (codes "naming")))
-    (c.severity_taken-minimum.ensures ∙ ap (λ o. taken BadSeverity (option_map severity_asked o)) (c.get_str-3.ensures ∙ first_value-rows found (codes "minimum-failure-severity"))) c.is_given-force.ensures
+    (c.severity_taken-minimum.ensures ∙ ap (λ o. taken BadSeverity (option_map severity_asked o)) (c.get_str-3.ensures ∙ first_value-rows found (codes "minimum-failure-severity"))) c.is_given-force.ensures c.is_given-checks.ensures
     (ap not c.is_given.ensures)

@@ -12,5 +12,5 @@ pub returns : goal.returns
 returns c =
     let tests = sym (length-map c.args.remarks.now said_by) in
     let failures = c.issues_of-failures.ensures ∙ sym (kept_as_said is_issue c.args.remarks.now) in
-    let errors = c.refusals_of-errors.ensures ∙ sym (kept_as_said (λ rule. not (is_issue rule)) c.args.remarks.now) in
+    let errors = c.refusals_of-errors.ensures ∙ sym (kept_as_said (λ subject. not (is_issue subject)) c.args.remarks.now) in
     ok_as string_bytes c.suite_start.result _ _ (λ i. suite_start (tests i) (failures i) (errors i)) c.suite_start.ensures

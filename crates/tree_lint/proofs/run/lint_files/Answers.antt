@@ -2,8 +2,8 @@ use Rattle.std.proofs.Common.{ap, map, refl}
 use Rattle.std.specs.Prelude.{string_bytes}
 use Rattle.tfrules_command.specs.Files.{numbered_files}
 use Rattle.tfrules_command.proofs.EndRowLemmas.{rising}
-use Rattle.tree_lint.proofs.FileLemmas.{have_issues}
-use Rattle.tree_lint.proofs.ShownLemmas.{for_file, for_issues, for_memory, refused_one, shows_as}
+use Rattle.tree_lint.proofs.FileLemmas.{have_found}
+use Rattle.tree_lint.proofs.ShownLemmas.{for_file, for_found, for_memory, refused_one, shows_as}
 use Rattle.tree_lint.proofs.run.lint_files.Goals as goal
 
 pub returns-in_default-clause-shows : goal.returns-in_default-clause-shows
@@ -20,10 +20,11 @@ returns-in-Err-clause-shows g c =
 pub returns-in-Ok-issue_list-clause-shows : goal.returns-in-Ok-issue_list-clause-shows
 returns-in-Ok-issue_list-clause-shows g c =
     let gathered = c.in_default-gather.ensures.gathers in
-    let found = c.in-Ok-issue_list.ensures (numbered_files 0 gathered.1.1.sources) gathered.1.1.kept_is (rising 0 gathered.1.1.sources) in
+    let reached = gathered.1.1.reached in
+    let found = c.in-Ok-issue_list.ensures (numbered_files 0 reached.sources) reached.kept_is (rising 0 reached.sources) in
     shows_as _ _ _ _ _ _ _ _ _
-    (for_issues (g.T.Tree.files c.args.files.now.tree) c.args.task.policy c.args.one.now _ _ c.requires.readable gathered.0 _ (ap (map string_bytes) c.as_slice.ensures.value) _
-    (have_issues _ _ _ _ _ _ gathered.1.1 found))
+    (for_found (g.T.Tree.files c.args.files.now.tree) c.args.task.policy c.args.one.now _ _ c.requires.readable gathered.0 _ (ap (map string_bytes) c.as_slice.ensures.value) _
+    (have_found _ c.args.task.policy _ _ _ _ _ _ c.new-all.ensures.checks gathered.1.1 c.linted-linted.ensures found))
     c.show.ensures
 
 pub returns-clause-shows : goal.returns-clause-shows

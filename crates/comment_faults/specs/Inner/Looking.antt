@@ -1,0 +1,23 @@
+-- How far the comments of a file were looked at.
+use Rattle.std.specs.Prelude.{◌≡◌, ◌≤◌, ℕ, List, ◌++◌, Some, map, slice_get}
+use Rattle.hcl_grammar.specs.Numbered.{Numbered}
+use Rattle.hcl_grammar.specs.Verdict.{start_of}
+use Rattle.hcl_tokens.specs.Lexemes.{Lexeme}
+use Rattle.hcl_tokens.specs.Scanned.{Scanned}
+use Rattle.tf_rules.specs.Issues.{File}
+use Rattle.tf_rules.specs.Walked.{Walked}
+use Rattle.comment_faults.specs.CommentFaults.{fault_of, fault_told}
+use Rattle.comment_faults.specs.declared.fault.CommentFault as code
+
+-- a token under a number
+abbrev pub number_of : ℕ → Lexeme → Numbered
+number_of n t = record { number = n; kind = t.kind; text = t.text }
+
+-- a file's token of this number was looked at
+abbrev pub Adds : File → ℕ → List code.CommentFault → List code.CommentFault → Type 0
+Adds file n old new = (t : Lexeme) → slice_get file.source.tokens n ≡ Some t → map fault_told new ≡ map fault_told old ++ fault_of file (number_of n t)
+
+-- the walk is in this text, and not after the token of this number
+pub record IsBefore (source : Scanned) (n : ℕ) (walk : Walked) : Type 0 where
+  pub text : walk.text ≡ source.text
+  pub reached : walk.reached ≤ start_of source.tokens n

@@ -1,0 +1,4 @@
+pub mod CommentTexts
+pub mod CommentFaults
+pub mod Examples
+pub mod Inner

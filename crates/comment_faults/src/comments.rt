@@ -1,0 +1,88 @@
+//! The comments of a file, looked at one after another.
+
+ghost use Rattle.std.specs.Prelude.{◌≡◌, ◌<◌, ◌++◌, OnOk, Some, length, map, slice_get, true};
+ghost use Rattle.hcl_tokens.specs.Kinds.{is};
+ghost use Rattle.hcl_tokens.specs.Lexemes.{Lexeme};
+ghost use Rattle.hcl_tokens.specs.declared.token.Kind.TheVariants.{LineComment};
+ghost use Rattle.comment_faults.specs.CommentFaults.{fault_told, faults_in};
+ghost use Rattle.comment_faults.specs.Inner.Looking.{Adds, IsBefore};
+
+use crate::fault::CommentFault;
+use crate::text::fault_text;
+use hcl_tokens::{Kind, Tokens};
+use std::alloc::{AllocError, Global};
+use tf_rules::Walker;
+
+fn is_line_comment(kind: Kind) -> bool
+    ensures { result ≡ is LineComment kind }
+{
+    matches!(kind, Kind::LineComment)
+}
+
+/// Adds the fault of the line comment of this number, if it has one.
+fn add_of_comment(
+    alloc: Global,
+    file: u32,
+    tokens: &Tokens<'_>,
+    number: usize,
+    walker: &mut Walker<'_>,
+    faults: &mut Vec<CommentFault>,
+) -> Result<(), AllocError>
+    requires within { number < length tokens.now.tokens }
+    requires before { IsBefore tokens.now number walker.old }
+    requires comment { (t : Lexeme) → slice_get tokens.now.tokens number ≡ Some t
+        → is LineComment t.kind ≡ true }
+    ensures adds { OnOk result (Adds (record { number = file; source = tokens.now })
+        number faults.old.items faults.new.items) }
+    ensures before { OnOk result (IsBefore tokens.now number walker.new) }
+{
+    let token = tokens.get(number);
+    let said = fault_text(alloc, token.text.as_bytes())?;
+    let said = said.as_slice();
+    if said.is_empty() {
+        return Ok(());
+    }
+    let text = String::from_utf8_lossy(alloc, said)?;
+    let at = walker.position_of(tokens, number);
+    faults.push(CommentFault { file, at, text })?;
+    Ok(())
+}
+
+/// Adds the fault of the token of this number, if it is a line comment that has one.
+fn add_of_token(
+    alloc: Global,
+    file: u32,
+    tokens: &Tokens<'_>,
+    number: usize,
+    walker: &mut Walker<'_>,
+    faults: &mut Vec<CommentFault>,
+) -> Result<(), AllocError>
+    requires within { number < length tokens.now.tokens }
+    requires before { IsBefore tokens.now number walker.old }
+    ensures adds { OnOk result (Adds (record { number = file; source = tokens.now })
+        number faults.old.items faults.new.items) }
+    ensures before { OnOk result (IsBefore tokens.now number walker.new) }
+{
+    if !is_line_comment(tokens.kind(number)) {
+        return Ok(());
+    }
+    add_of_comment(alloc, file, tokens, number, walker, faults)
+}
+
+/// Adds the comments of the file of this number that are meant to silence a rule and don't, in their order, by one walk through
+/// its tokens.
+pub fn add_comment_faults(
+    alloc: Global,
+    file: u32,
+    tokens: &Tokens<'_>,
+    faults: &mut Vec<CommentFault>,
+) -> Result<(), AllocError>
+    ensures { OnOk result (map fault_told faults.new.items ≡ map fault_told faults.old.items
+        ++ faults_in (record { number = file; source = tokens.now })) }
+{
+    let mut walker = Walker::new(tokens.source().text());
+    for number in 0..tokens.len() {
+        add_of_token(alloc, file, tokens, number, &mut walker, faults)?;
+    }
+    Ok(())
+}
