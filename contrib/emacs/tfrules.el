@@ -5,7 +5,7 @@
 ;;     (add-hook 'terraform-mode-hook #'tfrules-mode)
 ;;
 ;; Then flymake shows what tfrules finds in the file, when it is opened and whenever it is saved.  The module of the
-;; file is linted with all its files, as last saved.  `M-x compile' with `tfrules-modules' lists what is
+;; file is linted with all its files, as last saved.  `M-x compile' with `tfrules-all' lists what is
 ;; found in all modules, with no settings.  Emacs 26.1 or later.
 
 ;;; Code:
@@ -16,7 +16,7 @@
   "Lint Terraform modules with tfrules."
   :group 'tools)
 
-(defcustom tfrules-command '("tfrules-modules")
+(defcustom tfrules-command '("tfrules-all" "--quiet")
   "The program that lints modules, and its options."
   :type '(repeat string))
 
@@ -24,7 +24,7 @@
   "The run for this buffer that isn't over, or nil.")
 
 (defconst tfrules--line
-  "^\\(?:tfrules\\(?:-all\\)?: error: \\)?\\(.+?\\):\\([0-9]+\\):\\([0-9]+\\): \\(?:\\(Error\\|Warning\\|Notice\\) - \\)?\\(.+\\)$"
+  "^\\(?:tfrules-all: error: \\)?\\(.+?\\):\\([0-9]+\\):\\([0-9]+\\): \\(?:\\(Error\\|Warning\\|Notice\\) - \\)?\\(.+\\)$"
   "A line of a report, or of a refusal.")
 
 (defun tfrules--read (source file)

@@ -337,10 +337,10 @@ FOUND = [
 def run_linting_vim(group):
     """The quickfix list, in Vim and in Neovim."""
     editor = group.name.split()[0]
-    if not group.has(editor, checks=4):
+    if not group.has(editor, checks=7):
         return
     script = """set runtimepath^=%s
-let g:tfrules_program = '%s'
+%s
 compiler tfrules
 silent make! %s
 let Shown = {_, it -> [it.bufnr ? bufname(it.bufnr) : '', it.lnum, it.col, it.type, it.text]}
@@ -348,16 +348,16 @@ call writefile([json_encode(map(getqflist(), Shown))], 'list')
 qall!
 """
 
-    def made(files, words='', program=group.contrib / 'tfrules-modules'):
+    def made(files, words='', setting=''):
         here = group.fresh()
         put(here, files)
-        (here / 'test.vim').write_text(script % (group.contrib / 'vim', program, words))
+        (here / 'test.vim').write_text(script % (group.contrib / 'vim', setting, words))
         words = (
             ['vim', '-u', 'NONE', '-N', '-i', 'NONE', '-es']
             if editor == 'vim'
             else ['nvim', '-u', 'NONE', '-i', 'NONE', '--headless']
         )
-        done = group.call(*words, 'a b/m.tf', '-S', 'test.vim', cwd=here)
+        done = group.call(*words, 'a b/m.tf', '-S', 'test.vim', cwd=here, PATH=group.before_path())
         return json.loads((here / 'list').read_text()) if (here / 'list').exists() else done
 
     group.check(
@@ -368,17 +368,32 @@ qall!
     group.check('and a refusal', made(OTHERS), [['a b/m.tf', 1, 4, 'e', 'unexpected token']])
     group.check('no issue, an empty list', made({'a b/m.tf': b'x = 1\n'}), [])
     spaced = group.fresh() / 'a b'
-    spaced.symlink_to(group.contrib / 'tfrules-modules')
-    group.check('a program with a blank in its path', made(OTHERS, program=spaced)[0][4], 'unexpected token')
+    spaced.write_text('#!/bin/sh\necho "a b/m.tf:7:8: Error - $* (x)"\n')
+    spaced.chmod(0o755)
+    group.check(
+        'a program with a blank in its path, and its words',
+        made(OTHERS, '--rules all', "let g:tfrules_program = '%s'" % spaced),
+        [['a b/m.tf', 7, 8, 'E', '--quiet --rules all -- a b/m.tf (x)']],
+    )
     group.check(
         'what is said of a whole module is shown',
         [it[4] for it in made(dict({'a b/%03d.tf' % i: b'' for i in range(257)}, **MODULE))],
-        ['tfrules-modules: a b: more than 256 files'],
+        ['more than 256 files'],
+    )
+    group.check(
+        'and what is said of its options',
+        made(dict(OTHERS, **{'a b/.tfrules': b'--force\n--bogus\n'})),
+        [['a b/.tfrules', 2, 0, 'e', 'no option of a project']],
+    )
+    group.check(
+        'and of a wrong command line',
+        [it[4] for it in made(OTHERS, '--rules bogus')],
+        ['tfrules-all: error: unknown rule'],
     )
 
 
 DIAGNOSED = """
-vim.g.tfrules_command = { "%s", "--rules", "%s" }
+%s
 vim.opt.runtimepath:prepend("%s/vim")
 require("tfrules").enable()
 local function told()
@@ -405,36 +420,33 @@ def run_diagnostics(group):
     """Neovim's diagnostics."""
     if not group.has('nvim', checks=3):
         return
-    for name, files, wanted in (
+    command = 'vim.g.tfrules_command = { "%s", "--rules", "%s" }'
+    words = ['nvim', '-u', 'NONE', '-i', 'NONE', '--headless', '-c', 'luafile test.lua', '-c', 'qall!']
+    for name, files, setting, wanted in (
         (
             'the report of the file at hand',
             MODULE,
+            command % (group.linted, RULES[1]),
             [[1, 1, 2, FOUND[0][4], FOUND[0][5]], [2, 1, 3, FOUND[1][4], FOUND[1][5]]],
         ),
-        ('a refusal', OTHERS, [[1, 4, 1, 'unexpected token', '']]),
+        ('a refusal', OTHERS, '', [[1, 4, 1, 'unexpected token', '']]),
     ):
         here = group.fresh()
         put(here, files)
-        (here / 'test.lua').write_text(
-            DIAGNOSED % (group.contrib / 'tfrules-modules', RULES[1], group.contrib, len(wanted))
-        )
-        done = group.call(
-            'nvim', '-u', 'NONE', '-i', 'NONE', '--headless', '-c', 'luafile test.lua', '-c', 'qall!', cwd=here
-        )
+        (here / 'test.lua').write_text(DIAGNOSED % (setting, group.contrib, len(wanted)))
+        done = group.call(*words, cwd=here, PATH=group.before_path())
         told = [json.loads((here / kept).read_text()) if (here / kept).exists() else done for kept in ('list', 'after')]
         group.check(name + ', and nothing once it is mended', told, [wanted, []])
     here = group.fresh()
     put(here, OTHERS)
-    (here / 'test.lua').write_text((DIAGNOSED % ('no-such-program', '', group.contrib, 0)))
-    done = group.call(
-        'nvim', '-u', 'NONE', '-i', 'NONE', '--headless', '-c', 'luafile test.lua', '-c', 'qall!', cwd=here
-    )
+    (here / 'test.lua').write_text(DIAGNOSED % (command % ('no-such-program', ''), group.contrib, 0))
+    done = group.call(*words, cwd=here)
     group.holds('without the program', b'no-such-program: not found' in done[2], done)
 
 
 FLYMAKE = """
 (load "%s/emacs/tfrules.el" nil t)
-(setq tfrules-command '("%s" "--rules" "%s") make-backup-files nil)
+(setq %s make-backup-files nil)
 (defun told ()
   (flymake-start)
   (while (process-live-p tfrules--process) (accept-process-output nil 0.05))
@@ -457,18 +469,19 @@ def run_flymake(group):
     """Flymake in Emacs."""
     if not group.has('emacs', checks=3):
         return
-    for name, files, wanted in (
+    for name, files, setting, wanted in (
         (
             'the report of the file at hand',
             MODULE,
+            'tfrules-command \'("%s" "--rules" "%s")' % (group.linted, RULES[1]),
             ['1:1 :warning %s (%s)' % FOUND[0][4:], '2:1 :note %s (%s)' % FOUND[1][4:]],
         ),
-        ('a refusal', OTHERS, ['1:1 :error unexpected token']),
+        ('a refusal', OTHERS, '', ['1:1 :error unexpected token']),
     ):
         here = group.fresh()
         put(here, files)
-        (here / 'test.el').write_text(FLYMAKE % (group.contrib, group.contrib / 'tfrules-modules', RULES[1]))
-        status, out, err = group.call('emacs', '-Q', '--batch', '-l', 'test.el', cwd=here)
+        (here / 'test.el').write_text(FLYMAKE % (group.contrib, setting))
+        status, out, err = group.call('emacs', '-Q', '--batch', '-l', 'test.el', cwd=here, PATH=group.before_path())
         group.check(
             name + ', and nothing once it is mended',
             (sorted(out.decode().splitlines()), status),

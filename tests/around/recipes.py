@@ -381,29 +381,17 @@ def lint_matchers(group):
     matcher = json.loads((contrib / 'ci' / 'tfrules-matcher.json').read_text())
     tasks = json.loads((contrib / 'editors' / 'vscode' / 'tasks.json').read_text())
     here = group.fresh()
-    put(here, {'a b:1/m.tf': b'variable "n" {}\n', 'bad/m.tf': BAD, 'gone/m.tf': b'->nowhere'})
-    for program, words, gone in (
-        ('tfrules-modules', [], 'cannot be opened'),
-        (group.linted, ['--quiet'], 'the link leads nowhere'),
+    put(here, {'a b:1/m.tf': b'variable "n" {}\n', 'bad/m.tf': BAD, 'gone/m.tf': b'->nowhere', 'odd/m.tf': b''})
+    put(here, {'.tfrules': b'--rules terraform_typed_variables,terraform_documented_variables\n'})
+    put(here, {'odd/.tfrules': b'--force\n--bogus\n'})
+    step = re.search('run: (tfrules.*)', (contrib / 'ci' / 'github.yml').read_text()).group(1)
+    task = tasks['tasks'][1]
+    for name, words, problems in (
+        ('GitHub', step.split(), [p['pattern'][0] for p in matcher['problemMatcher']]),
+        ('VS Code', [task['command'], *task['args']], [p['pattern'] for p in task['problemMatcher']]),
     ):
-        if os.path.exists(group.linted) or program != group.linted:
-            _read_by_matchers(group, here, matcher, tasks, [program, *words], gone)
-
-
-def _read_by_matchers(group, here, matcher, tasks, words, gone):
-    done = group.call(
-        *words,
-        '--rules',
-        'terraform_typed_variables,terraform_documented_variables',
-        cwd=here,
-        PATH=group.before_path(group.contrib),
-    )
-    program = os.path.basename(words[0])
-    group.check('what is found, the status of ' + program, done[0], 1)
-    for name, problems in (
-        ('GitHub', [p['pattern'][0] for p in matcher['problemMatcher']]),
-        ('VS Code', [p['pattern'] for p in tasks['tasks'][1]['problemMatcher']]),
-    ):
+        done = group.call(*words, cwd=here, PATH=group.before_path())
+        group.check('the status for ' + name, done[0], 1)
         found = [
             {key: match.group(number) for key, number in pattern.items() if isinstance(number, int)}
             for line in (done[1] + done[2]).decode().splitlines()
@@ -412,7 +400,7 @@ def _read_by_matchers(group, here, matcher, tasks, words, gone):
         ]
         place = {'file': 'a b:1/m.tf', 'line': '1', 'column': '1'}
         group.check(
-            'the matchers of %s read the reports of %s' % (name, program),
+            'the matchers of %s read the reports of modules' % name,
             found,
             [
                 dict(
@@ -423,7 +411,8 @@ def _read_by_matchers(group, here, matcher, tasks, words, gone):
                 ),
                 dict(place, severity='Warning', message='variable "n" has no type', code='terraform_typed_variables'),
                 {'file': 'bad/m.tf', 'line': '1', 'column': '3', 'message': 'unexpected token'},
-                {'file': 'gone/m.tf', 'message': gone},
+                {'file': 'gone/m.tf', 'message': 'the link leads nowhere'},
+                {'file': 'odd/.tfrules', 'line': '2', 'message': 'no option of a project'},
             ],
         )
 

@@ -6,7 +6,8 @@
 "
 "     autocmd FileType terraform,hcl compiler tfrules
 "
-" g:tfrules_program names the program if it isn't `tfrules-modules` on the path. Words after `:make` are options, as in `:make --rules all`.
+" g:tfrules_program names the program if it isn't `tfrules-all` on the path. Words after `:make` are options, as in
+" `:make --rules all`.
 "
 " A column counts characters as a reader sees them, and Vim takes it for a byte's: after letters that aren't ASCII the
 " cursor is too far to the left on the line.
@@ -21,15 +22,16 @@ set cpoptions&vim
 if exists(':CompilerSet') != 2
   command -nargs=* CompilerSet setlocal <args>
 endif
-execute 'CompilerSet makeprg=' . escape(shellescape(get(g:, 'tfrules_program', 'tfrules-modules')), ' \"|')
-      \ . '\ $*\ --\ %:S'
+execute 'CompilerSet makeprg=' . escape(shellescape(get(g:, 'tfrules_program', 'tfrules-all')), ' \"|')
+      \ . '\ --quiet\ $*\ --\ %:S'
 CompilerSet errorformat=
-      \tfrules:\ %trror:\ %f:%l:%c:\ %m,
-      \tfrules:\ %trror:\ %f:\ %m,
+      \tfrules-all:\ %trror:\ %f:%l:%c:\ %m,
+      \tfrules-all:\ %trror:\ %f:%l:\ %m,
+      \tfrules-all:\ %trror:\ %f:\ %m,
       \%f:%l:%c:\ %trror\ -\ %m,
       \%f:%l:%c:\ %tarning\ -\ %m,
       \%f:%l:%c:\ %totice\ -\ %m,
-      \%+Gtfrules-modules:%.%#,
+      \%+Gtfrules-all:%.%#,
       \%+Gusage:%.%#,
       \%-G%.%#
 let &cpoptions = s:keep

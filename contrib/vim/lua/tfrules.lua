@@ -1,7 +1,7 @@
 -- Neovim 0.7 or later: shows as diagnostics what tfrules finds, when a Terraform file is opened or written.
 --
 -- The plugin in the folder above this one calls `enable`. The module of the file is linted with all its files, as last
--- saved. vim.g.tfrules_command names the program and its options, if it isn't { "tfrules-modules" }.
+-- saved. vim.g.tfrules_command names the program and its options, if it isn't { "tfrules-all", "--quiet" }.
 --
 -- A column counts characters as a reader sees them, and Neovim takes it for a byte's: after letters that aren't ASCII
 -- the mark is too far to the left on the line.
@@ -19,9 +19,9 @@ local function read_line(line)
     line:match("^(.+):(%d+):(%d+): (%a+) %- (.+) %(([a-z_]+)%)$")
   if not severities[word] then
     word, rule = "Error", nil
-    file, row, column, message = line:match("^tfrules[%-al]*: error: (.+):(%d+):(%d+): (.+)$")
+    file, row, column, message = line:match("^tfrules%-all: error: (.+):(%d+):(%d+): (.+)$")
     if not file then
-      file, message = line:match("^tfrules[%-al]*: error: (.+): (.+)$")
+      file, message = line:match("^tfrules%-all: error: (.+): (.+)$")
       row, column = 1, 1
     end
   end
@@ -58,7 +58,7 @@ end
 
 local function lint(event)
   local name = vim.fn.fnamemodify(event.match, ":p")
-  local command = vim.deepcopy(vim.g.tfrules_command or { "tfrules-modules" })
+  local command = vim.deepcopy(vim.g.tfrules_command or { "tfrules-all", "--quiet" })
   local lines = {}
   local function add(_, data)
     vim.list_extend(lines, data)
