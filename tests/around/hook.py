@@ -3,9 +3,12 @@
 import os
 import pathlib
 import re
+import shlex
 import shutil
+import textwrap
 
 from harness import BAD, GOOD, OTHER, REFUSED, TOP, lines, put, quoted
+from modules import DECLARED, USED, unused
 
 FORMAT = 'tffmt-hook: the commit is refused: format these files and stage them again:'
 MEND = 'tffmt-hook: the commit is refused: fix these files and stage them again'
@@ -53,7 +56,7 @@ def mend(*names):
 
 
 def run(group):
-    if group.has('git', checks=78):
+    if group.has('git', checks=81):
         for part in (
             first_commit,
             later_commits,
@@ -479,8 +482,12 @@ def with_the_linter(group):
     hook.write_text('#!/bin/sh\n' + script)
     hook.chmod(0o755)
     path = group.before_path(group.contrib)
-    here.stage({'m/a b.tf': b'variable "n" { type = string }\n', 'm/u.tf': b'x = var.n\n', 'text.txt': OTHER})
+    here.stage({'m/a b.tf': DECLARED, 'm/u.tf': USED, 'lost/x.tf': GOOD, 'text.txt': OTHER})
     group.check('a hook with the linter passes', here.commit(PATH=path), (True, b''))
+    here.git('rm', '-q', 'lost/x.tf')
+    group.check('where a module is gone', here.commit(PATH=path), (True, b''))
+    here.stage({'other.txt': OTHER})
+    group.check('and without a file of a module', here.commit(PATH=path), (True, b''))
     here.stage({'m/a b.tf': b'variable "n" { type = number }\n'})
     group.check('with one file of a module staged', here.commit(PATH=path), (True, b''))
     here.stage({'m/u.tf': b'x=var.n\n'})
@@ -489,13 +496,11 @@ def with_the_linter(group):
         here.commit(PATH=path),
         (False, said('m/u.tf: not formatted', FORMAT, mend('m/u.tf'))),
     )
-    here.stage({'m/u.tf': b'x = 1\n'})
-    done = here.git('commit', '-q', '-m', 'x', PATH=path)
-    group.holds(
-        'and an issue',
-        done[0] == 1 and b'm/a b.tf:1:1: Warning - variable "n" is declared but not used' in done[1] + done[2],
-        done,
-    )
+    put(here.top, {'m/u.tf': GOOD})
+    for name, words in (('without a use', ['add', '-A']), ('without the file', ['rm', '-qf', 'm/u.tf'])):
+        here.git(*words)
+        done = here.git('commit', '-q', '-m', 'x', PATH=path)
+        group.holds('and an issue ' + name, done[0] == 1 and unused('m/a b.tf') in done[1] + done[2], done)
 
 
 def command_line(group):
@@ -518,45 +523,74 @@ def command_line(group):
         )
 
 
+# --- pre-commit ------------------------------------------------------------------------------------------------
+
+
 def run_framework(group):
-    """The hooks for pre-commit, from a repository of this folder's files."""
-    if not all([group.has('git', checks=0), group.has('pre-commit', checks=11)]):
+    """The hooks for pre-commit: the linter's as pre-commit calls it, in each shell; and all of them in pre-commit itself,
+    from a repository of this folder's files."""
+    if not os.access(group.linted, os.X_OK):
+        group.skip('pre-commit', 78, 'bin/tfrules-all is not built')
         return
-    source = Repository(group)
-    shutil.copy(str(TOP / '.pre-commit-hooks.yaml'), str(source.top))
-    shutil.copytree(str(group.contrib), str(source.top / 'contrib'))
-    source.git('add', '-A')
-    source.git('commit', '-q', '-m', 'x')
-    revision = source.git('rev-parse', 'HEAD')[1].decode().strip()
-    home = str(group.fresh())
-    # this test's own Python may hide that of pre-commit
-    path = '%s:%s:/usr/bin:/bin' % tuple(
-        group.script(name, 'exec %s "$@"\n' % program).parent
-        for name, program in (('tffmt-all', group.trees), ('tfrules', group.linter))
-    )
+    if not group.has('git', checks=78):
+        return
+    for shell in ('dash', 'bash', 'busybox'):
+        if group.has(shell, checks=19):
+            hook = ByHand(group, shell)
+            for part in (changed_by_hand, lost_by_hand, odd_losses, refs_by_hand):
+                part(group, hook, shell)
+    if group.has('pre-commit', checks=20):
+        framework = Framework(group)
+        for part in (formats_by_framework, lints_by_framework, lost_by_framework, refs_by_framework, example):
+            part(group, framework)
+    if group.has('shellcheck'):
+        script = ByHand(group, 'sh').words[2].encode()
+        group.check(
+            'shellcheck', group.call('shellcheck', '-s', 'dash', '-', cwd=group.top, stdin=script), (0, b'', b'')
+        )
 
-    def framework(here, identity, *words):
+
+class Framework:
+    """pre-commit, the programs, and a repository that has the hooks."""
+
+    def __init__(self, group):
+        self.group, self.source, self.home = group, Repository(group), str(group.fresh())
+        shutil.copy(str(TOP / '.pre-commit-hooks.yaml'), str(self.source.top))
+        self.source.git('add', '-A')
+        self.source.git('commit', '-q', '-m', 'x')
+        self.revision = self.source.git('rev-parse', 'HEAD')[1].decode().strip()
+        # this test's own Python may hide that of pre-commit
+        self.path = '%s:/usr/bin:/bin' % (group.top / 'trees')
+
+    def use(self, here, identity, args=''):
+        """Has a repository call a hook."""
         (here.top / '.pre-commit-config.yaml').write_text(
-            'repos:\n- repo: %s\n  rev: %s\n  hooks:\n  - id: %s\n' % (source.top, revision, identity)
+            'repos:\n- repo: %s\n  rev: %s\n  hooks:\n  - id: %s\n' % (self.source.top, self.revision, identity) + args
         )
-        return call(here, *words)
-
-    def call(here, *words):
         here.git('add', '.pre-commit-config.yaml')
-        status, out, _ = group.call(
-            'pre-commit', *words, cwd=here.top, PATH=path, TFRULES='tfrules', PRE_COMMIT_HOME=home
-        )
+
+    def __call__(self, here, *words):
+        status, out, _ = self.group.call('pre-commit', *words, cwd=here.top, PATH=self.path, PRE_COMMIT_HOME=self.home)
         return status, out.decode('utf-8', 'replace')
 
+    def lint(self, here, *words):
+        """The status, and the places of issues."""
+        status, out = self(here, 'run', *words)
+        return status, re.findall(r'^(.*:\d+:\d+): \w+ - ', out, re.M)
+
+
+def formats_by_framework(group, framework):
     here = Repository(group)
     here.stage({'good.tf': GOOD, 'a b.tf': OTHER, '-x.tfvars': OTHER, 'e.hcl': OTHER})
-    status, out = framework(here, 'tffmt-check', 'run', '--all-files')
+    framework.use(here, 'tffmt-check')
+    status, out = framework(here, 'run', '--all-files')
     group.check(
         'tffmt-check refuses',
         (status, [line for line in out.splitlines() if ': not formatted' in line]),
         (1, ['-x.tfvars: not formatted', 'a b.tf: not formatted']),
     )
-    status, out = framework(here, 'tffmt', 'run', '--all-files')
+    framework.use(here, 'tffmt')
+    status, out = framework(here, 'run', '--all-files')
     group.check('tffmt formats, and fails once', (status, 'files were modified by this hook' in out), (1, True))
     group.check(
         'in place',
@@ -565,32 +599,173 @@ def run_framework(group):
     )
     here.git('add', '-A')
     for identity in ('tffmt', 'tffmt-check'):
-        group.check(identity + ' passes', framework(here, identity, 'run', '--all-files')[0], 0)
-    group.check('as the hook of a commit', framework(here, 'tffmt-check', 'install')[0], 0)
+        framework.use(here, identity)
+        group.check(identity + ' passes', framework(here, 'run', '--all-files')[0], 0)
+    group.check('as the hook of a commit', framework(here, 'install')[0], 0)
     here.stage({'bad.tf': BAD})
-    status, _, err = here.git('commit', '-q', '-m', 'x', PATH=path, PRE_COMMIT_HOME=home)
+    status, _, err = here.git('commit', '-q', '-m', 'x', PATH=framework.path, PRE_COMMIT_HOME=framework.home)
     group.holds('a refused file refuses the commit', status == 1 and b'bad.tf:1:3: unexpected token' in err, err)
-    # a module whose files use one another, of which one was changed
+
+
+def with_modules(group, framework, args=''):
+    """A repository with the linter's hook: a module whose files use one another, one with an issue, and one to be lost."""
     here = Repository(group)
-    here.stage({'m/a b.tf': b'variable "n" { type = string }\n', 'm/-u.tf': b'x = var.n\n', 'o/a.tf': b''})
-    framework(here, 'tfrules', 'run', '--all-files')
+    here.stage({'m/a b.tf': DECLARED, 'm/-u.tf': USED, 'm/x.tf': GOOD, 'o/a.tf': DECLARED, 'lost/a.tf': GOOD})
+    framework.use(here, 'tfrules', args)
     here.git('commit', '-q', '-m', 'x', '--no-verify')
-    here.stage({'m/a b.tf': b'variable "n" { type = number }\n'})
-    group.check('tfrules lints the whole module', framework(here, 'tfrules', 'run')[0], 0)
-    here.stage({'m/-u.tf': b'x = 1\n'})
-    status, out = framework(here, 'tfrules', 'run')
-    group.check(
-        'and sees what a changed file uses no more',
-        (status, [line for line in out.splitlines() if 'm/' in line]),
-        (1, ['m/a b.tf:1:1: Warning - variable "n" is declared but not used (terraform_unused_declarations)']),
-    )
-    # the example for installed programs
+    return here
+
+
+def lints_by_framework(group, framework):
+    """Each module that has a changed file is linted as a whole, and all are with --all-files."""
+    here = with_modules(group, framework)
+    group.check('all files', framework.lint(here, '--all-files'), (1, ['o/a.tf:1:1']))
+    here.stage({'m/a b.tf': DECLARED + b'# more\n'})
+    group.check('tfrules lints the whole module', framework.lint(here), (0, []))
+    here.stage({'m/-u.tf': GOOD})
+    group.check('and sees what a changed file uses no more', framework.lint(here), (1, ['m/a b.tf:1:1']))
+    here = with_modules(group, framework, '    args: [--rules, terraform_documented_variables]\n')
+    here.stage({'m/x.tf': b'variable "Name" {}\noutput "v" {\n  value = var.Name\n}\n'})
+    group.check('by the options of `args`', framework.lint(here), (1, ['m/a b.tf:1:1', 'm/x.tf:1:1']))
+
+
+def lost_by_framework(group, framework):
+    """A commit that only deletes files lints the modules that lost one, and one without such files none."""
+    for args, others in (('', []), ('    args: [--rules, terraform_documented_variables, --]\n', ['m/a b.tf:1:1'])):
+        here = with_modules(group, framework, args)
+        here.git('rm', '-q', 'm/x.tf', 'lost/a.tf')
+        group.check('what nothing uses is lost, and a module%s' % args, framework.lint(here), (len(others), others))
+        here.git('rm', '-q', 'm/-u.tf')
+        group.check('what is used no more%s' % args, framework.lint(here), (1, ['m/a b.tf:1:1']))
+    here = with_modules(group, framework)
+    here.stage({'text.txt': b''})
+    status, out = framework(here, 'run')
+    group.check('no such file', (status, re.findall('Passed|Failed|Skipped', out)), (0, ['Passed']))
+
+
+def refs_by_framework(group, framework):
+    """What a commit lost that isn't staged any more, as in a pipeline."""
+    here = with_modules(group, framework)
+    here.git('rm', '-q', 'm/-u.tf', 'lost/a.tf')
+    here.git('commit', '-q', '-m', 'x', '--no-verify')
+    refs = ('--from-ref', 'HEAD~', '--to-ref', 'HEAD')
+    group.check('lost between two commits', framework.lint(here, *refs), (1, ['m/a b.tf:1:1']))
+    group.check('nothing is staged', framework.lint(here), (0, []))
+
+
+def example(group, framework):
+    """The example for installed programs."""
     here = Repository(group)
     here.stage({'a.tf': OTHER, 'b.txt': OTHER})
     shutil.copy(str(group.contrib / 'pre-commit-config.yaml'), str(here.top / '.pre-commit-config.yaml'))
-    path = '%s:%s' % (group.contrib, path)
-    given = [call(here, 'run', '--all-files')[0] for _ in range(2)]
+    here.git('add', '-A')
+    given = [framework(here, 'run', '--all-files')[0] for _ in range(2)]
     group.check('the example formats, and passes then', (given, (here.top / 'a.tf').read_bytes()), ([1, 0], GOOD))
     here.stage({'v.tf': b'variable "n" {}\n'})
-    status, out = call(here, 'run', '--all-files')
-    group.holds('the example lints', status == 1 and 'v.tf:1:1: Warning - variable "n" has no type' in out, out)
+    group.check('the example lints', framework.lint(here, '--all-files'), (1, ['v.tf:1:1', 'v.tf:1:1']))
+
+
+class ByHand:
+    """The linter's hook of the example as pre-commit calls it, where `sh` is a shell and nothing but it, git and the
+    program is there."""
+
+    def __init__(self, group, shell):
+        text = (group.contrib / 'pre-commit-config.yaml').read_text().split('- id: tfrules\n')[1]
+        entry = re.search(r'^( +)entry: \|\n((?:\1 .*\n)+)', text, re.M).group(2)
+        self.words, self.files = shlex.split(textwrap.dedent(entry)), re.search(r'^ +files: (.*)', text, re.M).group(1)
+        self.is_always_run = re.search(r'^ +always_run: true$', text, re.M)
+        self.group, self.path = group, group.fresh()
+        for name, program in (('sh', shutil.which(shell)), ('git', shutil.which('git')), ('tfrules-all', group.linted)):
+            (self.path / name).symlink_to(program)
+
+    def __call__(self, here, *args, named=None, **setting):
+        """The hook on what is staged, or on the files that are named."""
+        if named is None:
+            staged = ('diff', '--staged', '--name-only', '-z', '--diff-filter=ACMRTUXB')
+            named = here.git(*staged)[1].decode().split('\0')[:-1]
+        named = [name for name in named if re.search(self.files, name)]
+        if not named and not self.is_always_run:
+            return 'skipped', b'', b''
+        setting.setdefault('PATH', str(self.path))
+        return self.group.call(*self.words, *args, *named, cwd=here.top, **setting)
+
+
+def committed(group, files):
+    here = Repository(group)
+    here.stage(files)
+    here.git('commit', '-q', '-m', 'x')
+    return here
+
+
+MODULES = {'m/a.tf': DECLARED, 'm/u.tf': USED, 'm/x.tf': GOOD, 'o/a.tf': DECLARED, 'lost/a.tf': GOOD}
+
+
+def summary(issues, of):
+    return lines('%s in %s' % (issues, of))
+
+
+def changed_by_hand(group, hook, shell):
+    here = committed(group, MODULES)
+    here.stage({'m/x.tf': GOOD + b'# more\n', 'text.txt': b''})
+    group.check('a module that changed, ' + shell, hook(here, '--'), (0, b'', summary('no issues', '1 module')))
+    here.stage({'m/u.tf': GOOD, '-n/é ü.tofu': DECLARED})
+    told = unused('-n/é ü.tofu', 'm/a.tf'), summary('2 issues', '2 of 2 modules')
+    group.check('and one that has an issue, ' + shell, hook(here, '--'), (2, *told))
+    every = sorted([*MODULES, '-n/é ü.tofu'])
+    told = unused('-n/é ü.tofu', 'm/a.tf', 'o/a.tf'), summary('3 issues', '3 of 4 modules')
+    group.check('all files, ' + shell, hook(here, '--', named=every), (2, *told))
+    here.git('commit', '-q', '-m', 'x')
+    here.stage({'other.txt': b''})
+    none = group.script('tfrules-all', 'echo called\nexit 9\n').parent
+    group.check('no such file, ' + shell, hook(here, '--', PATH='%s:%s' % (none, hook.path)), (0, b'', b''))
+    group.check('and no args, ' + shell, hook(here, PATH='%s:%s' % (none, hook.path)), (0, b'', b''))
+    here.stage({'m/x.tf': GOOD})
+    group.check('the program is called, ' + shell, hook(here, PATH='%s:%s' % (none, hook.path))[0], 9)
+
+
+def lost_by_hand(group, hook, shell):
+    here = committed(group, dict(MODULES, **{'m/in/a.tf': DECLARED, 'n/u.tf': USED, 'n/v.tf': DECLARED}))
+    here.git('rm', '-q', 'lost/a.tf')
+    group.check('a module that is gone, ' + shell, hook(here, '--'), (0, b'', b''))
+    here.git('rm', '-q', 'm/u.tf')
+    told = unused('m/a.tf'), summary('1 issue', '1 of 1 module')
+    group.check('a file that was deleted, ' + shell, hook(here, '--'), (2, *told))
+    group.check('with `--force`, ' + shell, hook(here, '--force', '--'), (0, *told))
+    words = ['--rules', 'terraform_typed_variables']
+    group.check('with a rule, ' + shell, hook(here, *words), (0, b'', summary('no issues', '1 module')))
+    here.git('reset', '-q', '--hard')
+    here.git('mv', 'n/u.tf', 'o/moved.tf')
+    told = unused('n/v.tf'), summary('1 issue', '1 of 2 modules')
+    group.check('a file that was moved, ' + shell, hook(here, '--'), (2, *told))
+    here.git('reset', '-q', '--hard')
+    put(here.top, {'lost/.terraform/x': b''})
+    here.git('rm', '-q', 'lost/a.tf')
+    group.check('a folder with other files, ' + shell, hook(here, '--'), (0, b'', lines('no modules found')))
+
+
+def odd_losses(group, hook, shell):
+    """Names that git quotes, and others."""
+    files = {'a b/é $(x)`*.tf': USED, 'a b/n.tf': DECLARED, '-d/-u.tf': USED, '-d/-v.tf': DECLARED, 't.tf': USED}
+    here = committed(group, dict(files, **{'o/a.tf': DECLARED, 'n.tf': DECLARED}))
+    here.git('rm', '-q', '--', 'a b/é $(x)`*.tf', '-d/-u.tf', 't.tf')
+    told = unused('n.tf', '-d/-v.tf', 'a b/n.tf'), summary('3 issues', '3 of 3 modules')
+    group.check('blanks, dashes and dollars, ' + shell, hook(here, '--'), (2, *told))
+    for name in ('q"u', 'new\nline', 'back\\slash'):
+        here = committed(group, {name + '/a.tf': DECLARED, name + '/u.tf': USED, 'o/a.tf': DECLARED})
+        here.git('rm', '-q', name + '/u.tf')
+        names = sorted([name + '/a.tf', 'o/a.tf'])
+        told = unused(*map(quoted, names)), summary('2 issues', '2 of 2 modules')
+        group.check('a name that git quotes: all, %r, %s' % (name, shell), hook(here, '--'), (2, *told))
+
+
+def refs_by_hand(group, hook, shell):
+    here = committed(group, MODULES)
+    here.git('rm', '-q', 'm/u.tf')
+    here.git('commit', '-q', '-m', 'x')
+    refs = {'PRE_COMMIT_FROM_REF': 'HEAD~', 'PRE_COMMIT_TO_REF': 'HEAD'}
+    told = unused('m/a.tf'), summary('1 issue', '1 of 1 module')
+    group.check('lost between two commits, ' + shell, hook(here, '--', named=[], **refs), (2, *told))
+    group.check('nothing is staged, ' + shell, hook(here, '--', named=[]), (0, b'', b''))
+    refs['PRE_COMMIT_FROM_REF'] = 'no-such-ref'
+    status, out, _ = hook(here, '--', named=[], **refs)
+    group.check('where git fails, all, ' + shell, (status, out), (2, unused('m/a.tf', 'o/a.tf')))

@@ -7,6 +7,7 @@ import pathlib
 import re
 import shutil
 import subprocess
+import textwrap
 
 from editors import on_terminal
 from form_readers import REFUSED, read
@@ -267,6 +268,7 @@ def recipes(group):
         for name in ('.pre-commit-hooks.yaml', 'contrib/pre-commit-config.yaml', 'contrib/pre-commit-wheel.yaml')
     ]
     group.check('the kinds of files for pre-commit', kinds, [suffixes] * 3)
+    same_hooks(group)
     treefmt = set(re.findall(r'"\*\.([a-z.]+)"', (contrib / 'treefmt.toml').read_text()))
     group.check('the kinds of files', (gitlab, treefmt), ([suffixes, {'tf', 'tofu'}, {'tf', 'tofu'}], suffixes))
     python = next(
@@ -292,6 +294,19 @@ def recipes(group):
                 ),
                 (0, b'', b''),
             )
+
+
+def same_hooks(group):
+    """The linter's hook for pre-commit stands in three files, which differ in how it is installed alone."""
+    hooks = []
+    for file in (
+        TOP / '.pre-commit-hooks.yaml',
+        group.contrib / 'pre-commit-config.yaml',
+        group.contrib / 'pre-commit-wheel.yaml',
+    ):
+        hook = textwrap.dedent(file.read_text().split('- id: tfrules\n')[1])
+        hooks.append(re.sub(r'^(?:description|language|additional_dependencies): .*\n', '', hook, flags=re.M))
+    group.check('the hooks of the linter', hooks, hooks[:1] * 3)
 
 
 def sharded(group, path, suffixes):
