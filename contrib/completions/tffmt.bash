@@ -1,5 +1,5 @@
-# Completion of tffmt, tfrules, tffmt-all, tfrules-all, tffmt-hook, tfrules-modules and tfrules-report for bash. `make
-# install` puts it where bash-completion finds it; without that, source it in ~/.bashrc.
+# Completion of tffmt, tfrules, tffmt-all, tfrules-all and tffmt-hook for bash. `make install` puts it where bash-completion
+# finds it; without that, source it in ~/.bashrc.
 
 _tffmt() {
   local word=${COMP_WORDS[COMP_CWORD]} before=${COMP_WORDS[COMP_CWORD - 1]} options='' values='' files='' first='' i found
@@ -20,19 +20,14 @@ _tffmt() {
     tfrules) options='--rules --naming --minimum-failure-severity --force --help' files=linted ;;
     tffmt-all) options='--check --diff --list --in-place --sync --quiet --exclude --any-name --jobs --shard --null --help --version' files=formatted ;;
     tfrules-all)
-      options='--rules --naming --minimum-failure-severity --force --no-config --format --quiet --shard --jobs --null --list-rules --explain --help --version'
+      options='--rules --naming --minimum-failure-severity --force --check-comments --no-config --format --quiet --shard --jobs --null --list-rules --explain --help --version'
       files=linted ;;
     tffmt-hook) options='--install --uninstall --help --version' ;;
-    tfrules-modules)
-      options='--rules --naming --minimum-failure-severity --force --check-comments --no-config --shard --jobs --null --help --version'
-      files=linted ;;
-    tfrules-report) options='--format --help --version' ;;
   esac
   for ((i = 1; i < COMP_CWORD; i++)); do
     [[ ${COMP_WORDS[i]} != -- ]] || options=
   done
   case ${1##*/}:$before in
-    tfrules-report:--format) values='sarif checkstyle junit gitlab json github' ;;
     tfrules-all:--format) values='text json sarif checkstyle junit gitlab github' ;;
     tfrules*:--rules)
       values="default all $rules"
@@ -65,4 +60,4 @@ _tffmt() {
   fi
 }
 
-complete -F _tffmt tffmt tfrules tffmt-all tfrules-all tffmt-hook tfrules-modules tfrules-report
+complete -F _tffmt tffmt tfrules tffmt-all tfrules-all tffmt-hook

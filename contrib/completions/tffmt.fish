@@ -1,4 +1,4 @@
-# Completion of tffmt, tfrules, tffmt-all, tfrules-all, tffmt-hook, tfrules-modules and tfrules-report for fish.
+# Completion of tffmt, tfrules, tffmt-all, tfrules-all and tffmt-hook for fish.
 
 function __tffmt_rules
     set -l rules default all terraform_comment_syntax terraform_deprecated_index terraform_deprecated_interpolation \
@@ -19,7 +19,7 @@ end
 complete -c tffmt -f -l check -d 'Say by the status whether standard input is formatted'
 complete -c tffmt -f -s h -l help -d 'Print the usage line'
 
-for command in tfrules tfrules-all tfrules-modules
+for command in tfrules tfrules-all
     complete -c $command -f -a "(__tffmt_files 'tf|tofu')"
     complete -c $command -x -l rules -a '(__tffmt_rules)' -d 'The rules that are looked at'
     complete -c $command -x -l naming -a 'snake_case mixed_snake_case' -d 'How names are to be written'
@@ -28,6 +28,7 @@ for command in tfrules tfrules-all tfrules-modules
 end
 complete -c tfrules -f -s h -l help -d 'Print the usage line'
 
+complete -c tfrules-all -l check-comments -d 'Report names in silencing comments that no rule has'
 complete -c tfrules-all -l no-config -d 'Read no .tfrules'
 complete -c tfrules-all -x -l format -a 'text json sarif checkstyle junit gitlab github' -d 'How to write what is found'
 complete -c tfrules-all -l quiet -d 'Say nothing of the run as a whole'
@@ -38,18 +39,6 @@ complete -c tfrules-all -x -l explain -a '(__tffmt_rules | string match "terrafo
 complete -c tfrules-all -f -s 0 -l null -d 'Read names from standard input'
 complete -c tfrules-all -f -s h -l help -d 'Print help'
 complete -c tfrules-all -f -l version -d 'Print the version'
-
-complete -c tfrules-modules -l check-comments -d 'Tell names in silencing comments that no rule has'
-complete -c tfrules-modules -l no-config -d 'Read no .tfrules'
-complete -c tfrules-modules -x -l shard -d 'Take a part of the modules, K/N'
-complete -c tfrules-modules -x -s j -l jobs -d 'Modules to lint at a time'
-complete -c tfrules-modules -f -s 0 -l null -d 'Read names from standard input'
-complete -c tfrules-modules -f -s h -l help -d 'Print help'
-complete -c tfrules-modules -f -l version -d 'Print the version'
-
-complete -c tfrules-report -x -l format -a 'sarif checkstyle junit gitlab json github' -d 'What to write'
-complete -c tfrules-report -f -s h -l help -d 'Print help'
-complete -c tfrules-report -f -l version -d 'Print the version'
 
 complete -c tffmt-all -f -a "(__tffmt_files 'tf|tfvars|tofu|tftest\.hcl|tfmock\.hcl|tfquery\.hcl|tofutest\.hcl')"
 complete -c tffmt-all -l check -d 'Report each file that is not formatted'

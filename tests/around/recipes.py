@@ -19,8 +19,16 @@ SCRIPTS = PAGES[4:6]
 
 # --- completions -----------------------------------------------------------------------------------------------
 
+RULES = sorted(re.findall(rb'^## (terraform_\w+)$', (TOP / 'docs' / 'RULES.md').read_bytes(), re.M))
 FORMS = [b'checkstyle', b'github', b'gitlab', b'json', b'junit', b'sarif', b'text']
 DEPRECATED = [b'deprecated_index', b'deprecated_interpolation', b'documented_outputs', b'documented_variables']
+
+
+def options_of_linter():
+    """The long options of tfrules-all that its man page has."""
+    page = (TOP / 'man' / 'tfrules-all.1').read_bytes().partition(b'.SH OPTIONS\n')[2].partition(b'.SH ')[0]
+    heads = re.findall(rb'^\.TP\n(.*)', page.replace(b'\\-', b'-'), re.M)
+    return {option for head in heads for option in re.findall(rb'--[a-z-]+', head)}
 
 
 def completions(group):
@@ -28,7 +36,8 @@ def completions(group):
     here = group.fresh()
     put(here, {'good.tf': GOOD, 'text.txt': GOOD, 'in/x.tf': GOOD, 't.tftest.hcl': GOOD, 'v.tfvars': GOOD})
     path = group.before_path(group.script('tffmt', 'exit 0\n').parent, group.contrib)
-    if group.has('bash', checks=24):
+    every = sorted({*options_of_linter(), b'--check-comments'})
+    if group.has('bash', checks=26):
 
         def bash(line):
             words = line.split(' ')
@@ -64,14 +73,15 @@ def completions(group):
         )
         group.check('bash: no option after --', bash('tffmt-all -- --'), [])
         group.check('bash: what is excluded', bash('tffmt-all --exclude i'), [b'in'])
-        for name in ('tfrules', 'tfrules-modules'):
+        for name in ('tfrules', 'tfrules-all'):
             group.check(
                 'bash: ' + name,
-                (bash(name + ' --f'), bash(name + ' --rules a'), bash(name + ' g')),
+                (bash(name + ' --forc'), bash(name + ' --rules a'), bash(name + ' g')),
                 ([b'--force'], [b'all'], [b'good.tf']),
             )
-        group.check('bash: its own option', (bash('tfrules-modules --nu'), bash('tfrules --nu')), ([b'--null'], []))
-        for name in ('tfrules', 'tfrules-modules'):
+        group.check('bash: its own option', (bash('tfrules-all --nu'), bash('tfrules --nu')), ([b'--null'], []))
+        group.check('bash: each option', bash('tfrules-all --'), every)
+        for name in ('tfrules', 'tfrules-all'):
             group.check('bash: files of ' + name, bash(name + ' '), [b'good.tf', b'in'])
             group.check(
                 'bash: rules of ' + name,
@@ -90,8 +100,8 @@ def completions(group):
                 bash(name + ' --rules default,terraform_n'),
                 [b'default,terraform_naming_convention'],
             )
-        group.check('bash: formats', bash('tfrules-report --format s'), [b'sarif'])
         group.check('bash: forms', bash('tfrules-all --format '), FORMS)
+        group.check('bash: a rule to explain', bash('tfrules-all --explain '), RULES)
         group.check('bash: a form after =', bash('tfrules-all --format=ju'), [b'--format=junit'])
         said = on_terminal(
             group,
@@ -119,22 +129,24 @@ def completions(group):
             ],
         )
         group.holds('bash: on a terminal', b'tffmt-hook --install' in said, said)
-    if group.has('zsh', checks=15):
+    if group.has('zsh', checks=17):
         setup = b'fpath=("%s" $fpath); autoload -U compinit; compinit -u -D; print rea""dy\n' % os.fsencode(str(folder))
         for typed, wanted in (
             (b'tffmt-all --ch\t', b'tffmt-all --check'),
             (b'tffmt-hook --in\t', b'tffmt-hook --install'),
             (b'tffmt --c\t', b'tffmt --check'),
             (b'tffmt-all goo\t', b'tffmt-all good.tf'),
-            (b'tfrules-modules --nu\t', b'tfrules-modules --null'),
+            (b'tfrules-all --nu\t', b'tfrules-all --null'),
+            (b'tfrules-all --ch\t', b'tfrules-all --check-comments'),
+            (b'tfrules-all --li\t', b'tfrules-all --list-rules'),
+            (b'tfrules-all --explain terraform_ty\t', b'tfrules-all --explain terraform_typed_variables'),
             (b'tfrules --rules terraform_ty\t', b'tfrules --rules terraform_typed_variables'),
             (b'tfrules --rules=terraform_ty\t', b'tfrules --rules=terraform_typed_variables'),
             (b'tfrules --rules=default,terraform_n\t', b'tfrules --rules=default,terraform_naming_convention'),
-            (b'tfrules-modules --rules ter\t', b'tfrules-modules --rules terraform_'),
-            (b'tfrules-modules --naming=mi\t', b'tfrules-modules --naming=mixed_snake_case'),
+            (b'tfrules-all --rules ter\t', b'tfrules-all --rules terraform_'),
+            (b'tfrules-all --naming=mi\t', b'tfrules-all --naming=mixed_snake_case'),
             (b'tfrules --naming=\t', b'snake_case'),
             (b'tfrules t\t', b'tfrules t'),
-            (b'tfrules-report --format sa\t', b'tfrules-report --format sarif'),
             (b'tfrules-all --format te\t', b'tfrules-all --format text'),
             (b'tfrules-all --format=ju\t', b'tfrules-all --format=junit'),
         ):
@@ -152,7 +164,7 @@ def completions(group):
                 wanted in shown and (typed != b'tfrules t\t' or b'tftest' not in shown),
                 said,
             )
-    if group.has('fish', checks=15):
+    if group.has('fish', checks=17):
 
         def fish(line):
             done = group.call(
@@ -186,7 +198,7 @@ def completions(group):
             (fish('tffmt-all '), fish('tfrules ')),
             ([b'good.tf', b'in/', b't.tftest.hcl', b'v.tfvars'], [b'good.tf', b'in/']),
         )
-        for name in ('tfrules', 'tfrules-modules'):
+        for name in ('tfrules', 'tfrules-all'):
             for words in ('--rules terraform_d', '--rules=terraform_d'):
                 group.check(
                     'fish: %s %s' % (name, words),
@@ -201,12 +213,12 @@ def completions(group):
         group.check(
             'fish: several rules', fish('tfrules --rules default,terraform_n'), [b'default,terraform_naming_convention']
         )
-        group.check('fish: formats', fish('tfrules-report --format s'), [b'sarif'])
         group.check('fish: forms', fish('tfrules-all --format '), FORMS)
+        group.check('fish: a rule to explain', fish('tfrules-all --explain '), RULES)
         group.check('fish: a form after =', fish('tfrules-all --format=ju'), [b'--format=junit'])
-        group.check(
-            'fish: the linter', (fish('tfrules-modules --nu'), fish('tfrules --rules a')), ([b'--null'], [b'all'])
-        )
+        group.check('fish: its own option', (fish('tfrules-all --nu'), fish('tfrules --nu')), ([b'--null'], []))
+        group.check('fish: each option', fish('tfrules-all --'), every)
+        group.check('fish: all rules', fish('tfrules --rules a'), [b'all'])
 
 
 # --- recipes ---------------------------------------------------------------------------------------------------
@@ -540,8 +552,8 @@ def told_shells(group):
     if group.has('bash'):
         group.check(
             'bash finds it',
-            group.call('bash', '-c', '. ~/.bashrc; complete -p tfrules-report', cwd=home, **setting)[1],
-            b'complete -F _tffmt tfrules-report\n',
+            group.call('bash', '-c', '. ~/.bashrc; complete -p tfrules-all', cwd=home, **setting)[1],
+            b'complete -F _tffmt tfrules-all\n',
         )
     if group.has('zsh'):
         group.check(
@@ -549,15 +561,15 @@ def told_shells(group):
             group.call(
                 'zsh',
                 '-c',
-                '. ~/.zshrc; autoload -U compinit; compinit -u -D; print $_comps[tfrules-report]',
+                '. ~/.zshrc; autoload -U compinit; compinit -u -D; print $_comps[tfrules-all]',
                 cwd=home,
                 **setting,
             )[1],
             b'_tffmt\n',
         )
     if group.has('fish'):
-        said = group.call('fish', '-c', 'complete -C "tfrules-report --fo"', cwd=home, **setting)
-        group.holds('fish finds it', said[1].startswith(b'--format'), said)
+        said = group.call('fish', '-c', 'complete -C "tfrules-all --expl"', cwd=home, **setting)
+        group.holds('fish finds it', said[1].startswith(b'--explain'), said)
     usual = {
         'bash': '/usr/share/bash-completion/completions',
         'zsh': '/usr/local/share/zsh/site-functions',
