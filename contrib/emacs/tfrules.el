@@ -44,6 +44,14 @@
                 found))))
     (nreverse found)))
 
+(defun tfrules--tell (file)
+  "Show what is refused elsewhere than in FILE, as in a .tfrules.
+The current buffer is a run's output."
+  (goto-char (point-min))
+  (while (re-search-forward "^tfrules-all: error: \\(.+\\)$" nil t)
+    (unless (string-prefix-p (concat file ":") (match-string 1))
+      (message "%s" (match-string 0)))))
+
 (defun tfrules--flymake (report &rest _)
   "Lint the module of the file at hand, and call REPORT with what is found in it."
   (when (process-live-p tfrules--process)
@@ -65,7 +73,9 @@
                    (when (and (buffer-live-p source)
                               (eq process (buffer-local-value 'tfrules--process source)))
                      (with-current-buffer (process-buffer process)
-                       (funcall report (tfrules--read source file))))
+                       (funcall report (tfrules--read source file))
+                       (when (eql 1 (process-exit-status process))
+                         (tfrules--tell file))))
                  (kill-buffer (process-buffer process)))))))))
 
 ;;;###autoload

@@ -416,9 +416,24 @@ vim.cmd("qall!")
 """
 
 
+# A module that isn't linted, because of its options.
+ODD = dict(MODULE, **{'a b/.tfrules': b'--bogus\n'})
+REFUSAL = 'tfrules-all: error: %s.tfrules:1: no option of a project'
+NOTIFIED = """
+vim.opt.runtimepath:prepend("%s/vim")
+require("tfrules").enable()
+local said = {}
+vim.notify = function(text) table.insert(said, text) end
+vim.cmd([[edit a\\ b/m.tf]])
+vim.wait(20000, function() return #said > 0 end, 20)
+vim.fn.writefile(said, "said")
+vim.cmd("qall!")
+"""
+
+
 def run_diagnostics(group):
     """Neovim's diagnostics."""
-    if not group.has('nvim', checks=3):
+    if not group.has('nvim', checks=4):
         return
     command = 'vim.g.tfrules_command = { "%s", "--rules", "%s" }'
     words = ['nvim', '-u', 'NONE', '-i', 'NONE', '--headless', '-c', 'luafile test.lua', '-c', 'qall!']
@@ -437,6 +452,12 @@ def run_diagnostics(group):
         done = group.call(*words, cwd=here, PATH=group.before_path())
         told = [json.loads((here / kept).read_text()) if (here / kept).exists() else done for kept in ('list', 'after')]
         group.check(name + ', and nothing once it is mended', told, [wanted, []])
+    here = group.fresh()
+    put(here, ODD)
+    (here / 'test.lua').write_text(NOTIFIED % group.contrib)
+    done = group.call(*words, cwd=here, PATH=group.before_path())
+    told = (here / 'said').read_text().splitlines() if (here / 'said').exists() else done
+    group.check('a refusal elsewhere is a message', told, [REFUSAL % 'a b/'])
     here = group.fresh()
     put(here, OTHERS)
     (here / 'test.lua').write_text(DIAGNOSED % (command % ('no-such-program', ''), group.contrib, 0))
@@ -467,7 +488,7 @@ FLYMAKE = """
 
 def run_flymake(group):
     """Flymake in Emacs."""
-    if not group.has('emacs', checks=3):
+    if not group.has('emacs', checks=7):
         return
     for name, files, setting, wanted in (
         (
@@ -477,6 +498,7 @@ def run_flymake(group):
             ['1:1 :warning %s (%s)' % FOUND[0][4:], '2:1 :note %s (%s)' % FOUND[1][4:]],
         ),
         ('a refusal', OTHERS, '', ['1:1 :error unexpected token']),
+        ('nothing of a module that is refused', ODD, '', []),
     ):
         here = group.fresh()
         put(here, files)
@@ -487,6 +509,8 @@ def run_flymake(group):
             (sorted(out.decode().splitlines()), status),
             (sorted(wanted + ['mended']), 0),
         )
+        told = {line for line in err.decode().splitlines() if 'tfrules' in line}
+        group.check(name + ', and what is a message', told, {REFUSAL % ''} if files == ODD else set())
     here = group.fresh()
     warnings = group.call(
         'emacs',

@@ -38,9 +38,10 @@ local function read_line(line)
   end
 end
 
--- Shows the lines of a run in the buffers of the module, and wipes what was shown there before.
-local function show(folder, lines)
-  local found = {}
+-- Shows the lines of a run in the buffers of the module, and wipes what was shown there before. Why a module is refused is
+-- a message where no buffer has it, as of a .tfrules.
+local function show(folder, lines, is_refused)
+  local found, shown = {}, {}
   for _, line in ipairs(lines) do
     local file, diagnostic = read_line(line)
     if file then
@@ -52,6 +53,12 @@ local function show(folder, lines)
     local name = vim.api.nvim_buf_get_name(buffer)
     if vim.api.nvim_buf_is_loaded(buffer) and vim.fn.fnamemodify(name, ":h") == folder then
       vim.diagnostic.set(space, buffer, found[name] or {})
+      shown[name] = true
+    end
+  end
+  for _, line in ipairs(lines) do
+    if is_refused and line:match("^tfrules%-all: error: ") and not shown[read_line(line) or ""] then
+      vim.notify(line, vim.log.levels.WARN)
     end
   end
 end
@@ -73,8 +80,8 @@ local function lint(event)
     stderr_buffered = true,
     on_stdout = add,
     on_stderr = add,
-    on_exit = function()
-      show(vim.fn.fnamemodify(name, ":h"), lines)
+    on_exit = function(_, status)
+      show(vim.fn.fnamemodify(name, ":h"), lines, status == 1)
     end,
   })
 end
