@@ -11,7 +11,8 @@ DESTDIR =
 # A crate that is a program is installed under its name, with `-` for `_`, but for the benchmark's.
 PROGRAMS := $(subst _,-,$(filter-out workloads,$(patsubst crates/%/src/main.rt,%,$(wildcard crates/*/src/main.rt))))
 SCRIPTS := $(patsubst contrib/%,%,$(wildcard contrib/tffmt-* contrib/tfrules-*))
-COMMANDS = $(PROGRAMS) $(SCRIPTS)
+# The name of an earlier script, which stays for one release, has no man page and no completions.
+COMMANDS = $(PROGRAMS) $(filter-out tfrules-modules,$(SCRIPTS))
 EXAMPLES := pre-commit-config.yaml pre-commit-wheel.yaml treefmt.toml $(sort $(patsubst contrib/%,%,$(shell \
   find contrib/ci contrib/editors contrib/emacs contrib/vim -type f)))
 BUILT := $(addprefix bin/,$(PROGRAMS))
@@ -80,7 +81,7 @@ install: bin/programs
 	[ -n "$(DESTDIR)" ] || sh tools/where-shells-look "$(BASH)" "$(ZSH)" "$(FISH)"
 
 uninstall:
-	for name in $(COMMANDS); do \
+	for name in $(PROGRAMS) $(SCRIPTS); do \
 	  rm -f "$(BIN)/$$name" "$(MAN)/$$name.1" "$(BASH)/$$name" "$(FISH)/$$name.fish" || exit 1; done
 	rm -f "$(ZSH)/_tffmt"
 	rm -rf "$(DOC)"

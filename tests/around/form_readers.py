@@ -8,8 +8,6 @@ import re
 import urllib.parse
 import xml.etree.ElementTree
 
-from report import misses
-
 FORMS = ('json', 'sarif', 'checkstyle', 'junit', 'gitlab', 'github')
 COMMENT, REFUSED = 'silencing_comment', 'refused_file'
 DECLARATION = b'<?xml version="1.0" encoding="UTF-8"?>\n'
@@ -19,6 +17,50 @@ COMMAND = re.compile(
 ISSUE = re.compile(r'(.*):([1-9][0-9]*):([1-9][0-9]*): (Error|Warning|Notice) - (.*) \((terraform_[a-z_]+)\)')
 # `FILE:LINE:COLUMN`, `FILE:LINE` of a line of a .tfrules, or a name alone.
 REFUSAL = re.compile(r'tfrules-all: error: (.*?)(?::([1-9][0-9]*)(?::([1-9][0-9]*))?)?: (.*)')
+
+# What SARIF 2.1.0 requires of its objects, and the values that it allows, as far as they are written.
+REQUIRED = {
+    'sarifLog': ['version', 'runs'],
+    'run': ['tool'],
+    'tool': ['driver'],
+    'toolComponent': ['name'],
+    'reportingDescriptor': ['id'],
+    'result': ['message'],
+    'message': ['text'],
+    'multiformatMessageString': ['text'],
+    'invocation': ['executionSuccessful'],
+}
+MEMBERS = {
+    'sarifLog': {'$schema': str, 'version': '2.1.0', 'runs': ['run']},
+    'run': {'tool': 'tool', 'results': ['result'], 'invocations': ['invocation']},
+    'tool': {'driver': 'toolComponent'},
+    'toolComponent': {'name': str, 'version': str, 'rules': ['reportingDescriptor']},
+    'reportingDescriptor': {
+        'id': str,
+        'name': str,
+        'shortDescription': 'multiformatMessageString',
+        'fullDescription': 'multiformatMessageString',
+        'help': 'multiformatMessageString',
+        'helpUri': str,
+        'defaultConfiguration': 'reportingConfiguration',
+    },
+    'multiformatMessageString': {'text': str, 'markdown': str},
+    'reportingConfiguration': {'level': ('none', 'note', 'warning', 'error')},
+    'result': {
+        'ruleId': str,
+        'ruleIndex': int,
+        'level': ('none', 'note', 'warning', 'error'),
+        'message': 'message',
+        'locations': ['location'],
+        'partialFingerprints': dict,
+    },
+    'message': {'text': str},
+    'location': {'physicalLocation': 'physicalLocation'},
+    'physicalLocation': {'artifactLocation': 'artifactLocation', 'region': 'region'},
+    'artifactLocation': {'uri': str},
+    'region': {'startLine': int},
+    'invocation': {'executionSuccessful': bool, 'exitCode': int},
+}
 
 
 def wrong(text, *given):
@@ -101,6 +143,30 @@ def entry_in(entry):
     if not re.fullmatch('[0-9a-f]{64}:[1-9][0-9]*', mark):
         wrong('the fingerprint %r', mark)
     return path, whole(line), None, in_words(severity, dict(info='info', minor='warning', major='error')), text, rule
+
+
+def misses(kind, value):
+    """What of a SARIF object isn't as the schema has it."""
+    if not isinstance(value, dict):
+        return ['%s: %r' % (kind, value)]
+    found = ['%s lacks %s' % (kind, name) for name in REQUIRED.get(kind, []) if name not in value]
+    for name, given in value.items():
+        wanted = MEMBERS[kind].get(name)
+        if wanted is None:
+            found.append('%s has %s' % (kind, name))
+        elif isinstance(wanted, list):
+            found += [miss for each in given for miss in misses(wanted[0], each)]
+        elif isinstance(wanted, str) and wanted in MEMBERS:
+            found += misses(wanted, given)
+        elif not (
+            isinstance(given, wanted)
+            if isinstance(wanted, type)
+            else given in wanted
+            if isinstance(wanted, tuple)
+            else given == wanted
+        ):
+            found.append('%s: %s is %r' % (kind, name, given))
+    return found
 
 
 def from_sarif(out):

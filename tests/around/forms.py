@@ -12,13 +12,39 @@ import sarif_readers
 from form_readers import COMMENT, FORMS, REFUSED, apart, of_text, read, shown, suites_in
 from harness import BAD, NOBODY, TOP, lines, put, quoted, shard_of
 from linted import EACH
-from modules import ALL, DECLARED, USED, link
-from report import FOUND, NAMES, UNTYPED
+from modules import ALL, DECLARED, USED, link, tree
 
-CHECKS = 621
+CHECKS = 634
 MODULES = 2000
 PAGES = 'https://github.com/terraform-linters/tflint-ruleset-terraform/blob/main/docs/rules/'
 TYPED, UNUSED = 'terraform_typed_variables', 'terraform_unused_declarations'
+# Names that hold what else stands after a name, and what is escaped.
+NAMES = [
+    'a:1:1.tf',
+    'new\nline/x.tf',
+    "quo\"te'.tf",
+    'x:1:1: Warning - y (terraform_typed_variables).tf',
+    '<&>%,.tf',
+    '\u00e9 #?.tf',
+    'z:1:1: Warning - list (terraform_deprecated_index)\nz.tf',
+    '-d/-z.tf',
+    'back\\slash.tf',
+    'a\x01\x1f\x7fb.tf',
+    'tab\there\rcr.tf',
+    ']]>&amp;%0A%2C.tf',
+    'ends\ufffe\uffff.tf',
+    '\u2028\u0085.tf',
+    '\U0001f600.tf',
+    "it's.tf",
+]
+# A text, and what is found in it.
+UNTYPED = b'variable "n:1:1: (x) <&>" {}\n\noutput "o" { value = [var.n.0, "%"] }\n'
+FOUND = [
+    (1, 1, 'warning', 'variable "n:1:1: (x) <&>" has no type', TYPED),
+    (1, 1, 'warning', 'variable "n:1:1: (x) <&>" is declared but not used', UNUSED),
+    (3, 1, 'info', 'output "o" has no description', 'terraform_documented_outputs'),
+    (3, 28, 'warning', 'list items should be accessed using square brackets', 'terraform_deprecated_index'),
+]
 # SARIF for the readers of others, by what it is of.
 DOCUMENTS = {}
 
@@ -56,12 +82,6 @@ def run(group):
 
 def lint(group, *words, **more):
     return group.call(group.linted, '--quiet', *words, **more)
-
-
-def tree(group, files):
-    top = group.fresh()
-    put(top, files)
-    return top
 
 
 def issue(file, line, column, text, rule, severity='warning'):
@@ -134,24 +154,16 @@ def several(group):
     order = [names[0], names[1], names[3], names[2], names[4], 'z/m.tf']
     wanted = [it for name in sorted(order, key=lambda name: os.path.dirname(name) + '/') for it in untyped(name)]
     in_each_form(group, 'several modules', cwd=here, wanted=wanted, names=order, keep=True)
+    here = tree(group, {'m.tf': b'variable "n" {}\n' * 3000})
+    in_each_form(group, 'many issues of a module', cwd=here, count=6000)
 
 
 def odd_names(group):
     """Names that hold what else stands after a name, and what is escaped."""
-    every = [
-        *NAMES,
-        '-d/-z.tf',
-        'back\\slash.tf',
-        'a\x01\x1f\x7fb.tf',
-        'tab\there\rcr.tf',
-        ']]>&amp;%0A%2C.tf',
-        'ends\ufffe\uffff.tf',
-    ]
-    every += ['\u2028\u0085.tf', '\U0001f600.tf', "it's.tf"]
-    here = tree(group, {name: UNTYPED for name in every})
-    order = sorted(every, key=lambda name: (os.fsencode(os.path.dirname(name)), os.fsencode(name)))
+    here = tree(group, {name: UNTYPED for name in NAMES})
+    order = sorted(NAMES, key=lambda name: (os.fsencode(os.path.dirname(name)), os.fsencode(name)))
     wanted = [(name, *it) for name in order for it in FOUND if it[4] != 'terraform_documented_outputs']
-    in_each_form(group, 'odd names', cwd=here, wanted=wanted, names=every, keep=True)
+    in_each_form(group, 'odd names', cwd=here, wanted=wanted, names=NAMES, keep=True)
     run = json.loads(lint(group, '--format', 'sarif', cwd=here)[1].decode())['runs'][0]
     uris = [it['locations'][0]['physicalLocation']['artifactLocation']['uri'] for it in run['results']]
     based = [urllib.parse.unquote(urllib.parse.urlsplit(urllib.parse.urljoin('file:///r/', it)).path) for it in uris]

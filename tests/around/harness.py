@@ -10,17 +10,11 @@ import tempfile
 
 TOP = pathlib.Path(__file__).resolve().parent.parent.parent
 NOBODY = 65534
-SHELLS = ['sh', 'dash', 'bash', 'busybox']
 GOOD, OTHER, BAD = b'a = 1\n', b'a=1\n', b'a=\n'
 REFUSED = ':1:3: unexpected token'
 LIMIT = 60
 # What a git or a make around the tests says to those that they start, which isn't meant for these.
 FOREIGN = ('GIT_', 'MAKE', 'MFLAGS')
-
-
-def is_sh(shell):
-    """Whether a shell of another name is the one that `sh` is, so that it was run already."""
-    return shell != 'sh' and os.path.realpath(shutil.which(shell) or '') == os.path.realpath(shutil.which('sh'))
 
 
 def is_open(path):
@@ -52,7 +46,6 @@ class Group:
             (self.folder('trees') / name).symlink_to(program)
         self.setting.update(
             TFFMT=self.program,
-            TFRULES=self.linter,
             TFFMT_ALL=self.trees,
             HOME=str(self.folder('home')),
             TMPDIR=str(self.folder('tmp')),
@@ -192,28 +185,6 @@ class Group:
     def before_path(self, *folders):
         """The path with these folders first, and then one that has the programs of trees alone."""
         return ':'.join([str(f) for f in folders] + [str(self.top / 'trees'), self.setting['PATH']])
-
-
-class Script:
-    """A script under one shell, which is also the `sh` that it calls; under busybox its own tools, and those that are
-    named, are all that there is."""
-
-    def __init__(self, group, shell, name, besides=()):
-        self.group = group
-        folder = group.fresh()
-        (folder / 'sh').symlink_to(shutil.which(shell))
-        self.path = group.before_path(folder)
-        if shell == 'busybox':
-            for tool in set(group.call(shell, '--list', cwd='/')[1].decode().split()) - {'sh'}:
-                (folder / tool).symlink_to(shutil.which(shell))
-            for tool in filter(shutil.which, besides):
-                (folder / tool).symlink_to(shutil.which(tool))
-            self.path = str(folder)
-        self.words = ['sh', group.contrib / name]
-
-    def __call__(self, *words, cwd, **more):
-        more.setdefault('PATH', self.path)
-        return self.group.call(*(self.words + list(words)), cwd=cwd, **more)
 
 
 def put(folder, files):

@@ -44,9 +44,8 @@ def walk(group):
     path = group.before_path(
         group.contrib,
         group.script('tffmt', 'exec %s "$@"\n' % group.program).parent,
-        group.script('tfrules', 'exec %s "$@"\n' % group.linter).parent,
     )
-    for name in ('TFFMT', 'TFFMT_ALL', 'TFRULES'):
+    for name in ('TFFMT', 'TFFMT_ALL'):
         del group.setting[name]
     here = group.fresh()
     status, out, err = group.call('sh', '-c', script, cwd=here, PATH=path)

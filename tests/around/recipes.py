@@ -13,7 +13,7 @@ from editors import on_terminal
 from form_readers import REFUSED, read
 from harness import BAD, GOOD, OTHER, TOP, lines, put
 
-PAGES = ['tffmt', 'tfrules', 'tffmt-all', 'tfrules-all', 'tffmt-hook', 'tfrules-modules', 'tfrules-report']
+PAGES = ['tffmt', 'tfrules', 'tffmt-all', 'tfrules-all', 'tffmt-hook']
 SCRIPTS = PAGES[4:6]
 
 
@@ -503,9 +503,9 @@ def pages(group):
         )
         if group.has('mandoc'):
             group.check('mandoc -Tlint ' + name, group.call('mandoc', '-Tlint', page, cwd=group.top), (0, b'', b''))
-    for words in ([group.program], *([group.contrib / name] for name in PAGES[5:])):
-        told = group.call(*words, '--help', cwd=group.top)[1].decode().splitlines()
-        group.check('%s --help fits 80 columns' % words[0], [it for it in told if len(it) > 80], [])
+    for path in (group.program, group.trees, group.linted):
+        told = group.call(path, '--help', cwd=group.top)[1].decode().splitlines()
+        group.check('%s --help fits 80 columns' % path, [it for it in told if len(it) > 80], [])
     rules = re.findall(r'^\| \[`(terraform_\w+)`', (TOP / 'docs/RULES.md').read_text(), re.M)
     page = (TOP / 'man' / 'tfrules.1').read_text().partition('.SH RULES')[2].partition('.SH ')[0]
     group.check('tfrules(1) names the rules', sorted(re.findall(r'^\.B (terraform_\w+)$', page, re.M)), rules)
@@ -593,7 +593,7 @@ def installing(group):
     group.check('make install', group.call(*words, 'install', cwd=top), (0, b'', b''))
     usr = top / 'a folder' / 'usr'
     got = sorted(str(p.relative_to(usr)) for p in usr.rglob('*') if not p.is_dir())
-    wanted = ['bin/' + name for name in PAGES] + ['share/man/man1/%s.1' % name for name in PAGES]
+    wanted = ['bin/' + name for name in [*PAGES, 'tfrules-modules']] + ['share/man/man1/%s.1' % name for name in PAGES]
     wanted += ['share/bash-completion/completions/' + name for name in PAGES]
     wanted += ['share/fish/vendor_completions.d/%s.fish' % name for name in PAGES] + ['share/zsh/site-functions/_tffmt']
     documents = ['VERSION', 'README.md', 'CONTRIBUTING.md', 'CHANGELOG.md', 'bench/HISTORY.md']

@@ -221,7 +221,7 @@ def may_chroot():
 
 def releasing(group):
     """The tarball and the package are installed into an empty root, run there, and removed; nothing is left. The same in
-    a root with busybox alone, where the script that installs and the one that lints modules run too."""
+    a root with busybox alone, where the scripts that need no git run too."""
     if not may_chroot():
         group.skip('an empty root', 22, 'chroot is not allowed here')
         return
@@ -246,7 +246,7 @@ def unpacked(group, file):
 
 def told(prefix, path=False):
     """What install.sh says."""
-    names = 'tffmt tffmt-all tffmt-hook tfrules tfrules-all tfrules-modules tfrules-report'
+    names = 'tffmt tffmt-all tffmt-hook tfrules tfrules-all tfrules-modules'
     said = ['installed in %s/bin: %s' % (prefix, names)]
     said += ['with man pages, completions, and documents in %s/share/doc/tffmt' % prefix]
     if not path:
@@ -381,7 +381,7 @@ def beside_busybox(group, file):
     group.check('run beside busybox', got, wanted)
     (root / 'm').mkdir()
     (root / 'm/a.tf').write_bytes(b'variable "n" {}\n')
-    said = inside('tfrules-modules', '/m', TFRULES='tfrules')
+    said = inside('tfrules-modules', '--quiet', '/m')
     group.check('modules are linted there', (said[0], said[1].count(b'/m/a.tf:1:1: Warning'), said[2]), (2, 2, b''))
     group.check('install.sh --remove', inside('sh', '/usr/local/share/doc/tffmt/install.sh', '--remove')[0], 0)
 
@@ -440,7 +440,7 @@ def wheel(group):
     said = [
         group.call('env/bin/tffmt', cwd=here, stdin=OTHER)[:2],
         group.call('env/bin/tffmt-all', cwd=here)[:2],
-        group.call('tfrules-modules', cwd=here, PATH=path, TFRULES='tfrules')[0],
+        group.call('tfrules-modules', cwd=here, PATH=path)[0],
         (here / 'env/share/man/man1/tffmt.1').exists(),
     ]
     group.check('what it installed runs', said, [(0, GOOD), (0, b'a.tf\n'), 0, True])
@@ -464,7 +464,7 @@ def by_wheel(group, made):
     for words in (['init', '-q'], ['add', '-A']):
         group.call('git', *words, cwd=here)
     # The programs are those of the wheel, and this test's own Python may hide that of pre-commit.
-    how = {'PATH': '/usr/bin:/bin', 'PRE_COMMIT_HOME': str(home), 'TFRULES': 'tfrules'}
+    how = {'PATH': '/usr/bin:/bin', 'PRE_COMMIT_HOME': str(home)}
     how.update(PIP_NO_INDEX='1', PIP_FIND_LINKS='%s %s' % (made, BUILDERS))
     status, out, _ = group.call('pre-commit', 'run', '--all-files', cwd=here, **how)
     group.holds('pre-commit with the wheel', status == 1 and b'v.tf:1:1: Warning' in out, out)
