@@ -14,7 +14,7 @@ from harness import BAD, NOBODY, TOP, lines, put, quoted, shard_of
 from linted import EACH
 from modules import ALL, DECLARED, USED, link, tree
 
-CHECKS = 634
+CHECKS = 659
 MODULES = 2000
 PAGES = 'https://github.com/terraform-linters/tflint-ruleset-terraform/blob/main/docs/rules/'
 TYPED, UNUSED = 'terraform_typed_variables', 'terraform_unused_declarations'
@@ -67,6 +67,7 @@ def run(group):
         statuses,
         suites,
         rules,
+        comments,
         fingerprints,
         numbered,
         command_line,
@@ -393,6 +394,32 @@ def rules(group):
         whole = 'Reports %s. %s' % (it['shortDescription']['text'], why)
         told = it['fullDescription'], it['help']['text'], it['helpUri']
         group.check('the whole of ' + name, told, ({'text': whole}, whole, PAGES + name + '.md'))
+
+
+def comments(group):
+    """With --check-comments, comments that silence nothing stand after the issues of their module, as errors."""
+    text = b'# tflint-ignore: "q", x\ny = [a.0] # tflint-ignore-file: all\n'
+    here = tree(group, {'m/m.tf': text, 'm/n.tf': b'# tflint-ignore: <&>%\n', 'n/n.tf': DECLARED, 'bad/b.tf': BAD})
+    wanted = [
+        issue('m/m.tf', 2, 7, 'list items should be accessed using square brackets', 'terraform_deprecated_index'),
+        issue('m/m.tf', 1, 1, 'no rule is called "\\"q\\"" or "x"', COMMENT, 'error'),
+        issue('m/m.tf', 2, 11, 'tflint-ignore-file silences nothing here', COMMENT, 'error'),
+        issue('m/n.tf', 1, 1, 'no rule is called "<&>%"', COMMENT, 'error'),
+        unused('n/n.tf'),
+        refusal('bad/b.tf', 'unexpected token', 1, 3),
+    ]
+    for words, status, said in (
+        (['--check-comments'], 1, wanted),
+        (['--check-comments', '--force', 'm'], 0, wanted[:4]),
+    ):
+        messages = lint(group, *words, cwd=here)[2]
+        for form in FORMS:
+            done = lint(group, *words, '--format', form, cwd=here)
+            group.check('%s with %r, the status and the messages' % (form, words), done[::2], (status, messages))
+            group.check('%s with %r' % (form, words), apart(read(form, done[1]), [shown(form, it) for it in said]), '')
+    document = lint(group, '--check-comments', '--format', 'sarif', cwd=here)[1]
+    given = [it['partialFingerprints']['tfrulesIssue/v1'] for it in json.loads(document.decode())['runs'][0]['results']]
+    group.check('each has a fingerprint of its own', len(set(given)), len(wanted))
 
 
 def marks(group, form, here):

@@ -21,8 +21,11 @@ def run(group):
         no_configs,
         rule_texts,
         lists_of_rules,
+        comments,
+        comments_and_the_rest,
+        comments_asked_by_a_project,
     )
-    run_parts(group, parts, 143)
+    run_parts(group, parts, 191)
 
 
 def run_script(group):
@@ -333,3 +336,91 @@ def lists_of_rules(group, lint):
     ):
         group.check('--rules ' + given, rules_of('--rules', given), sorted(wanted))
     group.check('without a list', rules_of(), DEFAULT)
+
+
+# --- comments --------------------------------------------------------------------------------------------------
+
+
+def unknown(place, *names):
+    """What is said of a comment that names what no rule has."""
+    shown = [it if it.startswith('"') else '"%s"' % it for it in map(quoted, names)]
+    return fault(place, 'no rule is called ' + ' or '.join(shown))
+
+
+def of_file(place):
+    return fault(place, 'tflint-ignore-file silences nothing here')
+
+
+def comments(group, lint):
+    """Each silencing comment that names what no rule has is told, and each for a whole file."""
+    for text, *told in (
+        (b'# tflint-ignore: %s\n' % ','.join(ALL + ['all']).encode(),),
+        (
+            b'# tflint-ignore: terraform_typed_variable, all # why, so\n',
+            unknown('a.tf:1:1', 'terraform_typed_variable'),
+        ),
+        (b'y = 1 //\ttflint-ignore:terraform_unused_declarations,aws_x\r\n', unknown('a.tf:1:7', 'aws_x')),
+        (b'y = "\xc3\xa9" # tflint-ignore: x, all,y,x\n', unknown('a.tf:1:9', 'x', 'y', 'x')),
+        (b'#tflint-ignore:', unknown('a.tf:1:1', '')),
+        (b'\n  # tflint-ignore: "a\\b"\n', unknown('a.tf:2:3', '"a\\b"')),
+        (b'# tflint-ignore: a\x1b[31m\tb, c d\n', unknown('a.tf:1:1', 'a\x1b[31m\tb', 'c d')),
+        (b'# tflint-ignore: \xc3\xa9\n', unknown('a.tf:1:1', '\u00e9')),
+        (b'# tflint-ignore: Terraform_typed_variables\n', unknown('a.tf:1:1', 'Terraform_typed_variables')),
+        (b'# tflint-ignore-file: terraform_typed_variables\n', of_file('a.tf:1:1')),
+        (b'y = 1 //tflint-ignore-file:\n', of_file('a.tf:1:7')),
+        (b'x = "# tflint-ignore: quoted"\n',),
+        (b'## tflint-ignore: none\n# see tflint-ignore: a\n// tflint-ignored: b\n# see tflint-ignore-file: c\n',),
+        (b'/* tflint-ignore: x */\n/*\n# tflint-ignore: x\n# tflint-ignore-file: x\n*/\n',),
+        (b'x = <<E\n# tflint-ignore: x\n# tflint-ignore-file: x\nE\n',),
+        (b'x = <<E\n${a /* # tflint-ignore: x */}\nE\n# tflint-ignore: x\n', unknown('a.tf:4:1', 'x')),
+    ):
+        top = tree(group, {'a.tf': text})
+        group.check('without the option %r' % text, lint(cwd=top), (0, b'', b''))
+        wanted = 2 if told else 0, b'', lines(*told)
+        group.check('the comments of %r' % text, lint('--check-comments', cwd=top), wanted)
+
+
+def comments_and_the_rest(group, lint):
+    """What is said of comments stands beside reports, files that are refused, and statuses."""
+    comment = b'# tflint-ignore: x\n'
+    top = tree(
+        group, {'a/a.tf': comment + DECLARED, 'a/b.tf': comment, 'b/b.tf': BAD, 'b/c.tf': comment, 'd/d.tf': b''}
+    )
+    said = [unknown('a/a.tf:1:1', 'x'), unknown('a/b.tf:1:1', 'x')]
+    refused = 'tfrules-all: error: b/b.tf:1:3: unexpected token'
+    found = report(UNUSED.replace('1:1', '2:1') % 'a/a.tf')
+    for words, wanted in (
+        (['a', 'd'], (2, found, b'')),
+        (['--check-comments', 'a', 'd'], (2, found, lines(*said))),
+        (['--check-comments', '--minimum-failure-severity', 'error', 'a'], (2, found, lines(*said))),
+        (['--check-comments', '--rules', 'terraform_typed_variables', 'a'], (2, b'', lines(*said))),
+        (['--force', 'a', '--check-comments'], (0, found, lines(*said))),
+        (['--check-comments', 'b', 'd'], (1, b'', lines(refused))),
+        (['--check-comments', '--force', 'b', 'a'], (1, found, lines(*said, refused))),
+        (['--check-comments', 'd'], (0, b'', b'')),
+    ):
+        group.check('comments and the rest %r' % words, lint(*words, cwd=top), wanted)
+    for words, said in (
+        (['--check-comments', 'a'], lines(*said, '1 issue in 1 of 1 module')),
+        (['--check-comments', '--rules=terraform_typed_variables', 'a'], lines(*said, 'no issues in 1 module')),
+    ):
+        group.check('they are no issues: %r' % words, group.call(group.linted, *words, cwd=top)[::2], (2, said))
+
+
+def comments_asked_by_a_project(group, lint):
+    """The option stands on the line or in a .tfrules, and governs the modules of that one."""
+    top = tree(group, {name + '/a.tf': b'# tflint-ignore: x\n' for name in ('m', 'n', 'o')})
+    put(top, {'m/.tfrules': b'--check-comments\n', 'n/.tfrules': b'--force\n  --check-comments # ours\r\n'})
+    told = {name: unknown(name + '/a.tf:1:1', 'x') for name in ('m', 'n', 'o')}
+    group.check('by options of projects', lint(cwd=top), (2, b'', lines(told['m'], told['n'])))
+    group.check('where it is forced', lint('n', 'o', cwd=top), (0, b'', lines(told['n'])))
+    group.check('not with --no-config', lint('--no-config', cwd=top), (0, b'', b''))
+    words = ['--no-config', '--check-comments', 'm', 'o']
+    group.check('by the line', lint(*words, cwd=top), (2, b'', lines(told['m'], told['o'])))
+    for text, said in (
+        (b'--check-comments\n--check-comments\n', '2: the option is given twice'),
+        (b'--check-comments yes\n', '1: no option of a project'),
+    ):
+        put(top, {'o/.tfrules': text})
+        wanted = 1, b'', lines('tfrules-all: error: o/.tfrules:' + said)
+        group.check('a bad line: %r' % text, lint('o', cwd=top), wanted)
