@@ -339,7 +339,7 @@ def run_linting_vim(group):
     editor = group.name.split()[0]
     if not group.has(editor, checks=7):
         return
-    script = """set runtimepath^=%s
+    script = """let &runtimepath = '%s,' . &runtimepath
 %s
 compiler tfrules
 silent make! %s

@@ -56,7 +56,7 @@ def mend(*names):
 
 
 def run(group):
-    if group.has('git', checks=81):
+    if group.has('git', checks=82):
         for part in (
             first_commit,
             later_commits,
