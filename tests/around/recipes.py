@@ -36,7 +36,7 @@ def completions(group):
     here = group.fresh()
     put(here, {'good.tf': GOOD, 'text.txt': GOOD, 'in/x.tf': GOOD, 't.tftest.hcl': GOOD, 'v.tfvars': GOOD})
     path = group.before_path(group.script('tffmt', 'exit 0\n').parent, group.contrib)
-    every = sorted({*options_of_linter(), b'--check-comments'})
+    every = sorted(options_of_linter())
     if group.has('bash', checks=26):
 
         def bash(line):
