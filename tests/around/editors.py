@@ -383,12 +383,12 @@ qall!
     group.check(
         'and what is said of its options',
         made(dict(OTHERS, **{'a b/.tfrules': b'--force\n--bogus\n'})),
-        [['a b/.tfrules', 2, 0, 'e', 'no option of a project']],
+        [['a b/.tfrules', 2, 0, 'e', 'no option of a project: "--bogus"']],
     )
     group.check(
         'and of a wrong command line',
         [it[4] for it in made(OTHERS, '--rules bogus')],
-        ['tfrules-all: error: unknown rule'],
+        ['tfrules-all: error: unknown rule "bogus"'],
     )
 
 
@@ -418,7 +418,7 @@ vim.cmd("qall!")
 
 # A module that isn't linted, because of its options.
 ODD = dict(MODULE, **{'a b/.tfrules': b'--bogus\n'})
-REFUSAL = 'tfrules-all: error: %s.tfrules:1: no option of a project'
+REFUSAL = 'tfrules-all: error: %s.tfrules:1: no option of a project: "--bogus"'
 NOTIFIED = """
 vim.opt.runtimepath:prepend("%s/vim")
 require("tfrules").enable()

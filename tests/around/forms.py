@@ -249,11 +249,11 @@ def many_files():
 NOT_LINTED = {
     'a wrong line of a .tfrules': (
         {'m/a.tf': DECLARED, 'm/.tfrules': b'--force\n--bogus\n'},
-        [refusal('m/.tfrules', 'no option of a project', 2)],
+        [refusal('m/.tfrules', 'no option of a project: "--bogus"', 2)],
     ),
     'two wrong lines': (
         {'m/a.tf': DECLARED, 'm/.tfrules': b'--naming x\n\n--rules terraform_x # ours\n'},
-        [refusal('m/.tfrules', 'unknown naming', 1), refusal('m/.tfrules', 'unknown rule', 3)],
+        [refusal('m/.tfrules', 'unknown naming "x"', 1), refusal('m/.tfrules', 'unknown rule "terraform_x"', 3)],
     ),
     'a .tfrules that is no text': (
         {'m/a.tf': DECLARED, 'm/.tfrules': b'--force\n# \xc3\xa9\xff\n'},
@@ -467,10 +467,12 @@ def numbered(group):
 
 def command_line(group):
     here = tree(group, {'m.tf': DECLARED})
-    said = lines('tfrules-all: error: --format takes text, json, sarif, checkstyle, junit, gitlab or github')
+    said = 'tfrules-all: error: --format takes text, json, sarif, checkstyle, junit, gitlab or github, not "%s"'
     for given in ('JSON', 'xml', '', 'text,json', 'sarif ', 'compact', 'default'):
-        group.check('an unknown form: %r' % given, lint(group, '--format', given, cwd=here), (1, b'', said))
-    group.check('an unknown form, after =', lint(group, '--format=tap', cwd=here), (1, b'', said))
+        group.check(
+            'an unknown form: %r' % given, lint(group, '--format', given, cwd=here), (1, b'', lines(said % given))
+        )
+    group.check('an unknown form, after =', lint(group, '--format=tap', cwd=here), (1, b'', lines(said % 'tap')))
     usage = lint(group, '--help', cwd=here)[1].split(b'\n\n')[0] + b'\n'
     for words in (['--format'], ['m.tf', '--format'], ['--format', 'json', '--format', 'json']):
         group.check('a wrong line: %r' % words, lint(group, *words, cwd=here), (1, b'', usage))
@@ -483,7 +485,7 @@ def command_line(group):
     listed = lint(group, '--list-rules', cwd=here)
     group.check('the rules are no document', lint(group, '--format', 'json', '--list-rules', cwd=here), listed)
     put(here, {'.tfrules': b'--format json\n'})
-    told = lines('tfrules-all: error: .tfrules:1: no option of a project')
+    told = lines('tfrules-all: error: .tfrules:1: no option of a project: "--format"')
     group.check('no option of a project', lint(group, cwd=here), (1, b'', told))
 
 

@@ -140,14 +140,14 @@ def options(group, lint):
     group.check('--version', lint('--version', cwd=top), (0, lines('tfrules-all ' + version), b''))
     group.check('--help fits 80 columns', [line for line in out.decode().split('\n') if len(line) > 80], [])
     usage = out.split(b'\n\n')[0] + b'\n'
-    part = '--shard takes K/N, with K from 1 to N, at most 99999'
+    part = '--shard takes K/N, with K from 1 to N, at most 99999, not "%s"'
     jobs = '--jobs takes a number from 1 to 9999'
     for words, said in (
         (['--rules'], None),
         (['-0', 'a.tf'], '--null takes no names on the command line'),
-        (['--shard', '0/2'], part),
-        (['--shard=3/2'], part),
-        (['--shard', '1'], part),
+        (['--shard', '0/2'], part % '0/2'),
+        (['--shard=3/2'], part % '3/2'),
+        (['--shard', '1'], part % '1'),
         (['--jobs', 'x'], jobs),
         (['-j0'], jobs),
         (['--rules=all', '--rules=all'], None),
@@ -170,12 +170,12 @@ def options(group, lint):
         told = lines('tfrules-all: error: unknown option ' + told)
         group.check('a wrong word is named: %r' % words, lint(*words, cwd=top), (1, b'', told + usage))
     for words, told in (
-        (['--rules', 'default,x y,z'], 'unknown rule'),
-        (['--rules='], 'unknown rule'),
-        (['--rules', 'all,-terraform_x'], 'unknown rule'),
-        (['--rules', 'default,-all'], 'no rule is left'),
-        (['--naming', ''], 'unknown naming'),
-        (['--minimum-failure-severity=x'], 'unknown severity'),
+        (['--rules', 'default,x y,z'], 'unknown rule "x y"'),
+        (['--rules='], 'unknown rule ""'),
+        (['--rules', 'all,-terraform_x'], 'unknown rule "terraform_x"'),
+        (['--rules', 'default,-all'], 'no rule is left by "default,-all"'),
+        (['--naming', ''], 'unknown naming ""'),
+        (['--minimum-failure-severity=x'], 'unknown severity "x"'),
     ):
         group.check(
             'a wrong word is told once: %r' % words,
@@ -244,19 +244,19 @@ def bad_configs(group, lint):
     """A line that is wrong is told once, and the modules of its file are not linted."""
     top = tree(group, {'m/a.tf': DECLARED, 'm/in/b.tf': DECLARED, 'n/a.tf': DECLARED})
     for text, *told in (
-        (b'--force\n--bogus\n', '2: no option of a project'),
-        (b'force\n', '1: no option of a project'),
-        (b'--null\n', '1: no option of a project'),
-        (b'--force yes\n', '1: no option of a project'),
-        (b'--x\n--force\n--y\n', '1: no option of a project', '3: no option of a project'),
-        (b'\n--rules terraform_typed,all\n', '2: unknown rule'),
-        (b'--rules\n', '1: unknown rule'),
-        (b'--rules all --force\n', '1: unknown rule'),
-        (b'--rules default,-all\n', '1: no rule is left'),
-        (b'--rules=all\n--rules=default\n', '2: the option is given twice'),
-        (b'--force\n--force\n', '2: the option is given twice'),
-        (b'--naming camel', '1: unknown naming'),
-        (b'--minimum-failure-severity *\n', '1: unknown severity'),
+        (b'--force\n--bogus\n', '2: no option of a project: "--bogus"'),
+        (b'force\n', '1: no option of a project: "force"'),
+        (b'--null\n', '1: no option of a project: "--null"'),
+        (b'--force yes\n', '1: no option of a project: "--force"'),
+        (b'--x\n--force\n--y\n', '1: no option of a project: "--x"', '3: no option of a project: "--y"'),
+        (b'\n--rules terraform_typed,all\n', '2: unknown rule "terraform_typed"'),
+        (b'--rules\n', '1: unknown rule ""'),
+        (b'--rules all --force\n', '1: unknown rule "all --force"'),
+        (b'--rules default,-all\n', '1: no rule is left by "default,-all"'),
+        (b'--rules=all\n--rules=default\n', '2: given twice: "--rules"'),
+        (b'--force\n--force\n', '2: given twice: "--force"'),
+        (b'--naming camel', '1: unknown naming "camel"'),
+        (b'--minimum-failure-severity *\n', '1: unknown severity "*"'),
         (b'--force\n\xff', '2:1: invalid UTF-8'),
     ):
         put(top, {'m/.tfrules': text})
@@ -274,7 +274,8 @@ def bad_configs(group, lint):
     put(top, {'.git/HEAD': b'', '.tfrules': b'--x'})
     (top / 'm' / '.tfrules').unlink()
     told = os.path.realpath(str(top)) + '/.tfrules:1'
-    group.check('by its full path', lint('a.tf', cwd=top / 'm'), (1, b'', lines(fault(told, 'no option of a project'))))
+    said = lines(fault(told, 'no option of a project: "--x"'))
+    group.check('by its full path', lint('a.tf', cwd=top / 'm'), (1, b'', said))
 
 
 def no_configs(group, lint):
@@ -304,8 +305,9 @@ def rule_texts(group, lint):
         section = re.search(r'^## %s\n(.*?)(?=^## |\Z)' % name, GUIDE, re.M | re.S).group(1)
         group.check('why: ' + name, why in section.split('\n\n'), True)
         group.check('how: ' + name, 'the line above it' in how, True)
-    for words in (['--explain', 'terraform_typed'], ['--explain=all'], ['--explain', '']):
-        group.check('no rule %r' % words, lint(*words, cwd=TOP), (1, b'', lines('tfrules-all: error: unknown rule')))
+    for name in ('terraform_typed', 'all', '', 'a"b'):
+        told = 'tfrules-all: error: unknown rule "%s"' % name.replace('"', '\\"')
+        group.check('no rule %r' % name, lint('--explain=' + name, cwd=TOP), (1, b'', lines(told)))
 
 
 # a module in which each rule has one issue at least
@@ -418,8 +420,8 @@ def comments_asked_by_a_project(group, lint):
     words = ['--no-config', '--check-comments', 'm', 'o']
     group.check('by the line', lint(*words, cwd=top), (2, b'', lines(told['m'], told['o'])))
     for text, said in (
-        (b'--check-comments\n--check-comments\n', '2: the option is given twice'),
-        (b'--check-comments yes\n', '1: no option of a project'),
+        (b'--check-comments\n--check-comments\n', '2: given twice: "--check-comments"'),
+        (b'--check-comments yes\n', '1: no option of a project: "--check-comments"'),
     ):
         put(top, {'o/.tfrules': text})
         wanted = 1, b'', lines('tfrules-all: error: o/.tfrules:' + said)

@@ -439,7 +439,7 @@ def lint_matchers(group):
                 dict(place, severity='Warning', message='variable "n" has no type', code='terraform_typed_variables'),
                 {'file': 'bad/m.tf', 'line': '1', 'column': '3', 'message': 'unexpected token'},
                 {'file': 'gone/m.tf', 'message': 'the link leads nowhere'},
-                {'file': 'odd/.tfrules', 'line': '2', 'message': 'no option of a project'},
+                {'file': 'odd/.tfrules', 'line': '2', 'message': 'no option of a project: "--bogus"'},
             ],
         )
 

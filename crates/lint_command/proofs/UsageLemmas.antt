@@ -1,9 +1,10 @@
 -- What is shown of words that ask for no run.
-use Rattle.std.proofs.Common.{◌≡◌, List, inl, inr, subst, sym}
+use Rattle.std.proofs.Common.{◌≡◌, ◌⊎◌, ◌++◌, ℕ, List, inl, inr, subst, sym}
 use Rattle.clap.specs.Words.{Text}
-use Rattle.command_line.specs.Rows.{End, Program, Shows, out_of_memory}
+use Rattle.command_line.specs.Rows.{End, Program, Shows, error_line, message_row, out_of_memory}
+use Rattle.file_tree.specs.Quotes.{in_quotes}
 use Rattle.command_line.proofs.EndLemmas.{shows_as}
-use Rattle.lint_command.specs.Ends.{ShowsUsage, usage_row}
+use Rattle.lint_command.specs.Ends.{SaysOnly, ShowsUsage, usage_row, wrong_value}
 use Rattle.tree_lint.specs.Refusals.{tree_linter}
 use Rattle.lint_command.specs.declared.usage.Usage.{Usage}
 
@@ -20,3 +21,11 @@ memory_shown texts usage p end ep shows = inl (memory_said p end ep shows)
 
 pub shown_as : (texts : List Text) (usage is : Usage) (end : End) → usage ≡ is → ShowsUsage texts is end → ShowsUsage texts usage end
 shown_as texts usage is end e shown = subst (λ (u : Usage). ShowsUsage texts u end) (sym e) shown
+
+-- ---- a value that stands for nothing
+
+pub value_told : (p : Program) (text front value : List ℕ) (end : End) → p ≡ tree_linter → text ≡ error_line tree_linter (front ++ in_quotes value) → Shows p (message_row text 1) end → SaysOnly (wrong_value front value) end
+value_told p text front value end ep is shows = shows_as p tree_linter (wrong_value front value) end ep (subst (λ (t : List ℕ). Shows p (message_row t 1) end) is shows)
+
+pub value_said : (front value is : List ℕ) (end : End) → value ≡ is → SaysOnly (out_of_memory tree_linter) end ⊎ SaysOnly (wrong_value front value) end → SaysOnly (out_of_memory tree_linter) end ⊎ SaysOnly (wrong_value front is) end
+value_said front value is end e said = subst (λ (v : List ℕ). SaysOnly (out_of_memory tree_linter) end ⊎ SaysOnly (wrong_value front v) end) e said

@@ -1,11 +1,12 @@
 -- How a run of `tfrules-all` ends. Its texts and statuses are our own choice.
-use Rattle.std.specs.Prelude.{◌≡◌, ◌⊎◌, ◌==◌, ◌&&◌, ◌||◌, ℕ, Bool, true, false, List, [], ◌∷◌, ◌++◌, Option, Some, None, Result, Ok, Err, codes, flat_map, is_some, map, nat_lt, if◌then◌else◌}
-use Rattle.clap.specs.Words.{Text}
+use Rattle.std.specs.Prelude.{◌≡◌, ◌⊎◌, ◌==◌, ◌&&◌, ◌||◌, ℕ, Bool, true, false, List, [], ◌∷◌, ◌++◌, Option, Some, None, Result, Ok, Err, codes, flat_map, is_some, map, nat_lt, unwrap_or, if◌then◌else◌}
+use Rattle.clap.specs.Words.{Text, first_of, matches_of}
 use Rattle.command_line.specs.Rows.{End, Row, Shows, TookBy, Writer, error_line, fails_with, message_row, out_of_memory, output_row, write_failed}
 use Rattle.file_tree.specs.Choices.{Chosen, chosen_by, with_specials}
 use Rattle.file_tree.specs.Files.{Faults, Files, Name, Tells}
 use Rattle.file_tree.specs.Finds.{AreReal, Finds}
 use Rattle.file_tree.specs.Ordered.{Orders}
+use Rattle.file_tree.specs.Quotes.{in_quotes}
 use Rattle.file_tree.specs.declared.walk.Found.{Found}
 use Rattle.lint_forms.specs.Forms.{form_foot, form_head}
 use Rattle.lint_forms.specs.Remarks.{Remark}
@@ -16,6 +17,7 @@ use Rattle.module_config.specs.Refusals.{configured_refusals}
 use Rattle.module_config.specs.Words.{configured_words, unlinted_line}
 use Rattle.module_config.specs.declared.configure.Configured.{Configured}
 use Rattle.module_find.specs.declared.module.Module.{Module}
+use Rattle.rule_lists.specs.Lists.{unknown_in}
 use Rattle.tree_words.specs.Paths.{paths_of_input, paths_of_line}
 use Rattle.tree_words.specs.Shards.{picked_of}
 use Rattle.tree_words.specs.Line.{others_in, texts_in}
@@ -30,10 +32,10 @@ use Rattle.tree_lint.specs.declared.counts.Counts.{Counts}
 use Rattle.tree_lint.specs.declared.kept.Kept.{Kept}
 use Rattle.tree_lint.specs.declared.run.RunEnd.{RunEnd}
 use Rattle.lint_command.specs.Explained.{explained, rule_list}
-use Rattle.lint_command.specs.Line.{Asking, Job, asking_of_texts}
+use Rattle.lint_command.specs.Line.{Asking, Job, asking_of_texts, tfrules_all}
 use Rattle.lint_command.specs.LinterWords.{linter_words}
 use Rattle.lint_command.specs.declared.usage.Usage.{Usage}
-use Rattle.lint_command.specs.declared.usage.Usage.TheVariants.{Help, Version, ListRules, Explain, BadLine, UnknownRule, NoRuleLeft, BadNaming, BadSeverity, BadPart, BadForm, BadJobs, NamesTwice, OutOfMemory}
+use Rattle.lint_command.specs.declared.usage.Usage.TheVariants.{Help, Version, ListRules, Explain, BadLine, UnknownRule, UnknownExplained, NoRuleLeft, BadNaming, BadSeverity, BadPart, BadForm, BadJobs, NamesTwice, OutOfMemory}
 
 -- ---- what is linted
 
@@ -185,6 +187,14 @@ version_line = codes "tfrules-all 0.3.0\n"
 abbrev pub help_text : List ℕ
 help_text = codes "usage: tfrules-all [--rules LIST] [--naming NAMING]\n                   [--minimum-failure-severity SEVERITY] [--force]\n                   [--check-comments] [--no-config] [--format FORM] [--quiet]\n                   [--shard K/N] [--null] [--] [FILE|FOLDER]...\n       tfrules-all --list-rules\n       tfrules-all --explain RULE\n\nLints the modules of folders, each by itself, as tfrules lints its files.\n\nA module is the .tf and .tofu files of one folder. A file stands for its\nfolder, also one that was deleted while the folder is there; a folder for\nitself and all below. Files and folders whose names begin with a dot or end\nwith ~, and those named #...#, are passed over. Without an operand it is the\ncurrent folder.\n\nOptions that the line doesn't have come from the nearest .tfrules, in the folder\nof a module or above it up to the top of the repository: one a line, of the\nfirst five below.\n\n  --rules LIST     default, all or names of rules, with commas between them; a\n                   dash before one takes its rules away: all,-terraform_...\n  --naming NAMING  snake_case or mixed_snake_case\n  --minimum-failure-severity SEVERITY\n                   error, warning or notice: from which severity on an issue\n                   fails the run\n  --force          nothing that is found fails the run\n  --check-comments report comments that are meant to silence a rule and don't:\n                   those that name no rule, and tflint-ignore-file\n  --no-config      read no file .tfrules\n  --format FORM    text; or json (TFLint's), sarif, checkstyle, junit, gitlab or\n                   github: what forges and editors read, of all modules, with\n                   what couldn't be linted\n  --quiet          say nothing of the run as a whole: no count of the issues\n                   at its end\n  --shard K/N      take the K-th of N parts of the folders\n  -0, --null       read names, each ended by NUL, from standard input\n  -j, --jobs N     taken, and of no use: modules are linted one after the\n                   other\n  --list-rules     print each rule with its severity, whether it is a default\n                   one, and what it reports\n  --explain RULE   print that of a rule, why it does, and how to silence it\n  -h, --help       print this\n  --version        print the version\n\nStatus: 0  nothing that is found fails the run\n        1  something couldn't be linted, or the command line is wrong\n        2  an issue fails the run, or a comment that --check-comments\n           reports, and nothing is worse\n"
 
+-- what an option of a line says
+abbrev pub value_in : List Text → List ℕ → Text
+value_in texts option = unwrap_or (first_of option (matches_of tfrules_all texts)) []
+
+-- a value that stands for nothing is named, between double quotes
+abbrev pub wrong_value : List ℕ → Text → Row
+wrong_value front value = fails_with tree_linter (front ++ in_quotes value)
+
 -- THE ROW of these texts where they ask for a text, or are no line of this program's
 abbrev pub usage_row : List Text → Usage → Row
 usage_row texts Help = output_row help_text 0
@@ -192,12 +202,13 @@ usage_row texts Version = output_row version_line 0
 usage_row texts ListRules = output_row rule_list 0
 usage_row texts (Explain rule) = output_row (explained rule) 0
 usage_row texts BadLine = message_row (bad_line_words linter_words texts) 1
-usage_row texts UnknownRule = fails_with tree_linter (codes "unknown rule")
-usage_row texts NoRuleLeft = fails_with tree_linter (codes "no rule is left")
-usage_row texts BadNaming = fails_with tree_linter (codes "unknown naming")
-usage_row texts BadSeverity = fails_with tree_linter (codes "unknown severity")
-usage_row texts BadPart = fails_with tree_linter (codes "--shard takes K/N, with K from 1 to N, at most 99999")
-usage_row texts BadForm = fails_with tree_linter (codes "--format takes text, json, sarif, checkstyle, junit, gitlab or github")
+usage_row texts UnknownRule = wrong_value (codes "unknown rule ") (unknown_in (value_in texts (codes "rules")))
+usage_row texts UnknownExplained = wrong_value (codes "unknown rule ") (value_in texts (codes "explain"))
+usage_row texts NoRuleLeft = wrong_value (codes "no rule is left by ") (value_in texts (codes "rules"))
+usage_row texts BadNaming = wrong_value (codes "unknown naming ") (value_in texts (codes "naming"))
+usage_row texts BadSeverity = wrong_value (codes "unknown severity ") (value_in texts (codes "minimum-failure-severity"))
+usage_row texts BadPart = wrong_value (codes "--shard takes K/N, with K from 1 to N, at most 99999, not ") (value_in texts (codes "shard"))
+usage_row texts BadForm = wrong_value (codes "--format takes text, json, sarif, checkstyle, junit, gitlab or github, not ") (value_in texts (codes "format"))
 usage_row texts BadJobs = fails_with tree_linter (codes "--jobs takes a number from 1 to 9999")
 usage_row texts NamesTwice = fails_with tree_linter (codes "--null takes no names on the command line")
 usage_row texts OutOfMemory = out_of_memory tree_linter

@@ -20,7 +20,7 @@ use Rattle.tfrules_command.specs.Line.{naming_asked, severity_asked}
 use Rattle.tree_words.specs.Line.{are_jobs_good, count_rule, file_rule, is_given, jobs_rule, null_rule, others_in, shard_given, texts_in, texts_of}
 use Rattle.tree_words.specs.declared.shard.Shard.{Shard}
 use Rattle.lint_command.specs.declared.usage.Usage.{Usage}
-use Rattle.lint_command.specs.declared.usage.Usage.TheVariants.{Help, Version, ListRules, Explain, BadLine, UnknownRule, NoRuleLeft, BadNaming, BadSeverity, BadPart, BadForm, BadJobs, NamesTwice, OutOfMemory}
+use Rattle.lint_command.specs.declared.usage.Usage.TheVariants.{Help, Version, ListRules, Explain, BadLine, UnknownRule, UnknownExplained, NoRuleLeft, BadNaming, BadSeverity, BadPart, BadForm, BadJobs, NamesTwice, OutOfMemory}
 
 -- by what modules are linted: the options of the line, and whether files `.tfrules` are read for the others
 pub record Given : Type 0 where
@@ -117,7 +117,7 @@ asking_with rows names =
 
 -- what is said of the rule that `--explain` names
 abbrev pub explain_asked : Text → Usage
-explain_asked name = option_map_or Explain (find (λ rule. bytes_eq (rule_name rule) name) all_rules) UnknownRule
+explain_asked name = option_map_or Explain (find (λ rule. bytes_eq (rule_name rule) name) all_rules) UnknownExplained
 
 -- a line that asks for a text asks for nothing else, whatever stands beside that
 abbrev pub text_asked : List Row → Option Usage

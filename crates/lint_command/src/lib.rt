@@ -9,3 +9,4 @@ mod options;
 pub mod run;
 mod usage;
 mod words;
+mod wrong_value;

@@ -55,7 +55,7 @@ pub struct LintOptions<'a> {
 }
 
 /// The command with its options.
-fn command<'a>(alloc: Global) -> Result<Command<'a>, AllocError>
+pub(crate) fn command<'a>(alloc: Global) -> Result<Command<'a>, AllocError>
     ensures { IfOk result (λ c. app_of c ≡ tfrules_all) }
 {
     Command::new(alloc, "tfrules-all")
@@ -289,7 +289,7 @@ fn explain_asked(name: &str) -> Usage
 {
     match rule_named(&ALL_RULES, name.as_bytes()) {
         Some(rule) => Usage::Explain(rule),
-        None => Usage::UnknownRule,
+        None => Usage::UnknownExplained,
     }
 }
 

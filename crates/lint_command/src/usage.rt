@@ -17,6 +17,8 @@ pub enum Usage {
     BadLine,
     /// `--rules` says a name that stands for no rule.
     UnknownRule,
+    /// `--explain` says a name that stands for no rule.
+    UnknownExplained,
     /// `--rules` takes every rule away.
     NoRuleLeft,
     /// `--naming` says no naming.

@@ -9,25 +9,25 @@ ghost use Rattle.lint_command.specs.declared.usage.Usage.TheVariants.{BadLine, E
 use crate::explain::{explained, rule_list};
 use crate::linter_words::linter_words;
 use crate::usage::{HELP, Usage, VERSION};
+use crate::wrong_value::{unknown_rule, wrong_value};
 use command_line::Program;
 use hcl_scan::ByteSink;
 use rule_set::Rule;
 use std::alloc::Global;
 use tree_words::wrong::bad_line_text;
 
-static UNKNOWN_RULE: &str = "tfrules-all: error: unknown rule\n";
+static UNKNOWN_RULE: &str = "unknown rule ";
 
-static NO_RULE_LEFT: &str = "tfrules-all: error: no rule is left\n";
+static NO_RULE_LEFT: &str = "no rule is left by ";
 
-static BAD_NAMING: &str = "tfrules-all: error: unknown naming\n";
+static BAD_NAMING: &str = "unknown naming ";
 
-static BAD_SEVERITY: &str = "tfrules-all: error: unknown severity\n";
+static BAD_SEVERITY: &str = "unknown severity ";
 
-static BAD_PART: &str =
-    "tfrules-all: error: --shard takes K/N, with K from 1 to N, at most 99999\n";
+static BAD_PART: &str = "--shard takes K/N, with K from 1 to N, at most 99999, not ";
 
 static BAD_FORM: &str =
-    "tfrules-all: error: --format takes text, json, sarif, checkstyle, junit, gitlab or github\n";
+    "--format takes text, json, sarif, checkstyle, junit, gitlab or github, not ";
 
 static BAD_JOBS: &str = "tfrules-all: error: --jobs takes a number from 1 to 9999\n";
 
@@ -103,12 +103,22 @@ pub(crate) fn say<O: ByteSink, E: ByteSink>(
         Usage::ListRules => list_rules(alloc, out, err),
         Usage::Explain(rule) => explain(alloc, rule, out, err),
         Usage::BadLine => bad_line(alloc, words, out, err),
-        Usage::UnknownRule => tree_linter().tell(out, err, UNKNOWN_RULE, 1),
-        Usage::NoRuleLeft => tree_linter().tell(out, err, NO_RULE_LEFT, 1),
-        Usage::BadNaming => tree_linter().tell(out, err, BAD_NAMING, 1),
-        Usage::BadSeverity => tree_linter().tell(out, err, BAD_SEVERITY, 1),
-        Usage::BadPart => tree_linter().tell(out, err, BAD_PART, 1),
-        Usage::BadForm => tree_linter().tell(out, err, BAD_FORM, 1),
+        Usage::UnknownRule => unknown_rule(alloc, words, out, err),
+        Usage::UnknownExplained => wrong_value(alloc, words, "explain", UNKNOWN_RULE, out, err),
+        Usage::NoRuleLeft => wrong_value(alloc, words, "rules", NO_RULE_LEFT, out, err),
+        Usage::BadNaming => wrong_value(alloc, words, "naming", BAD_NAMING, out, err),
+        Usage::BadSeverity => {
+            wrong_value(
+                alloc,
+                words,
+                "minimum-failure-severity",
+                BAD_SEVERITY,
+                out,
+                err,
+            )
+        }
+        Usage::BadPart => wrong_value(alloc, words, "shard", BAD_PART, out, err),
+        Usage::BadForm => wrong_value(alloc, words, "format", BAD_FORM, out, err),
         Usage::BadJobs => tree_linter().tell(out, err, BAD_JOBS, 1),
         Usage::NamesTwice => tree_linter().tell(out, err, NAMES_TWICE, 1),
         Usage::OutOfMemory => tree_linter().tell_out_of_memory(out, err),

@@ -1,8 +1,8 @@
 -- What was read, in the words of the definitions.
-use Rattle.std.specs.Prelude.{map}
-use Rattle.lint_config.specs.Lines.{Read}
+use Rattle.std.specs.Prelude.{map, string_bytes}
+use Rattle.lint_config.specs.Reads.{Read}
 use Rattle.lint_config.specs.Options.{options_of}
 use Rattle.lint_config.specs.declared.text.Config.{Config}
 
 abbrev pub read_of : Config → Read
-read_of c = record { said = options_of c.said; lines = c.lines; faults = map (λ bad. (bad.line, bad.fault)) c.faults.items }
+read_of c = record { said = options_of c.said; lines = c.lines; faults = map (λ bad. (bad.line, string_bytes bad.text)) c.faults.items }

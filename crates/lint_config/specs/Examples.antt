@@ -1,8 +1,11 @@
 -- Lines and texts, by computation.
 use Rattle.std.specs.Prelude.{◌≡◌, ℕ, refl, true, List, [], ◌∷◌, Some, Ok, Err, codes}
 use Rattle.std.specs.Str.{chars, trim_end, trim_start}
+use Rattle.std.specs.Str.Lossy.{utf8_lossy}
 use Rattle.tf_rules.specs.declared.naming.Naming.TheVariants.{MixedSnakeCase}
-use Rattle.lint_config.specs.Lines.{bare, nothing, parts, read_text, with_line}
+use Rattle.lint_config.specs.Lines.{bare, nothing, parts, with_line}
+use Rattle.lint_config.specs.Reads.{read_text}
+use Rattle.lint_config.specs.Texts.{fault_words}
 use Rattle.lint_config.specs.declared.fault.ConfigFault.TheVariants.{UnknownOption, GivenTwice, UnknownRule, NoRuleLeft, UnknownNaming, UnknownSeverity}
 
 no_comment : bare (codes "  --force # so\r") ≡ codes "--force"
@@ -69,6 +72,14 @@ forced_so = refl
 abbrev few : List ℕ
 few = codes "--x\n--force\n--naming=mixed_snake_case\n--force"
 
-all_bad_lines : read_text few ≡ record { said = record nothing { naming = Some MixedSnakeCase; force = true }; lines = 4; faults = (1, UnknownOption) ∷ (4, GivenTwice) ∷ [] }
+all_bad_lines : read_text few ≡ record { said = record nothing { naming = Some MixedSnakeCase; force = true }; lines = 4; faults = (1, utf8_lossy (codes "no option of a project: \"--x\"")) ∷ (4, utf8_lossy (codes "given twice: \"--force\"")) ∷ [] }
 unfolding chars trim_start trim_end lib.Utf8.encode
 all_bad_lines = refl
+
+first_unknown : fault_words UnknownRule (codes "--rules all,-x,y # so") ≡ utf8_lossy (codes "unknown rule \"x\"")
+unfolding chars trim_start trim_end lib.Utf8.encode
+first_unknown = refl
+
+by_letter : fault_words UnknownNaming (codes "--naming=a\"b") ≡ utf8_lossy (codes "unknown naming \"a\\\"b\"")
+unfolding chars trim_start trim_end lib.Utf8.encode
+by_letter = refl

@@ -3,4 +3,5 @@ pub mod Examples
 pub mod Inner
 pub mod Lines
 pub mod Options
+pub mod Reads
 pub mod Texts

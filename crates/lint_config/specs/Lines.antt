@@ -1,6 +1,6 @@
--- What the lines of a `.tfrules` say. Our own choice.
-use Rattle.std.specs.Prelude.{ℕ, ◌+◌, ◌==◌, ◌&&◌, Bool, true, false, List, [], ◌∷◌, ◌++◌, Option, Some, None, Result, Ok, Err, codes, fold, length, nat_lt, ok_or, if◌then◌else◌}
-use Rattle.std.specs.List.{after_first, before_first, position_or_len, slice_split}
+-- What a line of a `.tfrules` says. Our own choice.
+use Rattle.std.specs.Prelude.{ℕ, ◌==◌, ◌&&◌, Bool, true, false, List, [], Option, Some, None, Result, Ok, Err, codes, length, nat_lt, ok_or, if◌then◌else◌}
+use Rattle.std.specs.List.{after_first, before_first, position_or_len}
 use Rattle.std.specs.Str.{bytes_eq, trim}
 use Rattle.rule_set.specs.declared.rule.Rule.{Rule}
 use Rattle.rule_set.specs.declared.rule.Severity.{Severity}
@@ -65,22 +65,3 @@ with_option said name value =
 -- THE OPTIONS after a line more: an empty one says nothing
 abbrev pub with_line : Options → List ℕ → Result Options ConfigFault
 with_line said line = if length (bare line) == 0 then Ok said else with_option said (parts (bare line)).0 (parts (bare line)).1
-
--- ---- all lines
-
--- the options so far, how many lines there were, and what is wrong with which of them
-pub record Read : Type 0 where
-  pub said : Options
-  pub lines : ℕ
-  pub faults : List (ℕ × ConfigFault)
-
-abbrev pub read_by : Read → Result Options ConfigFault → Read
-read_by r (Ok said) = record { said = said; lines = r.lines + 1; faults = r.faults }
-read_by r (Err fault) = record { said = r.said; lines = r.lines + 1; faults = r.faults ++ (r.lines + 1, fault) ∷ [] }
-
-abbrev pub read_line : Read → List ℕ → Read
-read_line r line = read_by r (with_line r.said line)
-
--- WHAT A TEXT SAYS, and each line of it that is wrong, which says nothing
-abbrev pub read_text : List ℕ → Read
-read_text text = fold read_line (record { said = nothing; lines = 0; faults = [] }) (slice_split (λ b. b == 10) text)

@@ -1,12 +1,31 @@
 -- The words that are said of a bad line. Our own choice.
-use Rattle.std.specs.Prelude.{ℕ, List, codes}
+use Rattle.std.specs.Prelude.{ℕ, List, ◌++◌, codes}
+use Rattle.std.specs.Str.Lossy.{utf8_lossy}
+use Rattle.file_tree.specs.Quotes.{in_quotes}
+use Rattle.rule_lists.specs.Lists.{unknown_in}
+use Rattle.lint_config.specs.Lines.{bare, parts}
 use Rattle.lint_config.specs.declared.fault.ConfigFault.{ConfigFault}
 use Rattle.lint_config.specs.declared.fault.ConfigFault.TheVariants.{UnknownOption, GivenTwice, UnknownRule, NoRuleLeft, UnknownNaming, UnknownSeverity}
 
-abbrev pub config_fault_text : ConfigFault → List ℕ
-config_fault_text UnknownOption = codes "no option of a project"
-config_fault_text GivenTwice = codes "the option is given twice"
-config_fault_text UnknownRule = codes "unknown rule"
-config_fault_text NoRuleLeft = codes "no rule is left"
-config_fault_text UnknownNaming = codes "unknown naming"
-config_fault_text UnknownSeverity = codes "unknown severity"
+abbrev pub reason : ConfigFault → List ℕ
+reason UnknownOption = codes "no option of a project: "
+reason GivenTwice = codes "given twice: "
+reason UnknownRule = codes "unknown rule "
+reason NoRuleLeft = codes "no rule is left by "
+reason UnknownNaming = codes "unknown naming "
+reason UnknownSeverity = codes "unknown severity "
+
+-- the word of an option's name and value for which it is said: of a list of rules the name that stands for none
+abbrev pub word_in : ConfigFault → List ℕ × List ℕ → List ℕ
+word_in UnknownOption (name, value) = name
+word_in GivenTwice (name, value) = name
+word_in UnknownRule (name, value) = unknown_in value
+word_in _ (name, value) = value
+
+-- that of a line
+abbrev pub wrong_word : ConfigFault → List ℕ → List ℕ
+wrong_word fault line = word_in fault (parts (bare line))
+
+-- THE WORDS, with that word between double quotes: all of a line is UTF-8, so nothing is replaced
+abbrev pub fault_words : ConfigFault → List ℕ → List ℕ
+fault_words fault line = utf8_lossy (reason fault ++ in_quotes (wrong_word fault line))

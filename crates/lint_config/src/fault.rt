@@ -1,7 +1,12 @@
 //! What is wrong with a line.
 
-ghost use Rattle.std.specs.Prelude.{◌≡◌};
-ghost use Rattle.lint_config.specs.Texts.{config_fault_text};
+ghost use Rattle.std.specs.Prelude.{◌≡◌, IfOk, string_bytes};
+ghost use Rattle.lint_config.specs.Texts.{fault_words, reason, wrong_word};
+
+use crate::parts::{bare, parts};
+use file_tree::quote::push_in_quotes;
+use rule_lists::unknown_in;
+use std::alloc::{AllocError, Global};
 
 /// What is wrong with a line.
 #[derive(Clone, Copy, Debug, PartialEq, Eq)]
@@ -21,17 +26,39 @@ pub enum ConfigFault {
 }
 
 impl ConfigFault {
-    /// What is said of it, after the file, the line and a colon.
-    pub fn text(self) -> &'static str
-        ensures { result.now ≡ config_fault_text self }
+    /// What is said of it, before the word for which it is one.
+    fn reason(self) -> &'static str
+        ensures { result.now ≡ reason self }
     {
         match self {
-            ConfigFault::UnknownOption => "no option of a project",
-            ConfigFault::GivenTwice => "the option is given twice",
-            ConfigFault::UnknownRule => "unknown rule",
-            ConfigFault::NoRuleLeft => "no rule is left",
-            ConfigFault::UnknownNaming => "unknown naming",
-            ConfigFault::UnknownSeverity => "unknown severity",
+            ConfigFault::UnknownOption => "no option of a project: ",
+            ConfigFault::GivenTwice => "given twice: ",
+            ConfigFault::UnknownRule => "unknown rule ",
+            ConfigFault::NoRuleLeft => "no rule is left by ",
+            ConfigFault::UnknownNaming => "unknown naming ",
+            ConfigFault::UnknownSeverity => "unknown severity ",
         }
+    }
+
+    /// The word of a line for which it is one.
+    fn word(self, line: &str) -> &str
+        ensures { result.now ≡ wrong_word self line.now }
+    {
+        let parts = parts(bare(line));
+        match self {
+            ConfigFault::UnknownOption | ConfigFault::GivenTwice => parts.name,
+            ConfigFault::UnknownRule => unknown_in(parts.value),
+            ConfigFault::NoRuleLeft | ConfigFault::UnknownNaming | ConfigFault::UnknownSeverity =>
+                parts.value,
+        }
+    }
+
+    /// What is said of a line, after the file, its number and a colon.
+    pub(crate) fn words(self, alloc: Global, line: &str) -> Result<String, AllocError>
+        ensures { IfOk result (λ words. string_bytes words ≡ fault_words self line.now) }
+    {
+        let mut words = Vec::from_slice(alloc, self.reason().as_bytes())?;
+        push_in_quotes(&mut words, self.word(line).as_bytes())?;
+        String::from_utf8_lossy(alloc, words.as_slice())
     }
 }

@@ -7,6 +7,5 @@ mod parts;
 mod said;
 mod text;
 
-pub use fault::ConfigFault;
 pub use said::{NOTHING, Said};
 pub use text::{BadLine, Config, config_in};

@@ -1,7 +1,8 @@
 //! What a text says.
 
-ghost use Rattle.std.specs.Prelude.{◌≡◌, IfOk, OnOk};
-ghost use Rattle.lint_config.specs.Lines.{read_line, read_text};
+ghost use Rattle.std.specs.Prelude.{◌≡◌, ◌++◌, ◌∷◌, [], IfOk, OnOk};
+ghost use Rattle.lint_config.specs.Reads.{read_line, read_text};
+ghost use Rattle.lint_config.specs.Texts.{fault_words};
 ghost use Rattle.lint_config.specs.Configs.{read_of};
 
 use crate::fault::ConfigFault;
@@ -9,13 +10,13 @@ use crate::line::with_line;
 use crate::said::{NOTHING, Said};
 use std::alloc::{AllocError, Global};
 
-/// A line that is wrong, counted from 1.
-#[derive(Clone, Copy, Debug, PartialEq, Eq)]
+/// A line that is wrong.
+#[derive(Debug, Drop)]
 pub struct BadLine {
-    /// Which one it is.
+    /// Which one it is, from 1 on.
     pub line: usize,
-    /// What is wrong with it.
-    pub fault: ConfigFault,
+    /// What is said of it.
+    pub text: String,
 }
 
 /// What a text says: the options of its lines, and those that are wrong.
@@ -30,8 +31,25 @@ pub struct Config {
 }
 
 impl Config {
+    /// Adds what is wrong with the line of this number.
+    fn add_bad(
+        &mut self,
+        alloc: Global,
+        number: usize,
+        line: &str,
+        fault: ConfigFault,
+    ) -> Result<(), AllocError>
+        ensures said { self.new.said ≡ self.old.said }
+        ensures added { OnOk result ((read_of self.new).faults
+            ≡ (read_of self.old).faults ++ (number, fault_words fault line.now) ∷ []) }
+    {
+        let text = fault.words(alloc, line)?;
+        self.faults.push(BadLine { line: number, text })?;
+        Ok(())
+    }
+
     /// Takes one line more.
-    fn take(&mut self, line: &str) -> Result<(), AllocError>
+    fn take(&mut self, alloc: Global, line: &str) -> Result<(), AllocError>
         ensures { OnOk result (read_of self.new ≡ read_line (read_of self.old) line.now) }
     {
         let Some(number) = self.lines.checked_add(1) else {
@@ -39,10 +57,7 @@ impl Config {
         };
         match with_line(self.said, line) {
             Ok(said) => self.said = said,
-            Err(fault) => self.faults.push(BadLine {
-                line: number,
-                fault,
-            })?,
+            Err(fault) => self.add_bad(alloc, number, line, fault)?,
         }
         self.lines = number;
         Ok(())
@@ -60,7 +75,7 @@ pub fn config_in(alloc: Global, text: &str) -> Result<Config, AllocError>
         faults: Vec::new(alloc),
     };
     for line in text.split('\n') {
-        config.take(line)?;
+        config.take(alloc, line)?;
     }
     Ok(config)
 }

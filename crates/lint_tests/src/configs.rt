@@ -244,7 +244,7 @@ static ROWS: [Row; 25] = [
             stands: Stands::File(b"--force\n--bogus\n"),
         }],
         words: &[b"tfrules-all", b"a"],
-        err: b"tfrules-all: error: a/.tfrules:2: no option of a project\n2 modules not linted: their options aren't known\n",
+        err: b"tfrules-all: error: a/.tfrules:2: no option of a project: \"--bogus\"\n2 modules not linted: their options aren't known\n",
         status: 1,
     },
     Row {
@@ -253,7 +253,7 @@ static ROWS: [Row; 25] = [
             stands: Stands::File(b"--force\n--force\n--naming x"),
         }],
         words: &[b"tfrules-all", b"a"],
-        err: b"tfrules-all: error: a/b/.tfrules:2: the option is given twice\ntfrules-all: error: a/b/.tfrules:3: unknown naming\n2 issues in 1 of 1 module\n1 module not linted: its options aren't known\n",
+        err: b"tfrules-all: error: a/b/.tfrules:2: given twice: \"--force\"\ntfrules-all: error: a/b/.tfrules:3: unknown naming \"x\"\n2 issues in 1 of 1 module\n1 module not linted: its options aren't known\n",
         status: 1,
     },
     Row {
@@ -262,7 +262,7 @@ static ROWS: [Row; 25] = [
             stands: Stands::File(b"--bogus"),
         }],
         words: &[b"tfrules-all", b"--quiet", b"a"],
-        err: b"tfrules-all: error: a/b/.tfrules:1: no option of a project\n",
+        err: b"tfrules-all: error: a/b/.tfrules:1: no option of a project: \"--bogus\"\n",
         status: 1,
     },
     Row {
@@ -277,7 +277,7 @@ static ROWS: [Row; 25] = [
             },
         ],
         words: &[b"tfrules-all", b"a"],
-        err: b"tfrules-all: error: /r/.tfrules:1: no option of a project\n2 modules not linted: their options aren't known\n",
+        err: b"tfrules-all: error: /r/.tfrules:1: no option of a project: \"--bogus\"\n2 modules not linted: their options aren't known\n",
         status: 1,
     },
     // A folder without modules needs no options.
@@ -365,7 +365,7 @@ static ROWS: [Row; 25] = [
             stands: Stands::File(b"--force\0"),
         }],
         words: &[b"tfrules-all", b"a/b"],
-        err: b"tfrules-all: error: a/b/.tfrules:1: no option of a project\n1 module not linted: its options aren't known\n",
+        err: b"tfrules-all: error: a/b/.tfrules:1: no option of a project: \"--force\\000\"\n1 module not linted: its options aren't known\n",
         status: 1,
     },
 ];

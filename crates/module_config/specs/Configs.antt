@@ -7,7 +7,8 @@ use Rattle.file_tree.specs.declared.fault.TreeFault.{TreeFault}
 use Rattle.file_tree.specs.declared.walk.Found.{Found}
 use Rattle.hcl_source.specs.Load.{IsLoadFault, IsText}
 use Rattle.lint_config.specs.Configs.{read_of}
-use Rattle.lint_config.specs.Lines.{Options, read_text}
+use Rattle.lint_config.specs.Lines.{Options}
+use Rattle.lint_config.specs.Reads.{read_text}
 use Rattle.module_find.specs.declared.module.Module.{Module}
 use Rattle.tree_lint.specs.Verdicts.{told_in}
 use Rattle.module_config.specs.Governors.{ArePlaced, IsStart, wants}

@@ -1,11 +1,10 @@
 -- Files that are bad, and calls that failed, as refusals. Our own choice.
-use Rattle.std.specs.Prelude.{ℕ, List, [], ◌∷◌, ◌++◌, Option, Some, None, flat_map, map, min}
+use Rattle.std.specs.Prelude.{ℕ, List, [], ◌∷◌, ◌++◌, Option, Some, None, flat_map, map, min, string_bytes}
 use Rattle.file_tree.specs.FaultTexts.{tree_fault_text}
 use Rattle.file_tree.specs.Files.{Name}
 use Rattle.file_tree.specs.declared.fault.TreeFault.{TreeFault}
 use Rattle.file_tree.specs.declared.walk.Found.{Found}
 use Rattle.hcl_source.specs.FaultTexts.{fault_text}
-use Rattle.lint_config.specs.Texts.{config_fault_text}
 use Rattle.lint_config.specs.declared.text.BadLine.{BadLine}
 use Rattle.tree_lint.specs.Refusals.{Refusal, refusal_of}
 use Rattle.module_config.specs.Governors.{shown_from}
@@ -20,7 +19,7 @@ abbrev pub line_number : ℕ → ℕ
 line_number line = min line 4294967295
 
 abbrev pub line_refusal : Name → BadLine → Refusal
-line_refusal name bad = record { name = name; at = Some (record { line = line_number bad.line; column = 1 }); text = config_fault_text bad.fault }
+line_refusal name bad = record { name = name; at = Some (record { line = line_number bad.line; column = 1 }); text = string_bytes bad.text }
 
 abbrev pub text_refusals : Name → ConfigText → List Refusal
 text_refusals name (Says config) = map (line_refusal name) config.faults.items

@@ -1,5 +1,5 @@
 -- What is said of files that are bad, and of modules that aren't linted for them. Our own choice.
-use Rattle.std.specs.Prelude.{ℕ, ◌==◌, List, [], ◌++◌, Option, Some, None, codes, decimal, flat_map, if◌then◌else◌}
+use Rattle.std.specs.Prelude.{ℕ, ◌==◌, List, [], ◌++◌, Option, Some, None, codes, decimal, flat_map, string_bytes, if◌then◌else◌}
 use Rattle.command_line.specs.Rows.{error, line}
 use Rattle.file_tree.specs.FaultTexts.{tree_fault_text}
 use Rattle.file_tree.specs.Files.{Name}
@@ -7,7 +7,6 @@ use Rattle.file_tree.specs.Quotes.{quoted}
 use Rattle.file_tree.specs.declared.fault.TreeFault.{TreeFault}
 use Rattle.file_tree.specs.declared.walk.Found.{Found}
 use Rattle.hcl_source.specs.FaultTexts.{fault_text}
-use Rattle.lint_config.specs.Texts.{config_fault_text}
 use Rattle.lint_config.specs.declared.text.BadLine.{BadLine}
 use Rattle.tree_lint.specs.Refusals.{refusal_line, refusal_of, tree_linter}
 use Rattle.module_config.specs.Governors.{shown_from}
@@ -19,7 +18,7 @@ use Rattle.module_config.specs.declared.start.Start.{Start}
 
 -- `tfrules-all: error: FILE:LINE: TEXT`
 abbrev pub line_words : BadLine → List ℕ
-line_words bad = codes ":" ++ (decimal bad.line ++ (codes ": " ++ line (config_fault_text bad.fault)))
+line_words bad = codes ":" ++ (decimal bad.line ++ (codes ": " ++ line (string_bytes bad.text)))
 
 abbrev pub bad_line : Name → BadLine → List ℕ
 bad_line name bad = error tree_linter (quoted name ++ line_words bad)

@@ -37,7 +37,7 @@ fn keep_line(alloc: Global, name: &[u8], bad: &BadLine, kept: &mut Kept)
         Refusal {
             name,
             at: Some(at),
-            text: bad.fault.text(),
+            text: bad.text.as_str(),
         },
     );
 }

@@ -24,7 +24,7 @@ fn tell_line_words<S: ByteSink>(sink: &mut S, bad: &BadLine) -> Result<(), Faile
 {
     let mut line = Buffer::new();
     let line = line.format(bad.line).as_bytes();
-    let text = bad.fault.text().as_bytes();
+    let text = bad.text.as_bytes();
     write_pieces(sink, &[b":", line, b": ", text, b"\n"])
 }
 

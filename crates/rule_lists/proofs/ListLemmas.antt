@@ -1,8 +1,10 @@
 -- Sets of rules, part by part.
-use Rattle.std.proofs.Common.{◌≡◌, ◌∙◌, ℕ, Bool, true, false, cond, List, [], ◌∷◌, ◌++◌, refl, sym, ap, eqb-true}
-use Rattle.std.specs.Prelude.{◌||◌, ◌&&◌, ◌==◌, ◌≢◌, Option, Some, None, Ok, Err, filter, not, if◌then◌else◌}
+use Rattle.std.proofs.Common.{◌≡◌, ◌∙◌, ◌+◌, ℕ, Bool, true, false, cond, List, [], ◌∷◌, ◌++◌, refl, sym, ap, drop, eqb-true, take}
+use Rattle.std.specs.Prelude.{◌||◌, ◌&&◌, ◌==◌, ◌≢◌, Option, Some, None, Ok, Err, filter, find, not, if◌then◌else◌}
 use Rattle.std.specs.List.{list_all, list_any}
-use Rattle.std.proofs.lemmas.List.Folds.{list_all-append}
+use Rattle.std.specs.Option.{option_or}
+use Rattle.std.proofs.lemmas.List.{take-append-drop}
+use Rattle.std.proofs.lemmas.List.Folds.{find-append, list_all-append}
 use Rattle.std.proofs.lemmas.List.Sums.{fold-append}
 use Rattle.std.proofs.lemmas.Slice.Eq.{bytes_eq-Decides}
 use Rattle.rule_set.specs.RuleSets.{holds, rules_of}
@@ -22,7 +24,7 @@ unnamed name rule none = by (is_rule_named name rule) refl
     by true e = absurd (none rule ((bytes_eq-Decides (rule_name rule) name).0 e))
     by false e = refl
 
-any_same : {A : Type 0} (p q : A → Bool) (xs : List A) → ((x : A) → p x ≡ q x) → list_any p xs ≡ list_any q xs
+pub any_same : {A : Type 0} (p q : A → Bool) (xs : List A) → ((x : A) → p x ≡ q x) → list_any p xs ≡ list_any q xs
 any_same p q [] h = refl
 any_same p q (x ∷ xs) h = ap (λ b. b || list_any p xs) (h x) ∙ ap (λ b. q x || b) (any_same p q xs h)
 
@@ -56,7 +58,7 @@ left_true : (x y : Bool) → (x && y) ≡ true → x ≡ true
 left_true true y e = refl
 left_true false y e = e
 
-undashed : (part : List ℕ) → ((rest : List ℕ) → part ≢ 45 ∷ rest) → (takes_away part ≡ false) × (part_name part ≡ part)
+pub undashed : (part : List ℕ) → ((rest : List ℕ) → part ≢ 45 ∷ rest) → (takes_away part ≡ false) × (part_name part ≡ part)
 undashed [] h = (refl, refl)
 undashed (b ∷ bs) h = by (takes_away (b ∷ bs)) refl
   where
@@ -109,3 +111,15 @@ none_left parts set any e none l = known_by parts false l.0 (any_of set (is_aske
 
 pub some_left : (parts : List (List ℕ)) (set : RuleSet) (any : Bool) → any ≡ list_any (holds set) all_rules → any ≡ true → Listed parts (Some set) → Ok (rules_of set) ≡ rules_of_parts parts
 some_left parts set any e some l = ap Ok (filter_same (holds set) (is_asked parts) all_rules l.1) ∙ known_by parts true l.0 (any_of set (is_asked parts) any true e l.1 some)
+
+-- ---- the first part that names no rule
+
+pub none_yet : {A : Type 0} (p : A → Bool) (xs ys : List A) (x : A) → find p xs ≡ None → p x ≡ false → xs ++ x ∷ [] ≡ ys → find p ys ≡ None
+none_yet p xs ys x none fails is = ap (find p) (sym is) ∙ find-append p xs (x ∷ []) ∙ ap (λ o. option_or o (find p (x ∷ []))) none ∙ ap (λ b. cond b (Some x) None) fails
+
+first_here : {A : Type 0} (p : A → Bool) (xs ys : List A) (x : A) → find p xs ≡ None → p x ≡ true → xs ++ x ∷ [] ≡ ys → find p ys ≡ Some x
+first_here p xs ys x none holds_it is = ap (find p) (sym is) ∙ find-append p xs (x ∷ []) ∙ ap (λ o. option_or o (find p (x ∷ []))) none ∙ ap (λ b. cond b (Some x) None) holds_it
+
+pub found_first : {A : Type 0} (p : A → Bool) (all : List A) (n : ℕ) (x : A) → find p (take n all) ≡ None → p x ≡ true → take n all ++ x ∷ [] ≡ take (n + 1) all → Some x ≡ find p all
+found_first p all n x none holds_it is =
+    sym (ap (find p) (sym (take-append-drop (n + 1) all)) ∙ find-append p (take (n + 1) all) (drop (n + 1) all) ∙ ap (λ o. option_or o (find p (drop (n + 1) all))) (first_here p (take n all) (take (n + 1) all) x none holds_it is))

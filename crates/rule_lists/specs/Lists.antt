@@ -1,6 +1,6 @@
 -- What a list of rules stands for, such as `all,-terraform_typed_variables`: names with commas between them, each of which
 -- gives its rules, or takes them away after a dash. Our own choice.
-use Rattle.std.specs.Prelude.{◌==◌, ℕ, Bool, true, false, not, List, Result, Ok, Err, codes, drop, filter, fold, if◌then◌else◌}
+use Rattle.std.specs.Prelude.{◌==◌, ℕ, Bool, true, false, not, List, [], Result, Ok, Err, codes, drop, filter, find, fold, option_map, unwrap_or, if◌then◌else◌}
 use Rattle.std.specs.List.{list_all, list_any, slice_split, starts_with}
 use Rattle.std.specs.Str.{bytes_eq}
 use Rattle.rule_set.specs.Rules.{all_rules, is_recommended, rule_name}
@@ -45,6 +45,10 @@ rules_of_parts parts =
 -- THE RULES of a list, in the order of their names
 abbrev pub rules_in : List ℕ → Result (List Rule) ListFault
 rules_in list = rules_of_parts (slice_split (λ b. b == 44) list)
+
+-- THE NAME of a list that is told where it isn't one: the first that stands for no rule
+abbrev pub unknown_in : List ℕ → List ℕ
+unknown_in list = unwrap_or (option_map part_name (find (λ part. not (is_known_part part)) (slice_split (λ b. b == 44) list))) []
 
 -- those of a set that stands for a list
 abbrev pub rules_found : Result RuleSet ListFault → Result (List Rule) ListFault

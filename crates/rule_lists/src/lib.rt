@@ -6,4 +6,4 @@ mod list;
 mod part;
 
 pub use fault::ListFault;
-pub use list::rules_in;
+pub use list::{rules_in, unknown_in};

@@ -1,12 +1,12 @@
 //! A whole list.
 
-ghost use Rattle.std.specs.Prelude.{◌≡◌, ◌==◌, ℕ, List, Some};
+ghost use Rattle.std.specs.Prelude.{◌≡◌, ◌==◌, ℕ, List, Some, find, not, option_map};
 ghost use Rattle.std.specs.List.{slice_split};
-ghost use Rattle.rule_lists.specs.Lists.{rules_found, rules_in, rules_of_parts};
+ghost use Rattle.rule_lists.specs.Lists.{is_known_part, rules_found, rules_in, rules_of_parts, unknown_in};
 ghost use Rattle.rule_lists.specs.Inner.Listed.{Listed};
 
 use crate::fault::ListFault;
-use crate::part::with_part;
+use crate::part::{is_known_part, part_name, with_part};
 use rule_set::RuleSet;
 
 /// The set after all parts of a list, or nothing where a part names no rule.
@@ -44,5 +44,28 @@ pub fn rules_in(list: &str) -> Result<RuleSet, ListFault>
     match after_parts(list) {
         Some(set) => unless_empty(set),
         None => Err(ListFault::UnknownRule),
+    }
+}
+
+/// The first part of a list that names no rule.
+fn unknown_part(list: &str) -> Option<&str>
+    ensures { option_map (λ part. part.now) result
+        ≡ find (λ part. not (is_known_part part)) (slice_split (λ b. b == 44) list.now) }
+{
+    for part in list.split(',') {
+        if !is_known_part(part) {
+            return Some(part);
+        }
+    }
+    None
+}
+
+/// The first name of a list that stands for no rule, or nothing where each does.
+pub fn unknown_in(list: &str) -> &str
+    ensures { result.now ≡ unknown_in list.now }
+{
+    match unknown_part(list) {
+        Some(part) => part_name(part),
+        None => "",
     }
 }

@@ -3,7 +3,7 @@
 ghost use Rattle.std.specs.Prelude.{◌≡◌, ◌++◌, ◌∷◌, [], ℕ, List, true, false};
 ghost use Rattle.rule_set.specs.RuleSets.{holds};
 ghost use Rattle.rule_set.specs.declared.rule.Rule.{Rule};
-ghost use Rattle.rule_lists.specs.Lists.{is_rule_named, stands_for};
+ghost use Rattle.rule_lists.specs.Lists.{is_known_part, is_rule_named, part_name, stands_for};
 ghost use Rattle.rule_lists.specs.Inner.Listed.{IsSetByName, Listed};
 
 use rule_set::{Rule, RuleSet, rules_of_both, rules_without};
@@ -51,6 +51,23 @@ fn without_name(set: RuleSet, name: &str) -> Option<RuleSet>
         return Some(rules_without(set, named));
     }
     None
+}
+
+/// The name in a part of a list.
+pub fn part_name(part: &str) -> &str
+    ensures { result.now ≡ part_name part.now }
+{
+    match part.strip_prefix('-') {
+        Some(name) => name,
+        None => part,
+    }
+}
+
+/// Whether a part names a rule.
+pub fn is_known_part(part: &str) -> bool
+    ensures { result ≡ is_known_part part.now }
+{
+    rules_of_name(part_name(part)).holds_any()
 }
 
 /// The set after one part more, or nothing where a part names no rule.

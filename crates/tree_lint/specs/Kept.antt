@@ -23,7 +23,7 @@ refusal_remark r = record { file = utf8_lossy r.name; line = line_told r.at; col
 
 -- the same of one that is kept
 abbrev pub kept_remark : KeptRefusal → Remark
-kept_remark k = record { file = string_bytes k.name; line = k.line; column = k.column; subject = subject.Refusal; text = k.text.now }
+kept_remark k = record { file = string_bytes k.name; line = k.line; column = k.column; subject = subject.Refusal; text = string_bytes k.text }
 
 -- these are kept, and no others, unless one is missing
 abbrev pub HoldsAll : Kept → List Refusal → Type 0

@@ -22,7 +22,7 @@ pub struct KeptRefusal {
     /// The column, from 1 on.
     pub column: u32,
     /// What is said of it.
-    pub text: &'static str,
+    pub text: String,
 }
 
 /// Refusals that are kept.
@@ -59,11 +59,12 @@ fn kept_of(alloc: Global, refusal: Refusal<'_>) -> Result<KeptRefusal, AllocErro
         (λ kept. kept_remark kept ≡ refusal_remark (refusal_told refusal.entry)) }
 {
     let name = String::from_utf8_lossy(alloc, refusal.name)?;
+    let text = String::from_str(alloc, refusal.text)?;
     Ok(KeptRefusal {
         name,
         line: line_told(refusal.at),
         column: column_told(refusal.at),
-        text: refusal.text,
+        text,
     })
 }
 
@@ -76,7 +77,7 @@ fn remark_of(kept: &KeptRefusal) -> Remark<'_>
         line: kept.line,
         column: kept.column,
         subject: Subject::Refusal,
-        text: kept.text,
+        text: kept.text.as_str(),
     }
 }
 

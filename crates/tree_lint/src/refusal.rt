@@ -23,7 +23,7 @@ pub struct Refusal<'a> {
     /// The place in the file, where it has one.
     pub at: Option<Position>,
     /// What is said of it.
-    pub text: &'static str,
+    pub text: &'a str,
 }
 
 /// Writes `:LINE:COLUMN: TEXT`.

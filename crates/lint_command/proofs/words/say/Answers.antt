@@ -1,5 +1,5 @@
 use Rattle.std.proofs.Common.{map}
-use Rattle.lint_command.specs.declared.usage.Usage.TheVariants.{BadForm, BadJobs, BadNaming, BadPart, BadSeverity, Explain, Help, ListRules, NamesTwice, NoRuleLeft, UnknownRule, Version}
+use Rattle.lint_command.specs.declared.usage.Usage.TheVariants.{BadForm, BadJobs, BadNaming, BadPart, BadSeverity, Explain, Help, ListRules, NamesTwice, NoRuleLeft, UnknownExplained, UnknownRule, Version}
 use Rattle.lint_command.proofs.UsageLemmas.{memory_shown, shown_as, shows_usage}
 use Rattle.lint_command.proofs.words.say.Goals as goal
 
@@ -17,25 +17,28 @@ returns-in-Explain g c =
     shown_as (map (λ word. word.now) c.args.words.now) c.args.usage (Explain c.in-Explain.rule) _ c.in-Explain.is (c.explain.ensures (map (λ word. word.now) c.args.words.now))
 
 pub returns-in-UnknownRule : goal.returns-in-UnknownRule
-returns-in-UnknownRule g c = shows_usage (map (λ word. word.now) c.args.words.now) c.args.usage UnknownRule c.tree_linter-in-UnknownRule.result _ c.in-UnknownRule.is c.tree_linter-in-UnknownRule.ensures c.tell.ensures
+returns-in-UnknownRule g c = shown_as (map (λ word. word.now) c.args.words.now) c.args.usage UnknownRule _ c.in-UnknownRule.is c.unknown_rule.ensures
+
+pub returns-in-UnknownExplained : goal.returns-in-UnknownExplained
+returns-in-UnknownExplained g c = shown_as (map (λ word. word.now) c.args.words.now) c.args.usage UnknownExplained _ c.in-UnknownExplained.is c.wrong_value.ensures
 
 pub returns-in-NoRuleLeft : goal.returns-in-NoRuleLeft
-returns-in-NoRuleLeft g c = shows_usage (map (λ word. word.now) c.args.words.now) c.args.usage NoRuleLeft c.tree_linter-in-NoRuleLeft.result _ c.in-NoRuleLeft.is c.tree_linter-in-NoRuleLeft.ensures c.tell-in-NoRuleLeft.ensures
+returns-in-NoRuleLeft g c = shown_as (map (λ word. word.now) c.args.words.now) c.args.usage NoRuleLeft _ c.in-NoRuleLeft.is c.wrong_value-in-NoRuleLeft.ensures
 
 pub returns-in-BadNaming : goal.returns-in-BadNaming
-returns-in-BadNaming g c = shows_usage (map (λ word. word.now) c.args.words.now) c.args.usage BadNaming c.tree_linter-in-BadNaming.result _ c.in-BadNaming.is c.tree_linter-in-BadNaming.ensures c.tell-in-BadNaming.ensures
+returns-in-BadNaming g c = shown_as (map (λ word. word.now) c.args.words.now) c.args.usage BadNaming _ c.in-BadNaming.is c.wrong_value-in-BadNaming.ensures
 
 pub returns-in-BadSeverity : goal.returns-in-BadSeverity
-returns-in-BadSeverity g c = shows_usage (map (λ word. word.now) c.args.words.now) c.args.usage BadSeverity c.tree_linter-in-BadSeverity.result _ c.in-BadSeverity.is c.tree_linter-in-BadSeverity.ensures c.tell-in-BadSeverity.ensures
+returns-in-BadSeverity g c = shown_as (map (λ word. word.now) c.args.words.now) c.args.usage BadSeverity _ c.in-BadSeverity.is c.wrong_value-in-BadSeverity.ensures
 
 pub returns-in-BadPart : goal.returns-in-BadPart
-returns-in-BadPart g c = shows_usage (map (λ word. word.now) c.args.words.now) c.args.usage BadPart c.tree_linter-in-BadPart.result _ c.in-BadPart.is c.tree_linter-in-BadPart.ensures c.tell-in-BadPart.ensures
+returns-in-BadPart g c = shown_as (map (λ word. word.now) c.args.words.now) c.args.usage BadPart _ c.in-BadPart.is c.wrong_value-in-BadPart.ensures
 
 pub returns-in-BadForm : goal.returns-in-BadForm
-returns-in-BadForm g c = shows_usage (map (λ word. word.now) c.args.words.now) c.args.usage BadForm c.tree_linter-in-BadForm.result _ c.in-BadForm.is c.tree_linter-in-BadForm.ensures c.tell-in-BadForm.ensures
+returns-in-BadForm g c = shown_as (map (λ word. word.now) c.args.words.now) c.args.usage BadForm _ c.in-BadForm.is c.wrong_value-in-BadForm.ensures
 
 pub returns-in-BadJobs : goal.returns-in-BadJobs
-returns-in-BadJobs g c = shows_usage (map (λ word. word.now) c.args.words.now) c.args.usage BadJobs c.tree_linter-in-BadJobs.result _ c.in-BadJobs.is c.tree_linter-in-BadJobs.ensures c.tell-in-BadJobs.ensures
+returns-in-BadJobs g c = shows_usage (map (λ word. word.now) c.args.words.now) c.args.usage BadJobs c.tree_linter-in-BadJobs.result _ c.in-BadJobs.is c.tree_linter-in-BadJobs.ensures c.tell.ensures
 
 pub returns-in-NamesTwice : goal.returns-in-NamesTwice
 returns-in-NamesTwice g c = shows_usage (map (λ word. word.now) c.args.words.now) c.args.usage NamesTwice c.tree_linter-in-NamesTwice.result _ c.in-NamesTwice.is c.tree_linter-in-NamesTwice.ensures c.tell-in-NamesTwice.ensures

@@ -5,7 +5,8 @@ use Rattle.std.proofs.lemmas.List.{length_push, take_all, take_more}
 use Rattle.std.proofs.lemmas.List.Sums.{fold-append}
 use Rattle.std.proofs.lemmas.Iterator.Consumers.{YieldsList-at, YieldsList-end, YieldsList-turn}
 use Rattle.std.proofs.lemmas.Iterator.Splits.{YieldsList-from_str_split}
-use Rattle.lint_config.specs.Lines.{Read, nothing, read_line}
+use Rattle.lint_config.specs.Lines.{nothing}
+use Rattle.lint_config.specs.Reads.{Read, read_line}
 use Rattle.lint_config.proofs.text.config_in.Goals as goal
 
 pub loop-line-preserved : goal.loop-line-preserved

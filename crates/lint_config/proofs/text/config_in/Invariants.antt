@@ -1,7 +1,8 @@
 use Rattle.std.proofs.Common.{◌≡◌, length, take}
 use Rattle.std.specs.Prelude.{◌==◌, [], fold}
 use Rattle.std.specs.List.{slice_split}
-use Rattle.lint_config.specs.Lines.{nothing, read_line}
+use Rattle.lint_config.specs.Lines.{nothing}
+use Rattle.lint_config.specs.Reads.{read_line}
 use Rattle.lint_config.specs.Configs.{read_of}
 use Rattle.lint_config.proofs.text.config_in.Given as goal
 

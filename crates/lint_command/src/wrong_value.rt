@@ -1,0 +1,118 @@
+//! What is said of an option's value that stands for nothing.
+
+ghost use Rattle.std.specs.Prelude.{◌≡◌, ◌++◌, ◌⊎◌, [], IfOk, codes, false, map, unwrap_or};
+ghost use Rattle.clap.specs.Words.{first_of, found_of, rows_of};
+ghost use Rattle.command_line.specs.Rows.{end_of, error_line, out_of_memory};
+ghost use Rattle.file_tree.specs.Quotes.{in_quotes};
+ghost use Rattle.lint_command.specs.Ends.{SaysOnly, value_in, wrong_value};
+ghost use Rattle.rule_lists.specs.Lists.{unknown_in};
+ghost use Rattle.tree_lint.specs.Refusals.{tree_linter};
+
+use crate::options::command;
+use crate::words::tree_linter;
+use clap::ArgMatches;
+use file_tree::quote::push_in_quotes;
+use hcl_scan::ByteSink;
+use rule_lists::unknown_in;
+use std::alloc::{AllocError, Global};
+
+/// The value of an option in the matches of a line.
+fn value_in<'w>(matches: &ArgMatches<'w>, option: &str) -> &'w str
+    ensures { result.now
+        ≡ unwrap_or (first_of option.now (rows_of (found_of matches.now))) [] }
+{
+    match matches.get_str(option) {
+        Some(value) => value,
+        None => "",
+    }
+}
+
+/// The value of an option of a line that clap takes.
+fn value_of<'w>(alloc: Global, words: &'w [&'w str], option: &str) -> Result<&'w str, AllocError>
+    ensures { IfOk result (λ value. value.now
+        ≡ value_in (map (λ word. word.now) words.entry.now) option.now) }
+{
+    let command = command(alloc)?;
+    match command.try_get_matches_from(words) {
+        Ok(matches) => Ok(value_in(&matches, option)),
+        // The line was taken before, so this is for want of memory.
+        Err(_) => Err(AllocError),
+    }
+}
+
+/// The line that says of a value that it stands for nothing.
+fn value_line(alloc: Global, front: &str, value: &str) -> Result<Vec<u8>, AllocError>
+    ensures { IfOk result (λ text. text.items
+        ≡ error_line tree_linter (front.now ++ in_quotes value.now)) }
+{
+    let mut text = Vec::from_slice(alloc, b"tfrules-all: error: ")?;
+    text.extend_from_slice(front.as_bytes())?;
+    push_in_quotes(&mut text, value.as_bytes())?;
+    text.extend_from_slice(b"\n")?;
+    Ok(text)
+}
+
+/// Says of a value that it stands for nothing.
+fn tell_value<O: ByteSink, E: ByteSink>(
+    alloc: Global,
+    front: &str,
+    value: &str,
+    out: &mut O,
+    err: &mut E,
+) -> u8
+    requires out { O.failed out.old ≡ false }
+    requires err { E.failed err.old ≡ false }
+    ensures { SaysOnly (out_of_memory tree_linter)
+        (end_of O.ByteSink out.old out.new E.ByteSink err.old err.new result)
+        ⊎ SaysOnly (wrong_value front.now value.now)
+        (end_of O.ByteSink out.old out.new E.ByteSink err.old err.new result) }
+{
+    match value_line(alloc, front, value) {
+        Ok(text) => tree_linter().tell_bytes(out, err, text.as_slice(), 1),
+        Err(_) => tree_linter().tell_out_of_memory(out, err),
+    }
+}
+
+/// Says of the value of an option that it stands for nothing.
+pub(crate) fn wrong_value<O: ByteSink, E: ByteSink>(
+    alloc: Global,
+    words: &[&str],
+    option: &str,
+    front: &str,
+    out: &mut O,
+    err: &mut E,
+) -> u8
+    requires out { O.failed out.old ≡ false }
+    requires err { E.failed err.old ≡ false }
+    ensures { SaysOnly (out_of_memory tree_linter)
+        (end_of O.ByteSink out.old out.new E.ByteSink err.old err.new result)
+        ⊎ SaysOnly (wrong_value front.now
+        (value_in (map (λ word. word.now) words.now) option.now))
+        (end_of O.ByteSink out.old out.new E.ByteSink err.old err.new result) }
+{
+    match value_of(alloc, words, option) {
+        Ok(value) => tell_value(alloc, front, value, out, err),
+        Err(_) => tree_linter().tell_out_of_memory(out, err),
+    }
+}
+
+/// Says which name of `--rules` stands for no rule.
+pub(crate) fn unknown_rule<O: ByteSink, E: ByteSink>(
+    alloc: Global,
+    words: &[&str],
+    out: &mut O,
+    err: &mut E,
+) -> u8
+    requires out { O.failed out.old ≡ false }
+    requires err { E.failed err.old ≡ false }
+    ensures { SaysOnly (out_of_memory tree_linter)
+        (end_of O.ByteSink out.old out.new E.ByteSink err.old err.new result)
+        ⊎ SaysOnly (wrong_value (codes "unknown rule ")
+        (unknown_in (value_in (map (λ word. word.now) words.now) (codes "rules"))))
+        (end_of O.ByteSink out.old out.new E.ByteSink err.old err.new result) }
+{
+    match value_of(alloc, words, "rules") {
+        Ok(list) => tell_value(alloc, "unknown rule ", unknown_in(list), out, err),
+        Err(_) => tree_linter().tell_out_of_memory(out, err),
+    }
+}

@@ -1,0 +1,23 @@
+-- What the lines of a `.tfrules` say together. Our own choice.
+use Rattle.std.specs.Prelude.{ℕ, ◌+◌, ◌==◌, List, [], ◌∷◌, ◌++◌, Result, Ok, Err, fold}
+use Rattle.std.specs.List.{slice_split}
+use Rattle.lint_config.specs.Lines.{Options, nothing, with_line}
+use Rattle.lint_config.specs.Texts.{fault_words}
+use Rattle.lint_config.specs.declared.fault.ConfigFault.{ConfigFault}
+
+-- the options so far, how many lines there were, and what is said of which of them
+pub record Read : Type 0 where
+  pub said : Options
+  pub lines : ℕ
+  pub faults : List (ℕ × List ℕ)
+
+abbrev pub read_by : Read → List ℕ → Result Options ConfigFault → Read
+read_by r line (Ok said) = record { said = said; lines = r.lines + 1; faults = r.faults }
+read_by r line (Err fault) = record { said = r.said; lines = r.lines + 1; faults = r.faults ++ (r.lines + 1, fault_words fault line) ∷ [] }
+
+abbrev pub read_line : Read → List ℕ → Read
+read_line r line = read_by r line (with_line r.said line)
+
+-- WHAT A TEXT SAYS, and what is said of each line of it that is wrong, which says nothing
+abbrev pub read_text : List ℕ → Read
+read_text text = fold read_line (record { said = nothing; lines = 0; faults = [] }) (slice_split (λ b. b == 10) text)
