@@ -166,6 +166,15 @@ fn link_fault(kind: ErrorKind) -> TreeFault {
     }
 }
 
+/// Why what stands under a name, which may be a link, has no metadata.
+fn entry_fault(name: &str, error: &io::Error) -> TreeFault {
+    match error.kind() {
+        ErrorKind::NotFound | ErrorKind::NotADirectory if name == "-" => TreeFault::NoInput,
+        ErrorKind::NotFound | ErrorKind::NotADirectory => TreeFault::Missing,
+        _ => TreeFault::Unreadable,
+    }
+}
+
 impl SystemTree {
     pub fn new(rt: HostRuntime) -> SystemTree {
         let began = SystemTime::now(&rt).ok();
@@ -182,15 +191,12 @@ impl SystemTree {
         }
     }
 
-    /// Why a name has no metadata.
+    /// Why what a name leads to has no metadata.
     fn metadata_fault(&self, name: &str, error: &io::Error) -> TreeFault {
         match patient::symlink_metadata(&self.rt, name) {
             Ok(metadata) if metadata.is_symlink() => link_fault(error.kind()),
-            Err(_) if name == "-" => TreeFault::NoInput,
-            _ => match error.kind() {
-                ErrorKind::NotFound | ErrorKind::NotADirectory => TreeFault::Missing,
-                _ => TreeFault::Unreadable,
-            },
+            Err(error) => entry_fault(name, &error),
+            Ok(_) => entry_fault(name, error),
         }
     }
 
@@ -228,7 +234,7 @@ impl SystemTree {
         match patient::symlink_metadata(&self.rt, path) {
             Ok(metadata) if metadata.is_symlink() => {}
             Ok(_) => return Ok(()),
-            Err(error) => return Err(self.metadata_fault(path, &error)),
+            Err(error) => return Err(entry_fault(path, &error)),
         }
         match patient::metadata(&self.rt, path) {
             Ok(metadata) => match self.linked.push(identity_of(&metadata)) {
@@ -270,7 +276,7 @@ impl SystemTree {
         let name = text_of(name)?;
         match patient::symlink_metadata(&self.rt, name) {
             Ok(metadata) => self.kind_at(name, &metadata),
-            Err(error) => Err(self.metadata_fault(name, &error)),
+            Err(error) => Err(entry_fault(name, &error)),
         }
     }
 
@@ -319,7 +325,7 @@ impl SystemTree {
         let (kind, is_linked) = match patient::symlink_metadata(&self.rt, name) {
             Ok(metadata) if !metadata.is_symlink() => (kind_in(&metadata), false),
             Ok(_) => (kind_in(&self.metadata_of(name)?), true),
-            Err(error) => return Err(self.metadata_fault(name, &error)),
+            Err(error) => return Err(entry_fault(name, &error)),
         };
         match kind {
             Kind::File(_) => Ok(is_linked),
