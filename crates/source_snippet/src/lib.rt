@@ -1,0 +1,8 @@
+//! The line of a text that a message speaks of, with a mark below the place, for who reads it on a terminal.
+#![tactic(auto)]
+
+mod line;
+mod lines;
+mod visible;
+
+pub use lines::{Lines, snippet_of};

@@ -1,0 +1,60 @@
+//! Lines of a text, one after the other.
+
+ghost use Rattle.std.specs.Prelude.{◌≡◌, ◌==◌, ◌<◌, ◌≤◌, ◌*◌, length, chars, MatchOption};
+ghost use Rattle.std.specs.List.{after_first, before_first, position_or_len};
+ghost use Rattle.source_snippet.specs.Snippets.{longest_line};
+
+/// The most characters of a line that is shown.
+const LONGEST_LINE: usize = 240;
+
+/// The most bytes of so many characters.
+const MOST_BYTES: usize = 4 * LONGEST_LINE;
+
+/// What stands after the first line of a text.
+pub fn after_line(text: &str) -> &str
+    ensures { result.now ≡ after_first (λ b. b == 10) text.now }
+{
+    match text.split_once('\n') {
+        Some((_, after)) => after,
+        None => "",
+    }
+}
+
+/// Where the first line of a text ends, unless it has too many bytes. No more than those are looked at.
+fn near_line_end(bytes: &[u8]) -> Option<usize>
+    ensures { MatchOption result (MOST_BYTES < position_or_len (λ b. b == 10) bytes.now)
+        (λ end. end ≡ position_or_len (λ b. b == 10) bytes.now) }
+{
+    let mut end = 0;
+    while end < bytes.len() && bytes[end] != b'\n' {
+        if end == MOST_BYTES {
+            return None;
+        }
+        end += 1;
+    }
+    Some(end)
+}
+
+/// How many characters a text has.
+fn char_count(text: &str) -> usize
+    ensures { result ≡ length (chars text.now) }
+{
+    text.chars().count()
+}
+
+/// The first line of a text, unless it has too many characters.
+pub fn short_line(text: &str) -> Option<&str>
+    ensures { MatchOption result
+        (longest_line < length (chars (before_first (λ b. b == 10) text.now)))
+        (λ line. (line.now ≡ before_first (λ b. b == 10) text.now)
+        × (length (chars line.now) ≤ longest_line)) }
+{
+    let Some(end) = near_line_end(text.as_bytes()) else {
+        return None;
+    };
+    let line = &text[..end];
+    if char_count(line) > LONGEST_LINE {
+        return None;
+    }
+    Some(line)
+}
