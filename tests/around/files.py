@@ -101,6 +101,7 @@ def run(group):
         many,
         shards,
         progress,
+        faults_shown,
     ):
         part(group, program)
 
@@ -1041,3 +1042,17 @@ def progress(group, program):
     group.check(
         'not in a file', group.call(*slow_trees(group, 0.6), '--list', cwd=top), (3, lines('0.tf', '2.tf'), b'')
     )
+
+
+def faults_shown(group, program):
+    """The line of a fault on a terminal, and nowhere else."""
+    top = group.fresh()
+    put(top, {'bad.tf': b'a = 1\n\tb = "\xe5\x90\x8d" ] # \x1b[2J\n', 'long.tf': b'=' + b' ' * 240 + b'\n'})
+    told = [b'bad.tf:2:10: unexpected token', b'long.tf:1:1: unexpected token']
+    line = [b'   b = "\xe5\x90\x8d" ] #  [2J', b'            ^']
+    said = on_terminal(group, [group.trees, '--quiet', '--check'], top)
+    group.check(
+        'the line of a fault on a terminal', said, b''.join(text + b'\r\n' for text in told[:1] + line + told[1:])
+    )
+    said = program('--quiet', '--check', cwd=top)
+    group.check('and not in a file', said, (2, b'', b''.join(text + b'\n' for text in told)))

@@ -8,11 +8,12 @@ use tree_format::progress::Progress;
 /// How often the line is shown anew, in milliseconds.
 const EVERY: u64 = 1_000;
 
-/// On a terminal, work that takes longer than a second shows on standard error how many files were looked at, and how
-/// many of them change. The line is taken away before anything else is said, and at the end.
+/// On a terminal the lines of faults are shown, and work that takes longer than a second shows on standard error how many
+/// files were looked at, and how many of them change. That line is taken away before anything else is said, and at the end.
 #[derive(Drop)]
 pub struct ProgressLine {
     rt: HostRuntime,
+    is_terminal: bool,
     /// When the run began or the line was shown last. None where nothing is shown.
     last: Option<Instant>,
     looked: u64,
@@ -22,13 +23,15 @@ pub struct ProgressLine {
 
 impl ProgressLine {
     pub fn new(rt: HostRuntime) -> ProgressLine {
-        let last = if rt.stderr().is_terminal() {
+        let is_terminal = rt.stderr().is_terminal();
+        let last = if is_terminal {
             Instant::now(&rt).ok()
         } else {
             None
         };
         ProgressLine {
             rt,
+            is_terminal,
             last,
             looked: 0,
             changed: 0,
@@ -68,6 +71,12 @@ impl ProgressLine {
 }
 
 impl Progress for ProgressLine {
+    ghost shows = { λ p. p.is_terminal };
+
+    fn shows_lines(&self) -> bool {
+        self.is_terminal
+    }
+
     fn looked(&mut self, outcome: &Outcome) {
         self.looked = self.looked.saturating_add(1);
         match outcome {
@@ -76,7 +85,7 @@ impl Progress for ProgressLine {
                 self.changed = self.changed.saturating_add(1);
                 self.wipe();
             }
-            Outcome::Refused(_) | Outcome::Failed(_) => self.wipe(),
+            Outcome::Refused(..) | Outcome::Failed(_) => self.wipe(),
         }
     }
 

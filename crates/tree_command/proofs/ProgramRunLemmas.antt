@@ -44,9 +44,9 @@ still_whole w fin text last good same took has = record {
   later = took_after has.between w.after fin.after fin.failed has.more last (subst (λ v. TookBy v has.between w.after has.more) good has.later) took;
 }
 
-module _ (mode : Mode) (found : List Found) (a c : State) (out err : Writer) (s : ℕ) (run : IsRun mode found (λ answers. []) a c (record { out = out; err = err; status = s })) where
+module _ (shows : Bool) (mode : Mode) (found : List Found) (a c : State) (out err : Writer) (s : ℕ) (run : IsRun shows mode found (λ answers. []) a c (record { out = out; err = err; status = s })) where
   -- standard error failed: nothing more is said
-  run_stopped : (last : List Outcome → List ℕ) → err.failed ≡ true → IsRun mode found last a c (record { out = out; err = err; status = 4 })
+  run_stopped : (last : List Outcome → List ℕ) → err.failed ≡ true → IsRun shows mode found last a c (record { out = out; err = err; status = 4 })
   run_stopped last bad = record {
     seen = run.seen;
     rest = run.rest;
@@ -62,7 +62,7 @@ module _ (mode : Mode) (found : List Found) (a c : State) (out err : Writer) (s 
 
   -- it didn't, and the last words are said
   run_said : (last : List Outcome → List ℕ) (fin : Writer) (s' : ℕ) → err.failed ≡ false → fin.before ≡ err.before → TookBy fin.failed err.after fin.after (last run.answers) → s' ≡ (if out.failed || fin.failed then 4 else s)
-      → IsRun mode found last a c (record { out = out; err = fin; status = s' })
+      → IsRun shows mode found last a c (record { out = out; err = fin; status = s' })
   run_said last fin s' good same took status = record {
     seen = run.seen;
     rest = run.rest;
@@ -87,37 +87,37 @@ status_kept true s s' e ne h = ne e
 status_kept false s s' e ne h = ne (e ∙ h)
 
 -- over files, and by a device, of which the walk changed nothing and asked for nothing
-module _ (quiet : Bool) (mode : Mode) (part : Part) (paths : List Name) (files mid : Files) (was walked : Faults) (asked asked' : Asked) (after : State) (found : List Found) (same : mid ≡ files) (still : asked' ≡ asked)
+module _ (shows quiet : Bool) (mode : Mode) (part : Part) (paths : List Name) (files mid : Files) (was walked : Faults) (asked asked' : Asked) (after : State) (found : List Found) (same : mid ≡ files) (still : asked' ≡ asked)
     (finds : IsPartOf files was walked part paths found) where
-  formats_from : (end : End) → IsRun mode found (last_words quiet mode end.out.failed) (record { files = mid; faults = walked; asked = asked' }) after end
+  formats_from : (end : End) → IsRun shows mode found (last_words quiet mode end.out.failed) (record { files = mid; faults = walked; asked = asked' }) after end
       → (end.status ≢ 4 → All (λ f. Settled mode (mid.told (mid.real f.name.items)) (after.files.told (mid.real f.name.items))) found)
       → ((name : Name) → All (λ f. name ≢ mid.real f.name.items) found → after.files.told name ≡ mid.told name)
-      → Formats quiet mode part paths (record { files = files; faults = was; asked = asked }) after end
+      → Formats shows quiet mode part paths (record { files = files; faults = was; asked = asked }) after end
   formats_from end run done untouched =
-      subst (λ (f : Files). Formats quiet mode part paths (record { files = f; faults = was; asked = asked }) after end) same (record {
+      subst (λ (f : Files). Formats shows quiet mode part paths (record { files = f; faults = was; asked = asked }) after end) same (record {
         found = found;
         walked = walked;
         finds = subst (λ (f : Files). IsPartOf f was walked part paths found) (sym same) finds;
-        run = subst (λ (q : Asked). IsRun mode found (last_words quiet mode end.out.failed) (record { files = mid; faults = walked; asked = q }) after end) still run;
+        run = subst (λ (q : Asked). IsRun shows mode found (last_words quiet mode end.out.failed) (record { files = mid; faults = walked; asked = q }) after end) still run;
         done = done;
         untouched = untouched;
       })
 
-  module _ (out err : Writer) (s : ℕ) (tally : Tally) (run : Tallies mode found (record { files = mid; faults = walked; asked = asked' }) after (record { out = out; err = err; status = s }) tally)
+  module _ (out err : Writer) (s : ℕ) (tally : Tally) (run : Tallies shows mode found (record { files = mid; faults = walked; asked = asked' }) after (record { out = out; err = err; status = s }) tally)
       (done : s ≢ 4 → All (λ f. Settled mode (mid.told (mid.real f.name.items)) (after.files.told (mid.real f.name.items))) found)
       (untouched : (name : Name) → All (λ f. name ≢ mid.real f.name.items) found → after.files.told name ≡ mid.told name) where
     -- nothing can be said at the end
-    pub formats_stopped : err.failed ≡ true → Formats quiet mode part paths (record { files = files; faults = was; asked = asked }) after (record { out = out; err = err; status = 4 })
+    pub formats_stopped : err.failed ≡ true → Formats shows quiet mode part paths (record { files = files; faults = was; asked = asked }) after (record { out = out; err = err; status = 4 })
     formats_stopped bad =
         formats_from (record { out = out; err = err; status = 4 })
-        (run_stopped mode found (record { files = mid; faults = walked; asked = asked' }) after out err s run.0 (last_words quiet mode out.failed) bad)
+        (run_stopped shows mode found (record { files = mid; faults = walked; asked = asked' }) after out err s run.0 (last_words quiet mode out.failed) bad)
         (λ ne. absurd (ne refl)) untouched
 
     -- the last words are said
     pub formats_finished : (fin : Writer) (s' : ℕ) → err.failed ≡ false → fin.before ≡ err.before → TookBy fin.failed err.after fin.after (words_at_end quiet mode out.failed tally)
-        → s' ≡ (if out.failed || fin.failed then 4 else s) → Formats quiet mode part paths (record { files = files; faults = was; asked = asked }) after (record { out = out; err = fin; status = s' })
+        → s' ≡ (if out.failed || fin.failed then 4 else s) → Formats shows quiet mode part paths (record { files = files; faults = was; asked = asked }) after (record { out = out; err = fin; status = s' })
     formats_finished fin s' good before took status =
         formats_from (record { out = out; err = fin; status = s' })
-        (run_said mode found (record { files = mid; faults = walked; asked = asked' }) after out err s run.0 (last_words quiet mode out.failed) fin s' good before
+        (run_said shows mode found (record { files = mid; faults = walked; asked = asked' }) after out err s run.0 (last_words quiet mode out.failed) fin s' good before
         (subst (λ (t : Tally). TookBy fin.failed err.after fin.after (words_at_end quiet mode out.failed t)) run.1 took) status)
         (λ ne. done (status_kept (out.failed || fin.failed) s s' status ne)) untouched

@@ -39,12 +39,13 @@ abbrev pub IsPartOf : Files → Faults → Faults → Part → List Name → Lis
 IsPartOf files was walked part paths found =
     (all : List Found) × Finds files part.chosen paths all × AreReal files part.chosen paths was walked all × ((once : List Found) × KeepsOnce all once × (found ≡ picked_of part.shard once))
 
--- THE FILES WERE FOUND that these paths stand for, and then each was looked at
-pub record Formats (quiet : Bool) (mode : Mode) (part : Part) (paths : List Name) (before after : State) (end : End) : Type 0 where
+-- THE FILES WERE FOUND that these paths stand for, and then each was looked at. Where what is said is read on a terminal, the
+-- lines of faults are shown.
+pub record Formats (shows quiet : Bool) (mode : Mode) (part : Part) (paths : List Name) (before after : State) (end : End) : Type 0 where
   pub found : List Found
   pub walked : Faults  -- those of calls up to the end of the walk
   pub finds : IsPartOf before.files before.faults walked part paths found
-  pub run : IsRun mode found (last_words quiet mode end.out.failed) (record before { faults = walked }) after end
+  pub run : IsRun shows mode found (last_words quiet mode end.out.failed) (record before { faults = walked }) after end
   -- unless something failed, nothing is left to do for a file that was found
   pub done : end.status ≢ 4 → All (λ f. Settled mode (before.files.told (before.files.real f.name.items)) (after.files.told (before.files.real f.name.items))) found
   -- a file to which no name that was found leads keeps its bytes
@@ -55,19 +56,19 @@ abbrev pub SaysOnly : Row → State → State → End → Type 0
 SaysOnly row before after end = (after.files ≡ before.files) × (after.asked ≡ before.asked) × Shows formatter row end
 
 -- memory ran out before a file was looked at, or the files were formatted
-abbrev pub FormatsOr : Bool → Mode → Part → List Name → State → State → End → Type 0
-FormatsOr quiet mode part paths before after end = SaysOnly (out_of_memory formatter) before after end ⊎ Formats quiet mode part paths before after end
+abbrev pub FormatsOr : Bool → Bool → Mode → Part → List Name → State → State → End → Type 0
+FormatsOr shows quiet mode part paths before after end = SaysOnly (out_of_memory formatter) before after end ⊎ Formats shows quiet mode part paths before after end
 
 -- the same where the paths are those of the line
-abbrev pub FormatsNamed : Bool → Mode → Part → List Name → State → State → End → Type 0
-FormatsNamed quiet mode part names before after end = FormatsOr quiet mode part (paths_of_line names) before after end
+abbrev pub FormatsNamed : Bool → Bool → Mode → Part → List Name → State → State → End → Type 0
+FormatsNamed shows quiet mode part names before after end = FormatsOr shows quiet mode part (paths_of_line names) before after end
 
 -- the same where they are read from standard input, which has these bytes where it tells them, unless its read failed
-abbrev pub ReadsAndFormats : Bool → Mode → Part → Bool → Option (List ℕ) → State → State → End → Type 0
-ReadsAndFormats quiet mode part failed input before after end =
+abbrev pub ReadsAndFormats : Bool → Bool → Mode → Part → Bool → Option (List ℕ) → State → State → End → Type 0
+ReadsAndFormats shows quiet mode part failed input before after end =
     SaysOnly (out_of_memory formatter) before after end
     ⊎ (((failed ≡ true) × SaysOnly read_failed before after end)
-    ⊎ ((failed ≡ false) × (bytes : List ℕ) × Tells input bytes × Formats quiet mode part (paths_of_input bytes) before after end))
+    ⊎ ((failed ≡ false) × (bytes : List ℕ) × Tells input bytes × Formats shows quiet mode part (paths_of_input bytes) before after end))
 
 -- ---- runs that look at no file
 
@@ -95,23 +96,23 @@ ShowsUsage texts usage end = Shows formatter (out_of_memory formatter) end ⊎ S
 -- ---- all runs
 
 -- how a run ends that was asked for this
-abbrev pub EndsBy : Bool → Bool → Mode → Part → List Name → Bool → Option (List ℕ) → State → State → End → Type 0
-EndsBy true quiet mode part names failed input before after end = ReadsAndFormats quiet mode part failed input before after end
-EndsBy false quiet mode part names failed input before after end = FormatsNamed quiet mode part names before after end
+abbrev pub EndsBy : Bool → Bool → Bool → Mode → Part → List Name → Bool → Option (List ℕ) → State → State → End → Type 0
+EndsBy shows true quiet mode part names failed input before after end = ReadsAndFormats shows quiet mode part failed input before after end
+EndsBy shows false quiet mode part names failed input before after end = FormatsNamed shows quiet mode part names before after end
 
-abbrev pub EndsAsked : Asking → Bool → Option (List ℕ) → State → State → End → Type 0
-EndsAsked asking failed input before after end = EndsBy asking.given.null asking.given.quiet asking.mode (part_of asking) asking.given.names failed input before after end
+abbrev pub EndsAsked : Bool → Asking → Bool → Option (List ℕ) → State → State → End → Type 0
+EndsAsked shows asking failed input before after end = EndsBy shows asking.given.null asking.given.quiet asking.mode (part_of asking) asking.given.names failed input before after end
 
-abbrev pub EndsFor : List Text → Result Asking Usage → Bool → Option (List ℕ) → State → State → End → Type 0
-EndsFor texts (Ok asking) failed input before after end = EndsAsked asking failed input before after end
-EndsFor texts (Err usage) failed input before after end = SaysOnly (usage_row texts usage) before after end
+abbrev pub EndsFor : Bool → List Text → Result Asking Usage → Bool → Option (List ℕ) → State → State → End → Type 0
+EndsFor shows texts (Ok asking) failed input before after end = EndsAsked shows asking failed input before after end
+EndsFor shows texts (Err usage) failed input before after end = SaysOnly (usage_row texts usage) before after end
 
 -- the end of a run with these texts, and these names beside them
-abbrev pub IsEndOf : List Text → List Name → Bool → Option (List ℕ) → State → State → End → Type 0
-IsEndOf texts others failed input before after end =
-    SaysOnly (out_of_memory formatter) before after end ⊎ EndsFor texts (asking_of_texts texts others) failed input before after end
+abbrev pub IsEndOf : Bool → List Text → List Name → Bool → Option (List ℕ) → State → State → End → Type 0
+IsEndOf shows texts others failed input before after end =
+    SaysOnly (out_of_memory formatter) before after end ⊎ EndsFor shows texts (asking_of_texts texts others) failed input before after end
 
 -- THE END of a run with these words, where standard input has these bytes: what the words ask for; or memory ran out before
 -- a file was looked at
-abbrev pub IsEnd : List (List ℕ) → Bool → Option (List ℕ) → State → State → End → Type 0
-IsEnd words failed input before after end = IsEndOf (texts_in (codes "tffmt-all") words) (others_in words) failed input before after end
+abbrev pub IsEnd : Bool → List (List ℕ) → Bool → Option (List ℕ) → State → State → End → Type 0
+IsEnd shows words failed input before after end = IsEndOf shows (texts_in (codes "tffmt-all") words) (others_in words) failed input before after end

@@ -100,7 +100,7 @@ fn run<T: WritableTree, P: Progress, O: ByteSink, E: ByteSink>(
     // However the run goes, each file is then as it was, or, where files are to be written, it has the format of its bytes.
     ensures kept { (name : List ℕ)
         → Kept mode ((T.files tree.old).told name) ((T.files tree.new).told name) }
-    ensures ends { FormatsOr quiet mode (part_told part.entry)
+    ensures ends { FormatsOr (P.shows progress.old) quiet mode (part_told part.entry)
         (map (λ operand. operand.now) operands.now) (state_of T.Tree tree.old)
         (state_of T.Tree tree.new)
         (end_of O.ByteSink out.old out.new E.ByteSink err.old err.new result) }
@@ -137,8 +137,8 @@ fn run_null<T: WritableTree, P: Progress, R: ByteSource, O: ByteSink, E: ByteSin
     // However the run goes, each file is then as it was, or, where files are to be written, it has the format of its bytes.
     ensures kept { (name : List ℕ)
         → Kept mode ((T.files tree.old).told name) ((T.files tree.new).told name) }
-    ensures ends { ReadsAndFormats quiet mode (part_told part.entry) (R.failed input.new)
-        (R.left input.old) (state_of T.Tree tree.old) (state_of T.Tree tree.new)
+    ensures ends { ReadsAndFormats (P.shows progress.old) quiet mode (part_told part.entry)
+        (R.failed input.new) (R.left input.old) (state_of T.Tree tree.old) (state_of T.Tree tree.new)
         (end_of O.ByteSink out.old out.new E.ByteSink err.old err.new result) }
 {
     let read = read_names(alloc, input);
@@ -182,8 +182,8 @@ fn run_named<T: WritableTree, P: Progress, O: ByteSink, E: ByteSink>(
     // However the run goes, each file is then as it was, or, where files are to be written, it has the format of its bytes.
     ensures kept { (name : List ℕ)
         → Kept mode ((T.files tree.old).told name) ((T.files tree.new).told name) }
-    ensures ends { FormatsNamed quiet mode (part_told part.entry) (map (λ name. name.now) names.now)
-        (state_of T.Tree tree.old) (state_of T.Tree tree.new)
+    ensures ends { FormatsNamed (P.shows progress.old) quiet mode (part_told part.entry)
+        (map (λ name. name.now) names.now) (state_of T.Tree tree.old) (state_of T.Tree tree.new)
         (end_of O.ByteSink out.old out.new E.ByteSink err.old err.new result) }
 {
     match operands_of(alloc, names) {
@@ -259,8 +259,8 @@ fn run_asked<T: WritableTree, P: Progress, R: ByteSource, O: ByteSink, E: ByteSi
         → Kept options.now.mode ((T.files tree.old).told name) ((T.files tree.new).told name) }
     // Standard input is read only for names.
     ensures unread { options.now.given.null ≡ false → input.new ≡ input.old }
-    ensures ends { EndsAsked (asking_of options.now) (R.failed input.new) (R.left input.old)
-        (state_of T.Tree tree.old) (state_of T.Tree tree.new)
+    ensures ends { EndsAsked (P.shows progress.old) (asking_of options.now)
+        (R.failed input.new) (R.left input.old) (state_of T.Tree tree.old) (state_of T.Tree tree.new)
         (end_of O.ByteSink out.old out.new E.ByteSink err.old err.new result) }
 {
     let given = &options.given;
@@ -300,8 +300,8 @@ fn run_line<'w, T: WritableTree, P: Progress, R: ByteSource, O: ByteSink, E: Byt
     ensures unread { reads_names (asking_of_texts (map (λ word. word.now) words.now)
         (map (λ name. name.now) others.now)) ≡ false → input.new ≡ input.old }
     // What was looked at and said, and with which status it ends.
-    ensures ends { IsEndOf (map (λ word. word.now) words.now) (map (λ name. name.now) others.now)
-        (R.failed input.new) (R.left input.old) (state_of T.Tree tree.old)
+    ensures ends { IsEndOf (P.shows progress.old) (map (λ word. word.now) words.now)
+        (map (λ name. name.now) others.now) (R.failed input.new) (R.left input.old) (state_of T.Tree tree.old)
         (state_of T.Tree tree.new)
         (end_of O.ByteSink out.old out.new E.ByteSink err.old err.new result) }
 {
@@ -336,8 +336,8 @@ pub fn program<T: WritableTree, P: Progress, R: ByteSource, O: ByteSink, E: Byte
     ensures unread { reads_names (asking_of_words (map (λ word. word.now) words.now)) ≡ false
         → input.new ≡ input.old }
     // What was looked at and said, and with which status it ends.
-    ensures ends { IsEnd (map (λ word. word.now) words.now) (R.failed input.new) (R.left input.old)
-        (state_of T.Tree tree.old) (state_of T.Tree tree.new)
+    ensures ends { IsEnd (P.shows progress.old) (map (λ word. word.now) words.now)
+        (R.failed input.new) (R.left input.old) (state_of T.Tree tree.old) (state_of T.Tree tree.new)
         (end_of O.ByteSink out.old out.new E.ByteSink err.old err.new result) }
 {
     let Ok(words) = words_of(alloc, "tffmt-all", words) else {

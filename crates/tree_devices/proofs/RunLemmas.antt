@@ -31,7 +31,7 @@ notes_one before after answer fresh notes = by notes.is
 pub ready_in : (files : Files) (f : Found) (name : List ℕ) → f.fault ≡ None → name ≡ f.name.items → IsToldIn files name → IsReadyIn files f
 ready_in files f name none is told =
     let it : IsToldIn files f.name.items = subst (IsToldIn files) is told in
-    λ writing. (none, subst (IsReady (Write writing) f.name.items) (sym it.1) (it.2, tt))
+    λ writing. (none, subst (IsReady false (Write writing) f.name.items) (sym it.1) (it.2, tt, tt))
 
 both_true : (v w : Bool) → (v && w) ≡ true → (v ≡ true) × (w ≡ true)
 both_true true true e = (refl, refl)
@@ -44,6 +44,6 @@ ready_more P all i d are one new within before same each is e =
     let both = both_true are one (sym is ∙ e) in
     subst (All P) (sym (take_more all i d within)) (All-push P (take i all) (get_or all i d) (before both.0) (subst P same (each both.1)))
 
-pub all_ready : (files : Files) (all : List Found) (n : ℕ) (writing : Writing) → length all ≤ n → All (IsReadyIn files) (take n all) → AreReady (Write writing) files all
+pub all_ready : (files : Files) (all : List Found) (n : ℕ) (writing : Writing) → length all ≤ n → All (IsReadyIn files) (take n all) → AreReady false (Write writing) files all
 all_ready files all n writing end ready =
-    All-weaker (IsReadyIn files) (λ f. (f.fault ≡ None) × IsReady (Write writing) f.name.items (files.told (files.real f.name.items))) (λ f h. h writing) all (subst (All (IsReadyIn files)) (take_all n all end) ready)
+    All-weaker (IsReadyIn files) (λ f. (f.fault ≡ None) × IsReady false (Write writing) f.name.items (files.told (files.real f.name.items))) (λ f h. h writing) all (subst (All (IsReadyIn files)) (take_all n all end) ready)

@@ -23,6 +23,12 @@ use tree_format::run::run_over;
 struct Nobody;
 
 impl Progress for Nobody {
+    ghost shows = { λ _. false };
+
+    fn shows_lines(&self) -> bool {
+        false
+    }
+
     fn looked(&mut self, _outcome: &Outcome) {}
 
     fn reported(&mut self) {}
@@ -42,7 +48,7 @@ pub fn visit_planned<'a>(
     // Where it fails, that is the one fault of the tree's calls, or memory ran out.
     ensures notes { NotesOne (⟦<PlannedTree<'a> as Tree>⟧.faults tree.new) result }
 {
-    visit(alloc, mode, name, tree)
+    visit(alloc, false, mode, name, tree)
 }
 
 /// A run over files that were found in a tree whose calls fail by a plan. Answers its status.

@@ -1,5 +1,5 @@
 -- A run over names that were found, one look after the other.
-use Rattle.std.proofs.Common.{◌≡◌, ◌∙◌, ◌⊎◌, ◌++◌, ◌∷◌, [], ◌<◌, ◌+◌, ℕ, Bool, true, false, List, Option, Some, None, ap, append_assoc, append-nil, arith, cond, drop, length, length-append, map, refl, subst, suc, sym, take}
+use Rattle.std.proofs.Common.{◌≡◌, ◌∙◌, ◌++◌, ◌∷◌, [], ◌<◌, ◌+◌, ℕ, Bool, true, false, List, Option, Some, None, ap, append_assoc, append-nil, arith, cond, drop, length, length-append, map, refl, subst, suc, sym, take}
 use Rattle.std.specs.Prelude.{◌≢◌, ◌||◌, ◌==◌, ◌-◌, fold, max, if◌then◌else◌}
 use Rattle.std.specs.List.{concat, count_by}
 use Rattle.std.proofs.lemmas.List.{map-append, take-append-drop, take-append-le, take_all}
@@ -16,7 +16,6 @@ use Rattle.tree_format.specs.Runs.{HasWhole, Looked, Sees, but_last, is_failed, 
 use Rattle.tree_format.specs.Tally.{Tallies, is_changed, is_formatted, is_refused, tally_of}
 use Rattle.tree_format.specs.declared.tally.Tally.{Tally}
 use Rattle.tree_format.specs.declared.mode.Mode.{Mode}
-use Rattle.tree_format.specs.declared.mode.Mode.TheVariants.{Write, Check, List as Listed, Diff}
 use Rattle.tree_format.specs.declared.outcome.Outcome.{Outcome}
 use Rattle.tree_format.specs.declared.outcome.Outcome.TheVariants as outcome
 use Rattle.command_line.proofs.WriterLemmas.{appends_nothing, appends_then, took_after}
@@ -37,24 +36,24 @@ pub good_answer : (mode : Mode) (name : Name) (answer : Outcome) → (report_of 
 good_answer mode name outcome.Formatted good = refl
 good_answer mode name (outcome.Changed how) good = refl
 good_answer mode name (outcome.Differs text) good = refl
-good_answer mode name (outcome.Refused fault) good = refl
+good_answer mode name (outcome.Refused fault snippet) good = refl
 good_answer mode name (outcome.Failed fault) good = absurd (good refl)
 
 -- ---- one look more
 
-pub looked_more : (mode : Mode) (seen : List Found) (answers : List Outcome) (found : Found) (answer : Outcome) (a b c : State)
-    → Looked mode seen answers a b → Sees mode found answer b c → Looked mode (seen ++ found ∷ []) (answers ++ answer ∷ []) a c
-looked_more mode [] [] found answer a b c l s = (c, subst (λ (x : State). Sees mode found answer x c) l s, refl)
-looked_more mode [] (y ∷ answers) found answer a b c l s = absurd l
-looked_more mode (x ∷ seen) [] found answer a b c l s = absurd l
-looked_more mode (x ∷ seen) (y ∷ answers) found answer a b c l s = (l.0, l.1, looked_more mode seen answers found answer l.0 b c l.2 s)
+pub looked_more : (shows : Bool) (mode : Mode) (seen : List Found) (answers : List Outcome) (found : Found) (answer : Outcome) (a b c : State)
+    → Looked shows mode seen answers a b → Sees shows mode found answer b c → Looked shows mode (seen ++ found ∷ []) (answers ++ answer ∷ []) a c
+looked_more shows mode [] [] found answer a b c l s = (c, subst (λ (x : State). Sees shows mode found answer x c) l s, refl)
+looked_more shows mode [] (y ∷ answers) found answer a b c l s = absurd l
+looked_more shows mode (x ∷ seen) [] found answer a b c l s = absurd l
+looked_more shows mode (x ∷ seen) (y ∷ answers) found answer a b c l s = (l.0, l.1, looked_more shows mode seen answers found answer l.0 b c l.2 s)
 
-reports_more : (mode : Mode) (seen : List Found) (answers : List Outcome) (found : Found) (answer : Outcome) (a b : State) → Looked mode seen answers a b
+reports_more : (shows : Bool) (mode : Mode) (seen : List Found) (answers : List Outcome) (found : Found) (answer : Outcome) (a b : State) → Looked shows mode seen answers a b
     → reports_of mode (seen ++ found ∷ []) (answers ++ answer ∷ []) ≡ reports_of mode seen answers ++ report_of mode found.name.items answer ∷ []
-reports_more mode [] [] found answer a b l = refl
-reports_more mode [] (y ∷ answers) found answer a b l = absurd l
-reports_more mode (x ∷ seen) [] found answer a b l = absurd l
-reports_more mode (x ∷ seen) (y ∷ answers) found answer a b l = ap (λ rs. report_of mode x.name.items y ∷ rs) (reports_more mode seen answers found answer l.0 b l.2)
+reports_more shows mode [] [] found answer a b l = refl
+reports_more shows mode [] (y ∷ answers) found answer a b l = absurd l
+reports_more shows mode (x ∷ seen) [] found answer a b l = absurd l
+reports_more shows mode (x ∷ seen) (y ∷ answers) found answer a b l = ap (λ rs. report_of mode x.name.items y ∷ rs) (reports_more shows mode seen answers found answer l.0 b l.2)
 
 one_text : (f : Report → List ℕ) (rs : List Report) (r : Report) → concat (map f (rs ++ r ∷ [])) ≡ concat (map f rs) ++ f r
 one_text f [] r = append-nil (f r)
@@ -97,35 +96,35 @@ tally_more xs x = by x refl
     by outcome.Formatted e = at _ _ _ _ (same is_changed (ap is_changed e)) (more is_formatted (ap is_formatted e)) (same is_refused (ap is_refused e)) (same is_failed (ap is_failed e)) ∙ sym (ap (tally_with (tally_of xs)) e)
     by (outcome.Changed how) e = at _ _ _ _ (more is_changed (ap is_changed e)) (same is_formatted (ap is_formatted e)) (same is_refused (ap is_refused e)) (same is_failed (ap is_failed e)) ∙ sym (ap (tally_with (tally_of xs)) e)
     by (outcome.Differs text) e = at _ _ _ _ (more is_changed (ap is_changed e)) (same is_formatted (ap is_formatted e)) (same is_refused (ap is_refused e)) (same is_failed (ap is_failed e)) ∙ sym (ap (tally_with (tally_of xs)) e)
-    by (outcome.Refused fault) e = at _ _ _ _ (same is_changed (ap is_changed e)) (same is_formatted (ap is_formatted e)) (more is_refused (ap is_refused e)) (same is_failed (ap is_failed e)) ∙ sym (ap (tally_with (tally_of xs)) e)
+    by (outcome.Refused fault snippet) e = at _ _ _ _ (same is_changed (ap is_changed e)) (same is_formatted (ap is_formatted e)) (more is_refused (ap is_refused e)) (same is_failed (ap is_failed e)) ∙ sym (ap (tally_with (tally_of xs)) e)
     by (outcome.Failed fault) e = at _ _ _ _ (same is_changed (ap is_changed e)) (same is_formatted (ap is_formatted e)) (same is_refused (ap is_refused e)) (more is_failed (ap is_failed e)) ∙ sym (ap (tally_with (tally_of xs)) e)
 
-answers_of : (mode : Mode) (seen : List Found) (answers : List Outcome) (a b : State) → Looked mode seen answers a b → length answers ≡ length seen
-answers_of mode [] [] a b l = refl
-answers_of mode [] (y ∷ answers) a b l = absurd l
-answers_of mode (x ∷ seen) [] a b l = absurd l
-answers_of mode (x ∷ seen) (y ∷ answers) a b l = ap suc (answers_of mode seen answers l.0 b l.2)
+answers_of : (shows : Bool) (mode : Mode) (seen : List Found) (answers : List Outcome) (a b : State) → Looked shows mode seen answers a b → length answers ≡ length seen
+answers_of shows mode [] [] a b l = refl
+answers_of shows mode [] (y ∷ answers) a b l = absurd l
+answers_of shows mode (x ∷ seen) [] a b l = absurd l
+answers_of shows mode (x ∷ seen) (y ∷ answers) a b l = ap suc (answers_of shows mode seen answers l.0 b l.2)
 
 -- ---- the run so far: no writer failed
 
-pub record SoFar (mode : Mode) (seen : List Found) (a b : State) (out out' err err' : Option (List ℕ)) (status : ℕ) (tally : Tally) : Type 0 where
+pub record SoFar (shows : Bool) (mode : Mode) (seen : List Found) (a b : State) (out out' err err' : Option (List ℕ)) (status : ℕ) (tally : Tally) : Type 0 where
   pub answers : List Outcome
-  pub looks : Looked mode seen answers a b
+  pub looks : Looked shows mode seen answers a b
   pub output : Appends out out' (concat (map (λ r. r.out) (reports_of mode seen answers)))
   pub message : Appends err err' (concat (map (λ r. r.err) (reports_of mode seen answers)))
   pub exit : status ≡ worst (map (λ r. r.status) (reports_of mode seen answers))
   pub counts : tally ≡ tally_of answers
 
-pub so_far_none : (mode : Mode) (a : State) (out err : Option (List ℕ)) (tally : Tally) → tally ≡ tally_of [] → SoFar mode [] a a out out err err 0 tally
-so_far_none mode a out err tally e = record { answers = []; looks = refl; output = appends_nothing out; message = appends_nothing err; exit = refl; counts = e }
+pub so_far_none : (shows : Bool) (mode : Mode) (a : State) (out err : Option (List ℕ)) (tally : Tally) → tally ≡ tally_of [] → SoFar shows mode [] a a out out err err 0 tally
+so_far_none shows mode a out err tally e = record { answers = []; looks = refl; output = appends_nothing out; message = appends_nothing err; exit = refl; counts = e }
 
-pub so_far_more : (mode : Mode) (seen more : List Found) (found : Found) (answer : Outcome) (a b c : State) (o o' o'' e e' e'' : Option (List ℕ)) (s s' : ℕ) (t t' : Tally) (f g : Bool)
-    → more ≡ seen ++ found ∷ [] → SoFar mode seen a b o o' e e' s t → t' ≡ tally_with t answer → Sees mode found answer b c → f ≡ false → TookBy f o' o'' (report_of mode found.name.items answer).out → g ≡ false
-    → TookBy g e' e'' (report_of mode found.name.items answer).err → s' ≡ worse s (report_of mode found.name.items answer).status → SoFar mode more a c o o'' e e'' s' t'
-so_far_more mode seen more found answer a b c o o' o'' e e' e'' s s' t t' f g all before tallied sees good out good' err status =
-    subst (λ l. SoFar mode l a c o o'' e e'' s' t') (sym all) (record {
+pub so_far_more : (shows : Bool) (mode : Mode) (seen more : List Found) (found : Found) (answer : Outcome) (a b c : State) (o o' o'' e e' e'' : Option (List ℕ)) (s s' : ℕ) (t t' : Tally) (f g : Bool)
+    → more ≡ seen ++ found ∷ [] → SoFar shows mode seen a b o o' e e' s t → t' ≡ tally_with t answer → Sees shows mode found answer b c → f ≡ false → TookBy f o' o'' (report_of mode found.name.items answer).out → g ≡ false
+    → TookBy g e' e'' (report_of mode found.name.items answer).err → s' ≡ worse s (report_of mode found.name.items answer).status → SoFar shows mode more a c o o'' e e'' s' t'
+so_far_more shows mode seen more found answer a b c o o' o'' e e' e'' s s' t t' f g all before tallied sees good out good' err status =
+    subst (λ l. SoFar shows mode l a c o o'' e e'' s' t') (sym all) (record {
       answers = before.answers ++ answer ∷ [];
-      looks = looked_more mode seen before.answers found answer a b c before.looks sees;
+      looks = looked_more shows mode seen before.answers found answer a b c before.looks sees;
       output = text (λ r. r.out) o o' o'' before.output (subst (λ v. TookBy v o' o'' (report_of mode found.name.items answer).out) good out);
       message = text (λ r. r.err) e e' e'' before.message (subst (λ v. TookBy v e' e'' (report_of mode found.name.items answer).err) good' err);
       exit = status ∙ ap (λ n. worse n (report_of mode found.name.items answer).status) before.exit
@@ -134,15 +133,15 @@ so_far_more mode seen more found answer a b c o o' o'' e e' e'' s s' t t' f g al
     })
   where
     reports : reports_of mode (seen ++ found ∷ []) (before.answers ++ answer ∷ []) ≡ reports_of mode seen before.answers ++ report_of mode found.name.items answer ∷ []
-    reports = reports_more mode seen before.answers found answer a b before.looks
+    reports = reports_more shows mode seen before.answers found answer a b before.looks
 
     text : (f : Report → List ℕ) (x y z : Option (List ℕ)) → Appends x y (concat (map f (reports_of mode seen before.answers))) → Appends y z (f (report_of mode found.name.items answer))
         → Appends x z (concat (map f (reports_of mode (seen ++ found ∷ []) (before.answers ++ answer ∷ []))))
     text f x y z p q = subst (Appends x z) (sym (ap (λ rs. concat (map f rs)) reports ∙ one_text f (reports_of mode seen before.answers) (report_of mode found.name.items answer))) (appends_then x y z _ _ p q)
 
 -- one file more can be counted
-pub can_grow : (mode : Mode) (seen : List Found) (a b : State) (o o' e e' : Option (List ℕ)) (s : ℕ) (t : Tally) → SoFar mode seen a b o o' e e' s t → length seen < 18446744073709551615 → CanGrow t
-can_grow mode seen a b o o' e e' s t before lt = subst CanGrow (sym before.counts) (record {
+pub can_grow : (shows : Bool) (mode : Mode) (seen : List Found) (a b : State) (o o' e e' : Option (List ℕ)) (s : ℕ) (t : Tally) → SoFar shows mode seen a b o o' e e' s t → length seen < 18446744073709551615 → CanGrow t
+can_grow shows mode seen a b o o' e e' s t before lt = subst CanGrow (sym before.counts) (record {
   changed = below is_changed;
   unchanged = below is_formatted;
   refused = below is_refused;
@@ -150,7 +149,7 @@ can_grow mode seen a b o o' e e' s t before lt = subst CanGrow (sym before.count
 })
   where
     below : (p : Outcome → Bool) → count_by p before.answers + 1 < 18446744073709551616
-    below p = omega (arith, count_by-le-length p before.answers, answers_of mode seen before.answers a b before.looks, lt)
+    below p = omega (arith, count_by-le-length p before.answers, answers_of shows mode seen before.answers a b before.looks, lt)
 
 -- ---- its end
 
@@ -187,18 +186,18 @@ whole_reports w f rs good took =
     good took
 
 -- a report could not be written
-pub run_cut : (mode : Mode) (found seen rest : List Found) (here : Found) (answer : Outcome) (a b c : State) (o' e' : Option (List ℕ)) (s : ℕ) (t t' : Tally) (out err : Writer)
-    → found ≡ seen ++ here ∷ rest → SoFar mode seen a b out.before o' err.before e' s t → t' ≡ tally_with t answer → Sees mode here answer b c → (out.failed || err.failed) ≡ true
+pub run_cut : (shows : Bool) (mode : Mode) (found seen rest : List Found) (here : Found) (answer : Outcome) (a b c : State) (o' e' : Option (List ℕ)) (s : ℕ) (t t' : Tally) (out err : Writer)
+    → found ≡ seen ++ here ∷ rest → SoFar shows mode seen a b out.before o' err.before e' s t → t' ≡ tally_with t answer → Sees shows mode here answer b c → (out.failed || err.failed) ≡ true
     → TookBy out.failed o' out.after (report_of mode here.name.items answer).out → TookBy err.failed e' err.after (report_of mode here.name.items answer).err
-    → Tallies mode found a c (record { out = out; err = err; status = 4 }) t'
-run_cut mode found seen rest here answer a b c o' e' s t t' out err all before tallied sees bad output message = (
+    → Tallies shows mode found a c (record { out = out; err = err; status = 4 }) t'
+run_cut shows mode found seen rest here answer a b c o' e' s t t' out err all before tallied sees bad output message = (
   record {
     seen = seen ++ here ∷ [];
     rest = rest;
     all = all ∙ sym (append_assoc seen (here ∷ []) rest);
     whole = λ good. absurd (failed_either out.failed err.failed bad good);
     answers = before.answers ++ answer ∷ [];
-    looks = looked_more mode seen before.answers here answer a b c before.looks sees;
+    looks = looked_more shows mode seen before.answers here answer a b c before.looks sees;
     output = text (λ r. r.out) out.failed out.before o' out.after before.output output;
     message = subst (TookBy err.failed err.before err.after) (sym (append-nil (concat (map (λ r. r.err) (reports_of mode (seen ++ here ∷ []) (before.answers ++ answer ∷ []))))))
         (text (λ r. r.err) err.failed err.before e' err.after before.message message);
@@ -209,7 +208,7 @@ run_cut mode found seen rest here answer a b c o' e' s t t' out err all before t
 )
   where
     reports : reports_of mode (seen ++ here ∷ []) (before.answers ++ answer ∷ []) ≡ reports_of mode seen before.answers ++ report_of mode here.name.items answer ∷ []
-    reports = reports_more mode seen before.answers here answer a b before.looks
+    reports = reports_more shows mode seen before.answers here answer a b before.looks
 
     text : (f : Report → List ℕ) (v : Bool) (x y z : Option (List ℕ)) → Appends x y (concat (map f (reports_of mode seen before.answers))) → TookBy v y z (f (report_of mode here.name.items answer))
         → TookBy v x z (concat (map f (reports_of mode (seen ++ here ∷ []) (before.answers ++ answer ∷ []))))
@@ -227,9 +226,9 @@ run_cut mode found seen rest here answer a b c o' e' s t t' out err all before t
     }
 
 -- all are reported
-pub run_whole : (mode : Mode) (found : List Found) (a c : State) (s : ℕ) (t : Tally) (out err : Writer) → SoFar mode found a c out.before out.after err.before err.after s t → out.failed ≡ false → err.failed ≡ false
-    → Tallies mode found a c (record { out = out; err = err; status = s }) t
-run_whole mode found a c s t out err before good good' = (
+pub run_whole : (shows : Bool) (mode : Mode) (found : List Found) (a c : State) (s : ℕ) (t : Tally) (out err : Writer) → SoFar shows mode found a c out.before out.after err.before err.after s t → out.failed ≡ false → err.failed ≡ false
+    → Tallies shows mode found a c (record { out = out; err = err; status = s }) t
+run_whole shows mode found a c s t out err before good good' = (
   record {
     seen = found;
     rest = [];
@@ -245,10 +244,13 @@ run_whole mode found a c s t out err before good good' = (
   before.counts,
 )
 
-pub run_all : (mode : Mode) (found seen : List Found) (a c : State) (s : ℕ) (t : Tally) (out err : Writer) → seen ≡ found → SoFar mode seen a c out.before out.after err.before err.after s t → out.failed ≡ false → err.failed ≡ false
-    → Tallies mode found a c (record { out = out; err = err; status = s }) t
-run_all mode found seen a c s t out err same before good good' =
-    run_whole mode found a c s t out err (subst (λ l. SoFar mode l a c out.before out.after err.before err.after s t) same before) good good'
+pub run_all : (shows : Bool) (mode : Mode) (found seen : List Found) (a c : State) (s : ℕ) (t : Tally) (out err : Writer) → seen ≡ found → SoFar shows mode seen a c out.before out.after err.before err.after s t → out.failed ≡ false → err.failed ≡ false
+    → Tallies shows mode found a c (record { out = out; err = err; status = s }) t
+run_all shows mode found seen a c s t out err same before good good' =
+    run_whole shows mode found a c s t out err (subst (λ l. SoFar shows mode l a c out.before out.after err.before err.after s t) same before) good good'
+
+pub tallies_as : (shows is : Bool) (mode : Mode) (found : List Found) (a c : State) (end : End) (t : Tally) → shows ≡ is → Tallies shows mode found a c end t → Tallies is mode found a c end t
+tallies_as shows is mode found a c end t e = subst (λ v. Tallies v mode found a c end t) e
 
 -- ---- whether a report was written
 

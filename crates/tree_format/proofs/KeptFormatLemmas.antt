@@ -1,11 +1,13 @@
 -- What a run may make of a file, one look after the other.
-use Rattle.std.proofs.Common.{◌≡◌, ◌∙◌, ◌≤◌, ◌++◌, ◌⊎◌, ◌<◌, ℕ, Bool, true, false, List, [], Option, Some, None, refl, sym, ap, subst, inl, inr, length, append-nil, arith, ⊎_elim, cond}
-use Rattle.std.specs.Prelude.{Result, Ok, Err, option_map, if◌then◌else◌}
+use Rattle.std.proofs.Common.{Global, Vec, ◌≡◌, ◌∙◌, ◌≤◌, ◌++◌, ◌⊎◌, ◌<◌, ℕ, Bool, true, false, List, [], Option, Some, None, refl, sym, ap, subst, inl, inr, length, append-nil, arith, ⊎_elim}
+use Rattle.std.specs.Prelude.{◌&&◌, Result, Ok, Err, option_map, if◌then◌else◌}
 use Rattle.std.specs.Str.{bytes_eq}
 use Rattle.std.proofs.lemmas.Slice.Eq.{bytes_eq-Decides}
 use Rattle.std.specs.Io.KnownBytes.{Consumes, IsAtEnd}
-use Rattle.hcl_source.specs.Load.{max_source, IsText, IsLoadFault, Loads, is_failed_load}
+use Rattle.hcl_source.specs.Load.{max_source, IsText, IsLoadFault, IsLoadFaultAt, Loads, is_failed_load}
 use Rattle.hcl_source.specs.declared.fault.Fault.{Fault}
+use Rattle.hcl_source.specs.declared.fault.FaultKind.{FaultKind}
+use Rattle.hcl_source.specs.declared.fault.FaultKind.TheVariants.{TooLarge, InvalidUtf8, ByteOrderMark, InvalidCharacter, UnterminatedQuote, UnterminatedComment, UnterminatedHeredoc, UnterminatedTemplate, InvalidEscape, TooDeep, UnexpectedToken, UnexpectedEnd, ResultTooLarge}
 use Rattle.hcl_source.specs.declared.fault.LoadError.{LoadError}
 use Rattle.hcl_source.specs.declared.fault.LoadError.TheVariants as error
 use Rattle.hcl_tokens.specs.Scanned.{Scanned}
@@ -14,7 +16,6 @@ use Rattle.hcl_grammar.specs.Predictor.{refusal_of}
 use Rattle.hcl_grammar.specs.Verdict.{IsAccepted, fault_at, verdict, verdict_by}
 use Rattle.hcl_grammar.specs.declared.refusal.Refusal.{Refusal}
 use Rattle.hcl_source.proofs.LoadLemmas.{text_or_fault, too_large_too}
-use Rattle.hcl_tokens.specs.Lexemes.{Lexeme}
 use Rattle.hcl_tokens.specs.Scans.{Scans}
 use Rattle.hcl_tokens.proofs.OneReadingLemmas.{no_fault, one_scan}
 use Rattle.std.specs.Prelude.{All, get_or, take, ◌+◌}
@@ -33,9 +34,12 @@ use Rattle.file_tree.specs.declared.fault.TreeFault.TheVariants.{OutOfMemory}
 use Rattle.file_tree.specs.declared.tree.Replaced.{Replaced}
 use Rattle.file_tree.specs.declared.tree.Writing.{Writing}
 use Rattle.tree_format.specs.Format.{IsFault, IsFormat}
-use Rattle.tree_format.specs.Looks.{Asks, AsksIn, Changes, Left, Looks, Notes, Visits, failure_of}
+use Rattle.tree_format.specs.Looks.{Asks, AsksIn, Left, Looks, Notes, Visits, failure_of}
+use Rattle.source_snippet.specs.Snippets.{snippet_if}
+use Rattle.tree_format.specs.Refusals.{is_about_line, shown_line}
+use Rattle.tree_format.specs.Reports.{snippet_text}
 use Rattle.tree_format.specs.Runs.{IsSafe, Kept, Settled, is_failed}
-use Rattle.tree_format.specs.Inner.Steps.{IsShown, LoadNotes, LoadsFile, Makes, MakesAsking, PrintAsked, outcome_by}
+use Rattle.tree_format.specs.Inner.Steps.{Completes, IsShown, LoadNotes, LoadsFile, Makes, MakesAsking, PrintAsked, outcome_by}
 use Rattle.tree_format.specs.declared.mode.Mode.{Mode}
 use Rattle.tree_format.specs.declared.mode.Mode.TheVariants.{Write, Check, List as Listed, Diff}
 use Rattle.tree_format.specs.declared.outcome.Outcome.{Outcome}
@@ -97,13 +101,13 @@ left_kept Diff old new name bytes formatted other t f l = same_told old new othe
 unmoved : (mode : Mode) (old new : Files) (other : Name) → new ≡ old → Kept mode (old.told other) (new.told other)
 unmoved mode old new other e = kept_same mode (old.told other) (new.told other) (same_told old new other e)
 
-pub visit_kept : (mode : Mode) (old new : Files) (given : Name) (name : Name) (answer : Outcome) → Visits mode old new given name answer → (other : Name)
+pub visit_kept : (shows : Bool) (mode : Mode) (old new : Files) (given : Name) (name : Name) (answer : Outcome) → Visits shows mode old new given name answer → (other : Name)
     → Kept mode (old.told other) (new.told other)
-visit_kept mode old new given name outcome.Formatted v other = unmoved mode old new other v.2.1
-visit_kept mode old new given name (outcome.Changed how) v other = left_kept mode old new name v.0 v.2.1.formatted other v.1 v.2.1.is v.2.1.left
-visit_kept mode old new given name (outcome.Differs text) v other = unmoved mode old new other v.2.1.left
-visit_kept mode old new given name (outcome.Refused fault) v other = unmoved mode old new other v.2.1
-visit_kept mode old new given name (outcome.Failed fault) v other = unmoved mode old new other v
+visit_kept shows mode old new given name outcome.Formatted v other = unmoved mode old new other v.2.1
+visit_kept shows mode old new given name (outcome.Changed how) v other = left_kept mode old new name v.0 v.2.1.formatted other v.1 v.2.1.is v.2.1.left
+visit_kept shows mode old new given name (outcome.Differs text) v other = unmoved mode old new other v.2.1.left
+visit_kept shows mode old new given name (outcome.Refused fault snippet) v other = unmoved mode old new other v.2.1
+visit_kept shows mode old new given name (outcome.Failed fault) v other = unmoved mode old new other v
 
 same_real : (old new : Files) (other : Name) → new ≡ old → new.real other ≡ old.real other
 same_real old new other e = ap (λ (f : Files). f.real other) e
@@ -115,13 +119,13 @@ left_real (Listed ending) old new name formatted other l = same_real old new oth
 left_real Diff old new name formatted other l = same_real old new other l
 
 -- where names lead, no look changes
-pub visit_real : (mode : Mode) (old new : Files) (given : Name) (name : Name) (answer : Outcome) → Visits mode old new given name answer → (other : Name)
+pub visit_real : (shows : Bool) (mode : Mode) (old new : Files) (given : Name) (name : Name) (answer : Outcome) → Visits shows mode old new given name answer → (other : Name)
     → new.real other ≡ old.real other
-visit_real mode old new given name outcome.Formatted v other = same_real old new other v.2.1
-visit_real mode old new given name (outcome.Changed how) v other = left_real mode old new name v.2.1.formatted other v.2.1.left
-visit_real mode old new given name (outcome.Differs text) v other = same_real old new other v.2.1.left
-visit_real mode old new given name (outcome.Refused fault) v other = same_real old new other v.2.1
-visit_real mode old new given name (outcome.Failed fault) v other = same_real old new other v
+visit_real shows mode old new given name outcome.Formatted v other = same_real old new other v.2.1
+visit_real shows mode old new given name (outcome.Changed how) v other = left_real mode old new name v.2.1.formatted other v.2.1.left
+visit_real shows mode old new given name (outcome.Differs text) v other = same_real old new other v.2.1.left
+visit_real shows mode old new given name (outcome.Refused fault snippet) v other = same_real old new other v.2.1
+visit_real shows mode old new given name (outcome.Failed fault) v other = same_real old new other v
 
 -- ---- other files than the one that is looked at
 
@@ -138,13 +142,13 @@ left_elsewhere Check old new name formatted other l ne = same_told old new other
 left_elsewhere (Listed ending) old new name formatted other l ne = same_told old new other l
 left_elsewhere Diff old new name formatted other l ne = same_told old new other l
 
-pub visit_elsewhere : (mode : Mode) (old new : Files) (given : Name) (name : Name) (answer : Outcome) → Visits mode old new given name answer → (other : Name)
+pub visit_elsewhere : (shows : Bool) (mode : Mode) (old new : Files) (given : Name) (name : Name) (answer : Outcome) → Visits shows mode old new given name answer → (other : Name)
     → ((other ≡ name) → ⊥) → new.told other ≡ old.told other
-visit_elsewhere mode old new given name outcome.Formatted v other ne = same_told old new other v.2.1
-visit_elsewhere mode old new given name (outcome.Changed how) v other ne = left_elsewhere mode old new name v.2.1.formatted other v.2.1.left ne
-visit_elsewhere mode old new given name (outcome.Differs text) v other ne = same_told old new other v.2.1.left
-visit_elsewhere mode old new given name (outcome.Refused fault) v other ne = same_told old new other v.2.1
-visit_elsewhere mode old new given name (outcome.Failed fault) v other ne = same_told old new other v
+visit_elsewhere shows mode old new given name outcome.Formatted v other ne = same_told old new other v.2.1
+visit_elsewhere shows mode old new given name (outcome.Changed how) v other ne = left_elsewhere mode old new name v.2.1.formatted other v.2.1.left ne
+visit_elsewhere shows mode old new given name (outcome.Differs text) v other ne = same_told old new other v.2.1.left
+visit_elsewhere shows mode old new given name (outcome.Refused fault snippet) v other ne = same_told old new other v.2.1
+visit_elsewhere shows mode old new given name (outcome.Failed fault) v other ne = same_told old new other v
 
 -- ---- the bytes of a file that was read
 
@@ -178,14 +182,16 @@ loads_told told left left' bytes loaded answer is same taken l = subst (LoadsFil
   where
     by : (loaded : Result (List ℕ) LoadError) → Loads bytes left' loaded → LoadsFile told (outcome_by loaded)
     by (Ok text) l = text_told told left left' bytes text same taken l
-    by (Err (error.Fault fault)) l = fault_told told left left' bytes fault same taken l.0 l.1
+    by (Err (error.Fault fault)) l =
+        let whole = fault_told told left left' bytes fault same taken l.0 l.1 in
+        (whole.0, whole.1, whole.2, refl)
     by (Err error.ReadFailed) l = tt
     by (Err error.OutOfMemory) l = tt
 
 -- ---- accepted tokens of a text
 
 module _ (mode : Mode) (old new : Files) (given : Name) (name : Name) where
-  looks_by : (s : Scanned) (answer : Outcome) → IsText s.text → Scans s.text s.tokens → IsAccepted s.tokens → Makes mode old new given name s answer → Looks mode old new given name s.text answer
+  looks_by : (s : Scanned) (answer : Outcome) → IsText s.text → Scans s.text s.tokens → IsAccepted s.tokens → Makes mode old new given name s answer → Looks false mode old new given name s.text answer
   looks_by s outcome.Formatted is scans accepted m =
       (record { text = is; tokens = s.tokens; scanned = scans; accepted = accepted; printed = sym m.0; fits = is.small }, m.1)
   looks_by s (outcome.Changed how) is scans accepted m = (
@@ -207,7 +213,7 @@ module _ (mode : Mode) (old new : Files) (given : Name) (name : Name) where
     },
     m.4,
   )
-  looks_by s (outcome.Refused fault) is scans accepted m = (inr (is, inr (s.tokens, scans, inr (accepted, m.0, m.1))), m.2)
+  looks_by s (outcome.Refused fault snippet) is scans accepted m = (inr (is, inr (s.tokens, scans, inr (accepted, m.0, m.1))), m.2, ap snippet_text m.3)
   looks_by s (outcome.Failed fault) is scans accepted m = m
 
   not_ok : (s : Scanned) (f : Fault) → (Ok s ≡ Err f) → ⊥
@@ -217,16 +223,16 @@ module _ (mode : Mode) (old new : Files) (given : Name) (name : Name) where
   ok_or s (Ok u) = u
   ok_or s (Err f) = s
 
-  pub makes_looks : (s accepted : Scanned) (answer : Outcome) → IsText s.text → Scans s.text s.tokens → Ok accepted ≡ verdict s → Makes mode old new given name accepted answer → Looks mode old new given name s.text answer
+  pub makes_looks : (s accepted : Scanned) (answer : Outcome) → IsText s.text → Scans s.text s.tokens → Ok accepted ≡ verdict s → Makes mode old new given name accepted answer → Looks false mode old new given name s.text answer
   makes_looks s accepted answer is scans v m = by (refusal_of (lookaheads s.tokens)) refl v
     where
-      by : (r : Option Refusal) → refusal_of (lookaheads s.tokens) ≡ r → Ok accepted ≡ verdict_by s r → Looks mode old new given name s.text answer
+      by : (r : Option Refusal) → refusal_of (lookaheads s.tokens) ≡ r → Ok accepted ≡ verdict_by s r → Looks false mode old new given name s.text answer
       by None e h = looks_by s answer is scans e (subst (λ (t : Scanned). Makes mode old new given name t answer) (ap (ok_or accepted) h) m)
       by (Some r) e h = absurd (not_ok accepted (fault_at s r) h)
 
-  pub text_looks : (text : List ℕ) (s accepted : Scanned) (answer : Outcome) → s.text ≡ text → IsText text → Scans text s.tokens → Ok accepted ≡ verdict s → Makes mode old new given name accepted answer → Looks mode old new given name text answer
+  pub text_looks : (text : List ℕ) (s accepted : Scanned) (answer : Outcome) → s.text ≡ text → IsText text → Scans text s.tokens → Ok accepted ≡ verdict s → Makes mode old new given name accepted answer → Looks false mode old new given name text answer
   text_looks text s accepted answer same is scans v m =
-      subst (λ t. Looks mode old new given name t answer) same
+      subst (λ t. Looks false mode old new given name t answer) same
       (makes_looks s accepted answer (subst IsText (sym same) is) (subst (λ t. Scans t s.tokens) (sym same) scans) v m)
 
 -- ---- what is asked for
@@ -249,7 +255,7 @@ module _ (given : Name) (told : Option (List ℕ)) (before after : Asked) (s : S
   asks_by mode outcome.Formatted m = m
   asks_by mode (outcome.Changed how) m = asks_print mode (Ok how) m
   asks_by mode (outcome.Differs text) m = m
-  asks_by mode (outcome.Refused fault) m = m
+  asks_by mode (outcome.Refused fault snippet) m = m
   asks_by mode (outcome.Failed fault) (inl e) = inl e
   asks_by mode (outcome.Failed fault) (inr m) = inr (asks_print mode (Err fault) m)
 
@@ -278,7 +284,7 @@ module _ (mode : Mode) (given : Name) (told : Option (List ℕ)) (before after :
   asks_unloaded outcome.Formatted l e = absurd l
   asks_unloaded (outcome.Changed how) l e = absurd l
   asks_unloaded (outcome.Differs shown) l e = absurd l
-  asks_unloaded (outcome.Refused fault) l e = e
+  asks_unloaded (outcome.Refused fault snippet) l e = e
   asks_unloaded (outcome.Failed fault) l e = inl e
 
 pub asks_loaded : (mode : Mode) (given : Name) (old mid : Files) (a b c : Asked) (answer : Outcome) → mid ≡ old → b ≡ a → Asks mode given (mid.told (mid.real given)) b c answer
@@ -288,26 +294,92 @@ asks_loaded mode given old mid a b c answer same e asks =
 
 -- ---- a look at a file that was read, or wasn't
 
-visits_by : (mode : Mode) (old new : Files) (given : Name) (name text : List ℕ) (answer : Outcome) → Tells (old.told name) text → Looks mode old new given name text answer
-    → Visits mode old new given name answer
-visits_by mode old new given name text outcome.Formatted t l = (text, t, l)
-visits_by mode old new given name text (outcome.Changed how) t l = (text, t, l)
-visits_by mode old new given name text (outcome.Differs shown) t l = (text, t, l)
-visits_by mode old new given name text (outcome.Refused fault) t l = (text, t, l)
-visits_by mode old new given name text (outcome.Failed fault) t l = l
+-- bytes that are no text have no line that is shown
+no_line : (shows : Bool) (bytes : List ℕ) (fault : Fault) → IsLoadFault bytes fault → shown_line shows bytes fault ≡ []
+no_line shows bytes fault l = ap (λ v. snippet_if v bytes fault.at) (about shows fault.kind l.1)
+  where
+    about : (v : Bool) (kind : FaultKind) → IsLoadFaultAt bytes kind l.0 → (v && is_about_line kind) ≡ false
+    about false kind h = refl
+    about true TooLarge h = refl
+    about true InvalidUtf8 h = refl
+    about true ByteOrderMark h = refl
+    about true ResultTooLarge h = refl
+    about true InvalidCharacter h = absurd h
+    about true UnterminatedQuote h = absurd h
+    about true UnterminatedComment h = absurd h
+    about true UnterminatedHeredoc h = absurd h
+    about true UnterminatedTemplate h = absurd h
+    about true InvalidEscape h = absurd h
+    about true TooDeep h = absurd h
+    about true UnexpectedToken h = absurd h
+    about true UnexpectedEnd h = absurd h
 
-pub visits_loaded : (mode : Mode) (old mid new : Files) (given : Name) (name text : List ℕ) (answer : Outcome) → mid ≡ old → Tells (old.told (old.real name)) text
-    → Looks mode mid new given (mid.real name) text answer → Visits mode old new given (old.real name) answer
-visits_loaded mode old mid new given name text answer same t l =
-    visits_by mode old new given (old.real name) text answer t (subst (λ (files : Files). Looks mode files new given (files.real name) text answer) same l)
+visits_by : (shows : Bool) (mode : Mode) (old new : Files) (given : Name) (name text : List ℕ) (answer : Outcome) → Tells (old.told name) text → Looks shows mode old new given name text answer
+    → Visits shows mode old new given name answer
+visits_by shows mode old new given name text outcome.Formatted t l = (text, t, l)
+visits_by shows mode old new given name text (outcome.Changed how) t l = (text, t, l)
+visits_by shows mode old new given name text (outcome.Differs shown) t l = (text, t, l)
+visits_by shows mode old new given name text (outcome.Refused fault snippet) t l = (text, t, l)
+visits_by shows mode old new given name text (outcome.Failed fault) t l = l
 
-pub visits_unloaded : (mode : Mode) (old new : Files) (given : Name) (name : List ℕ) (answer : Outcome) → new ≡ old → LoadsFile (old.told name) (Err answer)
-    → Visits mode old new given name answer
-visits_unloaded mode old new given name outcome.Formatted same l = absurd l
-visits_unloaded mode old new given name (outcome.Changed how) same l = absurd l
-visits_unloaded mode old new given name (outcome.Differs shown) same l = absurd l
-visits_unloaded mode old new given name (outcome.Refused fault) same l = (l.0, l.1, (inl l.2, same))
-visits_unloaded mode old new given name (outcome.Failed fault) same l = same
+pub visits_loaded : (shows : Bool) (mode : Mode) (old mid new : Files) (given : Name) (name text : List ℕ) (answer : Outcome) → mid ≡ old → Tells (old.told (old.real name)) text
+    → Looks shows mode mid new given (mid.real name) text answer → Visits shows mode old new given (old.real name) answer
+visits_loaded shows mode old mid new given name text answer same t l =
+    visits_by shows mode old new given (old.real name) text answer t (subst (λ (files : Files). Looks shows mode files new given (files.real name) text answer) same l)
+
+pub visits_unloaded : (shows : Bool) (mode : Mode) (old new : Files) (given : Name) (name : List ℕ) (answer : Outcome) → new ≡ old → LoadsFile (old.told name) (Err answer)
+    → Visits shows mode old new given name answer
+visits_unloaded shows mode old new given name outcome.Formatted same l = absurd l
+visits_unloaded shows mode old new given name (outcome.Changed how) same l = absurd l
+visits_unloaded shows mode old new given name (outcome.Differs shown) same l = absurd l
+visits_unloaded shows mode old new given name (outcome.Refused fault snippet) same l = (l.0, l.1, (inl l.2, same, ap snippet_text l.3 ∙ sym (no_line shows l.0 fault l.2)))
+visits_unloaded shows mode old new given name (outcome.Failed fault) same l = same
+
+-- ---- with the line of a fault
+
+module _ (shows : Bool) (mode : Mode) (old new : Files) (given : Name) (name text : List ℕ) where
+  pub completed_looks : (before after : Outcome) → Looks false mode old new given name text before → Completes shows text before after → Looks shows mode old new given name text after
+  completed_looks outcome.Formatted after l e = subst (Looks shows mode old new given name text) (sym e) l
+  completed_looks (outcome.Changed how) after l e = subst (Looks shows mode old new given name text) (sym e) l
+  completed_looks (outcome.Differs shown) after l e = subst (Looks shows mode old new given name text) (sym e) l
+  completed_looks (outcome.Failed fault) after l e = subst (Looks shows mode old new given name text) (sym e) l
+  completed_looks (outcome.Refused fault was) (outcome.Refused same snippet) l e =
+      (subst (IsFault text) (sym e.0) l.0, l.1, e.1 ∙ ap (shown_line shows text) (sym e.0))
+  completed_looks (outcome.Refused fault was) (outcome.Failed why) l e = l.1
+  completed_looks (outcome.Refused fault was) outcome.Formatted l e = absurd e
+  completed_looks (outcome.Refused fault was) (outcome.Changed how) l e = absurd e
+  completed_looks (outcome.Refused fault was) (outcome.Differs shown) l e = absurd e
+
+pub completed_asks : (shows : Bool) (mode : Mode) (given text : List ℕ) (told : Option (List ℕ)) (a b : Asked) (before after : Outcome) → Asks mode given told a b before → Completes shows text before after
+    → Asks mode given told a b after
+completed_asks shows mode given text told a b outcome.Formatted after l e = subst (Asks mode given told a b) (sym e) l
+completed_asks shows mode given text told a b (outcome.Changed how) after l e = subst (Asks mode given told a b) (sym e) l
+completed_asks shows mode given text told a b (outcome.Differs shown) after l e = subst (Asks mode given told a b) (sym e) l
+completed_asks shows mode given text told a b (outcome.Failed fault) after l e = subst (Asks mode given told a b) (sym e) l
+completed_asks shows mode given text told a b (outcome.Refused fault was) (outcome.Refused same snippet) l e = l
+completed_asks shows mode given text told a b (outcome.Refused fault was) (outcome.Failed why) l e = inl l
+completed_asks shows mode given text told a b (outcome.Refused fault was) outcome.Formatted l e = absurd e
+completed_asks shows mode given text told a b (outcome.Refused fault was) (outcome.Changed how) l e = absurd e
+completed_asks shows mode given text told a b (outcome.Refused fault was) (outcome.Differs shown) l e = absurd e
+
+-- a refusal is no failure
+refused_notes : (a b : Faults) (fault : Fault) (was : Option (Vec ℕ Global)) → Notes a b (outcome.Refused fault was) → b ≡ a
+refused_notes a b fault was n = by n.is
+  where
+    by : (b ≡ a) ⊎ ((None ≡ Some OutOfMemory) × (b ≡ a)) → b ≡ a
+    by (inl e) = e
+    by (inr e) = e.1
+
+pub completed_notes : (shows : Bool) (text : List ℕ) (a b : Faults) (before after : Outcome) → Notes a b before → Completes shows text before after → Notes a b after
+completed_notes shows text a b outcome.Formatted after l e = subst (Notes a b) (sym e) l
+completed_notes shows text a b (outcome.Changed how) after l e = subst (Notes a b) (sym e) l
+completed_notes shows text a b (outcome.Differs shown) after l e = subst (Notes a b) (sym e) l
+completed_notes shows text a b (outcome.Failed fault) after l e = subst (Notes a b) (sym e) l
+completed_notes shows text a b (outcome.Refused fault was) (outcome.Refused same snippet) l e = record { is = inl (refused_notes a b fault was l) }
+completed_notes shows text a b (outcome.Refused fault was) (outcome.Failed why) l e = record { is = inr (ap (λ f. Some f) e, refused_notes a b fault was l) }
+completed_notes shows text a b (outcome.Refused fault was) outcome.Formatted l e = absurd e
+completed_notes shows text a b (outcome.Refused fault was) (outcome.Changed how) l e = absurd e
+completed_notes shows text a b (outcome.Refused fault was) (outcome.Differs shown) l e = absurd e
 
 -- ---- nothing is left to do
 
@@ -357,27 +429,27 @@ own_fault w (Some x) b bytes fault t f e = inr (fault, subst (λ l. IsFault l fa
 put_here : (old : Files) (name bytes : List ℕ) → (put old name bytes).told name ≡ option_map (λ _. bytes) (old.told name)
 put_here old name bytes = ap (λ b. if b then option_map (λ _. bytes) (old.told name) else old.told name) ((bytes_eq-Decides name name).1 refl)
 
-visit_writes : (w : Writing) (old new : Files) (given : Name) (name : Name) (answer : Outcome) → Visits (Write w) old new given name answer → is_failed answer ≡ false
+visit_writes : (shows : Bool) (w : Writing) (old new : Files) (given : Name) (name : Name) (answer : Outcome) → Visits shows (Write w) old new given name answer → is_failed answer ≡ false
     → Settled (Write w) (old.told name) (new.told name)
-visit_writes w old new given name outcome.Formatted v good = same_format w (old.told name) (new.told name) v.0 v.1 v.2.0 (same_told old new name v.2.1)
-visit_writes w old new given name (outcome.Changed how) v good =
+visit_writes shows w old new given name outcome.Formatted v good = same_format w (old.told name) (new.told name) v.0 v.1 v.2.0 (same_told old new name v.2.1)
+visit_writes shows w old new given name (outcome.Changed how) v good =
     own_format w (old.told name) (new.told name) v.0 v.2.1.formatted v.1 v.2.1.is (ap (λ (f : Files). f.told name) v.2.1.left ∙ put_here old name v.2.1.formatted)
-visit_writes w old new given name (outcome.Differs text) v good = absurd (no v.2.0)
+visit_writes shows w old new given name (outcome.Differs text) v good = absurd (no v.2.0)
   where
     no : Write w ≡ Diff → ⊥
     no h = cc
-visit_writes w old new given name (outcome.Refused fault) v good = own_fault w (old.told name) (new.told name) v.0 fault v.1 v.2.0 (same_told old new name v.2.1)
-visit_writes w old new given name (outcome.Failed fault) v good = absurd (no good)
+visit_writes shows w old new given name (outcome.Refused fault snippet) v good = own_fault w (old.told name) (new.told name) v.0 fault v.1 v.2.0 (same_told old new name v.2.1)
+visit_writes shows w old new given name (outcome.Failed fault) v good = absurd (no good)
   where
     no : true ≡ false → ⊥
     no h = cc
 
-pub visit_settled : (mode : Mode) (old new : Files) (given : Name) (name : Name) (answer : Outcome) → Visits mode old new given name answer → is_failed answer ≡ false
+pub visit_settled : (shows : Bool) (mode : Mode) (old new : Files) (given : Name) (name : Name) (answer : Outcome) → Visits shows mode old new given name answer → is_failed answer ≡ false
     → Settled mode (old.told name) (new.told name)
-visit_settled (Write w) old new given name answer v good = visit_writes w old new given name answer v good
-visit_settled Check old new given name answer v good = tt
-visit_settled (Listed ending) old new given name answer v good = tt
-visit_settled Diff old new given name answer v good = tt
+visit_settled shows (Write w) old new given name answer v good = visit_writes shows w old new given name answer v good
+visit_settled shows Check old new given name answer v good = tt
+visit_settled shows (Listed ending) old new given name answer v good = tt
+visit_settled shows Diff old new given name answer v good = tt
 
 -- one file more, of the files of these names
 module _ {X : Type 0} (mode : Mode) (name : X → List ℕ) (first old new : Name → Option (List ℕ)) (kept : (n : Name) → Kept mode (old n) (new n)) where
@@ -434,7 +506,7 @@ pub notes_shown : (before after : Faults) (given : Name) (s : Scanned) (answer :
 notes_shown before after given s outcome.Formatted e shown = absurd shown
 notes_shown before after given s (outcome.Changed how) e shown = absurd shown
 notes_shown before after given s (outcome.Differs text) e shown = record { is = inl e }
-notes_shown before after given s (outcome.Refused fault) e shown = absurd shown
+notes_shown before after given s (outcome.Refused fault snippet) e shown = absurd shown
 notes_shown before after given s (outcome.Failed fault) e shown = notes_memory before after fault e shown
 
 -- a reader is given back

@@ -42,7 +42,7 @@ status_good : (mode : Mode) (name : Name) (answer : Outcome) → is_failed answe
 status_good mode name outcome.Formatted good = not_four 0 (lit< tt)
 status_good mode name (outcome.Changed how) good = changed_good mode how name
 status_good mode name (outcome.Differs text) good = not_four 3 (lit< tt)
-status_good mode name (outcome.Refused fault) good = not_four 2 (lit< tt)
+status_good mode name (outcome.Refused fault snippet) good = not_four 2 (lit< tt)
 status_good mode name (outcome.Failed fault) good = absurd (no good)
   where
     no : true ≡ false → ⊥
@@ -55,22 +55,22 @@ worse_good one other p q e = by (worse_four one other e)
     by (inl h) = p h
     by (inr h) = q h
 
-pub fold_four : (mode : Mode) (seen : List Found) (answers : List Outcome) (a b : State) (n : ℕ) → n ≢ 4 → Looked mode seen answers a b
+pub fold_four : (shows : Bool) (mode : Mode) (seen : List Found) (answers : List Outcome) (a b : State) (n : ℕ) → n ≢ 4 → Looked shows mode seen answers a b
     → fold worse n (map (λ r. r.status) (reports_of mode seen answers)) ≡ 4 → list_any is_failed answers ≡ true
-fold_four mode [] [] a b n good l e = absurd (good e)
-fold_four mode [] (x ∷ answers) a b n good l e = absurd l
-fold_four mode (f ∷ seen) [] a b n good l e = absurd l
-fold_four mode (f ∷ seen) (x ∷ answers) a b n good l e =
+fold_four shows mode [] [] a b n good l e = absurd (good e)
+fold_four shows mode [] (x ∷ answers) a b n good l e = absurd l
+fold_four shows mode (f ∷ seen) [] a b n good l e = absurd l
+fold_four shows mode (f ∷ seen) (x ∷ answers) a b n good l e =
     by
-    (λ h. fold_four mode seen answers l.0 b (worse n (report_of mode f.name.items x).status) (worse_good n (report_of mode f.name.items x).status good (status_good mode f.name.items x h)) l.2 e)
+    (λ h. fold_four shows mode seen answers l.0 b (worse n (report_of mode f.name.items x).status) (worse_good n (report_of mode f.name.items x).status good (status_good mode f.name.items x h)) l.2 e)
     (is_failed x) refl
   where
     by : (is_failed x ≡ false → list_any is_failed answers ≡ true) → (v : Bool) → is_failed x ≡ v → list_any is_failed (x ∷ answers) ≡ true
     by rest true h = ap (λ v. v || list_any is_failed answers) h
     by rest false h = ap (λ v. v || list_any is_failed answers) h ∙ rest h
 
-pub real_failures : (mode : Mode) (found : List Found) (last : List Outcome → List ℕ) (before after : State) (end : End) (run : IsRun mode found last before after end) → end.status ≡ 4
+pub real_failures : (shows : Bool) (mode : Mode) (found : List Found) (last : List Outcome → List ℕ) (before after : State) (end : End) (run : IsRun shows mode found last before after end) → end.status ≡ 4
     → (end.out.failed || end.err.failed) ≡ false → list_any is_failed run.answers ≡ true
-real_failures mode found last before after end run four good =
-    fold_four mode run.seen run.answers before after 0 (not_four 0 (lit< tt)) run.looks
+real_failures shows mode found last before after end run four good =
+    fold_four shows mode run.seen run.answers before after 0 (not_four 0 (lit< tt)) run.looks
     (sym (run.exit ∙ ap (λ (v : Bool). if v then 4 else worst (map (λ r. r.status) (reports_of mode run.seen run.answers))) good) ∙ four)

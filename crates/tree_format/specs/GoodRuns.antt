@@ -6,6 +6,7 @@ use Rattle.file_tree.specs.declared.tree.Replaced.TheVariants.{Narrowed}
 use Rattle.file_tree.specs.declared.walk.Found.{Found}
 use Rattle.tree_format.specs.Format.{IsFormat, IsFault}
 use Rattle.tree_format.specs.Looks.{shown_diff}
+use Rattle.tree_format.specs.Refusals.{shown_line}
 use Rattle.tree_format.specs.declared.mode.Mode.{Mode}
 use Rattle.tree_format.specs.declared.mode.Mode.TheVariants.{Write, Check, List as Listed, Diff}
 use Rattle.tree_format.specs.declared.outcome.Outcome.{Outcome}
@@ -24,7 +25,7 @@ abbrev pub Holds : Outcome → List ℕ → Type 0
 Holds (outcome.Differs text) shown = text.items ≡ shown
 Holds outcome.Formatted shown = ⊥
 Holds (outcome.Changed how) shown = ⊥
-Holds (outcome.Refused fault) shown = ⊥
+Holds (outcome.Refused fault snippet) shown = ⊥
 Holds (outcome.Failed fault) shown = ⊥
 
 -- where what changes in a file is to be shown, there is room for it
@@ -34,13 +35,18 @@ HasRoom Check name bytes = Unit {0}
 HasRoom (Listed ending) name bytes = Unit {0}
 HasRoom Diff name bytes = (formatted : List ℕ) → IsFormat bytes formatted → formatted ≢ bytes → (answer : Outcome) × Holds answer (shown_diff name bytes formatted)
 
--- the bytes of a file are told, and nothing stands in the way of a look at it
-abbrev pub IsReady : Mode → Name → Option (List ℕ) → Type 0
-IsReady mode name None = ⊥
-IsReady mode name (Some bytes) = HasFormatOrFault bytes × HasRoom mode name bytes
+-- where the line of a fault is to be shown, there is room for it
+abbrev pub HasLineRoom : Bool → List ℕ → Type 0
+HasLineRoom false bytes = Unit {0}
+HasLineRoom true bytes = (fault : Fault) → IsFault bytes fault → (answer : Outcome) × Holds answer (shown_line true bytes fault)
 
-abbrev pub AreReady : Mode → Files → List Found → Type 0
-AreReady mode files found = All (λ f. (f.fault ≡ None) × IsReady mode f.name.items (files.told (files.real f.name.items))) found
+-- the bytes of a file are told, and nothing stands in the way of a look at it
+abbrev pub IsReady : Bool → Mode → Name → Option (List ℕ) → Type 0
+IsReady shows mode name None = ⊥
+IsReady shows mode name (Some bytes) = HasFormatOrFault bytes × HasRoom mode name bytes × HasLineRoom shows bytes
+
+abbrev pub AreReady : Bool → Mode → Files → List Found → Type 0
+AreReady shows mode files found = All (λ f. (f.fault ≡ None) × IsReady shows mode f.name.items (files.told (files.real f.name.items))) found
 
 -- a file was written whose group couldn't be kept
 abbrev pub is_narrowed : Outcome → Bool

@@ -1,4 +1,5 @@
 pub mod Format
+pub mod Refusals
 pub mod Looks
 pub mod Reports
 pub mod Runs

@@ -1,6 +1,5 @@
 -- One look at a file: what it answers, and what the files are then.
-use Rattle.std.specs.Prelude.{◌≡◌, ◌≢◌, ◌⊎◌, ◌++◌, ℕ, List, Option, Some, None, Result, Ok, Err, codes}
-use Rattle.hcl_source.specs.declared.fault.Fault.{Fault}
+use Rattle.std.specs.Prelude.{◌≡◌, ◌≢◌, ◌⊎◌, ◌++◌, ℕ, Bool, List, Option, Some, None, Result, Ok, Err, codes}
 use Rattle.file_tree.specs.Asked.{Asked, with_asked}
 use Rattle.file_tree.specs.Files.{Faults, Files, Name, with_fault, put}
 use Rattle.hcl_source.specs.Devices.{Tells}
@@ -11,6 +10,8 @@ use Rattle.file_tree.specs.declared.tree.Writing.{Writing}
 use Rattle.file_tree.specs.Quotes.{shown_head}
 use Rattle.line_diff.specs.Diffs.{diff_of}
 use Rattle.tree_format.specs.Format.{IsFormat, IsFault}
+use Rattle.tree_format.specs.Refusals.{shown_line}
+use Rattle.tree_format.specs.Reports.{snippet_text}
 use Rattle.tree_format.specs.declared.mode.Mode.{Mode}
 use Rattle.tree_format.specs.declared.mode.Mode.TheVariants.{Write, Diff}
 use Rattle.tree_format.specs.declared.outcome.Outcome.{Outcome}
@@ -33,19 +34,20 @@ abbrev pub shown_diff : Name → List ℕ → List ℕ → List ℕ
 shown_diff given bytes formatted = diff_of (shown_head (codes "old/" ++ given)) (shown_head (codes "new/" ++ given)) bytes formatted
 
 -- What a look at bytes of a file answers, of this real name, that was named so, and what the files are then. Where what changes
--- is to be shown, it is.
-abbrev pub Looks : Mode → Files → Files → Name → Name → List ℕ → Outcome → Type 0
-Looks mode old new given name bytes outcome.Formatted = IsFormat bytes bytes × (new ≡ old)
-Looks mode old new given name bytes (outcome.Changed how) = (mode ≢ Diff) × Changes mode old new name bytes
-Looks mode old new given name bytes (outcome.Differs text) =
+-- is to be shown, it is; so is the line of a fault, where what is said is read on a terminal.
+abbrev pub Looks : Bool → Mode → Files → Files → Name → Name → List ℕ → Outcome → Type 0
+Looks shows mode old new given name bytes outcome.Formatted = IsFormat bytes bytes × (new ≡ old)
+Looks shows mode old new given name bytes (outcome.Changed how) = (mode ≢ Diff) × Changes mode old new name bytes
+Looks shows mode old new given name bytes (outcome.Differs text) =
     (mode ≡ Diff) × (changes : Changes Diff old new name bytes) × (text.items ≡ shown_diff given bytes changes.formatted)
-Looks mode old new given name bytes (outcome.Refused fault) = IsFault bytes fault × (new ≡ old)
-Looks mode old new given name bytes (outcome.Failed fault) = new ≡ old
+Looks shows mode old new given name bytes (outcome.Refused fault snippet) =
+    IsFault bytes fault × (new ≡ old) × (snippet_text snippet ≡ shown_line shows bytes fault)
+Looks shows mode old new given name bytes (outcome.Failed fault) = new ≡ old
 
 -- the same for a file that is read: some bytes, and those that the device tells
-abbrev pub Visits : Mode → Files → Files → Name → Name → Outcome → Type 0
-Visits mode old new given name (outcome.Failed fault) = new ≡ old
-Visits mode old new given name answer = (bytes : List ℕ) × Tells (old.told name) bytes × Looks mode old new given name bytes answer
+abbrev pub Visits : Bool → Mode → Files → Files → Name → Name → Outcome → Type 0
+Visits shows mode old new given name (outcome.Failed fault) = new ≡ old
+Visits shows mode old new given name answer = (bytes : List ℕ) × Tells (old.told name) bytes × Looks shows mode old new given name bytes answer
 
 -- why a look failed, if it did
 abbrev pub failure_of : Outcome → Option TreeFault
@@ -79,5 +81,5 @@ abbrev pub Asks : Mode → Name → Option (List ℕ) → Asked → Asked → Ou
 Asks mode given told before after outcome.Formatted = after ≡ before
 Asks mode given told before after (outcome.Changed how) = AsksIn mode given told before after (Ok how)
 Asks mode given told before after (outcome.Differs text) = after ≡ before
-Asks mode given told before after (outcome.Refused fault) = after ≡ before
+Asks mode given told before after (outcome.Refused fault snippet) = after ≡ before
 Asks mode given told before after (outcome.Failed fault) = (after ≡ before) ⊎ AsksIn mode given told before after (Err fault)

@@ -1,6 +1,9 @@
 -- What is said of each file that a run looks at, and the status of the run: names stand in it as they are shown. The texts and statuses are our own choice.
-use Rattle.std.specs.Prelude.{ℕ, List, [], ◌∷◌, ◌++◌, ◌==◌, ◌||◌, codes, fold, map, max, if◌then◌else◌}
+use Rattle.std.specs.Prelude.{ℕ, Option, Some, None, List, [], ◌∷◌, ◌++◌, ◌==◌, ◌||◌, codes, fold, max, if◌then◌else◌}
+use Rattle.std.specs.declared.alloc.Global.{Global}
+use Rattle.std.specs.declared.vec.Vec.{Vec}
 use Rattle.command_line.specs.Rows.{fault_words, line}
+use Rattle.hcl_source.specs.declared.fault.Fault.{Fault}
 use Rattle.file_tree.specs.Files.{Name}
 use Rattle.file_tree.specs.FaultTexts.{tree_fault_text}
 use Rattle.file_tree.specs.Quotes.{quoted}
@@ -44,11 +47,20 @@ changed_report Check how name = record { out = []; err = about name (codes "not 
 changed_report (Listed ending) how name = record { out = listed ending name; err = []; status = 3 }
 changed_report Diff how name = record { out = line (quoted name); err = []; status = 3 }
 
+-- a file is refused: where, and why, and below that what is shown of it
+abbrev pub refused_words : Name → Fault → List ℕ → List ℕ
+refused_words name fault snippet = (quoted name ++ (codes ":" ++ fault_words fault)) ++ snippet
+
+-- what a look keeps of the text of a file that is refused
+abbrev pub snippet_text : Option (Vec ℕ Global) → List ℕ
+snippet_text None = []
+snippet_text (Some text) = text.items
+
 abbrev pub report_of : Mode → Name → Outcome → Report
 report_of mode name outcome.Formatted = record { out = []; err = []; status = 0 }
 report_of mode name (outcome.Changed how) = changed_report mode how name
 report_of mode name (outcome.Differs text) = record { out = text.items; err = []; status = 3 }
-report_of mode name (outcome.Refused fault) = record { out = []; err = quoted name ++ (codes ":" ++ fault_words fault); status = 2 }
+report_of mode name (outcome.Refused fault snippet) = record { out = []; err = refused_words name fault (snippet_text snippet); status = 2 }
 report_of mode name (outcome.Failed fault) = record { out = []; err = about name (tree_fault_text fault); status = 4 }
 
 -- 4 is worse than 2, 2 is worse than 3, and 3 than 0

@@ -41,21 +41,21 @@ Settled mode before after = Unit {0}
 -- ---- the run
 
 -- a look at a name that was found: it is at the file to which the name leads, unless there is a fault for which it can't be
-abbrev pub SeesBy : Mode → Name → Option TreeFault → Outcome → State → State → Type 0
-SeesBy mode name (Some fault) answer before after = (answer ≡ outcome.Failed fault) × (after ≡ before)
-SeesBy mode name None answer before after =
-    Visits mode before.files after.files name (before.files.real name) answer × Notes before.faults after.faults answer
+abbrev pub SeesBy : Bool → Mode → Name → Option TreeFault → Outcome → State → State → Type 0
+SeesBy shows mode name (Some fault) answer before after = (answer ≡ outcome.Failed fault) × (after ≡ before)
+SeesBy shows mode name None answer before after =
+    Visits shows mode before.files after.files name (before.files.real name) answer × Notes before.faults after.faults answer
     × Asks mode name (before.files.told (before.files.real name)) before.asked after.asked answer
 
-abbrev pub Sees : Mode → Found → Outcome → State → State → Type 0
-Sees mode found = SeesBy mode found.name.items found.fault
+abbrev pub Sees : Bool → Mode → Found → Outcome → State → State → Type 0
+Sees shows mode found = SeesBy shows mode found.name.items found.fault
 
 -- looks at names, one after the other, and what each answers
-abbrev pub Looked : Mode → List Found → List Outcome → State → State → Type 0
-Looked mode [] [] before after = after ≡ before
-Looked mode [] (answer ∷ answers) before after = ⊥
-Looked mode (found ∷ more) [] before after = ⊥
-Looked mode (found ∷ more) (answer ∷ answers) before after = (between : State) × Sees mode found answer before between × Looked mode more answers between after
+abbrev pub Looked : Bool → Mode → List Found → List Outcome → State → State → Type 0
+Looked shows mode [] [] before after = after ≡ before
+Looked shows mode [] (answer ∷ answers) before after = ⊥
+Looked shows mode (found ∷ more) [] before after = ⊥
+Looked shows mode (found ∷ more) (answer ∷ answers) before after = (between : State) × Sees shows mode found answer before between × Looked shows mode more answers between after
 
 abbrev pub reports_of : Mode → List Found → List Outcome → List Report
 reports_of mode (found ∷ more) (answer ∷ answers) = report_of mode found.name.items answer ∷ reports_of mode more answers
@@ -81,13 +81,13 @@ pub record AreWhole (out err : Writer) (reports : List Report) : Type 0 where
 -- THE RUN over names that were found: each is looked at and reported, up to one whose report can't be written, and then the
 -- last words are said, which may rest on what was answered. Each writer took what was reported to it, or a part from the front
 -- where it failed, and the status is the worst one, or 4 where a writer failed.
-pub record IsRun (mode : Mode) (found : List Found) (last : List Outcome → List ℕ) (before after : State) (end : End) : Type 0 where
+pub record IsRun (shows : Bool) (mode : Mode) (found : List Found) (last : List Outcome → List ℕ) (before after : State) (end : End) : Type 0 where
   pub seen : List Found
   pub rest : List Found
   pub all : found ≡ seen ++ rest
   pub whole : (end.out.failed || end.err.failed) ≡ false → rest ≡ []
   pub answers : List Outcome
-  pub looks : Looked mode seen answers before after
+  pub looks : Looked shows mode seen answers before after
   pub output : Took end.out (concat (map (λ r. r.out) (reports_of mode seen answers)))
   pub message : Took end.err (concat (map (λ r. r.err) (reports_of mode seen answers)) ++ last answers)
   pub stops : AreWhole end.out end.err (reports_of mode seen answers)

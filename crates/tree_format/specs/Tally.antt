@@ -1,5 +1,5 @@
 -- What is said at the end of a run of all files that it looked at. Our own choice.
-use Rattle.std.specs.Prelude.{◌≡◌, ℕ, ◌==◌, ◌&&◌, Bool, true, false, List, [], ◌∷◌, ◌++◌, codes, decimal, if◌then◌else◌}
+use Rattle.std.specs.Prelude.{◌≡◌, ℕ, ◌==◌, ◌&&◌, Bool, true, false, List, [], ◌++◌, codes, decimal, if◌then◌else◌}
 use Rattle.std.specs.List.{count_by}
 use Rattle.command_line.specs.Rows.{End}
 use Rattle.file_tree.specs.declared.walk.Found.{Found}
@@ -21,7 +21,7 @@ is_changed (outcome.Differs text) = true
 is_changed _ = false
 
 abbrev pub is_refused : Outcome → Bool
-is_refused (outcome.Refused fault) = true
+is_refused (outcome.Refused fault snippet) = true
 is_refused _ = false
 
 abbrev pub tally_of : List Outcome → Tally
@@ -64,5 +64,5 @@ abbrev pub end_line : Mode → Tally → List ℕ
 end_line mode t = if is_empty t then codes "no files found\n" else tally_line mode t
 
 -- a run over these names with nothing said at its end, and the tally of its answers
-abbrev pub Tallies : Mode → List Found → State → State → End → Tally → Type 0
-Tallies mode found before after end tally = (run : IsRun mode found (λ answers. []) before after end) × (tally ≡ tally_of run.answers)
+abbrev pub Tallies : Bool → Mode → List Found → State → State → End → Tally → Type 0
+Tallies shows mode found before after end tally = (run : IsRun shows mode found (λ answers. []) before after end) × (tally ≡ tally_of run.answers)

@@ -1,6 +1,6 @@
 //! What is proved of the definitions alone. No program calls these functions: their contracts are the laws.
 
-ghost use Rattle.std.specs.Prelude.{◌≡◌, ◌≢◌, ◌||◌, ℕ, List, [], false, map, true};
+ghost use Rattle.std.specs.Prelude.{◌≡◌, ◌≢◌, ◌||◌, ℕ, Bool, List, [], false, map, true};
 ghost use Rattle.std.specs.List.{list_any};
 ghost use Rattle.command_line.specs.Rows.{End};
 ghost use Rattle.file_tree.specs.declared.walk.Found.{Found};
@@ -15,8 +15,8 @@ use hcl_scan::laws::{list_or_fault, text_or_fault};
 /// A run over names that were found has status 4 only where a writer failed or a look did. What a failed look says is the
 /// fault of a call of the device, in the walk or in the look, or memory ran out: `Looked` has it.
 pub fn failures_are_real()
-    ensures { (mode : Mode) (found : List Found) (last : List Outcome → List ℕ)
-        (before after : State) (end : End) → (run : IsRun mode found last before after end)
+    ensures { (shows : Bool) (mode : Mode) (found : List Found) (last : List Outcome → List ℕ)
+        (before after : State) (end : End) → (run : IsRun shows mode found last before after end)
         → end.status ≡ 4
         → (end.out.failed || end.err.failed) ≡ false → list_any is_failed run.answers ≡ true }
 {}
@@ -25,11 +25,12 @@ pub fn failures_are_real()
 /// neither of which has status 4, print the same of each name, and have the same status and the same files after. Where
 /// neither narrowed the rights to a file, they say the same of each name too.
 pub fn one_run()
-    ensures { (mode : Mode) (found : List Found) (last other_last : List Outcome → List ℕ)
+    ensures { (shows : Bool) (mode : Mode) (found : List Found)
+        (last other_last : List Outcome → List ℕ)
         (before other_before after other_after : State) (end other_end : End)
         → AreTold before.files found → other_before.files ≡ before.files
-        → (run : IsRun mode found last before after end)
-        → (other : IsRun mode found other_last other_before other_after other_end)
+        → (run : IsRun shows mode found last before after end)
+        → (other : IsRun shows mode found other_last other_before other_after other_end)
         → end.status ≢ 4 → other_end.status ≢ 4
         → (map (λ r. r.out) (reports_of mode run.seen run.answers)
         ≡ map (λ r. r.out) (reports_of mode other.seen other.answers))
@@ -51,7 +52,7 @@ pub fn format_or_fault(bytes: &[u8])
 
 /// Over names whose files are told, and for which there is memory, there is a run in which nothing fails.
 pub fn a_run()
-    ensures { (mode : Mode) (found : List Found) (before : State) → AreReady mode before.files found
-        → (after : State) × (end : End)
-        × (run : IsRun mode found (λ answers. []) before after end) × (end.status ≢ 4) }
+    ensures { (shows : Bool) (mode : Mode) (found : List Found) (before : State)
+        → AreReady shows mode before.files found → (after : State) × (end : End)
+        × (run : IsRun shows mode found (λ answers. []) before after end) × (end.status ≢ 4) }
 {}

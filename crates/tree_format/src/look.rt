@@ -1,14 +1,15 @@
 //! One file.
 
-ghost use Rattle.std.specs.Prelude.{◌≡◌, ◌≢◌, ◌≤◌, ◌++◌, Some, length, IfOk, IfErr};
+ghost use Rattle.std.specs.Prelude.{◌≡◌, ◌≢◌, ◌≤◌, ◌++◌, false, Some, length, IfOk, IfErr};
 ghost use Rattle.hcl_layout.specs.Print.{print};
 ghost use Rattle.hcl_source.specs.Devices.{Tells};
 ghost use Rattle.hcl_source.specs.Load.{max_source, IsText};
 ghost use Rattle.tree_format.specs.Looks.{Asks, Looks, Notes, Visits, shown_diff};
+ghost use Rattle.tree_format.specs.Refusals.{is_about_line as is_about_line_of};
 ghost use Rattle.file_tree.specs.Quotes.{shown_head};
 ghost use Rattle.tree_format.specs.declared.mode.Mode.TheVariants.{Write};
 ghost use Rattle.file_tree.specs.declared.fault.TreeFault.TheVariants.{OutOfMemory};
-ghost use Rattle.tree_format.specs.Inner.Steps.{IsShown, LoadNotes, LoadsFile, Makes, MakesAsking, outcome_by, outcome_of_scan};
+ghost use Rattle.tree_format.specs.Inner.Steps.{Completes, IsShown, LoadNotes, LoadsFile, Makes, MakesAsking, outcome_by, outcome_of_scan};
 
 use crate::mode::Mode;
 use crate::outcome::Outcome;
@@ -23,6 +24,7 @@ use hcl_scan::{
 };
 use hcl_syntax::{Accepted, accepts};
 use line_diff::diff::diff;
+use source_snippet::snippet_of;
 use std::alloc::{AllocError, Global};
 
 /// The print, in memory.
@@ -121,10 +123,11 @@ fn change<T: WritableTree>(
         return Outcome::Formatted;
     }
     if !fits(accepted, MAX_SOURCE as u64) {
-        return Outcome::Refused(Fault {
+        let fault = Fault {
             kind: FaultKind::ResultTooLarge,
             at: Position { line: 1, column: 1 },
-        });
+        };
+        return Outcome::Refused(fault, None);
     }
     match mode {
         Mode::Check | Mode::List(_) => Outcome::Changed(Replaced::Kept),
@@ -144,7 +147,7 @@ fn change_source<T: WritableTree>(
 ) -> Outcome
     requires text { IsText source.now }
     requires old { Tells ((T.files tree.old).told ((T.files tree.old).real name.now)) source.now }
-    ensures looks { Looks mode (T.files tree.old) (T.files tree.new) name.now
+    ensures looks { Looks false mode (T.files tree.old) (T.files tree.new) name.now
         ((T.files tree.old).real name.now) source.now result }
     ensures notes { Notes (T.faults tree.old) (T.faults tree.new) result }
     ensures asks { Asks mode name.now ((T.files tree.old).told ((T.files tree.old).real name.now))
@@ -153,9 +156,41 @@ fn change_source<T: WritableTree>(
     match scan(alloc, source) {
         Ok(tokens) => match accepts(&tokens) {
             Ok(accepted) => change(alloc, mode, name, &accepted, tree),
-            Err(fault) => Outcome::Refused(fault),
+            Err(fault) => Outcome::Refused(fault, None),
         },
         Err(error) => outcome_of_scan(error),
+    }
+}
+
+/// Whether a fault of this kind is about a line.
+fn is_about_line(kind: FaultKind) -> bool
+    ensures { result ≡ is_about_line_of kind }
+{
+    !matches!(
+        kind,
+        FaultKind::TooLarge
+            | FaultKind::InvalidUtf8
+            | FaultKind::ByteOrderMark
+            | FaultKind::ResultTooLarge
+    )
+}
+
+/// The same outcome, with the line of the fault where it is to be shown.
+fn with_line(alloc: Global, shows: bool, source: &Source, outcome: Outcome) -> Outcome
+    ensures { Completes shows source.now outcome result }
+{
+    match outcome {
+        Outcome::Refused(fault, _) => {
+            let shows = shows && is_about_line(fault.kind);
+            match snippet_of(alloc, shows, source, fault.at) {
+                Ok(snippet) => Outcome::Refused(fault, Some(snippet)),
+                Err(_) => Outcome::Failed(TreeFault::OutOfMemory),
+            }
+        }
+        Outcome::Formatted => Outcome::Formatted,
+        Outcome::Changed(how) => Outcome::Changed(how),
+        Outcome::Differs(text) => Outcome::Differs(text),
+        Outcome::Failed(fault) => Outcome::Failed(fault),
     }
 }
 
@@ -165,7 +200,7 @@ fn outcome_of(loaded: Result<Source, LoadError>) -> Result<Source, Outcome>
 {
     match loaded {
         Ok(source) => Ok(source),
-        Err(LoadError::Fault(fault)) => Err(Outcome::Refused(fault)),
+        Err(LoadError::Fault(fault)) => Err(Outcome::Refused(fault, None)),
         Err(LoadError::ReadFailed) => Err(Outcome::Failed(TreeFault::ReadFailed)),
         Err(LoadError::OutOfMemory) => Err(Outcome::Failed(TreeFault::OutOfMemory)),
     }
@@ -176,7 +211,7 @@ fn outcome_of_scan(error: ScanError) -> Outcome
     ensures { result ≡ outcome_of_scan error }
 {
     match error {
-        ScanError::Fault(fault) => Outcome::Refused(fault),
+        ScanError::Fault(fault) => Outcome::Refused(fault, None),
         ScanError::OutOfMemory => Outcome::Failed(TreeFault::OutOfMemory),
     }
 }
@@ -200,15 +235,24 @@ fn load<T: Tree>(alloc: Global, name: &[u8], tree: &mut T) -> Result<Source, Out
 
 /// Looks at one file and does what is asked for.
 #[tactic(auto, using(crate::proofs::KeptFormatLemmas::visits_loaded, crate::proofs::KeptFormatLemmas::visits_unloaded, crate::proofs::KeptFormatLemmas::asks_loaded, crate::proofs::KeptFormatLemmas::asks_unloaded))]
-pub fn visit<T: WritableTree>(alloc: Global, mode: Mode, name: &[u8], tree: &mut T) -> Outcome
-    ensures visits { Visits mode (T.files tree.old) (T.files tree.new) name.now
+pub fn visit<T: WritableTree>(
+    alloc: Global,
+    shows: bool,
+    mode: Mode,
+    name: &[u8],
+    tree: &mut T,
+) -> Outcome
+    ensures visits { Visits shows mode (T.files tree.old) (T.files tree.new) name.now
         ((T.files tree.old).real name.now) result }
     ensures notes { Notes (T.faults tree.old) (T.faults tree.new) result }
     ensures asks { Asks mode name.now ((T.files tree.old).told ((T.files tree.old).real name.now))
         (T.asked tree.old) (T.asked tree.new) result }
 {
     match load(alloc, name, tree) {
-        Ok(source) => change_source(alloc, mode, name, &source, tree),
+        Ok(source) => {
+            let outcome = change_source(alloc, mode, name, &source, tree);
+            with_line(alloc, shows, &source, outcome)
+        }
         Err(outcome) => outcome,
     }
 }

@@ -13,8 +13,8 @@ pub enum Outcome {
     Changed(Replaced),
     /// It isn't formatted; this shows what would change.
     Differs(Vec<u8>),
-    /// It has no format.
-    Refused(Fault),
+    /// It has no format; this shows the line of the fault, where one is shown.
+    Refused(Fault, Option<Vec<u8>>),
     /// It could not be read, written or shown.
     Failed(TreeFault),
 }

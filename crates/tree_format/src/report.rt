@@ -5,7 +5,7 @@ ghost use Rattle.std.specs.List.{concat};
 ghost use Rattle.command_line.specs.Rows.{Took, fault_words, writer};
 ghost use Rattle.file_tree.specs.Quotes.{quoted};
 ghost use Rattle.file_tree.specs.Files.{Name};
-ghost use Rattle.tree_format.specs.Reports.{about, listed, report_of, rights_words, worse};
+ghost use Rattle.tree_format.specs.Reports.{about, listed, refused_words, report_of, rights_words, snippet_text, worse};
 ghost use Rattle.tree_format.specs.declared.mode.Ending.TheVariants.{Line};
 ghost use Rattle.tree_format.specs.Inner.Pieces.{place_words};
 
@@ -86,6 +86,27 @@ fn tell_fault<S: ByteSink>(sink: &mut S, name: &[u8], fault: &Fault) -> Result<(
     tell_at(sink, name, line, column, fault.kind.text())
 }
 
+/// Writes where a file is refused, and why, and then what is shown of it.
+fn tell_refused<S: ByteSink>(
+    sink: &mut S,
+    name: &[u8],
+    fault: &Fault,
+    snippet: &Option<Vec<u8>>,
+) -> Result<(), Failed>
+    requires { S.failed sink.old ≡ false }
+    ensures took { Took (writer S.ByteSink sink.old sink.new)
+        (refused_words name.now fault.now (snippet_text snippet.now)) }
+    ensures failed { S.failed sink.new ≡ is_err result }
+{
+    if tell_fault(sink, name, fault).is_err() {
+        return Err(Failed);
+    }
+    match snippet {
+        Some(text) => write_pieces(sink, &[text.as_slice()]),
+        None => Ok(()),
+    }
+}
+
 /// Prints a name.
 fn tell_name<S: ByteSink>(sink: &mut S, ending: Ending, name: &[u8]) -> Result<(), Failed>
     requires { S.failed sink.old ≡ false }
@@ -159,7 +180,7 @@ pub fn report<O: ByteSink, E: ByteSink>(
             Mode::Diff => tell_name(out, Ending::Line, name),
         },
         Outcome::Differs(text) => write_pieces(out, &[text.as_slice()]),
-        Outcome::Refused(fault) => tell_fault(err, name, fault),
+        Outcome::Refused(fault, snippet) => tell_refused(err, name, fault, snippet),
         Outcome::Failed(fault) => tell_about(err, name, fault.text()),
     }
 }
@@ -175,7 +196,7 @@ pub fn status_of(mode: Mode, outcome: &Outcome) -> u8
             _ => 3,
         },
         Outcome::Differs(_) => 3,
-        Outcome::Refused(_) => 2,
+        Outcome::Refused(..) => 2,
         Outcome::Failed(_) => 4,
     }
 }

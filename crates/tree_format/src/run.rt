@@ -19,7 +19,13 @@ use std::alloc::Global;
 
 /// Looks at one name.
 #[tactic(auto, using(crate::proofs::KeptFormatLemmas::kept_same, crate::proofs::KeptFormatLemmas::visit_kept, crate::proofs::KeptFormatLemmas::visit_real, crate::proofs::KeptFormatLemmas::visit_elsewhere))]
-fn look<T: WritableTree>(alloc: Global, mode: Mode, found: &Found, tree: &mut T) -> Outcome
+fn look<T: WritableTree>(
+    alloc: Global,
+    shows: bool,
+    mode: Mode,
+    found: &Found,
+    tree: &mut T,
+) -> Outcome
     ensures kept { (name : List ℕ)
         → Kept mode ((T.files tree.old).told name) ((T.files tree.new).told name) }
     ensures settled { let real = (T.files tree.old).real found.now.name.items in
@@ -28,12 +34,12 @@ fn look<T: WritableTree>(alloc: Global, mode: Mode, found: &Found, tree: &mut T)
     ensures elsewhere { (name : List ℕ) → name ≢ (T.files tree.old).real found.now.name.items
         → (T.files tree.new).told name ≡ (T.files tree.old).told name }
     ensures real { (name : List ℕ) → (T.files tree.new).real name ≡ (T.files tree.old).real name }
-    ensures sees { Sees mode found.now result
+    ensures sees { Sees shows mode found.now result
         (state_of T.Tree tree.old) (state_of T.Tree tree.new) }
 {
     match found.fault {
         Some(fault) => Outcome::Failed(fault),
-        None => visit(alloc, mode, found.name.as_slice(), tree),
+        None => visit(alloc, shows, mode, found.name.as_slice(), tree),
     }
 }
 
@@ -71,14 +77,16 @@ pub fn run_over<T: WritableTree, P: Progress, O: ByteSink, E: ByteSink>(
         → All (λ f. name ≢ (T.files tree.old).real f.name.items) all.now
         → (T.files tree.new).told name ≡ (T.files tree.old).told name }
     // What was seen, reported and answered.
-    ensures ran { Tallies mode all.now (state_of T.Tree tree.old) (state_of T.Tree tree.new)
+    ensures ran { Tallies (P.shows progress.old) mode all.now
+        (state_of T.Tree tree.old) (state_of T.Tree tree.new)
         (end_of O.ByteSink out.old out.new E.ByteSink err.old err.new result.status) result.tally }
 {
     let _count = all.len();
+    let shows = progress.shows_lines();
     let mut status = 0;
     let mut tally = Tally::new();
     for found in all {
-        let outcome = look(alloc, mode, found, tree);
+        let outcome = look(alloc, shows, mode, found, tree);
         progress.looked(&outcome);
         tally = tally.add(&outcome);
         if report(mode, found.name.as_slice(), &outcome, out, err).is_err() {

@@ -51,7 +51,7 @@ impl Tally {
                 changed: self.changed + 1,
                 ..self
             },
-            Outcome::Refused(_) => Tally {
+            Outcome::Refused(..) => Tally {
                 refused: self.refused + 1,
                 ..self
             },

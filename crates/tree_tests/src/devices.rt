@@ -11,10 +11,11 @@ use tree_devices::memory_tree::MemoryTree;
 use tree_format::outcome::Outcome;
 use tree_format::progress::Progress;
 
-/// How many bytes a call of a stream moves at most, which calls of the tree fail, and which of the streams: of each kind the
+/// Whether lines of faults are shown, how many bytes a call of a stream moves at most, which calls of the tree fail, and which of the streams: of each kind the
 /// one after so many good ones.
 #[derive(Clone, Copy, Debug)]
 pub struct Devices {
+    pub shows: bool,
     pub most: usize,
     pub tree: Failures,
     pub read: Option<usize>,
@@ -26,6 +27,7 @@ pub struct Devices {
 /// Devices that don't fail.
 pub fn steady(most: usize) -> Devices {
     Devices {
+        shows: false,
         most,
         tree: STEADY,
         read: None,
@@ -35,15 +37,22 @@ pub fn steady(most: usize) -> Devices {
     }
 }
 
-/// Counts what it is told of a run.
+/// Counts what it is told of a run, and shows lines of faults or doesn't.
 #[derive(Clone, Copy, Debug, Drop)]
 pub struct Watcher {
+    pub shows: bool,
     pub looked: u64,
     pub reported: u64,
     pub ended: u64,
 }
 
 impl Progress for Watcher {
+    ghost shows = { λ w. w.shows };
+
+    fn shows_lines(&self) -> bool {
+        self.shows
+    }
+
     fn looked(&mut self, _outcome: &Outcome) {
         self.looked = self.looked.saturating_add(1);
     }
@@ -121,6 +130,7 @@ pub fn run_bytes<'a>(
 ) -> Result<Ended<'a>, AllocError> {
     let mut tree = MemoryTree::new(alloc, entries, devices.tree)?;
     let mut watcher = Watcher {
+        shows: devices.shows,
         looked: 0,
         reported: 0,
         ended: 0,

@@ -2,7 +2,7 @@
 
 use crate::checks::check;
 use crate::compared::{At, Words, holds, repeated, same_bytes, same_number};
-use crate::devices::{run, run_bytes, steady};
+use crate::devices::{Devices, run, run_bytes, steady};
 use crate::expected::Said;
 use crate::rows::{
     BAD_WORD, CHECKS, LISTS, NAMES_GIVEN, OF_EACH_KIND, ONLY_IN_PLACE, Row, SHOWS, SMALL, SYNCS,
@@ -379,4 +379,44 @@ fn links_may_be_named(rt: HostRuntime) {
     shows_bytes(&rt, rt.alloc(), &words, &LINKED, (b"c.tf\n", b"", 3));
     let words: [&[u8]; 5] = [b"tffmt-all", b"--quiet", b"--list", b"e.tf", b"./d.tf"];
     shows_bytes(&rt, rt.alloc(), &words, &LINKED, (b"d.tf\n", b"", 3));
+}
+
+// A file that is refused in its second line.
+static REFUSED: [Entry<'static>; 2] = [
+    Entry {
+        name: b"",
+        stands: Stands::Folder,
+    },
+    Entry {
+        name: b"bad.tf",
+        stands: Stands::File(b"a = 1\n\tb = ]\n"),
+    },
+];
+
+// What is said of it, where lines of faults are shown or aren't.
+fn tells_refused(rt: &impl Abort, alloc: Global, shows: bool, told: &[u8]) {
+    let at = At {
+        words: ALL,
+        devices: Devices {
+            shows,
+            ..steady(SINK_ROOM)
+        },
+    };
+    let words: [&[u8]; 2] = [b"tffmt-all", b"--quiet"];
+    let run = run_bytes(alloc, &words, b"", &REFUSED, &at.devices).expect(rt, "memory");
+    same_bytes(rt, run.out.bytes(), b"", at);
+    same_bytes(rt, run.err.bytes(), told, at);
+    same_number(rt, u64::from(run.status), 2, at);
+}
+
+#[test]
+fn lines_of_faults_are_shown_on_a_terminal(rt: HostRuntime) {
+    let told = b"bad.tf:2:6: unexpected token\n   b = ]\n       ^\n";
+    tells_refused(&rt, rt.alloc(), true, told);
+}
+
+#[test]
+fn lines_of_faults_are_shown_nowhere_else(rt: HostRuntime) {
+    let told = b"bad.tf:2:6: unexpected token\n";
+    tells_refused(&rt, rt.alloc(), false, told);
 }

@@ -243,6 +243,12 @@ impl WritableTree for MadeTree {
 struct Nobody;
 
 impl Progress for Nobody {
+    ghost shows = { λ _. false };
+
+    fn shows_lines(&self) -> bool {
+        false
+    }
+
     fn looked(&mut self, _outcome: &Outcome) {}
 
     fn reported(&mut self) {}

@@ -9,7 +9,7 @@ abbrev pub tally_with : Tally → Outcome → Tally
 tally_with t outcome.Formatted = record t { unchanged = t.unchanged + 1 }
 tally_with t (outcome.Changed how) = record t { changed = t.changed + 1 }
 tally_with t (outcome.Differs text) = record t { changed = t.changed + 1 }
-tally_with t (outcome.Refused fault) = record t { refused = t.refused + 1 }
+tally_with t (outcome.Refused fault snippet) = record t { refused = t.refused + 1 }
 tally_with t (outcome.Failed fault) = record t { failed = t.failed + 1 }
 
 -- none of its numbers is the largest one

@@ -1,4 +1,4 @@
-use Rattle.std.proofs.Common.{None, arith}
+use Rattle.std.proofs.Common.{None, arith, false}
 use Rattle.file_tree.specs.declared.tree.Writing.{Writing}
 use Rattle.tree_devices.specs.MemoryFiles.{files_in}
 use Rattle.tree_devices.specs.Runs.{IsReadyIn}
@@ -13,5 +13,5 @@ loop-each-preserved c =
 
 pub returns : goal.returns
 returns c =
-    λ e writing. c.a_run.ensures (Write writing) c.args.found.now (record { files = files_in c.args.tree.now.known.items c.args.tree.now.files.items c.args.tree.now.links.items; faults = None; asked = None })
+    λ e writing. c.a_run.ensures false (Write writing) c.args.found.now (record { files = files_in c.args.tree.now.known.items c.args.tree.now.files.items c.args.tree.now.links.items; faults = None; asked = None })
     (all_ready (files_in c.args.tree.now.known.items c.args.tree.now.files.items c.args.tree.now.links.items) c.args.found.now c.loop-each.each-index writing (omega (arith, c.loop-each-test.false)) (c.loop-each.invariant e))

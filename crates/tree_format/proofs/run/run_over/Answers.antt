@@ -6,13 +6,13 @@ use Rattle.command_line.specs.Rows.{TookBy}
 use Rattle.tree_format.specs.Reports.{report_of, worse}
 use Rattle.tree_format.specs.Runs.{Settled}
 use Rattle.file_tree.specs.declared.walk.Found.{Found}
-use Rattle.tree_format.proofs.FileRunLemmas.{can_grow, first_good, good_answer, left_good, one_bad, right_good, run_all, run_cut, second_good, so_far_more, so_far_none}
+use Rattle.tree_format.proofs.FileRunLemmas.{can_grow, first_good, good_answer, left_good, one_bad, right_good, run_all, run_cut, second_good, so_far_more, so_far_none, tallies_as}
 use Rattle.command_line.proofs.ListCutLemmas.{split_here, take_one}
 use Rattle.tree_format.proofs.KeptFormatLemmas.{all_settled, kept_same, kept_trans, settled_after}
 use Rattle.tree_format.proofs.run.run_over.Goals as goal
 
 pub loop-found-init : goal.loop-found-init
-loop-found-init g c = (c.requires.out, c.requires.err, λ name. kept_same _ _ _ refl, λ name. refl, λ ne. All-nil _, λ name other. refl, so_far_none _ _ _ _ _ c.new-tally.ensures)
+loop-found-init g c = (c.requires.out, c.requires.err, λ name. kept_same _ _ _ refl, λ name. refl, λ ne. All-nil _, λ name other. refl, so_far_none _ _ _ _ _ _ c.new-tally.ensures)
 
 pub loop-found-preserved : goal.loop-found-preserved
 loop-found-preserved g c =
@@ -33,7 +33,7 @@ loop-found-preserved g c =
       λ name other. c.look-outcome.ensures.elsewhere name
           (subst (λ n. name ≢ n) (sym (c.loop-found.invariant.3 c.found-item.result.name.items)) (subst (λ (f : Found). name ≢ first.real f.name.items) (sym c.found-item.is) (All-get_or (λ (f : Found). name ≢ first.real f.name.items) c.args.all.now c.loop-found.found-index c.found-item.result c.loop-found-test.true other)))
           ∙ c.loop-found.invariant.5 name other,
-      so_far_more c.args.mode (take c.loop-found.found-index c.args.all.now) _ c.found-item.result c.look-outcome.result _ _ _ _ _ _ _ _ _ _ _ _ _ _ _ (take_one c.args.all.now c.loop-found.found-index c.found-item.result c.loop-found-test.true c.found-item.is)
+      so_far_more _ c.args.mode (take c.loop-found.found-index c.args.all.now) _ c.found-item.result c.look-outcome.result _ _ _ _ _ _ _ _ _ _ _ _ _ _ _ (take_one c.args.all.now c.loop-found.found-index c.found-item.result c.loop-found-test.true c.found-item.is)
           c.loop-found.invariant.6 c.add-tally.ensures c.look-outcome.ensures.sees good (subst (λ n. TookBy (g.O.ByteSink.failed c.report.new.out) (g.O.ByteSink.taken c.loop-found.out) (g.O.ByteSink.taken c.report.new.out) (report_of c.args.mode n c.look-outcome.result).out) c.as_slice.ensures.value c.report.ensures.out)
           good' (subst (λ n. TookBy (g.E.ByteSink.failed c.report.new.err) (g.E.ByteSink.taken c.loop-found.err) (g.E.ByteSink.taken c.report.new.err) (report_of c.args.mode n c.look-outcome.result).err) c.as_slice.ensures.value c.report.ensures.err)
           (c.worse-status.ensures ∙ ap (worse c.loop-found.status) (c.status_of.ensures name)),
@@ -50,18 +50,20 @@ returns-clause-done g c ne =
 
 pub returns-then-is_err-clause-ran : goal.returns-then-is_err-clause-ran
 returns-then-is_err-clause-ran g c =
-    run_cut c.args.mode c.args.all.now (take c.loop-found.found-index c.args.all.now) (drop (c.loop-found.found-index + 1) c.args.all.now) c.found-item.result c.look-outcome.result _ _ _ _ _ _ _ _ _ _
+    tallies_as _ _ _ _ _ _ _ _ c.shows_lines-shows.ensures
+    (run_cut _ c.args.mode c.args.all.now (take c.loop-found.found-index c.args.all.now) (drop (c.loop-found.found-index + 1) c.args.all.now) c.found-item.result c.look-outcome.result _ _ _ _ _ _ _ _ _ _
     (split_here c.args.all.now c.loop-found.found-index c.found-item.result c.loop-found-test.true c.found-item.is)
     c.loop-found.invariant.6 c.add-tally.ensures c.look-outcome.ensures.sees (one_bad _ _ (g.O.ByteSink.failed c.report.new.out) (g.E.ByteSink.failed c.report.new.err) c.report.ensures.failed c.is_err.ensures.value c.if-is_err.true)
     (subst (λ n. TookBy (g.O.ByteSink.failed c.report.new.out) (g.O.ByteSink.taken c.loop-found.out) (g.O.ByteSink.taken c.report.new.out) (report_of c.args.mode n c.look-outcome.result).out) c.as_slice.ensures.value c.report.ensures.out)
-    (subst (λ n. TookBy (g.E.ByteSink.failed c.report.new.err) (g.E.ByteSink.taken c.loop-found.err) (g.E.ByteSink.taken c.report.new.err) (report_of c.args.mode n c.look-outcome.result).err) c.as_slice.ensures.value c.report.ensures.err)
+    (subst (λ n. TookBy (g.E.ByteSink.failed c.report.new.err) (g.E.ByteSink.taken c.loop-found.err) (g.E.ByteSink.taken c.report.new.err) (report_of c.args.mode n c.look-outcome.result).err) c.as_slice.ensures.value c.report.ensures.err))
 
 pub returns-clause-ran : goal.returns-clause-ran
 returns-clause-ran g c =
     let all : length c.args.all.now ≤ c.loop-found.found-index = omega (arith, c.loop-found-test.false) in
-    run_all c.args.mode c.args.all.now _ _ _ c.loop-found.status c.loop-found.tally _ _ (take_all c.loop-found.found-index c.args.all.now all) c.loop-found.invariant.6 c.loop-found.invariant.0 c.loop-found.invariant.1
+    tallies_as _ _ _ _ _ _ _ _ c.shows_lines-shows.ensures
+    (run_all _ c.args.mode c.args.all.now _ _ _ c.loop-found.status c.loop-found.tally _ _ (take_all c.loop-found.found-index c.args.all.now all) c.loop-found.invariant.6 c.loop-found.invariant.0 c.loop-found.invariant.1)
 
 pub add-tally-requires : goal.add-tally-requires
 add-tally-requires g c =
-    can_grow _ (take c.loop-found.found-index c.args.all.now) _ _ _ _ _ _ _ _ c.loop-found.invariant.6
+    can_grow _ _ (take c.loop-found.found-index c.args.all.now) _ _ _ _ _ _ _ _ c.loop-found.invariant.6
     (omega (arith, length-take-le c.loop-found.found-index c.args.all.now, c.loop-found-test.true, c.loop-found.auto.found-index-end))

@@ -13,5 +13,5 @@ invariant-loop-found g l =
     × ((name : List ℕ) → now.real name ≡ old.real name)
     × (l.status ≢ 4 → All (λ f. Settled l.mode (old.told (old.real f.name.items)) (now.told (old.real f.name.items))) (take l.found-index l.all))
     × ((name : List ℕ) → All (λ f. name ≢ old.real f.name.items) l.all → now.told name ≡ old.told name)
-    × SoFar l.mode (take l.found-index l.all) (state_of g.T.Tree l.initial.tree) (state_of g.T.Tree l.tree)
+    × SoFar l.shows l.mode (take l.found-index l.all) (state_of g.T.Tree l.initial.tree) (state_of g.T.Tree l.tree)
     (g.O.ByteSink.taken l.initial.out) (g.O.ByteSink.taken l.out) (g.E.ByteSink.taken l.initial.err) (g.E.ByteSink.taken l.err) l.status l.tally
