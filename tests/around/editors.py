@@ -49,6 +49,11 @@ def on_terminal(group, words, cwd, seconds=20, keys=(), **setting):
         process.kill()
         said += b' (did not end)'
     process.wait()
+    while select.select([master], [], [], 0)[0]:
+        try:
+            said += os.read(master, 65536)
+        except OSError:
+            break
     os.close(master)
     return said
 
